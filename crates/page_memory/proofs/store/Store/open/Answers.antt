@@ -1,0 +1,9 @@
+use Rattle.std.proofs.Common.{arith, ◌≡◌, ◌≤◌}
+use Rattle.std.proofs.lemmas.Grind.{common_steps}
+use Rattle.page_memory.proofs.Whole.{zeros_pool}
+use Rattle.page_memory.proofs.store.Store.open.Goals as goal
+
+pub invariant_of-result : goal.invariant_of-result
+invariant_of-result c =
+    let few : c.args.pages ≤ 65536 = grind (arith, common_steps, c.if-not-contains.ensures.cases) in
+    zeros_pool c.loop.counter c.loop.all.items c.loop.invariant (omega (arith, few, c.loop.auto.counter-end))

@@ -1,0 +1,63 @@
+-- Lemmas on the spelling of descriptors.
+use Rattle.std.proofs.Common.{arith, ◌≡◌, ◌≢◌, ◌⊎◌, inl, inr, ℕ, List, Some, None, get_or, refl, subst}
+use Rattle.std.proofs.lemmas.Nat.{from_le_bytes-to_le_bytes_8, from_le_bytes-to_le_bytes_4}
+use Rattle.std.proofs.lemmas.Bool.{cases_eq}
+use Rattle.sgl_descriptor.specs.declared.Descriptor.{Descriptor}
+use Rattle.sgl_descriptor.specs.declared.Descriptor.TheVariants.{DataBlock, BitBucket, Segment, LastSegment}
+use Rattle.sgl_descriptor.specs.Spelling.{IsSpelling, spelling, Fits, descriptor_of, address_of, length_of}
+use Rattle.sgl_descriptor.specs.Laws.{OneSpelling}
+
+-- what is written of a descriptor whose fields fit spells it
+pub spells_itself : (d : Descriptor) → Fits d → IsSpelling d (spelling d)
+spells_itself (DataBlock addr len) h = (refl, from_le_bytes-to_le_bytes_8 addr h.0, from_le_bytes-to_le_bytes_4 len h.1)
+spells_itself (BitBucket len) h = (refl, from_le_bytes-to_le_bytes_4 len h)
+spells_itself (Segment addr len) h = (refl, from_le_bytes-to_le_bytes_8 addr h.0, from_le_bytes-to_le_bytes_4 len h.1)
+spells_itself (LastSegment addr len) h = (refl, from_le_bytes-to_le_bytes_8 addr h.0, from_le_bytes-to_le_bytes_4 len h.1)
+
+-- what bytes spell, they are read as
+pub found : (bytes : List ℕ) (d : Descriptor) → IsSpelling d bytes → descriptor_of bytes ≡ Some d
+unfolding descriptor_of
+found bytes (DataBlock addr len) h = rw (h.0, h.1, h.2) refl
+found bytes (BitBucket len) h = rw (h.0, h.1) refl
+found bytes (Segment addr len) h = rw (h.0, h.1, h.2) refl
+found bytes (LastSegment addr len) h = rw (h.0, h.1, h.2) refl
+
+-- no descriptor, where byte 15 is no type times 16
+pub nothing : (bytes : List ℕ) → get_or bytes 15 0 ≢ 0x00 → get_or bytes 15 0 ≢ 0x10 → get_or bytes 15 0 ≢ 0x20 → get_or bytes 15 0 ≢ 0x30 → descriptor_of bytes ≡ None
+unfolding descriptor_of
+nothing bytes a b c d = grind arith
+
+-- bytes spell nothing, or some descriptor
+some_or_none : (bytes : List ℕ) → (descriptor_of bytes ≡ None) ⊎ ((d : Descriptor) × IsSpelling d bytes)
+some_or_none bytes =
+    let last = get_or bytes 15 0 in
+    elim (cases_eq last 0x00) [
+      | inl e ↦ inr (DataBlock (address_of bytes) (length_of bytes), (e, refl, refl))
+      | inr a ↦ elim (cases_eq last 0x10) [
+        | inl e ↦ inr (BitBucket (length_of bytes), (e, refl))
+        | inr b ↦ elim (cases_eq last 0x20) [
+          | inl e ↦ inr (Segment (address_of bytes) (length_of bytes), (e, refl, refl))
+          | inr c ↦ elim (cases_eq last 0x30) [
+            | inl e ↦ inr (LastSegment (address_of bytes) (length_of bytes), (e, refl, refl))
+            | inr d ↦ inl (nothing bytes a b c d)
+          ]
+        ]
+      ]
+    ]
+
+-- what bytes are read as, they spell
+pub spelled : (bytes : List ℕ) (d : Descriptor) → descriptor_of bytes ≡ Some d → IsSpelling d bytes
+spelled bytes d h = elim (some_or_none bytes) [
+  | inl none ↦ cc
+  | inr (e, is) ↦
+      let same : e ≡ d = let other : descriptor_of bytes ≡ Some e = found bytes e is in cc in
+      subst (λ (x : Descriptor). IsSpelling x bytes) same is
+]
+
+-- what is written of a descriptor whose fields fit is read as it
+pub reads_itself : (d : Descriptor) → Fits d → descriptor_of (spelling d) ≡ Some d
+reads_itself d fits = found (spelling d) d (spells_itself d fits)
+
+-- the relation and the function say the same
+pub both : (bytes : List ℕ) → OneSpelling bytes
+both bytes = record { found = found bytes; spelled = spelled bytes }

@@ -1,0 +1,32 @@
+//! Laws of the definitions that the contracts cite. Each function does nothing, and its clause is the law.
+
+ghost use Rattle.std.specs.Prelude.{◌≡◌, ℕ, List, length};
+ghost use Rattle.sgl_descriptor.specs.declared.Descriptor.{Descriptor};
+ghost use Rattle.sgl_descriptor.specs.declared.Part.{Part};
+ghost use Rattle.sgl_descriptor.specs.declared.Direction.{Direction};
+ghost use Rattle.sgl_descriptor.specs.Spelling.{Fits};
+ghost use Rattle.sgl_descriptor.specs.Targets.{targets, counted_in};
+ghost use Rattle.sgl_descriptor.specs.Laws.{IsSixteenBytes, RoundTrip, OneSpelling, ReadAlike, TargetsJoin};
+
+/// What is written of a descriptor whose fields fit is read as that descriptor.
+pub fn round_trip()
+    ensures { (d : Descriptor) → Fits d → RoundTrip d }
+{}
+
+/// Bytes spell one descriptor at most, the one that they are read as.
+pub fn one_spelling()
+    ensures { (bytes : List ℕ) → OneSpelling bytes }
+{}
+
+/// Two strings of 16 bytes are read alike exactly where they agree outside the reserved bytes. All those whose type
+/// or subtype is invalid are read alike, whatever else stands there.
+pub fn read_alike()
+    ensures { (a b : List ℕ) → IsSixteenBytes a → IsSixteenBytes b → ReadAlike a b }
+{}
+
+/// There is one target for each counted byte, in the parts' order.
+pub fn targets_of_parts()
+    ensures counted { (dir : Direction) (parts : List Part) →
+        length (targets dir parts) ≡ counted_in dir parts }
+    ensures joined { (dir : Direction) (a b : List Part) → TargetsJoin dir a b }
+{}
