@@ -1,0 +1,4 @@
+pub mod Bits
+pub mod Lists
+pub mod SubmissionLemmas
+pub mod CompletionLemmas

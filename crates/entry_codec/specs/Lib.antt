@@ -1,0 +1,5 @@
+pub mod Bytes
+pub mod Status
+pub mod Submission
+pub mod Completion
+pub mod Worked

@@ -1,0 +1,52 @@
+-- The entries of a first Read, of block 0 to the page at 4000h, and of its completion; and their bytes.
+use Rattle.std.specs.Prelude.{ℕ, List, [], ◌∷◌, ◌++◌, replicate, true}
+use Rattle.entry_codec.specs.declared.status.TheConstants.Status.{SUCCESS}
+use Rattle.entry_codec.specs.declared.io_opcode.TheConstants.{READ}
+use Rattle.entry_codec.specs.declared.submission.SubEntry.{SubEntry}
+use Rattle.entry_codec.specs.declared.completion.ComEntry.{ComEntry}
+
+-- a Data Block of 512 bytes at 4000h
+abbrev pub first_sgl1 : List ℕ
+first_sgl1 = 0x00 ∷ 0x40 ∷ 0x00 ∷ 0x00 ∷ 0x00 ∷ 0x00 ∷ 0x00 ∷ 0x00 ∷ 0x00 ∷ 0x02 ∷ 0x00 ∷ 0x00 ∷ 0x00 ∷ 0x00 ∷ 0x00 ∷ 0x00 ∷ []
+
+abbrev pub first_read : SubEntry
+first_read = record {
+  opcode = READ;
+  fuse = 0;
+  psdt = 1;
+  cid = 0;
+  nsid = 1;
+  mptr = 0;
+  sgl1 = first_sgl1;
+  cdw10 = 0;
+  cdw11 = 0;
+  cdw12 = 0;
+  cdw13 = 0;
+  cdw14 = 0;
+  cdw15 = 0;
+}
+
+abbrev pub first_read_bytes : List ℕ
+first_read_bytes =
+    0x02 ∷ 0x40 ∷ 0x00 ∷ 0x00 ∷ []
+    ++ 0x01 ∷ 0x00 ∷ 0x00 ∷ 0x00 ∷ []
+    ++ replicate 16 0x00
+    ++ first_sgl1
+    ++ replicate 24 0x00
+
+abbrev pub first_completion : ComEntry
+first_completion = record {
+  dw0 = 0;
+  sqhd = 1;
+  sqid = 1;
+  cid = 0;
+  phase = true;
+  status = SUCCESS;
+}
+
+abbrev pub first_completion_bytes : List ℕ
+first_completion_bytes =
+    0x00 ∷ 0x00 ∷ 0x00 ∷ 0x00 ∷ []
+    ++ 0x00 ∷ 0x00 ∷ 0x00 ∷ 0x00 ∷ []
+    ++ 0x01 ∷ 0x00 ∷ 0x01 ∷ 0x00 ∷ []
+    ++ 0x00 ∷ 0x00 ∷ 0x01 ∷ 0x00 ∷ []

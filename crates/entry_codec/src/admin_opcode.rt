@@ -1,0 +1,17 @@
+//! Opcodes of the commands on the admin queue (NVM Express Base Specification 2.0, "Admin Command Set").
+
+ghost use Rattle.std.specs.Prelude.{◌≡◌};
+
+/// Delete I/O Submission Queue.
+pub const DELETE_IO_SQ: u8 = 0x00;
+/// Delete I/O Completion Queue.
+pub const DELETE_IO_CQ: u8 = 0x04;
+/// Abort.
+pub const ABORT: u8 = 0x08;
+
+/// The opcodes, by their numbers.
+pub fn values()
+    ensures delete_io_sq { DELETE_IO_SQ ≡ 0x00 }
+    ensures delete_io_cq { DELETE_IO_CQ ≡ 0x04 }
+    ensures abort { ABORT ≡ 0x08 }
+{}

@@ -1,0 +1,246 @@
+//! Completion queue entries, and readers of their single fields.
+#![tactic(auto, unfolding(crate::specs::Completion::completion_of))]
+
+ghost use Rattle.std.specs.Prelude.{◌≡◌, ◌↔◌, ◌<◌, List, ℕ, slice_range};
+ghost use Rattle.std.specs.Int.{w16, from_le_bytes};
+ghost use Rattle.entry_codec.specs.Bytes.{IsBytes};
+ghost use Rattle.entry_codec.specs.Status.{status_halfword as halfword_of};
+ghost use Rattle.entry_codec.specs.Completion.{completion_bytes, completion_of, FitsCompletion, IsComEntry, IsCompletion, AgreeOutsideIgnored};
+ghost use Rattle.entry_codec.specs.Worked.{first_completion, first_completion_bytes};
+ghost use Rattle.entry_codec.specs.declared.completion.ComEntry.{ComEntry};
+
+use crate::status::Status;
+
+/// A completion queue entry (NVM Express Base Specification 2.0, "Common Completion Queue Entry", section 3.3.3.2).
+///
+/// Its 16 bytes are little-endian. The reserved bytes 7:4 and the bits Command Retry Delay, More and Do Not Retry, 15:12
+/// of the last halfword, are no part of the entry: they are written as zero and ignored on reading (own).
+#[derive(Clone, Copy, Debug, PartialEq, Eq)]
+pub struct ComEntry {
+    /// Command specific: bytes 3:0.
+    pub dw0: u32,
+    /// Submission queue head pointer: bytes 9:8.
+    pub sqhd: u16,
+    /// Submission queue identifier: bytes 11:10.
+    pub sqid: u16,
+    /// Command identifier: bytes 13:12.
+    pub cid: u16,
+    /// Phase tag: bit 0 of the last halfword.
+    pub phase: bool,
+    /// Status: bits 11:1 of the last halfword, so its type is below 8.
+    pub status: Status,
+}
+
+impl ComEntry {
+    /// The entry's bytes, with zeros in what is reserved or ignored.
+    #[tactic(auto, unfolding(crate::specs::Completion::completion_bytes))]
+    pub fn write(self) -> [u8; 16]
+        requires fits { FitsCompletion self }
+        ensures { result ≡ completion_bytes self }
+    {
+        let mut bytes = [0; 16];
+        bytes[0..4].copy_from_slice(&self.dw0.to_le_bytes());
+        bytes[8..10].copy_from_slice(&self.sqhd.to_le_bytes());
+        bytes[10..12].copy_from_slice(&self.sqid.to_le_bytes());
+        bytes[12..14].copy_from_slice(&self.cid.to_le_bytes());
+        bytes[14..16].copy_from_slice(&self.status_halfword().to_le_bytes());
+        bytes
+    }
+
+    /// The entry that the bytes spell, whatever stands in what is reserved or ignored.
+    #[tactic(auto)]
+    pub fn read(bytes: &[u8; 16]) -> ComEntry
+        ensures spelled { IsCompletion result bytes.now }
+        ensures only { (entry : ComEntry) → IsCompletion entry bytes.now → result ≡ entry }
+        ensures exact { result ≡ completion_of bytes.now }
+    {
+        ComEntry {
+            dw0: dw0(bytes),
+            sqhd: sqhd(bytes),
+            sqid: sqid(bytes),
+            cid: cid(bytes),
+            phase: phase(bytes),
+            status: status(bytes),
+        }
+    }
+
+    /// The last halfword: phase and status.
+    #[tactic(auto, using(crate::proofs::Bits::fields_add))]
+    fn status_halfword(self) -> u16
+        requires fits { FitsCompletion self }
+        ensures { result ≡ halfword_of self.status self.phase }
+    {
+        u16::from(self.status.sct) << 9 | u16::from(self.status.sc) << 1 | u16::from(self.phase)
+    }
+}
+
+/// The command specific doubleword of an entry's bytes.
+pub fn dw0(bytes: &[u8; 16]) -> u32
+    ensures { result ≡ (completion_of bytes.now).dw0 }
+{
+    u32::from_le_bytes([bytes[0], bytes[1], bytes[2], bytes[3]])
+}
+
+/// The submission queue head pointer of an entry's bytes.
+pub fn sqhd(bytes: &[u8; 16]) -> u16
+    ensures { result ≡ (completion_of bytes.now).sqhd }
+{
+    u16::from_le_bytes([bytes[8], bytes[9]])
+}
+
+/// The submission queue identifier of an entry's bytes.
+pub fn sqid(bytes: &[u8; 16]) -> u16
+    ensures { result ≡ (completion_of bytes.now).sqid }
+{
+    u16::from_le_bytes([bytes[10], bytes[11]])
+}
+
+/// The command identifier of an entry's bytes.
+pub fn cid(bytes: &[u8; 16]) -> u16
+    ensures { result ≡ (completion_of bytes.now).cid }
+{
+    u16::from_le_bytes([bytes[12], bytes[13]])
+}
+
+/// The phase tag of an entry's bytes.
+pub fn phase(bytes: &[u8; 16]) -> bool
+    ensures { result ≡ (completion_of bytes.now).phase }
+{
+    halfword(bytes) % 2 == 1
+}
+
+/// The status of an entry's bytes, whose type is below 8.
+pub fn status(bytes: &[u8; 16]) -> Status
+    ensures { result ≡ (completion_of bytes.now).status }
+{
+    let halfword = halfword(bytes);
+    Status {
+        sct: (halfword / 512 % 8) as u8,
+        sc: (halfword / 2 % 256) as u8,
+    }
+}
+
+fn halfword(bytes: &[u8; 16]) -> u16
+    ensures { result ≡ from_le_bytes w16 (slice_range bytes.now 14 16) }
+{
+    u16::from_le_bytes([bytes[14], bytes[15]])
+}
+
+/// What is written for an entry reads as the entry.
+#[tactic(auto)]
+pub fn round_trip()
+    ensures spelled { (entry : ComEntry) → IsComEntry entry → FitsCompletion entry → IsCompletion entry (completion_bytes entry) }
+    ensures read { (entry : ComEntry) → IsComEntry entry → FitsCompletion entry → completion_of (completion_bytes entry) ≡ entry }
+{}
+
+/// The relation between bytes and an entry, and the function from bytes to an entry, say the same.
+#[tactic(auto)]
+pub fn one_spelling()
+    ensures { (bytes : List ℕ) (entry : ComEntry) → IsBytes 16 bytes → (IsCompletion entry bytes ↔ (completion_of bytes ≡ entry)) }
+{}
+
+/// Two strings of bytes read alike exactly where they agree outside what is reserved or ignored.
+#[tactic(auto)]
+pub fn read_alike()
+    ensures { (a b : List ℕ) → IsBytes 16 a → IsBytes 16 b → ((completion_of a ≡ completion_of b) ↔ AgreeOutsideIgnored a b) }
+{}
+
+/// The entry of a first Read's completion, both ways.
+#[tactic(auto, unfolding(crate::specs::Completion::completion_bytes, crate::specs::Completion::completion_of))]
+pub fn worked_entry()
+    ensures written { completion_bytes first_completion ≡ first_completion_bytes }
+    ensures read { completion_of first_completion_bytes ≡ first_completion }
+{}
+
+#[cfg(test)]
+mod tests {
+    use super::*;
+
+    /// The last two bytes of a completion with this status.
+    fn last_bytes(status: Status, phase: bool) -> [u8; 2]
+        requires { status.sct < 8 }
+    {
+        let entry = ComEntry {
+            dw0: 0,
+            sqhd: 0,
+            sqid: 0,
+            cid: 0,
+            phase,
+            status,
+        };
+        let bytes = entry.write();
+        [bytes[14], bytes[15]]
+    }
+
+    #[test]
+    fn first_completion_both_ways(rt: HostRuntime) {
+        let entry = ComEntry {
+            dw0: 0,
+            sqhd: 1,
+            sqid: 1,
+            cid: 0,
+            phase: true,
+            status: Status::SUCCESS,
+        };
+        let bytes = [0, 0, 0, 0, 0, 0, 0, 0, 1, 0, 1, 0, 0, 0, 1, 0];
+        assert_eq!(rt; entry.write(), bytes);
+        assert_eq!(rt; ComEntry::read(&bytes), entry);
+    }
+
+    #[test]
+    fn ignored_bits_are_ignored(rt: HostRuntime) {
+        let plain = [0, 0, 0, 0, 0, 0, 0, 0, 1, 0, 1, 0, 0, 0, 0x0B, 0x05];
+        let marked = [
+            0, 0, 0, 0, 0xFF, 0xFF, 0xFF, 0xFF, 1, 0, 1, 0, 0, 0, 0x0B, 0xF5,
+        ];
+        assert_eq!(rt; ComEntry::read(&plain).status, Status::COMPARE_FAILURE);
+        assert_eq!(rt; ComEntry::read(&marked), ComEntry::read(&plain));
+    }
+
+    #[test]
+    fn largest_fields(rt: HostRuntime) {
+        let entry = ComEntry {
+            dw0: 0xFFFF_FFFF,
+            sqhd: 0xFFFF,
+            sqid: 0xFFFF,
+            cid: 0xFFFF,
+            phase: true,
+            status: Status { sct: 7, sc: 0xFF },
+        };
+        let bytes = [
+            0xFF, 0xFF, 0xFF, 0xFF, 0, 0, 0, 0, 0xFF, 0xFF, 0xFF, 0xFF, 0xFF, 0xFF, 0xFF, 0x0F,
+        ];
+        assert_eq!(rt; entry.write(), bytes);
+        assert_eq!(rt; ComEntry::read(&bytes), entry);
+        assert_eq!(rt; ComEntry::read(&[0xFF; 16]), entry);
+    }
+
+    #[test]
+    fn least_significant_byte_first(rt: HostRuntime) {
+        let bytes = [0, 1, 2, 3, 4, 5, 6, 7, 8, 9, 10, 11, 12, 13, 14, 15];
+        assert_eq!(rt; dw0(&bytes), 0x0302_0100);
+        assert_eq!(rt; sqhd(&bytes), 0x0908);
+        assert_eq!(rt; sqid(&bytes), 0x0B0A);
+        assert_eq!(rt; cid(&bytes), 0x0D0C);
+        assert_eq!(rt; phase(&bytes), false);
+        assert_eq!(rt; status(&bytes), Status { sct: 7, sc: 0x87 });
+    }
+
+    #[test]
+    fn last_halfwords(rt: HostRuntime) {
+        assert_eq!(rt; last_bytes(Status::SUCCESS, false), [0x00, 0x00]);
+        assert_eq!(rt; last_bytes(Status::SUCCESS, true), [0x01, 0x00]);
+        assert_eq!(rt; last_bytes(Status::DATA_TRANSFER_ERROR, true), [0x09, 0x00]);
+        assert_eq!(rt; last_bytes(Status::ABORT_REQUESTED, true), [0x0F, 0x00]);
+        assert_eq!(rt; last_bytes(Status::ABORTED_SQ_DELETION, true), [0x11, 0x00]);
+        assert_eq!(rt; last_bytes(Status::INVALID_SGL_SEGMENT, true), [0x1B, 0x00]);
+        assert_eq!(rt; last_bytes(Status::INVALID_SGL_COUNT, true), [0x1D, 0x00]);
+        assert_eq!(rt;
+            last_bytes(Status::DATA_SGL_LENGTH_INVALID, true),
+            [0x1F, 0x00]
+        );
+        assert_eq!(rt; last_bytes(Status::SGL_TYPE_INVALID, true), [0x23, 0x00]);
+        assert_eq!(rt; last_bytes(Status::LBA_OUT_OF_RANGE, true), [0x01, 0x01]);
+        assert_eq!(rt; last_bytes(Status::COMPARE_FAILURE, true), [0x0B, 0x05]);
+    }
+}

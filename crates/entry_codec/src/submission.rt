@@ -1,0 +1,336 @@
+//! Submission queue entries, and readers of their single fields.
+#![tactic(auto, unfolding(crate::specs::Submission::submission_of))]
+
+ghost use Rattle.std.specs.Prelude.{◌≡◌, ◌↔◌, ◌+◌, ◌*◌, List, ℕ};
+ghost use Rattle.entry_codec.specs.Bytes.{IsBytes};
+ghost use Rattle.entry_codec.specs.Submission.{submission_bytes, submission_head, command_words, submission_of, FitsSubmission, IsSubEntry, IsSubmission, AgreeOutsideReserved};
+ghost use Rattle.entry_codec.specs.Worked.{first_read, first_read_bytes};
+ghost use Rattle.entry_codec.specs.declared.submission.SubEntry.{SubEntry};
+
+/// A submission queue entry (NVM Express Base Specification 2.0, "Submission Queue Entry", section 3.3.3.1).
+///
+/// Its 64 bytes are little-endian. What the standard reserves, bits 13:10 of the first word and bytes 15:8, is no part of
+/// the entry: it is written as zero and ignored on reading (own).
+#[derive(Clone, Copy, Debug, PartialEq, Eq)]
+pub struct SubEntry {
+    /// The command's opcode: bits 7:0 of the first word.
+    pub opcode: u8,
+    /// Fused operation: bits 9:8 of the first word, so below 4.
+    pub fuse: u8,
+    /// PRP or SGL for data transfer: bits 15:14 of the first word, so below 4.
+    pub psdt: u8,
+    /// Command identifier: bits 31:16 of the first word.
+    pub cid: u16,
+    /// Namespace identifier: bytes 7:4.
+    pub nsid: u32,
+    /// Metadata pointer: bytes 23:16.
+    pub mptr: u64,
+    /// The data pointer's 16 bytes, with SGLs the first descriptor: bytes 39:24.
+    pub sgl1: [u8; 16],
+    /// Command specific: bytes 43:40.
+    pub cdw10: u32,
+    /// Command specific: bytes 47:44.
+    pub cdw11: u32,
+    /// Command specific: bytes 51:48.
+    pub cdw12: u32,
+    /// Command specific: bytes 55:52.
+    pub cdw13: u32,
+    /// Command specific: bytes 59:56.
+    pub cdw14: u32,
+    /// Command specific: bytes 63:60.
+    pub cdw15: u32,
+}
+
+impl SubEntry {
+    /// The entry's bytes, with zeros in what is reserved.
+    #[tactic(auto, unfolding(crate::specs::Submission::submission_bytes))]
+    pub fn write(self) -> [u8; 64]
+        requires fits { FitsSubmission self }
+        ensures { result ≡ submission_bytes self }
+    {
+        let mut bytes = [0; 64];
+        bytes[..16].copy_from_slice(&self.head());
+        bytes[16..24].copy_from_slice(&self.mptr.to_le_bytes());
+        bytes[24..40].copy_from_slice(&self.sgl1);
+        bytes[40..].copy_from_slice(&self.command_words());
+        bytes
+    }
+
+    /// The entry that the bytes spell, whatever stands in what is reserved.
+    #[tactic(auto)]
+    pub fn read(bytes: &[u8; 64]) -> SubEntry
+        ensures spelled { IsSubmission result bytes.now }
+        ensures only { (entry : SubEntry) → IsSubmission entry bytes.now → result ≡ entry }
+        ensures exact { result ≡ submission_of bytes.now }
+    {
+        SubEntry {
+            opcode: opcode(bytes),
+            fuse: fuse(bytes),
+            psdt: psdt(bytes),
+            cid: cid(bytes),
+            nsid: nsid(bytes),
+            mptr: mptr(bytes),
+            sgl1: sgl1(bytes),
+            cdw10: cdw10(bytes),
+            cdw11: cdw11(bytes),
+            cdw12: cdw12(bytes),
+            cdw13: cdw13(bytes),
+            cdw14: cdw14(bytes),
+            cdw15: cdw15(bytes),
+        }
+    }
+
+    /// Bytes 15:0: the first word, the namespace and zeros.
+    #[tactic(auto)]
+    fn head(self) -> [u8; 16]
+        requires fits { FitsSubmission self }
+        ensures { result ≡ submission_head self }
+    {
+        let mut bytes = [0; 16];
+        bytes[..2].copy_from_slice(&[self.opcode, self.flags()]);
+        bytes[2..4].copy_from_slice(&self.cid.to_le_bytes());
+        bytes[4..8].copy_from_slice(&self.nsid.to_le_bytes());
+        bytes
+    }
+
+    /// Byte 1: fused operation and data transfer.
+    #[tactic(auto)]
+    fn flags(self) -> u8
+        requires fits { FitsSubmission self }
+        ensures { result ≡ self.fuse + self.psdt * 64 }
+    {
+        self.psdt << 6 | self.fuse
+    }
+
+    /// Bytes 63:40: the command specific words.
+    #[tactic(auto)]
+    fn command_words(self) -> [u8; 24]
+        ensures { result ≡ command_words self }
+    {
+        let mut bytes = [0; 24];
+        bytes[0..4].copy_from_slice(&self.cdw10.to_le_bytes());
+        bytes[4..8].copy_from_slice(&self.cdw11.to_le_bytes());
+        bytes[8..12].copy_from_slice(&self.cdw12.to_le_bytes());
+        bytes[12..16].copy_from_slice(&self.cdw13.to_le_bytes());
+        bytes[16..20].copy_from_slice(&self.cdw14.to_le_bytes());
+        bytes[20..24].copy_from_slice(&self.cdw15.to_le_bytes());
+        bytes
+    }
+}
+
+/// The opcode of an entry's bytes.
+pub fn opcode(bytes: &[u8; 64]) -> u8
+    ensures { result ≡ (submission_of bytes.now).opcode }
+{
+    bytes[0]
+}
+
+/// The fused operation of an entry's bytes, below 4.
+pub fn fuse(bytes: &[u8; 64]) -> u8
+    ensures { result ≡ (submission_of bytes.now).fuse }
+{
+    bytes[1] % 4
+}
+
+/// The choice of PRP or SGL of an entry's bytes, below 4.
+pub fn psdt(bytes: &[u8; 64]) -> u8
+    ensures { result ≡ (submission_of bytes.now).psdt }
+{
+    bytes[1] >> 6
+}
+
+/// The command identifier of an entry's bytes.
+pub fn cid(bytes: &[u8; 64]) -> u16
+    ensures { result ≡ (submission_of bytes.now).cid }
+{
+    u16::from_le_bytes([bytes[2], bytes[3]])
+}
+
+/// The namespace identifier of an entry's bytes.
+pub fn nsid(bytes: &[u8; 64]) -> u32
+    ensures { result ≡ (submission_of bytes.now).nsid }
+{
+    u32::from_le_bytes([bytes[4], bytes[5], bytes[6], bytes[7]])
+}
+
+/// The metadata pointer of an entry's bytes.
+pub fn mptr(bytes: &[u8; 64]) -> u64
+    ensures { result ≡ (submission_of bytes.now).mptr }
+{
+    u64::from_le_bytes([
+        bytes[16], bytes[17], bytes[18], bytes[19], bytes[20], bytes[21], bytes[22], bytes[23],
+    ])
+}
+
+/// The first SGL descriptor of an entry's bytes, which is its data pointer.
+pub fn sgl1(bytes: &[u8; 64]) -> [u8; 16]
+    ensures { result ≡ (submission_of bytes.now).sgl1 }
+{
+    let mut sgl1 = [0; 16];
+    sgl1.copy_from_slice(&bytes[24..40]);
+    sgl1
+}
+
+/// Command doubleword 10 of an entry's bytes.
+pub fn cdw10(bytes: &[u8; 64]) -> u32
+    ensures { result ≡ (submission_of bytes.now).cdw10 }
+{
+    u32::from_le_bytes([bytes[40], bytes[41], bytes[42], bytes[43]])
+}
+
+/// Command doubleword 11 of an entry's bytes.
+pub fn cdw11(bytes: &[u8; 64]) -> u32
+    ensures { result ≡ (submission_of bytes.now).cdw11 }
+{
+    u32::from_le_bytes([bytes[44], bytes[45], bytes[46], bytes[47]])
+}
+
+/// Command doubleword 12 of an entry's bytes.
+pub fn cdw12(bytes: &[u8; 64]) -> u32
+    ensures { result ≡ (submission_of bytes.now).cdw12 }
+{
+    u32::from_le_bytes([bytes[48], bytes[49], bytes[50], bytes[51]])
+}
+
+/// Command doubleword 13 of an entry's bytes.
+pub fn cdw13(bytes: &[u8; 64]) -> u32
+    ensures { result ≡ (submission_of bytes.now).cdw13 }
+{
+    u32::from_le_bytes([bytes[52], bytes[53], bytes[54], bytes[55]])
+}
+
+/// Command doubleword 14 of an entry's bytes.
+pub fn cdw14(bytes: &[u8; 64]) -> u32
+    ensures { result ≡ (submission_of bytes.now).cdw14 }
+{
+    u32::from_le_bytes([bytes[56], bytes[57], bytes[58], bytes[59]])
+}
+
+/// Command doubleword 15 of an entry's bytes.
+pub fn cdw15(bytes: &[u8; 64]) -> u32
+    ensures { result ≡ (submission_of bytes.now).cdw15 }
+{
+    u32::from_le_bytes([bytes[60], bytes[61], bytes[62], bytes[63]])
+}
+
+/// What is written for an entry reads as the entry.
+#[tactic(auto)]
+pub fn round_trip()
+    ensures spelled { (entry : SubEntry) → IsSubEntry entry → FitsSubmission entry → IsSubmission entry (submission_bytes entry) }
+    ensures read { (entry : SubEntry) → IsSubEntry entry → FitsSubmission entry → submission_of (submission_bytes entry) ≡ entry }
+{}
+
+/// The relation between bytes and an entry, and the function from bytes to an entry, say the same.
+#[tactic(auto)]
+pub fn one_spelling()
+    ensures { (bytes : List ℕ) (entry : SubEntry) → IsBytes 64 bytes → (IsSubmission entry bytes ↔ (submission_of bytes ≡ entry)) }
+{}
+
+/// Two strings of bytes read alike exactly where they agree outside what is reserved.
+#[tactic(auto)]
+pub fn read_alike()
+    ensures { (a b : List ℕ) → IsBytes 64 a → IsBytes 64 b → ((submission_of a ≡ submission_of b) ↔ AgreeOutsideReserved a b) }
+{}
+
+/// The entry of a first Read, both ways.
+#[tactic(auto, unfolding(crate::specs::Submission::submission_bytes, crate::specs::Submission::submission_of))]
+pub fn worked_entry()
+    ensures written { submission_bytes first_read ≡ first_read_bytes }
+    ensures read { submission_of first_read_bytes ≡ first_read }
+{}
+
+#[cfg(test)]
+mod tests {
+    use super::*;
+
+    /// A Read of block 0 to the page at 4000h.
+    const FIRST_READ: SubEntry = SubEntry {
+        opcode: 0x02,
+        fuse: 0,
+        psdt: 1,
+        cid: 0,
+        nsid: 1,
+        mptr: 0,
+        sgl1: [0, 0x40, 0, 0, 0, 0, 0, 0, 0, 2, 0, 0, 0, 0, 0, 0],
+        cdw10: 0,
+        cdw11: 0,
+        cdw12: 0,
+        cdw13: 0,
+        cdw14: 0,
+        cdw15: 0,
+    };
+
+    const FIRST_READ_BYTES: [u8; 64] = [
+        0x02, 0x40, 0, 0, 1, 0, 0, 0, 0, 0, 0, 0, 0, 0, 0, 0, 0, 0, 0, 0, 0, 0, 0, 0, 0, 0x40, 0,
+        0, 0, 0, 0, 0, 0, 2, 0, 0, 0, 0, 0, 0, 0, 0, 0, 0, 0, 0, 0, 0, 0, 0, 0, 0, 0, 0, 0, 0, 0,
+        0, 0, 0, 0, 0, 0, 0,
+    ];
+
+    /// Every byte has its own place as its value.
+    const NUMBERED: [u8; 64] = [
+        0, 1, 2, 3, 4, 5, 6, 7, 8, 9, 10, 11, 12, 13, 14, 15, 16, 17, 18, 19, 20, 21, 22, 23, 24,
+        25, 26, 27, 28, 29, 30, 31, 32, 33, 34, 35, 36, 37, 38, 39, 40, 41, 42, 43, 44, 45, 46, 47,
+        48, 49, 50, 51, 52, 53, 54, 55, 56, 57, 58, 59, 60, 61, 62, 63,
+    ];
+
+    #[test]
+    fn first_read_both_ways(rt: HostRuntime) {
+        assert_eq!(rt; FIRST_READ.write(), FIRST_READ_BYTES);
+        assert_eq!(rt; SubEntry::read(&FIRST_READ_BYTES), FIRST_READ);
+    }
+
+    #[test]
+    fn reserved_bits_are_ignored(rt: HostRuntime) {
+        let mut bytes = FIRST_READ_BYTES;
+        bytes[1] = 0x7C;
+        bytes[8..16].copy_from_slice(&[0xFF; 8]);
+        assert_eq!(rt; SubEntry::read(&bytes), FIRST_READ);
+    }
+
+    #[test]
+    fn largest_fields(rt: HostRuntime) {
+        let entry = SubEntry {
+            opcode: 0xFF,
+            fuse: 3,
+            psdt: 3,
+            cid: 0xFFFF,
+            nsid: 0xFFFF_FFFF,
+            mptr: 0xFFFF_FFFF_FFFF_FFFF,
+            sgl1: [0xFF; 16],
+            cdw10: 0xFFFF_FFFF,
+            cdw11: 0xFFFF_FFFF,
+            cdw12: 0xFFFF_FFFF,
+            cdw13: 0xFFFF_FFFF,
+            cdw14: 0xFFFF_FFFF,
+            cdw15: 0xFFFF_FFFF,
+        };
+        let mut bytes = [0xFF; 64];
+        bytes[1] = 0xC3;
+        bytes[8..16].copy_from_slice(&[0; 8]);
+        assert_eq!(rt; entry.write(), bytes);
+        assert_eq!(rt; SubEntry::read(&bytes), entry);
+        assert_eq!(rt; SubEntry::read(&[0xFF; 64]), entry);
+    }
+
+    #[test]
+    fn least_significant_byte_first(rt: HostRuntime) {
+        assert_eq!(rt; opcode(&NUMBERED), 0);
+        assert_eq!(rt; fuse(&NUMBERED), 1);
+        assert_eq!(rt; psdt(&NUMBERED), 0);
+        assert_eq!(rt; cid(&NUMBERED), 0x0302);
+        assert_eq!(rt; nsid(&NUMBERED), 0x0706_0504);
+        assert_eq!(rt; mptr(&NUMBERED), 0x1716_1514_1312_1110);
+        assert_eq!(rt;
+            sgl1(&NUMBERED),
+            [
+                24, 25, 26, 27, 28, 29, 30, 31, 32, 33, 34, 35, 36, 37, 38, 39
+            ]
+        );
+        assert_eq!(rt; cdw10(&NUMBERED), 0x2B2A_2928);
+        assert_eq!(rt; cdw11(&NUMBERED), 0x2F2E_2D2C);
+        assert_eq!(rt; cdw12(&NUMBERED), 0x3332_3130);
+        assert_eq!(rt; cdw13(&NUMBERED), 0x3736_3534);
+        assert_eq!(rt; cdw14(&NUMBERED), 0x3B3A_3938);
+        assert_eq!(rt; cdw15(&NUMBERED), 0x3F3E_3D3C);
+    }
+}
