@@ -1,0 +1,357 @@
+-- Tables of owners: what a write, a grant and a give-back leave at each page.
+use Rattle.std.proofs.Common.{◌≡◌, ◌≢◌, ℕ, zero, suc, ◌+◌, ◌-◌, ◌<◌, ◌≤◌, ◌⊎◌, ◌↔◌, inl, inr, Bool, true, false, cond, ◌||◌, Option, Some, None, List, [], ◌∷◌, ◌++◌, length, filter, take, drop, slice_get, slice_set, refl, ap, sym, ◌∙◌, arith, subst, append_assoc, add-one, length-set, length-append, if◌then◌else◌, All, get_or, ◌&&◌, ◌==◌, not, eqb-true}
+use Rattle.std.specs.Option.{option_map_or, option_map}
+use Rattle.std.proofs.lemmas.Bool.{eqb-false, cases_eq, cases_lt, true≢false}
+use Rattle.std.proofs.lemmas.List.{append-nil, drop_at, length-map, take_all}
+use Rattle.std.proofs.lemmas.List.Elements.{All-take, filter_passes}
+use Rattle.std.proofs.lemmas.List.Sums.{sum_by-cons, count_by_more_yes, count_by_more_no}
+use Rattle.std.proofs.lemmas.Option.{slice_get-map, slice_get-get_or, slice_get_within, slice_get_past}
+use Rattle.std.specs.List.{count_by, Contains}
+use Rattle.page_ledger.specs.declared.owner.Owner.{Owner}
+use Rattle.page_ledger.specs.declared.owner.Owner.TheVariants.{Free, Queue, Command}
+use Rattle.page_ledger.specs.Owners.{is_among, owner_at, is_free, is_owned_at, pages_from, pages_owned, free_pages, with_owner, given_back}
+use Rattle.page_ledger.proofs.Pages.{filter-agree, filter-next, filter-within, filter-without_first, filter-contains, pages_from-more}
+
+-- the owner of a page, as a walk reads it
+pub owned-here : (test : Owner → Bool) (owners : List Owner) (p : ℕ) (d : Owner) → p < length owners → is_owned_at test owners p ≡ test (get_or owners p d)
+owned-here test owners p d within = ap (λ o. option_map_or test o false) (slice_get-get_or owners p d within)
+
+-- one page more of a walk over the table
+pub walk-yes : (test : Owner → Bool) (owners : List Owner) (p : ℕ) (d : Owner) → p < length owners → test (get_or owners p d) ≡ true
+    → filter (is_owned_at test owners) (pages_from 0 (p + 1)) ≡ filter (is_owned_at test owners) (pages_from 0 p) ++ p ∷ []
+walk-yes test owners p d within holds =
+    filter-next (is_owned_at test owners) p ∙ ap (λ c. filter (is_owned_at test owners) (pages_from 0 p) ++ cond c (p ∷ []) []) (owned-here test owners p d within ∙ holds)
+
+pub walk-none : (test : Owner → Bool) (owners : List Owner) (p : ℕ) (d : Owner) → p < length owners → test (get_or owners p d) ≡ false
+    → filter (is_owned_at test owners) (pages_from 0 (p + 1)) ≡ filter (is_owned_at test owners) (pages_from 0 p)
+walk-none test owners p d within fails =
+    filter-next (is_owned_at test owners) p ∙ (ap (λ c. filter (is_owned_at test owners) (pages_from 0 p) ++ cond c (p ∷ []) []) (owned-here test owners p d within ∙ fails)
+    ∙ append-nil (filter (is_owned_at test owners) (pages_from 0 p)))
+
+-- the free pages lie in the pool
+pub free-within : (k : ℕ) (owners : List Owner) → All (λ p. p < length owners) (take k (free_pages owners))
+free-within k owners =
+    All-take (λ p. p < length owners) k (free_pages owners)
+    (λ i d l. let w = filter-within (is_owned_at is_free owners) 0 (length owners) i d l in omega arith)
+
+-- what was appended to a list, read from where it began
+pub appended : (start k : ℕ) (old now free : List ℕ) → start ≡ length old → now ≡ old ++ take k free → take (length now - start) (drop start now) ≡ take k free
+appended start k old now free begins is =
+    let behind : drop start now ≡ take k free = ap (drop start) is ∙ drop_at old (take k free) start (sym begins) in
+    let size : length now ≡ start + length (take k free) = ap length is ∙ (length-append old (take k free) ∙ ap (λ n. n + length (take k free)) (sym begins)) in
+    rw behind (take_all (length now - start) (take k free) (omega arith))
+
+-- one write
+
+pub slice_get-set_same : {X : Type 0} (xs : List X) (i : ℕ) (x : X) → i < length xs → slice_get (slice_set xs i x) i ≡ Some x
+slice_get-set_same [] i x l = absurd (omega arith)
+slice_get-set_same (y ∷ xs) zero x l = refl
+slice_get-set_same (y ∷ xs) (suc i) x l = slice_get-set_same xs i x (omega arith)
+
+pub slice_get-set_other : {X : Type 0} (xs : List X) (i j : ℕ) (x : X) → j ≢ i → slice_get (slice_set xs i x) j ≡ slice_get xs j
+slice_get-set_other [] i j x h = refl
+slice_get-set_other (y ∷ xs) zero zero x h = absurd (h refl)
+slice_get-set_other (y ∷ xs) zero (suc j) x h = refl
+slice_get-set_other (y ∷ xs) (suc i) zero x h = refl
+slice_get-set_other (y ∷ xs) (suc i) (suc j) x h = slice_get-set_other xs i j x (λ e. h (ap suc e))
+
+-- what is read where was written
+slice_get-set_cases : {X : Type 0} (xs : List X) (i : ℕ) (x : X) → (slice_get (slice_set xs i x) i ≡ Some x) ⊎ (slice_get (slice_set xs i x) i ≡ None)
+slice_get-set_cases [] i x = inr refl
+slice_get-set_cases (y ∷ xs) zero x = inl refl
+slice_get-set_cases (y ∷ xs) (suc i) x = slice_get-set_cases xs i x
+
+-- the element behind a front
+slice_get-behind : {X : Type 0} (xs ys : List X) (y : X) → slice_get (xs ++ y ∷ ys) (length xs) ≡ Some y
+slice_get-behind [] ys y = refl
+slice_get-behind (x ∷ xs) ys y = slice_get-behind xs ys y
+
+-- further behind, the element after the front plays no part
+slice_get-past : {X : Type 0} (xs ys : List X) (x y : X) (i : ℕ) → length xs + 1 ≤ i → slice_get (xs ++ x ∷ ys) i ≡ slice_get (xs ++ y ∷ ys) i
+slice_get-past [] ys x y zero l = absurd (omega arith)
+slice_get-past [] ys x y (suc i) l = refl
+slice_get-past (z ∷ xs) ys x y zero l = absurd (omega arith)
+slice_get-past (z ∷ xs) ys x y (suc i) l = slice_get-past xs ys x y i (omega arith)
+
+slice_set-behind : {X : Type 0} (xs ys : List X) (x y : X) → slice_set (xs ++ y ∷ ys) (length xs) x ≡ xs ++ x ∷ ys
+slice_set-behind [] ys x y = refl
+slice_set-behind (z ∷ xs) ys x y = ap (λ l. z ∷ l) (slice_set-behind xs ys x y)
+
+-- many writes
+
+pub length-with_owner : (owners : List Owner) (pages : List ℕ) (owner : Owner) → length (with_owner owners pages owner) ≡ length owners
+length-with_owner owners [] owner = refl
+length-with_owner owners (p ∷ pages) owner = length-with_owner (slice_set owners p owner) pages owner ∙ length-set owners p owner
+
+pub with_owner-append : (owners : List Owner) (a b : List ℕ) (owner : Owner) → with_owner owners (a ++ b) owner ≡ with_owner (with_owner owners a owner) b owner
+with_owner-append owners [] b owner = refl
+with_owner-append owners (p ∷ a) b owner = with_owner-append (slice_set owners p owner) a b owner
+
+-- a page that has the owner keeps it
+owner-stays : (owners : List Owner) (pages : List ℕ) (owner : Owner) (p : ℕ) → owner_at owners p ≡ Some owner → owner_at (with_owner owners pages owner) p ≡ Some owner
+owner-stays owners [] owner p has = has
+owner-stays owners (q ∷ pages) owner p has = owner-stays (slice_set owners q owner) pages owner p (after (cases_eq p q))
+  where
+    after : (p ≡ q) ⊎ (p ≢ q) → slice_get (slice_set owners q owner) p ≡ Some owner
+    after (inl same) = subst (λ (i : ℕ). slice_get (slice_set owners i owner) p ≡ Some owner) same (slice_get-set_same owners p owner (slice_get_within owners p owner has))
+    after (inr other) = slice_get-set_other owners q p owner other ∙ has
+
+pub owner-changed : (owners : List Owner) (pages : List ℕ) (owner : Owner) (p : ℕ) → p < length owners → Contains pages p → owner_at (with_owner owners pages owner) p ≡ Some owner
+owner-changed owners [] owner p within (k, l, e) = absurd (omega arith)
+owner-changed owners (q ∷ pages) owner p within (zero, l, e) =
+    owner-stays (slice_set owners q owner) pages owner p (subst (λ (i : ℕ). slice_get (slice_set owners i owner) p ≡ Some owner) (sym e) (slice_get-set_same owners p owner within))
+owner-changed owners (q ∷ pages) owner p within (suc k, l, e) =
+    owner-changed (slice_set owners q owner) pages owner p (omega (arith, length-set owners q owner)) (k, omega arith, e)
+
+pub owner-kept : (owners : List Owner) (pages : List ℕ) (owner : Owner) (p : ℕ) → (Contains pages p → ⊥) → owner_at (with_owner owners pages owner) p ≡ owner_at owners p
+owner-kept owners [] owner p other = refl
+owner-kept owners (q ∷ pages) owner p other =
+    owner-kept (slice_set owners q owner) pages owner p (λ (k, l, e). other (suc k, omega arith, e))
+    ∙ slice_get-set_other owners q p owner (λ same. other (0, omega arith, sym same))
+
+-- the pages listed are those whose owner passes
+
+owned-within : (test : Owner → Bool) (owners : List Owner) (p : ℕ) → is_owned_at test owners p ≡ true → p < length owners
+owned-within test owners p holds = go (cases_lt p (length owners))
+  where
+    go : (p < length owners) ⊎ (length owners ≤ p) → p < length owners
+    go (inl within) = within
+    go (inr past) = absurd (true≢false (sym holds ∙ ap (λ o. option_map_or test o false) (slice_get_past owners p past)))
+
+pub owned-listed : (test : Owner → Bool) (owners : List Owner) (p : ℕ) → Contains (pages_owned test owners) p ↔ (is_owned_at test owners p ≡ true)
+owned-listed test owners p = (forth, λ holds. filter-contains (is_owned_at test owners) 0 (length owners) p (omega arith) (omega (arith, owned-within test owners p holds)) holds)
+  where
+    forth : Contains (pages_owned test owners) p → is_owned_at test owners p ≡ true
+    forth (k, l, e) = subst (λ (i : ℕ). is_owned_at test owners i ≡ true) e (filter_passes (is_owned_at test owners) (pages_from 0 (length owners)) k p l)
+
+-- one page more of a run
+pub with_owner-more : (owners now : List Owner) (p i : ℕ) (owner : Owner) → now ≡ with_owner owners (pages_from p i) owner → slice_set now (p + i) owner ≡ with_owner owners (pages_from p (i + 1)) owner
+with_owner-more owners now p i owner is =
+    ap (λ (l : List Owner). slice_set l (p + i) owner) is
+    ∙ (sym (with_owner-append owners (pages_from p i) ((p + i) ∷ []) owner) ∙ ap (λ l. with_owner owners l owner) (sym (pages_from-more p i)))
+
+-- a walk over a table behind a front, where the front plays no part
+walk : (Owner → Bool) → List Owner → List Owner → List ℕ
+walk test front owners = filter (is_owned_at test (front ++ owners)) (pages_from (length front) (length owners))
+
+walk-cons : (test : Owner → Bool) (front owners : List Owner) (owner : Owner) → walk test front (owner ∷ owners) ≡ cond (test owner) (length front ∷ walk test (front ++ owner ∷ []) owners) (walk test (front ++ owner ∷ []) owners)
+unfolding walk
+walk-cons test front owners owner =
+    ap (λ c. cond c (length front ∷ rest) rest) (ap (λ o. option_map_or test o false) (slice_get-behind front owners owner))
+    ∙ ap (λ l. cond (test owner) (length front ∷ l) l) moved
+  where
+    rest : List ℕ
+    rest = filter (is_owned_at test (front ++ owner ∷ owners)) (pages_from (length front + 1) (length owners))
+
+    moved : rest ≡ walk test (front ++ owner ∷ []) owners
+    moved = ap (λ (l : List Owner). filter (is_owned_at test l) (pages_from (length front + 1) (length owners))) (sym (append_assoc front (owner ∷ []) owners))
+        ∙ ap (λ (n : ℕ). filter (is_owned_at test ((front ++ owner ∷ []) ++ owners)) (pages_from n (length owners))) (sym (length-append front (owner ∷ [])))
+
+-- how many pages pass is how many owners do
+walk-count : (test : Owner → Bool) (front owners : List Owner) → length (walk test front owners) ≡ count_by test owners
+unfolding walk
+walk-count test front [] = refl
+walk-count test front (owner ∷ owners) =
+    ap length (walk-cons test front owners owner) ∙ (go (test owner) (walk-count test (front ++ owner ∷ []) owners) ∙ sym (sum_by-cons (λ o. cond (test o) 1 0) owner owners))
+  where
+    go : (c : Bool) → length (walk test (front ++ owner ∷ []) owners) ≡ count_by test owners
+        → length (cond c (length front ∷ walk test (front ++ owner ∷ []) owners) (walk test (front ++ owner ∷ []) owners)) ≡ cond c 1 0 + count_by test owners
+    go true ih = omega arith
+    go false ih = omega arith
+
+pub length-pages_owned : (test : Owner → Bool) (owners : List Owner) → length (pages_owned test owners) ≡ count_by test owners
+unfolding walk
+length-pages_owned test owners = walk-count test [] owners
+
+-- a give-back writes just at the pages of the named owners
+given-walk : (named : Owner → Bool) (front owners : List Owner) → with_owner (front ++ owners) (walk named front owners) Free ≡ front ++ given_back named owners
+unfolding walk
+given-walk named front [] = refl
+given-walk named front (owner ∷ owners) =
+    ap (λ l. with_owner (front ++ owner ∷ owners) l Free) (walk-cons named front owners owner)
+    ∙ go (named owner) (λ (o : Owner). given-walk named (front ++ o ∷ []) owners)
+  where
+    same : (o : Owner) → walk named (front ++ owner ∷ []) owners ≡ walk named (front ++ o ∷ []) owners
+    same o =
+        ap (λ (l : List Owner). filter (is_owned_at named l) (pages_from (length (front ++ owner ∷ [])) (length owners))) (append_assoc front (owner ∷ []) owners)
+        ∙ (filter-agree (is_owned_at named (front ++ owner ∷ owners)) (is_owned_at named (front ++ o ∷ owners)) (length (front ++ owner ∷ [])) (length owners)
+        (λ p low high. ap (λ x. option_map_or named x false) (slice_get-past front owners owner o p (omega (arith, length-append front (owner ∷ [])))))
+        ∙ (ap (λ (l : List Owner). filter (is_owned_at named l) (pages_from (length (front ++ owner ∷ [])) (length owners))) (sym (append_assoc front (o ∷ []) owners))
+        ∙ ap (λ (n : ℕ). filter (is_owned_at named ((front ++ o ∷ []) ++ owners)) (pages_from n (length owners))) (length-append front (owner ∷ []) ∙ sym (length-append front (o ∷ [])))))
+
+    behind : (o : Owner) → with_owner ((front ++ o ∷ []) ++ owners) (walk named (front ++ o ∷ []) owners) Free ≡ (front ++ o ∷ []) ++ given_back named owners
+        → with_owner (front ++ o ∷ owners) (walk named (front ++ o ∷ []) owners) Free ≡ front ++ o ∷ given_back named owners
+    behind o ih = ap (λ l. with_owner l (walk named (front ++ o ∷ []) owners) Free) (sym (append_assoc front (o ∷ []) owners)) ∙ (ih ∙ append_assoc front (o ∷ []) (given_back named owners))
+
+    go : (c : Bool) → ((o : Owner) → with_owner ((front ++ o ∷ []) ++ owners) (walk named (front ++ o ∷ []) owners) Free ≡ (front ++ o ∷ []) ++ given_back named owners)
+        → with_owner (front ++ owner ∷ owners) (cond c (length front ∷ walk named (front ++ owner ∷ []) owners) (walk named (front ++ owner ∷ []) owners)) Free
+        ≡ front ++ (if c then Free else owner) ∷ given_back named owners
+    go true ih =
+        ap (λ l. with_owner l (walk named (front ++ owner ∷ []) owners) Free) (slice_set-behind front owners Free owner)
+        ∙ (ap (λ l. with_owner (front ++ Free ∷ owners) l Free) (same Free) ∙ behind Free (ih Free))
+    go false ih = behind owner (ih owner)
+
+pub given_back-with_owner : (named : Owner → Bool) (owners : List Owner) → given_back named owners ≡ with_owner owners (pages_owned named owners) Free
+unfolding walk
+given_back-with_owner named owners = sym (given-walk named [] owners)
+
+-- the free pages after a give-back
+pub free-given_back : (named : Owner → Bool) (owners : List Owner) → free_pages (given_back named owners) ≡ pages_owned (λ owner. is_free owner || named owner) owners
+free-given_back named owners =
+    ap (λ (n : ℕ). filter (is_owned_at is_free (given_back named owners)) (pages_from 0 n)) (length-map owners (λ owner. if named owner then Free else owner))
+    ∙ filter-agree (is_owned_at is_free (given_back named owners)) (is_owned_at (λ owner. is_free owner || named owner) owners) 0 (length owners)
+    (λ p low high. ap (λ o. option_map_or is_free o false) (slice_get-map (λ owner. if named owner then Free else owner) owners p) ∙ here (slice_get owners p))
+  where
+    free : (owner : Owner) (c : Bool) → is_free (if c then Free else owner) ≡ (is_free owner || c)
+    free Free true = refl
+    free Free false = refl
+    free (Queue q half) true = refl
+    free (Queue q half) false = refl
+    free (Command q cid role) true = refl
+    free (Command q cid role) false = refl
+
+    here : (o : Option Owner) → option_map_or is_free (option_map (λ owner. if named owner then Free else owner) o) false ≡ option_map_or (λ owner. is_free owner || named owner) o false
+    here None = refl
+    here (Some owner) = free owner (named owner)
+
+-- the free pages after a grant
+pub free-granted : (k : ℕ) (owner : Owner) (owners : List Owner) → is_free owner ≡ false → free_pages (with_owner owners (take k (free_pages owners)) owner) ≡ drop k (free_pages owners)
+free-granted zero owner owners busy = refl
+free-granted (suc k) owner owners busy = go (free_pages owners) refl (λ (l : List Owner). free-granted k owner l busy)
+  where
+    go : (free : List ℕ) → free_pages owners ≡ free → ((l : List Owner) → free_pages (with_owner l (take k (free_pages l)) owner) ≡ drop k (free_pages l))
+        → free_pages (with_owner owners (take (suc k) free) owner) ≡ drop (suc k) free
+    go [] e ih = e
+    go (p ∷ rest) e ih =
+        ap (λ l. free_pages (with_owner (slice_set owners p owner) (take k l) owner)) (sym left) ∙ (ih (slice_set owners p owner) ∙ ap (drop k) left)
+      where
+        taken : is_owned_at is_free (slice_set owners p owner) p ≡ false
+        taken = at_page (slice_get-set_cases owners p owner)
+          where
+            at_page : (slice_get (slice_set owners p owner) p ≡ Some owner) ⊎ (slice_get (slice_set owners p owner) p ≡ None) → is_owned_at is_free (slice_set owners p owner) p ≡ false
+            at_page (inl some) = ap (λ x. option_map_or is_free x false) some ∙ busy
+            at_page (inr none) = ap (λ x. option_map_or is_free x false) none
+
+        left : free_pages (slice_set owners p owner) ≡ rest
+        left = ap (λ (n : ℕ). filter (is_owned_at is_free (slice_set owners p owner)) (pages_from 0 n)) (length-set owners p owner)
+            ∙ filter-without_first (is_owned_at is_free owners) (is_owned_at is_free (slice_set owners p owner)) 0 (length owners) p rest e taken
+            (λ q other. ap (λ x. option_map_or is_free x false) (slice_get-set_other owners p q owner other))
+
+-- a give-back as far as the page before p
+abbrev pub given_below : (Owner → Bool) → ℕ → List Owner → List Owner
+given_below named zero owners = owners
+given_below named (suc p) [] = []
+given_below named (suc p) (owner ∷ owners) = (if named owner then Free else owner) ∷ given_below named p owners
+
+pub given_below-all : (named : Owner → Bool) (n : ℕ) (owners : List Owner) → n ≡ length owners → given_below named n owners ≡ given_back named owners
+given_below-all named zero [] e = refl
+given_below-all named zero (owner ∷ owners) e = absurd (omega arith)
+given_below-all named (suc n) [] e = refl
+given_below-all named (suc n) (owner ∷ owners) e = ap (λ l. (if named owner then Free else owner) ∷ l) (given_below-all named n owners (omega arith))
+
+-- the page p isn't looked at yet
+pub given_below-here : (named : Owner → Bool) (p : ℕ) (owners : List Owner) → slice_get (given_below named p owners) p ≡ slice_get owners p
+given_below-here named zero owners = refl
+given_below-here named (suc p) [] = refl
+given_below-here named (suc p) (owner ∷ owners) = given_below-here named p owners
+
+given_below-freed : (named : Owner → Bool) (p : ℕ) (owners : List Owner) (owner : Owner) → slice_get owners p ≡ Some owner → named owner ≡ true
+    → slice_set (given_below named p owners) p Free ≡ given_below named (suc p) owners
+given_below-freed named zero [] owner found holds = refl
+given_below-freed named zero (x ∷ owners) owner found holds =
+    let same : x ≡ owner = cc in
+    ap (λ c. (if c then Free else x) ∷ owners) (sym holds ∙ ap named (sym same))
+given_below-freed named (suc p) [] owner found holds = refl
+given_below-freed named (suc p) (x ∷ owners) owner found holds = ap (λ l. (if named x then Free else x) ∷ l) (given_below-freed named p owners owner found holds)
+
+given_below-kept : (named : Owner → Bool) (p : ℕ) (owners : List Owner) (owner : Owner) → slice_get owners p ≡ Some owner → named owner ≡ false
+    → given_below named p owners ≡ given_below named (suc p) owners
+given_below-kept named zero [] owner found fails = refl
+given_below-kept named zero (x ∷ owners) owner found fails =
+    let same : x ≡ owner = cc in
+    ap (λ c. (if c then Free else x) ∷ owners) (sym fails ∙ ap named (sym same))
+given_below-kept named (suc p) [] owner found fails = refl
+given_below-kept named (suc p) (x ∷ owners) owner found fails = ap (λ l. (if named x then Free else x) ∷ l) (given_below-kept named p owners owner found fails)
+
+-- one page more of the walk
+pub given_below-yes : (named : Owner → Bool) (p : ℕ) (owners now : List Owner) (owner : Owner) → now ≡ given_below named p owners → owner_at now p ≡ Some owner → named owner ≡ true
+    → slice_set now p Free ≡ given_below named (p + 1) owners
+given_below-yes named p owners now owner is found holds =
+    ap (λ (l : List Owner). slice_set l p Free) is
+    ∙ (given_below-freed named p owners owner (sym (given_below-here named p owners) ∙ (ap (λ (l : List Owner). slice_get l p) (sym is) ∙ found)) holds
+    ∙ rw (add-one) refl)
+
+pub given_below-none : (named : Owner → Bool) (p : ℕ) (owners now : List Owner) (owner : Owner) → now ≡ given_below named p owners → owner_at now p ≡ Some owner → named owner ≡ false
+    → now ≡ given_below named (p + 1) owners
+given_below-none named p owners now owner is found fails =
+    is ∙ (given_below-kept named p owners owner (sym (given_below-here named p owners) ∙ (ap (λ (l : List Owner). slice_get l p) (sym is) ∙ found)) fails
+    ∙ rw (add-one) refl)
+
+some_same : (a b : Owner) → Some a ≡ Some b → a ≡ b
+some_same a b e = cc
+
+read : (named : Owner → Bool) (p : ℕ) (owners now : List Owner) (owner : Owner) → now ≡ given_below named p owners → p < length owners → owner_at now p ≡ Some owner → get_or owners p owner ≡ owner
+read named p owners now owner is within found =
+    some_same (get_or owners p owner) owner (sym (slice_get-get_or owners p owner within)
+    ∙ (sym (given_below-here named p owners) ∙ (ap (λ (l : List Owner). slice_get l p) (sym is) ∙ found)))
+
+-- how many pages are freed, one page more
+pub number-yes : (named : Owner → Bool) (p : ℕ) (owners now : List Owner) (owner : Owner) → now ≡ given_below named p owners → p < length owners → owner_at now p ≡ Some owner → named owner ≡ true
+    → count_by named (take (p + 1) owners) ≡ count_by named (take p owners) + 1
+number-yes named p owners now owner is within found holds =
+    count_by_more_yes named owners p owner within (ap named (read named p owners now owner is within found) ∙ holds)
+
+pub number-none : (named : Owner → Bool) (p : ℕ) (owners now : List Owner) (owner : Owner) → now ≡ given_below named p owners → p < length owners → owner_at now p ≡ Some owner → named owner ≡ false
+    → count_by named (take (p + 1) owners) ≡ count_by named (take p owners)
+number-none named p owners now owner is within found fails =
+    count_by_more_no named owners p owner within (ap named (read named p owners now owner is within found) ∙ fails)
+
+-- the owner of each page after a grant
+pub owner-with : (owners : List Owner) (pages : List ℕ) (owner : Owner) (p : ℕ) → p < length owners
+    → owner_at (with_owner owners pages owner) p ≡ (if is_among pages p then Some owner else owner_at owners p)
+owner-with owners [] owner p within = refl
+owner-with owners (q ∷ pages) owner p within =
+    owner-with (slice_set owners q owner) pages owner p (omega (arith, length-set owners q owner)) ∙ go (q == p) refl
+  where
+    go : (c : Bool) → (q == p) ≡ c
+        → (if is_among pages p then Some owner else owner_at (slice_set owners q owner) p) ≡ (if c || is_among pages p then Some owner else owner_at owners p)
+    go true same = at (is_among pages p)
+      where
+        here : owner_at (slice_set owners q owner) p ≡ Some owner
+        here = subst (λ (i : ℕ). slice_get (slice_set owners i owner) p ≡ Some owner) (sym (eqb-true q p same)) (slice_get-set_same owners p owner within)
+
+        at : (c : Bool) → (if c then Some owner else owner_at (slice_set owners q owner) p) ≡ Some owner
+        at true = refl
+        at false = here
+    go false other =
+        ap (λ o. if is_among pages p then Some owner else o) (slice_get-set_other owners q p owner (λ same. eqb-false q p other (sym same)))
+
+filter-filter : {X : Type 0} (f g : X → Bool) (xs : List X) → filter g (filter f xs) ≡ filter (λ x. f x && g x) xs
+filter-filter f g [] = refl
+filter-filter f g (x ∷ xs) = go (f x) (filter-filter f g xs)
+  where
+    go : (c : Bool) → filter g (filter f xs) ≡ filter (λ x. f x && g x) xs
+        → filter g (cond c (x ∷ filter f xs) (filter f xs)) ≡ cond (c && g x) (x ∷ filter (λ x. f x && g x) xs) (filter (λ x. f x && g x) xs)
+    go true ih = ap (λ l. cond (g x) (x ∷ l) l) ih
+    go false ih = ih
+
+and_true : (c : Bool) → (c && true) ≡ c
+and_true true = refl
+and_true false = refl
+
+and_false : (c : Bool) → (c && false) ≡ false
+and_false true = refl
+and_false false = refl
+
+-- the free pages after any pages got an owner
+pub free-others : (pages : List ℕ) (owner : Owner) (owners : List Owner) → is_free owner ≡ false
+    → free_pages (with_owner owners pages owner) ≡ filter (λ p. not (is_among pages p)) (free_pages owners)
+free-others pages owner owners busy =
+    ap (λ (n : ℕ). filter (is_owned_at is_free (with_owner owners pages owner)) (pages_from 0 n)) (length-with_owner owners pages owner)
+    ∙ (filter-agree (is_owned_at is_free (with_owner owners pages owner)) (λ p. is_owned_at is_free owners p && not (is_among pages p)) 0 (length owners)
+    (λ p low high. ap (λ o. option_map_or is_free o false) (owner-with owners pages owner p (omega arith)) ∙ go p (is_among pages p))
+    ∙ sym (filter-filter (is_owned_at is_free owners) (λ p. not (is_among pages p)) (pages_from 0 (length owners))))
+  where
+    go : (p : ℕ) (c : Bool) → option_map_or is_free (if c then Some owner else owner_at owners p) false ≡ (is_owned_at is_free owners p && not c)
+    go p true = busy ∙ sym (and_false (is_owned_at is_free owners p))
+    go p false = sym (and_true (is_owned_at is_free owners p))

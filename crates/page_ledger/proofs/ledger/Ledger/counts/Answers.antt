@@ -1,0 +1,7 @@
+use Rattle.std.proofs.Common.{ap, ◌∙◌}
+use Rattle.page_ledger.specs.Counting.{total}
+use Rattle.page_ledger.proofs.Numbers.{counts-add_up}
+use Rattle.page_ledger.proofs.ledger.Ledger.counts.Goals as goal
+
+pub returns-clause-sum : goal.returns-clause-sum
+returns-clause-sum c = rw (← c.self.view_is) (ap total c.self.invariant.2 ∙ counts-add_up c.self.inside.owners.items)

@@ -1,0 +1,13 @@
+-- Runs of consecutive free pages.
+use Rattle.std.specs.Prelude.{Bool, List, ℕ, Option, find, length}
+use Rattle.std.specs.List.{list_all}
+use Rattle.page_ledger.specs.declared.owner.Owner.{Owner}
+use Rattle.page_ledger.specs.Owners.{is_free, is_owned_at, pages_from}
+
+-- whether the k pages from p on are free
+abbrev pub is_free_run : ℕ → List Owner → ℕ → Bool
+is_free_run k owners p = list_all (is_owned_at is_free owners) (pages_from p k)
+
+-- the first page of the lowest run of k consecutive free pages
+abbrev pub lowest_run : ℕ → List Owner → Option ℕ
+lowest_run k owners = find (is_free_run k owners) (pages_from 0 (length owners))

@@ -1,0 +1,239 @@
+//! The ledger: the owner of each page of a pool.
+
+ghost use Rattle.std.specs.Prelude.{◌≡◌, ◌≢◌, ◌+◌, ◌<◌, ◌≤◌, ◌↔◌, ◌⊎◌, ◌++◌, false, All, length, replicate, slice_set, take, vec_len, vec_capacity, Err, IfOk, OnOk, OnErr, IfErr, IfSome, IfNone};
+ghost use Rattle.page_ledger.specs.Owners.{owner_at, free_pages, pages_from, pages_owned, is_free, is_command, is_half, is_queue, with_owner, given_back};
+ghost use Rattle.page_ledger.specs.Groups.{is_member};
+ghost use Rattle.page_ledger.specs.Counting.{counts_of, total};
+ghost use Rattle.page_ledger.specs.Runs.{lowest_run as spec_lowest_run};
+
+use crate::owner::{Counts, Group, NoPages, Owner};
+use page_memory::{Half, OpenFault, PageNo};
+use std::alloc::Global;
+use std::marker::Model;
+
+/// The owner of each page of a pool. Contracts see it as the list of the owners, in the pages' order.
+#[derive(Drop)]
+pub struct Ledger {
+    owners: Vec<Owner>,
+    counts: Counts,
+}
+
+impl Model for Ledger {
+    ghost use Rattle.std.specs.Prelude.{◌≡◌, ◌≤◌, List, length};
+    ghost use Rattle.page_ledger.specs.declared.owner.Owner.{Owner};
+    ghost use Rattle.page_ledger.specs.Counting.{counts_of};
+
+    ghost Value = { List Owner };
+
+    ghost view = { λ l. l.owners.items };
+
+    ghost invariant = { λ l. (8 ≤ length l.owners.items) × (length l.owners.items ≤ 65536) × (l.counts ≡ counts_of l.owners.items) };
+}
+
+impl Ledger {
+    /// Opens a pool of so many pages, all of them free.
+    ///
+    /// # Errors
+    ///
+    /// 1. `BadSize` exactly where the number is outside 8 to 65,536. 2. `Memory` where memory is refused.
+    pub fn open(alloc: Global, pages: u32) -> Result<Self, OpenFault>
+        ensures free { IfOk result (λ ledger. ledger ≡ replicate pages Owner.Free) }
+        ensures bad_size { (result ≡ Err OpenFault.BadSize) ↔ ((pages < 8) ⊎ (65536 < pages)) }
+    {
+        if !(8..=65_536).contains(&pages) {
+            return Err(OpenFault::BadSize);
+        }
+        let mut owners = Vec::with_capacity(alloc, pages as usize)?;
+        for _ in 0..pages {
+            owners.push_reserved(Owner::Free);
+        }
+        Ok(Ledger {
+            owners,
+            counts: Counts {
+                free_pages: pages,
+                queue_pages: 0,
+                chain_pages: 0,
+                data_pages: 0,
+            },
+        })
+    }
+
+    /// Gives the `k` lowest free pages to an owner, and appends them in rising order to a list that has room for them.
+    ///
+    /// # Errors
+    ///
+    /// `NoPages` exactly where fewer than `k` pages are free. Then nothing changed.
+    pub fn grant(&mut self, owner: Owner, k: u32, into: &mut Vec<PageNo>) -> Result<(), NoPages>
+        requires owned { is_free owner ≡ false }
+        requires room { vec_len into.old + k ≤ vec_capacity into.old }
+        ensures enough { OnOk result (k ≤ length (free_pages self.old)) }
+        ensures granted { OnOk result (into.new.items ≡ into.old.items ++ take k (free_pages self.old)) }
+        ensures owners { OnOk result (self.new ≡ with_owner self.old (take k (free_pages self.old)) owner) }
+        ensures too_few { OnErr result (length (free_pages self.old) < k) }
+        ensures fault { IfErr result (λ e. e ≡ record { need = k; free = length (free_pages self.old) }) }
+        ensures refused { OnErr result ((self.new ≡ self.old) × (into.new.items ≡ into.old.items)) }
+        ensures capacity { vec_capacity into.new ≡ vec_capacity into.old }
+    {
+        let free = self.counts.free_pages;
+        if free < k {
+            return Err(NoPages { need: k, free });
+        }
+        let start = into.len();
+        push_lowest_free(&self.owners, k, into);
+        self.give(&into[start..], owner);
+        Ok(())
+    }
+
+    /// Gives the lowest run of `k` consecutive free pages to an owner, and answers its first page; `None`, with nothing
+    /// changed, where there is no such run.
+    pub fn grant_run(&mut self, owner: Owner, k: u32) -> Option<PageNo>
+        requires some { 0 < k }
+        requires owned { is_free owner ≡ false }
+        ensures lowest { result ≡ spec_lowest_run k self.old }
+        ensures owners { IfSome result (λ p. self.new ≡ with_owner self.old (pages_from p k) owner) }
+        ensures unchanged { IfNone result (self.new ≡ self.old) }
+    {
+        let first = lowest_run(&self.owners, k)?;
+        self.give_run(first, k, owner);
+        Some(PageNo(first))
+    }
+
+    /// Frees the pages of a command, of its data and of its chain, and answers how many there were.
+    pub fn give_back(&mut self, q: u16, cid: u16) -> u32
+        ensures freed { self.new ≡ given_back (is_command q cid) self.old }
+        ensures number { result ≡ length (pages_owned (is_command q cid) self.old) }
+    {
+        self.free_group(Group::Command { q, cid })
+    }
+
+    /// Frees the pages of one half of a queue, and answers how many there were.
+    pub fn give_back_half(&mut self, q: u16, half: Half) -> u32
+        ensures freed { self.new ≡ given_back (is_half q half) self.old }
+        ensures number { result ≡ length (pages_owned (is_half q half) self.old) }
+    {
+        self.free_group(Group::Half { q, half })
+    }
+
+    /// Frees the pages of both halves of a queue, not those of its commands, and answers how many there were.
+    pub fn give_back_queue(&mut self, q: u16) -> u32
+        ensures freed { self.new ≡ given_back (is_queue q) self.old }
+        ensures number { result ≡ length (pages_owned (is_queue q) self.old) }
+    {
+        self.free_group(Group::Queue { q })
+    }
+
+    /// The owner of a page of the pool.
+    pub fn owner(&self, p: PageNo) -> Owner
+        requires { p < length self.now }
+        ensures { owner_at self.now p ≡ Some result }
+    {
+        self.owners[p.0 as usize]
+    }
+
+    /// How many pages each class has.
+    pub fn counts(&self) -> Counts
+        ensures counts { result ≡ counts_of self.now }
+        ensures sum { total result ≡ length self.now }
+    {
+        self.counts
+    }
+
+    /// How many pages the pool has, 8 to 65,536.
+    pub fn pages(&self) -> u32
+        ensures pages { result ≡ length self.now }
+        ensures least { 8 ≤ length self.now }
+        ensures most { length self.now ≤ 65536 }
+    {
+        self.owners.len() as u32
+    }
+}
+
+impl Ledger {
+    /// Gives one page of the pool to an owner.
+    fn set(&mut self, p: PageNo, owner: Owner)
+        requires { p < length self.old }
+        ensures { self.new ≡ slice_set self.old p owner }
+    {
+        let at = p.0 as usize;
+        let before = self.owners[at];
+        self.counts = self.counts.one_less(before).one_more(owner);
+        self.owners[at] = owner;
+    }
+
+    /// Gives pages of the pool to an owner.
+    fn give(&mut self, pages: &[PageNo], owner: Owner)
+        requires { All (λ p. p < length self.old) pages.now }
+        ensures { self.new ≡ with_owner self.old pages.now owner }
+    {
+        for page in pages {
+            self.set(*page, owner);
+        }
+    }
+
+    /// Gives `k` consecutive pages of the pool to an owner.
+    fn give_run(&mut self, first: u32, k: u32, owner: Owner)
+        requires inside { first + k ≤ length self.old }
+        requires pool { length self.old ≤ 65536 }
+        ensures { self.new ≡ with_owner self.old (pages_from first k) owner }
+    {
+        for i in 0..k {
+            self.set(PageNo(first + i), owner);
+        }
+    }
+
+    /// Frees the pages of a group of owners, and answers how many there were.
+    fn free_group(&mut self, group: Group) -> u32
+        ensures freed { self.new ≡ given_back (is_member group) self.old }
+        ensures number { result ≡ length (pages_owned (is_member group) self.old) }
+    {
+        let mut freed = 0;
+        for p in 0..self.pages() {
+            let page = PageNo(p);
+            if group.has(self.owner(page)) {
+                self.set(page, Owner::Free);
+                freed += 1;
+            }
+        }
+        freed
+    }
+}
+
+/// Appends the `k` lowest free pages to a list that has room for them.
+fn push_lowest_free(owners: &[Owner], k: u32, into: &mut Vec<PageNo>)
+    requires pool { length owners.now ≤ 65536 }
+    requires free { k ≤ length (free_pages owners.now) }
+    requires room { vec_len into.old + k ≤ vec_capacity into.old }
+    ensures pages { into.new.items ≡ into.old.items ++ take k (free_pages owners.now) }
+    ensures capacity { vec_capacity into.new ≡ vec_capacity into.old }
+{
+    let mut left = k;
+    for (p, owner) in owners.iter().enumerate() {
+        if left == 0 {
+            return;
+        }
+        if owner.is_free() {
+            into.push_reserved(PageNo(p as u32));
+            left -= 1;
+        }
+    }
+}
+
+/// The first page of the lowest run of `k` consecutive free pages.
+fn lowest_run(owners: &[Owner], k: u32) -> Option<u32>
+    requires some { 0 < k }
+    requires pool { length owners.now ≤ 65536 }
+    ensures { result ≡ spec_lowest_run k owners.now }
+{
+    let mut run = 0;
+    for (p, owner) in owners.iter().enumerate() {
+        if !owner.is_free() {
+            run = 0;
+            continue;
+        }
+        run += 1;
+        if run == k {
+            return Some(p as u32 + 1 - k);
+        }
+    }
+    None
+}
