@@ -1,0 +1,11 @@
+pub mod Back
+pub mod Built
+pub mod Counts
+pub mod Cuts
+pub mod Larger
+pub mod Laying
+pub mod Numbered
+pub mod Reading
+pub mod Spelled
+pub mod Unique
+pub mod WorkedList

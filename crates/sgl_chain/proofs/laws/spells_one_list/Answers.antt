@@ -1,0 +1,5 @@
+use Rattle.sgl_chain.proofs.Unique.{one_list}
+use Rattle.sgl_chain.proofs.laws.spells_one_list.Goals as goal
+
+pub returns : goal.returns
+returns c = one_list

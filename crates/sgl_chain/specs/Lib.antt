@@ -1,0 +1,4 @@
+pub mod Chains
+pub mod Laws
+pub mod Spells
+pub mod WorkedList

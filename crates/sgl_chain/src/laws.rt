@@ -1,0 +1,36 @@
+//! Laws of the definitions that the contracts cite. Each function does nothing, and its clause is the law.
+
+ghost use Rattle.std.specs.Prelude.{ℕ};
+ghost use Rattle.page_memory.specs.Memory.{Memory};
+ghost use Rattle.page_memory.specs.Pages.{Pages, AreWhole};
+ghost use Rattle.sgl_chain.specs.Laws.{LaidChainsSpell, OneList, SpelledInMore, PartsComeBack, PagesHoldSegments, LaidByNumber};
+
+/// The segments of parts, laid in their pages, spell exactly these parts from the first descriptor.
+pub fn laid_chains_spell()
+    ensures { (s : ℕ) → LaidChainsSpell s }
+{}
+
+/// Over a memory a descriptor spells one list of parts at most.
+pub fn spells_one_list()
+    ensures { (m : Memory) → OneList m }
+{}
+
+/// What a descriptor spells hangs on the bytes of its segments alone: it spells the same over every memory that has them.
+pub fn spells_in_more_memory()
+    ensures { (m larger : Memory) → SpelledInMore m larger }
+{}
+
+/// The parts of a chain are exactly those that it is built of.
+pub fn parts_come_back()
+    ensures { (s : ℕ) → PartsComeBack s }
+{}
+
+/// A page of a pool into which a segment was laid holds the segment's bytes in memory.
+pub fn pages_hold_segments()
+    ensures { (pages : Pages) → AreWhole pages → PagesHoldSegments pages }
+{}
+
+/// That segments are laid can be said of each by its number.
+pub fn laid_by_number()
+    ensures { (m : Memory) → LaidByNumber m }
+{}
