@@ -1,0 +1,149 @@
+-- The moves of a list follow the targets of its parts.
+use Rattle.std.proofs.Common.{arith, ◌≡◌, ◌<◌, ◌≤◌, ◌+◌, ◌-◌, ◌++◌, ◌&&◌, not, ◌∷◌, [], ℕ, zero, suc, Bool, true, false, List, Option, Some, None, refl, sym, ap, subst, ◌∙◌, cond, is_some, length, map, nat_eq, nat_lt}
+use Rattle.std.specs.List.{slice_get, range_with_len}
+use Rattle.std.specs.Option.{option_and_then}
+use Rattle.std.proofs.lemmas.Grind.{common_steps}
+use Rattle.std.proofs.lemmas.Bool.Decides.{nat_tests}
+use Rattle.std.proofs.lemmas.List.FromFn.{length-map-range_with_len, get_or-map-range_with_len}
+use Rattle.std.proofs.lemmas.Option.{slice_get-get_or}
+use Rattle.entry_codec.specs.declared.status.Status.{Status}
+use Rattle.entry_codec.specs.declared.status.TheConstants.Status.{DATA_TRANSFER_ERROR, INVALID_SGL_SEGMENT, INVALID_SGL_COUNT, DATA_SGL_LENGTH_INVALID}
+use Rattle.page_memory.specs.Memory.{Memory, bytes_at}
+use Rattle.sgl_descriptor.specs.declared.Descriptor.{Descriptor}
+use Rattle.sgl_descriptor.specs.declared.Descriptor.TheVariants.{DataBlock, BitBucket, Segment, LastSegment}
+use Rattle.sgl_descriptor.specs.declared.Direction.{Direction}
+use Rattle.sgl_descriptor.specs.declared.Part.{Part}
+use Rattle.sgl_descriptor.specs.declared.Part.TheVariants.{Data, Bucket}
+use Rattle.sgl_descriptor.specs.Spelling.{descriptor_of, is_link}
+use Rattle.sgl_descriptor.specs.Targets.{Target, Place, targets, counted, counted_in}
+use Rattle.sgl_descriptor.proofs.Counts.{length-targets, targets-append, counted_in-append}
+use Rattle.controller_walk.specs.declared.cursor.Cursor.{Cursor}
+use Rattle.controller_walk.specs.declared.walk.WalkState.TheVariants.{End, Fault}
+use Rattle.controller_walk.specs.Units.{Stays, Moves, Course, Closes, Does, Row, first_of, after_read, read_at, from_place, behind, goes_on, unless_fault, first_fault, moving, first_part, pages_spanned, entry_cursor, next, named_last, named_on, names_no_segment, passes_end}
+use Rattle.controller_walk.specs.Along.{taken, MovesAlong, ListMovesAlong}
+use Rattle.controller_walk.proofs.Courses.{part_most}
+
+-- the target of a byte of a block behind others
+range_target : (addr len i : ℕ) → i < len → slice_get (map (λ place. Place place) (range_with_len addr len)) i ≡ Some (Place (addr + i))
+range_target addr len i lt =
+    slice_get-get_or (map (λ place. Place place) (range_with_len addr len)) i (Place 0) (rw (length-map-range_with_len (λ place. Place place) addr len) lt)
+    ∙ ap (λ (t : Target). Some t) (get_or-map-range_with_len (λ place. Place place) addr len i (addr + i) (Place 0) lt refl)
+
+pub get_behind : (xs ys : List Target) (i k : ℕ) → i ≡ length xs + k → slice_get (xs ++ ys) i ≡ slice_get ys k
+get_behind [] ys i k e = let same : i ≡ k = omega (arith, e) in rw same refl
+get_behind (x ∷ xs) ys zero k e = absurd (omega arith)
+get_behind (x ∷ xs) ys (suc i) k e = get_behind xs ys i k (omega arith)
+
+block_target : (dir : Direction) (parts : List Part) (addr len offset i : ℕ) → counted_in dir parts ≡ offset → i < len →
+    slice_get (targets dir (parts ++ Data addr len ∷ [])) (offset + i) ≡ Some (Place (addr + i))
+block_target dir parts addr len offset i count lt =
+    ap (λ (ts : List Target). slice_get ts (offset + i)) (targets-append dir parts (Data addr len ∷ []))
+    ∙ get_behind (targets dir parts) (targets dir (Data addr len ∷ [])) (offset + i) i (omega (arith, length-targets dir parts))
+    ∙ ap (λ (ts : List Target). slice_get ts i) (one_part dir addr len)
+    ∙ range_target addr len i lt
+  where
+    one_part : (dir : Direction) (addr len : ℕ) → targets dir (Data addr len ∷ []) ≡ map (λ place. Place place) (range_with_len addr len)
+    one_part dir addr len = grind (arith, common_steps)
+
+-- what follows moves along, where its parts and the bytes still wanted make up the need
+abbrev Follows : Memory → Direction → ℕ → (Option Cursor → ℕ → Course) → Type 0
+Follows m dir need later = (a : Option Cursor) (wanted : ℕ) (parts : List Part) → counted_in dir parts + wanted ≡ need → MovesAlong m dir need parts (later a wanted)
+
+along_moving : (m : Memory) (dir : Direction) (need : ℕ) (parts : List Part) (n place len offset : ℕ) (rest : Course) →
+    ((i : ℕ) → i < len → slice_get (targets dir parts) (offset + i) ≡ Some (Place (place + i))) → MovesAlong m dir need parts rest → MovesAlong m dir need parts (moving m n place len offset rest)
+unfolding moving
+along_moving m dir need parts zero place len offset rest there h = h
+along_moving m dir need parts (suc n) place len offset rest there h =
+    both (is_some (bytes_at m place (first_part place len))) _
+    (λ i lt. there i (omega (arith, (part_most place len).0)))
+    (along_moving m dir need parts n (place + first_part place len) (len - first_part place len) (offset + first_part place len) rest
+    (λ i lt. rw (← sum offset (first_part place len) i, ← sum place (first_part place len) i) (there (first_part place len + i) (omega arith))) h)
+  where
+    sum : (a b c : ℕ) → a + (b + c) ≡ a + b + c
+    sum a b c = omega arith
+
+    both : (b : Bool) (c : Course) → ((i : ℕ) → i < first_part place len → slice_get (targets dir parts) (offset + i) ≡ Some (Place (place + i))) → MovesAlong m dir need parts c →
+        MovesAlong m dir need parts (cond b (Does (Moves place (first_part place len) offset) c) (Does Stays (Closes (Fault DATA_TRANSFER_ERROR))))
+    both true c t k = (t, k)
+    both false c t k = λ e. cc
+
+none_first : (b : Bool) (s : Status) (rows : List Row) → first_of ((b, s) ∷ rows) ≡ None → (b ≡ false) × (first_of rows ≡ None)
+none_first true s rows h = cc
+none_first false s rows h = (refl, h)
+
+none_fifth : (a b e f g : Bool) (s t u v w : Status) (rows : List Row) → first_of ((a, s) ∷ (b, t) ∷ (e, u) ∷ (f, v) ∷ (g, w) ∷ rows) ≡ None → g ≡ false
+none_fifth a b e f g s t u v w rows h =
+    let second = none_first a s ((b, t) ∷ (e, u) ∷ (f, v) ∷ (g, w) ∷ rows) h in
+    let third = none_first b t ((e, u) ∷ (f, v) ∷ (g, w) ∷ rows) second.1 in
+    let fourth = none_first e u ((f, v) ∷ (g, w) ∷ rows) third.1 in
+    let fifth = none_first f v ((g, w) ∷ rows) fourth.1 in
+    (none_first g w rows fifth.1).0
+
+-- a descriptor without fault counts no more than is wanted
+pub counts_few : (c : Cursor) (dir : Direction) (wanted : ℕ) (d : Descriptor) → first_fault c dir wanted d ≡ None → counted dir d ≤ wanted
+counts_few c dir wanted d h =
+    small wanted (counted dir d)
+    (none_fifth (is_link d && named_last c.named) (is_link d && nat_lt 1 c.left) (is_link d && names_no_segment d) (not (is_link d) && named_on c.named && nat_eq c.left 1) (nat_lt wanted (counted dir d))
+    INVALID_SGL_SEGMENT INVALID_SGL_COUNT INVALID_SGL_SEGMENT INVALID_SGL_SEGMENT DATA_SGL_LENGTH_INVALID ((passes_end d, DATA_SGL_LENGTH_INVALID) ∷ []) h)
+  where
+    small : (wanted n : ℕ) → nat_lt wanted n ≡ false → n ≤ wanted
+    small wanted n b = grind (arith, nat_tests)
+
+pub count_one : (dir : Direction) (parts : List Part) (part : Part) (n wanted need : ℕ) → counted_in dir (part ∷ []) ≡ n → n ≤ wanted → counted_in dir parts + wanted ≡ need →
+    counted_in dir (parts ++ part ∷ []) + (wanted - n) ≡ need
+count_one dir parts part n wanted need one few sum = omega (arith, counted_in-append dir parts (part ∷ []))
+
+along_on : (m : Memory) (dir : Direction) (need : ℕ) (c : Cursor) (wanted : ℕ) (later : Option Cursor → ℕ → Course) (parts : List Part) (d : Descriptor) →
+    counted dir d ≤ wanted → counted_in dir parts + wanted ≡ need → Follows m dir need later → MovesAlong m dir need (taken parts (Some d)) (goes_on m dir need c wanted later d)
+along_on m dir need c wanted later parts (DataBlock addr len) few sum h =
+    along_moving m dir need (parts ++ Data addr len ∷ []) (pages_spanned addr len) addr len (need - wanted) _
+    (λ i lt. block_target dir parts addr len (need - wanted) i (omega arith) lt)
+    (h (next c) (wanted - len) (parts ++ Data addr len ∷ []) (count_one dir parts (Data addr len) len wanted need (omega arith) few sum))
+along_on m dir need c wanted later parts (BitBucket len) few sum h =
+    h (next c) (wanted - counted dir (BitBucket len)) (parts ++ Bucket len ∷ []) (count_one dir parts (Bucket len) (counted dir (BitBucket len)) wanted need (omega arith) few sum)
+along_on m dir need c wanted later parts (Segment addr len) few sum h = h _ wanted parts sum
+along_on m dir need c wanted later parts (LastSegment addr len) few sum h = h _ wanted parts sum
+
+along_unless : (m : Memory) (dir : Direction) (need : ℕ) (parts : List Part) (f : Option Status) (c : Course) → (f ≡ None → MovesAlong m dir need parts c) → MovesAlong m dir need parts (unless_fault f c)
+along_unless m dir need parts (Some status) c h = λ e. cc
+along_unless m dir need parts None c h = h refl
+
+along_read : (m : Memory) (dir : Direction) (need : ℕ) (c : Cursor) (wanted : ℕ) (later : Option Cursor → ℕ → Course) (parts : List Part) (found : Option Descriptor) →
+    counted_in dir parts + wanted ≡ need → Follows m dir need later → MovesAlong m dir need (taken parts found) (after_read m dir need c wanted later found)
+along_read m dir need c wanted later parts None sum h = λ e. cc
+along_read m dir need c wanted later parts (Some d) sum h =
+    along_unless m dir need (taken parts (Some d)) (first_fault c dir wanted d) _ (λ clear. along_on m dir need c wanted later parts d (counts_few c dir wanted d clear) sum h)
+
+along_at : (m : Memory) (dir : Direction) (need : ℕ) (c : Cursor) (wanted : ℕ) (later : Option Cursor → ℕ → Course) (parts : List Part) (found : Option (List ℕ)) → bytes_at m c.place 16 ≡ found →
+    counted_in dir parts + wanted ≡ need → Follows m dir need later → MovesAlong m dir need parts (read_at m dir need c wanted later found)
+along_at m dir need c wanted later parts None e sum h = λ e'. cc
+along_at m dir need c wanted later parts (Some bytes) e sum h =
+    subst (λ (o : Option (List ℕ)). MovesAlong m dir need (taken parts (option_and_then descriptor_of o)) (after_read m dir need c wanted later (descriptor_of bytes)))
+    (sym e) (along_read m dir need c wanted later parts (descriptor_of bytes) sum h)
+
+along_behind : (m : Memory) (dir : Direction) (need : ℕ) (from : Cursor → ℕ → Course) →
+    ((c : Cursor) (wanted : ℕ) (parts : List Part) → counted_in dir parts + wanted ≡ need → MovesAlong m dir need parts (from c wanted)) → Follows m dir need (behind from)
+along_behind m dir need from h None wanted parts sum = ending (nat_eq wanted 0) refl
+  where
+    ending : (b : Bool) → nat_eq wanted 0 ≡ b → cond b End (Fault DATA_SGL_LENGTH_INVALID) ≡ End → counted_in dir parts ≡ need
+    ending true e v = let none : wanted ≡ 0 = is_zero wanted e in omega (arith, sum, none)
+      where
+        is_zero : (n : ℕ) → nat_eq n 0 ≡ true → n ≡ 0
+        is_zero n t = grind (arith, nat_tests)
+    ending false e v = cc
+along_behind m dir need from h (Some c) wanted parts sum = h c wanted parts sum
+
+along_from : (k : ℕ) (m : Memory) (dir : Direction) (need : ℕ) (c : Cursor) (wanted : ℕ) (parts : List Part) → counted_in dir parts + wanted ≡ need → MovesAlong m dir need parts (from_place k m dir need c wanted)
+unfolding from_place
+along_from zero m dir need c wanted parts sum = λ e. cc
+along_from (suc k) m dir need c wanted parts sum =
+    along_at m dir need c wanted (behind (from_place k m dir need)) parts (bytes_at m c.place 16) refl sum
+    (along_behind m dir need (from_place k m dir need) (along_from k m dir need))
+
+pub list_moves_along : (m : Memory) (sgl1 : List ℕ) (dir : Direction) (need : ℕ) → ListMovesAlong m sgl1 dir need
+list_moves_along m sgl1 dir need =
+    along_read m dir need entry_cursor need (behind (from_place 4095 m dir need)) [] (descriptor_of sgl1) (none_yet need)
+    (along_behind m dir need (from_place 4095 m dir need) (along_from 4095 m dir need))
+  where
+    none_yet : (n : ℕ) → 0 + n ≡ n
+    none_yet n = omega arith

@@ -1,0 +1,7 @@
+pub mod All
+pub mod Along
+pub mod Counts
+pub mod Courses
+pub mod Moves
+pub mod Same
+pub mod Stands

@@ -1,0 +1,6 @@
+pub mod Along
+pub mod Laws
+pub mod Progress
+pub mod Units
+pub mod Walks
+pub mod Worked

@@ -1,0 +1,66 @@
+//! Worked runs of the definitions, on small lists. Each function does nothing.
+
+ghost use Rattle.std.specs.Prelude.{◌≡◌, ◌∷◌, [], map};
+ghost use Rattle.sgl_descriptor.specs.declared.Descriptor.TheVariants.{DataBlock, BitBucket, Segment, LastSegment};
+ghost use Rattle.sgl_descriptor.specs.declared.Direction.TheVariants.{Destination, Source};
+ghost use Rattle.sgl_descriptor.specs.declared.Part.TheVariants.{Data, Bucket};
+ghost use Rattle.sgl_descriptor.specs.Spelling.{spelling};
+ghost use Rattle.controller_walk.specs.declared.walk.WalkState.TheVariants.{End, Fault};
+ghost use Rattle.controller_walk.specs.Along.{parts_taken};
+ghost use Rattle.controller_walk.specs.Units.{Stays, Reads, Moves, touched, course_of_list, units_of_list, verdict_of_list};
+ghost use Rattle.controller_walk.specs.Worked.{eight_pages, with_descriptors};
+
+/// The pages of units: none, those of a descriptor that crosses a page's end, and that of a part of a block.
+pub fn worked_pages()
+    ensures { map touched (Stays ∷ Reads 0x1FF8 ∷ Moves 0x4000 512 0 ∷ []) ≡ [] ∷ (1 ∷ 2 ∷ []) ∷ (4 ∷ []) ∷ [] }
+{}
+
+/// Lists of the entry's one descriptor, for 512 bytes. A block of 511 is moved, and the list ends too early; one of
+/// 513 is refused, as is one that ends above 2^64. So is a type above 3 and a subtype that isn't 0.
+#[tactic(auto, unfolding(crate::specs::Units::moving, sgl_descriptor::specs::Spelling::descriptor_of, page_memory::specs::Memory::bytes_at))]
+pub fn worked_entries()
+    ensures short { units_of_list eight_pages (spelling (DataBlock 0x2000 511)) Destination 512 ≡ Stays ∷ Moves 0x2000 511 0 ∷ [] }
+    ensures short_verdict { verdict_of_list eight_pages (spelling (DataBlock 0x2000 511)) Destination 512 ≡ Fault (record { sct = 0; sc = 0x0F }) }
+    ensures long { units_of_list eight_pages (spelling (DataBlock 0x2000 513)) Destination 512 ≡ Stays ∷ [] }
+    ensures long_verdict { verdict_of_list eight_pages (spelling (DataBlock 0x2000 513)) Destination 512 ≡ Fault (record { sct = 0; sc = 0x0F }) }
+    ensures past_end { units_of_list eight_pages (spelling (DataBlock 0xFFFFFFFFFFFFFF00 512)) Source 512 ≡ Stays ∷ [] }
+    ensures past_end_verdict { verdict_of_list eight_pages (spelling (DataBlock 0xFFFFFFFFFFFFFF00 512)) Source 512 ≡ Fault (record { sct = 0; sc = 0x0F }) }
+    ensures type_four { verdict_of_list eight_pages (0 ∷ 0x20 ∷ 0 ∷ 0 ∷ 0 ∷ 0 ∷ 0 ∷ 0 ∷ 0 ∷ 2 ∷ 0 ∷ 0 ∷ 0 ∷ 0 ∷ 0 ∷ 0x40 ∷ []) Destination 512
+        ≡ Fault (record { sct = 0; sc = 0x11 }) }
+    ensures subtype_one { verdict_of_list eight_pages (0 ∷ 0x20 ∷ 0 ∷ 0 ∷ 0 ∷ 0 ∷ 0 ∷ 0 ∷ 0 ∷ 2 ∷ 0 ∷ 0 ∷ 0 ∷ 0 ∷ 0 ∷ 0x01 ∷ []) Destination 512
+        ≡ Fault (record { sct = 0; sc = 0x11 }) }
+{}
+
+/// A block whose second byte is outside the pool: its first page's part is moved.
+#[tactic(auto, unfolding(crate::specs::Units::moving, sgl_descriptor::specs::Spelling::descriptor_of, page_memory::specs::Memory::bytes_at))]
+pub fn worked_missing_byte()
+    ensures units { units_of_list eight_pages (spelling (DataBlock 0x7FFF 2)) Destination 2 ≡ Stays ∷ Moves 0x7FFF 1 0 ∷ Stays ∷ [] }
+    ensures verdict { verdict_of_list eight_pages (spelling (DataBlock 0x7FFF 2)) Destination 2 ≡ Fault (record { sct = 0; sc = 0x04 }) }
+{}
+
+/// A segment with a link behind a block: in a last segment the link is refused, and in another as it isn't in the last place.
+#[tactic(auto, unfolding(crate::specs::Units::moving, crate::specs::Units::from_place, sgl_descriptor::specs::Spelling::descriptor_of, page_memory::specs::Memory::bytes_at))]
+pub fn worked_links()
+    ensures in_last { units_of_list (with_descriptors 0x1000 (DataBlock 0x2000 512 ∷ Segment 0x3000 16 ∷ [])) (spelling (LastSegment 0x1000 32)) Destination 1024
+        ≡ Stays ∷ Reads 0x1000 ∷ Moves 0x2000 512 0 ∷ Reads 0x1010 ∷ [] }
+    ensures in_last_verdict { verdict_of_list (with_descriptors 0x1000 (DataBlock 0x2000 512 ∷ Segment 0x3000 16 ∷ [])) (spelling (LastSegment 0x1000 32)) Destination 1024
+        ≡ Fault (record { sct = 0; sc = 0x0D }) }
+    ensures inside { units_of_list (with_descriptors 0x1000 (DataBlock 0x2000 512 ∷ Segment 0x3000 16 ∷ [])) (spelling (Segment 0x1000 48)) Destination 1024
+        ≡ Stays ∷ Reads 0x1000 ∷ Moves 0x2000 512 0 ∷ Reads 0x1010 ∷ [] }
+    ensures inside_verdict { verdict_of_list (with_descriptors 0x1000 (DataBlock 0x2000 512 ∷ Segment 0x3000 16 ∷ [])) (spelling (Segment 0x1000 48)) Destination 1024
+        ≡ Fault (record { sct = 0; sc = 0x0E }) }
+{}
+
+/// A segment of a block and a bucket, which a destination counts and a source skips.
+#[tactic(auto, unfolding(crate::specs::Units::moving, crate::specs::Units::from_place, sgl_descriptor::specs::Spelling::descriptor_of, page_memory::specs::Memory::bytes_at))]
+pub fn worked_buckets()
+    ensures units { units_of_list (with_descriptors 0x5000 (DataBlock 0x4000 512 ∷ BitBucket 512 ∷ [])) (spelling (LastSegment 0x5000 32)) Destination 1024
+        ≡ Stays ∷ Reads 0x5000 ∷ Moves 0x4000 512 0 ∷ Reads 0x5010 ∷ [] }
+    ensures parts { parts_taken (with_descriptors 0x5000 (DataBlock 0x4000 512 ∷ BitBucket 512 ∷ [])) []
+        (course_of_list (with_descriptors 0x5000 (DataBlock 0x4000 512 ∷ BitBucket 512 ∷ [])) (spelling (LastSegment 0x5000 32)) Destination 1024)
+        ≡ Data 0x4000 512 ∷ Bucket 512 ∷ [] }
+    ensures destination { verdict_of_list (with_descriptors 0x5000 (DataBlock 0x4000 512 ∷ BitBucket 512 ∷ [])) (spelling (LastSegment 0x5000 32)) Destination 1024 ≡ End }
+    ensures source { verdict_of_list (with_descriptors 0x5000 (DataBlock 0x4000 512 ∷ BitBucket 512 ∷ [])) (spelling (LastSegment 0x5000 32)) Source 512 ≡ End }
+    ensures source_wants { verdict_of_list (with_descriptors 0x5000 (DataBlock 0x4000 512 ∷ BitBucket 512 ∷ [])) (spelling (LastSegment 0x5000 32)) Source 1024
+        ≡ Fault (record { sct = 0; sc = 0x0F }) }
+{}
