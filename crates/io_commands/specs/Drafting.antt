@@ -1,0 +1,19 @@
+-- Drafts as their type keeps them.
+use Rattle.io_commands.specs.declared.draft.Draft.TheInside.{Inside}
+use Rattle.io_commands.specs.Values.{data_part, chain_part}
+use Rattle.io_commands.specs.Drafts.{DraftContents, IsDraft}
+
+abbrev pub contents_of : Inside → DraftContents
+contents_of d =
+    record {
+      q = d.q;
+      cid = d.cid;
+      request = d.request;
+      data_pages = data_part d.request d.pages.items;
+      chain_pages = chain_part d.request d.pages.items;
+      segment = d.segment;
+      entry = d.entry;
+    }
+
+abbrev pub KeepsDraft : Inside → Type 0
+KeepsDraft d = IsDraft (contents_of d)

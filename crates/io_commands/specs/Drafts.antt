@@ -1,0 +1,93 @@
+-- Drafts: a command that is being prepared outside the store.
+use Rattle.std.specs.Prelude.{◌≡◌, ◌≤◌, ◌*◌, ◌-◌, ◌/◌, ◌%◌, ℕ, Option, None, Some, List, [], ◌∷◌, length}
+use Rattle.sgl_descriptor.specs.declared.Descriptor.{Descriptor}
+use Rattle.sgl_descriptor.specs.declared.Part.{Part}
+use Rattle.sgl_descriptor.specs.Spelling.{spelling}
+use Rattle.sgl_chain.specs.Chains.{pages_needed, first_of, segments_on, segment_bytes}
+use Rattle.sgl_chain.specs.Spells.{Spells, Holds}
+use Rattle.page_memory.specs.Memory.{Memory}
+use Rattle.page_memory.specs.Pages.{with_bytes}
+use Rattle.entry_codec.specs.declared.submission.SubEntry.{SubEntry}
+use Rattle.io_commands.specs.declared.request.Request.{Request}
+use Rattle.io_commands.specs.Requests.{opcode_of, data_count, parts_of}
+use Rattle.io_commands.specs.DataBytes.{PagesOut}
+use Rattle.io_commands.specs.Values.{numbers_of, IsGood}
+
+-- a draft: its pages with their bytes, one for each data piece and those of the chain, and its entry once it is built
+pub record DraftContents : Type 0 where
+  pub q : ℕ
+  pub cid : ℕ
+  pub request : Request
+  pub data_pages : PagesOut
+  pub chain_pages : PagesOut
+  pub segment : ℕ
+  pub entry : Option SubEntry
+
+-- the entry that the driver sends for a request, with its first descriptor's bytes
+abbrev pub io_entry : ℕ → Request → List ℕ → SubEntry
+io_entry cid request sgl1 =
+    record {
+      opcode = opcode_of request.kind;
+      fuse = 0;
+      psdt = 1;
+      cid = cid;
+      nsid = 1;
+      mptr = 0;
+      sgl1 = sgl1;
+      cdw10 = request.slba % 4294967296;
+      cdw11 = request.slba / 4294967296;
+      cdw12 = request.blocks - 1;
+      cdw13 = 0;
+      cdw14 = 0;
+      cdw15 = 0;
+    }
+
+-- the parts of a draft, in its own pages
+abbrev pub draft_parts : DraftContents → List Part
+draft_parts d = parts_of d.request.pieces (numbers_of d.data_pages)
+
+-- the descriptor that its entry holds, and the segments of its chain
+abbrev pub draft_first : DraftContents → Descriptor
+draft_first d = first_of d.segment (numbers_of d.chain_pages) (draft_parts d)
+
+abbrev pub draft_segments : DraftContents → List (List Descriptor)
+draft_segments d = segments_on d.segment (numbers_of d.chain_pages) (draft_parts d)
+
+abbrev pub draft_entry : DraftContents → SubEntry
+draft_entry d = io_entry d.cid d.request (spelling (draft_first d))
+
+-- pages with a segment's bytes at the start of each
+abbrev pub laid : List (List Descriptor) → PagesOut → PagesOut
+laid [] pages = pages
+laid (segment ∷ segments) [] = []
+laid (segment ∷ segments) (page ∷ pages) = (page.0, with_bytes page.1 0 (segment_bytes segment)) ∷ laid segments pages
+
+-- a draft once it is built: its chain is laid, and it has its entry
+abbrev pub built : DraftContents → DraftContents
+built d = record d { chain_pages = laid (draft_segments d) d.chain_pages; entry = Some (draft_entry d) }
+
+-- a draft that is built: building it again changes nothing
+abbrev pub IsBuilt : DraftContents → Type 0
+IsBuilt d = built d ≡ d
+
+abbrev pub IsBuiltIfAny : DraftContents → Option SubEntry → Type 0
+IsBuiltIfAny d None = Unit {0}
+IsBuiltIfAny d (Some entry) = IsBuilt d
+
+-- its request passes its check, it has the pages that its pieces and its chain take, and where it has an entry it is built
+pub record IsDraft (d : DraftContents) : Type 0 where
+  pub good : IsGood d.request
+  pub low : 2 ≤ d.segment
+  pub high : d.segment ≤ 256
+  pub pieces_have_pages : length d.data_pages ≡ data_count d.request.pieces
+  pub chain_has_pages : length d.chain_pages ≡ pages_needed (length d.request.pieces) d.segment
+  pub built : IsBuiltIfAny d d.entry
+
+-- A memory holds pages: the bytes of each stand from its first place on.
+abbrev pub HoldsPages : Memory → PagesOut → Type 0
+HoldsPages m [] = Unit {0}
+HoldsPages m (page ∷ pages) = Holds m (4096 * page.0) page.1 × HoldsPages m pages
+
+-- Wherever a draft's chain pages stand in a memory, the descriptor of its entry spells its parts.
+abbrev pub SpellsItsParts : DraftContents → Type 0
+SpellsItsParts d = (m : Memory) → HoldsPages m d.chain_pages → Spells m (draft_first d) (draft_parts d)

@@ -1,0 +1,21 @@
+-- Finished commands as their type keeps them.
+use Rattle.std.specs.Prelude.{◌≤◌, length}
+use Rattle.io_commands.specs.declared.finished.Finished.TheInside.{Inside}
+use Rattle.io_commands.specs.Requests.{data_count}
+use Rattle.io_commands.specs.Values.{FinishedContents, IsGood, data_part, chain_part}
+
+abbrev pub contents_of : Inside → FinishedContents
+contents_of f =
+    record {
+      q = f.q;
+      cid = f.cid;
+      request = f.request;
+      status = f.status;
+      data_pages = data_part f.request f.pages.items;
+      chain_pages = chain_part f.request f.pages.items;
+    }
+
+-- its request passes its check, and each data piece has its page
+pub record IsFinished (f : Inside) : Type 0 where
+  pub good : IsGood f.request
+  pub enough : data_count f.request.pieces ≤ length f.pages.items

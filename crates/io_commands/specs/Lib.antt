@@ -1,0 +1,6 @@
+pub mod DataBytes
+pub mod Drafting
+pub mod Drafts
+pub mod Finisheds
+pub mod Requests
+pub mod Values

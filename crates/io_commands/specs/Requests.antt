@@ -1,0 +1,74 @@
+-- What a host asks for: which blocks, in which direction, and the pieces of memory that take part.
+use Rattle.std.specs.Prelude.{ℕ, ◌+◌, ◌*◌, ◌==◌, nat_lt, Bool, true, false, ◌||◌, not, Option, Some, None, List, [], ◌∷◌, length, sum_by, count_by, if◌then◌else◌}
+use Rattle.std.specs.List.{list_any}
+use Rattle.sgl_descriptor.specs.declared.Direction.{Direction}
+use Rattle.sgl_descriptor.specs.declared.Direction.TheVariants.{Destination, Source}
+use Rattle.sgl_descriptor.specs.declared.Part.{Part}
+use Rattle.sgl_descriptor.specs.declared.Part.TheVariants as part
+use Rattle.entry_codec.specs.declared.io_opcode.TheConstants.{READ, WRITE, COMPARE}
+use Rattle.io_commands.specs.declared.request.Kind.{Kind}
+use Rattle.io_commands.specs.declared.request.Kind.TheVariants.{Read, Write, Compare}
+use Rattle.io_commands.specs.declared.request.Piece.{Piece}
+use Rattle.io_commands.specs.declared.request.Piece.TheVariants.{Data, Bucket}
+use Rattle.io_commands.specs.declared.request.RequestFault.{RequestFault}
+use Rattle.io_commands.specs.declared.request.RequestFault.TheVariants.{TooManyPieces, EmptyPiece, CrossesPage, BadCount, LengthMismatch}
+
+-- the first of the tests that passes, with what it stands for
+abbrev pub first_passing : {A : Type 0} → List (Bool × A) → Option A
+first_passing [] = None
+first_passing (test ∷ tests) = if test.0 then Some test.1 else first_passing tests
+
+-- a Read brings data to the host's pages, a Write and a Compare take it from them
+abbrev pub direction_of : Kind → Direction
+direction_of Read = Destination
+direction_of Write = Source
+direction_of Compare = Source
+
+abbrev pub opcode_of : Kind → ℕ
+opcode_of Read = READ
+opcode_of Write = WRITE
+opcode_of Compare = COMPARE
+
+abbrev pub is_empty_piece : Piece → Bool
+is_empty_piece (Data offset len) = len == 0
+is_empty_piece (Bucket len) = len == 0
+
+abbrev pub crosses_page : Piece → Bool
+crosses_page (Data offset len) = nat_lt 4096 (offset + len)
+crosses_page (Bucket len) = false
+
+abbrev pub is_data : Piece → Bool
+is_data (Data offset len) = true
+is_data (Bucket len) = false
+
+-- how many of a command's bytes a piece is: a bucket counts where data comes to the host alone
+abbrev pub counted_length : Kind → Piece → ℕ
+counted_length kind (Data offset len) = len
+counted_length Read (Bucket len) = len
+counted_length Write (Bucket len) = 0
+counted_length Compare (Bucket len) = 0
+
+abbrev pub counted_lengths : Kind → List Piece → ℕ
+counted_lengths kind pieces = sum_by (counted_length kind) pieces
+
+-- the data pages that pieces take, one for each data piece
+abbrev pub data_count : List Piece → ℕ
+data_count pieces = count_by is_data pieces
+
+-- the parts of pieces, with each data piece in a page of its own
+abbrev pub parts_of : List Piece → List ℕ → List Part
+parts_of [] pages = []
+parts_of (Bucket len ∷ pieces) pages = part.Bucket len ∷ parts_of pieces pages
+parts_of (Data offset len ∷ pieces) [] = []
+parts_of (Data offset len ∷ pieces) (page ∷ pages) = part.Data (4096 * page + offset) len ∷ parts_of pieces pages
+
+-- the first fault of a request, in the order of the checks
+abbrev pub fault_of : Kind → ℕ → List Piece → Option RequestFault
+fault_of kind blocks pieces =
+    first_passing (
+    (nat_lt 1024 (length pieces), TooManyPieces)
+    ∷ (list_any is_empty_piece pieces, EmptyPiece)
+    ∷ (list_any crosses_page pieces, CrossesPage)
+    ∷ ((blocks == 0) || nat_lt 2048 blocks, BadCount)
+    ∷ (not (counted_lengths kind pieces == 512 * blocks), LengthMismatch)
+    ∷ [])

@@ -1,0 +1,46 @@
+-- What drafts, tickets and finished commands are.
+use Rattle.std.specs.Prelude.{◌≡◌, ℕ, None, List, [], map, take, drop}
+use Rattle.entry_codec.specs.declared.status.Status.{Status}
+use Rattle.io_commands.specs.declared.request.Request.{Request}
+use Rattle.io_commands.specs.declared.request.Piece.{Piece}
+use Rattle.io_commands.specs.declared.request.Kind.{Kind}
+use Rattle.io_commands.specs.declared.request.Kind.TheVariants.{Read, Write, Compare}
+use Rattle.io_commands.specs.Requests.{data_count, fault_of}
+use Rattle.io_commands.specs.DataBytes.{PagesOut, gathered}
+
+-- a submitted command
+pub record TicketContents : Type 0 where
+  pub q : ℕ
+  pub cid : ℕ
+
+-- a command that has ended, with its pages: one for each data piece, and those of the chain
+pub record FinishedContents : Type 0 where
+  pub q : ℕ
+  pub cid : ℕ
+  pub request : Request
+  pub status : Status
+  pub data_pages : PagesOut
+  pub chain_pages : PagesOut
+
+abbrev pub numbers_of : PagesOut → List ℕ
+numbers_of pages = map (λ page. page.0) pages
+
+-- of a command's pages those of its data pieces, which come first, and those of its chain
+abbrev pub data_part : Request → PagesOut → PagesOut
+data_part request pages = take (data_count request.pieces) pages
+
+abbrev pub chain_part : Request → PagesOut → PagesOut
+chain_part request pages = drop (data_count request.pieces) pages
+
+-- a request that passes its check
+abbrev pub IsGood : Request → Type 0
+IsGood request = fault_of request.kind request.blocks request.pieces ≡ None
+
+-- what a finished command gathers: a Read's data, and nothing of a source
+abbrev pub gathered_by : Kind → List Piece → PagesOut → List ℕ
+gathered_by Read pieces pages = gathered pieces pages
+gathered_by Write pieces pages = []
+gathered_by Compare pieces pages = []
+
+abbrev pub gathered_from : FinishedContents → List ℕ
+gathered_from f = gathered_by f.request.kind f.request.pieces f.data_pages

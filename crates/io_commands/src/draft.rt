@@ -1,0 +1,236 @@
+//! A command that is being prepared, outside the store.
+
+ghost use Rattle.std.specs.Prelude.{◌≡◌, ◌≢◌, ◌<◌, ◌≤◌, ◌+◌, ◌++◌, ◌↔◌, length, sum_by, Err, IfOk, OnOk, OnErr, None, Some};
+ghost use Rattle.io_commands.specs.declared.request.Kind.TheVariants.{Read};
+ghost use Rattle.io_commands.specs.Requests.{data_count};
+ghost use Rattle.io_commands.specs.DataBytes.{data_length, filled};
+ghost use Rattle.io_commands.specs.Values.{IsGood, data_part, chain_part};
+ghost use Rattle.io_commands.specs.Drafts.{built, SpellsItsParts, io_entry as spec_io_entry};
+ghost use Rattle.sgl_chain.specs.Chains.{pages_needed};
+
+use crate::data_bytes::fill_first;
+use crate::layout::{chain_of, lay_all};
+use crate::request::{Kind, Request};
+use entry_codec::SubEntry;
+use page_memory::{Page, PageNo};
+use std::alloc::{AllocError, Allocator};
+use std::marker::Model;
+use thiserror::Error;
+
+/// A command that is being prepared: its pages are out of the store, so nobody else reaches them. It must be spent: it
+/// is no `Drop`.
+pub struct Draft {
+    q: u16,
+    cid: u16,
+    request: Request,
+    pages: Vec<(PageNo, Page)>,
+    segment: usize,
+    entry: Option<SubEntry>,
+}
+
+impl Model for Draft {
+    ghost use Rattle.io_commands.specs.Drafts.{DraftContents};
+
+    ghost Value = { DraftContents };
+
+    ghost use Rattle.io_commands.specs.Drafting.{contents_of, KeepsDraft};
+
+    ghost view = { contents_of };
+
+    ghost invariant = { KeepsDraft };
+}
+
+/// What a draft is made of.
+#[derive(Drop)]
+pub struct DraftParts {
+    /// The queue.
+    pub q: u16,
+    /// The identifier.
+    pub cid: u16,
+    /// What the host asks for.
+    pub request: Request,
+    /// The pages with their bytes: one for each data piece, then those of the chain.
+    pub pages: Vec<(PageNo, Page)>,
+    /// The most descriptors of a segment.
+    pub segment: usize,
+}
+
+/// Why a draft was not filled.
+#[derive(Clone, Copy, Debug, PartialEq, Eq, Error)]
+pub enum FillFault {
+    /// It is a Read, which brings data to the pages.
+    #[error("a Read is not filled")]
+    NotASource,
+    /// The bytes are not as many as the data pieces take.
+    #[error("the bytes are not as many as the data pieces take")]
+    WrongLength,
+}
+
+impl Draft {
+    /// A draft, not yet built. The pages are those of the data pieces, in order, and then those of the chain, in order;
+    /// they are distinct, and `segment` is the most descriptors of a segment.
+    pub fn make(
+        q: u16,
+        cid: u16,
+        request: Request,
+        pages: Vec<(PageNo, Page)>,
+        segment: usize,
+    ) -> Self
+        requires good { IsGood request }
+        requires low { 2 ≤ segment }
+        requires high { segment ≤ 256 }
+        requires pages { length pages.items ≡ data_count request.pieces + pages_needed (length request.pieces) segment }
+        ensures { result ≡ record {
+          q = q;
+          cid = cid;
+          request = request;
+          data_pages = data_part request pages.items;
+          chain_pages = chain_part request pages.items;
+          segment = segment;
+          entry = None;
+        } }
+    {
+        Draft {
+            q,
+            cid,
+            request,
+            pages,
+            segment,
+            entry: None,
+        }
+    }
+
+    /// The command's queue.
+    pub fn q(&self) -> u16
+        ensures { result ≡ self.now.q }
+    {
+        self.q
+    }
+
+    /// The command's identifier.
+    pub fn cid(&self) -> u16
+        ensures { result ≡ self.now.cid }
+    {
+        self.cid
+    }
+
+    /// What the host asks for.
+    pub fn request(&self) -> &Request
+        ensures { result.now ≡ self.now.request }
+    {
+        &self.request
+    }
+
+    /// The most descriptors of a segment.
+    pub fn segment(&self) -> usize
+        ensures { result ≡ self.now.segment }
+    {
+        self.segment
+    }
+
+    /// The pages with their bytes: one for each data piece, then those of the chain.
+    pub fn pages(&self) -> &[(PageNo, Page)]
+        ensures { result.now ≡ self.now.data_pages ++ self.now.chain_pages }
+    {
+        &self.pages
+    }
+
+    /// The command's entry; `None` before the draft is built.
+    pub fn entry(&self) -> Option<SubEntry>
+        ensures { result ≡ self.now.entry }
+    {
+        self.entry
+    }
+
+    /// Puts the bytes into the data pieces, one piece after the other. Nothing else changes: a built draft stays built.
+    ///
+    /// # Errors
+    ///
+    /// 1. `NotASource` exactly for a Read. 2. `WrongLength` exactly where the bytes are not as many as the data pieces take.
+    pub fn fill(&mut self, bytes: &[u8]) -> Result<(), FillFault>
+        ensures filled { OnOk result (self.new ≡ record self.old { data_pages = filled self.old.request.pieces self.old.data_pages bytes.now }) }
+        ensures length { OnOk result (length bytes.now ≡ sum_by data_length self.old.request.pieces) }
+        ensures not_a_source { (result ≡ Err FillFault.NotASource) ↔ (self.old.request.kind ≡ Read) }
+        ensures wrong_length { (result ≡ Err FillFault.WrongLength)
+            ↔ ((self.old.request.kind ≢ Read) × (length bytes.now ≢ sum_by data_length self.old.request.pieces)) }
+        ensures refused { OnErr result (self.new ≡ self.old) }
+    {
+        if matches!(self.request.kind, Kind::Read) {
+            return Err(FillFault::NotASource);
+        }
+        if bytes.len() as u64 != self.request.pieces.data_bytes() {
+            return Err(FillFault::WrongLength);
+        }
+        let data = self.request.pieces.data_pages();
+        let pieces = self.request.pieces.as_slice();
+        fill_first(pieces, &mut self.pages, data, bytes);
+        Ok(())
+    }
+
+    /// Lays the chain of the command's parts into the draft's own pages, and makes its entry. A second build lays the same
+    /// bytes. It takes no lock and reaches no store.
+    ///
+    /// # Errors
+    ///
+    /// Where memory is refused; the draft is then as it was.
+    pub fn build<A: Allocator + Clone>(&mut self, alloc: A) -> Result<(), AllocError>
+        ensures built { OnOk result (self.new ≡ built self.old) }
+        ensures spells { OnOk result (SpellsItsParts self.new) }
+        ensures refused { OnErr result (self.new ≡ self.old) }
+    {
+        let chain = chain_of(alloc, &self.request, self.pages.as_slice(), self.segment)?;
+        let data = self.request.pieces.data_pages();
+        lay_all(&chain, &mut self.pages, data);
+        let first = chain.first().write();
+        self.entry = Some(io_entry(self.cid, &self.request, first));
+        Ok(())
+    }
+
+    /// What it was made of, with the pages as they are now.
+    pub fn apart(self) -> DraftParts
+        ensures queue { result.q ≡ self.q }
+        ensures identifier { result.cid ≡ self.cid }
+        ensures request { result.request ≡ self.request }
+        ensures pages { result.pages.items ≡ self.data_pages ++ self.chain_pages }
+        ensures segment { result.segment ≡ self.segment }
+    {
+        let Draft {
+            q,
+            cid,
+            request,
+            pages,
+            segment,
+            entry: _,
+        } = self;
+        DraftParts {
+            q,
+            cid,
+            request,
+            pages,
+            segment,
+        }
+    }
+}
+
+/// The entry that the driver sends for a request (NVM Command Set 1.0, Read, Write and Compare): SGLs in the data pointer
+/// (PSDT 01b), namespace 1, the first block in CDW10 and CDW11, the number of blocks less one in CDW12; all else zero (own).
+fn io_entry(cid: u16, request: &Request, sgl1: [u8; 16]) -> SubEntry
+    requires { 0 < request.now.blocks }
+    ensures { result ≡ spec_io_entry cid request.now sgl1 }
+{
+    SubEntry {
+        opcode: request.kind.opcode(),
+        fuse: 0,
+        psdt: 1,
+        cid,
+        nsid: 1,
+        mptr: 0,
+        sgl1,
+        cdw10: (request.slba % (1 << 32)) as u32,
+        cdw11: (request.slba >> 32) as u32,
+        cdw12: request.blocks - 1,
+        cdw13: 0,
+        cdw14: 0,
+        cdw15: 0,
+    }
+}

@@ -1,0 +1,154 @@
+//! A command that has ended, with its pages taken out again.
+
+ghost use Rattle.std.specs.Prelude.{◌≡◌, ◌≤◌, ◌++◌, length, IfOk, []};
+ghost use Rattle.io_commands.specs.Requests.{data_count};
+ghost use Rattle.io_commands.specs.DataBytes.{gathered};
+ghost use Rattle.io_commands.specs.Values.{IsGood, data_part, chain_part, gathered_from};
+
+use crate::data_bytes::push_data;
+use crate::request::{Kind, Request};
+use entry_codec::Status;
+use page_memory::{Page, PageNo};
+use std::alloc::{AllocError, Global};
+use std::marker::Model;
+
+/// A command that has ended: its status, and its pages with their bytes. It must be spent: it is no `Drop`.
+pub struct Finished {
+    q: u16,
+    cid: u16,
+    request: Request,
+    status: Status,
+    pages: Vec<(PageNo, Page)>,
+}
+
+impl Model for Finished {
+    ghost use Rattle.io_commands.specs.Values.{FinishedContents};
+    ghost use Rattle.io_commands.specs.Finisheds.{contents_of, IsFinished};
+
+    ghost Value = { FinishedContents };
+
+    ghost view = { contents_of };
+
+    ghost invariant = { IsFinished };
+}
+
+/// What a finished command is made of.
+#[derive(Drop)]
+pub struct FinishedParts {
+    /// The queue.
+    pub q: u16,
+    /// The identifier.
+    pub cid: u16,
+    /// What the host asked for.
+    pub request: Request,
+    /// How it ended.
+    pub status: Status,
+    /// The pages with their bytes: one for each data piece, then those of the chain.
+    pub pages: Vec<(PageNo, Page)>,
+}
+
+impl Finished {
+    /// A command that has ended. The pages are those of the data pieces, in order, and then those of the chain.
+    pub fn make(
+        q: u16,
+        cid: u16,
+        request: Request,
+        status: Status,
+        pages: Vec<(PageNo, Page)>,
+    ) -> Self
+        requires good { IsGood request }
+        requires enough { data_count request.pieces ≤ length pages.items }
+        ensures { result ≡ record { q = q; cid = cid; request = request; status = status; data_pages = data_part request pages.items; chain_pages = chain_part request pages.items } }
+    {
+        Finished {
+            q,
+            cid,
+            request,
+            status,
+            pages,
+        }
+    }
+
+    /// The command's queue.
+    pub fn q(&self) -> u16
+        ensures { result ≡ self.now.q }
+    {
+        self.q
+    }
+
+    /// The command's identifier.
+    pub fn cid(&self) -> u16
+        ensures { result ≡ self.now.cid }
+    {
+        self.cid
+    }
+
+    /// What the host asked for.
+    pub fn request(&self) -> &Request
+        ensures { result.now ≡ self.now.request }
+    {
+        &self.request
+    }
+
+    /// How the command ended.
+    pub fn status(&self) -> Status
+        ensures { result ≡ self.now.status }
+    {
+        self.status
+    }
+
+    /// The pages with their bytes: one for each data piece, then those of the chain.
+    pub fn pages(&self) -> &[(PageNo, Page)]
+        ensures { result.now ≡ self.now.data_pages ++ self.now.chain_pages }
+    {
+        &self.pages
+    }
+
+    /// The bytes of a Read's data pieces, one after the other, as they stand in its pages; nothing for a Write or a
+    /// Compare.
+    ///
+    /// # Errors
+    ///
+    /// Where memory is refused.
+    pub fn gather(&self, alloc: Global) -> Result<Vec<u8>, AllocError>
+        ensures { IfOk result (λ bytes. bytes.items ≡ gathered_from self.now) }
+    {
+        match self.request.kind {
+            Kind::Read => {
+                let data = self.request.pieces.data_pages();
+                let mut bytes = Vec::new(alloc);
+                push_data(
+                    self.request.pieces.as_slice(),
+                    &self.pages[..data],
+                    &mut bytes,
+                )?;
+                Ok(bytes)
+            }
+            Kind::Write | Kind::Compare => Ok(Vec::new(alloc)),
+        }
+    }
+
+    /// What it was made of, with the pages as they are now.
+    pub fn apart(self) -> FinishedParts
+        ensures queue { result.q ≡ self.q }
+        ensures identifier { result.cid ≡ self.cid }
+        ensures request { result.request ≡ self.request }
+        ensures status { result.status ≡ self.status }
+        ensures pages { result.pages.items ≡ self.data_pages ++ self.chain_pages }
+    {
+        let Finished {
+            q,
+            cid,
+            request,
+            status,
+            pages,
+        } = self;
+        FinishedParts {
+            q,
+            cid,
+            request,
+            status,
+            pages,
+        }
+    }
+}

@@ -1,0 +1,117 @@
+//! The parts of a command in its pages, and its chain laid in them.
+
+ghost use Rattle.std.specs.Prelude.{◌≡◌, ◌≤◌, ◌+◌, ◌-◌, ◌++◌, length, take, drop, IfOk, OnOk, false};
+ghost use Rattle.std.specs.List.{list_any};
+ghost use Rattle.io_commands.specs.Requests.{crosses_page, data_count, parts_of as spec_parts_of};
+ghost use Rattle.io_commands.specs.Values.{numbers_of as spec_numbers_of, IsGood, data_part, chain_part};
+ghost use Rattle.sgl_chain.specs.Chains.{pages_needed, first_of, segments_on};
+ghost use Rattle.sgl_chain.specs.Spells.{SpellsWhereLaid};
+ghost use Rattle.io_commands.specs.Drafts.{laid};
+
+use crate::request::{Piece, Request};
+use page_memory::{Page, PageNo};
+use sgl_chain::{Chain, Part};
+use std::alloc::{AllocError, Allocator};
+
+/// Appends the parts of pieces, each data piece in its page.
+pub(crate) fn push_parts<A: Allocator>(
+    pieces: &[Piece],
+    pages: &[(PageNo, Page)],
+    out: &mut Vec<Part, A>,
+) -> Result<(), AllocError>
+    requires inside { list_any crosses_page pieces.now ≡ false }
+    ensures { OnOk result (out.new.items ≡ out.old.items ++ spec_parts_of pieces.now (spec_numbers_of pages.now)) }
+{
+    let Some((piece, others)) = pieces.split_first() else {
+        return Ok(());
+    };
+    match *piece {
+        Piece::Bucket { len } => {
+            out.push(Part::Bucket { len })?;
+            push_parts(others, pages, out)
+        }
+        Piece::Data { offset, len } => {
+            let Some((page, behind)) = pages.split_first() else {
+                return Ok(());
+            };
+            let addr = 4096 * u64::from(page.0.0) + u64::from(offset);
+            out.push(Part::Data { addr, len })?;
+            push_parts(others, behind, out)
+        }
+    }
+}
+
+/// The parts of pieces, each data piece in its page.
+pub(crate) fn parts_of<A: Allocator>(
+    alloc: A,
+    pieces: &[Piece],
+    pages: &[(PageNo, Page)],
+) -> Result<Vec<Part, A>, AllocError>
+    requires inside { list_any crosses_page pieces.now ≡ false }
+    ensures { IfOk result (λ parts. parts.items ≡ spec_parts_of pieces.now (spec_numbers_of pages.now)) }
+{
+    let mut parts = Vec::new(alloc);
+    push_parts(pieces, pages, &mut parts)?;
+    Ok(parts)
+}
+
+/// The numbers of pages.
+pub(crate) fn numbers_of<A: Allocator>(
+    alloc: A,
+    pages: &[(PageNo, Page)],
+) -> Result<Vec<PageNo, A>, AllocError>
+    ensures { IfOk result (λ numbers. numbers.items ≡ spec_numbers_of pages.now) }
+{
+    let mut numbers = Vec::new(alloc);
+    for page in pages {
+        numbers.push(page.0)?;
+    }
+    Ok(numbers)
+}
+
+/// Lays the last segments of a chain in pages, as many as there are pages, one in each.
+fn lay_last<A: Allocator>(chain: &Chain<A>, pages: &mut [(PageNo, Page)])
+    requires { length pages.old ≤ length chain.now.segments }
+    ensures { pages.new ≡ laid (drop (length chain.now.segments - length pages.old) chain.now.segments) pages.old }
+{
+    let i = chain.segments() - pages.len();
+    if let Some((page, behind)) = pages.split_first_mut() {
+        chain.lay(i, &mut page.1);
+        lay_last(chain, behind);
+    }
+}
+
+/// Lays the segments of a chain in the pages from one on, one in each.
+pub(crate) fn lay_all<A: Allocator>(chain: &Chain<A>, pages: &mut Vec<(PageNo, Page)>, from: usize)
+    requires { length pages.old.items ≡ from + length chain.now.segments }
+    ensures { pages.new.items ≡ take from pages.old.items ++ laid chain.now.segments (drop from pages.old.items) }
+{
+    let all = pages.as_mut_slice();
+    lay_last(chain, &mut all[from..]);
+}
+
+/// The chain of a request in its pages, of which those of the data pieces come first.
+pub(crate) fn chain_of<A: Allocator + Clone>(
+    alloc: A,
+    request: &Request,
+    pages: &[(PageNo, Page)],
+    segment: usize,
+) -> Result<Chain<A>, AllocError>
+    requires good { IsGood request.now }
+    requires low { 2 ≤ segment }
+    requires high { segment ≤ 256 }
+    requires pages { length pages.now ≡ data_count request.now.pieces + pages_needed (length request.now.pieces) segment }
+    ensures first { IfOk result (λ chain. chain.first ≡ first_of segment (spec_numbers_of (chain_part request.now pages.now)) (spec_parts_of request.now.pieces (spec_numbers_of (data_part request.now pages.now)))) }
+    ensures segments { IfOk result (λ chain. chain.segments ≡ segments_on segment (spec_numbers_of (chain_part request.now pages.now)) (spec_parts_of request.now.pieces (spec_numbers_of (data_part request.now pages.now)))) }
+    ensures count { IfOk result (λ chain. length chain.segments ≡ pages_needed (length request.now.pieces) segment) }
+    ensures spells { IfOk result (λ chain. SpellsWhereLaid (spec_numbers_of (chain_part request.now pages.now)) chain (spec_parts_of request.now.pieces (spec_numbers_of (data_part request.now pages.now)))) }
+{
+    let pieces = request.pieces.as_slice();
+    let (front, behind) = pages.split_at(request.pieces.data_pages());
+    let parts = parts_of(alloc.clone()?, pieces, front)?;
+    let numbers = numbers_of(alloc.clone()?, behind)?;
+    match Chain::build(alloc, parts.as_slice(), numbers.as_slice(), segment) {
+        Ok(chain) => Ok(chain),
+        Err(_) => Err(AllocError),
+    }
+}

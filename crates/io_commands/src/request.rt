@@ -1,0 +1,255 @@
+//! What a host asks for.
+
+ghost use Rattle.std.specs.Prelude.{◌≡◌, ◌≤◌, length, sum_by, Ok};
+ghost use Rattle.std.specs.Result.{result_err};
+ghost use Rattle.std.specs.List.{list_any};
+ghost use Rattle.io_commands.specs.DataBytes.{data_length};
+ghost use Rattle.io_commands.specs.Requests.{direction_of, opcode_of, is_empty_piece, crosses_page as spec_crosses_page, is_data as spec_is_data, counted_length, counted_lengths, data_count, fault_of};
+
+use entry_codec::io_opcode;
+use sgl_descriptor::Direction;
+use std::marker::Model;
+use thiserror::Error;
+
+/// The most pieces that a request has (own).
+pub const MAX_PIECES: usize = 1_024;
+
+/// The most blocks that a command moves (own).
+pub const MAX_BLOCKS: u32 = 2_048;
+
+/// Which I/O command (NVM Command Set 1.0, opcodes).
+#[derive(Clone, Copy, Debug, PartialEq, Eq)]
+pub enum Kind {
+    /// Blocks come to the host's pages.
+    Read,
+    /// Blocks are replaced by data of the host's pages.
+    Write,
+    /// Blocks are compared with data of the host's pages.
+    Compare,
+}
+
+impl Kind {
+    /// Which way the data goes, as the host's pages see it.
+    pub fn direction(self) -> Direction
+        ensures { result ≡ direction_of self }
+    {
+        match self {
+            Kind::Read => Direction::Destination,
+            Kind::Write | Kind::Compare => Direction::Source,
+        }
+    }
+
+    /// The command's opcode.
+    pub fn opcode(self) -> u8
+        ensures { result ≡ opcode_of self }
+    {
+        match self {
+            Kind::Read => io_opcode::READ,
+            Kind::Write => io_opcode::WRITE,
+            Kind::Compare => io_opcode::COMPARE,
+        }
+    }
+}
+
+/// A piece of a command's data.
+#[derive(Clone, Copy, Debug, PartialEq, Eq)]
+pub enum Piece {
+    /// `len` bytes from `offset` on, in a page of the piece's own.
+    Data {
+        /// Where the bytes begin in the page.
+        offset: u32,
+        /// How many there are.
+        len: u32,
+    },
+    /// `len` bytes that a Read discards. In a Write or a Compare it has no effect.
+    Bucket {
+        /// How many bytes are discarded.
+        len: u32,
+    },
+}
+
+impl Piece {
+    /// Whether its length is 0.
+    pub fn is_empty(self) -> bool
+        ensures { result ≡ is_empty_piece self }
+    {
+        match self {
+            Piece::Data { len, .. } | Piece::Bucket { len } => len == 0,
+        }
+    }
+
+    /// Whether it is data that passes the end of its page.
+    pub fn crosses_page(self) -> bool
+        ensures { result ≡ spec_crosses_page self }
+    {
+        match self {
+            Piece::Data { offset, len } => u64::from(offset) + u64::from(len) > 4096,
+            Piece::Bucket { .. } => false,
+        }
+    }
+
+    /// Whether it is data, which takes a page of its own.
+    pub fn is_data(self) -> bool
+        ensures { result ≡ spec_is_data self }
+    {
+        matches!(self, Piece::Data { .. })
+    }
+
+    /// How many bytes of data it is.
+    pub fn data_len(self) -> u32
+        ensures { result ≡ data_length self }
+    {
+        match self {
+            Piece::Data { len, .. } => len,
+            Piece::Bucket { .. } => 0,
+        }
+    }
+
+    /// How many bytes of a command of this kind it is: a bucket counts for a Read alone.
+    pub fn counted(self, kind: Kind) -> u32
+        ensures { result ≡ counted_length kind self }
+    {
+        match (self, kind) {
+            (Piece::Data { len, .. }, _) | (Piece::Bucket { len }, Kind::Read) => len,
+            (Piece::Bucket { .. }, Kind::Write | Kind::Compare) => 0,
+        }
+    }
+}
+
+/// A list of pieces. Contracts see it as that list.
+#[derive(Debug, Drop)]
+pub struct Pieces {
+    pieces: Vec<Piece>,
+}
+
+impl Model for Pieces {
+    ghost use Rattle.std.specs.Prelude.{List};
+    ghost use Rattle.io_commands.specs.declared.request.Piece.{Piece};
+
+    ghost Value = { List Piece };
+
+    ghost view = { λ p. p.pieces.items };
+}
+
+impl Pieces {
+    /// The pieces of a vector, in order.
+    pub fn from_vec(pieces: Vec<Piece>) -> Self
+        ensures { result ≡ pieces.items }
+    {
+        Pieces { pieces }
+    }
+
+    /// The pieces.
+    pub fn as_slice(&self) -> &[Piece]
+        ensures { result.now ≡ self.now }
+    {
+        &self.pieces
+    }
+
+    /// Whether a piece has length 0.
+    pub fn has_empty(&self) -> bool
+        ensures { result ≡ list_any is_empty_piece self.now }
+    {
+        self.as_slice().iter().any(|piece| piece.is_empty())
+    }
+
+    /// Whether a data piece passes the end of its page.
+    pub fn has_crossing(&self) -> bool
+        ensures { result ≡ list_any spec_crosses_page self.now }
+    {
+        self.as_slice().iter().any(|piece| piece.crosses_page())
+    }
+
+    /// How many data pages the pieces take.
+    pub fn data_pages(&self) -> usize
+        ensures { result ≡ data_count self.now }
+    {
+        self.as_slice()
+            .iter()
+            .filter(|piece| piece.is_data())
+            .count()
+    }
+
+    /// How many bytes the data pieces are together.
+    pub fn data_bytes(&self) -> u64
+        requires { length self.now ≤ 1024 }
+        ensures { result ≡ sum_by data_length self.now }
+    {
+        self.as_slice()
+            .iter()
+            .map(|piece| u64::from(piece.data_len()))
+            .sum()
+    }
+
+    /// How many bytes of a command of this kind the pieces are together.
+    pub fn counted(&self, kind: Kind) -> u64
+        requires { length self.now ≤ 1024 }
+        ensures { result ≡ counted_lengths kind self.now }
+    {
+        self.as_slice()
+            .iter()
+            .map(|piece| u64::from(piece.counted(kind)))
+            .sum()
+    }
+}
+
+/// Why a request is refused, in the order of the checks (own).
+#[derive(Clone, Copy, Debug, PartialEq, Eq, Error)]
+pub enum RequestFault {
+    /// There are more than 1,024 pieces.
+    #[error("a request has at most 1,024 pieces")]
+    TooManyPieces,
+    /// A piece has length 0.
+    #[error("a piece has length 0")]
+    EmptyPiece,
+    /// A data piece passes the end of its page.
+    #[error("a data piece passes the end of its page")]
+    CrossesPage,
+    /// There are no blocks, or more than 2,048.
+    #[error("a command moves 1 to 2,048 blocks")]
+    BadCount,
+    /// The pieces that count are not 512 bytes a block.
+    #[error("the lengths of the pieces are not 512 bytes a block")]
+    LengthMismatch,
+}
+
+/// What a host asks for: `blocks` blocks of 512 bytes from `slba` on, and the pieces of memory that take part.
+#[derive(Debug, Drop)]
+pub struct Request {
+    /// Which command.
+    pub kind: Kind,
+    /// The first block.
+    pub slba: u64,
+    /// How many blocks.
+    pub blocks: u32,
+    /// The pieces, in the order of the data.
+    pub pieces: Pieces,
+}
+
+impl Request {
+    /// Checks the request. It may pass the end of the image: that is answered by the controller.
+    ///
+    /// # Errors
+    ///
+    /// The first fault in the order of [`RequestFault`].
+    pub fn check(&self) -> Result<(), RequestFault>
+        ensures { result_err result ≡ fault_of self.now.kind self.now.blocks self.now.pieces }
+    {
+        if self.pieces.as_slice().len() > MAX_PIECES {
+            return Err(RequestFault::TooManyPieces);
+        }
+        if self.pieces.has_empty() {
+            return Err(RequestFault::EmptyPiece);
+        }
+        if self.pieces.has_crossing() {
+            return Err(RequestFault::CrossesPage);
+        }
+        if self.blocks == 0 || self.blocks > MAX_BLOCKS {
+            return Err(RequestFault::BadCount);
+        }
+        if self.pieces.counted(self.kind) != 512 * u64::from(self.blocks) {
+            return Err(RequestFault::LengthMismatch);
+        }
+        Ok(())
+    }
+}
