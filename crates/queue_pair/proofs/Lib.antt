@@ -1,0 +1,7 @@
+pub mod Order
+pub mod Bytes
+pub mod Phases
+pub mod Lists
+pub mod Identifiers
+pub mod Halves
+pub mod Pools

@@ -1,0 +1,6 @@
+pub mod Slots
+pub mod Rings
+pub mod Memory
+pub mod Lists
+pub mod Views
+pub mod Halves

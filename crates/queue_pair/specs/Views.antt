@@ -1,0 +1,36 @@
+-- What contracts see of each side.
+use Rattle.queue_pair.specs.Rings.{HostSide, DeviceSide}
+use Rattle.queue_pair.specs.declared.host.HostPair.TheInside as host
+use Rattle.queue_pair.specs.declared.device.DevicePair.TheInside as device
+
+abbrev pub host_side : host.Inside → HostSide
+host_side pair = record {
+  q = pair.q;
+  entries = pair.entries;
+  sq = pair.sq;
+  cq = pair.cq;
+  ring = record { head = pair.head; phase = pair.phase; known_head = pair.known_head; tail = pair.tail };
+  claimed = pair.claimed.items;
+}
+
+abbrev pub device_side : device.Inside → DeviceSide
+device_side pair = record {
+  q = pair.q;
+  entries = pair.entries;
+  sq = pair.sq;
+  cq = pair.cq;
+  ring = record { head = pair.head; bell = pair.bell; tail = pair.tail; phase = pair.phase; known_head = pair.known_head };
+}
+
+abbrev pub device_inside : DeviceSide → device.Inside
+device_inside side = record {
+  q = side.q;
+  entries = side.entries;
+  sq = side.sq;
+  cq = side.cq;
+  head = side.ring.head;
+  bell = side.ring.bell;
+  tail = side.ring.tail;
+  phase = side.ring.phase;
+  known_head = side.ring.known_head;
+}

@@ -1,0 +1,186 @@
+//! The controller's side of a queue pair.
+
+ghost use Rattle.std.specs.Prelude.{◌≡◌, ◌≢◌, ◌<◌, ◌≤◌, ◌↔◌, ◌++◌, ◌∷◌, [], Err, IfOk, IsErr, IsOk, IsSome, IsNone, IsTrue, IsFalse, OnOk, OnErr, Some, None, length};
+ghost use Rattle.page_memory.specs.Memory.{Memory, written};
+ghost use Rattle.entry_codec.specs.Completion.{completion_bytes, FitsCompletion};
+ghost use Rattle.queue_pair.specs.Slots.{is_full, is_in_range};
+ghost use Rattle.queue_pair.specs.Rings.{HostSide, IsHostSide, IsDeviceSide, fresh_device_ring, hearing_tail, hearing_head, entry_taken, answer_posted};
+ghost use Rattle.queue_pair.specs.Memory.{completion_place, submission_page, completion_page, submission_slot, completion_slot, entry_at, phased};
+ghost use Rattle.queue_pair.specs.Lists.{unfetched, rung, answers, front, IsPair, HasPhases, AreTied};
+
+use crate::fault::{BadBell, PostFault, SlotOut};
+use crate::image::completion_image;
+use crate::slots::{completion_address, lies_between, phase_after, slot_after, submission_address};
+use entry_codec::{ComEntry, SubEntry};
+use page_memory::{Dma, PageNo};
+use std::marker::Model;
+
+/// The controller's side of a queue pair: where it takes entries and posts completions, and what it heard by doorbells.
+#[derive(Clone, Copy)]
+pub struct DevicePair {
+    q: u16,
+    entries: u16,
+    sq: PageNo,
+    cq: PageNo,
+    head: u16,
+    bell: u16,
+    tail: u16,
+    phase: bool,
+    known_head: u16,
+}
+
+impl Model for DevicePair {
+    ghost use Rattle.queue_pair.specs.Rings.{DeviceSide};
+
+    ghost Value = { DeviceSide };
+
+    ghost use Rattle.queue_pair.specs.Rings.{IsDeviceSide};
+    ghost use Rattle.queue_pair.specs.Views.{device_side, device_inside};
+
+    ghost view = { device_side };
+
+    ghost invariant = { λ pair. IsDeviceSide (device_side pair) };
+
+    ghost inverse = { device_inside };
+}
+
+impl DevicePair {
+    /// The controller's side of queue `q` with so many entries in each ring, whose halves begin at the pages `sq` and `cq`. Nothing
+    /// is rung, and the first completion is posted with phase 1.
+    pub fn open(q: u16, entries: u16, sq: PageNo, cq: PageNo) -> DevicePair
+        requires least { 2 ≤ entries }
+        requires most { entries ≤ 1024 }
+        ensures { result ≡ record { q = q; entries = entries; sq = sq; cq = cq; ring = fresh_device_ring } }
+    {
+        DevicePair {
+            q,
+            entries,
+            sq,
+            cq,
+            head: 0,
+            bell: 0,
+            tail: 0,
+            phase: true,
+            known_head: 0,
+        }
+    }
+
+    /// Hears the tail doorbell of the submission queue.
+    ///
+    /// # Errors
+    ///
+    /// `BadBell` exactly where the value is n or more. Then nothing changed.
+    pub fn tail_bell(&mut self, value: u16) -> Result<(), BadBell>
+        ensures fits { IsOk result ↔ (value < self.old.entries) }
+        ensures heard { OnOk result (self.new ≡ record self.old { ring = hearing_tail value self.old.ring }) }
+        ensures refused { OnErr result (self.new ≡ self.old) }
+    {
+        if value >= self.entries {
+            return Err(BadBell);
+        }
+        self.bell = value;
+        Ok(())
+    }
+
+    /// Hears the head doorbell of the completion queue.
+    ///
+    /// # Errors
+    ///
+    /// `BadBell` exactly where the value lies outside the known head to the tail of the completion ring in ring order, both ends
+    /// inside. Then nothing changed.
+    pub fn head_bell(&mut self, value: u16) -> Result<(), BadBell>
+        ensures fits { IsOk result ↔ IsTrue (is_in_range self.old.entries self.old.ring.known_head self.old.ring.tail value) }
+        ensures heard { OnOk result (self.new ≡ record self.old { ring = hearing_head value self.old.ring }) }
+        ensures refused { OnErr result (self.new ≡ self.old) }
+    {
+        if !lies_between(self.entries, self.known_head, self.tail, value) {
+            return Err(BadBell);
+        }
+        self.known_head = value;
+        Ok(())
+    }
+
+    /// The submission head: the number of entries taken, modulo n.
+    pub fn head(&self) -> u16
+        ensures head { result ≡ self.now.ring.head }
+        ensures proper { IsDeviceSide self.now }
+    {
+        self.head
+    }
+
+    /// Looks at the first entry that was rung and not taken, if there is one.
+    ///
+    /// # Errors
+    ///
+    /// `SlotOut` exactly where there is one and its slot lies on a page that is out. Then nothing changed.
+    pub fn next_entry<D: Dma>(&self, dma: &mut D) -> Result<Option<SubEntry>, SlotOut>
+        requires room { length (D.reached dma.old) ≤ 2 }
+        ensures front { IfOk result (λ entry. entry ≡ front (rung (D.memory dma.old) self.now)) }
+        ensures rung { IfOk result (λ entry. IsSome entry ↔ (self.now.ring.head ≢ self.now.ring.bell)) }
+        ensures out { IsErr result ↔ ((self.now.ring.head ≢ self.now.ring.bell) × (submission_slot (D.memory dma.old) self.now.sq self.now.ring.head ≡ None)) }
+        ensures touched { IfOk result (λ entry. IsSome entry → D.reached dma.new ≡ D.reached dma.old ++ submission_page self.now.sq self.now.ring.head ∷ []) }
+        ensures untouched { IfOk result (λ entry. IsNone entry → D.reached dma.new ≡ D.reached dma.old) }
+        ensures refused { OnErr result (D.reached dma.new ≡ D.reached dma.old) }
+        ensures memory { D.memory dma.new ≡ D.memory dma.old }
+        ensures pool { D.page_count dma.new ≡ D.page_count dma.old }
+    {
+        if self.head == self.bell {
+            return Ok(None);
+        }
+        let mut bytes = [0; 64];
+        match dma.read(submission_address(self.sq, self.head), &mut bytes) {
+            Ok(()) => {}
+            Err(_) => return Err(SlotOut),
+        }
+        Ok(Some(SubEntry::read(&bytes)))
+    }
+
+    /// Takes the first entry that was rung.
+    pub fn take(&mut self)
+        requires { self.old.ring.head ≢ self.old.ring.bell }
+        ensures taken { self.new ≡ record self.old { ring = entry_taken self.old.entries self.old.ring } }
+        ensures rung { (m : Memory) → rung m self.old ≡ entry_at m self.old.sq self.old.ring.head ∷ rung m self.new }
+        ensures unfetched { (m : Memory) (host : HostSide) → IsPair host self.old → IsHostSide host → self.old.ring.head ≢ host.ring.tail
+            → unfetched m host self.old ≡ entry_at m self.old.sq self.old.ring.head ∷ unfetched m host self.new }
+    {
+        self.head = slot_after(self.entries, self.head);
+    }
+
+    /// Puts a completion, with its phase bit set to the phase of this pass, into the slot at the tail.
+    ///
+    /// # Errors
+    ///
+    /// 1. `Full` exactly where n - 1 slots lie from the known head to the tail. 2. `SlotOut` exactly where the slot lies on a page
+    /// that is out. Then nothing changed.
+    pub fn post<D: Dma>(&mut self, dma: &mut D, completion: ComEntry) -> Result<(), PostFault>
+        requires fits { FitsCompletion completion }
+        requires room { length (D.reached dma.old) ≤ 2 }
+        ensures full { (result ≡ Err PostFault.Full) ↔ IsTrue (is_full self.old.entries self.old.ring.known_head self.old.ring.tail) }
+        ensures out { (result ≡ Err PostFault.SlotOut) ↔ (IsFalse (is_full self.old.entries self.old.ring.known_head self.old.ring.tail) × (completion_slot (D.memory dma.old) self.old.cq self.old.ring.tail ≡ None)) }
+        ensures tail { OnOk result (self.new ≡ record self.old { ring = answer_posted self.old.entries self.old.ring }) }
+        ensures written { OnOk result (D.memory dma.new ≡ written (D.memory dma.old) (completion_place self.old.cq self.old.ring.tail) (completion_bytes (phased self.old.ring.phase completion))) }
+        ensures touched { OnOk result (D.reached dma.new ≡ D.reached dma.old ++ completion_page self.old.cq self.old.ring.tail ∷ []) }
+        ensures appended { OnOk result ((host : HostSide) → IsPair host self.old → IsHostSide host → IsFalse (is_full host.entries host.ring.head self.old.ring.tail)
+            → answers (D.memory dma.new) host self.new ≡ answers (D.memory dma.old) host self.old ++ Some (phased self.old.ring.phase completion) ∷ []) }
+        ensures phases { OnOk result (HasPhases (D.memory dma.old) self.old → HasPhases (D.memory dma.new) self.new) }
+        ensures tied { OnOk result ((host : HostSide) → IsPair host self.old → IsHostSide host → IsFalse (is_full host.entries host.ring.head self.old.ring.tail) → AreTied host self.old → AreTied host self.new) }
+        ensures refused { OnErr result ((self.new ≡ self.old) × (D.memory dma.new ≡ D.memory dma.old) × (D.reached dma.new ≡ D.reached dma.old)) }
+        ensures pool { D.page_count dma.new ≡ D.page_count dma.old }
+    {
+        let tail = slot_after(self.entries, self.tail);
+        if tail == self.known_head {
+            return Err(PostFault::Full);
+        }
+        let bytes = completion_image(ComEntry {
+            phase: self.phase,
+            ..completion
+        });
+        match dma.write(completion_address(self.cq, self.tail), &bytes) {
+            Ok(()) => {}
+            Err(_) => return Err(PostFault::SlotOut),
+        }
+        self.phase = phase_after(self.entries, self.tail, self.phase);
+        self.tail = tail;
+        Ok(())
+    }
+}
