@@ -1,0 +1,140 @@
+-- Where nothing was forged: what the host knows of a queue fits what the controller has of it.
+use Rattle.std.proofs.Common.{◌≡◌, ℕ, zero, suc, ◌+◌, ◌<◌, ◌==◌, Bool, true, false, Option, Some, None, List, [], ◌∷◌, length, find, slice_get, is_some, if◌then◌else◌, refl, ap, sym, ◌∙◌, arith, subst}
+use Rattle.std.specs.Option.{option_map_or}
+use Rattle.std.proofs.lemmas.Bool.{true≢false, and_parts}
+use Rattle.machine_model.proofs.Managed.{absent}
+use Rattle.admin_commands.specs.Verdicts.{is_absent}
+use Rattle.machine_model.specs.State.{State, HostQueue, HostState, Live, Deleting, Retired, Gone, DeviceQueue, Job}
+use Rattle.machine_model.specs.Refusals.{job_at, is_gone}
+use Rattle.machine_model.specs.After.{change}
+use Rattle.machine_model.specs.Opening.{half_pages}
+use Rattle.machine_model.proofs.Touching.{IsLinked, completion_there}
+use Rattle.machine_model.proofs.Counting.{one}
+use Rattle.machine_model.proofs.Totals.{total}
+use Rattle.machine_model.proofs.Placed.{gone_at, is_job}
+
+abbrev pub is_past : HostState → Bool
+is_past Live = false
+is_past (Deleting noted) = false
+is_past Retired = true
+is_past Gone = true
+
+abbrev pub is_over : HostState → Bool
+is_over Live = false
+is_over (Deleting noted) = noted
+is_over Retired = true
+is_over Gone = true
+
+pub record PairOk (n : ℕ) (h : HostQueue) (d : DeviceQueue) : Type 0 where
+  -- the halves are whole until they are freed
+  pub sub : is_past h.state ≡ false → length h.sq_pages ≡ half_pages 64 n
+  pub comp : is_gone h.state ≡ false → length h.cq_pages ≡ half_pages 16 n
+  -- what the host holds for deleted is deleted
+  pub over : is_over h.state ≡ true → is_absent d.state ≡ true
+  pub gone : is_gone h.state ≡ true → d.cq_there ≡ false
+  -- a submission queue has its completion queue
+  pub half : is_absent d.state ≡ false → d.cq_there ≡ true
+
+abbrev pub Paired : ℕ → List HostQueue → List DeviceQueue → Type 0
+Paired n [] [] = Unit {0}
+Paired n [] (d ∷ ds) = ⊥
+Paired n (h ∷ hs) [] = ⊥
+Paired n (h ∷ hs) (d ∷ ds) = PairOk n h d × Paired n hs ds
+
+pub paired_host : (n k : ℕ) (f : HostQueue → HostQueue) (hs : List HostQueue) (ds : List DeviceQueue)
+    → ((h : HostQueue) (d : DeviceQueue) → slice_get hs k ≡ Some h → slice_get ds k ≡ Some d → PairOk n h d → PairOk n (f h) d) → Paired n hs ds → Paired n (change k f hs) ds
+paired_host n k f [] [] step p = p
+paired_host n k f [] (d ∷ ds) step p = absurd p
+paired_host n k f (h ∷ hs) [] step p = absurd p
+paired_host n zero f (h ∷ hs) (d ∷ ds) step p = (step h d refl refl p.0, p.1)
+paired_host n (suc k) f (h ∷ hs) (d ∷ ds) step p = (p.0, paired_host n k f hs ds step p.1)
+
+pub paired_device : (n k : ℕ) (f : DeviceQueue → DeviceQueue) (hs : List HostQueue) (ds : List DeviceQueue)
+    → ((h : HostQueue) (d : DeviceQueue) → slice_get hs k ≡ Some h → slice_get ds k ≡ Some d → PairOk n h d → PairOk n h (f d)) → Paired n hs ds → Paired n hs (change k f ds)
+paired_device n k f [] [] step p = p
+paired_device n k f [] (d ∷ ds) step p = absurd p
+paired_device n k f (h ∷ hs) [] step p = absurd p
+paired_device n zero f (h ∷ hs) (d ∷ ds) step p = (step h d refl refl p.0, p.1)
+paired_device n (suc k) f (h ∷ hs) (d ∷ ds) step p = (p.0, paired_device n k f hs ds step p.1)
+
+-- a queue of the controller stands at the host
+paired_at : (n k : ℕ) (hs : List HostQueue) (ds : List DeviceQueue) (d : DeviceQueue) → slice_get ds k ≡ Some d → Paired n hs ds → (h : HostQueue) × (slice_get hs k ≡ Some h) × PairOk n h d
+paired_at n k [] [] d e p = absurd cc
+paired_at n k [] (x ∷ ds) d e p = absurd p
+paired_at n k (h ∷ hs) [] d e p = absurd p
+paired_at n zero (h ∷ hs) (x ∷ ds) d e p = let same : x ≡ d = cc in (h, refl, subst (λ (y : DeviceQueue). PairOk n h y) same p.0)
+paired_at n (suc k) (h ∷ hs) (x ∷ ds) d e p = paired_at n k hs ds d e p.1
+
+abbrev pub on_queue : ℕ → Job → ℕ
+on_queue q j = one (j.q == q)
+
+-- with whether each job's queue is there, what a touch needs
+pub record Tied (s : State) : Type 0 where
+  pub some_entries : 0 < s.entries
+  pub pairs : Paired s.entries s.host.queues s.device.queues
+  pub jobs : (q : ℕ) → 0 < total (on_queue q) s.device.jobs → gone_at s.device.queues q ≡ false
+
+found_counts : (q cid : ℕ) (js : List Job) (j : Job) → find (is_job q cid) js ≡ Some j → 0 < total (on_queue q) js
+found_counts q cid [] j e = absurd cc
+found_counts q cid (x ∷ js) j e = go (is_job q cid x) refl e (found_counts q cid js j)
+  where
+    go : (b : Bool) → is_job q cid x ≡ b → (if b then Some x else find (is_job q cid) js) ≡ Some j → (find (is_job q cid) js ≡ Some j → 0 < total (on_queue q) js) → 0 < on_queue q x + total (on_queue q) js
+    go true t e ih = omega (arith, ap one (and_parts (x.q == q) (x.entry.cid == cid) t).0)
+    go false t e ih = omega (arith, ih e)
+
+there_queue : (s : State) (q : ℕ) → absent s q ≡ false → (d : DeviceQueue) × (slice_get s.device.queues q ≡ Some d) × (is_absent d.state ≡ false)
+there_queue s q h = go (slice_get s.device.queues q) refl h
+  where
+    go : (o : Option DeviceQueue) → slice_get s.device.queues q ≡ o → option_map_or (λ at. is_absent at.state) o true ≡ false → (d : DeviceQueue) × (slice_get s.device.queues q ≡ Some d) × (is_absent d.state ≡ false)
+    go None e h = absurd (true≢false h)
+    go (Some d) e h = (d, e, h)
+
+past_over : (st : HostState) → (is_over st ≡ true → ⊥) → is_past st ≡ false
+past_over Live far = refl
+past_over (Deleting noted) far = refl
+past_over Retired far = absurd (far refl)
+past_over Gone far = absurd (far refl)
+
+gone_case : (st : HostState) → (is_gone st ≡ true → ⊥) → is_gone st ≡ false
+gone_case Live far = refl
+gone_case (Deleting noted) far = refl
+gone_case Retired far = refl
+gone_case Gone far = absurd (far refl)
+
+completion_queue : (s : State) (q : ℕ) → completion_there s q ≡ true → (d : DeviceQueue) × (slice_get s.device.queues q ≡ Some d) × (d.cq_there ≡ true)
+completion_queue s q h = go (slice_get s.device.queues q) refl h
+  where
+    go : (o : Option DeviceQueue) → slice_get s.device.queues q ≡ o → option_map_or (λ at. at.cq_there) o false ≡ true → (d : DeviceQueue) × (slice_get s.device.queues q ≡ Some d) × (d.cq_there ≡ true)
+    go None e h = absurd (true≢false (sym h))
+    go (Some d) e h = (d, e, h)
+
+pub linked_from_tied : (s : State) → Tied s → IsLinked s
+linked_from_tied s tied = record {
+  entries = tied.some_entries;
+  submission_whole = λ q queue e there.
+      let d = there_queue s q there in
+      let p = paired_at s.entries q s.host.queues s.device.queues d.0 d.1 tied.pairs in
+      let same : p.0 ≡ queue = cc (p.1, e) in
+      subst (λ (h : HostQueue). length h.sq_pages ≡ half_pages 64 s.entries) same (p.2.sub (past_over p.0.state (λ o. true≢false (sym (p.2.over o) ∙ d.2))));
+  completion_whole = λ q queue e there.
+      let d = completion_queue s q there in
+      let p = paired_at s.entries q s.host.queues s.device.queues d.0 d.1 tied.pairs in
+      let same : p.0 ≡ queue = cc (p.1, e) in
+      subst (λ (h : HostQueue). length h.cq_pages ≡ half_pages 16 s.entries) same (p.2.comp (gone_case p.0.state (λ o. true≢false (sym d.2 ∙ p.2.gone o))));
+  known = λ q there.
+      let d = there_queue s q there in
+      let p = paired_at s.entries q s.host.queues s.device.queues d.0 d.1 tied.pairs in
+      ap is_some p.1;
+  completion_stays = λ q there.
+      let d = there_queue s q there in
+      let p = paired_at s.entries q s.host.queues s.device.queues d.0 d.1 tied.pairs in
+      ap (λ o. option_map_or (λ (at : DeviceQueue). at.cq_there) o false) d.1 ∙ p.2.half d.2;
+  jobs_have_queues = λ q cid is. job_queue q cid is;
+}
+  where
+    job_queue : (q cid : ℕ) → is_some (job_at s q cid) ≡ true → absent s q ≡ false
+    job_queue q cid h = go (job_at s q cid) refl h
+      where
+        go : (o : Option Job) → job_at s q cid ≡ o → is_some o ≡ true → absent s q ≡ false
+        go None e h = absurd (true≢false (sym h))
+        go (Some j) e h = tied.jobs q (found_counts q cid s.device.jobs j e)

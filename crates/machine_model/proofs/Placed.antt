@@ -1,0 +1,364 @@
+-- Where nothing was forged: each admin command's entry is in one place, and says what its record says.
+use Rattle.std.proofs.Common.{◌≡◌, ℕ, ◌+◌, ◌%◌, ◌<◌, ◌≤◌, ◌==◌, Bool, true, false, not, ◌&&◌, Some, List, [], ◌∷◌, ◌++◌, map, filter, find, slice_get, if◌then◌else◌, refl, ap, sym, ◌∙◌, arith, subst, eqb-true, eq-eqb}
+use Rattle.std.specs.Option.{option_map_or}
+use Rattle.std.specs.List.{AllByRecursion}
+use Rattle.std.proofs.lemmas.Bool.{true≢false, and_parts}
+use Rattle.admin_commands.specs.Verdicts.{is_absent}
+use Rattle.admin_commands.specs.Entries.{admin_entry}
+use Rattle.entry_codec.specs.declared.submission.SubEntry.{SubEntry}
+use Rattle.admin_commands.specs.declared.AdminKind.TheVariants.{Abort, DeleteSq, DeleteCq}
+use Rattle.admin_commands.specs.declared.AdminKind.{AdminKind}
+use Rattle.entry_codec.specs.declared.status.TheConstants.Status.{SUCCESS}
+use Rattle.entry_codec.specs.declared.status.Status.{Status}
+use Rattle.machine_model.specs.Status.{same_status}
+use Rattle.machine_model.specs.Commands.{Management}
+use Rattle.machine_model.specs.State.{Record, DeviceQueue, Job, Answer, is_at, without_record}
+use Rattle.machine_model.proofs.Counting.{one}
+use Rattle.machine_model.proofs.Totals.{total, total-append, total_without, total-filter, here}
+
+abbrev pub gone_at : List DeviceQueue → ℕ → Bool
+gone_at ds q = option_map_or (λ at. is_absent at.state) (slice_get ds q) true
+
+abbrev pub there_at : List DeviceQueue → ℕ → Bool
+there_at ds q = option_map_or (λ at. at.cq_there) (slice_get ds q) false
+
+abbrev pub Knows : List Record → ℕ → AdminKind → Type 0
+Knows rs c adm = (r : Record) × (find (is_at 0 c) rs ≡ Some r) × (r.work ≡ Management adm)
+
+-- what a success means for the controller's queues
+abbrev pub Settled : List DeviceQueue → AdminKind → Type 0
+Settled ds (Abort q cid) = Unit {0}
+Settled ds (DeleteSq q) = gone_at ds (q % 65536) ≡ true
+Settled ds (DeleteCq q) = there_at ds (q % 65536) ≡ false
+
+-- what is so from the fetch on
+abbrev pub Promised : List DeviceQueue → AdminKind → Type 0
+Promised ds (Abort q cid) = Unit {0}
+Promised ds (DeleteSq q) = (q % 65536 == 0) ≡ false
+Promised ds (DeleteCq q) = there_at ds (q % 65536) ≡ false
+
+abbrev pub EntryKnown : List Record → SubEntry → Type 0
+EntryKnown rs e = (adm : AdminKind) × Knows rs e.cid adm × (e ≡ admin_entry adm e.cid)
+
+abbrev pub JobKnown : List Record → List DeviceQueue → Job → Type 0
+JobKnown rs ds j = (j.q ≡ 0) → (adm : AdminKind) × Knows rs j.entry.cid adm × (j.entry ≡ admin_entry adm j.entry.cid) × ((st : Status) → j.verdict ≡ Some st → same_status st SUCCESS ≡ true → Promised ds adm)
+
+abbrev pub AnswerKnown : List Record → List DeviceQueue → Answer → Type 0
+AnswerKnown rs ds an = (adm : AdminKind) × Knows rs an.cid adm × (same_status an.status SUCCESS ≡ true → Settled ds adm)
+
+abbrev pub entry_is : ℕ → SubEntry → ℕ
+entry_is c e = one (e.cid == c)
+
+abbrev pub job_is : ℕ → Job → ℕ
+job_is c j = one ((j.q == 0) && (j.entry.cid == c))
+
+abbrev pub answer_is : ℕ → Answer → ℕ
+answer_is c an = one (an.cid == c)
+
+pub record Placed (rs : List Record) (un : List SubEntry) (js : List Job) (ans : List Answer) (ds : List DeviceQueue) : Type 0 where
+  pub places : (c : ℕ) → total (entry_is c) un + (total (job_is c) js + total (answer_is c) ans) ≤ total (here 0 c) rs
+  pub entries : AllByRecursion (EntryKnown rs) un
+  pub jobs : AllByRecursion (JobKnown rs ds) js
+  pub answers : AllByRecursion (AnswerKnown rs ds) ans
+
+all-map : {A : Type 0} (P Q : A → Type 0) → ((x : A) → P x → Q x) → (xs : List A) → AllByRecursion P xs → AllByRecursion Q xs
+all-map P Q f [] all = tt
+all-map P Q f (x ∷ xs) all = (f x all.0, all-map P Q f xs all.1)
+
+all-more : {A : Type 0} (P : A → Type 0) (xs : List A) (x : A) → AllByRecursion P xs → P x → AllByRecursion P (xs ++ x ∷ [])
+all-more P [] x all h = (h, tt)
+all-more P (y ∷ xs) x all h = (all.0, all-more P xs x all.1 h)
+
+-- records change, and what is known of admin commands stays
+pub Tells : List Record → List Record → Type 0
+Tells rs rs' = (c : ℕ) (adm : AdminKind) → Knows rs c adm → Knows rs' c adm
+
+pub placed_records : (rs rs' : List Record) (un : List SubEntry) (js : List Job) (ans : List Answer) (ds : List DeviceQueue)
+    → ((c : ℕ) → total (here 0 c) rs ≤ total (here 0 c) rs') → ((c : ℕ) (adm : AdminKind) → Knows rs c adm → Knows rs' c adm)
+    → Placed rs un js ans ds → Placed rs' un js ans ds
+placed_records rs rs' un js ans ds more tells h = record {
+  places = λ c. omega (arith, h.places c, more c);
+  entries = all-map (EntryKnown rs) (EntryKnown rs') (λ e k. (k.0, tells e.cid k.0 k.1, k.2)) un h.entries;
+  jobs = all-map (JobKnown rs ds) (JobKnown rs' ds) (λ j k z. let w = k z in (w.0, tells j.entry.cid w.0 w.1, w.2, w.3)) js h.jobs;
+  answers = all-map (AnswerKnown rs ds) (AnswerKnown rs' ds) (λ an k. (k.0, tells an.cid k.0 k.1, k.2)) ans h.answers;
+}
+
+-- the controller's queues lose, and never win
+pub record Loses (ds ds' : List DeviceQueue) : Type 0 where
+  pub gone : (q : ℕ) → gone_at ds q ≡ true → gone_at ds' q ≡ true
+  pub away : (q : ℕ) → there_at ds q ≡ false → there_at ds' q ≡ false
+
+pub settled_still : (ds ds' : List DeviceQueue) → Loses ds ds' → (adm : AdminKind) → Settled ds adm → Settled ds' adm
+settled_still ds ds' l (Abort q cid) h = tt
+settled_still ds ds' l (DeleteSq q) h = l.gone (q % 65536) h
+settled_still ds ds' l (DeleteCq q) h = l.away (q % 65536) h
+
+promised_still : (ds ds' : List DeviceQueue) → Loses ds ds' → (adm : AdminKind) → Promised ds adm → Promised ds' adm
+promised_still ds ds' l (Abort q cid) h = tt
+promised_still ds ds' l (DeleteSq q) h = h
+promised_still ds ds' l (DeleteCq q) h = l.away (q % 65536) h
+
+pub placed_queues : (rs : List Record) (un : List SubEntry) (js : List Job) (ans : List Answer) (ds ds' : List DeviceQueue)
+    → Loses ds ds' → Placed rs un js ans ds → Placed rs un js ans ds'
+placed_queues rs un js ans ds ds' l h = record {
+  places = h.places;
+  entries = h.entries;
+  jobs = all-map (JobKnown rs ds) (JobKnown rs ds') (λ j k z. let w = k z in (w.0, w.1, w.2, λ st v ok. promised_still ds ds' l w.0 (w.3 st v ok))) js h.jobs;
+  answers = all-map (AnswerKnown rs ds) (AnswerKnown rs ds') (λ an k. (k.0, k.1, λ ok. settled_still ds ds' l k.0 (k.2 ok))) ans h.answers;
+}
+
+-- jobs change without coming nearer to a success
+pub record MildJob (f : Job → Job) : Type 0 where
+  pub q : (j : Job) → (f j).q ≡ j.q
+  pub entry : (j : Job) → (f j).entry ≡ j.entry
+  pub verdict : (j : Job) (st : Status) → j.q ≡ 0 → (f j).verdict ≡ Some st → same_status st SUCCESS ≡ true → j.verdict ≡ Some st
+
+jobs-map : (rs : List Record) (ds : List DeviceQueue) (f : Job → Job) → MildJob f → (js : List Job) → AllByRecursion (JobKnown rs ds) js → AllByRecursion (JobKnown rs ds) (map f js)
+jobs-map rs ds f mild [] all = tt
+jobs-map rs ds f mild (j ∷ js) all = (
+  λ z. let z' : j.q ≡ 0 = sym (mild.q j) ∙ z in let w = all.0 z' in
+      (w.0, rw (mild.entry j) w.1, rw (mild.entry j) w.2, λ st v ok. w.3 st (mild.verdict j st z' v ok) ok),
+  jobs-map rs ds f mild js all.1,
+)
+
+total_jobs-map : (c : ℕ) (f : Job → Job) → MildJob f → (js : List Job) → total (job_is c) (map f js) ≡ total (job_is c) js
+total_jobs-map c f mild [] = refl
+total_jobs-map c f mild (j ∷ js) =
+    let first : job_is c (f j) ≡ job_is c j = rw (mild.q j, mild.entry j) refl in
+    omega (arith, first, total_jobs-map c f mild js)
+
+pub placed_jobs : (rs : List Record) (un : List SubEntry) (js : List Job) (ans : List Answer) (ds : List DeviceQueue) (f : Job → Job)
+    → MildJob f → Placed rs un js ans ds → Placed rs un (map f js) ans ds
+placed_jobs rs un js ans ds f mild h = record {
+  places = λ c. omega (arith, h.places c, total_jobs-map c f mild js);
+  entries = h.entries;
+  jobs = jobs-map rs ds f mild js h.jobs;
+  answers = h.answers;
+}
+
+-- What is known as records change
+
+pub find_more : (test : Record → Bool) (rs : List Record) (new r : Record) → find test rs ≡ Some r → find test (rs ++ new ∷ []) ≡ Some r
+find_more test [] new r e = absurd cc
+find_more test (x ∷ rs) new r e = go (test x) e (find_more test rs new r)
+  where
+    go : (b : Bool) → (if b then Some x else find test rs) ≡ Some r → (find test rs ≡ Some r → find test (rs ++ new ∷ []) ≡ Some r) → (if b then Some x else find test (rs ++ new ∷ [])) ≡ Some r
+    go true e ih = e
+    go false e ih = ih e
+
+find_new : (test : Record → Bool) (rs : List Record) (new : Record) → total (λ r. one (test r)) rs ≡ 0 → test new ≡ true → find test (rs ++ new ∷ []) ≡ Some new
+find_new test [] new none e = rw e refl
+find_new test (x ∷ rs) new none e = go (test x) none (find_new test rs new)
+  where
+    go : (b : Bool) → one b + total (λ r. one (test r)) rs ≡ 0 → (total (λ r. one (test r)) rs ≡ 0 → test new ≡ true → find test (rs ++ new ∷ []) ≡ Some new)
+        → (if b then Some x else find test (rs ++ new ∷ [])) ≡ Some new
+    go true none ih = absurd (omega arith)
+    go false none ih = ih (omega arith) e
+
+pub find_map : (test : Record → Bool) (f : Record → Record) → ((r : Record) → test (f r) ≡ test r) → (rs : List Record) (r : Record) → find test rs ≡ Some r → find test (map f rs) ≡ Some (f r)
+find_map test f same [] r e = absurd cc
+find_map test f same (x ∷ rs) r e = rw (same x) (go (test x) e (find_map test f same rs r))
+  where
+    go : (b : Bool) → (if b then Some x else find test rs) ≡ Some r → (find test rs ≡ Some r → find test (map f rs) ≡ Some (f r)) → (if b then Some (f x) else find test (map f rs)) ≡ Some (f r)
+    go true e ih = let x≡r : x ≡ r = cc in ap (λ y. Some (f y)) x≡r
+    go false e ih = ih e
+
+-- a filter that keeps each record that passes
+pub find_filter : (test keep : Record → Bool) → ((r : Record) → test r ≡ true → keep r ≡ true) → (rs : List Record) (r : Record) → find test rs ≡ Some r → find test (filter keep rs) ≡ Some r
+find_filter test keep all [] r e = absurd cc
+find_filter test keep all (x ∷ rs) r e = go (test x) (keep x) refl refl e (find_filter test keep all rs r)
+  where
+    go : (b k : Bool) → test x ≡ b → keep x ≡ k → (if b then Some x else find test rs) ≡ Some r → (find test rs ≡ Some r → find test (filter keep rs) ≡ Some r)
+        → find test (if k then x ∷ filter keep rs else filter keep rs) ≡ Some r
+    go true true eb ek e ih = rw eb e
+    go true false eb ek e ih = absurd (true≢false (sym (all x eb) ∙ ek))
+    go false true eb ek e ih = rw eb (ih e)
+    go false false eb ek e ih = ih e
+
+-- Sending an admin command
+
+pub placed_sent : (rs : List Record) (un : List SubEntry) (js : List Job) (ans : List Answer) (ds : List DeviceQueue) (adm : AdminKind) (id : ℕ) (new : Record)
+    → total (here 0 id) rs ≡ 0 → is_at 0 id new ≡ true → new.work ≡ Management adm
+    → Placed rs un js ans ds → Placed (rs ++ new ∷ []) (un ++ admin_entry adm id ∷ []) js ans ds
+placed_sent rs un js ans ds adm id new none at work h =
+    let wide : Placed (rs ++ new ∷ []) un js ans ds = placed_records rs (rs ++ new ∷ []) un js ans ds (λ c. omega (arith, total-append (here 0 c) rs (new ∷ [])))
+    (λ c a k. (k.0, find_more (is_at 0 c) rs new k.0 k.1, k.2)) h in
+    record {
+      places = λ c. more c (id == c) refl (total-append (here 0 c) rs (new ∷ [])) (total-append (entry_is c) un (admin_entry adm id ∷ []));
+      entries = all-more (EntryKnown (rs ++ new ∷ [])) un (admin_entry adm id) wide.entries (adm, (new, find_new (is_at 0 id) rs new none at, work), refl);
+      jobs = wide.jobs;
+      answers = wide.answers;
+    }
+  where
+    both : (new.q ≡ 0) × (new.cid ≡ id)
+    both = let p = and_parts (new.q == 0) (new.cid == id) at in (eqb-true new.q 0 p.0, eqb-true new.cid id p.1)
+
+    more : (c : ℕ) (b : Bool) → (id == c) ≡ b
+        → total (here 0 c) (rs ++ new ∷ []) ≡ total (here 0 c) rs + (here 0 c new + 0)
+        → total (entry_is c) (un ++ admin_entry adm id ∷ []) ≡ total (entry_is c) un + (one (id == c) + 0)
+        → total (entry_is c) (un ++ admin_entry adm id ∷ []) + (total (job_is c) js + total (answer_is c) ans) ≤ total (here 0 c) (rs ++ new ∷ [])
+    more c true e r u =
+        let same : id ≡ c = eqb-true id c e in
+        let h' : here 0 c new ≡ 1 = subst (λ (k : ℕ). one (is_at 0 k new) ≡ 1) same (ap one at) in
+        omega (arith, r, u, h.places c, ap one e, h')
+    more c false e r u = omega (arith, r, u, h.places c, ap one e)
+
+-- Fetching one
+
+pub placed_decided : (rs : List Record) (e : SubEntry) (un : List SubEntry) (js : List Job) (ans : List Answer) (ds ds' : List DeviceQueue) (j : Job) (st : Status)
+    → j.q ≡ 0 → j.entry ≡ e → j.verdict ≡ Some st → Loses ds ds'
+    → ((adm : AdminKind) → e ≡ admin_entry adm e.cid → same_status st SUCCESS ≡ true → Promised ds' adm)
+    → Placed rs (e ∷ un) js ans ds → Placed rs un (js ++ j ∷ []) ans ds'
+placed_decided rs e un js ans ds ds' j st jq je jv loses promise h =
+    let wide : Placed rs (e ∷ un) js ans ds' = placed_queues rs (e ∷ un) js ans ds ds' loses h in
+    let k = wide.entries.0 in
+    record {
+      places = λ c.
+          let one_job : job_is c j ≡ entry_is c e = rw (jq, je) refl in
+          omega (arith, h.places c, total-append (job_is c) js (j ∷ []), one_job);
+      entries = wide.entries.1;
+      jobs = all-more (JobKnown rs ds') js j wide.jobs
+          (λ z. (k.0, rw je k.1, rw je k.2, λ st' v ok. let same : st ≡ st' = cc (jv, v) in promise k.0 k.2 (rw same ok)));
+      answers = wide.answers;
+    }
+
+-- an entry that is answered at once, without success
+pub placed_conflict : (rs : List Record) (e : SubEntry) (un : List SubEntry) (js : List Job) (ans : List Answer) (ds : List DeviceQueue) (an : Answer)
+    → an.cid ≡ e.cid → same_status an.status SUCCESS ≡ false
+    → Placed rs (e ∷ un) js ans ds → Placed rs un js (ans ++ an ∷ []) ds
+placed_conflict rs e un js ans ds an same bad h = record {
+  places = λ c.
+      let one' : answer_is c an ≡ entry_is c e = rw same refl in
+      omega (arith, h.places c, total-append (answer_is c) ans (an ∷ []), one');
+  entries = h.entries.1;
+  jobs = h.jobs;
+  answers = all-more (AnswerKnown rs ds) ans an h.answers (h.entries.0.0, rw same h.entries.0.1, λ ok. absurd (true≢false (sym ok ∙ bad)));
+}
+
+-- Reaping one
+
+others : {A : Type 0} (w : A → ℕ) (id : A → ℕ) (c : ℕ) → ((x : A) → w x ≡ one (id x == c)) → (xs : List A) → total w xs ≡ 0 → AllByRecursion (λ x. id x ≡ c → ⊥) xs
+others w id c same [] none = tt
+others w id c same (x ∷ xs) none =
+    (λ e. let w1 : w x ≡ 1 = same x ∙ ap one (eq-eqb (id x) c e) in absurd (omega arith), others w id c same xs (omega arith))
+
+all-both : {A : Type 0} (P Q R : A → Type 0) → ((x : A) → P x → Q x → R x) → (xs : List A) → AllByRecursion P xs → AllByRecursion Q xs → AllByRecursion R xs
+all-both P Q R f [] p q = tt
+all-both P Q R f (x ∷ xs) p q = (f x p.0 q.0, all-both P Q R f xs p.1 q.1)
+
+pub find_sound : {A : Type 0} (test : A → Bool) (xs : List A) (x : A) → find test xs ≡ Some x → test x ≡ true
+find_sound test [] x e = absurd cc
+find_sound test (y ∷ xs) x e = go (test y) refl e (find_sound test xs x)
+  where
+    go : (b : Bool) → test y ≡ b → (if b then Some y else find test xs) ≡ Some x → (find test xs ≡ Some x → test x ≡ true) → test x ≡ true
+    go true t e ih = let same : y ≡ x = cc in ap test (sym same) ∙ t
+    go false t e ih = ih e
+
+pub find_all : {A : Type 0} (P : A → Type 0) (test : A → Bool) (xs : List A) (x : A) → find test xs ≡ Some x → AllByRecursion P xs → P x
+find_all P test [] x e all = absurd cc
+find_all P test (y ∷ xs) x e all = go (test y) e (λ d. find_all P test xs x d all.1)
+  where
+    go : (b : Bool) → (if b then Some y else find test xs) ≡ Some x → (find test xs ≡ Some x → P x) → P x
+    go true e ih = let same : y ≡ x = cc in subst P same all.0
+    go false e ih = ih e
+
+all-filter : {A : Type 0} (P : A → Type 0) (keep : A → Bool) (xs : List A) → AllByRecursion P xs → AllByRecursion P (filter keep xs)
+all-filter P keep [] all = tt
+all-filter P keep (x ∷ xs) all = go (keep x) (all-filter P keep xs all.1)
+  where
+    go : (b : Bool) → AllByRecursion P (filter keep xs) → AllByRecursion P (if b then x ∷ filter keep xs else filter keep xs)
+    go true rest = (all.0, rest)
+    go false rest = rest
+
+jobs_others : (c : ℕ) (js : List Job) → total (job_is c) js ≡ 0 → AllByRecursion (λ j. j.q ≡ 0 → j.entry.cid ≡ c → ⊥) js
+jobs_others c [] none = tt
+jobs_others c (j ∷ js) none =
+    (λ z e. let w : job_is c j ≡ 1 = rw (eq-eqb j.q 0 z, eq-eqb j.entry.cid c e) refl in absurd (omega arith), jobs_others c js (omega arith))
+
+pub placed_reaped : (rs : List Record) (un : List SubEntry) (js : List Job) (an : Answer) (ans : List Answer) (ds : List DeviceQueue)
+    → total (here 0 an.cid) rs < 2 → Placed rs un js (an ∷ ans) ds → Placed (without_record 0 an.cid rs) un js ans ds
+placed_reaped rs un js an ans ds once h =
+    let knows = h.answers.0.1 in
+    let r = knows.0 in
+    let at = and_parts (r.q == 0) (r.cid == an.cid) (find_sound (is_at 0 an.cid) rs r knows.1) in
+    let rq : r.q ≡ 0 = eqb-true r.q 0 at.0 in
+    let rc : r.cid ≡ an.cid = eqb-true r.cid an.cid at.1 in
+    let mine : (c : ℕ) → here 0 c r ≡ answer_is c an = λ c. rw (rq, rc) refl in
+    let own : answer_is an.cid an ≡ 1 = ap one (eq-eqb an.cid an.cid refl) in
+    let few = h.places an.cid in
+    let no_entry = others (entry_is an.cid) (λ (e : SubEntry). e.cid) an.cid (λ e. refl) un (omega arith) in
+    let no_job = jobs_others an.cid js (omega arith) in
+    let no_answer = others (answer_is an.cid) (λ (a : Answer). a.cid) an.cid (λ a. refl) ans (omega arith) in
+    record {
+      places = λ c. omega (arith, h.places c, total_without (here 0 c) 0 an.cid rs r knows.1 once, mine c);
+      entries = all-both (EntryKnown rs) (λ e. e.cid ≡ an.cid → ⊥) (EntryKnown (without_record 0 an.cid rs)) (λ e k far. (k.0, still e.cid k.0 far k.1, k.2)) un h.entries no_entry;
+      jobs = all-both (JobKnown rs ds) (λ j. j.q ≡ 0 → j.entry.cid ≡ an.cid → ⊥) (JobKnown (without_record 0 an.cid rs) ds)
+          (λ j k far z. let w = k z in (w.0, still j.entry.cid w.0 (far z) w.1, w.2, w.3)) js h.jobs no_job;
+      answers = all-both (AnswerKnown rs ds) (λ a. a.cid ≡ an.cid → ⊥) (AnswerKnown (without_record 0 an.cid rs) ds) (λ a k far. (k.0, still a.cid k.0 far k.1, k.2)) ans h.answers.1 no_answer;
+    }
+  where
+    still : (c : ℕ) (adm : AdminKind) → (c ≡ an.cid → ⊥) → Knows rs c adm → Knows (without_record 0 an.cid rs) c adm
+    still c adm far k = (k.0, find_filter (is_at 0 c) (λ r. not (is_at 0 an.cid r)) (λ r t. keeps r t (is_at 0 an.cid r) refl) rs k.0 k.1, k.2)
+      where
+        keeps : (r : Record) → is_at 0 c r ≡ true → (b : Bool) → is_at 0 an.cid r ≡ b → not b ≡ true
+        keeps r t true e =
+            let a1 = and_parts (r.q == 0) (r.cid == c) t in
+            let a2 = and_parts (r.q == 0) (r.cid == an.cid) e in
+            absurd (far (sym (eqb-true r.cid c a1.1) ∙ eqb-true r.cid an.cid a2.1))
+        keeps r t false e = refl
+
+-- Completing one
+
+total_gone : {A : Type 0} (w : A → ℕ) (test : A → Bool) (xs : List A) (x : A) → find test xs ≡ Some x → total w (filter (λ y. not (test y)) xs) + w x ≤ total w xs
+total_gone w test [] x e = absurd cc
+total_gone w test (y ∷ xs) x e = go (test y) e (total_gone w test xs x)
+  where
+    go : (b : Bool) → (if b then Some y else find test xs) ≡ Some x → (find test xs ≡ Some x → total w (filter (λ y. not (test y)) xs) + w x ≤ total w xs)
+        → total w (if not b then y ∷ filter (λ y. not (test y)) xs else filter (λ y. not (test y)) xs) + w x ≤ w y + total w xs
+    go true e ih =
+        let same : y ≡ x = cc in
+        omega (arith, ap w same, total-filter w (λ y. not (test y)) xs)
+    go false e ih = omega (arith, ih e)
+
+abbrev pub is_job : ℕ → ℕ → Job → Bool
+is_job q cid j = (j.q == q) && (j.entry.cid == cid)
+
+pub placed_completed : (rs : List Record) (un : List SubEntry) (js : List Job) (ans : List Answer) (ds ds' : List DeviceQueue) (cid : ℕ) (j : Job) (an : Answer)
+    → find (is_job 0 cid) js ≡ Some j → an.cid ≡ cid → Loses ds ds'
+    → ((adm : AdminKind) → j.entry ≡ admin_entry adm j.entry.cid → same_status an.status SUCCESS ≡ true → ((st : Status) → j.verdict ≡ Some st → same_status st SUCCESS ≡ true → Promised ds adm) → Settled ds' adm)
+    → Placed rs un js ans ds → Placed rs un (filter (λ k. not (is_job 0 cid k)) js) (ans ++ an ∷ []) ds'
+placed_completed rs un js ans ds ds' cid j an found same loses settle h =
+    let at = and_parts (j.q == 0) (j.entry.cid == cid) (find_sound (is_job 0 cid) js j found) in
+    let jq : j.q ≡ 0 = eqb-true j.q 0 at.0 in
+    let jc : j.entry.cid ≡ cid = eqb-true j.entry.cid cid at.1 in
+    let k = find_all (JobKnown rs ds) (is_job 0 cid) js j found h.jobs jq in
+    let wide : Placed rs un js ans ds' = placed_queues rs un js ans ds ds' loses h in
+    let ac : an.cid ≡ j.entry.cid = same ∙ sym jc in
+    record {
+      places = λ c.
+          let mine : job_is c j ≡ answer_is c an = rw (jq, jc, same) refl in
+          omega (arith, h.places c, total_gone (job_is c) (is_job 0 cid) js j found, mine, total-append (answer_is c) ans (an ∷ []));
+      entries = wide.entries;
+      jobs = all-filter (JobKnown rs ds') (λ k'. not (is_job 0 cid k')) js wide.jobs;
+      answers = all-more (AnswerKnown rs ds') ans an wide.answers (k.0, rw ac k.1, λ ok. settle k.0 k.2 ok k.3);
+    }
+
+-- Jobs of other queues
+
+pub placed_job_more : (rs : List Record) (un : List SubEntry) (js : List Job) (ans : List Answer) (ds : List DeviceQueue) (j : Job) → (j.q == 0) ≡ false
+    → Placed rs un js ans ds → Placed rs un (js ++ j ∷ []) ans ds
+placed_job_more rs un js ans ds j other h = record {
+  places = λ c. let none : job_is c j ≡ 0 = rw other refl in omega (arith, h.places c, total-append (job_is c) js (j ∷ []), none);
+  entries = h.entries;
+  jobs = all-more (JobKnown rs ds) js j h.jobs (λ z. absurd (true≢false (sym (eq-eqb j.q 0 z) ∙ other)));
+  answers = h.answers;
+}
+
+pub placed_job_less : (rs : List Record) (un : List SubEntry) (js : List Job) (ans : List Answer) (ds : List DeviceQueue) (keep : Job → Bool)
+    → Placed rs un js ans ds → Placed rs un (filter keep js) ans ds
+placed_job_less rs un js ans ds keep h = record {
+  places = λ c. omega (arith, h.places c, total-filter (job_is c) keep js);
+  entries = h.entries;
+  jobs = all-filter (JobKnown rs ds) keep js h.jobs;
+  answers = h.answers;
+}

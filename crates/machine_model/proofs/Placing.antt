@@ -1,0 +1,496 @@
+-- Each event keeps where admin commands stand.
+use Rattle.std.proofs.Common.{◌≡◌, ℕ, zero, suc, ◌+◌, ◌-◌, ◌==◌, nat_lt, Bool, true, false, not, ◌&&◌, Option, Some, None, List, [], ◌∷◌, ◌++◌, length, map, drop, slice_get, is_some, is_none, option_and_then, if◌then◌else◌, refl, ap, sym, ◌∙◌, arith, subst, eqb-true, eq-eqb}
+use Rattle.std.specs.Option.{option_map_or}
+use Rattle.std.proofs.lemmas.Bool.{true≢false, ne_eqb, and_parts}
+use Rattle.controller_walk.specs.Units.{Act, Stays, Reads, Moves}
+use Rattle.machine_model.proofs.Managed.{managed_by_case}
+use Rattle.sgl_descriptor.specs.declared.Direction.TheVariants.{Destination, Source}
+use Rattle.sgl_descriptor.specs.declared.Direction.{Direction}
+use Rattle.entry_codec.specs.Completion.{completion_bytes}
+use Rattle.entry_codec.specs.Submission.{submission_bytes}
+use Rattle.admin_commands.specs.declared.SqState.TheVariants.{Absent, Live as Running, Stopping}
+use Rattle.admin_commands.specs.declared.SqState.{SqState}
+use Rattle.admin_commands.specs.Verdicts.{is_absent, is_live as is_running}
+use Rattle.admin_commands.specs.Entries.{admin_entry, named_queue, named_command}
+use Rattle.entry_codec.specs.declared.submission.SubEntry.{SubEntry}
+use Rattle.admin_commands.specs.declared.AdminKind.TheVariants.{Abort, DeleteSq, DeleteCq}
+use Rattle.admin_commands.specs.declared.AdminKind.{AdminKind}
+use Rattle.page_memory.specs.Pages.{with_page_bytes, with_bytes}
+use Rattle.entry_codec.specs.declared.status.TheConstants.Status.{SUCCESS, COMMAND_ID_CONFLICT, ABORT_REQUESTED, ABORTED_SQ_DELETION, INVALID_QUEUE_IDENTIFIER, INVALID_QUEUE_DELETION, COMPARE_FAILURE, INVALID_OPCODE, INVALID_FIELD}
+use Rattle.entry_codec.specs.declared.status.Status.{Status}
+use Rattle.machine_model.specs.Status.{same_status}
+use Rattle.machine_model.specs.Memory.{is_in}
+use Rattle.machine_model.specs.State.{State, Device, Record, HostQueue, DeviceQueue, Job, Answer}
+use Rattle.machine_model.specs.Refusals.{host_queue, device_queue, next_rung, job_at, conflicts, slot_page, slot_offset, post_slot, fetch_slot, same_list}
+use Rattle.machine_model.specs.After as a
+use Rattle.machine_model.specs.Refusals as refusals
+use Rattle.machine_model.specs.Refusals.{refusal_of, answers_full, post_page}
+use Rattle.machine_model.specs.Events as events
+use Rattle.machine_model.specs.Events.{Refusal}
+use Rattle.machine_model.proofs.Refused.{first_fails, rest_fails}
+use Rattle.machine_model.specs.After.{change}
+use Rattle.machine_model.proofs.Placed.{JobKnown, Knows, find_all, find_sound, Placed, Loses, MildJob, Promised, Settled, gone_at, there_at, is_job, placed_queues, placed_jobs, placed_decided, placed_conflict, placed_completed, placed_job_more, placed_job_less}
+
+abbrev pub waiting : List DeviceQueue → List SubEntry
+waiting ds = option_map_or (λ at. at.unfetched) (slice_get ds 0) []
+
+abbrev pub answering : List DeviceQueue → List Answer
+answering ds = option_map_or (λ at. at.answers) (slice_get ds 0) []
+
+pub record PlacedIn (rs : List Record) (d : Device) : Type 0 where
+  pub placed : Placed rs (waiting d.queues) d.jobs (answering d.queues) d.queues
+
+-- One of the controller's queues changed
+
+pub loses_change : (f : DeviceQueue → DeviceQueue) → ((at : DeviceQueue) → is_absent at.state ≡ true → is_absent (f at).state ≡ true) → ((at : DeviceQueue) → at.cq_there ≡ false → (f at).cq_there ≡ false)
+    → (k : ℕ) (ds : List DeviceQueue) → Loses ds (change k f ds)
+loses_change f gone away k ds = record { gone = gone_on k ds; away = away_on k ds }
+  where
+    gone_on : (k : ℕ) (ds : List DeviceQueue) (q : ℕ) → gone_at ds q ≡ true → gone_at (change k f ds) q ≡ true
+    gone_on k [] q h = h
+    gone_on zero (at ∷ ds) zero h = gone at h
+    gone_on zero (at ∷ ds) (suc q) h = h
+    gone_on (suc k) (at ∷ ds) zero h = h
+    gone_on (suc k) (at ∷ ds) (suc q) h = gone_on k ds q h
+
+    away_on : (k : ℕ) (ds : List DeviceQueue) (q : ℕ) → there_at ds q ≡ false → there_at (change k f ds) q ≡ false
+    away_on k [] q h = h
+    away_on zero (at ∷ ds) zero h = away at h
+    away_on zero (at ∷ ds) (suc q) h = h
+    away_on (suc k) (at ∷ ds) zero h = h
+    away_on (suc k) (at ∷ ds) (suc q) h = away_on k ds q h
+
+pub waiting_same : (f : DeviceQueue → DeviceQueue) → ((at : DeviceQueue) → (f at).unfetched ≡ at.unfetched) → (k : ℕ) (ds : List DeviceQueue) → waiting (change k f ds) ≡ waiting ds
+waiting_same f same k [] = refl
+waiting_same f same zero (at ∷ ds) = same at
+waiting_same f same (suc k) (at ∷ ds) = refl
+
+pub answering_same : (f : DeviceQueue → DeviceQueue) → ((at : DeviceQueue) → (f at).answers ≡ at.answers) → (k : ℕ) (ds : List DeviceQueue) → answering (change k f ds) ≡ answering ds
+answering_same f same k [] = refl
+answering_same f same zero (at ∷ ds) = same at
+answering_same f same (suc k) (at ∷ ds) = refl
+
+waiting_other : (f : DeviceQueue → DeviceQueue) (k : ℕ) (ds : List DeviceQueue) → (k == 0) ≡ false → waiting (change k f ds) ≡ waiting ds
+waiting_other f zero ds e = absurd (true≢false e)
+waiting_other f (suc k) [] e = refl
+waiting_other f (suc k) (at ∷ ds) e = refl
+
+answering_other : (f : DeviceQueue → DeviceQueue) (k : ℕ) (ds : List DeviceQueue) → (k == 0) ≡ false → answering (change k f ds) ≡ answering ds
+answering_other f zero ds e = absurd (true≢false e)
+answering_other f (suc k) [] e = refl
+answering_other f (suc k) (at ∷ ds) e = refl
+
+-- what it leaves where the entries and the answers of queue 0 stay
+pub placed_change : (rs : List Record) (d : Device) (k : ℕ) (f : DeviceQueue → DeviceQueue)
+    → waiting (change k f d.queues) ≡ waiting d.queues → answering (change k f d.queues) ≡ answering d.queues → Loses d.queues (change k f d.queues)
+    → PlacedIn rs d → PlacedIn rs (record d { queues = change k f d.queues })
+placed_change rs d k f w an loses h = record {
+  placed = rw (w, an) (placed_queues rs (waiting d.queues) d.jobs (answering d.queues) d.queues (change k f d.queues) loses h.placed);
+}
+
+abbrev same_state : (DeviceQueue → DeviceQueue) → Type 0
+same_state f = ((at : DeviceQueue) → (f at).state ≡ at.state) × ((at : DeviceQueue) → (f at).cq_there ≡ at.cq_there)
+
+pub loses_same : (f : DeviceQueue → DeviceQueue) → same_state f → (k : ℕ) (ds : List DeviceQueue) → Loses ds (change k f ds)
+loses_same f same k ds = loses_change f (λ at h. ap is_absent (same.0 at) ∙ h) (λ at h. same.1 at ∙ h) k ds
+
+-- a queue other than 0, whose state stays
+pub placed_other : (rs : List Record) (d : Device) (k : ℕ) (f : DeviceQueue → DeviceQueue) → (k == 0) ≡ false → same_state f
+    → PlacedIn rs d → PlacedIn rs (record d { queues = change k f d.queues })
+placed_other rs d k f other same h =
+    placed_change rs d k f (waiting_other f k d.queues other) (answering_other f k d.queues other) (loses_same f same k d.queues) h
+
+-- Where memory alone differs
+
+pub device-answered : (q cid : ℕ) (st : Status) (dw0 : ℕ) (s : State)
+    → (a.answered q cid st dw0 s).device ≡ record s.device { queues = change q (λ at. record at { answers = at.answers ++ record { cid = cid; status = st; dw0 = dw0; sq_head = fetch_slot s q } ∷ [] }) s.device.queues }
+device-answered q cid st dw0 s =
+    ap (λ (d : Device). record d { queues = change q (λ at. record at { answers = at.answers ++ record { cid = cid; status = st; dw0 = dw0; sq_head = fetch_slot s q } ∷ [] }) d.queues }) (go (host_queue s q) (device_queue s q))
+  where
+    go : (o : Option HostQueue) (p : Option DeviceQueue)
+        → (option_map_or (λ queue. option_map_or (λ at. a.on_memory (λ m. with_page_bytes m (slot_page queue.cq_pages 16 (post_slot s q)) (slot_offset 16 (post_slot s q))
+        (completion_bytes (record { dw0 = dw0; sqhd = fetch_slot s q; sqid = q; cid = cid; phase = a.post_phase s queue (length at.answers); status = st }))) s) p s) o s).device ≡ s.device
+    go None p = refl
+    go (Some queue) None = refl
+    go (Some queue) (Some at) = refl
+
+pub device-posted : (q : ℕ) (entry : SubEntry) (s : State)
+    → (a.posted q entry s).device ≡ record s.device { queues = change q (λ at. record at { unfetched = at.unfetched ++ entry ∷ [] }) s.device.queues }
+device-posted q entry s =
+    ap (λ (d : Device). record d { queues = change q (λ at. record at { unfetched = at.unfetched ++ entry ∷ [] }) d.queues }) (go (host_queue s q))
+  where
+    go : (o : Option HostQueue) → (option_map_or (λ queue. a.on_memory (λ m. with_page_bytes m (slot_page queue.sq_pages 64 queue.ring.tail) (slot_offset 64 queue.ring.tail) (submission_bytes entry)) s) o s).device ≡ s.device
+    go None = refl
+    go (Some queue) = refl
+
+-- The entry that is fetched from queue 0
+
+taken_entry : (ds : List DeviceQueue) (e : SubEntry) → option_and_then (λ queue. if is_running queue.state && nat_lt 0 queue.rung then slice_get queue.unfetched 0 else None) (slice_get ds 0) ≡ Some e
+    → waiting ds ≡ e ∷ waiting (change 0 (λ at. record at { unfetched = drop 1 at.unfetched; rung = at.rung - 1 }) ds)
+taken_entry [] e h = absurd cc
+taken_entry (at ∷ ds) e h = go (is_running at.state && nat_lt 0 at.rung) at.unfetched h
+  where
+    go : (b : Bool) (un : List SubEntry) → (if b then slice_get un 0 else None) ≡ Some e → un ≡ e ∷ drop 1 un
+    go false un h = absurd cc
+    go true [] h = absurd cc
+    go true (x ∷ un) h = let same : x ≡ e = cc in ap (λ y. y ∷ un) same
+
+-- Fetching
+
+pub placed-option : {A : Type 0} (rs : List Record) (f : A → State) (o : Option A) (s : State) → PlacedIn rs s.device → ((x : A) → o ≡ Some x → PlacedIn rs (f x).device) → PlacedIn rs (option_map_or f o s).device
+placed-option rs f None s h each = h
+placed-option rs f (Some x) s h each = each x refl
+
+placed-or : {A : Type 0} (rs : List Record) (f : A → State) (o : Option A) (d : State) → ((x : A) → o ≡ Some x → PlacedIn rs (f x).device) → (o ≡ None → PlacedIn rs d.device) → PlacedIn rs (option_map_or f o d).device
+placed-or rs f None d each e = e refl
+placed-or rs f (Some x) d each e = each x refl
+
+placed-if : (rs : List Record) (b : Bool) (t u : State) → (b ≡ true → PlacedIn rs t.device) → (b ≡ false → PlacedIn rs u.device) → PlacedIn rs (if b then t else u).device
+placed-if rs true t u ht hu = ht refl
+placed-if rs false t u ht hu = hu refl
+
+-- with an entry still in hand
+abbrev Holding : List Record → SubEntry → Device → Type 0
+Holding rs e d = Placed rs (e ∷ waiting d.queues) d.jobs (answering d.queues) d.queues
+
+decide : (rs : List Record) (e : SubEntry) (st : Status) (dw0 : ℕ) (s : State)
+    → ((adm : AdminKind) → e ≡ admin_entry adm e.cid → same_status st SUCCESS ≡ true → Promised s.device.queues adm)
+    → Holding rs e s.device → PlacedIn rs (a.decided e st dw0 s).device
+decide rs e st dw0 s promise h = record {
+  placed = placed_decided rs e (waiting s.device.queues) s.device.jobs (answering s.device.queues) s.device.queues s.device.queues
+      (a.new_job 0 e (Some st) dw0 []) st refl refl refl (record { gone = λ q g. g; away = λ q t. t }) promise h;
+}
+
+wrong_opcode : (e : SubEntry) (adm : AdminKind) (n : ℕ) (b : Bool) → e ≡ admin_entry adm e.cid → (e.opcode == n) ≡ b → ((admin_entry adm e.cid).opcode == n) ≡ b
+wrong_opcode e adm n b same h = ap (λ (x : SubEntry). x.opcode == n) (sym same) ∙ h
+
+aborts_mild : (q cid id : ℕ) → MildJob (λ j. if (j.q == q) && (j.entry.cid == cid) then record j { verdict = Some ABORT_REQUESTED; waiting_abort = Some id } else j)
+aborts_mild q cid id = record {
+  q = λ j. (elim ((j.q == q) && (j.entry.cid == cid)) as (λ b. (if b then record j { verdict = Some ABORT_REQUESTED; waiting_abort = Some id } else j).q ≡ j.q) [ true ↦ refl | false ↦ refl ]);
+  entry = λ j. (elim ((j.q == q) && (j.entry.cid == cid)) as (λ b. (if b then record j { verdict = Some ABORT_REQUESTED; waiting_abort = Some id } else j).entry ≡ j.entry) [ true ↦ refl | false ↦ refl ]);
+  verdict = λ j st z. (elim ((j.q == q) && (j.entry.cid == cid)) as (λ b. (if b then record j { verdict = Some ABORT_REQUESTED; waiting_abort = Some id } else j).verdict ≡ Some st → same_status st SUCCESS ≡ true → j.verdict ≡ Some st)
+      [ true ↦ λ v ok. not_success st v ok | false ↦ λ v ok. v ]);
+}
+  where
+    not_success : {P : Type 0} (st : Status) → Some ABORT_REQUESTED ≡ Some st → same_status st SUCCESS ≡ true → P
+    not_success st v ok = let same : st ≡ ABORT_REQUESTED = cc in absurd (true≢false (sym ok ∙ ap (λ x. same_status x SUCCESS) same))
+
+stops_mild : (q : ℕ) → MildJob (a.stopped q)
+stops_mild q = record {
+  q = λ j. (elim ((j.q == q) && is_none j.verdict) as (λ b. (if b then record j { verdict = Some ABORTED_SQ_DELETION } else j).q ≡ j.q) [ true ↦ refl | false ↦ refl ]);
+  entry = λ j. (elim ((j.q == q) && is_none j.verdict) as (λ b. (if b then record j { verdict = Some ABORTED_SQ_DELETION } else j).entry ≡ j.entry) [ true ↦ refl | false ↦ refl ]);
+  verdict = λ j st z. (elim ((j.q == q) && is_none j.verdict) as (λ b. (if b then record j { verdict = Some ABORTED_SQ_DELETION } else j).verdict ≡ Some st → same_status st SUCCESS ≡ true → j.verdict ≡ Some st)
+      [ true ↦ λ v ok. not_success st v ok | false ↦ λ v ok. v ]);
+}
+  where
+    not_success : {P : Type 0} (st : Status) → Some ABORTED_SQ_DELETION ≡ Some st → same_status st SUCCESS ≡ true → P
+    not_success st v ok = let same : st ≡ ABORTED_SQ_DELETION = cc in absurd (true≢false (sym ok ∙ ap (λ x. same_status x SUCCESS) same))
+
+loses_stop : (k : ℕ) (ds : List DeviceQueue) → gone_at ds k ≡ false → Loses ds (change k (λ at. record at { state = Stopping }) ds)
+loses_stop k ds there = record { gone = gone_on k ds there; away = away_on k ds }
+  where
+    gone_on : (k : ℕ) (ds : List DeviceQueue) → gone_at ds k ≡ false → (q : ℕ) → gone_at ds q ≡ true → gone_at (change k (λ at. record at { state = Stopping }) ds) q ≡ true
+    gone_on k [] t q h = h
+    gone_on zero (at ∷ ds) t zero h = absurd (true≢false (sym h ∙ t))
+    gone_on zero (at ∷ ds) t (suc q) h = h
+    gone_on (suc k) (at ∷ ds) t zero h = h
+    gone_on (suc k) (at ∷ ds) t (suc q) h = gone_on k ds t q h
+
+    away_on : (k : ℕ) (ds : List DeviceQueue) (q : ℕ) → there_at ds q ≡ false → there_at (change k (λ at. record at { state = Stopping }) ds) q ≡ false
+    away_on k [] q h = h
+    away_on zero (at ∷ ds) zero h = h
+    away_on zero (at ∷ ds) (suc q) h = h
+    away_on (suc k) (at ∷ ds) zero h = h
+    away_on (suc k) (at ∷ ds) (suc q) h = away_on k ds q h
+
+there_dropped : (k : ℕ) (ds : List DeviceQueue) → there_at (change k (λ at. record at { cq_there = false }) ds) k ≡ false
+there_dropped k [] = refl
+there_dropped zero (at ∷ ds) = refl
+there_dropped (suc k) (at ∷ ds) = there_dropped k ds
+
+pub runs_there : (s : State) (q : ℕ) → is_running (a.sq_state s q) ≡ true → gone_at s.device.queues q ≡ false
+runs_there s q h = go (device_queue s q) h
+  where
+    state : (st : SqState) → is_running st ≡ true → is_absent st ≡ false
+    state Absent h = absurd (true≢false (sym h))
+    state Running h = refl
+    state Stopping h = refl
+
+    go : (o : Option DeviceQueue) → is_running (option_map_or (λ at. at.state) o Absent) ≡ true → option_map_or (λ at. is_absent at.state) o true ≡ false
+    go None h = absurd (true≢false (sym h))
+    go (Some at) h = state at.state h
+
+placed_managed : (rs : List Record) (e : SubEntry) (s : State) → Holding rs e s.device → PlacedIn rs (a.managed e s).device
+placed_managed rs e s h =
+    managed_by_case (λ (t : State). PlacedIn rs t.device) e s
+    (decide rs e INVALID_OPCODE 0 s (λ adm same ok. absurd (true≢false (sym ok))) h)
+    (decide rs e INVALID_FIELD 0 s (λ adm same ok. absurd (true≢false (sym ok))) h)
+    (λ is8. decide rs e SUCCESS 0 (a.on_job (named_queue e) (named_command e) (λ j. record j { verdict = Some ABORT_REQUESTED; waiting_abort = Some e.cid }) s) (no_promise is8 s.device.queues)
+    (placed_jobs rs (e ∷ waiting s.device.queues) s.device.jobs (answering s.device.queues) s.device.queues _ (aborts_mild (named_queue e) (named_command e) e.cid) h))
+    (λ is8. decide rs e SUCCESS 1 s (no_promise is8 s.device.queues) h)
+    (decide rs e INVALID_QUEUE_IDENTIFIER 0 s (λ adm same ok. absurd (true≢false (sym ok))) h)
+    stopping
+    (decide rs e INVALID_QUEUE_DELETION 0 s (λ adm same ok. absurd (true≢false (sym ok))) h)
+    dropping
+  where
+    no_promise : (e.opcode == 8) ≡ true → (ds : List DeviceQueue) (adm : AdminKind) → e ≡ admin_entry adm e.cid → same_status SUCCESS SUCCESS ≡ true → Promised ds adm
+    no_promise is8 ds (Abort q cid) same ok = tt
+    no_promise is8 ds (DeleteSq q) same ok = absurd (true≢false (sym (wrong_opcode e (DeleteSq q) 8 true same is8)))
+    no_promise is8 ds (DeleteCq q) same ok = absurd (true≢false (sym (wrong_opcode e (DeleteCq q) 8 true same is8)))
+
+    stopping : (e.opcode == 0) ≡ true → (named_queue e == 0) ≡ false → is_running (a.sq_state s (named_queue e)) ≡ true
+        → PlacedIn rs (a.decided e SUCCESS 0 (a.on_device (λ d. record d { jobs = map (a.stopped (named_queue e)) d.jobs }) (a.on_device_queue (named_queue e) (λ at. record at { state = Stopping }) s))).device
+    stopping is0 q0 runs =
+        let stop : DeviceQueue → DeviceQueue = λ at. record at { state = Stopping } in
+        let s1 = a.on_device (λ d. record d { jobs = map (a.stopped (named_queue e)) d.jobs }) (a.on_device_queue (named_queue e) (λ at. record at { state = Stopping }) s) in
+        let there = runs_there s (named_queue e) runs in
+        let queues = placed_queues rs (e ∷ waiting s.device.queues) s.device.jobs (answering s.device.queues) s.device.queues (change (named_queue e) stop s.device.queues) (loses_stop (named_queue e) s.device.queues there) h in
+        let jobs = placed_jobs rs (e ∷ waiting s.device.queues) s.device.jobs (answering s.device.queues) (change (named_queue e) stop s.device.queues) (a.stopped (named_queue e)) (stops_mild (named_queue e)) queues in
+        decide rs e SUCCESS 0 s1 (promise q0 (change (named_queue e) stop s.device.queues))
+        (rw (waiting_same stop (λ at. refl) (named_queue e) s.device.queues, answering_same stop (λ at. refl) (named_queue e) s.device.queues) jobs)
+      where
+        promise : (named_queue e == 0) ≡ false → (ds : List DeviceQueue) (adm : AdminKind) → e ≡ admin_entry adm e.cid → same_status SUCCESS SUCCESS ≡ true → Promised ds adm
+        promise n ds (Abort q cid) same ok = absurd (true≢false (sym (wrong_opcode e (Abort q cid) 0 true same is0)))
+        promise n ds (DeleteSq q) same ok = ap (λ (x : SubEntry). named_queue x == 0) (sym same) ∙ n
+        promise n ds (DeleteCq q) same ok = absurd (true≢false (sym (wrong_opcode e (DeleteCq q) 0 true same is0)))
+
+    dropping : (e.opcode == 8) ≡ false → (e.opcode == 0) ≡ false → is_absent (a.sq_state s (named_queue e)) ≡ true
+        → PlacedIn rs (a.decided e SUCCESS 0 (a.on_device_queue (named_queue e) (λ at. record at { cq_there = false }) s)).device
+    dropping not8 not0 gone =
+        let lose : DeviceQueue → DeviceQueue = λ at. record at { cq_there = false } in
+        let queues = placed_queues rs (e ∷ waiting s.device.queues) s.device.jobs (answering s.device.queues) s.device.queues (change (named_queue e) lose s.device.queues)
+        (loses_change lose (λ at g. g) (λ at t. refl) (named_queue e) s.device.queues) h in
+        decide rs e SUCCESS 0 (a.on_device_queue (named_queue e) (λ at. record at { cq_there = false }) s) promise
+        (rw (waiting_same lose (λ at. refl) (named_queue e) s.device.queues, answering_same lose (λ at. refl) (named_queue e) s.device.queues) queues)
+      where
+        promise : (adm : AdminKind) → e ≡ admin_entry adm e.cid → same_status SUCCESS SUCCESS ≡ true → Promised (change (named_queue e) (λ at. record at { cq_there = false }) s.device.queues) adm
+        promise (Abort q cid) same ok = tt
+        promise (DeleteSq q) same ok = absurd (true≢false (wrong_opcode e (DeleteSq q) 0 false same not0))
+        promise (DeleteCq q) same ok =
+            subst (λ (k : ℕ). there_at (change (named_queue e) (λ at. record at { cq_there = false }) s.device.queues) k ≡ false) (ap named_queue same) (there_dropped (named_queue e) s.device.queues)
+
+pub ne_zero : (k : ℕ) → (suc k == 0) ≡ false
+ne_zero k = ne_eqb (suc k) 0 (λ e. absurd (omega arith))
+
+placed_answered_other : (rs : List Record) (q cid : ℕ) (st : Status) (dw0 : ℕ) (s : State) → (q == 0) ≡ false → PlacedIn rs s.device → PlacedIn rs (a.answered q cid st dw0 s).device
+placed_answered_other rs q cid st dw0 s other h =
+    subst (PlacedIn rs) (sym (device-answered q cid st dw0 s))
+    (placed_other rs s.device q (λ at. record at { answers = at.answers ++ record { cid = cid; status = st; dw0 = dw0; sq_head = fetch_slot s q } ∷ [] }) other ((λ at. refl), (λ at. refl)) h)
+
+-- an answer more of queue 0, which is there
+answering_more : (ds : List DeviceQueue) (an : Answer) → is_some (slice_get ds 0) ≡ true → answering (change 0 (λ at. record at { answers = at.answers ++ an ∷ [] }) ds) ≡ answering ds ++ an ∷ []
+answering_more [] an h = absurd (true≢false (sym h))
+answering_more (at ∷ ds) an h = refl
+
+some_zero : (ds : List DeviceQueue) (e : SubEntry) → option_and_then (λ queue. if is_running queue.state && nat_lt 0 queue.rung then slice_get queue.unfetched 0 else None) (slice_get ds 0) ≡ Some e → is_some (slice_get ds 0) ≡ true
+some_zero [] e h = absurd cc
+some_zero (at ∷ ds) e h = refl
+
+some_still : (f : DeviceQueue → DeviceQueue) (k : ℕ) (ds : List DeviceQueue) → is_some (slice_get ds 0) ≡ true → is_some (slice_get (change k f ds) 0) ≡ true
+some_still f k [] h = h
+some_still f zero (at ∷ ds) h = refl
+some_still f (suc k) (at ∷ ds) h = refl
+
+pub placed_fetch : (rs : List Record) (q : ℕ) (s : State) → PlacedIn rs s.device → PlacedIn rs (a.after_fetch q s).device
+placed_fetch rs zero s h =
+    placed-option rs
+    (λ e. if conflicts s 0 then a.answered 0 e.cid COMMAND_ID_CONFLICT 0 (a.taken_off 0 s) else if 0 == 0 then a.managed e (a.taken_off 0 s) else a.begun 0 e (a.taken_off 0 s))
+    (next_rung s 0) s h
+    (λ e next.
+    let off : DeviceQueue → DeviceQueue = λ at. record at { unfetched = drop 1 at.unfetched; rung = at.rung - 1 } in
+    let ds1 = change 0 off s.device.queues in
+    let queues = placed_queues rs (waiting s.device.queues) s.device.jobs (answering s.device.queues) s.device.queues ds1 (loses_same off ((λ at. refl), (λ at. refl)) 0 s.device.queues) h.placed in
+    let inhand : Placed rs (e ∷ waiting ds1) s.device.jobs (answering ds1) ds1 =
+    rw (answering_same off (λ at. refl) 0 s.device.queues) (subst (λ un. Placed rs un s.device.jobs (answering s.device.queues) ds1) (taken_entry s.device.queues e next) queues) in
+    placed-if rs (conflicts s 0) (a.answered 0 e.cid COMMAND_ID_CONFLICT 0 (a.taken_off 0 s)) (a.managed e (a.taken_off 0 s))
+    (λ c.
+    let an : Answer = record { cid = e.cid; status = COMMAND_ID_CONFLICT; dw0 = 0; sq_head = fetch_slot (a.taken_off 0 s) 0 } in
+    let more : DeviceQueue → DeviceQueue = λ at. record at { answers = at.answers ++ an ∷ [] } in
+    let there = some_still off 0 s.device.queues (some_zero s.device.queues e next) in
+    let done = placed_queues rs (waiting ds1) s.device.jobs (answering ds1 ++ an ∷ []) ds1 (change 0 more ds1) (loses_same more ((λ at. refl), (λ at. refl)) 0 ds1)
+    (placed_conflict rs e (waiting ds1) s.device.jobs (answering ds1) ds1 an refl refl inhand) in
+    subst (PlacedIn rs) (sym (device-answered 0 e.cid COMMAND_ID_CONFLICT 0 (a.taken_off 0 s)))
+    (record { placed = rw (waiting_same more (λ at. refl) 0 ds1, answering_more ds1 an there) done }))
+    (λ c. placed_managed rs e (a.taken_off 0 s) inhand))
+placed_fetch rs (suc k) s h =
+    placed-option rs
+    (λ e. if conflicts s (suc k) then a.answered (suc k) e.cid COMMAND_ID_CONFLICT 0 (a.taken_off (suc k) s) else if suc k == 0 then a.managed e (a.taken_off 0 s) else a.begun (suc k) e (a.taken_off (suc k) s))
+    (next_rung s (suc k)) s h
+    (λ e next.
+    let base : PlacedIn rs (a.taken_off (suc k) s).device = placed_other rs s.device (suc k) (λ at. record at { unfetched = drop 1 at.unfetched; rung = at.rung - 1 }) (ne_zero k) ((λ at. refl), (λ at. refl)) h in
+    placed-if rs (conflicts s (suc k)) (a.answered (suc k) e.cid COMMAND_ID_CONFLICT 0 (a.taken_off (suc k) s)) (if suc k == 0 then a.managed e (a.taken_off 0 s) else a.begun (suc k) e (a.taken_off (suc k) s))
+    (λ c. placed_answered_other rs (suc k) e.cid COMMAND_ID_CONFLICT 0 (a.taken_off (suc k) s) (ne_zero k) base)
+    (λ c. placed-if rs (suc k == 0) (a.managed e (a.taken_off 0 s)) (a.begun (suc k) e (a.taken_off (suc k) s))
+    (λ z. absurd (true≢false (sym z ∙ ne_zero k)))
+    (λ z. placed-or rs (λ fault. a.with_job (a.new_job (suc k) e (Some fault) 0 []) (a.taken_off (suc k) s)) (a.io_fault (a.taken_off (suc k) s) e) _
+    (λ fault f. record { placed = placed_job_more rs _ (a.taken_off (suc k) s).device.jobs _ (a.taken_off (suc k) s).device.queues (a.new_job (suc k) e (Some fault) 0 []) (ne_zero k) base.placed })
+    (λ f. record { placed = placed_job_more rs _ (a.taken_off (suc k) s).device.jobs _ (a.taken_off (suc k) s).device.queues (a.new_job (suc k) e None 0 (a.first_bytes (a.taken_off (suc k) s) e (a.kind_of e.opcode))) (ne_zero k) base.placed }))))
+
+-- Walking
+
+other_mild : (q cid : ℕ) (f : Job → Job) → (q == 0) ≡ false → ((j : Job) → (f j).q ≡ j.q) → ((j : Job) → (f j).entry ≡ j.entry)
+    → MildJob (λ j. if (j.q == q) && (j.entry.cid == cid) then f j else j)
+other_mild q cid f other fq fe = record {
+  q = λ j. (elim ((j.q == q) && (j.entry.cid == cid)) as (λ b. (if b then f j else j).q ≡ j.q) [ true ↦ fq j | false ↦ refl ]);
+  entry = λ j. (elim ((j.q == q) && (j.entry.cid == cid)) as (λ b. (if b then f j else j).entry ≡ j.entry) [ true ↦ fe j | false ↦ refl ]);
+  verdict = λ j st z v ok. go j st z ((j.q == q) && (j.entry.cid == cid)) refl v;
+}
+  where
+    go : (j : Job) (st : Status) → j.q ≡ 0 → (b : Bool) → ((j.q == q) && (j.entry.cid == cid)) ≡ b → (if b then f j else j).verdict ≡ Some st → j.verdict ≡ Some st
+    go j st z true e v =
+        let p = and_parts (j.q == q) (j.entry.cid == cid) e in
+        let same : j.q ≡ q = eqb-true j.q q p.0 in
+        absurd (true≢false (sym (eq-eqb q 0 (sym same ∙ z)) ∙ other))
+    go j st z false e v = v
+
+placed_on_job : (rs : List Record) (q cid : ℕ) (f : Job → Job) (s : State) → (q == 0) ≡ false → ((j : Job) → (f j).q ≡ j.q) → ((j : Job) → (f j).entry ≡ j.entry)
+    → PlacedIn rs s.device → PlacedIn rs (a.on_job q cid f s).device
+placed_on_job rs q cid f s other fq fe h = record {
+  placed = placed_jobs rs (waiting s.device.queues) s.device.jobs (answering s.device.queues) s.device.queues _ (other_mild q cid f other fq fe) h.placed;
+}
+
+placed_moved : (rs : List Record) (dir : Direction) (act : Act) (q cid : ℕ) (s : State) → (q == 0) ≡ false → PlacedIn rs s.device → PlacedIn rs (a.moved dir act q cid s).device
+placed_moved rs dir Stays q cid s other h = h
+placed_moved rs dir (Reads place) q cid s other h = h
+placed_moved rs Destination (Moves place n offset) q cid s other h = placed-option rs _ (job_at s q cid) s h (λ j e. h)
+placed_moved rs Source (Moves place n offset) q cid s other h = placed_on_job rs q cid (λ j. record j { bytes = with_bytes j.bytes offset (a.page_bytes s.memory place n) }) s other (λ j. refl) (λ j. refl) h
+
+pub placed_walk : (rs : List Record) (q cid : ℕ) (s : State) → (q == 0) ≡ false → PlacedIn rs s.device → PlacedIn rs (a.after_walk q cid s).device
+placed_walk rs q cid s other h =
+    placed-option rs
+    (λ j. option_map_or (λ act. a.on_job q cid (λ k. record k { units_done = k.units_done + 1; verdict = a.verdict_of (a.next_answer s j) }) (a.moved (a.direction_of j.entry) act q cid s)) (a.next_unit s j) s)
+    (job_at s q cid) s h
+    (λ j e. placed-option rs
+    (λ act. a.on_job q cid (λ k. record k { units_done = k.units_done + 1; verdict = a.verdict_of (a.next_answer s j) }) (a.moved (a.direction_of j.entry) act q cid s))
+    (a.next_unit s j) s h
+    (λ act e'. placed_on_job rs q cid (λ k. record k { units_done = k.units_done + 1; verdict = a.verdict_of (a.next_answer s j) }) (a.moved (a.direction_of j.entry) act q cid s) other (λ j. refl) (λ j. refl)
+    (placed_moved rs (a.direction_of j.entry) act q cid s other h)))
+
+-- Completing
+
+kill : DeviceQueue → DeviceQueue
+kill at = record at { state = Absent; unfetched = []; rung = 0 }
+
+gone_killed : (k : ℕ) (ds : List DeviceQueue) → gone_at (change k (λ at. record at { state = Absent; unfetched = []; rung = 0 }) ds) k ≡ true
+gone_killed k [] = refl
+gone_killed zero (at ∷ ds) = refl
+gone_killed (suc k) (at ∷ ds) = gone_killed k ds
+
+pub final_admin : (s : State) (j : Job) (st : Status) → j.q ≡ 0 → j.verdict ≡ Some st → a.final_status s j ≡ st
+final_admin s j st z v = rw v (go (j.entry.opcode == 5) (j.q == 0) (eq-eqb j.q 0 z))
+  where
+    go : (b c : Bool) → c ≡ true → (if b && not c && same_status st SUCCESS && not (same_list j.bytes (a.named_blocks s j.entry)) then COMPARE_FAILURE else st) ≡ st
+    go true true e = refl
+    go false true e = refl
+    go b false e = absurd (true≢false (sym e))
+
+pub verdict_there : (j : Job) → is_none j.verdict ≡ false → (st : Status) × (j.verdict ≡ Some st)
+verdict_there j h = go j.verdict h
+  where
+    go : (o : Option Status) → is_none o ≡ false → (st : Status) × (o ≡ Some st)
+    go None h = absurd (true≢false h)
+    go (Some st) h = (st, refl)
+
+answer_posted : (rs : List Record) (cid : ℕ) (st : Status) (dw0 : ℕ) (s : State) (an : Answer) → an ≡ record { cid = cid; status = st; dw0 = dw0; sq_head = fetch_slot s 0 } → is_some (slice_get s.device.queues 0) ≡ true
+    → Placed rs (waiting s.device.queues) s.device.jobs (answering s.device.queues ++ an ∷ []) s.device.queues → PlacedIn rs (a.answered 0 cid st dw0 s).device
+answer_posted rs cid st dw0 s an same there h =
+    let an' : Answer = record { cid = cid; status = st; dw0 = dw0; sq_head = fetch_slot s 0 } in
+    let more : DeviceQueue → DeviceQueue = λ at. record at { answers = at.answers ++ an' ∷ [] } in
+    let ds = s.device.queues in
+    let h' = subst (λ (x : Answer). Placed rs (waiting ds) s.device.jobs (answering ds ++ x ∷ []) ds) same h in
+    let done = placed_queues rs (waiting ds) s.device.jobs (answering ds ++ an' ∷ []) ds (change 0 more ds) (loses_same more ((λ at. refl), (λ at. refl)) 0 ds) h' in
+    subst (PlacedIn rs) (sym (device-answered 0 cid st dw0 s))
+    (record { placed = rw (waiting_same more (λ at. refl) 0 ds, answering_more ds an' there) done })
+
+complete_admin : (rs : List Record) (cid : ℕ) (s : State) (j : Job) (st : Status) → job_at s 0 cid ≡ Some j → j.q ≡ 0 → j.verdict ≡ Some st → is_some (slice_get s.device.queues 0) ≡ true
+    → PlacedIn rs s.device → (image : List ℕ)
+    → (b : Bool) → ((j.q == 0) && (j.entry.opcode == 0) && same_status st SUCCESS) ≡ b
+    → let s1 = a.on_device (λ d. record d { image = image }) (a.without_job 0 cid s) in
+    PlacedIn rs (a.answered 0 cid st j.dw0 (if b then a.on_device_queue (named_queue j.entry) (λ at. record at { state = Absent; unfetched = []; rung = 0 }) s1 else s1)).device
+complete_admin rs cid s j st found jq v there h image true c =
+    let s1 = a.on_device (λ d. record d { image = image }) (a.without_job 0 cid s) in
+    let ds = s.device.queues in
+    let dead : DeviceQueue → DeviceQueue = λ at. record at { state = Absent; unfetched = []; rung = 0 } in
+    let n = named_queue j.entry in
+    let s2 = a.on_device_queue n (λ at. record at { state = Absent; unfetched = []; rung = 0 }) s1 in
+    let an : Answer = record { cid = cid; status = st; dw0 = j.dw0; sq_head = fetch_slot s2 0 } in
+    let c1 = and_parts ((j.q == 0) && (j.entry.opcode == 0)) (same_status st SUCCESS) c in
+    let c2 = and_parts (j.q == 0) (j.entry.opcode == 0) c1.0 in
+    let known = find_all (JobKnown rs ds) (is_job 0 cid) s.device.jobs j found h.placed.jobs jq in
+    let n0 : (n == 0) ≡ false = named_other j.entry known.0 ds known.2 c2.1 (known.3 st v c1.1) in
+    let done = placed_completed rs (waiting ds) s.device.jobs (answering ds) ds (change n dead ds) cid j an found refl
+    (loses_change dead (λ at g. refl) (λ at t. t) n ds) (settle s j st known c2.1) h.placed in
+    answer_posted rs cid st j.dw0 s2 an refl (some_still dead n ds there)
+    (rw (waiting_other dead n ds n0, answering_other dead n ds n0) done)
+  where
+    named_other : (e : SubEntry) (adm : AdminKind) (ds : List DeviceQueue) → e ≡ admin_entry adm e.cid → (e.opcode == 0) ≡ true → Promised ds adm → (named_queue e == 0) ≡ false
+    named_other e (Abort q c) ds same z p = absurd (true≢false (sym (wrong_opcode e (Abort q c) 0 true same z)))
+    named_other e (DeleteSq q) ds same z p = ap (λ (x : SubEntry). named_queue x == 0) same ∙ p
+    named_other e (DeleteCq q) ds same z p = absurd (true≢false (sym (wrong_opcode e (DeleteCq q) 0 true same z)))
+
+    settle : (s : State) (j : Job) (st : Status) → (adm : AdminKind) × Knows rs j.entry.cid adm × (j.entry ≡ admin_entry adm j.entry.cid) × ((st : Status) → j.verdict ≡ Some st → same_status st SUCCESS ≡ true → Promised s.device.queues adm) → (j.entry.opcode == 0) ≡ true
+        → (adm : AdminKind) → j.entry ≡ admin_entry adm j.entry.cid → same_status st SUCCESS ≡ true → ((st : Status) → j.verdict ≡ Some st → same_status st SUCCESS ≡ true → Promised s.device.queues adm)
+        → Settled (change (named_queue j.entry) (λ at. record at { state = Absent; unfetched = []; rung = 0 }) s.device.queues) adm
+    settle s j st known z (Abort q c) same ok p = tt
+    settle s j st known z (DeleteSq q) same ok p =
+        subst (λ (k : ℕ). gone_at (change (named_queue j.entry) (λ at. record at { state = Absent; unfetched = []; rung = 0 }) s.device.queues) k ≡ true) (ap named_queue same) (gone_killed (named_queue j.entry) s.device.queues)
+    settle s j st known z (DeleteCq q) same ok p = absurd (true≢false (sym (wrong_opcode j.entry (DeleteCq q) 0 true same z)))
+complete_admin rs cid s j st found jq v there h image false c =
+    let s1 = a.on_device (λ d. record d { image = image }) (a.without_job 0 cid s) in
+    let ds = s.device.queues in
+    let an : Answer = record { cid = cid; status = st; dw0 = j.dw0; sq_head = fetch_slot s1 0 } in
+    let done = placed_completed rs (waiting ds) s.device.jobs (answering ds) ds ds cid j an found refl
+    (record { gone = λ q g. g; away = λ q t. t }) (λ adm same ok p. settle adm same ok (p st v ok)) h.placed in
+    answer_posted rs cid st j.dw0 s1 an refl there done
+  where
+    settle : (adm : AdminKind) → j.entry ≡ admin_entry adm j.entry.cid → same_status st SUCCESS ≡ true → Promised s.device.queues adm → Settled s.device.queues adm
+    settle (Abort q c') same ok p = tt
+    settle (DeleteSq q) same ok p =
+        let z : (j.entry.opcode == 0) ≡ true = ap (λ (x : SubEntry). x.opcode == 0) same in
+        let all : ((j.q == 0) && (j.entry.opcode == 0) && same_status st SUCCESS) ≡ true = rw (eq-eqb j.q 0 jq, z, ok) refl in
+        absurd (true≢false (sym all ∙ c))
+    settle (DeleteCq q) same ok p = p
+
+queue_there : (s : State) → answers_full s 0 ≡ false → is_some (slice_get s.device.queues 0) ≡ true
+queue_there s h = go (device_queue s 0) h
+  where
+    go : (o : Option DeviceQueue) → option_map_or (λ at. length at.answers == s.entries - 1) o true ≡ false → is_some o ≡ true
+    go None h = absurd (true≢false h)
+    go (Some at) h = refl
+
+abbrev pub full_or_out : State → ℕ → List (Bool × Refusal)
+full_or_out s q = (answers_full s q, events.Full) ∷ (not (is_in s.memory (post_page s q)), events.SlotOut) ∷ []
+
+abbrev pub waits_or_out : State → ℕ → ℕ → List (Bool × Refusal)
+waits_or_out s q cid = (refusals.job_is (refusals.waits s) s q cid, events.Waits) ∷ full_or_out s q
+
+pub placed_complete : (rs : List Record) (q cid : ℕ) (s : State) → refusal_of s (events.Complete q cid) ≡ None → PlacedIn rs s.device → PlacedIn rs (a.after_complete q cid s).device
+placed_complete rs zero cid s none h =
+    let walking = rest_fails (is_none (job_at s 0 cid)) events.NoJob ((refusals.job_is (λ j. is_none j.verdict) s 0 cid, events.Walking) ∷ waits_or_out s 0 cid) none in
+    let judged = first_fails (refusals.job_is (λ j. is_none j.verdict) s 0 cid) events.Walking (waits_or_out s 0 cid) walking in
+    let waits = rest_fails (refusals.job_is (λ j. is_none j.verdict) s 0 cid) events.Walking (waits_or_out s 0 cid) walking in
+    let full = rest_fails (refusals.job_is (refusals.waits s) s 0 cid) events.Waits (full_or_out s 0) waits in
+    let there = queue_there s (first_fails (answers_full s 0) events.Full ((not (is_in s.memory (post_page s 0)), events.SlotOut) ∷ []) full) in
+    placed-option rs
+    (λ j. let st = a.final_status s j in a.answered 0 cid st j.dw0 (a.deletion_done j st (a.on_device (λ d. record d { image = a.image_completed j st d.image }) (a.without_job 0 cid s))))
+    (job_at s 0 cid) s h
+    (λ j e.
+    let v = verdict_there j (rw e at judged) in
+    let at = and_parts (j.q == 0) (j.entry.cid == cid) (find_sound (is_job 0 cid) s.device.jobs j e) in
+    let jq : j.q ≡ 0 = eqb-true j.q 0 at.0 in
+    subst (λ (st : Status). PlacedIn rs (a.answered 0 cid st j.dw0 (a.deletion_done j st (a.on_device (λ d. record d { image = a.image_completed j st d.image }) (a.without_job 0 cid s)))).device) (sym (final_admin s j v.0 jq v.1))
+    (complete_admin rs cid s j v.0 e jq v.1 there h (a.image_completed j v.0 s.device.image) ((j.q == 0) && (j.entry.opcode == 0) && same_status v.0 SUCCESS) refl))
+placed_complete rs (suc k) cid s none h =
+    placed-option rs
+    (λ j. let st = a.final_status s j in a.answered (suc k) cid st j.dw0 (a.deletion_done j st (a.on_device (λ d. record d { image = a.image_completed j st d.image }) (a.without_job (suc k) cid s))))
+    (job_at s (suc k) cid) s h
+    (λ j e.
+    let st = a.final_status s j in
+    let s1 = a.on_device (λ d. record d { image = a.image_completed j st d.image }) (a.without_job (suc k) cid s) in
+    let at = and_parts (j.q == suc k) (j.entry.cid == cid) (find_sound (is_job (suc k) cid) s.device.jobs j e) in
+    let jq : (j.q == 0) ≡ false = ap (λ (n : ℕ). n == 0) (eqb-true j.q (suc k) at.0) ∙ ne_zero k in
+    placed_answered_other rs (suc k) cid st j.dw0 (a.deletion_done j st s1) (ne_zero k)
+    (undeleted j st s1 jq (record { placed = placed_job_less rs (waiting s.device.queues) s.device.jobs (answering s.device.queues) s.device.queues (λ j'. not (is_job (suc k) cid j')) h.placed })))
+  where
+    undeleted : (j : Job) (st : Status) (s1 : State) → (j.q == 0) ≡ false → PlacedIn rs s1.device → PlacedIn rs (a.deletion_done j st s1).device
+    undeleted j st s1 e h = rw e h

@@ -1,0 +1,421 @@
+-- What an accepted event leaves: the state is a function of the state before, the event and the reply, which names what was chosen.
+use Rattle.std.specs.Prelude.{ℕ, zero, suc, ◌+◌, ◌*◌, ◌-◌, ◌/◌, ◌%◌, ◌==◌, nat_lt, nat_le, Bool, true, false, ◌&&◌, ◌||◌, not, Option, Some, None, List, [], ◌∷◌, ◌++◌, length, map, filter, take, drop, replicate, is_none, slice_get, if◌then◌else◌}
+use Rattle.std.specs.Option.{option_map_or}
+use Rattle.page_ledger.specs.Owners.{is_among}
+use Rattle.controller_walk.specs.Laws.{after_units}
+use Rattle.controller_walk.specs.Walks.{answer}
+use Rattle.controller_walk.specs.Units.{Act, Stays, Reads, Moves, Course, course_of_list, units}
+use Rattle.admin_commands.specs.declared.SqState.{SqState}
+use Rattle.admin_commands.specs.declared.AdminVerdict.TheVariants.{Answer as Answered, AbortJob, StopQueue, DropCompletion}
+use Rattle.admin_commands.specs.declared.AdminVerdict.{AdminVerdict}
+use Rattle.admin_commands.specs.declared.DeviceView.{DeviceView}
+use Rattle.block_image.specs.Blocks.{blocks_at, with_blocks, block_count}
+use Rattle.controller_walk.specs.declared.walk.WalkState.TheVariants.{More, End, Fault}
+use Rattle.controller_walk.specs.declared.walk.WalkState.{WalkState}
+use Rattle.sgl_descriptor.specs.declared.Direction.TheVariants.{Destination, Source}
+use Rattle.sgl_descriptor.specs.declared.Direction.{Direction}
+use Rattle.entry_codec.specs.Completion.{completion_bytes}
+use Rattle.entry_codec.specs.Submission.{submission_bytes}
+use Rattle.admin_commands.specs.declared.SqState.TheVariants.{Absent, Stopping}
+use Rattle.admin_commands.specs.Verdicts.{decision}
+use Rattle.admin_commands.specs.Entries.{admin_entry, named_queue, named_command}
+use Rattle.io_commands.specs.Values.{numbers_of}
+use Rattle.io_commands.specs.Requests.{first_passing}
+use Rattle.admin_commands.specs.declared.AdminKind.TheVariants.{Abort, DeleteSq, DeleteCq}
+use Rattle.admin_commands.specs.declared.AdminKind.{AdminKind}
+use Rattle.entry_codec.specs.declared.completion.ComEntry.{ComEntry}
+use Rattle.entry_codec.specs.declared.submission.SubEntry.{SubEntry}
+use Rattle.io_commands.specs.declared.request.Kind.TheVariants.{Read, Write, Compare}
+use Rattle.io_commands.specs.declared.request.Kind.{Kind}
+use Rattle.page_memory.specs.Pages.{Pages, page_at, with_page_bytes, with_bytes}
+use Rattle.entry_codec.specs.declared.status.TheConstants.Status.{SUCCESS, INVALID_OPCODE, INVALID_FIELD, COMMAND_ID_CONFLICT, ABORT_REQUESTED, ABORTED_SQ_DELETION, INVALID_NAMESPACE, LBA_OUT_OF_RANGE, COMPARE_FAILURE}
+use Rattle.entry_codec.specs.declared.status.Status.{Status}
+use Rattle.machine_model.specs.Status.{same_status}
+use Rattle.machine_model.specs.Memory.{without_pages, with_pages, memory_of}
+use Rattle.machine_model.specs.Commands.{Work, Io, Management}
+use Rattle.machine_model.specs.State.{State, Host, Device, HostQueue, Live, Deleting, Retired, Gone, HostRing, DeviceQueue, Record, Drafted, Submitted, Held, Collected, Job, Answer, record_at, without_record, with_record, pages_of}
+use Rattle.machine_model.specs.Refusals.{host_queue, device_queue, slot_page, slot_offset, seen_entry, job_at, next_rung, post_slot, fetch_slot, conflicts, is_submitted, is_retired, same_list}
+use Rattle.machine_model.specs.Events as events
+use Rattle.machine_model.specs.Events.{Event, Reply, Draft, Reaped}
+
+-- Changing one member of a list, one queue, one job
+
+abbrev pub change : {A : Type 0} → ℕ → (A → A) → List A → List A
+change k f [] = []
+change zero f (x ∷ xs) = f x ∷ xs
+change (suc k) f (x ∷ xs) = x ∷ change k f xs
+
+abbrev pub on_host : (Host → Host) → State → State
+on_host f s = record s { host = f s.host }
+
+abbrev pub on_device : (Device → Device) → State → State
+on_device f s = record s { device = f s.device }
+
+abbrev pub on_memory : (Pages → Pages) → State → State
+on_memory f s = record s { memory = f s.memory }
+
+abbrev pub on_host_queue : ℕ → (HostQueue → HostQueue) → State → State
+on_host_queue q f s = on_host (λ h. record h { queues = change q f h.queues }) s
+
+abbrev pub on_device_queue : ℕ → (DeviceQueue → DeviceQueue) → State → State
+on_device_queue q f s = on_device (λ d. record d { queues = change q f d.queues }) s
+
+abbrev pub on_ring : ℕ → (HostRing → HostRing) → State → State
+on_ring q f s = on_host_queue q (λ queue. record queue { ring = f queue.ring }) s
+
+abbrev pub on_records : (List Record → List Record) → State → State
+on_records f s = on_host (λ h. record h { records = f h.records }) s
+
+abbrev pub on_job : ℕ → ℕ → (Job → Job) → State → State
+on_job q cid f s = on_device (λ d. record d { jobs = map (λ j. if (j.q == q) && (j.entry.cid == cid) then f j else j) d.jobs }) s
+
+abbrev pub without_job : ℕ → ℕ → State → State
+without_job q cid s = on_device (λ d. record d { jobs = filter (λ j. not ((j.q == q) && (j.entry.cid == cid))) d.jobs }) s
+
+-- What changes of a record, a ring, a queue of the host
+
+abbrev pub submitted : Record → Record
+submitted r = record r { phase = Submitted }
+
+abbrev pub held : Status → Record → Record
+held st r = record r { phase = Held; status = Some st }
+
+abbrev pub collected : Record → Record
+collected r = record r { phase = Collected }
+
+abbrev pub next_tail : ℕ → HostRing → HostRing
+next_tail n ring = record ring { tail = (ring.tail + 1) % n }
+
+abbrev pub knowing : ℕ → HostRing → HostRing
+knowing head ring = record ring { known_head = head }
+
+abbrev pub deleting : HostQueue → HostQueue
+deleting queue = record queue { state = Deleting false }
+
+abbrev pub retired : HostQueue → HostQueue
+retired queue = record queue { state = Retired; sq_pages = [] }
+
+abbrev pub gone : HostQueue → HostQueue
+gone queue = record queue { state = Gone; cq_pages = [] }
+
+-- Pages: the free ones stand in rising order
+
+abbrev pub upto : ℕ → List ℕ
+upto zero = []
+upto (suc n) = upto n ++ n ∷ []
+
+abbrev pub without_numbers : List ℕ → List ℕ → List ℕ
+without_numbers pages free = filter (λ p. not (is_among pages p)) free
+
+abbrev pub joined_in_order : ℕ → List ℕ → List ℕ → List ℕ
+joined_in_order count pages free = filter (λ p. is_among free p || is_among pages p) (upto count)
+
+abbrev pub granted : List ℕ → State → State
+granted pages s = on_host (λ h. record h { free = without_numbers pages h.free }) s
+
+abbrev pub given_back : List ℕ → State → State
+given_back pages s = on_host (λ h. record h { free = joined_in_order (length s.memory) pages h.free }) s
+
+-- The host
+
+-- an entry behind the tail of a queue's submission ring, in its slot's bytes too
+abbrev pub posted : ℕ → SubEntry → State → State
+posted q entry s =
+    on_ring q (next_tail s.entries)
+    (on_device_queue q (λ at. record at { unfetched = at.unfetched ++ entry ∷ [] })
+    (option_map_or
+    (λ queue. on_memory (λ m. with_page_bytes m (slot_page queue.sq_pages 64 queue.ring.tail) (slot_offset 64 queue.ring.tail) (submission_bytes entry)) s)
+    (host_queue s q) s))
+
+abbrev pub after_reserve : Draft → State → State
+after_reserve d s =
+    let data_pages = numbers_of d.data_pages in
+    let chain_pages = numbers_of d.chain_pages in
+    on_records (λ records. records ++ record { q = d.q; cid = d.cid; phase = Drafted; work = Io d.request; data_pages = data_pages; chain_pages = chain_pages; status = None } ∷ [])
+    (granted (data_pages ++ chain_pages) (on_memory (without_pages (data_pages ++ chain_pages)) s))
+
+abbrev pub after_submit : Draft → State → State
+after_submit d s =
+    option_map_or
+    (λ entry. posted d.q entry
+    (on_records (with_record d.q d.cid submitted)
+    (on_memory (with_pages (d.data_pages ++ d.chain_pages)) s)))
+    d.entry s
+
+-- a command ends: its pages come in with these bytes, and are free
+abbrev pub after_end : ℕ → ℕ → List (ℕ × List ℕ) → State → State
+after_end q cid pages s =
+    on_records (without_record q cid) (given_back (numbers_of pages) (on_memory (with_pages pages) s))
+
+abbrev pub after_ring : ℕ → State → State
+after_ring q s = on_device_queue q (λ at. record at { rung = length at.unfetched }) s
+
+-- the head of a completion ring goes on by one, and the phase turns as it wraps
+abbrev pub next_head : ℕ → HostRing → HostRing
+next_head n ring =
+    record ring { head = (ring.head + 1) % n; phase = if ring.head + 1 == n then not ring.phase else ring.phase }
+
+abbrev pub consumed : ℕ → State → State
+consumed q s = on_device_queue q (λ at. record at { answers = drop 1 at.answers }) (on_ring q (next_head s.entries) s)
+
+abbrev pub heard : ℕ → ComEntry → State → State
+heard q e s = on_ring q (knowing e.sqhd) (consumed q s)
+
+abbrev pub half_freed : (HostQueue → List ℕ) → (HostQueue → HostQueue) → ℕ → State → State
+half_freed pages without q s =
+    option_map_or (λ queue. on_host_queue q without (given_back (pages queue) s)) (host_queue s q) s
+
+-- what a reaped admin completion means for the host's state of the queue that it names
+abbrev pub after_admin : AdminKind → Status → State → State
+after_admin (Abort q cid) st s = s
+after_admin (DeleteSq q) st s =
+    on_host_queue q (λ queue. record queue { state = if same_status st SUCCESS then Deleting true else Live }) s
+after_admin (DeleteCq q) st s =
+    if same_status st SUCCESS && option_map_or (λ queue. is_retired queue.state) (host_queue s q) false
+    then half_freed (λ queue. queue.cq_pages) gone q s
+    else s
+
+abbrev pub after_work : Work → ℕ → ℕ → Status → State → State
+after_work (Io r) q cid st s = on_records (with_record q cid (held st)) s
+after_work (Management a) q cid st s = after_admin a st (on_records (without_record q cid) s)
+
+abbrev pub after_reap : ℕ → Reaped → State → State
+after_reap q events.Empty s = s
+after_reap q (events.Rejected why) s = consumed q s
+after_reap q (events.Done cid st) s =
+    option_map_or (λ r. after_work r.work q cid st (option_map_or (λ e. heard q e s) (seen_entry s q) s)) (record_at s.host q cid) s
+after_reap q (events.AdminDone cid st dw0) s =
+    option_map_or (λ r. after_work r.work q cid st (option_map_or (λ e. heard q e s) (seen_entry s q) s)) (record_at s.host q cid) s
+
+abbrev pub after_collect : ℕ → ℕ → State → State
+after_collect q cid s =
+    option_map_or
+    (λ r. on_records (with_record q cid collected) (on_memory (without_pages (pages_of r)) s))
+    (record_at s.host q cid) s
+
+abbrev pub sent : AdminKind → ℕ → SubEntry → State → State
+sent a cid entry s =
+    posted 0 entry (on_records (λ records. records ++ record { q = 0; cid = cid; phase = Submitted; work = Management a; data_pages = []; chain_pages = []; status = None } ∷ []) s)
+
+abbrev pub after_delete_sq : ℕ → ℕ → State → State
+after_delete_sq q cid s =
+    on_host_queue q deleting (sent (DeleteSq q) cid (admin_entry (DeleteSq q) cid) s)
+
+abbrev pub lost : ℕ → Record → Record
+lost q r = if (r.q == q) && is_submitted r.phase then record r { phase = Held; status = Some ABORTED_SQ_DELETION } else r
+
+abbrev pub after_retire : ℕ → State → State
+after_retire q s =
+    half_freed (λ queue. queue.sq_pages) retired q
+    (on_records (λ records. map (lost q) records) s)
+
+abbrev pub after_forge : ℕ → ℕ → List ℕ → State → State
+after_forge q slot bytes s =
+    option_map_or
+    (λ queue. record (on_memory (λ m. with_page_bytes m (slot_page queue.cq_pages 16 slot) (slot_offset 16 slot) bytes) s) { trusted = false })
+    (host_queue s q) s
+
+-- The controller
+
+abbrev pub kind_of : ℕ → Option Kind
+kind_of opcode = first_passing ((opcode == 1, Write) ∷ (opcode == 2, Read) ∷ (opcode == 5, Compare) ∷ [])
+
+abbrev pub slba_of : SubEntry → ℕ
+slba_of e = e.cdw10 + 4294967296 * e.cdw11
+
+abbrev pub blocks_of : SubEntry → ℕ
+blocks_of e = e.cdw12 % 65536 + 1
+
+abbrev pub need_of : SubEntry → ℕ
+need_of e = 512 * blocks_of e
+
+abbrev pub image_blocks : State → ℕ
+image_blocks s = block_count s.device.image
+
+-- the first failed field check of an entry of an I/O queue
+abbrev pub io_fault : State → SubEntry → Option Status
+io_fault s e =
+    first_passing (
+    (is_none (kind_of e.opcode), INVALID_OPCODE)
+    ∷ (not (e.nsid == 1), INVALID_NAMESPACE)
+    ∷ (not (e.fuse == 0) || not (e.psdt == 1), INVALID_FIELD)
+    ∷ (nat_lt 2048 (blocks_of e), INVALID_FIELD)
+    ∷ (nat_lt (image_blocks s) (slba_of e + blocks_of e), LBA_OUT_OF_RANGE)
+    ∷ [])
+
+abbrev pub named_blocks : State → SubEntry → List ℕ
+named_blocks s e = blocks_at s.device.image (slba_of e) (blocks_of e)
+
+abbrev pub first_bytes : State → SubEntry → Option Kind → List ℕ
+first_bytes s e (Some Read) = named_blocks s e
+first_bytes s e (Some Write) = replicate (need_of e) 0
+first_bytes s e (Some Compare) = replicate (need_of e) 0
+first_bytes s e None = []
+
+abbrev pub new_job : ℕ → SubEntry → Option Status → ℕ → List ℕ → Job
+new_job q e verdict dw0 bytes =
+    record { q = q; entry = e; bytes = bytes; units_done = 0; verdict = verdict; dw0 = dw0; waiting_abort = None }
+
+abbrev pub with_job : Job → State → State
+with_job j s = on_device (λ d. record d { jobs = d.jobs ++ j ∷ [] }) s
+
+abbrev pub begun : ℕ → SubEntry → State → State
+begun q e s =
+    option_map_or (λ fault. with_job (new_job q e (Some fault) 0 []) s) (io_fault s e)
+    (with_job (new_job q e None 0 (first_bytes s e (kind_of e.opcode))) s)
+
+-- an admin command, decided at its fetch
+abbrev pub decided : SubEntry → Status → ℕ → State → State
+decided e st dw0 s = with_job (new_job 0 e (Some st) dw0 []) s
+
+-- the controller's state of a submission queue; one that is not there is absent
+abbrev pub sq_state : State → ℕ → SqState
+sq_state s q = option_map_or (λ at. at.state) (device_queue s q) Absent
+
+abbrev pub cq_there : State → ℕ → Bool
+cq_there s q = option_map_or (λ at. at.cq_there) (device_queue s q) false
+
+abbrev pub walks : State → ℕ → ℕ → Bool
+walks s q cid = option_map_or (λ j. is_none j.verdict) (job_at s q cid) false
+
+abbrev pub stopped : ℕ → Job → Job
+stopped q j = if (j.q == q) && is_none j.verdict then record j { verdict = Some ABORTED_SQ_DELETION } else j
+
+-- what the rule of an admin entry looks at
+abbrev pub view_of : State → SubEntry → DeviceView
+view_of s e =
+    record {
+      sq = sq_state s (named_queue e);
+      cq_there = cq_there s (named_queue e);
+      target_walks = walks s (named_queue e) (named_command e);
+    }
+
+-- what its verdict does: an Abort marks its job, a Delete SQ stops its queue and that queue's jobs
+abbrev pub acted : SubEntry → AdminVerdict → State → State
+acted e (Answered st dw0) s = decided e st dw0 s
+acted e (AbortJob q cid) s = decided e SUCCESS 0 (on_job q cid (λ j. record j { verdict = Some ABORT_REQUESTED; waiting_abort = Some e.cid }) s)
+acted e (StopQueue q) s =
+    decided e SUCCESS 0
+    (on_device (λ d. record d { jobs = map (stopped q) d.jobs })
+    (on_device_queue q (λ at. record at { state = Stopping }) s))
+acted e (DropCompletion q) s = decided e SUCCESS 0 (on_device_queue q (λ at. record at { cq_there = false }) s)
+
+abbrev pub managed : SubEntry → State → State
+managed e s = acted e (decision e (view_of s e)) s
+
+-- an answer behind the tail of a queue's completion ring, in its slot's bytes too
+abbrev pub post_phase : State → HostQueue → ℕ → Bool
+post_phase s queue count = if nat_le s.entries (queue.ring.head + count) then not queue.ring.phase else queue.ring.phase
+
+abbrev pub answered : ℕ → ℕ → Status → ℕ → State → State
+answered q cid st dw0 s =
+    let answer : Answer = record { cid = cid; status = st; dw0 = dw0; sq_head = fetch_slot s q } in
+    on_device_queue q (λ at. record at { answers = at.answers ++ answer ∷ [] })
+    (option_map_or
+    (λ queue. option_map_or
+    (λ at. on_memory (λ m. with_page_bytes m (slot_page queue.cq_pages 16 (post_slot s q)) (slot_offset 16 (post_slot s q))
+    (completion_bytes (record { dw0 = dw0; sqhd = fetch_slot s q; sqid = q; cid = cid; phase = post_phase s queue (length at.answers); status = st }))) s)
+    (device_queue s q) s)
+    (host_queue s q) s)
+
+abbrev pub taken_off : ℕ → State → State
+taken_off q s = on_device_queue q (λ at. record at { unfetched = drop 1 at.unfetched; rung = at.rung - 1 }) s
+
+abbrev pub after_fetch : ℕ → State → State
+after_fetch q s =
+    option_map_or
+    (λ e. if conflicts s q then answered q e.cid COMMAND_ID_CONFLICT 0 (taken_off q s)
+    else if q == 0 then managed e (taken_off 0 s)
+    else begun q e (taken_off q s))
+    (next_rung s q) s
+
+abbrev pub direction_of : SubEntry → Direction
+direction_of e = if e.opcode == 2 then Destination else Source
+
+-- what a job's list makes its walk do, in the memory as it stands
+abbrev pub course_of : State → Job → Course
+course_of s j = course_of_list (memory_of s.memory) j.entry.sgl1 (direction_of j.entry) (need_of j.entry)
+
+-- the unit that a job's next walk step does, and what the step answers: the verdict with the last unit
+abbrev pub next_unit : State → Job → Option Act
+next_unit s j = slice_get (units (course_of s j)) j.units_done
+
+abbrev pub next_answer : State → Job → WalkState
+next_answer s j = answer (after_units (j.units_done + 1) (course_of s j))
+
+abbrev pub verdict_of : WalkState → Option Status
+verdict_of More = None
+verdict_of End = Some SUCCESS
+verdict_of (Fault st) = Some st
+
+-- bytes of one page, from a place on
+abbrev pub page_bytes : Pages → ℕ → ℕ → List ℕ
+page_bytes m place count =
+    option_map_or (λ bytes. take count (drop (place % 4096) bytes)) (page_at m (place / 4096)) []
+
+abbrev pub moved : Direction → Act → ℕ → ℕ → State → State
+moved dir Stays q cid s = s
+moved dir (Reads place) q cid s = s
+moved Destination (Moves place n offset) q cid s =
+    option_map_or (λ j. on_memory (λ m. with_page_bytes m (place / 4096) (place % 4096) (take n (drop offset j.bytes))) s) (job_at s q cid) s
+moved Source (Moves place n offset) q cid s =
+    on_job q cid (λ j. record j { bytes = with_bytes j.bytes offset (page_bytes s.memory place n) }) s
+
+abbrev pub after_walk : ℕ → ℕ → State → State
+after_walk q cid s =
+    option_map_or
+    (λ j. option_map_or
+    (λ act. on_job q cid (λ k. record k { units_done = k.units_done + 1; verdict = verdict_of (next_answer s j) })
+    (moved (direction_of j.entry) act q cid s))
+    (next_unit s j) s)
+    (job_at s q cid) s
+
+-- how a job whose walk ended, or that was stopped, completes
+abbrev pub final_status : State → Job → Status
+final_status s j =
+    option_map_or
+    (λ st. if (j.entry.opcode == 5) && not (j.q == 0) && same_status st SUCCESS && not (same_list j.bytes (named_blocks s j.entry)) then COMPARE_FAILURE else st)
+    j.verdict SUCCESS
+
+abbrev pub image_completed : Job → Status → List ℕ → List ℕ
+image_completed j st image =
+    if (j.entry.opcode == 1) && not (j.q == 0) && same_status st SUCCESS
+    then with_blocks image (slba_of j.entry) j.bytes
+    else image
+
+-- a successful deletion leaves nothing of the queue's submission side
+abbrev pub deletion_done : Job → Status → State → State
+deletion_done j st s =
+    if (j.q == 0) && (j.entry.opcode == 0) && same_status st SUCCESS
+    then on_device_queue (named_queue j.entry) (λ at. record at { state = Absent; unfetched = []; rung = 0 }) s
+    else s
+
+abbrev pub after_complete : ℕ → ℕ → State → State
+after_complete q cid s =
+    option_map_or
+    (λ j. let st = final_status s j in
+    answered q cid st j.dw0
+    (deletion_done j st
+    (on_device (λ d. record d { image = image_completed j st d.image }) (without_job q cid s))))
+    (job_at s q cid) s
+
+-- every event
+
+abbrev pub after : State → Event → Reply → State
+after s e (events.Refused why touched) = s
+after s (events.Reserve q r) (events.Reserved d) = after_reserve d s
+after s (events.Submit d) reply = after_submit d s
+after s (events.Cancel d) reply = after_end d.q d.cid (d.data_pages ++ d.chain_pages) s
+after s (events.Ring q) reply = after_ring q s
+after s (events.Reap q) (events.Reaps what) = after_reap q what s
+after s (events.Collect q cid) reply = after_collect q cid s
+after s (events.Release f) reply = after_end f.q f.cid (f.data_pages ++ f.chain_pages) s
+after s (events.Abort q cid) (events.Sent id) = sent (Abort q cid) id (admin_entry (Abort q cid) id) s
+after s (events.DeleteSq q) (events.Sent id) = after_delete_sq q id s
+after s (events.DeleteCq q) (events.Sent id) = sent (DeleteCq q) id (admin_entry (DeleteCq q) id) s
+after s (events.Retire q) reply = after_retire q s
+after s (events.Forge q slot bytes) reply = after_forge q slot bytes s
+after s (events.Fetch q) reply = after_fetch q s
+after s (events.Walk q cid) reply = after_walk q cid s
+after s (events.Complete q cid) reply = after_complete q cid s
+after s e reply = s

@@ -1,0 +1,337 @@
+-- Which refusal an event meets: the first cause that holds, in the order of the checks.
+use Rattle.std.specs.Prelude.{ℕ, ◌+◌, ◌*◌, ◌-◌, ◌/◌, ◌%◌, ◌==◌, nat_lt, nat_le, Bool, true, false, ◌&&◌, ◌||◌, not, Option, Some, None, List, [], ◌∷◌, length, find, is_some, is_none, slice_get, slice_index, slice_range, option_and_then, if◌then◌else◌}
+use Rattle.std.specs.List.{list_any}
+use Rattle.std.specs.Option.{option_map, option_map_or}
+use Rattle.sgl_chain.specs.Chains.{pages_needed}
+use Rattle.entry_codec.specs.Completion.{completion_of}
+use Rattle.admin_commands.specs.Verdicts.{is_live as is_running}
+use Rattle.io_commands.specs.Values.{numbers_of}
+use Rattle.admin_commands.specs.declared.AdminKind.TheVariants.{Abort, DeleteSq, DeleteCq}
+use Rattle.entry_codec.specs.declared.completion.ComEntry.{ComEntry}
+use Rattle.entry_codec.specs.declared.submission.SubEntry.{SubEntry}
+use Rattle.io_commands.specs.Requests.{fault_of, data_count, first_passing}
+use Rattle.io_commands.specs.declared.request.RequestFault.{RequestFault}
+use Rattle.io_commands.specs.declared.request.Request.{Request}
+use Rattle.io_commands.specs.declared.request.Piece.TheVariants.{Data, Bucket}
+use Rattle.io_commands.specs.declared.request.Piece.{Piece}
+use Rattle.io_commands.specs.declared.request.Kind.TheVariants.{Read, Write, Compare}
+use Rattle.io_commands.specs.declared.request.Kind.{Kind}
+use Rattle.page_memory.specs.Pages.{Pages, page_at}
+use Rattle.entry_codec.specs.declared.status.TheConstants.Status.{SUCCESS}
+use Rattle.machine_model.specs.Status.{same_status}
+use Rattle.machine_model.specs.Memory.{is_in}
+use Rattle.machine_model.specs.Commands.{Work, Io, Management}
+use Rattle.machine_model.specs.State.{State, HostQueue, HostState, Live, Deleting, Retired, Gone, HostRing, DeviceQueue, Record, Phase, Drafted, Submitted, Held, Collected, Job, Answer, record_at, outstanding_on}
+use Rattle.machine_model.specs.Events as events
+use Rattle.machine_model.specs.Events.{Event, Refusal}
+
+-- Looking things up
+
+abbrev pub host_queue : State → ℕ → Option HostQueue
+host_queue s q = slice_get s.host.queues q
+
+abbrev pub device_queue : State → ℕ → Option DeviceQueue
+device_queue s q = slice_get s.device.queues q
+
+abbrev pub is_live : HostState → Bool
+is_live Live = true
+is_live (Deleting noted) = false
+is_live Retired = false
+is_live Gone = false
+
+abbrev pub is_deleting : HostState → Bool
+is_deleting Live = false
+is_deleting (Deleting noted) = true
+is_deleting Retired = false
+is_deleting Gone = false
+
+abbrev pub is_deleted : HostState → Bool
+is_deleted Live = false
+is_deleted (Deleting noted) = noted
+is_deleted Retired = false
+is_deleted Gone = false
+
+-- its deletion was asked for and not answered
+abbrev pub is_asked : HostState → Bool
+is_asked Live = false
+is_asked (Deleting noted) = not noted
+is_asked Retired = false
+is_asked Gone = false
+
+abbrev pub is_retired : HostState → Bool
+is_retired Live = false
+is_retired (Deleting noted) = false
+is_retired Retired = true
+is_retired Gone = false
+
+abbrev pub is_gone : HostState → Bool
+is_gone Live = false
+is_gone (Deleting noted) = false
+is_gone Retired = false
+is_gone Gone = true
+
+-- whether the host's state of a queue passes a test; an unknown queue passes none
+abbrev pub in_state : (HostState → Bool) → State → ℕ → Bool
+in_state test s q = option_map_or (λ queue. test queue.state) (host_queue s q) false
+
+abbrev pub is_submitted : Phase → Bool
+is_submitted Drafted = false
+is_submitted Submitted = true
+is_submitted Held = false
+is_submitted Collected = false
+
+abbrev pub is_drafted : Phase → Bool
+is_drafted Drafted = true
+is_drafted Submitted = false
+is_drafted Held = false
+is_drafted Collected = false
+
+abbrev pub is_held : Phase → Bool
+is_held Drafted = false
+is_held Submitted = false
+is_held Held = true
+is_held Collected = false
+
+abbrev pub is_collected : Phase → Bool
+is_collected Drafted = false
+is_collected Submitted = false
+is_collected Held = false
+is_collected Collected = true
+
+-- whether the record of a command, where there is one, passes a test
+abbrev pub record_is : (Record → Bool) → State → ℕ → ℕ → Bool
+record_is test s q cid = option_map_or test (record_at s.host q cid) false
+
+-- Comparing a moved value with its record
+
+abbrev pub same_list : List ℕ → List ℕ → Bool
+same_list [] [] = true
+same_list [] (y ∷ ys) = false
+same_list (x ∷ xs) [] = false
+same_list (x ∷ xs) (y ∷ ys) = (x == y) && same_list xs ys
+
+abbrev pub same_piece : Piece → Piece → Bool
+same_piece (Data o n) (Data p m) = (o == p) && (n == m)
+same_piece (Data o n) (Bucket m) = false
+same_piece (Bucket n) (Data p m) = false
+same_piece (Bucket n) (Bucket m) = n == m
+
+abbrev pub same_pieces : List Piece → List Piece → Bool
+same_pieces [] [] = true
+same_pieces [] (y ∷ ys) = false
+same_pieces (x ∷ xs) [] = false
+same_pieces (x ∷ xs) (y ∷ ys) = same_piece x y && same_pieces xs ys
+
+abbrev pub same_kind : Kind → Kind → Bool
+same_kind Read Read = true
+same_kind Read Write = false
+same_kind Read Compare = false
+same_kind Write Read = false
+same_kind Write Write = true
+same_kind Write Compare = false
+same_kind Compare Read = false
+same_kind Compare Write = false
+same_kind Compare Compare = true
+
+abbrev pub same_request : Request → Request → Bool
+same_request a b = same_kind a.kind b.kind && (a.slba == b.slba) && (a.blocks == b.blocks) && same_pieces a.pieces b.pieces
+
+abbrev pub asks_for : Request → Work → Bool
+asks_for request (Io r) = same_request request r
+asks_for request (Management a) = false
+
+-- the record that a moved value belongs to: of this phase, with the same request and pages
+abbrev pub is_of : (Phase → Bool) → Request → List ℕ → List ℕ → Record → Bool
+is_of phase request data_pages chain_pages r =
+    phase r.phase && asks_for request r.work && same_list data_pages r.data_pages && same_list chain_pages r.chain_pages
+
+-- Pages and identifiers
+
+abbrev pub pages_wanted : State → Request → ℕ
+pages_wanted s r = data_count r.pieces + pages_needed (length r.pieces) s.segment
+
+abbrev pub no_identifier : State → ℕ → Bool
+no_identifier s q = nat_le (s.entries - 1) (length (outstanding_on s.host q))
+
+-- a ring with one slot left empty
+abbrev pub ring_full : ℕ → HostRing → Bool
+ring_full n ring = (ring.tail + 1) % n == ring.known_head
+
+abbrev pub queue_full : State → ℕ → Bool
+queue_full s q = option_map_or (λ queue. ring_full s.entries queue.ring) (host_queue s q) true
+
+abbrev pub deletes_cq_of : ℕ → Work → Bool
+deletes_cq_of q (Io r) = false
+deletes_cq_of q (Management (Abort a b)) = false
+deletes_cq_of q (Management (DeleteSq a)) = false
+deletes_cq_of q (Management (DeleteCq a)) = a == q
+
+abbrev pub deletes_sq_of : ℕ → Work → Bool
+deletes_sq_of q (Io r) = false
+deletes_sq_of q (Management (Abort a b)) = false
+deletes_sq_of q (Management (DeleteSq a)) = a == q
+deletes_sq_of q (Management (DeleteCq a)) = false
+
+abbrev pub cq_deletion_outstanding : State → ℕ → Bool
+cq_deletion_outstanding s q = list_any (λ r. deletes_cq_of q r.work) s.host.records
+
+-- Slots
+
+-- the page of slot k of consecutive slots of so many bytes
+abbrev pub slot_page : List ℕ → ℕ → ℕ → ℕ
+slot_page pages size k = slice_index pages (k * size / 4096)
+
+abbrev pub slot_offset : ℕ → ℕ → ℕ
+slot_offset size k = k * size % 4096
+
+abbrev pub slot_bytes : Pages → List ℕ → ℕ → ℕ → Option (List ℕ)
+slot_bytes m pages size k = option_map (λ bytes. slice_range bytes (slot_offset size k) (slot_offset size k + size)) (page_at m (slot_page pages size k))
+
+-- the completion entry that the host sees at its head: the oldest answer, and after a forged entry whatever the slot holds with the expected phase
+abbrev pub entry_of : ℕ → Answer → ComEntry
+entry_of q a = record { dw0 = a.dw0; sqhd = a.sq_head; sqid = q; cid = a.cid; phase = true; status = a.status }
+
+abbrev pub first_answer : List Answer → Option Answer
+first_answer [] = None
+first_answer (a ∷ as') = Some a
+
+abbrev pub in_phase : Bool → ComEntry → Bool
+in_phase true e = e.phase
+in_phase false e = not e.phase
+
+abbrev pub slot_entry : Pages → HostQueue → Option ComEntry
+slot_entry m queue =
+    option_and_then (λ bytes. let e = completion_of bytes in if in_phase queue.ring.phase e then Some e else None)
+    (slot_bytes m queue.cq_pages 16 queue.ring.head)
+
+abbrev pub seen_entry : State → ℕ → Option ComEntry
+seen_entry s q =
+    if s.trusted
+    then option_map (entry_of q) (option_and_then (λ queue. first_answer queue.answers) (device_queue s q))
+    else option_and_then (slot_entry s.memory) (host_queue s q)
+
+-- At the controller
+
+abbrev pub job_at : State → ℕ → ℕ → Option Job
+job_at s q cid = find (λ j. (j.q == q) && (j.entry.cid == cid)) s.device.jobs
+
+abbrev pub next_rung : State → ℕ → Option SubEntry
+next_rung s q =
+    option_and_then (λ queue. if is_running queue.state && nat_lt 0 queue.rung then slice_get queue.unfetched 0 else None) (device_queue s q)
+
+-- the controller's head of a submission ring, and its tail of a completion ring
+abbrev pub fetch_slot : State → ℕ → ℕ
+fetch_slot s q =
+    option_map_or (λ queue. option_map_or (λ at. (queue.ring.tail + s.entries - length at.unfetched) % s.entries) (device_queue s q) 0) (host_queue s q) 0
+
+abbrev pub post_slot : State → ℕ → ℕ
+post_slot s q =
+    option_map_or (λ queue. option_map_or (λ at. (queue.ring.head + length at.answers) % s.entries) (device_queue s q) 0) (host_queue s q) 0
+
+abbrev pub fetch_page : State → ℕ → ℕ
+fetch_page s q = option_map_or (λ queue. slot_page queue.sq_pages 64 (fetch_slot s q)) (host_queue s q) 0
+
+abbrev pub post_page : State → ℕ → ℕ
+post_page s q = option_map_or (λ queue. slot_page queue.cq_pages 16 (post_slot s q)) (host_queue s q) 0
+
+abbrev pub answers_full : State → ℕ → Bool
+answers_full s q = option_map_or (λ at. length at.answers == s.entries - 1) (device_queue s q) true
+
+abbrev pub conflicts : State → ℕ → Bool
+conflicts s q = option_map_or (λ e. is_some (job_at s q e.cid)) (next_rung s q) false
+
+-- what a job's completion waits for: an Abort for the job that it stopped, a successful deletion for the queue's jobs
+abbrev pub is_abort_of : ℕ → Option ℕ → Bool
+is_abort_of cid None = false
+is_abort_of cid (Some abort) = abort == cid
+
+abbrev pub waits : State → Job → Bool
+waits s j =
+    (j.q == 0)
+    && (list_any (λ k. is_abort_of j.entry.cid k.waiting_abort) s.device.jobs
+    || ((j.entry.opcode == 0) && option_map_or (same_status SUCCESS) j.verdict false
+    && list_any (λ k. k.q == j.entry.cdw10 % 65536) s.device.jobs))
+
+abbrev pub job_is : (Job → Bool) → State → ℕ → ℕ → Bool
+job_is test s q cid = option_map_or test (job_at s q cid) false
+
+-- The refusals
+
+abbrev pub no_io_queue : State → ℕ → Bool
+no_io_queue s q = (q == 0) || is_none (host_queue s q) || in_state is_retired s q || in_state is_gone s q
+
+abbrev pub reserve_causes : State → ℕ → Request → Option RequestFault → List (Bool × Refusal)
+reserve_causes s q r bad =
+    (no_io_queue s q, events.NoQueue)
+    ∷ (in_state is_deleting s q, events.Deleting)
+    ∷ (is_some bad, option_map_or events.Bad bad events.NoQueue)
+    ∷ (no_identifier s q, events.NoIdentifier)
+    ∷ (nat_lt (length s.host.free) (pages_wanted s r), events.NoPages (pages_wanted s r) (length s.host.free))
+    ∷ []
+
+-- what an event may be refused for, in the order of the checks, want of memory left aside; exact for the controller's events only where nothing was forged
+abbrev pub causes : State → Event → List (Bool × Refusal)
+causes s (events.Reserve q r) = reserve_causes s q r (fault_of r.kind r.blocks r.pieces)
+causes s (events.Submit d) =
+    (not (record_is (is_of is_drafted d.request (numbers_of d.data_pages) (numbers_of d.chain_pages)) s d.q d.cid), events.Stranger)
+    ∷ (is_none d.entry, events.NotBuilt)
+    ∷ (not (in_state is_live s d.q), events.QueueGone)
+    ∷ (queue_full s d.q, events.QueueFull)
+    ∷ []
+causes s (events.Cancel d) =
+    (not (record_is (is_of is_drafted d.request (numbers_of d.data_pages) (numbers_of d.chain_pages)) s d.q d.cid), events.Stranger) ∷ []
+causes s (events.Ring q) =
+    (is_none (host_queue s q) || in_state is_retired s q || in_state is_gone s q, events.NoQueue) ∷ []
+causes s (events.Reap q) = (is_none (host_queue s q) || in_state is_gone s q, events.NoQueue) ∷ []
+causes s (events.Collect q cid) =
+    (not (record_is (λ r. is_submitted r.phase || is_held r.phase) s q cid), events.Stranger)
+    ∷ (record_is (λ r. is_submitted r.phase) s q cid, events.NotYet)
+    ∷ []
+causes s (events.Release f) =
+    (not (record_is (is_of is_collected f.request (numbers_of f.data_pages) (numbers_of f.chain_pages)) s f.q f.cid), events.Stranger) ∷ []
+causes s (events.Abort q cid) =
+    (no_io_queue s q, events.NoQueue)
+    ∷ (in_state is_deleting s q, events.WrongState)
+    ∷ (not (record_is (λ r. is_submitted r.phase) s q cid), events.NoSuchCommand)
+    ∷ (no_identifier s 0, events.NoIdentifier)
+    ∷ (queue_full s 0, events.QueueFull)
+    ∷ []
+causes s (events.DeleteSq q) =
+    (no_io_queue s q, events.NoQueue)
+    ∷ (in_state is_deleting s q, events.WrongState)
+    ∷ (no_identifier s 0, events.NoIdentifier)
+    ∷ (queue_full s 0, events.QueueFull)
+    ∷ []
+causes s (events.DeleteCq q) =
+    ((q == 0) || is_none (host_queue s q) || in_state is_gone s q, events.NoQueue)
+    ∷ (in_state is_deleting s q || (in_state is_retired s q && cq_deletion_outstanding s q), events.WrongState)
+    ∷ (no_identifier s 0, events.NoIdentifier)
+    ∷ (queue_full s 0, events.QueueFull)
+    ∷ []
+causes s (events.Retire q) =
+    (not (in_state is_deleted s q), events.NotDeleted) ∷ (is_some (seen_entry s q), events.NotDrained) ∷ []
+causes s (events.Forge q slot bytes) =
+    (is_none (host_queue s q) || in_state is_gone s q, events.NoQueue)
+    ∷ (nat_le s.entries slot, events.NoSlot)
+    ∷ []
+causes s (events.Fetch q) =
+    (is_none (next_rung s q), events.Idle)
+    ∷ (not (is_in s.memory (fetch_page s q)), events.SlotOut)
+    ∷ (conflicts s q && answers_full s q, events.Full)
+    ∷ (conflicts s q && not (is_in s.memory (post_page s q)), events.SlotOut)
+    ∷ []
+causes s (events.Walk q cid) =
+    (is_none (job_at s q cid), events.NoJob)
+    ∷ (job_is (λ j. is_some j.verdict || (j.q == 0)) s q cid, events.Nothing)
+    ∷ []
+causes s (events.Complete q cid) =
+    (is_none (job_at s q cid), events.NoJob)
+    ∷ (job_is (λ j. is_none j.verdict) s q cid, events.Walking)
+    ∷ (job_is (waits s) s q cid, events.Waits)
+    ∷ (answers_full s q, events.Full)
+    ∷ (not (is_in s.memory (post_page s q)), events.SlotOut)
+    ∷ []
+
+-- the refusal that an event meets: the first cause that holds
+abbrev pub refusal_of : State → Event → Option Refusal
+refusal_of s e = first_passing (causes s e)

@@ -1,0 +1,276 @@
+-- Scripts, played: the choices are the lowest free identifier and the lowest free pages, and drafts, tickets and finished commands are kept beside the machine.
+use Rattle.std.specs.Prelude.{ℕ, zero, suc, ◌+◌, ◌-◌, ◌==◌, Bool, true, false, nat_lt, ◌&&◌, not, Option, Some, None, List, [], ◌∷◌, ◌++◌, length, map, take, drop, replicate, filter, find, sum_by, option_and_then, if◌then◌else◌}
+use Rattle.std.specs.Option.{option_map_or, option_map}
+use Rattle.machine_model.specs.Building.{laid, io_entry}
+use Rattle.machine_model.specs.State.{State, record_at, outstanding_on, Job}
+use Rattle.machine_model.specs.Opening.{opening}
+use Rattle.machine_model.specs.After.{after, next_unit, next_answer}
+use Rattle.machine_model.specs.Step.{reaped, touched_by_fetch, touched_by_refusal, finished_from}
+use Rattle.machine_model.specs.Image.{Made}
+use Rattle.std.specs.List.{list_all, list_any}
+use Rattle.page_ledger.specs.Owners.{is_among, pages_from}
+use Rattle.controller_walk.specs.Units.{touched as pages_touched}
+use Rattle.machine_model.specs.Touch.{stays_allowed, stays_own}
+use Rattle.controller_walk.specs.declared.walk.WalkState.{WalkState}
+use Rattle.sgl_chain.specs.Chains.{first_of, segments_on, pages_needed}
+use Rattle.sgl_descriptor.specs.Spelling.{spelling}
+use Rattle.io_commands.specs.Values.{FinishedContents, numbers_of, gathered_from}
+use Rattle.io_commands.specs.Requests.{data_count, first_passing, parts_of}
+use Rattle.io_commands.specs.DataBytes.{data_length, filled}
+use Rattle.io_commands.specs.declared.request.Request.{Request}
+use Rattle.io_commands.specs.declared.request.Piece.{Piece}
+use Rattle.io_commands.specs.declared.request.Kind.TheVariants.{Read, Write, Compare}
+use Rattle.io_commands.specs.declared.request.Kind.{Kind}
+use Rattle.page_memory.specs.Pages.{zero_page, page_at}
+use Rattle.entry_codec.specs.declared.status.Status.{Status}
+use Rattle.machine_model.specs.Refusals.{refusal_of, next_rung, job_at, post_page}
+use Rattle.machine_model.specs.Events as events
+use Rattle.machine_model.specs.Events.{Event, Reply, Draft, Refusal, Reaped}
+
+-- A script's lines
+
+pub data Line : Type 0 where
+  reserve : (q : ℕ) → (kind : Kind) → (slba blocks : ℕ) → List Piece → Line
+  fill : (q cid : ℕ) → List ℕ → Line
+  build : (q cid : ℕ) → Line
+  submit : (q cid : ℕ) → Line
+  cancel : (q cid : ℕ) → Line
+  ring : (q : ℕ) → Line
+  fetch : (q : ℕ) → Line
+  walk : (q cid : ℕ) → Line
+  complete : (q cid : ℕ) → Line
+  reap : (q : ℕ) → Line
+  collect : (q cid : ℕ) → Line
+  gather : (q cid : ℕ) → Line
+  release : (q cid : ℕ) → Line
+  abort : (q cid : ℕ) → Line
+  delete_sq : (q : ℕ) → Line
+  delete_cq : (q : ℕ) → Line
+  retire : (q : ℕ) → Line
+  forge : (q slot : ℕ) → List ℕ → Line
+
+-- What a line prints. A reserve shows its pages where the printed line has their numbers
+
+pub data FillFault : Type 0 where
+  NotASource : FillFault
+  WrongLength : FillFault
+
+pub data Said : Type 0 where
+  not_filled : FillFault → Said
+  ok : Said
+  reserved : (q cid : ℕ) → (data_pages chain_pages : List ℕ) → Said
+  fetched : (cid : ℕ) → List ℕ → Said
+  walked : WalkState → List ℕ → Said
+  completed : List ℕ → Said
+  reaps : Reaped → Said
+  held : Status → Said
+  gathered : List (ℕ × ℕ) → Said
+  sent : (cid : ℕ) → Said
+  refused : Refusal → Said
+  no_value : Said
+  stuck : Said
+
+pub record Table : Type 0 where
+  pub world : State
+  pub drafts : List Draft
+  pub tickets : List (ℕ × ℕ)
+  pub finished : List FinishedContents
+
+abbrev pub table : State → Table
+table s = record { world = s; drafts = []; tickets = []; finished = [] }
+
+-- Choices
+
+abbrev pub lowest_of : List ℕ → List ℕ → ℕ
+lowest_of used [] = 0
+lowest_of used (n ∷ ns) = if is_among used n then lowest_of used ns else n
+
+abbrev pub zeros_at : List ℕ → List (ℕ × List ℕ)
+zeros_at pages = map (λ p. (p, zero_page)) pages
+
+abbrev pub chosen : State → ℕ → Request → Draft
+chosen s q r =
+    let count = data_count r.pieces in
+    record {
+      q = q;
+      cid = lowest_of (outstanding_on s.host q) (pages_from 0 s.entries);
+      request = r;
+      data_pages = zeros_at (take count s.host.free);
+      chain_pages = zeros_at (take (pages_needed (length r.pieces) s.segment) (drop count s.host.free));
+      entry = None;
+    }
+
+-- A draft's own calls
+
+abbrev pub is_source : Kind → Bool
+is_source Read = false
+is_source Write = true
+is_source Compare = true
+
+abbrev pub filled_draft : List ℕ → Draft → Draft
+filled_draft bytes d =
+    let whole = sum_by data_length d.request.pieces in
+    record d { data_pages = filled d.request.pieces d.data_pages (bytes ++ replicate (whole - length bytes) 0) }
+
+-- bytes that are too few are padded
+abbrev pub fill_fault : List ℕ → Draft → Option FillFault
+fill_fault bytes d =
+    first_passing (
+    (not (is_source d.request.kind), NotASource)
+    ∷ (nat_lt (sum_by data_length d.request.pieces) (length bytes), WrongLength)
+    ∷ [])
+
+abbrev pub built : ℕ → Draft → Draft
+built s d =
+    let parts = parts_of d.request.pieces (numbers_of d.data_pages) in
+    let chain = numbers_of d.chain_pages in
+    record d {
+      chain_pages = laid (segments_on s chain parts) d.chain_pages;
+      entry = Some (io_entry d.cid d.request (spelling (first_of s chain parts)));
+    }
+
+-- maximal runs of equal bytes
+abbrev pub runs_from : ℕ → ℕ → List ℕ → List (ℕ × ℕ)
+runs_from byte count [] = (byte, count) ∷ []
+runs_from byte count (b ∷ bs) = if b == byte then runs_from byte (count + 1) bs else (byte, count) ∷ runs_from b 1 bs
+
+abbrev pub runs : List ℕ → List (ℕ × ℕ)
+runs [] = []
+runs (b ∷ bs) = runs_from b 1 bs
+
+-- Kept values
+
+abbrev pub draft_at : ℕ → ℕ → List Draft → Option Draft
+draft_at q cid drafts = find (λ d. (d.q == q) && (d.cid == cid)) drafts
+
+abbrev pub is_ticket : ℕ → ℕ → ℕ × ℕ → Bool
+is_ticket q cid ticket = (ticket.0 == q) && (ticket.1 == cid)
+
+abbrev pub without_ticket : ℕ → ℕ → List (ℕ × ℕ) → List (ℕ × ℕ)
+without_ticket q cid tickets = filter (λ ticket. not (is_ticket q cid ticket)) tickets
+
+abbrev pub finished_at : ℕ → ℕ → List FinishedContents → Option FinishedContents
+finished_at q cid fs = find (λ f. (f.q == q) && (f.cid == cid)) fs
+
+abbrev pub without_draft : ℕ → ℕ → List Draft → List Draft
+without_draft q cid drafts = filter (λ d. not ((d.q == q) && (d.cid == cid))) drafts
+
+abbrev pub without_finished : ℕ → ℕ → List FinishedContents → List FinishedContents
+without_finished q cid fs = filter (λ f. not ((f.q == q) && (f.cid == cid))) fs
+
+-- One line
+
+-- what a job's next walk step answers, and the pages that it touches
+abbrev pub walk_step : State → Job → Option (WalkState × List ℕ)
+walk_step s j = option_map (λ act. (next_answer s j, pages_touched act)) (next_unit s j)
+
+abbrev pub walked_as : Option (WalkState × List ℕ) → Said
+walked_as None = stuck
+walked_as (Some step) = walked step.0 step.1
+
+-- the world's event with an accepted reply, and what is said of it
+abbrev pub stepped : Table → Event → Reply → Said → (Table → Table) → Table × Said × Option Made
+stepped t e reply words keep =
+    elim (refusal_of t.world e) [
+      | Some why ↦ (t, refused why, Some (record { before = t.world; event = e; reply = events.Refused why (touched_by_refusal t.world e why) }))
+      | None ↦ (keep (record t { world = after t.world e reply }), words, Some (record { before = t.world; event = e; reply = reply }))
+    ]
+
+abbrev pub same_table : Table → Table
+same_table t = t
+
+abbrev pub with_draft : Option Draft → (Draft → Table × Said × Option Made) → Table → Table × Said × Option Made
+with_draft None f t = (t, no_value, None)
+with_draft (Some d) f t = f d
+
+abbrev pub with_finished : Option FinishedContents → (FinishedContents → Table × Said × Option Made) → Table → Table × Said × Option Made
+with_finished None f t = (t, no_value, None)
+with_finished (Some x) f t = f x
+
+abbrev pub line : Table → Line → Table × Said × Option Made
+line t (reserve q kind slba blocks pieces) =
+    let r : Request = record { kind = kind; slba = slba; blocks = blocks; pieces = pieces } in
+    let d = chosen t.world q r in
+    stepped t (events.Reserve q r) (events.Reserved d) (reserved q d.cid (numbers_of d.data_pages) (numbers_of d.chain_pages)) (λ t'. record t' { drafts = d ∷ t'.drafts })
+line t (fill q cid bytes) =
+    with_draft (draft_at q cid t.drafts)
+    (λ d. elim (fill_fault bytes d) [
+      | Some why ↦ (t, not_filled why, None)
+      | None ↦ (record t { drafts = filled_draft bytes d ∷ without_draft q cid t.drafts }, ok, None)
+    ]) t
+line t (build q cid) =
+    with_draft (draft_at q cid t.drafts) (λ d. (record t { drafts = built t.world.segment d ∷ without_draft q cid t.drafts }, ok, None)) t
+line t (submit q cid) =
+    with_draft (draft_at q cid t.drafts) (λ d. stepped t (events.Submit d) events.Accepted ok (λ t'. record t' { drafts = without_draft q cid t'.drafts; tickets = (q, cid) ∷ t'.tickets })) t
+line t (cancel q cid) =
+    with_draft (draft_at q cid t.drafts) (λ d. stepped t (events.Cancel d) events.Accepted ok (λ t'. record t' { drafts = without_draft q cid t'.drafts })) t
+line t (ring q) = stepped t (events.Ring q) events.Accepted ok same_table
+line t (fetch q) =
+    let cid = option_map_or (λ e. e.cid) (next_rung t.world q) 0 in
+    let touched = touched_by_fetch t.world q in
+    stepped t (events.Fetch q) (events.Fetched cid touched) (fetched cid touched) same_table
+line t (walk q cid) =
+    let due = option_and_then (walk_step t.world) (job_at t.world q cid) in
+    stepped t (events.Walk q cid) (option_map_or (λ step. events.Walked step.0 step.1) due events.Accepted) (walked_as due) same_table
+line t (complete q cid) =
+    let touched = post_page t.world q ∷ [] in
+    stepped t (events.Complete q cid) (events.Completed touched) (completed touched) same_table
+line t (reap q) =
+    let what = reaped t.world q in
+    stepped t (events.Reap q) (events.Reaps what) (reaps what) same_table
+line t (collect q cid) =
+    let f = option_and_then (finished_from t.world) (record_at t.world.host q cid) in
+    if list_any (is_ticket q cid) t.tickets
+    then stepped t (events.Collect q cid) (option_map_or events.Collects f events.Accepted) (option_map_or (λ x. held x.status) f stuck)
+    (λ t'. option_map_or (λ x. record t' { tickets = without_ticket q cid t'.tickets; finished = x ∷ t'.finished }) f t')
+    else (t, no_value, None)
+line t (gather q cid) = with_finished (finished_at q cid t.finished) (λ x. (t, gathered (runs (gathered_from x)), None)) t
+line t (release q cid) =
+    with_finished (finished_at q cid t.finished) (λ x. stepped t (events.Release x) events.Accepted ok (λ t'. record t' { finished = without_finished q cid t'.finished })) t
+line t (abort q cid) =
+    let id = lowest_of (outstanding_on t.world.host 0) (pages_from 0 t.world.entries) in
+    stepped t (events.Abort q cid) (events.Sent id) (sent id) same_table
+line t (delete_sq q) =
+    let id = lowest_of (outstanding_on t.world.host 0) (pages_from 0 t.world.entries) in
+    stepped t (events.DeleteSq q) (events.Sent id) (sent id) same_table
+line t (delete_cq q) =
+    let id = lowest_of (outstanding_on t.world.host 0) (pages_from 0 t.world.entries) in
+    stepped t (events.DeleteCq q) (events.Sent id) (sent id) same_table
+line t (retire q) = stepped t (events.Retire q) events.Accepted ok same_table
+line t (forge q slot bytes) = stepped t (events.Forge q slot bytes) events.Accepted ok same_table
+
+abbrev pub played : Table → List Line → List Said
+played t [] = []
+played t (l ∷ ls) = let step = line t l in step.1 ∷ played step.0 ls
+
+abbrev pub left_by : Table → List Line → Table
+left_by t [] = t
+left_by t (l ∷ ls) = left_by (line t l).0 ls
+
+-- the steps that were made, and whether each touches only what it may
+abbrev pub made_by : Table → List Line → List Made
+made_by t [] = []
+made_by t (l ∷ ls) = let step = line t l in option_map_or (λ m. m ∷ []) step.2 [] ++ made_by step.0 ls
+
+abbrev pub all_allowed : List Made → Bool
+all_allowed made = list_all (λ m. stays_allowed m.before m.reply && stays_own m.before m.event m.reply) made
+
+-- a command carried from a draft to its collection, in so many walk steps
+abbrev pub walks : ℕ → ℕ → ℕ → List Line
+walks zero q cid = []
+walks (suc n) q cid = walk q cid ∷ walks n q cid
+
+abbrev pub carried : (steps q cid : ℕ) → List Line
+carried steps q cid =
+    build q cid ∷ submit q cid ∷ ring q ∷ fetch q ∷ walks steps q cid ++ complete q cid ∷ reap q ∷ collect q cid ∷ []
+
+-- the opening of most worked runs: 16 pages, one I/O queue, 4 entries, 64 zero blocks
+abbrev pub defaults : ℕ → ℕ → ℕ → ℕ → Table
+defaults pages queues entries segment = table (opening pages queues entries segment (replicate 32768 0))
+
+-- some bytes of a page, and what is free
+abbrev pub shown : Table → (page at count : ℕ) → List ℕ
+shown t p at count = option_map_or (λ bytes. take count (drop at bytes)) (page_at t.world.memory p) []
+
+abbrev pub free_of : Table → ℕ
+free_of t = length t.world.host.free

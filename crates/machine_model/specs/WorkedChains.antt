@@ -1,0 +1,73 @@
+-- Worked runs of chains.
+use Rattle.std.specs.Prelude.{ℕ, List, [], ◌∷◌, ◌++◌}
+use Rattle.controller_walk.specs.declared.walk.WalkState.TheVariants.{More, End}
+use Rattle.io_commands.specs.declared.request.RequestFault.TheVariants.{LengthMismatch}
+use Rattle.io_commands.specs.declared.request.Piece.TheVariants.{Data, Bucket}
+use Rattle.io_commands.specs.declared.request.Kind.TheVariants.{Read, Write}
+use Rattle.io_commands.specs.declared.request.Kind.{Kind}
+use Rattle.entry_codec.specs.declared.status.TheConstants.Status.{SUCCESS}
+use Rattle.machine_model.specs.Events as events
+use Rattle.machine_model.specs.WorkedReads.{ordinary}
+use Rattle.machine_model.specs.Script.{Line, Said, Table, defaults, left_by, shown, carried, walks, reserve, build, submit, ring, fetch, gather, release, ok, reserved, fetched, walked, completed, reaps, held, gathered, refused}
+
+-- three pieces, with two descriptors in a segment: two segments
+abbrev pub small_segments : Table
+small_segments = defaults 16 1 4 2
+
+abbrev pub two_segments : List Line
+two_segments = reserve 1 Read 0 3 (Data 0 512 ∷ Data 0 512 ∷ Data 0 512 ∷ []) ∷ build 1 0 ∷ submit 1 0 ∷ ring 1 ∷ fetch 1 ∷ walks 8 1 0
+
+abbrev pub two_segments_said : List Said
+two_segments_said =
+    reserved 1 0 (4 ∷ 5 ∷ 6 ∷ []) (7 ∷ 8 ∷ []) ∷ ok ∷ ok ∷ ok ∷ fetched 0 (2 ∷ [])
+    ∷ walked More [] ∷ walked More (7 ∷ []) ∷ walked More (4 ∷ []) ∷ walked More (7 ∷ [])
+    ∷ walked More (8 ∷ []) ∷ walked More (5 ∷ []) ∷ walked More (8 ∷ []) ∷ walked End (6 ∷ []) ∷ []
+
+-- the entry's descriptor and the two segments
+abbrev pub two_segments_bytes : List ℕ
+two_segments_bytes =
+    0 ∷ 112 ∷ 0 ∷ 0 ∷ 0 ∷ 0 ∷ 0 ∷ 0 ∷ 32 ∷ 0 ∷ 0 ∷ 0 ∷ 0 ∷ 0 ∷ 0 ∷ 32
+    ∷ 0 ∷ 64 ∷ 0 ∷ 0 ∷ 0 ∷ 0 ∷ 0 ∷ 0 ∷ 0 ∷ 2 ∷ 0 ∷ 0 ∷ 0 ∷ 0 ∷ 0 ∷ 0
+    ∷ 0 ∷ 128 ∷ 0 ∷ 0 ∷ 0 ∷ 0 ∷ 0 ∷ 0 ∷ 32 ∷ 0 ∷ 0 ∷ 0 ∷ 0 ∷ 0 ∷ 0 ∷ 48
+    ∷ 0 ∷ 80 ∷ 0 ∷ 0 ∷ 0 ∷ 0 ∷ 0 ∷ 0 ∷ 0 ∷ 2 ∷ 0 ∷ 0 ∷ 0 ∷ 0 ∷ 0 ∷ 0
+    ∷ 0 ∷ 96 ∷ 0 ∷ 0 ∷ 0 ∷ 0 ∷ 0 ∷ 0 ∷ 0 ∷ 2 ∷ 0 ∷ 0 ∷ 0 ∷ 0 ∷ 0 ∷ 0 ∷ []
+
+abbrev pub two_segments_shown : List ℕ
+two_segments_shown = let t = left_by small_segments two_segments in shown t 2 24 16 ++ shown t 7 0 32 ++ shown t 8 0 32
+
+-- a Bucket behind data: it counts for a Read and not for a Write
+abbrev pub bucket_request : Kind → (blocks : ℕ) → Line
+bucket_request kind blocks = reserve 1 kind 0 blocks (Data 0 512 ∷ Bucket 512 ∷ [])
+
+abbrev pub bucket_behind_data : List Line
+bucket_behind_data = bucket_request Read 2 ∷ carried 4 1 0 ++ gather 1 0 ∷ release 1 0 ∷ bucket_request Write 1 ∷ carried 4 1 0 ++ bucket_request Write 2 ∷ []
+
+abbrev pub bucket_behind_data_said : List Said
+bucket_behind_data_said =
+    reserved 1 0 (4 ∷ []) (5 ∷ []) ∷ ok ∷ ok ∷ ok ∷ fetched 0 (2 ∷ [])
+    ∷ walked More [] ∷ walked More (5 ∷ []) ∷ walked More (4 ∷ []) ∷ walked End (5 ∷ []) ∷ completed (3 ∷ [])
+    ∷ reaps (events.Done 0 SUCCESS) ∷ held SUCCESS ∷ gathered ((0, 512) ∷ []) ∷ ok
+    ∷ reserved 1 0 (4 ∷ []) (5 ∷ []) ∷ ok ∷ ok ∷ ok ∷ fetched 0 (2 ∷ [])
+    ∷ walked More [] ∷ walked More (5 ∷ []) ∷ walked More (4 ∷ []) ∷ walked End (5 ∷ []) ∷ completed (3 ∷ [])
+    ∷ reaps (events.Done 0 SUCCESS) ∷ held SUCCESS
+    ∷ refused (events.Bad LengthMismatch) ∷ []
+
+abbrev pub bucket_bytes : List ℕ
+bucket_bytes =
+    0 ∷ 80 ∷ 0 ∷ 0 ∷ 0 ∷ 0 ∷ 0 ∷ 0 ∷ 32 ∷ 0 ∷ 0 ∷ 0 ∷ 0 ∷ 0 ∷ 0 ∷ 48
+    ∷ 0 ∷ 64 ∷ 0 ∷ 0 ∷ 0 ∷ 0 ∷ 0 ∷ 0 ∷ 0 ∷ 2 ∷ 0 ∷ 0 ∷ 0 ∷ 0 ∷ 0 ∷ 0
+    ∷ 0 ∷ 0 ∷ 0 ∷ 0 ∷ 0 ∷ 0 ∷ 0 ∷ 0 ∷ 0 ∷ 2 ∷ 0 ∷ 0 ∷ 0 ∷ 0 ∷ 0 ∷ 16 ∷ []
+
+abbrev pub bucket_shown : List ℕ
+bucket_shown = let t = left_by ordinary (bucket_request Read 2 ∷ build 1 0 ∷ submit 1 0 ∷ []) in shown t 2 24 16 ++ shown t 5 0 32
+
+-- four whole pages, each a descriptor of its own
+abbrev pub four_pages : List Line
+four_pages = reserve 1 Read 0 32 (Data 0 4096 ∷ Data 0 4096 ∷ Data 0 4096 ∷ Data 0 4096 ∷ []) ∷ carried 9 1 0
+
+abbrev pub four_pages_said : List Said
+four_pages_said =
+    reserved 1 0 (4 ∷ 5 ∷ 6 ∷ 7 ∷ []) (8 ∷ []) ∷ ok ∷ ok ∷ ok ∷ fetched 0 (2 ∷ [])
+    ∷ walked More [] ∷ walked More (8 ∷ []) ∷ walked More (4 ∷ []) ∷ walked More (8 ∷ []) ∷ walked More (5 ∷ [])
+    ∷ walked More (8 ∷ []) ∷ walked More (6 ∷ []) ∷ walked More (8 ∷ []) ∷ walked End (7 ∷ []) ∷ completed (3 ∷ [])
+    ∷ reaps (events.Done 0 SUCCESS) ∷ held SUCCESS ∷ []

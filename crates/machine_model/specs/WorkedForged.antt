@@ -1,0 +1,127 @@
+-- Worked runs of forged entries, as far as the host's part decides them, and to their ends with the controller's own rings.
+use Rattle.std.specs.Prelude.{ℕ, List, [], ◌∷◌, ◌++◌, map, replicate, false, if◌then◌else◌}
+use Rattle.controller_walk.specs.declared.walk.WalkState.TheVariants.{More, End, Fault}
+use Rattle.admin_commands.specs.declared.SqState.TheVariants.{Absent}
+use Rattle.io_commands.specs.declared.request.Piece.TheVariants.{Data}
+use Rattle.io_commands.specs.declared.request.Kind.TheVariants.{Read}
+use Rattle.entry_codec.specs.declared.status.TheConstants.Status.{SUCCESS, DATA_TRANSFER_ERROR}
+use Rattle.machine_model.specs.State.{Device, DeviceQueue, Answer}
+use Rattle.machine_model.specs.Events as events
+use Rattle.machine_model.specs.Script.{line, Line, Said, Table, defaults, walks, reserve, build, submit, cancel, ring, fetch, walk, complete, reap, collect, release, delete_sq, retire, forge, ok, reserved, fetched, walked, completed, reaps, held, sent, refused}
+
+abbrev pub block : ℕ → Line
+block q = reserve q Read 0 1 (Data 0 512 ∷ [])
+
+-- a forged entry in phase 1 with status 0:00
+abbrev pub forged : (sqhd sqid cid : ℕ) → List ℕ
+forged sqhd sqid cid = replicate 8 0 ++ sqhd ∷ 0 ∷ sqid ∷ 0 ∷ cid ∷ 0 ∷ 1 ∷ 0 ∷ []
+
+abbrev pub three_rejections : List Line
+three_rejections =
+    forge 1 0 (forged 0 1 3) ∷ reap 1 ∷ forge 1 1 (forged 1 1 0) ∷ reap 1 ∷ forge 1 2 (forged 0 0 0) ∷ reap 1 ∷ reap 1 ∷ forge 1 4 (forged 0 0 0) ∷ forge 2 0 (forged 0 0 0) ∷ []
+
+abbrev pub three_rejections_said : List Said
+three_rejections_said =
+    ok ∷ reaps (events.Rejected events.UnknownId) ∷ ok ∷ reaps (events.Rejected events.BadHead) ∷ ok ∷ reaps (events.Rejected events.WrongQueue)
+    ∷ reaps events.Empty ∷ refused events.NoSlot ∷ refused events.NoQueue ∷ []
+
+-- a command held and collected by a forged entry while the controller walks: up to the walk, which no rule decides, and its release
+abbrev pub collected_while_walking : List Line
+collected_while_walking = block 1 ∷ build 1 0 ∷ submit 1 0 ∷ ring 1 ∷ fetch 1 ∷ walk 1 0 ∷ forge 1 0 (forged 1 1 0) ∷ reap 1 ∷ collect 1 0 ∷ walk 1 0 ∷ release 1 0 ∷ []
+
+abbrev pub collected_while_walking_said : List Said
+collected_while_walking_said =
+    reserved 1 0 (4 ∷ []) [] ∷ ok ∷ ok ∷ ok ∷ fetched 0 (2 ∷ []) ∷ walked More [] ∷ ok ∷ reaps (events.Done 0 SUCCESS) ∷ held SUCCESS
+    ∷ walked (Fault DATA_TRANSFER_ERROR) [] ∷ ok ∷ []
+
+abbrev pub three_submitted : List Line
+three_submitted =
+    block 1 ∷ block 1 ∷ block 1 ∷ build 1 0 ∷ build 1 1 ∷ build 1 2 ∷ submit 1 0 ∷ submit 1 1 ∷ submit 1 2 ∷ ring 1 ∷ []
+
+abbrev pub head_held_back : List Line
+head_held_back = forge 1 0 (forged 0 1 0) ∷ reap 1 ∷ collect 1 0 ∷ release 1 0 ∷ block 1 ∷ build 1 0 ∷ submit 1 0 ∷ cancel 1 0 ∷ []
+
+abbrev pub head_held_back_said : List Said
+head_held_back_said =
+    ok ∷ reaps (events.Done 0 SUCCESS) ∷ held SUCCESS ∷ ok ∷ reserved 1 0 (4 ∷ []) [] ∷ ok ∷ refused events.QueueFull ∷ ok ∷ []
+
+-- the same with the controller's own rings, to its end
+abbrev pub exact_collected_while_walking : List Line
+exact_collected_while_walking = collected_while_walking ++ complete 1 0 ∷ reap 1 ∷ []
+
+abbrev pub exact_collected_while_walking_said : List Said
+exact_collected_while_walking_said = collected_while_walking_said ++ completed (3 ∷ []) ∷ reaps events.Empty ∷ []
+
+-- a forged entry holds a command that is a job: its identifier is reserved again and meets it at the controller. Up to the reap after the full ring
+abbrev pub identifier_of_a_job : List Line
+identifier_of_a_job =
+    fetch 1 ∷ fetch 1 ∷ fetch 1 ∷ walks 2 1 0 ++ walks 2 1 1 ++ walks 2 1 2
+    ++ forge 1 0 (forged 3 1 0) ∷ reap 1 ∷ collect 1 0 ∷ release 1 0 ∷ block 1 ∷ build 1 0 ∷ submit 1 0 ∷ ring 1
+    ∷ fetch 1 ∷ complete 1 0 ∷ complete 1 1 ∷ complete 1 2 ∷ []
+
+abbrev pub identifier_of_a_job_said : List Said
+identifier_of_a_job_said =
+    fetched 0 (2 ∷ []) ∷ fetched 1 (2 ∷ []) ∷ fetched 2 (2 ∷ []) ∷ walked More [] ∷ walked End (4 ∷ []) ∷ walked More [] ∷ walked End (5 ∷ []) ∷ walked More [] ∷ walked End (6 ∷ [])
+    ∷ ok ∷ reaps (events.Done 0 SUCCESS) ∷ held SUCCESS ∷ ok ∷ reserved 1 0 (4 ∷ []) [] ∷ ok ∷ ok ∷ ok
+    ∷ fetched 0 (2 ∷ 3 ∷ []) ∷ completed (3 ∷ []) ∷ completed (3 ∷ []) ∷ refused events.Full ∷ []
+
+-- a forged success of a deletion: a queue is retired of which the controller still fetches. Up to the fetch, which no rule decides
+abbrev pub two_queues : Table
+two_queues = defaults 16 2 4 256
+
+abbrev pub forged_deletion : List Line
+forged_deletion =
+    block 1 ∷ build 1 0 ∷ submit 1 0 ∷ ring 1 ∷ delete_sq 1 ∷ forge 0 0 (forged 0 0 0) ∷ reap 0 ∷ retire 1 ∷ block 2 ∷ cancel 2 0 ∷ []
+
+abbrev pub forged_deletion_said : List Said
+forged_deletion_said =
+    reserved 1 0 (6 ∷ []) [] ∷ ok ∷ ok ∷ ok ∷ sent 0 ∷ ok ∷ reaps (events.AdminDone 0 SUCCESS 0) ∷ ok ∷ reserved 2 0 (2 ∷ []) [] ∷ ok ∷ []
+
+abbrev pub exact_identifier_of_a_job : List Line
+exact_identifier_of_a_job = three_submitted ++ identifier_of_a_job ++ reap 1 ∷ complete 1 2 ∷ []
+
+abbrev pub said_three : List Said
+said_three =
+    reserved 1 0 (4 ∷ []) [] ∷ reserved 1 1 (5 ∷ []) [] ∷ reserved 1 2 (6 ∷ []) [] ∷ ok ∷ ok ∷ ok ∷ ok ∷ ok ∷ ok ∷ ok ∷ []
+
+abbrev pub exact_identifier_of_a_job_said : List Said
+exact_identifier_of_a_job_said = said_three ++ identifier_of_a_job_said ++ reaps (events.Done 0 SUCCESS) ∷ completed (3 ∷ []) ∷ []
+
+abbrev pub head_run_ahead : List Line
+head_run_ahead = three_submitted ++ forge 1 0 (forged 3 1 0) ∷ reap 1 ∷ collect 1 0 ∷ release 1 0 ∷ block 1 ∷ build 1 0 ∷ submit 1 0 ∷ ring 1 ∷ fetch 1 ∷ []
+
+abbrev pub head_run_ahead_said : List Said
+head_run_ahead_said =
+    said_three ++ ok ∷ reaps (events.Done 0 SUCCESS) ∷ held SUCCESS ∷ ok ∷ reserved 1 0 (4 ∷ []) [] ∷ ok ∷ ok ∷ ok ∷ refused events.Idle ∷ []
+
+abbrev pub exact_forged_deletion : List Line
+exact_forged_deletion =
+    block 1 ∷ build 1 0 ∷ submit 1 0 ∷ ring 1 ∷ delete_sq 1 ∷ forge 0 0 (forged 0 0 0) ∷ reap 0 ∷ retire 1 ∷ block 2 ∷ fetch 1 ∷ cancel 2 0 ∷ fetch 1 ∷ []
+
+abbrev pub exact_forged_deletion_said : List Said
+exact_forged_deletion_said =
+    reserved 1 0 (6 ∷ []) [] ∷ ok ∷ ok ∷ ok ∷ sent 0 ∷ ok ∷ reaps (events.AdminDone 0 SUCCESS 0) ∷ ok ∷ reserved 2 0 (2 ∷ []) [] ∷ refused events.SlotOut ∷ ok ∷ fetched 0 (2 ∷ []) ∷ []
+
+-- Once something was forged, the controller's part is open: here it is another one after each line, and the host's answers stay
+abbrev pub played_over : (Device → Device) → Table → List Line → List Said
+played_over f t [] = []
+played_over f t (l ∷ ls) =
+    let step = line t l in
+    let s = step.0.world in
+    step.1 ∷ played_over f (record step.0 { world = if s.trusted then s else record s { device = f s.device } }) ls
+
+abbrev pub emptied : DeviceQueue → DeviceQueue
+emptied at = record at { state = Absent; cq_there = false; unfetched = []; rung = 0; answers = [] }
+
+abbrev pub blank : Device → Device
+blank d = record d { queues = map emptied d.queues; jobs = [] }
+
+-- with an answer to each command that there could be, on each queue
+abbrev pub an_answer : ℕ → Answer
+an_answer cid = record { cid = cid; status = SUCCESS; dw0 = 0; sq_head = 0 }
+
+abbrev pub answering : DeviceQueue → DeviceQueue
+answering at = record at { answers = an_answer 0 ∷ an_answer 1 ∷ an_answer 2 ∷ [] }
+
+abbrev pub crowded : Device → Device
+crowded d = record d { queues = map answering d.queues }

@@ -1,0 +1,92 @@
+-- What worked runs show of the laws: the image of a run, chains that spell their parts, entries read back.
+use Rattle.std.specs.Prelude.{ℕ, List, [], ◌∷◌, map, replicate, take, drop, slice_index}
+use Rattle.std.specs.Option.{option_map, option_map_or}
+use Rattle.controller_walk.specs.declared.walk.WalkState.TheVariants.{More, End}
+use Rattle.sgl_descriptor.specs.declared.Part.{Part}
+use Rattle.entry_codec.specs.Submission.{submission_bytes, submission_of}
+use Rattle.sgl_descriptor.specs.Spelling.{spelling}
+use Rattle.sgl_descriptor.specs.declared.Descriptor.TheVariants.{DataBlock, Segment, LastSegment}
+use Rattle.sgl_descriptor.specs.declared.Descriptor.{Descriptor}
+use Rattle.entry_codec.specs.declared.submission.SubEntry.{SubEntry}
+use Rattle.io_commands.specs.declared.request.Piece.TheVariants.{Data, Bucket}
+use Rattle.io_commands.specs.declared.request.Kind.TheVariants.{Read}
+use Rattle.sgl_descriptor.specs.declared.Part.TheVariants as parts
+use Rattle.machine_model.specs.Building.{io_entry}
+use Rattle.sgl_chain.specs.Chains.{parts_from}
+use Rattle.machine_model.specs.Image.{image_after, read_of}
+use Rattle.machine_model.specs.Events as events
+use Rattle.machine_model.specs.Events.{Draft}
+use Rattle.machine_model.specs.Script.{Table, Line, Said, table, defaults, left_by, made_by, built, walks, reserve, build, submit, ring, fetch, walk, complete, reap, ok, fetched, walked, completed, reaps, refused}
+use Rattle.machine_model.specs.Opening.{opening}
+use Rattle.machine_model.specs.WorkedReads.{ordinary, first_write}
+
+-- the first Write, over eight blocks
+abbrev pub eight_blocks : Table
+eight_blocks = table (opening 16 1 4 256 (replicate 4096 0))
+
+abbrev pub image_of_first_write : List ℕ
+image_of_first_write = take 4 (drop 2559 (image_after (replicate 4096 0) (made_by eight_blocks (take 13 first_write))))
+
+abbrev pub image_left : List ℕ
+image_left = take 4 (drop 2559 (left_by eight_blocks (take 13 first_write)).world.device.image)
+
+abbrev pub three_parts : List Part
+three_parts = parts.Data 16384 512 ∷ parts.Data 20480 512 ∷ parts.Data 24576 512 ∷ []
+
+abbrev pub segments_of_three : List (List Descriptor)
+segments_of_three = (DataBlock 16384 512 ∷ LastSegment 32768 32 ∷ []) ∷ (DataBlock 20480 512 ∷ DataBlock 24576 512 ∷ []) ∷ []
+
+abbrev pub parts_spelled : List Part
+parts_spelled = parts_from (Segment 28672 32) segments_of_three
+
+-- the second block is discarded
+abbrev pub read_with_bucket : List ℕ
+read_with_bucket = read_of (record { kind = Read; slba = 0; blocks = 2; pieces = Data 0 512 ∷ Bucket 512 ∷ [] }) (4 ∷ []) (replicate 32768 0)
+
+abbrev pub far_entry : SubEntry
+far_entry = io_entry 0 (record { kind = Read; slba = 4294967297; blocks = 1; pieces = Data 0 512 ∷ [] }) (spelling (DataBlock 16384 512))
+
+abbrev pub far_entry_read : SubEntry
+far_entry_read = submission_of (submission_bytes far_entry)
+
+-- What the definitions would let through without IsProper: a draft whose entry isn't its own, in a trusted world.
+abbrev pub renamed : SubEntry → SubEntry
+renamed e = record e { cid = 77 }
+
+abbrev pub one_built : Table
+one_built = left_by ordinary (reserve 1 Read 0 1 (Data 0 512 ∷ []) ∷ build 1 0 ∷ [])
+
+abbrev pub renamed_draft : Draft → Draft
+renamed_draft d = record d { entry = option_map renamed d.entry }
+
+abbrev pub one_renamed : Table
+one_renamed = record one_built { drafts = map renamed_draft one_built.drafts }
+
+abbrev pub renamed_run : List Line
+renamed_run = submit 1 0 ∷ ring 1 ∷ fetch 1 ∷ walk 1 77 ∷ walk 1 77 ∷ complete 1 77 ∷ reap 1 ∷ []
+
+abbrev pub renamed_said : List Said
+renamed_said = ok ∷ ok ∷ fetched 77 (2 ∷ []) ∷ walked More [] ∷ walked End (4 ∷ []) ∷ completed (3 ∷ []) ∷ reaps (events.Rejected events.UnknownId) ∷ []
+
+-- A draft made anew with segments of 3 in a world of 4: as many chain pages, another entry, and no refusal sees it.
+abbrev pub four_each : Table
+four_each = left_by (defaults 16 1 4 4) (reserve 1 Read 0 5 (Data 0 512 ∷ Data 0 512 ∷ Data 0 512 ∷ Data 0 512 ∷ Data 0 512 ∷ []) ∷ [])
+
+abbrev pub made_anew : Table
+made_anew = record four_each { drafts = map (built 3) four_each.drafts }
+
+abbrev pub length_named : Draft → ℕ
+length_named d = option_map_or (λ e. slice_index e.sgl1 8) d.entry 0
+
+abbrev pub lengths : Table → List ℕ
+lengths t = map length_named t.drafts
+
+abbrev pub anew_run : List Line
+anew_run = submit 1 0 ∷ ring 1 ∷ fetch 1 ∷ walks 13 1 0
+
+abbrev pub anew_said : List Said
+anew_said =
+    ok ∷ ok ∷ fetched 0 (2 ∷ []) ∷ walked More []
+    ∷ walked More (9 ∷ []) ∷ walked More (4 ∷ []) ∷ walked More (9 ∷ []) ∷ walked More (5 ∷ []) ∷ walked More (9 ∷ [])
+    ∷ walked More (10 ∷ []) ∷ walked More (6 ∷ []) ∷ walked More (10 ∷ []) ∷ walked More (7 ∷ []) ∷ walked More (10 ∷ []) ∷ walked End (8 ∷ [])
+    ∷ refused events.Nothing ∷ []

@@ -1,0 +1,32 @@
+-- Worked runs of one block through one Data Block: a Read, and a Write that is fetched only once it was rung.
+use Rattle.std.specs.Prelude.{List, [], ◌∷◌, ◌++◌}
+use Rattle.controller_walk.specs.declared.walk.WalkState.TheVariants.{More, End}
+use Rattle.io_commands.specs.declared.request.Piece.TheVariants.{Data}
+use Rattle.io_commands.specs.declared.request.Kind.TheVariants.{Read, Write}
+use Rattle.entry_codec.specs.declared.status.TheConstants.Status.{SUCCESS}
+use Rattle.machine_model.specs.Events as events
+use Rattle.machine_model.specs.Script.{Line, Said, Table, defaults, carried, reserve, fill, build, submit, ring, fetch, walk, complete, reap, collect, gather, release, ok, reserved, fetched, walked, completed, reaps, held, gathered, refused}
+
+abbrev pub ordinary : Table
+ordinary = defaults 16 1 4 256
+
+abbrev pub first_read : List Line
+first_read = reserve 1 Read 0 1 (Data 0 512 ∷ []) ∷ carried 2 1 0 ++ gather 1 0 ∷ release 1 0 ∷ []
+
+abbrev pub first_read_said : List Said
+first_read_said =
+    reserved 1 0 (4 ∷ []) [] ∷ ok ∷ ok ∷ ok ∷ fetched 0 (2 ∷ []) ∷ walked More [] ∷ walked End (4 ∷ []) ∷ completed (3 ∷ [])
+    ∷ reaps (events.Done 0 SUCCESS) ∷ held SUCCESS ∷ gathered ((0, 512) ∷ []) ∷ ok ∷ []
+
+abbrev pub first_write : List Line
+first_write =
+    reserve 1 Write 5 1 (Data 0 512 ∷ []) ∷ fill 1 0 (171 ∷ 205 ∷ []) ∷ build 1 0 ∷ submit 1 0 ∷ fetch 1 ∷ ring 1 ∷ fetch 1
+    ∷ walk 1 0 ∷ walk 1 0 ∷ complete 1 0 ∷ reap 1 ∷ collect 1 0 ∷ release 1 0
+    ∷ reserve 1 Read 5 1 (Data 0 512 ∷ []) ∷ carried 2 1 0 ++ gather 1 0 ∷ []
+
+abbrev pub first_write_said : List Said
+first_write_said =
+    reserved 1 0 (4 ∷ []) [] ∷ ok ∷ ok ∷ ok ∷ refused events.Idle ∷ ok ∷ fetched 0 (2 ∷ [])
+    ∷ walked More [] ∷ walked End (4 ∷ []) ∷ completed (3 ∷ []) ∷ reaps (events.Done 0 SUCCESS) ∷ held SUCCESS ∷ ok
+    ∷ reserved 1 0 (4 ∷ []) [] ∷ ok ∷ ok ∷ ok ∷ fetched 0 (2 ∷ []) ∷ walked More [] ∷ walked End (4 ∷ []) ∷ completed (3 ∷ [])
+    ∷ reaps (events.Done 0 SUCCESS) ∷ held SUCCESS ∷ gathered ((171, 1) ∷ (205, 1) ∷ (0, 510) ∷ []) ∷ []

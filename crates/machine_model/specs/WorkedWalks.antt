@@ -1,0 +1,166 @@
+-- Worked walks over a store of 8 pages.
+use Rattle.std.specs.Prelude.{ℕ, slice_set, ◌*◌, Some, None, List, [], ◌∷◌, ◌++◌, replicate, map, take, drop}
+use Rattle.machine_model.specs.Memory.{memory_of}
+use Rattle.controller_walk.specs.Walks.{answer}
+use Rattle.controller_walk.specs.Units.{Act, Stays, Reads, Moves, Course, Closes, Does, course_of_list, units, touched, after_read, entry_cursor, rest_of}
+use Rattle.sgl_descriptor.specs.declared.Direction.TheVariants.{Destination, Source}
+use Rattle.controller_walk.specs.declared.walk.WalkState.TheVariants.{More, End, Fault}
+use Rattle.controller_walk.specs.declared.walk.WalkState.{WalkState}
+use Rattle.sgl_descriptor.specs.Spelling.{spelling, descriptor_of}
+use Rattle.sgl_descriptor.specs.declared.Descriptor.TheVariants.{DataBlock, BitBucket, Segment, LastSegment}
+use Rattle.sgl_descriptor.specs.declared.Descriptor.{Descriptor}
+use Rattle.page_memory.specs.Pages.{Pages, zero_page, with_page_bytes}
+use Rattle.entry_codec.specs.declared.status.TheConstants.Status.{DATA_SGL_LENGTH_INVALID, DATA_TRANSFER_ERROR, INVALID_SGL_COUNT, INVALID_SGL_SEGMENT, SGL_TYPE_INVALID}
+
+abbrev pub store : Pages
+store = replicate 8 (Some zero_page)
+
+abbrev pub store_with : List Descriptor → Pages
+store_with [] = store
+store_with (d ∷ ds) = with_page_bytes (store_with ds) 1 (16 * 0) (spelling d)
+
+-- two descriptors at 1000h
+abbrev pub two_at : Descriptor → Descriptor → Pages
+two_at d e = with_page_bytes (with_page_bytes store 1 0 (spelling d)) 1 16 (spelling e)
+
+-- what each step answers, and the pages that it touches
+abbrev pub outcomes : Course → List (WalkState × List ℕ)
+outcomes (Closes v) = []
+outcomes (Does a rest) = (answer rest, touched a) ∷ outcomes rest
+
+-- the number of bytes that a unit moves
+abbrev pub moved_count : Act → ℕ
+moved_count Stays = 0
+moved_count (Reads place) = 0
+moved_count (Moves place n offset) = n
+
+abbrev pub walk_of : Pages → List ℕ → ℕ → List (WalkState × List ℕ)
+walk_of m sgl1 need = outcomes (course_of_list (memory_of m) sgl1 Destination need)
+
+-- the same where a list has so many descriptors behind the first
+abbrev pub short_walk_of : ℕ → Pages → List ℕ → ℕ → List (WalkState × List ℕ)
+short_walk_of more m sgl1 need =
+    outcomes (Does Stays (after_read (memory_of m) Destination need entry_cursor need (rest_of more (memory_of m) Destination need) (descriptor_of sgl1)))
+
+abbrev pub block_and_link : Pages
+block_and_link = two_at (DataBlock 8192 512) (Segment 12288 16)
+
+abbrev pub link_in_last_segment : List (WalkState × List ℕ)
+link_in_last_segment = walk_of block_and_link (spelling (LastSegment 4096 32)) 1024
+
+abbrev pub link_in_last_segment_said : List (WalkState × List ℕ)
+link_in_last_segment_said = (More, []) ∷ (More, 1 ∷ []) ∷ (More, 2 ∷ []) ∷ (Fault INVALID_SGL_SEGMENT, 1 ∷ []) ∷ []
+
+abbrev pub link_not_last : List (WalkState × List ℕ)
+link_not_last = walk_of block_and_link (spelling (Segment 4096 48)) 1024
+
+abbrev pub link_not_last_said : List (WalkState × List ℕ)
+link_not_last_said = (More, []) ∷ (More, 1 ∷ []) ∷ (More, 2 ∷ []) ∷ (Fault INVALID_SGL_COUNT, 1 ∷ []) ∷ []
+
+-- two types of no profile, an end above 2^64, a byte too few and one too many
+abbrev pub kind_byte : ℕ → List ℕ
+kind_byte b = replicate 15 0 ++ b ∷ []
+
+abbrev pub lone_descriptors : List (List (WalkState × List ℕ))
+lone_descriptors =
+    walk_of store (kind_byte 64) 512 ∷ walk_of store (kind_byte 1) 512
+    ∷ walk_of store (spelling (DataBlock 18446744073709551360 512)) 512
+    ∷ walk_of store (spelling (DataBlock 8192 511)) 512
+    ∷ walk_of store (spelling (DataBlock 8192 513)) 512 ∷ []
+
+abbrev pub lone_descriptors_said : List (List (WalkState × List ℕ))
+lone_descriptors_said =
+    ((Fault SGL_TYPE_INVALID, []) ∷ []) ∷ ((Fault SGL_TYPE_INVALID, []) ∷ [])
+    ∷ ((Fault DATA_SGL_LENGTH_INVALID, []) ∷ [])
+    ∷ ((More, []) ∷ (Fault DATA_SGL_LENGTH_INVALID, 2 ∷ []) ∷ [])
+    ∷ ((Fault DATA_SGL_LENGTH_INVALID, []) ∷ []) ∷ []
+
+abbrev pub short_block_moves : List ℕ
+short_block_moves = map moved_count (units (course_of_list (memory_of store) (spelling (DataBlock 8192 511)) Destination 512))
+
+-- a segment that names itself, here with 50 descriptors for 4,096; and data beyond the pool
+abbrev pub circle : List (WalkState × List ℕ)
+circle = drop 48 (short_walk_of 49 (with_page_bytes store 1 0 (spelling (Segment 4096 16))) (spelling (Segment 4096 16)) 512)
+
+abbrev pub circle_said : List (WalkState × List ℕ)
+circle_said = (More, 1 ∷ []) ∷ (More, 1 ∷ []) ∷ (Fault INVALID_SGL_COUNT, []) ∷ []
+
+abbrev pub block_past_pool : List (WalkState × List ℕ)
+block_past_pool = walk_of store (spelling (DataBlock 32767 2)) 512
+
+abbrev pub block_past_pool_said : List (WalkState × List ℕ)
+block_past_pool_said = (More, []) ∷ (More, 7 ∷ []) ∷ (Fault DATA_TRANSFER_ERROR, []) ∷ []
+
+-- more: a descriptor in two pages, one of them out; a zero-length block; a bucket of a source
+abbrev pub straddling : List ℕ → Pages
+straddling pages = with_page_bytes (with_page_bytes store 1 4088 (take 8 (spelling (DataBlock 8192 512)))) 2 0 (drop 8 (spelling (DataBlock 8192 512)))
+
+abbrev pub straddling_descriptor : List (WalkState × List ℕ)
+straddling_descriptor = walk_of (straddling []) (spelling (LastSegment 8184 16)) 512
+
+abbrev pub straddling_descriptor_said : List (WalkState × List ℕ)
+straddling_descriptor_said = (More, []) ∷ (More, 1 ∷ 2 ∷ []) ∷ (End, 2 ∷ []) ∷ []
+
+abbrev pub empty_block_and_bucket : List (WalkState × List ℕ)
+empty_block_and_bucket = outcomes (course_of_list (memory_of (two_at (DataBlock 99999 0) (BitBucket 7))) (spelling (LastSegment 4096 32)) Source 512)
+
+abbrev pub empty_block_and_bucket_said : List (WalkState × List ℕ)
+empty_block_and_bucket_said = (More, []) ∷ (More, 1 ∷ []) ∷ (Fault DATA_SGL_LENGTH_INVALID, 1 ∷ []) ∷ []
+
+-- the order of the faults: each list meets two of them
+abbrev pub store_at : Descriptor → Pages
+store_at d = with_page_bytes store 1 0 (spelling d)
+
+abbrev pub pool_without_2 : Pages → Pages
+pool_without_2 m = slice_set m 2 None
+
+abbrev pub orders : List (List (WalkState × List ℕ))
+orders =
+    -- d before e and f: a bad link in the first place of a last segment
+    walk_of (two_at (Segment 3 7) (DataBlock 8192 512)) (spelling (LastSegment 4096 32)) 512
+    -- e before f: a bad link in the first place of a linked segment
+    ∷ walk_of (two_at (Segment 3 7) (Segment 8192 16)) (spelling (Segment 4096 32)) 512
+    -- f alone: length zero, and an address no multiple of 8
+    ∷ walk_of store (spelling (Segment 4096 0)) 512
+    ∷ walk_of store (spelling (LastSegment 4100 16)) 512
+    -- g before h: a block too long in the last place of a linked segment
+    ∷ walk_of (store_at (DataBlock 8192 9999)) (spelling (Segment 4096 16)) 512
+    -- h before i and j: a block too long, that ends above 2^64
+    ∷ walk_of store (spelling (DataBlock 18446744073709551360 513)) 512
+    -- i: a link that ends above 2^64, and one that ends there and is unreadable
+    ∷ walk_of store (spelling (LastSegment 18446744073709551608 16)) 512
+    ∷ walk_of store (spelling (LastSegment 18446744073709551600 16)) 512
+    -- j: the first of two pages is moved
+    ∷ walk_of (pool_without_2 store) (spelling (DataBlock 8000 512)) 512
+    -- b: one byte of a descriptor is unreadable, and no page of it is named
+    ∷ walk_of (pool_without_2 (straddling [])) (spelling (LastSegment 8184 16)) 512
+    -- a bucket of a read counts, one byte too many
+    ∷ walk_of store (spelling (BitBucket 512)) 512
+    ∷ walk_of store (spelling (BitBucket 513)) 512
+    -- a zero-length block in the last place
+    ∷ walk_of (two_at (DataBlock 8192 512) (DataBlock 3 0)) (spelling (LastSegment 4096 32)) 512
+    ∷ []
+
+abbrev pub orders_said : List (List (WalkState × List ℕ))
+orders_said =
+    ((More, []) ∷ (Fault INVALID_SGL_SEGMENT, 1 ∷ []) ∷ [])
+    ∷ ((More, []) ∷ (Fault INVALID_SGL_COUNT, 1 ∷ []) ∷ [])
+    ∷ ((Fault INVALID_SGL_SEGMENT, []) ∷ [])
+    ∷ ((Fault INVALID_SGL_SEGMENT, []) ∷ [])
+    ∷ ((More, []) ∷ (Fault INVALID_SGL_SEGMENT, 1 ∷ []) ∷ [])
+    ∷ ((Fault DATA_SGL_LENGTH_INVALID, []) ∷ [])
+    ∷ ((Fault DATA_SGL_LENGTH_INVALID, []) ∷ [])
+    ∷ ((More, []) ∷ (Fault DATA_TRANSFER_ERROR, []) ∷ [])
+    ∷ ((More, []) ∷ (More, 1 ∷ []) ∷ (Fault DATA_TRANSFER_ERROR, []) ∷ [])
+    ∷ ((More, []) ∷ (Fault DATA_TRANSFER_ERROR, []) ∷ [])
+    ∷ ((End, []) ∷ [])
+    ∷ ((Fault DATA_SGL_LENGTH_INVALID, []) ∷ [])
+    ∷ ((More, []) ∷ (More, 1 ∷ []) ∷ (More, 2 ∷ []) ∷ (End, 1 ∷ []) ∷ [])
+    ∷ []
+
+-- a before b: the descriptor after the last that may be taken isn't read
+abbrev pub too_many : List (WalkState × List ℕ)
+too_many = short_walk_of 0 store (spelling (LastSegment 65536 16)) 512
+
+abbrev pub too_many_said : List (WalkState × List ℕ)
+too_many_said = (More, []) ∷ (Fault INVALID_SGL_COUNT, []) ∷ []

@@ -1,0 +1,151 @@
+//! Worked runs: what scripts of steps print, computed from the definitions. Each function does nothing.
+//!
+//! A world has 16 pages, one I/O queue of 4 entries and an image of 64 blocks of zeros where a run does not say otherwise.
+#![tactic(auto, unfolding(page_memory::specs::Pages::zero_page, sgl_descriptor::specs::Spelling::descriptor_of, entry_codec::specs::Submission::submission_bytes, entry_codec::specs::Submission::submission_of, entry_codec::specs::Completion::completion_bytes, entry_codec::specs::Completion::completion_of, controller_walk::specs::Units::moving, controller_walk::specs::Units::from_place, page_memory::specs::Memory::bytes_at))]
+
+ghost use Rattle.std.specs.Prelude.{◌≡◌, [], ◌∷◌, Some, true, length};
+ghost use Rattle.machine_model.specs.Events as events;
+ghost use Rattle.machine_model.specs.Opening as opens;
+ghost use Rattle.machine_model.specs.Rings.{bench, played_exactly};
+ghost use Rattle.machine_model.specs.Script.{played, left_by, made_by, all_allowed, free_of, build};
+ghost use Rattle.machine_model.specs.Script as script;
+ghost use Rattle.machine_model.specs.WorkedAdmin as admin;
+ghost use Rattle.machine_model.specs.WorkedChains as chains;
+ghost use Rattle.machine_model.specs.WorkedChains.{small_segments};
+ghost use Rattle.machine_model.specs.WorkedForged as forged;
+ghost use Rattle.machine_model.specs.WorkedLaws as laws;
+ghost use Rattle.machine_model.specs.WorkedQueues as queues;
+ghost use Rattle.machine_model.specs.WorkedReads.{ordinary, first_read, first_read_said, first_write, first_write_said};
+ghost use Rattle.machine_model.specs.WorkedSound as sound;
+ghost use Rattle.machine_model.specs.WorkedWalks as walks;
+
+/// One block read through one Data Block, and one written and read back.
+pub fn worked_reads()
+    ensures first_read { played ordinary first_read ≡ first_read_said }
+    ensures first_write { played ordinary first_write ≡ first_write_said }
+{}
+
+/// Chains: two segments, a Bit Bucket, four whole pages. Their descriptors stand in memory byte for byte.
+pub fn worked_chains()
+    ensures two_segments { played small_segments chains.two_segments ≡ chains.two_segments_said }
+    ensures two_segments_bytes { chains.two_segments_shown ≡ chains.two_segments_bytes }
+    ensures bucket_behind_data { played ordinary chains.bucket_behind_data ≡ chains.bucket_behind_data_said }
+    ensures bucket_bytes { chains.bucket_shown ≡ chains.bucket_bytes }
+    ensures four_pages { played ordinary chains.four_pages ≡ chains.four_pages_said }
+{}
+
+/// Walks over lists in a store of eight pages: their answers and touched pages, and the order of the faults.
+pub fn worked_walks()
+    ensures link_in_last_segment { walks.link_in_last_segment ≡ walks.link_in_last_segment_said }
+    ensures link_not_last { walks.link_not_last ≡ walks.link_not_last_said }
+    ensures lone_descriptors { walks.lone_descriptors ≡ walks.lone_descriptors_said }
+    ensures short_block { walks.short_block_moves ≡ (0 ∷ 511 ∷ []) }
+    ensures circle { walks.circle ≡ walks.circle_said }
+    ensures block_past_pool { walks.block_past_pool ≡ walks.block_past_pool_said }
+    ensures straddling_descriptor { walks.straddling_descriptor ≡ walks.straddling_descriptor_said }
+    ensures empty_block_and_bucket { walks.empty_block_and_bucket ≡ walks.empty_block_and_bucket_said }
+    ensures orders { walks.orders ≡ walks.orders_said }
+    ensures too_many { walks.too_many ≡ walks.too_many_said }
+{}
+
+/// Queues: the bytes of their slots as they turn, identifiers and pages that run out, two Compares, a Read past the image,
+/// the draft of another world, and refusals in their order.
+pub fn worked_queues()
+    ensures first_ring { queues.ring_of (left_by queues.two_entries queues.once) ≡ Some queues.ring_after_one }
+    ensures second_ring { queues.ring_of (left_by (queues.turned_to queues.ring_after_one) queues.once) ≡ Some queues.ring_after_two }
+    ensures first_completion { script.shown (left_by queues.two_entries queues.once) 3 0 16 ≡ queues.completion_in_slot 1 1 }
+    ensures second_completion { script.shown (left_by (queues.turned_to queues.ring_after_one) queues.once) 3 16 16 ≡ queues.completion_in_slot 0 1 }
+    ensures third_completion { script.shown (left_by (queues.turned_to queues.ring_after_two) queues.once) 3 0 16 ≡ queues.completion_in_slot 1 0 }
+    ensures first_submission { script.shown (left_by queues.two_entries queues.once) 2 0 4 ≡ queues.first_word }
+    ensures no_second_submission { script.shown (left_by queues.two_entries queues.once) 2 64 4 ≡ (0 ∷ 0 ∷ 0 ∷ 0 ∷ []) }
+    ensures second_submission { script.shown (left_by (queues.turned_to queues.ring_after_one) queues.once) 2 64 4 ≡ queues.first_word }
+    ensures identifiers_run_out { played ordinary queues.identifiers_run_out ≡ queues.identifiers_run_out_said }
+    ensures two_compares { played ordinary queues.two_compares ≡ queues.two_compares_said }
+    ensures read_past_image { played ordinary queues.read_past_image ≡ queues.read_past_image_said }
+    ensures pages_run_out { played ordinary queues.pages_run_out ≡ queues.pages_run_out_said }
+    ensures stranger { queues.stranger ≡ (script.refused events.Stranger ∷ script.ok ∷ []) }
+    ensures refusals_in_order { played ordinary queues.refusals_in_order ≡ queues.refusals_in_order_said }
+    ensures fills { played ordinary queues.fills ≡ queues.fills_said }
+{}
+
+/// Admin commands: three Aborts, the deletion of a queue with work left, an Abort sent for an earlier command of the same
+/// identifier, and two Delete CQs sent to a live queue.
+pub fn worked_admin()
+    ensures three_aborts { played ordinary admin.three_aborts ≡ admin.three_aborts_said }
+    ensures queue_deletion { played ordinary admin.queue_deletion ≡ admin.queue_deletion_said }
+    ensures free_after_deletion { free_of (left_by ordinary admin.queue_deletion) ≡ 14 }
+    ensures abort_of_reused_identifier { played ordinary admin.abort_of_reused_identifier ≡ admin.abort_of_reused_identifier_said }
+    ensures two_cq_deletions { played ordinary admin.two_cq_deletions ≡ admin.two_cq_deletions_said }
+{}
+
+/// Forged completion entries: what the host is answered, whatever the controller's part is (blank or crowded).
+pub fn worked_forged()
+    ensures three_rejections { played ordinary forged.three_rejections ≡ forged.three_rejections_said }
+    ensures three_rejections_blank { forged.played_over forged.blank ordinary forged.three_rejections ≡ forged.three_rejections_said }
+    ensures three_rejections_crowded { forged.played_over forged.crowded ordinary forged.three_rejections ≡ forged.three_rejections_said }
+    ensures head_held_back_blank { forged.played_over forged.blank (left_by ordinary forged.three_submitted) forged.head_held_back ≡ forged.head_held_back_said }
+    ensures forged_deletion_crowded { forged.played_over forged.crowded forged.two_queues forged.forged_deletion ≡ forged.forged_deletion_said }
+    ensures collected_while_walking { played ordinary forged.collected_while_walking ≡ forged.collected_while_walking_said }
+    ensures head_held_back { played (left_by ordinary forged.three_submitted) forged.head_held_back ≡ forged.head_held_back_said }
+    ensures identifier_of_a_job { played (left_by ordinary forged.three_submitted) forged.identifier_of_a_job ≡ forged.identifier_of_a_job_said }
+    ensures forged_deletion { played forged.two_queues forged.forged_deletion ≡ forged.forged_deletion_said }
+{}
+
+/// Two openings that are refused.
+pub fn worked_openings()
+    ensures too_few_pages { opens.open_refusal 8 4 4 256 ≡ Some (opens.NoPages 10 8) }
+    ensures bad_config { opens.open_refusal 7 1 4 256 ≡ Some opens.BadConfig }
+{}
+
+/// Each step of these runs touches only pages that it may.
+pub fn worked_touches()
+    ensures two_segments { all_allowed (made_by small_segments chains.two_segments) ≡ true }
+    ensures three_aborts { all_allowed (made_by ordinary admin.three_aborts) ≡ true }
+    ensures queue_deletion { all_allowed (made_by ordinary admin.queue_deletion) ≡ true }
+{}
+
+/// The image of a run with one Write, what a Read with a Bit Bucket gathers, and what the segments of three pieces spell.
+pub fn worked_images()
+    ensures image { laws.image_of_first_write ≡ (0 ∷ 171 ∷ 205 ∷ 0 ∷ []) }
+    ensures image_left { laws.image_left ≡ laws.image_of_first_write }
+    ensures read_with_bucket { length laws.read_with_bucket ≡ 512 }
+    ensures parts_spelled { laws.parts_spelled ≡ laws.three_parts }
+    ensures far_entry { laws.far_entry_read ≡ laws.far_entry }
+{}
+
+/// Drafts that nobody but their maker can make: one whose entry has another identifier, and one with segments of another
+/// length.
+pub fn worked_drafts()
+    ensures renamed { played laws.one_renamed laws.renamed_run ≡ laws.renamed_said }
+    ensures anew_lengths { laws.lengths laws.made_anew ≡ (48 ∷ []) }
+    ensures own_lengths { laws.lengths (left_by laws.four_each (build 1 0 ∷ [])) ≡ (64 ∷ []) }
+    ensures anew { played laws.made_anew laws.anew_run ≡ laws.anew_said }
+{}
+
+/// The same machine with the controller's own rings: runs that a forged entry leaves open, and trusted ones.
+pub fn worked_rings()
+    ensures collected_while_walking { played_exactly (bench ordinary) forged.exact_collected_while_walking ≡ forged.exact_collected_while_walking_said }
+    ensures identifier_of_a_job { played_exactly (bench ordinary) forged.exact_identifier_of_a_job ≡ forged.exact_identifier_of_a_job_said }
+    ensures head_run_ahead { played_exactly (bench ordinary) forged.head_run_ahead ≡ forged.head_run_ahead_said }
+    ensures forged_deletion { played_exactly (bench forged.two_queues) forged.exact_forged_deletion ≡ forged.exact_forged_deletion_said }
+    ensures three_rejections { played_exactly (bench ordinary) forged.three_rejections ≡ forged.three_rejections_said }
+    ensures three_aborts { played_exactly (bench ordinary) admin.three_aborts ≡ admin.three_aborts_said }
+    ensures queue_deletion { played_exactly (bench ordinary) admin.queue_deletion ≡ admin.queue_deletion_said }
+    ensures abort_of_reused_identifier { played_exactly (bench ordinary) admin.abort_of_reused_identifier ≡ admin.abort_of_reused_identifier_said }
+    ensures identifiers_run_out { played_exactly (bench ordinary) queues.identifiers_run_out ≡ queues.identifiers_run_out_said }
+    ensures two_compares { played_exactly (bench ordinary) queues.two_compares ≡ queues.two_compares_said }
+    ensures two_segments { played_exactly (bench small_segments) chains.two_segments ≡ chains.two_segments_said }
+    ensures turns { played_exactly (bench sound.three_entries) sound.turns ≡ sound.said_turns }
+    ensures turns_by_lists { played sound.three_entries sound.turns ≡ sound.said_turns }
+{}
+
+/// In each state of these runs every page has one owner, the counts add up, identifiers differ, and pages are out with
+/// their commands.
+pub fn worked_owners()
+    ensures three_aborts { sound.all_sound (made_by ordinary admin.three_aborts) ≡ true }
+    ensures queue_deletion { sound.all_sound (made_by ordinary admin.queue_deletion) ≡ true }
+    ensures bucket_behind_data { sound.all_sound (made_by ordinary chains.bucket_behind_data) ≡ true }
+    ensures collected_while_walking { sound.all_sound (made_by ordinary forged.collected_while_walking) ≡ true }
+    ensures identifier_of_a_job { sound.all_sound (made_by (left_by ordinary forged.three_submitted) forged.identifier_of_a_job) ≡ true }
+    ensures forged_deletion { sound.all_sound (made_by forged.two_queues forged.forged_deletion) ≡ true }
+{}
