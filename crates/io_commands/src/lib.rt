@@ -1,17 +1,20 @@
 //! I/O commands as values and as jobs (NVM Command Set Specification 1.0: Read, Write, Compare).
 //!
-//! A [`Request`] says what a host asks for.
+//! The host: a [`Request`] is checked, a [`Draft`] is filled and built, a [`Ticket`] stands for a submitted command, and
+//! [`Finished`] is what came of it. The controller: a [`Job`] is a fetched command.
 #![tactic(auto)]
 
 mod data_bytes;
 mod draft;
 mod finished;
+mod job;
 mod layout;
 mod request;
 mod ticket;
 
 pub use draft::{Draft, DraftParts, FillFault};
 pub use finished::{Finished, FinishedParts};
+pub use job::{Job, begin_job, finish_job};
 pub use request::{Kind, MAX_BLOCKS, MAX_PIECES, Piece, Pieces, Request, RequestFault};
 pub use ticket::Ticket;
 

@@ -1,0 +1,311 @@
+//! The controller's side: a command of an I/O queue from its fetch to its completion.
+
+ghost use Rattle.std.specs.Prelude.{◌≡◌, ◌<◌, ◌≤◌, ◌+◌, ◌*◌, ◌-◌, ◌^◌, ◌++◌, ◌∷◌, [], length, replicate, IsSome, IfOk, None, Some};
+ghost use Rattle.std.specs.Result.{result_err};
+ghost use Rattle.block_image.specs.Blocks.{block_count};
+ghost use Rattle.controller_walk.specs.Walks.{DoesFirst, LeavesRest, IfMore};
+ghost use Rattle.io_commands.specs.Jobs.{IsJob, kind_of_opcode, first_block as spec_first_block, block_number as spec_block_number, need_of_entry, direction_of_entry, io_fault, NoFaultIsPassing, first_bytes as spec_first_bytes, bytes_after_check, BeginsWalk, job_course, left_of_walk, verdict_of, finished_status, finished_image, status_after, image_after, entry_over};
+
+use crate::request::{Kind, MAX_BLOCKS};
+use block_image::{BLOCK_SIZE, Image};
+use controller_walk::{Walk, WalkState};
+use entry_codec::{Status, SubEntry, io_opcode};
+use page_memory::Dma;
+use std::alloc::{AllocError, Global};
+use std::marker::Model;
+
+/// A fetched command of an I/O queue, which waits for its walk or for its completion.
+///
+/// A controller that is reset may drop it. Contracts see its entry, the blocks of its image, its bytes, its walk, if it has
+/// one, and its verdict, once it has one.
+#[derive(Drop)]
+pub struct Job {
+    entry: SubEntry,
+    blocks: u32,
+    bytes: Vec<u8>,
+    walk: Option<Walk>,
+    verdict: Option<Status>,
+}
+
+impl Model for Job {
+    ghost use Rattle.io_commands.specs.Jobs.{JobContents, IsJobBy};
+
+    ghost Value = { JobContents };
+
+    ghost view = { λ job. record { blocks = job.blocks; entry = job.entry; bytes = job.bytes.items; walk = job.walk; verdict = job.verdict } };
+
+    ghost invariant = { λ job. IsJobBy job.blocks job.entry job.bytes.items job.verdict job.walk };
+}
+
+/// The command of an opcode, if it is one of an I/O queue.
+fn kind_of(opcode: u8) -> Option<Kind>
+    ensures { result ≡ kind_of_opcode opcode }
+{
+    match opcode {
+        io_opcode::WRITE => Some(Kind::Write),
+        io_opcode::READ => Some(Kind::Read),
+        io_opcode::COMPARE => Some(Kind::Compare),
+        _ => None,
+    }
+}
+
+/// The first block that an entry names.
+fn first_block(entry: &SubEntry) -> u64
+    ensures { result ≡ spec_first_block entry.now }
+{
+    u64::from(entry.cdw10) + (u64::from(entry.cdw11) << 32)
+}
+
+/// How many blocks an entry names.
+fn block_number(entry: &SubEntry) -> u32
+    ensures number { result ≡ spec_block_number entry.now }
+    ensures some { 0 < result }
+    ensures most { result ≤ 65536 }
+{
+    entry.cdw12 % 65_536 + 1
+}
+
+/// The field checks of an entry, in their order: the command, or the fault.
+fn checked(entry: &SubEntry, blocks: u32) -> Result<Kind, Status>
+    ensures fault { result_err result ≡ io_fault blocks entry.now }
+    ensures kind { IfOk result (λ kind. kind_of_opcode entry.now.opcode ≡ Some kind) }
+{
+    let Some(kind) = kind_of(entry.opcode) else {
+        return Err(Status::INVALID_OPCODE);
+    };
+    if entry.nsid != 1 {
+        return Err(Status::INVALID_NAMESPACE);
+    }
+    if entry.fuse != 0 || entry.psdt != 1 {
+        return Err(Status::INVALID_FIELD);
+    }
+    let number = block_number(entry);
+    if number > MAX_BLOCKS {
+        return Err(Status::INVALID_FIELD);
+    }
+    if number > blocks || first_block(entry) > u64::from(blocks - number) {
+        return Err(Status::LBA_OUT_OF_RANGE);
+    }
+    Ok(kind)
+}
+
+/// The bytes that a command begins with: the blocks of a Read, and zeros for what a Write or a Compare fetches.
+fn first_bytes(
+    alloc: Global,
+    entry: &SubEntry,
+    kind: Kind,
+    image: &Image,
+) -> Result<Vec<u8>, AllocError>
+    requires passes { io_fault (block_count image.now) entry.now ≡ None }
+    requires kind { kind_of_opcode entry.now.opcode ≡ Some kind }
+    ensures bytes { IfOk result (λ bytes. bytes.items ≡ spec_first_bytes image.now entry.now (Some kind)) }
+    ensures length { IfOk result (λ bytes. length bytes.items ≡ need_of_entry entry.now) }
+{
+    let mut bytes = vec![in alloc; 0; BLOCK_SIZE * block_number(entry) as usize]?;
+    if kind == Kind::Read {
+        image.copy_out(first_block(entry), &mut bytes);
+    }
+    Ok(bytes)
+}
+
+/// Takes in a fetched entry of an I/O queue (NVM Command Set Specification 1.0, Compare, Read and Write).
+///
+/// The field checks come in this order: the opcode (Invalid Command Opcode), NSID 1 (Invalid Namespace or Format), FUSE 0 and
+/// PSDT 1 (Invalid Field in Command), at most 2,048 blocks (Invalid Field in Command), and blocks of the image (LBA Out of
+/// Range). The first that fails is the job's verdict. A Read takes its blocks from the image as it is now.
+///
+/// # Errors
+///
+/// Where memory is refused.
+pub fn begin_job(alloc: Global, entry: &SubEntry, image: &Image) -> Result<Job, AllocError>
+    ensures entry { IfOk result (λ job. job.entry ≡ entry.now) }
+    ensures blocks { IfOk result (λ job. job.blocks ≡ block_count image.now) }
+    ensures verdict { IfOk result (λ job. job.verdict ≡ io_fault (block_count image.now) entry.now) }
+    ensures bytes { IfOk result (λ job. job.bytes ≡ bytes_after_check image.now entry.now (io_fault (block_count image.now) entry.now)) }
+    ensures walk { IfOk result (λ job. BeginsWalk entry.now (io_fault (block_count image.now) entry.now) job.walk) }
+    ensures job { IfOk result (λ job. IsJob job) }
+{
+    let blocks = image.blocks();
+    match checked(entry, blocks) {
+        Ok(kind) => {
+            let bytes = first_bytes(alloc, entry, kind, image)?;
+            let need = 512 * block_number(entry);
+            Ok(Job {
+                entry: *entry,
+                blocks,
+                bytes,
+                walk: Some(Walk::begin(entry.sgl1, kind.direction(), need)),
+                verdict: None,
+            })
+        }
+        Err(fault) => Ok(Job {
+            entry: *entry,
+            blocks,
+            bytes: Vec::new(alloc),
+            walk: None,
+            verdict: Some(fault),
+        }),
+    }
+}
+
+/// The verdict that a step of the walk gives.
+fn verdict_after(state: WalkState) -> Option<Status>
+    ensures { result ≡ verdict_of state }
+{
+    match state {
+        WalkState::More => None,
+        WalkState::End => Some(Status::SUCCESS),
+        WalkState::Fault(status) => Some(status),
+    }
+}
+
+impl Job {
+    /// Does the next unit of the walk, and answers as [`Walk::step`] does: `End` gives the verdict Successful Completion, a
+    /// fault gives its status, and after `More` there is no verdict still.
+    ///
+    /// There is no verdict, and the touched list has room for two more pages.
+    pub fn step<D: Dma>(&mut self, dma: &mut D) -> WalkState
+        requires open { self.old.verdict ≡ None }
+        requires room { length (D.reached dma.old) ≤ 2 }
+        ensures does { DoesFirst (job_course (D.memory dma.old) self.old) (direction_of_entry self.old.entry)
+            (D.memory dma.old) (D.memory dma.new) self.old.bytes self.new.bytes (D.reached dma.old) (D.reached dma.new) }
+        ensures leaves { LeavesRest (job_course (D.memory dma.old) self.old) result (job_course (D.memory dma.old) self.new) }
+        ensures verdict { self.new.verdict ≡ verdict_of result }
+        ensures entry { self.new.entry ≡ self.old.entry }
+        ensures blocks { self.new.blocks ≡ self.old.blocks }
+        ensures fewer { IfMore result (left_of_walk self.new.walk < left_of_walk self.old.walk) }
+        ensures touches { length (D.reached dma.new) ≤ length (D.reached dma.old) + 2 }
+        ensures pool { D.page_count dma.new ≡ D.page_count dma.old }
+        ensures job { IsJob self.new }
+    {
+        let Some(walk) = &mut self.walk else {
+            unreachable!()
+        };
+        let answer = walk.step(dma, &mut self.bytes);
+        self.verdict = verdict_after(answer);
+        answer
+    }
+
+    /// Ends the walk with a status, as an Abort or the deletion of the queue does.
+    pub fn stop(&mut self, status: Status)
+        requires open { self.old.verdict ≡ None }
+        ensures { self.new ≡ record self.old { verdict = Some status } }
+    {
+        self.verdict = Some(status);
+    }
+
+    /// How the command ends, once that is known.
+    pub fn verdict(&self) -> Option<Status>
+        ensures verdict { result ≡ self.now.verdict }
+        ensures job { IsJob self.now }
+    {
+        self.verdict
+    }
+
+    /// The entry as it was fetched.
+    pub fn entry(&self) -> &SubEntry
+        ensures { result.now ≡ self.now.entry }
+    {
+        &self.entry
+    }
+
+    /// How many blocks the image had as the entry was checked.
+    pub fn blocks(&self) -> u32
+        ensures { result ≡ self.now.blocks }
+    {
+        self.blocks
+    }
+}
+
+/// Completes a job that has a verdict, over an image of as many blocks as that of its begin: the status of its completion.
+///
+/// Where the verdict is Successful Completion a Write puts its bytes over its blocks, and a Compare whose bytes differ from
+/// its blocks ends with Compare Failure. All else leaves the image, and ends with the verdict.
+pub fn finish_job(job: Job, image: &mut Image) -> Status
+    requires verdict { IsSome job.verdict }
+    requires blocks { block_count image.old ≡ job.blocks }
+    ensures status { result ≡ finished_status image.old job }
+    ensures image { image.new ≡ finished_image image.old job }
+    ensures as_long { length image.new ≡ length image.old }
+{
+    let Job {
+        entry,
+        bytes,
+        verdict,
+        ..
+    } = job;
+    let Some(verdict) = verdict else {
+        unreachable!()
+    };
+    if verdict != Status::SUCCESS {
+        return verdict;
+    }
+    let slba = first_block(&entry);
+    match kind_of(entry.opcode) {
+        Some(Kind::Write) => {
+            image.copy_in(slba, &bytes);
+            Status::SUCCESS
+        }
+        Some(Kind::Compare) if !image.equal(slba, &bytes) => Status::COMPARE_FAILURE,
+        _ => Status::SUCCESS,
+    }
+}
+
+/// The law of the field checks.
+pub fn laws_of_checks()
+    ensures { NoFaultIsPassing }
+{}
+
+/// What the fields of an entry say.
+pub fn worked_fields()
+    ensures no_flush { kind_of_opcode 0x00 ≡ None }
+    ensures write { kind_of_opcode 0x01 ≡ Some Kind.Write }
+    ensures read { kind_of_opcode 0x02 ≡ Some Kind.Read }
+    ensures no_write_uncorrectable { kind_of_opcode 0x04 ≡ None }
+    ensures compare { kind_of_opcode 0x05 ≡ Some Kind.Compare }
+    ensures first_of_both_words { spec_first_block (record (entry_over 0x02 0 1) { cdw10 = 0x89ABCDEF; cdw11 = 0x01234567 }) ≡ 0x0123456789ABCDEF }
+    ensures number_is_one_more { spec_block_number (record (entry_over 0x02 0 1) { cdw12 = 7 }) ≡ 8 }
+    ensures number_in_low_half { spec_block_number (record (entry_over 0x02 0 1) { cdw12 = 0xC0000007 }) ≡ 8 }
+    ensures most { spec_block_number (record (entry_over 0x02 0 1) { cdw12 = 0xFFFF }) ≡ 65536 }
+    ensures need { need_of_entry (entry_over 0x02 0 8) ≡ 4096 }
+{}
+
+/// The field checks at their borders, over images of so many blocks, and which of them comes first.
+pub fn worked_checks()
+    ensures passes { io_fault 65536 (entry_over 0x02 0 1) ≡ None }
+    ensures opcode { io_fault 65536 (entry_over 0x03 0 1) ≡ Some Status.INVALID_OPCODE }
+    ensures opcode_before_namespace { io_fault 65536 (record (entry_over 0x00 0 1) { nsid = 2 }) ≡ Some Status.INVALID_OPCODE }
+    ensures no_namespace { io_fault 65536 (record (entry_over 0x02 0 1) { nsid = 0 }) ≡ Some Status.INVALID_NAMESPACE }
+    ensures second_namespace { io_fault 65536 (record (entry_over 0x02 0 1) { nsid = 2 }) ≡ Some Status.INVALID_NAMESPACE }
+    ensures all_namespaces { io_fault 65536 (record (entry_over 0x02 0 1) { nsid = 0xFFFFFFFF }) ≡ Some Status.INVALID_NAMESPACE }
+    ensures namespace_before_fuse { io_fault 65536 (record (entry_over 0x02 0 1) { nsid = 2; fuse = 1 }) ≡ Some Status.INVALID_NAMESPACE }
+    ensures first_fused { io_fault 65536 (record (entry_over 0x05 0 1) { fuse = 1 }) ≡ Some Status.INVALID_FIELD }
+    ensures second_fused { io_fault 65536 (record (entry_over 0x01 0 1) { fuse = 2 }) ≡ Some Status.INVALID_FIELD }
+    ensures prp { io_fault 65536 (record (entry_over 0x02 0 1) { psdt = 0 }) ≡ Some Status.INVALID_FIELD }
+    ensures metadata_sgl { io_fault 65536 (record (entry_over 0x02 0 1) { psdt = 2 }) ≡ Some Status.INVALID_FIELD }
+    ensures fuse_before_range { io_fault 1 (record (entry_over 0x02 1 1) { fuse = 1 }) ≡ Some Status.INVALID_FIELD }
+    ensures most_blocks { io_fault 65536 (entry_over 0x01 0 2048) ≡ None }
+    ensures one_block_more { io_fault 65536 (entry_over 0x01 0 2049) ≡ Some Status.INVALID_FIELD }
+    ensures number_before_range { io_fault 1 (entry_over 0x01 0 2049) ≡ Some Status.INVALID_FIELD }
+    ensures last_blocks { io_fault 16 (entry_over 0x02 8 8) ≡ None }
+    ensures one_past_the_end { io_fault 16 (entry_over 0x02 9 8) ≡ Some Status.LBA_OUT_OF_RANGE }
+    ensures behind_the_end { io_fault 16 (entry_over 0x02 16 1) ≡ Some Status.LBA_OUT_OF_RANGE }
+    ensures more_than_the_image { io_fault 16 (entry_over 0x02 0 17) ≡ Some Status.LBA_OUT_OF_RANGE }
+    ensures last_number { io_fault 65536 (entry_over 0x02 (2 ^ 64 - 1) 1) ≡ Some Status.LBA_OUT_OF_RANGE }
+{}
+
+/// How commands end over an image of one block of bytes 11h.
+pub fn worked_ends()
+    ensures equal { status_after (replicate 512 0x11) (entry_over 0x05 0 1) (replicate 512 0x11) (Some Status.SUCCESS) ≡ Status.SUCCESS }
+    ensures last_byte_differs { status_after (replicate 512 0x11) (entry_over 0x05 0 1) (replicate 511 0x11 ++ 0x12 ∷ []) (Some Status.SUCCESS) ≡ Status.COMPARE_FAILURE }
+    ensures fault_before_difference { status_after (replicate 512 0x11) (entry_over 0x05 0 1) (replicate 512 0) (Some Status.DATA_TRANSFER_ERROR) ≡ Status.DATA_TRANSFER_ERROR }
+    ensures write { image_after (replicate 512 0x11) (entry_over 0x01 0 1) (replicate 512 0x22) (Some Status.SUCCESS) ≡ replicate 512 0x22 }
+    ensures write_ends_well { status_after (replicate 512 0x11) (entry_over 0x01 0 1) (replicate 512 0x22) (Some Status.SUCCESS) ≡ Status.SUCCESS }
+    ensures failed_write { image_after (replicate 512 0x11) (entry_over 0x01 0 1) (replicate 512 0x22) (Some Status.DATA_SGL_LENGTH_INVALID) ≡ replicate 512 0x11 }
+    ensures stopped_write { image_after (replicate 512 0x11) (entry_over 0x01 0 1) (replicate 512 0x22) (Some Status.ABORT_REQUESTED) ≡ replicate 512 0x11 }
+    ensures compare_leaves { image_after (replicate 512 0x11) (entry_over 0x05 0 1) (replicate 512 0x22) (Some Status.SUCCESS) ≡ replicate 512 0x11 }
+    ensures read_leaves { image_after (replicate 512 0x11) (entry_over 0x02 0 1) (replicate 512 0x22) (Some Status.SUCCESS) ≡ replicate 512 0x11 }
+{}
+
+#[cfg(test)]
+mod tests;
