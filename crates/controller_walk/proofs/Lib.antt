@@ -4,4 +4,5 @@ pub mod Counts
 pub mod Courses
 pub mod Moves
 pub mod Same
+pub mod Serving
 pub mod Stands

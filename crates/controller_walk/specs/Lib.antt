@@ -1,6 +1,7 @@
 pub mod Along
 pub mod Laws
 pub mod Progress
+pub mod Serving
 pub mod Units
 pub mod Walks
 pub mod Worked

@@ -7,12 +7,24 @@ ghost use Rattle.controller_walk.specs.declared.walk.Walk.{Walk};
 ghost use Rattle.controller_walk.specs.declared.walk.WalkState.{WalkState};
 ghost use Rattle.controller_walk.specs.Units.{Course, units_of_list};
 ghost use Rattle.controller_walk.specs.Along.{ListMovesAlong, ListMovesAll};
+ghost use Rattle.controller_walk.specs.Serving.{SameWhereServed, SameListWhereServed};
 ghost use Rattle.controller_walk.specs.Laws.{SameCourse, StandsAtFirst, StepDoesUnit, reads_in};
 
 /// Memories that have the same bytes at the descriptors that a list reads, and miss the same bytes, give the list the
 /// same units and the same verdict.
 pub fn lists_hang_on_descriptors()
     ensures { (m n : Memory) → SameCourse m n }
+{}
+
+/// A memory that has the same bytes at the descriptors that a list reads, and misses none of the bytes that it moves, gives
+/// the list the same course, whatever else differs. (No other memory need do so for a list that ends for want of a byte.)
+pub fn lists_hang_on_what_they_reach()
+    ensures { (m other : Memory) → SameListWhereServed m other }
+{}
+
+/// So it is for what a walk still has to do: a page that it doesn't reach may come and go, and may be written.
+pub fn walks_hang_on_what_they_reach()
+    ensures { (m other : Memory) → SameWhereServed m other }
 {}
 
 /// A walk that begins stands at the first unit of its list, and stays there while nobody writes the list's descriptors.

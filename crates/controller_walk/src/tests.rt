@@ -1,10 +1,10 @@
-//! Walks over stores of eight pages: what each step answers and touches, and the bytes that are moved.
+//! Walks over two memories, a store and a flat one: what each step answers and touches, and the bytes that are moved.
 
 ghost use Rattle.std.specs.Prelude.{◌<◌, ◌≤◌, length};
 
 use super::*;
 use entry_codec::Status;
-use page_memory::{Dma, Store};
+use page_memory::{Dma, FlatMemory, PageNo, Store, Unreadable};
 use sgl_descriptor::Descriptor;
 use std::process::Abort;
 use std::test::Fail;
@@ -35,15 +35,15 @@ fn last_segment(addr: u64, len: u32) -> Descriptor {
 }
 
 /// Puts a descriptor into memory.
-fn put(rt: &impl Abort, store: &mut Store, addr: u64, descriptor: Descriptor) {
-    store.clear();
-    assert!(rt; store.write(addr, &descriptor.write()).is_ok());
+fn put<D: Dma>(rt: &impl Abort, memory: &mut D, addr: u64, descriptor: Descriptor) {
+    memory.clear();
+    assert!(rt; memory.write(addr, &descriptor.write()).is_ok());
 }
 
 /// Walks a list for as many bytes as `staging` has, which takes exactly these steps.
-fn follow(
+fn follow<D: Dma>(
     rt: &impl Abort,
-    store: &mut Store,
+    memory: &mut D,
     staging: &mut [u8],
     direction: Direction,
     first: Descriptor,
@@ -56,10 +56,10 @@ fn follow(
     for (answer, pages) in steps {
         assert!(rt; !walk.is_over());
         assert_eq!(rt; walk.need() as usize, staging.len());
-        store.clear();
-        assert_eq!(rt; walk.step(store, staging), *answer);
-        assert_eq!(rt; store.touched().len(), pages.len());
-        for (page, number) in store.touched().iter().zip(*pages) {
+        memory.clear();
+        assert_eq!(rt; walk.step(memory, staging), *answer);
+        assert_eq!(rt; memory.touched().len(), pages.len());
+        for (page, number) in memory.touched().iter().zip(*pages) {
             assert_eq!(rt; page.0, *number);
         }
     }
@@ -67,14 +67,10 @@ fn follow(
     assert_eq!(rt; walk.left(), 0);
 }
 
-#[test]
-fn links_stand_in_the_last_place_of_a_segment_that_is_not_the_last(
-    rt: HostRuntime,
-) -> Result<(), Fail> {
-    let mut store = Store::open(rt.alloc(), 8)?;
+fn links_over<D: Dma>(rt: &impl Abort, memory: &mut D) {
     let mut staging = [0; 1024];
-    put(&rt, &mut store, 0x1000, block(0x2000, 512));
-    put(&rt, &mut store, 0x1010, segment(0x3000, 16));
+    put(rt, memory, 0x1000, block(0x2000, 512));
+    put(rt, memory, 0x1010, segment(0x3000, 16));
     let in_last = [
         (WalkState::More, NONE),
         (WalkState::More, &[1]),
@@ -82,8 +78,8 @@ fn links_stand_in_the_last_place_of_a_segment_that_is_not_the_last(
         (fault(0x0D), &[1]),
     ];
     follow(
-        &rt,
-        &mut store,
+        rt,
+        memory,
         &mut staging,
         Direction::Destination,
         last_segment(0x1000, 32),
@@ -96,38 +92,46 @@ fn links_stand_in_the_last_place_of_a_segment_that_is_not_the_last(
         (fault(0x0E), &[1]),
     ];
     follow(
-        &rt,
-        &mut store,
+        rt,
+        memory,
         &mut staging,
         Direction::Destination,
         segment(0x1000, 48),
         &inside,
     );
-    Ok(())
 }
 
 #[test]
-fn blocks_have_the_wanted_length(rt: HostRuntime) -> Result<(), Fail> {
+fn links_stand_in_the_last_place_of_a_segment_that_is_not_the_last(
+    rt: HostRuntime,
+) -> Result<(), Fail> {
     let mut store = Store::open(rt.alloc(), 8)?;
+    links_over(&rt, &mut store);
+    let mut flat = FlatMemory::zeroed(rt.alloc(), 8)?;
+    links_over(&rt, &mut flat);
+    Ok(())
+}
+
+fn lengths_over<D: Dma>(rt: &impl Abort, memory: &mut D) -> Result<(), Unreadable> {
     let mut staging = [7; 512];
     let short = [(WalkState::More, NONE), (fault(0x0F), &[2])];
     follow(
-        &rt,
-        &mut store,
+        rt,
+        memory,
         &mut staging,
         Direction::Destination,
         block(0x2000, 511),
         &short,
     );
     let mut bytes = [1; 2];
-    store.clear();
-    store.read(0x21FE, &mut bytes)?;
+    memory.clear();
+    memory.read(0x21FE, &mut bytes)?;
     assert_eq!(rt; bytes, [7, 0]);
     let refused = [(fault(0x0F), NONE)];
     for first in [block(0x2000, 513), block(0xFFFF_FFFF_FFFF_FF00, 512)] {
         follow(
-            &rt,
-            &mut store,
+            rt,
+            memory,
             &mut staging,
             Direction::Destination,
             first,
@@ -138,36 +142,49 @@ fn blocks_have_the_wanted_length(rt: HostRuntime) -> Result<(), Fail> {
         let mut sgl1 = block(0x2000, 512).write();
         sgl1[15] = last;
         let mut walk = Walk::begin(sgl1, Direction::Destination, 512);
-        store.clear();
-        assert_eq!(rt; walk.step(&mut store, &mut staging), fault(0x11));
+        memory.clear();
+        assert_eq!(rt; walk.step(memory, &mut staging), fault(0x11));
     }
     Ok(())
 }
 
 #[test]
-fn a_cycle_ends(rt: HostRuntime) -> Result<(), Fail> {
+fn blocks_have_the_wanted_length(rt: HostRuntime) -> Result<(), Fail> {
     let mut store = Store::open(rt.alloc(), 8)?;
+    lengths_over(&rt, &mut store)?;
+    let mut flat = FlatMemory::zeroed(rt.alloc(), 8)?;
+    lengths_over(&rt, &mut flat)?;
+    Ok(())
+}
+
+fn cycle_over<D: Dma>(rt: &impl Abort, memory: &mut D) {
     let mut staging = [0; 512];
-    put(&rt, &mut store, 0x1000, segment(0x1000, 16));
+    put(rt, memory, 0x1000, segment(0x1000, 16));
     let mut walk = Walk::begin(segment(0x1000, 16).write(), Direction::Destination, 512);
     assert_eq!(rt; walk.left(), 12_289);
     for _ in 0..4096 {
         assert!(rt; !walk.is_over());
         assert_eq!(rt; walk.need(), 512);
-        store.clear();
-        assert_eq!(rt; walk.step(&mut store, &mut staging), WalkState::More);
+        memory.clear();
+        assert_eq!(rt; walk.step(memory, &mut staging), WalkState::More);
     }
     assert!(rt; !walk.is_over());
     assert_eq!(rt; walk.need(), 512);
-    store.clear();
-    assert_eq!(rt; walk.step(&mut store, &mut staging), fault(0x0E));
-    assert_eq!(rt; store.touched().len(), 0);
-    Ok(())
+    memory.clear();
+    assert_eq!(rt; walk.step(memory, &mut staging), fault(0x0E));
+    assert_eq!(rt; memory.touched().len(), 0);
 }
 
 #[test]
-fn a_missing_byte_ends_the_walk_at_its_page(rt: HostRuntime) -> Result<(), Fail> {
+fn a_cycle_ends(rt: HostRuntime) -> Result<(), Fail> {
     let mut store = Store::open(rt.alloc(), 8)?;
+    cycle_over(&rt, &mut store);
+    let mut flat = FlatMemory::zeroed(rt.alloc(), 8)?;
+    cycle_over(&rt, &mut flat);
+    Ok(())
+}
+
+fn missing_byte_over<D: Dma>(rt: &impl Abort, memory: &mut D) -> Result<(), Unreadable> {
     let mut staging = [5; 2];
     let steps = [
         (WalkState::More, NONE),
@@ -175,24 +192,31 @@ fn a_missing_byte_ends_the_walk_at_its_page(rt: HostRuntime) -> Result<(), Fail>
         (fault(0x04), NONE),
     ];
     follow(
-        &rt,
-        &mut store,
+        rt,
+        memory,
         &mut staging,
         Direction::Destination,
         block(0x7FFF, 2),
         &steps,
     );
     let mut byte = [0];
-    store.clear();
-    store.read(0x7FFF, &mut byte)?;
+    memory.clear();
+    memory.read(0x7FFF, &mut byte)?;
     assert_eq!(rt; byte, [5]);
     Ok(())
 }
 
-/// Ranges that end at 2^64 exactly are ordinary missing places.
 #[test]
-fn ranges_end_at_two_to_64(rt: HostRuntime) -> Result<(), Fail> {
+fn a_missing_byte_ends_the_walk_at_its_page(rt: HostRuntime) -> Result<(), Fail> {
     let mut store = Store::open(rt.alloc(), 8)?;
+    missing_byte_over(&rt, &mut store)?;
+    let mut flat = FlatMemory::zeroed(rt.alloc(), 8)?;
+    missing_byte_over(&rt, &mut flat)?;
+    Ok(())
+}
+
+/// Ranges that end at 2^64 exactly are ordinary missing places.
+fn last_ranges_over<D: Dma>(rt: &impl Abort, memory: &mut D) {
     let mut staging = [5; 16];
     let missing = [(WalkState::More, NONE), (fault(0x04), NONE)];
     for first in [
@@ -200,32 +224,31 @@ fn ranges_end_at_two_to_64(rt: HostRuntime) -> Result<(), Fail> {
         segment(u64::MAX - 15, 16),
         segment(0x7FF8, 16),
     ] {
-        follow(
-            &rt,
-            &mut store,
-            &mut staging,
-            Direction::Source,
-            first,
-            &missing,
-        );
+        follow(rt, memory, &mut staging, Direction::Source, first, &missing);
     }
     let refused = [(fault(0x0F), NONE)];
     follow(
-        &rt,
-        &mut store,
+        rt,
+        memory,
         &mut staging,
         Direction::Source,
         segment(u64::MAX - 15, 32),
         &refused,
     );
-    Ok(())
 }
 
 #[test]
-fn destinations_count_buckets_and_sources_skip_them(rt: HostRuntime) -> Result<(), Fail> {
+fn ranges_end_at_two_to_64(rt: HostRuntime) -> Result<(), Fail> {
     let mut store = Store::open(rt.alloc(), 8)?;
-    put(&rt, &mut store, 0x5000, block(0x4000, 512));
-    put(&rt, &mut store, 0x5010, Descriptor::BitBucket { len: 512 });
+    last_ranges_over(&rt, &mut store);
+    let mut flat = FlatMemory::zeroed(rt.alloc(), 8)?;
+    last_ranges_over(&rt, &mut flat);
+    Ok(())
+}
+
+fn buckets_over<D: Dma>(rt: &impl Abort, memory: &mut D) {
+    put(rt, memory, 0x5000, block(0x4000, 512));
+    put(rt, memory, 0x5010, Descriptor::BitBucket { len: 512 });
     let steps = [
         (WalkState::More, NONE),
         (WalkState::More, &[5]),
@@ -234,8 +257,8 @@ fn destinations_count_buckets_and_sources_skip_them(rt: HostRuntime) -> Result<(
     ];
     let mut staging = [6; 1024];
     follow(
-        &rt,
-        &mut store,
+        rt,
+        memory,
         &mut staging,
         Direction::Destination,
         last_segment(0x5000, 32),
@@ -243,29 +266,35 @@ fn destinations_count_buckets_and_sources_skip_them(rt: HostRuntime) -> Result<(
     );
     let mut staging = [0; 512];
     follow(
-        &rt,
-        &mut store,
+        rt,
+        memory,
         &mut staging,
         Direction::Source,
         last_segment(0x5000, 32),
         &steps,
     );
     assert_eq!(rt; staging, [6; 512]);
-    Ok(())
 }
 
 #[test]
-fn segments_follow_one_another(rt: HostRuntime) -> Result<(), Fail> {
+fn destinations_count_buckets_and_sources_skip_them(rt: HostRuntime) -> Result<(), Fail> {
     let mut store = Store::open(rt.alloc(), 8)?;
+    buckets_over(&rt, &mut store);
+    let mut flat = FlatMemory::zeroed(rt.alloc(), 8)?;
+    buckets_over(&rt, &mut flat);
+    Ok(())
+}
+
+fn segments_over<D: Dma>(rt: &impl Abort, memory: &mut D) -> Result<(), Unreadable> {
     // the first segment begins eight bytes before a page's end, and has an empty block
-    put(&rt, &mut store, 0x1FF8, block(0x4FFF, 2));
-    put(&rt, &mut store, 0x2008, block(0x6000, 0));
-    put(&rt, &mut store, 0x2018, last_segment(0x3000, 16));
-    put(&rt, &mut store, 0x3000, block(0x6000, 3));
-    store.clear();
-    store.write(0x4FFF, &[1, 2])?;
-    store.clear();
-    store.write(0x6000, &[3, 4, 5])?;
+    put(rt, memory, 0x1FF8, block(0x4FFF, 2));
+    put(rt, memory, 0x2008, block(0x6000, 0));
+    put(rt, memory, 0x2018, last_segment(0x3000, 16));
+    put(rt, memory, 0x3000, block(0x6000, 3));
+    memory.clear();
+    memory.write(0x4FFF, &[1, 2])?;
+    memory.clear();
+    memory.write(0x6000, &[3, 4, 5])?;
     let steps = [
         (WalkState::More, NONE),
         (WalkState::More, &[1, 2]),
@@ -278,8 +307,8 @@ fn segments_follow_one_another(rt: HostRuntime) -> Result<(), Fail> {
     ];
     let mut staging = [0; 5];
     follow(
-        &rt,
-        &mut store,
+        rt,
+        memory,
         &mut staging,
         Direction::Source,
         segment(0x1FF8, 48),
@@ -290,12 +319,19 @@ fn segments_follow_one_another(rt: HostRuntime) -> Result<(), Fail> {
 }
 
 #[test]
-fn a_chain_of_two_pages(rt: HostRuntime) -> Result<(), Fail> {
-    let mut store = Store::open(rt.alloc(), 16)?;
-    put(&rt, &mut store, 0x7000, block(0x4000, 512));
-    put(&rt, &mut store, 0x7010, last_segment(0x8000, 32));
-    put(&rt, &mut store, 0x8000, block(0x5000, 512));
-    put(&rt, &mut store, 0x8010, block(0x6000, 512));
+fn segments_follow_one_another(rt: HostRuntime) -> Result<(), Fail> {
+    let mut store = Store::open(rt.alloc(), 8)?;
+    segments_over(&rt, &mut store)?;
+    let mut flat = FlatMemory::zeroed(rt.alloc(), 8)?;
+    segments_over(&rt, &mut flat)?;
+    Ok(())
+}
+
+fn chain_over<D: Dma>(rt: &impl Abort, memory: &mut D) {
+    put(rt, memory, 0x7000, block(0x4000, 512));
+    put(rt, memory, 0x7010, last_segment(0x8000, 32));
+    put(rt, memory, 0x8000, block(0x5000, 512));
+    put(rt, memory, 0x8010, block(0x6000, 512));
     let chain = [
         (WalkState::More, NONE),
         (WalkState::More, &[7]),
@@ -308,19 +344,25 @@ fn a_chain_of_two_pages(rt: HostRuntime) -> Result<(), Fail> {
     ];
     let mut staging = [9; 1536];
     follow(
-        &rt,
-        &mut store,
+        rt,
+        memory,
         &mut staging,
         Direction::Destination,
         segment(0x7000, 32),
         &chain,
     );
-    Ok(())
 }
 
 #[test]
-fn a_block_of_four_pages(rt: HostRuntime) -> Result<(), Fail> {
-    let mut store = Store::open(rt.alloc(), 8)?;
+fn a_chain_of_two_pages(rt: HostRuntime) -> Result<(), Fail> {
+    let mut store = Store::open(rt.alloc(), 16)?;
+    chain_over(&rt, &mut store);
+    let mut flat = FlatMemory::zeroed(rt.alloc(), 16)?;
+    chain_over(&rt, &mut flat);
+    Ok(())
+}
+
+fn block_over<D: Dma>(rt: &impl Abort, memory: &mut D) {
     let pages = [
         (WalkState::More, NONE),
         (WalkState::More, &[4]),
@@ -330,12 +372,79 @@ fn a_block_of_four_pages(rt: HostRuntime) -> Result<(), Fail> {
     ];
     let mut staging = [0; 16_384];
     follow(
-        &rt,
-        &mut store,
+        rt,
+        memory,
         &mut staging,
         Direction::Destination,
         block(0x4000, 16_384),
         &pages,
+    );
+}
+
+#[test]
+fn a_block_of_four_pages(rt: HostRuntime) -> Result<(), Fail> {
+    let mut store = Store::open(rt.alloc(), 8)?;
+    block_over(&rt, &mut store);
+    let mut flat = FlatMemory::zeroed(rt.alloc(), 8)?;
+    block_over(&rt, &mut flat);
+    Ok(())
+}
+
+/// A walk over a block of three pages, of which the second has a missing byte: nothing of that page is moved.
+fn missing_page_over<D: Dma>(rt: &impl Abort, memory: &mut D) -> Result<(), Unreadable> {
+    let steps = [
+        (WalkState::More, NONE),
+        (WalkState::More, &[4]),
+        (fault(0x04), NONE),
+    ];
+    let mut staging = [5; 12_288];
+    follow(
+        rt,
+        memory,
+        &mut staging,
+        Direction::Destination,
+        block(0x4000, 12_288),
+        &steps,
+    );
+    let mut byte = [1];
+    memory.clear();
+    memory.read(0x4FFF, &mut byte)?;
+    assert_eq!(rt; byte, [5]);
+    memory.clear();
+    memory.read(0x6000, &mut byte)?;
+    assert_eq!(rt; byte, [0]);
+    Ok(())
+}
+
+/// In a store the page is out; in a flat memory one byte is missing.
+#[test]
+fn a_missing_page_ends_the_walk(rt: HostRuntime) -> Result<(), Fail> {
+    let mut store = Store::open(rt.alloc(), 8)?;
+    assert!(rt; store.take(PageNo(5)).is_some());
+    missing_page_over(&rt, &mut store)?;
+    let mut flat = FlatMemory::zeroed(rt.alloc(), 8)?;
+    flat.remove(0x5800, 1);
+    missing_page_over(&rt, &mut flat)?;
+    assert_eq!(rt; flat.byte(0x5000), Some(0));
+    Ok(())
+}
+
+/// A descriptor of which the last byte is missing is not read.
+#[test]
+fn a_descriptor_with_a_missing_byte_ends_the_walk(rt: HostRuntime) -> Result<(), Fail> {
+    let mut flat = FlatMemory::zeroed(rt.alloc(), 8)?;
+    put(&rt, &mut flat, 0x1000, block(0x2000, 512));
+    assert_eq!(rt; flat.pages(), 8);
+    flat.remove(0x100F, 1);
+    let steps = [(WalkState::More, NONE), (fault(0x04), NONE)];
+    let mut staging = [0; 512];
+    follow(
+        &rt,
+        &mut flat,
+        &mut staging,
+        Direction::Destination,
+        last_segment(0x1000, 16),
+        &steps,
     );
     Ok(())
 }

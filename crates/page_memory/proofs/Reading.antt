@@ -1,5 +1,5 @@
 -- The bytes of one page, or of two neighbouring ones, as a range of the memory.
-use Rattle.std.proofs.Common.{◌≡◌, ◌≢◌, ℕ, zero, suc, ◌+◌, ◌*◌, ◌-◌, ◌/◌, ◌%◌, ◌<◌, ◌≤◌, ◌++◌, ◌∷◌, [], List, Option, Some, None, Bool, true, false, is_some, IsSome, IfSome, refl, sym, ap, ◌∙◌, subst, length, take, drop, get_or, arith, add-one, add-zero, append-nil, drop-cons}
+use Rattle.std.proofs.Common.{◌≡◌, ◌≢◌, ℕ, zero, suc, ◌+◌, ◌*◌, ◌-◌, ◌/◌, ◌%◌, ◌<◌, ◌≤◌, ◌++◌, ◌∷◌, [], List, Option, Some, None, true, false, is_some, IsSome, IfSome, refl, ap, ◌∙◌, subst, length, take, drop, get_or, arith, add-one, add-zero, append-nil, drop-cons}
 use Rattle.std.specs.List.{slice_get}
 use Rattle.std.proofs.lemmas.Option.{slice_get-get_or}
 use Rattle.std.proofs.lemmas.List.{take_rest}

@@ -5,7 +5,7 @@ use Rattle.std.proofs.lemmas.Option.{slice_get-get_or}
 use Rattle.std.proofs.lemmas.Grind.{same_number_lists}
 use Rattle.std.proofs.lemmas.List.{length-replicate}
 use Rattle.std.specs.List.{slice_get}
-use Rattle.page_memory.specs.Pages.{Pages, page_at, byte_at, zero_page, IsWhole, AreWhole, IsPool}
+use Rattle.page_memory.specs.Pages.{Pages, byte_at, zero_page, AreWhole, IsPool}
 
 pub length-zero_page : length zero_page ≡ 4096
 unfolding zero_page

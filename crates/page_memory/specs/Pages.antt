@@ -1,5 +1,5 @@
 -- The pages of a pool, each in the store with its bytes, or out of it.
-use Rattle.std.specs.Prelude.{◌≡◌, ◌%◌, ◌+◌, ◌≤◌, ◌++◌, ℕ, List, Option, Some, None, length, take, drop, replicate, slice_get, slice_set, option_and_then, IfSome}
+use Rattle.std.specs.Prelude.{◌≡◌, ◌%◌, ◌+◌, ◌≤◌, ◌++◌, ℕ, List, Option, Some, length, take, drop, replicate, slice_get, slice_set, option_and_then, IfSome}
 use Rattle.page_memory.specs.Memory.{Memory, page_of}
 
 -- a page of zeros

@@ -1,124 +1,10 @@
 //! A store through its calls, and the same transfers over a second memory, through the bound `Dma` alone.
 
-ghost use Rattle.std.specs.Prelude.{◌≡◌, ◌+◌, ◌<◌, ◌≤◌, ◌++◌, ℕ, List, length, true, false, IsSome, Some, None, OnErr, OnOk};
-ghost use Rattle.page_memory.specs.Memory.{bytes_at, written, pages_reached};
-ghost use Rattle.page_memory.specs.Pages.{slot_at};
+ghost use Rattle.std.specs.Prelude.{◌≡◌, ℕ, List, Some, OnErr, OnOk};
+ghost use Rattle.page_memory.specs.Memory.{bytes_at, written};
 
 use super::*;
-use arrayvec::ArrayVec;
-use std::alloc::{AllocError, Global};
 use std::test::Fail;
-
-/// A second memory: the bytes of a pool one after the other, where each may be missing.
-#[derive(Drop)]
-struct Flat {
-    bytes: Vec<Option<u8>>,
-    touched: ArrayVec<PageNo, 4>,
-    ghost small: { length bytes.items ≤ 32768 },
-}
-
-impl Flat {
-    /// Zeros from 0 to `len`, but for a hole.
-    fn new(alloc: Global, len: usize, hole: usize) -> Result<Self, AllocError>
-        requires { len ≤ 32768 }
-    {
-        let mut bytes = vec![in alloc; Some(0); len]?;
-        if let Some(byte) = bytes.get_mut(hole) {
-            *byte = None;
-        }
-        Ok(Flat {
-            bytes,
-            touched: ArrayVec::new(),
-        })
-    }
-
-    fn byte(&self, place: usize) -> Option<u8>
-        ensures { result ≡ slot_at self.now.bytes.items place }
-    {
-        match self.bytes.get(place) {
-            Some(byte) => *byte,
-            None => None,
-        }
-    }
-
-    /// Whether each byte of a range is there.
-    fn is_there(&self, addr: u64, count: usize) -> bool
-        requires some { 0 < count }
-        requires few { count ≤ 4096 }
-        ensures inside { result ≡ true → addr + count ≤ length self.now.bytes.items }
-        ensures there { result ≡ true → (k : ℕ) → k < count → IsSome (slot_at self.now.bytes.items (addr + k)) }
-        ensures missing { result ≡ false → bytes_at (slot_at self.now.bytes.items) addr count ≡ None }
-    {
-        if addr >= self.bytes.len() as u64 {
-            return false;
-        }
-        for k in 0..count {
-            let byte = self.byte(addr as usize + k);
-            if byte.is_none() {
-                return false;
-            }
-        }
-        true
-    }
-
-    /// Adds the one or two pages of a range that is there.
-    fn touch(&mut self, addr: u64, count: usize)
-        requires there { addr + count ≤ 32768 }
-        requires some { 0 < count }
-        requires room { length self.old.touched.items ≤ 2 }
-        ensures kept { self.new.bytes ≡ self.old.bytes }
-        ensures touched { self.new.touched.items ≡ self.old.touched.items ++ pages_reached addr count }
-    {
-        let last = addr + count as u64 - 1;
-        self.touched.push(PageNo((addr / 4096) as u32));
-        if last / 4096 != addr / 4096 {
-            self.touched.push(PageNo((last / 4096) as u32));
-        }
-    }
-}
-
-impl Dma for Flat {
-    ghost use Rattle.std.specs.Prelude.{◌/◌, length};
-    ghost use Rattle.page_memory.specs.Pages.{slot_at};
-
-    ghost memory = { λ s. slot_at s.bytes.items };
-
-    ghost reached = { λ s. s.touched.items };
-
-    ghost page_count = { λ s. length s.bytes.items / 4096 };
-
-    fn read(&mut self, addr: u64, into: &mut [u8]) -> Result<(), Unreadable> {
-        if !self.is_there(addr, into.len()) {
-            return Err(Unreadable);
-        }
-        self.touch(addr, into.len());
-        for k in 0..into.len() {
-            if let Some(byte) = self.byte(addr as usize + k) {
-                into[k] = byte;
-            }
-        }
-        Ok(())
-    }
-
-    fn write(&mut self, addr: u64, bytes: &[u8]) -> Result<(), Unreadable> {
-        if !self.is_there(addr, bytes.len()) {
-            return Err(Unreadable);
-        }
-        self.touch(addr, bytes.len());
-        for k in 0..bytes.len() {
-            self.bytes[addr as usize + k] = Some(bytes[k]);
-        }
-        Ok(())
-    }
-
-    fn touched(&self) -> &ArrayVec<PageNo, 4> {
-        &self.touched
-    }
-
-    fn clear(&mut self) {
-        self.touched.clear();
-    }
-}
 
 /// Copies 16 bytes, as any memory does it: this is proved from the bound alone.
 fn copy_sixteen<D: Dma>(dma: &mut D, from: u64, to: u64) -> Result<(), Unreadable>
@@ -202,8 +88,9 @@ fn any_memory_copies(rt: HostRuntime) -> Result<(), Fail> {
     store.write(100, &[3; 16])?;
     copy_sixteen(&mut store, 100, 4090)?;
     assert_eq!(rt; copy_sixteen(&mut store, 100, 32_760), Err(Unreadable));
-    let mut flat = Flat::new(rt.alloc(), 32_768, 4100)?;
-    flat.clear();
+    let mut flat = FlatMemory::zeroed(rt.alloc(), 8)?;
+    assert_eq!(rt; flat.pages(), 8);
+    flat.remove(4100, 1);
     flat.write(100, &[3; 16])?;
     assert_eq!(rt; copy_sixteen(&mut flat, 100, 4090), Err(Unreadable));
     copy_sixteen(&mut flat, 100, 4074)?;
@@ -211,5 +98,8 @@ fn any_memory_copies(rt: HostRuntime) -> Result<(), Fail> {
     flat.clear();
     flat.read(4074, &mut bytes)?;
     assert_eq!(rt; bytes, [3; 16]);
+    assert_eq!(rt; flat.byte(4101), Some(0));
+    assert_eq!(rt; flat.byte(4100), None);
+    assert_eq!(rt; flat.byte(32_768), None);
     Ok(())
 }

@@ -1,4 +1,4 @@
-use Rattle.std.proofs.Common.{arith, ◌≡◌, ◌≤◌}
+use Rattle.std.proofs.Common.{arith, ◌≤◌}
 use Rattle.std.proofs.lemmas.Grind.{common_steps}
 use Rattle.page_memory.proofs.Whole.{zeros_pool}
 use Rattle.page_memory.proofs.store.Store.open.Goals as goal

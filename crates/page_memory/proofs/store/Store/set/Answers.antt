@@ -1,5 +1,3 @@
-use Rattle.std.proofs.Common.{◌≡◌, Some, sym}
-use Rattle.page_memory.specs.Pages.{page_at}
 use Rattle.page_memory.proofs.Writing.{byte_at_written, in_written}
 use Rattle.page_memory.proofs.store.Store.set.Goals as goal
 

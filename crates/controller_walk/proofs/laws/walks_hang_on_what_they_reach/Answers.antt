@@ -1,0 +1,5 @@
+use Rattle.controller_walk.proofs.Serving.{walk_served}
+use Rattle.controller_walk.proofs.laws.walks_hang_on_what_they_reach.Goals as goal
+
+pub returns : goal.returns
+returns c = walk_served

@@ -1,6 +1,0 @@
-use Rattle.std.proofs.Common.{ℕ, ◌<◌, ◌+◌, IsSome}
-use Rattle.page_memory.specs.Pages.{slot_at}
-use Rattle.page_memory.proofs.tests.Flat.is_there.Given as goal
-
-abbrev pub invariant-loop-k : goal.invariant-loop-k
-invariant-loop-k l = (k : ℕ) → k < l.k → IsSome (slot_at l.self.bytes.items (l.addr + k))

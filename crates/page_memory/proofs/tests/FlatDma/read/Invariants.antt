@@ -1,6 +1,0 @@
-use Rattle.std.proofs.Common.{◌≡◌, ℕ, ◌<◌, ◌+◌, Some, slice_index}
-use Rattle.page_memory.specs.Pages.{slot_at}
-use Rattle.page_memory.proofs.tests.FlatDma.read.Given as goal
-
-abbrev pub invariant-loop-k : goal.invariant-loop-k
-invariant-loop-k l = (k : ℕ) → k < l.k → slot_at l.self.bytes.items (l.addr + k) ≡ Some (slice_index l.into k)
