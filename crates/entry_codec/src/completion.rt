@@ -32,11 +32,13 @@ pub struct ComEntry {
 }
 
 impl ComEntry {
-    /// The entry's bytes, with zeros in what is reserved or ignored.
+    /// The entry's bytes, with zeros in what is reserved or ignored. Its numbers are those of a value of its type, which the
+    /// laws of this module ask for.
     #[tactic(auto, unfolding(crate::specs::Completion::completion_bytes))]
     pub fn write(self) -> [u8; 16]
         requires fits { FitsCompletion self }
-        ensures { result ≡ completion_bytes self }
+        ensures bytes { result ≡ completion_bytes self }
+        ensures typed { IsComEntry self }
     {
         let mut bytes = [0; 16];
         bytes[0..4].copy_from_slice(&self.dw0.to_le_bytes());

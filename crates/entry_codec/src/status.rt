@@ -1,7 +1,9 @@
 //! The status of a completion.
 
-ghost use Rattle.std.specs.Prelude.{◌≡◌, true, false};
-ghost use Rattle.entry_codec.specs.Status.{status_halfword};
+ghost use Rattle.std.specs.Prelude.{◌≡◌, true, false, codes};
+ghost use Rattle.entry_codec.specs.Status.{status_halfword, status_text};
+
+use std::fmt;
 
 /// How a command ended: a status code type and a status code (NVM Express Base Specification 2.0, "Status Field Definition").
 ///
@@ -49,6 +51,19 @@ impl Status {
     pub const COMPARE_FAILURE: Status = Status { sct: 2, sc: 0x85 };
 }
 
+/// `SCT:SC`: the type in decimal, the code as two upper case hexadecimal digits, as `2:85` or `0:0D` (own).
+impl fmt::Display for Status {
+    ghost use Rattle.std.specs.Prelude.{Some};
+    ghost use Rattle.entry_codec.specs.Status.{status_text};
+
+    ghost output = { λ status. Some (status_text status) };
+
+    fn fmt<W: fmt::Write>(&self, f: &mut fmt::Formatter<W>) -> fmt::Result {
+        let (sct, sc) = (self.sct, self.sc);
+        write!(f, "{sct}:{sc:02X}")
+    }
+}
+
 /// The status codes, by their numbers.
 pub fn code_values()
     ensures success { Status.SUCCESS ≡ record { sct = 0; sc = 0x00 } }
@@ -83,3 +98,32 @@ pub fn worked_halfwords()
     ensures success { status_halfword Status.SUCCESS true ≡ 0x0001 }
     ensures success_of_other_phase { status_halfword Status.SUCCESS false ≡ 0x0000 }
 {}
+
+/// The texts of some of these codes.
+pub fn worked_texts()
+    ensures success { status_text Status.SUCCESS ≡ codes "0:00" }
+    ensures invalid_sgl_segment { status_text Status.INVALID_SGL_SEGMENT ≡ codes "0:0D" }
+    ensures lba_out_of_range { status_text Status.LBA_OUT_OF_RANGE ≡ codes "0:80" }
+    ensures invalid_queue_deletion { status_text Status.INVALID_QUEUE_DELETION ≡ codes "1:0C" }
+    ensures compare_failure { status_text Status.COMPARE_FAILURE ≡ codes "2:85" }
+    ensures largest { status_text (record { sct = 255; sc = 255 }) ≡ codes "255:FF" }
+{}
+
+#[cfg(test)]
+mod tests {
+    use super::*;
+    use std::test::Fail;
+
+    #[test]
+    fn texts(rt: HostRuntime) -> Result<(), Fail> {
+        for (status, text) in [
+            (Status::SUCCESS, "0:00"),
+            (Status::INVALID_SGL_SEGMENT, "0:0D"),
+            (Status::INVALID_QUEUE_DELETION, "1:0C"),
+            (Status::COMPARE_FAILURE, "2:85"),
+        ] {
+            assert_eq!(rt; format!(in rt.alloc(); "{status}")?.as_str(), text);
+        }
+        Ok(())
+    }
+}

@@ -42,11 +42,13 @@ pub struct SubEntry {
 }
 
 impl SubEntry {
-    /// The entry's bytes, with zeros in what is reserved.
+    /// The entry's bytes, with zeros in what is reserved. Its numbers are those of a value of its type, which the laws of
+    /// this module ask for.
     #[tactic(auto, unfolding(crate::specs::Submission::submission_bytes))]
     pub fn write(self) -> [u8; 64]
         requires fits { FitsSubmission self }
-        ensures { result ≡ submission_bytes self }
+        ensures bytes { result ≡ submission_bytes self }
+        ensures typed { IsSubEntry self }
     {
         let mut bytes = [0; 64];
         bytes[..16].copy_from_slice(&self.head());

@@ -75,7 +75,7 @@ held_front : (m : Memory) (place : ℕ) (page image : List ℕ) → Holds m plac
 held_front m place page image h k lt =
     h k (rw (length-append image (drop (0 + length image) page)) (omega (arith, lt))) ∙ ap (λ (b : ℕ). Some b) (get_or_append_left image (drop (0 + length image) page) 0 k lt)
 
-pub held_laid : (m : Memory) (segments : List (List Descriptor)) (pages : PagesOut) → length segments ≡ length pages → HoldsPages m (laid segments pages) → IsLaid m (numbers_of pages) segments
+pub held_laid : (m : Memory) (segments : List (List Descriptor)) (pages : PagesOut) → length segments ≤ length pages → HoldsPages m (laid segments pages) → IsLaid m (numbers_of pages) segments
 held_laid m [] [] count h = tt
 held_laid m [] (page ∷ pages) count h = tt
 held_laid m (s ∷ segments) [] count h = absurd (omega (arith, count))
@@ -85,4 +85,4 @@ pub built_spells : (d : DraftContents) (chain : Sgl) → length (draft_segments 
     SpellsWhereLaid (numbers_of d.chain_pages) chain (draft_parts d) → SpellsItsParts (built d)
 built_spells d chain count segments first spells = λ m held.
     rw (same_numbers (draft_segments d) d.chain_pages count, ← first)
-    (spells m (rw segments (held_laid m (draft_segments d) d.chain_pages count held)))
+    (spells m (rw segments (held_laid m (draft_segments d) d.chain_pages (omega (arith, count)) held)))

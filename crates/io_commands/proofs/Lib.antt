@@ -1,3 +1,4 @@
 pub mod Filling
 pub mod Laying
 pub mod Building
+pub mod Spelled

@@ -1,10 +1,8 @@
 -- The bytes of a command's data pages: how they are filled, and how they are gathered, piece by piece.
-use Rattle.std.specs.Prelude.{◌≡◌, ℕ, ◌+◌, List, [], ◌∷◌, ◌++◌, length, take, drop, slice_range, false}
-use Rattle.std.specs.List.{list_any}
+use Rattle.std.specs.Prelude.{ℕ, ◌+◌, List, [], ◌∷◌, ◌++◌, take, drop, slice_range}
 use Rattle.page_memory.specs.Pages.{with_bytes}
 use Rattle.io_commands.specs.declared.request.Piece.{Piece}
 use Rattle.io_commands.specs.declared.request.Piece.TheVariants.{Data, Bucket}
-use Rattle.io_commands.specs.Requests.{crosses_page, data_count}
 
 -- pages outside the store: their numbers and their bytes
 abbrev pub PagesOut : Type 0
@@ -29,8 +27,3 @@ gathered [] pages = []
 gathered (Bucket len ∷ pieces) pages = gathered pieces pages
 gathered (Data offset len ∷ pieces) [] = []
 gathered (Data offset len ∷ pieces) (page ∷ pages) = slice_range page.1 offset (offset + len) ++ gathered pieces pages
-
--- no data piece passes the end of its page, and there are as many pages as data pieces
-pub record FitPages (pieces : List Piece) (pages : PagesOut) : Type 0 where
-  pub inside : list_any crosses_page pieces ≡ false
-  pub enough : data_count pieces ≡ length pages

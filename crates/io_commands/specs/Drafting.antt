@@ -1,5 +1,6 @@
 -- Drafts as their type keeps them.
 use Rattle.io_commands.specs.declared.draft.Draft.TheInside.{Inside}
+use Rattle.io_commands.specs.Requests.{FitsRequest}
 use Rattle.io_commands.specs.Values.{data_part, chain_part}
 use Rattle.io_commands.specs.Drafts.{DraftContents, IsDraft}
 
@@ -16,4 +17,4 @@ contents_of d =
     }
 
 abbrev pub KeepsDraft : Inside → Type 0
-KeepsDraft d = IsDraft (contents_of d)
+KeepsDraft d = IsDraft (contents_of d) × FitsRequest d.request

@@ -1,5 +1,5 @@
 -- Drafts: a command that is being prepared outside the store.
-use Rattle.std.specs.Prelude.{◌≡◌, ◌≤◌, ◌*◌, ◌-◌, ◌/◌, ◌%◌, ℕ, Option, None, Some, List, [], ◌∷◌, length}
+use Rattle.std.specs.Prelude.{◌≡◌, ◌≤◌, ◌<◌, ◌*◌, ◌-◌, ◌/◌, ◌%◌, ◌^◌, ℕ, Option, None, Some, List, [], ◌∷◌, length, All}
 use Rattle.sgl_descriptor.specs.declared.Descriptor.{Descriptor}
 use Rattle.sgl_descriptor.specs.declared.Part.{Part}
 use Rattle.sgl_descriptor.specs.Spelling.{spelling}
@@ -9,7 +9,7 @@ use Rattle.page_memory.specs.Memory.{Memory}
 use Rattle.page_memory.specs.Pages.{with_bytes}
 use Rattle.entry_codec.specs.declared.submission.SubEntry.{SubEntry}
 use Rattle.io_commands.specs.declared.request.Request.{Request}
-use Rattle.io_commands.specs.Requests.{opcode_of, data_count, parts_of}
+use Rattle.io_commands.specs.Requests.{opcode_of, data_count, parts_of, FitsRequest}
 use Rattle.io_commands.specs.DataBytes.{PagesOut}
 use Rattle.io_commands.specs.Values.{numbers_of, IsGood}
 
@@ -91,3 +91,17 @@ HoldsPages m (page ∷ pages) = Holds m (4096 * page.0) page.1 × HoldsPages m p
 -- Wherever a draft's chain pages stand in a memory, the descriptor of its entry spells its parts.
 abbrev pub SpellsItsParts : DraftContents → Type 0
 SpellsItsParts d = (m : Memory) → HoldsPages m d.chain_pages → Spells m (draft_first d) (draft_parts d)
+
+-- The numbers of a draft's request and of its pages fit their types.
+pub record FitsDraft (d : DraftContents) : Type 0 where
+  pub request : FitsRequest d.request
+  pub data_pages : All (λ page. page < 2 ^ 32) (numbers_of d.data_pages)
+  pub chain_pages : All (λ page. page < 2 ^ 32) (numbers_of d.chain_pages)
+
+-- A draft that has an entry carries the one of its own request, whose descriptor is the first of its own chain.
+abbrev pub DraftsCarryTheirEntry : Type 0
+DraftsCarryTheirEntry = (d : DraftContents) (entry : SubEntry) → IsDraft d → d.entry ≡ Some entry → entry ≡ draft_entry d
+
+-- Its chain pages spell its parts, wherever they stand.
+abbrev pub BuiltDraftsSpell : Type 0
+BuiltDraftsSpell = (d : DraftContents) (entry : SubEntry) → IsDraft d → FitsDraft d → d.entry ≡ Some entry → SpellsItsParts d

@@ -8,6 +8,7 @@ use Rattle.controller_walk.specs.declared.walk.WalkState.{WalkState}
 use Rattle.controller_walk.specs.declared.walk.WalkState.TheVariants.{More, End, Fault}
 use Rattle.controller_walk.specs.Units.{Course, Closes, course_of_list}
 use Rattle.controller_walk.specs.Walks as walks
+use Rattle.entry_codec.specs.declared.io_opcode.TheConstants.{READ, WRITE, COMPARE}
 use Rattle.entry_codec.specs.declared.status.Status.{Status}
 use Rattle.entry_codec.specs.declared.status.TheConstants.Status.{SUCCESS, INVALID_OPCODE, INVALID_FIELD, INVALID_NAMESPACE, LBA_OUT_OF_RANGE, COMPARE_FAILURE}
 use Rattle.entry_codec.specs.declared.submission.SubEntry.{SubEntry}
@@ -19,7 +20,7 @@ use Rattle.io_commands.specs.declared.request.Kind.TheVariants.{Read, Write, Com
 use Rattle.io_commands.specs.Requests.{first_passing, direction_of}
 
 abbrev pub kind_of_opcode : ℕ → Option Kind
-kind_of_opcode opcode = first_passing ((opcode == 1, Write) ∷ (opcode == 2, Read) ∷ (opcode == 5, Compare) ∷ [])
+kind_of_opcode opcode = first_passing ((opcode == WRITE, Write) ∷ (opcode == READ, Read) ∷ (opcode == COMPARE, Compare) ∷ [])
 
 -- the first block that an entry names, its Starting LBA
 abbrev pub first_block : SubEntry → ℕ

@@ -1,5 +1,5 @@
 -- What a host asks for: which blocks, in which direction, and the pieces of memory that take part.
-use Rattle.std.specs.Prelude.{ℕ, ◌+◌, ◌*◌, ◌==◌, nat_lt, Bool, true, false, ◌||◌, not, Option, Some, None, List, [], ◌∷◌, length, sum_by, count_by, if◌then◌else◌}
+use Rattle.std.specs.Prelude.{ℕ, ◌+◌, ◌*◌, ◌^◌, ◌<◌, ◌==◌, nat_lt, Bool, true, false, ◌||◌, not, Option, Some, None, List, [], ◌∷◌, length, sum_by, count_by, All, if◌then◌else◌}
 use Rattle.std.specs.List.{list_any}
 use Rattle.sgl_descriptor.specs.declared.Direction.{Direction}
 use Rattle.sgl_descriptor.specs.declared.Direction.TheVariants.{Destination, Source}
@@ -10,6 +10,7 @@ use Rattle.io_commands.specs.declared.request.Kind.{Kind}
 use Rattle.io_commands.specs.declared.request.Kind.TheVariants.{Read, Write, Compare}
 use Rattle.io_commands.specs.declared.request.Piece.{Piece}
 use Rattle.io_commands.specs.declared.request.Piece.TheVariants.{Data, Bucket}
+use Rattle.io_commands.specs.declared.request.Request.{Request}
 use Rattle.io_commands.specs.declared.request.RequestFault.{RequestFault}
 use Rattle.io_commands.specs.declared.request.RequestFault.TheVariants.{TooManyPieces, EmptyPiece, CrossesPage, BadCount, LengthMismatch}
 
@@ -72,3 +73,13 @@ fault_of kind blocks pieces =
     ∷ ((blocks == 0) || nat_lt 2048 blocks, BadCount)
     ∷ (not (counted_lengths kind pieces == 512 * blocks), LengthMismatch)
     ∷ [])
+
+-- The numbers of a request fit their types.
+abbrev pub FitsPiece : Piece → Type 0
+FitsPiece (Data offset len) = (offset < 2 ^ 32) × (len < 2 ^ 32)
+FitsPiece (Bucket len) = len < 2 ^ 32
+
+pub record FitsRequest (request : Request) : Type 0 where
+  pub slba : request.slba < 2 ^ 64
+  pub blocks : request.blocks < 2 ^ 32
+  pub pieces : All FitsPiece request.pieces

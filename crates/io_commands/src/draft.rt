@@ -2,10 +2,10 @@
 
 ghost use Rattle.std.specs.Prelude.{◌≡◌, ◌≢◌, ◌<◌, ◌≤◌, ◌+◌, ◌++◌, ◌↔◌, length, sum_by, Err, IfOk, OnOk, OnErr, None, Some};
 ghost use Rattle.io_commands.specs.declared.request.Kind.TheVariants.{Read};
-ghost use Rattle.io_commands.specs.Requests.{data_count};
+ghost use Rattle.io_commands.specs.Requests.{data_count, FitsRequest};
 ghost use Rattle.io_commands.specs.DataBytes.{data_length, filled};
 ghost use Rattle.io_commands.specs.Values.{IsGood, data_part, chain_part};
-ghost use Rattle.io_commands.specs.Drafts.{built, SpellsItsParts, io_entry as spec_io_entry};
+ghost use Rattle.io_commands.specs.Drafts.{built, IsDraft, SpellsItsParts, io_entry as spec_io_entry};
 ghost use Rattle.sgl_chain.specs.Chains.{pages_needed};
 
 use crate::data_bytes::fill_first;
@@ -90,6 +90,7 @@ impl Draft {
           entry = None;
         } }
     {
+        request.read();
         Draft {
             q,
             cid,
@@ -116,7 +117,9 @@ impl Draft {
 
     /// What the host asks for.
     pub fn request(&self) -> &Request
-        ensures { result.now ≡ self.now.request }
+        ensures request { result.now ≡ self.now.request }
+        ensures draft { IsDraft self.now }
+        ensures fits { FitsRequest self.now.request }
     {
         &self.request
     }

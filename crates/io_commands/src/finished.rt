@@ -90,6 +90,13 @@ impl Finished {
         &self.request
     }
 
+    /// How many of its pages are those of its data pieces.
+    pub fn data_pages(&self) -> usize
+        ensures { result ≡ length self.now.data_pages }
+    {
+        self.request.pieces.data_pages()
+    }
+
     /// How the command ended.
     pub fn status(&self) -> Status
         ensures { result ≡ self.now.status }

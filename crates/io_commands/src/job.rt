@@ -1,9 +1,11 @@
 //! The controller's side: a command of an I/O queue from its fetch to its completion.
 
-ghost use Rattle.std.specs.Prelude.{◌≡◌, ◌<◌, ◌≤◌, ◌+◌, ◌*◌, ◌-◌, ◌^◌, ◌++◌, ◌∷◌, [], length, replicate, IsSome, IfOk, None, Some};
+ghost use Rattle.std.specs.Prelude.{◌≡◌, ◌<◌, ◌≤◌, ◌+◌, ◌*◌, ◌-◌, ◌^◌, ◌++◌, ◌∷◌, [], length, replicate, ℕ, IsSome, IfOk, None, Some};
 ghost use Rattle.std.specs.Result.{result_err};
 ghost use Rattle.block_image.specs.Blocks.{block_count};
 ghost use Rattle.controller_walk.specs.Walks.{DoesFirst, LeavesRest, IfMore};
+ghost use Rattle.io_commands.specs.Requests.{opcode_of};
+ghost use Rattle.io_commands.specs.declared.request.Kind.{Kind};
 ghost use Rattle.io_commands.specs.Jobs.{IsJob, kind_of_opcode, first_block as spec_first_block, block_number as spec_block_number, need_of_entry, direction_of_entry, io_fault, NoFaultIsPassing, first_bytes as spec_first_bytes, bytes_after_check, BeginsWalk, job_course, left_of_walk, verdict_of, finished_status, finished_image, status_after, image_after, entry_over};
 
 use crate::request::{Kind, MAX_BLOCKS};
@@ -123,6 +125,7 @@ pub fn begin_job(alloc: Global, entry: &SubEntry, image: &Image) -> Result<Job, 
     ensures verdict { IfOk result (λ job. job.verdict ≡ io_fault (block_count image.now) entry.now) }
     ensures bytes { IfOk result (λ job. job.bytes ≡ bytes_after_check image.now entry.now (io_fault (block_count image.now) entry.now)) }
     ensures walk { IfOk result (λ job. BeginsWalk entry.now (io_fault (block_count image.now) entry.now) job.walk) }
+    ensures left { IfOk result (λ job. left_of_walk job.walk ≤ 12545) }
     ensures job { IfOk result (λ job. IsJob job) }
 {
     let blocks = image.blocks();
@@ -250,6 +253,12 @@ pub fn finish_job(job: Job, image: &mut Image) -> Status
         _ => Status::SUCCESS,
     }
 }
+
+/// An opcode is the command whose opcode it is, and no other opcode is a command.
+pub fn laws_of_opcodes()
+    ensures undone { (kind : Kind) → kind_of_opcode (opcode_of kind) ≡ Some kind }
+    ensures only { (opcode : ℕ) (kind : Kind) → kind_of_opcode opcode ≡ Some kind → opcode ≡ opcode_of kind }
+{}
 
 /// The law of the field checks.
 pub fn laws_of_checks()

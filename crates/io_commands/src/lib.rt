@@ -8,6 +8,7 @@ mod data_bytes;
 mod draft;
 mod finished;
 mod job;
+pub mod laws;
 mod layout;
 mod request;
 mod ticket;

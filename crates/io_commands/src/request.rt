@@ -1,13 +1,14 @@
 //! What a host asks for.
 
-ghost use Rattle.std.specs.Prelude.{◌≡◌, ◌≤◌, length, sum_by, Ok};
+ghost use Rattle.std.specs.Prelude.{◌≡◌, ◌≤◌, length, sum_by, All, IfOk, Ok};
 ghost use Rattle.std.specs.Result.{result_err};
 ghost use Rattle.std.specs.List.{list_any};
 ghost use Rattle.io_commands.specs.DataBytes.{data_length};
-ghost use Rattle.io_commands.specs.Requests.{direction_of, opcode_of, is_empty_piece, crosses_page as spec_crosses_page, is_data as spec_is_data, counted_length, counted_lengths, data_count, fault_of};
+ghost use Rattle.io_commands.specs.Requests.{direction_of, opcode_of, is_empty_piece, crosses_page as spec_crosses_page, is_data as spec_is_data, counted_length, counted_lengths, data_count, fault_of, FitsPiece, FitsRequest};
 
 use entry_codec::io_opcode;
 use sgl_descriptor::Direction;
+use std::alloc::{AllocError, Global};
 use std::marker::Model;
 use thiserror::Error;
 
@@ -146,6 +147,19 @@ impl Pieces {
         &self.pieces
     }
 
+    /// The same pieces once more.
+    ///
+    /// # Errors
+    ///
+    /// Where memory is refused.
+    pub fn copied(&self, alloc: Global) -> Result<Self, AllocError>
+        ensures { IfOk result (λ pieces. pieces ≡ self.now) }
+    {
+        Ok(Pieces {
+            pieces: Vec::from_slice(alloc, &self.pieces)?,
+        })
+    }
+
     /// Whether a piece has length 0.
     pub fn has_empty(&self) -> bool
         ensures { result ≡ list_any is_empty_piece self.now }
@@ -193,6 +207,29 @@ impl Pieces {
     }
 }
 
+/// Reads a piece. That its numbers fit their types is then known.
+fn read_piece(piece: Piece)
+    ensures { FitsPiece piece }
+{
+    match piece {
+        Piece::Data { offset, len } => {
+            let _read = (offset, len);
+        }
+        Piece::Bucket { len } => {
+            let _read = len;
+        }
+    }
+}
+
+/// Reads each piece.
+fn read_all(pieces: &[Piece])
+    ensures { All FitsPiece pieces.now }
+{
+    for piece in pieces {
+        read_piece(*piece);
+    }
+}
+
 /// Why a request is refused, in the order of the checks (own).
 #[derive(Clone, Copy, Debug, PartialEq, Eq, Error)]
 pub enum RequestFault {
@@ -227,6 +264,31 @@ pub struct Request {
 }
 
 impl Request {
+    /// The same request once more.
+    ///
+    /// # Errors
+    ///
+    /// Where memory is refused.
+    pub fn copied(&self, alloc: Global) -> Result<Self, AllocError>
+        ensures { IfOk result (λ request. request ≡ self.now) }
+    {
+        Ok(Request {
+            kind: self.kind,
+            slba: self.slba,
+            blocks: self.blocks,
+            pieces: self.pieces.copied(alloc)?,
+        })
+    }
+
+    /// Reads the request. That each of its numbers fits its type is then known to contracts.
+    pub fn read(&self)
+        ensures { FitsRequest self.now }
+    {
+        let _slba = self.slba;
+        let _blocks = self.blocks;
+        read_all(self.pieces.as_slice());
+    }
+
     /// Checks the request. It may pass the end of the image: that is answered by the controller.
     ///
     /// # Errors

@@ -5,3 +5,4 @@ pub mod Lists
 pub mod Identifiers
 pub mod Halves
 pub mod Pools
+pub mod Round

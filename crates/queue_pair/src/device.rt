@@ -146,6 +146,28 @@ impl DevicePair {
         self.head = slot_after(self.entries, self.head);
     }
 
+    /// Whether [`DevicePair::post`] would put a completion now. The page of the slot is touched where it is looked at and is in.
+    ///
+    /// # Errors
+    ///
+    /// 1. `Full` exactly where n - 1 slots lie from the known head to the tail. 2. `SlotOut` exactly where the slot lies on a page
+    /// that is out.
+    pub fn can_post<D: Dma>(&self, dma: &mut D) -> Result<(), PostFault>
+        requires room { length (D.reached dma.old) ≤ 2 }
+        ensures full { (result ≡ Err PostFault.Full) ↔ IsTrue (is_full self.now.entries self.now.ring.known_head self.now.ring.tail) }
+        ensures out { (result ≡ Err PostFault.SlotOut) ↔ (IsFalse (is_full self.now.entries self.now.ring.known_head self.now.ring.tail) × (completion_slot (D.memory dma.old) self.now.cq self.now.ring.tail ≡ None)) }
+        ensures memory { D.memory dma.new ≡ D.memory dma.old }
+        ensures pool { D.page_count dma.new ≡ D.page_count dma.old }
+    {
+        if slot_after(self.entries, self.tail) == self.known_head {
+            return Err(PostFault::Full);
+        }
+        match dma.read(completion_address(self.cq, self.tail), &mut [0; 16]) {
+            Ok(()) => Ok(()),
+            Err(_) => Err(PostFault::SlotOut),
+        }
+    }
+
     /// Puts a completion, with its phase bit set to the phase of this pass, into the slot at the tail.
     ///
     /// # Errors

@@ -5,7 +5,7 @@ ghost use Rattle.page_memory.specs.Memory.{Memory, written};
 ghost use Rattle.entry_codec.specs.Submission.{submission_bytes, FitsSubmission};
 ghost use Rattle.queue_pair.specs.Slots.{is_full, is_in_range};
 ghost use Rattle.queue_pair.specs.Rings.{DeviceSide, IsHostSide, IsDeviceSide, fresh_host_ring, next_tail, next_head, knowing, none_claimed};
-ghost use Rattle.queue_pair.specs.Memory.{submission_place, submission_page, completion_page, submission_slot, completion_slot, completion_at, new_completion_at};
+ghost use Rattle.queue_pair.specs.Memory.{submission_place, completion_place, submission_page, completion_page, submission_slot, completion_slot, completion_at, new_completion_at};
 ghost use Rattle.queue_pair.specs.Lists.{unfetched, answers, front, IsPair, HasPhases, AreTied};
 
 use crate::fault::{BadHead, QueueFull};
@@ -128,6 +128,13 @@ impl HostPair {
         self.head
     }
 
+    /// The address of a slot of the completion ring.
+    pub fn completion_address(&self, slot: u16) -> u64
+        ensures { result ≡ completion_place self.now.cq slot }
+    {
+        completion_address(self.cq, slot)
+    }
+
     /// The completion at the head, where it is new: where its phase bit is the one that is expected there.
     pub fn peek<D: Dma>(&self, dma: &mut D) -> Option<ComEntry>
         requires there { IsSome (completion_slot (D.memory dma.old) self.now.cq self.now.ring.head) }
@@ -187,6 +194,14 @@ impl HostPair {
         ensures proper { IsHostSide self.now }
     {
         lies_between(self.entries, self.known_head, self.tail, sqhd)
+    }
+
+    /// The lowest free identifier below n - 1, which [`HostPair::claim`] would claim; `None` exactly where each of them is claimed.
+    pub fn unclaimed(&self) -> Option<u16>
+        ensures lowest { result ≡ position not self.now.claimed }
+    {
+        let cid = lowest_free(&self.claimed)?;
+        Some(cid as u16)
     }
 
     /// Claims the lowest free identifier below n - 1; `None`, with nothing changed, exactly where each of them is claimed.

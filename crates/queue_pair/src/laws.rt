@@ -20,6 +20,17 @@ pub fn order_is_modular()
     ensures moved { (n many slot : ℕ) → slot < n → moved n slot many ≡ (slot + many) % n }
 {}
 
+/// Moves stay inside the ring, and n of them come round: the slot from which so many moves lead to another lies the rest of the ring
+/// ahead of that.
+#[tactic(auto, using(crate::proofs::Round::moved_below, crate::proofs::Round::comes_round, crate::proofs::Round::comes_apart, crate::proofs::Round::tail_moved, crate::proofs::Round::head_moved))]
+pub fn moves_come_round()
+    ensures inside { (n slot many : ℕ) → slot < n → moved n slot many < n }
+    ensures round { (n slot many : ℕ) → slot < n → many ≤ n → moved n (moved n slot (n - many)) many ≡ slot }
+    ensures apart { (n slot many : ℕ) → slot < n → many < n → distance n (moved n slot (n - many)) slot ≡ many }
+    ensures tail { (n head tail : ℕ) → head < n → tail < n → tail ≡ moved n head (distance n head tail) }
+    ensures head { (n head tail : ℕ) → head < n → tail < n → head ≡ moved n tail (n - distance n head tail) }
+{}
+
 /// A ring is full where the slot after its tail is its head. Where a head is ahead of the one that is known, there is room as soon
 /// as the known one leaves room.
 #[tactic(auto, using(crate::proofs::Order::full_exactly, crate::proofs::Order::room_ahead))]
@@ -100,13 +111,14 @@ pub fn moves_stay_inside()
 {}
 
 /// Where two positions lie so many slots apart, each tells the other; and the phase that the host expects tells the controller's,
-/// by whether the answers that are left reach past the wrap.
-#[tactic(auto, using(crate::proofs::Order::tail_is_remainder, crate::proofs::Order::head_is_remainder, crate::proofs::Phases::phase_told))]
+/// by whether the answers that are left reach past the wrap. Each side tells the other's phase alike.
+#[tactic(auto, using(crate::proofs::Order::tail_is_remainder, crate::proofs::Order::head_is_remainder, crate::proofs::Phases::phase_told, crate::proofs::Round::told_alike))]
 pub fn positions_follow_lists()
     ensures tail { (n head tail : ℕ) → head < n → tail < n → tail ≡ (head + distance n head tail) % n }
     ensures head { (n head tail : ℕ) → head < n → tail < n → head ≡ (tail + n - distance n head tail) % n }
     ensures phase { (n head tail : ℕ) (phase : Bool) → head < n → tail < n
         → phase ≡ (if nat_le n (head + distance n head tail) then not (expected_phase head tail phase) else expected_phase head tail phase) }
+    ensures alike { (head tail : ℕ) (phase : Bool) → phase ≡ expected_phase head tail (expected_phase head tail phase) }
 {}
 
 /// Worked runs of the definitions.

@@ -5,9 +5,9 @@ use Rattle.entry_codec.proofs.Lists.{parts_joined}
 use Rattle.entry_codec.specs.Submission.{submission_bytes, submission_head, command_words}
 use Rattle.entry_codec.proofs.submission.SubEntry.write.Goals as goal
 
-pub returns : goal.returns
+pub returns-clause-bytes : goal.returns-clause-bytes
 unfolding submission_bytes
-returns c =
+returns-clause-bytes c =
     let head : c.copy_from_slice.new.self ≡ submission_head c.args.self = c.copy_from_slice.ensures.after ∙ c.head.ensures in
     let pointer : c.copy_from_slice-2.new.self ≡ to_le_bytes w64 c.args.self.mptr = c.copy_from_slice-2.ensures.after ∙ c.to_le_bytes.ensures in
     let sgl : c.copy_from_slice-3.new.self ≡ c.args.self.sgl1 = c.copy_from_slice-3.ensures.after in

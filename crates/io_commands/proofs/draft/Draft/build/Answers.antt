@@ -8,25 +8,27 @@ use Rattle.io_commands.proofs.draft.Draft.build.Goals as goal
 
 pub invariant_of-self : goal.invariant_of-self
 invariant_of-self g c =
-    let few : c.data_pages-data.result ≤ length c.self.inside.pages.items = enough_pages (contents_of c.self.inside) c.self.inside.pages.items c.data_pages-data.result c.data_pages-data.ensures c.self.invariant.pieces_have_pages in
+    let few : c.data_pages-data.result ≤ length c.self.inside.pages.items = enough_pages (contents_of c.self.inside) c.self.inside.pages.items c.data_pages-data.result c.data_pages-data.ensures c.self.invariant.0.pieces_have_pages in
     let d : DraftContents = contents_of c.self.inside in
     let segments : c.in_ok-chain.chain.segments ≡ draft_segments d = rw c.as_slice.ensures.value at c.in_ok-chain.ensures.segments in
     let first : c.first.result ≡ draft_first d = c.first.ensures ∙ (rw c.as_slice.ensures.value at c.in_ok-chain.ensures.first) in
     let entry : c.io_entry.result ≡ draft_entry d = c.io_entry.ensures ∙ ap (λ (sgl1 : List ℕ). io_entry d.cid d.request sgl1) (c.write-first.ensures ∙ ap spelling first) in
-    let count : length (draft_segments d) ≡ length d.chain_pages = rw (← segments) (c.in_ok-chain.ensures.count ∙ sym c.self.invariant.chain_has_pages) in
-    subst (λ (x : DraftContents). IsDraft x)
-    (sym (built_contents d c.self.inside.pages.items c.lay_all.new.pages.items c.data_pages-data.result c.in_ok-chain.chain.segments c.io_entry.result c.data_pages-data.ensures few
-    (rw c.data_pages-data.ensures refl) (rw c.data_pages-data.ensures refl) c.lay_all.ensures segments entry))
-    (built_keeps d count c.self.invariant)
+    let count : length (draft_segments d) ≡ length d.chain_pages = rw (← segments) (c.in_ok-chain.ensures.count ∙ sym c.self.invariant.0.chain_has_pages) in (
+      subst (λ (x : DraftContents). IsDraft x)
+          (sym (built_contents d c.self.inside.pages.items c.lay_all.new.pages.items c.data_pages-data.result c.in_ok-chain.chain.segments c.io_entry.result c.data_pages-data.ensures few
+          (rw c.data_pages-data.ensures refl) (rw c.data_pages-data.ensures refl) c.lay_all.ensures segments entry))
+          (built_keeps d count c.self.invariant.0),
+      c.self.invariant.1,
+    )
 
 pub returns-clause-spells : goal.returns-clause-spells
 returns-clause-spells g c =
-    let few : c.data_pages-data.result ≤ length c.self.inside.pages.items = enough_pages (contents_of c.self.inside) c.self.inside.pages.items c.data_pages-data.result c.data_pages-data.ensures c.self.invariant.pieces_have_pages in
+    let few : c.data_pages-data.result ≤ length c.self.inside.pages.items = enough_pages (contents_of c.self.inside) c.self.inside.pages.items c.data_pages-data.result c.data_pages-data.ensures c.self.invariant.0.pieces_have_pages in
     let d : DraftContents = contents_of c.self.inside in
     let segments : c.in_ok-chain.chain.segments ≡ draft_segments d = rw c.as_slice.ensures.value at c.in_ok-chain.ensures.segments in
     let first : c.in_ok-chain.chain.first ≡ draft_first d = rw c.as_slice.ensures.value at c.in_ok-chain.ensures.first in
     let entry : c.io_entry.result ≡ draft_entry d = c.io_entry.ensures ∙ ap (λ (sgl1 : List ℕ). io_entry d.cid d.request sgl1) (c.write-first.ensures ∙ ap spelling (c.first.ensures ∙ first)) in
-    let count : length (draft_segments d) ≡ length d.chain_pages = rw (← segments) (c.in_ok-chain.ensures.count ∙ sym c.self.invariant.chain_has_pages) in
+    let count : length (draft_segments d) ≡ length d.chain_pages = rw (← segments) (c.in_ok-chain.ensures.count ∙ sym c.self.invariant.0.chain_has_pages) in
     subst (λ (x : DraftContents). SpellsItsParts x)
     (sym (built_contents d c.self.inside.pages.items c.lay_all.new.pages.items c.data_pages-data.result c.in_ok-chain.chain.segments c.io_entry.result c.data_pages-data.ensures few
     (rw c.data_pages-data.ensures refl) (rw c.data_pages-data.ensures refl) c.lay_all.ensures segments entry))
