@@ -1,5 +1,5 @@
 -- One deletion of a queue's submission side is outstanding where the host waits for it: what each host event does to that.
-use Rattle.std.proofs.Common.{◌≡◌, ℕ, zero, suc, ◌+◌, ◌%◌, ◌<◌, ◌==◌, Bool, true, false, not, ◌&&◌, ◌||◌, Option, Some, None, List, [], ◌∷◌, ◌++◌, length, map, filter, find, slice_get, is_some, is_none, if◌then◌else◌, refl, ap, sym, ◌∙◌, arith, subst, eqb-true, eq-eqb}
+use Rattle.std.proofs.Common.{◌≡◌, ℕ, zero, suc, ◌+◌, ◌<◌, ◌==◌, Bool, true, false, not, ◌&&◌, ◌||◌, Option, Some, None, List, [], ◌∷◌, ◌++◌, length, map, filter, find, slice_get, is_some, is_none, if◌then◌else◌, refl, ap, sym, ◌∙◌, arith, subst, eqb-true, eq-eqb, nat_eq}
 use Rattle.std.specs.Option.{option_map_or}
 use Rattle.std.proofs.lemmas.Bool.{true≢false, not-false, and_parts, or_parts, eqb-false}
 use Rattle.admin_commands.specs.Entries.{admin_entry}
@@ -11,26 +11,31 @@ use Rattle.admin_commands.specs.declared.AdminKind.{AdminKind}
 use Rattle.io_commands.specs.declared.request.Request.{Request}
 use Rattle.io_commands.specs.Requests.{first_passing}
 use Rattle.page_memory.specs.Pages.{with_page_bytes}
-use Rattle.entry_codec.specs.declared.status.TheConstants.Status.{SUCCESS, ABORTED_SQ_DELETION}
+use Rattle.entry_codec.specs.declared.status.TheConstants.Status.{ABORTED_SQ_DELETION}
 use Rattle.entry_codec.specs.declared.status.Status.{Status}
-use Rattle.machine_model.specs.Status.{same_status}
+use Rattle.io_commands.specs.Jobs.{is_success}
 use Rattle.machine_model.specs.Memory.{with_pages, without_pages}
 use Rattle.machine_model.specs.Commands.{Work, Io, Management}
-use Rattle.machine_model.specs.State.{State, Host, HostQueue, HostRing, HostState, Live, Deleting, Retired, Gone, Record, Phase, Drafted, Submitted, Held, is_at, record_at, with_record, without_record, pages_of}
-use Rattle.machine_model.specs.Refusals.{host_queue, seen_entry, refusal_of, record_is, is_of, asks_for, same_list, is_submitted, is_drafted, is_collected, in_state, is_retired, is_gone, is_deleting, is_deleted, is_asked, deletes_sq_of, no_io_queue, no_identifier, queue_full, slot_page, slot_offset}
-use Rattle.machine_model.specs.Opening.{queues_from, half_pages}
+use Rattle.machine_model.specs.State.{State, Host, HostQueue, HostState, Live, Deleting, Retired, Gone, Record, Phase, Drafted, Submitted, Held, is_at, record_at, with_record, without_record, pages_of}
+use Rattle.machine_model.specs.Refusals.{host_queue, seen_entry, refusal_of, record_is, is_of, asks_for, is_submitted, is_drafted, is_collected, in_state, is_retired, is_gone, is_deleting, is_deleted, is_asked, deletes_sq_of, no_io_queue, no_identifier, queue_full, slot_page, slot_offset}
+use Rattle.machine_model.specs.Opening.{queues_from}
 use Rattle.machine_model.specs.Step.{HostPart, host_part, IsController}
 use Rattle.machine_model.specs.Claims.{DeletionsFit}
 use Rattle.machine_model.specs.After as a
 use Rattle.machine_model.specs.After.{change}
 use Rattle.machine_model.specs.Events as events
-use Rattle.machine_model.specs.Events.{Event, Reply, Reaped, Draft}
+use Rattle.io_commands.specs.Drafts.{DraftContents}
+use Rattle.machine_model.specs.Events.{Event, Reply, Reaped}
 use Rattle.machine_model.proofs.Counting.{one}
 use Rattle.machine_model.proofs.Totals.{total, total-append, total-map, total_without, here}
 use Rattle.machine_model.proofs.Parts.{part-posted}
 use Rattle.machine_model.proofs.Steps.{Accepts, IsKept}
 use Rattle.machine_model.proofs.Refused.{first_fails, rest_fails, found}
 use Rattle.machine_model.proofs.Owned.{HoldsPart}
+use Rattle.queue_pair.specs.Rings.{HostRing, next_tail, next_head, knowing}
+use Rattle.queue_pair.specs.Memory.{half_pages}
+use Rattle.page_memory.specs.declared.page.Half.TheVariants.{Submission, Completion}
+use Rattle.std.specs.Cmp.Lexicographic.{pointwise}
 
 abbrev pub asked_at : List HostQueue → ℕ → Bool
 asked_at hs q = option_map_or (λ h. is_asked h.state) (slice_get hs q) false
@@ -189,19 +194,19 @@ asked-ring : (q : ℕ) (g : HostRing → HostRing) (s : State) → AskedS s → 
 asked-ring q g s h z = h z ∙ ap one (sym (asked_same (λ x. record x { ring = g x.ring }) (λ x. refl) q s.host.queues z))
 
 asked-posted : (q : ℕ) (entry : SubEntry) (s : State) → AskedS s → AskedS (a.posted q entry s)
-asked-posted q entry s h = subst AskedPart (sym (part-posted q entry s)) (asked-ring q (a.next_tail s.entries) s h)
+asked-posted q entry s h = subst AskedPart (sym (part-posted q entry s)) (asked-ring q (next_tail s.entries) s h)
 
 asked-sent : (adm : AdminKind) (id : ℕ) (entry : SubEntry) (s : State) → ((q : ℕ) → asks_work q (Management adm) ≡ 0) → AskedS s → AskedS (a.sent adm id entry s)
 asked-sent adm id entry s none h =
     let new : Record = record { q = 0; cid = id; phase = Submitted; work = Management adm; data_pages = []; chain_pages = []; status = None } in
     asked-posted 0 entry (a.on_records (λ records. records ++ new ∷ []) s) (λ z. omega (arith, h z, total-append (asks z) s.host.records (new ∷ []), none z))
 
-asked-reserve : (d : Draft) (s : State) → AskedS s → AskedS (a.after_reserve d s)
+asked-reserve : (d : DraftContents) (s : State) → AskedS s → AskedS (a.after_reserve d s)
 asked-reserve d s h z =
     let new : Record = record { q = d.q; cid = d.cid; phase = Drafted; work = Io d.request; data_pages = numbers_of d.data_pages; chain_pages = numbers_of d.chain_pages; status = None } in
     omega (arith, h z, total-append (asks z) s.host.records (new ∷ []))
 
-asked-submit : (d : Draft) (s : State) → AskedS s → AskedS (a.after_submit d s)
+asked-submit : (d : DraftContents) (s : State) → AskedS s → AskedS (a.after_submit d s)
 asked-submit d s h = go d.entry
   where
     go : (o : Option SubEntry) → AskedS (option_map_or (λ entry. a.posted d.q entry (a.on_records (with_record d.q d.cid a.submitted) (a.on_memory (with_pages (d.data_pages ++ d.chain_pages)) s))) o s)
@@ -215,8 +220,8 @@ asked-ended : (phase : Phase → Bool) (request : Request) (q cid : ℕ) (bytes 
 asked-ended phase request q cid bytes chain s none holds h z =
     let fits = not-false _ (first_fails _ events.Stranger [] none) in
     let r = found (is_of phase request (numbers_of bytes) (numbers_of chain)) s q cid fits in
-    let abc = and_parts (phase r.0.phase && asks_for request r.0.work && same_list (numbers_of bytes) r.0.data_pages) (same_list (numbers_of chain) r.0.chain_pages) r.2 in
-    let ab = and_parts (phase r.0.phase && asks_for request r.0.work) (same_list (numbers_of bytes) r.0.data_pages) abc.0 in
+    let abc = and_parts (phase r.0.phase && asks_for request r.0.work && pointwise nat_eq (numbers_of bytes) r.0.data_pages) (pointwise nat_eq (numbers_of chain) r.0.chain_pages) r.2 in
+    let ab = and_parts (phase r.0.phase && asks_for request r.0.work) (pointwise nat_eq (numbers_of bytes) r.0.data_pages) abc.0 in
     let io = and_parts (phase r.0.phase) (asks_for request r.0.work) ab.0 in
     omega (arith, h z, total_without (asks z) q cid s.host.records r.0 r.1 (holds.once q cid), io_asks z request r.0.work io.1)
 
@@ -258,9 +263,9 @@ asked-admin : (adm : AdminKind) (st : Status) (at c : ℕ) (s : State) (r : Reco
     → AskedS s → AskedS (a.after_admin adm st (a.on_records (without_record at c) s))
 asked-admin (Abort k d) st at c s r is work once h =
     λ z. let mine : asks z r ≡ 0 = ap (asks_work z) work in omega (arith, h z, total_without (asks z) at c s.host.records r is once, mine)
-asked-admin (DeleteSq k) st at c s r is work once h = asked_noted s.host.records s.host.queues k at c r (same_status st SUCCESS) is work once h
+asked-admin (DeleteSq k) st at c s r is work once h = asked_noted s.host.records s.host.queues k at c r (is_success st) is work once h
 asked-admin (DeleteCq k) st at c s r is work once h =
-    go (same_status st SUCCESS) (option_map_or (λ queue. is_retired queue.state) (host_queue s k) false) refl
+    go (is_success st) (option_map_or (λ queue. is_retired queue.state) (host_queue s k) false) refl
   where
     h1 : AskedS (a.on_records (without_record at c) s)
     h1 = λ z. let mine : asks z r ≡ 0 = ap (asks_work z) work in omega (arith, h z, total_without (asks z) at c s.host.records r is once, mine)
@@ -290,7 +295,7 @@ asked-work (Io request) q cid st s r is work once h =
 asked-work (Management adm) q cid st s r is work once h = asked-admin adm st q cid s r is work once h
 
 asked-heard : (q : ℕ) (e : ComEntry) (s : State) → AskedS s → AskedS (a.heard q e s)
-asked-heard q e s h = asked-ring q (a.knowing e.sqhd) (a.consumed q s) (asked-ring q (a.next_head s.entries) s h)
+asked-heard q e s h = asked-ring q (knowing e.sqhd) (a.consumed q s) (asked-ring q (next_head s.entries) s h)
 
 asked-done : (q cid : ℕ) (st : Status) (s : State) → HoldsPart (host_part s) → AskedS s
     → AskedS (option_map_or (λ r. a.after_work r.work q cid st (option_map_or (λ e. a.heard q e s) (seen_entry s q) s)) (record_at s.host q cid) s)
@@ -306,7 +311,7 @@ asked-done q cid st s holds h = go (record_at s.host q cid) refl
 
 asked-reap : (q : ℕ) (what : Reaped) (s : State) → HoldsPart (host_part s) → AskedS s → AskedS (a.after_reap q what s)
 asked-reap q events.Empty s holds h = h
-asked-reap q (events.Rejected why) s holds h = asked-ring q (a.next_head s.entries) s h
+asked-reap q (events.Rejected why) s holds h = asked-ring q (next_head s.entries) s h
 asked-reap q (events.Done cid st) s holds h = asked-done q cid st s holds h
 asked-reap q (events.AdminDone cid st dw0) s holds h = asked-done q cid st s holds h
 
@@ -330,12 +335,12 @@ asked-delete q id s none h =
     let new : Record = record { q = 0; cid = id; phase = Submitted; work = Management (DeleteSq q); data_pages = []; chain_pages = []; status = None } in
     let s1 = a.on_records (λ records. records ++ new ∷ []) s in
     let G : HostPart → HostPart = λ part. record part { host = record part.host { queues = change q a.deleting part.host.queues } } in
-    let hs1 = change 0 (λ x. record x { ring = record x.ring { tail = (x.ring.tail + 1) % s.entries } }) s.host.queues in
+    let hs1 = change 0 (λ x. record x { ring = next_tail s.entries x.ring }) s.host.queues in
     let done : Asked (s.host.records ++ new ∷ []) (change q a.deleting hs1) =
-    asked_ask s.host.records hs1 q new refl (ring_some 0 q (λ x. record x { ring = record x.ring { tail = (x.ring.tail + 1) % s.entries } }) s.host.queues there)
-    (λ y ey. let x = ring_at 0 q (a.next_tail s.entries) s.host.queues y ey in
+    asked_ask s.host.records hs1 q new refl (ring_some 0 q (λ x. record x { ring = next_tail s.entries x.ring }) s.host.queues there)
+    (λ y ey. let x = ring_at 0 q (next_tail s.entries) s.host.queues y ey in
     ap is_asked x.2 ∙ live x.0.state (at_state is_retired x.0 x.1 retired) (at_state is_gone x.0 x.1 gone) (at_state is_deleting x.0 x.1 deleting))
-    (asked-ring 0 (a.next_tail s.entries) s h) in
+    (asked-ring 0 (next_tail s.entries) s h) in
     subst (λ (part : HostPart). AskedPart (G part)) (sym (part-posted 0 entry s1)) done
   where
     no : no_io_queue s q ≡ false
@@ -393,7 +398,7 @@ asked_event s e reply ok c holds h = absurd ok.1
 pub opened_quiet : (page n count q : ℕ) → asked_at (queues_from page n count) q ≡ false
 opened_quiet page n zero q = refl
 opened_quiet page n (suc count) zero = refl
-opened_quiet page n (suc count) (suc q) = opened_quiet (page + half_pages 64 n + half_pages 16 n) n count q
+opened_quiet page n (suc count) (suc q) = opened_quiet (page + half_pages n Submission + half_pages n Completion) n count q
 
 pub asked_at_opening : (page n count : ℕ) → Asked [] (queues_from page n count)
 asked_at_opening page n count q = sym (ap one (opened_quiet page n count q))

@@ -1,5 +1,5 @@
 -- Once something was forged, nothing of the controller's part tells on the host's events.
-use Rattle.std.proofs.Common.{◌≡◌, ℕ, ◌+◌, ◌%◌, Bool, true, false, not, ◌&&◌, ◌||◌, Option, Some, None, List, [], ◌∷◌, ◌++◌, map, MatchBool, if◌then◌else◌, refl, ap, sym, ◌∙◌, subst}
+use Rattle.std.proofs.Common.{◌≡◌, ℕ, Bool, true, false, not, ◌&&◌, ◌||◌, Option, Some, None, List, [], ◌∷◌, ◌++◌, map, MatchBool, if◌then◌else◌, refl, ap, sym, ◌∙◌, subst}
 use Rattle.std.specs.Option.{option_map_or}
 use Rattle.std.proofs.lemmas.Bool.{true≢false}
 use Rattle.entry_codec.specs.Submission.{submission_bytes}
@@ -9,9 +9,8 @@ use Rattle.entry_codec.specs.declared.submission.SubEntry.{SubEntry}
 use Rattle.admin_commands.specs.declared.AdminKind.TheVariants.{Abort, DeleteSq, DeleteCq}
 use Rattle.admin_commands.specs.declared.AdminKind.{AdminKind}
 use Rattle.page_memory.specs.Pages.{Pages, with_page_bytes}
-use Rattle.entry_codec.specs.declared.status.TheConstants.Status.{SUCCESS}
 use Rattle.entry_codec.specs.declared.status.Status.{Status}
-use Rattle.machine_model.specs.Status.{same_status}
+use Rattle.io_commands.specs.Jobs.{is_success}
 use Rattle.machine_model.specs.Memory.{with_pages, without_pages}
 use Rattle.machine_model.specs.Commands.{Work, Io, Management}
 use Rattle.machine_model.specs.State.{State, Device, HostQueue, Submitted, record_at, with_record, without_record, pages_of}
@@ -21,7 +20,9 @@ use Rattle.machine_model.specs.After as a
 use Rattle.machine_model.specs.After.{change}
 use Rattle.machine_model.specs.Laws.{hosts_need_no_controller}
 use Rattle.machine_model.specs.Events as events
-use Rattle.machine_model.specs.Events.{Event, Reply, Refusal, Reaped, Draft}
+use Rattle.io_commands.specs.Drafts.{DraftContents}
+use Rattle.machine_model.specs.Events.{Event, Reply, Refusal, Reaped}
+use Rattle.queue_pair.specs.Rings.{next_tail}
 
 -- a state in which something was forged, with any part of the controller's
 abbrev over : State → Device → State
@@ -49,13 +50,13 @@ seen-posted q entry s d d' = along (seen-option (λ queue. a.on_memory (write qu
 
     along : seen (option_map_or (λ queue. a.on_memory (write queue) (over s d)) (host_queue s q) (over s d)) ≡ seen (option_map_or (λ queue. a.on_memory (write queue) (over s d')) (host_queue s q) (over s d'))
         → seen (a.posted q entry (over s d)) ≡ seen (a.posted q entry (over s d'))
-    along e = ap (λ (x : Seen). (record x.0 { host = record x.0.host { queues = change q (λ queue. record queue { ring = record queue.ring { tail = (queue.ring.tail + 1) % s.entries } }) x.0.host.queues } }, x.1)) e
+    along e = ap (λ (x : Seen). (record x.0 { host = record x.0.host { queues = change q (λ queue. record queue { ring = next_tail s.entries queue.ring }) x.0.host.queues } }, x.1)) e
 
 seen-admin : (adm : AdminKind) (st : Status) (s : State) (d d' : Device) → seen (a.after_admin adm st (over s d)) ≡ seen (a.after_admin adm st (over s d'))
 seen-admin (Abort q cid) st s d d' = refl
 seen-admin (DeleteSq q) st s d d' = refl
 seen-admin (DeleteCq q) st s d d' =
-    seen-if (same_status st SUCCESS && option_map_or (λ queue. is_retired queue.state) (host_queue s q) false)
+    seen-if (is_success st && option_map_or (λ queue. is_retired queue.state) (host_queue s q) false)
     (a.half_freed (λ queue. queue.cq_pages) a.gone q (over s d))
     (a.half_freed (λ queue. queue.cq_pages) a.gone q (over s d'))
     (over s d) (over s d')
@@ -83,7 +84,7 @@ seen-reap q (events.Rejected why) s d d' = refl
 seen-reap q (events.Done cid st) s d d' = seen-done q cid st s d d' (seen_entry (over s d) q)
 seen-reap q (events.AdminDone cid st dw0) s d d' = seen-done q cid st s d d' (seen_entry (over s d) q)
 
-seen-submit : (dr : Draft) (s : State) (d d' : Device) → seen (a.after_submit dr (over s d)) ≡ seen (a.after_submit dr (over s d'))
+seen-submit : (dr : DraftContents) (s : State) (d d' : Device) → seen (a.after_submit dr (over s d)) ≡ seen (a.after_submit dr (over s d'))
 seen-submit dr s d d' =
     let with : State → State = λ t. a.on_records (with_record dr.q dr.cid a.submitted) (a.on_memory (with_pages (dr.data_pages ++ dr.chain_pages)) t) in
     seen-option (λ entry. a.posted dr.q entry (with (over s d))) (λ entry. a.posted dr.q entry (with (over s d'))) dr.entry (over s d) (over s d') refl
@@ -144,7 +145,7 @@ new_same s d d' q cid h = record { in_range = h.in_range; unused = h.unused }
 
 answers_same : (s : State) (d d' : Device) (e : Event) (reply : Reply) → IsController e ≡ false → Answers (over s d) e reply → Answers (over s d') e reply
 answers_same s d d' (events.Reserve q r) (events.Reserved dr) c h =
-    record { queue = h.queue; request = h.request; identifier = new_same s d d' q dr.cid h.identifier; data_pages = h.data_pages; chain_pages = h.chain_pages; free = h.free; zero = h.zero; not_built = h.not_built }
+    record { queue = h.queue; request = h.request; segment = h.segment; identifier = new_same s d d' q dr.cid h.identifier; data_pages = h.data_pages; chain_pages = h.chain_pages; free = h.free; zero = h.zero; not_built = h.not_built }
 answers_same s d d' (events.Submit dr) events.Accepted c h = h
 answers_same s d d' (events.Cancel dr) events.Accepted c h = h
 answers_same s d d' (events.Ring q) events.Accepted c h = h

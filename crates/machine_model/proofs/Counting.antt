@@ -1,9 +1,9 @@
 -- How often a number stands in a list.
 use Rattle.std.proofs.Common.{◌≡◌, ℕ, zero, suc, ◌+◌, ◌<◌, ◌≤◌, ◌==◌, nat_lt, Bool, true, false, not, ◌&&◌, ◌||◌, List, [], ◌∷◌, ◌++◌, length, filter, if◌then◌else◌, refl, ap, sym, ◌∙◌, arith, eqb-true, eq-eqb, ltb-true, ltb-false, lt-ltb, le-ltb}
 use Rattle.std.proofs.lemmas.Bool.{eqb-false, true≢false}
-use Rattle.page_ledger.specs.Owners.{is_among}
+use Rattle.page_ledger.specs.Owners.{is_among, pages_from}
 use Rattle.machine_model.specs.Step.{times}
-use Rattle.machine_model.specs.After.{upto, without_numbers, joined_in_order}
+use Rattle.machine_model.specs.After.{without_numbers, joined_in_order}
 
 abbrev pub one : Bool → ℕ
 one b = if b then 1 else 0
@@ -68,19 +68,26 @@ pub none_below : (p : ℕ) → one (nat_lt p 0) ≡ 0
 none_below p = ap one (le-ltb p 0 (omega arith))
 
 -- the numbers below a bound, each once
-pub times-upto : (p count : ℕ) → times p (upto count) ≡ one (nat_lt p count)
-times-upto p zero = sym (none_below p)
-times-upto p (suc n) = go (n == p) refl (times-upto p n)
+pages_last : (p n : ℕ) → pages_from p (suc n) ≡ pages_from p n ++ (p + n) ∷ []
+pages_last p zero = ap (λ (q : ℕ). q ∷ []) (omega arith)
+pages_last p (suc n) = ap (λ (l : List ℕ). p ∷ l) (pages_last (p + 1) n ∙ ap (λ (q : ℕ). pages_from (p + 1) n ++ q ∷ []) (omega arith))
+
+pub times-pages : (p count : ℕ) → times p (pages_from 0 count) ≡ one (nat_lt p count)
+times-pages p zero = sym (none_below p)
+times-pages p (suc n) = ap (times p) last ∙ go (n == p) refl (times-pages p n)
   where
-    go : (b : Bool) → (n == p) ≡ b → times p (upto n) ≡ one (nat_lt p n) → times p (upto n ++ n ∷ []) ≡ one (nat_lt p (suc n))
+    last : pages_from 0 (suc n) ≡ pages_from 0 n ++ n ∷ []
+    last = pages_last 0 n ∙ ap (λ (q : ℕ). pages_from 0 n ++ q ∷ []) (omega arith)
+
+    go : (b : Bool) → (n == p) ≡ b → times p (pages_from 0 n) ≡ one (nat_lt p n) → times p (pages_from 0 n ++ n ∷ []) ≡ one (nat_lt p (suc n))
     go true e ih =
         let h : n ≡ p = eqb-true n p e in
         let l : nat_lt p n ≡ false = le-ltb p n (omega arith) in
         let m : nat_lt p (suc n) ≡ true = lt-ltb p (suc n) (omega arith) in
-        let t : times p (upto n) ≡ 0 = ih ∙ ap one l in
-        rw m (omega (arith, times-append p (upto n) (n ∷ []), times_here p n [] e))
+        let t : times p (pages_from 0 n) ≡ 0 = ih ∙ ap one l in
+        rw m (omega (arith, times-append p (pages_from 0 n) (n ∷ []), times_here p n [] e))
     go false e ih =
-        let a : times p (upto n ++ n ∷ []) ≡ times p (upto n) = omega (arith, times-append p (upto n) (n ∷ []), times_there p n [] e) in
+        let a : times p (pages_from 0 n ++ n ∷ []) ≡ times p (pages_from 0 n) = omega (arith, times-append p (pages_from 0 n) (n ∷ []), times_there p n [] e) in
         a ∙ ih ∙ ap one (same (nat_lt p n) refl)
       where
         same : (b : Bool) → nat_lt p n ≡ b → nat_lt p n ≡ nat_lt p (suc n)
@@ -113,28 +120,28 @@ pub times_joined : (p count : ℕ) (pages free : List ℕ) → times p free + ti
     → times p (joined_in_order count pages free) ≡ times p free + times p pages
 times_joined p count pages free few = go (is_among free p) (is_among pages p) (nat_lt p count) refl refl refl
   where
-    whole : times p (joined_in_order count pages free) ≡ (if is_among free p || is_among pages p then times p (upto count) else 0)
-    whole = times-filter p (λ x. is_among free x || is_among pages x) (upto count)
+    whole : times p (joined_in_order count pages free) ≡ (if is_among free p || is_among pages p then times p (pages_from 0 count) else 0)
+    whole = times-filter p (λ x. is_among free x || is_among pages x) (pages_from 0 count)
 
     go : (f b l : Bool) → is_among free p ≡ f → is_among pages p ≡ b → nat_lt p count ≡ l
         → times p (joined_in_order count pages free) ≡ times p free + times p pages
     go f b false ef eb el =
         let few' : times p free + times p pages ≤ 0 = rw el at few in
-        let u : times p (upto count) ≡ 0 = rw el at (times-upto p count) in
+        let u : times p (pages_from 0 count) ≡ 0 = rw el at (times-pages p count) in
         whole ∙ none (is_among free p || is_among pages p) u ∙ omega arith
       where
-        none : (c : Bool) → times p (upto count) ≡ 0 → (if c then times p (upto count) else 0) ≡ 0
+        none : (c : Bool) → times p (pages_from 0 count) ≡ 0 → (if c then times p (pages_from 0 count) else 0) ≡ 0
         none true u = u
         none false u = refl
     go true b true ef eb el =
         let few' : times p free + times p pages ≤ 1 = rw el at few in
-        let u : times p (upto count) ≡ 1 = rw el at (times-upto p count) in
-        let w : times p (joined_in_order count pages free) ≡ times p (upto count) = rw ef at whole in
+        let u : times p (pages_from 0 count) ≡ 1 = rw el at (times-pages p count) in
+        let w : times p (joined_in_order count pages free) ≡ times p (pages_from 0 count) = rw ef at whole in
         omega (arith, held_once p free ef)
     go false true true ef eb el =
         let few' : times p free + times p pages ≤ 1 = rw el at few in
-        let u : times p (upto count) ≡ 1 = rw el at (times-upto p count) in
-        let w : times p (joined_in_order count pages free) ≡ times p (upto count) = rw (ef, eb) at whole in
+        let u : times p (pages_from 0 count) ≡ 1 = rw el at (times-pages p count) in
+        let w : times p (joined_in_order count pages free) ≡ times p (pages_from 0 count) = rw (ef, eb) at whole in
         omega (arith, held_once p pages eb)
     go false false true ef eb el =
         let w : times p (joined_in_order count pages free) ≡ 0 = rw (ef, eb) at whole in

@@ -12,9 +12,7 @@ use Rattle.admin_commands.specs.Verdicts.{is_absent, is_live as is_running}
 use Rattle.machine_model.specs.State.{State, DeviceQueue}
 use Rattle.machine_model.specs.Refusals.{device_queue}
 use Rattle.machine_model.specs.After.{acted, managed, decided, on_job, on_device, on_device_queue, stopped, sq_state, cq_there, walks}
-
-abbrev pub absent : State → ℕ → Bool
-absent s q = option_map_or (λ at. is_absent at.state) (device_queue s q) true
+pub use Rattle.machine_model.specs.Linked.{absent}
 
 by-if : {A : Type 0} (Q : A → Type 0) (b : Bool) (x y : A) → (b ≡ true → Q x) → (b ≡ false → Q y) → Q (if b then x else y)
 by-if Q true x y f g = f refl
@@ -31,13 +29,13 @@ absent_state s q h = go (device_queue s q) h
 pub managed_by_case : (P : State → Type 0) (e : SubEntry) (s : State)
     → P (decided e INVALID_OPCODE 0 s)
     → P (decided e INVALID_FIELD 0 s)
-    → ((e.opcode == 8) ≡ true → P (decided e SUCCESS 0 (on_job (named_queue e) (named_command e) (λ j. record j { verdict = Some ABORT_REQUESTED; waiting_abort = Some e.cid }) s)))
-    → ((e.opcode == 8) ≡ true → P (decided e SUCCESS 1 s))
+    → ((e.opcode == ABORT) ≡ true → P (decided e SUCCESS 0 (on_job (named_queue e) (named_command e) (λ j. record j { verdict = Some ABORT_REQUESTED; waiting_abort = Some e.cid }) s)))
+    → ((e.opcode == ABORT) ≡ true → P (decided e SUCCESS 1 s))
     → P (decided e INVALID_QUEUE_IDENTIFIER 0 s)
-    → ((e.opcode == 0) ≡ true → (named_queue e == 0) ≡ false → is_running (sq_state s (named_queue e)) ≡ true
+    → ((e.opcode == DELETE_IO_SQ) ≡ true → (named_queue e == 0) ≡ false → is_running (sq_state s (named_queue e)) ≡ true
     → P (decided e SUCCESS 0 (on_device (λ d. record d { jobs = map (stopped (named_queue e)) d.jobs }) (on_device_queue (named_queue e) (λ at. record at { state = Stopping }) s))))
     → P (decided e INVALID_QUEUE_DELETION 0 s)
-    → ((e.opcode == 8) ≡ false → (e.opcode == 0) ≡ false → is_absent (sq_state s (named_queue e)) ≡ true
+    → ((e.opcode == ABORT) ≡ false → (e.opcode == DELETE_IO_SQ) ≡ false → is_absent (sq_state s (named_queue e)) ≡ true
     → P (decided e SUCCESS 0 (on_device_queue (named_queue e) (λ at. record at { cq_there = false }) s)))
     → P (managed e s)
 managed_by_case P e s unknown fused aborts late wrong stops held drops =

@@ -1,10 +1,9 @@
 -- The opening state keeps the invariant.
 use Rattle.std.proofs.Common.{◌≡◌, ℕ, zero, suc, ◌+◌, ◌-◌, ◌*◌, ◌<◌, ◌≤◌, nat_lt, not, ltb-false, nat_le, leb-true, ◌&&◌, List, [], ◌∷◌, ◌++◌, length, drop, replicate, Some, true, slice_get, refl, ap, ap₂, sym, ◌∙◌, arith, zero-mul, zero-add}
 use Rattle.std.proofs.lemmas.List.{length-replicate}
-use Rattle.machine_model.specs.Opening.{opening, queues_from, half_pages, pages_of_queues, is_config, Opens, BadConfig, NoPages}
-use Rattle.machine_model.specs.After.{upto}
+use Rattle.machine_model.specs.Opening.{opening, queues_from, pages_of_queues, is_config, Opens, BadConfig, NoPages}
 use Rattle.machine_model.specs.Step.{times, host_part}
-use Rattle.machine_model.proofs.Counting.{one, times-append, times-upto}
+use Rattle.machine_model.proofs.Counting.{one, times-append, times-pages}
 use Rattle.std.proofs.lemmas.Bool.{not-false, and_parts}
 use Rattle.page_ledger.specs.Owners.{pages_from}
 use Rattle.page_memory.specs.Pages.{zero_page}
@@ -13,16 +12,14 @@ use Rattle.machine_model.proofs.Totals.{total}
 use Rattle.machine_model.proofs.Parts.{in_store, length-in_store}
 use Rattle.machine_model.proofs.Owned.{in_queue, HoldsPart}
 use Rattle.machine_model.proofs.Taken.{Taken}
+use Rattle.queue_pair.specs.Memory.{half_pages}
+use Rattle.page_memory.specs.declared.page.Half.TheVariants.{Submission, Completion}
 
 range_split : (a c d n : ℕ) → c + d ≡ n → pages_from a n ≡ pages_from a c ++ pages_from (a + c) d
 range_split a zero d n e = ap₂ pages_from (omega arith) (omega arith)
 range_split a (suc c) d zero e = absurd (omega arith)
 range_split a (suc c) d (suc n) e =
     ap (λ xs. a ∷ xs) (range_split (a + 1) c d n (omega arith) ∙ ap (λ k. pages_from (a + 1) c ++ pages_from k d) (omega arith))
-
-upto_is : (n : ℕ) → upto n ≡ pages_from 0 n
-upto_is zero = refl
-upto_is (suc n) = ap (λ xs. xs ++ n ∷ []) (upto_is n) ∙ ap (λ k. pages_from 0 n ++ k ∷ []) (sym (zero-add n)) ∙ sym (range_split 0 n 1 (suc n) (omega arith))
 
 pub length-range : (a n : ℕ) → length (pages_from a n) ≡ n
 length-range a zero = refl
@@ -32,9 +29,9 @@ drop_front : (xs ys : List ℕ) → drop (length xs) (xs ++ ys) ≡ ys
 drop_front [] ys = refl
 drop_front (x ∷ xs) ys = drop_front xs ys
 
-free_pages : (k n : ℕ) → k ≤ n → drop k (upto n) ≡ pages_from k (n - k)
+free_pages : (k n : ℕ) → k ≤ n → drop k (pages_from 0 n) ≡ pages_from k (n - k)
 free_pages k n le =
-    let split : upto n ≡ pages_from 0 k ++ pages_from (0 + k) (n - k) = upto_is n ∙ range_split 0 k (n - k) n (omega arith) in
+    let split : pages_from 0 n ≡ pages_from 0 k ++ pages_from (0 + k) (n - k) = range_split 0 k (n - k) n (omega arith) in
     let at : length (pages_from 0 k) ≡ k = length-range 0 k in
     ap (drop k) split ∙ ap (λ i. drop i (pages_from 0 k ++ pages_from (0 + k) (n - k))) (sym at) ∙ drop_front (pages_from 0 k) (pages_from (0 + k) (n - k)) ∙ ap (λ a. pages_from a (n - k)) (zero-add k)
 
@@ -45,21 +42,20 @@ three p page a b count rest e =
     let second = range_split (page + a) b (count * (a + b)) (b + count * (a + b)) refl in
     omega (arith, e, ap (times p) first, times-append p (pages_from page a) (pages_from (page + a) (b + count * (a + b))), ap (times p) second, times-append p (pages_from (page + a) b) (pages_from (page + a + b) (count * (a + b))))
 
-queue_pages : (p page n count : ℕ) → total (in_queue p) (queues_from page n count) ≡ times p (pages_from page (count * (half_pages 64 n + half_pages 16 n)))
-queue_pages p page n zero = ap (λ k. times p (pages_from page k)) (sym (zero-mul (half_pages 64 n + half_pages 16 n)))
-queue_pages p page n (suc count) = three p page (half_pages 64 n) (half_pages 16 n) count _ (queue_pages p (page + half_pages 64 n + half_pages 16 n) n count)
+queue_pages : (p page n count : ℕ) → total (in_queue p) (queues_from page n count) ≡ times p (pages_from page (count * (half_pages n Submission + half_pages n Completion)))
+queue_pages p page n zero = ap (λ k. times p (pages_from page k)) (sym (zero-mul (half_pages n Submission + half_pages n Completion)))
+queue_pages p page n (suc count) = three p page (half_pages n Submission) (half_pages n Completion) count _ (queue_pages p (page + half_pages n Submission + half_pages n Completion) n count)
 
-whole : (p pages k : ℕ) {q : ℕ} → k ≤ pages → q ≡ times p (pages_from 0 k) → times p (drop k (upto pages)) + (q + 0) ≡ one (nat_lt p pages)
+whole : (p pages k : ℕ) {q : ℕ} → k ≤ pages → q ≡ times p (pages_from 0 k) → times p (drop k (pages_from 0 pages)) + (q + 0) ≡ one (nat_lt p pages)
 whole p pages k le e =
     omega (
       arith,
       ap (times p) (free_pages k pages le),
       e,
-      ap (times p) (upto_is pages),
       ap (times p) (range_split 0 k (pages - k) pages (omega arith)),
       times-append p (pages_from 0 k) (pages_from (0 + k) (pages - k)),
       ap (λ a. times p (pages_from a (pages - k))) (zero-add k),
-      times-upto p pages,
+      times-pages p pages,
     )
 
 abbrev pub FitsPool : (pages queues n : ℕ) → Type 0
@@ -89,7 +85,7 @@ pub holds_at_opening : (pages queues n s : ℕ) (image : List ℕ) → FitsPool 
 holds_at_opening pages queues n s image fits =
     let count : length (in_store (replicate pages (Some zero_page))) ≡ pages = length-in_store (replicate pages (Some zero_page)) ∙ length-replicate pages (Some zero_page) in
     record {
-      owner = λ p. whole p pages ((queues + 1) * (half_pages 64 n + half_pages 16 n)) fits (queue_pages p 0 n (queues + 1)) ∙ ap (λ k. one (nat_lt p k)) (sym count);
+      owner = λ p. whole p pages ((queues + 1) * (half_pages n Submission + half_pages n Completion)) fits (queue_pages p 0 n (queues + 1)) ∙ ap (λ k. one (nat_lt p k)) (sym count);
       once = λ q cid. omega arith;
       admins = tt;
     }

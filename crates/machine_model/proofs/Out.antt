@@ -12,9 +12,9 @@ use Rattle.admin_commands.specs.declared.AdminKind.{AdminKind}
 use Rattle.io_commands.specs.declared.request.Request.{Request}
 use Rattle.io_commands.specs.Requests.{first_passing}
 use Rattle.page_memory.specs.Pages.{with_page_bytes}
-use Rattle.entry_codec.specs.declared.status.TheConstants.Status.{SUCCESS, ABORTED_SQ_DELETION}
+use Rattle.entry_codec.specs.declared.status.TheConstants.Status.{ABORTED_SQ_DELETION}
 use Rattle.entry_codec.specs.declared.status.Status.{Status}
-use Rattle.machine_model.specs.Status.{same_status}
+use Rattle.io_commands.specs.Jobs.{is_success}
 use Rattle.machine_model.specs.Memory.{with_pages, without_pages}
 use Rattle.machine_model.specs.Commands.{Work, Io, Management}
 use Rattle.machine_model.specs.State.{State, HostQueue, Record, Phase, Submitted, Held, Collected, Drafted, record_at, pages_of, with_record, without_record}
@@ -22,7 +22,8 @@ use Rattle.machine_model.specs.Refusals.{slot_page, slot_offset, host_queue, see
 use Rattle.machine_model.specs.Step.{HostPart, host_part, IsController, times, reaped, reaped_entry, reaped_as, submitted_at, fits_ring}
 use Rattle.machine_model.specs.After as a
 use Rattle.machine_model.specs.Events as events
-use Rattle.machine_model.specs.Events.{Event, Reply, Reaped, Draft}
+use Rattle.io_commands.specs.Drafts.{DraftContents}
+use Rattle.machine_model.specs.Events.{Event, Reply, Reaped}
 use Rattle.machine_model.proofs.Counting.{one, held_once, not_held}
 use Rattle.machine_model.proofs.Totals.{total, total-append, total-map, total_without, total_with, here}
 use Rattle.machine_model.proofs.Parts.{in_store, part-posted, in_store-with_bytes, length-in_store, length-with_pages, length-without_pages}
@@ -118,13 +119,13 @@ submitted_in Collected e = absurd (true≢false (sym e))
 
 -- What a reap finds is submitted
 
-abbrev named : Reaped → Option ℕ
+abbrev pub named : Reaped → Option ℕ
 named events.Empty = None
 named (events.Rejected why) = None
 named (events.Done cid st) = Some cid
 named (events.AdminDone cid st dw0) = Some cid
 
-abbrev IsSubmittedAt : State → ℕ → ℕ → Type 0
+abbrev pub IsSubmittedAt : State → ℕ → ℕ → Type 0
 IsSubmittedAt s q cid = (r : Record) × (record_at s.host q cid ≡ Some r) × (is_submitted r.phase ≡ true)
 
 named_as : (q : ℕ) (e : ComEntry) (w : Work) → named (reaped_as q e w) ≡ Some e.cid
@@ -143,7 +144,7 @@ is_there s q e cid h = go (record_at s.host q e.cid) refl h
         on true is h = let same : e.cid ≡ cid = cc (named_as q e r.work) in (r, subst (λ (k : ℕ). record_at s.host q k ≡ Some r) same at, is)
         on false is h = absurd cc
 
-reaped_submitted : (s : State) (q cid : ℕ) → named (reaped s q) ≡ Some cid → IsSubmittedAt s q cid
+pub reaped_submitted : (s : State) (q cid : ℕ) → named (reaped s q) ≡ Some cid → IsSubmittedAt s q cid
 reaped_submitted s q cid h = go (seen_entry s q) h
   where
     go : (o : Option ComEntry) → named (option_map_or (reaped_entry s q) o events.Empty) ≡ Some cid → IsSubmittedAt s q cid
@@ -160,7 +161,7 @@ reaped_submitted s q cid h = go (seen_entry s q) h
 
 -- Each event
 
-fits-reserve : (s : State) (d : Draft) → Fits s → Fits (a.after_reserve d s)
+fits-reserve : (s : State) (d : DraftContents) → Fits s → Fits (a.after_reserve d s)
 fits-reserve s d h =
     let pages = numbers_of d.data_pages ++ numbers_of d.chain_pages in
     let new : Record = record { q = d.q; cid = d.cid; phase = Drafted; work = Io d.request; data_pages = numbers_of d.data_pages; chain_pages = numbers_of d.chain_pages; status = None } in
@@ -184,7 +185,7 @@ fits-ended phase request q cid bytes chain s out none' h =
     (λ p. omega (arith, total_without (taken p) q cid s.host.records r.0 r.1 (h.0.once q cid), taken_when p r.0 true (out r.0.phase match.1), ap (times p) match.0))
     h.0 h.1
 
-fits-submit : (d : Draft) (s : State) → refusal_of s (events.Submit d) ≡ None → Both (host_part s) → Fits (a.after_submit d s)
+fits-submit : (d : DraftContents) (s : State) → refusal_of s (events.Submit d) ≡ None → Both (host_part s) → Fits (a.after_submit d s)
 fits-submit d s none' h =
     fits-option (λ entry. a.posted d.q entry (a.on_records (with_record d.q d.cid a.submitted) (a.on_memory (with_pages (d.data_pages ++ d.chain_pages)) s))) d.entry s h.1
     (λ entry e.
@@ -238,7 +239,7 @@ fits-admin : (adm : AdminKind) (st : Status) (s : State) → Fits s → Fits (a.
 fits-admin (Abort q cid) st s h = h
 fits-admin (DeleteSq q) st s h = h
 fits-admin (DeleteCq q) st s h =
-    fits-if (same_status st SUCCESS && option_map_or (λ queue. is_retired queue.state) (host_queue s q) false) _ s
+    fits-if (is_success st && option_map_or (λ queue. is_retired queue.state) (host_queue s q) false) _ s
     (fits-half_freed (λ queue. queue.cq_pages) a.gone q s h) h
 
 fits-work : (w : Work) (q cid : ℕ) (st : Status) (s : State) (r : Record) → record_at s.host q cid ≡ Some r → is_submitted r.phase ≡ true → total (here q cid) s.host.records < 2 → Fits s → Fits (a.after_work w q cid st s)

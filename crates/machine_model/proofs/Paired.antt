@@ -7,11 +7,15 @@ use Rattle.admin_commands.specs.Verdicts.{is_absent}
 use Rattle.machine_model.specs.State.{State, HostQueue, HostState, Live, Deleting, Retired, Gone, DeviceQueue, Job}
 use Rattle.machine_model.specs.Refusals.{job_at, is_gone}
 use Rattle.machine_model.specs.After.{change}
-use Rattle.machine_model.specs.Opening.{half_pages}
 use Rattle.machine_model.proofs.Touching.{IsLinked, completion_there}
 use Rattle.machine_model.proofs.Counting.{one}
 use Rattle.machine_model.proofs.Totals.{total}
 use Rattle.machine_model.proofs.Placed.{gone_at, is_job}
+use Rattle.queue_pair.specs.Memory.{half_pages}
+use Rattle.page_memory.specs.declared.page.Half.TheVariants.{Submission, Completion}
+use Rattle.machine_model.specs.Step.{host_part}
+use Rattle.machine_model.specs.Positions.{IsInRing}
+use Rattle.machine_model.proofs.Positions.{InRings, all_at}
 
 abbrev pub is_past : HostState → Bool
 is_past Live = false
@@ -27,8 +31,8 @@ is_over Gone = true
 
 pub record PairOk (n : ℕ) (h : HostQueue) (d : DeviceQueue) : Type 0 where
   -- the halves are whole until they are freed
-  pub sub : is_past h.state ≡ false → length h.sq_pages ≡ half_pages 64 n
-  pub comp : is_gone h.state ≡ false → length h.cq_pages ≡ half_pages 16 n
+  pub sub : is_past h.state ≡ false → length h.sq_pages ≡ half_pages n Submission
+  pub comp : is_gone h.state ≡ false → length h.cq_pages ≡ half_pages n Completion
   -- what the host holds for deleted is deleted
   pub over : is_over h.state ≡ true → is_absent d.state ≡ true
   pub gone : is_gone h.state ≡ true → d.cq_there ≡ false
@@ -108,19 +112,20 @@ completion_queue s q h = go (slice_get s.device.queues q) refl h
     go None e h = absurd (true≢false (sym h))
     go (Some d) e h = (d, e, h)
 
-pub linked_from_tied : (s : State) → Tied s → IsLinked s
-linked_from_tied s tied = record {
+pub linked_from_tied : (s : State) → InRings (host_part s) → Tied s → IsLinked s
+linked_from_tied s rings tied = record {
   entries = tied.some_entries;
+  inside = λ q queue e. all_at (λ queue. IsInRing s.entries queue.ring) s.host.queues q queue e rings;
   submission_whole = λ q queue e there.
       let d = there_queue s q there in
       let p = paired_at s.entries q s.host.queues s.device.queues d.0 d.1 tied.pairs in
       let same : p.0 ≡ queue = cc (p.1, e) in
-      subst (λ (h : HostQueue). length h.sq_pages ≡ half_pages 64 s.entries) same (p.2.sub (past_over p.0.state (λ o. true≢false (sym (p.2.over o) ∙ d.2))));
+      subst (λ (h : HostQueue). length h.sq_pages ≡ half_pages s.entries Submission) same (p.2.sub (past_over p.0.state (λ o. true≢false (sym (p.2.over o) ∙ d.2))));
   completion_whole = λ q queue e there.
       let d = completion_queue s q there in
       let p = paired_at s.entries q s.host.queues s.device.queues d.0 d.1 tied.pairs in
       let same : p.0 ≡ queue = cc (p.1, e) in
-      subst (λ (h : HostQueue). length h.cq_pages ≡ half_pages 16 s.entries) same (p.2.comp (gone_case p.0.state (λ o. true≢false (sym d.2 ∙ p.2.gone o))));
+      subst (λ (h : HostQueue). length h.cq_pages ≡ half_pages s.entries Completion) same (p.2.comp (gone_case p.0.state (λ o. true≢false (sym d.2 ∙ p.2.gone o))));
   known = λ q there.
       let d = there_queue s q there in
       let p = paired_at s.entries q s.host.queues s.device.queues d.0 d.1 tied.pairs in

@@ -1,5 +1,5 @@
 -- The host's part of a state, and what leaves it alone.
-use Rattle.std.proofs.Common.{◌≡◌, ℕ, zero, suc, ◌+◌, ◌/◌, ◌%◌, ◌==◌, take, drop, Bool, true, false, Option, Some, None, List, [], ◌∷◌, length, map, is_some, slice_set, option_and_then, if◌then◌else◌, refl, ap, ◌∙◌, length-set}
+use Rattle.std.proofs.Common.{◌≡◌, ℕ, zero, suc, ◌/◌, ◌%◌, ◌==◌, take, drop, Bool, true, false, Option, Some, None, List, [], ◌∷◌, length, map, is_some, slice_set, option_and_then, if◌then◌else◌, refl, ap, ◌∙◌, length-set}
 use Rattle.std.specs.Option.{option_map_or}
 use Rattle.controller_walk.specs.Units.{Act, Stays, Reads, Moves}
 use Rattle.machine_model.proofs.Managed.{managed_by_case}
@@ -14,9 +14,11 @@ use Rattle.entry_codec.specs.declared.status.Status.{Status}
 use Rattle.machine_model.specs.Memory.{with_pages, without_pages}
 use Rattle.machine_model.specs.State.{State}
 use Rattle.machine_model.specs.Step.{HostPart, host_part}
-use Rattle.machine_model.specs.State.{Job, HostQueue, DeviceQueue}
-use Rattle.machine_model.specs.Refusals.{host_queue, device_queue, next_rung, job_at, conflicts, slot_page, slot_offset, post_slot, fetch_slot}
-use Rattle.machine_model.specs.After.{posted, on_ring, change, on_memory, after_fetch, after_walk, after_complete, answered, post_phase, taken_off, managed, begun, io_fault, moved, next_unit, direction_of, final_status, deletion_done}
+use Rattle.machine_model.specs.State.{Job, HostQueue}
+use Rattle.machine_model.specs.Refusals.{host_queue, next_rung, job_at, conflicts, slot_page, slot_offset, post_slot, fetch_slot}
+use Rattle.machine_model.specs.After.{posted, on_ring, change, on_memory, after_fetch, after_walk, after_complete, answered, post_phase, taken_off, managed, begun, moved, next_unit, final_status, deletion_done}
+use Rattle.queue_pair.specs.Rings.{next_tail}
+use Rattle.io_commands.specs.Jobs.{direction_of_entry}
 
 -- bytes written leave in what is in
 abbrev pub in_store : Pages → List Bool
@@ -42,22 +44,18 @@ pub part-if : (b : Bool) (t u s : State) → host_part t ≡ host_part s → hos
 part-if true t u s et eu = et
 part-if false t u s et eu = eu
 
-part-or : {A : Type 0} (f : A → State) (o : Option A) (d s : State) → ((x : A) → host_part (f x) ≡ host_part s) → host_part d ≡ host_part s → host_part (option_map_or f o d) ≡ host_part s
-part-or f None d s each e = e
-part-or f (Some x) d s each e = each x
-
 pub part-answered : (q cid : ℕ) (st : Status) (dw0 : ℕ) (s : State) → host_part (answered q cid st dw0 s) ≡ host_part s
 part-answered q cid st dw0 s =
-    let write : HostQueue → DeviceQueue → Pages → Pages = λ queue at m. with_page_bytes m (slot_page queue.cq_pages 16 (post_slot s q)) (slot_offset 16 (post_slot s q))
-    (completion_bytes (record { dw0 = dw0; sqhd = fetch_slot s q; sqid = q; cid = cid; phase = post_phase s queue (length at.answers); status = st })) in
-    part-option (λ queue. option_map_or (λ at. on_memory (write queue at) s) (device_queue s q) s) (host_queue s q) s
-    (λ queue. part-option (λ at. on_memory (write queue at) s) (device_queue s q) s (λ at. part-bytes s (slot_page queue.cq_pages 16 (post_slot s q)) (slot_offset 16 (post_slot s q)) (completion_bytes (record { dw0 = dw0; sqhd = fetch_slot s q; sqid = q; cid = cid; phase = post_phase s queue (length at.answers); status = st }))))
+    let write : HostQueue → Pages → Pages = λ queue m. with_page_bytes m (slot_page queue.cq_pages 16 (post_slot s q)) (slot_offset 16 (post_slot s q))
+    (completion_bytes (record { dw0 = dw0; sqhd = fetch_slot s q; sqid = q; cid = cid; phase = post_phase s q queue; status = st })) in
+    part-option (λ queue. on_memory (write queue) s) (host_queue s q) s
+    (λ queue. part-bytes s (slot_page queue.cq_pages 16 (post_slot s q)) (slot_offset 16 (post_slot s q)) (completion_bytes (record { dw0 = dw0; sqhd = fetch_slot s q; sqid = q; cid = cid; phase = post_phase s q queue; status = st })))
 
 part-managed : (e : SubEntry) (s : State) → host_part (managed e s) ≡ host_part s
 part-managed e s = managed_by_case (λ t. host_part t ≡ host_part s) e s refl refl (λ is8. refl) (λ is8. refl) refl (λ is0 q0 runs. refl) refl (λ not8 not0 gone. refl)
 
 part-begun : (q : ℕ) (e : SubEntry) (s : State) → host_part (begun q e s) ≡ host_part s
-part-begun q e s = part-or _ (io_fault s e) _ s (λ fault. refl) refl
+part-begun q e s = refl
 
 pub part-fetch : (q : ℕ) (s : State) → host_part (after_fetch q s) ≡ host_part s
 part-fetch q s =
@@ -77,7 +75,7 @@ pub part-walk : (q cid : ℕ) (s : State) → host_part (after_walk q cid s) ≡
 part-walk q cid s =
     part-option _ (job_at s q cid) s
     (λ j. part-option _ (next_unit s j) s
-    (λ act. part-moved (direction_of j.entry) act q cid s))
+    (λ act. part-moved (direction_of_entry j.entry) act q cid s))
 
 part-deletion : (j : Job) (st : Status) (s : State) → host_part (deletion_done j st s) ≡ host_part s
 part-deletion j st s = part-if _ _ _ s refl refl
@@ -89,12 +87,12 @@ part-complete q cid s =
 
 -- a posted entry moves the host's tail
 pub part-posted : (q : ℕ) (entry : SubEntry) (s : State)
-    → host_part (posted q entry s) ≡ host_part (on_ring q (λ ring. record ring { tail = (ring.tail + 1) % s.entries }) s)
+    → host_part (posted q entry s) ≡ host_part (on_ring q (next_tail s.entries) s)
 part-posted q entry s =
     let write : HostQueue → Pages → Pages = λ queue m. with_page_bytes m (slot_page queue.sq_pages 64 queue.ring.tail) (slot_offset 64 queue.ring.tail) (submission_bytes entry) in
     let same : host_part (option_map_or (λ queue. on_memory (write queue) s) (host_queue s q) s) ≡ host_part s =
     part-option (λ queue. on_memory (write queue) s) (host_queue s q) s (λ queue. part-bytes s (slot_page queue.sq_pages 64 queue.ring.tail) (slot_offset 64 queue.ring.tail) (submission_bytes entry)) in
-    ap (λ (part : HostPart). record part { host = record part.host { queues = change q (λ queue. record queue { ring = record queue.ring { tail = (queue.ring.tail + 1) % s.entries } }) part.host.queues } }) same
+    ap (λ (part : HostPart). record part { host = record part.host { queues = change q (λ queue. record queue { ring = next_tail s.entries queue.ring }) part.host.queues } }) same
 
 -- how many pages there are
 pub length-in_store : (m : Pages) → length (in_store m) ≡ length m

@@ -8,9 +8,8 @@ use Rattle.admin_commands.specs.Entries.{admin_entry}
 use Rattle.entry_codec.specs.declared.submission.SubEntry.{SubEntry}
 use Rattle.admin_commands.specs.declared.AdminKind.TheVariants.{Abort, DeleteSq, DeleteCq}
 use Rattle.admin_commands.specs.declared.AdminKind.{AdminKind}
-use Rattle.entry_codec.specs.declared.status.TheConstants.Status.{SUCCESS}
 use Rattle.entry_codec.specs.declared.status.Status.{Status}
-use Rattle.machine_model.specs.Status.{same_status}
+use Rattle.io_commands.specs.Jobs.{is_success}
 use Rattle.machine_model.specs.Commands.{Management}
 use Rattle.machine_model.specs.State.{Record, DeviceQueue, Job, Answer, is_at, without_record}
 use Rattle.machine_model.proofs.Counting.{one}
@@ -41,10 +40,10 @@ abbrev pub EntryKnown : List Record → SubEntry → Type 0
 EntryKnown rs e = (adm : AdminKind) × Knows rs e.cid adm × (e ≡ admin_entry adm e.cid)
 
 abbrev pub JobKnown : List Record → List DeviceQueue → Job → Type 0
-JobKnown rs ds j = (j.q ≡ 0) → (adm : AdminKind) × Knows rs j.entry.cid adm × (j.entry ≡ admin_entry adm j.entry.cid) × ((st : Status) → j.verdict ≡ Some st → same_status st SUCCESS ≡ true → Promised ds adm)
+JobKnown rs ds j = (j.q ≡ 0) → (adm : AdminKind) × Knows rs j.entry.cid adm × (j.entry ≡ admin_entry adm j.entry.cid) × ((st : Status) → j.verdict ≡ Some st → is_success st ≡ true → Promised ds adm)
 
 abbrev pub AnswerKnown : List Record → List DeviceQueue → Answer → Type 0
-AnswerKnown rs ds an = (adm : AdminKind) × Knows rs an.cid adm × (same_status an.status SUCCESS ≡ true → Settled ds adm)
+AnswerKnown rs ds an = (adm : AdminKind) × Knows rs an.cid adm × (is_success an.status ≡ true → Settled ds adm)
 
 abbrev pub entry_is : ℕ → SubEntry → ℕ
 entry_is c e = one (e.cid == c)
@@ -111,7 +110,7 @@ placed_queues rs un js ans ds ds' l h = record {
 pub record MildJob (f : Job → Job) : Type 0 where
   pub q : (j : Job) → (f j).q ≡ j.q
   pub entry : (j : Job) → (f j).entry ≡ j.entry
-  pub verdict : (j : Job) (st : Status) → j.q ≡ 0 → (f j).verdict ≡ Some st → same_status st SUCCESS ≡ true → j.verdict ≡ Some st
+  pub verdict : (j : Job) (st : Status) → j.q ≡ 0 → (f j).verdict ≡ Some st → is_success st ≡ true → j.verdict ≡ Some st
 
 jobs-map : (rs : List Record) (ds : List DeviceQueue) (f : Job → Job) → MildJob f → (js : List Job) → AllByRecursion (JobKnown rs ds) js → AllByRecursion (JobKnown rs ds) (map f js)
 jobs-map rs ds f mild [] all = tt
@@ -207,7 +206,7 @@ placed_sent rs un js ans ds adm id new none at work h =
 
 pub placed_decided : (rs : List Record) (e : SubEntry) (un : List SubEntry) (js : List Job) (ans : List Answer) (ds ds' : List DeviceQueue) (j : Job) (st : Status)
     → j.q ≡ 0 → j.entry ≡ e → j.verdict ≡ Some st → Loses ds ds'
-    → ((adm : AdminKind) → e ≡ admin_entry adm e.cid → same_status st SUCCESS ≡ true → Promised ds' adm)
+    → ((adm : AdminKind) → e ≡ admin_entry adm e.cid → is_success st ≡ true → Promised ds' adm)
     → Placed rs (e ∷ un) js ans ds → Placed rs un (js ++ j ∷ []) ans ds'
 placed_decided rs e un js ans ds ds' j st jq je jv loses promise h =
     let wide : Placed rs (e ∷ un) js ans ds' = placed_queues rs (e ∷ un) js ans ds ds' loses h in
@@ -224,7 +223,7 @@ placed_decided rs e un js ans ds ds' j st jq je jv loses promise h =
 
 -- an entry that is answered at once, without success
 pub placed_conflict : (rs : List Record) (e : SubEntry) (un : List SubEntry) (js : List Job) (ans : List Answer) (ds : List DeviceQueue) (an : Answer)
-    → an.cid ≡ e.cid → same_status an.status SUCCESS ≡ false
+    → an.cid ≡ e.cid → is_success an.status ≡ false
     → Placed rs (e ∷ un) js ans ds → Placed rs un js (ans ++ an ∷ []) ds
 placed_conflict rs e un js ans ds an same bad h = record {
   places = λ c.
@@ -325,7 +324,7 @@ is_job q cid j = (j.q == q) && (j.entry.cid == cid)
 
 pub placed_completed : (rs : List Record) (un : List SubEntry) (js : List Job) (ans : List Answer) (ds ds' : List DeviceQueue) (cid : ℕ) (j : Job) (an : Answer)
     → find (is_job 0 cid) js ≡ Some j → an.cid ≡ cid → Loses ds ds'
-    → ((adm : AdminKind) → j.entry ≡ admin_entry adm j.entry.cid → same_status an.status SUCCESS ≡ true → ((st : Status) → j.verdict ≡ Some st → same_status st SUCCESS ≡ true → Promised ds adm) → Settled ds' adm)
+    → ((adm : AdminKind) → j.entry ≡ admin_entry adm j.entry.cid → is_success an.status ≡ true → ((st : Status) → j.verdict ≡ Some st → is_success st ≡ true → Promised ds adm) → Settled ds' adm)
     → Placed rs un js ans ds → Placed rs un (filter (λ k. not (is_job 0 cid k)) js) (ans ++ an ∷ []) ds'
 placed_completed rs un js ans ds ds' cid j an found same loses settle h =
     let at = and_parts (j.q == 0) (j.entry.cid == cid) (find_sound (is_job 0 cid) js j found) in

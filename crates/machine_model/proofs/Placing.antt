@@ -16,12 +16,12 @@ use Rattle.entry_codec.specs.declared.submission.SubEntry.{SubEntry}
 use Rattle.admin_commands.specs.declared.AdminKind.TheVariants.{Abort, DeleteSq, DeleteCq}
 use Rattle.admin_commands.specs.declared.AdminKind.{AdminKind}
 use Rattle.page_memory.specs.Pages.{with_page_bytes, with_bytes}
-use Rattle.entry_codec.specs.declared.status.TheConstants.Status.{SUCCESS, COMMAND_ID_CONFLICT, ABORT_REQUESTED, ABORTED_SQ_DELETION, INVALID_QUEUE_IDENTIFIER, INVALID_QUEUE_DELETION, COMPARE_FAILURE, INVALID_OPCODE, INVALID_FIELD}
+use Rattle.entry_codec.specs.declared.status.TheConstants.Status.{SUCCESS, COMMAND_ID_CONFLICT, ABORT_REQUESTED, ABORTED_SQ_DELETION, INVALID_QUEUE_IDENTIFIER, INVALID_QUEUE_DELETION, INVALID_OPCODE, INVALID_FIELD}
 use Rattle.entry_codec.specs.declared.status.Status.{Status}
-use Rattle.machine_model.specs.Status.{same_status}
+use Rattle.io_commands.specs.Jobs.{is_success}
 use Rattle.machine_model.specs.Memory.{is_in}
 use Rattle.machine_model.specs.State.{State, Device, Record, HostQueue, DeviceQueue, Job, Answer}
-use Rattle.machine_model.specs.Refusals.{host_queue, device_queue, next_rung, job_at, conflicts, slot_page, slot_offset, post_slot, fetch_slot, same_list}
+use Rattle.machine_model.specs.Refusals.{host_queue, device_queue, next_rung, job_at, conflicts, slot_page, slot_offset, post_slot, fetch_slot}
 use Rattle.machine_model.specs.After as a
 use Rattle.machine_model.specs.Refusals as refusals
 use Rattle.machine_model.specs.Refusals.{refusal_of, answers_full, post_page}
@@ -30,6 +30,9 @@ use Rattle.machine_model.specs.Events.{Refusal}
 use Rattle.machine_model.proofs.Refused.{first_fails, rest_fails}
 use Rattle.machine_model.specs.After.{change}
 use Rattle.machine_model.proofs.Placed.{JobKnown, Knows, find_all, find_sound, Placed, Loses, MildJob, Promised, Settled, gone_at, there_at, is_job, placed_queues, placed_jobs, placed_decided, placed_conflict, placed_completed, placed_job_more, placed_job_less}
+use Rattle.entry_codec.specs.declared.admin_opcode.TheConstants.{ABORT, DELETE_IO_SQ}
+use Rattle.io_commands.specs.Jobs.{direction_of_entry, verdict_of}
+use Rattle.io_commands.specs.Jobs.{io_fault, bytes_after_check}
 
 abbrev pub waiting : List DeviceQueue → List SubEntry
 waiting ds = option_map_or (λ at. at.unfetched) (slice_get ds 0) []
@@ -105,14 +108,13 @@ placed_other rs d k f other same h =
 pub device-answered : (q cid : ℕ) (st : Status) (dw0 : ℕ) (s : State)
     → (a.answered q cid st dw0 s).device ≡ record s.device { queues = change q (λ at. record at { answers = at.answers ++ record { cid = cid; status = st; dw0 = dw0; sq_head = fetch_slot s q } ∷ [] }) s.device.queues }
 device-answered q cid st dw0 s =
-    ap (λ (d : Device). record d { queues = change q (λ at. record at { answers = at.answers ++ record { cid = cid; status = st; dw0 = dw0; sq_head = fetch_slot s q } ∷ [] }) d.queues }) (go (host_queue s q) (device_queue s q))
+    ap (λ (d : Device). record d { queues = change q (λ at. record at { answers = at.answers ++ record { cid = cid; status = st; dw0 = dw0; sq_head = fetch_slot s q } ∷ [] }) d.queues }) (go (host_queue s q))
   where
-    go : (o : Option HostQueue) (p : Option DeviceQueue)
-        → (option_map_or (λ queue. option_map_or (λ at. a.on_memory (λ m. with_page_bytes m (slot_page queue.cq_pages 16 (post_slot s q)) (slot_offset 16 (post_slot s q))
-        (completion_bytes (record { dw0 = dw0; sqhd = fetch_slot s q; sqid = q; cid = cid; phase = a.post_phase s queue (length at.answers); status = st }))) s) p s) o s).device ≡ s.device
-    go None p = refl
-    go (Some queue) None = refl
-    go (Some queue) (Some at) = refl
+    go : (o : Option HostQueue)
+        → (option_map_or (λ queue. a.on_memory (λ m. with_page_bytes m (slot_page queue.cq_pages 16 (post_slot s q)) (slot_offset 16 (post_slot s q))
+        (completion_bytes (record { dw0 = dw0; sqhd = fetch_slot s q; sqid = q; cid = cid; phase = a.post_phase s q queue; status = st }))) s) o s).device ≡ s.device
+    go None = refl
+    go (Some queue) = refl
 
 pub device-posted : (q : ℕ) (entry : SubEntry) (s : State)
     → (a.posted q entry s).device ≡ record s.device { queues = change q (λ at. record at { unfetched = at.unfetched ++ entry ∷ [] }) s.device.queues }
@@ -141,10 +143,6 @@ pub placed-option : {A : Type 0} (rs : List Record) (f : A → State) (o : Optio
 placed-option rs f None s h each = h
 placed-option rs f (Some x) s h each = each x refl
 
-placed-or : {A : Type 0} (rs : List Record) (f : A → State) (o : Option A) (d : State) → ((x : A) → o ≡ Some x → PlacedIn rs (f x).device) → (o ≡ None → PlacedIn rs d.device) → PlacedIn rs (option_map_or f o d).device
-placed-or rs f None d each e = e refl
-placed-or rs f (Some x) d each e = each x refl
-
 placed-if : (rs : List Record) (b : Bool) (t u : State) → (b ≡ true → PlacedIn rs t.device) → (b ≡ false → PlacedIn rs u.device) → PlacedIn rs (if b then t else u).device
 placed-if rs true t u ht hu = ht refl
 placed-if rs false t u ht hu = hu refl
@@ -154,7 +152,7 @@ abbrev Holding : List Record → SubEntry → Device → Type 0
 Holding rs e d = Placed rs (e ∷ waiting d.queues) d.jobs (answering d.queues) d.queues
 
 decide : (rs : List Record) (e : SubEntry) (st : Status) (dw0 : ℕ) (s : State)
-    → ((adm : AdminKind) → e ≡ admin_entry adm e.cid → same_status st SUCCESS ≡ true → Promised s.device.queues adm)
+    → ((adm : AdminKind) → e ≡ admin_entry adm e.cid → is_success st ≡ true → Promised s.device.queues adm)
     → Holding rs e s.device → PlacedIn rs (a.decided e st dw0 s).device
 decide rs e st dw0 s promise h = record {
   placed = placed_decided rs e (waiting s.device.queues) s.device.jobs (answering s.device.queues) s.device.queues s.device.queues
@@ -168,23 +166,23 @@ aborts_mild : (q cid id : ℕ) → MildJob (λ j. if (j.q == q) && (j.entry.cid 
 aborts_mild q cid id = record {
   q = λ j. (elim ((j.q == q) && (j.entry.cid == cid)) as (λ b. (if b then record j { verdict = Some ABORT_REQUESTED; waiting_abort = Some id } else j).q ≡ j.q) [ true ↦ refl | false ↦ refl ]);
   entry = λ j. (elim ((j.q == q) && (j.entry.cid == cid)) as (λ b. (if b then record j { verdict = Some ABORT_REQUESTED; waiting_abort = Some id } else j).entry ≡ j.entry) [ true ↦ refl | false ↦ refl ]);
-  verdict = λ j st z. (elim ((j.q == q) && (j.entry.cid == cid)) as (λ b. (if b then record j { verdict = Some ABORT_REQUESTED; waiting_abort = Some id } else j).verdict ≡ Some st → same_status st SUCCESS ≡ true → j.verdict ≡ Some st)
+  verdict = λ j st z. (elim ((j.q == q) && (j.entry.cid == cid)) as (λ b. (if b then record j { verdict = Some ABORT_REQUESTED; waiting_abort = Some id } else j).verdict ≡ Some st → is_success st ≡ true → j.verdict ≡ Some st)
       [ true ↦ λ v ok. not_success st v ok | false ↦ λ v ok. v ]);
 }
   where
-    not_success : {P : Type 0} (st : Status) → Some ABORT_REQUESTED ≡ Some st → same_status st SUCCESS ≡ true → P
-    not_success st v ok = let same : st ≡ ABORT_REQUESTED = cc in absurd (true≢false (sym ok ∙ ap (λ x. same_status x SUCCESS) same))
+    not_success : {P : Type 0} (st : Status) → Some ABORT_REQUESTED ≡ Some st → is_success st ≡ true → P
+    not_success st v ok = let same : st ≡ ABORT_REQUESTED = cc in absurd (true≢false (sym ok ∙ ap (λ x. is_success x) same))
 
 stops_mild : (q : ℕ) → MildJob (a.stopped q)
 stops_mild q = record {
   q = λ j. (elim ((j.q == q) && is_none j.verdict) as (λ b. (if b then record j { verdict = Some ABORTED_SQ_DELETION } else j).q ≡ j.q) [ true ↦ refl | false ↦ refl ]);
   entry = λ j. (elim ((j.q == q) && is_none j.verdict) as (λ b. (if b then record j { verdict = Some ABORTED_SQ_DELETION } else j).entry ≡ j.entry) [ true ↦ refl | false ↦ refl ]);
-  verdict = λ j st z. (elim ((j.q == q) && is_none j.verdict) as (λ b. (if b then record j { verdict = Some ABORTED_SQ_DELETION } else j).verdict ≡ Some st → same_status st SUCCESS ≡ true → j.verdict ≡ Some st)
+  verdict = λ j st z. (elim ((j.q == q) && is_none j.verdict) as (λ b. (if b then record j { verdict = Some ABORTED_SQ_DELETION } else j).verdict ≡ Some st → is_success st ≡ true → j.verdict ≡ Some st)
       [ true ↦ λ v ok. not_success st v ok | false ↦ λ v ok. v ]);
 }
   where
-    not_success : {P : Type 0} (st : Status) → Some ABORTED_SQ_DELETION ≡ Some st → same_status st SUCCESS ≡ true → P
-    not_success st v ok = let same : st ≡ ABORTED_SQ_DELETION = cc in absurd (true≢false (sym ok ∙ ap (λ x. same_status x SUCCESS) same))
+    not_success : {P : Type 0} (st : Status) → Some ABORTED_SQ_DELETION ≡ Some st → is_success st ≡ true → P
+    not_success st v ok = let same : st ≡ ABORTED_SQ_DELETION = cc in absurd (true≢false (sym ok ∙ ap (λ x. is_success x) same))
 
 loses_stop : (k : ℕ) (ds : List DeviceQueue) → gone_at ds k ≡ false → Loses ds (change k (λ at. record at { state = Stopping }) ds)
 loses_stop k ds there = record { gone = gone_on k ds there; away = away_on k ds }
@@ -233,12 +231,12 @@ placed_managed rs e s h =
     (decide rs e INVALID_QUEUE_DELETION 0 s (λ adm same ok. absurd (true≢false (sym ok))) h)
     dropping
   where
-    no_promise : (e.opcode == 8) ≡ true → (ds : List DeviceQueue) (adm : AdminKind) → e ≡ admin_entry adm e.cid → same_status SUCCESS SUCCESS ≡ true → Promised ds adm
+    no_promise : (e.opcode == ABORT) ≡ true → (ds : List DeviceQueue) (adm : AdminKind) → e ≡ admin_entry adm e.cid → is_success SUCCESS ≡ true → Promised ds adm
     no_promise is8 ds (Abort q cid) same ok = tt
     no_promise is8 ds (DeleteSq q) same ok = absurd (true≢false (sym (wrong_opcode e (DeleteSq q) 8 true same is8)))
     no_promise is8 ds (DeleteCq q) same ok = absurd (true≢false (sym (wrong_opcode e (DeleteCq q) 8 true same is8)))
 
-    stopping : (e.opcode == 0) ≡ true → (named_queue e == 0) ≡ false → is_running (a.sq_state s (named_queue e)) ≡ true
+    stopping : (e.opcode == DELETE_IO_SQ) ≡ true → (named_queue e == 0) ≡ false → is_running (a.sq_state s (named_queue e)) ≡ true
         → PlacedIn rs (a.decided e SUCCESS 0 (a.on_device (λ d. record d { jobs = map (a.stopped (named_queue e)) d.jobs }) (a.on_device_queue (named_queue e) (λ at. record at { state = Stopping }) s))).device
     stopping is0 q0 runs =
         let stop : DeviceQueue → DeviceQueue = λ at. record at { state = Stopping } in
@@ -249,12 +247,12 @@ placed_managed rs e s h =
         decide rs e SUCCESS 0 s1 (promise q0 (change (named_queue e) stop s.device.queues))
         (rw (waiting_same stop (λ at. refl) (named_queue e) s.device.queues, answering_same stop (λ at. refl) (named_queue e) s.device.queues) jobs)
       where
-        promise : (named_queue e == 0) ≡ false → (ds : List DeviceQueue) (adm : AdminKind) → e ≡ admin_entry adm e.cid → same_status SUCCESS SUCCESS ≡ true → Promised ds adm
+        promise : (named_queue e == 0) ≡ false → (ds : List DeviceQueue) (adm : AdminKind) → e ≡ admin_entry adm e.cid → is_success SUCCESS ≡ true → Promised ds adm
         promise n ds (Abort q cid) same ok = absurd (true≢false (sym (wrong_opcode e (Abort q cid) 0 true same is0)))
         promise n ds (DeleteSq q) same ok = ap (λ (x : SubEntry). named_queue x == 0) (sym same) ∙ n
         promise n ds (DeleteCq q) same ok = absurd (true≢false (sym (wrong_opcode e (DeleteCq q) 0 true same is0)))
 
-    dropping : (e.opcode == 8) ≡ false → (e.opcode == 0) ≡ false → is_absent (a.sq_state s (named_queue e)) ≡ true
+    dropping : (e.opcode == ABORT) ≡ false → (e.opcode == DELETE_IO_SQ) ≡ false → is_absent (a.sq_state s (named_queue e)) ≡ true
         → PlacedIn rs (a.decided e SUCCESS 0 (a.on_device_queue (named_queue e) (λ at. record at { cq_there = false }) s)).device
     dropping not8 not0 gone =
         let lose : DeviceQueue → DeviceQueue = λ at. record at { cq_there = false } in
@@ -263,7 +261,7 @@ placed_managed rs e s h =
         decide rs e SUCCESS 0 (a.on_device_queue (named_queue e) (λ at. record at { cq_there = false }) s) promise
         (rw (waiting_same lose (λ at. refl) (named_queue e) s.device.queues, answering_same lose (λ at. refl) (named_queue e) s.device.queues) queues)
       where
-        promise : (adm : AdminKind) → e ≡ admin_entry adm e.cid → same_status SUCCESS SUCCESS ≡ true → Promised (change (named_queue e) (λ at. record at { cq_there = false }) s.device.queues) adm
+        promise : (adm : AdminKind) → e ≡ admin_entry adm e.cid → is_success SUCCESS ≡ true → Promised (change (named_queue e) (λ at. record at { cq_there = false }) s.device.queues) adm
         promise (Abort q cid) same ok = tt
         promise (DeleteSq q) same ok = absurd (true≢false (wrong_opcode e (DeleteSq q) 0 false same not0))
         promise (DeleteCq q) same ok =
@@ -322,9 +320,8 @@ placed_fetch rs (suc k) s h =
     (λ c. placed_answered_other rs (suc k) e.cid COMMAND_ID_CONFLICT 0 (a.taken_off (suc k) s) (ne_zero k) base)
     (λ c. placed-if rs (suc k == 0) (a.managed e (a.taken_off 0 s)) (a.begun (suc k) e (a.taken_off (suc k) s))
     (λ z. absurd (true≢false (sym z ∙ ne_zero k)))
-    (λ z. placed-or rs (λ fault. a.with_job (a.new_job (suc k) e (Some fault) 0 []) (a.taken_off (suc k) s)) (a.io_fault (a.taken_off (suc k) s) e) _
-    (λ fault f. record { placed = placed_job_more rs _ (a.taken_off (suc k) s).device.jobs _ (a.taken_off (suc k) s).device.queues (a.new_job (suc k) e (Some fault) 0 []) (ne_zero k) base.placed })
-    (λ f. record { placed = placed_job_more rs _ (a.taken_off (suc k) s).device.jobs _ (a.taken_off (suc k) s).device.queues (a.new_job (suc k) e None 0 (a.first_bytes (a.taken_off (suc k) s) e (a.kind_of e.opcode))) (ne_zero k) base.placed }))))
+    (λ z. let fault = io_fault (a.image_blocks (a.taken_off (suc k) s)) e in
+    record { placed = placed_job_more rs _ (a.taken_off (suc k) s).device.jobs _ (a.taken_off (suc k) s).device.queues (a.new_job (suc k) e fault 0 (bytes_after_check s.device.image e fault)) (ne_zero k) base.placed })))
 
 -- Walking
 
@@ -358,13 +355,13 @@ placed_moved rs Source (Moves place n offset) q cid s other h = placed_on_job rs
 pub placed_walk : (rs : List Record) (q cid : ℕ) (s : State) → (q == 0) ≡ false → PlacedIn rs s.device → PlacedIn rs (a.after_walk q cid s).device
 placed_walk rs q cid s other h =
     placed-option rs
-    (λ j. option_map_or (λ act. a.on_job q cid (λ k. record k { units_done = k.units_done + 1; verdict = a.verdict_of (a.next_answer s j) }) (a.moved (a.direction_of j.entry) act q cid s)) (a.next_unit s j) s)
+    (λ j. option_map_or (λ act. a.on_job q cid (λ k. record k { units_done = k.units_done + 1; verdict = verdict_of (a.next_answer s j) }) (a.moved (direction_of_entry j.entry) act q cid s)) (a.next_unit s j) s)
     (job_at s q cid) s h
     (λ j e. placed-option rs
-    (λ act. a.on_job q cid (λ k. record k { units_done = k.units_done + 1; verdict = a.verdict_of (a.next_answer s j) }) (a.moved (a.direction_of j.entry) act q cid s))
+    (λ act. a.on_job q cid (λ k. record k { units_done = k.units_done + 1; verdict = verdict_of (a.next_answer s j) }) (a.moved (direction_of_entry j.entry) act q cid s))
     (a.next_unit s j) s h
-    (λ act e'. placed_on_job rs q cid (λ k. record k { units_done = k.units_done + 1; verdict = a.verdict_of (a.next_answer s j) }) (a.moved (a.direction_of j.entry) act q cid s) other (λ j. refl) (λ j. refl)
-    (placed_moved rs (a.direction_of j.entry) act q cid s other h)))
+    (λ act e'. placed_on_job rs q cid (λ k. record k { units_done = k.units_done + 1; verdict = verdict_of (a.next_answer s j) }) (a.moved (direction_of_entry j.entry) act q cid s) other (λ j. refl) (λ j. refl)
+    (placed_moved rs (direction_of_entry j.entry) act q cid s other h)))
 
 -- Completing
 
@@ -377,12 +374,7 @@ gone_killed zero (at ∷ ds) = refl
 gone_killed (suc k) (at ∷ ds) = gone_killed k ds
 
 pub final_admin : (s : State) (j : Job) (st : Status) → j.q ≡ 0 → j.verdict ≡ Some st → a.final_status s j ≡ st
-final_admin s j st z v = rw v (go (j.entry.opcode == 5) (j.q == 0) (eq-eqb j.q 0 z))
-  where
-    go : (b c : Bool) → c ≡ true → (if b && not c && same_status st SUCCESS && not (same_list j.bytes (a.named_blocks s j.entry)) then COMPARE_FAILURE else st) ≡ st
-    go true true e = refl
-    go false true e = refl
-    go b false e = absurd (true≢false (sym e))
+final_admin s j st z v = rw (eq-eqb j.q 0 z, v) refl
 
 pub verdict_there : (j : Job) → is_none j.verdict ≡ false → (st : Status) × (j.verdict ≡ Some st)
 verdict_there j h = go j.verdict h
@@ -404,7 +396,7 @@ answer_posted rs cid st dw0 s an same there h =
 
 complete_admin : (rs : List Record) (cid : ℕ) (s : State) (j : Job) (st : Status) → job_at s 0 cid ≡ Some j → j.q ≡ 0 → j.verdict ≡ Some st → is_some (slice_get s.device.queues 0) ≡ true
     → PlacedIn rs s.device → (image : List ℕ)
-    → (b : Bool) → ((j.q == 0) && (j.entry.opcode == 0) && same_status st SUCCESS) ≡ b
+    → (b : Bool) → ((j.q == 0) && (j.entry.opcode == DELETE_IO_SQ) && is_success st) ≡ b
     → let s1 = a.on_device (λ d. record d { image = image }) (a.without_job 0 cid s) in
     PlacedIn rs (a.answered 0 cid st j.dw0 (if b then a.on_device_queue (named_queue j.entry) (λ at. record at { state = Absent; unfetched = []; rung = 0 }) s1 else s1)).device
 complete_admin rs cid s j st found jq v there h image true c =
@@ -414,8 +406,8 @@ complete_admin rs cid s j st found jq v there h image true c =
     let n = named_queue j.entry in
     let s2 = a.on_device_queue n (λ at. record at { state = Absent; unfetched = []; rung = 0 }) s1 in
     let an : Answer = record { cid = cid; status = st; dw0 = j.dw0; sq_head = fetch_slot s2 0 } in
-    let c1 = and_parts ((j.q == 0) && (j.entry.opcode == 0)) (same_status st SUCCESS) c in
-    let c2 = and_parts (j.q == 0) (j.entry.opcode == 0) c1.0 in
+    let c1 = and_parts ((j.q == 0) && (j.entry.opcode == DELETE_IO_SQ)) (is_success st) c in
+    let c2 = and_parts (j.q == 0) (j.entry.opcode == DELETE_IO_SQ) c1.0 in
     let known = find_all (JobKnown rs ds) (is_job 0 cid) s.device.jobs j found h.placed.jobs jq in
     let n0 : (n == 0) ≡ false = named_other j.entry known.0 ds known.2 c2.1 (known.3 st v c1.1) in
     let done = placed_completed rs (waiting ds) s.device.jobs (answering ds) ds (change n dead ds) cid j an found refl
@@ -423,13 +415,13 @@ complete_admin rs cid s j st found jq v there h image true c =
     answer_posted rs cid st j.dw0 s2 an refl (some_still dead n ds there)
     (rw (waiting_other dead n ds n0, answering_other dead n ds n0) done)
   where
-    named_other : (e : SubEntry) (adm : AdminKind) (ds : List DeviceQueue) → e ≡ admin_entry adm e.cid → (e.opcode == 0) ≡ true → Promised ds adm → (named_queue e == 0) ≡ false
+    named_other : (e : SubEntry) (adm : AdminKind) (ds : List DeviceQueue) → e ≡ admin_entry adm e.cid → (e.opcode == DELETE_IO_SQ) ≡ true → Promised ds adm → (named_queue e == 0) ≡ false
     named_other e (Abort q c) ds same z p = absurd (true≢false (sym (wrong_opcode e (Abort q c) 0 true same z)))
     named_other e (DeleteSq q) ds same z p = ap (λ (x : SubEntry). named_queue x == 0) same ∙ p
     named_other e (DeleteCq q) ds same z p = absurd (true≢false (sym (wrong_opcode e (DeleteCq q) 0 true same z)))
 
-    settle : (s : State) (j : Job) (st : Status) → (adm : AdminKind) × Knows rs j.entry.cid adm × (j.entry ≡ admin_entry adm j.entry.cid) × ((st : Status) → j.verdict ≡ Some st → same_status st SUCCESS ≡ true → Promised s.device.queues adm) → (j.entry.opcode == 0) ≡ true
-        → (adm : AdminKind) → j.entry ≡ admin_entry adm j.entry.cid → same_status st SUCCESS ≡ true → ((st : Status) → j.verdict ≡ Some st → same_status st SUCCESS ≡ true → Promised s.device.queues adm)
+    settle : (s : State) (j : Job) (st : Status) → (adm : AdminKind) × Knows rs j.entry.cid adm × (j.entry ≡ admin_entry adm j.entry.cid) × ((st : Status) → j.verdict ≡ Some st → is_success st ≡ true → Promised s.device.queues adm) → (j.entry.opcode == DELETE_IO_SQ) ≡ true
+        → (adm : AdminKind) → j.entry ≡ admin_entry adm j.entry.cid → is_success st ≡ true → ((st : Status) → j.verdict ≡ Some st → is_success st ≡ true → Promised s.device.queues adm)
         → Settled (change (named_queue j.entry) (λ at. record at { state = Absent; unfetched = []; rung = 0 }) s.device.queues) adm
     settle s j st known z (Abort q c) same ok p = tt
     settle s j st known z (DeleteSq q) same ok p =
@@ -443,11 +435,11 @@ complete_admin rs cid s j st found jq v there h image false c =
     (record { gone = λ q g. g; away = λ q t. t }) (λ adm same ok p. settle adm same ok (p st v ok)) h.placed in
     answer_posted rs cid st j.dw0 s1 an refl there done
   where
-    settle : (adm : AdminKind) → j.entry ≡ admin_entry adm j.entry.cid → same_status st SUCCESS ≡ true → Promised s.device.queues adm → Settled s.device.queues adm
+    settle : (adm : AdminKind) → j.entry ≡ admin_entry adm j.entry.cid → is_success st ≡ true → Promised s.device.queues adm → Settled s.device.queues adm
     settle (Abort q c') same ok p = tt
     settle (DeleteSq q) same ok p =
-        let z : (j.entry.opcode == 0) ≡ true = ap (λ (x : SubEntry). x.opcode == 0) same in
-        let all : ((j.q == 0) && (j.entry.opcode == 0) && same_status st SUCCESS) ≡ true = rw (eq-eqb j.q 0 jq, z, ok) refl in
+        let z : (j.entry.opcode == DELETE_IO_SQ) ≡ true = ap (λ (x : SubEntry). x.opcode == DELETE_IO_SQ) same in
+        let all : ((j.q == 0) && (j.entry.opcode == DELETE_IO_SQ) && is_success st) ≡ true = rw (eq-eqb j.q 0 jq, z, ok) refl in
         absurd (true≢false (sym all ∙ c))
     settle (DeleteCq q) same ok p = p
 
@@ -472,21 +464,21 @@ placed_complete rs zero cid s none h =
     let full = rest_fails (refusals.job_is (refusals.waits s) s 0 cid) events.Waits (full_or_out s 0) waits in
     let there = queue_there s (first_fails (answers_full s 0) events.Full ((not (is_in s.memory (post_page s 0)), events.SlotOut) ∷ []) full) in
     placed-option rs
-    (λ j. let st = a.final_status s j in a.answered 0 cid st j.dw0 (a.deletion_done j st (a.on_device (λ d. record d { image = a.image_completed j st d.image }) (a.without_job 0 cid s))))
+    (λ j. let st = a.final_status s j in a.answered 0 cid st j.dw0 (a.deletion_done j st (a.on_device (λ d. record d { image = a.image_completed j d.image }) (a.without_job 0 cid s))))
     (job_at s 0 cid) s h
     (λ j e.
     let v = verdict_there j (rw e at judged) in
     let at = and_parts (j.q == 0) (j.entry.cid == cid) (find_sound (is_job 0 cid) s.device.jobs j e) in
     let jq : j.q ≡ 0 = eqb-true j.q 0 at.0 in
-    subst (λ (st : Status). PlacedIn rs (a.answered 0 cid st j.dw0 (a.deletion_done j st (a.on_device (λ d. record d { image = a.image_completed j st d.image }) (a.without_job 0 cid s)))).device) (sym (final_admin s j v.0 jq v.1))
-    (complete_admin rs cid s j v.0 e jq v.1 there h (a.image_completed j v.0 s.device.image) ((j.q == 0) && (j.entry.opcode == 0) && same_status v.0 SUCCESS) refl))
+    subst (λ (st : Status). PlacedIn rs (a.answered 0 cid st j.dw0 (a.deletion_done j st (a.on_device (λ d. record d { image = a.image_completed j d.image }) (a.without_job 0 cid s)))).device) (sym (final_admin s j v.0 jq v.1))
+    (complete_admin rs cid s j v.0 e jq v.1 there h (a.image_completed j s.device.image) ((j.q == 0) && (j.entry.opcode == DELETE_IO_SQ) && is_success v.0) refl))
 placed_complete rs (suc k) cid s none h =
     placed-option rs
-    (λ j. let st = a.final_status s j in a.answered (suc k) cid st j.dw0 (a.deletion_done j st (a.on_device (λ d. record d { image = a.image_completed j st d.image }) (a.without_job (suc k) cid s))))
+    (λ j. let st = a.final_status s j in a.answered (suc k) cid st j.dw0 (a.deletion_done j st (a.on_device (λ d. record d { image = a.image_completed j d.image }) (a.without_job (suc k) cid s))))
     (job_at s (suc k) cid) s h
     (λ j e.
     let st = a.final_status s j in
-    let s1 = a.on_device (λ d. record d { image = a.image_completed j st d.image }) (a.without_job (suc k) cid s) in
+    let s1 = a.on_device (λ d. record d { image = a.image_completed j d.image }) (a.without_job (suc k) cid s) in
     let at = and_parts (j.q == suc k) (j.entry.cid == cid) (find_sound (is_job (suc k) cid) s.device.jobs j e) in
     let jq : (j.q == 0) ≡ false = ap (λ (n : ℕ). n == 0) (eqb-true j.q (suc k) at.0) ∙ ne_zero k in
     placed_answered_other rs (suc k) cid st j.dw0 (a.deletion_done j st s1) (ne_zero k)

@@ -1,5 +1,5 @@
 -- What is known where nothing refuses.
-use Rattle.std.proofs.Common.{◌≡◌, ℕ, Bool, true, false, ◌&&◌, ◌==◌, Option, Some, None, List, [], ◌∷◌, ◌++◌, find, if◌then◌else◌, refl, ap₂, sym, ◌∙◌, eqb-true, subst}
+use Rattle.std.proofs.Common.{◌≡◌, ℕ, Bool, true, false, ◌&&◌, Option, Some, None, List, [], ◌∷◌, ◌++◌, find, if◌then◌else◌, refl, ap₂, sym, ◌∙◌, subst, nat_eq}
 use Rattle.std.specs.Option.{option_map_or}
 use Rattle.std.specs.List.{AllByRecursion}
 use Rattle.std.proofs.lemmas.Bool.{and_parts, true≢false}
@@ -8,7 +8,8 @@ use Rattle.io_commands.specs.Values.{numbers_of}
 use Rattle.io_commands.specs.declared.request.Request.{Request}
 use Rattle.io_commands.specs.Requests.{first_passing}
 use Rattle.machine_model.specs.State.{State, Record, Phase, record_at, pages_of}
-use Rattle.machine_model.specs.Refusals.{record_is, is_of, asks_for, same_list}
+use Rattle.machine_model.specs.Refusals.{record_is, is_of, asks_for}
+use Rattle.std.specs.Cmp.Lexicographic.{pointwise, same_text}
 
 pub first_fails : {A : Type 0} (c : Bool) (x : A) (rest : List (Bool × A)) → first_passing ((c, x) ∷ rest) ≡ None → c ≡ false
 first_fails true x rest h = absurd cc
@@ -18,15 +19,8 @@ pub rest_fails : {A : Type 0} (c : Bool) (x : A) (rest : List (Bool × A)) → f
 rest_fails true x rest h = absurd cc
 rest_fails false x rest h = h
 
-pub same_lists : (xs ys : List ℕ) → same_list xs ys ≡ true → xs ≡ ys
-same_lists [] [] h = refl
-same_lists [] (y ∷ ys) h = absurd (true≢false (sym h))
-same_lists (x ∷ xs) [] h = absurd (true≢false (sym h))
-same_lists (x ∷ xs) (y ∷ ys) h =
-    let both = and_parts (x == y) (same_list xs ys) h in
-    let heads : x ≡ y = eqb-true x y both.0 in
-    let tails : xs ≡ ys = same_lists xs ys both.1 in
-    ap₂ ◌∷◌ heads tails
+pub same_lists : (xs ys : List ℕ) → pointwise nat_eq xs ys ≡ true → xs ≡ ys
+same_lists xs ys h = same_text xs ys (sym h)
 
 -- the record that passes a test
 pub found : (test : Record → Bool) (s : State) (q cid : ℕ) → record_is test s q cid ≡ true → (r : Record) × (record_at s.host q cid ≡ Some r) × (test r ≡ true)
@@ -39,8 +33,8 @@ found test s q cid h = go (record_at s.host q cid) refl h
 pub pages_match : (phase : Phase → Bool) (request : Request) (bytes chain : List (ℕ × List ℕ)) (r : Record)
     → is_of phase request (numbers_of bytes) (numbers_of chain) r ≡ true → (numbers_of (bytes ++ chain) ≡ pages_of r) × (phase r.phase ≡ true)
 pages_match phase request bytes chain r h =
-    let abc_d = and_parts (phase r.phase && asks_for request r.work && same_list (numbers_of bytes) r.data_pages) (same_list (numbers_of chain) r.chain_pages) h in
-    let ab_c = and_parts (phase r.phase && asks_for request r.work) (same_list (numbers_of bytes) r.data_pages) abc_d.0 in
+    let abc_d = and_parts (phase r.phase && asks_for request r.work && pointwise nat_eq (numbers_of bytes) r.data_pages) (pointwise nat_eq (numbers_of chain) r.chain_pages) h in
+    let ab_c = and_parts (phase r.phase && asks_for request r.work) (pointwise nat_eq (numbers_of bytes) r.data_pages) abc_d.0 in
     let a_b = and_parts (phase r.phase) (asks_for request r.work) ab_c.0 in
     let d : numbers_of bytes ≡ r.data_pages = same_lists (numbers_of bytes) r.data_pages ab_c.1 in
     let c : numbers_of chain ≡ r.chain_pages = same_lists (numbers_of chain) r.chain_pages abc_d.1 in

@@ -12,24 +12,26 @@ use Rattle.admin_commands.specs.declared.AdminKind.{AdminKind}
 use Rattle.io_commands.specs.declared.request.Request.{Request}
 use Rattle.io_commands.specs.Requests.{first_passing, fault_of}
 use Rattle.page_memory.specs.Pages.{Pages, with_page_bytes}
-use Rattle.entry_codec.specs.declared.status.TheConstants.Status.{SUCCESS, ABORTED_SQ_DELETION}
+use Rattle.entry_codec.specs.declared.status.TheConstants.Status.{ABORTED_SQ_DELETION}
 use Rattle.entry_codec.specs.declared.status.Status.{Status}
-use Rattle.machine_model.specs.Status.{same_status}
+use Rattle.io_commands.specs.Jobs.{is_success}
 use Rattle.machine_model.specs.Memory.{with_pages, without_pages}
 use Rattle.machine_model.specs.Commands.{Work, Io, Management}
-use Rattle.machine_model.specs.State.{State, Host, HostQueue, HostRing, Record, Phase, Submitted, Held, Drafted, Live, Deleting, is_at, record_at, pages_of, with_record, without_record, outstanding_on}
+use Rattle.machine_model.specs.State.{State, Host, HostQueue, Record, Phase, Submitted, Held, Drafted, Live, Deleting, is_at, record_at, pages_of, with_record, without_record, outstanding_on}
 use Rattle.machine_model.specs.Refusals.{slot_page, slot_offset, host_queue, seen_entry, refusal_of, is_drafted, is_collected, is_of, record_is, is_submitted, is_retired, is_gone, is_deleting, in_state, no_io_queue, no_identifier, pages_wanted}
 use Rattle.machine_model.specs.Step.{host_part, IsController, IsNewIdentifier, times}
 use Rattle.machine_model.specs.After as a
 use Rattle.machine_model.specs.Claims.{OwnsFit}
 use Rattle.machine_model.specs.Events as events
-use Rattle.machine_model.specs.Events.{Event, Reply, Reaped, Draft}
+use Rattle.io_commands.specs.Drafts.{DraftContents}
+use Rattle.machine_model.specs.Events.{Event, Reply, Reaped}
 use Rattle.machine_model.proofs.Counting.{one, times_granted, times_joined, not_held}
 use Rattle.machine_model.proofs.Totals.{total, total-change_same, total-change, total_without, here, times-outstanding}
 use Rattle.machine_model.proofs.Parts.{in_store, part-posted, length-in_store, length-with_pages, length-without_pages}
 use Rattle.machine_model.proofs.Steps.{Accepts, IsKept}
 use Rattle.machine_model.proofs.Refused.{first_fails, found, found_all, pages_match}
 use Rattle.machine_model.proofs.Owned.{in_queue, in_record, Holds, HoldsPart, holds_queues, KeepsRecord, holds_map, holds_more, holds_less}
+use Rattle.queue_pair.specs.Rings.{HostRing, next_tail, next_head, knowing}
 
 -- The invariant of a state
 
@@ -59,7 +61,7 @@ ok-ring : (q : ℕ) (f : HostRing → HostRing) (s : State) → Ok s → Ok (a.o
 ok-ring q f s h = ok-queue q (λ queue. record queue { ring = f queue.ring }) s (λ p queue. refl) h
 
 ok-posted : (q : ℕ) (entry : SubEntry) (s : State) → Ok s → Ok (a.posted q entry s)
-ok-posted q entry s h = subst HoldsPart (sym (part-posted q entry s)) (ok-ring q (a.next_tail s.entries) s h)
+ok-posted q entry s h = subst HoldsPart (sym (part-posted q entry s)) (ok-ring q (next_tail s.entries) s h)
 
 -- Records
 
@@ -94,7 +96,7 @@ at_most_one : (b : Bool) → one b ≤ 1
 at_most_one true = omega arith
 at_most_one false = omega arith
 
-ok-reserve : (s : State) (d : Draft) → (d.q == 0) ≡ false → IsNewIdentifier s d.q d.cid
+ok-reserve : (s : State) (d : DraftContents) → (d.q == 0) ≡ false → IsNewIdentifier s d.q d.cid
     → ((p : ℕ) → times p (numbers_of d.data_pages ++ numbers_of d.chain_pages) ≡ (if is_among (numbers_of d.data_pages ++ numbers_of d.chain_pages) p && is_among s.host.free p then 1 else 0))
     → Ok s → Ok (a.after_reserve d s)
 ok-reserve s d other new are h =
@@ -162,16 +164,16 @@ ok-half_freed pages without q s parts h =
 -- Reaping
 
 ok-consumed : (q : ℕ) (s : State) → Ok s → Ok (a.consumed q s)
-ok-consumed q s h = ok-ring q (a.next_head s.entries) s h
+ok-consumed q s h = ok-ring q (next_head s.entries) s h
 
 ok-heard : (q : ℕ) (e : ComEntry) (s : State) → Ok s → Ok (a.heard q e s)
-ok-heard q e s h = ok-ring q (a.knowing e.sqhd) (a.consumed q s) (ok-consumed q s h)
+ok-heard q e s h = ok-ring q (knowing e.sqhd) (a.consumed q s) (ok-consumed q s h)
 
 ok-admin : (adm : AdminKind) (st : Status) (s : State) → Ok s → Ok (a.after_admin adm st s)
 ok-admin (Abort q cid) st s h = h
-ok-admin (DeleteSq q) st s h = ok-queue q (λ queue. record queue { state = if same_status st SUCCESS then Deleting true else Live }) s (λ p queue. refl) h
+ok-admin (DeleteSq q) st s h = ok-queue q (λ queue. record queue { state = if is_success st then Deleting true else Live }) s (λ p queue. refl) h
 ok-admin (DeleteCq q) st s h =
-    ok-if (same_status st SUCCESS && option_map_or (λ queue. is_retired queue.state) (host_queue s q) false) _ s
+    ok-if (is_success st && option_map_or (λ queue. is_retired queue.state) (host_queue s q) false) _ s
     (ok-half_freed (λ queue. queue.cq_pages) a.gone q s (λ p queue. omega arith) h) h
 
 ok-work : (w : Work) (q cid : ℕ) (st : Status) (s : State) (r : Record) → record_at s.host q cid ≡ Some r → r.work ≡ w → Ok s → Ok (a.after_work w q cid st s)
@@ -201,7 +203,7 @@ ok-reap q (events.AdminDone cid st dw0) s h = ok-done q cid st s h
 
 -- The other events
 
-ok-submit : (d : Draft) (s : State) → Ok s → Ok (a.after_submit d s)
+ok-submit : (d : DraftContents) (s : State) → Ok s → Ok (a.after_submit d s)
 ok-submit d s h =
     ok-option (λ entry. a.posted d.q entry (a.on_records (with_record d.q d.cid a.submitted) (a.on_memory (with_pages (d.data_pages ++ d.chain_pages)) s))) d.entry s h
     (λ entry e.

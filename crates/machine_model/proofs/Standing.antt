@@ -1,5 +1,5 @@
 -- The host's events keep where admin commands stand; every trusted run does.
-use Rattle.std.proofs.Common.{◌≡◌, ℕ, zero, suc, ◌+◌, ◌<◌, ◌≤◌, ◌==◌, Bool, true, false, not, ◌&&◌, ◌||◌, Option, Some, None, List, [], ◌∷◌, ◌++◌, length, map, drop, slice_get, is_some, is_none, option_and_then, option_map, if◌then◌else◌, refl, ap, sym, ◌∙◌, arith, subst, eqb-true, eq-eqb}
+use Rattle.std.proofs.Common.{◌≡◌, ℕ, zero, suc, ◌+◌, ◌<◌, ◌≤◌, ◌==◌, Bool, true, false, not, ◌&&◌, ◌||◌, Option, Some, None, List, [], ◌∷◌, ◌++◌, length, map, drop, slice_get, is_some, is_none, option_and_then, option_map, if◌then◌else◌, refl, ap, sym, ◌∙◌, arith, subst, eqb-true, eq-eqb, nat_eq}
 use Rattle.std.specs.Option.{option_map_or}
 use Rattle.std.proofs.lemmas.Bool.{true≢false, not-false, and_parts, or_parts}
 use Rattle.admin_commands.specs.Entries.{admin_entry}
@@ -11,13 +11,13 @@ use Rattle.admin_commands.specs.declared.AdminKind.{AdminKind}
 use Rattle.io_commands.specs.declared.request.Request.{Request}
 use Rattle.io_commands.specs.Requests.{first_passing}
 use Rattle.page_memory.specs.Pages.{with_page_bytes}
-use Rattle.entry_codec.specs.declared.status.TheConstants.Status.{SUCCESS, ABORTED_SQ_DELETION}
+use Rattle.entry_codec.specs.declared.status.TheConstants.Status.{ABORTED_SQ_DELETION}
 use Rattle.entry_codec.specs.declared.status.Status.{Status}
-use Rattle.machine_model.specs.Status.{same_status}
+use Rattle.io_commands.specs.Jobs.{is_success}
 use Rattle.machine_model.specs.Memory.{with_pages, without_pages}
 use Rattle.machine_model.specs.Commands.{Work, Io, Management}
 use Rattle.machine_model.specs.State.{State, Device, Record, Phase, Submitted, Held, HostQueue, DeviceQueue, Job, Answer, is_at, record_at, pages_of, without_record, with_record}
-use Rattle.machine_model.specs.Refusals.{host_queue, device_queue, seen_entry, entry_of, first_answer, refusal_of, is_submitted, is_retired, is_drafted, is_collected, is_of, asks_for, same_list, record_is, in_state, is_live, queue_full, job_at, slot_page, slot_offset}
+use Rattle.machine_model.specs.Refusals.{host_queue, device_queue, seen_entry, entry_of, first_answer, refusal_of, is_submitted, is_retired, is_drafted, is_collected, is_of, asks_for, record_is, in_state, is_live, queue_full, job_at, slot_page, slot_offset}
 use Rattle.machine_model.specs.Refusals as refusals
 use Rattle.machine_model.specs.Step.{reaped, reaped_as, reaped_entry, submitted_at, fits_ring, host_part, HostPart, IsController}
 use Rattle.machine_model.specs.Claims.{OwnsFit}
@@ -27,13 +27,15 @@ use Rattle.machine_model.proofs.Sound.{unused}
 use Rattle.machine_model.specs.After as a
 use Rattle.machine_model.specs.After.{change}
 use Rattle.machine_model.specs.Events as events
-use Rattle.machine_model.specs.Events.{Event, Reply, Refusal, Reaped, Draft}
+use Rattle.io_commands.specs.Drafts.{DraftContents}
+use Rattle.machine_model.specs.Events.{Event, Reply, Refusal, Reaped}
 use Rattle.machine_model.proofs.Counting.{one}
 use Rattle.machine_model.proofs.Totals.{total, total-append, total-map, here}
 use Rattle.machine_model.proofs.Parts.{part-posted}
 use Rattle.machine_model.proofs.Owned.{HoldsPart}
 use Rattle.machine_model.proofs.Placed.{Placed, Knows, find_more, find_map, find_filter, find_sound, is_job, placed_records, placed_sent, placed_reaped, placed_queues}
 use Rattle.machine_model.proofs.Placing.{PlacedIn, waiting, answering, placed_other, placed_change, device-posted, waiting_same, answering_same, loses_same, ne_zero, placed_fetch, placed_walk, placed_complete}
+use Rattle.std.specs.Cmp.Lexicographic.{pointwise}
 
 abbrev pub Stands : State → Type 0
 Stands s = PlacedIn s.host.records s.device
@@ -157,7 +159,7 @@ named_as : (q : ℕ) (e : ComEntry) (w : Work) → named (reaped_as q e w) ≡ S
 named_as q e (Io r) = refl
 named_as q e (Management adm) = refl
 
-named_entry : (s : State) (q : ℕ) (e : ComEntry) (cid : ℕ) → named (reaped_entry s q e) ≡ Some cid → e.cid ≡ cid
+pub named_entry : (s : State) (q : ℕ) (e : ComEntry) (cid : ℕ) → named (reaped_entry s q e) ≡ Some cid → e.cid ≡ cid
 named_entry s q e cid h = one' (not (e.sqid == q)) h
   where
     three' : (o : Option Record) → named (option_map_or (λ r. reaped_as q e r.work) o (events.Rejected events.UnknownId)) ≡ Some cid → e.cid ≡ cid
@@ -193,7 +195,7 @@ answer_named s cid t h = go (option_and_then (λ queue. first_answer queue.answe
 stands_admin : (adm : AdminKind) (st : Status) (s : State) → Stands s → Stands (a.after_admin adm st s)
 stands_admin (Abort q cid) st s h = h
 stands_admin (DeleteSq q) st s h = h
-stands_admin (DeleteCq q) st s h = go (same_status st SUCCESS && option_map_or (λ queue. is_retired queue.state) (host_queue s q) false)
+stands_admin (DeleteCq q) st s h = go (is_success st && option_map_or (λ queue. is_retired queue.state) (host_queue s q) false)
   where
     freed : (o : Option HostQueue) → Stands (option_map_or (λ queue. a.on_host_queue q a.gone (a.given_back queue.cq_pages s)) o s)
     freed None = h
@@ -269,8 +271,8 @@ StandsSound s = HoldsPart (host_part s) × Stands s
 io_record : (s : State) (q cid : ℕ) (r : Record) (phase : Phase → Bool) (request : Request) (xs ys : List ℕ) → HoldsPart (host_part s) → record_at s.host q cid ≡ Some r → is_of phase request xs ys r ≡ true → (q == 0) ≡ false
 io_record s q cid r phase request xs ys h e is =
     let at = and_parts (r.q == q) (r.cid == cid) (find_sound (is_at q cid) s.host.records r e) in
-    let abc = and_parts (phase r.phase && asks_for request r.work && same_list xs r.data_pages) (same_list ys r.chain_pages) is in
-    let ab = and_parts (phase r.phase && asks_for request r.work) (same_list xs r.data_pages) abc.0 in
+    let abc = and_parts (phase r.phase && asks_for request r.work && pointwise nat_eq xs r.data_pages) (pointwise nat_eq ys r.chain_pages) is in
+    let ab = and_parts (phase r.phase && asks_for request r.work) (pointwise nat_eq xs r.data_pages) abc.0 in
     let asks = and_parts (phase r.phase) (asks_for request r.work) ab.0 in
     let fit = found_all (λ r'. OwnsFit r'.q r'.work (pages_of r')) (is_at q cid) s.host.records r e h.admins in
     ap (λ (k : ℕ). k == 0) (sym (eqb-true r.q q at.0)) ∙ go r.work asks.1 fit
@@ -279,7 +281,7 @@ io_record s q cid r phase request xs ys h e is =
     go (Io r') a f = f
     go (Management adm) a f = absurd (true≢false (sym a))
 
-stands_submit : (d : Draft) (s : State) → refusal_of s (events.Submit d) ≡ None → StandsSound s → Stands (a.after_submit d s)
+stands_submit : (d : DraftContents) (s : State) → refusal_of s (events.Submit d) ≡ None → StandsSound s → Stands (a.after_submit d s)
 stands_submit d s none h = go d.entry
   where
     test : Record → Bool

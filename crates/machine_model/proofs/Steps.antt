@@ -1,11 +1,11 @@
 -- What every step keeps, if each accepted event of the host does.
-use Rattle.std.proofs.Common.{◌≡◌, Bool, true, false, not, ◌||◌, None, List, [], ◌∷◌, MatchBool, refl, ap, sym, subst}
+use Rattle.std.proofs.Common.{◌&&◌, ◌≡◌, Bool, true, false, not, ◌||◌, None, List, [], ◌∷◌, MatchBool, refl, ap, sym, subst}
 use Rattle.std.proofs.lemmas.Bool.{true≢false}
 use Rattle.machine_model.specs.Run.{Run}
 use Rattle.machine_model.specs.State.{State}
 use Rattle.machine_model.specs.Refusals.{refusal_of}
 use Rattle.machine_model.specs.After.{after}
-use Rattle.machine_model.specs.Step.{Step, Leaves, LeavesByController, LeavesByHost, Permits, Answers, IsController, HostPart, host_part}
+use Rattle.machine_model.specs.Step.{Step, Leaves, LeavesByController, LeavesByHost, Permits, Answers, IsController, HostPart, forges, host_part}
 use Rattle.machine_model.specs.Events as events
 use Rattle.machine_model.specs.Events.{Event, Reply}
 use Rattle.machine_model.proofs.Parts.{part-fetch, part-walk, part-complete}
@@ -27,8 +27,8 @@ either_part false c s u t h = forged_part c s u t h
 
 pub part_left : (s : State) (e : Event) (reply : Reply) (new : State) → Leaves s e reply new → host_part new ≡ host_part (after s e reply)
 part_left s e (events.Refused why touched) new h = ap host_part h
-part_left s e (events.Reserved d) new h = either_part s.trusted (IsController e) (after s e (events.Reserved d)) s new h
-part_left s e reply new h = either_part s.trusted (IsController e) (after s e reply) s new h
+part_left s e (events.Reserved d) new h = either_part (not (forges e) && s.trusted) (IsController e) (after s e (events.Reserved d)) s new h
+part_left s e reply new h = either_part (not (forges e) && s.trusted) (IsController e) (after s e reply) s new h
 
 abbrev pub Accepts : State → Event → Reply → Type 0
 Accepts s e reply = (refusal_of s e ≡ None) × Answers s e reply

@@ -121,7 +121,7 @@ Taken bits records = (p : ℕ) → p < length bits → slice_get bits p ≡ Some
 
 -- as the public statement says it
 
-in_is : (m : Pages) (p : ℕ) → p < length m → slice_get (in_store m) p ≡ Some (is_in m p)
+pub in_is : (m : Pages) (p : ℕ) → p < length m → slice_get (in_store m) p ≡ Some (is_in m p)
 in_is [] p l = absurd (omega arith)
 in_is (None ∷ m) zero l = refl
 in_is (Some bytes ∷ m) zero l = refl

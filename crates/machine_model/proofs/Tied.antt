@@ -1,5 +1,5 @@
 -- Every event keeps the controller's queues tied to the host's.
-use Rattle.std.proofs.Common.{◌≡◌, ℕ, zero, suc, ◌+◌, ◌-◌, ◌%◌, ◌<◌, ◌==◌, nat_lt, Bool, true, false, not, ◌&&◌, Option, Some, None, List, [], ◌∷◌, ◌++◌, map, filter, take, drop, ◌/◌, slice_get, is_none, option_and_then, if◌then◌else◌, refl, ap, sym, ◌∙◌, arith, subst, eqb-true, eq-eqb}
+use Rattle.std.proofs.Common.{◌≡◌, ℕ, zero, suc, ◌+◌, ◌-◌, ◌%◌, ◌<◌, ◌==◌, nat_lt, Bool, true, false, not, ◌&&◌, Option, Some, None, List, [], ◌∷◌, ◌++◌, map, filter, take, drop, ◌/◌, slice_get, is_none, option_and_then, if◌then◌else◌, refl, ap, sym, ◌∙◌, arith, subst, eqb-true}
 use Rattle.std.specs.Option.{option_map_or}
 use Rattle.std.specs.List.{list_any}
 use Rattle.std.proofs.lemmas.Bool.{true≢false, and_parts, or_parts}
@@ -15,7 +15,7 @@ use Rattle.entry_codec.specs.declared.submission.SubEntry.{SubEntry}
 use Rattle.page_memory.specs.Pages.{with_bytes, with_page_bytes}
 use Rattle.entry_codec.specs.declared.status.TheConstants.Status.{SUCCESS, COMMAND_ID_CONFLICT, ABORT_REQUESTED, ABORTED_SQ_DELETION, INVALID_QUEUE_IDENTIFIER, INVALID_QUEUE_DELETION, INVALID_OPCODE, INVALID_FIELD}
 use Rattle.entry_codec.specs.declared.status.Status.{Status}
-use Rattle.machine_model.specs.Status.{same_status}
+use Rattle.io_commands.specs.Jobs.{is_success}
 use Rattle.machine_model.specs.State.{State, Device, DeviceQueue, Job}
 use Rattle.machine_model.specs.Refusals.{device_queue, next_rung, job_at, conflicts, fetch_slot, waits}
 use Rattle.machine_model.specs.Step.{HostPart, host_part}
@@ -31,6 +31,9 @@ use Rattle.machine_model.specs.Events as events
 use Rattle.machine_model.specs.Refusals.{refusal_of}
 use Rattle.machine_model.proofs.Paired.{on_queue, Tied}
 use Rattle.machine_model.proofs.Tying.{Fit, fit_jobs, fit_device, fit_stop, fit_drop, fit_kill}
+use Rattle.entry_codec.specs.declared.admin_opcode.TheConstants.{DELETE_IO_SQ}
+use Rattle.io_commands.specs.Jobs.{direction_of_entry, verdict_of}
+use Rattle.io_commands.specs.Jobs.{io_fault, bytes_after_check}
 
 abbrev pub FitP : HostPart → Device → Type 0
 FitP part d = Fit part.entries part.host.records part.host.queues d.queues d.jobs
@@ -54,10 +57,6 @@ fit-answered q cid st dw0 s part h =
 fit-option : {A : Type 0} (part : HostPart) (f : A → State) (o : Option A) (s : State) → FitP part s.device → ((x : A) → o ≡ Some x → FitP part (f x).device) → FitP part (option_map_or f o s).device
 fit-option part f None s h each = h
 fit-option part f (Some x) s h each = each x refl
-
-fit-or : {A : Type 0} (part : HostPart) (f : A → State) (o : Option A) (d : State) → ((x : A) → FitP part (f x).device) → FitP part d.device → FitP part (option_map_or f o d).device
-fit-or part f None d each e = e
-fit-or part f (Some x) d each e = each x
 
 fit-if : (part : HostPart) (b : Bool) (t u : State) → (b ≡ true → FitP part t.device) → (b ≡ false → FitP part u.device) → FitP part (if b then t else u).device
 fit-if part true t u ht hu = ht refl
@@ -118,7 +117,7 @@ fit-managed part e s there h =
     (λ not8 not0 gone. fit-decided part e SUCCESS 0 (a.on_device_queue (named_queue e) (λ at. record at { cq_there = false }) s) (gone_kept (λ d. record d { cq_there = false }) (λ d z. z) (named_queue e) s.device.queues 0 there)
     (fit_drop part.entries part.host.records part.host.queues s.device.queues s.device.jobs (named_queue e) (absent_state s (named_queue e) gone) h))
 
-rung_gone : (s : State) (q : ℕ) (e : SubEntry) → next_rung s q ≡ Some e → gone_at s.device.queues q ≡ false
+pub rung_gone : (s : State) (q : ℕ) (e : SubEntry) → next_rung s q ≡ Some e → gone_at s.device.queues q ≡ false
 rung_gone s q e h = go (device_queue s q) h
   where
     state : (b : Bool) (at : DeviceQueue) (st : SqState) → (if is_running st && nat_lt 0 at.rung then slice_get at.unfetched 0 else None) ≡ Some e → is_absent st ≡ false
@@ -143,9 +142,8 @@ fit-fetch part q s h =
     (λ c. fit-answered q e.cid COMMAND_ID_CONFLICT 0 (a.taken_off q s) part (off q))
     (λ c. fit-if part (q == 0) (a.managed e (a.taken_off 0 s)) (a.begun q e (a.taken_off q s))
     (λ z. fit-managed part e (a.taken_off 0 s) (subst (λ (k : ℕ). gone_at (a.taken_off 0 s).device.queues k ≡ false) (eqb-true q 0 z) (kept 0)) (off 0))
-    (λ z. fit-or part (λ fault. a.with_job (a.new_job q e (Some fault) 0 []) (a.taken_off q s)) (a.io_fault (a.taken_off q s) e) _
-    (λ fault. fit-more part (a.taken_off q s).device (a.new_job q e (Some fault) 0 []) (kept q) (off q))
-    (fit-more part (a.taken_off q s).device (a.new_job q e None 0 (a.first_bytes (a.taken_off q s) e (a.kind_of e.opcode))) (kept q) (off q)))))
+    (λ z. let fault = io_fault (a.image_blocks (a.taken_off q s)) e in
+    fit-more part (a.taken_off q s).device (a.new_job q e fault 0 (bytes_after_check s.device.image e fault)) (kept q) (off q))))
 
 fit-moved : (part : HostPart) (dir : Direction) (act : Act) (q cid : ℕ) (s : State) → FitP part s.device → FitP part (a.moved dir act q cid s).device
 fit-moved part dir Stays q cid s h = h
@@ -156,13 +154,13 @@ fit-moved part Source (Moves place n offset) q cid s h = fit-on_job part q cid (
 pub fit-walk : (part : HostPart) (q cid : ℕ) (s : State) → FitP part s.device → FitP part (a.after_walk q cid s).device
 fit-walk part q cid s h =
     fit-option part
-    (λ j. option_map_or (λ act. a.on_job q cid (λ k. record k { units_done = k.units_done + 1; verdict = a.verdict_of (a.next_answer s j) }) (a.moved (a.direction_of j.entry) act q cid s)) (a.next_unit s j) s)
+    (λ j. option_map_or (λ act. a.on_job q cid (λ k. record k { units_done = k.units_done + 1; verdict = verdict_of (a.next_answer s j) }) (a.moved (direction_of_entry j.entry) act q cid s)) (a.next_unit s j) s)
     (job_at s q cid) s h
     (λ j e. fit-option part
-    (λ act. a.on_job q cid (λ k. record k { units_done = k.units_done + 1; verdict = a.verdict_of (a.next_answer s j) }) (a.moved (a.direction_of j.entry) act q cid s))
+    (λ act. a.on_job q cid (λ k. record k { units_done = k.units_done + 1; verdict = verdict_of (a.next_answer s j) }) (a.moved (direction_of_entry j.entry) act q cid s))
     (a.next_unit s j) s h
-    (λ act e'. fit-on_job part q cid (λ k. record k { units_done = k.units_done + 1; verdict = a.verdict_of (a.next_answer s j) }) (a.moved (a.direction_of j.entry) act q cid s) (λ j. refl)
-    (fit-moved part (a.direction_of j.entry) act q cid s h)))
+    (λ act e'. fit-on_job part q cid (λ k. record k { units_done = k.units_done + 1; verdict = verdict_of (a.next_answer s j) }) (a.moved (direction_of_entry j.entry) act q cid s) (λ j. refl)
+    (fit-moved part (direction_of_entry j.entry) act q cid s h)))
 
 -- no job of a queue is left where none passes the test
 none_left : (n : ℕ) (js : List Job) → list_any (λ k. k.q == n) js ≡ false → total (on_queue n) js ≡ 0
@@ -170,24 +168,19 @@ none_left n [] h = refl
 none_left n (j ∷ js) h = let both = or_parts (j.q == n) (list_any (λ k. k.q == n) js) h in omega (arith, ap one both.0, none_left n js both.1)
 
 -- a job of queue 0 whose deletion is done has no job of its queue before it
-waited : (s : State) (j : Job) (st : Status) → j.verdict ≡ Some st → same_status SUCCESS st ≡ true → (j.q == 0) ≡ true → (j.entry.opcode == 0) ≡ true → waits s j ≡ false → total (on_queue (named_queue j.entry)) s.device.jobs ≡ 0
+waited : (s : State) (j : Job) (st : Status) → j.verdict ≡ Some st → is_success st ≡ true → (j.q == 0) ≡ true → (j.entry.opcode == DELETE_IO_SQ) ≡ true → waits s j ≡ false → total (on_queue (named_queue j.entry)) s.device.jobs ≡ 0
 waited s j st v ok q0 op w = none_left (named_queue j.entry) s.device.jobs (go (list_any (λ k. k.q == named_queue j.entry) s.device.jobs) refl)
   where
     go : (b : Bool) → list_any (λ k. k.q == named_queue j.entry) s.device.jobs ≡ b → list_any (λ k. k.q == named_queue j.entry) s.device.jobs ≡ false
     go false e = e
     go true e =
-        let right : ((j.entry.opcode == 0) && option_map_or (same_status SUCCESS) j.verdict false && list_any (λ k. k.q == named_queue j.entry) s.device.jobs) ≡ true = rw (op, v, ok, e) refl in
-        let inner = or_parts (list_any (λ k. refusals.is_abort_of j.entry.cid k.waiting_abort) s.device.jobs) ((j.entry.opcode == 0) && option_map_or (same_status SUCCESS) j.verdict false && list_any (λ k. k.q == named_queue j.entry) s.device.jobs) (left_true (j.q == 0) _ q0 w) in
+        let right : ((j.entry.opcode == DELETE_IO_SQ) && option_map_or is_success j.verdict false && list_any (λ k. k.q == named_queue j.entry) s.device.jobs) ≡ true = rw (op, v, ok, e) refl in
+        let inner = or_parts (list_any (λ k. refusals.is_abort_of j.entry.cid k.waiting_abort) s.device.jobs) ((j.entry.opcode == DELETE_IO_SQ) && option_map_or is_success j.verdict false && list_any (λ k. k.q == named_queue j.entry) s.device.jobs) (left_true (j.q == 0) _ q0 w) in
         absurd (true≢false (sym right ∙ inner.1))
       where
         left_true : (x y : Bool) → x ≡ true → (x && y) ≡ false → y ≡ false
         left_true true y e h = h
         left_true false y e h = absurd (true≢false (sym e))
-
-same_back : (st : Status) → same_status st SUCCESS ≡ true → same_status SUCCESS st ≡ true
-same_back st h =
-    let both = and_parts (st.sct == 0) (st.sc == 0) h in
-    rw (eq-eqb 0 st.sct (sym (eqb-true st.sct 0 both.0)), eq-eqb 0 st.sc (sym (eqb-true st.sc 0 both.1))) refl
 
 pub fit-complete : (part : HostPart) (q cid : ℕ) (s : State) → refusal_of s (events.Complete q cid) ≡ None → FitP part s.device → FitP part (a.after_complete q cid s).device
 fit-complete part q cid s none h =
@@ -196,22 +189,22 @@ fit-complete part q cid s none h =
     let waiting' = rest_fails (refusals.job_is (λ j. is_none j.verdict) s q cid) events.Walking (waits_or_out s q cid) walking in
     let free = first_fails (refusals.job_is (refusals.waits s) s q cid) events.Waits (full_or_out s q) waiting' in
     fit-option part
-    (λ j. let st = a.final_status s j in a.answered q cid st j.dw0 (a.deletion_done j st (a.on_device (λ d. record d { image = a.image_completed j st d.image }) (a.without_job q cid s))))
+    (λ j. let st = a.final_status s j in a.answered q cid st j.dw0 (a.deletion_done j st (a.on_device (λ d. record d { image = a.image_completed j d.image }) (a.without_job q cid s))))
     (job_at s q cid) s h
     (λ j e.
     let st = a.final_status s j in
-    let s1 = a.on_device (λ d. record d { image = a.image_completed j st d.image }) (a.without_job q cid s) in
+    let s1 = a.on_device (λ d. record d { image = a.image_completed j d.image }) (a.without_job q cid s) in
     let v = verdict_there j (rw e at judged) in
     let free' : waits s j ≡ false = rw e at free in
     let h1 : FitP part s1.device = fit_jobs part.entries part.host.records part.host.queues s.device.queues s.device.jobs (filter (λ k. not (is_job q cid k)) s.device.jobs)
     (λ z. total-filter (on_queue z) (λ k. not (is_job q cid k)) s.device.jobs) h in
     fit-answered q cid st j.dw0 (a.deletion_done j st s1) part
-    (fit-if part ((j.q == 0) && (j.entry.opcode == 0) && same_status st SUCCESS) (a.on_device_queue (named_queue j.entry) (λ at. record at { state = Absent; unfetched = []; rung = 0 }) s1) s1
+    (fit-if part ((j.q == 0) && (j.entry.opcode == DELETE_IO_SQ) && is_success st) (a.on_device_queue (named_queue j.entry) (λ at. record at { state = Absent; unfetched = []; rung = 0 }) s1) s1
     (λ c.
-    let c1 = and_parts ((j.q == 0) && (j.entry.opcode == 0)) (same_status st SUCCESS) c in
-    let c2 = and_parts (j.q == 0) (j.entry.opcode == 0) c1.0 in
+    let c1 = and_parts ((j.q == 0) && (j.entry.opcode == DELETE_IO_SQ)) (is_success st) c in
+    let c2 = and_parts (j.q == 0) (j.entry.opcode == DELETE_IO_SQ) c1.0 in
     let same : st ≡ v.0 = final_admin s j v.0 (eqb-true j.q 0 c2.0) v.1 in
-    let ok : same_status SUCCESS v.0 ≡ true = same_back v.0 (ap (λ (x : Status). same_status x SUCCESS) (sym same) ∙ c1.1) in
+    let ok : is_success v.0 ≡ true = ap is_success (sym same) ∙ c1.1 in
     let nobody = waited s j v.0 v.1 ok c2.0 c2.1 free' in
     fit_kill part.entries part.host.records part.host.queues s.device.queues (filter (λ k. not (is_job q cid k)) s.device.jobs) (named_queue j.entry)
     (omega (arith, nobody, total-filter (on_queue (named_queue j.entry)) (λ k. not (is_job q cid k)) s.device.jobs)) h1)

@@ -1,5 +1,5 @@
 -- Every trusted run keeps the tie, so its fetches and completions touch only what is allowed.
-use Rattle.std.proofs.Common.{◌≡◌, ℕ, zero, suc, ◌+◌, ◌%◌, ◌<◌, ◌==◌, Bool, true, false, not, ◌&&◌, ◌||◌, Option, Some, None, List, [], ◌∷◌, ◌++◌, length, map, replicate, slice_get, is_some, is_none, refl, ap, sym, ◌∙◌, arith, subst}
+use Rattle.std.proofs.Common.{◌≡◌, ℕ, zero, suc, ◌+◌, ◌<◌, ◌==◌, Bool, true, false, not, ◌&&◌, ◌||◌, Option, Some, None, List, [], ◌∷◌, ◌++◌, length, map, replicate, slice_get, is_some, is_none, refl, ap, sym, ◌∙◌, arith, subst, nat_eq}
 use Rattle.std.specs.Option.{option_map_or}
 use Rattle.std.proofs.lemmas.Bool.{true≢false, not-true, not-false, and_parts, or_parts}
 use Rattle.admin_commands.specs.Entries.{admin_entry}
@@ -11,14 +11,15 @@ use Rattle.io_commands.specs.Requests.{first_passing}
 use Rattle.page_memory.specs.Pages.{with_page_bytes}
 use Rattle.machine_model.specs.Memory.{with_pages, without_pages}
 use Rattle.machine_model.specs.Commands.{Io, Management}
-use Rattle.machine_model.specs.State.{State, HostQueue, HostRing, HostState, Live, Deleting, Retired, Gone, Record, Phase, Drafted, Submitted, record_at, pages_of, with_record, without_record}
-use Rattle.machine_model.specs.Refusals.{host_queue, refusal_of, record_is, is_of, asks_for, same_list, is_drafted, is_collected, in_state, is_retired, is_gone, is_deleting, is_deleted, no_io_queue, no_identifier, queue_full, seen_entry, slot_page, slot_offset}
+use Rattle.machine_model.specs.State.{State, HostQueue, HostState, Live, Deleting, Retired, Gone, Record, Phase, Drafted, Submitted, record_at, pages_of, with_record, without_record}
+use Rattle.machine_model.specs.Refusals.{host_queue, refusal_of, record_is, is_of, asks_for, is_drafted, is_collected, in_state, is_retired, is_gone, is_deleting, is_deleted, no_io_queue, no_identifier, queue_full, seen_entry, slot_page, slot_offset}
 use Rattle.machine_model.specs.Step.{HostPart, host_part, IsController}
 use Rattle.machine_model.specs.After as a
 use Rattle.machine_model.specs.After.{change}
 use Rattle.machine_model.specs.Events as events
-use Rattle.machine_model.specs.Events.{Event, Reply, Draft, Refusal}
-use Rattle.machine_model.specs.Opening.{Opens, opening, queues_from, half_pages, device_queue as opened}
+use Rattle.io_commands.specs.Drafts.{DraftContents}
+use Rattle.machine_model.specs.Events.{Event, Reply, Refusal}
+use Rattle.machine_model.specs.Opening.{Opens, opening, queues_from, device_queue as opened}
 use Rattle.machine_model.proofs.Totals.{total-append, total_without}
 use Rattle.machine_model.proofs.Refused.{first_fails, rest_fails, found}
 use Rattle.machine_model.proofs.Steps.{Accepts, part_controller}
@@ -31,7 +32,7 @@ use Rattle.machine_model.proofs.Tied.{FitP, FitS, fit-fetch, fit-walk, fit-compl
 use Rattle.machine_model.proofs.TiedHost.{records_same, fit-posted, fit-sent}
 use Rattle.machine_model.proofs.TiedReap.{fit-reap}
 use Rattle.machine_model.specs.State.{Device}
-use Rattle.machine_model.specs.Laws.{fetches_and_completions_stay_allowed}
+use Rattle.machine_model.specs.Linked.{trusted_worlds_are_linked}
 use Rattle.machine_model.proofs.Counting.{one}
 use Rattle.machine_model.proofs.Parts.{part-posted}
 use Rattle.machine_model.proofs.Placing.{device-posted}
@@ -40,7 +41,12 @@ use Rattle.machine_model.proofs.Tied.{tied_from_fit}
 use Rattle.machine_model.proofs.Tying.{fit_ring}
 use Rattle.machine_model.proofs.Opening.{holds_at_opening, fits_pool, in_limits, limits_say, length-range}
 use Rattle.machine_model.proofs.Trusted.{along_trusted, both_on, opening_stands}
-use Rattle.machine_model.proofs.Touching.{stays}
+use Rattle.machine_model.proofs.Touching.{stays, others_stay_allowed}
+use Rattle.queue_pair.specs.Rings.{next_tail}
+use Rattle.queue_pair.specs.Memory.{half_pages}
+use Rattle.page_memory.specs.declared.page.Half.TheVariants.{Submission, Completion}
+use Rattle.machine_model.proofs.Positions.{InRings, rings_on, rings_at_opening}
+use Rattle.std.specs.Cmp.Lexicographic.{pointwise}
 
 fit-controller : (s : State) (e : Event) (reply : Reply) → IsController e ≡ true → FitP (host_part s) (a.after s e reply).device → FitS (a.after s e reply)
 fit-controller s e reply c h = subst (λ (part : HostPart). FitP part (a.after s e reply).device) (sym (part_controller s e reply c)) h
@@ -51,13 +57,13 @@ fit-ended : (phase : Phase → Bool) (request : Request) (q cid : ℕ) (bytes ch
 fit-ended phase request q cid bytes chain s none h f =
     let fits = not-false _ (first_fails _ events.Stranger [] none) in
     let r = found (is_of phase request (numbers_of bytes) (numbers_of chain)) s q cid fits in
-    let abc = and_parts (phase r.0.phase && asks_for request r.0.work && same_list (numbers_of bytes) r.0.data_pages) (same_list (numbers_of chain) r.0.chain_pages) r.2 in
-    let ab = and_parts (phase r.0.phase && asks_for request r.0.work) (same_list (numbers_of bytes) r.0.data_pages) abc.0 in
+    let abc = and_parts (phase r.0.phase && asks_for request r.0.work && pointwise nat_eq (numbers_of bytes) r.0.data_pages) (pointwise nat_eq (numbers_of chain) r.0.chain_pages) r.2 in
+    let ab = and_parts (phase r.0.phase && asks_for request r.0.work) (pointwise nat_eq (numbers_of bytes) r.0.data_pages) abc.0 in
     let asked = and_parts (phase r.0.phase) (asks_for request r.0.work) ab.0 in
     records_same s (without_record q cid s.host.records)
     (λ z. omega (arith, total_without (asks z) q cid s.host.records r.0 r.1 (h.0.once q cid), io_asks z request r.0.work asked.1)) f
 
-fit-submit : (d : Draft) (s : State) → FitS s → FitS (a.after_submit d s)
+fit-submit : (d : DraftContents) (s : State) → FitS s → FitS (a.after_submit d s)
 fit-submit d s f = go d.entry
   where
     go : (o : Option SubEntry) → FitS (option_map_or (λ entry. a.posted d.q entry (a.on_records (with_record d.q d.cid a.submitted) (a.on_memory (with_pages (d.data_pages ++ d.chain_pages)) s))) o s)
@@ -104,19 +110,18 @@ fit-delete q id s none f =
     let entry = admin_entry (DeleteSq q) id in
     let new : Record = record { q = 0; cid = id; phase = Submitted; work = Management (DeleteSq q); data_pages = []; chain_pages = []; status = None } in
     let s1 = a.on_records (λ records. records ++ new ∷ []) s in
-    let tail : HostRing → HostRing = λ ring. record ring { tail = (ring.tail + 1) % s.entries } in
-    let hs1 = change 0 (λ x. record x { ring = record x.ring { tail = (x.ring.tail + 1) % s.entries } }) s.host.queues in
+    let hs1 = change 0 (λ x. record x { ring = next_tail s.entries x.ring }) s.host.queues in
     let ds1 = change 0 (λ at. record at { unfetched = at.unfetched ++ entry ∷ [] }) s.device.queues in
     let G : HostPart → HostPart = λ part. record part { host = record part.host { queues = change q a.deleting part.host.queues } } in
     let base = fit_device s.entries s.host.records hs1 s.device.queues s.device.jobs 0 (λ at. record at { unfetched = at.unfetched ++ entry ∷ [] }) (λ d. refl) (λ d. refl)
-    (fit_ring s.entries s.host.records s.host.queues s.device.queues s.device.jobs 0 (a.next_tail s.entries) f) in
+    (fit_ring s.entries s.host.records s.host.queues s.device.queues s.device.jobs 0 (next_tail s.entries) f) in
     let done : Fit s.entries (s.host.records ++ new ∷ []) (change q a.deleting hs1) ds1 s.device.jobs =
-    fit_ask s.entries s.host.records hs1 ds1 s.device.jobs q new refl (ring_some 0 q (λ x. record x { ring = record x.ring { tail = (x.ring.tail + 1) % s.entries } }) s.host.queues there)
-    (λ y ey. let x = ring_at 0 q (a.next_tail s.entries) s.host.queues y ey in
+    fit_ask s.entries s.host.records hs1 ds1 s.device.jobs q new refl (ring_some 0 q (λ x. record x { ring = next_tail s.entries x.ring }) s.host.queues there)
+    (λ y ey. let x = ring_at 0 q (next_tail s.entries) s.host.queues y ey in
     let ok = live x.0.state (at_state is_retired x.0 x.1 retired) (at_state is_gone x.0 x.1 gone) (at_state is_deleting x.0 x.1 deleting) in
     (ap is_past x.2 ∙ ok.0, ap is_asked x.2 ∙ ok.1)) base in
     subst (λ (part : HostPart). FitP (G part) (a.posted 0 entry s1).device) (sym (part-posted 0 entry s1))
-    (subst (λ (d : Device). FitP (G (host_part (a.on_ring 0 (a.next_tail s.entries) s1))) d) (sym (device-posted 0 entry s1)) done)
+    (subst (λ (d : Device). FitP (G (host_part (a.on_ring 0 (next_tail s.entries) s1))) d) (sym (device-posted 0 entry s1)) done)
   where
     causes : List (Bool × Refusal)
     causes = (in_state is_deleting s q, events.WrongState) ∷ (no_identifier s 0, events.NoIdentifier) ∷ (queue_full s 0, events.QueueFull) ∷ []
@@ -173,7 +178,7 @@ fit_event s (events.Walk q cid) (events.Walked o touched) ok t h f = fit-control
 fit_event s (events.Complete q cid) (events.Completed touched) ok t h f = fit-controller s (events.Complete q cid) (events.Completed touched) refl (fit-complete (host_part s) q cid s ok.0 f)
 fit_event s e reply ok t h f = absurd ok.1
 
-all_on : (s : State) (e : Event) (reply : Reply) → Accepts s e reply → s.trusted ≡ true → StandsSound s × FitS s → StandsSound (a.after s e reply) × FitS (a.after s e reply)
+pub all_on : (s : State) (e : Event) (reply : Reply) → Accepts s e reply → s.trusted ≡ true → StandsSound s × FitS s → StandsSound (a.after s e reply) × FitS (a.after s e reply)
 all_on s e reply ok t h = (both_on s e reply ok t h.0, fit_event s e reply ok t h.0 h.1)
 
 -- the opening
@@ -182,18 +187,18 @@ opened_pairs : (page n count : ℕ) → Paired n (queues_from page n count) (rep
 opened_pairs page n zero = tt
 opened_pairs page n (suc count) = (
   record {
-    sub = λ o. length-range page (half_pages 64 n);
-    comp = λ o. length-range (page + half_pages 64 n) (half_pages 16 n);
+    sub = λ o. length-range page (half_pages n Submission);
+    comp = λ o. length-range (page + half_pages n Submission) (half_pages n Completion);
     over = λ o. absurd (true≢false (sym o));
     gone = λ o. absurd (true≢false (sym o));
     half = λ o. refl;
   },
-  opened_pairs (page + half_pages 64 n + half_pages 16 n) n count,
+  opened_pairs (page + half_pages n Submission + half_pages n Completion) n count,
 )
 
 opened_length : (page n count : ℕ) → length (queues_from page n count) ≡ count
 opened_length page n zero = refl
-opened_length page n (suc count) = ap suc (opened_length (page + half_pages 64 n + half_pages 16 n) n count)
+opened_length page n (suc count) = ap suc (opened_length (page + half_pages n Submission + half_pages n Completion) n count)
 
 fit-opening : (pages queues n s : ℕ) (image : List ℕ) → 0 < n → queues < 65536 → FitS (opening pages queues n s image)
 fit-opening pages queues n s image pos few = record {
@@ -204,13 +209,17 @@ fit-opening pages queues n s image pos few = record {
   jobs = λ q some. absurd (omega arith);
 }
 
-fit_limits : (pages queues n s : ℕ) (image : List ℕ) → Opens pages queues n s → FitS (opening pages queues n s image)
+pub fit_limits : (pages queues n s : ℕ) (image : List ℕ) → Opens pages queues n s → FitS (opening pages queues n s image)
 fit_limits pages queues n s image opens =
     let limits = in_limits pages queues n s opens in
     fit-opening pages queues n s image (limits_say pages queues n s limits).0 (limits_say pages queues n s limits).1
 
-pub runs_stay : fetches_and_completions_stay_allowed
-runs_stay image made old new e reply run step w =
+pub linked_runs : trusted_worlds_are_linked
+linked_runs image made s run =
+    let rings = along_trusted (λ s. InRings (host_part s)) (λ s e reply ok t h. rings_on s e reply ok h) rings_at_opening image made s run in
     let all = along_trusted (λ s. StandsSound s × FitS s) all_on
-    (λ pages queues n s image opens. ((holds_at_opening pages queues n s image (fits_pool pages queues n s opens), opening_stands pages queues n s image), fit_limits pages queues n s image opens)) image made old run in
-    stays old e reply new step run.trusted (linked_from_tied old (tied_from_fit old all.1)) (not-true _ w)
+    (λ pages queues n s image opens. ((holds_at_opening pages queues n s image (fits_pool pages queues n s opens), opening_stands pages queues n s image), fit_limits pages queues n s image opens)) image made s run in
+    linked_from_tied s rings (tied_from_fit s all.1)
+
+pub runs_stay : others_stay_allowed
+runs_stay image made old new e reply run step w = stays old e reply new step run.trusted (linked_runs image made old run) w

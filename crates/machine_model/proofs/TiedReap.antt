@@ -5,9 +5,8 @@ use Rattle.std.specs.List.{AllByRecursion}
 use Rattle.std.proofs.lemmas.Bool.{and_parts}
 use Rattle.entry_codec.specs.declared.completion.ComEntry.{ComEntry}
 use Rattle.admin_commands.specs.declared.AdminKind.{AdminKind}
-use Rattle.entry_codec.specs.declared.status.TheConstants.Status.{SUCCESS}
 use Rattle.entry_codec.specs.declared.status.Status.{Status}
-use Rattle.machine_model.specs.Status.{same_status}
+use Rattle.io_commands.specs.Jobs.{is_success}
 use Rattle.machine_model.specs.Commands.{Work, Io, Management}
 use Rattle.machine_model.specs.State.{State, Record, Answer, is_at, record_at, pages_of, with_record}
 use Rattle.machine_model.specs.Refusals.{seen_entry, entry_of, first_answer, device_queue}
@@ -63,13 +62,13 @@ fit-done_zero cid st s t n d h f = go (record_at s.host 0 cid) refl
     known : AnswerKnown s.host.records s.device.queues an.0
     known = (subst (λ xs. AllByRecursion (AnswerKnown s.host.records s.device.queues) xs) (answering_rest s.device.queues an.0 an.1) h.1.placed.answers).0
 
-    settled : (r : Record) (adm : AdminKind) → record_at s.host 0 cid ≡ Some r → r.work ≡ Management adm → same_status st SUCCESS ≡ true → Settled (change 0 (λ at. record at { answers = drop 1 at.answers }) s.device.queues) adm
+    settled : (r : Record) (adm : AdminKind) → record_at s.host 0 cid ≡ Some r → r.work ≡ Management adm → is_success st ≡ true → Settled (change 0 (λ at. record at { answers = drop 1 at.answers }) s.device.queues) adm
     settled r adm e w ok =
         let found : find (is_at 0 cid) s.host.records ≡ Some known.1.0 = subst (λ (z : ℕ). find (is_at 0 z) s.host.records ≡ Some known.1.0) an.2 known.1.1 in
         let same : known.1.0 ≡ r = cc (found, e) in
         let works : Management known.0 ≡ Management adm = sym known.1.2 ∙ ap (λ (x : Record). x.work) same ∙ w in
         let adms : known.0 ≡ adm = cc works in
-        let s0 : Settled s.device.queues known.0 = known.2 (ap (λ (x : Status). same_status x SUCCESS) status ∙ ok) in
+        let s0 : Settled s.device.queues known.0 = known.2 (ap (λ (x : Status). is_success x) status ∙ ok) in
         settled_still s.device.queues (change 0 (λ at. record at { answers = drop 1 at.answers }) s.device.queues) (loses_same (λ at. record at { answers = drop 1 at.answers }) ((λ at. refl), (λ at. refl)) 0 s.device.queues) adm
         (subst (λ (x : AdminKind). Settled s.device.queues x) adms s0)
 

@@ -1,5 +1,5 @@
 -- What a fetch and a completion touch.
-use Rattle.std.proofs.Common.{◌≡◌, ℕ, zero, suc, ◌+◌, ◌-◌, ◌*◌, ◌/◌, ◌%◌, ◌<◌, ◌==◌, ◌⊎◌, inl, inr, Bool, true, false, not, ◌&&◌, ◌||◌, Option, Some, None, List, [], ◌∷◌, ◌++◌, length, flat_map, slice_get, slice_index, is_some, is_none, MatchBool, if◌then◌else◌, refl, ap, sym, ◌∙◌, arith, subst, mod-lt, nat_lt, option_and_then}
+use Rattle.std.proofs.Common.{◌≡◌, ℕ, zero, suc, ◌-◌, ◌*◌, ◌/◌, ◌<◌, ◌==◌, Bool, true, false, not, ◌&&◌, ◌||◌, Option, Some, None, List, [], ◌∷◌, ◌++◌, length, flat_map, slice_get, slice_index, is_some, is_none, MatchBool, if◌then◌else◌, refl, ap, sym, ◌∙◌, arith, subst, nat_lt, option_and_then, IsTrue}
 use Rattle.std.specs.Option.{option_map_or}
 use Rattle.std.specs.List.{list_all}
 use Rattle.std.proofs.lemmas.Bool.{true≢false, not-false, eq-eqb, or_right}
@@ -17,24 +17,24 @@ use Rattle.machine_model.specs.Events as events
 use Rattle.machine_model.specs.Events.{Event, Reply, Refusal}
 use Rattle.machine_model.specs.Step.{Step, Refuses, IsController, touched_by_refusal, touched_by_fetch}
 use Rattle.machine_model.proofs.Refused.{first_fails}
-use Rattle.machine_model.specs.Opening.{half_pages}
-use Rattle.machine_model.specs.Laws.{is_walk}
+use Rattle.machine_model.specs.Laws.{TrustedRun}
+use Rattle.machine_model.specs.Image.{Made}
+use Rattle.queue_pair.specs.Memory.{half_pages}
+use Rattle.page_memory.specs.declared.page.Half.TheVariants.{Submission, Completion}
+use Rattle.queue_pair.specs.Slots.{next_slot, moved}
+use Rattle.machine_model.specs.Positions.{IsInRing}
+use Rattle.machine_model.proofs.Positions.{next_below}
+pub use Rattle.machine_model.specs.Linked.{completion_there, IsLinked}
 
--- what ties the controller's queues and jobs to the host's where nothing was forged
+abbrev pub is_walk : Event → Bool
+is_walk (events.Walk q cid) = true
+is_walk e = false
 
-abbrev pub completion_there : State → ℕ → Bool
-completion_there s q = option_map_or (λ at. at.cq_there) (device_queue s q) false
-
-pub record IsLinked (s : State) : Type 0 where
-  -- some entries, and the halves that the controller has are whole at the host
-  pub entries : 0 < s.entries
-  pub submission_whole : (q : ℕ) (queue : HostQueue) → host_queue s q ≡ Some queue → absent s q ≡ false → length queue.sq_pages ≡ half_pages 64 s.entries
-  pub completion_whole : (q : ℕ) (queue : HostQueue) → host_queue s q ≡ Some queue → completion_there s q ≡ true → length queue.cq_pages ≡ half_pages 16 s.entries
-  -- a queue that the controller has stands at the host, and has its completion half
-  pub known : (q : ℕ) → absent s q ≡ false → is_some (host_queue s q) ≡ true
-  pub completion_stays : (q : ℕ) → absent s q ≡ false → completion_there s q ≡ true
-  -- so does one that has a job
-  pub jobs_have_queues : (q cid : ℕ) → is_some (job_at s q cid) ≡ true → absent s q ≡ false
+-- fetches and completions, accepted or refused, stay in what is allowed
+abbrev pub others_stay_allowed : Type 0
+others_stay_allowed =
+    (image : List ℕ) (made : List Made) (old new : State) (e : Event) (reply : Reply)
+    → TrustedRun image made old → Step old e reply new → is_walk e ≡ false → IsTrue (stays_allowed old reply && stays_own old e reply)
 
 -- Numbers of lists
 
@@ -71,29 +71,37 @@ at_queues p zero (x ∷ queues) (y ∷ ats) queue at e e' h =
 at_queues p (suc k) (x ∷ queues) (y ∷ ats) queue at e e' h =
     holds_right p (pages_at_queue x y) (pages_at_queues queues ats) (at_queues p k queues ats queue at e e' h)
 
--- a slot below n lies on a page of a whole half
-slot_inside : (size n k : ℕ) → k < n → (size ≡ 64) ⊎ (size ≡ 16) → k * size / 4096 < (n * size + 4095) / 4096
-slot_inside size n k l (inl e) = subst (λ (z : ℕ). k * z / 4096 < (n * z + 4095) / 4096) (sym e) (omega arith)
-slot_inside size n k l (inr e) = subst (λ (z : ℕ). k * z / 4096 < (n * z + 4095) / 4096) (sym e) (omega arith)
+-- a slot of a ring lies on a page of a whole half
+entry_inside : (n k : ℕ) → k < n → k * 64 / 4096 < half_pages n Submission
+entry_inside n k l = omega arith
 
-fetch_slot_below : (s : State) (q : ℕ) → 0 < s.entries → fetch_slot s q < s.entries
-fetch_slot_below s q pos = go (host_queue s q) (device_queue s q)
-  where
-    go : (o : Option HostQueue) (d : Option DeviceQueue) → option_map_or (λ queue. option_map_or (λ at. (queue.ring.tail + s.entries - length at.unfetched) % s.entries) d 0) o 0 < s.entries
-    go None d = pos
-    go (Some queue) None = pos
-    go (Some queue) (Some at) = mod-lt (queue.ring.tail + s.entries - length at.unfetched) pos
+answer_inside : (n k : ℕ) → k < n → k * 16 / 4096 < half_pages n Completion
+answer_inside n k l = omega arith
 
-post_slot_below : (s : State) (q : ℕ) → 0 < s.entries → post_slot s q < s.entries
-post_slot_below s q pos = go (host_queue s q) (device_queue s q)
+moved_below : (n slot many : ℕ) → slot < n → moved n slot many < n
+moved_below n slot zero h = h
+moved_below n slot (suc many) h = moved_below n (next_slot n slot) many (next_below n slot h)
+
+fetch_slot_below : (s : State) (q : ℕ) → IsLinked s → fetch_slot s q < s.entries
+fetch_slot_below s q linked = go (host_queue s q) (device_queue s q) (linked.inside q)
   where
-    go : (o : Option HostQueue) (d : Option DeviceQueue) → option_map_or (λ queue. option_map_or (λ at. (queue.ring.head + length at.answers) % s.entries) d 0) o 0 < s.entries
-    go None d = pos
-    go (Some queue) None = pos
-    go (Some queue) (Some at) = mod-lt (queue.ring.head + length at.answers) pos
+    go : (o : Option HostQueue) (d : Option DeviceQueue) → ((queue : HostQueue) → o ≡ Some queue → IsInRing s.entries queue.ring)
+        → option_map_or (λ queue. option_map_or (λ at. moved s.entries queue.ring.tail (s.entries - length at.unfetched)) d 0) o 0 < s.entries
+    go None d inside = linked.entries
+    go (Some queue) None inside = linked.entries
+    go (Some queue) (Some at) inside = moved_below s.entries queue.ring.tail (s.entries - length at.unfetched) (inside queue refl).tail
+
+post_slot_below : (s : State) (q : ℕ) → IsLinked s → post_slot s q < s.entries
+post_slot_below s q linked = go (host_queue s q) (device_queue s q) (linked.inside q)
+  where
+    go : (o : Option HostQueue) (d : Option DeviceQueue) → ((queue : HostQueue) → o ≡ Some queue → IsInRing s.entries queue.ring)
+        → option_map_or (λ queue. option_map_or (λ at. moved s.entries queue.ring.head (length at.answers)) d 0) o 0 < s.entries
+    go None d inside = linked.entries
+    go (Some queue) None inside = linked.entries
+    go (Some queue) (Some at) inside = moved_below s.entries queue.ring.head (length at.answers) (inside queue refl).head
 
 -- a page is allowed, and its queue's
-abbrev StaysIn : State → ℕ → ℕ → Type 0
+abbrev pub StaysIn : State → ℕ → ℕ → Type 0
 StaysIn s q p = (is_among (allowed s) p ≡ true) × (is_among (pages_of_queue s q) p ≡ true)
 
 in_device : (s : State) (q : ℕ) → absent s q ≡ false → (at : DeviceQueue) × (device_queue s q ≡ Some at) × (is_absent at.state ≡ false)
@@ -111,7 +119,7 @@ of_half s q p queue at e e' h own = (
   ap (λ (o : Option HostQueue). is_among (option_map_or (λ queue. queue.sq_pages ++ queue.cq_pages) o []) p) e ∙ own,
 )
 
-fetch_stays_in : (s : State) (q : ℕ) → IsLinked s → absent s q ≡ false → StaysIn s q (fetch_page s q)
+pub fetch_stays_in : (s : State) (q : ℕ) → IsLinked s → absent s q ≡ false → StaysIn s q (fetch_page s q)
 fetch_stays_in s q linked there = go (host_queue s q) refl
   where
     go : (o : Option HostQueue) → host_queue s q ≡ o → StaysIn s q (option_map_or (λ queue. slot_page queue.sq_pages 64 (fetch_slot s q)) o 0)
@@ -120,14 +128,14 @@ fetch_stays_in s q linked there = go (host_queue s q) refl
         let at = in_device s q there in
         let p : ℕ = slot_page queue.sq_pages 64 (fetch_slot s q) in
         let inside : fetch_slot s q * 64 / 4096 < length queue.sq_pages =
-        subst (λ (n : ℕ). fetch_slot s q * 64 / 4096 < n) (sym (linked.submission_whole q queue e there)) (slot_inside 64 s.entries (fetch_slot s q) (fetch_slot_below s q linked.entries) (inl refl)) in
+        subst (λ (n : ℕ). fetch_slot s q * 64 / 4096 < n) (sym (linked.submission_whole q queue e there)) (entry_inside s.entries (fetch_slot s q) (fetch_slot_below s q linked)) in
         let held : is_among queue.sq_pages p ≡ true = holds_index queue.sq_pages (fetch_slot s q * 64 / 4096) inside in
         let half : is_among (if is_absent at.0.state then [] else queue.sq_pages) p ≡ true = rw at.2 held in
         of_half s q p queue at.0 e at.1
         (holds_left p (if is_absent at.0.state then [] else queue.sq_pages) (if at.0.cq_there then queue.cq_pages else []) half)
         (holds_left p queue.sq_pages queue.cq_pages held)
 
-post_stays_in : (s : State) (q : ℕ) → IsLinked s → absent s q ≡ false → StaysIn s q (post_page s q)
+pub post_stays_in : (s : State) (q : ℕ) → IsLinked s → absent s q ≡ false → StaysIn s q (post_page s q)
 post_stays_in s q linked there = go (host_queue s q) refl
   where
     go : (o : Option HostQueue) → host_queue s q ≡ o → StaysIn s q (option_map_or (λ queue. slot_page queue.cq_pages 16 (post_slot s q)) o 0)
@@ -138,7 +146,7 @@ post_stays_in s q linked there = go (host_queue s q) refl
         let cq : option_map_or (λ (at : DeviceQueue). at.cq_there) (device_queue s q) false ≡ true = linked.completion_stays q there in
         let cq' : at.0.cq_there ≡ true = sym (ap (λ (o : Option DeviceQueue). option_map_or (λ (at : DeviceQueue). at.cq_there) o false) at.1) ∙ cq in
         let inside : post_slot s q * 16 / 4096 < length queue.cq_pages =
-        subst (λ (n : ℕ). post_slot s q * 16 / 4096 < n) (sym (linked.completion_whole q queue e (linked.completion_stays q there))) (slot_inside 16 s.entries (post_slot s q) (post_slot_below s q linked.entries) (inr refl)) in
+        subst (λ (n : ℕ). post_slot s q * 16 / 4096 < n) (sym (linked.completion_whole q queue e (linked.completion_stays q there))) (answer_inside s.entries (post_slot s q) (post_slot_below s q linked)) in
         let held : is_among queue.cq_pages p ≡ true = holds_index queue.cq_pages (post_slot s q * 16 / 4096) inside in
         let half : is_among (if at.0.cq_there then queue.cq_pages else []) p ≡ true = rw cq' held in
         of_half s q p queue at.0 e at.1
@@ -146,7 +154,7 @@ post_stays_in s q linked there = go (host_queue s q) refl
         (holds_right p queue.sq_pages queue.cq_pages held)
 
 -- a queue with a rung entry is no absent one
-rung_there : (s : State) (q : ℕ) → is_none (next_rung s q) ≡ false → absent s q ≡ false
+pub rung_there : (s : State) (q : ℕ) → is_none (next_rung s q) ≡ false → absent s q ≡ false
 rung_there s q h = go (device_queue s q) h
   where
     in_state : (at : DeviceQueue) (st : SqState) → is_none (if is_running st && nat_lt 0 at.rung then slice_get at.unfetched 0 else None) ≡ false → is_absent st ≡ false

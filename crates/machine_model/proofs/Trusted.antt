@@ -1,6 +1,7 @@
 -- Runs in which nothing was forged.
-use Rattle.std.proofs.Common.{◌≡◌, ℕ, suc, ◌+◌, ◌==◌, Bool, true, false, not, ◌&&◌, ◌||◌, Option, Some, None, List, [], ◌∷◌, ◌++◌, map, filter, replicate, MatchBool, if◌then◌else◌, refl, ap, sym, ◌∙◌, arith, subst}
+use Rattle.std.proofs.Common.{◌≡◌, ℕ, suc, ◌+◌, ◌==◌, Bool, true, false, not, ◌&&◌, ◌||◌, Option, Some, None, List, [], ◌∷◌, ◌++◌, is_none, map, filter, replicate, MatchBool, if◌then◌else◌, refl, ap, sym, ◌∙◌, arith, subst}
 use Rattle.std.specs.Option.{option_map_or}
+use Rattle.std.specs.Prelude.{nat_le}
 use Rattle.std.proofs.lemmas.Bool.{true≢false}
 use Rattle.machine_model.specs.Run.{Run}
 use Rattle.admin_commands.specs.Entries.{admin_entry}
@@ -9,13 +10,12 @@ use Rattle.entry_codec.specs.declared.submission.SubEntry.{SubEntry}
 use Rattle.admin_commands.specs.declared.AdminKind.TheVariants.{Abort, DeleteSq, DeleteCq}
 use Rattle.admin_commands.specs.declared.AdminKind.{AdminKind}
 use Rattle.page_memory.specs.Pages.{with_page_bytes}
-use Rattle.entry_codec.specs.declared.status.TheConstants.Status.{SUCCESS}
 use Rattle.entry_codec.specs.declared.status.Status.{Status}
-use Rattle.machine_model.specs.Status.{same_status}
+use Rattle.io_commands.specs.Jobs.{is_success}
 use Rattle.machine_model.specs.Memory.{with_pages, without_pages}
 use Rattle.machine_model.specs.Commands.{Work, Io, Management}
 use Rattle.machine_model.specs.State.{State, HostQueue, Record, Job, Answer, record_at, pages_of, with_record, without_record}
-use Rattle.machine_model.specs.Refusals.{host_queue, seen_entry, is_retired, slot_page, slot_offset}
+use Rattle.machine_model.specs.Refusals.{refusal_of, in_state, is_gone, host_queue, seen_entry, is_retired, slot_page, slot_offset}
 use Rattle.machine_model.specs.Opening.{Opens, opening, device_queue as opened}
 use Rattle.machine_model.specs.Step.{Step, IsController, HostPart, host_part, times}
 use Rattle.machine_model.specs.After as a
@@ -26,8 +26,9 @@ use Rattle.machine_model.specs.Image.{Made}
 use Rattle.machine_model.proofs.Counting.{one, times-append, times-cons}
 use Rattle.machine_model.proofs.Totals.{total, times-outstanding}
 use Rattle.machine_model.proofs.Parts.{part-posted}
-use Rattle.machine_model.proofs.Steps.{Accepts, IsKept, each_step, part_controller}
+use Rattle.machine_model.proofs.Steps.{Accepts, IsKept, each_step, part_controller, part_left}
 use Rattle.machine_model.proofs.Owned.{HoldsPart}
+use Rattle.machine_model.proofs.Refused.{first_fails}
 use Rattle.machine_model.proofs.Sound.{host_event}
 use Rattle.machine_model.proofs.Opening.{holds_at_opening, fits_pool}
 use Rattle.machine_model.proofs.Placed.{Placed, job_is}
@@ -46,7 +47,7 @@ distrust-posted q entry s h = ap (λ (part : HostPart). part.trusted) (part-post
 distrust-admin : (adm : AdminKind) (st : Status) (s : State) → s.trusted ≡ false → (a.after_admin adm st s).trusted ≡ false
 distrust-admin (Abort q cid) st s h = h
 distrust-admin (DeleteSq q) st s h = h
-distrust-admin (DeleteCq q) st s h = go (same_status st SUCCESS && option_map_or (λ queue. is_retired queue.state) (host_queue s q) false)
+distrust-admin (DeleteCq q) st s h = go (is_success st && option_map_or (λ queue. is_retired queue.state) (host_queue s q) false)
   where
     freed : (o : Option HostQueue) → (option_map_or (λ queue. a.on_host_queue q a.gone (a.given_back queue.cq_pages s)) o s).trusted ≡ false
     freed None = h
@@ -119,14 +120,27 @@ exact : {A : Type 0} (B : Type 0) (t : Bool) → t ≡ true → MatchBool t A B 
 exact B true e h = h
 exact B false e h = absurd (true≢false (sym e))
 
+-- an entry that is forged ends the trust
+forged_ends : (o : Option HostQueue) (f : HostQueue → State) (s : State) (b : Bool) → ((x : HostQueue) → (f x).trusted ≡ false) → (is_none o || b) ≡ false → (option_map_or f o s).trusted ≡ false
+forged_ends None f s b h e = absurd (true≢false e)
+forged_ends (Some x) f s b h e = h x
+
+pub forged_untrusted : (s : State) (q slot : ℕ) (bytes : List ℕ) → refusal_of s (events.Forge q slot bytes) ≡ None → (a.after_forge q slot bytes s).trusted ≡ false
+forged_untrusted s q slot bytes ok =
+    forged_ends (host_queue s q) (λ queue. record (a.on_memory (λ m. with_page_bytes m (slot_page queue.cq_pages 16 slot) (slot_offset 16 slot) bytes) s) { trusted = false }) s (in_state is_gone s q) (λ queue. refl)
+    (first_fails _ events.NoQueue ((nat_le s.entries slot, events.NoSlot) ∷ []) ok)
+
 -- Q is of the whole state
 pub each_trusted_step : (Q : State → Type 0)
     → ((s : State) (e : Event) (reply : Reply) → Accepts s e reply → s.trusted ≡ true → Q s → Q (a.after s e reply))
-    → (old : State) (e : Event) (reply : Reply) (new : State) → Step old e reply new → old.trusted ≡ true → Q old → Q new
-each_trusted_step Q each old e (events.Refused why touched) new step t h = subst Q (sym step.2) h
-each_trusted_step Q each old e (events.Reserved d) new step t h =
+    → (old : State) (e : Event) (reply : Reply) (new : State) → Step old e reply new → old.trusted ≡ true → new.trusted ≡ true → Q old → Q new
+each_trusted_step Q each old e (events.Refused why touched) new step t u h = subst Q (sym step.2) h
+each_trusted_step Q each old (events.Forge q slot bytes) reply new step t u h =
+    let ok = permitted _ old.trusted true t step.1 in
+    absurd (true≢false (sym u ∙ (ap (λ (part : HostPart). part.trusted) (part_left old (events.Forge q slot bytes) reply new step.2) ∙ forged_untrusted old q slot bytes ok.0)))
+each_trusted_step Q each old e (events.Reserved d) new step t u h =
     subst Q (sym (exact _ old.trusted t step.2)) (each old e (events.Reserved d) (permitted _ old.trusted (not (IsController e)) t step.1) t h)
-each_trusted_step Q each old e reply new step t h =
+each_trusted_step Q each old e reply new step t u h =
     subst Q (sym (exact _ old.trusted t step.2)) (each old e reply (permitted _ old.trusted (not (IsController e)) t step.1) t h)
 
 pub trusted_all_along : (es : List Event) (replies : List Reply) (old new : State) → Run old es replies new → new.trusted ≡ true → old.trusted ≡ true
@@ -143,7 +157,7 @@ each_trusted_run Q each old [] (reply ∷ replies) new run t h = absurd run
 each_trusted_run Q each old (e ∷ es) [] new run t h = absurd run
 each_trusted_run Q each old (e ∷ es) (reply ∷ replies) new run t h =
     each_trusted_run Q each run.0 es replies new run.2 t
-    (each_trusted_step Q each old e reply run.0 run.1 (trusted_all_along (e ∷ es) (reply ∷ replies) old new run t) h)
+    (each_trusted_step Q each old e reply run.0 run.1 (trusted_all_along (e ∷ es) (reply ∷ replies) old new run t) (trusted_all_along es replies run.0 new run.2 t) h)
 
 -- Admin commands stand in one place
 

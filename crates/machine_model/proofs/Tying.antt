@@ -6,7 +6,7 @@ use Rattle.admin_commands.specs.declared.SqState.TheVariants.{Absent, Stopping}
 use Rattle.admin_commands.specs.Verdicts.{is_absent}
 use Rattle.admin_commands.specs.declared.AdminKind.TheVariants.{DeleteSq}
 use Rattle.machine_model.specs.Commands.{Management}
-use Rattle.machine_model.specs.State.{HostQueue, HostRing, HostState, Live, Deleting, Retired, Gone, DeviceQueue, Job, Record, is_at, without_record}
+use Rattle.machine_model.specs.State.{HostQueue, HostState, Live, Deleting, Retired, Gone, DeviceQueue, Job, Record, is_at, without_record}
 use Rattle.machine_model.specs.Refusals.{is_gone}
 use Rattle.machine_model.specs.After.{change}
 use Rattle.machine_model.proofs.Counting.{one}
@@ -15,6 +15,7 @@ use Rattle.machine_model.specs.Refusals.{is_asked}
 use Rattle.machine_model.proofs.Asked.{asked_at, asks, asked_same, asked_when, asked_ask, was_asked, asked_noted}
 use Rattle.machine_model.proofs.Placed.{gone_at, there_at}
 use Rattle.machine_model.proofs.Paired.{PairOk, Paired, paired_host, paired_device, is_past, is_over, on_queue}
+use Rattle.queue_pair.specs.Rings.{HostRing}
 
 pub length-change : {A : Type 0} (k : ℕ) (f : A → A) (xs : List A) → length (change k f xs) ≡ length xs
 length-change k f [] = refl

@@ -1,7 +1,7 @@
 -- What an accepted event leaves: the state is a function of the state before, the event and the reply, which names what was chosen.
-use Rattle.std.specs.Prelude.{ℕ, zero, suc, ◌+◌, ◌*◌, ◌-◌, ◌/◌, ◌%◌, ◌==◌, nat_lt, nat_le, Bool, true, false, ◌&&◌, ◌||◌, not, Option, Some, None, List, [], ◌∷◌, ◌++◌, length, map, filter, take, drop, replicate, is_none, slice_get, if◌then◌else◌}
+use Rattle.std.specs.Prelude.{ℕ, zero, suc, ◌+◌, ◌-◌, ◌/◌, ◌%◌, ◌==◌, Bool, true, false, ◌&&◌, ◌||◌, not, Option, Some, None, List, [], ◌∷◌, ◌++◌, length, map, filter, take, drop, is_none, slice_get, if◌then◌else◌, unwrap_or}
 use Rattle.std.specs.Option.{option_map_or}
-use Rattle.page_ledger.specs.Owners.{is_among}
+use Rattle.page_ledger.specs.Owners.{is_among, pages_from}
 use Rattle.controller_walk.specs.Laws.{after_units}
 use Rattle.controller_walk.specs.Walks.{answer}
 use Rattle.controller_walk.specs.Units.{Act, Stays, Reads, Moves, Course, course_of_list, units}
@@ -9,8 +9,7 @@ use Rattle.admin_commands.specs.declared.SqState.{SqState}
 use Rattle.admin_commands.specs.declared.AdminVerdict.TheVariants.{Answer as Answered, AbortJob, StopQueue, DropCompletion}
 use Rattle.admin_commands.specs.declared.AdminVerdict.{AdminVerdict}
 use Rattle.admin_commands.specs.declared.DeviceView.{DeviceView}
-use Rattle.block_image.specs.Blocks.{blocks_at, with_blocks, block_count}
-use Rattle.controller_walk.specs.declared.walk.WalkState.TheVariants.{More, End, Fault}
+use Rattle.block_image.specs.Blocks.{block_count}
 use Rattle.controller_walk.specs.declared.walk.WalkState.{WalkState}
 use Rattle.sgl_descriptor.specs.declared.Direction.TheVariants.{Destination, Source}
 use Rattle.sgl_descriptor.specs.declared.Direction.{Direction}
@@ -20,23 +19,25 @@ use Rattle.admin_commands.specs.declared.SqState.TheVariants.{Absent, Stopping}
 use Rattle.admin_commands.specs.Verdicts.{decision}
 use Rattle.admin_commands.specs.Entries.{admin_entry, named_queue, named_command}
 use Rattle.io_commands.specs.Values.{numbers_of}
-use Rattle.io_commands.specs.Requests.{first_passing}
 use Rattle.admin_commands.specs.declared.AdminKind.TheVariants.{Abort, DeleteSq, DeleteCq}
 use Rattle.admin_commands.specs.declared.AdminKind.{AdminKind}
 use Rattle.entry_codec.specs.declared.completion.ComEntry.{ComEntry}
 use Rattle.entry_codec.specs.declared.submission.SubEntry.{SubEntry}
-use Rattle.io_commands.specs.declared.request.Kind.TheVariants.{Read, Write, Compare}
-use Rattle.io_commands.specs.declared.request.Kind.{Kind}
 use Rattle.page_memory.specs.Pages.{Pages, page_at, with_page_bytes, with_bytes}
-use Rattle.entry_codec.specs.declared.status.TheConstants.Status.{SUCCESS, INVALID_OPCODE, INVALID_FIELD, COMMAND_ID_CONFLICT, ABORT_REQUESTED, ABORTED_SQ_DELETION, INVALID_NAMESPACE, LBA_OUT_OF_RANGE, COMPARE_FAILURE}
+use Rattle.entry_codec.specs.declared.status.TheConstants.Status.{SUCCESS, COMMAND_ID_CONFLICT, ABORT_REQUESTED, ABORTED_SQ_DELETION}
 use Rattle.entry_codec.specs.declared.status.Status.{Status}
-use Rattle.machine_model.specs.Status.{same_status}
 use Rattle.machine_model.specs.Memory.{without_pages, with_pages, memory_of}
 use Rattle.machine_model.specs.Commands.{Work, Io, Management}
-use Rattle.machine_model.specs.State.{State, Host, Device, HostQueue, Live, Deleting, Retired, Gone, HostRing, DeviceQueue, Record, Drafted, Submitted, Held, Collected, Job, Answer, record_at, without_record, with_record, pages_of}
-use Rattle.machine_model.specs.Refusals.{host_queue, device_queue, slot_page, slot_offset, seen_entry, job_at, next_rung, post_slot, fetch_slot, conflicts, is_submitted, is_retired, same_list}
+use Rattle.machine_model.specs.State.{State, Host, Device, HostQueue, Live, Deleting, Retired, Gone, DeviceQueue, Record, Drafted, Submitted, Held, Collected, Job, Answer, record_at, without_record, with_record, pages_of}
+use Rattle.machine_model.specs.Refusals.{host_queue, device_queue, slot_page, slot_offset, seen_entry, job_at, next_rung, post_slot, fetch_slot, conflicts, is_submitted, is_retired}
 use Rattle.machine_model.specs.Events as events
-use Rattle.machine_model.specs.Events.{Event, Reply, Draft, Reaped}
+use Rattle.io_commands.specs.Drafts.{DraftContents}
+use Rattle.machine_model.specs.Events.{Event, Reply, Reaped}
+use Rattle.queue_pair.specs.Rings.{HostRing, next_tail, next_head, knowing}
+use Rattle.queue_pair.specs.Lists.{expected_phase}
+use Rattle.io_commands.specs.Jobs as jobs
+use Rattle.io_commands.specs.Jobs.{io_fault, bytes_after_check, need_of_entry, direction_of_entry, verdict_of, is_success}
+use Rattle.entry_codec.specs.declared.admin_opcode.TheConstants.{DELETE_IO_SQ}
 
 -- Changing one member of a list, one queue, one job
 
@@ -83,12 +84,6 @@ held st r = record r { phase = Held; status = Some st }
 abbrev pub collected : Record → Record
 collected r = record r { phase = Collected }
 
-abbrev pub next_tail : ℕ → HostRing → HostRing
-next_tail n ring = record ring { tail = (ring.tail + 1) % n }
-
-abbrev pub knowing : ℕ → HostRing → HostRing
-knowing head ring = record ring { known_head = head }
-
 abbrev pub deleting : HostQueue → HostQueue
 deleting queue = record queue { state = Deleting false }
 
@@ -100,15 +95,11 @@ gone queue = record queue { state = Gone; cq_pages = [] }
 
 -- Pages: the free ones stand in rising order
 
-abbrev pub upto : ℕ → List ℕ
-upto zero = []
-upto (suc n) = upto n ++ n ∷ []
-
 abbrev pub without_numbers : List ℕ → List ℕ → List ℕ
 without_numbers pages free = filter (λ p. not (is_among pages p)) free
 
 abbrev pub joined_in_order : ℕ → List ℕ → List ℕ → List ℕ
-joined_in_order count pages free = filter (λ p. is_among free p || is_among pages p) (upto count)
+joined_in_order count pages free = filter (λ p. is_among free p || is_among pages p) (pages_from 0 count)
 
 abbrev pub granted : List ℕ → State → State
 granted pages s = on_host (λ h. record h { free = without_numbers pages h.free }) s
@@ -127,14 +118,14 @@ posted q entry s =
     (λ queue. on_memory (λ m. with_page_bytes m (slot_page queue.sq_pages 64 queue.ring.tail) (slot_offset 64 queue.ring.tail) (submission_bytes entry)) s)
     (host_queue s q) s))
 
-abbrev pub after_reserve : Draft → State → State
+abbrev pub after_reserve : DraftContents → State → State
 after_reserve d s =
     let data_pages = numbers_of d.data_pages in
     let chain_pages = numbers_of d.chain_pages in
     on_records (λ records. records ++ record { q = d.q; cid = d.cid; phase = Drafted; work = Io d.request; data_pages = data_pages; chain_pages = chain_pages; status = None } ∷ [])
     (granted (data_pages ++ chain_pages) (on_memory (without_pages (data_pages ++ chain_pages)) s))
 
-abbrev pub after_submit : Draft → State → State
+abbrev pub after_submit : DraftContents → State → State
 after_submit d s =
     option_map_or
     (λ entry. posted d.q entry
@@ -150,11 +141,6 @@ after_end q cid pages s =
 abbrev pub after_ring : ℕ → State → State
 after_ring q s = on_device_queue q (λ at. record at { rung = length at.unfetched }) s
 
--- the head of a completion ring goes on by one, and the phase turns as it wraps
-abbrev pub next_head : ℕ → HostRing → HostRing
-next_head n ring =
-    record ring { head = (ring.head + 1) % n; phase = if ring.head + 1 == n then not ring.phase else ring.phase }
-
 abbrev pub consumed : ℕ → State → State
 consumed q s = on_device_queue q (λ at. record at { answers = drop 1 at.answers }) (on_ring q (next_head s.entries) s)
 
@@ -169,9 +155,9 @@ half_freed pages without q s =
 abbrev pub after_admin : AdminKind → Status → State → State
 after_admin (Abort q cid) st s = s
 after_admin (DeleteSq q) st s =
-    on_host_queue q (λ queue. record queue { state = if same_status st SUCCESS then Deleting true else Live }) s
+    on_host_queue q (λ queue. record queue { state = if is_success st then Deleting true else Live }) s
 after_admin (DeleteCq q) st s =
-    if same_status st SUCCESS && option_map_or (λ queue. is_retired queue.state) (host_queue s q) false
+    if is_success st && option_map_or (λ queue. is_retired queue.state) (host_queue s q) false
     then half_freed (λ queue. queue.cq_pages) gone q s
     else s
 
@@ -217,40 +203,8 @@ after_forge q slot bytes s =
 
 -- The controller
 
-abbrev pub kind_of : ℕ → Option Kind
-kind_of opcode = first_passing ((opcode == 1, Write) ∷ (opcode == 2, Read) ∷ (opcode == 5, Compare) ∷ [])
-
-abbrev pub slba_of : SubEntry → ℕ
-slba_of e = e.cdw10 + 4294967296 * e.cdw11
-
-abbrev pub blocks_of : SubEntry → ℕ
-blocks_of e = e.cdw12 % 65536 + 1
-
-abbrev pub need_of : SubEntry → ℕ
-need_of e = 512 * blocks_of e
-
 abbrev pub image_blocks : State → ℕ
 image_blocks s = block_count s.device.image
-
--- the first failed field check of an entry of an I/O queue
-abbrev pub io_fault : State → SubEntry → Option Status
-io_fault s e =
-    first_passing (
-    (is_none (kind_of e.opcode), INVALID_OPCODE)
-    ∷ (not (e.nsid == 1), INVALID_NAMESPACE)
-    ∷ (not (e.fuse == 0) || not (e.psdt == 1), INVALID_FIELD)
-    ∷ (nat_lt 2048 (blocks_of e), INVALID_FIELD)
-    ∷ (nat_lt (image_blocks s) (slba_of e + blocks_of e), LBA_OUT_OF_RANGE)
-    ∷ [])
-
-abbrev pub named_blocks : State → SubEntry → List ℕ
-named_blocks s e = blocks_at s.device.image (slba_of e) (blocks_of e)
-
-abbrev pub first_bytes : State → SubEntry → Option Kind → List ℕ
-first_bytes s e (Some Read) = named_blocks s e
-first_bytes s e (Some Write) = replicate (need_of e) 0
-first_bytes s e (Some Compare) = replicate (need_of e) 0
-first_bytes s e None = []
 
 abbrev pub new_job : ℕ → SubEntry → Option Status → ℕ → List ℕ → Job
 new_job q e verdict dw0 bytes =
@@ -259,10 +213,11 @@ new_job q e verdict dw0 bytes =
 abbrev pub with_job : Job → State → State
 with_job j s = on_device (λ d. record d { jobs = d.jobs ++ j ∷ [] }) s
 
+-- an entry of an I/O queue: a failed field check is its verdict, and else it begins with its bytes
 abbrev pub begun : ℕ → SubEntry → State → State
 begun q e s =
-    option_map_or (λ fault. with_job (new_job q e (Some fault) 0 []) s) (io_fault s e)
-    (with_job (new_job q e None 0 (first_bytes s e (kind_of e.opcode))) s)
+    let fault = io_fault (image_blocks s) e in
+    with_job (new_job q e fault 0 (bytes_after_check s.device.image e fault)) s
 
 -- an admin command, decided at its fetch
 abbrev pub decided : SubEntry → Status → ℕ → State → State
@@ -303,19 +258,18 @@ acted e (DropCompletion q) s = decided e SUCCESS 0 (on_device_queue q (λ at. re
 abbrev pub managed : SubEntry → State → State
 managed e s = acted e (decision e (view_of s e)) s
 
--- an answer behind the tail of a queue's completion ring, in its slot's bytes too
-abbrev pub post_phase : State → HostQueue → ℕ → Bool
-post_phase s queue count = if nat_le s.entries (queue.ring.head + count) then not queue.ring.phase else queue.ring.phase
+-- the phase that the controller writes: each side tells the other's phase alike, by whether one has wrapped and the other not
+abbrev pub post_phase : State → ℕ → HostQueue → Bool
+post_phase s q queue = expected_phase queue.ring.head (post_slot s q) queue.ring.phase
 
+-- an answer behind the tail of a queue's completion ring, in its slot's bytes too
 abbrev pub answered : ℕ → ℕ → Status → ℕ → State → State
 answered q cid st dw0 s =
     let answer : Answer = record { cid = cid; status = st; dw0 = dw0; sq_head = fetch_slot s q } in
     on_device_queue q (λ at. record at { answers = at.answers ++ answer ∷ [] })
     (option_map_or
-    (λ queue. option_map_or
-    (λ at. on_memory (λ m. with_page_bytes m (slot_page queue.cq_pages 16 (post_slot s q)) (slot_offset 16 (post_slot s q))
-    (completion_bytes (record { dw0 = dw0; sqhd = fetch_slot s q; sqid = q; cid = cid; phase = post_phase s queue (length at.answers); status = st }))) s)
-    (device_queue s q) s)
+    (λ queue. on_memory (λ m. with_page_bytes m (slot_page queue.cq_pages 16 (post_slot s q)) (slot_offset 16 (post_slot s q))
+    (completion_bytes (record { dw0 = dw0; sqhd = fetch_slot s q; sqid = q; cid = cid; phase = post_phase s q queue; status = st }))) s)
     (host_queue s q) s)
 
 abbrev pub taken_off : ℕ → State → State
@@ -329,12 +283,9 @@ after_fetch q s =
     else begun q e (taken_off q s))
     (next_rung s q) s
 
-abbrev pub direction_of : SubEntry → Direction
-direction_of e = if e.opcode == 2 then Destination else Source
-
 -- what a job's list makes its walk do, in the memory as it stands
 abbrev pub course_of : State → Job → Course
-course_of s j = course_of_list (memory_of s.memory) j.entry.sgl1 (direction_of j.entry) (need_of j.entry)
+course_of s j = course_of_list (memory_of s.memory) j.entry.sgl1 (direction_of_entry j.entry) (need_of_entry j.entry)
 
 -- the unit that a job's next walk step does, and what the step answers: the verdict with the last unit
 abbrev pub next_unit : State → Job → Option Act
@@ -342,11 +293,6 @@ next_unit s j = slice_get (units (course_of s j)) j.units_done
 
 abbrev pub next_answer : State → Job → WalkState
 next_answer s j = answer (after_units (j.units_done + 1) (course_of s j))
-
-abbrev pub verdict_of : WalkState → Option Status
-verdict_of More = None
-verdict_of End = Some SUCCESS
-verdict_of (Fault st) = Some st
 
 -- bytes of one page, from a place on
 abbrev pub page_bytes : Pages → ℕ → ℕ → List ℕ
@@ -366,27 +312,23 @@ after_walk q cid s =
     option_map_or
     (λ j. option_map_or
     (λ act. on_job q cid (λ k. record k { units_done = k.units_done + 1; verdict = verdict_of (next_answer s j) })
-    (moved (direction_of j.entry) act q cid s))
+    (moved (direction_of_entry j.entry) act q cid s))
     (next_unit s j) s)
     (job_at s q cid) s
 
--- how a job whose walk ended, or that was stopped, completes
+-- how a job completes: an admin command with its verdict, an I/O command as its data tells
 abbrev pub final_status : State → Job → Status
 final_status s j =
-    option_map_or
-    (λ st. if (j.entry.opcode == 5) && not (j.q == 0) && same_status st SUCCESS && not (same_list j.bytes (named_blocks s j.entry)) then COMPARE_FAILURE else st)
-    j.verdict SUCCESS
+    if j.q == 0 then unwrap_or j.verdict SUCCESS else jobs.status_after s.device.image j.entry j.bytes j.verdict
 
-abbrev pub image_completed : Job → Status → List ℕ → List ℕ
-image_completed j st image =
-    if (j.entry.opcode == 1) && not (j.q == 0) && same_status st SUCCESS
-    then with_blocks image (slba_of j.entry) j.bytes
-    else image
+-- the image behind it
+abbrev pub image_completed : Job → List ℕ → List ℕ
+image_completed j image = if j.q == 0 then image else jobs.image_after image j.entry j.bytes j.verdict
 
 -- a successful deletion leaves nothing of the queue's submission side
 abbrev pub deletion_done : Job → Status → State → State
 deletion_done j st s =
-    if (j.q == 0) && (j.entry.opcode == 0) && same_status st SUCCESS
+    if (j.q == 0) && (j.entry.opcode == DELETE_IO_SQ) && is_success st
     then on_device_queue (named_queue j.entry) (λ at. record at { state = Absent; unfetched = []; rung = 0 }) s
     else s
 
@@ -396,7 +338,7 @@ after_complete q cid s =
     (λ j. let st = final_status s j in
     answered q cid st j.dw0
     (deletion_done j st
-    (on_device (λ d. record d { image = image_completed j st d.image }) (without_job q cid s))))
+    (on_device (λ d. record d { image = image_completed j d.image }) (without_job q cid s))))
     (job_at s q cid) s
 
 -- every event

@@ -1,7 +1,3 @@
 -- What an outstanding command is for.
-use Rattle.io_commands.specs.declared.request.Request.{Request}
-use Rattle.admin_commands.specs.declared.AdminKind.{AdminKind}
-
-pub data Work : Type 0 where
-  Io : Request → Work
-  Management : AdminKind → Work
+pub use Rattle.machine_model.specs.declared.words.Work.{Work}
+pub use Rattle.machine_model.specs.declared.words.Work.TheVariants.{Io, Management}

@@ -9,13 +9,13 @@ use Rattle.io_commands.specs.DataBytes.{gathered}
 use Rattle.io_commands.specs.declared.request.Request.{Request}
 use Rattle.io_commands.specs.declared.request.Kind.TheVariants.{Read, Write, Compare}
 use Rattle.io_commands.specs.declared.request.Kind.{Kind}
-use Rattle.entry_codec.specs.declared.status.TheConstants.Status.{SUCCESS}
-use Rattle.machine_model.specs.Status.{same_status}
 use Rattle.machine_model.specs.State.{State}
 use Rattle.machine_model.specs.Refusals.{job_at}
 use Rattle.machine_model.specs.After.{final_status}
 use Rattle.machine_model.specs.Events as events
-use Rattle.machine_model.specs.Events.{Event, Reply, Draft}
+use Rattle.io_commands.specs.Drafts.{DraftContents}
+use Rattle.machine_model.specs.Events.{Event, Reply}
+use Rattle.io_commands.specs.Jobs.{is_success}
 
 -- a step as it was made: the state before it, the event and the reply
 pub record Made : Type 0 where
@@ -29,28 +29,28 @@ is_write Write = true
 is_write Compare = false
 
 -- the drafts as they were submitted, the latest of a queue and identifier first
-abbrev pub submitted_by : Event → Reply → List Draft
+abbrev pub submitted_by : Event → Reply → List DraftContents
 submitted_by (events.Submit d) events.Accepted = d ∷ []
 submitted_by e reply = []
 
-abbrev pub draft_of : ℕ → ℕ → List Draft → Option Draft
+abbrev pub draft_of : ℕ → ℕ → List DraftContents → Option DraftContents
 draft_of q cid drafts = find (λ d. (d.q == q) && (d.cid == cid)) drafts
 
-abbrev pub written_by : Draft → List ℕ → List ℕ
+abbrev pub written_by : DraftContents → List ℕ → List ℕ
 written_by d image =
     if is_write d.request.kind then with_blocks image d.request.slba (gathered d.request.pieces d.data_pages) else image
 
 -- the step that completes a command with success
 abbrev pub succeeds : State → ℕ → ℕ → Bool
-succeeds s q cid = option_map_or (λ j. same_status SUCCESS (final_status s j)) (job_at s q cid) false
+succeeds s q cid = option_map_or (λ j. is_success (final_status s j)) (job_at s q cid) false
 
-abbrev pub image_by : State → List Draft → List ℕ → Event → Reply → List ℕ
+abbrev pub image_by : State → List DraftContents → List ℕ → Event → Reply → List ℕ
 image_by s drafts image (events.Complete q cid) (events.Completed touched) =
     if succeeds s q cid then option_map_or (λ d. written_by d image) (draft_of q cid drafts) image else image
 image_by s drafts image e reply = image
 
 -- the opening image, changed by each write whose completion gave success, in the order of those steps
-abbrev pub image_from : List Draft → List ℕ → List Made → List ℕ
+abbrev pub image_from : List DraftContents → List ℕ → List Made → List ℕ
 image_from drafts image [] = image
 image_from drafts image (m ∷ made) =
     image_from (submitted_by m.event m.reply ++ drafts) (image_by m.before drafts image m.event m.reply) made

@@ -23,13 +23,19 @@ use Rattle.machine_model.specs.Status.{same_status}
 use Rattle.machine_model.specs.Commands.{Work, Io, Management}
 use Rattle.sgl_chain.specs.Spells.{Spells}
 use Rattle.machine_model.specs.State.{State, Device, Record, Job, record_at, outstanding_on}
-use Rattle.machine_model.specs.Refusals.{job_at, next_rung, is_submitted, same_list}
-use Rattle.machine_model.specs.After.{after, final_status, walks, slba_of, blocks_of, image_blocks}
-use Rattle.machine_model.specs.Opening.{opening, Opens, IsByteImage}
+use Rattle.machine_model.specs.Refusals.{job_at, next_rung, is_submitted}
+use Rattle.machine_model.specs.After.{after, final_status, walks, image_blocks}
+use Rattle.block_image.specs.Blocks.{IsImage}
+use Rattle.machine_model.specs.Opening.{opening, Opens}
 use Rattle.machine_model.specs.Step.{Step, Permits, IsController, host_part, times}
 use Rattle.machine_model.specs.Image.{Made, image_after, read_of, draft_of, submitted_by}
 use Rattle.machine_model.specs.Events as events
-use Rattle.machine_model.specs.Events.{Event, Reply, Draft}
+use Rattle.io_commands.specs.Drafts.{DraftContents}
+use Rattle.machine_model.specs.Events.{Event, Reply}
+use Rattle.io_commands.specs.Jobs.{first_block, block_number, is_success}
+use Rattle.entry_codec.specs.declared.admin_opcode.TheConstants.{ABORT, DELETE_IO_SQ}
+use Rattle.entry_codec.specs.declared.io_opcode.TheConstants.{COMPARE}
+use Rattle.std.specs.Str.{bytes_eq}
 
 -- the steps, one after the other, from a state to a state
 abbrev pub Steps : State → List Made → State → Type 0
@@ -43,7 +49,7 @@ pub record TrustedRun (image : List ℕ) (made : List Made) (end : State) : Type
   pub entries : ℕ
   pub segment : ℕ
   pub opens : Opens pages queues entries segment
-  pub is_image : IsByteImage image
+  pub is_image : IsImage image
   pub steps : Steps (opening pages queues entries segment image) made end
   pub trusted : IsTrue end.trusted
 
@@ -72,20 +78,20 @@ managed_entry s e reply = None
 -- the fetch of an Abort of this command while it was a job without a verdict
 abbrev pub aborts : ℕ → ℕ → Made → Bool
 aborts q cid m =
-    option_map_or (λ e. (e.opcode == 8) && (named_queue e == q) && (named_command e == cid) && walks m.before q cid)
+    option_map_or (λ e. (e.opcode == ABORT) && (named_queue e == q) && (named_command e == cid) && walks m.before q cid)
     (managed_entry m.before m.event m.reply) false
 
 abbrev pub deletes : ℕ → Made → Bool
-deletes q m = option_map_or (λ e. (e.opcode == 0) && (named_queue e == q)) (managed_entry m.before m.event m.reply) false
+deletes q m = option_map_or (λ e. (e.opcode == DELETE_IO_SQ) && (named_queue e == q)) (managed_entry m.before m.event m.reply) false
 
 abbrev pub job_test : (Job → Bool) → Made → ℕ → ℕ → Bool
 job_test test m q cid = option_map_or test (job_at m.before q cid) false
 
 abbrev pub passes_image : Made → ℕ → ℕ → Bool
-passes_image m q cid = job_test (λ j. nat_lt (image_blocks m.before) (slba_of j.entry + blocks_of j.entry)) m q cid
+passes_image m q cid = job_test (λ j. nat_lt (image_blocks m.before) (first_block j.entry + block_number j.entry)) m q cid
 
 abbrev pub is_compare : Made → ℕ → ℕ → Bool
-is_compare m q cid = job_test (λ j. j.entry.opcode == 5) m q cid
+is_compare m q cid = job_test (λ j. j.entry.opcode == COMPARE) m q cid
 
 -- The five statuses, each with its cause; `earlier` are the steps before, and the command's fetch is the last one of its identifier
 abbrev pub since_fetch : ℕ → ℕ → List Made → List Made
@@ -94,7 +100,7 @@ since_fetch q cid (m ∷ made) = if list_any (fetches q cid) made then since_fet
 
 abbrev pub has_cause : List Made → Made → ℕ → ℕ → Status → Bool
 has_cause earlier m q cid st =
-    same_status st SUCCESS
+    is_success st
     || (same_status st ABORT_REQUESTED && list_any (aborts q cid) (since_fetch q cid earlier))
     || (same_status st ABORTED_SQ_DELETION && list_any (deletes q) (since_fetch q cid earlier))
     || (same_status st LBA_OUT_OF_RANGE && passes_image m q cid)
@@ -127,7 +133,7 @@ abbrev pub reads_give_their_blocks : Type 0
 reads_give_their_blocks =
     (image : List ℕ) (before : List Made) (fetched : Made) (between : List Made) (collected : Made) (later : List Made) (end : State) (f : FinishedContents)
     → TrustedRun image (before ++ fetched ∷ between ++ collected ∷ later) end
-    → collected_of collected.event collected.reply ≡ Some f → IsTrue (is_read f) → IsTrue (same_status f.status SUCCESS)
+    → collected_of collected.event collected.reply ≡ Some f → IsTrue (is_read f) → IsTrue (is_success f.status)
     → IsTrue (fetches f.q f.cid fetched) → IsTrue (not (list_any (fetches f.q f.cid) between))
     → gathered f.request.pieces f.data_pages ≡ read_of f.request (numbers_of f.data_pages) (image_after image before)
 
@@ -137,7 +143,7 @@ the_image_is_the_runs =
     (image : List ℕ) (made : List Made) (end : State) → TrustedRun image made end → end.device.image ≡ image_after image made
 
 -- A compare succeeds exactly where the blocks are then its draft's bytes
-abbrev pub drafts_of : List Made → List Draft
+abbrev pub drafts_of : List Made → List DraftContents
 drafts_of [] = []
 drafts_of (m ∷ made) = drafts_of made ++ submitted_by m.event m.reply
 
@@ -146,10 +152,10 @@ blocks_of_request r image = blocks_at image r.slba r.blocks
 
 abbrev pub compares_tell_equality : Type 0
 compares_tell_equality =
-    (image : List ℕ) (earlier later : List Made) (m : Made) (end : State) (q cid : ℕ) (st : Status) (d : Draft) → TrustedRun image (earlier ++ m ∷ later) end
+    (image : List ℕ) (earlier later : List Made) (m : Made) (end : State) (q cid : ℕ) (st : Status) (d : DraftContents) → TrustedRun image (earlier ++ m ∷ later) end
     → status_given m q cid ≡ Some st → IsTrue (is_compare m q cid) → draft_of q cid (drafts_of earlier) ≡ Some d
     → IsTrue (not (same_status st ABORT_REQUESTED || same_status st ABORTED_SQ_DELETION || same_status st LBA_OUT_OF_RANGE))
-    → st ≡ (if same_list (gathered d.request.pieces d.data_pages) (blocks_of_request d.request m.before.device.image) then SUCCESS else COMPARE_FAILURE)
+    → st ≡ (if bytes_eq (gathered d.request.pieces d.data_pages) (blocks_of_request d.request m.before.device.image) then SUCCESS else COMPARE_FAILURE)
 
 -- A submitted record's chain spells its parts, from some descriptor, which is that of its entry wherever the entry still stands.
 -- A record doesn't keep its entry: after the completion nobody reads the chain.
@@ -180,7 +186,8 @@ chains_stay =
     → record_at old.host q cid ≡ Some r → IsTrue (is_submitted r.phase) → record_at new.host q cid ≡ Some r
     → IsTrue (is_among r.chain_pages p) → page_at new.memory p ≡ page_at old.memory p
 
--- a read that was stopped: the blocks' bytes for so many counted bytes, and the draft's own for the rest
+-- A read that was stopped: the blocks' bytes for so many counted bytes, and the draft's own for the rest. Its draft is the latest
+-- before it was collected: a command that was never fetched may stand behind one of its identifier that was (`worked_never_fetched`).
 abbrev pub partly : ℕ → List Target → (blocks own : List ℕ) → List ℕ
 partly zero ts blocks own = own
 partly (suc k) [] blocks own = own
@@ -191,11 +198,11 @@ partly (suc k) (Place p ∷ ts) (b ∷ bs) (x ∷ xs) = b ∷ partly k ts bs xs
 
 abbrev pub stopped_reads_give_a_prefix : Type 0
 stopped_reads_give_a_prefix =
-    (image : List ℕ) (before : List Made) (fetched : Made) (between : List Made) (collected : Made) (later : List Made) (end : State) (f : FinishedContents) (d : Draft)
+    (image : List ℕ) (before : List Made) (fetched : Made) (between : List Made) (collected : Made) (later : List Made) (end : State) (f : FinishedContents) (d : DraftContents)
     → TrustedRun image (before ++ fetched ∷ between ++ collected ∷ later) end
     → collected_of collected.event collected.reply ≡ Some f → IsTrue (is_read f)
     → IsTrue (fetches f.q f.cid fetched) → IsTrue (not (list_any (fetches f.q f.cid) between))
-    → draft_of f.q f.cid (drafts_of before) ≡ Some d
+    → draft_of f.q f.cid (drafts_of (before ++ fetched ∷ between)) ≡ Some d
     → (k : ℕ) × (gathered f.request.pieces f.data_pages
     ≡ partly k (targets Destination (parts_of f.request.pieces (numbers_of f.data_pages))) (blocks_of_request f.request (image_after image before)) (gathered d.request.pieces d.data_pages))
 
@@ -204,16 +211,6 @@ abbrev pub trusted_steps_stay_allowed : Type 0
 trusted_steps_stay_allowed =
     (image : List ℕ) (made : List Made) (old new : State) (e : Event) (reply : Reply)
     → TrustedRun image made old → Step old e reply new → IsTrue (stays_allowed old reply && stays_own old e reply)
-
--- and that is proved of its fetches and completions, accepted or refused
-abbrev pub is_walk : Event → Bool
-is_walk (events.Walk q cid) = true
-is_walk e = false
-
-abbrev pub fetches_and_completions_stay_allowed : Type 0
-fetches_and_completions_stay_allowed =
-    (image : List ℕ) (made : List Made) (old new : State) (e : Event) (reply : Reply)
-    → TrustedRun image made old → Step old e reply new → IsTrue (not (is_walk e)) → IsTrue (stays_allowed old reply && stays_own old e reply)
 
 -- Where nothing was forged, an admin command stands at the controller once, and only where it is outstanding: not fetched, fetched, or answered
 abbrev pub admin_places : State → List ℕ

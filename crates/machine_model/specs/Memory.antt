@@ -1,5 +1,7 @@
 -- Pages of a pool taken out, and brought in with their bytes.
 use Rattle.std.specs.Prelude.{ℕ, Some, None, List, [], ◌∷◌, slice_set, Bool, is_some, ◌%◌, slice_index, option_map, ◌≡◌}
+use Rattle.sgl_descriptor.specs.declared.Direction.{Direction}
+use Rattle.controller_walk.specs.Units.{course_of_list}
 use Rattle.page_memory.specs.Memory.{Memory, page_of}
 use Rattle.page_memory.specs.Pages.{Pages, page_at, byte_at, AreWhole}
 
@@ -22,3 +24,8 @@ memory_of pages place = option_map (λ page. slice_index page (place % 4096)) (p
 -- where each page that is in is whole, that is the memory of the pool
 abbrev pub walks_read_the_pool : Type 0
 walks_read_the_pool = (pages : Pages) (place : ℕ) → AreWhole pages → memory_of pages place ≡ byte_at pages place
+
+-- so a list has one course in both
+abbrev pub walks_go_as_in_the_pool : Type 0
+walks_go_as_in_the_pool =
+    (pages : Pages) (sgl1 : List ℕ) (dir : Direction) (need : ℕ) → AreWhole pages → course_of_list (memory_of pages) sgl1 dir need ≡ course_of_list (byte_at pages) sgl1 dir need

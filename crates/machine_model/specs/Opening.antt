@@ -1,27 +1,25 @@
 -- The machine as it opens.
-use Rattle.std.specs.Prelude.{◌≡◌, ℕ, zero, suc, ◌+◌, ◌*◌, ◌/◌, nat_lt, nat_le, Bool, true, ◌&&◌, not, Option, Some, None, List, [], ◌∷◌, replicate, drop}
+use Rattle.std.specs.Prelude.{◌≡◌, ℕ, zero, suc, ◌+◌, ◌*◌, nat_lt, nat_le, Bool, true, ◌&&◌, not, Option, Some, None, List, [], ◌∷◌, replicate, drop}
 use Rattle.page_ledger.specs.Owners.{pages_from}
-use Rattle.block_image.specs.Blocks.{IsImage}
 use Rattle.admin_commands.specs.declared.SqState.TheVariants.{Live as Running}
 use Rattle.io_commands.specs.Requests.{first_passing}
 use Rattle.page_memory.specs.Pages.{zero_page}
-use Rattle.machine_model.specs.Proper.{HoldBytes}
+pub use Rattle.machine_model.specs.declared.words.OpenRefusal.{OpenRefusal}
+pub use Rattle.machine_model.specs.declared.words.OpenRefusal.TheVariants.{BadConfig, NoPages, Memory}
 use Rattle.machine_model.specs.State.{State, HostQueue, DeviceQueue, Live}
-use Rattle.machine_model.specs.After.{upto}
-
--- pages of a half with so many slots of so many bytes
-abbrev pub half_pages : ℕ → ℕ → ℕ
-half_pages size n = (n * size + 4095) / 4096
+use Rattle.queue_pair.specs.Memory.{half_pages}
+use Rattle.queue_pair.specs.Rings.{fresh_host_ring}
+use Rattle.page_memory.specs.declared.page.Half.TheVariants.{Submission, Completion}
 
 abbrev pub queues_from : ℕ → ℕ → ℕ → List HostQueue
 queues_from page n zero = []
 queues_from page n (suc count) =
     record {
       state = Live;
-      ring = record { head = 0; phase = true; known_head = 0; tail = 0 };
-      sq_pages = pages_from page (half_pages 64 n);
-      cq_pages = pages_from (page + half_pages 64 n) (half_pages 16 n);
-    } ∷ queues_from (page + half_pages 64 n + half_pages 16 n) n count
+      ring = fresh_host_ring;
+      sq_pages = pages_from page (half_pages n Submission);
+      cq_pages = pages_from (page + half_pages n Submission) (half_pages n Completion);
+    } ∷ queues_from (page + half_pages n Submission + half_pages n Completion) n count
 
 abbrev pub device_queue : DeviceQueue
 device_queue = record { state = Running; cq_there = true; unfetched = []; rung = 0; answers = [] }
@@ -32,11 +30,7 @@ is_config pages queues n s =
     nat_le 8 pages && nat_le pages 65536 && nat_le 1 queues && nat_le queues 64 && nat_le 2 n && nat_le n 1024 && nat_le 2 s && nat_le s 256
 
 abbrev pub pages_of_queues : ℕ → ℕ → ℕ
-pages_of_queues queues n = (queues + 1) * (half_pages 64 n + half_pages 16 n)
-
-pub data OpenRefusal : Type 0 where
-  BadConfig : OpenRefusal
-  NoPages : (need free : ℕ) → OpenRefusal
+pages_of_queues queues n = (queues + 1) * (half_pages n Submission + half_pages n Completion)
 
 -- want of memory left aside
 abbrev pub open_refusal : ℕ → ℕ → ℕ → ℕ → Option OpenRefusal
@@ -50,11 +44,6 @@ open_refusal pages queues n s =
 abbrev pub Opens : ℕ → ℕ → ℕ → ℕ → Type 0
 Opens pages queues n s = open_refusal pages queues n s ≡ None
 
--- an image's bytes: whole blocks, 1 to 65,536
-pub record IsByteImage (image : List ℕ) : Type 0 where
-  pub shape : IsImage image
-  pub each : HoldBytes image
-
 -- pages, I/O queues, entries of each ring, descriptors of a full segment, the image
 abbrev pub opening : ℕ → ℕ → ℕ → ℕ → List ℕ → State
 opening pages queues n s image =
@@ -63,7 +52,7 @@ opening pages queues n s image =
       segment = s;
       memory = replicate pages (Some zero_page);
       host = record {
-        free = drop (pages_of_queues queues n) (upto pages);
+        free = drop (pages_of_queues queues n) (pages_from 0 pages);
         queues = queues_from 0 n (queues + 1);
         records = [];
       };

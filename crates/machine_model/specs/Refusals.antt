@@ -1,5 +1,5 @@
 -- Which refusal an event meets: the first cause that holds, in the order of the checks.
-use Rattle.std.specs.Prelude.{ℕ, ◌+◌, ◌*◌, ◌-◌, ◌/◌, ◌%◌, ◌==◌, nat_lt, nat_le, Bool, true, false, ◌&&◌, ◌||◌, not, Option, Some, None, List, [], ◌∷◌, length, find, is_some, is_none, slice_get, slice_index, slice_range, option_and_then, if◌then◌else◌}
+use Rattle.std.specs.Prelude.{ℕ, ◌+◌, ◌*◌, ◌-◌, ◌/◌, ◌%◌, ◌==◌, nat_lt, nat_le, Bool, true, false, ◌&&◌, ◌||◌, not, Option, Some, None, List, [], ◌∷◌, length, find, is_some, is_none, slice_get, slice_index, slice_range, option_and_then, if◌then◌else◌, nat_eq}
 use Rattle.std.specs.List.{list_any}
 use Rattle.std.specs.Option.{option_map, option_map_or}
 use Rattle.sgl_chain.specs.Chains.{pages_needed}
@@ -17,13 +17,17 @@ use Rattle.io_commands.specs.declared.request.Piece.{Piece}
 use Rattle.io_commands.specs.declared.request.Kind.TheVariants.{Read, Write, Compare}
 use Rattle.io_commands.specs.declared.request.Kind.{Kind}
 use Rattle.page_memory.specs.Pages.{Pages, page_at}
-use Rattle.entry_codec.specs.declared.status.TheConstants.Status.{SUCCESS}
-use Rattle.machine_model.specs.Status.{same_status}
 use Rattle.machine_model.specs.Memory.{is_in}
 use Rattle.machine_model.specs.Commands.{Work, Io, Management}
-use Rattle.machine_model.specs.State.{State, HostQueue, HostState, Live, Deleting, Retired, Gone, HostRing, DeviceQueue, Record, Phase, Drafted, Submitted, Held, Collected, Job, Answer, record_at, outstanding_on}
+use Rattle.machine_model.specs.State.{State, HostQueue, HostState, Live, Deleting, Retired, Gone, DeviceQueue, Record, Phase, Drafted, Submitted, Held, Collected, Job, Answer, record_at, outstanding_on}
 use Rattle.machine_model.specs.Events as events
 use Rattle.machine_model.specs.Events.{Event, Refusal}
+use Rattle.queue_pair.specs.Memory.{with_phase}
+use Rattle.queue_pair.specs.Slots.{is_full, moved}
+use Rattle.io_commands.specs.Jobs.{is_success}
+use Rattle.entry_codec.specs.declared.admin_opcode.TheConstants.{DELETE_IO_SQ}
+use Rattle.admin_commands.specs.Entries.{named_queue}
+use Rattle.std.specs.Cmp.Lexicographic.{pointwise}
 
 -- Looking things up
 
@@ -104,12 +108,6 @@ record_is test s q cid = option_map_or test (record_at s.host q cid) false
 
 -- Comparing a moved value with its record
 
-abbrev pub same_list : List ℕ → List ℕ → Bool
-same_list [] [] = true
-same_list [] (y ∷ ys) = false
-same_list (x ∷ xs) [] = false
-same_list (x ∷ xs) (y ∷ ys) = (x == y) && same_list xs ys
-
 abbrev pub same_piece : Piece → Piece → Bool
 same_piece (Data o n) (Data p m) = (o == p) && (n == m)
 same_piece (Data o n) (Bucket m) = false
@@ -143,7 +141,7 @@ asks_for request (Management a) = false
 -- the record that a moved value belongs to: of this phase, with the same request and pages
 abbrev pub is_of : (Phase → Bool) → Request → List ℕ → List ℕ → Record → Bool
 is_of phase request data_pages chain_pages r =
-    phase r.phase && asks_for request r.work && same_list data_pages r.data_pages && same_list chain_pages r.chain_pages
+    phase r.phase && asks_for request r.work && pointwise nat_eq data_pages r.data_pages && pointwise nat_eq chain_pages r.chain_pages
 
 -- Pages and identifiers
 
@@ -153,12 +151,9 @@ pages_wanted s r = data_count r.pieces + pages_needed (length r.pieces) s.segmen
 abbrev pub no_identifier : State → ℕ → Bool
 no_identifier s q = nat_le (s.entries - 1) (length (outstanding_on s.host q))
 
--- a ring with one slot left empty
-abbrev pub ring_full : ℕ → HostRing → Bool
-ring_full n ring = (ring.tail + 1) % n == ring.known_head
-
+-- one slot is left empty
 abbrev pub queue_full : State → ℕ → Bool
-queue_full s q = option_map_or (λ queue. ring_full s.entries queue.ring) (host_queue s q) true
+queue_full s q = option_map_or (λ queue. is_full s.entries queue.ring.known_head queue.ring.tail) (host_queue s q) true
 
 abbrev pub deletes_cq_of : ℕ → Work → Bool
 deletes_cq_of q (Io r) = false
@@ -195,14 +190,9 @@ abbrev pub first_answer : List Answer → Option Answer
 first_answer [] = None
 first_answer (a ∷ as') = Some a
 
-abbrev pub in_phase : Bool → ComEntry → Bool
-in_phase true e = e.phase
-in_phase false e = not e.phase
-
 abbrev pub slot_entry : Pages → HostQueue → Option ComEntry
 slot_entry m queue =
-    option_and_then (λ bytes. let e = completion_of bytes in if in_phase queue.ring.phase e then Some e else None)
-    (slot_bytes m queue.cq_pages 16 queue.ring.head)
+    option_and_then (λ bytes. with_phase queue.ring.phase (completion_of bytes)) (slot_bytes m queue.cq_pages 16 queue.ring.head)
 
 abbrev pub seen_entry : State → ℕ → Option ComEntry
 seen_entry s q =
@@ -219,14 +209,16 @@ abbrev pub next_rung : State → ℕ → Option SubEntry
 next_rung s q =
     option_and_then (λ queue. if is_running queue.state && nat_lt 0 queue.rung then slice_get queue.unfetched 0 else None) (device_queue s q)
 
--- the controller's head of a submission ring, and its tail of a completion ring
+-- The controller's head of a submission ring: from there it is one move for each entry to the host's tail, and from the tail
+-- the rest of the ring to there.
 abbrev pub fetch_slot : State → ℕ → ℕ
 fetch_slot s q =
-    option_map_or (λ queue. option_map_or (λ at. (queue.ring.tail + s.entries - length at.unfetched) % s.entries) (device_queue s q) 0) (host_queue s q) 0
+    option_map_or (λ queue. option_map_or (λ at. moved s.entries queue.ring.tail (s.entries - length at.unfetched)) (device_queue s q) 0) (host_queue s q) 0
 
+-- its tail of a completion ring: from the host's head it is one move for each answer
 abbrev pub post_slot : State → ℕ → ℕ
 post_slot s q =
-    option_map_or (λ queue. option_map_or (λ at. (queue.ring.head + length at.answers) % s.entries) (device_queue s q) 0) (host_queue s q) 0
+    option_map_or (λ queue. option_map_or (λ at. moved s.entries queue.ring.head (length at.answers)) (device_queue s q) 0) (host_queue s q) 0
 
 abbrev pub fetch_page : State → ℕ → ℕ
 fetch_page s q = option_map_or (λ queue. slot_page queue.sq_pages 64 (fetch_slot s q)) (host_queue s q) 0
@@ -249,8 +241,8 @@ abbrev pub waits : State → Job → Bool
 waits s j =
     (j.q == 0)
     && (list_any (λ k. is_abort_of j.entry.cid k.waiting_abort) s.device.jobs
-    || ((j.entry.opcode == 0) && option_map_or (same_status SUCCESS) j.verdict false
-    && list_any (λ k. k.q == j.entry.cdw10 % 65536) s.device.jobs))
+    || ((j.entry.opcode == DELETE_IO_SQ) && option_map_or is_success j.verdict false
+    && list_any (λ k. k.q == named_queue j.entry) s.device.jobs))
 
 abbrev pub job_is : (Job → Bool) → State → ℕ → ℕ → Bool
 job_is test s q cid = option_map_or test (job_at s q cid) false

@@ -1,43 +1,34 @@
 -- The machine with the controller's own rings, as the code keeps them: it reads slots and answers into slots, and hears doorbells. It decides what a forged entry leaves open.
-use Rattle.std.specs.Prelude.{ℕ, ◌+◌, ◌*◌, ◌-◌, ◌%◌, ◌==◌, nat_lt, nat_le, Bool, true, false, ◌&&◌, ◌||◌, not, Option, List, [], ◌∷◌, length, replicate, slice_get, is_some, is_none, if◌then◌else◌}
-use Rattle.std.specs.Option.{option_map, option_map_or}
+use Rattle.std.specs.Prelude.{ℕ, ◌*◌, ◌==◌, nat_lt, Bool, false, ◌||◌, not, List, [], ◌∷◌, length, replicate, slice_get, is_some, is_none, if◌then◌else◌}
+use Rattle.std.specs.Option.{option_map_or}
 use Rattle.entry_codec.specs.Completion.{completion_bytes}
-use Rattle.entry_codec.specs.Submission.{submission_of}
 use Rattle.admin_commands.specs.Verdicts.{is_live as is_running}
 use Rattle.entry_codec.specs.declared.completion.ComEntry.{ComEntry}
 use Rattle.entry_codec.specs.declared.submission.SubEntry.{SubEntry}
-use Rattle.page_memory.specs.Pages.{Pages, with_page_bytes}
+use Rattle.page_memory.specs.Pages.{with_page_bytes}
 use Rattle.entry_codec.specs.declared.status.TheConstants.Status.{COMMAND_ID_CONFLICT}
 use Rattle.entry_codec.specs.declared.status.Status.{Status}
-use Rattle.machine_model.specs.Memory.{is_in}
+use Rattle.machine_model.specs.Memory.{is_in, memory_of}
 use Rattle.machine_model.specs.State.{State, HostQueue, Job}
-use Rattle.machine_model.specs.Refusals.{host_queue, device_queue, slot_page, slot_offset, slot_bytes, job_at, waits}
+use Rattle.machine_model.specs.Refusals.{host_queue, device_queue, slot_page, slot_offset, job_at, waits}
 use Rattle.machine_model.specs.After.{change, on_memory, on_device, begun, managed, final_status, image_completed, deletion_done, without_job}
 use Rattle.machine_model.specs.Events as events
 use Rattle.machine_model.specs.Events.{Refusal}
 use Rattle.machine_model.specs.Script as script
 use Rattle.machine_model.specs.Script.{Table, Line, Said, line}
-
-pub record DeviceRing : Type 0 where
-  pub sq_head : ℕ
-  pub sq_tail : ℕ
-  pub cq_head : ℕ
-  pub cq_tail : ℕ
-  pub phase : Bool
+use Rattle.queue_pair.specs.Rings.{DeviceRing, fresh_device_ring, hearing_tail, hearing_head, entry_taken, answer_posted}
+use Rattle.queue_pair.specs.Slots.{is_full, is_in_range}
+use Rattle.queue_pair.specs.Memory.{entry_at}
 
 pub record Bench : Type 0 where
   pub table : Table
   pub rings : List DeviceRing
 
 abbrev pub bench : Table → Bench
-bench t =
-    record { table = t; rings = replicate (length t.world.host.queues) (record { sq_head = 0; sq_tail = 0; cq_head = 0; cq_tail = 0; phase = true }) }
-
-abbrev pub no_ring : DeviceRing
-no_ring = record { sq_head = 0; sq_tail = 0; cq_head = 0; cq_tail = 0; phase = true }
+bench t = record { table = t; rings = replicate (length t.world.host.queues) fresh_device_ring }
 
 abbrev pub ring_of : Bench → ℕ → DeviceRing
-ring_of b q = option_map_or (λ r. r) (slice_get b.rings q) no_ring
+ring_of b q = option_map_or (λ r. r) (slice_get b.rings q) fresh_device_ring
 
 abbrev pub on_ring_of : ℕ → (DeviceRing → DeviceRing) → Bench → Bench
 on_ring_of q f b = record b { rings = change q f b.rings }
@@ -50,38 +41,33 @@ with_world f b = record b { table = record b.table { world = f b.table.world } }
 
 -- doorbells: ignored outside their range
 abbrev pub tail_bell : ℕ → ℕ → DeviceRing → DeviceRing
-tail_bell n v r = if nat_lt v n then record r { sq_tail = v } else r
+tail_bell n v r = if nat_lt v n then hearing_tail v r else r
 
 abbrev pub head_bell : ℕ → ℕ → DeviceRing → DeviceRing
-head_bell n v r =
-    if nat_lt v n && nat_le ((v + n - r.cq_head) % n) ((r.cq_tail + n - r.cq_head) % n) then record r { cq_head = v } else r
+head_bell n v r = if is_in_range n r.known_head r.tail v then hearing_head v r else r
 
 abbrev pub host_ring : (HostQueue → ℕ) → Bench → ℕ → ℕ
 host_ring f b q = option_map_or f (host_queue (world_of b) q) 0
 
 abbrev pub ring_full_at : ℕ → DeviceRing → Bool
-ring_full_at n r = (r.cq_tail + 1) % n == r.cq_head
+ring_full_at n r = is_full n r.known_head r.tail
 
 abbrev pub cq_page : Bench → ℕ → ℕ
-cq_page b q = option_map_or (λ queue. slot_page queue.cq_pages 16 (ring_of b q).cq_tail) (host_queue (world_of b) q) 0
-
-abbrev pub entry_at : Pages → ℕ → ℕ → Option SubEntry
-entry_at m page k = option_map submission_of (slot_bytes m (page ∷ []) 64 k)
+cq_page b q = option_map_or (λ queue. slot_page queue.cq_pages 16 (ring_of b q).tail) (host_queue (world_of b) q) 0
 
 abbrev pub post : ℕ → ℕ → Status → ℕ → Bench → Bench
 post q cid st dw0 b =
     let r = ring_of b q in
-    let n = (world_of b).entries in
-    let e : ComEntry = record { dw0 = dw0; sqhd = r.sq_head; sqid = q; cid = cid; phase = r.phase; status = st } in
-    on_ring_of q (λ x. record x { cq_tail = (x.cq_tail + 1) % n; phase = if x.cq_tail + 1 == n then not x.phase else x.phase })
-    (with_world (on_memory (λ m. with_page_bytes m (cq_page b q) (slot_offset 16 r.cq_tail) (completion_bytes e))) b)
+    let e : ComEntry = record { dw0 = dw0; sqhd = r.head; sqid = q; cid = cid; phase = r.phase; status = st } in
+    on_ring_of q (answer_posted (world_of b).entries)
+    (with_world (on_memory (λ m. with_page_bytes m (cq_page b q) (slot_offset 16 r.tail) (completion_bytes e))) b)
 
 abbrev pub refuse : Bench → Refusal → Bench × Said
 refuse b why = (b, script.refused why)
 
 abbrev pub fetched_entry : ℕ → ℕ → SubEntry → Bench → Bench × Said
 fetched_entry q page e b =
-    let taken = on_ring_of q (λ r. record r { sq_head = (r.sq_head + 1) % (world_of b).entries }) b in
+    let taken = on_ring_of q (entry_taken (world_of b).entries) b in
     if is_some (job_at (world_of b) q e.cid)
     then (if ring_full_at (world_of b).entries (ring_of b q) then refuse b events.Full
     else if not (is_in (world_of b).memory (cq_page b q)) then refuse b events.SlotOut
@@ -91,8 +77,8 @@ fetched_entry q page e b =
 abbrev pub fetch_exactly : (page : ℕ) → Bench → ℕ → Bench × Said
 fetch_exactly page b q =
     let r = ring_of b q in
-    if not (option_map_or (λ at. is_running at.state) (device_queue (world_of b) q) false) || (r.sq_head == r.sq_tail) then refuse b events.Idle
-    else option_map_or (λ e. fetched_entry q page e b) (entry_at (world_of b).memory page r.sq_head) (refuse b events.SlotOut)
+    if not (option_map_or (λ at. is_running at.state) (device_queue (world_of b) q) false) || (r.head == r.bell) then refuse b events.Idle
+    else option_map_or (λ e. fetched_entry q page e b) (entry_at (memory_of (world_of b).memory) page r.head) (refuse b events.SlotOut)
 
 abbrev pub complete_exactly : Bench → ℕ → ℕ → Job → Bench × Said
 complete_exactly b q cid j =
@@ -102,7 +88,7 @@ complete_exactly b q cid j =
     else if ring_full_at s.entries (ring_of b q) then refuse b events.Full
     else if not (is_in s.memory (cq_page b q)) then refuse b events.SlotOut
     else (let st = final_status s j in (
-      post q cid st j.dw0 (with_world (λ w. deletion_done j st (on_device (λ d. record d { image = image_completed j st d.image }) (without_job q cid w))) b),
+      post q cid st j.dw0 (with_world (λ w. deletion_done j st (on_device (λ d. record d { image = image_completed j d.image }) (without_job q cid w))) b),
       script.completed (cq_page b q ∷ []),
     ))
 

@@ -1,7 +1,6 @@
 -- Scripts, played: the choices are the lowest free identifier and the lowest free pages, and drafts, tickets and finished commands are kept beside the machine.
 use Rattle.std.specs.Prelude.{ℕ, zero, suc, ◌+◌, ◌-◌, ◌==◌, Bool, true, false, nat_lt, ◌&&◌, not, Option, Some, None, List, [], ◌∷◌, ◌++◌, length, map, take, drop, replicate, filter, find, sum_by, option_and_then, if◌then◌else◌}
 use Rattle.std.specs.Option.{option_map_or, option_map}
-use Rattle.machine_model.specs.Building.{laid, io_entry}
 use Rattle.machine_model.specs.State.{State, record_at, outstanding_on, Job}
 use Rattle.machine_model.specs.Opening.{opening}
 use Rattle.machine_model.specs.After.{after, next_unit, next_answer}
@@ -12,10 +11,9 @@ use Rattle.page_ledger.specs.Owners.{is_among, pages_from}
 use Rattle.controller_walk.specs.Units.{touched as pages_touched}
 use Rattle.machine_model.specs.Touch.{stays_allowed, stays_own}
 use Rattle.controller_walk.specs.declared.walk.WalkState.{WalkState}
-use Rattle.sgl_chain.specs.Chains.{first_of, segments_on, pages_needed}
-use Rattle.sgl_descriptor.specs.Spelling.{spelling}
+use Rattle.sgl_chain.specs.Chains.{pages_needed}
 use Rattle.io_commands.specs.Values.{FinishedContents, numbers_of, gathered_from}
-use Rattle.io_commands.specs.Requests.{data_count, first_passing, parts_of}
+use Rattle.io_commands.specs.Requests.{data_count, first_passing}
 use Rattle.io_commands.specs.DataBytes.{data_length, filled}
 use Rattle.io_commands.specs.declared.request.Request.{Request}
 use Rattle.io_commands.specs.declared.request.Piece.{Piece}
@@ -25,7 +23,10 @@ use Rattle.page_memory.specs.Pages.{zero_page, page_at}
 use Rattle.entry_codec.specs.declared.status.Status.{Status}
 use Rattle.machine_model.specs.Refusals.{refusal_of, next_rung, job_at, post_page}
 use Rattle.machine_model.specs.Events as events
-use Rattle.machine_model.specs.Events.{Event, Reply, Draft, Refusal, Reaped}
+use Rattle.io_commands.specs.Drafts.{DraftContents, built}
+use Rattle.io_commands.specs.declared.draft.FillFault.{FillFault}
+use Rattle.io_commands.specs.declared.draft.FillFault.TheVariants.{NotASource, WrongLength}
+use Rattle.machine_model.specs.Events.{Event, Reply, Refusal, Reaped}
 
 -- A script's lines
 
@@ -51,10 +52,6 @@ pub data Line : Type 0 where
 
 -- What a line prints. A reserve shows its pages where the printed line has their numbers
 
-pub data FillFault : Type 0 where
-  NotASource : FillFault
-  WrongLength : FillFault
-
 pub data Said : Type 0 where
   not_filled : FillFault → Said
   ok : Said
@@ -72,7 +69,7 @@ pub data Said : Type 0 where
 
 pub record Table : Type 0 where
   pub world : State
-  pub drafts : List Draft
+  pub drafts : List DraftContents
   pub tickets : List (ℕ × ℕ)
   pub finished : List FinishedContents
 
@@ -88,7 +85,7 @@ lowest_of used (n ∷ ns) = if is_among used n then lowest_of used ns else n
 abbrev pub zeros_at : List ℕ → List (ℕ × List ℕ)
 zeros_at pages = map (λ p. (p, zero_page)) pages
 
-abbrev pub chosen : State → ℕ → Request → Draft
+abbrev pub chosen : State → ℕ → Request → DraftContents
 chosen s q r =
     let count = data_count r.pieces in
     record {
@@ -97,6 +94,7 @@ chosen s q r =
       request = r;
       data_pages = zeros_at (take count s.host.free);
       chain_pages = zeros_at (take (pages_needed (length r.pieces) s.segment) (drop count s.host.free));
+      segment = s.segment;
       entry = None;
     }
 
@@ -107,27 +105,18 @@ is_source Read = false
 is_source Write = true
 is_source Compare = true
 
-abbrev pub filled_draft : List ℕ → Draft → Draft
+abbrev pub filled_draft : List ℕ → DraftContents → DraftContents
 filled_draft bytes d =
     let whole = sum_by data_length d.request.pieces in
     record d { data_pages = filled d.request.pieces d.data_pages (bytes ++ replicate (whole - length bytes) 0) }
 
 -- bytes that are too few are padded
-abbrev pub fill_fault : List ℕ → Draft → Option FillFault
+abbrev pub fill_fault : List ℕ → DraftContents → Option FillFault
 fill_fault bytes d =
     first_passing (
     (not (is_source d.request.kind), NotASource)
     ∷ (nat_lt (sum_by data_length d.request.pieces) (length bytes), WrongLength)
     ∷ [])
-
-abbrev pub built : ℕ → Draft → Draft
-built s d =
-    let parts = parts_of d.request.pieces (numbers_of d.data_pages) in
-    let chain = numbers_of d.chain_pages in
-    record d {
-      chain_pages = laid (segments_on s chain parts) d.chain_pages;
-      entry = Some (io_entry d.cid d.request (spelling (first_of s chain parts)));
-    }
 
 -- maximal runs of equal bytes
 abbrev pub runs_from : ℕ → ℕ → List ℕ → List (ℕ × ℕ)
@@ -140,7 +129,7 @@ runs (b ∷ bs) = runs_from b 1 bs
 
 -- Kept values
 
-abbrev pub draft_at : ℕ → ℕ → List Draft → Option Draft
+abbrev pub draft_at : ℕ → ℕ → List DraftContents → Option DraftContents
 draft_at q cid drafts = find (λ d. (d.q == q) && (d.cid == cid)) drafts
 
 abbrev pub is_ticket : ℕ → ℕ → ℕ × ℕ → Bool
@@ -152,7 +141,7 @@ without_ticket q cid tickets = filter (λ ticket. not (is_ticket q cid ticket)) 
 abbrev pub finished_at : ℕ → ℕ → List FinishedContents → Option FinishedContents
 finished_at q cid fs = find (λ f. (f.q == q) && (f.cid == cid)) fs
 
-abbrev pub without_draft : ℕ → ℕ → List Draft → List Draft
+abbrev pub without_draft : ℕ → ℕ → List DraftContents → List DraftContents
 without_draft q cid drafts = filter (λ d. not ((d.q == q) && (d.cid == cid))) drafts
 
 abbrev pub without_finished : ℕ → ℕ → List FinishedContents → List FinishedContents
@@ -179,7 +168,7 @@ stepped t e reply words keep =
 abbrev pub same_table : Table → Table
 same_table t = t
 
-abbrev pub with_draft : Option Draft → (Draft → Table × Said × Option Made) → Table → Table × Said × Option Made
+abbrev pub with_draft : Option DraftContents → (DraftContents → Table × Said × Option Made) → Table → Table × Said × Option Made
 with_draft None f t = (t, no_value, None)
 with_draft (Some d) f t = f d
 
@@ -199,7 +188,7 @@ line t (fill q cid bytes) =
       | None ↦ (record t { drafts = filled_draft bytes d ∷ without_draft q cid t.drafts }, ok, None)
     ]) t
 line t (build q cid) =
-    with_draft (draft_at q cid t.drafts) (λ d. (record t { drafts = built t.world.segment d ∷ without_draft q cid t.drafts }, ok, None)) t
+    with_draft (draft_at q cid t.drafts) (λ d. (record t { drafts = built d ∷ without_draft q cid t.drafts }, ok, None)) t
 line t (submit q cid) =
     with_draft (draft_at q cid t.drafts) (λ d. stepped t (events.Submit d) events.Accepted ok (λ t'. record t' { drafts = without_draft q cid t'.drafts; tickets = (q, cid) ∷ t'.tickets })) t
 line t (cancel q cid) =

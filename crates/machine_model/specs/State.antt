@@ -5,13 +5,11 @@ use Rattle.entry_codec.specs.declared.submission.SubEntry.{SubEntry}
 use Rattle.page_memory.specs.Pages.{Pages}
 use Rattle.entry_codec.specs.declared.status.Status.{Status}
 use Rattle.machine_model.specs.Commands.{Work}
-
--- how far a command has come at the host
-pub data Phase : Type 0 where
-  Drafted : Phase
-  Submitted : Phase
-  Held : Phase
-  Collected : Phase
+pub use Rattle.machine_model.specs.declared.words.Phase.{Phase}
+pub use Rattle.machine_model.specs.declared.words.Phase.TheVariants.{Drafted, Submitted, Held, Collected}
+pub use Rattle.machine_model.specs.declared.words.HostState.{HostState}
+pub use Rattle.machine_model.specs.declared.words.HostState.TheVariants.{Live, Deleting, Retired, Gone}
+use Rattle.queue_pair.specs.Rings.{HostRing}
 
 -- an outstanding command. One of queue 0 owns no page and is submitted from its sending on
 pub record Record : Type 0 where
@@ -22,20 +20,6 @@ pub record Record : Type 0 where
   pub data_pages : List ℕ
   pub chain_pages : List ℕ
   pub status : Option Status
-
--- what the host knows of a queue. The flag of Deleting: a successful deletion of the submission queue was reaped
-pub data HostState : Type 0 where
-  Live : HostState
-  Deleting : (noted : Bool) → HostState
-  Retired : HostState
-  Gone : HostState
-
--- the host's side of a queue's two rings
-pub record HostRing : Type 0 where
-  pub head : ℕ
-  pub phase : Bool
-  pub known_head : ℕ
-  pub tail : ℕ
 
 -- a completion that was posted and not reaped
 pub record Answer : Type 0 where

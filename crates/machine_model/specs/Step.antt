@@ -1,5 +1,5 @@
 -- One step of the machine, and a run of them.
-use Rattle.std.specs.Prelude.{◌≡◌, ℕ, ◌+◌, ◌-◌, ◌%◌, ◌<◌, ◌==◌, nat_lt, nat_le, Bool, true, false, ◌&&◌, ◌||◌, not, Option, Some, None, List, [], ◌∷◌, ◌++◌, length, map, is_some, option_and_then, IsTrue, MatchBool, if◌then◌else◌, All}
+use Rattle.std.specs.Prelude.{◌≡◌, ℕ, ◌+◌, ◌-◌, ◌<◌, ◌==◌, Bool, true, false, ◌&&◌, ◌||◌, not, Option, Some, None, List, [], ◌∷◌, ◌++◌, length, map, is_some, option_and_then, IsTrue, MatchBool, if◌then◌else◌, All}
 use Rattle.std.specs.Option.{option_map, option_map_or}
 use Rattle.page_ledger.specs.Owners.{is_among}
 use Rattle.controller_walk.specs.Units.{Act, touched}
@@ -9,15 +9,17 @@ use Rattle.io_commands.specs.Values.{FinishedContents, numbers_of}
 use Rattle.io_commands.specs.Requests.{data_count}
 use Rattle.entry_codec.specs.declared.completion.ComEntry.{ComEntry}
 use Rattle.io_commands.specs.declared.request.Request.{Request}
-use Rattle.page_memory.specs.Pages.{Pages, page_at, zero_page}
+use Rattle.page_memory.specs.Pages.{Pages, page_at, zero_page, AreWhole}
 use Rattle.machine_model.specs.Memory.{is_in}
-use Rattle.machine_model.specs.Proper.{IsProper, HoldBytes, HoldWholePages}
+use Rattle.machine_model.specs.Proper.{IsProper}
 use Rattle.machine_model.specs.Commands.{Work, Io, Management}
-use Rattle.machine_model.specs.State.{State, Host, HostRing, Record, record_at, outstanding_on, Job}
+use Rattle.machine_model.specs.State.{State, Host, Record, record_at, outstanding_on, Job}
 use Rattle.machine_model.specs.Refusals.{refusal_of, seen_entry, host_queue, conflicts, fetch_page, post_page, next_rung, job_at, is_submitted}
 use Rattle.machine_model.specs.After.{after, next_unit, next_answer}
 use Rattle.machine_model.specs.Events as events
-use Rattle.machine_model.specs.Events.{Event, Reply, Refusal, Draft, Reaped}
+use Rattle.io_commands.specs.Drafts.{DraftContents}
+use Rattle.machine_model.specs.Events.{Event, Reply, Refusal, Reaped}
+use Rattle.queue_pair.specs.Slots.{is_in_range}
 
 -- What may be chosen
 
@@ -37,9 +39,10 @@ pub record IsNewIdentifier (s : State) (q cid : ℕ) : Type 0 where
 abbrev pub zeroed : List (ℕ × List ℕ) → Type 0
 zeroed pages = All (λ page. page.1 ≡ zero_page) pages
 
-pub record IsReserved (s : State) (q : ℕ) (r : Request) (d : Draft) : Type 0 where
+pub record IsReserved (s : State) (q : ℕ) (r : Request) (d : DraftContents) : Type 0 where
   pub queue : d.q ≡ q
   pub request : d.request ≡ r
+  pub segment : d.segment ≡ s.segment
   pub identifier : IsNewIdentifier s q d.cid
   pub data_pages : length d.data_pages ≡ data_count r.pieces
   pub chain_pages : length d.chain_pages ≡ pages_needed (length r.pieces) s.segment
@@ -49,16 +52,13 @@ pub record IsReserved (s : State) (q : ℕ) (r : Request) (d : Draft) : Type 0 w
 
 -- What a reap finds
 
--- from the known head to the tail, in ring order
-abbrev pub head_fits : ℕ → HostRing → ℕ → Bool
-head_fits n ring head = nat_lt head n && nat_le ((head + n - ring.known_head) % n) ((ring.tail + n - ring.known_head) % n)
-
 abbrev pub reaped_as : ℕ → ComEntry → Work → Reaped
 reaped_as q e (Io r) = events.Done e.cid e.status
 reaped_as q e (Management a) = events.AdminDone e.cid e.status e.dw0
 
+-- its head pointer lies from the known head to the tail, in ring order
 abbrev pub fits_ring : State → ℕ → ComEntry → Bool
-fits_ring s q e = option_map_or (λ queue. head_fits s.entries queue.ring e.sqhd) (host_queue s q) false
+fits_ring s q e = option_map_or (λ queue. is_in_range s.entries queue.ring.known_head queue.ring.tail e.sqhd) (host_queue s q) false
 
 abbrev pub submitted_at : State → ℕ → ℕ → Option Record
 submitted_at s q cid = option_map_or (λ r. if is_submitted r.phase then Some r else None) (record_at s.host q cid) None
@@ -188,13 +188,12 @@ host_part s = record { entries = s.entries; segment = s.segment; in_store = map 
 -- whatever was forged, the image keeps its length, and each queue its place at the controller
 pub record KeepsDevice (old new : State) : Type 0 where
   pub image : length new.device.image ≡ length old.device.image
-  pub image_bytes : HoldBytes new.device.image
   pub queues : length new.device.queues ≡ length old.device.queues
 
 -- what an event of the controller leaves after a forged entry: other bytes in pages that are in, at most; such a page holds 4,096
 pub record LeavesByController (old next new : State) : Type 0 where
   pub part : host_part new ≡ host_part next
-  pub pages : HoldWholePages new.memory
+  pub pages : AreWhole new.memory
   pub device : KeepsDevice old new
 
 -- and what any other event leaves then: the memory that is due, so that a host sees what was forged and what the controller wrote
@@ -203,10 +202,14 @@ pub record LeavesByHost (old next new : State) : Type 0 where
   pub memory : new.memory ≡ next.memory
   pub device : KeepsDevice old new
 
--- the state that a reply leads to: exactly one where nothing was forged, else one with its host's part
+abbrev pub forges : Event → Bool
+forges (events.Forge q slot bytes) = true
+forges e = false
+
+-- the state that a reply leads to: exactly one where nothing was or is forged, else one with its host's part
 abbrev pub Leaves : State → Event → Reply → State → Type 0
 Leaves s e (events.Refused why touched) new = new ≡ s
-Leaves s e reply new = MatchBool s.trusted (new ≡ after s e reply) (MatchBool (IsController e) (LeavesByController s (after s e reply) new) (LeavesByHost s (after s e reply) new))
+Leaves s e reply new = MatchBool (not (forges e) && s.trusted) (new ≡ after s e reply) (MatchBool (IsController e) (LeavesByController s (after s e reply) new) (LeavesByHost s (after s e reply) new))
 
 abbrev pub Step : State → Event → Reply → State → Type 0
-Step old e reply new = IsProper (length old.memory) e × Permits old e reply × Leaves old e reply new
+Step old e reply new = IsProper e × Permits old e reply × Leaves old e reply new

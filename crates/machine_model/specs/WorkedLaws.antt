@@ -1,5 +1,5 @@
 -- What worked runs show of the laws: the image of a run, chains that spell their parts, entries read back.
-use Rattle.std.specs.Prelude.{ℕ, List, [], ◌∷◌, map, replicate, take, drop, slice_index}
+use Rattle.std.specs.Prelude.{ℕ, Option, MatchOption, List, [], ◌∷◌, map, replicate, take, drop, slice_index}
 use Rattle.std.specs.Option.{option_map, option_map_or}
 use Rattle.controller_walk.specs.declared.walk.WalkState.TheVariants.{More, End}
 use Rattle.sgl_descriptor.specs.declared.Part.{Part}
@@ -11,14 +11,19 @@ use Rattle.entry_codec.specs.declared.submission.SubEntry.{SubEntry}
 use Rattle.io_commands.specs.declared.request.Piece.TheVariants.{Data, Bucket}
 use Rattle.io_commands.specs.declared.request.Kind.TheVariants.{Read}
 use Rattle.sgl_descriptor.specs.declared.Part.TheVariants as parts
-use Rattle.machine_model.specs.Building.{io_entry}
 use Rattle.sgl_chain.specs.Chains.{parts_from}
-use Rattle.machine_model.specs.Image.{image_after, read_of}
+use Rattle.io_commands.specs.Drafts.{DraftContents, IsDraft, io_entry, built}
+use Rattle.machine_model.specs.Image.{image_after, read_of, draft_of}
+use Rattle.machine_model.specs.Laws.{drafts_of}
 use Rattle.machine_model.specs.Events as events
-use Rattle.machine_model.specs.Events.{Draft}
-use Rattle.machine_model.specs.Script.{Table, Line, Said, table, defaults, left_by, made_by, built, walks, reserve, build, submit, ring, fetch, walk, complete, reap, ok, fetched, walked, completed, reaps, refused}
+use Rattle.machine_model.specs.Script.{collect, release, delete_sq, retire, draft_at, Table, Line, Said, table, defaults, left_by, made_by, walks, reserve, build, submit, ring, fetch, walk, complete, reap, ok, fetched, walked, completed, reaps, refused}
 use Rattle.machine_model.specs.Opening.{opening}
 use Rattle.machine_model.specs.WorkedReads.{ordinary, first_write}
+use Rattle.machine_model.specs.WorkedChains.{small_segments, two_segments}
+use Rattle.sgl_chain.specs.Spells.{Spells}
+use Rattle.page_memory.specs.Pages.{byte_at}
+use Rattle.machine_model.specs.State.{State}
+use Rattle.machine_model.specs.Step.{Answers}
 
 -- the first Write, over eight blocks
 abbrev pub eight_blocks : Table
@@ -39,6 +44,24 @@ segments_of_three = (DataBlock 16384 512 ∷ LastSegment 32768 32 ∷ []) ∷ (D
 abbrev pub parts_spelled : List Part
 parts_spelled = parts_from (Segment 28672 32) segments_of_three
 
+-- its draft, once built, is one as its type keeps it
+abbrev pub built_of_three : Option DraftContents
+built_of_three = draft_at 1 0 (left_by small_segments (take 2 two_segments)).drafts
+
+abbrev pub IsBuiltOfThree : Type 0
+IsBuiltOfThree = MatchOption built_of_three ⊥ IsDraft
+
+-- and the segments stand in the memory that its run leaves, so that the entry's descriptor spells its parts
+abbrev pub SegmentsNamed : Type 0
+SegmentsNamed = Spells (byte_at (left_by small_segments two_segments).world.memory) (Segment 28672 32) three_parts
+
+-- in that run, the pages that the walk's second step may say it touched
+abbrev pub walking : State
+walking = (left_by small_segments (take 6 two_segments)).world
+
+abbrev pub SecondStepTouches : List ℕ → Type 0
+SecondStepTouches pages = Answers walking (events.Walk 1 0) (events.Walked More pages)
+
 -- the second block is discarded
 abbrev pub read_with_bucket : List ℕ
 read_with_bucket = read_of (record { kind = Read; slba = 0; blocks = 2; pieces = Data 0 512 ∷ Bucket 512 ∷ [] }) (4 ∷ []) (replicate 32768 0)
@@ -56,7 +79,7 @@ renamed e = record e { cid = 77 }
 abbrev pub one_built : Table
 one_built = left_by ordinary (reserve 1 Read 0 1 (Data 0 512 ∷ []) ∷ build 1 0 ∷ [])
 
-abbrev pub renamed_draft : Draft → Draft
+abbrev pub renamed_draft : DraftContents → DraftContents
 renamed_draft d = record d { entry = option_map renamed d.entry }
 
 abbrev pub one_renamed : Table
@@ -72,10 +95,13 @@ renamed_said = ok ∷ ok ∷ fetched 77 (2 ∷ []) ∷ walked More [] ∷ walked
 abbrev pub four_each : Table
 four_each = left_by (defaults 16 1 4 4) (reserve 1 Read 0 5 (Data 0 512 ∷ Data 0 512 ∷ Data 0 512 ∷ Data 0 512 ∷ Data 0 512 ∷ []) ∷ [])
 
-abbrev pub made_anew : Table
-made_anew = record four_each { drafts = map (built 3) four_each.drafts }
+abbrev pub built_by_three : DraftContents → DraftContents
+built_by_three d = built (record d { segment = 3 })
 
-abbrev pub length_named : Draft → ℕ
+abbrev pub made_anew : Table
+made_anew = record four_each { drafts = map built_by_three four_each.drafts }
+
+abbrev pub length_named : DraftContents → ℕ
 length_named d = option_map_or (λ e. slice_index e.sgl1 8) d.entry 0
 
 abbrev pub lengths : Table → List ℕ
@@ -90,3 +116,19 @@ anew_said =
     ∷ walked More (9 ∷ []) ∷ walked More (4 ∷ []) ∷ walked More (9 ∷ []) ∷ walked More (5 ∷ []) ∷ walked More (9 ∷ [])
     ∷ walked More (10 ∷ []) ∷ walked More (6 ∷ []) ∷ walked More (10 ∷ []) ∷ walked More (7 ∷ []) ∷ walked More (10 ∷ []) ∷ walked End (8 ∷ [])
     ∷ refused events.Nothing ∷ []
+
+-- A Read of two blocks that was never fetched, behind one of a single block with its identifier, which was: the draft as it was
+-- submitted before that fetch isn't its own. Its queue is deleted, and it is collected as its own draft left it.
+abbrev pub never_fetched : List Line
+never_fetched =
+    reserve 1 Read 0 1 (Data 0 512 ∷ []) ∷ build 1 0 ∷ submit 1 0 ∷ ring 1 ∷ fetch 1 ∷ walk 1 0 ∷ walk 1 0 ∷ complete 1 0 ∷ reap 1 ∷ collect 1 0 ∷ release 1 0
+    ∷ reserve 1 Read 0 2 (Data 0 512 ∷ Data 0 512 ∷ []) ∷ build 1 0 ∷ submit 1 0
+    ∷ delete_sq 1 ∷ ring 0 ∷ fetch 0 ∷ complete 0 0 ∷ reap 0 ∷ retire 1 ∷ collect 1 0 ∷ []
+
+abbrev pub one_block : Table
+one_block = table (opening 8 1 4 256 (replicate 512 0))
+
+-- how many blocks the latest draft of its identifier is for, of those that so many lines submitted
+abbrev pub blocks_drafted : ℕ → List ℕ
+blocks_drafted lines =
+    option_map_or (λ d. d.request.blocks ∷ []) (draft_of 1 0 (drafts_of (made_by one_block (take lines never_fetched)))) []

@@ -4,7 +4,7 @@ use Rattle.machine_model.specs.State.{State}
 use Rattle.machine_model.specs.Events as events
 use Rattle.machine_model.specs.Script.{Line, Said, Table, defaults, walks, reserve, build, submit, ring, fetch, complete, reap, collect, release, abort, ok, reserved, fetched, walked, completed, reaps, held, sent, refused}
 use Rattle.std.specs.List.{list_all, list_any}
-use Rattle.page_ledger.specs.Owners.{is_among}
+use Rattle.page_ledger.specs.Owners.{is_among, pages_from}
 use Rattle.page_ledger.specs.Counting.{total}
 use Rattle.controller_walk.specs.declared.walk.WalkState.TheVariants.{More, End}
 use Rattle.io_commands.specs.declared.request.Piece.TheVariants.{Data}
@@ -13,7 +13,6 @@ use Rattle.entry_codec.specs.declared.status.TheConstants.Status.{SUCCESS}
 use Rattle.machine_model.specs.State.{Host, outstanding_on, pages_of}
 use Rattle.machine_model.specs.Memory.{is_in}
 use Rattle.machine_model.specs.Refusals.{deletes_sq_of, is_asked, in_state}
-use Rattle.machine_model.specs.After.{upto}
 use Rattle.machine_model.specs.Step.{times}
 use Rattle.machine_model.specs.Claims.{claims_of, is_away, counts_of}
 use Rattle.machine_model.specs.Image.{Made}
@@ -30,11 +29,11 @@ same_bool false b = not b
 
 abbrev pub is_sound : State → Bool
 is_sound s =
-    let pages = upto (length s.memory) in
+    let pages = pages_from 0 (length s.memory) in
     list_all (λ p. times p (claimed_pages s.host) == 1) pages && (length (claimed_pages s.host) == length s.memory)
     && (total (counts_of s.host) == length s.memory)
-    && list_all (λ q. one_each (outstanding_on s.host q)) (upto (length s.host.queues))
-    && list_all (λ q. length (filter (λ r. deletes_sq_of q r.work) s.host.records) == (if in_state is_asked s q then 1 else 0)) (upto (length s.host.queues))
+    && list_all (λ q. one_each (outstanding_on s.host q)) (pages_from 0 (length s.host.queues))
+    && list_all (λ q. length (filter (λ r. deletes_sq_of q r.work) s.host.records) == (if in_state is_asked s q then 1 else 0)) (pages_from 0 (length s.host.queues))
     && list_all (λ p. same_bool (is_in s.memory p) (not (list_any (λ r. is_away r && is_among (pages_of r) p) s.host.records))) pages
 
 abbrev pub all_sound : List Made → Bool
@@ -55,6 +54,10 @@ turn =
 
 abbrev pub turns : List Line
 turns = turn ++ turn ++ turn
+
+-- in the second turn one completion stands in the last slot and one in the first, written before the host has come round
+abbrev pub two_turns : List Line
+two_turns = turn ++ turn
 
 abbrev pub said_turn : List Said
 said_turn =

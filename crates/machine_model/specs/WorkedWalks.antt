@@ -1,8 +1,8 @@
--- Worked walks over a store of 8 pages.
-use Rattle.std.specs.Prelude.{ℕ, slice_set, ◌*◌, Some, None, List, [], ◌∷◌, ◌++◌, replicate, map, take, drop}
+-- Worked walks over a store of 8 pages, beside those of controller_walk.
+use Rattle.std.specs.Prelude.{ℕ, slice_set, Some, None, List, [], ◌∷◌, replicate, take, drop}
 use Rattle.machine_model.specs.Memory.{memory_of}
 use Rattle.controller_walk.specs.Walks.{answer}
-use Rattle.controller_walk.specs.Units.{Act, Stays, Reads, Moves, Course, Closes, Does, course_of_list, units, touched, after_read, entry_cursor, rest_of}
+use Rattle.controller_walk.specs.Units.{Stays, Course, Closes, Does, course_of_list, touched, after_read, entry_cursor, rest_of}
 use Rattle.sgl_descriptor.specs.declared.Direction.TheVariants.{Destination, Source}
 use Rattle.controller_walk.specs.declared.walk.WalkState.TheVariants.{More, End, Fault}
 use Rattle.controller_walk.specs.declared.walk.WalkState.{WalkState}
@@ -10,14 +10,10 @@ use Rattle.sgl_descriptor.specs.Spelling.{spelling, descriptor_of}
 use Rattle.sgl_descriptor.specs.declared.Descriptor.TheVariants.{DataBlock, BitBucket, Segment, LastSegment}
 use Rattle.sgl_descriptor.specs.declared.Descriptor.{Descriptor}
 use Rattle.page_memory.specs.Pages.{Pages, zero_page, with_page_bytes}
-use Rattle.entry_codec.specs.declared.status.TheConstants.Status.{DATA_SGL_LENGTH_INVALID, DATA_TRANSFER_ERROR, INVALID_SGL_COUNT, INVALID_SGL_SEGMENT, SGL_TYPE_INVALID}
+use Rattle.entry_codec.specs.declared.status.TheConstants.Status.{DATA_SGL_LENGTH_INVALID, DATA_TRANSFER_ERROR, INVALID_SGL_COUNT, INVALID_SGL_SEGMENT}
 
 abbrev pub store : Pages
 store = replicate 8 (Some zero_page)
-
-abbrev pub store_with : List Descriptor → Pages
-store_with [] = store
-store_with (d ∷ ds) = with_page_bytes (store_with ds) 1 (16 * 0) (spelling d)
 
 -- two descriptors at 1000h
 abbrev pub two_at : Descriptor → Descriptor → Pages
@@ -28,12 +24,6 @@ abbrev pub outcomes : Course → List (WalkState × List ℕ)
 outcomes (Closes v) = []
 outcomes (Does a rest) = (answer rest, touched a) ∷ outcomes rest
 
--- the number of bytes that a unit moves
-abbrev pub moved_count : Act → ℕ
-moved_count Stays = 0
-moved_count (Reads place) = 0
-moved_count (Moves place n offset) = n
-
 abbrev pub walk_of : Pages → List ℕ → ℕ → List (WalkState × List ℕ)
 walk_of m sgl1 need = outcomes (course_of_list (memory_of m) sgl1 Destination need)
 
@@ -42,61 +32,19 @@ abbrev pub short_walk_of : ℕ → Pages → List ℕ → ℕ → List (WalkStat
 short_walk_of more m sgl1 need =
     outcomes (Does Stays (after_read (memory_of m) Destination need entry_cursor need (rest_of more (memory_of m) Destination need) (descriptor_of sgl1)))
 
-abbrev pub block_and_link : Pages
-block_and_link = two_at (DataBlock 8192 512) (Segment 12288 16)
-
-abbrev pub link_in_last_segment : List (WalkState × List ℕ)
-link_in_last_segment = walk_of block_and_link (spelling (LastSegment 4096 32)) 1024
-
-abbrev pub link_in_last_segment_said : List (WalkState × List ℕ)
-link_in_last_segment_said = (More, []) ∷ (More, 1 ∷ []) ∷ (More, 2 ∷ []) ∷ (Fault INVALID_SGL_SEGMENT, 1 ∷ []) ∷ []
-
-abbrev pub link_not_last : List (WalkState × List ℕ)
-link_not_last = walk_of block_and_link (spelling (Segment 4096 48)) 1024
-
-abbrev pub link_not_last_said : List (WalkState × List ℕ)
-link_not_last_said = (More, []) ∷ (More, 1 ∷ []) ∷ (More, 2 ∷ []) ∷ (Fault INVALID_SGL_COUNT, 1 ∷ []) ∷ []
-
--- two types of no profile, an end above 2^64, a byte too few and one too many
-abbrev pub kind_byte : ℕ → List ℕ
-kind_byte b = replicate 15 0 ++ b ∷ []
-
-abbrev pub lone_descriptors : List (List (WalkState × List ℕ))
-lone_descriptors =
-    walk_of store (kind_byte 64) 512 ∷ walk_of store (kind_byte 1) 512
-    ∷ walk_of store (spelling (DataBlock 18446744073709551360 512)) 512
-    ∷ walk_of store (spelling (DataBlock 8192 511)) 512
-    ∷ walk_of store (spelling (DataBlock 8192 513)) 512 ∷ []
-
-abbrev pub lone_descriptors_said : List (List (WalkState × List ℕ))
-lone_descriptors_said =
-    ((Fault SGL_TYPE_INVALID, []) ∷ []) ∷ ((Fault SGL_TYPE_INVALID, []) ∷ [])
-    ∷ ((Fault DATA_SGL_LENGTH_INVALID, []) ∷ [])
-    ∷ ((More, []) ∷ (Fault DATA_SGL_LENGTH_INVALID, 2 ∷ []) ∷ [])
-    ∷ ((Fault DATA_SGL_LENGTH_INVALID, []) ∷ []) ∷ []
-
-abbrev pub short_block_moves : List ℕ
-short_block_moves = map moved_count (units (course_of_list (memory_of store) (spelling (DataBlock 8192 511)) Destination 512))
-
--- a segment that names itself, here with 50 descriptors for 4,096; and data beyond the pool
+-- a segment that names itself, here with 50 descriptors for 4,096
 abbrev pub circle : List (WalkState × List ℕ)
 circle = drop 48 (short_walk_of 49 (with_page_bytes store 1 0 (spelling (Segment 4096 16))) (spelling (Segment 4096 16)) 512)
 
 abbrev pub circle_said : List (WalkState × List ℕ)
 circle_said = (More, 1 ∷ []) ∷ (More, 1 ∷ []) ∷ (Fault INVALID_SGL_COUNT, []) ∷ []
 
-abbrev pub block_past_pool : List (WalkState × List ℕ)
-block_past_pool = walk_of store (spelling (DataBlock 32767 2)) 512
-
-abbrev pub block_past_pool_said : List (WalkState × List ℕ)
-block_past_pool_said = (More, []) ∷ (More, 7 ∷ []) ∷ (Fault DATA_TRANSFER_ERROR, []) ∷ []
-
--- more: a descriptor in two pages, one of them out; a zero-length block; a bucket of a source
-abbrev pub straddling : List ℕ → Pages
-straddling pages = with_page_bytes (with_page_bytes store 1 4088 (take 8 (spelling (DataBlock 8192 512)))) 2 0 (drop 8 (spelling (DataBlock 8192 512)))
+-- a descriptor in two pages; a zero-length block beyond the pool; a bucket of a source
+abbrev pub straddling : Pages
+straddling = with_page_bytes (with_page_bytes store 1 4088 (take 8 (spelling (DataBlock 8192 512)))) 2 0 (drop 8 (spelling (DataBlock 8192 512)))
 
 abbrev pub straddling_descriptor : List (WalkState × List ℕ)
-straddling_descriptor = walk_of (straddling []) (spelling (LastSegment 8184 16)) 512
+straddling_descriptor = walk_of straddling (spelling (LastSegment 8184 16)) 512
 
 abbrev pub straddling_descriptor_said : List (WalkState × List ℕ)
 straddling_descriptor_said = (More, []) ∷ (More, 1 ∷ 2 ∷ []) ∷ (End, 2 ∷ []) ∷ []
@@ -133,7 +81,7 @@ orders =
     -- j: the first of two pages is moved
     ∷ walk_of (pool_without_2 store) (spelling (DataBlock 8000 512)) 512
     -- b: one byte of a descriptor is unreadable, and no page of it is named
-    ∷ walk_of (pool_without_2 (straddling [])) (spelling (LastSegment 8184 16)) 512
+    ∷ walk_of (pool_without_2 straddling) (spelling (LastSegment 8184 16)) 512
     -- a bucket of a read counts, one byte too many
     ∷ walk_of store (spelling (BitBucket 512)) 512
     ∷ walk_of store (spelling (BitBucket 513)) 512

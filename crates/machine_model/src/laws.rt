@@ -1,8 +1,17 @@
 //! Laws of the machine, of every step and of every run. Each function does nothing.
 
+ghost use Rattle.machine_model.specs.Built.{built_drafts_spell_in_store};
 ghost use Rattle.machine_model.specs.Claims.{each_step_keeps, every_run_is_sound, every_run_takes_out, counts_add_up};
-ghost use Rattle.machine_model.specs.Memory.{walks_read_the_pool};
-ghost use Rattle.machine_model.specs.Laws.{admin_commands_stand_once, fetches_and_completions_stay_allowed, hosts_need_no_controller};
+ghost use Rattle.machine_model.specs.Histories.{openings_have_histories, steps_make_histories};
+ghost use Rattle.machine_model.specs.Linked.{trusted_worlds_are_linked};
+ghost use Rattle.machine_model.specs.Reached.{lists_keep_to_their_pages, lists_end_well};
+ghost use Rattle.machine_model.specs.Memory.{walks_read_the_pool, walks_go_as_in_the_pool};
+ghost use Rattle.machine_model.specs.Positions.{each_step_stays_in_rings, every_run_stays_in_rings};
+ghost use Rattle.machine_model.specs.Standing.{jobs_stand, jobs_keep_their_lists};
+ghost use Rattle.machine_model.specs.Laws.{admin_commands_stand_once, trusted_steps_stay_allowed, hosts_need_no_controller, chains_stand, chains_stay, rings_are_never_full, every_status_has_its_cause};
+ghost use Rattle.machine_model.specs.Slots.{entries_lie_in_pages, answers_lie_in_pages, entries_stand_in_memory, answers_stand_in_memory, entries_are_written, answers_are_written};
+
+use io_commands::laws::laws_of_built_drafts;
 
 /// Whatever a step does, forged entries or not: where each page had exactly one owner, each page has one again.
 ///
@@ -33,6 +42,13 @@ pub fn law_of_forged_worlds()
     ensures { hosts_need_no_controller }
 {}
 
+/// The host's positions in its rings are slots of them: after every run from an opening, forged entries or not, and a step that
+/// begins so ends so.
+pub fn law_of_positions()
+    ensures steps { each_step_stays_in_rings }
+    ensures runs { every_run_stays_in_rings }
+{}
+
 /// Where nothing was forged, each admin command stands at the controller once, and only while it is outstanding.
 ///
 /// It is then not yet fetched, or a job, or answered.
@@ -40,14 +56,88 @@ pub fn law_of_places()
     ensures { admin_commands_stand_once }
 {}
 
-/// Where nothing was forged, each `fetch` and each `complete`, accepted or refused, touches only pages of its own queue.
+/// Where nothing was forged, each step of the controller, accepted or refused, touches only allowed pages.
 ///
-/// That queue is one that the controller has. A `walk` is not spoken of here.
+/// A `fetch` and a `complete` touch pages of their own queue, which the controller has, and a `walk` pages of its own
+/// command, which is a job.
 pub fn law_of_touches()
-    ensures { fetches_and_completions_stay_allowed }
+    ensures { trusted_steps_stay_allowed }
 {}
 
 /// The memory that a walk reads in the machine is the pool's, byte for byte, where each page that is in has its 4,096 bytes.
+///
+/// A list has the same course in both.
 pub fn law_of_memory()
-    ensures { walks_read_the_pool }
+    ensures memory { walks_read_the_pool }
+    ensures courses { walks_go_as_in_the_pool }
+{}
+
+/// A walk of a list whose segments lie in chain pages and spell parts that lie in data pages reads in the chain pages alone,
+/// and moves in the data pages alone.
+pub fn law_of_lists()
+    ensures { lists_keep_to_their_pages }
+{}
+
+/// A list whose parts are there, and count just the bytes that the command moves, ends without a fault, each part taken.
+pub fn law_of_ends()
+    ensures { lists_end_well }
+{}
+
+/// Where nothing was forged, each queue that the controller has, and each that has a job, stands at the host with its halves.
+pub fn law_of_links()
+    ensures { trusted_worlds_are_linked }
+{}
+
+/// An opening has a history, and each step that leaves a trusted state makes its history longer. So what holds of every trusted run
+/// holds of each state that steps lead to.
+pub fn law_of_histories()
+    ensures openings { openings_have_histories }
+    ensures steps { steps_make_histories }
+{}
+
+/// Where nothing was forged, the chain of each submitted command spells its parts, from the descriptor of its entry, and no
+/// step changes a byte of its chain pages.
+pub fn law_of_chains()
+    ensures stand { chains_stand }
+    ensures stay { chains_stay }
+{}
+
+/// Where nothing was forged, each job of an I/O queue is that of a submitted command, and its walk keeps to the command's
+/// pages and would end well.
+///
+/// A step that forges nothing and leaves the job there leaves its list the same list.
+pub fn law_of_jobs()
+    ensures stand { jobs_stand }
+    ensures keep { jobs_keep_their_lists }
+{}
+
+/// The slots of a queue, which the machine finds by the list of the queue's pages, are those that `queue_pair` finds in the memory
+/// from the first page on: their pages, their bytes, and what a post writes.
+pub fn law_of_slots()
+    ensures entry_pages { entries_lie_in_pages }
+    ensures answer_pages { answers_lie_in_pages }
+    ensures entries { entries_stand_in_memory }
+    ensures answers { answers_stand_in_memory }
+    ensures entries_written { entries_are_written }
+    ensures answers_written { answers_are_written }
+{}
+
+/// Once the chain pages of a built draft are in the store, the descriptor of its entry spells its parts there.
+pub fn law_of_built_drafts()
+    ensures { built_drafts_spell_in_store }
+{
+    laws_of_built_drafts();
+}
+
+/// Where nothing was forged no ring is full and no page of a queue is out, so no event is refused for want of room in a ring.
+pub fn law_of_room()
+    ensures { rings_are_never_full }
+{}
+
+/// Where nothing was forged, each status of an I/O command has its cause.
+///
+/// It is success; or an Abort of the command, or the deletion of its queue, fetched since the command was; or blocks beyond
+/// the image; or a Compare that found a difference.
+pub fn law_of_statuses()
+    ensures { every_status_has_its_cause }
 {}

@@ -1,7 +1,7 @@
 //! The machine, defined: host, memory and controller of this project as one state of lists, what each of its fifteen
 //! events may answer and leave, and laws of every run.
 //!
-//! There is no code here. Each public function has an empty body, and its clauses are what is proved: in [`laws`] laws of
+//! There is no code here but the types of [`words`]. Each public function has an empty body, and its clauses are what is proved: in [`laws`] laws of
 //! every step or run, in [`worked`] whole runs that are computed from the definitions. A reader begins with `docs/MACHINE.md`.
 //!
 //! - `specs/State.antt` is the state, `specs/Events.antt` the events, replies and refusals.
@@ -16,4 +16,5 @@
 #![tactic(auto)]
 
 pub mod laws;
+pub mod words;
 pub mod worked;

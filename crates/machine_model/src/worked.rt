@@ -36,12 +36,7 @@ pub fn worked_chains()
 
 /// Walks over lists in a store of eight pages: their answers and touched pages, and the order of the faults.
 pub fn worked_walks()
-    ensures link_in_last_segment { walks.link_in_last_segment ≡ walks.link_in_last_segment_said }
-    ensures link_not_last { walks.link_not_last ≡ walks.link_not_last_said }
-    ensures lone_descriptors { walks.lone_descriptors ≡ walks.lone_descriptors_said }
-    ensures short_block { walks.short_block_moves ≡ (0 ∷ 511 ∷ []) }
     ensures circle { walks.circle ≡ walks.circle_said }
-    ensures block_past_pool { walks.block_past_pool ≡ walks.block_past_pool_said }
     ensures straddling_descriptor { walks.straddling_descriptor ≡ walks.straddling_descriptor_said }
     ensures empty_block_and_bucket { walks.empty_block_and_bucket ≡ walks.empty_block_and_bucket_said }
     ensures orders { walks.orders ≡ walks.orders_said }
@@ -56,6 +51,7 @@ pub fn worked_queues()
     ensures first_completion { script.shown (left_by queues.two_entries queues.once) 3 0 16 ≡ queues.completion_in_slot 1 1 }
     ensures second_completion { script.shown (left_by (queues.turned_to queues.ring_after_one) queues.once) 3 16 16 ≡ queues.completion_in_slot 0 1 }
     ensures third_completion { script.shown (left_by (queues.turned_to queues.ring_after_two) queues.once) 3 0 16 ≡ queues.completion_in_slot 1 0 }
+    ensures wrapped_completion { script.shown (left_by sound.three_entries sound.two_turns) 3 0 16 ≡ queues.completion_in_slot 1 0 }
     ensures first_submission { script.shown (left_by queues.two_entries queues.once) 2 0 4 ≡ queues.first_word }
     ensures no_second_submission { script.shown (left_by queues.two_entries queues.once) 2 64 4 ≡ (0 ∷ 0 ∷ 0 ∷ 0 ∷ []) }
     ensures second_submission { script.shown (left_by (queues.turned_to queues.ring_after_one) queues.once) 2 64 4 ≡ queues.first_word }
@@ -104,12 +100,20 @@ pub fn worked_touches()
     ensures queue_deletion { all_allowed (made_by ordinary admin.queue_deletion) ≡ true }
 {}
 
+/// What a walk may answer: the page that its unit touches, which it can't leave out.
+pub fn worked_answers()
+    ensures touches { laws.SecondStepTouches (7 ∷ []) }
+    ensures touches_something { laws.SecondStepTouches [] → ⊥ }
+{}
+
 /// The image of a run with one Write, what a Read with a Bit Bucket gathers, and what the segments of three pieces spell.
 pub fn worked_images()
     ensures image { laws.image_of_first_write ≡ (0 ∷ 171 ∷ 205 ∷ 0 ∷ []) }
     ensures image_left { laws.image_left ≡ laws.image_of_first_write }
     ensures read_with_bucket { length laws.read_with_bucket ≡ 512 }
     ensures parts_spelled { laws.parts_spelled ≡ laws.three_parts }
+    ensures built_of_three { laws.IsBuiltOfThree }
+    ensures segments_named { laws.SegmentsNamed }
     ensures far_entry { laws.far_entry_read ≡ laws.far_entry }
 {}
 
@@ -120,6 +124,13 @@ pub fn worked_drafts()
     ensures anew_lengths { laws.lengths laws.made_anew ≡ (48 ∷ []) }
     ensures own_lengths { laws.lengths (left_by laws.four_each (build 1 0 ∷ [])) ≡ (64 ∷ []) }
     ensures anew { played laws.made_anew laws.anew_run ≡ laws.anew_said }
+{}
+
+/// A Read of two blocks that was never fetched, behind one of a single block with its identifier, which was: the latest draft
+/// before that fetch is not its own.
+pub fn worked_never_fetched()
+    ensures before_the_fetch { laws.blocks_drafted 4 ≡ (1 ∷ []) }
+    ensures before_the_collect { laws.blocks_drafted 20 ≡ (2 ∷ []) }
 {}
 
 /// The same machine with the controller's own rings: runs that a forged entry leaves open, and trusted ones.

@@ -1,0 +1,236 @@
+-- What of the controller's part and of memory each command's list hangs on, and how records change.
+use Rattle.std.proofs.Common.{◌≡◌, ℕ, zero, suc, ◌+◌, ◌-◌, ◌/◌, ◌%◌, ◌<◌, ◌≤◌, ◌==◌, nat_lt, Bool, true, false, not, ◌&&◌, ◌||◌, Option, Some, None, List, [], ◌∷◌, ◌++◌, length, map, filter, find, take, drop, slice_get, is_none, if◌then◌else◌, refl, ap, sym, ◌∙◌, arith, subst, eqb-true, eq-eqb}
+use Rattle.std.specs.Option.{option_map_or, option_and_then}
+use Rattle.std.specs.List.{AllByRecursion}
+use Rattle.std.proofs.lemmas.Bool.{true≢false, and_parts}
+use Rattle.controller_walk.specs.Units.{Act, Stays, Reads, Moves}
+use Rattle.sgl_descriptor.specs.declared.Direction.{Direction}
+use Rattle.sgl_descriptor.specs.declared.Direction.TheVariants.{Destination, Source}
+use Rattle.sgl_descriptor.specs.Spelling.{spelling}
+use Rattle.sgl_chain.specs.Laws.{HasBytesOf}
+use Rattle.sgl_chain.proofs.Larger.{spells_there}
+use Rattle.page_ledger.specs.Owners.{is_among}
+use Rattle.page_memory.specs.Memory.{page_of}
+use Rattle.page_memory.specs.Pages.{Pages, page_at, byte_at, with_page_bytes, with_bytes}
+use Rattle.admin_commands.specs.Entries.{named_queue, named_command}
+use Rattle.admin_commands.specs.declared.SqState.TheVariants.{Absent, Stopping}
+use Rattle.entry_codec.specs.declared.submission.SubEntry.{SubEntry}
+use Rattle.entry_codec.specs.declared.status.Status.{Status}
+use Rattle.entry_codec.specs.declared.status.TheConstants.Status.{SUCCESS, COMMAND_ID_CONFLICT, ABORT_REQUESTED}
+use Rattle.entry_codec.specs.declared.admin_opcode.TheConstants.{DELETE_IO_SQ}
+use Rattle.io_commands.specs.declared.request.Request.{Request}
+use Rattle.io_commands.specs.Requests.{parts_of}
+use Rattle.io_commands.specs.Drafts.{io_entry}
+use Rattle.io_commands.specs.Jobs.{is_success, verdict_of, direction_of_entry, io_fault, bytes_after_check}
+use Rattle.machine_model.specs.Commands.{Work, Io, Management}
+use Rattle.machine_model.specs.State.{State, Device, HostQueue, DeviceQueue, Record, Job, Answer, pages_of}
+use Rattle.machine_model.specs.Refusals.{is_submitted, next_rung, job_at, conflicts, fetch_slot}
+use Rattle.machine_model.specs.Claims.{OwnsFit}
+use Rattle.machine_model.specs.After as a
+use Rattle.machine_model.specs.After.{change}
+use Rattle.machine_model.specs.Reached.{only, on_pages}
+use Rattle.machine_model.specs.Standing.{IsSized, unfetched_at, HasEntry, ListStands, StandsAs, CommandStands}
+use Rattle.machine_model.proofs.Managed.{managed_by_case}
+use Rattle.machine_model.proofs.Placing.{device-posted, device-answered}
+use Rattle.machine_model.proofs.Placed.{is_job}
+use Rattle.machine_model.proofs.Members.{In, all_in_both, all_map, all_filter, all_append, all_drop_one}
+use Rattle.machine_model.proofs.Served.{Commands}
+use Rattle.machine_model.proofs.Queues.{list_at, all_list}
+use Rattle.machine_model.proofs.Placements.{InHand, in_hand, first_is, on_job_q, on_job_entry, stopped_q, stopped_entry}
+
+-- Where the controller has an entry
+
+abbrev pub Keeps : List DeviceQueue → List Job → List DeviceQueue → List Job → Type 0
+Keeps qs js qs' js' = (q cid : ℕ) (entry : SubEntry) → HasEntry qs js q cid entry → HasEntry qs' js' q cid entry
+
+pub keeps_queue : (qs : List DeviceQueue) (js : List Job) (k : ℕ) (f : DeviceQueue → DeviceQueue)
+    → ((P : SubEntry → Type 0) (at : DeviceQueue) → AllByRecursion P at.unfetched → AllByRecursion P (f at).unfetched) → Keeps qs js (change k f qs) js
+keeps_queue qs js k f step q cid entry h = record {
+  unfetched = all_list (λ e. e.cid ≡ cid → e ≡ entry) (λ at. at.unfetched) k f qs q (λ at e all. step (λ e. e.cid ≡ cid → e ≡ entry) at all) h.unfetched;
+  fetched = h.fetched;
+}
+
+keeps_state : (qs : List DeviceQueue) (js : List Job) (k : ℕ) (f : DeviceQueue → DeviceQueue) → ((at : DeviceQueue) → (f at).unfetched ≡ at.unfetched) → Keeps qs js (change k f qs) js
+keeps_state qs js k f same = keeps_queue qs js k f (λ P at all. subst (AllByRecursion P) (sym (same at)) all)
+
+pub keeps_jobs : (qs : List DeviceQueue) (js : List Job) (f : Job → Job) → ((j : Job) → (f j).q ≡ j.q) → ((j : Job) → (f j).entry ≡ j.entry) → Keeps qs js qs (map f js)
+keeps_jobs qs js f sq se q cid entry h = record {
+  unfetched = h.unfetched;
+  fetched = all_map (λ j. j.q ≡ q → j.entry.cid ≡ cid → j.entry ≡ entry) (λ j. j.q ≡ q → j.entry.cid ≡ cid → j.entry ≡ entry) f js
+      (λ j p eq ec. se j ∙ p (sym (sq j) ∙ eq) (ap (λ (e : SubEntry). e.cid) (sym (se j)) ∙ ec)) h.fetched;
+}
+
+keeps_filter : (qs : List DeviceQueue) (js : List Job) (keep : Job → Bool) → Keeps qs js qs (filter keep js)
+keeps_filter qs js keep q cid entry h = record { unfetched = h.unfetched; fetched = all_filter (λ j. j.q ≡ q → j.entry.cid ≡ cid → j.entry ≡ entry) keep js h.fetched }
+
+pub keeps_both : (qs qs' qs'' : List DeviceQueue) (js js' js'' : List Job) → Keeps qs js qs' js' → Keeps qs' js' qs'' js'' → Keeps qs js qs'' js''
+keeps_both qs qs' qs'' js js' js'' f g q cid entry h = g q cid entry (f q cid entry h)
+
+-- a job comes of the entry in hand
+pub in_hand_is : (s : State) (q : ℕ) (e : SubEntry) → InHand s q e → (cid : ℕ) (entry : SubEntry) → HasEntry s.device.queues s.device.jobs q cid entry → e.cid ≡ cid → e ≡ entry
+in_hand_is s q e hand cid entry h same =
+    let first : AllByRecursion (λ e. e.cid ≡ cid → e ≡ entry) hand.queue.unfetched =
+    subst (λ (o : Option DeviceQueue). AllByRecursion (λ e. e.cid ≡ cid → e ≡ entry) (option_map_or (λ at. at.unfetched) o [])) hand.at h.unfetched in
+    (subst (λ (xs : List SubEntry). AllByRecursion (λ e. e.cid ≡ cid → e ≡ entry) xs) (first_is hand.queue.unfetched e hand.first) first).0 same
+
+keeps_job : (s : State) (q : ℕ) (e : SubEntry) → InHand s q e → (qs' : List DeviceQueue) (js' : List Job) (j : Job) → j.q ≡ q → j.entry ≡ e → Keeps s.device.queues s.device.jobs qs' js' → Keeps s.device.queues s.device.jobs qs' (js' ++ j ∷ [])
+keeps_job s q e hand qs' js' j jq je keeps k cid entry h =
+    let h' = keeps k cid entry h in
+    record {
+      unfetched = h'.unfetched;
+      fetched = all_append (λ j. j.q ≡ k → j.entry.cid ≡ cid → j.entry ≡ entry) js' (j ∷ []) h'.fetched
+          ((λ eq ec. je ∙ in_hand_is s q e hand cid entry (subst (λ (n : ℕ). HasEntry s.device.queues s.device.jobs n cid entry) (sym eq ∙ jq) h) (ap (λ (x : SubEntry). x.cid) (sym je) ∙ ec)), tt);
+    }
+
+keeps_off : (s : State) (q : ℕ) → Keeps s.device.queues s.device.jobs (a.taken_off q s).device.queues s.device.jobs
+keeps_off s q = keeps_queue s.device.queues s.device.jobs q (λ at. record at { unfetched = drop 1 at.unfetched; rung = at.rung - 1 }) (λ P at all. all_drop_one P at.unfetched all)
+
+keeps_answered : (s t : State) (q cid : ℕ) (st : Status) (dw0 : ℕ) → Keeps s.device.queues s.device.jobs t.device.queues t.device.jobs
+    → Keeps s.device.queues s.device.jobs (a.answered q cid st dw0 t).device.queues (a.answered q cid st dw0 t).device.jobs
+keeps_answered s t q cid st dw0 keeps =
+    let f : DeviceQueue → DeviceQueue = λ at. record at { answers = at.answers ++ record { cid = cid; status = st; dw0 = dw0; sq_head = fetch_slot t q } ∷ [] } in
+    subst (λ (d : Device). Keeps s.device.queues s.device.jobs d.queues d.jobs) (sym (device-answered q cid st dw0 t))
+    (keeps_both s.device.queues t.device.queues (change q f t.device.queues) s.device.jobs t.device.jobs t.device.jobs keeps (keeps_state t.device.queues t.device.jobs q f (λ at. refl)))
+
+keeps_managed : (s : State) (e : SubEntry) → InHand s 0 e → Keeps s.device.queues s.device.jobs (a.managed e (a.taken_off 0 s)).device.queues (a.managed e (a.taken_off 0 s)).device.jobs
+keeps_managed s e hand =
+    managed_by_case (λ (t : State). Keeps s.device.queues s.device.jobs t.device.queues t.device.jobs) e s0
+    (decided s0 off _ 0) (decided s0 off _ 0)
+    (λ is8. decided (a.on_job (named_queue e) (named_command e) stop s0)
+    (keeps_both s.device.queues qs qs s.device.jobs s.device.jobs _ off
+    (keeps_jobs qs s.device.jobs (λ j. if (j.q == named_queue e) && (j.entry.cid == named_command e) then stop j else j)
+    (on_job_q (named_queue e) (named_command e) stop (λ j. refl)) (on_job_entry (named_queue e) (named_command e) stop (λ j. refl)))) _ 0)
+    (λ is8. decided s0 off _ 1)
+    (decided s0 off _ 0)
+    (λ is0 q0 runs. decided (a.on_device (λ d. record d { jobs = map (a.stopped (named_queue e)) d.jobs }) (a.on_device_queue (named_queue e) (λ at. record at { state = Stopping }) s0))
+    (keeps_both s.device.queues (change (named_queue e) (λ at. record at { state = Stopping }) qs) (change (named_queue e) (λ at. record at { state = Stopping }) qs) s.device.jobs s.device.jobs (map (a.stopped (named_queue e)) s.device.jobs)
+    (keeps_both s.device.queues qs (change (named_queue e) (λ at. record at { state = Stopping }) qs) s.device.jobs s.device.jobs s.device.jobs off
+    (keeps_state qs s.device.jobs (named_queue e) (λ at. record at { state = Stopping }) (λ at. refl)))
+    (keeps_jobs (change (named_queue e) (λ at. record at { state = Stopping }) qs) s.device.jobs (a.stopped (named_queue e)) (stopped_q (named_queue e)) (stopped_entry (named_queue e)))) _ 0)
+    (decided s0 off _ 0)
+    (λ not8 not0 gone. decided (a.on_device_queue (named_queue e) (λ at. record at { cq_there = false }) s0)
+    (keeps_both s.device.queues qs (change (named_queue e) (λ at. record at { cq_there = false }) qs) s.device.jobs s.device.jobs s.device.jobs off
+    (keeps_state qs s.device.jobs (named_queue e) (λ at. record at { cq_there = false }) (λ at. refl))) _ 0)
+  where
+    stop : Job → Job
+    stop j = record j { verdict = Some ABORT_REQUESTED; waiting_abort = Some e.cid }
+
+    s0 : State
+    s0 = a.taken_off 0 s
+
+    qs : List DeviceQueue
+    qs = (a.taken_off 0 s).device.queues
+
+    off : Keeps s.device.queues s.device.jobs (a.taken_off 0 s).device.queues s.device.jobs
+    off = keeps_off s 0
+
+    decided : (t : State) → Keeps s.device.queues s.device.jobs t.device.queues t.device.jobs → (st : Status) (dw0 : ℕ) → Keeps s.device.queues s.device.jobs (a.decided e st dw0 t).device.queues (a.decided e st dw0 t).device.jobs
+    decided t keeps st dw0 = keeps_job s 0 e hand t.device.queues t.device.jobs (a.new_job 0 e (Some st) dw0 []) refl refl keeps
+
+pub keeps_fetch : (s : State) (q : ℕ) → Keeps s.device.queues s.device.jobs (a.after_fetch q s).device.queues (a.after_fetch q s).device.jobs
+keeps_fetch s q = go (next_rung s q) refl
+  where
+    inner : (e : SubEntry) → InHand s q e → (b z : Bool) → (q == 0) ≡ z
+        → Keeps s.device.queues s.device.jobs (if b then a.answered q e.cid COMMAND_ID_CONFLICT 0 (a.taken_off q s) else if z then a.managed e (a.taken_off 0 s) else a.begun q e (a.taken_off q s)).device.queues
+        (if b then a.answered q e.cid COMMAND_ID_CONFLICT 0 (a.taken_off q s) else if z then a.managed e (a.taken_off 0 s) else a.begun q e (a.taken_off q s)).device.jobs
+    inner e hand true z is0 = keeps_answered s (a.taken_off q s) q e.cid COMMAND_ID_CONFLICT 0 (keeps_off s q)
+    inner e hand false true is0 = keeps_managed s e (subst (λ (n : ℕ). InHand s n e) (eqb-true q 0 is0) hand)
+    inner e hand false false is0 =
+        let t = a.taken_off q s in
+        keeps_job s q e hand t.device.queues s.device.jobs (a.new_job q e (io_fault (a.image_blocks t) e) 0 (bytes_after_check t.device.image e (io_fault (a.image_blocks t) e))) refl refl (keeps_off s q)
+
+    go : (o : Option SubEntry) → next_rung s q ≡ o
+        → Keeps s.device.queues s.device.jobs (option_map_or (λ e. if conflicts s q then a.answered q e.cid COMMAND_ID_CONFLICT 0 (a.taken_off q s) else if q == 0 then a.managed e (a.taken_off 0 s) else a.begun q e (a.taken_off q s)) o s).device.queues
+        (option_map_or (λ e. if conflicts s q then a.answered q e.cid COMMAND_ID_CONFLICT 0 (a.taken_off q s) else if q == 0 then a.managed e (a.taken_off 0 s) else a.begun q e (a.taken_off q s)) o s).device.jobs
+    go None n = λ k cid entry h. h
+    go (Some e) n = inner e (in_hand s q e n) (conflicts s q) (q == 0) refl
+
+keeps_moved : (s : State) (dir : Direction) (act : Act) (q cid : ℕ) → Keeps s.device.queues s.device.jobs (a.moved dir act q cid s).device.queues (a.moved dir act q cid s).device.jobs
+keeps_moved s dir Stays q cid = λ k c entry h. h
+keeps_moved s dir (Reads place) q cid = λ k c entry h. h
+keeps_moved s Destination (Moves place n offset) q cid = go (job_at s q cid)
+  where
+    go : (o : Option Job) → Keeps s.device.queues s.device.jobs (option_map_or (λ j. a.on_memory (λ m. with_page_bytes m (place / 4096) (place % 4096) (take n (drop offset j.bytes))) s) o s).device.queues
+        (option_map_or (λ j. a.on_memory (λ m. with_page_bytes m (place / 4096) (place % 4096) (take n (drop offset j.bytes))) s) o s).device.jobs
+    go None = λ k c entry h. h
+    go (Some j) = λ k c entry h. h
+keeps_moved s Source (Moves place n offset) q cid =
+    let f : Job → Job = λ j. record j { bytes = with_bytes j.bytes offset (a.page_bytes s.memory place n) } in
+    keeps_jobs s.device.queues s.device.jobs (λ j. if (j.q == q) && (j.entry.cid == cid) then f j else j) (on_job_q q cid f (λ j. refl)) (on_job_entry q cid f (λ j. refl))
+
+pub keeps_walk : (s : State) (q cid : ℕ) → Keeps s.device.queues s.device.jobs (a.after_walk q cid s).device.queues (a.after_walk q cid s).device.jobs
+keeps_walk s q cid = go (job_at s q cid)
+  where
+    inner : (j : Job) (o : Option Act)
+        → Keeps s.device.queues s.device.jobs (option_map_or (λ act. a.on_job q cid (λ k. record k { units_done = k.units_done + 1; verdict = verdict_of (a.next_answer s j) }) (a.moved (direction_of_entry j.entry) act q cid s)) o s).device.queues
+        (option_map_or (λ act. a.on_job q cid (λ k. record k { units_done = k.units_done + 1; verdict = verdict_of (a.next_answer s j) }) (a.moved (direction_of_entry j.entry) act q cid s)) o s).device.jobs
+    inner j None = λ k c entry h. h
+    inner j (Some act) =
+        let t = a.moved (direction_of_entry j.entry) act q cid s in
+        let f : Job → Job = λ k. record k { units_done = k.units_done + 1; verdict = verdict_of (a.next_answer s j) } in
+        keeps_both s.device.queues t.device.queues t.device.queues s.device.jobs t.device.jobs _ (keeps_moved s (direction_of_entry j.entry) act q cid)
+        (keeps_jobs t.device.queues t.device.jobs (λ j. if (j.q == q) && (j.entry.cid == cid) then f j else j) (on_job_q q cid f (λ j. refl)) (on_job_entry q cid f (λ j. refl)))
+
+    go : (o : Option Job)
+        → Keeps s.device.queues s.device.jobs (option_map_or (λ j. option_map_or (λ act. a.on_job q cid (λ k. record k { units_done = k.units_done + 1; verdict = verdict_of (a.next_answer s j) }) (a.moved (direction_of_entry j.entry) act q cid s)) (a.next_unit s j) s) o s).device.queues
+        (option_map_or (λ j. option_map_or (λ act. a.on_job q cid (λ k. record k { units_done = k.units_done + 1; verdict = verdict_of (a.next_answer s j) }) (a.moved (direction_of_entry j.entry) act q cid s)) (a.next_unit s j) s) o s).device.jobs
+    go None = λ k c entry h. h
+    go (Some j) = inner j (a.next_unit s j)
+
+pub keeps_complete : (s : State) (q cid : ℕ) → Keeps s.device.queues s.device.jobs (a.after_complete q cid s).device.queues (a.after_complete q cid s).device.jobs
+keeps_complete s q cid = go (job_at s q cid)
+  where
+    deleted : (s1 : State) (j : Job) (b : Bool) → Keeps s.device.queues s.device.jobs s1.device.queues s1.device.jobs → Keeps s.device.queues s.device.jobs
+        (if b then a.on_device_queue (named_queue j.entry) (λ at. record at { state = Absent; unfetched = []; rung = 0 }) s1 else s1).device.queues
+        (if b then a.on_device_queue (named_queue j.entry) (λ at. record at { state = Absent; unfetched = []; rung = 0 }) s1 else s1).device.jobs
+    deleted s1 j true keeps =
+        keeps_both s.device.queues s1.device.queues (change (named_queue j.entry) (λ at. record at { state = Absent; unfetched = []; rung = 0 }) s1.device.queues) s.device.jobs s1.device.jobs s1.device.jobs keeps
+        (keeps_queue s1.device.queues s1.device.jobs (named_queue j.entry) (λ at. record at { state = Absent; unfetched = []; rung = 0 }) (λ P at all. tt))
+    deleted s1 j false keeps = keeps
+
+    go : (o : Option Job)
+        → Keeps s.device.queues s.device.jobs (option_map_or (λ j. let st = a.final_status s j in a.answered q cid st j.dw0 (a.deletion_done j st (a.on_device (λ d. record d { image = a.image_completed j d.image }) (a.without_job q cid s)))) o s).device.queues
+        (option_map_or (λ j. let st = a.final_status s j in a.answered q cid st j.dw0 (a.deletion_done j st (a.on_device (λ d. record d { image = a.image_completed j d.image }) (a.without_job q cid s)))) o s).device.jobs
+    go None = λ k c entry h. h
+    go (Some j) =
+        let s1 = a.on_device (λ d. record d { image = a.image_completed j d.image }) (a.without_job q cid s) in
+        keeps_answered s (a.deletion_done j (a.final_status s j) s1) q cid (a.final_status s j) j.dw0
+        (deleted s1 j ((j.q == 0) && (j.entry.opcode == DELETE_IO_SQ) && is_success (a.final_status s j)) (keeps_filter s.device.queues s.device.jobs (λ x. not (is_job q cid x))))
+
+-- Lists that stay while their chain pages stay
+
+only_same : (m m' : Pages) (chain : List ℕ) → ((p : ℕ) → is_among chain p ≡ true → page_at m' p ≡ page_at m p) → HasBytesOf (only (on_pages chain) (byte_at m')) (only (on_pages chain) (byte_at m))
+only_same m m' chain same place byte e = go (is_among chain (page_of place)) refl e
+  where
+    go : (b : Bool) → is_among chain (page_of place) ≡ b → (if b then byte_at m place else None) ≡ Some byte → (if b then byte_at m' place else None) ≡ Some byte
+    go true t e = ap (λ (o : Option (List ℕ)). option_and_then (λ bytes. slice_get bytes (place % 4096)) o) (same (page_of place) t) ∙ e
+    go false t e = absurd cc
+
+pub list_still : (m m' : Pages) (qs qs' : List DeviceQueue) (js js' : List Job) (r : Record) (request : Request) → ((p : ℕ) → is_among r.chain_pages p ≡ true → page_at m' p ≡ page_at m p)
+    → ((entry : SubEntry) → HasEntry qs js r.q r.cid entry → HasEntry qs' js' r.q r.cid entry) → ListStands m qs js r request → ListStands m' qs' js' r request
+list_still m m' qs qs' js js' r request same keeps l = record {
+  first = l.first;
+  read = l.read;
+  spells = spells_there (only (on_pages r.chain_pages) (byte_at m)) (only (on_pages r.chain_pages) (byte_at m')) (only_same m m' r.chain_pages same) l.first (parts_of request.pieces r.data_pages) l.spells;
+  entry = keeps (io_entry r.cid request (spelling l.first)) l.entry;
+}
+
+pub commands_still : (X : Record → Type 0) (m m' : Pages) (qs qs' : List DeviceQueue) (js js' : List Job) (rs : List Record)
+    → ((r : Record) → In r rs → is_submitted r.phase ≡ true → (p : ℕ) → is_among r.chain_pages p ≡ true → page_at m' p ≡ page_at m p)
+    → ((r : Record) → X r → (r.q == 0) ≡ false → is_submitted r.phase ≡ true → (entry : SubEntry) → HasEntry qs js r.q r.cid entry → HasEntry qs' js' r.q r.cid entry)
+    → AllByRecursion (λ r. OwnsFit r.q r.work (pages_of r) × X r) rs → Commands m qs js rs → Commands m' qs' js' rs
+commands_still X m m' qs qs' js js' rs same keeps fit h =
+    all_in_both (CommandStands m qs js) (λ r. OwnsFit r.q r.work (pages_of r) × X r) (CommandStands m' qs' js') rs (λ r within f c. of r within f.1 r.work f.0 c) fit h
+  where
+    of : (r : Record) → In r rs → X r → (w : Work) → OwnsFit r.q w (pages_of r) → StandsAs m qs js r w → StandsAs m' qs' js' r w
+    of r within x (Io request) f c = (c.0, λ sub. list_still m m' qs qs' js js' r request (same r within sub) (keeps r x f sub) (c.1 sub))
+    of r within x (Management adm) f c = tt
+
+-- a command that is submitted no more
+pub quiet_stands : (m : Pages) (qs : List DeviceQueue) (js : List Job) (f : Record → Record) → ((r : Record) → (f r).work ≡ r.work) → ((r : Record) → (f r).data_pages ≡ r.data_pages)
+    → (r : Record) → is_submitted (f r).phase ≡ false → CommandStands m qs js r → CommandStands m qs js (f r)
+quiet_stands m qs js f work pages r far c = subst (StandsAs m qs js (f r)) (sym (work r)) (of r.work c)
+  where
+    of : (w : Work) → StandsAs m qs js r w → StandsAs m qs js (f r) w
+    of (Io request) c = (record { fits = c.0.fits; good = c.0.good; pages = ap length (pages r) ∙ c.0.pages }, λ sub. absurd (true≢false (sym sub ∙ far)))
+    of (Management adm) c = tt

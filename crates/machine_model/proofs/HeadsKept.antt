@@ -1,0 +1,396 @@
+-- Every event keeps the heads behind the tail.
+use Rattle.std.proofs.Common.{◌≡◌, ◌≢◌, ◌⊎◌, inl, inr, ℕ, zero, suc, ◌+◌, ◌-◌, ◌<◌, ◌≤◌, ◌==◌, nat_lt, nat_le, Bool, true, false, not, ◌&&◌, ◌||◌, Option, Some, None, List, [], ◌∷◌, ◌++◌, length, map, filter, find, drop, slice_get, is_some, is_none, option_and_then, replicate, if◌then◌else◌, refl, ap, sym, ◌∙◌, arith, subst, eqb-true, eq-eqb}
+use Rattle.std.specs.Option.{option_map_or}
+use Rattle.std.specs.List.{AllByRecursion}
+use Rattle.std.proofs.lemmas.Bool.{true≢false, not-false, and_parts, or_parts}
+use Rattle.std.proofs.lemmas.Bool.Decides.{nat_tests}
+use Rattle.admin_commands.specs.Entries.{admin_entry, named_queue}
+use Rattle.admin_commands.specs.declared.SqState.TheVariants.{Absent, Stopping}
+use Rattle.admin_commands.specs.declared.AdminKind.TheVariants.{Abort, DeleteSq, DeleteCq}
+use Rattle.admin_commands.specs.declared.AdminKind.{AdminKind}
+use Rattle.controller_walk.specs.Units.{Act, Stays, Reads, Moves}
+use Rattle.sgl_descriptor.specs.declared.Direction.{Direction}
+use Rattle.sgl_descriptor.specs.declared.Direction.TheVariants.{Destination, Source}
+use Rattle.entry_codec.specs.declared.submission.SubEntry.{SubEntry}
+use Rattle.entry_codec.specs.declared.completion.ComEntry.{ComEntry}
+use Rattle.entry_codec.specs.declared.status.Status.{Status}
+use Rattle.entry_codec.specs.declared.status.TheConstants.Status.{SUCCESS, COMMAND_ID_CONFLICT, ABORT_REQUESTED, ABORTED_SQ_DELETION}
+use Rattle.entry_codec.specs.declared.admin_opcode.TheConstants.{DELETE_IO_SQ}
+use Rattle.io_commands.specs.Drafts.{DraftContents}
+use Rattle.io_commands.specs.Values.{numbers_of}
+use Rattle.io_commands.specs.Requests.{first_passing}
+use Rattle.io_commands.specs.Jobs.{is_success, verdict_of, direction_of_entry}
+use Rattle.io_commands.specs.declared.request.Request.{Request}
+use Rattle.page_memory.specs.Pages.{with_page_bytes}
+use Rattle.queue_pair.specs.Rings.{HostRing, next_tail, next_head, knowing}
+use Rattle.queue_pair.specs.Slots.{next_slot, distance, moved}
+use Rattle.queue_pair.proofs.Order.{distance_grows, distance_same}
+use Rattle.machine_model.specs.Positions.{IsInRing}
+use Rattle.machine_model.specs.Memory.{with_pages, without_pages}
+use Rattle.machine_model.specs.Commands.{Work, Io, Management}
+use Rattle.machine_model.specs.State.{State, Device, Host, HostQueue, HostState, Live, Deleting, Retired, Gone, DeviceQueue, Record, Phase, Drafted, Submitted, Held, Collected, Job, Answer, is_at, record_at, pages_of, with_record, without_record, outstanding_on}
+use Rattle.machine_model.specs.Refusals.{is_submitted, is_drafted, is_collected, is_held, is_live, is_retired, is_gone, is_deleting, is_deleted, is_asked, host_queue, device_queue, refusal_of, record_is, is_of, in_state, queue_full, no_identifier, no_io_queue, seen_entry, entry_of, first_answer, next_rung, job_at, conflicts, fetch_slot, slot_page, slot_offset}
+use Rattle.machine_model.specs.Step.{HostPart, host_part, IsController, IsNewIdentifier, reaped}
+use Rattle.machine_model.specs.After as a
+use Rattle.machine_model.specs.After.{change}
+use Rattle.machine_model.specs.Events as events
+use Rattle.machine_model.specs.Events.{Event, Reply, Refusal, Reaped}
+use Rattle.machine_model.specs.Opening.{Opens, opening, queues_from, device_queue as opened}
+use Rattle.machine_model.specs.Standing.{unfetched_at}
+use Rattle.machine_model.proofs.Counting.{one}
+use Rattle.machine_model.proofs.Totals.{total, total-append, total-map, total_with, total_without, total-filter, here}
+use Rattle.machine_model.proofs.Parts.{part-posted}
+use Rattle.machine_model.proofs.Steps.{Accepts, part_controller}
+use Rattle.machine_model.proofs.Refused.{first_fails, rest_fails, found, pages_match}
+use Rattle.machine_model.proofs.Managed.{managed_by_case}
+use Rattle.machine_model.proofs.Placing.{device-posted, device-answered}
+use Rattle.machine_model.proofs.Placed.{is_job, find_sound}
+use Rattle.machine_model.proofs.Out.{named, reaped_submitted}
+use Rattle.machine_model.proofs.Asked.{was_asked}
+use Rattle.machine_model.proofs.Paired.{is_past}
+use Rattle.machine_model.proofs.Tied.{FitS}
+use Rattle.machine_model.proofs.TiedHost.{fit-heard}
+use Rattle.machine_model.proofs.Members.{In, in_found, all_map, all_filter, all_append, sent}
+use Rattle.machine_model.proofs.Grounds.{Grounds, ring_in}
+use Rattle.machine_model.proofs.Served.{Stood, Places, past_at, unfetched_count, job_weight, answers_at}
+use Rattle.machine_model.proofs.Queues.{list_at, list_same}
+use Rattle.machine_model.proofs.Placements.{InHand, in_hand, first_is}
+use Rattle.machine_model.proofs.PlacesKept.{PlacesIn, places_event, reaped_answer, ids_of, drafted_not, collected_not, running_not_past, sent_not, sent_is}
+use Rattle.machine_model.proofs.Heads.{Heads, HeadBehind, AnswersBehind, sent_count, behind_more, behind_posted, behind_answered, head_at, on_queue', few_outstanding, sent_outstanding, length_outstanding, changed_at, total_ones}
+
+abbrev pub HeadsIn : HostPart → List DeviceQueue → Type 0
+HeadsIn part qs = Heads part.entries part.host.queues part.host.records qs
+
+abbrev pub HeadsS : State → Type 0
+HeadsS s = HeadsIn (host_part s) s.device.queues
+
+-- What does not concern heads
+
+pub heads_records : (n : ℕ) (hs : List HostQueue) (rs rs' : List Record) (qs : List DeviceQueue) → AllByRecursion (λ r. r.cid < n - 1) rs' → ((q : ℕ) → sent_count q rs ≤ sent_count q rs') → Heads n hs rs qs → Heads n hs rs' qs
+heads_records n hs rs rs' qs ids more h = record {
+  ids = ids;
+  behind = λ q queue e past.
+      let b = h.behind q queue e past in
+      record { known = omega (arith, b.known, more q); answers = behind_more n queue.ring.tail (sent_count q rs) (sent_count q rs') (answers_at qs q) (more q) b.answers };
+}
+
+pub heads_device : (n : ℕ) (hs : List HostQueue) (rs : List Record) (qs qs' : List DeviceQueue) → ((q : ℕ) → answers_at qs' q ≡ answers_at qs q) → Heads n hs rs qs → Heads n hs rs qs'
+heads_device n hs rs qs qs' same h = record {
+  ids = h.ids;
+  behind = λ q queue e past. subst (HeadBehind n (sent_count q rs) queue) (sym (same q)) (h.behind q queue e past);
+}
+
+-- a queue of the host changes, its ring left alone, and is past where it was
+pub heads_state : (n k : ℕ) (f : HostQueue → HostQueue) (hs : List HostQueue) (rs : List Record) (qs : List DeviceQueue) → ((x : HostQueue) → (f x).ring ≡ x.ring)
+    → ((x : HostQueue) → slice_get hs k ≡ Some x → is_past (f x).state ≡ false → is_past x.state ≡ false) → Heads n hs rs qs → Heads n (change k f hs) rs qs
+heads_state n k f hs rs qs ring past h = record {
+  ids = h.ids;
+  behind = λ q queue e open'. at q queue open' (changed_at k f hs q queue e);
+}
+  where
+    at : (q : ℕ) (queue : HostQueue) → is_past queue.state ≡ false → ((k ≡ q) × ((x : HostQueue) × (slice_get hs q ≡ Some x) × (queue ≡ f x))) ⊎ ((k ≡ q → ⊥) × (slice_get hs q ≡ Some queue))
+        → HeadBehind n (sent_count q rs) queue (answers_at qs q)
+    at q queue open' (inl (same, (x, e, is))) =
+        let before : is_past x.state ≡ false = past x (subst (λ (z : ℕ). slice_get hs z ≡ Some x) (sym same) e) (ap (λ (y : HostQueue). is_past y.state) (sym is) ∙ open') in
+        let b = h.behind q x e before in
+        let r : queue.ring ≡ x.ring = ap (λ (y : HostQueue). y.ring) is ∙ ring x in
+        record {
+          known = subst (λ (g : HostRing). distance n g.known_head g.tail ≤ sent_count q rs) (sym r) b.known;
+          answers = subst (λ (g : HostRing). AnswersBehind n g.tail (sent_count q rs) (answers_at qs q)) (sym r) b.answers;
+        }
+    at q queue open' (inr (far, e)) = h.behind q queue e open'
+
+-- Posting
+
+heads_posted : (q : ℕ) (entry : SubEntry) (s : State) (rs : List Record) → AllByRecursion (λ r. r.cid < s.entries - 1) s.host.records
+    → ((k : ℕ) → sent_count k rs + (if q == k then 1 else 0) ≤ sent_count k s.host.records) → sent_count q rs < s.entries - 1
+    → ((queue : HostQueue) → slice_get s.host.queues q ≡ Some queue → IsInRing s.entries queue.ring)
+    → Heads s.entries s.host.queues rs s.device.queues → HeadsS (a.posted q entry s)
+heads_posted q entry s rs ids more few rings h =
+    subst (λ (part : HostPart). HeadsIn part (a.posted q entry s).device.queues) (sym (part-posted q entry s))
+    (subst (λ (d : Device). HeadsIn (host_part (a.on_ring q (next_tail s.entries) s)) d.queues) (sym (device-posted q entry s))
+    (record {
+      ids = ids;
+      behind = λ k queue e open'. subst (HeadBehind s.entries (sent_count k s.host.records) queue) (sym (list_same (λ at. at.answers) q (λ at. record at { unfetched = at.unfetched ++ entry ∷ [] }) s.device.queues k (λ at. refl)))
+          (at k queue open' (changed_at q (λ x. record x { ring = next_tail s.entries x.ring }) s.host.queues k queue e));
+    }))
+  where
+    n : ℕ
+    n = s.entries
+
+    at : (k : ℕ) (queue : HostQueue) → is_past queue.state ≡ false
+        → ((q ≡ k) × ((x : HostQueue) × (slice_get s.host.queues k ≡ Some x) × (queue ≡ record x { ring = next_tail s.entries x.ring }))) ⊎ ((q ≡ k → ⊥) × (slice_get s.host.queues k ≡ Some queue))
+        → HeadBehind s.entries (sent_count k s.host.records) queue (answers_at s.device.queues k)
+    at k queue open' (inr (far, e)) =
+        let b = h.behind k queue e open' in
+        let le : sent_count k rs ≤ sent_count k s.host.records = omega (arith, more k) in
+        record { known = omega (arith, b.known, le); answers = behind_more s.entries queue.ring.tail (sent_count k rs) (sent_count k s.host.records) (answers_at s.device.queues k) le b.answers }
+    at k queue open' (inl (same, (x, e, is))) =
+        let b = h.behind k x e (ap (λ (y : HostQueue). is_past y.state) (sym is) ∙ open') in
+        let r = rings x (subst (λ (z : ℕ). slice_get s.host.queues z ≡ Some x) (sym same) e) in
+        let few' : sent_count k rs < s.entries - 1 = subst (λ (z : ℕ). sent_count z rs < s.entries - 1) same few in
+        let one_more : sent_count k rs + 1 ≤ sent_count k s.host.records = omega (arith, more k, ap one (eq-eqb q k same)) in
+        let grows : distance s.entries x.ring.known_head (next_slot s.entries x.ring.tail) ≡ suc (distance s.entries x.ring.known_head x.ring.tail) =
+        distance_grows s.entries x.ring.known_head x.ring.tail r.known_head r.tail (λ z. absurd (omega (arith, z, b.known, few'))) in
+        subst (λ (y : HostQueue). HeadBehind s.entries (sent_count k s.host.records) y (answers_at s.device.queues k)) (sym is)
+        (record {
+          known = omega (arith, grows, b.known, one_more);
+          answers = behind_more s.entries (next_slot s.entries x.ring.tail) (sent_count k rs + 1) (sent_count k s.host.records) (answers_at s.device.queues k) one_more
+              (behind_posted s.entries x.ring.tail (sent_count k rs) (answers_at s.device.queues k) r.tail few' b.answers);
+        })
+
+few_sent : (s : State) → Grounds s → HeadsS s → (q : ℕ) → total (on_queue' q) s.host.records ≤ s.entries - 1
+few_sent s g h q = few_outstanding q (s.entries - 1) s.host.records h.ids g.stands.0.once
+
+pub heads_sent : (adm : AdminKind) (id : ℕ) (s : State) → IsNewIdentifier s 0 id → no_identifier s 0 ≡ false → Grounds s → HeadsS s → HeadsS (a.sent adm id (admin_entry adm id) s)
+heads_sent adm id s new room g h =
+    let r : Record = record { q = 0; cid = id; phase = Submitted; work = Management adm; data_pages = []; chain_pages = []; status = None } in
+    heads_posted 0 (admin_entry adm id) (a.on_records (λ records. records ++ r ∷ []) s) s.host.records
+    (all_append (λ r. r.cid < s.entries - 1) s.host.records (r ∷ []) h.ids (new.in_range, tt))
+    (λ k. omega (arith, total-append (sent k (λ c. 1)) s.host.records (r ∷ []), sent_is 0 id k (λ c. 1) r refl refl refl))
+    (omega (arith, sent_outstanding 0 s.host.records, length_outstanding 0 s.host.records, below (s.entries - 1) (length (outstanding_on s.host 0)) room))
+    (λ queue e. ring_in s g 0 queue e) h
+  where
+    below : (a b : ℕ) → nat_le a b ≡ false → b < a
+    below a b e = grind (arith, nat_tests)
+
+-- a drafted command itself has an identifier, so one of a queue's is not submitted
+pub drafted_room : (s : State) (q : ℕ) (r : Record) → r.q ≡ q → In r s.host.records → is_submitted r.phase ≡ false → Grounds s → HeadsS s → sent_count q s.host.records < s.entries - 1
+drafted_room s q r same within quiet g h =
+    let mine : on_queue' q r ≡ 1 = ap one (eq-eqb r.q q same) in
+    omega (arith, few_sent s g h q, both s.host.records, within (λ x. if is_submitted x.phase then 0 else on_queue' q x), subst (λ (b : Bool). (if b then 0 else on_queue' q r) ≡ on_queue' q r) (sym quiet) refl, mine)
+  where
+    both : (rs : List Record) → sent_count q rs + total (λ x. if is_submitted x.phase then 0 else on_queue' q x) rs ≡ total (on_queue' q) rs
+    both [] = refl
+    both (x ∷ rs) = omega (arith, both rs, each (x.q == q) (is_submitted x.phase))
+      where
+        each : (a b : Bool) → (if a && b then 1 else 0) + (if b then 0 else one a) ≡ one a
+        each true true = refl
+        each true false = refl
+        each false true = refl
+        each false false = refl
+
+pub heads_submit : (d : DraftContents) (s : State) → refusal_of s (events.Submit d) ≡ None → Grounds s → HeadsS s → HeadsS (a.after_submit d s)
+heads_submit d s none g h = go d.entry
+  where
+    r : (r : Record) × (record_at s.host d.q d.cid ≡ Some r) × (is_of is_drafted d.request (numbers_of d.data_pages) (numbers_of d.chain_pages) r ≡ true)
+    r = found (is_of is_drafted d.request (numbers_of d.data_pages) (numbers_of d.chain_pages)) s d.q d.cid
+        (not-false _ (first_fails (not (record_is (is_of is_drafted d.request (numbers_of d.data_pages) (numbers_of d.chain_pages)) s d.q d.cid)) events.Stranger
+        ((is_none d.entry, events.NotBuilt) ∷ (not (in_state is_live s d.q), events.QueueGone) ∷ (queue_full s d.q, events.QueueFull) ∷ []) none))
+
+    quiet : is_submitted r.0.phase ≡ false
+    quiet = drafted_not r.0.phase (pages_match is_drafted d.request d.data_pages d.chain_pages r.0 r.2).1
+
+    room : sent_count d.q s.host.records < s.entries - 1
+    room = drafted_room s d.q r.0 (ids_of s d.q d.cid r.0 r.1).0 (in_found (is_at d.q d.cid) s.host.records r.0 r.1) quiet g h
+
+    kept : AllByRecursion (λ (r : Record). r.cid < s.entries - 1) (with_record d.q d.cid a.submitted s.host.records)
+    kept = all_map (λ (r : Record). r.cid < s.entries - 1) (λ (r : Record). r.cid < s.entries - 1) (λ r. if is_at d.q d.cid r then a.submitted r else r) s.host.records (λ x low. each x (is_at d.q d.cid x) low) h.ids
+      where
+        each : (x : Record) (b : Bool) → x.cid < s.entries - 1 → (if b then a.submitted x else x).cid < s.entries - 1
+        each x true low = low
+        each x false low = low
+
+    go : (o : Option SubEntry) → HeadsS (option_map_or (λ entry. a.posted d.q entry (a.on_records (with_record d.q d.cid a.submitted) (a.on_memory (with_pages (d.data_pages ++ d.chain_pages)) s))) o s)
+    go None = h
+    go (Some entry) =
+        heads_posted d.q entry (a.on_records (with_record d.q d.cid a.submitted) (a.on_memory (with_pages (d.data_pages ++ d.chain_pages)) s)) s.host.records kept
+        (λ k. omega (
+          arith,
+          total_with (sent k (λ c. 1)) d.q d.cid a.submitted s.host.records r.0 r.1 (g.stands.0.once d.q d.cid),
+          sent_not k (λ c. 1) r.0 quiet,
+          sent_is d.q d.cid k (λ c. 1) (a.submitted r.0) (ids_of s d.q d.cid r.0 r.1).0 (ids_of s d.q d.cid r.0 r.1).1 refl,
+        ))
+        room (λ queue e. ring_in s g d.q queue e) h
+
+-- Records that go, or change without being sent
+
+heads_less : (keep : Record → Bool) (s : State) → ((q : ℕ) → sent_count q s.host.records ≤ sent_count q (filter keep s.host.records)) → HeadsS s → Heads s.entries s.host.queues (filter keep s.host.records) s.device.queues
+heads_less keep s same h = heads_records s.entries s.host.queues s.host.records (filter keep s.host.records) s.device.queues (all_filter (λ r. r.cid < s.entries - 1) keep s.host.records h.ids) same h
+
+ids_with : (n q cid : ℕ) (f : Record → Record) (rs : List Record) → ((r : Record) → (f r).cid ≡ r.cid) → AllByRecursion (λ r. r.cid < n) rs → AllByRecursion (λ r. r.cid < n) (with_record q cid f rs)
+ids_with n q cid f rs same h = all_map (λ r. r.cid < n) (λ r. r.cid < n) (λ r. if is_at q cid r then f r else r) rs (λ x low. each x (is_at q cid x) low) h
+  where
+    each : (x : Record) (b : Bool) → x.cid < n → (if b then f x else x).cid < n
+    each x true low = subst (λ (c : ℕ). c < n) (sym (same x)) low
+    each x false low = low
+
+pub heads_ended : (phase : Phase → Bool) → ((ph : Phase) → phase ph ≡ true → is_submitted ph ≡ false) → (request : Request) (q cid : ℕ) (bytes chain : List (ℕ × List ℕ)) (s : State)
+    → first_passing ((not (record_is (is_of phase request (numbers_of bytes) (numbers_of chain)) s q cid), events.Stranger) ∷ []) ≡ None
+    → Grounds s → HeadsS s → HeadsS (a.after_end q cid (bytes ++ chain) s)
+heads_ended phase far request q cid bytes chain s none g h =
+    let r = found (is_of phase request (numbers_of bytes) (numbers_of chain)) s q cid (not-false _ (first_fails _ events.Stranger [] none)) in
+    heads_less (λ r. not (is_at q cid r)) s
+    (λ k. omega (arith, total_without (sent k (λ c. 1)) q cid s.host.records r.0 r.1 (g.stands.0.once q cid), sent_not k (λ c. 1) r.0 (far r.0.phase (pages_match phase request bytes chain r.0 r.2).1))) h
+
+pub heads_collect : (q cid : ℕ) (s : State) → refusal_of s (events.Collect q cid) ≡ None → Grounds s → HeadsS s → HeadsS (a.after_collect q cid s)
+heads_collect q cid s none g h = go (record_at s.host q cid) refl
+  where
+    far : record_is (λ r. is_submitted r.phase) s q cid ≡ false
+    far = first_fails (record_is (λ r. is_submitted r.phase) s q cid) events.NotYet []
+        (rest_fails (not (record_is (λ r. is_submitted r.phase || is_held r.phase) s q cid)) events.Stranger ((record_is (λ r. is_submitted r.phase) s q cid, events.NotYet) ∷ []) none)
+
+    go : (o : Option Record) → record_at s.host q cid ≡ o → HeadsS (option_map_or (λ r. a.on_records (with_record q cid a.collected) (a.on_memory (without_pages (pages_of r)) s)) o s)
+    go None e = h
+    go (Some r) e =
+        let far' : is_submitted r.phase ≡ false = sym (ap (λ (o : Option Record). option_map_or (λ r. is_submitted r.phase) o false) e) ∙ far in
+        heads_records s.entries s.host.queues s.host.records (with_record q cid a.collected s.host.records) s.device.queues (ids_with (s.entries - 1) q cid a.collected s.host.records (λ x. refl) h.ids)
+        (λ k. omega (arith, total_with (sent k (λ c. 1)) q cid a.collected s.host.records r e (g.stands.0.once q cid), sent_not k (λ c. 1) r far', sent_not k (λ c. 1) (a.collected r) refl)) h
+
+-- Reaping
+
+heads_consumed : (q : ℕ) (s : State) → HeadsS s → HeadsS (a.consumed q s)
+heads_consumed q s h = record {
+  ids = h.ids;
+  behind = λ k queue e open'. at k queue open' (changed_at q (λ x. record x { ring = next_head s.entries x.ring }) s.host.queues k queue e);
+}
+  where
+    fewer : (tail m : ℕ) (ans : List Answer) → AnswersBehind s.entries tail m ans → AnswersBehind s.entries tail m (drop 1 ans)
+    fewer tail m [] h = tt
+    fewer tail m (x ∷ ans) h = behind_more s.entries tail (m - 1) m ans (omega arith) h.2
+
+    dropped : (k : ℕ) (tail m : ℕ) → AnswersBehind s.entries tail m (answers_at s.device.queues k) → AnswersBehind s.entries tail m (answers_at (change q (λ at. record at { answers = drop 1 at.answers }) s.device.queues) k)
+    dropped k tail m h = over q s.device.queues k h
+      where
+        over : (q : ℕ) (qs : List DeviceQueue) (k : ℕ) → AnswersBehind s.entries tail m (answers_at qs k) → AnswersBehind s.entries tail m (answers_at (change q (λ at. record at { answers = drop 1 at.answers }) qs) k)
+        over q [] k h = h
+        over zero (at ∷ qs) zero h = fewer tail m at.answers h
+        over zero (at ∷ qs) (suc k) h = h
+        over (suc q) (at ∷ qs) zero h = h
+        over (suc q) (at ∷ qs) (suc k) h = over q qs k h
+
+    at : (k : ℕ) (queue : HostQueue) → is_past queue.state ≡ false
+        → ((q ≡ k) × ((x : HostQueue) × (slice_get s.host.queues k ≡ Some x) × (queue ≡ record x { ring = next_head s.entries x.ring }))) ⊎ ((q ≡ k → ⊥) × (slice_get s.host.queues k ≡ Some queue))
+        → HeadBehind s.entries (sent_count k s.host.records) queue (answers_at (change q (λ at. record at { answers = drop 1 at.answers }) s.device.queues) k)
+    at k queue open' (inr (far, e)) =
+        let b = h.behind k queue e open' in record { known = b.known; answers = dropped k queue.ring.tail (sent_count k s.host.records) b.answers }
+    at k queue open' (inl (same, (x, e, is))) =
+        let b = h.behind k x e (ap (λ (y : HostQueue). is_past y.state) (sym is) ∙ open') in
+        subst (λ (y : HostQueue). HeadBehind s.entries (sent_count k s.host.records) y (answers_at (change q (λ at. record at { answers = drop 1 at.answers }) s.device.queues) k)) (sym is)
+        (record { known = b.known; answers = dropped k x.ring.tail (sent_count k s.host.records) b.answers })
+
+-- a good answer: the host knows its head, and one command is submitted no more
+heads_heard : (q : ℕ) (an : Answer) (s : State) (rs : List Record) → option_and_then (λ queue. first_answer queue.answers) (device_queue s q) ≡ Some an → AllByRecursion (λ r. r.cid < s.entries - 1) rs
+    → ((k : ℕ) → sent_count k s.host.records ≤ sent_count k rs + (if q == k then 1 else 0)) → HeadsS s
+    → Heads s.entries (a.heard q (entry_of q an) s).host.queues rs (change q (λ at. record at { answers = drop 1 at.answers }) s.device.queues)
+heads_heard q an s rs first ids less h = record {
+  ids = ids;
+  behind = λ k queue e open'. at k queue open' (changed_at q (λ x. record x { ring = knowing (entry_of q an).sqhd x.ring }) (change q (λ x. record x { ring = next_head s.entries x.ring }) s.host.queues) k queue e);
+}
+  where
+    qs' : List DeviceQueue
+    qs' = change q (λ at. record at { answers = drop 1 at.answers }) s.device.queues
+
+    head_rest : answers_at s.device.queues q ≡ an ∷ answers_at (change q (λ at. record at { answers = drop 1 at.answers }) s.device.queues) q
+    head_rest = over q s.device.queues first
+      where
+        cut : (ans : List Answer) → first_answer ans ≡ Some an → ans ≡ an ∷ drop 1 ans
+        cut [] e = absurd cc
+        cut (x ∷ ans) e = let same : x ≡ an = cc in ap (λ y. y ∷ ans) same
+
+        over : (q : ℕ) (qs : List DeviceQueue) → option_and_then (λ queue. first_answer queue.answers) (slice_get qs q) ≡ Some an → answers_at qs q ≡ an ∷ answers_at (change q (λ at. record at { answers = drop 1 at.answers }) qs) q
+        over q [] e = absurd cc
+        over zero (at ∷ qs) e = cut at.answers e
+        over (suc q) (at ∷ qs) e = over q qs e
+
+    elsewhere : (k : ℕ) → (q ≡ k → ⊥) → answers_at (change q (λ at. record at { answers = drop 1 at.answers }) s.device.queues) k ≡ answers_at s.device.queues k
+    elsewhere k far = over q s.device.queues k far
+      where
+        over : (q : ℕ) (qs : List DeviceQueue) (k : ℕ) → (q ≡ k → ⊥) → answers_at (change q (λ at. record at { answers = drop 1 at.answers }) qs) k ≡ answers_at qs k
+        over q [] k far = refl
+        over zero (at ∷ qs) zero far = absurd (far refl)
+        over zero (at ∷ qs) (suc k) far = refl
+        over (suc q) (at ∷ qs) zero far = refl
+        over (suc q) (at ∷ qs) (suc k) far = over q qs k (λ e. far (ap suc e))
+
+    -- the queue itself
+    own : (k : ℕ) (x : HostQueue) → q ≡ k → slice_get s.host.queues k ≡ Some x → is_past x.state ≡ false
+        → (distance s.entries an.sq_head x.ring.tail ≤ sent_count k rs) × AnswersBehind s.entries x.ring.tail (sent_count k rs) (answers_at (change q (λ at. record at { answers = drop 1 at.answers }) s.device.queues) k)
+    own k x same e open' =
+        let b = h.behind k x e open' in
+        let front : AnswersBehind s.entries x.ring.tail (sent_count k s.host.records) (an ∷ answers_at (change q (λ at. record at { answers = drop 1 at.answers }) s.device.queues) k) =
+        subst (AnswersBehind s.entries x.ring.tail (sent_count k s.host.records)) (subst (λ (z : ℕ). answers_at s.device.queues z ≡ an ∷ answers_at (change q (λ at. record at { answers = drop 1 at.answers }) s.device.queues) z) same head_rest) b.answers in
+        let one' : one (q == k) ≡ 1 = ap one (eq-eqb q k same) in (
+          omega (arith, front.1, less k, one'),
+          behind_more s.entries x.ring.tail (sent_count k s.host.records - 1) (sent_count k rs) (answers_at (change q (λ at. record at { answers = drop 1 at.answers }) s.device.queues) k) (omega (arith, less k, one')) front.2,
+        )
+
+    at : (k : ℕ) (queue : HostQueue) → is_past queue.state ≡ false
+        → ((q ≡ k) × ((x : HostQueue) × (slice_get (change q (λ x. record x { ring = next_head s.entries x.ring }) s.host.queues) k ≡ Some x) × (queue ≡ record x { ring = knowing (entry_of q an).sqhd x.ring })))
+        ⊎ ((q ≡ k → ⊥) × (slice_get (change q (λ x. record x { ring = next_head s.entries x.ring }) s.host.queues) k ≡ Some queue))
+        → HeadBehind s.entries (sent_count k rs) queue (answers_at (change q (λ at. record at { answers = drop 1 at.answers }) s.device.queues) k)
+    at k queue open' (inl (same, (x, e, is))) = elim (changed_at q (λ x. record x { ring = next_head s.entries x.ring }) s.host.queues k x e) [
+      | inl (same', (y, ey, isy)) ↦
+          let state : is_past y.state ≡ false = ap (λ (z : HostQueue). is_past z.state) (sym isy) ∙ ap (λ (z : HostQueue). is_past z.state) (sym is) ∙ open' in
+          let o = own k y same ey state in
+          let ring : queue.ring ≡ knowing (entry_of q an).sqhd (next_head s.entries y.ring) = ap (λ (z : HostQueue). z.ring) is ∙ ap (λ (z : HostQueue). knowing (entry_of q an).sqhd z.ring) isy in
+          record {
+            known = subst (λ (g : HostRing). distance s.entries g.known_head g.tail ≤ sent_count k rs) (sym ring) o.0;
+            answers = subst (λ (g : HostRing). AnswersBehind s.entries g.tail (sent_count k rs) (answers_at (change q (λ at. record at { answers = drop 1 at.answers }) s.device.queues) k)) (sym ring) o.1;
+          }
+      | inr (far, ey) ↦ absurd (far same)
+    ]
+    at k queue open' (inr (far, e)) = elim (changed_at q (λ x. record x { ring = next_head s.entries x.ring }) s.host.queues k queue e) [
+      | inl (same, it) ↦ absurd (far same)
+      | inr (far', e') ↦
+          let b = h.behind k queue e' open' in
+          let none : one (q == k) ≡ 0 = ap one (other q k far) in
+          record {
+            known = omega (arith, b.known, less k, none);
+            answers = subst (AnswersBehind s.entries queue.ring.tail (sent_count k rs)) (sym (elsewhere k far))
+                (behind_more s.entries queue.ring.tail (sent_count k s.host.records) (sent_count k rs) (answers_at s.device.queues k) (omega (arith, less k, none)) b.answers);
+          }
+    ]
+      where
+        other : (q k : ℕ) → (q ≡ k → ⊥) → (q == k) ≡ false
+        other q k far = grind (arith, nat_tests)
+
+heads_admin : (adm : AdminKind) (st : Status) (q cid : ℕ) (t : State) (r : Record) → record_at t.host q cid ≡ Some r → r.work ≡ Management adm → total (here q cid) t.host.records < 2 → FitS t
+    → HeadsS (a.on_records (without_record q cid) t) → HeadsS (a.after_admin adm st (a.on_records (without_record q cid) t))
+heads_admin (Abort k c) st q cid t r e w once f h = h
+heads_admin (DeleteSq k) st q cid t r e w once f h =
+    heads_state t.entries k (λ queue. record queue { state = if is_success st then Deleting true else Live }) t.host.queues (without_record q cid t.host.records) t.device.queues (λ x. refl)
+    (λ x ex open'. asked_not_past x.state (sym (ap (λ (o : Option HostQueue). option_map_or (λ h. is_asked h.state) o false) ex) ∙ was_asked t.host.records t.host.queues k q cid r e w once f.asked)) h
+  where
+    asked_not_past : (st : HostState) → is_asked st ≡ true → is_past st ≡ false
+    asked_not_past Live e = refl
+    asked_not_past (Deleting noted) e = refl
+    asked_not_past Retired e = absurd (true≢false (sym e))
+    asked_not_past Gone e = absurd (true≢false (sym e))
+heads_admin (DeleteCq k) st q cid t r e w once f h = go (is_success st && option_map_or (λ queue. is_retired queue.state) (host_queue t k) false) (host_queue t k)
+  where
+    go : (b : Bool) (o : Option HostQueue) → HeadsS (if b then option_map_or (λ queue. a.on_host_queue k a.gone (a.given_back queue.cq_pages (a.on_records (without_record q cid) t))) o (a.on_records (without_record q cid) t) else a.on_records (without_record q cid) t)
+    go true None = h
+    go true (Some queue) = heads_state t.entries k a.gone t.host.queues (without_record q cid t.host.records) t.device.queues (λ x. refl) (λ x ex open'. absurd (true≢false open')) h
+    go false o = h
+
+heads_done : (q cid : ℕ) (st : Status) (s : State) → s.trusted ≡ true → named (reaped s q) ≡ Some cid → Grounds s → HeadsS s
+    → HeadsS (option_map_or (λ r. a.after_work r.work q cid st (option_map_or (λ e. a.heard q e s) (seen_entry s q) s)) (record_at s.host q cid) s)
+heads_done q cid st s t n g h = go (record_at s.host q cid) refl
+  where
+    an : (an : Answer) × (option_and_then (λ queue. first_answer queue.answers) (device_queue s q) ≡ Some an) × (an.cid ≡ cid) × (seen_entry s q ≡ Some (entry_of q an))
+    an = reaped_answer s q cid t n
+
+    sub : (r : Record) × (record_at s.host q cid ≡ Some r) × (is_submitted r.phase ≡ true)
+    sub = reaped_submitted s q cid n
+
+    work : (r : Record) (w : Work) → record_at s.host q cid ≡ Some r → is_submitted r.phase ≡ true → r.work ≡ w → HeadsS (a.after_work w q cid st (a.heard q (entry_of q an.0) s))
+    work r (Io request) e is w =
+        heads_heard q an.0 s (with_record q cid (a.held st) s.host.records) an.1 (ids_with (s.entries - 1) q cid (a.held st) s.host.records (λ x. refl) h.ids)
+        (λ k. omega (arith, total_with (sent k (λ c. 1)) q cid (a.held st) s.host.records r e (g.stands.0.once q cid), sent_not k (λ c. 1) (a.held st r) refl, sent_is q cid k (λ c. 1) r (ids_of s q cid r e).0 (ids_of s q cid r e).1 is)) h
+    work r (Management adm) e is w =
+        heads_admin adm st q cid (a.heard q (entry_of q an.0) s) r e w (g.stands.0.once q cid) (fit-heard q (entry_of q an.0) s g.fit)
+        (heads_heard q an.0 s (without_record q cid s.host.records) an.1 (all_filter (λ r. r.cid < s.entries - 1) (λ r. not (is_at q cid r)) s.host.records h.ids)
+        (λ k. omega (arith, total_without (sent k (λ c. 1)) q cid s.host.records r e (g.stands.0.once q cid), sent_is q cid k (λ c. 1) r (ids_of s q cid r e).0 (ids_of s q cid r e).1 is)) h)
+
+    go : (o : Option Record) → record_at s.host q cid ≡ o → HeadsS (option_map_or (λ r. a.after_work r.work q cid st (option_map_or (λ e. a.heard q e s) (seen_entry s q) s)) o s)
+    go None e = h
+    go (Some r) e =
+        let same : sub.0 ≡ r = cc (sub.1, e) in
+        rw an.3 (work r r.work e (subst (λ (x : Record). is_submitted x.phase ≡ true) same sub.2) refl)
+
+pub heads_reap : (q : ℕ) (what : Reaped) (s : State) → s.trusted ≡ true → what ≡ reaped s q → Grounds s → HeadsS s → HeadsS (a.after_reap q what s)
+heads_reap q events.Empty s t e g h = h
+heads_reap q (events.Rejected why) s t e g h = heads_consumed q s h
+heads_reap q (events.Done cid st) s t e g h = heads_done q cid st s t (ap named (sym e)) g h
+heads_reap q (events.AdminDone cid st dw0) s t e g h = heads_done q cid st s t (ap named (sym e)) g h

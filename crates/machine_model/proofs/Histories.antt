@@ -1,0 +1,42 @@
+-- A run is made longer by one step.
+use Rattle.std.proofs.Common.{◌≡◌, ℕ, Bool, true, false, List, [], ◌∷◌, ◌++◌, refl, sym, subst}
+use Rattle.machine_model.specs.State.{State}
+use Rattle.machine_model.specs.Events.{Event, Reply}
+use Rattle.machine_model.specs.Image.{Made}
+use Rattle.machine_model.specs.Laws.{TrustedRun, Steps}
+use Rattle.block_image.specs.Blocks.{IsImage}
+use Rattle.machine_model.specs.Opening.{opening, Opens}
+use Rattle.machine_model.specs.Step.{Step}
+use Rattle.machine_model.specs.Histories.{HasHistory, openings_have_histories, steps_make_histories}
+use Rattle.machine_model.proofs.Trusted.{trusted_before}
+
+steps_more : (s : State) (made : List Made) (mid : State) (e : Event) (reply : Reply) (new : State) → Steps s made mid → Step mid e reply new
+    → Steps s (made ++ record { before = mid; event = e; reply = reply } ∷ []) new
+steps_more s [] mid e reply new steps step = (steps, new, subst (λ (x : State). Step x e reply new) steps step, refl)
+steps_more s (m ∷ made) mid e reply new steps step = (steps.0, steps.1, steps.2, steps_more steps.1 made mid e reply new steps.3 step)
+
+pub histories_open : openings_have_histories
+histories_open pages queues n s image opens bytes = record {
+  image = image;
+  made = [];
+  run = record { pages = pages; queues = queues; entries = n; segment = s; opens = opens; is_image = bytes; steps = refl; trusted = refl };
+}
+
+pub histories_grow : steps_make_histories
+histories_grow old e reply new step trusted = (
+  trusted_before old e reply new step trusted,
+  λ h. record {
+    image = h.image;
+    made = h.made ++ record { before = old; event = e; reply = reply } ∷ [];
+    run = record {
+      pages = h.run.pages;
+      queues = h.run.queues;
+      entries = h.run.entries;
+      segment = h.run.segment;
+      opens = h.run.opens;
+      is_image = h.run.is_image;
+      steps = steps_more (opening h.run.pages h.run.queues h.run.entries h.run.segment h.image) h.made old e reply new h.run.steps step;
+      trusted = trusted;
+    };
+  },
+)

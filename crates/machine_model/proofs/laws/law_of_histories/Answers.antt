@@ -1,0 +1,8 @@
+use Rattle.machine_model.proofs.Histories.{histories_open, histories_grow}
+use Rattle.machine_model.proofs.laws.law_of_histories.Goals as goal
+
+pub returns-clause-openings : goal.returns-clause-openings
+returns-clause-openings c = histories_open
+
+pub returns-clause-steps : goal.returns-clause-steps
+returns-clause-steps c = histories_grow

@@ -1,0 +1,24 @@
+-- States with a history: some run from an opening leads there, in which nothing was forged.
+use Rattle.std.specs.Prelude.{◌≡◌, ℕ, List, IsTrue}
+use Rattle.machine_model.specs.State.{State}
+use Rattle.machine_model.specs.Events.{Event, Reply}
+use Rattle.machine_model.specs.Image.{Made}
+use Rattle.machine_model.specs.Laws.{TrustedRun}
+use Rattle.block_image.specs.Blocks.{IsImage}
+use Rattle.machine_model.specs.Opening.{opening, Opens}
+use Rattle.machine_model.specs.Step.{Step}
+
+pub record HasHistory (s : State) : Type 0 where
+  pub image : List ℕ
+  pub made : List Made
+  pub run : TrustedRun image made s
+
+abbrev pub openings_have_histories : Type 0
+openings_have_histories =
+    (pages queues n s : ℕ) (image : List ℕ) → Opens pages queues n s → IsImage image → HasHistory (opening pages queues n s image)
+
+-- a step that leaves a trusted state came from one, and makes its history one step longer
+abbrev pub steps_make_histories : Type 0
+steps_make_histories =
+    (old : State) (e : Event) (reply : Reply) (new : State) → Step old e reply new → IsTrue new.trusted
+    → IsTrue old.trusted × (HasHistory old → HasHistory new)

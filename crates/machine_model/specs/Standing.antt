@@ -1,0 +1,85 @@
+-- What stands while nothing is forged: a submitted command's list stands in its chain pages, its entry is in one place at the
+-- controller, and a job's walk is within its list.
+use Rattle.std.specs.Prelude.{◌≡◌, ◌<◌, ◌==◌, nat_lt, IsTrue, ℕ, Bool, true, false, Option, Some, None, List, [], length, slice_get, if◌then◌else◌}
+use Rattle.std.specs.List.{AllByRecursion}
+use Rattle.std.specs.Option.{option_map_or}
+use Rattle.sgl_descriptor.specs.declared.Descriptor.{Descriptor}
+use Rattle.sgl_descriptor.specs.Spelling.{spelling, descriptor_of}
+use Rattle.sgl_chain.specs.Spells.{Spells}
+use Rattle.controller_walk.specs.declared.walk.WalkState.TheVariants.{End}
+use Rattle.controller_walk.specs.Units.{units, verdict}
+use Rattle.entry_codec.specs.declared.submission.SubEntry.{SubEntry}
+use Rattle.io_commands.specs.declared.request.Request.{Request}
+use Rattle.io_commands.specs.Requests.{data_count, parts_of, FitsRequest}
+use Rattle.io_commands.specs.Drafts.{io_entry}
+use Rattle.io_commands.specs.Values.{IsGood}
+use Rattle.page_memory.specs.Pages.{Pages, byte_at}
+use Rattle.machine_model.specs.Commands.{Work, Io, Management}
+use Rattle.machine_model.specs.State.{State, HostQueue, HostState, Live, Deleting, Retired, Gone, DeviceQueue, Record, Job, record_at}
+use Rattle.machine_model.specs.Refusals.{is_submitted, job_at}
+use Rattle.machine_model.specs.After.{course_of}
+use Rattle.machine_model.specs.Reached.{only, on_pages, KeepsToPages}
+use Rattle.machine_model.specs.Image.{Made}
+use Rattle.machine_model.specs.Step.{Step}
+use Rattle.machine_model.specs.Events.{Event, Reply}
+use Rattle.machine_model.specs.Laws.{TrustedRun}
+
+-- a command's request fits its types and passes its check, and the command has a page for each data piece
+pub record IsSized (r : Record) (request : Request) : Type 0 where
+  pub fits : FitsRequest request
+  pub good : IsGood request
+  pub pages : length r.data_pages ≡ data_count request.pieces
+
+-- the entries of a queue that are not fetched, and its completions that are not reaped
+abbrev pub unfetched_at : List DeviceQueue → ℕ → List SubEntry
+unfetched_at queues q = option_map_or (λ at. at.unfetched) (slice_get queues q) []
+
+-- wherever the controller has an entry of a command, it is this one
+pub record HasEntry (queues : List DeviceQueue) (jobs : List Job) (q cid : ℕ) (entry : SubEntry) : Type 0 where
+  pub unfetched : AllByRecursion (λ e. e.cid ≡ cid → e ≡ entry) (unfetched_at queues q)
+  pub fetched : AllByRecursion (λ j. j.q ≡ q → j.entry.cid ≡ cid → j.entry ≡ entry) jobs
+
+-- The command's chain pages spell its parts, whatever stands in other pages, from the descriptor of its entry.
+pub record ListStands (m : Pages) (queues : List DeviceQueue) (jobs : List Job) (r : Record) (request : Request) : Type 0 where
+  pub first : Descriptor
+  pub read : descriptor_of (spelling first) ≡ Some first
+  pub spells : Spells (only (on_pages r.chain_pages) (byte_at m)) first (parts_of request.pieces r.data_pages)
+  pub entry : HasEntry queues jobs r.q r.cid (io_entry r.cid request (spelling first))
+
+abbrev pub StandsAs : Pages → List DeviceQueue → List Job → Record → Work → Type 0
+StandsAs m queues jobs r (Io request) = IsSized r request × (is_submitted r.phase ≡ true → ListStands m queues jobs r request)
+StandsAs m queues jobs r (Management a) = Unit {0}
+
+abbrev pub CommandStands : Pages → List DeviceQueue → List Job → Record → Type 0
+CommandStands m queues jobs r = StandsAs m queues jobs r r.work
+
+-- a job of an I/O queue that has no verdict has a unit left to do
+abbrev pub HasUnitLeft : State → Job → Type 0
+HasUnitLeft s j = (j.q == 0) ≡ false → j.verdict ≡ None → j.units_done < length (units (course_of s j))
+
+-- What stands for a job of an I/O queue: its command is submitted, its entry is that command's, and its walk keeps to the command's
+-- pages, would end well, and has a unit left as long as there is no verdict.
+pub record JobStands (s : State) (j : Job) : Type 0 where
+  pub command : Record
+  pub request : Request
+  pub found : record_at s.host j.q j.entry.cid ≡ Some command
+  pub work : command.work ≡ Io request
+  pub phase : is_submitted command.phase ≡ true
+  pub sized : IsSized command request
+  pub list : ListStands s.memory s.device.queues s.device.jobs command request
+  pub entry : j.entry ≡ io_entry command.cid request (spelling list.first)
+  pub keeps : KeepsToPages command.chain_pages command.data_pages (course_of s j)
+  pub ends : verdict (course_of s j) ≡ End
+  pub unit_left : j.verdict ≡ None → j.units_done < length (units (course_of s j))
+
+-- So each job does, after every run in which nothing was forged.
+abbrev pub jobs_stand : Type 0
+jobs_stand =
+    (image : List ℕ) (made : List Made) (end : State) (q cid : ℕ) (j : Job) → TrustedRun image made end → IsTrue (nat_lt 0 q) → job_at end q cid ≡ Some j → JobStands end j
+
+-- A step that forges nothing and leaves a job there leaves its list the same list: the job's own walk, and anything else.
+abbrev pub jobs_keep_their_lists : Type 0
+jobs_keep_their_lists =
+    (image : List ℕ) (made : List Made) (old new : State) (e : Event) (reply : Reply) (q cid : ℕ) (before after : Job)
+    → TrustedRun image made old → Step old e reply new → IsTrue new.trusted → IsTrue (nat_lt 0 q) → job_at old q cid ≡ Some before → job_at new q cid ≡ Some after
+    → (after.entry ≡ before.entry) × (course_of new after ≡ course_of old before)
