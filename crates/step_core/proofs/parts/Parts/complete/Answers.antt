@@ -1,0 +1,18 @@
+use Rattle.std.proofs.Common.{ap, sym, ◌∙◌}
+use Rattle.std.specs.Result.{result_err}
+use Rattle.step_core.specs.Tables.{tables_of}
+use Rattle.step_core.proofs.FinishSteps.{refused_step, completes_step}
+use Rattle.step_core.proofs.parts.Parts.complete.Goals as goal
+
+pub returns-in-Err-clause-step : goal.returns-in-Err-clause-step
+returns-in-Err-clause-step c =
+    refused_step (tables_of c.args.self.now) (tables_of c.check_complete.new.self) c.args.q c.args.cid c.in-Err.why c.none_touched.result c.requires.whole c.check_complete.ensures.same
+    (sym c.check_complete.ensures.refusal ∙ ap result_err c.in-Err.is) c.none_touched.ensures
+
+pub returns-clause-step : goal.returns-clause-step
+returns-clause-step c =
+    (completes_step (tables_of c.args.self.now) (tables_of c.check_complete.new.self) (tables_of c.finish.new.self) c.args.q c.args.cid _ c.touched_by.result c.requires.whole c.check_complete.ensures.same c.finish.ensures c.touched_by.ensures).0
+
+pub returns-clause-kept : goal.returns-clause-kept
+returns-clause-kept c =
+    (completes_step (tables_of c.args.self.now) (tables_of c.check_complete.new.self) (tables_of c.finish.new.self) c.args.q c.args.cid _ c.touched_by.result c.requires.whole c.check_complete.ensures.same c.finish.ensures c.touched_by.ensures).1

@@ -1,0 +1,12 @@
+pub mod Tables
+pub mod Whole
+pub mod Replies
+pub mod Opening
+pub mod Ringing
+pub mod Forging
+pub mod Commands
+pub mod Posting
+pub mod Collecting
+pub mod Submitting
+pub mod Reaping
+pub mod Serving

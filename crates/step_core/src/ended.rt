@@ -1,0 +1,41 @@
+//! The end of a world.
+
+use crate::world::World;
+use io_commands::{Draft, Finished, Ticket};
+
+/// A world that has ended. It is shown to spend the values that are still about; [`World::end`] alone makes one.
+#[derive(Debug, Drop)]
+pub struct Ended {
+    spent: (),
+}
+
+/// A value that must be spent, and that a world left over at its end.
+pub trait Leftover {
+    /// Spends the value. It changes nothing.
+    fn after(self, ended: &Ended);
+}
+
+impl World {
+    /// Ends the world, with all that it holds. It takes no memory.
+    pub fn end(self) -> Ended {
+        Ended { spent: () }
+    }
+}
+
+impl Leftover for Draft {
+    fn after(self, _ended: &Ended) {
+        let _parts = self.apart();
+    }
+}
+
+impl Leftover for Ticket {
+    fn after(self, _ended: &Ended) {
+        let _parts = self.apart();
+    }
+}
+
+impl Leftover for Finished {
+    fn after(self, _ended: &Ended) {
+        let _parts = self.apart();
+    }
+}

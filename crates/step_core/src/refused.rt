@@ -1,0 +1,92 @@
+//! How calls answer that they were refused, and which pages the controller touched.
+
+ghost use Rattle.std.specs.Prelude.{◌≡◌, ◌≤◌, [], length};
+
+use arrayvec::ArrayVec;
+use machine_model::words::Refusal;
+use page_memory::{Dma, PageNo, Store};
+use std::marker::Model;
+
+/// A call that was refused: why, and the value that was handed in. Nothing changed.
+///
+/// It is no `Drop` where the value must be spent.
+#[derive(Drop)]
+pub struct Refused<T> {
+    /// The value, as it was handed in.
+    pub value: T,
+    /// Why.
+    pub why: Refusal,
+}
+
+/// The pages that a step of the controller touched, in the order in which it touched them. Contracts see that list.
+#[derive(Debug, Drop)]
+pub struct Touched {
+    pages: ArrayVec<PageNo, 4>,
+}
+
+impl Model for Touched {
+    ghost use Rattle.std.specs.Prelude.{List, ℕ};
+
+    ghost Value = { List ℕ };
+
+    ghost view = { λ t. t.pages.items };
+}
+
+/// A step of the controller that was refused. Nothing changed.
+pub struct StepRefused {
+    /// Why.
+    pub why: Refusal,
+    /// The pages that it touched before it was refused.
+    pub touched: Touched,
+}
+
+/// What a fetch answers.
+pub struct Fetched {
+    /// The identifier of the entry that was fetched.
+    pub cid: u16,
+    /// The pages that it touched.
+    pub touched: Touched,
+}
+
+/// What a completion answers.
+pub struct Completed {
+    /// The page that it touched.
+    pub touched: Touched,
+}
+
+/// These pages, of which there are few.
+fn listed(numbers: &[PageNo]) -> Touched
+    requires { length numbers.now ≤ 4 }
+    ensures { result ≡ numbers.now }
+{
+    let mut pages = ArrayVec::new();
+    for number in numbers {
+        pages.push(*number);
+    }
+    Touched { pages }
+}
+
+/// The pages that a store noted as touched.
+pub(crate) fn touched_by(store: &Store) -> Touched
+    ensures { result ≡ store.now.touched }
+{
+    listed(store.touched().as_slice())
+}
+
+/// No page.
+pub(crate) fn none_touched() -> Touched
+    ensures { result ≡ [] }
+{
+    Touched {
+        pages: ArrayVec::new(),
+    }
+}
+
+impl Touched {
+    /// The pages, in the order in which they were touched.
+    pub fn pages(&self) -> &[PageNo]
+        ensures { result.now ≡ self.now }
+    {
+        &self.pages
+    }
+}

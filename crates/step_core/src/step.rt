@@ -1,0 +1,222 @@
+//! Steps as values: what a bench is told to do, and what each step answered.
+
+ghost use Rattle.std.specs.Prelude.{◌≡◌};
+
+use crate::refused::Touched;
+use controller_walk::WalkState;
+use entry_codec::Status;
+use io_commands::{FillFault, Request};
+use machine_model::words::{Reaped, Refusal};
+use std::marker::Model;
+
+/// A list of bytes inside a step or a reply. Contracts see it as that list.
+#[derive(Debug, Drop)]
+pub struct Bytes {
+    bytes: Vec<u8>,
+}
+
+impl Model for Bytes {
+    ghost use Rattle.std.specs.Prelude.{List, ℕ};
+
+    ghost Value = { List ℕ };
+
+    ghost view = { λ b. b.bytes.items };
+}
+
+impl Bytes {
+    /// The bytes of a vector, in order.
+    pub fn from_vec(bytes: Vec<u8>) -> Self
+        ensures { result ≡ bytes.items }
+    {
+        Bytes { bytes }
+    }
+
+    /// The bytes.
+    pub fn as_slice(&self) -> &[u8]
+        ensures { result.now ≡ self.now }
+    {
+        &self.bytes
+    }
+}
+
+/// A step of a bench. Drafts, tickets and finished commands are named by their queue and identifier.
+#[derive(Debug, Drop)]
+pub enum Step {
+    /// Reserve a command.
+    Reserve {
+        /// The queue.
+        q: u16,
+        /// What is asked for.
+        request: Request,
+    },
+    /// Fill a draft with the bytes, padded with zeros to its Data length.
+    Fill {
+        /// The draft's queue.
+        q: u16,
+        /// Its identifier.
+        cid: u16,
+        /// The bytes.
+        bytes: Bytes,
+    },
+    /// Lay a draft's chain.
+    Build {
+        /// The draft's queue.
+        q: u16,
+        /// Its identifier.
+        cid: u16,
+    },
+    /// Submit a draft.
+    Submit {
+        /// The draft's queue.
+        q: u16,
+        /// Its identifier.
+        cid: u16,
+    },
+    /// Cancel a draft.
+    Cancel {
+        /// The draft's queue.
+        q: u16,
+        /// Its identifier.
+        cid: u16,
+    },
+    /// Ring the tail doorbell of a queue.
+    Ring {
+        /// The queue.
+        q: u16,
+    },
+    /// The controller fetches an entry.
+    Fetch {
+        /// The queue.
+        q: u16,
+    },
+    /// The controller does a unit of a command's list.
+    Walk {
+        /// The command's queue.
+        q: u16,
+        /// Its identifier.
+        cid: u16,
+    },
+    /// The controller completes a command.
+    Complete {
+        /// The command's queue.
+        q: u16,
+        /// Its identifier.
+        cid: u16,
+    },
+    /// Take a completion from a queue.
+    Reap {
+        /// The queue.
+        q: u16,
+    },
+    /// Collect a finished command by its ticket.
+    Collect {
+        /// The command's queue.
+        q: u16,
+        /// Its identifier.
+        cid: u16,
+    },
+    /// Gather a Read's bytes from a finished command.
+    Gather {
+        /// The command's queue.
+        q: u16,
+        /// Its identifier.
+        cid: u16,
+    },
+    /// Release a finished command.
+    Release {
+        /// The command's queue.
+        q: u16,
+        /// Its identifier.
+        cid: u16,
+    },
+    /// Send an Abort.
+    Abort {
+        /// The queue of the command to abort.
+        q: u16,
+        /// Its identifier.
+        cid: u16,
+    },
+    /// Send a deletion of a submission queue.
+    DeleteSq {
+        /// The queue.
+        q: u16,
+    },
+    /// Send a deletion of a completion queue.
+    DeleteCq {
+        /// The queue.
+        q: u16,
+    },
+    /// Retire a queue whose submission queue is deleted.
+    Retire {
+        /// The queue.
+        q: u16,
+    },
+    /// Overwrite a completion slot.
+    Forge {
+        /// The queue.
+        q: u16,
+        /// The slot.
+        slot: u16,
+        /// The 16 bytes.
+        bytes: [u8; 16],
+    },
+}
+
+/// What a step of a bench answered.
+#[derive(Debug, Drop)]
+pub enum Reply {
+    /// A command was reserved.
+    Reserved {
+        /// Its queue.
+        q: u16,
+        /// Its identifier.
+        cid: u16,
+        /// How many data pages it has.
+        data: u32,
+        /// How many chain pages it has.
+        chain: u32,
+    },
+    /// The step was done, and there is no more to say.
+    Accepted,
+    /// An entry was fetched.
+    Fetched {
+        /// Its identifier.
+        cid: u16,
+        /// The pages touched.
+        touched: Touched,
+    },
+    /// A unit was done.
+    Walked {
+        /// What the walk answered.
+        state: WalkState,
+        /// The pages touched.
+        touched: Touched,
+    },
+    /// A completion was posted.
+    Completed {
+        /// The pages touched.
+        touched: Touched,
+    },
+    /// What a reap found.
+    Reaps(Reaped),
+    /// A command was collected, which ended so.
+    Collected(Status),
+    /// A Read's bytes.
+    Gathered(Bytes),
+    /// An admin command was sent, under this identifier of queue 0.
+    Sent {
+        /// The identifier.
+        cid: u16,
+    },
+    /// No value of the fitting kind has this queue and identifier.
+    NoValue,
+    /// A draft was not filled.
+    NotFilled(FillFault),
+    /// The step was refused.
+    Refused {
+        /// Why.
+        why: Refusal,
+        /// The pages that a step of the controller touched before it was refused.
+        touched: Touched,
+    },
+}

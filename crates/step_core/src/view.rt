@@ -1,0 +1,43 @@
+//! What a world shows: whose each page is, how many pages each class has, and whether something was forged.
+
+ghost use Rattle.std.specs.Prelude.{◌≡◌, ◌<◌, length};
+ghost use Rattle.std.specs.List.{Contains};
+ghost use Rattle.machine_model.specs.Claims.{claims_of, counts_of, IsSound};
+ghost use Rattle.page_ledger.specs.Counting.{total};
+
+use crate::world::World;
+use page_ledger::{Counts, Owner};
+use page_memory::PageNo;
+
+impl World {
+    /// Whose a page of the pool is: the owner of the one claim in which it stands.
+    pub fn owner(&self, p: PageNo) -> Owner
+        requires { p < length self.now.memory }
+        ensures { Contains (claims_of self.now.host) (p, result) }
+    {
+        self.parts.ledger.owner(p)
+    }
+
+    /// How many pages are free, and how many belong to queues, to chains and to data.
+    pub fn counts(&self) -> Counts
+        ensures counts { result ≡ counts_of self.now.host }
+        ensures all { total result ≡ length self.now.memory }
+    {
+        self.parts.ledger.counts()
+    }
+
+    /// Whether nothing was forged.
+    pub fn trusted(&self) -> bool
+        ensures { result ≡ self.now.trusted }
+    {
+        self.parts.trusted
+    }
+
+    /// Shows that the world is sound, whatever was forged: each page has one owner, the counts add up to the pool, no identifier
+    /// of a queue is outstanding twice, and a page is out just where a drafted or collected command has it. It does nothing.
+    pub fn check(&self)
+        ensures { IsSound self.now }
+    {
+        let _entries = self.parts.entries;
+    }
+}
