@@ -1,0 +1,132 @@
+-- What a line of a script is, or its first fault. A word that is wanted is taken from the words that are left; what a definition of such
+-- a word gives is the word's value, and the words after it.
+use Rattle.std.specs.Prelude.{ℕ, ◌^◌, ◌==◌, nat_lt, nat_le, Bool, false, Option, Some, None, Result, Ok, Err, List, [], ◌∷◌, ◌++◌, length, if◌then◌else◌}
+use Rattle.std.specs.List.{list_any}
+use Rattle.io_commands.specs.declared.request.Kind.{Kind}
+use Rattle.io_commands.specs.declared.request.Piece.{Piece}
+use Rattle.io_commands.specs.declared.request.Request.{Request}
+use Rattle.script_cli.specs.Lines.{words}
+use Rattle.script_cli.specs.Numbers.{number, hex, sixteen_bytes, kind}
+use Rattle.script_cli.specs.Pieces.{piece}
+use Rattle.script_cli.specs.Verbs.{verb_named, queue_step, command_step}
+use Rattle.script_cli.specs.declared.fault.LineFault.{LineFault}
+use Rattle.script_cli.specs.declared.fault.LineFault.TheVariants.{LongLine, NotAscii, UnknownVerb, MissingWord, BadKind, BadNumber, BadHex, BadPiece, ExtraWord}
+use Rattle.script_cli.specs.declared.script.Line.{Line}
+use Rattle.script_cli.specs.declared.script.Line.TheVariants as line
+use Rattle.script_cli.specs.declared.verb.CommandVerb.{CommandVerb}
+use Rattle.script_cli.specs.declared.verb.QueueVerb.{QueueVerb}
+use Rattle.script_cli.specs.declared.verb.Verb.{Verb}
+use Rattle.script_cli.specs.declared.verb.Verb.TheVariants.{Reserve, Fill, Forge, Owners, OnQueue, OnCommand}
+use Rattle.step_core.specs.declared.step.Step.TheVariants as step
+
+abbrev pub Words : Type 0
+Words = List (List ℕ)
+
+-- what follows a word that was taken, or its fault
+infixl 10 ◌>>=◌
+abbrev pub ◌>>=◌ : {A B : Type 0} → Result A LineFault → (A → Result B LineFault) → Result B LineFault
+Ok a >>= next = next a
+Err fault >>= next = Err fault
+
+-- a value, or the fault where there is none
+abbrev pub value_or : {A : Type 0} → LineFault → Words → Option A → Result (A × Words) LineFault
+value_or fault rest None = Err fault
+value_or fault rest (Some value) = Ok (value, rest)
+
+abbrev pub wanted : {A : Type 0} → LineFault → (List ℕ → Option A) → Words → Result (A × Words) LineFault
+wanted fault value [] = Err MissingWord
+wanted fault value (word ∷ rest) = value_or fault rest (value word)
+
+unfoldable pub number_word : ℕ → Words → Result (ℕ × Words) LineFault
+number_word limit ws = wanted BadNumber (number limit) ws
+
+unfoldable pub kind_word : Words → Result (Kind × Words) LineFault
+kind_word ws = wanted BadKind kind ws
+
+unfoldable pub hex_word : Words → Result (List ℕ × Words) LineFault
+hex_word ws = wanted BadHex hex ws
+
+unfoldable pub sixteen_bytes_word : Words → Result (List ℕ × Words) LineFault
+sixteen_bytes_word ws = wanted BadHex sixteen_bytes ws
+
+-- the line, where no word is left
+unfoldable pub nothing_more : Words → Line → Result Line LineFault
+nothing_more [] what = Ok what
+nothing_more (word ∷ rest) what = Err ExtraWord
+
+abbrev pub with_piece : List Piece → (List Piece → Result (List Piece) LineFault) → Option Piece → Result (List Piece) LineFault
+with_piece so_far rest None = Err BadPiece
+with_piece so_far rest (Some p) = rest (so_far ++ (p ∷ []))
+
+-- the pieces that all words left go on to, from the pieces so far
+unfoldable pub pieces_from : List Piece → Words → Result (List Piece) LineFault
+pieces_from so_far [] = Ok so_far
+pieces_from so_far (word ∷ rest) = with_piece so_far (λ pieces. pieces_from pieces rest) (piece word)
+
+abbrev pub request_of : Kind → ℕ → ℕ → List Piece → Request
+request_of kind slba blocks pieces = record { kind = kind; slba = slba; blocks = blocks; pieces = pieces }
+
+abbrev pub reserve_line : Words → Result Line LineFault
+reserve_line ws = do
+  q ← number_word (2 ^ 16) ws
+  kind ← kind_word q.1
+  slba ← number_word (2 ^ 64) kind.1
+  blocks ← number_word (2 ^ 32) slba.1
+  pieces ← pieces_from [] blocks.1
+  Ok (line.Step (step.Reserve q.0 (request_of kind.0 slba.0 blocks.0 pieces)))
+
+abbrev pub fill_line : Words → Result Line LineFault
+fill_line ws = do
+  q ← number_word (2 ^ 16) ws
+  cid ← number_word (2 ^ 16) q.1
+  bytes ← hex_word cid.1
+  nothing_more bytes.1 (line.Step (step.Fill q.0 cid.0 bytes.0))
+
+abbrev pub forge_line : Words → Result Line LineFault
+forge_line ws = do
+  q ← number_word (2 ^ 16) ws
+  slot ← number_word (2 ^ 16) q.1
+  bytes ← sixteen_bytes_word slot.1
+  nothing_more bytes.1 (line.Step (step.Forge q.0 slot.0 bytes.0))
+
+abbrev pub queue_line : QueueVerb → Words → Result Line LineFault
+queue_line verb ws = do
+  q ← number_word (2 ^ 16) ws
+  nothing_more q.1 (line.Step (queue_step verb q.0))
+
+abbrev pub command_line : CommandVerb → Words → Result Line LineFault
+command_line verb ws = do
+  q ← number_word (2 ^ 16) ws
+  cid ← number_word (2 ^ 16) q.1
+  nothing_more cid.1 (line.Step (command_step verb q.0 cid.0))
+
+-- the line of a verb, by the words after it
+abbrev pub verb_line : Words → Verb → Result Line LineFault
+verb_line ws Reserve = reserve_line ws
+verb_line ws Fill = fill_line ws
+verb_line ws Forge = forge_line ws
+verb_line ws Owners = nothing_more ws line.Owners
+verb_line ws (OnQueue verb) = queue_line verb ws
+verb_line ws (OnCommand verb) = command_line verb ws
+
+abbrev pub begins_comment : List ℕ → Bool
+begins_comment [] = false
+begins_comment (b ∷ bs) = b == 35
+
+abbrev pub known_verb_line : Words → Option Verb → Result Line LineFault
+known_verb_line ws None = Err UnknownVerb
+known_verb_line ws (Some verb) = verb_line ws verb
+
+abbrev pub line_of_words : Words → Result Line LineFault
+line_of_words [] = Ok line.Nothing
+line_of_words (first ∷ rest) = if begins_comment first then Ok line.Nothing else known_verb_line rest (verb_named first)
+
+-- a byte that is not ASCII
+abbrev pub is_high : ℕ → Bool
+is_high b = nat_le 128 b
+
+abbrev pub line_of : List ℕ → Result Line LineFault
+line_of bytes =
+    if nat_lt 16384 (length bytes) then Err LongLine
+    else if list_any is_high bytes then Err NotAscii
+    else line_of_words (words bytes)

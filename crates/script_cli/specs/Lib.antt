@@ -1,0 +1,9 @@
+pub mod Grammar
+pub mod Lines
+pub mod Numbers
+pub mod Owners
+pub mod Pieces
+pub mod Replies
+pub mod Scripts
+pub mod Verbs
+pub mod Worked

@@ -1,0 +1,29 @@
+//! Scripts as text, and replies as text.
+//!
+//! [`read_script`] reads a script to its lines that do something, or to its first fault; [`append_reply`], [`append_owners`] and
+//! [`append_counts`] write what its steps answered. The grammar and the lines are this project's own.
+//!
+//! `specs/Lines.antt` cuts a text into lines and words, `specs/Numbers.antt` and `specs/Pieces.antt` say what single words stand for,
+//! `specs/Grammar.antt` what a line is, and `specs/Scripts.antt` what a script is, or its first fault. `specs/Replies.antt` and
+//! `specs/Owners.antt` have the text that is printed. [`worked`] and [`worked_replies`] compute some of these.
+#![tactic(auto)]
+
+mod fault;
+mod grammar;
+mod lines;
+mod owners;
+mod reply;
+mod script;
+#[cfg(test)]
+mod tests;
+mod values;
+mod verb;
+mod words;
+pub mod worked;
+pub mod worked_replies;
+
+pub use fault::{LineFault, ScriptFault};
+pub use owners::{append_counts, append_owners};
+pub use reply::append_reply;
+pub use script::{Line, Numbered, Script, read_script};
+pub use verb::{CommandVerb, QueueVerb, Verb};

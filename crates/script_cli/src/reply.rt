@@ -1,0 +1,293 @@
+//! Replies as text.
+
+ghost use Rattle.std.specs.Prelude.{◌≡◌, ◌<◌, ◌++◌, OnOk, string_bytes, true, codes};
+ghost use Rattle.std.specs.Fmt.{decimal, digit_glyph};
+ghost use Rattle.script_cli.specs.Replies.{more_pages, touched_text, run_text, gathered_text, request_fault_name as spec_request_fault_name, fill_fault_name as spec_fill_fault_name, refusal_name as spec_refusal_name, refusal_detail, refusal_text, rejected_name as spec_rejected_name, reaped_text, walk_text, reserved_text, answer_text, reply_line};
+
+use crate::verb::Verb;
+use controller_walk::WalkState;
+use io_commands::{FillFault, RequestFault};
+use page_memory::PageNo;
+use std::alloc::AllocError;
+use step_core::{Reaped, Refusal, RejectedFor, Reply, Touched};
+
+/// Puts further pages, each behind a comma.
+fn put_more_pages(out: &mut String, pages: &[PageNo]) -> Result<(), AllocError>
+    ensures { OnOk result (string_bytes out.new ≡ string_bytes out.old ++ more_pages pages.now) }
+{
+    let mut rest = pages;
+    while let Some((page, others)) = rest.split_first() {
+        let number = page.0;
+        write!(out, ",{number}")?;
+        rest = others;
+    }
+    Ok(())
+}
+
+/// Puts the pages that a step touched.
+fn put_touched(out: &mut String, touched: &Touched) -> Result<(), AllocError>
+    ensures { OnOk result (string_bytes out.new ≡ string_bytes out.old ++ touched_text touched.now) }
+{
+    let Some((page, rest)) = touched.pages().split_first() else {
+        return out.push_str("-");
+    };
+    let number = page.0;
+    write!(out, "{number}")?;
+    put_more_pages(out, rest)
+}
+
+/// An upper case hexadecimal digit.
+fn digit_char(digit: u8) -> char
+    requires { digit < 16 }
+    ensures value { result ≡ digit_glyph true digit }
+    ensures ascii { result < 128 }
+{
+    if digit < 10 {
+        char::from(b'0' + digit)
+    } else {
+        char::from(b'A' + (digit - 10))
+    }
+}
+
+/// Puts a run of one byte.
+fn put_run(out: &mut String, byte: u8, count: usize) -> Result<(), AllocError>
+    ensures { OnOk result (string_bytes out.new ≡ string_bytes out.old ++ run_text byte count) }
+{
+    out.push(digit_char(byte / 16))?;
+    out.push(digit_char(byte % 16))?;
+    write!(out, "*{count}")
+}
+
+/// Puts bytes as their longest runs.
+fn put_gathered(out: &mut String, bytes: &[u8]) -> Result<(), AllocError>
+    ensures { OnOk result (string_bytes out.new ≡ string_bytes out.old ++ gathered_text bytes.now) }
+{
+    let Some((first, mut rest)) = bytes.split_first() else {
+        return out.push_str("-");
+    };
+    let mut byte = *first;
+    let mut count = 1usize;
+    while let Some((next, others)) = rest.split_first() {
+        if *next == byte {
+            count += 1;
+        } else {
+            put_run(out, byte, count)?;
+            out.push_str(",")?;
+            byte = *next;
+            count = 1;
+        }
+        rest = others;
+    }
+    put_run(out, byte, count)
+}
+
+/// The name of a request's fault.
+fn request_fault_name(why: RequestFault) -> &'static str
+    ensures { result.now ≡ spec_request_fault_name why }
+{
+    match why {
+        RequestFault::TooManyPieces => "TooManyPieces",
+        RequestFault::EmptyPiece => "EmptyPiece",
+        RequestFault::CrossesPage => "CrossesPage",
+        RequestFault::BadCount => "BadCount",
+        RequestFault::LengthMismatch => "LengthMismatch",
+    }
+}
+
+/// The name of why a draft was not filled.
+fn fill_fault_name(why: FillFault) -> &'static str
+    ensures { result.now ≡ spec_fill_fault_name why }
+{
+    match why {
+        FillFault::NotASource => "NotASource",
+        FillFault::WrongLength => "WrongLength",
+    }
+}
+
+/// The name of why a completion was rejected.
+fn rejected_name(why: RejectedFor) -> &'static str
+    ensures { result.now ≡ spec_rejected_name why }
+{
+    match why {
+        RejectedFor::WrongQueue => "WrongQueue",
+        RejectedFor::BadHead => "BadHead",
+        RejectedFor::UnknownId => "UnknownId",
+    }
+}
+
+/// The name of a refusal.
+fn refusal_name(why: Refusal) -> &'static str
+    ensures { result.now ≡ spec_refusal_name why }
+{
+    match why {
+        Refusal::NoQueue => "NoQueue",
+        Refusal::Deleting => "Deleting",
+        Refusal::Bad(_) => "Bad",
+        Refusal::NoIdentifier => "NoIdentifier",
+        Refusal::NoPages { .. } => "NoPages",
+        Refusal::Memory => "Memory",
+        Refusal::Stranger => "Stranger",
+        Refusal::NotBuilt => "NotBuilt",
+        Refusal::QueueGone => "QueueGone",
+        Refusal::QueueFull => "QueueFull",
+        Refusal::NotYet => "NotYet",
+        Refusal::WrongState => "WrongState",
+        Refusal::NoSuchCommand => "NoSuchCommand",
+        Refusal::NotDeleted => "NotDeleted",
+        Refusal::NotDrained => "NotDrained",
+        Refusal::NoSlot => "NoSlot",
+        Refusal::Idle => "Idle",
+        Refusal::SlotOut => "SlotOut",
+        Refusal::Full => "Full",
+        Refusal::NoJob => "NoJob",
+        Refusal::Nothing => "Nothing",
+        Refusal::Walking => "Walking",
+        Refusal::Waits => "Waits",
+    }
+}
+
+/// Puts what stands after the name of a refusal.
+fn put_refusal_detail(out: &mut String, why: Refusal) -> Result<(), AllocError>
+    ensures { OnOk result (string_bytes out.new ≡ string_bytes out.old ++ refusal_detail why) }
+{
+    match why {
+        Refusal::Bad(fault) => {
+            let name = request_fault_name(fault);
+            write!(out, " {name}")
+        }
+        Refusal::NoPages { need, free } => write!(out, " need {need} free {free}"),
+        _ => Ok(()),
+    }
+}
+
+/// Puts a refusal.
+fn put_refusal(out: &mut String, why: Refusal) -> Result<(), AllocError>
+    ensures { OnOk result (string_bytes out.new ≡ string_bytes out.old ++ refusal_text why) }
+{
+    let name = refusal_name(why);
+    write!(out, "refused {name}")?;
+    put_refusal_detail(out, why)
+}
+
+/// Puts what a reap found.
+fn put_reaped(out: &mut String, what: &Reaped) -> Result<(), AllocError>
+    ensures { OnOk result (string_bytes out.new ≡ string_bytes out.old ++ reaped_text what.now) }
+{
+    match *what {
+        Reaped::Empty => out.push_str("empty"),
+        Reaped::Done { cid, status } => write!(out, "done cid {cid} status {status}"),
+        Reaped::AdminDone { cid, status, dw0 } => {
+            write!(out, "admin cid {cid} status {status} dw0 {dw0}")
+        }
+        Reaped::Rejected(why) => {
+            let name = rejected_name(why);
+            write!(out, "rejected {name}")
+        }
+    }
+}
+
+/// Puts what a walk answered.
+fn put_walk(out: &mut String, state: WalkState) -> Result<(), AllocError>
+    ensures { OnOk result (string_bytes out.new ≡ string_bytes out.old ++ walk_text state) }
+{
+    match state {
+        WalkState::More => out.push_str("more"),
+        WalkState::End => out.push_str("end"),
+        WalkState::Fault(status) => write!(out, "fault {status}"),
+    }
+}
+
+/// Puts the pages that a step touched, behind the word for them.
+fn put_touched_word(out: &mut String, touched: &Touched) -> Result<(), AllocError>
+    ensures { OnOk result (string_bytes out.new ≡ string_bytes out.old ++ (codes " touched " ++ touched_text touched.now)) }
+{
+    out.push_str(" touched ")?;
+    put_touched(out, touched)
+}
+
+/// Puts the answer of a step of the controller.
+fn put_device_answer(
+    out: &mut String,
+    state: WalkState,
+    touched: &Touched,
+) -> Result<(), AllocError>
+    ensures { OnOk result (string_bytes out.new ≡ string_bytes out.old ++ (walk_text state ++ (codes " touched " ++ touched_text touched.now))) }
+{
+    put_walk(out, state)?;
+    put_touched_word(out, touched)
+}
+
+/// Puts what an entry was fetched as.
+fn put_fetched(out: &mut String, cid: u16, touched: &Touched) -> Result<(), AllocError>
+    ensures { OnOk result (string_bytes out.new ≡ string_bytes out.old ++ (codes "cid " ++ (decimal cid ++ (codes " touched " ++ touched_text touched.now)))) }
+{
+    write!(out, "cid {cid}")?;
+    put_touched_word(out, touched)
+}
+
+/// Puts that a completion was posted.
+fn put_completed(out: &mut String, touched: &Touched) -> Result<(), AllocError>
+    ensures { OnOk result (string_bytes out.new ≡ string_bytes out.old ++ (codes "ok touched " ++ touched_text touched.now)) }
+{
+    out.push_str("ok touched ")?;
+    put_touched(out, touched)
+}
+
+/// Puts that a draft was not filled.
+fn put_not_filled(out: &mut String, why: FillFault) -> Result<(), AllocError>
+    ensures { OnOk result (string_bytes out.new ≡ string_bytes out.old ++ (codes "refused " ++ spec_fill_fault_name why)) }
+{
+    let name = fill_fault_name(why);
+    write!(out, "refused {name}")
+}
+
+/// Puts the numbers of a reserved command.
+fn put_reserved(out: &mut String, q: u16, cid: u16, data: u32, chain: u32) -> Result<(), AllocError>
+    ensures { OnOk result (string_bytes out.new ≡ string_bytes out.old ++ reserved_text q cid «data» chain) }
+{
+    write!(out, "q {q} cid {cid} data {data} chain {chain}")
+}
+
+/// Puts an answer.
+fn put_answer(out: &mut String, reply: &Reply) -> Result<(), AllocError>
+    ensures { OnOk result (string_bytes out.new ≡ string_bytes out.old ++ answer_text reply.now) }
+{
+    match reply {
+        Reply::Reserved {
+            q,
+            cid,
+            data,
+            chain,
+        } => put_reserved(out, *q, *cid, *data, *chain),
+        Reply::Accepted => out.push_str("ok"),
+        Reply::Fetched { cid, touched } => put_fetched(out, *cid, touched),
+        Reply::Walked { state, touched } => put_device_answer(out, *state, touched),
+        Reply::Completed { touched } => put_completed(out, touched),
+        Reply::Reaps(what) => put_reaped(out, what),
+        Reply::Collected(status) => write!(out, "status {status}"),
+        Reply::Gathered(bytes) => put_gathered(out, bytes.as_slice()),
+        Reply::Sent { cid } => write!(out, "cid {cid}"),
+        Reply::NoValue => out.push_str("refused NoValue"),
+        Reply::NotFilled(why) => put_not_filled(out, *why),
+        Reply::Refused { why, .. } => put_refusal(out, *why),
+    }
+}
+
+/// Puts the line of a step behind what stands in a text: the number of its line, its verb and its answer.
+///
+/// # Errors
+///
+/// Where memory is refused. A part of the line may then stand in the text.
+pub fn append_reply(
+    out: &mut String,
+    number: u32,
+    verb: Verb,
+    reply: &Reply,
+) -> Result<(), AllocError>
+    ensures { OnOk result (string_bytes out.new ≡ string_bytes out.old ++ reply_line number verb reply.now) }
+{
+    let name = verb.name();
+    write!(out, "{number} {name} ")?;
+    put_answer(out, reply)?;
+    out.push_str("\n")
+}

@@ -1,0 +1,173 @@
+//! The words of a line.
+
+ghost use Rattle.std.specs.Prelude.{◌≡◌, ◌≤◌, ◌^◌, ◌∷◌, [], length, Ok, Err, IfOk, MatchOption, MatchResult};
+ghost use Rattle.std.specs.List.{position_or_len};
+ghost use Rattle.script_cli.specs.Grammar.{number_word, kind_word, hex_word, sixteen_bytes_word, nothing_more};
+ghost use Rattle.script_cli.specs.Lines.{is_blank as spec_is_blank, is_solid, words};
+ghost use Rattle.script_cli.specs.declared.fault.LineFault.TheVariants.{MissingWord};
+ghost use Rattle.script_cli.specs.declared.script.Line.{Line};
+
+use crate::fault::LineFault;
+use crate::values::{bytes, kind, number16, number32, number64, sixteen_bytes};
+use io_commands::Kind;
+use std::alloc::{AllocError, Global};
+use std::marker::Model;
+use step_core::Bytes;
+
+/// The words of a line that are left. Contracts see it as the list of them.
+#[derive(Drop)]
+pub(crate) struct Words<'a> {
+    rest: &'a [u8],
+}
+
+impl<'a> Model for Words<'a> {
+    ghost use Rattle.std.specs.Prelude.{List, ℕ};
+    ghost use Rattle.script_cli.specs.Lines.{words};
+
+    ghost Value = { List (List ℕ) };
+
+    ghost view = { λ w. words w.rest.now };
+}
+
+/// Whether a byte stands between words.
+fn is_blank(byte: u8) -> bool
+    ensures { result ≡ spec_is_blank byte }
+{
+    byte == b' ' || byte == b'\t'
+}
+
+/// Where the first blank stands; the length of the text if there is none.
+fn first_blank(text: &[u8]) -> usize
+    ensures place { result ≡ position_or_len spec_is_blank text.now }
+    ensures most { result ≤ length text.now }
+{
+    for (i, byte) in text.iter().enumerate() {
+        if is_blank(*byte) {
+            return i;
+        }
+    }
+    text.len()
+}
+
+/// How many blanks the text begins with.
+fn leading_blanks(text: &[u8]) -> usize
+    ensures place { result ≡ position_or_len is_solid text.now }
+    ensures most { result ≤ length text.now }
+{
+    for (i, byte) in text.iter().enumerate() {
+        if !is_blank(*byte) {
+            return i;
+        }
+    }
+    text.len()
+}
+
+/// The first word of a line, and what stands after it.
+fn split_word(line: &[u8]) -> Option<(&[u8], &[u8])>
+    ensures { MatchOption result (words line.now ≡ []) (λ r. words line.now ≡ r.0.now ∷ words r.1.now) }
+{
+    let (_, text) = line.split_at(leading_blanks(line));
+    if text.is_empty() {
+        return None;
+    }
+    Some(text.split_at(first_blank(text)))
+}
+
+impl<'a> Words<'a> {
+    /// The words of a line.
+    pub(crate) fn of(line: &'a [u8]) -> Words<'a>
+        ensures { result ≡ words line.now }
+    {
+        Words { rest: line }
+    }
+
+    /// Takes the first word.
+    pub(crate) fn take_first(&mut self) -> Option<&'a [u8]>
+        ensures { MatchOption result ((self.old ≡ []) × (self.new ≡ [])) (λ word. self.old ≡ word.now ∷ self.new) }
+    {
+        let (word, rest) = split_word(self.rest)?;
+        self.rest = rest;
+        Some(word)
+    }
+}
+
+impl<'a> Words<'a> {
+    /// Takes a word that is wanted.
+    fn wanted(&mut self) -> Result<&'a [u8], LineFault>
+        ensures { MatchResult result (λ word. self.old ≡ word.now ∷ self.new) (λ fault. (self.old ≡ []) × (fault ≡ MissingWord)) }
+    {
+        self.take_first().ok_or(LineFault::MissingWord)
+    }
+
+    /// Takes a number of 16 bits.
+    #[tactic(auto, unfolding(crate::specs::Grammar::number_word))]
+    pub(crate) fn number16(&mut self) -> Result<u16, LineFault>
+        ensures { MatchResult result (λ n. number_word (2 ^ 16) self.old ≡ Ok (n, self.new)) (λ fault. number_word (2 ^ 16) self.old ≡ Err fault) }
+    {
+        let word = self.wanted()?;
+        number16(word).ok_or(LineFault::BadNumber)
+    }
+
+    /// Takes a number of 32 bits.
+    #[tactic(auto, unfolding(crate::specs::Grammar::number_word))]
+    pub(crate) fn number32(&mut self) -> Result<u32, LineFault>
+        ensures { MatchResult result (λ n. number_word (2 ^ 32) self.old ≡ Ok (n, self.new)) (λ fault. number_word (2 ^ 32) self.old ≡ Err fault) }
+    {
+        let word = self.wanted()?;
+        number32(word).ok_or(LineFault::BadNumber)
+    }
+
+    /// Takes a number of 64 bits.
+    #[tactic(auto, unfolding(crate::specs::Grammar::number_word))]
+    pub(crate) fn number64(&mut self) -> Result<u64, LineFault>
+        ensures { MatchResult result (λ n. number_word (2 ^ 64) self.old ≡ Ok (n, self.new)) (λ fault. number_word (2 ^ 64) self.old ≡ Err fault) }
+    {
+        let word = self.wanted()?;
+        number64(word).ok_or(LineFault::BadNumber)
+    }
+
+    /// Takes a kind of command.
+    #[tactic(auto, unfolding(crate::specs::Grammar::kind_word))]
+    pub(crate) fn kind(&mut self) -> Result<Kind, LineFault>
+        ensures { MatchResult result (λ k. kind_word self.old ≡ Ok (k, self.new)) (λ fault. kind_word self.old ≡ Err fault) }
+    {
+        let word = self.wanted()?;
+        kind(word).ok_or(LineFault::BadKind)
+    }
+
+    /// Takes bytes in hexadecimal digits. The outer error is that memory was refused.
+    #[tactic(auto, unfolding(crate::specs::Grammar::hex_word))]
+    pub(crate) fn bytes(&mut self, alloc: Global) -> Result<Result<Bytes, LineFault>, AllocError>
+        ensures { IfOk result (λ r. MatchResult r (λ b. hex_word self.old ≡ Ok (b, self.new)) (λ fault. hex_word self.old ≡ Err fault)) }
+    {
+        match self.wanted() {
+            Ok(word) => Ok(bytes(alloc, word)?.ok_or(LineFault::BadHex)),
+            Err(fault) => Ok(Err(fault)),
+        }
+    }
+
+    /// Takes the 16 bytes of a completion slot. The outer error is that memory was refused.
+    #[tactic(auto, unfolding(crate::specs::Grammar::sixteen_bytes_word))]
+    pub(crate) fn sixteen_bytes(
+        &mut self,
+        alloc: Global,
+    ) -> Result<Result<[u8; 16], LineFault>, AllocError>
+        ensures { IfOk result (λ r. MatchResult r (λ b. sixteen_bytes_word self.old ≡ Ok (b, self.new)) (λ fault. sixteen_bytes_word self.old ≡ Err fault)) }
+    {
+        match self.wanted() {
+            Ok(word) => Ok(sixteen_bytes(alloc, word)?.ok_or(LineFault::BadHex)),
+            Err(fault) => Ok(Err(fault)),
+        }
+    }
+
+    /// Sees that no word is left.
+    #[tactic(auto, unfolding(crate::specs::Grammar::nothing_more))]
+    pub(crate) fn end(&mut self) -> Result<(), LineFault>
+        ensures { MatchResult result (λ u. (what : Line) → nothing_more self.old what ≡ Ok what) (λ fault. (what : Line) → nothing_more self.old what ≡ Err fault) }
+    {
+        match self.take_first() {
+            Some(_) => Err(LineFault::ExtraWord),
+            None => Ok(()),
+        }
+    }
+}
