@@ -19,7 +19,7 @@ use Rattle.sgl_descriptor.specs.Targets.{Target, Place, targets, counted, counte
 use Rattle.sgl_descriptor.proofs.Counts.{length-targets, targets-append, counted_in-append}
 use Rattle.controller_walk.specs.declared.cursor.Cursor.{Cursor}
 use Rattle.controller_walk.specs.declared.walk.WalkState.TheVariants.{End, Fault}
-use Rattle.controller_walk.specs.Units.{Stays, Moves, Course, Closes, Does, Row, first_of, after_read, read_at, from_place, behind, goes_on, unless_fault, first_fault, moving, first_part, pages_spanned, entry_cursor, next, named_last, named_on, names_no_segment, passes_end}
+use Rattle.controller_walk.specs.Units.{Stays, Moves, Course, Closes, Does, Row, first_passing, after_read, read_at, from_place, behind, goes_on, unless_fault, first_fault, moving, first_part, pages_spanned, entry_cursor, next, named_last, named_on, names_no_segment, passes_end}
 use Rattle.controller_walk.specs.Along.{taken, MovesAlong, ListMovesAlong}
 use Rattle.controller_walk.proofs.Courses.{part_most}
 
@@ -67,11 +67,11 @@ along_moving m dir need parts (suc n) place len offset rest there h =
     both true c t k = (t, k)
     both false c t k = λ e. cc
 
-none_first : (b : Bool) (s : Status) (rows : List Row) → first_of ((b, s) ∷ rows) ≡ None → (b ≡ false) × (first_of rows ≡ None)
+none_first : (b : Bool) (s : Status) (rows : List Row) → first_passing ((b, s) ∷ rows) ≡ None → (b ≡ false) × (first_passing rows ≡ None)
 none_first true s rows h = cc
 none_first false s rows h = (refl, h)
 
-none_fifth : (a b e f g : Bool) (s t u v w : Status) (rows : List Row) → first_of ((a, s) ∷ (b, t) ∷ (e, u) ∷ (f, v) ∷ (g, w) ∷ rows) ≡ None → g ≡ false
+none_fifth : (a b e f g : Bool) (s t u v w : Status) (rows : List Row) → first_passing ((a, s) ∷ (b, t) ∷ (e, u) ∷ (f, v) ∷ (g, w) ∷ rows) ≡ None → g ≡ false
 none_fifth a b e f g s t u v w rows h =
     let second = none_first a s ((b, t) ∷ (e, u) ∷ (f, v) ∷ (g, w) ∷ rows) h in
     let third = none_first b t ((e, u) ∷ (f, v) ∷ (g, w) ∷ rows) second.1 in

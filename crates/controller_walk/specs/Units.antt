@@ -44,9 +44,10 @@ pub data Course : Type 0 where
 abbrev pub Row : Type 0
 Row = Bool × Status
 
-abbrev pub first_of : List Row → Option Status
-first_of [] = None
-first_of ((applies, status) ∷ rows) = if applies then Some status else first_of rows
+-- what stands in the first row that applies
+abbrev pub first_passing : {A : Type 0} → List (Bool × A) → Option A
+first_passing [] = None
+first_passing (row ∷ rows) = if row.0 then Some row.1 else first_passing rows
 
 -- what names a segment: a Last Segment descriptor, or a Segment descriptor
 abbrev pub named_last : Named → Bool
@@ -84,7 +85,7 @@ passes_end d = nat_lt (2 ^ 64) (address d + size d)
 -- left in the segment, itself among them, and what names the segment), with so many bytes wanted.
 abbrev pub first_fault : Cursor → Direction → ℕ → Descriptor → Option Status
 first_fault c dir wanted d =
-    first_of (
+    first_passing (
     -- a link, in a segment that a Last Segment descriptor names
     (is_link d && named_last c.named, INVALID_SGL_SEGMENT)
     -- a link, not in the last place of its segment

@@ -6,7 +6,7 @@ use Rattle.block_image.specs.Blocks.{blocks_at, with_blocks}
 use Rattle.controller_walk.specs.declared.walk.Walk.{Walk}
 use Rattle.controller_walk.specs.declared.walk.WalkState.{WalkState}
 use Rattle.controller_walk.specs.declared.walk.WalkState.TheVariants.{More, End, Fault}
-use Rattle.controller_walk.specs.Units.{Course, Closes, course_of_list}
+use Rattle.controller_walk.specs.Units.{Course, Closes, course_of_list, first_passing}
 use Rattle.controller_walk.specs.Walks as walks
 use Rattle.entry_codec.specs.declared.io_opcode.TheConstants.{READ, WRITE, COMPARE}
 use Rattle.entry_codec.specs.declared.status.Status.{Status}
@@ -17,7 +17,7 @@ use Rattle.sgl_descriptor.specs.declared.Direction.{Direction}
 use Rattle.sgl_descriptor.specs.declared.Direction.TheVariants.{Source}
 use Rattle.io_commands.specs.declared.request.Kind.{Kind}
 use Rattle.io_commands.specs.declared.request.Kind.TheVariants.{Read, Write, Compare}
-use Rattle.io_commands.specs.Requests.{first_passing, direction_of}
+use Rattle.io_commands.specs.Requests.{direction_of}
 
 abbrev pub kind_of_opcode : ℕ → Option Kind
 kind_of_opcode opcode = first_passing ((opcode == WRITE, Write) ∷ (opcode == READ, Read) ∷ (opcode == COMPARE, Compare) ∷ [])

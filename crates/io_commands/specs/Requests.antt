@@ -1,5 +1,6 @@
 -- What a host asks for: which blocks, in which direction, and the pieces of memory that take part.
 use Rattle.std.specs.Prelude.{ℕ, ◌+◌, ◌*◌, ◌^◌, ◌<◌, ◌==◌, nat_lt, Bool, true, false, ◌||◌, not, Option, Some, None, List, [], ◌∷◌, length, sum_by, count_by, All, if◌then◌else◌}
+use Rattle.controller_walk.specs.Units.{first_passing}
 use Rattle.std.specs.List.{list_any}
 use Rattle.sgl_descriptor.specs.declared.Direction.{Direction}
 use Rattle.sgl_descriptor.specs.declared.Direction.TheVariants.{Destination, Source}
@@ -13,11 +14,6 @@ use Rattle.io_commands.specs.declared.request.Piece.TheVariants.{Data, Bucket}
 use Rattle.io_commands.specs.declared.request.Request.{Request}
 use Rattle.io_commands.specs.declared.request.RequestFault.{RequestFault}
 use Rattle.io_commands.specs.declared.request.RequestFault.TheVariants.{TooManyPieces, EmptyPiece, CrossesPage, BadCount, LengthMismatch}
-
--- the first of the tests that passes, with what it stands for
-abbrev pub first_passing : {A : Type 0} → List (Bool × A) → Option A
-first_passing [] = None
-first_passing (test ∷ tests) = if test.0 then Some test.1 else first_passing tests
 
 -- a Read brings data to the host's pages, a Write and a Compare take it from them
 abbrev pub direction_of : Kind → Direction

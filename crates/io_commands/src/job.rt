@@ -3,7 +3,7 @@
 ghost use Rattle.std.specs.Prelude.{◌≡◌, ◌<◌, ◌≤◌, ◌+◌, ◌*◌, ◌-◌, ◌^◌, ◌++◌, ◌∷◌, [], length, replicate, ℕ, IsSome, IfOk, None, Some};
 ghost use Rattle.std.specs.Result.{result_err};
 ghost use Rattle.block_image.specs.Blocks.{block_count};
-ghost use Rattle.controller_walk.specs.Walks.{DoesFirst, LeavesRest, IfMore};
+ghost use Rattle.controller_walk.specs.Walks.{DoesFirst, LeavesRest};
 ghost use Rattle.io_commands.specs.Requests.{opcode_of};
 ghost use Rattle.io_commands.specs.declared.request.Kind.{Kind};
 ghost use Rattle.io_commands.specs.Jobs.{IsJob, kind_of_opcode, first_block as spec_first_block, block_number as spec_block_number, need_of_entry, direction_of_entry, io_fault, NoFaultIsPassing, first_bytes as spec_first_bytes, bytes_after_check, BeginsWalk, job_course, left_of_walk, verdict_of, finished_status, finished_image, status_after, image_after, entry_over};
@@ -176,7 +176,7 @@ impl Job {
         ensures verdict { self.new.verdict ≡ verdict_of result }
         ensures entry { self.new.entry ≡ self.old.entry }
         ensures blocks { self.new.blocks ≡ self.old.blocks }
-        ensures fewer { IfMore result (left_of_walk self.new.walk < left_of_walk self.old.walk) }
+        ensures fewer { left_of_walk self.new.walk < left_of_walk self.old.walk }
         ensures touches { length (D.reached dma.new) ≤ length (D.reached dma.old) + 2 }
         ensures pool { D.page_count dma.new ≡ D.page_count dma.old }
         ensures job { IsJob self.new }

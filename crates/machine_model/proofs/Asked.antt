@@ -9,7 +9,7 @@ use Rattle.entry_codec.specs.declared.submission.SubEntry.{SubEntry}
 use Rattle.admin_commands.specs.declared.AdminKind.TheVariants.{Abort, DeleteSq, DeleteCq}
 use Rattle.admin_commands.specs.declared.AdminKind.{AdminKind}
 use Rattle.io_commands.specs.declared.request.Request.{Request}
-use Rattle.io_commands.specs.Requests.{first_passing}
+use Rattle.controller_walk.specs.Units.{first_passing}
 use Rattle.page_memory.specs.Pages.{with_page_bytes}
 use Rattle.entry_codec.specs.declared.status.TheConstants.Status.{ABORTED_SQ_DELETION}
 use Rattle.entry_codec.specs.declared.status.Status.{Status}
@@ -187,7 +187,7 @@ asked_noted rs hs k at c r b is work once asked q = counts q (k == q) refl (tota
 
 -- Each event
 
-abbrev AskedS : State → Type 0
+abbrev pub AskedS : State → Type 0
 AskedS s = AskedPart (host_part s)
 
 asked-ring : (q : ℕ) (g : HostRing → HostRing) (s : State) → AskedS s → AskedS (a.on_ring q g s)
@@ -294,7 +294,7 @@ asked-work (Io request) q cid st s r is work once h =
     λ z. with_same q cid (a.held st) (λ r'. refl) s.host.records z ∙ h z
 asked-work (Management adm) q cid st s r is work once h = asked-admin adm st q cid s r is work once h
 
-asked-heard : (q : ℕ) (e : ComEntry) (s : State) → AskedS s → AskedS (a.heard q e s)
+pub asked-heard : (q : ℕ) (e : ComEntry) (s : State) → AskedS s → AskedS (a.heard q e s)
 asked-heard q e s h = asked-ring q (knowing e.sqhd) (a.consumed q s) (asked-ring q (next_head s.entries) s h)
 
 asked-done : (q cid : ℕ) (st : Status) (s : State) → HoldsPart (host_part s) → AskedS s

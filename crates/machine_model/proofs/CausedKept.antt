@@ -155,7 +155,7 @@ sent_less q cid (x ∷ rs) = omega (arith, sent_less q cid rs, each (x.q == q) (
     each true false c = omega arith
     each false b c = omega arith
 
-not_conflicting : (s : State) → Stood s → (q : ℕ) (e : SubEntry) → InHand s q e → is_some (job_at s q e.cid) ≡ false
+pub not_conflicting : (s : State) → Stood s → (q : ℕ) (e : SubEntry) → InHand s q e → is_some (job_at s q e.cid) ≡ false
 not_conflicting s stood q e hand = go (job_at s q e.cid) refl
   where
     w : ℕ → ℕ
@@ -173,7 +173,7 @@ not_conflicting s stood q e hand = go (job_at s q e.cid) refl
         (omega (arith, ap one (eq-eqb e.cid e.cid refl))) in
         absurd (omega (arith, un, mine, weigh, in_found (is_job q e.cid) s.device.jobs j f (job_weight q w), stood.places q w, sent_less q e.cid s.host.records, stood.grounds.stands.0.once q e.cid))
 
-none_found : (q cid : ℕ) (js : List Job) → is_some (find (is_job q cid) js) ≡ false → AllByRecursion (λ j. is_job q cid j ≡ false) js
+pub none_found : (q cid : ℕ) (js : List Job) → is_some (find (is_job q cid) js) ≡ false → AllByRecursion (λ j. is_job q cid j ≡ false) js
 none_found q cid [] h = tt
 none_found q cid (j ∷ js) h = go (is_job q cid j) refl h (none_found q cid js)
   where

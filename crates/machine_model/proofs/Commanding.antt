@@ -1,8 +1,8 @@
 -- What of the controller's part and of memory each command's list hangs on, and how records change.
-use Rattle.std.proofs.Common.{◌≡◌, ℕ, zero, suc, ◌+◌, ◌-◌, ◌/◌, ◌%◌, ◌<◌, ◌≤◌, ◌==◌, nat_lt, Bool, true, false, not, ◌&&◌, ◌||◌, Option, Some, None, List, [], ◌∷◌, ◌++◌, length, map, filter, find, take, drop, slice_get, is_none, if◌then◌else◌, refl, ap, sym, ◌∙◌, arith, subst, eqb-true, eq-eqb}
+use Rattle.std.proofs.Common.{◌≡◌, ℕ, ◌+◌, ◌-◌, ◌/◌, ◌%◌, ◌==◌, Bool, true, false, not, ◌&&◌, Option, Some, None, List, [], ◌∷◌, ◌++◌, length, map, filter, take, drop, slice_get, if◌then◌else◌, refl, ap, sym, ◌∙◌, subst, eqb-true}
 use Rattle.std.specs.Option.{option_map_or, option_and_then}
 use Rattle.std.specs.List.{AllByRecursion}
-use Rattle.std.proofs.lemmas.Bool.{true≢false, and_parts}
+use Rattle.std.proofs.lemmas.Bool.{true≢false}
 use Rattle.controller_walk.specs.Units.{Act, Stays, Reads, Moves}
 use Rattle.sgl_descriptor.specs.declared.Direction.{Direction}
 use Rattle.sgl_descriptor.specs.declared.Direction.TheVariants.{Destination, Source}
@@ -16,26 +16,26 @@ use Rattle.admin_commands.specs.Entries.{named_queue, named_command}
 use Rattle.admin_commands.specs.declared.SqState.TheVariants.{Absent, Stopping}
 use Rattle.entry_codec.specs.declared.submission.SubEntry.{SubEntry}
 use Rattle.entry_codec.specs.declared.status.Status.{Status}
-use Rattle.entry_codec.specs.declared.status.TheConstants.Status.{SUCCESS, COMMAND_ID_CONFLICT, ABORT_REQUESTED}
+use Rattle.entry_codec.specs.declared.status.TheConstants.Status.{COMMAND_ID_CONFLICT, ABORT_REQUESTED}
 use Rattle.entry_codec.specs.declared.admin_opcode.TheConstants.{DELETE_IO_SQ}
 use Rattle.io_commands.specs.declared.request.Request.{Request}
 use Rattle.io_commands.specs.Requests.{parts_of}
 use Rattle.io_commands.specs.Drafts.{io_entry}
 use Rattle.io_commands.specs.Jobs.{is_success, verdict_of, direction_of_entry, io_fault, bytes_after_check}
 use Rattle.machine_model.specs.Commands.{Work, Io, Management}
-use Rattle.machine_model.specs.State.{State, Device, HostQueue, DeviceQueue, Record, Job, Answer, pages_of}
+use Rattle.machine_model.specs.State.{State, Device, DeviceQueue, Record, Job, pages_of}
 use Rattle.machine_model.specs.Refusals.{is_submitted, next_rung, job_at, conflicts, fetch_slot}
 use Rattle.machine_model.specs.Claims.{OwnsFit}
 use Rattle.machine_model.specs.After as a
 use Rattle.machine_model.specs.After.{change}
 use Rattle.machine_model.specs.Reached.{only, on_pages}
-use Rattle.machine_model.specs.Standing.{IsSized, unfetched_at, HasEntry, ListStands, StandsAs, CommandStands}
+use Rattle.machine_model.specs.Standing.{HasEntry, ListStands, StandsAs, CommandStands}
 use Rattle.machine_model.proofs.Managed.{managed_by_case}
-use Rattle.machine_model.proofs.Placing.{device-posted, device-answered}
+use Rattle.machine_model.proofs.Placing.{device-answered}
 use Rattle.machine_model.proofs.Placed.{is_job}
 use Rattle.machine_model.proofs.Members.{In, all_in_both, all_map, all_filter, all_append, all_drop_one}
 use Rattle.machine_model.proofs.Served.{Commands}
-use Rattle.machine_model.proofs.Queues.{list_at, all_list}
+use Rattle.machine_model.proofs.Queues.{all_list}
 use Rattle.machine_model.proofs.Placements.{InHand, in_hand, first_is, on_job_q, on_job_entry, stopped_q, stopped_entry}
 
 -- Where the controller has an entry

@@ -1,8 +1,7 @@
 -- Every event keeps the lists of submitted commands: the other events, a walk last.
-use Rattle.std.proofs.Common.{◌≡◌, ℕ, zero, suc, ◌+◌, ◌*◌, ◌/◌, ◌%◌, ◌<◌, ◌≤◌, ◌==◌, nat_lt, Bool, true, false, not, ◌&&◌, ◌||◌, Option, Some, None, List, [], ◌∷◌, ◌++◌, length, map, filter, find, take, drop, slice_get, is_some, is_none, option_and_then, if◌then◌else◌, refl, ap, sym, ◌∙◌, arith, subst, eqb-true, eq-eqb, add-zero}
+use Rattle.std.proofs.Common.{◌≡◌, ℕ, zero, suc, ◌+◌, ◌/◌, ◌%◌, ◌==◌, Bool, true, false, not, ◌&&◌, ◌||◌, Option, Some, None, List, [], ◌∷◌, ◌++◌, length, map, take, drop, slice_get, is_some, is_none, option_and_then, if◌then◌else◌, refl, ap, sym, ◌∙◌, arith, subst, eqb-true, eq-eqb, add-zero}
 use Rattle.std.specs.Option.{option_map_or}
-use Rattle.std.specs.List.{AllByRecursion}
-use Rattle.std.proofs.lemmas.Bool.{true≢false, not-false, and_parts, or_parts}
+use Rattle.std.proofs.lemmas.Bool.{true≢false, and_parts, or_parts}
 use Rattle.page_ledger.specs.Owners.{is_among}
 use Rattle.controller_walk.specs.Units.{Act, Stays, Reads, Moves, Course, Closes, Does, units}
 use Rattle.sgl_descriptor.specs.declared.Direction.{Direction}
@@ -10,44 +9,38 @@ use Rattle.sgl_descriptor.specs.declared.Direction.TheVariants.{Destination, Sou
 use Rattle.admin_commands.specs.Entries.{admin_entry}
 use Rattle.admin_commands.specs.declared.AdminKind.TheVariants.{Abort, DeleteSq, DeleteCq}
 use Rattle.admin_commands.specs.declared.AdminKind.{AdminKind}
-use Rattle.entry_codec.specs.declared.submission.SubEntry.{SubEntry}
-use Rattle.entry_codec.specs.declared.completion.ComEntry.{ComEntry}
 use Rattle.entry_codec.specs.declared.status.Status.{Status}
 use Rattle.entry_codec.specs.declared.status.TheConstants.Status.{ABORTED_SQ_DELETION}
-use Rattle.io_commands.specs.declared.request.Request.{Request}
-use Rattle.io_commands.specs.Requests.{first_passing}
-use Rattle.io_commands.specs.Values.{numbers_of}
 use Rattle.io_commands.specs.Jobs.{is_success, verdict_of, direction_of_entry}
 use Rattle.page_memory.specs.Memory.{page_of}
 use Rattle.page_memory.specs.Pages.{Pages, page_at, with_page_bytes}
-use Rattle.queue_pair.specs.Rings.{next_head, knowing}
 use Rattle.machine_model.specs.Proper.{IsProper}
 use Rattle.machine_model.specs.Memory.{with_pages, without_pages}
 use Rattle.machine_model.specs.Commands.{Work, Io, Management}
-use Rattle.machine_model.specs.State.{State, Device, Host, HostQueue, DeviceQueue, Record, Phase, Drafted, Submitted, Held, Collected, Job, Answer, is_at, record_at, pages_of, with_record, without_record}
-use Rattle.machine_model.specs.Refusals.{is_submitted, is_drafted, is_collected, host_queue, device_queue, refusal_of, record_is, is_of, is_retired, seen_entry, entry_of, first_answer, job_at, job_is, slot_page, slot_offset}
-use Rattle.machine_model.specs.Step.{HostPart, host_part, IsController, reaped, times}
+use Rattle.machine_model.specs.State.{State, Device, Host, HostQueue, DeviceQueue, Record, Submitted, Held, Job, Answer, is_at, record_at, pages_of, with_record, without_record}
+use Rattle.machine_model.specs.Refusals.{is_submitted, host_queue, device_queue, refusal_of, is_retired, seen_entry, entry_of, first_answer, job_at, job_is, slot_page, slot_offset}
+use Rattle.machine_model.specs.Step.{HostPart, IsController, reaped, times}
 use Rattle.machine_model.specs.After as a
 use Rattle.machine_model.specs.After.{change}
 use Rattle.machine_model.specs.Events as events
 use Rattle.machine_model.specs.Events.{Event, Reply, Refusal, Reaped}
 use Rattle.machine_model.proofs.Touching.{is_walk}
 use Rattle.machine_model.specs.Reached.{on_pages, ActIn, CourseIn}
-use Rattle.machine_model.specs.Standing.{IsSized, HasEntry, ListStands, StandsAs, CommandStands}
-use Rattle.machine_model.proofs.Counting.{one, times-append, held_once}
-use Rattle.machine_model.proofs.Totals.{total, here}
+use Rattle.machine_model.specs.Standing.{CommandStands}
+use Rattle.machine_model.proofs.Counting.{times-append, held_once}
+use Rattle.machine_model.proofs.Totals.{total}
 use Rattle.machine_model.proofs.Parts.{part-posted}
 use Rattle.machine_model.proofs.Steps.{Accepts, part_controller}
-use Rattle.machine_model.proofs.Refused.{first_fails, rest_fails, found}
+use Rattle.machine_model.proofs.Refused.{first_fails, rest_fails}
 use Rattle.machine_model.proofs.Placing.{device-posted}
 use Rattle.machine_model.proofs.Placed.{is_job, find_sound}
 use Rattle.machine_model.proofs.Out.{named}
 use Rattle.machine_model.proofs.Owned.{in_record}
-use Rattle.machine_model.proofs.Members.{In, in_found, all_map, all_filter, all_append, all_drop_one, all_with, all_at_found}
+use Rattle.machine_model.proofs.Members.{In, in_found, all_map, all_filter, all_append, all_with, all_at_found}
 use Rattle.machine_model.proofs.Elsewhere.{bytes_elsewhere, owned_once}
 use Rattle.machine_model.proofs.Grounds.{Grounds}
 use Rattle.machine_model.proofs.Untouched.{untouched}
-use Rattle.machine_model.proofs.Served.{Commands, Stood, JobList, job_list, course_in, chain_of, data_of, counts_sent}
+use Rattle.machine_model.proofs.Served.{Commands, Stood, JobList, job_list, course_in, chain_of, counts_sent}
 use Rattle.machine_model.proofs.Queues.{all_list}
 use Rattle.machine_model.proofs.PlacesKept.{reaped_answer}
 use Rattle.machine_model.proofs.Commanding.{Keeps, keeps_queue, keeps_fetch, keeps_walk, keeps_complete, commands_still, quiet_stands}

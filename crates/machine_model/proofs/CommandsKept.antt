@@ -1,61 +1,51 @@
 -- Every event keeps the lists of submitted commands.
-use Rattle.std.proofs.Common.{◌≡◌, ℕ, zero, suc, ◌+◌, ◌*◌, ◌/◌, ◌<◌, ◌≤◌, ◌==◌, nat_lt, Bool, true, false, not, ◌&&◌, ◌||◌, Option, Some, None, List, [], ◌∷◌, ◌++◌, length, map, filter, find, drop, slice_get, is_some, is_none, nat_eq, option_and_then, if◌then◌else◌, refl, ap, sym, ◌∙◌, arith, subst, eqb-true, eq-eqb, length-append}
+use Rattle.std.proofs.Common.{◌≡◌, ℕ, zero, suc, ◌+◌, ◌<◌, ◌≤◌, ◌==◌, nat_lt, Bool, true, false, not, ◌&&◌, Option, Some, None, List, [], ◌∷◌, ◌++◌, length, slice_get, is_some, is_none, nat_eq, if◌then◌else◌, refl, ap, sym, ◌∙◌, arith, subst, eq-eqb}
 use Rattle.std.specs.Option.{option_map_or}
 use Rattle.std.specs.Cmp.Lexicographic.{pointwise}
 use Rattle.std.specs.List.{AllByRecursion}
-use Rattle.std.proofs.lemmas.Bool.{true≢false, not-false, and_parts, eqb-false, ne_eqb, and_from, or_left, or_right}
-use Rattle.std.proofs.lemmas.List.{map-append, length-map}
+use Rattle.std.proofs.lemmas.Bool.{true≢false, not-false, and_parts, and_from, or_left, or_right}
+use Rattle.std.proofs.lemmas.List.{length-map}
 use Rattle.page_ledger.specs.Owners.{is_among}
-use Rattle.admin_commands.specs.Entries.{admin_entry}
-use Rattle.admin_commands.specs.declared.AdminKind.TheVariants.{Abort, DeleteSq, DeleteCq}
-use Rattle.admin_commands.specs.declared.AdminKind.{AdminKind}
 use Rattle.sgl_descriptor.specs.Spelling.{spelling}
 use Rattle.sgl_chain.specs.Spells.{Spells}
 use Rattle.entry_codec.specs.declared.submission.SubEntry.{SubEntry}
-use Rattle.entry_codec.specs.declared.completion.ComEntry.{ComEntry}
-use Rattle.entry_codec.specs.declared.status.Status.{Status}
-use Rattle.entry_codec.specs.declared.status.TheConstants.Status.{ABORTED_SQ_DELETION}
 use Rattle.io_commands.specs.declared.request.Request.{Request}
 use Rattle.io_commands.specs.declared.request.RequestFault.{RequestFault}
-use Rattle.io_commands.specs.Requests.{first_passing, fault_of, parts_of, data_count, FitsRequest}
+use Rattle.io_commands.specs.Requests.{fault_of, parts_of, data_count, FitsRequest}
 use Rattle.io_commands.specs.Drafts.{DraftContents, io_entry, draft_first, draft_parts, draft_entry}
 use Rattle.io_commands.specs.Values.{numbers_of}
-use Rattle.io_commands.specs.Jobs.{is_success}
 use Rattle.io_commands.proofs.Spelled.{carries_entry}
-use Rattle.page_memory.specs.Pages.{Pages, page_at, byte_at, with_page_bytes}
-use Rattle.queue_pair.specs.Rings.{next_head, knowing}
+use Rattle.page_memory.specs.Pages.{Pages, page_at, byte_at}
 use Rattle.machine_model.specs.Proper.{IsProper}
 use Rattle.machine_model.specs.Memory.{with_pages, without_pages}
 use Rattle.machine_model.specs.Commands.{Work, Io, Management}
-use Rattle.machine_model.specs.State.{State, Device, Host, HostQueue, DeviceQueue, Record, Phase, Drafted, Submitted, Held, Collected, Job, Answer, is_at, record_at, pages_of, with_record, without_record}
-use Rattle.machine_model.specs.Refusals.{is_submitted, is_drafted, is_collected, is_held, is_live, is_retired, is_gone, is_deleting, host_queue, device_queue, refusal_of, record_is, is_of, asks_for, in_state, queue_full, no_identifier, no_io_queue, pages_wanted, seen_entry, entry_of, slot_page, slot_offset}
-use Rattle.machine_model.specs.Step.{HostPart, host_part, IsController, reaped, times}
+use Rattle.machine_model.specs.State.{State, Device, Host, HostQueue, DeviceQueue, Record, Drafted, Job, is_at, record_at, pages_of, with_record}
+use Rattle.machine_model.specs.Refusals.{is_submitted, is_drafted, is_live, is_deleting, refusal_of, record_is, is_of, asks_for, in_state, queue_full, no_identifier, no_io_queue, pages_wanted}
+use Rattle.machine_model.specs.Step.{HostPart, times}
 use Rattle.machine_model.specs.Claims.{OwnsFit}
 use Rattle.machine_model.specs.After as a
 use Rattle.machine_model.specs.After.{change}
 use Rattle.machine_model.specs.Events as events
 use Rattle.machine_model.specs.Events.{Event, Reply, Refusal, Reaped}
-use Rattle.machine_model.proofs.Touching.{is_walk}
 use Rattle.machine_model.specs.Reached.{only, on_pages}
-use Rattle.machine_model.specs.Standing.{IsSized, unfetched_at, HasEntry, ListStands, StandsAs, CommandStands}
-use Rattle.machine_model.proofs.Counting.{one, times-append, held_once}
-use Rattle.machine_model.proofs.Totals.{total, here}
-use Rattle.machine_model.proofs.Parts.{part-posted, in_store, length-in_store}
-use Rattle.machine_model.proofs.Steps.{Accepts, part_controller}
+use Rattle.machine_model.specs.Standing.{unfetched_at, HasEntry, ListStands, StandsAs, CommandStands}
+use Rattle.machine_model.proofs.Counting.{one, held_once}
+use Rattle.machine_model.proofs.Totals.{total}
+use Rattle.machine_model.proofs.Parts.{part-posted}
+use Rattle.machine_model.proofs.Steps.{Accepts}
 use Rattle.machine_model.proofs.Refused.{first_fails, rest_fails, found, pages_match, same_lists}
 use Rattle.machine_model.proofs.Placing.{device-posted}
-use Rattle.machine_model.proofs.Out.{named, reaped_submitted}
 use Rattle.machine_model.proofs.Owned.{in_record, in_queue}
 use Rattle.machine_model.proofs.Paired.{is_past}
-use Rattle.machine_model.proofs.Members.{In, in_found, in_at, all_in, all_in_both, all_map, all_filter, all_append, all_drop_one, all_with, is_found, sent, sent_found}
+use Rattle.machine_model.proofs.Members.{In, in_found, in_at, all_in, all_in_both, all_append, all_with, is_found, sent, sent_found}
 use Rattle.machine_model.proofs.Elsewhere.{sent_page, owned_once}
 use Rattle.machine_model.proofs.Grounds.{Grounds, pair_at, ring_in}
-use Rattle.machine_model.proofs.Untouched.{untouched, posted_elsewhere, PostsElsewhere, live_past, live_queue, kept_reap}
-use Rattle.machine_model.proofs.Served.{Commands, Places, past_at, unfetched_count, job_weight, answers_at, counts_sent, chain_of, data_of, page_below}
+use Rattle.machine_model.proofs.Untouched.{untouched, posted_elsewhere, PostsElsewhere, live_past, live_queue}
+use Rattle.machine_model.proofs.Served.{Commands, past_at, unfetched_count, job_weight, counts_sent, chain_of, data_of, page_below}
 use Rattle.machine_model.proofs.Queues.{all_list}
-use Rattle.machine_model.proofs.PlacesKept.{PlacesIn, reaped_answer, ids_of, drafted_not, collected_not}
+use Rattle.machine_model.proofs.PlacesKept.{PlacesIn, ids_of, drafted_not}
 use Rattle.machine_model.proofs.Submitting.{requests_same, first_read, brought, draft_spells}
-use Rattle.machine_model.proofs.Commanding.{Keeps, keeps_queue, keeps_fetch, keeps_complete, commands_still, quiet_stands}
+use Rattle.machine_model.proofs.Commanding.{Keeps, commands_still}
 
 abbrev pub CommandsIn : State → Type 0
 CommandsIn s = Commands s.memory s.device.queues s.device.jobs s.host.records
@@ -114,11 +104,11 @@ commands_reserve s q r d proper ok g h =
 -- Submitting
 
 -- nothing counts, so nobody has the identifier
-nobody : {B : Type 0} (id : B → ℕ) (c : ℕ) (P : B → Type 0) (xs : List B) → total (λ x. one (id x == c)) xs ≡ 0 → AllByRecursion (λ x. id x ≡ c → P x) xs
+pub nobody : {B : Type 0} (id : B → ℕ) (c : ℕ) (P : B → Type 0) (xs : List B) → total (λ x. one (id x == c)) xs ≡ 0 → AllByRecursion (λ x. id x ≡ c → P x) xs
 nobody id c P [] none = tt
 nobody id c P (x ∷ xs) none = ((λ e. absurd (omega (arith, none, ap one (eq-eqb (id x) c e)))), nobody id c P xs (omega (arith, none)))
 
-no_job : (q c : ℕ) (P : Job → Type 0) (js : List Job) → total (job_weight q (λ n. one (n == c))) js ≡ 0 → AllByRecursion (λ j. j.q ≡ q → j.entry.cid ≡ c → P j) js
+pub no_job : (q c : ℕ) (P : Job → Type 0) (js : List Job) → total (job_weight q (λ n. one (n == c))) js ≡ 0 → AllByRecursion (λ j. j.q ≡ q → j.entry.cid ≡ c → P j) js
 no_job q c P [] none = tt
 no_job q c P (j ∷ js) none = ((λ eq ec. absurd (some eq ec none)), no_job q c P js (omega (arith, none)))
   where

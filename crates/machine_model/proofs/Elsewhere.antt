@@ -1,27 +1,18 @@
 -- No step writes a page of a submitted command, except that a walk moves data of its own command.
-use Rattle.std.proofs.Common.{◌≡◌, ℕ, zero, suc, ◌+◌, ◌*◌, ◌/◌, ◌%◌, ◌<◌, ◌≤◌, ◌==◌, nat_lt, Bool, true, false, not, ◌&&◌, ◌||◌, Option, Some, None, List, [], ◌∷◌, ◌++◌, length, map, take, drop, slice_get, slice_set, slice_index, is_some, is_none, find, if◌then◌else◌, refl, ap, sym, ◌∙◌, arith, subst, eqb-true, eq-eqb}
-use Rattle.std.specs.Option.{option_map_or, option_and_then}
-use Rattle.std.specs.List.{AllByRecursion}
-use Rattle.std.proofs.lemmas.Bool.{true≢false, eqb-false, or_parts, and_parts, not-false, or_right}
+use Rattle.std.proofs.Common.{◌≡◌, ℕ, zero, suc, ◌+◌, ◌<◌, ◌≤◌, ◌==◌, nat_lt, Bool, true, false, ◌||◌, Option, Some, None, List, [], ◌∷◌, length, slice_get, slice_set, slice_index, if◌then◌else◌, refl, ap, sym, ◌∙◌, arith, subst, eq-eqb}
+use Rattle.std.specs.Option.{option_and_then}
+use Rattle.std.proofs.lemmas.Bool.{true≢false, eqb-false, or_parts, or_right}
 use Rattle.page_ledger.specs.Owners.{is_among}
 use Rattle.io_commands.specs.Values.{numbers_of}
 use Rattle.page_memory.specs.Pages.{Pages, page_at, with_page_bytes, with_bytes}
-use Rattle.page_memory.specs.declared.page.Half.TheVariants.{Submission, Completion}
-use Rattle.entry_codec.specs.declared.submission.SubEntry.{SubEntry}
-use Rattle.entry_codec.specs.declared.status.Status.{Status}
-use Rattle.entry_codec.specs.Submission.{submission_bytes}
-use Rattle.entry_codec.specs.Completion.{completion_bytes}
-use Rattle.queue_pair.specs.Memory.{half_pages}
-use Rattle.machine_model.specs.Positions.{IsInRing}
 use Rattle.machine_model.specs.Memory.{with_pages, without_pages}
-use Rattle.machine_model.specs.State.{State, Host, HostQueue, Record, record_at, pages_of}
-use Rattle.machine_model.specs.Refusals.{is_submitted, host_queue, slot_page, slot_offset, post_slot, fetch_slot}
+use Rattle.machine_model.specs.State.{Host, HostQueue, Record}
+use Rattle.machine_model.specs.Refusals.{is_submitted}
 use Rattle.machine_model.specs.Step.{times}
-use Rattle.machine_model.specs.After as a
-use Rattle.machine_model.proofs.Counting.{one, held_once, not_held}
+use Rattle.machine_model.proofs.Counting.{one, held_once}
 use Rattle.machine_model.proofs.Totals.{total}
-use Rattle.machine_model.proofs.Members.{In, in_at, in_found}
-use Rattle.machine_model.proofs.Owned.{Holds, HoldsPart, in_queue, in_record, owned}
+use Rattle.machine_model.proofs.Members.{In, in_at}
+use Rattle.machine_model.proofs.Owned.{Holds, in_queue, in_record}
 
 -- Pages set
 

@@ -1,28 +1,27 @@
 -- The walk of a list that spells parts which are there, and count what is moved, ends without a fault.
-use Rattle.std.proofs.Common.{arith, ◌≡◌, ◌<◌, ◌≤◌, ◌⊎◌, inl, inr, ◌+◌, ◌-◌, ◌*◌, ◌/◌, ◌%◌, ◌^◌, ◌++◌, ◌&&◌, ◌∷◌, [], ℕ, zero, suc, Bool, true, false, not, List, Option, Some, None, refl, sym, ap, subst, ◌∙◌, cond, is_some, length, map, nat_lt, nat_eq, add-zero, append-nil, append_assoc, if◌then◌else◌}
+use Rattle.std.proofs.Common.{arith, ◌≡◌, ◌<◌, ◌≤◌, ◌⊎◌, inl, inr, ◌+◌, ◌-◌, ◌*◌, ◌%◌, ◌^◌, ◌++◌, ◌&&◌, ◌∷◌, [], ℕ, zero, suc, Bool, true, false, not, List, Option, Some, None, refl, sym, ap, subst, ◌∙◌, cond, is_some, length, nat_lt, nat_eq, add-zero, append-nil, append_assoc, if◌then◌else◌}
 use Rattle.std.specs.List.{AllByRecursion}
 use Rattle.std.specs.Option.{option_and_then}
 use Rattle.std.proofs.lemmas.Bool.{true≢false}
 use Rattle.std.proofs.lemmas.Bool.Decides.{nat_tests}
 use Rattle.entry_codec.specs.declared.status.Status.{Status}
-use Rattle.entry_codec.specs.declared.status.TheConstants.Status.{DATA_TRANSFER_ERROR, INVALID_SGL_SEGMENT, INVALID_SGL_COUNT, DATA_SGL_LENGTH_INVALID}
+use Rattle.entry_codec.specs.declared.status.TheConstants.Status.{DATA_TRANSFER_ERROR, DATA_SGL_LENGTH_INVALID}
 use Rattle.page_memory.specs.Memory.{Memory, bytes_at, joined}
 use Rattle.sgl_descriptor.specs.declared.Descriptor.{Descriptor}
 use Rattle.sgl_descriptor.specs.declared.Descriptor.TheVariants.{DataBlock, BitBucket, Segment, LastSegment}
 use Rattle.sgl_descriptor.specs.declared.Direction.{Direction}
-use Rattle.sgl_descriptor.specs.declared.Direction.TheVariants.{Destination, Source}
 use Rattle.sgl_descriptor.specs.declared.Part.{Part}
 use Rattle.sgl_descriptor.specs.declared.Part.TheVariants.{Data, Bucket}
-use Rattle.sgl_descriptor.specs.Spelling.{IsSpelling, IsLink, is_link, descriptor_of}
+use Rattle.sgl_descriptor.specs.Spelling.{IsLink, is_link, descriptor_of}
 use Rattle.sgl_descriptor.specs.Targets.{descriptor_of_part, counted, counted_in}
 use Rattle.sgl_descriptor.proofs.Spells.{found}
-use Rattle.sgl_chain.specs.Spells.{SpellsBy, Stand, Spells, descriptors_in}
+use Rattle.sgl_chain.specs.Spells.{SpellsBy, Stand, descriptors_in}
 use Rattle.controller_walk.specs.declared.cursor.Named.{Named}
 use Rattle.controller_walk.specs.declared.cursor.Named.TheVariants.{Unnamed, BySegment, ByLastSegment}
 use Rattle.controller_walk.specs.declared.cursor.Cursor.{Cursor}
 use Rattle.controller_walk.specs.declared.walk.WalkState.TheVariants.{End, Fault}
-use Rattle.controller_walk.specs.Units.{Stays, Reads, Moves, Course, Closes, Does, Row, first_of, after_read, from_place, rest_of, goes_on, unless_fault, first_fault, moving, first_part, pages_spanned, entry_cursor, next, segment_start, course_of_list, verdict, named_on, named_last, names_no_segment, passes_end}
-use Rattle.controller_walk.specs.Along.{taken, parts_taken, descriptor_at}
+use Rattle.controller_walk.specs.Units.{Stays, Reads, Moves, Course, Closes, Does, after_read, from_place, rest_of, goes_on, unless_fault, first_fault, moving, first_part, pages_spanned, entry_cursor, next, segment_start, verdict, named_on, named_last, names_no_segment, passes_end}
+use Rattle.controller_walk.specs.Along.{taken, parts_taken}
 use Rattle.controller_walk.proofs.Courses.{pages_step, from_read, part_most}
 use Rattle.machine_model.specs.Reached.{IsThere, EndsWith, lists_end_well}
 use Rattle.machine_model.proofs.Reaching.{Ahead, PartFirst, LinkFirst, LinkedTo, first_ahead, linked_last, linked_on, spells_ahead}

@@ -1,8 +1,8 @@
 -- What the entry and the parts of a good request are.
-use Rattle.std.proofs.Common.{◌≡◌, ℕ, zero, suc, ◌+◌, ◌-◌, ◌*◌, ◌/◌, ◌%◌, ◌^◌, ◌<◌, ◌≤◌, ◌==◌, nat_lt, Bool, true, false, not, ◌||◌, Option, Some, None, List, [], ◌∷◌, length, map, sum_by, count_by, is_some, slice_index, All, if◌then◌else◌, refl, ap, sym, ◌∙◌, arith, subst, eq-eqb}
+use Rattle.std.proofs.Common.{◌≡◌, ℕ, ◌+◌, ◌*◌, ◌%◌, ◌<◌, ◌≤◌, ◌==◌, nat_lt, true, false, not, ◌||◌, Option, Some, None, List, [], ◌∷◌, length, is_some, slice_index, All, refl, sym, ◌∙◌, arith, subst, eq-eqb}
 use Rattle.std.specs.List.{AllByRecursion, list_any}
 use Rattle.std.specs.Prelude.{option_map}
-use Rattle.std.proofs.lemmas.Bool.{true≢false, or_left, or_right, or_parts}
+use Rattle.std.proofs.lemmas.Bool.{or_left, or_right, or_parts}
 use Rattle.std.proofs.lemmas.Bool.Decides.{nat_tests}
 use Rattle.std.proofs.lemmas.Grind.{common_steps}
 use Rattle.std.proofs.lemmas.List.Sums.{sum_by-cons}
@@ -10,17 +10,13 @@ use Rattle.std.proofs.lemmas.List.Elements.{All-head, All-tail}
 use Rattle.page_ledger.specs.Owners.{is_among}
 use Rattle.page_memory.specs.Memory.{page_of}
 use Rattle.page_memory.specs.Pages.{Pages, page_at}
-use Rattle.sgl_descriptor.specs.declared.Direction.{Direction}
-use Rattle.sgl_descriptor.specs.declared.Direction.TheVariants.{Destination, Source}
 use Rattle.sgl_descriptor.specs.Targets.{counted_in}
-use Rattle.entry_codec.specs.declared.submission.SubEntry.{SubEntry}
 use Rattle.io_commands.specs.declared.request.Request.{Request}
 use Rattle.io_commands.specs.declared.request.Kind.{Kind}
 use Rattle.io_commands.specs.declared.request.Kind.TheVariants.{Read, Write, Compare}
 use Rattle.io_commands.specs.declared.request.Piece.{Piece}
 use Rattle.io_commands.specs.declared.request.Piece.TheVariants.{Data, Bucket}
-use Rattle.io_commands.specs.Requests.{fault_of, first_passing, parts_of, data_count, is_data, is_empty_piece, crosses_page, counted_length, counted_lengths, direction_of, opcode_of, FitsPiece}
-use Rattle.io_commands.specs.declared.request.RequestFault.{RequestFault}
+use Rattle.io_commands.specs.Requests.{parts_of, data_count, is_empty_piece, crosses_page, counted_length, counted_lengths, direction_of, FitsPiece}
 use Rattle.io_commands.specs.declared.request.RequestFault.TheVariants.{TooManyPieces, EmptyPiece, CrossesPage, BadCount, LengthMismatch}
 use Rattle.io_commands.specs.Values.{IsGood}
 use Rattle.io_commands.specs.Drafts.{io_entry}

@@ -8,7 +8,7 @@ use Rattle.entry_codec.specs.declared.status.Status.{Status}
 use Rattle.entry_codec.specs.declared.status.TheConstants.Status.{SUCCESS, ABORT_REQUESTED, ABORTED_SQ_DELETION, LBA_OUT_OF_RANGE, COMPARE_FAILURE}
 use Rattle.io_commands.specs.declared.request.Kind.{Kind}
 use Rattle.io_commands.specs.declared.request.Kind.TheVariants.{Read, Write, Compare}
-use Rattle.io_commands.specs.Requests.{first_passing}
+use Rattle.controller_walk.specs.Units.{first_passing}
 use Rattle.io_commands.specs.Jobs.{is_success, verdict_of, io_fault, bytes_after_check, first_block, block_number, need_of_entry, kind_of_opcode, direction_of_entry}
 use Rattle.machine_model.specs.Status.{same_status}
 use Rattle.machine_model.specs.State.{State, Job}
@@ -67,7 +67,7 @@ exact : {A : Type 0} (B : Type 0) (t : Bool) → t ≡ true → MatchBool t A B 
 exact B true e h = h
 exact B false e h = absurd (true≢false (sym e))
 
-traced_step : (earlier : List Made) (old : State) (e : Event) (reply : Reply) (new : State) → Step old e reply new → old.trusted ≡ true → new.trusted ≡ true → Traced earlier old
+pub traced_step : (earlier : List Made) (old : State) (e : Event) (reply : Reply) (new : State) → Step old e reply new → old.trusted ≡ true → new.trusted ≡ true → Traced earlier old
     → Traced (earlier ++ record { before = old; event = e; reply = reply } ∷ []) new
 traced_step earlier old e (events.Refused why touched) new step t u h =
     subst (Traced (earlier ++ record { before = old; event = e; reply = events.Refused why touched } ∷ [])) (sym step.2)
@@ -162,7 +162,7 @@ positive : (q : ℕ) → nat_lt 0 q ≡ true → (q == 0) ≡ false
 positive q h = grind (arith, nat_tests, h)
 
 -- a completion that is accepted had a verdict
-has_verdict : (s : State) (q cid : ℕ) (j : Job) → refusal_of s (events.Complete q cid) ≡ None → job_at s q cid ≡ Some j → is_some j.verdict ≡ true
+pub has_verdict : (s : State) (q cid : ℕ) (j : Job) → refusal_of s (events.Complete q cid) ≡ None → job_at s q cid ≡ Some j → is_some j.verdict ≡ true
 has_verdict s q cid j none e =
     let last = (job_is (waits s) s q cid, events.Waits) ∷ (answers_full s q, events.Full) ∷ (not (is_in s.memory (post_page s q)), events.SlotOut) ∷ [] in
     let walking' = first_fails (job_is (λ j. is_none j.verdict) s q cid) events.Walking last (rest_fails (is_none (job_at s q cid)) events.NoJob ((job_is (λ j. is_none j.verdict) s q cid, events.Walking) ∷ last) none) in
@@ -198,7 +198,7 @@ given_status earlier s (events.Complete q' cid') (events.Completed touched) new 
 given_status earlier s e reply new q cid st step t h other given = absurd cc
 
 -- the step as it was made
-as_made : (m : Made) (s : State) → m.before ≡ s → m ≡ record { before = s; event = m.event; reply = m.reply }
+pub as_made : (m : Made) (s : State) → m.before ≡ s → m ≡ record { before = s; event = m.event; reply = m.reply }
 as_made m s is = ap (λ (x : State). record { before = x; event = m.event; reply = m.reply }) is
 
 along : (earlier xs later : List Made) (m : Made) (s end : State) (q cid : ℕ) (st : Status) → Steps s (xs ++ m ∷ later) end → end.trusted ≡ true → Traced earlier s → (q == 0) ≡ false

@@ -8,12 +8,13 @@ use Rattle.page_ledger.specs.declared.owner.Owner.{Owner}
 use Rattle.page_ledger.specs.Counting.{total}
 use Rattle.machine_model.specs.State.{State, Host, HostQueue, Record}
 use Rattle.machine_model.specs.Step.{HostPart, host_part, IsController}
-use Rattle.machine_model.specs.Claims.{each_step_keeps, every_run_is_sound, every_run_takes_out, counts_add_up, claimed, claims_of, claims_of_queues, claims_of_record, IsSound, HasOneOwner, counts_of}
+use Rattle.machine_model.specs.Claims.{each_step_keeps, every_run_is_sound, every_run_takes_out, counts_add_up, claimed, claims_of, claims_of_queues, claims_of_record, AdminLives, IsSound, HasOneOwner, counts_of}
 use Rattle.machine_model.proofs.Counting.{length_of_all}
 use Rattle.machine_model.proofs.Parts.{length-in_store}
 use Rattle.machine_model.specs.Events.{Event, Reply}
 use Rattle.machine_model.proofs.Steps.{Accepts, IsKept, each_step, each_run}
 use Rattle.machine_model.proofs.Asked.{AskedPart, asked_event, asked_from_fit, fit_from_asked, asked_at_opening}
+use Rattle.machine_model.proofs.Zero.{zero_host, zero_opened}
 use Rattle.machine_model.proofs.Owned.{holds_from_sound, owners_from_holds, identifiers_from_holds}
 use Rattle.machine_model.proofs.Opening.{fits_pool, holds_at_opening, taken_at_opening}
 use Rattle.machine_model.proofs.Taken.{out_from_taken, taken_from_out}
@@ -60,13 +61,13 @@ counts_are_all count h owners = sym (all_claims h) ∙ length_of_all count (firs
 -- The invariant that is kept, and the statement
 
 abbrev All : HostPart → Type 0
-All part = Both part × AskedPart part
+All part = Both part × AskedPart part × AdminLives part.host.queues
 
 all_events : (s : State) (e : Event) (reply : Reply) → Accepts s e reply → IsController e ≡ false → IsKept All s e reply
-all_events s e reply ok c h = (both_events s e reply ok c h.0, asked_event s e reply ok c h.0.0 h.1)
+all_events s e reply ok c h = (both_events s e reply ok c h.0, asked_event s e reply ok c h.0.0 h.1, zero_host s e reply ok c h.0.0 h.1 h.2)
 
 all_from_sound : (s : State) → IsSound s → All (host_part s)
-all_from_sound s sound = ((holds_from_sound s sound, taken_from_out s sound.out), asked_from_fit s.host sound.deletions)
+all_from_sound s sound = ((holds_from_sound s sound, taken_from_out s sound.out), asked_from_fit s.host sound.deletions, sound.admin)
 
 sound_from_all : (s : State) → All (host_part s) → IsSound s
 sound_from_all s all =
@@ -78,6 +79,7 @@ sound_from_all s all =
       out = out_from_taken s all.0.1;
       works_fit = all.0.0.admins;
       deletions = fit_from_asked s.host all.1;
+      admin = all.2;
     }
 
 pub steps_keep : each_step_keeps
@@ -86,7 +88,7 @@ steps_keep old e reply new step sound = sound_from_all new (each_step All all_ev
 pub runs_are_sound : every_run_is_sound
 runs_are_sound pages queues n s image es replies new opens run =
     sound_from_all new (each_run All all_events _ es replies new run
-    ((holds_at_opening pages queues n s image (fits_pool pages queues n s opens), taken_at_opening pages queues n s image), asked_at_opening 0 n (queues + 1)))
+    ((holds_at_opening pages queues n s image (fits_pool pages queues n s opens), taken_at_opening pages queues n s image), asked_at_opening 0 n (queues + 1), zero_opened 0 n (queues + 1)))
 
 pub runs_take_out : every_run_takes_out
 runs_take_out pages queues n s image es replies new opens run = (runs_are_sound pages queues n s image es replies new opens run).out

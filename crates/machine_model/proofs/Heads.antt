@@ -1,12 +1,11 @@
 -- How far the host's known head and the heads told by answers are behind the tail: never more than commands are submitted.
-use Rattle.std.proofs.Common.{◌≡◌, ◌≢◌, ◌⊎◌, inl, inr, ℕ, zero, suc, ◌+◌, ◌-◌, ◌<◌, ◌≤◌, ◌==◌, nat_lt, Bool, true, false, ◌&&◌, Option, Some, None, List, [], ◌∷◌, ◌++◌, length, map, filter, drop, slice_get, if◌then◌else◌, refl, ap, sym, ◌∙◌, arith, subst, eqb-true, length-append}
-use Rattle.std.specs.Option.{option_map_or}
+use Rattle.std.proofs.Common.{◌≡◌, ◌≢◌, ◌⊎◌, inl, inr, ℕ, zero, suc, ◌+◌, ◌-◌, ◌<◌, ◌≤◌, ◌==◌, nat_lt, Bool, true, false, ◌&&◌, Some, List, [], ◌∷◌, ◌++◌, length, map, filter, slice_get, if◌then◌else◌, refl, ap, sym, arith, subst}
 use Rattle.std.specs.List.{AllByRecursion}
-use Rattle.std.proofs.lemmas.Bool.{true≢false, and_parts}
+use Rattle.std.proofs.lemmas.Bool.{true≢false}
 use Rattle.std.proofs.lemmas.Bool.Decides.{nat_tests}
 use Rattle.queue_pair.specs.Slots.{next_slot, distance, moved}
-use Rattle.queue_pair.proofs.Order.{next_below, distance_same, distance_below, next_full, distance_grows, distance_shrinks}
-use Rattle.machine_model.specs.State.{State, HostQueue, DeviceQueue, Record, Answer, is_at, outstanding_on}
+use Rattle.queue_pair.proofs.Order.{next_below, distance_same, next_full, distance_grows, distance_shrinks}
+use Rattle.machine_model.specs.State.{HostQueue, DeviceQueue, Record, Answer}
 use Rattle.machine_model.specs.Refusals.{is_submitted}
 use Rattle.machine_model.specs.After.{change}
 use Rattle.machine_model.proofs.Counting.{one}

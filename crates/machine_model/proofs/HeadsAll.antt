@@ -1,10 +1,10 @@
 -- Every event keeps the heads behind the tail: the controller's, and all together.
-use Rattle.std.proofs.Common.{◌≡◌, ◌⊎◌, inl, inr, ℕ, zero, suc, ◌+◌, ◌-◌, ◌/◌, ◌%◌, ◌<◌, ◌≤◌, ◌==◌, nat_lt, Bool, true, false, not, ◌&&◌, ◌||◌, Option, Some, None, List, [], ◌∷◌, ◌++◌, length, map, filter, find, take, drop, slice_get, is_some, is_none, replicate, if◌then◌else◌, refl, ap, sym, ◌∙◌, arith, subst, eqb-true, eq-eqb}
+use Rattle.std.proofs.Common.{◌≡◌, ◌⊎◌, inl, inr, ℕ, zero, suc, ◌+◌, ◌-◌, ◌/◌, ◌%◌, ◌<◌, ◌≤◌, ◌==◌, Bool, true, false, not, ◌&&◌, ◌||◌, Option, Some, None, List, [], ◌∷◌, ◌++◌, length, map, take, drop, slice_get, is_some, is_none, replicate, if◌then◌else◌, refl, ap, sym, ◌∙◌, arith, subst, eqb-true, eq-eqb}
 use Rattle.std.specs.Option.{option_map_or}
 use Rattle.std.specs.List.{AllByRecursion}
 use Rattle.std.proofs.lemmas.Bool.{true≢false, not-false, and_parts, or_parts}
 use Rattle.std.proofs.lemmas.Bool.Decides.{nat_tests}
-use Rattle.admin_commands.specs.Entries.{admin_entry, named_queue, named_command}
+use Rattle.admin_commands.specs.Entries.{admin_entry, named_queue}
 use Rattle.admin_commands.specs.declared.SqState.TheVariants.{Absent, Stopping}
 use Rattle.admin_commands.specs.declared.AdminKind.TheVariants.{Abort, DeleteSq, DeleteCq}
 use Rattle.controller_walk.specs.Units.{Act, Stays, Reads, Moves}
@@ -21,7 +21,7 @@ use Rattle.queue_pair.specs.Slots.{distance, moved}
 use Rattle.queue_pair.proofs.Order.{distance_same}
 use Rattle.machine_model.specs.Proper.{IsProper}
 use Rattle.machine_model.specs.Positions.{IsInRing}
-use Rattle.machine_model.specs.Commands.{Work, Io, Management}
+use Rattle.machine_model.specs.Commands.{Io, Management}
 use Rattle.machine_model.specs.State.{State, Device, Host, HostQueue, HostState, Live, Deleting, Retired, Gone, DeviceQueue, Record, Drafted, Submitted, Held, Job, Answer}
 use Rattle.machine_model.specs.Refusals.{is_submitted, is_drafted, is_collected, is_retired, is_gone, is_deleting, is_deleted, host_queue, device_queue, refusal_of, in_state, queue_full, no_identifier, no_io_queue, cq_deletion_outstanding, record_is, seen_entry, next_rung, job_at, conflicts, fetch_slot, slot_page, slot_offset}
 use Rattle.machine_model.specs.Step.{HostPart, host_part, IsController}
@@ -41,13 +41,13 @@ use Rattle.machine_model.proofs.Placing.{device-answered}
 use Rattle.machine_model.proofs.Placed.{is_job, find_sound}
 use Rattle.machine_model.proofs.Asked.{ring_at}
 use Rattle.machine_model.proofs.Paired.{is_past}
-use Rattle.machine_model.proofs.Members.{In, in_found, all_map, all_append, sent}
+use Rattle.machine_model.proofs.Members.{in_found, all_map, all_append, sent}
 use Rattle.machine_model.proofs.Grounds.{Grounds, ring_in}
 use Rattle.machine_model.proofs.Served.{Stood, Places, past_at, unfetched_count, job_weight, answers_at}
-use Rattle.machine_model.proofs.Queues.{list_at, list_same}
+use Rattle.machine_model.proofs.Queues.{list_same}
 use Rattle.machine_model.proofs.Placements.{InHand, in_hand, first_is}
 use Rattle.machine_model.proofs.PlacesKept.{PlacesIn, places_event, drafted_not, collected_not, running_not_past, sent_not}
-use Rattle.machine_model.proofs.Heads.{Heads, HeadBehind, AnswersBehind, sent_count, behind_more, behind_answered, head_at, few_outstanding, sent_outstanding, changed_at, total_ones}
+use Rattle.machine_model.proofs.Heads.{HeadBehind, AnswersBehind, sent_count, behind_answered, head_at, few_outstanding, sent_outstanding, changed_at, total_ones}
 use Rattle.machine_model.proofs.HeadsKept.{HeadsIn, HeadsS, heads_records, heads_device, heads_state, heads_sent, heads_submit, heads_ended, heads_collect, heads_reap}
 use Rattle.queue_pair.specs.Rings.{HostRing, next_tail, fresh_host_ring}
 use Rattle.queue_pair.specs.Memory.{half_pages}

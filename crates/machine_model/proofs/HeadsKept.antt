@@ -1,50 +1,37 @@
 -- Every event keeps the heads behind the tail.
-use Rattle.std.proofs.Common.{◌≡◌, ◌≢◌, ◌⊎◌, inl, inr, ℕ, zero, suc, ◌+◌, ◌-◌, ◌<◌, ◌≤◌, ◌==◌, nat_lt, nat_le, Bool, true, false, not, ◌&&◌, ◌||◌, Option, Some, None, List, [], ◌∷◌, ◌++◌, length, map, filter, find, drop, slice_get, is_some, is_none, option_and_then, replicate, if◌then◌else◌, refl, ap, sym, ◌∙◌, arith, subst, eqb-true, eq-eqb}
+use Rattle.std.proofs.Common.{◌≡◌, ◌⊎◌, inl, inr, ℕ, zero, suc, ◌+◌, ◌-◌, ◌<◌, ◌≤◌, ◌==◌, nat_le, Bool, true, false, not, ◌&&◌, ◌||◌, Option, Some, None, List, [], ◌∷◌, ◌++◌, length, filter, drop, slice_get, is_none, option_and_then, if◌then◌else◌, refl, ap, sym, ◌∙◌, arith, subst, eq-eqb}
 use Rattle.std.specs.Option.{option_map_or}
 use Rattle.std.specs.List.{AllByRecursion}
-use Rattle.std.proofs.lemmas.Bool.{true≢false, not-false, and_parts, or_parts}
+use Rattle.std.proofs.lemmas.Bool.{true≢false, not-false}
 use Rattle.std.proofs.lemmas.Bool.Decides.{nat_tests}
-use Rattle.admin_commands.specs.Entries.{admin_entry, named_queue}
-use Rattle.admin_commands.specs.declared.SqState.TheVariants.{Absent, Stopping}
+use Rattle.admin_commands.specs.Entries.{admin_entry}
 use Rattle.admin_commands.specs.declared.AdminKind.TheVariants.{Abort, DeleteSq, DeleteCq}
 use Rattle.admin_commands.specs.declared.AdminKind.{AdminKind}
-use Rattle.controller_walk.specs.Units.{Act, Stays, Reads, Moves}
-use Rattle.sgl_descriptor.specs.declared.Direction.{Direction}
-use Rattle.sgl_descriptor.specs.declared.Direction.TheVariants.{Destination, Source}
+use Rattle.controller_walk.specs.Units.{first_passing}
 use Rattle.entry_codec.specs.declared.submission.SubEntry.{SubEntry}
-use Rattle.entry_codec.specs.declared.completion.ComEntry.{ComEntry}
 use Rattle.entry_codec.specs.declared.status.Status.{Status}
-use Rattle.entry_codec.specs.declared.status.TheConstants.Status.{SUCCESS, COMMAND_ID_CONFLICT, ABORT_REQUESTED, ABORTED_SQ_DELETION}
-use Rattle.entry_codec.specs.declared.admin_opcode.TheConstants.{DELETE_IO_SQ}
 use Rattle.io_commands.specs.Drafts.{DraftContents}
 use Rattle.io_commands.specs.Values.{numbers_of}
-use Rattle.io_commands.specs.Requests.{first_passing}
-use Rattle.io_commands.specs.Jobs.{is_success, verdict_of, direction_of_entry}
+use Rattle.io_commands.specs.Jobs.{is_success}
 use Rattle.io_commands.specs.declared.request.Request.{Request}
-use Rattle.page_memory.specs.Pages.{with_page_bytes}
 use Rattle.queue_pair.specs.Rings.{HostRing, next_tail, next_head, knowing}
-use Rattle.queue_pair.specs.Slots.{next_slot, distance, moved}
-use Rattle.queue_pair.proofs.Order.{distance_grows, distance_same}
+use Rattle.queue_pair.specs.Slots.{next_slot, distance}
+use Rattle.queue_pair.proofs.Order.{distance_grows}
 use Rattle.machine_model.specs.Positions.{IsInRing}
 use Rattle.machine_model.specs.Memory.{with_pages, without_pages}
 use Rattle.machine_model.specs.Commands.{Work, Io, Management}
-use Rattle.machine_model.specs.State.{State, Device, Host, HostQueue, HostState, Live, Deleting, Retired, Gone, DeviceQueue, Record, Phase, Drafted, Submitted, Held, Collected, Job, Answer, is_at, record_at, pages_of, with_record, without_record, outstanding_on}
-use Rattle.machine_model.specs.Refusals.{is_submitted, is_drafted, is_collected, is_held, is_live, is_retired, is_gone, is_deleting, is_deleted, is_asked, host_queue, device_queue, refusal_of, record_is, is_of, in_state, queue_full, no_identifier, no_io_queue, seen_entry, entry_of, first_answer, next_rung, job_at, conflicts, fetch_slot, slot_page, slot_offset}
-use Rattle.machine_model.specs.Step.{HostPart, host_part, IsController, IsNewIdentifier, reaped}
+use Rattle.machine_model.specs.State.{State, Device, HostQueue, HostState, Live, Deleting, Retired, Gone, DeviceQueue, Record, Phase, Submitted, Answer, is_at, record_at, pages_of, with_record, without_record, outstanding_on}
+use Rattle.machine_model.specs.Refusals.{is_submitted, is_drafted, is_held, is_live, is_retired, is_asked, host_queue, device_queue, refusal_of, record_is, is_of, in_state, queue_full, no_identifier, seen_entry, entry_of, first_answer}
+use Rattle.machine_model.specs.Step.{HostPart, host_part, IsNewIdentifier, reaped}
 use Rattle.machine_model.specs.After as a
 use Rattle.machine_model.specs.After.{change}
 use Rattle.machine_model.specs.Events as events
 use Rattle.machine_model.specs.Events.{Event, Reply, Refusal, Reaped}
-use Rattle.machine_model.specs.Opening.{Opens, opening, queues_from, device_queue as opened}
-use Rattle.machine_model.specs.Standing.{unfetched_at}
 use Rattle.machine_model.proofs.Counting.{one}
-use Rattle.machine_model.proofs.Totals.{total, total-append, total-map, total_with, total_without, total-filter, here}
+use Rattle.machine_model.proofs.Totals.{total, total-append, total_with, total_without, here}
 use Rattle.machine_model.proofs.Parts.{part-posted}
-use Rattle.machine_model.proofs.Steps.{Accepts, part_controller}
 use Rattle.machine_model.proofs.Refused.{first_fails, rest_fails, found, pages_match}
-use Rattle.machine_model.proofs.Managed.{managed_by_case}
-use Rattle.machine_model.proofs.Placing.{device-posted, device-answered}
-use Rattle.machine_model.proofs.Placed.{is_job, find_sound}
+use Rattle.machine_model.proofs.Placing.{device-posted}
 use Rattle.machine_model.proofs.Out.{named, reaped_submitted}
 use Rattle.machine_model.proofs.Asked.{was_asked}
 use Rattle.machine_model.proofs.Paired.{is_past}
@@ -52,11 +39,10 @@ use Rattle.machine_model.proofs.Tied.{FitS}
 use Rattle.machine_model.proofs.TiedHost.{fit-heard}
 use Rattle.machine_model.proofs.Members.{In, in_found, all_map, all_filter, all_append, sent}
 use Rattle.machine_model.proofs.Grounds.{Grounds, ring_in}
-use Rattle.machine_model.proofs.Served.{Stood, Places, past_at, unfetched_count, job_weight, answers_at}
-use Rattle.machine_model.proofs.Queues.{list_at, list_same}
-use Rattle.machine_model.proofs.Placements.{InHand, in_hand, first_is}
-use Rattle.machine_model.proofs.PlacesKept.{PlacesIn, places_event, reaped_answer, ids_of, drafted_not, collected_not, running_not_past, sent_not, sent_is}
-use Rattle.machine_model.proofs.Heads.{Heads, HeadBehind, AnswersBehind, sent_count, behind_more, behind_posted, behind_answered, head_at, on_queue', few_outstanding, sent_outstanding, length_outstanding, changed_at, total_ones}
+use Rattle.machine_model.proofs.Served.{answers_at}
+use Rattle.machine_model.proofs.Queues.{list_same}
+use Rattle.machine_model.proofs.PlacesKept.{reaped_answer, ids_of, drafted_not, sent_not, sent_is}
+use Rattle.machine_model.proofs.Heads.{Heads, HeadBehind, AnswersBehind, sent_count, behind_more, behind_posted, on_queue', few_outstanding, sent_outstanding, length_outstanding, changed_at}
 
 abbrev pub HeadsIn : HostPart → List DeviceQueue → Type 0
 HeadsIn part qs = Heads part.entries part.host.queues part.host.records qs

@@ -1,13 +1,12 @@
 -- A run is made longer by one step.
-use Rattle.std.proofs.Common.{◌≡◌, ℕ, Bool, true, false, List, [], ◌∷◌, ◌++◌, refl, sym, subst}
+use Rattle.std.proofs.Common.{List, [], ◌∷◌, ◌++◌, refl, subst}
 use Rattle.machine_model.specs.State.{State}
 use Rattle.machine_model.specs.Events.{Event, Reply}
 use Rattle.machine_model.specs.Image.{Made}
-use Rattle.machine_model.specs.Laws.{TrustedRun, Steps}
-use Rattle.block_image.specs.Blocks.{IsImage}
-use Rattle.machine_model.specs.Opening.{opening, Opens}
+use Rattle.machine_model.specs.Laws.{Steps}
+use Rattle.machine_model.specs.Opening.{opening}
 use Rattle.machine_model.specs.Step.{Step}
-use Rattle.machine_model.specs.Histories.{HasHistory, openings_have_histories, steps_make_histories}
+use Rattle.machine_model.specs.Histories.{openings_have_histories, steps_make_histories}
 use Rattle.machine_model.proofs.Trusted.{trusted_before}
 
 steps_more : (s : State) (made : List Made) (mid : State) (e : Event) (reply : Reply) (new : State) → Steps s made mid → Step mid e reply new

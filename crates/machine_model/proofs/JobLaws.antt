@@ -1,47 +1,43 @@
 -- The laws of lists in trusted runs.
-use Rattle.std.proofs.Common.{◌≡◌, ◌⊎◌, inl, inr, ℕ, zero, suc, ◌<◌, ◌==◌, nat_lt, Bool, true, false, not, ◌&&◌, ◌||◌, Option, Some, None, List, [], ◌∷◌, ◌++◌, filter, find, flat_map, slice_get, is_some, is_none, All, IsTrue, MatchBool, if◌then◌else◌, refl, ap, sym, ◌∙◌, arith, subst, eqb-true, eq-eqb}
+use Rattle.std.proofs.Common.{◌≡◌, ◌⊎◌, inl, inr, ℕ, ◌==◌, nat_lt, Bool, true, false, not, ◌&&◌, ◌||◌, Option, Some, None, List, [], ◌∷◌, ◌++◌, filter, find, flat_map, slice_get, is_some, All, MatchBool, if◌then◌else◌, refl, ap, sym, ◌∙◌, arith, subst, eqb-true}
 use Rattle.std.specs.Option.{option_map_or}
 use Rattle.std.specs.List.{AllByRecursion, list_all}
 use Rattle.std.proofs.lemmas.Bool.{true≢false, and_parts, and_from}
 use Rattle.std.proofs.lemmas.Bool.Decides.{nat_tests}
 use Rattle.std.proofs.lemmas.List.Elements.{All-nil, All-cons}
 use Rattle.page_ledger.specs.Owners.{is_among}
-use Rattle.page_memory.specs.Memory.{Memory}
 use Rattle.page_memory.specs.Pages.{Pages, page_at, byte_at}
 use Rattle.sgl_descriptor.specs.Spelling.{spelling}
 use Rattle.sgl_chain.proofs.Larger.{spells_there}
 use Rattle.controller_walk.specs.declared.walk.WalkState.{WalkState}
-use Rattle.controller_walk.specs.Units.{Act, Course, touched, units}
+use Rattle.controller_walk.specs.Units.{Act, touched}
 use Rattle.entry_codec.specs.declared.submission.SubEntry.{SubEntry}
-use Rattle.io_commands.specs.declared.request.Request.{Request}
 use Rattle.io_commands.specs.Requests.{parts_of}
 use Rattle.io_commands.specs.Drafts.{io_entry}
 use Rattle.machine_model.specs.Memory.{memory_of}
 use Rattle.machine_model.specs.Proper.{IsProper}
 use Rattle.machine_model.specs.Commands.{Work, Io, Management}
 use Rattle.machine_model.specs.State.{State, DeviceQueue, Record, Job, record_at, pages_of, is_at}
-use Rattle.machine_model.specs.Refusals.{is_submitted, job_at, refusal_of}
+use Rattle.machine_model.specs.Refusals.{job_at}
 use Rattle.machine_model.specs.Step.{Step, IsController, unit_answered, Permits, Refuses, HostPart}
-use Rattle.machine_model.specs.Touch.{allowed, own_pages, stays_allowed, stays_own, pages_of_command, pages_at_queues}
+use Rattle.machine_model.specs.Touch.{allowed, pages_of_command, pages_at_queues}
 use Rattle.machine_model.specs.Image.{Made}
-use Rattle.machine_model.specs.Laws.{TrustedRun, HasChain, HasChainIfIo, entries_of, chains_stand, chains_stay, trusted_steps_stay_allowed}
+use Rattle.machine_model.specs.Laws.{TrustedRun, HasChainIfIo, entries_of, chains_stand, chains_stay, trusted_steps_stay_allowed}
 use Rattle.machine_model.specs.After as a
 use Rattle.machine_model.specs.After.{course_of}
 use Rattle.machine_model.specs.Events as events
 use Rattle.machine_model.specs.Events.{Event, Reply}
-use Rattle.machine_model.specs.Reached.{only, on_pages, ActIn}
-use Rattle.machine_model.specs.Standing.{unfetched_at, HasEntry, ListStands, StandsAs, CommandStands, JobStands, HasUnitLeft, jobs_stand, jobs_keep_their_lists}
+use Rattle.machine_model.specs.Reached.{only, on_pages}
+use Rattle.machine_model.specs.Standing.{HasEntry, StandsAs, CommandStands, HasUnitLeft, jobs_stand, jobs_keep_their_lists}
 use Rattle.machine_model.proofs.Steps.{Accepts, part_left}
 use Rattle.machine_model.proofs.Trusted.{forged_untrusted}
 use Rattle.machine_model.proofs.Placed.{is_job, find_sound}
-use Rattle.machine_model.proofs.Members.{In, in_found, all_at_found}
+use Rattle.machine_model.proofs.Members.{in_found, all_at_found}
 use Rattle.machine_model.proofs.Grounds.{along_proper}
-use Rattle.machine_model.proofs.Reaching.{list_in}
 use Rattle.machine_model.proofs.Keeping.{lists_keep, act_touches}
-use Rattle.machine_model.proofs.Served.{Stood, JobList, job_list, list_of_job, course_in, course_ends, same_list, apart_in, chain_of, data_of, counts_sent, more_than_only, among_left, among_right}
-use Rattle.machine_model.proofs.Untouched.{untouched}
+use Rattle.machine_model.proofs.Served.{Stood, JobList, job_list, list_of_job, course_in, course_ends, same_list, apart_in, chain_of, data_of, more_than_only, among_left, among_right}
 use Rattle.machine_model.proofs.Commanding.{keeps_fetch, keeps_walk, keeps_complete}
-use Rattle.machine_model.proofs.CommandsAll.{Walking, walking, chains_walk, unit_in}
+use Rattle.machine_model.proofs.CommandsAll.{Walking, walking, unit_in}
 use Rattle.machine_model.proofs.WalksKept.{stood_on, stood_at_opening, ListsStay, stay_untouched, stay_walk, host_jobs}
 use Rattle.machine_model.proofs.TiedAll.{runs_stay}
 use Rattle.io_commands.specs.Jobs.{direction_of_entry, need_of_entry}

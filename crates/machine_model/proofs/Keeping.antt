@@ -1,12 +1,12 @@
 -- A walk that reads in the chain pages and moves in the data pages: what it touches.
-use Rattle.std.proofs.Common.{arith, ◌≡◌, ◌<◌, ◌+◌, ◌-◌, ◌||◌, ◌∷◌, [], ℕ, Bool, true, false, List, refl, sym, ap, subst, ◌∙◌, nat_eq, if◌then◌else◌, add-zero}
+use Rattle.std.proofs.Common.{arith, ◌≡◌, ◌<◌, ◌+◌, ◌-◌, ◌||◌, ◌∷◌, [], ℕ, Bool, true, false, List, refl, subst, nat_eq, if◌then◌else◌, add-zero}
 use Rattle.std.specs.List.{AllByRecursion, list_all}
 use Rattle.std.proofs.lemmas.Bool.{or_left, or_right}
 use Rattle.page_ledger.specs.Owners.{is_among}
-use Rattle.page_memory.specs.Memory.{Memory, page_of, pages_reached}
+use Rattle.page_memory.specs.Memory.{page_of, pages_reached}
 use Rattle.controller_walk.specs.Units.{Act, Stays, Reads, Moves, Course, Closes, Does, touched, units, course_of_list}
 use Rattle.controller_walk.specs.Laws.{ReadsWithin, MovesOutside}
-use Rattle.machine_model.specs.Reached.{on_pages, ActIn, CourseIn, AreApart, IsListIn, KeepsToPages, lists_keep_to_their_pages}
+use Rattle.machine_model.specs.Reached.{on_pages, ActIn, CourseIn, lists_keep_to_their_pages}
 use Rattle.machine_model.proofs.Reaching.{list_in}
 
 pub reads_in : (chain own : ℕ → Bool) (c : Course) → CourseIn chain own c → ReadsWithin chain c

@@ -23,6 +23,7 @@ pub mod Slots
 pub mod Built
 pub mod Out
 pub mod Asked
+pub mod Zero
 pub mod Headline
 pub mod Touching
 pub mod Placed
@@ -35,6 +36,8 @@ pub mod Tied
 pub mod TiedHost
 pub mod TiedReap
 pub mod TiedAll
+pub mod Backed
+pub mod BackedAll
 pub mod Grounds
 pub mod Untouched
 pub mod Entered
@@ -58,3 +61,19 @@ pub mod CausedKept
 pub mod EveryStatus
 pub mod Blind
 pub mod Histories
+pub mod Carried
+pub mod Gathered
+pub mod RecordsMove
+pub mod JobsMove
+pub mod Known
+pub mod KnownJobs
+pub mod Images
+pub mod Compares
+pub mod Ordered
+pub mod Received
+pub mod QueuesMove
+pub mod Reading
+pub mod ReadsKept
+pub mod ReadsWalk
+pub mod ReadsAlong
+pub mod ReadLaws

@@ -1,8 +1,8 @@
 -- Members of lists, told by sums: what is in a list counts at most as much as all of it, whatever is counted.
-use Rattle.std.proofs.Common.{◌≡◌, ℕ, zero, suc, ◌+◌, ◌<◌, ◌≤◌, ◌==◌, Bool, true, false, not, ◌&&◌, Option, Some, None, List, [], ◌∷◌, ◌++◌, map, filter, find, slice_get, drop, if◌then◌else◌, refl, ap, sym, ◌∙◌, arith, subst, eqb-true}
+use Rattle.std.proofs.Common.{◌≡◌, ℕ, zero, suc, ◌+◌, ◌<◌, ◌≤◌, ◌==◌, Bool, true, false, ◌&&◌, Some, List, [], ◌∷◌, ◌++◌, map, filter, find, slice_get, drop, if◌then◌else◌, refl, sym, ◌∙◌, arith, subst}
 use Rattle.std.specs.List.{AllByRecursion}
-use Rattle.std.proofs.lemmas.Bool.{true≢false, and_parts}
-use Rattle.machine_model.specs.State.{Record, is_at, with_record, without_record}
+use Rattle.std.proofs.lemmas.Bool.{true≢false}
+use Rattle.machine_model.specs.State.{Record, is_at, with_record}
 use Rattle.machine_model.specs.Refusals.{is_submitted}
 use Rattle.machine_model.proofs.Counting.{one}
 use Rattle.machine_model.proofs.Totals.{total, here}

@@ -1,53 +1,51 @@
 -- Where nothing was forged no ring is full and no slot's page is out.
-use Rattle.std.proofs.Common.{◌≡◌, ℕ, zero, suc, ◌+◌, ◌-◌, ◌<◌, ◌≤◌, ◌==◌, nat_lt, nat_le, Bool, true, false, not, ◌&&◌, ◌||◌, Option, Some, None, List, [], ◌∷◌, ◌++◌, length, slice_get, is_some, is_none, All, IsTrue, MatchBool, if◌then◌else◌, refl, ap, sym, ◌∙◌, arith, subst, eqb-true, eq-eqb, ltb-true}
+use Rattle.std.proofs.Common.{◌≡◌, ℕ, ◌-◌, ◌<◌, ◌≤◌, ◌==◌, nat_lt, nat_le, Bool, true, false, not, ◌||◌, Option, Some, None, List, [], ◌∷◌, ◌++◌, length, slice_get, is_some, is_none, All, IsTrue, MatchBool, if◌then◌else◌, refl, ap, sym, ◌∙◌, arith, ltb-true}
 use Rattle.std.specs.Option.{option_map_or}
 use Rattle.std.specs.List.{AllByRecursion}
-use Rattle.std.proofs.lemmas.Bool.{true≢false, not-false, and_parts, or_parts, not-true}
+use Rattle.std.proofs.lemmas.Bool.{true≢false, not-false, and_parts, or_parts}
 use Rattle.std.proofs.lemmas.Bool.Decides.{nat_tests}
 use Rattle.std.proofs.lemmas.List.Elements.{All-nil, All-cons}
 use Rattle.page_ledger.specs.Owners.{is_among}
 use Rattle.admin_commands.specs.Verdicts.{is_absent}
-use Rattle.io_commands.specs.Drafts.{DraftContents}
 use Rattle.io_commands.specs.Values.{numbers_of}
-use Rattle.io_commands.specs.Requests.{first_passing, fault_of}
+use Rattle.io_commands.specs.Requests.{fault_of}
+use Rattle.controller_walk.specs.Units.{first_passing}
 use Rattle.io_commands.specs.declared.request.RequestFault.{RequestFault}
 use Rattle.entry_codec.specs.declared.submission.SubEntry.{SubEntry}
-use Rattle.page_memory.specs.Pages.{page_at}
 use Rattle.queue_pair.specs.Slots.{is_full as ring_is_full, distance}
 use Rattle.machine_model.specs.Proper.{IsProper}
 use Rattle.machine_model.specs.Memory.{is_in}
-use Rattle.machine_model.specs.State.{State, HostQueue, DeviceQueue, Record, Job, Answer, is_at, record_at, outstanding_on}
-use Rattle.machine_model.specs.Refusals.{causes, refusal_of, is_live, is_submitted, is_drafted, is_of, is_retired, is_gone, is_deleting, is_deleted, is_held, record_is, in_state, queue_full, no_identifier, no_io_queue, cq_deletion_outstanding, host_queue, device_queue, next_rung, job_at, job_is, waits, conflicts, answers_full, fetch_page, post_page, pages_wanted, seen_entry}
+use Rattle.machine_model.specs.State.{State, HostQueue, DeviceQueue, Job, Answer, is_at, outstanding_on}
+use Rattle.machine_model.specs.Refusals.{causes, is_live, is_drafted, is_of, is_retired, is_gone, record_is, in_state, queue_full, no_identifier, no_io_queue, host_queue, device_queue, next_rung, job_at, conflicts, answers_full, fetch_page, post_page}
 use Rattle.machine_model.specs.Touch.{pages_of_queue}
-use Rattle.machine_model.specs.Step.{Step, Permits, Refuses, IsController, times}
+use Rattle.machine_model.specs.Step.{Permits, Refuses, IsController}
 use Rattle.machine_model.specs.Image.{Made}
-use Rattle.machine_model.specs.Laws.{TrustedRun, Steps, is_full, rings_are_never_full}
+use Rattle.machine_model.specs.Laws.{Steps, is_full, rings_are_never_full}
 use Rattle.machine_model.specs.After as a
 use Rattle.machine_model.specs.Opening.{opening}
 use Rattle.machine_model.specs.Events as events
 use Rattle.machine_model.specs.Events.{Event, Reply, Refusal}
 use Rattle.machine_model.proofs.Counting.{one, times-append, held_once}
-use Rattle.machine_model.proofs.Totals.{total, here}
+use Rattle.machine_model.proofs.Totals.{total}
 use Rattle.machine_model.proofs.Parts.{in_store, length-in_store}
 use Rattle.machine_model.proofs.Steps.{Accepts}
-use Rattle.machine_model.proofs.Refused.{first_fails, rest_fails, found, pages_match}
-use Rattle.machine_model.proofs.Owned.{in_queue, in_record}
-use Rattle.machine_model.proofs.Taken.{taken, taken_le, none, none_here, in_is}
+use Rattle.machine_model.proofs.Refused.{found, pages_match}
+use Rattle.machine_model.proofs.Owned.{in_queue}
+use Rattle.machine_model.proofs.Taken.{taken, taken_le, none_here, in_is}
 use Rattle.machine_model.proofs.Managed.{absent}
-use Rattle.machine_model.proofs.Paired.{is_past, linked_from_tied}
-use Rattle.machine_model.proofs.Touching.{IsLinked, StaysIn, fetch_stays_in, post_stays_in, rung_there}
+use Rattle.machine_model.proofs.Paired.{linked_from_tied}
+use Rattle.machine_model.proofs.Touching.{IsLinked, fetch_stays_in, post_stays_in, rung_there}
 use Rattle.machine_model.proofs.Placed.{is_job, find_sound}
 use Rattle.machine_model.proofs.Tied.{tied_from_fit}
-use Rattle.machine_model.proofs.Trusted.{trusted_before}
-use Rattle.machine_model.proofs.Members.{In, in_at, in_found}
+use Rattle.machine_model.proofs.Members.{in_at, in_found}
 use Rattle.machine_model.proofs.Elsewhere.{owned_once}
 use Rattle.machine_model.proofs.Grounds.{Grounds, each_proper_step, trusted_at_first}
 use Rattle.machine_model.proofs.Untouched.{live_past, live_queue}
-use Rattle.machine_model.proofs.Served.{Stood, job_weight, answers_at, unfetched_count}
+use Rattle.machine_model.proofs.Served.{Stood, job_weight, answers_at}
 use Rattle.machine_model.proofs.PlacesKept.{ids_of, drafted_not}
 use Rattle.machine_model.proofs.Placements.{in_hand}
 use Rattle.machine_model.proofs.WalksKept.{stood_on, stood_at_opening}
-use Rattle.machine_model.proofs.Heads.{sent_count, sent_outstanding, few_outstanding, length_outstanding, total_ones, on_queue'}
+use Rattle.machine_model.proofs.Heads.{sent_count, sent_outstanding, few_outstanding, length_outstanding, total_ones}
 use Rattle.machine_model.proofs.HeadsKept.{HeadsS, drafted_room}
 use Rattle.machine_model.proofs.HeadsAll.{heads_event, heads_at_opening, no_conflict}
 

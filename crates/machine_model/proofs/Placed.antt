@@ -308,7 +308,7 @@ placed_reaped rs un js an ans ds once h =
 
 -- Completing one
 
-total_gone : {A : Type 0} (w : A → ℕ) (test : A → Bool) (xs : List A) (x : A) → find test xs ≡ Some x → total w (filter (λ y. not (test y)) xs) + w x ≤ total w xs
+pub total_gone : {A : Type 0} (w : A → ℕ) (test : A → Bool) (xs : List A) (x : A) → find test xs ≡ Some x → total w (filter (λ y. not (test y)) xs) + w x ≤ total w xs
 total_gone w test [] x e = absurd cc
 total_gone w test (y ∷ xs) x e = go (test y) e (total_gone w test xs x)
   where

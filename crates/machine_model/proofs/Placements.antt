@@ -1,44 +1,31 @@
 -- Each event keeps the entries of a queue's commands in as many places as it has submitted commands.
-use Rattle.std.proofs.Common.{◌≡◌, ℕ, zero, suc, ◌+◌, ◌-◌, ◌<◌, ◌≤◌, ◌==◌, nat_lt, Bool, true, false, not, ◌&&◌, ◌||◌, Option, Some, None, List, [], ◌∷◌, ◌++◌, map, filter, find, take, drop, ◌/◌, ◌%◌, slice_get, is_some, is_none, option_and_then, option_map, if◌then◌else◌, refl, ap, sym, ◌∙◌, arith, subst, eqb-true, eq-eqb}
+use Rattle.std.proofs.Common.{◌≡◌, ℕ, zero, ◌+◌, ◌-◌, ◌≤◌, ◌==◌, nat_lt, Bool, true, false, not, ◌&&◌, Option, Some, None, List, [], ◌∷◌, ◌++◌, map, filter, find, take, drop, ◌/◌, ◌%◌, slice_get, is_none, option_and_then, if◌then◌else◌, refl, ap, sym, ◌∙◌, arith, subst, eqb-true}
 use Rattle.std.specs.Option.{option_map_or}
-use Rattle.std.specs.List.{AllByRecursion}
-use Rattle.std.proofs.lemmas.Bool.{true≢false, not-false, and_parts, eqb-false}
+use Rattle.std.proofs.lemmas.Bool.{true≢false, and_parts}
 use Rattle.controller_walk.specs.Units.{Act, Stays, Reads, Moves}
 use Rattle.sgl_descriptor.specs.declared.Direction.{Direction}
 use Rattle.sgl_descriptor.specs.declared.Direction.TheVariants.{Destination, Source}
-use Rattle.admin_commands.specs.Entries.{admin_entry, named_queue, named_command}
-use Rattle.admin_commands.specs.declared.SqState.TheVariants.{Absent, Live as Running, Stopping}
-use Rattle.admin_commands.specs.declared.SqState.{SqState}
-use Rattle.admin_commands.specs.declared.AdminKind.TheVariants.{Abort, DeleteSq, DeleteCq}
-use Rattle.admin_commands.specs.declared.AdminKind.{AdminKind}
-use Rattle.admin_commands.specs.Verdicts.{is_absent, is_live as is_running}
+use Rattle.admin_commands.specs.Entries.{named_queue, named_command}
+use Rattle.admin_commands.specs.declared.SqState.TheVariants.{Absent, Stopping}
+use Rattle.admin_commands.specs.Verdicts.{is_live as is_running}
 use Rattle.entry_codec.specs.declared.submission.SubEntry.{SubEntry}
-use Rattle.entry_codec.specs.declared.completion.ComEntry.{ComEntry}
 use Rattle.entry_codec.specs.declared.status.Status.{Status}
-use Rattle.entry_codec.specs.declared.status.TheConstants.Status.{SUCCESS, COMMAND_ID_CONFLICT, ABORT_REQUESTED, ABORTED_SQ_DELETION}
+use Rattle.entry_codec.specs.declared.status.TheConstants.Status.{COMMAND_ID_CONFLICT, ABORT_REQUESTED, ABORTED_SQ_DELETION}
 use Rattle.entry_codec.specs.declared.admin_opcode.TheConstants.{DELETE_IO_SQ}
-use Rattle.io_commands.specs.Drafts.{DraftContents}
 use Rattle.io_commands.specs.Jobs.{is_success, verdict_of, io_fault, bytes_after_check, direction_of_entry}
 use Rattle.page_memory.specs.Pages.{with_bytes, with_page_bytes}
-use Rattle.queue_pair.specs.Rings.{next_tail}
-use Rattle.machine_model.specs.Memory.{with_pages}
-use Rattle.machine_model.specs.Commands.{Work, Io, Management}
-use Rattle.machine_model.specs.State.{State, Device, Host, HostQueue, HostState, Live, Deleting, Retired, Gone, DeviceQueue, Record, Phase, Drafted, Submitted, Held, Collected, Job, Answer, is_at, record_at, with_record, without_record}
-use Rattle.machine_model.specs.Refusals.{is_submitted, host_queue, device_queue, next_rung, job_at, fetch_slot, first_answer, conflicts}
-use Rattle.machine_model.specs.Step.{HostPart, host_part}
+use Rattle.machine_model.specs.State.{State, Device, HostQueue, DeviceQueue, Record, Job, Answer}
+use Rattle.machine_model.specs.Refusals.{device_queue, next_rung, job_at, fetch_slot, first_answer, conflicts}
 use Rattle.machine_model.specs.After as a
 use Rattle.machine_model.specs.After.{change}
 use Rattle.machine_model.specs.Standing.{unfetched_at}
-use Rattle.machine_model.proofs.Counting.{one}
-use Rattle.machine_model.proofs.Totals.{total, total-append, total-map, total_with, total_without, total-filter, here}
-use Rattle.machine_model.proofs.Parts.{part-posted}
-use Rattle.machine_model.proofs.Placing.{device-posted, device-answered}
-use Rattle.machine_model.proofs.Placed.{find_sound, is_job, gone_at}
-use Rattle.machine_model.proofs.Paired.{is_past, is_over}
+use Rattle.machine_model.proofs.Totals.{total, total-append, total-map, total-filter}
+use Rattle.machine_model.proofs.Placing.{device-answered}
+use Rattle.machine_model.proofs.Placed.{is_job}
 use Rattle.machine_model.proofs.Managed.{managed_by_case}
 use Rattle.machine_model.proofs.Members.{sent}
 use Rattle.machine_model.proofs.Served.{Places, past_at, answers_at, unfetched_count, job_weight}
-use Rattle.machine_model.proofs.Queues.{list_at, list_same, more_at, less_at, past_same, past_other, past_here}
+use Rattle.machine_model.proofs.Queues.{list_same, more_at, less_at}
 
 -- Weights
 

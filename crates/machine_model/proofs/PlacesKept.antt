@@ -1,5 +1,5 @@
 -- Every event keeps an entry of a submitted command in one place at most.
-use Rattle.std.proofs.Common.{◌≡◌, ℕ, zero, suc, ◌+◌, ◌<◌, ◌≤◌, ◌==◌, nat_lt, Bool, true, false, not, ◌&&◌, ◌||◌, Option, Some, None, List, [], ◌∷◌, ◌++◌, length, map, filter, find, drop, slice_get, is_some, is_none, option_and_then, option_map, if◌then◌else◌, refl, ap, sym, ◌∙◌, arith, subst, eqb-true, eq-eqb}
+use Rattle.std.proofs.Common.{◌≡◌, ℕ, zero, suc, ◌+◌, ◌<◌, ◌≤◌, ◌==◌, Bool, true, false, not, ◌&&◌, ◌||◌, Option, Some, None, List, [], ◌∷◌, ◌++◌, length, map, drop, slice_get, is_some, is_none, option_and_then, option_map, if◌then◌else◌, refl, ap, sym, ◌∙◌, arith, subst, eqb-true}
 use Rattle.std.specs.Option.{option_map_or}
 use Rattle.std.proofs.lemmas.Bool.{true≢false, not-false, and_parts, or_parts, eqb-false}
 use Rattle.admin_commands.specs.Entries.{admin_entry}
@@ -12,9 +12,9 @@ use Rattle.entry_codec.specs.declared.submission.SubEntry.{SubEntry}
 use Rattle.entry_codec.specs.declared.completion.ComEntry.{ComEntry}
 use Rattle.entry_codec.specs.declared.status.Status.{Status}
 use Rattle.entry_codec.specs.declared.status.TheConstants.Status.{ABORTED_SQ_DELETION}
-use Rattle.io_commands.specs.Drafts.{DraftContents, draft_entry}
+use Rattle.io_commands.specs.Drafts.{DraftContents}
 use Rattle.io_commands.specs.Values.{numbers_of}
-use Rattle.io_commands.specs.Requests.{first_passing}
+use Rattle.controller_walk.specs.Units.{first_passing}
 use Rattle.io_commands.specs.Jobs.{is_success}
 use Rattle.io_commands.specs.declared.request.Request.{Request}
 use Rattle.io_commands.proofs.Spelled.{carries_entry}
@@ -24,8 +24,8 @@ use Rattle.machine_model.specs.Proper.{IsProper}
 use Rattle.machine_model.specs.Memory.{with_pages, without_pages}
 use Rattle.machine_model.specs.Commands.{Work, Io, Management}
 use Rattle.machine_model.specs.State.{State, Device, Host, HostQueue, HostState, Live, Deleting, Retired, Gone, DeviceQueue, Record, Phase, Drafted, Submitted, Held, Collected, Job, Answer, is_at, record_at, pages_of, with_record, without_record}
-use Rattle.machine_model.specs.Refusals.{is_submitted, is_drafted, is_collected, is_held, is_live, is_asked, is_retired, is_gone, is_deleted, is_deleting, host_queue, device_queue, next_rung, refusal_of, record_is, is_of, in_state, queue_full, seen_entry, entry_of, first_answer, slot_page, slot_offset, no_io_queue, no_identifier}
-use Rattle.machine_model.specs.Step.{HostPart, host_part, IsController, reaped, reaped_entry}
+use Rattle.machine_model.specs.Refusals.{is_submitted, is_drafted, is_collected, is_held, is_live, is_asked, is_retired, is_gone, is_deleted, is_deleting, host_queue, device_queue, refusal_of, record_is, is_of, in_state, queue_full, seen_entry, entry_of, first_answer, slot_page, slot_offset, no_io_queue, no_identifier}
+use Rattle.machine_model.specs.Step.{HostPart, IsController, reaped, reaped_entry}
 use Rattle.machine_model.specs.After as a
 use Rattle.machine_model.specs.After.{change}
 use Rattle.machine_model.specs.Events as events
@@ -40,9 +40,9 @@ use Rattle.machine_model.proofs.Placing.{device-posted}
 use Rattle.machine_model.proofs.Placed.{find_sound, gone_at}
 use Rattle.machine_model.proofs.Standing.{named_entry, seen_trusted}
 use Rattle.machine_model.proofs.Out.{named, reaped_submitted}
-use Rattle.machine_model.proofs.Asked.{was_asked, asked_at, ring_at}
-use Rattle.machine_model.proofs.Paired.{PairOk, is_past, is_over, on_queue}
-use Rattle.machine_model.proofs.Tied.{FitS, rung_gone}
+use Rattle.machine_model.proofs.Asked.{was_asked, ring_at}
+use Rattle.machine_model.proofs.Paired.{is_past, is_over, on_queue}
+use Rattle.machine_model.proofs.Tied.{FitS}
 use Rattle.machine_model.proofs.TiedHost.{fit-heard}
 use Rattle.machine_model.proofs.Members.{sent}
 use Rattle.machine_model.proofs.Grounds.{Grounds, pair_at}

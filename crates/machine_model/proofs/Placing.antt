@@ -73,12 +73,12 @@ answering_same f same k [] = refl
 answering_same f same zero (at ∷ ds) = same at
 answering_same f same (suc k) (at ∷ ds) = refl
 
-waiting_other : (f : DeviceQueue → DeviceQueue) (k : ℕ) (ds : List DeviceQueue) → (k == 0) ≡ false → waiting (change k f ds) ≡ waiting ds
+pub waiting_other : (f : DeviceQueue → DeviceQueue) (k : ℕ) (ds : List DeviceQueue) → (k == 0) ≡ false → waiting (change k f ds) ≡ waiting ds
 waiting_other f zero ds e = absurd (true≢false e)
 waiting_other f (suc k) [] e = refl
 waiting_other f (suc k) (at ∷ ds) e = refl
 
-answering_other : (f : DeviceQueue → DeviceQueue) (k : ℕ) (ds : List DeviceQueue) → (k == 0) ≡ false → answering (change k f ds) ≡ answering ds
+pub answering_other : (f : DeviceQueue → DeviceQueue) (k : ℕ) (ds : List DeviceQueue) → (k == 0) ≡ false → answering (change k f ds) ≡ answering ds
 answering_other f zero ds e = absurd (true≢false e)
 answering_other f (suc k) [] e = refl
 answering_other f (suc k) (at ∷ ds) e = refl
@@ -127,7 +127,7 @@ device-posted q entry s =
 
 -- The entry that is fetched from queue 0
 
-taken_entry : (ds : List DeviceQueue) (e : SubEntry) → option_and_then (λ queue. if is_running queue.state && nat_lt 0 queue.rung then slice_get queue.unfetched 0 else None) (slice_get ds 0) ≡ Some e
+pub taken_entry : (ds : List DeviceQueue) (e : SubEntry) → option_and_then (λ queue. if is_running queue.state && nat_lt 0 queue.rung then slice_get queue.unfetched 0 else None) (slice_get ds 0) ≡ Some e
     → waiting ds ≡ e ∷ waiting (change 0 (λ at. record at { unfetched = drop 1 at.unfetched; rung = at.rung - 1 }) ds)
 taken_entry [] e h = absurd cc
 taken_entry (at ∷ ds) e h = go (is_running at.state && nat_lt 0 at.rung) at.unfetched h
@@ -159,7 +159,7 @@ decide rs e st dw0 s promise h = record {
       (a.new_job 0 e (Some st) dw0 []) st refl refl refl (record { gone = λ q g. g; away = λ q t. t }) promise h;
 }
 
-wrong_opcode : (e : SubEntry) (adm : AdminKind) (n : ℕ) (b : Bool) → e ≡ admin_entry adm e.cid → (e.opcode == n) ≡ b → ((admin_entry adm e.cid).opcode == n) ≡ b
+pub wrong_opcode : (e : SubEntry) (adm : AdminKind) (n : ℕ) (b : Bool) → e ≡ admin_entry adm e.cid → (e.opcode == n) ≡ b → ((admin_entry adm e.cid).opcode == n) ≡ b
 wrong_opcode e adm n b same h = ap (λ (x : SubEntry). x.opcode == n) (sym same) ∙ h
 
 aborts_mild : (q cid id : ℕ) → MildJob (λ j. if (j.q == q) && (j.entry.cid == cid) then record j { verdict = Some ABORT_REQUESTED; waiting_abort = Some id } else j)

@@ -1,5 +1,5 @@
 -- The memory that a walk reads is the pool's.
-use Rattle.std.proofs.Common.{◌≡◌, ℕ, ◌%◌, ◌<◌, Bool, true, Option, Some, None, List, length, slice_get, slice_index, IfSome, is_some, refl, sym, ap}
+use Rattle.std.proofs.Common.{◌≡◌, ℕ, ◌%◌, ◌<◌, true, Option, Some, None, List, length, slice_get, slice_index, IfSome, is_some, refl, sym, ap}
 use Rattle.std.specs.Prelude.{option_map, option_and_then}
 use native.Mathlib.Omega.{arith}
 use Rattle.std.proofs.lemmas.Option.{slice_get-get_or}

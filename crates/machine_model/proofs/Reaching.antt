@@ -1,5 +1,5 @@
 -- The walk of a list that spells parts reads where its segments lie, and moves where its parts lie.
-use Rattle.std.proofs.Common.{arith, ◌≡◌, ◌<◌, ◌≤◌, ◌⊎◌, inl, inr, ◌+◌, ◌-◌, ◌*◌, ◌/◌, ◌%◌, ◌++◌, ◌∷◌, [], ℕ, zero, suc, Bool, true, false, List, Option, Some, None, refl, sym, ap, subst, ◌∙◌, cond, is_some, length, map, nat_lt, add-zero, if◌then◌else◌}
+use Rattle.std.proofs.Common.{arith, ◌≡◌, ◌<◌, ◌≤◌, ◌⊎◌, inl, inr, ◌+◌, ◌-◌, ◌*◌, ◌%◌, ◌++◌, ◌∷◌, [], ℕ, zero, suc, Bool, true, false, List, Option, Some, None, refl, sym, ap, subst, ◌∙◌, cond, is_some, length, map, nat_lt, add-zero, if◌then◌else◌}
 use Rattle.std.specs.List.{AllByRecursion}
 use Rattle.std.proofs.lemmas.Bool.{true≢false}
 use Rattle.std.proofs.lemmas.Bool.Decides.{nat_tests}
@@ -11,17 +11,17 @@ use Rattle.sgl_descriptor.specs.declared.Descriptor.TheVariants.{DataBlock, BitB
 use Rattle.sgl_descriptor.specs.declared.Direction.{Direction}
 use Rattle.sgl_descriptor.specs.declared.Part.{Part}
 use Rattle.sgl_descriptor.specs.declared.Part.TheVariants.{Data, Bucket}
-use Rattle.sgl_descriptor.specs.Spelling.{IsSpelling, IsLink, descriptor_of}
-use Rattle.sgl_descriptor.specs.Targets.{descriptor_of_part, counted}
+use Rattle.sgl_descriptor.specs.Spelling.{IsLink, descriptor_of}
+use Rattle.sgl_descriptor.specs.Targets.{descriptor_of_part}
 use Rattle.sgl_descriptor.proofs.Spells.{found}
-use Rattle.sgl_chain.specs.Spells.{IsSegment, SpellsBy, Stand, Spells}
+use Rattle.sgl_chain.specs.Spells.{SpellsBy, Stand, Spells}
 use Rattle.controller_walk.specs.declared.cursor.Named.{Named}
 use Rattle.controller_walk.specs.declared.cursor.Named.TheVariants.{Unnamed, BySegment, ByLastSegment}
 use Rattle.controller_walk.specs.declared.cursor.Cursor.{Cursor}
 use Rattle.controller_walk.specs.declared.walk.WalkState.TheVariants.{Fault}
-use Rattle.controller_walk.specs.Units.{Act, Stays, Reads, Moves, Course, Closes, Does, after_read, from_place, rest_of, goes_on, unless_fault, first_fault, moving, first_part, pages_spanned, entry_cursor, next, segment_start, course_of_list, named_on, named_last}
+use Rattle.controller_walk.specs.Units.{Stays, Reads, Moves, Course, Closes, Does, after_read, from_place, rest_of, goes_on, unless_fault, first_fault, moving, first_part, pages_spanned, entry_cursor, next, segment_start, course_of_list, named_on, named_last}
 use Rattle.controller_walk.proofs.Courses.{pages_step, from_read}
-use Rattle.machine_model.specs.Reached.{only, LiesIn, ActIn, CourseIn}
+use Rattle.machine_model.specs.Reached.{only, LiesIn, CourseIn}
 
 -- Bytes at some places of a memory
 

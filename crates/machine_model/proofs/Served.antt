@@ -1,5 +1,5 @@
 -- A job's list: the record that it belongs to, what its walk reaches, and that it stays the same list.
-use Rattle.std.proofs.Common.{◌≡◌, ◌≢◌, ℕ, zero, suc, ◌+◌, ◌*◌, ◌-◌, ◌/◌, ◌%◌, ◌^◌, ◌<◌, ◌≤◌, ◌==◌, nat_lt, Bool, true, false, not, ◌&&◌, Option, Some, None, List, [], ◌∷◌, ◌++◌, length, slice_get, slice_index, is_some, find, if◌then◌else◌, refl, ap, sym, ◌∙◌, arith, subst, eqb-true, eq-eqb, add-zero, ltb-true}
+use Rattle.std.proofs.Common.{◌≡◌, ℕ, zero, suc, ◌+◌, ◌*◌, ◌%◌, ◌^◌, ◌<◌, ◌≤◌, ◌==◌, nat_lt, Bool, true, false, Option, Some, None, List, [], ◌∷◌, ◌++◌, length, slice_get, slice_index, is_some, find, if◌then◌else◌, refl, ap, sym, ◌∙◌, arith, subst, eqb-true, eq-eqb, add-zero, ltb-true}
 use Rattle.std.specs.List.{AllByRecursion}
 use Rattle.std.specs.Prelude.{option_map, option_and_then}
 use Rattle.std.specs.Option.{option_map_or}
@@ -8,41 +8,39 @@ use Rattle.std.proofs.lemmas.Option.{slice_get-get_or, slice_get_within}
 use Rattle.page_ledger.specs.Owners.{is_among}
 use Rattle.page_memory.specs.Memory.{Memory, bytes_at, page_of}
 use Rattle.page_memory.specs.Pages.{Pages, page_at, byte_at}
-use Rattle.sgl_descriptor.specs.declared.Descriptor.{Descriptor}
 use Rattle.sgl_descriptor.specs.declared.Part.{Part}
 use Rattle.sgl_descriptor.specs.Spelling.{spelling, descriptor_of}
 use Rattle.sgl_descriptor.specs.Targets.{counted_in}
-use Rattle.sgl_chain.specs.Spells.{Spells}
 use Rattle.sgl_chain.specs.Laws.{HasBytesOf}
 use Rattle.sgl_chain.proofs.Larger.{spells_there}
 use Rattle.controller_walk.specs.declared.walk.WalkState.TheVariants.{End, Fault}
-use Rattle.controller_walk.specs.Units.{Stays, Reads, Moves, Course, Closes, Does, verdict, course_of_list}
+use Rattle.controller_walk.specs.Units.{Stays, Reads, Moves, Course, Closes, Does, verdict}
+use Rattle.controller_walk.specs.Along.{taken as taken_parts, parts_taken}
 use Rattle.controller_walk.specs.Serving.{Serves}
 use Rattle.controller_walk.proofs.Serving.{list_served}
 use Rattle.entry_codec.specs.declared.submission.SubEntry.{SubEntry}
 use Rattle.entry_codec.specs.declared.status.TheConstants.Status.{DATA_TRANSFER_ERROR}
 use Rattle.io_commands.specs.declared.request.Request.{Request}
-use Rattle.io_commands.specs.Requests.{parts_of, direction_of, data_count}
+use Rattle.io_commands.specs.Requests.{parts_of, direction_of}
 use Rattle.io_commands.specs.Drafts.{io_entry}
 use Rattle.io_commands.specs.Jobs.{direction_of_entry, need_of_entry}
 use Rattle.machine_model.specs.Memory.{memory_of}
 use Rattle.machine_model.specs.Commands.{Work, Io, Management}
-use Rattle.machine_model.specs.State.{State, Host, HostQueue, DeviceQueue, Record, Phase, Drafted, Submitted, Held, Collected, Job, Answer, is_at, record_at, pages_of}
+use Rattle.machine_model.specs.State.{State, HostQueue, DeviceQueue, Record, Drafted, Submitted, Held, Collected, Job, Answer, is_at, record_at, pages_of}
 use Rattle.machine_model.specs.Refusals.{is_submitted}
-use Rattle.machine_model.specs.Step.{times, host_part}
 use Rattle.machine_model.specs.Claims.{OwnsFit}
 use Rattle.machine_model.specs.After.{course_of}
-use Rattle.machine_model.specs.Reached.{only, on_pages, LiesIn, CourseIn, AreApart, IsListIn, IsThere}
-use Rattle.machine_model.specs.Standing.{IsSized, unfetched_at, HasEntry, ListStands, StandsAs, CommandStands, HasUnitLeft}
+use Rattle.machine_model.specs.Reached.{only, on_pages, CourseIn, AreApart, IsListIn}
+use Rattle.machine_model.specs.Standing.{IsSized, unfetched_at, ListStands, StandsAs, CommandStands, HasUnitLeft}
 use Rattle.machine_model.proofs.Counting.{one, times-append, held_once, not_held}
-use Rattle.machine_model.proofs.Totals.{total, here}
+use Rattle.machine_model.proofs.Totals.{total}
 use Rattle.machine_model.proofs.Parts.{in_store, length-in_store}
-use Rattle.machine_model.proofs.Owned.{HoldsPart, in_record, in_queue, owned}
-use Rattle.machine_model.proofs.Taken.{is_out, taken, none, none_here, in_is}
+use Rattle.machine_model.proofs.Owned.{in_record}
+use Rattle.machine_model.proofs.Taken.{is_out, taken, none_here, in_is}
 use Rattle.machine_model.proofs.Placed.{find_sound}
 use Rattle.machine_model.proofs.Paired.{is_past}
 use Rattle.machine_model.proofs.Members.{In, in_found, all_at_found, sent, sent_found}
-use Rattle.machine_model.proofs.Elsewhere.{sent_page, sent_less, owned_once, at_most_one}
+use Rattle.machine_model.proofs.Elsewhere.{sent_page, owned_once}
 use Rattle.machine_model.proofs.Grounds.{Grounds}
 use Rattle.machine_model.proofs.Reaching.{list_in}
 use Rattle.machine_model.proofs.Ending.{lists_end, bytes_there}
@@ -253,19 +251,30 @@ low_places m few place h =
     inside (x ∷ m) zero h = omega arith
     inside (x ∷ m) (suc p) h = omega (arith, inside m p h)
 
-pub course_ends : (s : State) → Stood s → (j : Job) (l : JobList s j) → verdict (course_of s j) ≡ End
-course_ends s stood j l =
+-- it ends well, with each of its parts taken, and they count what is moved
+pub record CourseWhole (s : State) (j : Job) (parts : List Part) : Type 0 where
+  pub ends : verdict (course_of s j) ≡ End
+  pub takes : parts_taken (memory_of s.memory) (taken_parts [] (descriptor_of j.entry.sgl1)) (course_of s j) ≡ parts
+  pub counts : counted_in (direction_of_entry j.entry) parts ≡ need_of_entry j.entry
+
+pub course_whole : (s : State) → Stood s → (j : Job) (l : JobList s j) → CourseWhole s j (parts_of l.request.pieces l.command.data_pages)
+course_whole s stood j l =
     let list = list_of_job s j l in
     let r = l.command in
     let g = good_is l.request l.sized.good in
     let same_direction : direction_of_entry j.entry ≡ direction_of l.request.kind = ap direction_of_entry l.entry ∙ entry_direction r.cid l.request (spelling l.list.first) in
     let same_need : need_of_entry j.entry ≡ 512 * l.request.blocks = ap need_of_entry l.entry ∙ entry_need r.cid l.request (spelling l.list.first) l.sized.good in
-    (lists_end (memory_of s.memory) j.entry.sgl1 list.first (parts_of l.request.pieces r.data_pages) (direction_of_entry j.entry) (need_of_entry j.entry)
+    let count : counted_in (direction_of_entry j.entry) (parts_of l.request.pieces r.data_pages) ≡ need_of_entry j.entry =
+    ap (λ d. counted_in d (parts_of l.request.pieces r.data_pages)) same_direction ∙ parts_count l.request r.data_pages l.sized.good l.sized.pages ∙ sym same_need in
+    let both = lists_end (memory_of s.memory) j.entry.sgl1 list.first (parts_of l.request.pieces r.data_pages) (direction_of_entry j.entry) (need_of_entry j.entry)
     (low_places s.memory stood.few) list.spelled
     (spells_there (only (on_pages r.chain_pages) (memory_of s.memory)) (memory_of s.memory) (more_than_only (on_pages r.chain_pages) (memory_of s.memory)) list.first (parts_of l.request.pieces r.data_pages) list.spells)
     (parts_there s.memory l.request.pieces r.data_pages g.crosses l.sized.fits.pieces
-    (λ p h. (omega (arith, page_below s stood.grounds r l.within p (data_of r p h), stood.few), page_there s stood.grounds r l.within l.phase p (data_of r p h))))
-    (ap (λ d. counted_in d (parts_of l.request.pieces r.data_pages)) same_direction ∙ parts_count l.request r.data_pages l.sized.good l.sized.pages ∙ sym same_need)).0
+    (λ p h. (omega (arith, page_below s stood.grounds r l.within p (data_of r p h), stood.few), page_there s stood.grounds r l.within l.phase p (data_of r p h)))) count in
+    record { ends = both.0; takes = both.1; counts = count }
+
+pub course_ends : (s : State) → Stood s → (j : Job) (l : JobList s j) → verdict (course_of s j) ≡ End
+course_ends s stood j l = (course_whole s stood j l).ends
 
 -- Its list stays where its chain pages stay, and its data pages are in
 
@@ -287,7 +296,7 @@ there_in m place h = go (page_at m (page_of place)) h
     go None h = h
     go (Some bytes) h = refl
 
-serves_in : (m m' : Pages) (chain own : List ℕ) → ((p : ℕ) → is_among chain p ≡ true → page_at m' p ≡ page_at m p) → ((p : ℕ) → is_among own p ≡ true → is_some (page_at m' p) ≡ true)
+pub serves_in : (m m' : Pages) (chain own : List ℕ) → ((p : ℕ) → is_among chain p ≡ true → page_at m' p ≡ page_at m p) → ((p : ℕ) → is_among own p ≡ true → is_some (page_at m' p) ≡ true)
     → (c : Course) → CourseIn (on_pages chain) (on_pages own) c → verdict c ≡ End → Serves (memory_of m) (memory_of m') c
 serves_in m m' chain own same there (Closes v) h e = λ f. ended (sym e ∙ f)
   where

@@ -9,7 +9,7 @@ use Rattle.entry_codec.specs.declared.submission.SubEntry.{SubEntry}
 use Rattle.admin_commands.specs.declared.AdminKind.TheVariants.{Abort, DeleteSq, DeleteCq}
 use Rattle.admin_commands.specs.declared.AdminKind.{AdminKind}
 use Rattle.io_commands.specs.declared.request.Request.{Request}
-use Rattle.io_commands.specs.Requests.{first_passing}
+use Rattle.controller_walk.specs.Units.{first_passing}
 use Rattle.page_memory.specs.Pages.{with_page_bytes}
 use Rattle.entry_codec.specs.declared.status.TheConstants.Status.{ABORTED_SQ_DELETION}
 use Rattle.entry_codec.specs.declared.status.Status.{Status}
@@ -268,7 +268,7 @@ abbrev pub StandsSound : State → Type 0
 StandsSound s = HoldsPart (host_part s) × Stands s
 
 -- a queue whose record is of an I/O command
-io_record : (s : State) (q cid : ℕ) (r : Record) (phase : Phase → Bool) (request : Request) (xs ys : List ℕ) → HoldsPart (host_part s) → record_at s.host q cid ≡ Some r → is_of phase request xs ys r ≡ true → (q == 0) ≡ false
+pub io_record : (s : State) (q cid : ℕ) (r : Record) (phase : Phase → Bool) (request : Request) (xs ys : List ℕ) → HoldsPart (host_part s) → record_at s.host q cid ≡ Some r → is_of phase request xs ys r ≡ true → (q == 0) ≡ false
 io_record s q cid r phase request xs ys h e is =
     let at = and_parts (r.q == q) (r.cid == cid) (find_sound (is_at q cid) s.host.records r e) in
     let abc = and_parts (phase r.phase && asks_for request r.work && pointwise nat_eq xs r.data_pages) (pointwise nat_eq ys r.chain_pages) is in

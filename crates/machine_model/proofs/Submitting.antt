@@ -1,22 +1,21 @@
 -- A built draft, laid into the store, spells its parts from its entry's descriptor.
-use Rattle.std.proofs.Common.{◌≡◌, ℕ, zero, suc, ◌+◌, ◌-◌, ◌*◌, ◌/◌, ◌%◌, ◌^◌, ◌<◌, ◌≤◌, ◌==◌, nat_le, Bool, true, false, not, ◌&&◌, ◌||◌, Option, Some, None, List, [], ◌∷◌, ◌++◌, length, map, slice_get, slice_set, slice_index, All, if◌then◌else◌, refl, ap, sym, ◌∙◌, arith, subst, eqb-true, eq-eqb, length-set}
+use Rattle.std.proofs.Common.{◌≡◌, ℕ, zero, suc, ◌+◌, ◌*◌, ◌^◌, ◌<◌, ◌≤◌, ◌==◌, nat_le, Bool, true, false, ◌&&◌, Option, Some, None, List, [], ◌∷◌, length, slice_set, slice_index, All, if◌then◌else◌, refl, ap, sym, ◌∙◌, arith, subst, eqb-true, eq-eqb, length-set}
 use Rattle.std.specs.List.{AllByRecursion}
 use Rattle.std.proofs.lemmas.Bool.{true≢false, and_parts, or_left, or_right}
 use Rattle.std.proofs.lemmas.Bool.Decides.{nat_tests}
 use Rattle.std.proofs.lemmas.Option.{slice_get-get_or}
 use Rattle.std.proofs.lemmas.List.Elements.{All-head, All-tail, All-nil, All-cons}
 use Rattle.page_ledger.specs.Owners.{is_among}
-use Rattle.page_memory.specs.Memory.{Memory, page_of}
+use Rattle.page_memory.specs.Memory.{page_of}
 use Rattle.page_memory.specs.Pages.{Pages, page_at, byte_at}
 use Rattle.page_memory.proofs.Reading.{byte_in}
-use Rattle.sgl_descriptor.specs.declared.Descriptor.{Descriptor}
-use Rattle.sgl_descriptor.specs.declared.Descriptor.TheVariants.{DataBlock, BitBucket, Segment, LastSegment}
+use Rattle.sgl_descriptor.specs.declared.Descriptor.TheVariants.{Segment, LastSegment}
 use Rattle.sgl_descriptor.specs.declared.Part.{Part}
 use Rattle.sgl_descriptor.specs.declared.Part.TheVariants as part
 use Rattle.sgl_descriptor.specs.Spelling.{spelling, descriptor_of, Fits}
 use Rattle.sgl_descriptor.specs.Targets.{descriptor_of_part}
 use Rattle.sgl_descriptor.proofs.Spells.{reads_itself}
-use Rattle.sgl_chain.specs.Chains.{first_of, link}
+use Rattle.sgl_chain.specs.Chains.{first_of}
 use Rattle.sgl_chain.specs.Spells.{Spells, Holds}
 use Rattle.sgl_chain.proofs.Spelled.{spells}
 use Rattle.io_commands.specs.declared.request.Request.{Request}
@@ -26,15 +25,14 @@ use Rattle.io_commands.specs.declared.request.Piece.{Piece}
 use Rattle.io_commands.specs.declared.request.Piece.TheVariants.{Data, Bucket}
 use Rattle.io_commands.specs.Requests.{parts_of, FitsPiece, fault_of}
 use Rattle.io_commands.specs.Values.{numbers_of}
-use Rattle.io_commands.specs.Drafts.{DraftContents, IsDraft, FitsDraft, HoldsPages, draft_first, draft_parts, draft_entry}
-use Rattle.io_commands.proofs.Spelled.{carries_entry, built_drafts_spell}
-use Rattle.io_commands.proofs.Building.{length-parts_of}
+use Rattle.io_commands.specs.Drafts.{DraftContents, HoldsPages, draft_first, draft_parts}
+use Rattle.io_commands.proofs.Spelled.{built_drafts_spell}
 use Rattle.machine_model.specs.Memory.{with_pages}
 use Rattle.machine_model.specs.Proper.{IsPage, ArePages, IsProperDraft}
 use Rattle.machine_model.specs.Refusals.{same_piece, same_pieces, same_kind, same_request}
 use Rattle.machine_model.specs.Step.{times}
 use Rattle.machine_model.specs.Reached.{only, on_pages}
-use Rattle.machine_model.proofs.Counting.{one, times-cons, not_held, held_once}
+use Rattle.machine_model.proofs.Counting.{one, times-cons}
 use Rattle.machine_model.proofs.Elsewhere.{with_elsewhere, among_counts}
 use Rattle.entry_codec.specs.declared.submission.SubEntry.{SubEntry}
 

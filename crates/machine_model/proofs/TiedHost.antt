@@ -55,19 +55,19 @@ fit-heard q e s h =
     let s1 = a.consumed q s in
     fit_ring s1.entries s1.host.records s1.host.queues s1.device.queues s1.device.jobs q (knowing e.sqhd) (fit-consumed q s h)
 
-below : (hs : List HostQueue) (k : ℕ) → is_some (slice_get hs k) ≡ true → k < length hs
+pub below : (hs : List HostQueue) (k : ℕ) → is_some (slice_get hs k) ≡ true → k < length hs
 below [] k h = absurd (true≢false (sym h))
 below (x ∷ hs) zero h = omega arith
 below (x ∷ hs) (suc k) h = omega (arith, below hs k h)
 
-asked_some : (hs : List HostQueue) (k : ℕ) → asked_at hs k ≡ true → is_some (slice_get hs k) ≡ true
+pub asked_some : (hs : List HostQueue) (k : ℕ) → asked_at hs k ≡ true → is_some (slice_get hs k) ≡ true
 asked_some hs k h = go (slice_get hs k) h
   where
     go : (o : Option HostQueue) → option_map_or (λ x. is_asked x.state) o false ≡ true → is_some o ≡ true
     go None h = absurd (true≢false (sym h))
     go (Some x) h = refl
 
-small : (k n : ℕ) → k < n → n ≤ 65536 → k % 65536 ≡ k
+pub small : (k n : ℕ) → k < n → n ≤ 65536 → k % 65536 ≡ k
 small k n l m = omega arith
 
 -- an admin record of queue 0 is heard of, and what its success says holds

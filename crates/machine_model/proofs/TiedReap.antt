@@ -24,13 +24,13 @@ use Rattle.machine_model.proofs.Asked.{with_same}
 use Rattle.machine_model.proofs.Tied.{FitS}
 use Rattle.machine_model.proofs.TiedHost.{records_same, fit-consumed, fit-heard, fit-admin}
 
-abbrev told : Reaped → Option Status
+abbrev pub told : Reaped → Option Status
 told events.Empty = None
 told (events.Rejected why) = None
 told (events.Done cid st) = Some st
 told (events.AdminDone cid st dw0) = Some st
 
-told_entry : (s : State) (q : ℕ) (e : ComEntry) (st : Status) → told (reaped_entry s q e) ≡ Some st → e.status ≡ st
+pub told_entry : (s : State) (q : ℕ) (e : ComEntry) (st : Status) → told (reaped_entry s q e) ≡ Some st → e.status ≡ st
 told_entry s q e st h = one' (not (e.sqid == q)) h
   where
     told_work : (w : Work) → told (reaped_as q e w) ≡ Some st → e.status ≡ st

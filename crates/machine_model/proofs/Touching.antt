@@ -9,7 +9,7 @@ use Rattle.machine_model.specs.Touch.{allowed, pages_at_queue, pages_at_queues, 
 use Rattle.admin_commands.specs.declared.SqState.TheVariants.{Live as Running, Absent, Stopping}
 use Rattle.admin_commands.specs.declared.SqState.{SqState}
 use Rattle.admin_commands.specs.Verdicts.{is_absent, is_live as is_running}
-use Rattle.io_commands.specs.Requests.{first_passing}
+use Rattle.controller_walk.specs.Units.{first_passing}
 use Rattle.machine_model.specs.State.{State, HostQueue, DeviceQueue, pages_of}
 use Rattle.machine_model.specs.Refusals.{host_queue, device_queue, next_rung, slot_page, fetch_slot, post_slot, fetch_page, post_page, conflicts, job_at, answers_full, job_is, waits}
 use Rattle.machine_model.specs.Memory.{is_in}

@@ -1,5 +1,5 @@
 -- Every event keeps walks within their lists, and all that stands while nothing is forged.
-use Rattle.std.proofs.Common.{◌≡◌, ℕ, zero, suc, ◌+◌, ◌-◌, ◌/◌, ◌%◌, ◌<◌, ◌≤◌, ◌==◌, Bool, true, false, not, ◌&&◌, ◌||◌, Option, Some, None, List, [], ◌∷◌, ◌++◌, length, map, filter, find, take, drop, slice_get, is_some, is_none, option_and_then, if◌then◌else◌, refl, ap, sym, ◌∙◌, arith, subst, eqb-true, eq-eqb, length-set, replicate, nat_le, leb-true}
+use Rattle.std.proofs.Common.{◌≡◌, ℕ, zero, suc, ◌+◌, ◌/◌, ◌%◌, ◌<◌, ◌≤◌, ◌==◌, Bool, true, false, not, ◌&&◌, Option, Some, None, List, [], ◌∷◌, ◌++◌, length, map, take, drop, slice_get, is_some, is_none, if◌then◌else◌, refl, ap, sym, ◌∙◌, arith, subst, length-set, replicate, nat_le, leb-true}
 use Rattle.std.specs.Option.{option_map_or}
 use Rattle.std.specs.List.{AllByRecursion}
 use Rattle.std.proofs.lemmas.Bool.{true≢false, and_parts}
@@ -9,7 +9,7 @@ use Rattle.controller_walk.specs.Units.{Act, Stays, Reads, Moves, Course, Closes
 use Rattle.controller_walk.specs.Walks.{answer}
 use Rattle.controller_walk.specs.Laws.{after_units}
 use Rattle.controller_walk.specs.declared.walk.WalkState.{WalkState}
-use Rattle.controller_walk.specs.declared.walk.WalkState.TheVariants.{More, End, Fault}
+use Rattle.controller_walk.specs.declared.walk.WalkState.TheVariants.{End}
 use Rattle.sgl_descriptor.specs.declared.Direction.{Direction}
 use Rattle.sgl_descriptor.specs.declared.Direction.TheVariants.{Destination, Source}
 use Rattle.admin_commands.specs.Entries.{admin_entry, named_queue, named_command}
@@ -17,19 +17,17 @@ use Rattle.admin_commands.specs.declared.SqState.TheVariants.{Absent, Stopping}
 use Rattle.admin_commands.specs.declared.AdminKind.TheVariants.{Abort, DeleteSq, DeleteCq}
 use Rattle.admin_commands.specs.declared.AdminKind.{AdminKind}
 use Rattle.entry_codec.specs.declared.submission.SubEntry.{SubEntry}
-use Rattle.entry_codec.specs.declared.completion.ComEntry.{ComEntry}
 use Rattle.entry_codec.specs.declared.status.Status.{Status}
 use Rattle.entry_codec.specs.declared.status.TheConstants.Status.{SUCCESS, COMMAND_ID_CONFLICT, ABORT_REQUESTED, ABORTED_SQ_DELETION}
 use Rattle.entry_codec.specs.declared.admin_opcode.TheConstants.{DELETE_IO_SQ}
-use Rattle.io_commands.specs.Drafts.{DraftContents}
 use Rattle.io_commands.specs.Values.{numbers_of}
 use Rattle.io_commands.specs.Jobs.{is_success, verdict_of, direction_of_entry, need_of_entry, io_fault, bytes_after_check}
 use Rattle.page_memory.specs.Pages.{Pages, page_at, with_page_bytes, with_bytes, zero_page}
 use Rattle.machine_model.specs.Proper.{IsProper}
 use Rattle.machine_model.specs.Memory.{memory_of, with_pages, without_pages}
 use Rattle.machine_model.specs.Commands.{Work, Io, Management}
-use Rattle.machine_model.specs.State.{State, Device, Host, HostQueue, DeviceQueue, Record, Phase, Drafted, Submitted, Held, Job, Answer, record_at, pages_of, with_record, without_record}
-use Rattle.machine_model.specs.Refusals.{is_submitted, is_retired, host_queue, refusal_of, next_rung, job_at, conflicts, fetch_slot, seen_entry, slot_page, slot_offset}
+use Rattle.machine_model.specs.State.{State, Device, HostQueue, Record, Submitted, Job, Answer, record_at, pages_of, with_record, without_record}
+use Rattle.machine_model.specs.Refusals.{is_submitted, is_retired, host_queue, refusal_of, next_rung, job_at, conflicts, seen_entry, slot_page, slot_offset}
 use Rattle.machine_model.specs.Opening.{Opens, opening, device_queue as opened}
 use Rattle.machine_model.specs.Step.{HostPart, host_part, IsController}
 use Rattle.machine_model.specs.After as a
@@ -48,11 +46,10 @@ use Rattle.machine_model.proofs.Placed.{is_job}
 use Rattle.machine_model.proofs.Taken.{in_is}
 use Rattle.machine_model.proofs.Opening.{in_limits}
 use Rattle.machine_model.proofs.Members.{In, in_at, all_at, all_indexed, all_in_both, all_map, all_filter, all_append, only_found, sent}
-use Rattle.machine_model.proofs.Grounds.{Grounds, grounds_on, grounds_at_opening}
+use Rattle.machine_model.proofs.Grounds.{grounds_on, grounds_at_opening}
 use Rattle.machine_model.proofs.Untouched.{untouched, kept_reap}
-use Rattle.machine_model.proofs.Served.{Stood, JobList, job_list, same_list, course_ends, counts_sent, chain_of, data_of, page_there, page_below, job_weight, past_at, answers_at, unfetched_count}
-use Rattle.machine_model.proofs.PlacesKept.{PlacesIn, places_event}
-use Rattle.machine_model.proofs.CommandsKept.{CommandsIn}
+use Rattle.machine_model.proofs.Served.{Stood, job_list, same_list, course_ends, counts_sent, chain_of, data_of, page_there, page_below, job_weight, past_at, answers_at}
+use Rattle.machine_model.proofs.PlacesKept.{places_event}
 use Rattle.machine_model.proofs.CommandsAll.{Walking, walking, chains_walk, commands_event}
 
 -- a job with a unit left, over a memory

@@ -1,5 +1,5 @@
 -- Who claims which page.
-use Rattle.std.specs.Prelude.{◌≡◌, ℕ, ◌+◌, ◌<◌, ◌==◌, nat_lt, false, Bool, not, ◌&&◌, ◌||◌, List, [], ◌∷◌, ◌++◌, length, map, filter, slice_get, sum_by, if◌then◌else◌}
+use Rattle.std.specs.Prelude.{◌≡◌, ℕ, ◌+◌, ◌<◌, ◌==◌, nat_lt, true, false, Bool, not, ◌&&◌, ◌||◌, List, [], ◌∷◌, ◌++◌, length, map, filter, slice_get, sum_by, if◌then◌else◌}
 use Rattle.std.specs.List.{flat_map, list_any, AllByRecursion}
 use Rattle.std.specs.Option.{option_map_or}
 use Rattle.page_ledger.specs.Owners.{is_among}
@@ -12,7 +12,7 @@ use Rattle.page_ledger.specs.declared.owner.Owner.TheVariants.{Free, Queue, Comm
 use Rattle.page_ledger.specs.declared.owner.Owner.{Owner}
 use Rattle.machine_model.specs.Memory.{is_in}
 use Rattle.machine_model.specs.State.{State, Host, HostQueue, Record, outstanding_on, pages_of}
-use Rattle.machine_model.specs.Refusals.{is_drafted, is_collected, is_asked, deletes_sq_of}
+use Rattle.machine_model.specs.Refusals.{is_drafted, is_collected, is_asked, is_live, deletes_sq_of}
 use Rattle.machine_model.specs.Step.{Step, times}
 use Rattle.machine_model.specs.Opening.{opening, Opens}
 use Rattle.machine_model.specs.Commands.{Work, Io, Management}
@@ -68,6 +68,10 @@ abbrev pub DeletionsFit : Host → Type 0
 DeletionsFit h =
     (q : ℕ) → length (filter (λ r. deletes_sq_of q r.work) h.records) ≡ (if option_map_or (λ queue. is_asked queue.state) (slice_get h.queues q) false then 1 else 0)
 
+-- queue 0 is never deleted
+abbrev pub AdminLives : List HostQueue → Type 0
+AdminLives queues = option_map_or (λ queue. is_live queue.state) (slice_get queues 0) true ≡ true
+
 -- The headline's first three parts, which each step keeps whatever was forged, with what of records and queues keeps them so
 pub record IsSound (s : State) : Type 0 where
   pub owners : HasOneOwner (length s.memory) s.host
@@ -76,6 +80,7 @@ pub record IsSound (s : State) : Type 0 where
   pub out : IsOutWithItsCommand s
   pub works_fit : AllByRecursion (λ r. OwnsFit r.q r.work (pages_of r)) s.host.records
   pub deletions : DeletionsFit s.host
+  pub admin : AdminLives s.host.queues
 
 abbrev pub each_step_keeps : Type 0
 each_step_keeps = (old : State) (e : Event) (reply : Reply) (new : State) → Step old e reply new → IsSound old → IsSound new

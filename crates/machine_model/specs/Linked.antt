@@ -3,7 +3,7 @@ use Rattle.std.specs.Prelude.{◌≡◌, ℕ, ◌<◌, Bool, true, false, Some, 
 use Rattle.std.specs.Option.{option_map_or}
 use Rattle.admin_commands.specs.Verdicts.{is_absent}
 use Rattle.machine_model.specs.State.{State, HostQueue}
-use Rattle.machine_model.specs.Refusals.{device_queue, host_queue, job_at}
+use Rattle.machine_model.specs.Refusals.{device_queue, host_queue, job_at, is_live}
 use Rattle.machine_model.specs.Positions.{IsInRing}
 use Rattle.page_memory.specs.declared.page.Half.TheVariants.{Submission, Completion}
 use Rattle.queue_pair.specs.Memory.{half_pages}
@@ -33,3 +33,9 @@ pub record IsLinked (s : State) : Type 0 where
 -- whenever nothing was forged
 abbrev pub trusted_worlds_are_linked : Type 0
 trusted_worlds_are_linked = (image : List ℕ) (made : List Made) (s : State) → TrustedRun image made s → IsLinked s
+
+-- A submission queue that is live at the host is there at the controller: only a deletion that the host asked for takes it away, and
+-- the host hears of that deletion's success alone.
+abbrev pub live_queues_are_there : Type 0
+live_queues_are_there =
+    (image : List ℕ) (made : List Made) (s : State) (q : ℕ) (queue : HostQueue) → TrustedRun image made s → host_queue s q ≡ Some queue → is_live queue.state ≡ true → absent s q ≡ false

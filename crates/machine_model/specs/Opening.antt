@@ -2,7 +2,7 @@
 use Rattle.std.specs.Prelude.{◌≡◌, ℕ, zero, suc, ◌+◌, ◌*◌, nat_lt, nat_le, Bool, true, ◌&&◌, not, Option, Some, None, List, [], ◌∷◌, replicate, drop}
 use Rattle.page_ledger.specs.Owners.{pages_from}
 use Rattle.admin_commands.specs.declared.SqState.TheVariants.{Live as Running}
-use Rattle.io_commands.specs.Requests.{first_passing}
+use Rattle.controller_walk.specs.Units.{first_passing}
 use Rattle.page_memory.specs.Pages.{zero_page}
 pub use Rattle.machine_model.specs.declared.words.OpenRefusal.{OpenRefusal}
 pub use Rattle.machine_model.specs.declared.words.OpenRefusal.TheVariants.{BadConfig, NoPages, Memory}

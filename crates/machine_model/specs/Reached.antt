@@ -1,5 +1,5 @@
 -- What the list of a command makes its walk do, where memory spells the command's parts from the list's first descriptor.
-use Rattle.std.specs.Prelude.{◌≡◌, ◌<◌, ◌≤◌, ◌+◌, ◌++◌, [], ◌%◌, ◌^◌, ◌||◌, ℕ, Bool, true, false, Option, Some, None, List, is_some, if◌then◌else◌}
+use Rattle.std.specs.Prelude.{◌≡◌, ◌<◌, ◌≤◌, ◌+◌, ◌++◌, [], ◌%◌, ◌^◌, ◌||◌, ℕ, Bool, true, false, Some, None, List, is_some, if◌then◌else◌}
 use Rattle.std.specs.List.{list_all, AllByRecursion}
 use Rattle.page_ledger.specs.Owners.{is_among}
 use Rattle.page_memory.specs.Memory.{Memory, page_of}

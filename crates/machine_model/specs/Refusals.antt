@@ -9,7 +9,8 @@ use Rattle.io_commands.specs.Values.{numbers_of}
 use Rattle.admin_commands.specs.declared.AdminKind.TheVariants.{Abort, DeleteSq, DeleteCq}
 use Rattle.entry_codec.specs.declared.completion.ComEntry.{ComEntry}
 use Rattle.entry_codec.specs.declared.submission.SubEntry.{SubEntry}
-use Rattle.io_commands.specs.Requests.{fault_of, data_count, first_passing}
+use Rattle.io_commands.specs.Requests.{fault_of, data_count}
+use Rattle.controller_walk.specs.Units.{first_passing}
 use Rattle.io_commands.specs.declared.request.RequestFault.{RequestFault}
 use Rattle.io_commands.specs.declared.request.Request.{Request}
 use Rattle.io_commands.specs.declared.request.Piece.TheVariants.{Data, Bucket}

@@ -5,15 +5,15 @@ use Rattle.machine_model.specs.State.{State, record_at, outstanding_on, Job}
 use Rattle.machine_model.specs.Opening.{opening}
 use Rattle.machine_model.specs.After.{after, next_unit, next_answer}
 use Rattle.machine_model.specs.Step.{reaped, touched_by_fetch, touched_by_refusal, finished_from}
-use Rattle.machine_model.specs.Image.{Made}
+use Rattle.machine_model.specs.Image.{Made, draft_of}
 use Rattle.std.specs.List.{list_all, list_any}
 use Rattle.page_ledger.specs.Owners.{is_among, pages_from}
-use Rattle.controller_walk.specs.Units.{touched as pages_touched}
+use Rattle.controller_walk.specs.Units.{touched as pages_touched, first_passing}
 use Rattle.machine_model.specs.Touch.{stays_allowed, stays_own}
 use Rattle.controller_walk.specs.declared.walk.WalkState.{WalkState}
 use Rattle.sgl_chain.specs.Chains.{pages_needed}
 use Rattle.io_commands.specs.Values.{FinishedContents, numbers_of, gathered_from}
-use Rattle.io_commands.specs.Requests.{data_count, first_passing}
+use Rattle.io_commands.specs.Requests.{data_count}
 use Rattle.io_commands.specs.DataBytes.{data_length, filled}
 use Rattle.io_commands.specs.declared.request.Request.{Request}
 use Rattle.io_commands.specs.declared.request.Piece.{Piece}
@@ -129,9 +129,6 @@ runs (b ∷ bs) = runs_from b 1 bs
 
 -- Kept values
 
-abbrev pub draft_at : ℕ → ℕ → List DraftContents → Option DraftContents
-draft_at q cid drafts = find (λ d. (d.q == q) && (d.cid == cid)) drafts
-
 abbrev pub is_ticket : ℕ → ℕ → ℕ × ℕ → Bool
 is_ticket q cid ticket = (ticket.0 == q) && (ticket.1 == cid)
 
@@ -182,17 +179,17 @@ line t (reserve q kind slba blocks pieces) =
     let d = chosen t.world q r in
     stepped t (events.Reserve q r) (events.Reserved d) (reserved q d.cid (numbers_of d.data_pages) (numbers_of d.chain_pages)) (λ t'. record t' { drafts = d ∷ t'.drafts })
 line t (fill q cid bytes) =
-    with_draft (draft_at q cid t.drafts)
+    with_draft (draft_of q cid t.drafts)
     (λ d. elim (fill_fault bytes d) [
       | Some why ↦ (t, not_filled why, None)
       | None ↦ (record t { drafts = filled_draft bytes d ∷ without_draft q cid t.drafts }, ok, None)
     ]) t
 line t (build q cid) =
-    with_draft (draft_at q cid t.drafts) (λ d. (record t { drafts = built d ∷ without_draft q cid t.drafts }, ok, None)) t
+    with_draft (draft_of q cid t.drafts) (λ d. (record t { drafts = built d ∷ without_draft q cid t.drafts }, ok, None)) t
 line t (submit q cid) =
-    with_draft (draft_at q cid t.drafts) (λ d. stepped t (events.Submit d) events.Accepted ok (λ t'. record t' { drafts = without_draft q cid t'.drafts; tickets = (q, cid) ∷ t'.tickets })) t
+    with_draft (draft_of q cid t.drafts) (λ d. stepped t (events.Submit d) events.Accepted ok (λ t'. record t' { drafts = without_draft q cid t'.drafts; tickets = (q, cid) ∷ t'.tickets })) t
 line t (cancel q cid) =
-    with_draft (draft_at q cid t.drafts) (λ d. stepped t (events.Cancel d) events.Accepted ok (λ t'. record t' { drafts = without_draft q cid t'.drafts })) t
+    with_draft (draft_of q cid t.drafts) (λ d. stepped t (events.Cancel d) events.Accepted ok (λ t'. record t' { drafts = without_draft q cid t'.drafts })) t
 line t (ring q) = stepped t (events.Ring q) events.Accepted ok same_table
 line t (fetch q) =
     let cid = option_map_or (λ e. e.cid) (next_rung t.world q) 0 in

@@ -1,6 +1,6 @@
 -- What stands while nothing is forged: a submitted command's list stands in its chain pages, its entry is in one place at the
 -- controller, and a job's walk is within its list.
-use Rattle.std.specs.Prelude.{◌≡◌, ◌<◌, ◌==◌, nat_lt, IsTrue, ℕ, Bool, true, false, Option, Some, None, List, [], length, slice_get, if◌then◌else◌}
+use Rattle.std.specs.Prelude.{◌≡◌, ◌<◌, ◌==◌, nat_lt, IsTrue, ℕ, true, false, Some, None, List, [], length, slice_get}
 use Rattle.std.specs.List.{AllByRecursion}
 use Rattle.std.specs.Option.{option_map_or}
 use Rattle.sgl_descriptor.specs.declared.Descriptor.{Descriptor}
@@ -15,7 +15,7 @@ use Rattle.io_commands.specs.Drafts.{io_entry}
 use Rattle.io_commands.specs.Values.{IsGood}
 use Rattle.page_memory.specs.Pages.{Pages, byte_at}
 use Rattle.machine_model.specs.Commands.{Work, Io, Management}
-use Rattle.machine_model.specs.State.{State, HostQueue, HostState, Live, Deleting, Retired, Gone, DeviceQueue, Record, Job, record_at}
+use Rattle.machine_model.specs.State.{State, DeviceQueue, Record, Job, record_at}
 use Rattle.machine_model.specs.Refusals.{is_submitted, job_at}
 use Rattle.machine_model.specs.After.{course_of}
 use Rattle.machine_model.specs.Reached.{only, on_pages, KeepsToPages}

@@ -16,7 +16,7 @@ use Rattle.io_commands.specs.Drafts.{DraftContents, IsDraft, io_entry, built}
 use Rattle.machine_model.specs.Image.{image_after, read_of, draft_of}
 use Rattle.machine_model.specs.Laws.{drafts_of}
 use Rattle.machine_model.specs.Events as events
-use Rattle.machine_model.specs.Script.{collect, release, delete_sq, retire, draft_at, Table, Line, Said, table, defaults, left_by, made_by, walks, reserve, build, submit, ring, fetch, walk, complete, reap, ok, fetched, walked, completed, reaps, refused}
+use Rattle.machine_model.specs.Script.{collect, release, delete_sq, retire, Table, Line, Said, table, defaults, left_by, made_by, walks, reserve, build, submit, ring, fetch, walk, complete, reap, ok, fetched, walked, completed, reaps, refused}
 use Rattle.machine_model.specs.Opening.{opening}
 use Rattle.machine_model.specs.WorkedReads.{ordinary, first_write}
 use Rattle.machine_model.specs.WorkedChains.{small_segments, two_segments}
@@ -46,7 +46,7 @@ parts_spelled = parts_from (Segment 28672 32) segments_of_three
 
 -- its draft, once built, is one as its type keeps it
 abbrev pub built_of_three : Option DraftContents
-built_of_three = draft_at 1 0 (left_by small_segments (take 2 two_segments)).drafts
+built_of_three = draft_of 1 0 (left_by small_segments (take 2 two_segments)).drafts
 
 abbrev pub IsBuiltOfThree : Type 0
 IsBuiltOfThree = MatchOption built_of_three ⊥ IsDraft

@@ -12,7 +12,7 @@ use Rattle.io_commands.specs.declared.request.Kind.TheVariants.{Read}
 use Rattle.entry_codec.specs.declared.status.TheConstants.Status.{SUCCESS}
 use Rattle.machine_model.specs.State.{Host, outstanding_on, pages_of}
 use Rattle.machine_model.specs.Memory.{is_in}
-use Rattle.machine_model.specs.Refusals.{deletes_sq_of, is_asked, in_state}
+use Rattle.machine_model.specs.Refusals.{deletes_sq_of, is_asked, is_live, in_state}
 use Rattle.machine_model.specs.Step.{times}
 use Rattle.machine_model.specs.Claims.{claims_of, is_away, counts_of}
 use Rattle.machine_model.specs.Image.{Made}
@@ -34,6 +34,7 @@ is_sound s =
     && (total (counts_of s.host) == length s.memory)
     && list_all (λ q. one_each (outstanding_on s.host q)) (pages_from 0 (length s.host.queues))
     && list_all (λ q. length (filter (λ r. deletes_sq_of q r.work) s.host.records) == (if in_state is_asked s q then 1 else 0)) (pages_from 0 (length s.host.queues))
+    && in_state is_live s 0
     && list_all (λ p. same_bool (is_in s.memory p) (not (list_any (λ r. is_away r && is_among (pages_of r) p) s.host.records))) pages
 
 abbrev pub all_sound : List Made → Bool

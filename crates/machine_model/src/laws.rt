@@ -3,12 +3,12 @@
 ghost use Rattle.machine_model.specs.Built.{built_drafts_spell_in_store};
 ghost use Rattle.machine_model.specs.Claims.{each_step_keeps, every_run_is_sound, every_run_takes_out, counts_add_up};
 ghost use Rattle.machine_model.specs.Histories.{openings_have_histories, steps_make_histories};
-ghost use Rattle.machine_model.specs.Linked.{trusted_worlds_are_linked};
+ghost use Rattle.machine_model.specs.Linked.{trusted_worlds_are_linked, live_queues_are_there};
 ghost use Rattle.machine_model.specs.Reached.{lists_keep_to_their_pages, lists_end_well};
 ghost use Rattle.machine_model.specs.Memory.{walks_read_the_pool, walks_go_as_in_the_pool};
 ghost use Rattle.machine_model.specs.Positions.{each_step_stays_in_rings, every_run_stays_in_rings};
 ghost use Rattle.machine_model.specs.Standing.{jobs_stand, jobs_keep_their_lists};
-ghost use Rattle.machine_model.specs.Laws.{admin_commands_stand_once, trusted_steps_stay_allowed, hosts_need_no_controller, chains_stand, chains_stay, rings_are_never_full, every_status_has_its_cause};
+ghost use Rattle.machine_model.specs.Laws.{admin_commands_stand_once, trusted_steps_stay_allowed, hosts_need_no_controller, chains_stand, chains_stay, rings_are_never_full, every_status_has_its_cause, the_image_is_the_runs, compares_tell_equality, reads_give_their_blocks, stopped_reads_give_a_prefix};
 ghost use Rattle.machine_model.specs.Slots.{entries_lie_in_pages, answers_lie_in_pages, entries_stand_in_memory, answers_stand_in_memory, entries_are_written, answers_are_written};
 
 use io_commands::laws::laws_of_built_drafts;
@@ -88,6 +88,14 @@ pub fn law_of_links()
     ensures { trusted_worlds_are_linked }
 {}
 
+/// Where nothing was forged, a submission queue that is live at the host is there at the controller.
+///
+/// The controller gives a queue up only as a deletion that the host asked for succeeds, and of that deletion the host reaps the
+/// success alone, so it never takes the queue for live again.
+pub fn law_of_live_queues()
+    ensures { live_queues_are_there }
+{}
+
 /// An opening has a history, and each step that leaves a trusted state makes its history longer. So what holds of every trusted run
 /// holds of each state that steps lead to.
 pub fn law_of_histories()
@@ -140,4 +148,27 @@ pub fn law_of_room()
 /// the image; or a Compare that found a difference.
 pub fn law_of_statuses()
     ensures { every_status_has_its_cause }
+{}
+
+/// Where nothing was forged, the image is the opening's, changed by each Write whose completion gave success, in the order of those
+/// steps.
+///
+/// Such a Write puts just its draft's bytes over just its blocks. Nothing else changes the image.
+pub fn law_of_images()
+    ensures { the_image_is_the_runs }
+{}
+
+/// Where nothing was forged, a Compare that ended neither by an Abort or a deletion nor for blocks beyond the image succeeds exactly
+/// where its blocks are then its draft's bytes, and else fails as a Compare.
+pub fn law_of_compares()
+    ensures { compares_tell_equality }
+{}
+
+/// Where nothing was forged, a Read that ended with success gathers its blocks' bytes but for the discarded ones, from the image
+/// of the run at its fetch.
+///
+/// One that ended otherwise gathers so many of their first bytes, and its draft's own bytes behind them.
+pub fn law_of_reads()
+    ensures blocks { reads_give_their_blocks }
+    ensures stopped { stopped_reads_give_a_prefix }
 {}

@@ -15,14 +15,16 @@ ghost use Rattle.machine_model.specs.WorkedChains.{small_segments};
 ghost use Rattle.machine_model.specs.WorkedForged as forged;
 ghost use Rattle.machine_model.specs.WorkedLaws as laws;
 ghost use Rattle.machine_model.specs.WorkedQueues as queues;
-ghost use Rattle.machine_model.specs.WorkedReads.{ordinary, first_read, first_read_said, first_write, first_write_said};
+ghost use Rattle.machine_model.specs.WorkedReads.{ordinary, first_read, first_read_said, first_write, first_write_said, stopped_read, stopped_read_said};
 ghost use Rattle.machine_model.specs.WorkedSound as sound;
 ghost use Rattle.machine_model.specs.WorkedWalks as walks;
 
-/// One block read through one Data Block, and one written and read back.
+/// One block read through one Data Block, and one written and read back; and a Read that is stopped after its first byte, and
+/// gathers that byte and its draft's own zeros.
 pub fn worked_reads()
     ensures first_read { played ordinary first_read ≡ first_read_said }
     ensures first_write { played ordinary first_write ≡ first_write_said }
+    ensures stopped_read { played ordinary stopped_read ≡ stopped_read_said }
 {}
 
 /// Chains: two segments, a Bit Bucket, four whole pages. Their descriptors stand in memory byte for byte.

@@ -1,12 +1,5 @@
-pub mod Tables
-pub mod Whole
+pub mod Parts
 pub mod Replies
-pub mod Opening
-pub mod Ringing
-pub mod Forging
-pub mod Commands
-pub mod Posting
-pub mod Collecting
-pub mod Submitting
-pub mod Reaping
-pub mod Serving
+pub mod Bench
+pub mod Kept
+pub mod Laws

@@ -7,7 +7,7 @@ ghost use Rattle.machine_model.specs.Refusals.{slot_offset};
 ghost use Rattle.page_memory.specs.Pages.{with_page_bytes, AreWhole};
 ghost use Rattle.queue_pair.specs.Memory.{completion_page, phased};
 ghost use Rattle.queue_pair.specs.Rings.{answer_posted};
-ghost use Rattle.step_core.specs.Serving.{post_refusal};
+ghost use Rattle.world_tables.specs.Serving.{post_refusal};
 
 use entry_codec::{ComEntry, Status};
 use machine_model::words::Refusal;

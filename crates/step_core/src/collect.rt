@@ -6,16 +6,16 @@ ghost use Rattle.machine_model.specs.Events as events;
 ghost use Rattle.machine_model.specs.Memory.{without_pages};
 ghost use Rattle.machine_model.specs.State.{Record as RecordValue, pages_of};
 ghost use Rattle.machine_model.specs.Step.{Step, Refuses};
-ghost use Rattle.step_core.specs.Collecting.{taken_pages, StandsAt, Tells};
-ghost use Rattle.step_core.specs.Commands.{taken_out, CanTake};
+ghost use Rattle.world_tables.specs.Collecting.{taken_pages, StandsAt, Tells};
+ghost use Rattle.world_tables.specs.Commands.{taken_out, CanTake};
 ghost use Rattle.step_core.specs.Replies.{collect_reply};
-ghost use Rattle.step_core.specs.Tables.{state_of, tables_of};
-ghost use Rattle.step_core.specs.Whole.{IsWhole, FitsPhase};
+ghost use Rattle.step_core.specs.Parts.{tables_of};
+ghost use Rattle.world_tables.specs.Tables.{state_of};
+ghost use Rattle.world_tables.specs.Whole.{IsWhole, FitsPhase};
 
 use crate::compare::find_record;
 use crate::moving::move_out;
 use crate::parts::Parts;
-use crate::record::Record;
 use crate::refused::Refused;
 use crate::world::World;
 use entry_codec::Status;
@@ -23,6 +23,7 @@ use io_commands::{Finished, Request, Ticket};
 use machine_model::words::{Phase, Refusal, Work};
 use page_memory::{Page, PageNo, Store};
 use std::alloc::{AllocError, Global};
+use world_tables::Record;
 
 /// What a finished command is made of, before its pages are taken out.
 #[derive(Drop)]
@@ -66,13 +67,11 @@ fn take_pages(store: &mut Store, entry: &Record, into: &mut Vec<(PageNo, Page)>)
     move_out(store, &entry.chain_pages, into);
 }
 
-impl Record {
-    /// Marks the command collected.
-    fn mark_collected(&mut self)
-        ensures { self.new ≡ collected self.old }
-    {
-        self.phase = Phase::Collected;
-    }
+/// Marks a command collected.
+fn mark(entry: &mut Record)
+    ensures { entry.new ≡ collected entry.old }
+{
+    entry.phase = Phase::Collected;
 }
 
 /// Marks the command at a place collected.
@@ -80,7 +79,7 @@ fn mark_collected(records: &mut Vec<Record>, place: usize)
     requires { place < length records.old.items }
     ensures { (entry : RecordValue) → slice_get records.old.items place ≡ Some entry → records.new.items ≡ slice_set records.old.items place (collected entry) }
 {
-    records[place].mark_collected();
+    mark(&mut records[place]);
 }
 
 impl Parts {

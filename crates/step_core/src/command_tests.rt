@@ -1,8 +1,8 @@
-//! Commands reserved, cancelled and rung, and an entry forged.
+//! Commands reserved, cancelled, submitted and rung, an entry forged, and queues that are not retired.
 
 use super::*;
 use block_image::Image;
-use io_commands::{Draft, Kind, Piece, Pieces, Request, RequestFault};
+use io_commands::{Draft, Kind, Piece, Pieces, Request, RequestFault, Ticket};
 use page_ledger::Counts;
 use page_memory::PageNo;
 use std::alloc::Global;
@@ -162,6 +162,57 @@ fn a_cancelled_command_gives_all_back(rt: HostRuntime) -> Result<(), Fail> {
     Ok(())
 }
 
+/// What a Read of one block is answered that is reserved on queue 1, built where it is asked for, and submitted.
+fn submit(world: &mut World, alloc: Global, builds: bool) -> Result<Result<Ticket, Refusal>, Fail> {
+    let request = read(alloc, 1)?;
+    let mut draft = match world.reserve(1, request) {
+        Ok(draft) => draft,
+        Err(refused) => return Ok(Err(refused.why)),
+    };
+    if builds {
+        match draft.build(alloc) {
+            Ok(()) => {}
+            Err(_) => {
+                noted(draft);
+                return Err(Fail::from("it was not built"));
+            }
+        }
+    }
+    match world.submit(draft) {
+        Ok(ticket) => Ok(Ok(ticket)),
+        Err(Refused { value, why }) => {
+            noted(value);
+            Ok(Err(why))
+        }
+    }
+}
+
+#[test]
+fn a_built_draft_is_submitted(rt: HostRuntime) -> Result<(), Fail> {
+    let mut world = open(rt.alloc())?;
+    let told = match submit(&mut world, rt.alloc(), true)? {
+        Ok(ticket) => match world.collect(ticket) {
+            Ok(finished) => {
+                finished.apart();
+                None
+            }
+            Err(Refused { value, why }) => Some((value.apart(), why)),
+        },
+        Err(why) => Some(((0, 0), why)),
+    };
+    assert_eq!(rt; told, Some(((1, 0), Refusal::NotYet)));
+    assert_eq!(rt; world.ring(1), Ok(()));
+    let unbuilt = match submit(&mut world, rt.alloc(), false)? {
+        Ok(ticket) => {
+            ticket.apart();
+            None
+        }
+        Err(why) => Some(why),
+    };
+    assert_eq!(rt; unbuilt, Some(Refusal::NotBuilt));
+    Ok(())
+}
+
 #[test]
 fn a_draft_of_another_world_is_a_stranger(rt: HostRuntime) -> Result<(), Fail> {
     let mut world = open(rt.alloc())?;
@@ -189,6 +240,29 @@ fn a_forged_entry_ends_the_trust(rt: HostRuntime) -> Result<(), Fail> {
     assert_eq!(rt;
         reserve(&mut world, rt.alloc(), 1, 1)?,
         Ok((0, 1, Some(PageNo(4))))
+    );
+    Ok(())
+}
+
+#[test]
+fn a_queue_that_is_not_deleted_is_not_retired(rt: HostRuntime) -> Result<(), Fail> {
+    let mut world = open(rt.alloc())?;
+    let told = match submit(&mut world, rt.alloc(), true)? {
+        Ok(ticket) => Some(ticket.apart()),
+        Err(_) => None,
+    };
+    assert_eq!(rt; told, Some((1, 0)));
+    for q in [0, 1, 2, 65_535] {
+        assert_eq!(rt; world.retire(q), Err(Refusal::NotDeleted));
+    }
+    assert_eq!(rt;
+        world.counts(),
+        Counts {
+            free_pages: 11,
+            queue_pages: 4,
+            chain_pages: 0,
+            data_pages: 1
+        },
     );
     Ok(())
 }

@@ -3,14 +3,15 @@
 ghost use Rattle.std.specs.Prelude.{◌≡◌, ◌<◌, ◌≤◌, length, nat_eq, find, slice_get, Some, None, true, false, IfSome, IfNone};
 ghost use Rattle.std.specs.Cmp.Lexicographic.{pointwise};
 ghost use Rattle.io_commands.specs.Values.{numbers_of};
+ghost use Rattle.machine_model.specs.Proper.{ArePages, IsProperDraft};
 ghost use Rattle.machine_model.specs.Refusals.{is_of, asks_for as spec_asks_for, same_kind as spec_same_kind, same_piece as spec_same_piece, same_pieces as spec_same_pieces, same_request as spec_same_request};
 ghost use Rattle.machine_model.specs.State.{is_at};
-ghost use Rattle.step_core.specs.Commands.{phase_of_end, Belongs, has_record};
+ghost use Rattle.world_tables.specs.Commands.{phase_of_end, Belongs, BelongsToDraft, has_drafted, has_record};
 
-use crate::record::Record;
-use io_commands::{Kind, Piece, Request};
+use io_commands::{Draft, Kind, Piece, Request};
 use machine_model::words::{Phase, Work};
 use page_memory::{Page, PageNo};
+use world_tables::Record;
 
 /// Whether two commands are of one kind.
 fn same_kind(a: Kind, b: Kind) -> bool
@@ -161,4 +162,35 @@ pub(crate) fn place_of(
     } else {
         None
     }
+}
+
+/// Reads a page. That it has 4,096 bytes is then known.
+fn read_page(page: &(PageNo, Page))
+    ensures { length page.now.1 ≡ 4096 }
+{
+    let bytes = &page.1;
+    let _read = bytes.bytes();
+}
+
+/// Reads each page.
+pub(crate) fn read_pages(pages: &[(PageNo, Page)])
+    ensures { ArePages pages.now }
+{
+    for page in pages {
+        read_page(page);
+    }
+}
+
+/// The place of the record of a draft.
+pub(crate) fn place_of_draft(records: &[Record], draft: &Draft) -> Option<usize>
+    ensures place { IfSome result (λ i. BelongsToDraft records.now draft.now i) }
+    ensures within { IfSome result (λ i. i < length records.now) }
+    ensures none { IfNone result (has_drafted records.now draft.now ≡ false) }
+    ensures proper { IsProperDraft draft.now }
+{
+    read_pages(draft.pages());
+    let request = draft.request();
+    let (front, back) = draft.pages().split_at(request.pieces.data_pages());
+    let command = (draft.q(), draft.cid());
+    place_of(records, false, command, request, front, back)
 }

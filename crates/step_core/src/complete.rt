@@ -7,22 +7,23 @@ ghost use Rattle.machine_model.specs.After.{change};
 ghost use Rattle.machine_model.specs.Events as events;
 ghost use Rattle.machine_model.specs.Step.{Step};
 ghost use Rattle.step_core.specs.Replies.{complete_reply};
-ghost use Rattle.step_core.specs.Serving.{complete_refusal, post_refusal, status_of_end, image_of_end, queues_of_end, without_submission, CompletesTo, PostsFor};
-ghost use Rattle.step_core.specs.Tables.{state_of, tables_of, dw0_of_work, verdict_of_work};
-ghost use Rattle.step_core.specs.Whole.{IsWhole, is_task, is_deletion, FitsTask};
+ghost use Rattle.world_tables.specs.Serving.{complete_refusal, post_refusal, status_of_end, image_of_end, queues_of_end, without_submission, CompletesTo, PostsFor};
+ghost use Rattle.step_core.specs.Parts.{tables_of};
+ghost use Rattle.world_tables.specs.Tables.{state_of, dw0_of_work, verdict_of_work};
+ghost use Rattle.world_tables.specs.Touching.{StaysAllowed};
+ghost use Rattle.world_tables.specs.Whole.{IsWhole, is_task, is_deletion, FitsTask};
 
 use crate::answer::{check_post, completion, post};
-use crate::lookup::{find_task, is_success, is_waiting};
+use crate::lookup::{find_task, is_success, is_waiting, verdict_of};
 use crate::parts::Parts;
-use crate::queue::Queue;
 use crate::refused::{Completed, StepRefused, none_touched, touched_by};
-use crate::task::{Task, TaskWork};
 use crate::world::World;
 use admin_commands::{SqState, queue_of};
 use entry_codec::admin_opcode::DELETE_IO_SQ;
 use entry_codec::{Status, SubEntry};
 use io_commands::finish_job;
 use machine_model::words::Refusal;
+use world_tables::{Queue, Task, TaskWork};
 
 /// Whether an admin command that ends so leaves nothing of a submission queue.
 fn deletes(entry: &SubEntry, status: Status) -> bool
@@ -53,7 +54,7 @@ impl Parts {
             return Err(Refusal::NoJob);
         };
         let task = &self.tasks[place];
-        if task.work.verdict().is_none() {
+        if verdict_of(&task.work).is_none() {
             return Err(Refusal::Walking);
         }
         if is_waiting(&self.tasks, task) {
@@ -89,7 +90,7 @@ impl Parts {
     }
 
     /// Posts the completion of a command, for which there is room.
-    fn answer(&mut self, q: u16, cid: u16, status: Status, dw0: u32)
+    pub(crate) fn answer(&mut self, q: u16, cid: u16, status: Status, dw0: u32)
         requires there { q < length self.old.queues.items }
         requires room { IfSome (slice_get self.old.queues.items q) (λ queue. post_refusal self.old.store.pages queue.device ≡ None) }
         requires fits { status.sct < 8 }
@@ -148,7 +149,8 @@ impl World {
     /// for the command that it stopped, a deletion for the commands of its queue. 4. `Full`: the completion ring is full.
     /// 5. `SlotOut`: the page of the slot is out. Then nothing changed.
     pub fn complete(&mut self, q: u16, cid: u16) -> Result<Completed, StepRefused>
-        ensures { Step self.old (events.Complete q cid) (complete_reply result) self.new }
+        ensures step { Step self.old (events.Complete q cid) (complete_reply result) self.new }
+        ensures touches { StaysAllowed self.old (events.Complete q cid) (complete_reply result) }
     {
         self.parts.complete(q, cid)
     }

@@ -1,61 +1,41 @@
 //! A command ends: a draft is cancelled, or a finished command released.
 
-ghost use Rattle.std.specs.Prelude.{◌≡◌, ◌<◌, ◌++◌, length, slice_get, find, IfErr, Some, true, None};
-ghost use Rattle.io_commands.specs.Values.{numbers_of};
+ghost use Rattle.std.specs.Prelude.{◌≡◌, ◌<◌, length, slice_get, find, IfErr, Some, true};
 ghost use Rattle.machine_model.specs.After.{change};
 ghost use Rattle.machine_model.specs.Events as events;
-ghost use Rattle.machine_model.specs.Proper.{ArePages};
 ghost use Rattle.machine_model.specs.State.{is_at};
 ghost use Rattle.machine_model.specs.Step.{Step};
-ghost use Rattle.step_core.specs.Commands.{ended as spec_ended, without_claim, Claims, Brings, Belongs};
+ghost use Rattle.world_tables.specs.Commands.{ended as spec_ended, without_claim, Claims, Brings};
 ghost use Rattle.step_core.specs.Replies.{accept_reply};
-ghost use Rattle.step_core.specs.Tables.{state_of, tables_of};
-ghost use Rattle.step_core.specs.Whole.{IsWhole};
+ghost use Rattle.step_core.specs.Parts.{tables_of};
+ghost use Rattle.world_tables.specs.Tables.{state_of};
+ghost use Rattle.world_tables.specs.Whole.{IsWhole};
 
-use crate::compare::place_of;
+use crate::compare::{place_of, place_of_draft, read_pages};
 use crate::moving::move_in;
 use crate::parts::Parts;
-use crate::queue::Queue;
 use crate::refused::Refused;
 use crate::world::World;
 use io_commands::{Draft, Finished};
 use machine_model::words::Refusal;
 use page_memory::{Page, PageNo};
+use world_tables::Queue;
 
-/// Reads a page. That it has 4,096 bytes is then known.
-fn read_page(page: &(PageNo, Page))
-    ensures { length page.now.1 ≡ 4096 }
+/// Frees an identifier that is claimed.
+fn free_claimed(queue: &mut Queue, cid: u16)
+    requires { slice_get queue.old.host.claimed cid ≡ Some true }
+    ensures { queue.new ≡ without_claim cid queue.old }
 {
-    let bytes = &page.1;
-    let _read = bytes.bytes();
-}
-
-/// Reads each page.
-fn read_pages(pages: &[(PageNo, Page)])
-    ensures { ArePages pages.now }
-{
-    for page in pages {
-        read_page(page);
-    }
-}
-
-impl Queue {
-    /// Frees an identifier that is claimed.
-    fn unclaim(&mut self, cid: u16)
-        requires { slice_get self.old.host.claimed cid ≡ Some true }
-        ensures { self.new ≡ without_claim cid self.old }
-    {
-        self.host.free(cid);
-    }
+    queue.host.free(cid);
 }
 
 /// Frees an identifier of a queue that is claimed.
-fn unclaim(queues: &mut Vec<Queue>, q: u16, cid: u16)
+pub(crate) fn unclaim(queues: &mut Vec<Queue>, q: u16, cid: u16)
     requires there { q < length queues.old.items }
     requires claimed { Claims queues.old.items q cid }
     ensures { queues.new.items ≡ change q (without_claim cid) queues.old.items }
 {
-    queues[usize::from(q)].unclaim(cid);
+    free_claimed(&mut queues[usize::from(q)], cid);
 }
 
 impl Parts {
@@ -82,11 +62,7 @@ impl Parts {
         ensures whole { IsWhole (tables_of self.new) }
         ensures back { IfErr result (λ r. r.value ≡ draft) }
     {
-        read_pages(draft.pages());
-        let request = draft.request();
-        let (front, back) = draft.pages().split_at(request.pieces.data_pages());
-        let command = (draft.q(), draft.cid());
-        let Some(place) = place_of(&self.records, false, command, request, front, back) else {
+        let Some(place) = place_of_draft(&self.records, &draft) else {
             return Err(Refused {
                 value: draft,
                 why: Refusal::Stranger,

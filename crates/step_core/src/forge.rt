@@ -4,16 +4,18 @@ ghost use Rattle.std.specs.Prelude.{◌≡◌, ◌+◌, ◌<◌, ◌≤◌, ◌/
 ghost use Rattle.machine_model.specs.Events as events;
 ghost use Rattle.machine_model.specs.Step.{Refuses, Step};
 ghost use Rattle.page_memory.specs.Pages.{page_at};
-ghost use Rattle.step_core.specs.Forging.{forged, lacks_completion, overwritten, IsCompletionSlot};
-ghost use Rattle.step_core.specs.Replies.{Leads, ring_reply};
-ghost use Rattle.step_core.specs.Tables.{state_of, tables_of};
-ghost use Rattle.step_core.specs.Whole.{IsWhole};
+ghost use Rattle.world_tables.specs.Forging.{forged, lacks_completion, overwritten, IsCompletionSlot};
+ghost use Rattle.step_core.specs.Replies.{ring_reply};
+ghost use Rattle.world_tables.specs.Exact.{Leads};
+ghost use Rattle.step_core.specs.Parts.{tables_of};
+ghost use Rattle.world_tables.specs.Tables.{state_of};
+ghost use Rattle.world_tables.specs.Whole.{IsWhole};
 
 use crate::parts::Parts;
-use crate::queue::Queue;
 use crate::world::World;
 use machine_model::words::{HostState, Refusal};
 use page_memory::Dma;
+use world_tables::Queue;
 
 /// Whether no queue of a number has a completion half.
 pub(crate) fn has_no_completion(queues: &[Queue], q: u16) -> bool

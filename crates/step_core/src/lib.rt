@@ -1,34 +1,71 @@
 //! The machine runs: every event is one call.
+//!
+//! A [`World`] is a driver and its modelled controller over one pool of pages. Contracts see it as the state of the machine that
+//! `machine_model` defines, and each call has one clause: it is a `Step` of that machine, with its reply, or with the first refusal that
+//! holds, and then nothing changed and every moved value is handed back. Between calls each page has one owner, the counts add up and
+//! identifiers are distinct, whatever was forged ([`World::check`]); where nothing was, [`World::fetch`], [`World::walk`] and
+//! [`World::complete`] touch only pages that they may.
+//!
+//! A [`Bench`] is a world with the drafts, tickets and finished commands that are about; it runs lists of [`Step`]s, and what it does is a
+//! run of the machine ([`laws`]).
+//!
+//! A world keeps tables (`world_tables`), from which contracts compute the state; nothing is kept twice. The lemmas stand there too.
+//! Here are the calls: each looks first (`check_`), and then does what cannot fail (`commit_`).
 #![tactic(auto)]
 
 mod answer;
+mod bench;
+mod bench_steps;
+#[cfg(test)]
+mod bench_tests;
 mod collect;
 #[cfg(test)]
 mod command_tests;
 mod compare;
 mod complete;
 mod ended;
+mod fetch;
+#[cfg(test)]
+mod fetching_tests;
+mod fill;
 mod finish;
 mod forge;
+mod kept;
+mod kept_values;
+pub mod laws;
 mod lookup;
+mod manage;
 mod moving;
 mod open;
 #[cfg(test)]
 mod opening_tests;
 mod parts;
-mod queue;
-mod record;
+mod post;
+mod reap;
+#[cfg(test)]
+mod reaping_tests;
 mod refused;
 mod reserve;
+mod retire;
+#[cfg(test)]
+mod retiring_tests;
 mod ring;
+mod send;
+#[cfg(test)]
+mod sending_tests;
 mod step;
-mod task;
+mod submit;
+#[cfg(test)]
+mod told;
 mod view;
+mod walk;
 mod world;
 
+pub use bench::Bench;
 pub use ended::{Ended, Leftover};
 pub use machine_model::words::{HostState, OpenRefusal, Phase, Reaped, Refusal, RejectedFor};
-pub use open::{Config, OpenRefused};
-pub use refused::{Completed, Fetched, Refused, StepRefused, Touched};
+pub use open::OpenRefused;
+pub use refused::{Completed, Fetched, Refused, StepRefused, Touched, Walked};
 pub use step::{Bytes, Reply, Step};
 pub use world::World;
+pub use world_tables::Config;

@@ -4,13 +4,41 @@ ghost use Rattle.std.specs.Prelude.{◌≡◌, ◌<◌, ◌==◌, IfSome, IfNone
 ghost use Rattle.std.specs.List.{list_any};
 ghost use Rattle.io_commands.specs.Jobs.{is_success as succeeds};
 ghost use Rattle.machine_model.specs.Refusals.{is_abort_of};
-ghost use Rattle.step_core.specs.Serving.{waits_among, has_success as work_succeeds};
-ghost use Rattle.step_core.specs.Whole.{is_task};
+ghost use Rattle.world_tables.specs.Serving.{waits_among, has_success as work_succeeds};
+ghost use Rattle.world_tables.specs.Tables.{entry_of_work, verdict_of_work};
+ghost use Rattle.world_tables.specs.Whole.{is_task};
 
-use crate::task::{Task, TaskWork};
 use admin_commands::queue_of;
-use entry_codec::Status;
 use entry_codec::admin_opcode::DELETE_IO_SQ;
+use entry_codec::{Status, SubEntry};
+use world_tables::{Task, TaskWork};
+
+/// The entry of a task, as it was fetched.
+pub(crate) fn entry_of(work: &TaskWork) -> &SubEntry
+    ensures { result.now ≡ entry_of_work work.now }
+{
+    match work {
+        TaskWork::Io(job) => job.entry(),
+        TaskWork::Admin { entry, .. } => entry,
+    }
+}
+
+/// How a task ends, once that is known.
+pub(crate) fn verdict_of(work: &TaskWork) -> Option<Status>
+    ensures { result ≡ verdict_of_work work.now }
+{
+    match work {
+        TaskWork::Io(job) => job.verdict(),
+        TaskWork::Admin { status, .. } => Some(*status),
+    }
+}
+
+/// Whether a task is the command of this identifier of a queue.
+pub(crate) fn is_named(task: &Task, q: u16, cid: u16) -> bool
+    ensures { result ≡ is_task q cid task.now }
+{
+    task.q == q && entry_of(&task.work).cid == cid
+}
 
 /// The place of a command among the tasks.
 pub(crate) fn find_task(tasks: &[Task], q: u16, cid: u16) -> Option<usize>
@@ -19,7 +47,7 @@ pub(crate) fn find_task(tasks: &[Task], q: u16, cid: u16) -> Option<usize>
     ensures none { IfNone result (find (is_task q cid) tasks.now ≡ None) }
 {
     for (i, task) in tasks.iter().enumerate() {
-        if task.is_named(q, cid) {
+        if is_named(task, q, cid) {
             return Some(i);
         }
     }
@@ -47,7 +75,7 @@ pub(crate) fn is_success(status: Status) -> bool
 fn has_success(work: &TaskWork) -> bool
     ensures { result ≡ work_succeeds work.now }
 {
-    match work.verdict() {
+    match verdict_of(work) {
         Some(status) => is_success(status),
         None => false,
     }
@@ -79,7 +107,7 @@ pub(crate) fn is_waiting(tasks: &[Task], task: &Task) -> bool
     if task.q != 0 {
         return false;
     }
-    let entry = task.work.entry();
+    let entry = entry_of(&task.work);
     if is_awaited(tasks, entry.cid) {
         return true;
     }

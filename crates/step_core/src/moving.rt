@@ -2,15 +2,15 @@
 
 ghost use Rattle.std.specs.Prelude.{◌≡◌, ◌+◌, ◌≤◌, ◌++◌, length, slice_set, vec_len, vec_capacity, IsSome, None, []};
 ghost use Rattle.std.specs.Option.{option_map_or};
-ghost use Rattle.step_core.specs.Collecting.{taken_pages};
+ghost use Rattle.world_tables.specs.Collecting.{taken_pages};
 ghost use Rattle.page_memory.specs.Pages.{page_at, zero_page};
 ghost use Rattle.machine_model.specs.Memory.{without_pages, with_pages};
-ghost use Rattle.step_core.specs.Commands.{CanTake, CanPut, zeroed_pages};
+ghost use Rattle.world_tables.specs.Commands.{CanTake, CanPut, zeroed_pages};
 
 use page_memory::{Page, PageNo, Store};
 
 /// Takes a page that is in, and makes it one of zeros.
-#[tactic(auto, using(crate::proofs::Pages::zeroed_rules))]
+#[tactic(auto, using(world_tables::proofs::Pages::zeroed_rules))]
 fn take_zeroed(store: &mut Store, number: PageNo) -> Page
     requires { IsSome (page_at store.old.pages number) }
     ensures page { result ≡ zero_page }

@@ -7,10 +7,9 @@ ghost use Rattle.page_ledger.specs.Runs.{lowest_run};
 ghost use Rattle.page_memory.specs.Pages.{zero_page};
 ghost use Rattle.page_memory.specs.declared.page.Half.TheVariants.{Submission, Completion};
 ghost use Rattle.queue_pair.specs.Memory.{half_pages as pages_of_half};
-ghost use Rattle.step_core.specs.Opening.{refusal_of_config, opening_of, RefusesOpening, HalvesGranted, sq_from, cq_from, fresh_at, fresh_queues};
+ghost use Rattle.world_tables.specs.Opening.{refusal_of_config, opening_of, RefusesOpening, HalvesGranted, sq_from, cq_from, fresh_at, fresh_queues};
 
 use crate::parts::Parts;
-use crate::queue::Queue;
 use crate::world::World;
 use admin_commands::SqState;
 use block_image::Image;
@@ -19,19 +18,7 @@ use page_ledger::{Ledger, Owner};
 use page_memory::{Half, OpenFault, PageNo, Store};
 use queue_pair::{DevicePair, HostPair, half_pages};
 use std::alloc::{AllocError, Global};
-
-/// What a world is opened with. The opening checks the limits.
-#[derive(Clone, Copy, Debug, PartialEq, Eq)]
-pub struct Config {
-    /// The pages of the pool, 8 to 65,536.
-    pub pages: u32,
-    /// The I/O queues, 1 to 64.
-    pub queues: u32,
-    /// The entries of each ring, 2 to 1,024.
-    pub entries: u32,
-    /// The most descriptors of a segment, 2 to 256.
-    pub segment: u32,
-}
+use world_tables::{Config, Queue};
 
 /// A world that was not opened.
 #[derive(Debug, Drop)]
@@ -56,7 +43,7 @@ impl World {
         ensures refused { IfErr result (λ refused. RefusesOpening config refused.why) }
         ensures handed_back { IfErr result (λ refused. refused.image ≡ image) }
     {
-        match config.refusal() {
+        match refusal_of(config) {
             Some(why) => return Err(OpenRefused { image, why }),
             None => {}
         }
@@ -84,48 +71,46 @@ impl World {
     }
 }
 
-impl Config {
-    /// Why it opens no world, want of memory left aside.
-    fn refusal(self) -> Option<OpenRefusal>
-        ensures { result ≡ refusal_of_config self }
-    {
-        if !self.is_within_limits() {
-            return Some(OpenRefusal::BadConfig);
-        }
-        let need = self.pages_needed();
-        if self.pages < need {
-            return Some(OpenRefusal::NoPages {
-                need,
-                free: self.pages,
-            });
-        }
-        None
+/// Why it opens no world, want of memory left aside.
+fn refusal_of(config: Config) -> Option<OpenRefusal>
+    ensures { result ≡ refusal_of_config config }
+{
+    if !is_within_limits(config) {
+        return Some(OpenRefusal::BadConfig);
     }
+    let need = pages_needed(config);
+    if config.pages < need {
+        return Some(OpenRefusal::NoPages {
+            need,
+            free: config.pages,
+        });
+    }
+    None
+}
 
-    /// Whether each number lies within its limits.
-    fn is_within_limits(self) -> bool
-        ensures { result ≡ is_config self.pages self.queues self.entries self.segment }
-    {
-        8 <= self.pages
-            && self.pages <= 65_536
-            && 1 <= self.queues
-            && self.queues <= 64
-            && 2 <= self.entries
-            && self.entries <= 1024
-            && 2 <= self.segment
-            && self.segment <= 256
-    }
+/// Whether each number lies within its limits.
+fn is_within_limits(config: Config) -> bool
+    ensures { result ≡ is_config config.pages config.queues config.entries config.segment }
+{
+    8 <= config.pages
+        && config.pages <= 65_536
+        && 1 <= config.queues
+        && config.queues <= 64
+        && 2 <= config.entries
+        && config.entries <= 1024
+        && 2 <= config.segment
+        && config.segment <= 256
+}
 
-    /// How many pages the halves of all queues need.
-    fn pages_needed(self) -> u32
-        requires queues { self.queues ≤ 64 }
-        requires entries { self.entries ≤ 1024 }
-        ensures { result ≡ pages_of_queues self.queues self.entries }
-    {
-        let entries = self.entries as u16;
-        (self.queues + 1)
-            * (half_pages(entries, Half::Submission) + half_pages(entries, Half::Completion))
-    }
+/// How many pages the halves of all queues need.
+fn pages_needed(config: Config) -> u32
+    requires queues { config.queues ≤ 64 }
+    requires entries { config.entries ≤ 1024 }
+    ensures { result ≡ pages_of_queues config.queues config.entries }
+{
+    let entries = config.entries as u16;
+    (config.queues + 1)
+        * (half_pages(entries, Half::Submission) + half_pages(entries, Half::Completion))
 }
 
 /// The pages, their owners and the queues of a world that opens.

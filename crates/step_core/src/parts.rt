@@ -1,12 +1,10 @@
 //! What a world holds.
 
-use crate::queue::Queue;
-use crate::record::Record;
-use crate::task::Task;
 use block_image::Image;
 use page_ledger::Ledger;
 use page_memory::Store;
 use std::alloc::Global;
+use world_tables::{Queue, Record, Task};
 
 /// The tables of a world.
 #[derive(Drop)]

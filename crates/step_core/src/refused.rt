@@ -1,8 +1,9 @@
 //! How calls answer that they were refused, and which pages the controller touched.
 
-ghost use Rattle.std.specs.Prelude.{◌≡◌, ◌≤◌, [], length};
+ghost use Rattle.std.specs.Prelude.{◌≡◌, ◌≤◌, ◌+◌, ◌++◌, [], length};
 
 use arrayvec::ArrayVec;
+use controller_walk::WalkState;
 use machine_model::words::Refusal;
 use page_memory::{Dma, PageNo, Store};
 use std::marker::Model;
@@ -33,6 +34,7 @@ impl Model for Touched {
 }
 
 /// A step of the controller that was refused. Nothing changed.
+#[derive(Debug, Drop)]
 pub struct StepRefused {
     /// Why.
     pub why: Refusal,
@@ -41,6 +43,7 @@ pub struct StepRefused {
 }
 
 /// What a fetch answers.
+#[derive(Debug, Drop)]
 pub struct Fetched {
     /// The identifier of the entry that was fetched.
     pub cid: u16,
@@ -48,7 +51,17 @@ pub struct Fetched {
     pub touched: Touched,
 }
 
+/// What a step of a walk answers.
+#[derive(Debug, Drop)]
+pub struct Walked {
+    /// What the walk answered.
+    pub state: WalkState,
+    /// The pages that it touched.
+    pub touched: Touched,
+}
+
 /// What a completion answers.
+#[derive(Debug, Drop)]
 pub struct Completed {
     /// The page that it touched.
     pub touched: Touched,
@@ -88,5 +101,19 @@ impl Touched {
         ensures { result.now ≡ self.now }
     {
         &self.pages
+    }
+}
+
+impl Touched {
+    /// These pages, and behind them those that a store noted.
+    pub(crate) fn then(self, store: &Store) -> Touched
+        requires { length self + length store.now.touched ≤ 4 }
+        ensures { result ≡ self ++ store.now.touched }
+    {
+        let mut pages = self.pages;
+        for number in store.touched().as_slice() {
+            pages.push(*number);
+        }
+        Touched { pages }
     }
 }

@@ -9,16 +9,15 @@ ghost use Rattle.machine_model.specs.Refusals.{is_deleting as spec_is_deleting};
 ghost use Rattle.machine_model.specs.Step.{Step, Refuses, IsReserved};
 ghost use Rattle.page_ledger.specs.Owners.{free_pages, with_owner};
 ghost use Rattle.sgl_chain.specs.Chains.{pages_needed as spec_pages_needed};
-ghost use Rattle.step_core.specs.Commands.{reserved, with_claim, state_at, passes, takes_no_io as spec_takes_no_io, ClaimsNext, Grants, new_draft};
+ghost use Rattle.world_tables.specs.Commands.{reserved, with_claim, state_at, passes, takes_no_io as spec_takes_no_io, ClaimsNext, Grants, new_draft};
 ghost use Rattle.step_core.specs.Replies.{reserve_reply};
-ghost use Rattle.step_core.specs.Tables.{state_of, tables_of};
-ghost use Rattle.step_core.specs.Whole.{IsWhole};
-ghost use Rattle.step_core.specs.declared.queue.Queue.{Queue as QueueValue};
+ghost use Rattle.step_core.specs.Parts.{tables_of};
+ghost use Rattle.world_tables.specs.Tables.{state_of};
+ghost use Rattle.world_tables.specs.Whole.{IsWhole};
+ghost use Rattle.world_tables.specs.declared.queue.Queue.{Queue as QueueValue};
 
 use crate::moving::move_out_zeroed;
 use crate::parts::Parts;
-use crate::queue::Queue;
-use crate::record::Record;
 use crate::refused::Refused;
 use crate::world::World;
 use io_commands::{Draft, Request};
@@ -27,6 +26,7 @@ use page_ledger::{Ledger, Owner, Role};
 use page_memory::{Page, PageNo};
 use sgl_chain::pages_needed;
 use std::alloc::{AllocError, Global};
+use world_tables::{Queue, Record};
 
 /// What a request gets: an identifier, and so many pages for its data and for its chain.
 #[derive(Clone, Copy)]
@@ -46,7 +46,7 @@ struct Room {
 }
 
 /// The host's state of a queue.
-fn host_state(queues: &[Queue], q: u16) -> Option<HostState>
+pub(crate) fn host_state(queues: &[Queue], q: u16) -> Option<HostState>
     ensures { result ≡ state_at queues.now q }
 {
     match queues.get(usize::from(q)) {
@@ -56,7 +56,7 @@ fn host_state(queues: &[Queue], q: u16) -> Option<HostState>
 }
 
 /// Whether a queue of this number, in this state, takes no I/O commands.
-fn takes_no_io(q: u16, state: Option<HostState>) -> bool
+pub(crate) fn takes_no_io(q: u16, state: Option<HostState>) -> bool
     ensures { result ≡ spec_takes_no_io q state }
 {
     if q == 0 {
@@ -69,7 +69,7 @@ fn takes_no_io(q: u16, state: Option<HostState>) -> bool
 }
 
 /// Whether a queue in this state is being deleted.
-fn is_deleting(state: Option<HostState>) -> bool
+pub(crate) fn is_deleting(state: Option<HostState>) -> bool
     ensures { result ≡ passes spec_is_deleting state }
 {
     match state {
@@ -79,33 +79,31 @@ fn is_deleting(state: Option<HostState>) -> bool
 }
 
 /// The identifier that a queue would claim next.
-fn next_identifier(queues: &[Queue], q: u16) -> Option<u16>
+pub(crate) fn next_identifier(queues: &[Queue], q: u16) -> Option<u16>
     requires { q < length queues.now }
     ensures { (queue : QueueValue) → slice_get queues.now q ≡ Some queue → result ≡ position not queue.host.claimed }
 {
     queues[usize::from(q)].host.unclaimed()
 }
 
-impl Queue {
-    /// Claims the identifier that is next.
-    fn claim(&mut self, cid: u16)
-        requires { position not self.old.host.claimed ≡ Some cid }
-        ensures { self.new ≡ with_claim cid self.old }
-    {
-        match self.host.claim() {
-            Some(_) => {}
-            None => unreachable!(),
-        }
+/// Claims the identifier that is next.
+fn claim_next(queue: &mut Queue, cid: u16)
+    requires { position not queue.old.host.claimed ≡ Some cid }
+    ensures { queue.new ≡ with_claim cid queue.old }
+{
+    match queue.host.claim() {
+        Some(_) => {}
+        None => unreachable!(),
     }
 }
 
 /// Claims the next identifier of a queue.
-fn claim(queues: &mut Vec<Queue>, q: u16, cid: u16)
+pub(crate) fn claim(queues: &mut Vec<Queue>, q: u16, cid: u16)
     requires there { q < length queues.old.items }
     requires next { ClaimsNext queues.old.items q cid }
     ensures { queues.new.items ≡ change q (with_claim cid) queues.old.items }
 {
-    queues[usize::from(q)].claim(cid);
+    claim_next(&mut queues[usize::from(q)], cid);
 }
 
 /// Gives the lowest free pages to a command, first those for its data, then those for its chain.
@@ -145,7 +143,7 @@ fn grant_pages(
 }
 
 /// How many pages a good request takes for its data and for its chain.
-fn pages_of_request(request: &Request, segment: u16) -> (u32, u32)
+pub(crate) fn pages_of_request(request: &Request, segment: u16) -> (u32, u32)
     requires good { IsGood request.now }
     requires least { 2 ≤ segment }
     ensures front { result.0 ≡ data_count request.now.pieces }

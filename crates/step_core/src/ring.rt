@@ -3,15 +3,17 @@
 ghost use Rattle.std.specs.Prelude.{◌≡◌, ◌<◌, length, slice_get};
 ghost use Rattle.machine_model.specs.Events as events;
 ghost use Rattle.machine_model.specs.Step.{Step};
-ghost use Rattle.step_core.specs.Replies.{Exactly, ring_reply};
-ghost use Rattle.step_core.specs.Ringing.{with_tail_heard, rung, lacks_submission};
-ghost use Rattle.step_core.specs.Tables.{state_of, tables_of};
-ghost use Rattle.step_core.specs.Whole.{IsWhole};
+ghost use Rattle.step_core.specs.Replies.{ring_reply};
+ghost use Rattle.world_tables.specs.Exact.{Exactly};
+ghost use Rattle.world_tables.specs.Ringing.{with_tail_heard, rung, lacks_submission};
+ghost use Rattle.step_core.specs.Parts.{tables_of};
+ghost use Rattle.world_tables.specs.Tables.{state_of};
+ghost use Rattle.world_tables.specs.Whole.{IsWhole};
 
 use crate::parts::Parts;
-use crate::queue::Queue;
 use crate::world::World;
 use machine_model::words::{HostState, Refusal};
+use world_tables::Queue;
 
 /// Whether no queue of a number has a submission half.
 fn has_no_submission(queues: &[Queue], q: u16) -> bool
@@ -26,16 +28,14 @@ fn has_no_submission(queues: &[Queue], q: u16) -> bool
     }
 }
 
-impl Queue {
-    /// Lets the controller hear the host's tail.
-    fn hear_tail(&mut self)
-        requires { self.old.host.entries ≡ self.old.device.entries }
-        ensures { self.new ≡ with_tail_heard self.old }
-    {
-        match self.device.tail_bell(self.host.ring_value()) {
-            Ok(()) => {}
-            Err(_) => unreachable!(),
-        }
+/// Lets the controller hear the host's tail.
+fn hear_tail(queue: &mut Queue)
+    requires { queue.old.host.entries ≡ queue.old.device.entries }
+    ensures { queue.new ≡ with_tail_heard queue.old }
+{
+    match queue.device.tail_bell(queue.host.ring_value()) {
+        Ok(()) => {}
+        Err(_) => unreachable!(),
     }
 }
 
@@ -46,7 +46,7 @@ impl Parts {
         requires there { q < length self.old.queues.items }
         ensures { tables_of self.new ≡ rung q (tables_of self.old) }
     {
-        self.queues[usize::from(q)].hear_tail();
+        hear_tail(&mut self.queues[usize::from(q)]);
     }
 
     /// Rings a queue.

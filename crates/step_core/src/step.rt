@@ -37,6 +37,13 @@ impl Bytes {
     {
         &self.bytes
     }
+
+    /// The bytes, as a vector.
+    pub fn into_vec(self) -> Vec<u8>
+        ensures { result.items ≡ self }
+    {
+        self.bytes
+    }
 }
 
 /// A step of a bench. Drafts, tickets and finished commands are named by their queue and identifier.

@@ -1,6 +1,6 @@
 //! What a world shows: whose each page is, how many pages each class has, and whether something was forged.
 
-ghost use Rattle.std.specs.Prelude.{◌≡◌, ◌<◌, length};
+ghost use Rattle.std.specs.Prelude.{◌≡◌, ◌<◌, ◌≤◌, length};
 ghost use Rattle.std.specs.List.{Contains};
 ghost use Rattle.machine_model.specs.Claims.{claims_of, counts_of, IsSound};
 ghost use Rattle.page_ledger.specs.Counting.{total};
@@ -26,6 +26,15 @@ impl World {
         self.parts.ledger.counts()
     }
 
+    /// How many pages the pool has, 8 to 65,536.
+    pub fn pages(&self) -> u32
+        ensures pages { result ≡ length self.now.memory }
+        ensures least { 8 ≤ length self.now.memory }
+        ensures most { length self.now.memory ≤ 65536 }
+    {
+        self.parts.ledger.pages()
+    }
+
     /// Whether nothing was forged.
     pub fn trusted(&self) -> bool
         ensures { result ≡ self.now.trusted }
@@ -34,7 +43,8 @@ impl World {
     }
 
     /// Shows that the world is sound, whatever was forged: each page has one owner, the counts add up to the pool, no identifier
-    /// of a queue is outstanding twice, and a page is out just where a drafted or collected command has it. It does nothing.
+    /// of a queue is outstanding twice, a page is out just where a drafted or collected command has it, and queue 0 is live. It does
+    /// nothing.
     pub fn check(&self)
         ensures { IsSound self.now }
     {

@@ -11,8 +11,9 @@ pub struct World {
 
 impl Model for World {
     ghost use Rattle.machine_model.specs.State.{State};
-    ghost use Rattle.step_core.specs.Tables.{state_of, tables_of};
-    ghost use Rattle.step_core.specs.Whole.{IsWhole};
+    ghost use Rattle.step_core.specs.Parts.{tables_of};
+    ghost use Rattle.world_tables.specs.Tables.{state_of};
+    ghost use Rattle.world_tables.specs.Whole.{IsWhole};
 
     ghost Value = { State };
 

@@ -3,8 +3,8 @@ use Rattle.std.specs.Result.{result_err}
 use Rattle.page_memory.specs.Memory.{Memory}
 use Rattle.queue_pair.specs.Memory.{completion_slot}
 use Rattle.queue_pair.specs.declared.fault.PostFault.TheVariants as fault
-use Rattle.step_core.specs.Serving.{is_full_for}
-use Rattle.step_core.proofs.Slots.{TellsPost, tells_ok, tells_full, tells_out, same_pages}
+use Rattle.world_tables.specs.Serving.{is_full_for}
+use Rattle.world_tables.proofs.Slots.{TellsPost, tells_ok, tells_full, tells_out, same_pages}
 use Rattle.step_core.proofs.answer.check_post.Goals as goal
 use Rattle.step_core.proofs.answer.check_post.Goals.{in-Ok, in-Err-Full, in-Err-SlotOut}
 

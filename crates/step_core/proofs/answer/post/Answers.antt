@@ -3,8 +3,8 @@ use Rattle.entry_codec.specs.Completion.{completion_bytes}
 use Rattle.page_memory.specs.Memory.{Memory, written}
 use Rattle.queue_pair.specs.Memory.{completion_slot, completion_place, phased}
 use Rattle.queue_pair.specs.declared.fault.PostFault.TheVariants as fault
-use Rattle.step_core.specs.Serving.{is_full_for}
-use Rattle.step_core.proofs.Slots.{TellsPost, never_refused, posted_pages, refused_not}
+use Rattle.world_tables.specs.Serving.{is_full_for}
+use Rattle.world_tables.proofs.Slots.{TellsPost, never_refused, posted_pages, refused_not}
 use Rattle.step_core.proofs.answer.post.Goals as goal
 
 pub unreachable-requires : goal.unreachable-requires

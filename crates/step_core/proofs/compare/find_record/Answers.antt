@@ -1,5 +1,5 @@
 use Rattle.std.proofs.Common.{sym, ◌∙◌}
-use Rattle.step_core.proofs.Comparing.{find-here}
+use Rattle.world_tables.proofs.Comparing.{find-here}
 use Rattle.step_core.proofs.compare.find_record.Goals as goal
 
 pub returns-then-is_command-clause-found : goal.returns-then-is_command-clause-found

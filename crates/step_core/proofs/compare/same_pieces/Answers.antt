@@ -1,5 +1,5 @@
 use Rattle.std.proofs.Common.{sym}
-use Rattle.step_core.proofs.Comparing.{pieces-differ}
+use Rattle.world_tables.proofs.Comparing.{pieces-differ}
 use Rattle.step_core.proofs.compare.same_pieces.Goals as goal
 
 pub returns-then-a-b : goal.returns-then-a-b

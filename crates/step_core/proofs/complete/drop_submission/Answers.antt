@@ -1,6 +1,6 @@
 use Rattle.std.proofs.Common.{ap, sym, arith}
-use Rattle.step_core.specs.Serving.{without_submission}
-use Rattle.step_core.proofs.Changing.{change-at, change-past}
+use Rattle.world_tables.specs.Serving.{without_submission}
+use Rattle.world_tables.proofs.Changing.{change-at, change-past}
 use Rattle.step_core.proofs.complete.drop_submission.Goals as goal
 
 pub returns-then-from-queues : goal.returns-then-from-queues

@@ -1,6 +1,6 @@
 use Rattle.std.proofs.Common.{sym, ◌∙◌}
-use Rattle.step_core.specs.Whole.{is_task}
-use Rattle.step_core.proofs.Tasks.{find-here}
+use Rattle.world_tables.specs.Whole.{is_task}
+use Rattle.world_tables.proofs.Tasks.{find-here}
 use Rattle.step_core.proofs.lookup.find_task.Goals as goal
 
 pub returns-then-is_named-clause-found : goal.returns-then-is_named-clause-found

@@ -1,5 +1,5 @@
 use Rattle.std.proofs.Common.{◌≡◌, drop, find}
-use Rattle.step_core.specs.Whole.{is_task}
+use Rattle.world_tables.specs.Whole.{is_task}
 use Rattle.step_core.proofs.lookup.find_task.Given as goal
 
 abbrev pub invariant-loop-i : goal.invariant-loop-i

@@ -1,6 +1,6 @@
 use Rattle.std.proofs.Common.{◌≡◌, length, drop}
 use Rattle.machine_model.specs.Memory.{with_pages}
-use Rattle.step_core.specs.Commands.{CanPut}
+use Rattle.world_tables.specs.Commands.{CanPut}
 use Rattle.step_core.proofs.moving.move_in.Given as goal
 
 abbrev pub invariant-loop-number : goal.invariant-loop-number

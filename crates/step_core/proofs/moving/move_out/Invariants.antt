@@ -1,7 +1,7 @@
-use Rattle.std.proofs.Common.{◌≡◌, ◌++◌, ◌+◌, ◌≤◌, ◌-◌, length, drop, vec_len, vec_capacity}
+use Rattle.std.proofs.Common.{◌≡◌, ◌++◌, ◌+◌, drop, vec_len, vec_capacity}
 use Rattle.machine_model.specs.Memory.{without_pages}
-use Rattle.step_core.specs.Collecting.{taken_pages}
-use Rattle.step_core.specs.Commands.{CanTake}
+use Rattle.world_tables.specs.Collecting.{taken_pages}
+use Rattle.world_tables.specs.Commands.{CanTake}
 use Rattle.step_core.proofs.moving.move_out.Given as goal
 
 abbrev pub invariant-loop-number : goal.invariant-loop-number

@@ -1,5 +1,5 @@
 use Rattle.std.proofs.Common.{◌≡◌, length, vec_capacity}
-use Rattle.step_core.specs.Opening.{HalvesGranted, fresh_queues}
+use Rattle.world_tables.specs.Opening.{HalvesGranted, fresh_queues}
 use Rattle.step_core.proofs.open.open_queues.Given as goal
 
 abbrev pub invariant-loop-q : goal.invariant-loop-q

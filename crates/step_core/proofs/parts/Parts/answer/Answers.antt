@@ -1,8 +1,8 @@
 use Rattle.std.proofs.Common.{◌≡◌, ℕ, ◌<◌, IfSome, Option, Some, slice_get, slice_set, get_or, sym, subst, refl, length}
-use Rattle.step_core.specs.Serving.{with_device}
-use Rattle.step_core.specs.Tables.{tables_of}
-use Rattle.step_core.proofs.AnswerSteps.{posts_for}
-use Rattle.step_core.proofs.Changing.{get-at, change-at}
+use Rattle.world_tables.specs.Serving.{with_device}
+use Rattle.step_core.specs.Parts.{tables_of}
+use Rattle.world_tables.proofs.AnswerSteps.{posts_for}
+use Rattle.world_tables.proofs.Changing.{get-at, change-at}
 use Rattle.step_core.proofs.parts.Parts.answer.Goals as goal
 
 if_at : {A : Type 0} (P : A → Type 0) (o : Option A) (x : A) → o ≡ Some x → P x → IfSome o P

@@ -1,38 +1,23 @@
-use Rattle.std.proofs.Common.{◌≡◌, ◌++◌, List, ap, sym, ◌∙◌, subst, false}
+use Rattle.std.proofs.Common.{◌≡◌, ◌++◌, List, subst, false}
 use Rattle.io_commands.specs.Drafts.{DraftContents}
-use Rattle.io_commands.specs.Requests.{data_count}
-use Rattle.io_commands.specs.DataBytes.{PagesOut}
-use Rattle.io_commands.specs.Values.{numbers_of}
-use Rattle.io_commands.specs.declared.request.Request.{Request}
-use Rattle.machine_model.specs.Proper.{ArePages}
 use Rattle.machine_model.specs.State.{Record}
-use Rattle.step_core.specs.Commands.{Belongs, has_record}
-use Rattle.step_core.specs.Tables.{Tables, tables_of}
-use Rattle.step_core.proofs.Ending.{reads_from, read_none, read_belongs, proper_draft, cancel_refused, cancel_made, belongs_brings, ended_apart, brings_apart}
+use Rattle.world_tables.specs.Commands.{BelongsToDraft, has_drafted}
+use Rattle.step_core.specs.Parts.{tables_of}
+use Rattle.world_tables.specs.Tables.{Tables}
+use Rattle.world_tables.proofs.Ending.{cancel_refused, cancel_made, belongs_brings, ended_apart, brings_apart}
 use Rattle.step_core.proofs.parts.Parts.cancel.Goals as goal
 
 pub returns-in_default-clause-step : goal.returns-in_default-clause-step
 returns-in_default-clause-step c =
-    let t : Tables = tables_of c.args.self.now in
     let d : DraftContents = c.args.draft in
-    let is = c.request-request.ensures in
-    let count = c.data_pages.ensures ∙ (ap (λ (r : Request). data_count r.pieces) is.request ∙ sym is.draft.pieces_have_pages) in
-    let reads = reads_from d.q d.cid d.request d.data_pages d.chain_pages c.q.result c.cid.result c.request-request.result.now c.pages-2.result.now c.data_pages.result c.split_at.result.0.now c.split_at.result.1.now
-    c.q.ensures c.cid.ensures is.request c.pages-2.ensures count c.split_at.ensures.front c.split_at.ensures.back in
-    let none = subst (λ (rs : List Record). has_record rs false c.q.result c.cid.result c.request-request.result.now (numbers_of c.split_at.result.0.now) (numbers_of c.split_at.result.1.now) ≡ false) c.deref.ensures.value c.in_default.ensures.none in
-    cancel_refused t d (proper_draft d is.fits (subst (λ (ps : PagesOut). ArePages ps) c.pages.ensures c.read_pages.ensures) is.draft)
-    (read_none t.records false d.q d.cid d.request d.data_pages d.chain_pages c.q.result c.cid.result c.request-request.result.now c.split_at.result.0.now c.split_at.result.1.now reads none)
+    let none = subst (λ (rs : List Record). has_drafted rs d ≡ false) c.deref.ensures.value c.in_default.ensures.none in
+    cancel_refused (tables_of c.args.self.now) d c.place_of_draft.ensures.proper none
 
 pub commit_end-requires-clause-brings : goal.commit_end-requires-clause-brings
 commit_end-requires-clause-brings c =
     let t : Tables = tables_of c.args.self.now in
     let d : DraftContents = c.args.draft in
-    let is = c.request-request.ensures in
-    let count = c.data_pages.ensures ∙ (ap (λ (r : Request). data_count r.pieces) is.request ∙ sym is.draft.pieces_have_pages) in
-    let reads = reads_from d.q d.cid d.request d.data_pages d.chain_pages c.q.result c.cid.result c.request-request.result.now c.pages-2.result.now c.data_pages.result c.split_at.result.0.now c.split_at.result.1.now
-    c.q.ensures c.cid.ensures is.request c.pages-2.ensures count c.split_at.ensures.front c.split_at.ensures.back in
-    let found = subst (λ (rs : List Record). Belongs rs false c.q.result c.cid.result c.request-request.result.now (numbers_of c.split_at.result.0.now) (numbers_of c.split_at.result.1.now) c.in-Some.place) c.deref.ensures.value c.in-Some.ensures.place in
-    let belongs = read_belongs t.records false d.q d.cid d.request d.data_pages d.chain_pages c.q.result c.cid.result c.request-request.result.now c.split_at.result.0.now c.split_at.result.1.now c.in-Some.place reads found in
+    let belongs = subst (λ (rs : List Record). BelongsToDraft rs d c.in-Some.place) c.deref.ensures.value c.in-Some.ensures.place in
     brings_apart t d.q d.cid (d.data_pages ++ d.chain_pages) c.apart-parts.result.q c.apart-parts.result.cid c.apart-parts.result.pages.items c.apart-parts.ensures.queue c.apart-parts.ensures.identifier c.apart-parts.ensures.pages
     (belongs_brings t false d.q d.cid d.request d.data_pages d.chain_pages c.in-Some.place belongs)
 
@@ -40,28 +25,16 @@ pub returns-clause-step : goal.returns-clause-step
 returns-clause-step c =
     let t : Tables = tables_of c.args.self.now in
     let d : DraftContents = c.args.draft in
-    let is = c.request-request.ensures in
-    let count = c.data_pages.ensures ∙ (ap (λ (r : Request). data_count r.pieces) is.request ∙ sym is.draft.pieces_have_pages) in
-    let reads = reads_from d.q d.cid d.request d.data_pages d.chain_pages c.q.result c.cid.result c.request-request.result.now c.pages-2.result.now c.data_pages.result c.split_at.result.0.now c.split_at.result.1.now
-    c.q.ensures c.cid.ensures is.request c.pages-2.ensures count c.split_at.ensures.front c.split_at.ensures.back in
-    let found = subst (λ (rs : List Record). Belongs rs false c.q.result c.cid.result c.request-request.result.now (numbers_of c.split_at.result.0.now) (numbers_of c.split_at.result.1.now) c.in-Some.place) c.deref.ensures.value c.in-Some.ensures.place in
-    let belongs = read_belongs t.records false d.q d.cid d.request d.data_pages d.chain_pages c.q.result c.cid.result c.request-request.result.now c.split_at.result.0.now c.split_at.result.1.now c.in-Some.place reads found in
-    let are = subst (λ (ps : PagesOut). ArePages ps) c.pages.ensures c.read_pages.ensures in
+    let belongs = subst (λ (rs : List Record). BelongsToDraft rs d c.in-Some.place) c.deref.ensures.value c.in-Some.ensures.place in
     let left = ended_apart t (tables_of c.commit_end.new.self) d.q d.cid (d.data_pages ++ d.chain_pages) c.apart-parts.result.q c.apart-parts.result.cid c.apart-parts.result.pages.items
     c.apart-parts.ensures.queue c.apart-parts.ensures.identifier c.apart-parts.ensures.pages c.commit_end.ensures in
-    (cancel_made t (tables_of c.commit_end.new.self) d c.in-Some.place c.requires (proper_draft d is.fits are is.draft) are belongs left).step
+    (cancel_made t (tables_of c.commit_end.new.self) d c.in-Some.place c.requires c.place_of_draft.ensures.proper belongs left).step
 
 pub returns-clause-whole : goal.returns-clause-whole
 returns-clause-whole c =
     let t : Tables = tables_of c.args.self.now in
     let d : DraftContents = c.args.draft in
-    let is = c.request-request.ensures in
-    let count = c.data_pages.ensures ∙ (ap (λ (r : Request). data_count r.pieces) is.request ∙ sym is.draft.pieces_have_pages) in
-    let reads = reads_from d.q d.cid d.request d.data_pages d.chain_pages c.q.result c.cid.result c.request-request.result.now c.pages-2.result.now c.data_pages.result c.split_at.result.0.now c.split_at.result.1.now
-    c.q.ensures c.cid.ensures is.request c.pages-2.ensures count c.split_at.ensures.front c.split_at.ensures.back in
-    let found = subst (λ (rs : List Record). Belongs rs false c.q.result c.cid.result c.request-request.result.now (numbers_of c.split_at.result.0.now) (numbers_of c.split_at.result.1.now) c.in-Some.place) c.deref.ensures.value c.in-Some.ensures.place in
-    let belongs = read_belongs t.records false d.q d.cid d.request d.data_pages d.chain_pages c.q.result c.cid.result c.request-request.result.now c.split_at.result.0.now c.split_at.result.1.now c.in-Some.place reads found in
-    let are = subst (λ (ps : PagesOut). ArePages ps) c.pages.ensures c.read_pages.ensures in
+    let belongs = subst (λ (rs : List Record). BelongsToDraft rs d c.in-Some.place) c.deref.ensures.value c.in-Some.ensures.place in
     let left = ended_apart t (tables_of c.commit_end.new.self) d.q d.cid (d.data_pages ++ d.chain_pages) c.apart-parts.result.q c.apart-parts.result.cid c.apart-parts.result.pages.items
     c.apart-parts.ensures.queue c.apart-parts.ensures.identifier c.apart-parts.ensures.pages c.commit_end.ensures in
-    (cancel_made t (tables_of c.commit_end.new.self) d c.in-Some.place c.requires (proper_draft d is.fits are is.draft) are belongs left).whole
+    (cancel_made t (tables_of c.commit_end.new.self) d c.in-Some.place c.requires c.place_of_draft.ensures.proper belongs left).whole

@@ -2,11 +2,12 @@ use Rattle.std.proofs.Common.{◌≡◌, ◌+◌, ℕ, List, false, arith, ap, s
 use Rattle.machine_model.specs.Refusals.{no_io_queue, in_state, is_deleting}
 use Rattle.page_ledger.specs.Owners.{free_pages}
 use Rattle.page_ledger.specs.declared.owner.Counts.{Counts}
-use Rattle.step_core.specs.Commands.{state_at, passes, takes_no_io}
-use Rattle.step_core.specs.Tables.{Tables, state_of, tables_of}
-use Rattle.step_core.specs.declared.queue.Queue.{Queue}
-use Rattle.step_core.proofs.Granting.{in_state-is, no_io-is, refuses-no_identifier, refuses-too_few, none-left, next-left, granted, Asked}
-use Rattle.step_core.proofs.Reserved.{queue_there}
+use Rattle.world_tables.specs.Commands.{state_at, passes, takes_no_io}
+use Rattle.step_core.specs.Parts.{tables_of}
+use Rattle.world_tables.specs.Tables.{Tables, state_of}
+use Rattle.world_tables.specs.declared.queue.Queue.{Queue}
+use Rattle.world_tables.proofs.Granting.{in_state-is, no_io-is, refuses-no_identifier, refuses-too_few, none-left, next-left, granted, Asked}
+use Rattle.world_tables.proofs.Reserved.{queue_there}
 use Rattle.step_core.proofs.parts.Parts.check_reserve.Goals as goal
 
 pub returns-in_default-clause-refused : goal.returns-in_default-clause-refused

@@ -1,13 +1,12 @@
-use Rattle.std.proofs.Common.{◌≡◌, ◌++◌, Some, ap, sym, ◌∙◌, subst, slice_get}
-use Rattle.io_commands.specs.DataBytes.{PagesOut}
+use Rattle.std.proofs.Common.{◌≡◌, ◌++◌, ap, sym, ◌∙◌, subst}
 use Rattle.machine_model.specs.Memory.{without_pages}
 use Rattle.machine_model.specs.State.{Record}
-use Rattle.page_memory.specs.Pages.{Pages}
-use Rattle.step_core.specs.Collecting.{taken_pages}
-use Rattle.step_core.specs.Commands.{CanTake}
-use Rattle.step_core.specs.Tables.{Tables, tables_of}
-use Rattle.step_core.proofs.Collecting.{held_can_take, held_work, collect_enough, collect_made, collected_tables}
-use Rattle.step_core.proofs.Lists.{get-at, some_is}
+use Rattle.world_tables.specs.Collecting.{taken_pages}
+use Rattle.world_tables.specs.Commands.{CanTake}
+use Rattle.step_core.specs.Parts.{tables_of}
+use Rattle.world_tables.specs.Tables.{Tables}
+use Rattle.world_tables.proofs.Collecting.{held_can_take, held_work, collect_enough, collect_made, collected_tables}
+use Rattle.world_tables.proofs.Lists.{get-at, some_is}
 use Rattle.step_core.proofs.parts.Parts.commit_collect.Goals as goal
 
 pub take_pages-requires-clause-front : goal.take_pages-requires-clause-front

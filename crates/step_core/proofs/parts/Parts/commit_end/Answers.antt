@@ -1,5 +1,5 @@
-use Rattle.step_core.specs.Tables.{tables_of}
-use Rattle.step_core.proofs.Ending.{ended_there, ended_claimed, ended_can_put, ended_tables}
+use Rattle.step_core.specs.Parts.{tables_of}
+use Rattle.world_tables.proofs.Ending.{ended_there, ended_claimed, ended_can_put, ended_tables}
 use Rattle.step_core.proofs.parts.Parts.commit_end.Goals as goal
 
 pub unclaim-requires-clause-there : goal.unclaim-requires-clause-there

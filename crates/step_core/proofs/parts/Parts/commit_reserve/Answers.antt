@@ -12,9 +12,10 @@ use Rattle.page_ledger.specs.declared.owner.Owner.TheVariants.{Command}
 use Rattle.page_ledger.specs.declared.owner.Role.TheVariants.{Data, Chain}
 use Rattle.page_memory.specs.Pages.{Pages}
 use Rattle.sgl_chain.specs.Chains.{pages_needed}
-use Rattle.step_core.specs.Commands.{reserved, CanTake, zeroed_pages}
-use Rattle.step_core.specs.Tables.{Tables, tables_of}
-use Rattle.step_core.proofs.Granted.{granted_can_take, made_draft, made_size, reserved_tables}
+use Rattle.world_tables.specs.Commands.{reserved, CanTake, zeroed_pages}
+use Rattle.step_core.specs.Parts.{tables_of}
+use Rattle.world_tables.specs.Tables.{Tables}
+use Rattle.world_tables.proofs.Granted.{granted_can_take, made_draft, made_size, reserved_tables}
 use Rattle.step_core.proofs.parts.Parts.commit_reserve.Goals as goal
 
 pub move_out_zeroed-requires-clause-can : goal.move_out_zeroed-requires-clause-can

@@ -1,7 +1,7 @@
 use Rattle.std.proofs.Common.{ap, sym, ◌∙◌}
 use Rattle.std.specs.Result.{result_err}
-use Rattle.step_core.specs.Tables.{tables_of}
-use Rattle.step_core.proofs.FinishSteps.{refused_step, completes_step}
+use Rattle.step_core.specs.Parts.{tables_of}
+use Rattle.world_tables.proofs.FinishSteps.{refused_step, completes_step}
 use Rattle.step_core.proofs.parts.Parts.complete.Goals as goal
 
 pub returns-in-Err-clause-step : goal.returns-in-Err-clause-step

@@ -2,11 +2,12 @@ use Rattle.std.proofs.Common.{◌≡◌, ◌<◌, None, Some, IfSome, length, sl
 use Rattle.block_image.specs.Blocks.{block_count}
 use Rattle.entry_codec.specs.declared.status.Status.{Status}
 use Rattle.std.specs.List.{remove}
-use Rattle.step_core.specs.Serving.{post_refusal, image_of_end, queues_of_end, PostsFor}
-use Rattle.step_core.specs.Tables.{Tables, tables_of}
-use Rattle.step_core.specs.declared.queue.Queue.{Queue}
-use Rattle.step_core.proofs.CompleteSteps.{queue_there, task_queue}
-use Rattle.step_core.proofs.FinishSteps.{ready, ready_verdict, ready_fits, ready_queue, ready_post, ready_there, end_fits, finishes, of_some}
+use Rattle.world_tables.specs.Serving.{post_refusal, image_of_end, queues_of_end, PostsFor}
+use Rattle.step_core.specs.Parts.{tables_of}
+use Rattle.world_tables.specs.Tables.{Tables}
+use Rattle.world_tables.specs.declared.queue.Queue.{Queue}
+use Rattle.world_tables.proofs.CompleteSteps.{queue_there, task_queue}
+use Rattle.world_tables.proofs.FinishSteps.{ready, ready_verdict, ready_fits, ready_queue, ready_post, ready_there, end_fits, finishes, of_some}
 use Rattle.step_core.proofs.parts.Parts.finish.Goals as goal
 
 pub end_work-dw0-requires-clause-verdict : goal.end_work-dw0-requires-clause-verdict

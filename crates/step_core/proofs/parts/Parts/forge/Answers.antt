@@ -1,7 +1,6 @@
-use Rattle.std.proofs.Common.{rules, arith, ◌≡◌, false, refl, length}
-use Rattle.machine_model.specs.Events as events
-use Rattle.step_core.specs.Tables.{tables_of, state_of}
-use Rattle.step_core.proofs.Forging.{forge-told, forge-kept, slot-in}
+use Rattle.std.proofs.Common.{rules, ◌≡◌, false, refl, length}
+use Rattle.step_core.specs.Parts.{tables_of}
+use Rattle.world_tables.proofs.Forging.{forge-told, forge-kept, slot-in}
 use Rattle.step_core.proofs.parts.Parts.forge.Goals as goal
 
 pub overwrite-requires-clause-there : goal.overwrite-requires-clause-there

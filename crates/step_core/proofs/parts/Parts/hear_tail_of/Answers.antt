@@ -1,6 +1,6 @@
-use Rattle.step_core.specs.Ringing.{with_tail_heard}
-use Rattle.step_core.specs.Tables.{tables_of}
-use Rattle.step_core.proofs.Queues.{queue-at, queue-written}
+use Rattle.world_tables.specs.Ringing.{with_tail_heard}
+use Rattle.step_core.specs.Parts.{tables_of}
+use Rattle.world_tables.proofs.Queues.{queue-at, queue-written}
 use Rattle.step_core.proofs.parts.Parts.hear_tail_of.Goals as goal
 
 pub hear_tail-requires : goal.hear_tail-requires
@@ -10,5 +10,5 @@ hear_tail-requires c =
 
 pub returns : goal.returns
 returns c =
-    queue-written (tables_of c.args.self.now) with_tail_heard c.args.q c.from.result c.index_mut.result.now c.hear_tail.new.self
+    queue-written (tables_of c.args.self.now) with_tail_heard c.args.q c.from.result c.index_mut.result.now c.hear_tail.new.queue
     c.requires.there c.from.ensures c.index_mut.ensures.value c.hear_tail.ensures

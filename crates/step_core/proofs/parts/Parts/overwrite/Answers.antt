@@ -1,6 +1,5 @@
-use Rattle.std.proofs.Common.{◌∙◌, sym}
-use Rattle.step_core.specs.Tables.{tables_of}
-use Rattle.step_core.proofs.Forging.{overwrite-there, overwrite-told}
+use Rattle.step_core.specs.Parts.{tables_of}
+use Rattle.world_tables.proofs.Forging.{overwrite-there, overwrite-told}
 use Rattle.step_core.proofs.parts.Parts.overwrite.Goals as goal
 
 pub unreachable-requires : goal.unreachable-requires

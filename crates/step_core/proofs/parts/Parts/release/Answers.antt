@@ -3,9 +3,10 @@ use Rattle.io_commands.specs.DataBytes.{PagesOut}
 use Rattle.io_commands.specs.Values.{FinishedContents, numbers_of}
 use Rattle.machine_model.specs.Proper.{ArePages}
 use Rattle.machine_model.specs.State.{Record}
-use Rattle.step_core.specs.Commands.{Belongs, has_record}
-use Rattle.step_core.specs.Tables.{Tables, tables_of}
-use Rattle.step_core.proofs.Ending.{reads_from, read_none, read_belongs, release_refused, release_made, belongs_brings, ended_apart, brings_apart}
+use Rattle.world_tables.specs.Commands.{Belongs, has_record}
+use Rattle.step_core.specs.Parts.{tables_of}
+use Rattle.world_tables.specs.Tables.{Tables}
+use Rattle.world_tables.proofs.Ending.{reads_from, read_none, read_belongs, release_refused, release_made, belongs_brings, ended_apart, brings_apart}
 use Rattle.step_core.proofs.parts.Parts.release.Goals as goal
 
 pub returns-in_default-clause-step : goal.returns-in_default-clause-step

@@ -1,5 +1,5 @@
-use Rattle.step_core.specs.Tables.{tables_of}
-use Rattle.step_core.proofs.Granted.{reserve_made}
+use Rattle.step_core.specs.Parts.{tables_of}
+use Rattle.world_tables.proofs.Granted.{reserve_made}
 use Rattle.step_core.proofs.parts.Parts.reserve.Goals as goal
 
 pub returns-clause-step : goal.returns-clause-step

@@ -1,7 +1,6 @@
-use Rattle.std.proofs.Common.{◌≡◌, false, sym, ◌∙◌, slice_get}
-use Rattle.step_core.specs.Ringing.{lacks_submission}
-use Rattle.step_core.specs.Tables.{tables_of}
-use Rattle.step_core.proofs.TailHeard.{ring-exact, ring-there, rung-whole}
+use Rattle.std.proofs.Common.{sym, ◌∙◌}
+use Rattle.step_core.specs.Parts.{tables_of}
+use Rattle.world_tables.proofs.TailHeard.{ring-exact, ring-there, rung-whole}
 use Rattle.step_core.proofs.parts.Parts.ring.Goals as goal
 
 pub hear_tail_of-requires-clause-there : goal.hear_tail_of-requires-clause-there

@@ -1,7 +1,7 @@
 use Rattle.std.proofs.Common.{subst, ap, sym, ◌∙◌}
-use Rattle.step_core.specs.Tables.{Tables, state_of}
-use Rattle.step_core.specs.Whole.{IsWhole}
-use Rattle.step_core.proofs.Opened.{opened_is, opened_state, opened_whole}
+use Rattle.world_tables.specs.Tables.{Tables, state_of}
+use Rattle.world_tables.specs.Whole.{IsWhole}
+use Rattle.world_tables.proofs.Opened.{opened_is, opened_state, opened_whole}
 use Rattle.step_core.proofs.world.World.open.Goals as goal
 
 pub invariant_of-result : goal.invariant_of-result

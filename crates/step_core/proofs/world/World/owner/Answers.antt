@@ -2,8 +2,8 @@ use Rattle.std.proofs.Common.{◌<◌, length, subst, sym}
 use Rattle.std.specs.List.{Contains}
 use Rattle.machine_model.specs.Claims.{claims_of}
 use Rattle.machine_model.specs.State.{State}
-use Rattle.step_core.specs.Tables.{tables_of}
-use Rattle.step_core.proofs.Told.{owner_claims}
+use Rattle.step_core.specs.Parts.{tables_of}
+use Rattle.world_tables.proofs.Told.{owner_claims}
 use Rattle.step_core.proofs.world.World.owner.Goals as goal
 
 pub returns : goal.returns

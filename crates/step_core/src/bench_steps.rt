@@ -1,0 +1,329 @@
+//! The steps of a bench: each is a call of the world, or of a value that is about.
+
+ghost use Rattle.std.specs.Prelude.{◌≡◌, [], length};
+ghost use Rattle.step_core.specs.Bench.{Does};
+ghost use Rattle.step_core.specs.Kept.{table_of, HasRoom, TakesOne};
+
+use crate::fill::{build_draft, fill_draft, no_memory};
+use crate::kept::Kept;
+use crate::kept_values::{
+    draft_place, finished_place, put_back, take_draft, take_finished, take_ticket,
+};
+use crate::refused::{Refused, StepRefused, none_touched};
+use crate::reserve::pages_of_request;
+use crate::step::{Bytes, Reply, Step};
+use io_commands::{Draft, Request};
+use machine_model::words::Refusal;
+
+/// What a refused call of the host answers.
+fn refused(why: Refusal) -> Reply
+    ensures { result ≡ Reply.Refused why [] }
+{
+    Reply::Refused {
+        why,
+        touched: none_touched(),
+    }
+}
+
+/// What a refused step of the controller answers.
+fn refused_step(step: StepRefused) -> Reply
+    ensures { result ≡ Reply.Refused step.why step.touched }
+{
+    Reply::Refused {
+        why: step.why,
+        touched: step.touched,
+    }
+}
+
+/// What is answered of a command that was reserved.
+fn reserved(draft: &Draft) -> Reply
+    ensures { result ≡ Reply.Reserved draft.now.q draft.now.cid (length draft.now.data_pages) (length draft.now.chain_pages) }
+{
+    let request = draft.request();
+    let (data, chain) = pages_of_request(request, draft.segment() as u16);
+    Reply::Reserved {
+        q: draft.q(),
+        cid: draft.cid(),
+        data,
+        chain,
+    }
+}
+
+impl Kept {
+    /// Reserves a command, and keeps its draft.
+    fn reserve(&mut self, q: u16, request: Request) -> Reply
+        requires { HasRoom 1 self.old }
+        ensures does { Does (table_of self.old) (Step.Reserve q request) result (table_of self.new) }
+        ensures room { TakesOne self.old self.new }
+    {
+        match self.world.reserve(q, request) {
+            Ok(draft) => {
+                let reply = reserved(&draft);
+                self.drafts.push_reserved(draft);
+                reply
+            }
+            Err(Refused { value: _, why }) => refused(why),
+        }
+    }
+
+    /// Fills a draft.
+    fn fill(&mut self, q: u16, cid: u16, bytes: Bytes) -> Reply
+        ensures does { Does (table_of self.old) (Step.Fill q cid bytes) result (table_of self.new) }
+        ensures room { TakesOne self.old self.new }
+    {
+        let Some(place) = draft_place(&self.drafts, q, cid) else {
+            return Reply::NoValue;
+        };
+        fill_draft(&mut self.drafts[place], bytes)
+    }
+
+    /// Builds a draft.
+    fn build(&mut self, q: u16, cid: u16) -> Reply
+        ensures does { Does (table_of self.old) (Step.Build q cid) result (table_of self.new) }
+        ensures room { TakesOne self.old self.new }
+    {
+        let Some(place) = draft_place(&self.drafts, q, cid) else {
+            return Reply::NoValue;
+        };
+        build_draft(&mut self.drafts[place], self.alloc)
+    }
+
+    /// Submits a draft, and keeps its ticket.
+    fn submit(&mut self, q: u16, cid: u16) -> Reply
+        requires { HasRoom 1 self.old }
+        ensures does { Does (table_of self.old) (Step.Submit q cid) result (table_of self.new) }
+        ensures room { TakesOne self.old self.new }
+    {
+        let Some((place, draft)) = take_draft(&mut self.drafts, q, cid) else {
+            return Reply::NoValue;
+        };
+        match self.world.submit(draft) {
+            Ok(ticket) => {
+                self.tickets.push_reserved(ticket);
+                Reply::Accepted
+            }
+            Err(Refused { value, why }) => {
+                put_back(&mut self.drafts, place, value);
+                refused(why)
+            }
+        }
+    }
+
+    /// Cancels a draft.
+    fn cancel(&mut self, q: u16, cid: u16) -> Reply
+        requires { HasRoom 1 self.old }
+        ensures does { Does (table_of self.old) (Step.Cancel q cid) result (table_of self.new) }
+        ensures room { TakesOne self.old self.new }
+    {
+        let Some((place, draft)) = take_draft(&mut self.drafts, q, cid) else {
+            return Reply::NoValue;
+        };
+        match self.world.cancel(draft) {
+            Ok(()) => Reply::Accepted,
+            Err(Refused { value, why }) => {
+                put_back(&mut self.drafts, place, value);
+                refused(why)
+            }
+        }
+    }
+
+    /// Rings a queue.
+    fn ring(&mut self, q: u16) -> Reply
+        ensures does { Does (table_of self.old) (Step.Ring q) result (table_of self.new) }
+        ensures room { TakesOne self.old self.new }
+    {
+        match self.world.ring(q) {
+            Ok(()) => Reply::Accepted,
+            Err(why) => refused(why),
+        }
+    }
+
+    /// Lets the controller fetch an entry.
+    fn fetch(&mut self, q: u16) -> Reply
+        ensures does { Does (table_of self.old) (Step.Fetch q) result (table_of self.new) }
+        ensures room { TakesOne self.old self.new }
+    {
+        match self.world.fetch(q) {
+            Ok(done) => Reply::Fetched {
+                cid: done.cid,
+                touched: done.touched,
+            },
+            Err(refusal) => refused_step(refusal),
+        }
+    }
+
+    /// Lets the controller do a unit of a command's list.
+    fn walk(&mut self, q: u16, cid: u16) -> Reply
+        ensures does { Does (table_of self.old) (Step.Walk q cid) result (table_of self.new) }
+        ensures room { TakesOne self.old self.new }
+    {
+        match self.world.walk(q, cid) {
+            Ok(done) => Reply::Walked {
+                state: done.state,
+                touched: done.touched,
+            },
+            Err(refusal) => refused_step(refusal),
+        }
+    }
+
+    /// Lets the controller complete a command.
+    fn complete(&mut self, q: u16, cid: u16) -> Reply
+        ensures does { Does (table_of self.old) (Step.Complete q cid) result (table_of self.new) }
+        ensures room { TakesOne self.old self.new }
+    {
+        match self.world.complete(q, cid) {
+            Ok(done) => Reply::Completed {
+                touched: done.touched,
+            },
+            Err(refusal) => refused_step(refusal),
+        }
+    }
+
+    /// Takes a completion.
+    fn reap(&mut self, q: u16) -> Reply
+        ensures does { Does (table_of self.old) (Step.Reap q) result (table_of self.new) }
+        ensures room { TakesOne self.old self.new }
+    {
+        match self.world.reap(q) {
+            Ok(what) => Reply::Reaps(what),
+            Err(why) => refused(why),
+        }
+    }
+
+    /// Collects a command by its ticket, and keeps the finished command.
+    fn collect(&mut self, q: u16, cid: u16) -> Reply
+        requires { HasRoom 1 self.old }
+        ensures does { Does (table_of self.old) (Step.Collect q cid) result (table_of self.new) }
+        ensures room { TakesOne self.old self.new }
+    {
+        let Some((place, ticket)) = take_ticket(&mut self.tickets, q, cid) else {
+            return Reply::NoValue;
+        };
+        match self.world.collect(ticket) {
+            Ok(finished) => {
+                let status = finished.status();
+                self.finished.push_reserved(finished);
+                Reply::Collected(status)
+            }
+            Err(Refused { value, why }) => {
+                put_back(&mut self.tickets, place, value);
+                refused(why)
+            }
+        }
+    }
+
+    /// Gathers a Read's bytes.
+    fn gather(&mut self, q: u16, cid: u16) -> Reply
+        ensures does { Does (table_of self.old) (Step.Gather q cid) result (table_of self.new) }
+        ensures room { TakesOne self.old self.new }
+    {
+        let Some(place) = finished_place(&self.finished, q, cid) else {
+            return Reply::NoValue;
+        };
+        match self.finished[place].gather(self.alloc) {
+            Ok(bytes) => Reply::Gathered(Bytes::from_vec(bytes)),
+            Err(_) => no_memory(),
+        }
+    }
+
+    /// Releases a finished command.
+    fn release(&mut self, q: u16, cid: u16) -> Reply
+        requires { HasRoom 1 self.old }
+        ensures does { Does (table_of self.old) (Step.Release q cid) result (table_of self.new) }
+        ensures room { TakesOne self.old self.new }
+    {
+        let Some((place, finished)) = take_finished(&mut self.finished, q, cid) else {
+            return Reply::NoValue;
+        };
+        match self.world.release(finished) {
+            Ok(()) => Reply::Accepted,
+            Err(Refused { value, why }) => {
+                put_back(&mut self.finished, place, value);
+                refused(why)
+            }
+        }
+    }
+
+    /// Sends an Abort.
+    fn abort(&mut self, q: u16, cid: u16) -> Reply
+        ensures does { Does (table_of self.old) (Step.Abort q cid) result (table_of self.new) }
+        ensures room { TakesOne self.old self.new }
+    {
+        match self.world.abort(q, cid) {
+            Ok(sent) => Reply::Sent { cid: sent },
+            Err(why) => refused(why),
+        }
+    }
+
+    /// Sends the deletion of a submission queue.
+    fn delete_sq(&mut self, q: u16) -> Reply
+        ensures does { Does (table_of self.old) (Step.DeleteSq q) result (table_of self.new) }
+        ensures room { TakesOne self.old self.new }
+    {
+        match self.world.delete_sq(q) {
+            Ok(cid) => Reply::Sent { cid },
+            Err(why) => refused(why),
+        }
+    }
+
+    /// Sends the deletion of a completion queue.
+    fn delete_cq(&mut self, q: u16) -> Reply
+        ensures does { Does (table_of self.old) (Step.DeleteCq q) result (table_of self.new) }
+        ensures room { TakesOne self.old self.new }
+    {
+        match self.world.delete_cq(q) {
+            Ok(cid) => Reply::Sent { cid },
+            Err(why) => refused(why),
+        }
+    }
+
+    /// Retires a queue.
+    fn retire(&mut self, q: u16) -> Reply
+        ensures does { Does (table_of self.old) (Step.Retire q) result (table_of self.new) }
+        ensures room { TakesOne self.old self.new }
+    {
+        match self.world.retire(q) {
+            Ok(()) => Reply::Accepted,
+            Err(why) => refused(why),
+        }
+    }
+
+    /// Forges a completion.
+    fn forge(&mut self, q: u16, slot: u16, bytes: [u8; 16]) -> Reply
+        ensures does { Does (table_of self.old) (Step.Forge q slot bytes) result (table_of self.new) }
+        ensures room { TakesOne self.old self.new }
+    {
+        match self.world.forge(q, slot, bytes) {
+            Ok(()) => Reply::Accepted,
+            Err(why) => refused(why),
+        }
+    }
+
+    /// Does a step.
+    pub(crate) fn step(&mut self, step: Step) -> Reply
+        requires { HasRoom 1 self.old }
+        ensures does { Does (table_of self.old) step result (table_of self.new) }
+        ensures room { TakesOne self.old self.new }
+    {
+        match step {
+            Step::Reserve { q, request } => self.reserve(q, request),
+            Step::Fill { q, cid, bytes } => self.fill(q, cid, bytes),
+            Step::Build { q, cid } => self.build(q, cid),
+            Step::Submit { q, cid } => self.submit(q, cid),
+            Step::Cancel { q, cid } => self.cancel(q, cid),
+            Step::Ring { q } => self.ring(q),
+            Step::Fetch { q } => self.fetch(q),
+            Step::Walk { q, cid } => self.walk(q, cid),
+            Step::Complete { q, cid } => self.complete(q, cid),
+            Step::Reap { q } => self.reap(q),
+            Step::Collect { q, cid } => self.collect(q, cid),
+            Step::Gather { q, cid } => self.gather(q, cid),
+            Step::Release { q, cid } => self.release(q, cid),
+            Step::Abort { q, cid } => self.abort(q, cid),
+            Step::DeleteSq { q } => self.delete_sq(q),
+            Step::DeleteCq { q } => self.delete_cq(q),
+            Step::Retire { q } => self.retire(q),
+            Step::Forge { q, slot, bytes } => self.forge(q, slot, bytes),
+        }
+    }
+}

@@ -1,0 +1,346 @@
+-- An admin command that is sent on the tables is the machine's, and leaves them whole.
+use Rattle.std.proofs.Common.{◌≡◌, ℕ, ◌+◌, ◌<◌, ◌≤◌, ◌/◌, ◌%◌, ◌==◌, ◌||◌, ◌&&◌, ◌++◌, ◌∷◌, [], Bool, true, false, not, Option, Some, None, is_none, List, length, map, slice_get, slice_set, refl, ap, sym, ◌∙◌, subst, arith, length-set}
+use Rattle.std.specs.Bool.{OnTrue}
+use Rattle.std.specs.List.{AllByRecursion}
+use Rattle.std.specs.Option.{option_map, option_map_or}
+use Rattle.std.proofs.lemmas.Bool.{or_parts}
+use Rattle.std.proofs.lemmas.List.{length-map}
+use Rattle.std.proofs.lemmas.Option.{slice_get-map}
+use Rattle.admin_commands.specs.Entries.{admin_entry}
+use Rattle.admin_commands.specs.Verdicts.{is_absent}
+use Rattle.admin_commands.specs.declared.AdminKind.{AdminKind}
+use Rattle.admin_commands.specs.declared.AdminKind.TheVariants.{Abort, DeleteSq, DeleteCq}
+use Rattle.block_image.specs.Blocks.{block_count}
+use Rattle.entry_codec.specs.Submission.{submission_bytes, FitsSubmission, IsSubEntry}
+use Rattle.entry_codec.specs.declared.submission.SubEntry.{SubEntry}
+use Rattle.machine_model.specs.After as a
+use Rattle.machine_model.specs.After.{change}
+use Rattle.machine_model.specs.Events as events
+use Rattle.machine_model.specs.Memory.{memory_of}
+use Rattle.machine_model.specs.Proper.{IsProper}
+use Rattle.machine_model.specs.Refusals.{host_queue, in_state, is_deleting, is_gone, is_retired, no_identifier, no_io_queue, queue_full, refusal_of}
+use Rattle.machine_model.specs.State.{Device, DeviceQueue, HostQueue, State}
+use Rattle.machine_model.specs.Step.{Answers, IsController, IsNewIdentifier, KeepsDevice, Step, forges}
+use Rattle.machine_model.specs.declared.words.HostState.{HostState}
+use Rattle.machine_model.specs.declared.words.HostState.TheVariants.{Deleting}
+use Rattle.machine_model.specs.declared.words.Refusal.TheVariants as refusal
+use Rattle.machine_model.proofs.Refused.{first_fails}
+use Rattle.page_memory.specs.Pages.{byte_at}
+use Rattle.world_tables.specs.Commands.{with_claim}
+use Rattle.world_tables.specs.Exact.{Leads}
+use Rattle.world_tables.specs.Posting.{CanPost, posted, tail_place, with_tail_moved}
+use Rattle.world_tables.specs.Reaping.{with_state}
+use Rattle.world_tables.specs.Sending.{CanSend, Sends, asked, noted, record_of_admin, sending, sent}
+use Rattle.world_tables.specs.Tables.{Tables, state_of, device_queue_of, host_queue_of}
+use Rattle.world_tables.specs.Whole.{AreTasks, ClaimsIdentifiers, IsHonest, IsQueue, IsRecord, IsWhole, RingsStand, TellsCommand, TellsQueue, WalksStand}
+use Rattle.world_tables.specs.declared.queue.Queue.{Queue}
+use Rattle.world_tables.proofs.AdminReaped.{state-set}
+use Rattle.world_tables.proofs.Entries.{AreRinged, posted-exact, posted-part, posted-queue, posted-rings, submission_length, tail-fits, tail-in}
+use Rattle.world_tables.proofs.Forging.{pool-with_bytes}
+use Rattle.world_tables.proofs.Granting.{next-fresh}
+use Rattle.world_tables.proofs.Identifiers.{claim-more}
+use Rattle.world_tables.proofs.Lists.{all-append, map-change}
+use Rattle.world_tables.proofs.Living.{admin_live, admin_there}
+use Rattle.world_tables.proofs.Queues.{each-change, submission_page-in}
+use Rattle.world_tables.proofs.Settled.{HasBoth, Settled, rings-of, settled-of, settled-state, settled-with, whole-of}
+use Rattle.world_tables.proofs.Spared.{claims_keep_queue, claims_keep_rings, claims_keep_tells, each_claimed, linked_of, present_kept}
+use Rattle.world_tables.proofs.Steps.{history_after, length-change, on_true, open_step, sound_after}
+use Rattle.world_tables.proofs.Submitted.{live-kept}
+use Rattle.world_tables.proofs.Walks.{walks_after}
+
+-- The first of a list, and a change of it
+
+pub first-changed : {A : Type 0} (f : A → A) (xs : List A) (x : A) → slice_get xs 0 ≡ Some x → slice_get (change 0 f xs) 0 ≡ Some (f x)
+first-changed f [] x h = cc
+first-changed f (y ∷ xs) x h = ap (option_map f) h
+
+pub some-first : {A : Type 0} (xs : List A) (x : A) → slice_get xs 0 ≡ Some x → 0 < length xs
+some-first [] x h = cc
+some-first (y ∷ xs) x h = omega arith
+
+-- An identifier of queue 0 is claimed, and the command is outstanding
+
+abbrev more : ℕ → List Bool → List Bool
+more cid claimed = slice_set claimed cid true
+
+none-told : (t : Tables) (kind : AdminKind) (cid : ℕ) → TellsCommand t.owners (record_of_admin kind cid)
+none-told t kind cid = record { data_pages = λ p h. cc; chain_pages = λ p h. cc }
+
+settled-noted : (t : Tables) (kind : AdminKind) (cid : ℕ) → IsWhole t → (can : CanSend t kind cid) → Settled (noted kind cid t)
+settled-noted t kind cid w can =
+    settled-with t t.owners (change 0 (with_claim cid) t.queues) (t.records ++ record_of_admin kind cid ∷ []) (settled-of t w)
+    (record {
+      table = refl;
+      many = length-change 0 (with_claim cid) t.queues;
+      queues = record { each = each_claimed (IsQueue t.entries) (more cid) (claims_keep_queue (more cid) (λ bits. length-set bits cid true) t.entries) 0 t.queues w.queues.each };
+      identifiers = claim-more t.records t.queues (record_of_admin kind cid) w.identifiers (λ queue e.
+          let side = w.queues.each 0 queue e in
+          omega (arith, (next-fresh t w 0 cid can.queue can.at can.next).in_range, side.host_side.identifiers, side.entries));
+      owners = record {
+        queues_told = each_claimed (TellsQueue t.owners) (more cid) (claims_keep_tells (more cid) t.owners) 0 t.queues w.owners.queues_told;
+        commands_told = all-append (TellsCommand t.owners) t.records (record_of_admin kind cid) w.owners.commands_told (none-told t kind cid);
+      };
+      records = all-append (IsRecord (length t.queues)) t.records (record_of_admin kind cid) w.records (record { queue = some-first t.queues can.queue can.at; work = tt; phase = tt });
+      rings = λ on. each_claimed (RingsStand (byte_at t.pages)) (more cid) (claims_keep_rings (more cid) (byte_at t.pages)) 0 t.queues (rings-of t (settled-of t w) on);
+    })
+
+-- the machine shows no claims
+noted-state : (t : Tables) (kind : AdminKind) (cid : ℕ) → state_of (noted kind cid t) ≡ a.on_records (λ records. records ++ record_of_admin kind cid ∷ []) (state_of t)
+noted-state t kind cid =
+    ap (λ (hs : List HostQueue). shown hs (map (device_queue_of (byte_at t.pages)) (change 0 (with_claim cid) t.queues))) (map-change host_queue_of (with_claim cid) (λ x. refl) 0 t.queues)
+    ∙ ap (λ (ds : List DeviceQueue). shown (map host_queue_of t.queues) ds) (map-change (device_queue_of (byte_at t.pages)) (with_claim cid) (λ x. refl) 0 t.queues)
+  where
+    shown : List HostQueue → List DeviceQueue → State
+    shown hs ds = record (state_of t) {
+      host = record (state_of t).host { queues = hs; records = t.records ++ record_of_admin kind cid ∷ [] };
+      device = record (state_of t).device { queues = ds };
+    }
+
+-- An entry is posted
+
+-- what the entry is, as the code tells it
+pub record IsTyped (entry : SubEntry) : Type 0 where
+  pub typed : IsSubEntry entry
+  pub fits : FitsSubmission entry
+
+pub can-send : (t : Tables) (kind : AdminKind) (cid : ℕ) → IsWhole t → (can : CanSend t kind cid) → IsTyped (admin_entry kind cid)
+    → CanPost (noted kind cid t) 0 (with_claim cid can.queue) (admin_entry kind cid)
+can-send t kind cid w can is =
+    let s = settled-noted t kind cid w can in
+    let kept = live-kept can.queue.state (admin_live t w can.queue can.at) in
+    record {
+      at = first-changed (with_claim cid) t.queues can.queue can.at;
+      kept = kept;
+      room = can.room;
+      typed = is.typed;
+      fits = is.fits;
+      pool = w.pool;
+      inside = λ k l. submission_page-in t w 0 can.queue can.at kept k l;
+      queues = s.queues;
+      owners = s.owners.queues_told;
+    }
+
+ringed : (t : Tables) (kind : AdminKind) (cid : ℕ) → IsWhole t → t.trusted ≡ true → CanSend t kind cid → AreRinged (noted kind cid t)
+ringed t kind cid w on can =
+    record {
+      rings = rings-of (noted kind cid t) (settled-noted t kind cid w can) on;
+      halves = each_claimed (λ (k : ℕ) (y : Queue). is_absent y.sq ≡ false → (is_retired y.state || is_gone y.state) ≡ false) (more cid) (λ k y h. h) 0 t.queues
+          (λ k y at there. present_kept t w (linked_of t w on) k y at there);
+    }
+
+settled-posted : (u : Tables) (q : ℕ) (x : Queue) (entry : SubEntry) → Settled u → CanPost u q x entry → (u.trusted ≡ true → AreRinged u) → Settled (posted q x entry u)
+settled-posted u q x entry s post ringed =
+    let count : length (submission_bytes entry) ≡ 64 = submission_length entry post.typed in
+    let size : length (change q with_tail_moved u.queues) ≡ length u.queues = length-change q with_tail_moved u.queues in
+    record {
+      pool = pool-with_bytes u.pages (tail_place x / 4096) (tail_place x % 4096) (submission_bytes entry) (tail-in u q x entry post)
+          (subst (λ (k : ℕ). tail_place x % 4096 + k ≤ 4096) (sym count) (tail-fits x)) post.pool;
+      table = s.table ∙ sym (length-set u.pages (tail_place x / 4096) _);
+      least_entries = s.least_entries;
+      most_entries = s.most_entries;
+      least_segment = s.least_segment;
+      most_segment = s.most_segment;
+      some_queues = subst (λ (n : ℕ). 2 ≤ n) (sym size) s.some_queues;
+      few_queues = subst (λ (n : ℕ). n ≤ 65) (sym size) s.few_queues;
+      queues = record { each = each-change (IsQueue u.entries) q with_tail_moved u.queues (λ k y _ at. s.queues.each k y at) (λ y at. posted-queue u.entries q y (s.queues.each q y at)) };
+      identifiers = record { each = each-change (λ (k : ℕ) (y : Queue). ClaimsIdentifiers u.records k y.host.claimed) q with_tail_moved u.queues (λ k y _ at. s.identifiers.each k y at) (λ y at. s.identifiers.each q y at) };
+      owners = record {
+        queues_told = each-change (TellsQueue u.owners) q with_tail_moved u.queues (λ k y _ at. s.owners.queues_told k y at)
+            (λ y at. let told = s.owners.queues_told q y at in record { submission = told.submission; completion = told.completion });
+        commands_told = s.owners.commands_told;
+      };
+      records = subst (λ (n : ℕ). AllByRecursion (IsRecord n) u.records) (sym size) s.records;
+      tasks = subst (λ (n : ℕ). AreTasks (block_count u.image) n u.tasks) (sym size) s.tasks;
+      image = s.image;
+      honest = on_true u.trusted (IsHonest (posted q x entry u)) (λ on. record { rings = posted-rings u q x entry post (ringed on) });
+    }
+
+settled-sent : (t : Tables) (kind : AdminKind) (cid : ℕ) → IsWhole t → (can : CanSend t kind cid) → IsTyped (admin_entry kind cid) → Settled (sent kind cid can.queue t)
+settled-sent t kind cid w can is =
+    settled-posted (noted kind cid t) 0 (with_claim cid can.queue) (admin_entry kind cid) (settled-noted t kind cid w can) (can-send t kind cid w can is) (λ on. ringed t kind cid w on can)
+
+-- the machine's state
+
+abbrev sent_in : AdminKind → ℕ → State → State
+sent_in kind cid s = a.sent kind cid (admin_entry kind cid) s
+
+abbrev with_device : Device → State → State
+with_device d s = record s { device = d }
+
+sent-part : (t : Tables) (kind : AdminKind) (cid : ℕ) → IsWhole t → (can : CanSend t kind cid) → IsTyped (admin_entry kind cid)
+    → state_of (sent kind cid can.queue t) ≡ with_device (state_of (sent kind cid can.queue t)).device (sent_in kind cid (state_of t))
+sent-part t kind cid w can is =
+    posted-part (noted kind cid t) 0 (with_claim cid can.queue) (admin_entry kind cid) (can-send t kind cid w can is)
+    ∙ ap (λ (s : State). with_device (state_of (sent kind cid can.queue t)).device (a.posted 0 (admin_entry kind cid) s)) (noted-state t kind cid)
+
+sent-exact : (t : Tables) (kind : AdminKind) (cid : ℕ) → IsWhole t → (can : CanSend t kind cid) → IsTyped (admin_entry kind cid) → t.trusted ≡ true
+    → state_of (sent kind cid can.queue t) ≡ sent_in kind cid (state_of t)
+sent-exact t kind cid w can is on =
+    posted-exact (noted kind cid t) 0 (with_claim cid can.queue) (admin_entry kind cid) (can-send t kind cid w can is) (ringed t kind cid w on can) (admin_there t w on can.queue can.at)
+    ∙ ap (a.posted 0 (admin_entry kind cid)) (noted-state t kind cid)
+
+-- The queue that it names
+
+-- what a command leans on: a queue that it deletes has both halves
+abbrev AsksOf : AdminKind → Tables → Type 0
+AsksOf (Abort q cid) u = Unit {0}
+AsksOf (DeleteSq q) u = (x : Queue) → slice_get u.queues q ≡ Some x → HasBoth x.state
+AsksOf (DeleteCq q) u = Unit {0}
+
+has-both : (t : Tables) (q : ℕ) → refusal_of (state_of t) (events.DeleteSq q) ≡ None → (x : Queue) → slice_get t.queues q ≡ Some x → HasBoth x.state
+has-both t q none x at = record { retired = at_state is_retired (or_parts ((q == 0) || is_none (host_queue s q)) (in_state is_retired s q) both.0).1; gone = at_state is_gone both.1 }
+  where
+    s : State
+    s = state_of t
+
+    both : (((q == 0) || is_none (host_queue s q) || in_state is_retired s q) ≡ false) × (in_state is_gone s q ≡ false)
+    both =
+        or_parts ((q == 0) || is_none (host_queue s q) || in_state is_retired s q) (in_state is_gone s q)
+        (first_fails (no_io_queue s q) refusal.NoQueue ((in_state is_deleting s q, refusal.WrongState) ∷ (no_identifier s 0, refusal.NoIdentifier) ∷ (queue_full s 0, refusal.QueueFull) ∷ []) none)
+
+    at_state : (test : HostState → Bool) → in_state test s q ≡ false → test x.state ≡ false
+    at_state test h =
+        sym (ap (λ (o : Option HostQueue). option_map_or (λ (queue : HostQueue). test queue.state) o false) (slice_get-map host_queue_of t.queues q ∙ ap (option_map host_queue_of) at)) ∙ h
+
+-- the state of a queue stays with other claims, and with another tail
+asks-sent : (t : Tables) (kind : AdminKind) (cid : ℕ) (x : Queue) → refusal_of (state_of t) (sending kind) ≡ None → AsksOf kind (sent kind cid x t)
+asks-sent t (Abort q c) cid x none = tt
+asks-sent t (DeleteSq q) cid x none =
+    λ y at. each-change (λ (k : ℕ) (z : Queue). q ≡ k → HasBoth z.state) 0 with_tail_moved (change 0 (with_claim cid) t.queues) (λ k z _ at'. claimed k z at') (λ z at'. claimed 0 z at') q y at refl
+  where
+    claimed : (k : ℕ) (z : Queue) → slice_get (change 0 (with_claim cid) t.queues) k ≡ Some z → q ≡ k → HasBoth z.state
+    claimed = each_claimed (λ (k : ℕ) (z : Queue). q ≡ k → HasBoth z.state) (more cid) (λ k z h. h) 0 t.queues
+        (λ k z at same. has-both t q none z (subst (λ (i : ℕ). slice_get t.queues i ≡ Some z) (sym same) at))
+asks-sent t (DeleteCq q) cid x none = tt
+
+asked_in : AdminKind → State → State
+asked_in (Abort q cid) s = s
+asked_in (DeleteSq q) s = a.on_host_queue q a.deleting s
+asked_in (DeleteCq q) s = s
+
+asked-state : (u : Tables) (kind : AdminKind) → AsksOf kind u → state_of (asked kind u) ≡ asked_in kind (state_of u)
+unfolding asked_in
+asked-state u (Abort q cid) h = refl
+asked-state u (DeleteSq q) h = state-set u q (Deleting false) (record { retired = refl; gone = refl }) h
+asked-state u (DeleteCq q) h = refl
+
+asked-device : (kind : AdminKind) (d : Device) (s : State) → asked_in kind (with_device d s) ≡ with_device d (asked_in kind s)
+unfolding asked_in
+asked-device (Abort q cid) d s = refl
+asked-device (DeleteSq q) d s = refl
+asked-device (DeleteCq q) d s = refl
+
+settled-asked : (u : Tables) (kind : AdminKind) → Settled u → AsksOf kind u → Settled (asked kind u)
+settled-asked u (Abort q cid) s h = s
+settled-asked u (DeleteSq q) s h = settled-state u q (Deleting false) s (record { retired = refl; gone = refl }) h
+settled-asked u (DeleteCq q) s h = s
+
+-- The machine's step
+
+send-after : (s : State) (kind : AdminKind) (cid : ℕ) → a.after s (sending kind) (events.Sent cid) ≡ asked_in kind (sent_in kind cid s)
+unfolding asked_in
+send-after s (Abort q c) cid = refl
+send-after s (DeleteSq q) cid = refl
+send-after s (DeleteCq q) cid = refl
+
+send-answers : (s : State) (kind : AdminKind) (cid : ℕ) → IsNewIdentifier s 0 cid → Answers s (sending kind) (events.Sent cid)
+send-answers s (Abort q c) cid h = h
+send-answers s (DeleteSq q) cid h = h
+send-answers s (DeleteCq q) cid h = h
+
+is-hosts : (kind : AdminKind) → IsController (sending kind) ≡ false
+is-hosts (Abort q cid) = refl
+is-hosts (DeleteSq q) = refl
+is-hosts (DeleteCq q) = refl
+
+no-forging : (kind : AdminKind) → forges (sending kind) ≡ false
+no-forging (Abort q cid) = refl
+no-forging (DeleteSq q) = refl
+no-forging (DeleteCq q) = refl
+
+is-proper : (kind : AdminKind) → IsProper (sending kind)
+is-proper (Abort q cid) = tt
+is-proper (DeleteSq q) = tt
+is-proper (DeleteCq q) = tt
+
+asked-image : (u : Tables) (kind : AdminKind) → (asked kind u).image ≡ u.image
+asked-image u (Abort q cid) = refl
+asked-image u (DeleteSq q) = refl
+asked-image u (DeleteCq q) = refl
+
+asked-many : (u : Tables) (kind : AdminKind) → length (asked kind u).queues ≡ length u.queues
+asked-many u (Abort q cid) = refl
+asked-many u (DeleteSq q) = length-change q (with_state (Deleting false)) u.queues
+asked-many u (DeleteCq q) = refl
+
+send-part : (t : Tables) (kind : AdminKind) (cid : ℕ) → IsWhole t → (can : CanSend t kind cid) → IsTyped (admin_entry kind cid)
+    → state_of (asked kind (sent kind cid can.queue t)) ≡ with_device (state_of (sent kind cid can.queue t)).device (a.after (state_of t) (sending kind) (events.Sent cid))
+send-part t kind cid w can is =
+    let d : Device = (state_of (sent kind cid can.queue t)).device in
+    asked-state (sent kind cid can.queue t) kind (asks-sent t kind cid can.queue can.none)
+    ∙ (ap (asked_in kind) (sent-part t kind cid w can is)
+    ∙ (asked-device kind d (sent_in kind cid (state_of t)) ∙ ap (with_device d) (sym (send-after (state_of t) kind cid))))
+
+send-exact : (t : Tables) (kind : AdminKind) (cid : ℕ) → IsWhole t → (can : CanSend t kind cid) → IsTyped (admin_entry kind cid) → t.trusted ≡ true
+    → state_of (asked kind (sent kind cid can.queue t)) ≡ a.after (state_of t) (sending kind) (events.Sent cid)
+send-exact t kind cid w can is on =
+    asked-state (sent kind cid can.queue t) kind (asks-sent t kind cid can.queue can.none)
+    ∙ (ap (asked_in kind) (sent-exact t kind cid w can is on) ∙ sym (send-after (state_of t) kind cid))
+
+send-keeps : (t : Tables) (kind : AdminKind) (cid : ℕ) (x : Queue) → KeepsDevice (state_of t) (state_of (asked kind (sent kind cid x t)))
+send-keeps t kind cid x =
+    let u : Tables = sent kind cid x t in
+    record {
+      image = ap length (asked-image u kind);
+      queues = length-map (asked kind u).queues (device_queue_of (byte_at (asked kind u).pages))
+          ∙ (asked-many u kind
+          ∙ (length-change 0 with_tail_moved (change 0 (with_claim cid) t.queues)
+          ∙ (length-change 0 (with_claim cid) t.queues ∙ sym (length-map t.queues (device_queue_of (byte_at t.pages))))));
+    }
+
+and-right : (b c : Bool) → (not b && c) ≡ true → c ≡ true
+and-right true c h = cc
+and-right false c h = h
+
+pub send-leads : (t : Tables) (kind : AdminKind) (cid : ℕ) → IsWhole t → (can : CanSend t kind cid) → IsTyped (admin_entry kind cid)
+    → Leads (state_of t) (sending kind) (events.Sent cid) (state_of (asked kind (sent kind cid can.queue t)))
+send-leads t kind cid w can is =
+    let new : State = state_of (asked kind (sent kind cid can.queue t)) in
+    let part = send-part t kind cid w can is in
+    let has : new.device ≡ (state_of (sent kind cid can.queue t)).device = ap (λ (s : State). s.device) part in (
+      can.none,
+      send-answers (state_of t) kind cid (next-fresh t w 0 cid can.queue can.at can.next),
+      part ∙ ap (λ (d : Device). with_device d (a.after (state_of t) (sending kind) (events.Sent cid))) (sym has),
+      send-keeps t kind cid can.queue,
+      λ on. send-exact t kind cid w can is (and-right (forges (sending kind)) t.trusted on),
+    )
+
+-- what is asked leaves the memory and the tasks alone
+asked-walks : (u : Tables) (kind : AdminKind) → OnTrue u.trusted (WalksStand (memory_of (asked kind u).pages) u.tasks)
+    → OnTrue (asked kind u).trusted (WalksStand (memory_of (asked kind u).pages) (asked kind u).tasks)
+asked-walks u (Abort q cid) h = h
+asked-walks u (DeleteSq q) h = h
+asked-walks u (DeleteCq q) h = h
+
+-- What a sending makes of a whole world: a step of the machine, and a whole world.
+pub record SendsTo (t : Tables) (kind : AdminKind) (cid : ℕ) (new : Tables) : Type 0 where
+  pub step : Step (state_of t) (sending kind) (events.Sent cid) (state_of new)
+  pub whole : IsWhole new
+
+send-made : (t : Tables) (kind : AdminKind) (cid : ℕ) → IsWhole t → (can : CanSend t kind cid) → IsTyped (admin_entry kind cid) → SendsTo t kind cid (asked kind (sent kind cid can.queue t))
+send-made t kind cid w can is =
+    let u : Tables = sent kind cid can.queue t in
+    let step : Step (state_of t) (sending kind) (events.Sent cid) (state_of (asked kind u)) =
+    open_step (state_of t) (sending kind) (events.Sent cid) (state_of (asked kind u)) (is-hosts kind) (is-proper kind) (send-leads t kind cid w can is) in
+    record {
+      step = step;
+      whole = whole-of (asked kind u) (settled-asked u kind (settled-sent t kind cid w can is) (asks-sent t kind cid can.queue can.none))
+          (sound_after (state_of t) (sending kind) (events.Sent cid) (state_of (asked kind u)) step w.sound)
+          (history_after (state_of t) (sending kind) (events.Sent cid) (state_of (asked kind u)) step w.history)
+          (asked-walks u kind (walks_after t (sending kind) (events.Sent cid) (state_of (asked kind u)) w step));
+    }
+
+pub send_made : (t mid new : Tables) (kind : AdminKind) (cid : ℕ) → IsWhole t → CanSend t kind cid → IsTyped (admin_entry kind cid) → mid ≡ t → Sends mid kind cid new → SendsTo t kind cid new
+send_made t mid new kind cid w can is same sends =
+    let left : new ≡ asked kind (sent kind cid can.queue t) = subst (λ (m : Tables). Sends m kind cid new) same sends can.queue can.at in
+    subst (λ (y : Tables). SendsTo t kind cid y) (sym left) (send-made t kind cid w can is)

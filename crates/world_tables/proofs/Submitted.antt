@@ -1,0 +1,217 @@
+-- A submitted draft on the tables is the machine's, and leaves them whole.
+use Rattle.std.proofs.Common.{◌≡◌, ℕ, ◌+◌, ◌/◌, ◌%◌, ◌<◌, ◌≤◌, ◌||◌, ◌++◌, ◌∷◌, [], Bool, true, false, not, Option, Some, None, IsSome, is_none, List, length, refl, ap, sym, ◌∙◌, subst, length-set}
+use Rattle.std.specs.List.{AllByRecursion}
+use Rattle.std.specs.Option.{option_map_or}
+use Rattle.std.proofs.lemmas.Bool.{true≢false}
+use Rattle.std.proofs.lemmas.List.{length-map}
+use Rattle.admin_commands.specs.Verdicts.{is_absent}
+use Rattle.block_image.specs.Blocks.{block_count}
+use Rattle.entry_codec.specs.Submission.{submission_bytes}
+use Rattle.entry_codec.specs.declared.submission.SubEntry.{SubEntry}
+use Rattle.io_commands.specs.Drafts.{DraftContents}
+use Rattle.io_commands.specs.Values.{numbers_of}
+use Rattle.machine_model.specs.After as a
+use Rattle.machine_model.specs.After.{change, after_submit}
+use Rattle.machine_model.specs.Events as events
+use Rattle.machine_model.specs.Memory.{with_pages}
+use Rattle.machine_model.specs.Proper.{IsProperDraft}
+use Rattle.machine_model.specs.Refusals.{refusal_of, host_queue, is_drafted, is_of, is_retired, is_gone, is_live, in_state, queue_full, record_is, slot_page, slot_offset}
+use Rattle.machine_model.specs.State.{State, Device, HostQueue, DeviceQueue, Record, is_at, pages_of, with_record}
+use Rattle.machine_model.specs.declared.words.HostState.{HostState}
+use Rattle.machine_model.specs.declared.words.HostState.TheVariants.{Live, Deleting, Retired, Gone}
+use Rattle.machine_model.specs.declared.words.Work.{Work}
+use Rattle.machine_model.specs.declared.words.Work.TheVariants.{Io, Management}
+use Rattle.machine_model.specs.declared.words.Refusal.TheVariants as refusal
+use Rattle.machine_model.proofs.Counting.{held_once}
+use Rattle.machine_model.proofs.Parts.{length-with_pages}
+use Rattle.machine_model.proofs.Refused.{first_fails, found_all}
+use Rattle.page_ledger.specs.Owners.{is_among, owner_at}
+use Rattle.page_ledger.specs.declared.owner.Owner.TheVariants.{Queue as OfQueue, Command}
+use Rattle.page_memory.specs.Pages.{byte_at, with_page_bytes}
+use Rattle.page_memory.specs.declared.page.Half.{Half}
+use Rattle.page_memory.specs.declared.page.Half.TheVariants.{Submission}
+use Rattle.queue_pair.specs.Memory.{half_pages}
+use Rattle.queue_pair.specs.Rings.{next_tail}
+use Rattle.world_tables.specs.Posting.{with_tail_moved, tail_place, CanPost}
+use Rattle.world_tables.specs.Exact.{Leads}
+use Rattle.world_tables.specs.Submitting.{brought_in, submitted, CanSubmit}
+use Rattle.world_tables.specs.Tables.{Tables, state_of, device_queue_of}
+use Rattle.world_tables.specs.Whole.{IsWhole, IsHonest, IsQueue, IsRecord, AreTasks, ClaimsIdentifiers, TellsCommand, TellsQueue, FitsWork}
+use Rattle.world_tables.specs.declared.queue.Queue.{Queue}
+use Rattle.world_tables.specs.Commands.{Brings}
+use Rattle.world_tables.proofs.Ending.{cancel_brings, joined-pages}
+use Rattle.world_tables.proofs.Entries.{AreRinged, posted-part, posted-exact, posted-rings, posted-queue, tail-in, tail-fits, submission_length}
+use Rattle.world_tables.proofs.Forging.{pool-with_bytes}
+use Rattle.world_tables.proofs.Lists.{all-from, some_is}
+use Rattle.world_tables.proofs.Owners.{command-owner}
+use Rattle.world_tables.proofs.Pages.{pool-with, with-other}
+use Rattle.world_tables.proofs.Queues.{each-change, submission-owner, submission_page-in}
+use Rattle.world_tables.proofs.Records.{Marks, marked-claims, marked-records, marked-tells}
+use Rattle.world_tables.proofs.Spared.{Spares, device_queues_stay, honest_of, linked_of, present_kept, rings_stay}
+use Rattle.world_tables.proofs.Steps.{open_step, sound_after, history_after, length-change, on_true}
+use Rattle.world_tables.proofs.Walks.{walks_after}
+
+pub live-kept : (s : HostState) → is_live s ≡ true → (is_retired s || is_gone s) ≡ false
+live-kept Live h = refl
+live-kept (Deleting noted) h = refl
+live-kept Retired h = cc
+live-kept Gone h = cc
+
+brings : (t : Tables) (d : DraftContents) (x : Queue) (entry : SubEntry) → CanSubmit t d x entry → Brings t d.q d.cid (d.data_pages ++ d.chain_pages)
+brings t d x entry c = cancel_brings t d (cancel (not (record_is (is_of is_drafted d.request (numbers_of d.data_pages) (numbers_of d.chain_pages)) (state_of t) d.q d.cid)) refl)
+  where
+    cancel : (b : Bool) → not (record_is (is_of is_drafted d.request (numbers_of d.data_pages) (numbers_of d.chain_pages)) (state_of t) d.q d.cid) ≡ b → refusal_of (state_of t) (events.Cancel d) ≡ None
+    cancel false e = rw e refl
+    cancel true e = absurd (true≢false (sym e ∙ first_fails _ refusal.Stranger
+        ((is_none d.entry, refusal.NotBuilt) ∷ (not (in_state is_live (state_of t) d.q), refusal.QueueGone) ∷ (queue_full (state_of t) d.q, refusal.QueueFull) ∷ []) c.none))
+
+spares : (t : Tables) (d : DraftContents) (x : Queue) (entry : SubEntry) → IsWhole t → CanSubmit t d x entry → Spares t (brought_in d t).pages
+spares t d x entry whole c = record { same = λ k half p at. with-other (d.data_pages ++ d.chain_pages) t.pages p (other k half p at (is_among (numbers_of (d.data_pages ++ d.chain_pages)) p) refl) }
+  where
+    b : Brings t d.q d.cid (d.data_pages ++ d.chain_pages)
+    b = brings t d x entry c
+
+    mine : TellsCommand t.owners b.entry
+    mine = found_all (TellsCommand t.owners) (is_at d.q d.cid) t.records b.entry b.was whole.owners.commands_told
+
+    other : (k : ℕ) (half : Half) (p : ℕ) → owner_at t.owners p ≡ Some (OfQueue k half) → (f : Bool) → is_among (numbers_of (d.data_pages ++ d.chain_pages)) p ≡ f → f ≡ false
+    other k half p at false e = refl
+    other k half p at true e =
+        let o = command-owner t.owners b.entry mine p (held_once p (pages_of b.entry) (ap (λ (ps : List ℕ). is_among ps p) (sym b.numbers) ∙ e)) in
+        let same : OfQueue k half ≡ Command b.entry.q b.entry.cid o.0 = some_is (sym at ∙ o.1) in
+        absurd cc
+
+are-pages : (d : DraftContents) → IsProperDraft d → AllByRecursion (λ (page : ℕ × List ℕ). length page.1 ≡ 4096) (d.data_pages ++ d.chain_pages)
+are-pages d proper =
+    all-from (λ (page : ℕ × List ℕ). length page.1 ≡ 4096) (d.data_pages ++ d.chain_pages) (joined-pages d.data_pages d.chain_pages proper.data_pages proper.chain_pages)
+
+-- the entry can be posted behind the pages
+pub can-post : (t : Tables) (d : DraftContents) (x : Queue) (entry : SubEntry) → IsWhole t → CanSubmit t d x entry → CanPost (brought_in d t) d.q x entry
+can-post t d x entry whole c =
+    let kept = live-kept x.state c.live in
+    let spared = spares t d x entry whole c in
+    record {
+      at = c.at;
+      kept = kept;
+      room = c.room;
+      typed = c.typed;
+      fits = c.fits;
+      pool = pool-with (d.data_pages ++ d.chain_pages) t.pages (are-pages d c.proper) whole.pool;
+      inside = λ k l. subst (λ (o : Option (List ℕ)). IsSome o) (sym (spared.same d.q Submission (x.host.sq + k) (own k l))) (submission_page-in t whole d.q x c.at kept k l);
+      queues = whole.queues;
+      owners = whole.owners.queues_told;
+    }
+  where
+    own : (k : ℕ) → k < half_pages x.host.entries Submission → owner_at t.owners (x.host.sq + k) ≡ Some (OfQueue d.q Submission)
+    own k l = submission-owner t whole d.q x c.at (live-kept x.state c.live) k l
+
+ringed : (t : Tables) (d : DraftContents) (x : Queue) (entry : SubEntry) → IsWhole t → t.trusted ≡ true → CanSubmit t d x entry → AreRinged (brought_in d t)
+ringed t d x entry whole on c =
+    record {
+      rings = λ k y at. rings_stay t (brought_in d t).pages (spares t d x entry whole c) k y (whole.queues.each k y at) (whole.owners.queues_told k y at) ((honest_of t whole on).rings k y at);
+      halves = λ k y at there. present_kept t whole (linked_of t whole on) k y at there;
+    }
+
+-- The state
+
+-- the machine's state with the pages in and the record marked
+abbrev in_state_of : DraftContents → State → State
+in_state_of d s = a.on_records (with_record d.q d.cid a.submitted) (a.on_memory (with_pages (d.data_pages ++ d.chain_pages)) s)
+
+-- what is posted at the host does not depend on the controller's part
+abbrev writing : ℕ → SubEntry → State → HostQueue → State
+writing q entry s queue = a.on_memory (λ m. with_page_bytes m (slot_page queue.sq_pages 64 queue.ring.tail) (slot_offset 64 queue.ring.tail) (submission_bytes entry)) s
+
+abbrev posting : ℕ → SubEntry → State → Option HostQueue → State
+posting q entry s o = a.on_ring q (next_tail s.entries) (a.on_device_queue q (λ at. record at { unfetched = at.unfetched ++ entry ∷ [] }) (option_map_or (writing q entry s) o s))
+
+blind-at : (q : ℕ) (entry : SubEntry) (s : State) (d e : Device) (o : Option HostQueue) → record (posting q entry (record s { device = d }) o) { device = e } ≡ record (posting q entry s o) { device = e }
+blind-at q entry s d e None = refl
+blind-at q entry s d e (Some y) = refl
+
+blind : (q : ℕ) (entry : SubEntry) (s : State) (d e : Device) → record (a.posted q entry (record s { device = d })) { device = e } ≡ record (a.posted q entry s) { device = e }
+blind q entry s d e = blind-at q entry s d e (host_queue s q)
+
+submit-after : (t : Tables) (d : DraftContents) (x : Queue) (entry : SubEntry) → CanSubmit t d x entry → after_submit d (state_of t) ≡ a.posted d.q entry (in_state_of d (state_of t))
+submit-after t d x entry c = ap (λ (o : Option SubEntry). option_map_or (λ e. a.posted d.q e (in_state_of d (state_of t))) o (state_of t)) c.built
+
+submit-part : (t : Tables) (d : DraftContents) (x : Queue) (entry : SubEntry) → IsWhole t → CanSubmit t d x entry
+    → state_of (submitted d x entry t) ≡ record (after_submit d (state_of t)) { device = (state_of (submitted d x entry t)).device }
+submit-part t d x entry whole c =
+    posted-part (brought_in d t) d.q x entry (can-post t d x entry whole c)
+    ∙ (blind d.q entry (in_state_of d (state_of t)) (state_of (brought_in d t)).device (state_of (submitted d x entry t)).device
+    ∙ ap (λ (s : State). record s { device = (state_of (submitted d x entry t)).device }) (sym (submit-after t d x entry c)))
+
+-- where nothing was forged, and the controller has the queue
+submit-exact : (t : Tables) (d : DraftContents) (x : Queue) (entry : SubEntry) → IsWhole t → CanSubmit t d x entry → is_absent x.sq ≡ false → t.trusted ≡ true
+    → state_of (submitted d x entry t) ≡ after_submit d (state_of t)
+submit-exact t d x entry whole c there on =
+    posted-exact (brought_in d t) d.q x entry (can-post t d x entry whole c) (ringed t d x entry whole on c) there
+    ∙ (ap (λ (ds : List DeviceQueue). a.posted d.q entry (record (in_state_of d (state_of t)) { device = record (state_of t).device { queues = ds } }))
+    (device_queues_stay t (brought_in d t).pages whole on (spares t d x entry whole c))
+    ∙ sym (submit-after t d x entry c))
+
+-- A submission on the tables is the machine's, where the controller has each live queue of a world in which nothing was forged.
+pub submit-leads : (t : Tables) (d : DraftContents) (x : Queue) (entry : SubEntry) → IsWhole t → CanSubmit t d x entry → (t.trusted ≡ true → is_absent x.sq ≡ false)
+    → Leads (state_of t) (events.Submit d) events.Accepted (state_of (submitted d x entry t))
+submit-leads t d x entry whole c there = (
+  c.none,
+  tt,
+  submit-part t d x entry whole c,
+  record {
+    image = refl;
+    queues = length-map (change d.q with_tail_moved t.queues) (device_queue_of (byte_at (submitted d x entry t).pages))
+        ∙ (length-change d.q with_tail_moved t.queues ∙ sym (length-map t.queues (device_queue_of (byte_at t.pages))));
+  },
+  λ on. submit-exact t d x entry whole c (there on) on,
+)
+
+-- What holds between calls
+
+marks-submitted : Marks a.submitted
+marks-submitted =
+    record {
+      at = λ q cid r. refl;
+      tells = λ owners r h. record { data_pages = h.data_pages; chain_pages = h.chain_pages };
+    }
+
+submitted-fits : (n : ℕ) (r : Record) → IsRecord n r → IsRecord n (a.submitted r)
+submitted-fits n r h = record { queue = h.queue; work = still r.work r h.work; phase = tt }
+  where
+    still : (w : Work) (r : Record) → FitsWork w r → FitsWork w (a.submitted r)
+    still (Io request) r h = h
+    still (Management kind) r h = tt
+
+pub submit-whole : (t : Tables) (d : DraftContents) (x : Queue) (entry : SubEntry) → IsWhole t → CanSubmit t d x entry → (t.trusted ≡ true → is_absent x.sq ≡ false) → IsWhole (submitted d x entry t)
+submit-whole t d x entry w c there =
+    let new : Tables = submitted d x entry t in
+    let step = open_step (state_of t) (events.Submit d) events.Accepted (state_of new) refl c.proper (submit-leads t d x entry w c there) in
+    let post = can-post t d x entry w c in
+    let count : length (submission_bytes entry) ≡ 64 = submission_length entry c.typed in
+    let size : length (change d.q with_tail_moved t.queues) ≡ length t.queues = length-change d.q with_tail_moved t.queues in
+    let claims = marked-claims a.submitted marks-submitted t.records t.queues d.q d.cid w.identifiers in
+    record {
+      sound = sound_after (state_of t) (events.Submit d) events.Accepted (state_of new) step w.sound;
+      pool = pool-with_bytes (brought_in d t).pages (tail_place x / 4096) (tail_place x % 4096) (submission_bytes entry) (tail-in (brought_in d t) d.q x entry post)
+          (subst (λ (k : ℕ). tail_place x % 4096 + k ≤ 4096) (sym count) (tail-fits x)) post.pool;
+      table = w.table ∙ sym (length-set (brought_in d t).pages (tail_place x / 4096) _ ∙ length-with_pages (d.data_pages ++ d.chain_pages) t.pages);
+      least_entries = w.least_entries;
+      most_entries = w.most_entries;
+      least_segment = w.least_segment;
+      most_segment = w.most_segment;
+      some_queues = subst (λ (n : ℕ). 2 ≤ n) (sym size) w.some_queues;
+      few_queues = subst (λ (n : ℕ). n ≤ 65) (sym size) w.few_queues;
+      queues = record { each = each-change (IsQueue t.entries) d.q with_tail_moved t.queues (λ k y _ at. w.queues.each k y at) (λ y at. posted-queue t.entries d.q y (w.queues.each d.q y at)) };
+      identifiers = record { each = each-change (λ (k : ℕ) (y : Queue). ClaimsIdentifiers (with_record d.q d.cid a.submitted t.records) k y.host.claimed) d.q with_tail_moved t.queues (λ k y _ at. claims.each k y at) (λ y at. claims.each d.q y at) };
+      owners = record {
+        queues_told = each-change (TellsQueue t.owners) d.q with_tail_moved t.queues (λ k y _ at. w.owners.queues_told k y at)
+            (λ y at. let told = w.owners.queues_told d.q y at in record { submission = told.submission; completion = told.completion });
+        commands_told = marked-tells a.submitted marks-submitted t.owners t.records d.q d.cid w.owners.commands_told;
+      };
+      records = subst (λ (n : ℕ). AllByRecursion (IsRecord n) (with_record d.q d.cid a.submitted t.records)) (sym size) (marked-records a.submitted (length t.queues) t.records d.q d.cid (λ r _ fits. submitted-fits (length t.queues) r fits) w.records);
+      tasks = subst (λ (n : ℕ). AreTasks (block_count t.image) n t.tasks) (sym size) w.tasks;
+      image = w.image;
+      honest = on_true t.trusted (IsHonest new) (λ on. record { rings = posted-rings (brought_in d t) d.q x entry post (ringed t d x entry w on c) });
+      walks = walks_after t (events.Submit d) events.Accepted (state_of new) w step;
+      history = history_after (state_of t) (events.Submit d) events.Accepted (state_of new) step w.history;
+    }

@@ -1,0 +1,17 @@
+pub mod Tables
+pub mod Whole
+pub mod Exact
+pub mod Opening
+pub mod Ringing
+pub mod Forging
+pub mod Commands
+pub mod Posting
+pub mod Collecting
+pub mod Submitting
+pub mod Reaping
+pub mod Retiring
+pub mod Serving
+pub mod Fetching
+pub mod Walking
+pub mod Touching
+pub mod Sending

@@ -1,0 +1,20 @@
+-- The host rings: the controller hears a queue's tail.
+use Rattle.std.specs.Prelude.{ℕ, Bool, ◌||◌, Option, false, is_none}
+use Rattle.std.specs.Option.{option_map_or}
+use Rattle.machine_model.specs.After.{change}
+use Rattle.machine_model.specs.Refusals.{is_retired, is_gone}
+use Rattle.queue_pair.specs.Rings.{hearing_tail}
+use Rattle.world_tables.specs.Tables.{Tables}
+use Rattle.world_tables.specs.declared.queue.Queue.{Queue}
+
+-- a queue whose controller heard the host's tail
+abbrev pub with_tail_heard : Queue → Queue
+with_tail_heard queue = record queue { device = record queue.device { ring = hearing_tail queue.host.ring.tail queue.device.ring } }
+
+-- the tables once the tail of a queue was heard
+abbrev pub rung : ℕ → Tables → Tables
+rung q t = record t { queues = change q with_tail_heard t.queues }
+
+-- no queue of a number has a submission half
+abbrev pub lacks_submission : Option Queue → Bool
+lacks_submission o = is_none o || option_map_or (λ queue. is_retired queue.state) o false || option_map_or (λ queue. is_gone queue.state) o false
