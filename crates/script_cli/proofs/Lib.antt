@@ -1,3 +1,5 @@
 pub mod Cuts
 pub mod Digits
+pub mod Inputs
 pub mod Reading
+pub mod Runs

@@ -1,9 +1,12 @@
+pub mod Faults
 pub mod Grammar
+pub mod Inputs
 pub mod Lines
 pub mod Numbers
 pub mod Owners
 pub mod Pieces
 pub mod Replies
+pub mod Runs
 pub mod Scripts
 pub mod Verbs
 pub mod Worked

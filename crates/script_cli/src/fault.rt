@@ -1,5 +1,10 @@
-//! The faults of a script.
+//! The faults of a script, and of its run.
 
+ghost use Rattle.std.specs.Prelude.{◌≡◌};
+ghost use Rattle.script_cli.specs.Faults.{fault_of_script, fault_of_opening, status_of_run};
+
+use std::alloc::AllocError;
+use step_core::OpenRefusal;
 use thiserror::Error;
 
 /// Why a line of a script is at fault, in the order in which faults are looked for.
@@ -54,4 +59,86 @@ pub enum ScriptFault {
     /// Memory was refused.
     #[error("memory")]
     Memory,
+}
+
+/// Why a run of a script ended early.
+#[derive(Clone, Copy, Debug, PartialEq, Eq, Error)]
+pub enum RunFault {
+    /// The first line of the script that is at fault.
+    #[error("line {number}: {fault}")]
+    Line {
+        /// The line's number, from 1.
+        number: u32,
+        /// Its first fault.
+        fault: LineFault,
+    },
+    /// The script has more than 1,048,576 bytes.
+    #[error("script: too long")]
+    TooLong,
+    /// A read of the script failed.
+    #[error("script: unreadable")]
+    Unreadable,
+    /// A number of the configuration lies outside its limits.
+    #[error("open: BadConfig")]
+    BadConfig,
+    /// The pool has too few pages for the halves of all queues.
+    #[error("open: NoPages need {need} free {free}")]
+    NoPages {
+        /// How many are needed.
+        need: u32,
+        /// How many the pool has.
+        free: u32,
+    },
+    /// Memory was refused, and not inside a step.
+    #[error("memory")]
+    Memory,
+    /// A write failed. After it nothing more was written.
+    #[error("output failed")]
+    OutputFailed,
+}
+
+impl RunFault {
+    /// The exit status that a program ends with.
+    pub fn exit_status(self) -> u8
+        ensures { result ≡ status_of_run self }
+    {
+        match self {
+            RunFault::Line { .. } | RunFault::TooLong | RunFault::Unreadable => 1,
+            RunFault::BadConfig | RunFault::NoPages { .. } => 2,
+            RunFault::Memory | RunFault::OutputFailed => 3,
+        }
+    }
+}
+
+impl From<AllocError> for RunFault {
+    ghost use Rattle.script_cli.specs.declared.fault.RunFault.{RunFault};
+    ghost use Rattle.std.specs.Prelude.{◌≡◌};
+
+    ghost from_gives = { λ _ fault. fault ≡ RunFault.Memory };
+
+    fn from(_fault: AllocError) -> Self {
+        RunFault::Memory
+    }
+}
+
+/// The fault of a run whose script is at fault.
+pub(crate) fn script_at_fault(why: ScriptFault) -> RunFault
+    ensures { result ≡ fault_of_script why }
+{
+    match why {
+        ScriptFault::TooLong => RunFault::TooLong,
+        ScriptFault::Line { number, fault } => RunFault::Line { number, fault },
+        ScriptFault::Memory => RunFault::Memory,
+    }
+}
+
+/// The fault of a run whose world was not opened.
+pub(crate) fn not_opened(why: OpenRefusal) -> RunFault
+    ensures { result ≡ fault_of_opening why }
+{
+    match why {
+        OpenRefusal::BadConfig => RunFault::BadConfig,
+        OpenRefusal::NoPages { need, free } => RunFault::NoPages { need, free },
+        OpenRefusal::Memory => RunFault::Memory,
+    }
 }

@@ -10,9 +10,14 @@
 
 mod fault;
 mod grammar;
+mod input;
 mod lines;
+mod output;
 mod owners;
 mod reply;
+mod run;
+#[cfg(test)]
+mod run_tests;
 mod script;
 #[cfg(test)]
 mod tests;
@@ -22,8 +27,10 @@ mod words;
 pub mod worked;
 pub mod worked_replies;
 
-pub use fault::{LineFault, ScriptFault};
+pub use fault::{LineFault, RunFault, ScriptFault};
+pub use input::{ImageFault, read_image};
 pub use owners::{append_counts, append_owners};
 pub use reply::append_reply;
+pub use run::run_steps;
 pub use script::{Line, Numbered, Script, read_script};
 pub use verb::{CommandVerb, QueueVerb, Verb};

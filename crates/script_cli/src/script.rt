@@ -11,7 +11,7 @@ use std::marker::Model;
 use step_core::Step;
 
 /// The most bytes of a script.
-const MAX_SCRIPT: usize = 1_048_576;
+pub(crate) const MAX_SCRIPT: usize = 1_048_576;
 
 /// The most lines of a script.
 const MAX_LINES: u32 = 65_536;

@@ -1,0 +1,104 @@
+-- What a run of a script prints, and how it may end.
+use Rattle.std.specs.Prelude.{◌≡◌, ◌⊎◌, ℕ, Option, Some, None, Ok, Err, List, [], ◌∷◌, ◌++◌, length}
+use Rattle.std.specs.List.{Contains}
+use Rattle.std.specs.Io.KnownBytes.{Keeps}
+use Rattle.machine_model.specs.Claims.{claims_of, counts_of}
+use Rattle.machine_model.specs.Script.{Table, table}
+use Rattle.machine_model.specs.State.{State}
+use Rattle.machine_model.specs.declared.words.OpenRefusal.{OpenRefusal}
+use Rattle.machine_model.specs.declared.words.OpenRefusal.TheVariants as opening
+use Rattle.page_ledger.specs.Owners.{owner_at}
+use Rattle.page_ledger.specs.declared.owner.Owner.{Owner}
+use Rattle.script_cli.specs.Inputs.{IsTold, Gains, IsFront}
+use Rattle.script_cli.specs.Owners.{owners_text, counts_line}
+use Rattle.script_cli.specs.Replies.{reply_line}
+use Rattle.script_cli.specs.Scripts.{script_of}
+use Rattle.script_cli.specs.Verbs.{verb_of}
+use Rattle.script_cli.specs.declared.fault.RunFault.{RunFault}
+use Rattle.script_cli.specs.declared.fault.RunFault.TheVariants as run
+use Rattle.script_cli.specs.declared.fault.ScriptFault.{ScriptFault}
+use Rattle.script_cli.specs.declared.fault.ScriptFault.TheVariants as fault
+use Rattle.script_cli.specs.declared.script.Line.{Line}
+use Rattle.script_cli.specs.declared.script.Line.TheVariants as line
+use Rattle.script_cli.specs.declared.script.Numbered.{Numbered}
+use Rattle.step_core.specs.Bench.{Does}
+use Rattle.step_core.specs.declared.step.Reply.{Reply}
+use Rattle.world_tables.specs.Opening.{refusal_of_config, opening_of}
+use Rattle.world_tables.specs.declared.config.Config.{Config}
+
+-- What is printed
+
+-- the owners of all pages, in the pages' order: a page stands in a claim of its owner
+pub record AreOwners (s : State) (owners : List Owner) : Type 0 where
+  pub all : length owners ≡ length s.memory
+  pub claim : (p : ℕ) (owner : Owner) → owner_at owners p ≡ Some owner → Contains (claims_of s.host) (p, owner)
+
+-- what a line of a script prints, and what it leaves
+abbrev pub PrintsLine : Table → ℕ → Line → List ℕ → Table → Type 0
+PrintsLine t number (line.Step what) text new = (answer : Reply) × Does t what answer new × (text ≡ reply_line number (verb_of what) answer)
+PrintsLine t number line.Owners text new = (owners : List Owner) × AreOwners t.world owners × (text ≡ owners_text owners) × (new ≡ t)
+PrintsLine t number line.Nothing text new = (text ≡ []) × (new ≡ t)
+
+-- what lines print, each over what the one before left
+abbrev pub Prints : Table → List Numbered → List ℕ → Table → Type 0
+Prints t [] text new = (text ≡ []) × (new ≡ t)
+Prints t (first ∷ rest) text new =
+    (mid : Table) × (said : List ℕ) × (others : List ℕ) × PrintsLine t first.number first.line said mid × Prints mid rest others new × (text ≡ said ++ others)
+
+-- the counts of a table, where no line is left
+abbrev pub last_line : List Numbered → Table → List ℕ
+last_line [] t = counts_line (counts_of t.world.host)
+last_line (next ∷ rest) t = []
+
+-- the text of a run of a script: what its lines print, and then the counts
+abbrev pub IsRunText : Table → List Numbered → List ℕ → Type 0
+IsRunText t script text = (last : Table) × (said : List ℕ) × Prints t script said last × (text ≡ said ++ last_line [] last)
+
+-- what stands where a run was cut off: the front of what its first lines print, with the counts where these are all lines
+abbrev pub IsCutText : Table → List Numbered → List ℕ → Type 0
+IsCutText t script text =
+    (done : List Numbered) × (left : List Numbered) × (last : Table) × (said : List ℕ)
+    × (script ≡ done ++ left) × Prints t done said last × IsFront text (said ++ last_line left last)
+
+-- How a run ends
+
+-- a reader has a script without faults, of which these are the lines that do something
+abbrev pub HasScript : Option (List ℕ) → List Numbered → Type 0
+HasScript told script = (text : List ℕ) × IsTold told text × (script_of text ≡ Ok script)
+
+-- a reader has a script whose first fault this is
+abbrev pub HasFault : Option (List ℕ) → ScriptFault → Type 0
+HasFault told why = (text : List ℕ) × IsTold told text × (script_of text ≡ Err why)
+
+-- why no script was read, and why no world was opened
+abbrev pub IsNoScript : Option (List ℕ) → RunFault → Type 0
+IsNoScript told (run.Line number why) = HasFault told (fault.Line number why)
+IsNoScript told run.TooLong = HasFault told fault.TooLong
+IsNoScript told run.Unreadable = Unit {0}
+IsNoScript told run.Memory = Unit {0}
+IsNoScript told other = ⊥
+
+abbrev pub IsNoOpening : Config → RunFault → Type 0
+IsNoOpening config run.BadConfig = refusal_of_config config ≡ Some opening.BadConfig
+IsNoOpening config (run.NoPages need free) = refusal_of_config config ≡ Some (opening.NoPages need free)
+IsNoOpening config run.Memory = Unit {0}
+IsNoOpening config other = ⊥
+
+-- a reader has a script without faults, and the configuration opens no world
+abbrev pub IsNotOpened : Option (List ℕ) → Config → OpenRefusal → Type 0
+IsNotOpened told config why = (script : List Numbered) × HasScript told script × (refusal_of_config config ≡ Some why)
+
+-- a reader has a script without faults, the world opens, and a text of which something holds is written
+abbrev pub Writes : Option (List ℕ) → Config → List ℕ → Option (List ℕ) → Option (List ℕ) → (Table → List Numbered → List ℕ → Type 0) → Type 0
+Writes told config image before after Holds =
+    (script : List Numbered) × HasScript told script × (refusal_of_config config ≡ None) × Gains before after (Holds (table (opening_of config image)) script)
+
+-- what a fault of a run says, and what was then written
+abbrev pub EndsWith : Option (List ℕ) → Config → List ℕ → Option (List ℕ) → Option (List ℕ) → RunFault → Type 0
+EndsWith told config image before after (run.Line number why) = HasFault told (fault.Line number why) × Keeps before after
+EndsWith told config image before after run.TooLong = HasFault told fault.TooLong × Keeps before after
+EndsWith told config image before after run.Unreadable = Keeps before after
+EndsWith told config image before after run.BadConfig = IsNotOpened told config opening.BadConfig × Keeps before after
+EndsWith told config image before after (run.NoPages need free) = IsNotOpened told config (opening.NoPages need free) × Keeps before after
+EndsWith told config image before after run.Memory = Keeps before after ⊎ Writes told config image before after IsCutText
+EndsWith told config image before after run.OutputFailed = Writes told config image before after IsCutText

@@ -1,0 +1,152 @@
+//! A script, played over a world that it opens.
+
+ghost use Rattle.std.specs.Prelude.{◌≡◌, ◌≤◌, ◌⊎◌, length, OnOk, OnErr, IfOk, IfErr, None, string_bytes};
+ghost use Rattle.machine_model.specs.Claims.{counts_of};
+ghost use Rattle.machine_model.specs.Script.{table};
+ghost use Rattle.script_cli.specs.Inputs.{Gains};
+ghost use Rattle.script_cli.specs.Owners.{counts_line};
+ghost use Rattle.script_cli.specs.Runs.{AreOwners, PrintsLine, IsRunText, IsCutText, HasScript, IsNoScript, IsNoOpening, Writes, EndsWith};
+ghost use Rattle.script_cli.specs.declared.fault.RunFault.TheVariants as run;
+ghost use Rattle.step_core.specs.Bench.{Does};
+ghost use Rattle.world_tables.specs.Opening.{refusal_of_config, opening_of};
+
+use crate::fault::{RunFault, not_opened, script_at_fault};
+use crate::input::{ReadFault, read_first};
+use crate::output::{flush, put};
+use crate::owners::{append_counts, append_owners};
+use crate::reply::append_reply;
+use crate::script::{Line, MAX_SCRIPT, Numbered, Script, read_script};
+use crate::verb::Verb;
+use block_image::Image;
+use page_ledger::Owner;
+use page_memory::PageNo;
+use std::alloc::{AllocError, Global};
+use std::io::{Read, Write};
+use step_core::{Bench, Config, Reply, Step};
+
+/// Reads a script.
+fn load<R: Read>(alloc: Global, reader: &mut R) -> Result<Script, RunFault>
+    ensures script { IfOk result (λ script. HasScript (R.remaining reader.old) script) }
+    ensures fault { IfErr result (λ fault. IsNoScript (R.remaining reader.old) fault) }
+{
+    let text = match read_first(alloc, reader, MAX_SCRIPT) {
+        Ok(text) => text,
+        Err(ReadFault::Unreadable) => return Err(RunFault::Unreadable),
+        Err(ReadFault::Memory) => return Err(RunFault::Memory),
+    };
+    match read_script(alloc, &text) {
+        Ok(script) => Ok(script),
+        Err(why) => Err(script_at_fault(why)),
+    }
+}
+
+/// Opens a bench.
+fn open(alloc: Global, config: Config, image: Image) -> Result<Bench, RunFault>
+    ensures fits { IfOk result (λ bench. refusal_of_config config ≡ None) }
+    ensures opened { IfOk result (λ bench. bench ≡ table (opening_of config image)) }
+    ensures fault { IfErr result (λ fault. IsNoOpening config fault) }
+{
+    match Bench::open(alloc, config, image) {
+        Ok(bench) => Ok(bench),
+        Err(refused) => Err(not_opened(refused.why)),
+    }
+}
+
+/// Does one step.
+fn run_one(alloc: Global, bench: &mut Bench, step: Step) -> Result<Reply, AllocError>
+    ensures { IfOk result (λ reply. Does bench.old step reply bench.new) }
+{
+    let mut steps = Vec::new(alloc);
+    steps.push(step)?;
+    let mut replies = bench.run(steps)?;
+    match replies.pop() {
+        Some(reply) => Ok(reply),
+        None => unreachable!(),
+    }
+}
+
+/// The owners of all pages, in the pages' order.
+fn all_owners(alloc: Global, bench: &Bench) -> Result<Vec<Owner>, AllocError>
+    ensures owners { IfOk result (λ owners. AreOwners bench.now.world owners.items) }
+    ensures few { IfOk result (λ owners. length owners.items ≤ 65536) }
+{
+    let pages = bench.pages();
+    let mut owners = Vec::with_capacity(alloc, pages as usize)?;
+    for p in 0..pages {
+        owners.push_reserved(bench.owner(PageNo(p)));
+    }
+    Ok(owners)
+}
+
+/// Does what a line says, and answers what it prints.
+fn play_line(alloc: Global, bench: &mut Bench, numbered: Numbered) -> Result<String, AllocError>
+    ensures { IfOk result (λ text. PrintsLine bench.old numbered.number numbered.line (string_bytes text) bench.new) }
+{
+    let number = numbered.number;
+    let mut text = String::new(alloc);
+    match numbered.line {
+        Line::Step(step) => {
+            let verb = Verb::of(&step);
+            let reply = run_one(alloc, bench, step)?;
+            append_reply(&mut text, number, verb, &reply)?;
+        }
+        Line::Owners => {
+            let owners = all_owners(alloc, bench)?;
+            append_owners(&mut text, &owners)?;
+        }
+        Line::Nothing => {}
+    }
+    Ok(text)
+}
+
+/// What a run prints last.
+fn counts_text(alloc: Global, bench: &Bench) -> Result<String, AllocError>
+    ensures { IfOk result (λ text. string_bytes text ≡ counts_line (counts_of bench.now.world.host)) }
+{
+    let mut text = String::new(alloc);
+    append_counts(&mut text, bench.counts())?;
+    Ok(text)
+}
+
+/// Plays a script, and writes what it prints.
+fn play<W: Write>(
+    alloc: Global,
+    bench: &mut Bench,
+    script: Script,
+    writer: &mut W,
+) -> Result<(), RunFault>
+    ensures ran { OnOk result (Gains (W.contents writer.old) (W.contents writer.new) (IsRunText bench.old script)) }
+    ensures cut { OnErr result (Gains (W.contents writer.old) (W.contents writer.new) (IsCutText bench.old script)) }
+    ensures fault { IfErr result (λ fault. (fault ≡ run.Memory) ⊎ (fault ≡ run.OutputFailed)) }
+{
+    for numbered in script.into_lines() {
+        let text = play_line(alloc, bench, numbered)?;
+        put(writer, text.as_bytes())?;
+    }
+    let text = counts_text(alloc, bench)?;
+    put(writer, text.as_bytes())?;
+    flush(writer)
+}
+
+/// Plays a script, line after line, over a world that it opens, and writes what each step answered: the command `steps`.
+///
+/// # Errors
+///
+/// A fault of the script, and then one of the opening; nothing is written then. [`RunFault::Memory`] where memory is refused, and
+/// not inside a step; [`RunFault::OutputFailed`] where a write fails. What was written by then is the front of a run's text.
+pub fn run_steps<R: Read, W: Write>(
+    alloc: Global,
+    config: Config,
+    image: Image,
+    reader: &mut R,
+    writer: &mut W,
+) -> Result<(), RunFault>
+    ensures ran { OnOk result (Writes (R.remaining reader.old) config image (W.contents writer.old) (W.contents writer.new) IsRunText) }
+    ensures failed { IfErr result (λ fault. EndsWith (R.remaining reader.old) config image (W.contents writer.old) (W.contents writer.new) fault) }
+{
+    let script = load(alloc, reader)?;
+    let mut bench = open(alloc, config, image)?;
+    let played = play(alloc, &mut bench, script, writer);
+    let _ended = bench.end();
+    played
+}

@@ -1,0 +1,48 @@
+//! How a script is played.
+
+use block_image::Image;
+use script_cli::run_steps;
+use std::alloc::Global;
+use std::test::Fail;
+use step_core::Config;
+
+/// The configuration of most scripts: 16 pages, one I/O queue, 4 entries, whole segments.
+pub const USUAL: Config = Config {
+    pages: 16,
+    queues: 1,
+    entries: 4,
+    segment: 256,
+};
+
+/// The image of most scripts: 64 zero blocks.
+pub fn zeros(alloc: Global) -> Result<Image, Fail> {
+    match Image::zeroed(alloc, 64) {
+        Ok(image) => Ok(image),
+        Err(_) => Err(Fail::from("no image")),
+    }
+}
+
+/// An image of two blocks: 512 times 11h, then 512 times 22h.
+pub fn striped(alloc: Global) -> Result<Image, Fail> {
+    let mut bytes = vec![in alloc; 0x11; 512]?;
+    for _ in 0..512 {
+        bytes.push(0x22)?;
+    }
+    match Image::from_bytes(bytes) {
+        Ok(image) => Ok(image),
+        Err(_) => Err(Fail::from("no image")),
+    }
+}
+
+/// Plays a script, and answers all that it prints, or its fault.
+pub fn played(alloc: Global, config: Config, image: Image, script: &str) -> Result<String, Fail> {
+    let mut reader = script.as_bytes();
+    let mut writer = Vec::new(alloc);
+    if let Err(fault) = run_steps(alloc, config, image, &mut reader, &mut writer) {
+        return Ok(format!(in alloc; "{fault}")?);
+    }
+    match String::from_utf8(writer) {
+        Ok(text) => Ok(text),
+        Err(_) => Err(Fail::from("text that is not ASCII")),
+    }
+}
