@@ -42,11 +42,12 @@ use Rattle.machine_model.proofs.Placed.{Knows, gone_at, entry_is, find_more, fin
 use Rattle.machine_model.proofs.Placing.{answering, device-posted}
 use Rattle.machine_model.proofs.Standing.{StandsSound, answer_named, answering_rest, named, io_record}
 use Rattle.machine_model.proofs.Tied.{FitS}
-use Rattle.machine_model.proofs.TiedReap.{told, told_entry}
+use Rattle.machine_model.proofs.TiedReap.{told_entry}
 use Rattle.machine_model.proofs.TiedAll.{all_on, fit_limits}
 use Rattle.machine_model.proofs.Trusted.{along_trusted, opening_stands}
 use Rattle.machine_model.proofs.Opening.{holds_at_opening, fits_pool}
 use Rattle.machine_model.proofs.Backed.{Backed, Settles, Calms, hoped_at, unsettled, fails, backed_calms, backed_complete, calms_fetch, calms_walk, calms_state, calms_other, calms_heard, gone_back}
+use Rattle.machine_model.proofs.Out.{status_in}
 
 abbrev pub BackedS : State → Type 0
 BackedS s = Backed s.host.records s.host.queues s.device.queues s.device.jobs
@@ -383,7 +384,7 @@ backed_admin adm st cid s t r hears rs fit hopes calms e w once h = go adm w
         freed true = on (host_queue t k)
         freed false = same
 
-backed_done_zero : (cid : ℕ) (st : Status) (s : State) → s.trusted ≡ true → named (reaped s 0) ≡ Some cid → told (reaped s 0) ≡ Some st → StandsSound s → FitS s → BackedS s
+backed_done_zero : (cid : ℕ) (st : Status) (s : State) → s.trusted ≡ true → named (reaped s 0) ≡ Some cid → status_in (reaped s 0) ≡ Some st → StandsSound s → FitS s → BackedS s
     → BackedS (option_map_or (λ r. a.after_work r.work 0 cid st (option_map_or (λ e. a.heard 0 e s) (seen_entry s 0) s)) (record_at s.host 0 cid) s)
 backed_done_zero cid st s t n d stands fit h = go (record_at s.host 0 cid) refl
   where
@@ -391,7 +392,7 @@ backed_done_zero cid st s t n d stands fit h = go (record_at s.host 0 cid) refl
     an = answer_named s cid t n
 
     status : an.0.status ≡ st
-    status = told_entry s 0 (entry_of 0 an.0) st (subst (λ (o : Option ComEntry). told (option_map_or (reaped_entry s 0) o events.Empty) ≡ Some st) an.3 d)
+    status = told_entry s 0 (entry_of 0 an.0) st (subst (λ (o : Option ComEntry). status_in (option_map_or (reaped_entry s 0) o events.Empty) ≡ Some st) an.3 d)
 
     hears : Hears s (a.heard 0 (entry_of 0 an.0) s) cid st
     hears = record { answer = an.0; is = an.2; status = status; first = answering_rest s.device.queues an.0 an.1 }
@@ -433,9 +434,9 @@ backed_done_other k cid st s stands h = go (record_at s.host (suc k) cid) refl
 backed_reap : (q : ℕ) (what : Reaped) (s : State) → s.trusted ≡ true → what ≡ reaped s q → StandsSound s → FitS s → BackedS s → BackedS (a.after_reap q what s)
 backed_reap q events.Empty s t e stands fit h = h
 backed_reap q (events.Rejected why) s t e stands fit h = backed_consumed q s h
-backed_reap zero (events.Done cid st) s t e stands fit h = backed_done_zero cid st s t (ap named (sym e)) (ap told (sym e)) stands fit h
+backed_reap zero (events.Done cid st) s t e stands fit h = backed_done_zero cid st s t (ap named (sym e)) (ap status_in (sym e)) stands fit h
 backed_reap (suc k) (events.Done cid st) s t e stands fit h = backed_done_other k cid st s stands h
-backed_reap zero (events.AdminDone cid st dw0) s t e stands fit h = backed_done_zero cid st s t (ap named (sym e)) (ap told (sym e)) stands fit h
+backed_reap zero (events.AdminDone cid st dw0) s t e stands fit h = backed_done_zero cid st s t (ap named (sym e)) (ap status_in (sym e)) stands fit h
 backed_reap (suc k) (events.AdminDone cid st dw0) s t e stands fit h = backed_done_other k cid st s stands h
 
 -- Every event

@@ -26,7 +26,7 @@ length_claimed : (owner : Owner) (pages : List ℕ) → length (claimed owner pa
 length_claimed owner [] = refl
 length_claimed owner (p ∷ pages) = ap suc (length_claimed owner pages)
 
-abbrev firsts : List (ℕ × Owner) → List ℕ
+abbrev pub firsts : List (ℕ × Owner) → List ℕ
 firsts claims = map (λ claim. claim.0) claims
 
 length_firsts : (claims : List (ℕ × Owner)) → length (firsts claims) ≡ length claims

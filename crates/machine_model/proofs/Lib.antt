@@ -77,3 +77,8 @@ pub mod ReadsKept
 pub mod ReadsWalk
 pub mod ReadsAlong
 pub mod ReadLaws
+pub mod WholePages
+pub mod InOrders
+pub mod Answered
+pub mod MadeRuns
+pub mod ProperValues

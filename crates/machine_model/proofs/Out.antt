@@ -125,6 +125,12 @@ named (events.Rejected why) = None
 named (events.Done cid st) = Some cid
 named (events.AdminDone cid st dw0) = Some cid
 
+abbrev pub status_in : Reaped → Option Status
+status_in events.Empty = None
+status_in (events.Rejected why) = None
+status_in (events.Done cid st) = Some st
+status_in (events.AdminDone cid st dw0) = Some st
+
 abbrev pub IsSubmittedAt : State → ℕ → ℕ → Type 0
 IsSubmittedAt s q cid = (r : Record) × (record_at s.host q cid ≡ Some r) × (is_submitted r.phase ≡ true)
 

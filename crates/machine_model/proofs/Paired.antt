@@ -6,8 +6,8 @@ use Rattle.machine_model.proofs.Managed.{absent}
 use Rattle.admin_commands.specs.Verdicts.{is_absent}
 use Rattle.machine_model.specs.State.{State, HostQueue, HostState, Live, Deleting, Retired, Gone, DeviceQueue, Job}
 use Rattle.machine_model.specs.Refusals.{job_at, is_gone}
-use Rattle.machine_model.specs.After.{change}
-use Rattle.machine_model.proofs.Touching.{IsLinked, completion_there}
+use Rattle.machine_model.specs.After.{change, cq_there}
+use Rattle.machine_model.proofs.Touching.{IsLinked}
 use Rattle.machine_model.proofs.Counting.{one}
 use Rattle.machine_model.proofs.Totals.{total}
 use Rattle.machine_model.proofs.Placed.{gone_at, is_job}
@@ -105,7 +105,7 @@ gone_case (Deleting noted) far = refl
 gone_case Retired far = refl
 gone_case Gone far = absurd (far refl)
 
-completion_queue : (s : State) (q : ℕ) → completion_there s q ≡ true → (d : DeviceQueue) × (slice_get s.device.queues q ≡ Some d) × (d.cq_there ≡ true)
+completion_queue : (s : State) (q : ℕ) → cq_there s q ≡ true → (d : DeviceQueue) × (slice_get s.device.queues q ≡ Some d) × (d.cq_there ≡ true)
 completion_queue s q h = go (slice_get s.device.queues q) refl h
   where
     go : (o : Option DeviceQueue) → slice_get s.device.queues q ≡ o → option_map_or (λ at. at.cq_there) o false ≡ true → (d : DeviceQueue) × (slice_get s.device.queues q ≡ Some d) × (d.cq_there ≡ true)

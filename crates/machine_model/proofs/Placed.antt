@@ -12,6 +12,7 @@ use Rattle.entry_codec.specs.declared.status.Status.{Status}
 use Rattle.io_commands.specs.Jobs.{is_success}
 use Rattle.machine_model.specs.Commands.{Management}
 use Rattle.machine_model.specs.State.{Record, DeviceQueue, Job, Answer, is_at, without_record}
+pub use Rattle.machine_model.specs.Refusals.{is_job}
 use Rattle.machine_model.proofs.Counting.{one}
 use Rattle.machine_model.proofs.Totals.{total, total-append, total_without, total-filter, here}
 
@@ -318,9 +319,6 @@ total_gone w test (y ∷ xs) x e = go (test y) e (total_gone w test xs x)
         let same : y ≡ x = cc in
         omega (arith, ap w same, total-filter w (λ y. not (test y)) xs)
     go false e ih = omega (arith, ih e)
-
-abbrev pub is_job : ℕ → ℕ → Job → Bool
-is_job q cid j = (j.q == q) && (j.entry.cid == cid)
 
 pub placed_completed : (rs : List Record) (un : List SubEntry) (js : List Job) (ans : List Answer) (ds ds' : List DeviceQueue) (cid : ℕ) (j : Job) (an : Answer)
     → find (is_job 0 cid) js ≡ Some j → an.cid ≡ cid → Loses ds ds'

@@ -26,15 +26,9 @@ use Rattle.machine_model.specs.Events.{Event, Reply, Reaped, Refusal}
 use Rattle.machine_model.proofs.Parts.{part-posted}
 use Rattle.machine_model.proofs.Steps.{Accepts, part_controller}
 use Rattle.machine_model.proofs.Refused.{first_fails, found}
-use Rattle.machine_model.proofs.Out.{named}
+pub use Rattle.machine_model.proofs.Out.{named, status_in}
 use Rattle.machine_model.proofs.Members.{In, all_in, all_map, all_filter, all_append, all_with}
 use Rattle.machine_model.proofs.Grounds.{Grounds}
-
-abbrev pub status_in : Reaped → Option Status
-status_in events.Empty = None
-status_in (events.Rejected why) = None
-status_in (events.Done cid st) = Some st
-status_in (events.AdminDone cid st dw0) = Some st
 
 -- the record that a collect takes
 abbrev pub takes : Event → Record → Bool

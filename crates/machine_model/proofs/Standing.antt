@@ -35,6 +35,7 @@ use Rattle.machine_model.proofs.Parts.{part-posted}
 use Rattle.machine_model.proofs.Owned.{HoldsPart}
 use Rattle.machine_model.proofs.Placed.{Placed, Knows, find_more, find_map, find_filter, find_sound, is_job, placed_records, placed_sent, placed_reaped, placed_queues}
 use Rattle.machine_model.proofs.Placing.{PlacedIn, waiting, answering, placed_other, placed_change, device-posted, waiting_same, answering_same, loses_same, ne_zero, placed_fetch, placed_walk, placed_complete}
+pub use Rattle.machine_model.proofs.Out.{named}
 use Rattle.std.specs.Cmp.Lexicographic.{pointwise}
 
 abbrev pub Stands : State → Type 0
@@ -149,12 +150,6 @@ answering_less rs d h =
         cut (x ∷ ans) p = record { places = λ c. omega (arith, p.places c); entries = p.entries; jobs = p.jobs; answers = p.answers.1 }
 
 -- the entry that a reap of a command sees
-abbrev pub named : Reaped → Option ℕ
-named events.Empty = None
-named (events.Rejected why) = None
-named (events.Done cid st) = Some cid
-named (events.AdminDone cid st dw0) = Some cid
-
 named_as : (q : ℕ) (e : ComEntry) (w : Work) → named (reaped_as q e w) ≡ Some e.cid
 named_as q e (Io r) = refl
 named_as q e (Management adm) = refl

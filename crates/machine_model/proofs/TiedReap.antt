@@ -23,33 +23,28 @@ use Rattle.machine_model.proofs.Standing.{StandsSound, answer_named, answering_r
 use Rattle.machine_model.proofs.Asked.{with_same}
 use Rattle.machine_model.proofs.Tied.{FitS}
 use Rattle.machine_model.proofs.TiedHost.{records_same, fit-consumed, fit-heard, fit-admin}
+use Rattle.machine_model.proofs.Out.{status_in}
 
-abbrev pub told : Reaped → Option Status
-told events.Empty = None
-told (events.Rejected why) = None
-told (events.Done cid st) = Some st
-told (events.AdminDone cid st dw0) = Some st
-
-pub told_entry : (s : State) (q : ℕ) (e : ComEntry) (st : Status) → told (reaped_entry s q e) ≡ Some st → e.status ≡ st
+pub told_entry : (s : State) (q : ℕ) (e : ComEntry) (st : Status) → status_in (reaped_entry s q e) ≡ Some st → e.status ≡ st
 told_entry s q e st h = one' (not (e.sqid == q)) h
   where
-    told_work : (w : Work) → told (reaped_as q e w) ≡ Some st → e.status ≡ st
+    told_work : (w : Work) → status_in (reaped_as q e w) ≡ Some st → e.status ≡ st
     told_work (Io r) h = cc
     told_work (Management adm) h = cc
 
-    three' : (o : Option Record) → told (option_map_or (λ r. reaped_as q e r.work) o (events.Rejected events.UnknownId)) ≡ Some st → e.status ≡ st
+    three' : (o : Option Record) → status_in (option_map_or (λ r. reaped_as q e r.work) o (events.Rejected events.UnknownId)) ≡ Some st → e.status ≡ st
     three' None h = absurd cc
     three' (Some r) h = told_work r.work h
 
-    two' : (b : Bool) → told (if b then events.Rejected events.BadHead else option_map_or (λ r. reaped_as q e r.work) (submitted_at s q e.cid) (events.Rejected events.UnknownId)) ≡ Some st → e.status ≡ st
+    two' : (b : Bool) → status_in (if b then events.Rejected events.BadHead else option_map_or (λ r. reaped_as q e r.work) (submitted_at s q e.cid) (events.Rejected events.UnknownId)) ≡ Some st → e.status ≡ st
     two' true h = absurd cc
     two' false h = three' (submitted_at s q e.cid) h
 
-    one' : (b : Bool) → told (if b then events.Rejected events.WrongQueue else if not (fits_ring s q e) then events.Rejected events.BadHead else option_map_or (λ r. reaped_as q e r.work) (submitted_at s q e.cid) (events.Rejected events.UnknownId)) ≡ Some st → e.status ≡ st
+    one' : (b : Bool) → status_in (if b then events.Rejected events.WrongQueue else if not (fits_ring s q e) then events.Rejected events.BadHead else option_map_or (λ r. reaped_as q e r.work) (submitted_at s q e.cid) (events.Rejected events.UnknownId)) ≡ Some st → e.status ≡ st
     one' true h = absurd cc
     one' false h = two' (not (fits_ring s q e)) h
 
-fit-done_zero : (cid : ℕ) (st : Status) (s : State) → s.trusted ≡ true → named (reaped s 0) ≡ Some cid → told (reaped s 0) ≡ Some st → StandsSound s → FitS s
+fit-done_zero : (cid : ℕ) (st : Status) (s : State) → s.trusted ≡ true → named (reaped s 0) ≡ Some cid → status_in (reaped s 0) ≡ Some st → StandsSound s → FitS s
     → FitS (option_map_or (λ r. a.after_work r.work 0 cid st (option_map_or (λ e. a.heard 0 e s) (seen_entry s 0) s)) (record_at s.host 0 cid) s)
 fit-done_zero cid st s t n d h f = go (record_at s.host 0 cid) refl
   where
@@ -57,7 +52,7 @@ fit-done_zero cid st s t n d h f = go (record_at s.host 0 cid) refl
     an = answer_named s cid t n
 
     status : an.0.status ≡ st
-    status = told_entry s 0 (entry_of 0 an.0) st (subst (λ (o : Option ComEntry). told (option_map_or (reaped_entry s 0) o events.Empty) ≡ Some st) an.3 d)
+    status = told_entry s 0 (entry_of 0 an.0) st (subst (λ (o : Option ComEntry). status_in (option_map_or (reaped_entry s 0) o events.Empty) ≡ Some st) an.3 d)
 
     known : AnswerKnown s.host.records s.device.queues an.0
     known = (subst (λ xs. AllByRecursion (AnswerKnown s.host.records s.device.queues) xs) (answering_rest s.device.queues an.0 an.1) h.1.placed.answers).0
@@ -103,7 +98,7 @@ fit-done_other k cid st s h f = go (record_at s.host (suc k) cid) refl
 pub fit-reap : (q : ℕ) (what : Reaped) (s : State) → s.trusted ≡ true → what ≡ reaped s q → StandsSound s → FitS s → FitS (a.after_reap q what s)
 fit-reap q events.Empty s t e h f = f
 fit-reap q (events.Rejected why) s t e h f = fit-consumed q s f
-fit-reap zero (events.Done cid st) s t e h f = fit-done_zero cid st s t (ap named (sym e)) (ap told (sym e)) h f
+fit-reap zero (events.Done cid st) s t e h f = fit-done_zero cid st s t (ap named (sym e)) (ap status_in (sym e)) h f
 fit-reap (suc k) (events.Done cid st) s t e h f = fit-done_other k cid st s h f
-fit-reap zero (events.AdminDone cid st dw0) s t e h f = fit-done_zero cid st s t (ap named (sym e)) (ap told (sym e)) h f
+fit-reap zero (events.AdminDone cid st dw0) s t e h f = fit-done_zero cid st s t (ap named (sym e)) (ap status_in (sym e)) h f
 fit-reap (suc k) (events.AdminDone cid st dw0) s t e h f = fit-done_other k cid st s h f

@@ -24,7 +24,7 @@ use Rattle.page_memory.specs.declared.page.Half.TheVariants.{Submission, Complet
 use Rattle.queue_pair.specs.Slots.{next_slot, moved}
 use Rattle.machine_model.specs.Positions.{IsInRing}
 use Rattle.machine_model.proofs.Positions.{next_below}
-pub use Rattle.machine_model.specs.Linked.{completion_there, IsLinked}
+pub use Rattle.machine_model.specs.Linked.{IsLinked}
 
 abbrev pub is_walk : Event → Bool
 is_walk (events.Walk q cid) = true

@@ -176,11 +176,6 @@ fit_noted n rs hs ds js k c r b found work once settled h = record {
         record { sub = λ o. p.sub np.0; comp = λ o. p.comp np.1; over = λ o. absurd (true≢false (sym o)); gone = λ o. absurd (true≢false (sym o)); half = p.half }
 
 -- a queue is retired, and goes
-abbrev is_noted : HostState → Bool
-is_noted Live = false
-is_noted (Deleting noted) = noted
-is_noted Retired = false
-is_noted Gone = false
 
 pub fit_retired : (n : ℕ) (rs : List Record) (hs : List HostQueue) (ds : List DeviceQueue) (js : List Job) (k : ℕ) → ((x : HostQueue) → slice_get hs k ≡ Some x → (is_over x.state ≡ true) × (is_past x.state ≡ false))
     → Fit n rs hs ds js → Fit n rs (change k (λ h. record h { state = Retired; sq_pages = [] }) hs) ds js

@@ -29,7 +29,7 @@ use Rattle.entry_codec.specs.declared.status.Status.{Status}
 use Rattle.machine_model.specs.Memory.{without_pages, with_pages, memory_of}
 use Rattle.machine_model.specs.Commands.{Work, Io, Management}
 use Rattle.machine_model.specs.State.{State, Host, Device, HostQueue, Live, Deleting, Retired, Gone, DeviceQueue, Record, Drafted, Submitted, Held, Collected, Job, Answer, record_at, without_record, with_record, pages_of}
-use Rattle.machine_model.specs.Refusals.{host_queue, device_queue, slot_page, slot_offset, seen_entry, job_at, next_rung, post_slot, fetch_slot, conflicts, is_submitted, is_retired}
+use Rattle.machine_model.specs.Refusals.{host_queue, device_queue, slot_page, slot_offset, seen_entry, is_job, job_at, next_rung, post_slot, fetch_slot, conflicts, is_submitted, is_retired}
 use Rattle.machine_model.specs.Events as events
 use Rattle.io_commands.specs.Drafts.{DraftContents}
 use Rattle.machine_model.specs.Events.{Event, Reply, Reaped}
@@ -68,10 +68,10 @@ abbrev pub on_records : (List Record → List Record) → State → State
 on_records f s = on_host (λ h. record h { records = f h.records }) s
 
 abbrev pub on_job : ℕ → ℕ → (Job → Job) → State → State
-on_job q cid f s = on_device (λ d. record d { jobs = map (λ j. if (j.q == q) && (j.entry.cid == cid) then f j else j) d.jobs }) s
+on_job q cid f s = on_device (λ d. record d { jobs = map (λ j. if is_job q cid j then f j else j) d.jobs }) s
 
 abbrev pub without_job : ℕ → ℕ → State → State
-without_job q cid s = on_device (λ d. record d { jobs = filter (λ j. not ((j.q == q) && (j.entry.cid == cid))) d.jobs }) s
+without_job q cid s = on_device (λ d. record d { jobs = filter (λ j. not (is_job q cid j)) d.jobs }) s
 
 -- What changes of a record, a ring, a queue of the host
 

@@ -33,8 +33,11 @@ abbrev pub submitted_by : Event → Reply → List DraftContents
 submitted_by (events.Submit d) events.Accepted = d ∷ []
 submitted_by e reply = []
 
+abbrev pub is_draft : ℕ → ℕ → DraftContents → Bool
+is_draft q cid d = (d.q == q) && (d.cid == cid)
+
 abbrev pub draft_of : ℕ → ℕ → List DraftContents → Option DraftContents
-draft_of q cid drafts = find (λ d. (d.q == q) && (d.cid == cid)) drafts
+draft_of q cid drafts = find (is_draft q cid) drafts
 
 abbrev pub written_by : DraftContents → List ℕ → List ℕ
 written_by d image =

@@ -30,3 +30,4 @@ pub mod WorkedAdmin
 pub mod WorkedForged
 pub mod WorkedLaws
 pub mod WorkedSound
+pub mod InOrder

@@ -2,6 +2,7 @@
 use Rattle.std.specs.Prelude.{◌≡◌, ℕ, ◌<◌, Bool, true, false, Some, List, length, is_some}
 use Rattle.std.specs.Option.{option_map_or}
 use Rattle.admin_commands.specs.Verdicts.{is_absent}
+use Rattle.machine_model.specs.After.{cq_there}
 use Rattle.machine_model.specs.State.{State, HostQueue}
 use Rattle.machine_model.specs.Refusals.{device_queue, host_queue, job_at, is_live}
 use Rattle.machine_model.specs.Positions.{IsInRing}
@@ -14,19 +15,16 @@ use Rattle.machine_model.specs.Image.{Made}
 abbrev pub absent : State → ℕ → Bool
 absent s q = option_map_or (λ at. is_absent at.state) (device_queue s q) true
 
-abbrev pub completion_there : State → ℕ → Bool
-completion_there s q = option_map_or (λ at. at.cq_there) (device_queue s q) false
-
 pub record IsLinked (s : State) : Type 0 where
   -- some entries, and the halves that the controller has are whole at the host
   pub entries : 0 < s.entries
   pub submission_whole : (q : ℕ) (queue : HostQueue) → host_queue s q ≡ Some queue → absent s q ≡ false → length queue.sq_pages ≡ half_pages s.entries Submission
-  pub completion_whole : (q : ℕ) (queue : HostQueue) → host_queue s q ≡ Some queue → completion_there s q ≡ true → length queue.cq_pages ≡ half_pages s.entries Completion
+  pub completion_whole : (q : ℕ) (queue : HostQueue) → host_queue s q ≡ Some queue → cq_there s q ≡ true → length queue.cq_pages ≡ half_pages s.entries Completion
   -- the host stands in its rings
   pub inside : (q : ℕ) (queue : HostQueue) → host_queue s q ≡ Some queue → IsInRing s.entries queue.ring
   -- a queue that the controller has stands at the host, and has its completion half
   pub known : (q : ℕ) → absent s q ≡ false → is_some (host_queue s q) ≡ true
-  pub completion_stays : (q : ℕ) → absent s q ≡ false → completion_there s q ≡ true
+  pub completion_stays : (q : ℕ) → absent s q ≡ false → cq_there s q ≡ true
   -- so does one that has a job
   pub jobs_have_queues : (q cid : ℕ) → is_some (job_at s q cid) ≡ true → absent s q ≡ false
 

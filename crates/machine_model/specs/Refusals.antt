@@ -203,8 +203,11 @@ seen_entry s q =
 
 -- At the controller
 
+abbrev pub is_job : ℕ → ℕ → Job → Bool
+is_job q cid j = (j.q == q) && (j.entry.cid == cid)
+
 abbrev pub job_at : State → ℕ → ℕ → Option Job
-job_at s q cid = find (λ j. (j.q == q) && (j.entry.cid == cid)) s.device.jobs
+job_at s q cid = find (is_job q cid) s.device.jobs
 
 abbrev pub next_rung : State → ℕ → Option SubEntry
 next_rung s q =

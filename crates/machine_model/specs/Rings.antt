@@ -44,7 +44,7 @@ abbrev pub tail_bell : ℕ → ℕ → DeviceRing → DeviceRing
 tail_bell n v r = if nat_lt v n then hearing_tail v r else r
 
 abbrev pub head_bell : ℕ → ℕ → DeviceRing → DeviceRing
-head_bell n v r = if is_in_range n r.known_head r.tail v then hearing_head v r else r
+head_bell n v r = hearing_head (if is_in_range n r.known_head r.tail v then v else r.known_head) r
 
 abbrev pub host_ring : (HostQueue → ℕ) → Bench → ℕ → ℕ
 host_ring f b q = option_map_or f (host_queue (world_of b) q) 0

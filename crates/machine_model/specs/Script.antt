@@ -1,11 +1,11 @@
 -- Scripts, played: the choices are the lowest free identifier and the lowest free pages, and drafts, tickets and finished commands are kept beside the machine.
-use Rattle.std.specs.Prelude.{ℕ, zero, suc, ◌+◌, ◌-◌, ◌==◌, Bool, true, false, nat_lt, ◌&&◌, not, Option, Some, None, List, [], ◌∷◌, ◌++◌, length, map, take, drop, replicate, filter, find, sum_by, option_and_then, if◌then◌else◌}
+use Rattle.std.specs.Prelude.{ℕ, zero, suc, ◌+◌, ◌-◌, ◌==◌, Bool, true, false, nat_lt, ◌&&◌, not, Option, Some, None, List, [], ◌∷◌, ◌++◌, length, take, drop, replicate, filter, find, sum_by, option_and_then, if◌then◌else◌}
 use Rattle.std.specs.Option.{option_map_or, option_map}
 use Rattle.machine_model.specs.State.{State, record_at, outstanding_on, Job}
 use Rattle.machine_model.specs.Opening.{opening}
 use Rattle.machine_model.specs.After.{after, next_unit, next_answer}
 use Rattle.machine_model.specs.Step.{reaped, touched_by_fetch, touched_by_refusal, finished_from}
-use Rattle.machine_model.specs.Image.{Made, draft_of}
+use Rattle.machine_model.specs.Image.{Made, is_draft, draft_of}
 use Rattle.std.specs.List.{list_all, list_any}
 use Rattle.page_ledger.specs.Owners.{is_among, pages_from}
 use Rattle.controller_walk.specs.Units.{touched as pages_touched, first_passing}
@@ -19,7 +19,8 @@ use Rattle.io_commands.specs.declared.request.Request.{Request}
 use Rattle.io_commands.specs.declared.request.Piece.{Piece}
 use Rattle.io_commands.specs.declared.request.Kind.TheVariants.{Read, Write, Compare}
 use Rattle.io_commands.specs.declared.request.Kind.{Kind}
-use Rattle.page_memory.specs.Pages.{zero_page, page_at}
+use Rattle.machine_model.specs.Memory.{zeroed_pages}
+use Rattle.page_memory.specs.Pages.{page_at}
 use Rattle.entry_codec.specs.declared.status.Status.{Status}
 use Rattle.machine_model.specs.Refusals.{refusal_of, next_rung, job_at, post_page}
 use Rattle.machine_model.specs.Events as events
@@ -82,9 +83,6 @@ abbrev pub lowest_of : List ℕ → List ℕ → ℕ
 lowest_of used [] = 0
 lowest_of used (n ∷ ns) = if is_among used n then lowest_of used ns else n
 
-abbrev pub zeros_at : List ℕ → List (ℕ × List ℕ)
-zeros_at pages = map (λ p. (p, zero_page)) pages
-
 abbrev pub chosen : State → ℕ → Request → DraftContents
 chosen s q r =
     let count = data_count r.pieces in
@@ -92,8 +90,8 @@ chosen s q r =
       q = q;
       cid = lowest_of (outstanding_on s.host q) (pages_from 0 s.entries);
       request = r;
-      data_pages = zeros_at (take count s.host.free);
-      chain_pages = zeros_at (take (pages_needed (length r.pieces) s.segment) (drop count s.host.free));
+      data_pages = zeroed_pages (take count s.host.free);
+      chain_pages = zeroed_pages (take (pages_needed (length r.pieces) s.segment) (drop count s.host.free));
       segment = s.segment;
       entry = None;
     }
@@ -132,17 +130,15 @@ runs (b ∷ bs) = runs_from b 1 bs
 abbrev pub is_ticket : ℕ → ℕ → ℕ × ℕ → Bool
 is_ticket q cid ticket = (ticket.0 == q) && (ticket.1 == cid)
 
-abbrev pub without_ticket : ℕ → ℕ → List (ℕ × ℕ) → List (ℕ × ℕ)
-without_ticket q cid tickets = filter (λ ticket. not (is_ticket q cid ticket)) tickets
+abbrev pub is_finished : ℕ → ℕ → FinishedContents → Bool
+is_finished q cid f = (f.q == q) && (f.cid == cid)
 
 abbrev pub finished_at : ℕ → ℕ → List FinishedContents → Option FinishedContents
-finished_at q cid fs = find (λ f. (f.q == q) && (f.cid == cid)) fs
+finished_at q cid fs = find (is_finished q cid) fs
 
-abbrev pub without_draft : ℕ → ℕ → List DraftContents → List DraftContents
-without_draft q cid drafts = filter (λ d. not ((d.q == q) && (d.cid == cid))) drafts
-
-abbrev pub without_finished : ℕ → ℕ → List FinishedContents → List FinishedContents
-without_finished q cid fs = filter (λ f. not ((f.q == q) && (f.cid == cid))) fs
+-- what is kept, without the values that pass a test
+abbrev pub without : {X : Type 0} → (X → Bool) → List X → List X
+without test kept = filter (λ x. not (test x)) kept
 
 -- One line
 
@@ -165,13 +161,10 @@ stepped t e reply words keep =
 abbrev pub same_table : Table → Table
 same_table t = t
 
-abbrev pub with_draft : Option DraftContents → (DraftContents → Table × Said × Option Made) → Table → Table × Said × Option Made
-with_draft None f t = (t, no_value, None)
-with_draft (Some d) f t = f d
-
-abbrev pub with_finished : Option FinishedContents → (FinishedContents → Table × Said × Option Made) → Table → Table × Said × Option Made
-with_finished None f t = (t, no_value, None)
-with_finished (Some x) f t = f x
+-- what is done with a kept value, if there is one
+abbrev pub with_kept : {X : Type 0} → Option X → (X → Table × Said × Option Made) → Table → Table × Said × Option Made
+with_kept None f t = (t, no_value, None)
+with_kept (Some x) f t = f x
 
 abbrev pub line : Table → Line → Table × Said × Option Made
 line t (reserve q kind slba blocks pieces) =
@@ -179,17 +172,17 @@ line t (reserve q kind slba blocks pieces) =
     let d = chosen t.world q r in
     stepped t (events.Reserve q r) (events.Reserved d) (reserved q d.cid (numbers_of d.data_pages) (numbers_of d.chain_pages)) (λ t'. record t' { drafts = d ∷ t'.drafts })
 line t (fill q cid bytes) =
-    with_draft (draft_of q cid t.drafts)
+    with_kept (draft_of q cid t.drafts)
     (λ d. elim (fill_fault bytes d) [
       | Some why ↦ (t, not_filled why, None)
-      | None ↦ (record t { drafts = filled_draft bytes d ∷ without_draft q cid t.drafts }, ok, None)
+      | None ↦ (record t { drafts = filled_draft bytes d ∷ without (is_draft q cid) t.drafts }, ok, None)
     ]) t
 line t (build q cid) =
-    with_draft (draft_of q cid t.drafts) (λ d. (record t { drafts = built d ∷ without_draft q cid t.drafts }, ok, None)) t
+    with_kept (draft_of q cid t.drafts) (λ d. (record t { drafts = built d ∷ without (is_draft q cid) t.drafts }, ok, None)) t
 line t (submit q cid) =
-    with_draft (draft_of q cid t.drafts) (λ d. stepped t (events.Submit d) events.Accepted ok (λ t'. record t' { drafts = without_draft q cid t'.drafts; tickets = (q, cid) ∷ t'.tickets })) t
+    with_kept (draft_of q cid t.drafts) (λ d. stepped t (events.Submit d) events.Accepted ok (λ t'. record t' { drafts = without (is_draft q cid) t'.drafts; tickets = (q, cid) ∷ t'.tickets })) t
 line t (cancel q cid) =
-    with_draft (draft_of q cid t.drafts) (λ d. stepped t (events.Cancel d) events.Accepted ok (λ t'. record t' { drafts = without_draft q cid t'.drafts })) t
+    with_kept (draft_of q cid t.drafts) (λ d. stepped t (events.Cancel d) events.Accepted ok (λ t'. record t' { drafts = without (is_draft q cid) t'.drafts })) t
 line t (ring q) = stepped t (events.Ring q) events.Accepted ok same_table
 line t (fetch q) =
     let cid = option_map_or (λ e. e.cid) (next_rung t.world q) 0 in
@@ -208,11 +201,11 @@ line t (collect q cid) =
     let f = option_and_then (finished_from t.world) (record_at t.world.host q cid) in
     if list_any (is_ticket q cid) t.tickets
     then stepped t (events.Collect q cid) (option_map_or events.Collects f events.Accepted) (option_map_or (λ x. held x.status) f stuck)
-    (λ t'. option_map_or (λ x. record t' { tickets = without_ticket q cid t'.tickets; finished = x ∷ t'.finished }) f t')
+    (λ t'. option_map_or (λ x. record t' { tickets = without (is_ticket q cid) t'.tickets; finished = x ∷ t'.finished }) f t')
     else (t, no_value, None)
-line t (gather q cid) = with_finished (finished_at q cid t.finished) (λ x. (t, gathered (runs (gathered_from x)), None)) t
+line t (gather q cid) = with_kept (finished_at q cid t.finished) (λ x. (t, gathered (runs (gathered_from x)), None)) t
 line t (release q cid) =
-    with_finished (finished_at q cid t.finished) (λ x. stepped t (events.Release x) events.Accepted ok (λ t'. record t' { finished = without_finished q cid t'.finished })) t
+    with_kept (finished_at q cid t.finished) (λ x. stepped t (events.Release x) events.Accepted ok (λ t'. record t' { finished = without (is_finished q cid) t'.finished })) t
 line t (abort q cid) =
     let id = lowest_of (outstanding_on t.world.host 0) (pages_from 0 t.world.entries) in
     stepped t (events.Abort q cid) (events.Sent id) (sent id) same_table

@@ -3,6 +3,7 @@
 ghost use Rattle.machine_model.specs.Built.{built_drafts_spell_in_store};
 ghost use Rattle.machine_model.specs.Claims.{each_step_keeps, every_run_is_sound, every_run_takes_out, counts_add_up};
 ghost use Rattle.machine_model.specs.Histories.{openings_have_histories, steps_make_histories};
+ghost use Rattle.machine_model.specs.InOrder.{openings_are_in_order, steps_keep_order, reserved_drafts_are_proper, collected_commands_are_proper, every_event_is_answered, runs_are_made};
 ghost use Rattle.machine_model.specs.Linked.{trusted_worlds_are_linked, live_queues_are_there};
 ghost use Rattle.machine_model.specs.Reached.{lists_keep_to_their_pages, lists_end_well};
 ghost use Rattle.machine_model.specs.Memory.{walks_read_the_pool, walks_go_as_in_the_pool};
@@ -98,9 +99,28 @@ pub fn law_of_live_queues()
 
 /// An opening has a history, and each step that leaves a trusted state makes its history longer. So what holds of every trusted run
 /// holds of each state that steps lead to.
+///
+/// The events and replies of a run that leads from an opening to a trusted state are those of such a history.
 pub fn law_of_histories()
     ensures openings { openings_have_histories }
     ensures steps { steps_make_histories }
+    ensures runs { runs_are_made }
+{}
+
+/// Each step keeps a state in order, forged entries or not: sound, each page that is in whole, with a history unless something was
+/// forged. An opening is in order.
+///
+/// What it hands out is fit to be handed in again: the draft of a reserved command, and the pages of a collected one.
+pub fn law_of_order()
+    ensures openings { openings_are_in_order }
+    ensures steps { steps_keep_order }
+    ensures drafts { reserved_drafts_are_proper }
+    ensures commands { collected_commands_are_proper }
+{}
+
+/// In a state in order each event may happen, forged entries or not: there is an answer that it may get, and a state that this leads to.
+pub fn law_of_answers()
+    ensures { every_event_is_answered }
 {}
 
 /// Where nothing was forged, the chain of each submitted command spells its parts, from the descriptor of its entry, and no

@@ -38,7 +38,7 @@ use Rattle.world_tables.proofs.Lists as lists
 use Rattle.world_tables.proofs.Owners.{given-free}
 use Rattle.world_tables.proofs.Queues.{each-change, map-change, map-same}
 use Rattle.world_tables.proofs.Reaped.{settled-heard}
-use Rattle.world_tables.proofs.Reapings.{Sees, heard-device, heard-host, knowing_head, on_head, one_fewer, reap-none, reaped-told, seen-entry, with_all}
+use Rattle.world_tables.proofs.Reapings.{Sees, heard-device, heard-host, knowing_head, on_head, one_fewer, reap-none, reaped-told, seen-entry, with_all, with_lists}
 use Rattle.world_tables.proofs.Settled.{HasBoth, Settled, cq-kept, rings-of, settled-gone, settled-state, settled-with, sq-kept, whole-of}
 use Rattle.world_tables.proofs.Spared.{claims_keep_queue, claims_keep_rings, claims_keep_tells, each_claimed}
 use Rattle.world_tables.proofs.Steps.{open_step, sound_after, history_after, length-change}
@@ -61,16 +61,13 @@ has-deleted status = go (is_success status)
 abbrev pub with_state_of : HostState → HostQueue → HostQueue
 with_state_of state queue = record queue { state = state }
 
-abbrev with_queues : State → List HostQueue → List DeviceQueue → State
-with_queues s hs ds = record s { host = record s.host { queues = hs }; device = record s.device { queues = ds } }
-
 -- a queue that has both its halves, in another state in which it has them
 pub state-set : (u : Tables) (k : ℕ) (st : HostState) → HasBoth st → ((x : Queue) → slice_get u.queues k ≡ Some x → HasBoth x.state)
     → state_of (record u { queues = change k (with_state st) u.queues }) ≡ a.on_host_queue k (with_state_of st) (state_of u)
 state-set u k st new old =
-    ap (λ (hs : List HostQueue). with_queues (state_of u) hs (map (device_queue_of (byte_at u.pages)) (change k (with_state st) u.queues)))
+    ap (λ (hs : List HostQueue). with_lists (state_of u) hs (map (device_queue_of (byte_at u.pages)) (change k (with_state st) u.queues)))
     (map-change host_queue_of (with_state st) (with_state_of st) k u.queues (λ x at. host-kept x (old x at)))
-    ∙ ap (λ (ds : List DeviceQueue). with_queues (state_of u) (change k (with_state_of st) (map host_queue_of u.queues)) ds)
+    ∙ ap (λ (ds : List DeviceQueue). with_lists (state_of u) (change k (with_state_of st) (map host_queue_of u.queues)) ds)
     (map-same (device_queue_of (byte_at u.pages)) (with_state st) k u.queues (λ x at. refl))
   where
     with_pages : Queue → List ℕ → List ℕ → HostQueue
@@ -142,7 +139,7 @@ meant-state u (DeleteCq k) status size m = go (gives_back k status u) refl ∙ a
     go false h = refl
 
 -- it hangs on nothing of the controller's part, and leaves that
-abbrev with_device : Device → State → State
+abbrev pub with_device : Device → State → State
 with_device d s = record s { device = d }
 
 admin-device : (kind : AdminKind) (status : Status) (s : State) (d : Device) → after_admin kind status (with_device d s) ≡ with_device d (after_admin kind status s)

@@ -9,7 +9,7 @@ use Rattle.io_commands.specs.Values.{numbers_of, data_part, chain_part}
 use Rattle.io_commands.specs.declared.request.Request.{Request}
 use Rattle.machine_model.specs.After.{change}
 use Rattle.machine_model.specs.Events as events
-use Rattle.machine_model.specs.Memory.{without_pages}
+use Rattle.machine_model.specs.Memory.{without_pages, zeroed_pages}
 use Rattle.machine_model.specs.State.{Record}
 use Rattle.machine_model.specs.Step.{Step, IsReserved, times}
 use Rattle.machine_model.proofs.Counting.{times-append, times-filter, times-pages, held_once, not_held}
@@ -20,7 +20,7 @@ use Rattle.page_ledger.specs.declared.owner.Owner.{Owner}
 use Rattle.page_ledger.specs.declared.owner.Owner.TheVariants.{Command}
 use Rattle.page_ledger.specs.declared.owner.Role.TheVariants.{Data, Chain}
 use Rattle.page_memory.specs.Pages.{Pages, zero_page}
-use Rattle.world_tables.specs.Commands.{reserved, with_claim, CanTake, Grants, new_draft, zeroed_pages}
+use Rattle.world_tables.specs.Commands.{reserved, with_claim, CanTake, Grants, new_draft}
 use Rattle.world_tables.specs.Tables.{Tables, state_of}
 use Rattle.world_tables.specs.Whole.{IsWhole}
 use Rattle.world_tables.specs.declared.queue.Queue.{Queue}

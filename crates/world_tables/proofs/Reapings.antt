@@ -125,7 +125,7 @@ on_head n queue = record queue { ring = next_head n queue.ring }
 abbrev pub one_fewer : DeviceQueue → DeviceQueue
 one_fewer at = record at { answers = drop 1 at.answers }
 
-abbrev with_lists : State → List HostQueue → List DeviceQueue → State
+abbrev pub with_lists : State → List HostQueue → List DeviceQueue → State
 with_lists s hs ds = record s { host = record s.host { queues = hs }; device = record s.device { queues = ds } }
 
 consumed-host : (t : Tables) → IsWhole t → (q : ℕ) → map host_queue_of (change q with_answer_taken t.queues) ≡ change q (on_head t.entries) (map host_queue_of t.queues)

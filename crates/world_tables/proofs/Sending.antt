@@ -34,7 +34,7 @@ use Rattle.world_tables.specs.Sending.{CanSend, Sends, asked, noted, record_of_a
 use Rattle.world_tables.specs.Tables.{Tables, state_of, device_queue_of, host_queue_of}
 use Rattle.world_tables.specs.Whole.{AreTasks, ClaimsIdentifiers, IsHonest, IsQueue, IsRecord, IsWhole, RingsStand, TellsCommand, TellsQueue, WalksStand}
 use Rattle.world_tables.specs.declared.queue.Queue.{Queue}
-use Rattle.world_tables.proofs.AdminReaped.{state-set}
+use Rattle.world_tables.proofs.AdminReaped.{state-set, with_device}
 use Rattle.world_tables.proofs.Entries.{AreRinged, posted-exact, posted-part, posted-queue, posted-rings, submission_length, tail-fits, tail-in}
 use Rattle.world_tables.proofs.Forging.{pool-with_bytes}
 use Rattle.world_tables.proofs.Granting.{next-fresh}
@@ -163,9 +163,6 @@ settled-sent t kind cid w can is =
 
 abbrev sent_in : AdminKind → ℕ → State → State
 sent_in kind cid s = a.sent kind cid (admin_entry kind cid) s
-
-abbrev with_device : Device → State → State
-with_device d s = record s { device = d }
 
 sent-part : (t : Tables) (kind : AdminKind) (cid : ℕ) → IsWhole t → (can : CanSend t kind cid) → IsTyped (admin_entry kind cid)
     → state_of (sent kind cid can.queue t) ≡ with_device (state_of (sent kind cid can.queue t)).device (sent_in kind cid (state_of t))

@@ -7,6 +7,7 @@ use Rattle.std.proofs.lemmas.List.Sums.{sum_by-cons}
 use Rattle.machine_model.specs.Claims.{claimed, claims_of, claims_of_queues, claims_of_record, counts_of}
 use Rattle.machine_model.specs.State.{HostQueue, Record}
 use Rattle.machine_model.specs.Step.{times}
+use Rattle.machine_model.proofs.Headline.{firsts}
 use Rattle.machine_model.proofs.Counting.{one, times-cons, times-append, times-filter, times-pages, held_once, length_of_all}
 use Rattle.page_ledger.specs.Counting as table
 use Rattle.page_ledger.specs.Counting.{is_queue_page, is_chain_page, is_data_page}
@@ -91,9 +92,6 @@ told t w =
     (told-records t.owners t.records w.owners.commands_told)
 
 -- Whose a page is
-
-abbrev firsts : List (ℕ × Owner) → List ℕ
-firsts claims = map (λ claim. claim.0) claims
 
 claim-there : (owners : List Owner) (claims : List (ℕ × Owner)) (p : ℕ) (o : Owner) → owner_at owners p ≡ Some o → Told owners claims → 0 < times p (firsts claims) → Contains claims (p, o)
 claim-there owners [] p o at h some = absurd (omega arith)

@@ -1,5 +1,5 @@
 -- What the calls about a command leave of the tables.
-use Rattle.std.specs.Prelude.{◌≡◌, ℕ, ◌+◌, ◌<◌, ◌≤◌, ◌==◌, ◌||◌, not, Bool, true, false, Option, Some, None, IsSome, is_none, position, find, map, length, List, [], ◌∷◌, ◌++◌, slice_get, slice_set}
+use Rattle.std.specs.Prelude.{◌≡◌, ℕ, ◌+◌, ◌<◌, ◌≤◌, ◌==◌, ◌||◌, not, Bool, true, false, Option, Some, None, IsSome, is_none, position, find, length, List, [], ◌∷◌, ◌++◌, slice_get, slice_set}
 use Rattle.std.specs.Option.{option_map, option_map_or}
 use Rattle.io_commands.specs.DataBytes.{PagesOut}
 use Rattle.io_commands.specs.Drafts.{DraftContents}
@@ -8,7 +8,7 @@ use Rattle.io_commands.specs.Values.{numbers_of, IsGood}
 use Rattle.io_commands.specs.declared.request.Request.{Request}
 use Rattle.machine_model.specs.After.{change, collected}
 use Rattle.machine_model.specs.Events as events
-use Rattle.machine_model.specs.Memory.{without_pages, with_pages}
+use Rattle.machine_model.specs.Memory.{without_pages, with_pages, zeroed_pages}
 use Rattle.machine_model.specs.State.{Record, is_at, pages_of, with_record, without_record}
 use Rattle.machine_model.specs.Refusals.{refusal_of, is_retired, is_gone, is_drafted, is_collected, is_of}
 use Rattle.machine_model.specs.Claims.{is_away}
@@ -20,7 +20,7 @@ use Rattle.machine_model.specs.declared.words.Work.TheVariants.{Io}
 use Rattle.page_ledger.specs.Owners.{with_owner, given_back, is_command, free_pages}
 use Rattle.page_ledger.specs.declared.owner.Owner.TheVariants.{Command}
 use Rattle.page_ledger.specs.declared.owner.Role.TheVariants.{Data, Chain}
-use Rattle.page_memory.specs.Pages.{Pages, page_at, zero_page}
+use Rattle.page_memory.specs.Pages.{Pages, page_at}
 use Rattle.sgl_chain.specs.Chains.{pages_needed}
 use Rattle.world_tables.specs.Tables.{Tables, state_of}
 use Rattle.world_tables.specs.declared.queue.Queue.{Queue}
@@ -81,10 +81,6 @@ CanTake (p ∷ ps) m = IsSome (page_at m p) × CanTake ps (slice_set m p None)
 abbrev pub CanPut : PagesOut → Pages → Type 0
 CanPut [] m = Unit {0}
 CanPut (page ∷ pages) m = (slice_get m page.0 ≡ Some None) × CanPut pages (slice_set m page.0 (Some page.1))
-
--- pages of zeros with these numbers
-abbrev pub zeroed_pages : List ℕ → PagesOut
-zeroed_pages numbers = map (λ p. (p, zero_page)) numbers
 
 -- the host's state of a queue, where there is one
 abbrev pub state_at : List Queue → ℕ → Option HostState

@@ -20,23 +20,20 @@ use Rattle.machine_model.specs.declared.words.Work.TheVariants.{Io, Management}
 use Rattle.page_ledger.specs.Owners.{given_back, is_half}
 use Rattle.page_memory.specs.declared.page.Half.TheVariants.{Completion}
 use Rattle.queue_pair.specs.Memory.{phased}
-use Rattle.queue_pair.specs.Rings.{DeviceRing, knowing, next_head}
+use Rattle.queue_pair.specs.Rings.{knowing, next_head}
 use Rattle.queue_pair.specs.Slots.{is_in_range, next_slot}
 use Rattle.world_tables.specs.Commands.{passes, state_at, without_claim}
+use Rattle.machine_model.specs.Rings.{head_bell}
 use Rattle.world_tables.specs.Tables.{Tables, state_of}
 use Rattle.world_tables.specs.Whole.{IsWhole}
 use Rattle.world_tables.specs.declared.queue.Queue.{Queue}
-
--- the controller hears a head, where it can be one
-abbrev pub head_rung : ℕ → ℕ → DeviceRing → DeviceRing
-head_rung n head ring = record ring { known_head = if is_in_range n ring.known_head ring.tail head then head else ring.known_head }
 
 -- a queue of which the completion at the head was taken, and the head was rung
 abbrev pub with_answer_taken : Queue → Queue
 with_answer_taken queue =
     record queue {
       host = record queue.host { ring = next_head queue.host.entries queue.host.ring };
-      device = record queue.device { ring = head_rung queue.device.entries (next_slot queue.host.entries queue.host.ring.head) queue.device.ring };
+      device = record queue.device { ring = head_bell queue.device.entries (next_slot queue.host.entries queue.host.ring.head) queue.device.ring };
     }
 
 abbrev pub with_head_known : ℕ → Queue → Queue

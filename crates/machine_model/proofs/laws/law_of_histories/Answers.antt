@@ -1,4 +1,5 @@
 use Rattle.machine_model.proofs.Histories.{histories_open, histories_grow}
+use Rattle.machine_model.proofs.MadeRuns.{run_is_made}
 use Rattle.machine_model.proofs.laws.law_of_histories.Goals as goal
 
 pub returns-clause-openings : goal.returns-clause-openings
@@ -6,3 +7,6 @@ returns-clause-openings c = histories_open
 
 pub returns-clause-steps : goal.returns-clause-steps
 returns-clause-steps c = histories_grow
+
+pub returns-clause-runs : goal.returns-clause-runs
+returns-clause-runs c = run_is_made
