@@ -7,10 +7,10 @@ use Rattle.io_commands.specs.Values.{FinishedContents, TicketContents, gathered_
 use Rattle.machine_model.specs.Events as events
 use Rattle.machine_model.specs.State.{State}
 use Rattle.machine_model.specs.Step as machine
-use Rattle.machine_model.specs.Image.{draft_of}
-use Rattle.machine_model.specs.Script.{Table, finished_at, is_ticket, filled_draft}
+use Rattle.machine_model.specs.Image.{draft_of, is_draft}
+use Rattle.machine_model.specs.Script.{Table, finished_at, is_ticket, filled_draft, is_finished}
 use Rattle.machine_model.specs.declared.words.Refusal.TheVariants as refusal
-use Rattle.step_core.specs.Bench.{is_draft, is_finished, without_first, with_first, Fills, Builds, Gathers, Collects}
+use Rattle.step_core.specs.Bench.{without_first, with_first, Fills, Builds, Gathers, Collects}
 use Rattle.step_core.specs.Kept.{pair_of, is_ticket_of, FillsDraft, BuildsDraft}
 use Rattle.step_core.specs.declared.step.Reply.{Reply}
 use Rattle.step_core.specs.declared.step.Reply.TheVariants as reply

@@ -8,13 +8,13 @@ use Rattle.io_commands.specs.declared.request.Request.{Request}
 use Rattle.machine_model.specs.Events as events
 use Rattle.machine_model.specs.Events.{Event}
 use Rattle.machine_model.specs.Run.{Run}
-use Rattle.machine_model.specs.Image.{draft_of}
-use Rattle.machine_model.specs.Script.{Table, finished_at, is_ticket}
+use Rattle.machine_model.specs.Image.{draft_of, is_draft}
+use Rattle.machine_model.specs.Script.{Table, finished_at, is_ticket, is_finished}
 use Rattle.machine_model.specs.State.{State}
 use Rattle.machine_model.specs.Step as machine
 use Rattle.machine_model.specs.declared.words.Refusal.TheVariants as refusal
 use Rattle.world_tables.proofs.Lists.{found_is}
-use Rattle.step_core.specs.Bench.{is_draft, is_finished, Does, Fills, Builds, Submits, Cancels, Collects, Gathers, Releases, Reserves, Collected, HasNoValue}
+use Rattle.step_core.specs.Bench.{Does, Fills, Builds, Submits, Cancels, Collects, Gathers, Releases, Reserves, Collected, HasNoValue}
 use Rattle.step_core.specs.Laws.{is_outside, Asks, Says, IsRunOf, benches_run_the_machine}
 use Rattle.step_core.specs.declared.step.Reply.{Reply}
 use Rattle.step_core.specs.declared.step.Reply.TheVariants as reply

@@ -1,12 +1,12 @@
 -- A bench: a world, with the drafts, the tickets and the finished commands that are about. What each of its steps may answer, and what it leaves.
-use Rattle.std.specs.Prelude.{◌≡◌, ℕ, ◌==◌, ◌&&◌, Bool, true, false, Option, Some, None, List, [], ◌∷◌, ◌++◌, length, if◌then◌else◌}
+use Rattle.std.specs.Prelude.{◌≡◌, ℕ, Bool, true, false, Option, Some, None, List, [], ◌∷◌, ◌++◌, length, if◌then◌else◌}
 use Rattle.std.specs.List.{list_any}
 use Rattle.io_commands.specs.Drafts.{DraftContents, built}
 use Rattle.io_commands.specs.Values.{FinishedContents, gathered_from}
 use Rattle.machine_model.specs.Events as events
 use Rattle.machine_model.specs.Events.{Event}
-use Rattle.machine_model.specs.Image.{draft_of}
-use Rattle.machine_model.specs.Script.{Table, finished_at, is_ticket, fill_fault, filled_draft}
+use Rattle.machine_model.specs.Image.{is_draft, draft_of}
+use Rattle.machine_model.specs.Script.{Table, is_finished, finished_at, is_ticket, fill_fault, filled_draft}
 use Rattle.machine_model.specs.declared.words.Refusal.TheVariants as refusal
 use Rattle.machine_model.specs.Step as machine
 use Rattle.step_core.specs.declared.step.Step.{Step}
@@ -24,12 +24,6 @@ without_first p (x ∷ xs) = if p x then xs else x ∷ without_first p xs
 abbrev pub with_first : {X : Type 0} → (X → Bool) → (X → X) → List X → List X
 with_first p f [] = []
 with_first p f (x ∷ xs) = if p x then f x ∷ xs else x ∷ with_first p f xs
-
-abbrev pub is_draft : ℕ → ℕ → DraftContents → Bool
-is_draft q cid d = (d.q == q) && (d.cid == cid)
-
-abbrev pub is_finished : ℕ → ℕ → FinishedContents → Bool
-is_finished q cid f = (f.q == q) && (f.cid == cid)
 
 -- Steps
 

@@ -3,3 +3,4 @@ pub mod Replies
 pub mod Bench
 pub mod Kept
 pub mod Laws
+pub mod Going

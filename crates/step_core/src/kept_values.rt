@@ -2,7 +2,8 @@
 
 ghost use Rattle.std.specs.Prelude.{◌≡◌, ◌+◌, ◌<◌, ◌≤◌, None, IfSome, IfNone, find, position, vec_len, vec_capacity};
 ghost use Rattle.std.specs.List.{insert};
-ghost use Rattle.step_core.specs.Bench.{is_draft, is_finished};
+ghost use Rattle.machine_model.specs.Image.{is_draft};
+ghost use Rattle.machine_model.specs.Script.{is_finished};
 ghost use Rattle.step_core.specs.Kept.{is_ticket_of, IsTaken};
 
 use io_commands::{Draft, Finished, Ticket};

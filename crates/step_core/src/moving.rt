@@ -4,8 +4,8 @@ ghost use Rattle.std.specs.Prelude.{◌≡◌, ◌+◌, ◌≤◌, ◌++◌, len
 ghost use Rattle.std.specs.Option.{option_map_or};
 ghost use Rattle.world_tables.specs.Collecting.{taken_pages};
 ghost use Rattle.page_memory.specs.Pages.{page_at, zero_page};
-ghost use Rattle.machine_model.specs.Memory.{without_pages, with_pages};
-ghost use Rattle.world_tables.specs.Commands.{CanTake, CanPut, zeroed_pages};
+ghost use Rattle.machine_model.specs.Memory.{without_pages, with_pages, zeroed_pages};
+ghost use Rattle.world_tables.specs.Commands.{CanTake, CanPut};
 
 use page_memory::{Page, PageNo, Store};
 

@@ -1,5 +1,5 @@
 use Rattle.std.proofs.Common.{◌≡◌, Some, None, position}
-use Rattle.step_core.specs.Bench.{is_finished}
+use Rattle.machine_model.specs.Script.{is_finished}
 use Rattle.step_core.proofs.Firsts.{none_found, taken, within_first}
 use Rattle.step_core.proofs.kept_values.take_finished.Goals as goal
 

@@ -1,5 +1,10 @@
+use Rattle.machine_model.proofs.MadeRuns.{run_is_made}
+use Rattle.step_core.proofs.Lawful.{makes_trusted_run}
 use Rattle.step_core.proofs.RunsOf.{runs_of}
 use Rattle.step_core.proofs.laws.law_of_benches.Goals as goal
 
-pub returns : goal.returns
-returns c = runs_of
+pub returns-clause-run : goal.returns-clause-run
+returns-clause-run c = runs_of
+
+pub returns-clause-lawful : goal.returns-clause-lawful
+returns-clause-lawful c = makes_trusted_run run_is_made

@@ -1,5 +1,5 @@
 use Rattle.std.proofs.Common.{◌≡◌, Some, None, position}
-use Rattle.step_core.specs.Bench.{is_draft}
+use Rattle.machine_model.specs.Image.{is_draft}
 use Rattle.step_core.specs.Kept.{table_of}
 use Rattle.step_core.proofs.Benches.{builds, no_build}
 use Rattle.step_core.proofs.kept.Kept.build.Goals as goal

@@ -1,5 +1,5 @@
 use Rattle.std.proofs.Common.{◌≡◌, Some, None, position}
-use Rattle.step_core.specs.Bench.{is_draft}
+use Rattle.machine_model.specs.Image.{is_draft}
 use Rattle.step_core.specs.Kept.{table_of}
 use Rattle.step_core.proofs.Benches.{fills, no_fill}
 use Rattle.step_core.proofs.kept.Kept.fill.Goals as goal

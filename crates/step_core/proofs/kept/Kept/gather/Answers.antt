@@ -1,5 +1,5 @@
 use Rattle.std.proofs.Common.{◌≡◌, Some, None, position, ◌∙◌}
-use Rattle.step_core.specs.Bench.{is_finished}
+use Rattle.machine_model.specs.Script.{is_finished}
 use Rattle.step_core.specs.Kept.{table_of}
 use Rattle.step_core.proofs.Benches.{gathers, gathers_nothing, no_gather}
 use Rattle.step_core.proofs.kept.Kept.gather.Goals as goal

@@ -3,7 +3,7 @@ use Rattle.io_commands.specs.DataBytes.{PagesOut}
 use Rattle.io_commands.specs.Drafts.{DraftContents}
 use Rattle.io_commands.specs.Values.{data_part, chain_part}
 use Rattle.io_commands.specs.declared.request.Request.{Request}
-use Rattle.machine_model.specs.Memory.{without_pages}
+use Rattle.machine_model.specs.Memory.{without_pages, zeroed_pages}
 use Rattle.machine_model.specs.State.{Record}
 use Rattle.machine_model.specs.declared.words.Phase.TheVariants.{Drafted}
 use Rattle.machine_model.specs.declared.words.Work.TheVariants.{Io}
@@ -12,7 +12,7 @@ use Rattle.page_ledger.specs.declared.owner.Owner.TheVariants.{Command}
 use Rattle.page_ledger.specs.declared.owner.Role.TheVariants.{Data, Chain}
 use Rattle.page_memory.specs.Pages.{Pages}
 use Rattle.sgl_chain.specs.Chains.{pages_needed}
-use Rattle.world_tables.specs.Commands.{reserved, CanTake, zeroed_pages}
+use Rattle.world_tables.specs.Commands.{reserved, CanTake}
 use Rattle.step_core.specs.Parts.{tables_of}
 use Rattle.world_tables.specs.Tables.{Tables}
 use Rattle.world_tables.proofs.Granted.{granted_can_take, made_draft, made_size, reserved_tables}

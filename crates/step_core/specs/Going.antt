@@ -1,0 +1,71 @@
+-- Benches go on: each step has an answer, from each table that steps of a bench lead to; and what they tell of its controller.
+use Rattle.std.specs.Prelude.{◌≡◌, ℕ, ◌&&◌, IsTrue, None, List, length, map}
+use Rattle.std.specs.List.{AllByRecursion}
+use Rattle.block_image.specs.Blocks.{IsImage}
+use Rattle.io_commands.specs.Requests.{FitsRequest}
+use Rattle.machine_model.specs.Events as events
+use Rattle.machine_model.specs.Events.{Event}
+use Rattle.machine_model.specs.Image.{Made}
+use Rattle.machine_model.specs.InOrder.{IsInOrder}
+use Rattle.machine_model.specs.Laws.{TrustedRun}
+use Rattle.machine_model.specs.Proper.{IsProper, IsProperDraft}
+use Rattle.machine_model.specs.Script.{Table, table}
+use Rattle.machine_model.specs.State.{State}
+use Rattle.machine_model.specs.Touch.{stays_allowed, stays_own}
+use Rattle.step_core.specs.Bench.{Does, DoesAll}
+use Rattle.step_core.specs.Laws.{Asks, Says, AreOf}
+use Rattle.step_core.specs.declared.step.Reply.{Reply}
+use Rattle.step_core.specs.declared.step.Step.{Step}
+use Rattle.step_core.specs.declared.step.Step.TheVariants as step
+use Rattle.world_tables.specs.Opening.{refusal_of_config, opening_of}
+use Rattle.world_tables.specs.declared.config.Config.{Config}
+
+-- a step whose numbers fit: a request's, and the 16 bytes of an entry
+abbrev pub IsFitStep : Step → Type 0
+IsFitStep (step.Reserve q request) = FitsRequest request
+IsFitStep (step.Forge q slot bytes) = length bytes ≡ 16
+IsFitStep what = Unit {0}
+
+-- a world in order, and kept values that its steps take
+pub record IsTableInOrder (t : Table) : Type 0 where
+  pub world : IsInOrder t.world
+  pub drafts : AllByRecursion IsProperDraft t.drafts
+  pub finished : AllByRecursion (λ f. IsProper (events.Release f)) t.finished
+
+abbrev pub benches_open_in_order : Type 0
+benches_open_in_order =
+    (config : Config) (image : List ℕ) → refusal_of_config config ≡ None → IsImage image → IsTableInOrder (table (opening_of config image))
+
+abbrev pub benches_keep_order : Type 0
+benches_keep_order = (t : Table) (what : Step) (answer : Reply) (new : Table) → IsTableInOrder t → Does t what answer new → IsTableInOrder new
+
+-- an answer that a step may get, and what it leaves
+pub record GoesOn (t : Table) (what : Step) : Type 0 where
+  pub answer : Reply
+  pub left : Table
+  pub does : Does t what answer left
+
+-- whatever was forged, each step has an answer
+abbrev pub benches_go_on : Type 0
+benches_go_on = (t : Table) (what : Step) → IsTableInOrder t → IsFitStep what → GoesOn t what
+
+-- where nothing was forged, what a step's answer tells of the machine's reply names allowed pages alone, and only those of its own queue or
+-- command
+abbrev pub benches_touch_what_they_may : Type 0
+benches_touch_what_they_may =
+    (t : Table) (what : Step) (answer : Reply) (new : Table) (e : Event) (r : events.Reply)
+    → IsTableInOrder t → IsTrue t.world.trusted → Does t what answer new → Asks what e → Says answer r
+    → IsTrue (stays_allowed t.world r && stays_own t.world e r)
+
+-- steps of the machine as they were made, which are those of a bench's steps and answers
+pub record IsTrustedRunOfBench (steps : List Step) (answers : List Reply) (image : List ℕ) (end : State) : Type 0 where
+  pub made : List Made
+  pub are_of : AreOf steps answers (map (λ m. m.event) made) (map (λ m. m.reply) made)
+  pub run : TrustedRun image made end
+
+-- what a bench did since it opened, if nothing was forged, is a run of which the machine's laws speak
+abbrev pub benches_make_trusted_runs : Type 0
+benches_make_trusted_runs =
+    (config : Config) (image : List ℕ) (steps : List Step) (answers : List Reply) (new : Table)
+    → refusal_of_config config ≡ None → IsImage image → DoesAll (table (opening_of config image)) steps answers new → IsTrue new.world.trusted
+    → IsTrustedRunOfBench steps answers image new.world
