@@ -4,12 +4,14 @@ use Rattle.std.specs.Prelude.{OnOk, OnErr, IfErr}
 use Rattle.std.specs.Io.KnownBytes.{Appends, Keeps}
 use Rattle.std.proofs.lemmas.Bool.{ltb-true, ltb-false}
 use Rattle.std.proofs.lemmas.Grind.{common_steps}
+use Rattle.block_image.specs.Blocks.{IsImage}
 use Rattle.machine_model.specs.Script.{Table, table}
 use Rattle.std.proofs.lemmas.List.{take_all}
+use Rattle.script_cli.proofs.GoingOn.{cut_is_front}
 use Rattle.script_cli.proofs.Inputs.{first_are_long, appends_more, appends_none, keeps_then}
 use Rattle.script_cli.specs.Faults.{fault_of_script}
 use Rattle.script_cli.specs.Inputs.{AreFirstOf, Gains, IsFront}
-use Rattle.script_cli.specs.Runs.{PrintsLine, Prints, last_line, IsRunText, IsCutText, HasScript, HasFault, IsNoScript, EndsWith}
+use Rattle.script_cli.specs.Runs.{PrintsLine, Prints, last_line, IsRunText, IsFrontOfFirst, HasScript, HasFault, IsNoScript, EndsWith}
 use Rattle.script_cli.specs.Scripts.{script_of, IsReading}
 use Rattle.script_cli.specs.declared.fault.RunFault.{RunFault}
 use Rattle.script_cli.specs.declared.fault.RunFault.TheVariants as run
@@ -73,12 +75,12 @@ printed_more t done mid next text new a b c (said, run, first) line then =
     (said ++ text, prints_more t done said mid next text new run line, appends_more a b c said text first then)
 
 -- between lines
-pub cut_between : (t : Table) (script done left : List Numbered) (mid : Table) (a b : Option (List ℕ)) → done ++ left ≡ script → HasPrinted t done mid a b → Gains a b (IsCutText t script)
+pub cut_between : (t : Table) (script done left : List Numbered) (mid : Table) (a b : Option (List ℕ)) → done ++ left ≡ script → HasPrinted t done mid a b → Gains a b (IsFrontOfFirst t script)
 cut_between t script done left mid a b split (said, run, first) = (said, (done, left, mid, said, sym split, run, (last_line left mid, refl)), first)
 
 -- inside what a line prints
 pub cut_inside : (t : Table) (script done left : List Numbered) (mid : Table) (next : Numbered) (text : List ℕ) (new : Table) (a b c : Option (List ℕ)) → done ++ next ∷ left ≡ script →
-    HasPrinted t done mid a b → PrintsLine mid next.number next.line text new → Gains b c (IsFrontOf text) → Gains a c (IsCutText t script)
+    HasPrinted t done mid a b → PrintsLine mid next.number next.line text new → Gains b c (IsFrontOf text) → Gains a c (IsFrontOfFirst t script)
 cut_inside t script done left mid next text new a b c split (said, run, first) line (front, (rest, joined), then) = (
   said ++ front,
   (
@@ -95,7 +97,7 @@ cut_inside t script done left mid next text new a b c split (said, run, first) l
 
 -- inside the counts
 pub cut_in_counts : (t : Table) (script : List Numbered) (last : Table) (a b c : Option (List ℕ)) →
-    HasPrinted t script last a b → Gains b c (IsFrontOf (last_line [] last)) → Gains a c (IsCutText t script)
+    HasPrinted t script last a b → Gains b c (IsFrontOf (last_line [] last)) → Gains a c (IsFrontOfFirst t script)
 cut_in_counts t script last a b c (said, run, first) (front, (rest, joined), then) =
     (said ++ front, (script, [], last, said, grind (arith, common_steps), run, (rest, grind (arith, common_steps))), appends_more a b c said front first then)
 
@@ -108,7 +110,7 @@ pub kept_gains : (a b c : Option (List ℕ)) (Holds : List ℕ → Type 0) → G
 kept_gains a b c Holds (bytes, holds, first) kept = (bytes, holds, keeps_then a b c bytes first kept)
 
 -- a whole text is a front of itself
-pub whole_is_cut : (t : Table) (script : List Numbered) (a b : Option (List ℕ)) → Gains a b (IsRunText t script) → Gains a b (IsCutText t script)
+pub whole_is_cut : (t : Table) (script : List Numbered) (a b : Option (List ℕ)) → Gains a b (IsRunText t script) → Gains a b (IsFrontOfFirst t script)
 whole_is_cut t script a b (text, (last, said, run, joined), first) =
     (text, (script, [], last, said, grind (arith, common_steps), run, ([], grind (arith, common_steps))), first)
 
@@ -123,8 +125,8 @@ on_ok (Err fault) holds = _
 
 -- a run that was cut off says so
 pub run_ends : {T : Type 0} (r : Result T RunFault) (told : Option (List ℕ)) (config : Config) (image : List ℕ) (a b : Option (List ℕ)) (script : List Numbered) →
-    HasScript told script → refusal_of_config config ≡ None → OnErr r (Gains a b (IsCutText (table (opening_of config image)) script)) →
+    HasScript told script → refusal_of_config config ≡ None → IsImage image → OnErr r (Gains a b (IsFrontOfFirst (table (opening_of config image)) script)) →
     IfErr r (λ fault. (fault ≡ run.Memory) ⊎ (fault ≡ run.OutputFailed)) → IfErr r (EndsWith told config image a b)
-run_ends (Ok done) told config image a b script has fits cut says = _
-run_ends (Err fault) told config image a b script has fits cut (inl e) = rw e (inr (script, has, fits, cut))
-run_ends (Err fault) told config image a b script has fits cut (inr e) = rw e (script, has, fits, cut)
+run_ends (Ok done) told config image a b script has fits good cut says = _
+run_ends (Err fault) told config image a b script has fits good (text, front, written) (inl e) = rw e (inr (script, has, fits, (text, cut_is_front told config image script text has fits good front, written)))
+run_ends (Err fault) told config image a b script has fits good (text, front, written) (inr e) = rw e (script, has, fits, (text, cut_is_front told config image script text has fits good front, written))

@@ -1,6 +1,6 @@
 -- What a run of a script prints, and how it may end.
 use Rattle.std.specs.Prelude.{◌≡◌, ◌⊎◌, ℕ, Option, Some, None, Ok, Err, List, [], ◌∷◌, ◌++◌, length}
-use Rattle.std.specs.List.{Contains}
+use Rattle.std.specs.List.{AllByRecursion, Contains}
 use Rattle.std.specs.Io.KnownBytes.{Keeps}
 use Rattle.machine_model.specs.Claims.{claims_of, counts_of}
 use Rattle.machine_model.specs.Script.{Table, table}
@@ -22,9 +22,20 @@ use Rattle.script_cli.specs.declared.script.Line.{Line}
 use Rattle.script_cli.specs.declared.script.Line.TheVariants as line
 use Rattle.script_cli.specs.declared.script.Numbered.{Numbered}
 use Rattle.step_core.specs.Bench.{Does}
+use Rattle.step_core.specs.Going.{IsFitStep}
 use Rattle.step_core.specs.declared.step.Reply.{Reply}
 use Rattle.world_tables.specs.Opening.{refusal_of_config, opening_of}
 use Rattle.world_tables.specs.declared.config.Config.{Config}
+
+-- Lines whose numbers fit, as those of each script without faults do
+
+abbrev pub IsFitLine : Line → Type 0
+IsFitLine (line.Step what) = IsFitStep what
+IsFitLine line.Owners = Unit {0}
+IsFitLine line.Nothing = Unit {0}
+
+abbrev pub AreFitLines : List Numbered → Type 0
+AreFitLines script = AllByRecursion (λ numbered. IsFitLine numbered.line) script
 
 -- What is printed
 
@@ -54,11 +65,15 @@ last_line (next ∷ rest) t = []
 abbrev pub IsRunText : Table → List Numbered → List ℕ → Type 0
 IsRunText t script text = (last : Table) × (said : List ℕ) × Prints t script said last × (text ≡ said ++ last_line [] last)
 
--- what stands where a run was cut off: the front of what its first lines print, with the counts where these are all lines
-abbrev pub IsCutText : Table → List Numbered → List ℕ → Type 0
-IsCutText t script text =
+-- what stands where a run was cut off, told by the lines that were done: the front of what these print, with the counts where they are all
+abbrev pub IsFrontOfFirst : Table → List Numbered → List ℕ → Type 0
+IsFrontOfFirst t script text =
     (done : List Numbered) × (left : List Numbered) × (last : Table) × (said : List ℕ)
     × (script ≡ done ++ left) × Prints t done said last × IsFront text (said ++ last_line left last)
+
+-- what was written of a run that was cut off: the front of the text of a run of the whole script
+abbrev pub IsCutText : Table → List Numbered → List ℕ → Type 0
+IsCutText t script text = (whole : List ℕ) × IsRunText t script whole × IsFront text whole
 
 -- How a run ends
 

@@ -1,11 +1,12 @@
 //! A script, played over a world that it opens.
 
 ghost use Rattle.std.specs.Prelude.{◌≡◌, ◌≤◌, ◌⊎◌, length, OnOk, OnErr, IfOk, IfErr, None, string_bytes};
+ghost use Rattle.block_image.specs.Blocks.{IsImage};
 ghost use Rattle.machine_model.specs.Claims.{counts_of};
 ghost use Rattle.machine_model.specs.Script.{table};
 ghost use Rattle.script_cli.specs.Inputs.{Gains};
 ghost use Rattle.script_cli.specs.Owners.{counts_line};
-ghost use Rattle.script_cli.specs.Runs.{AreOwners, PrintsLine, IsRunText, IsCutText, HasScript, IsNoScript, IsNoOpening, Writes, EndsWith};
+ghost use Rattle.script_cli.specs.Runs.{AreOwners, PrintsLine, IsRunText, IsFrontOfFirst, HasScript, IsNoScript, IsNoOpening, Writes, EndsWith};
 ghost use Rattle.script_cli.specs.declared.fault.RunFault.TheVariants as run;
 ghost use Rattle.step_core.specs.Bench.{Does};
 ghost use Rattle.world_tables.specs.Opening.{refusal_of_config, opening_of};
@@ -44,8 +45,10 @@ fn load<R: Read>(alloc: Global, reader: &mut R) -> Result<Script, RunFault>
 fn open(alloc: Global, config: Config, image: Image) -> Result<Bench, RunFault>
     ensures fits { IfOk result (λ bench. refusal_of_config config ≡ None) }
     ensures opened { IfOk result (λ bench. bench ≡ table (opening_of config image)) }
+    ensures image { IsImage image }
     ensures fault { IfErr result (λ fault. IsNoOpening config fault) }
 {
+    let _blocks = image.blocks();
     match Bench::open(alloc, config, image) {
         Ok(bench) => Ok(bench),
         Err(refused) => Err(not_opened(refused.why)),
@@ -116,7 +119,7 @@ fn play<W: Write>(
     writer: &mut W,
 ) -> Result<(), RunFault>
     ensures ran { OnOk result (Gains (W.contents writer.old) (W.contents writer.new) (IsRunText bench.old script)) }
-    ensures cut { OnErr result (Gains (W.contents writer.old) (W.contents writer.new) (IsCutText bench.old script)) }
+    ensures cut { OnErr result (Gains (W.contents writer.old) (W.contents writer.new) (IsFrontOfFirst bench.old script)) }
     ensures fault { IfErr result (λ fault. (fault ≡ run.Memory) ⊎ (fault ≡ run.OutputFailed)) }
 {
     for numbered in script.into_lines() {
