@@ -10,9 +10,8 @@ use crate::kept_values::{
     draft_place, finished_place, put_back, take_draft, take_finished, take_ticket,
 };
 use crate::refused::{Refused, StepRefused, none_touched};
-use crate::reserve::pages_of_request;
 use crate::step::{Bytes, Reply, Step};
-use io_commands::{Draft, Request};
+use io_commands::Request;
 use machine_model::words::Refusal;
 
 /// What a refused call of the host answers.
@@ -35,20 +34,6 @@ fn refused_step(step: StepRefused) -> Reply
     }
 }
 
-/// What is answered of a command that was reserved.
-fn reserved(draft: &Draft) -> Reply
-    ensures { result ≡ Reply.Reserved draft.now.q draft.now.cid (length draft.now.data_pages) (length draft.now.chain_pages) }
-{
-    let request = draft.request();
-    let (data, chain) = pages_of_request(request, draft.segment() as u16);
-    Reply::Reserved {
-        q: draft.q(),
-        cid: draft.cid(),
-        data,
-        chain,
-    }
-}
-
 impl Kept {
     /// Reserves a command, and keeps its draft.
     fn reserve(&mut self, q: u16, request: Request) -> Reply
@@ -58,7 +43,7 @@ impl Kept {
     {
         match self.world.reserve(q, request) {
             Ok(draft) => {
-                let reply = reserved(&draft);
+                let reply = Reply::reserved(&draft);
                 self.drafts.push_reserved(draft);
                 reply
             }

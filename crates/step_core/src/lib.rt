@@ -16,17 +16,11 @@
 mod answer;
 mod bench;
 mod bench_steps;
-#[cfg(test)]
-mod bench_tests;
 mod collect;
-#[cfg(test)]
-mod command_tests;
 mod compare;
 mod complete;
 mod ended;
 mod fetch;
-#[cfg(test)]
-mod fetching_tests;
 mod fill;
 mod finish;
 mod forge;
@@ -37,26 +31,16 @@ mod lookup;
 mod manage;
 mod moving;
 mod open;
-#[cfg(test)]
-mod opening_tests;
 mod parts;
 mod post;
 mod reap;
-#[cfg(test)]
-mod reaping_tests;
 mod refused;
 mod reserve;
 mod retire;
-#[cfg(test)]
-mod retiring_tests;
 mod ring;
 mod send;
-#[cfg(test)]
-mod sending_tests;
 mod step;
 mod submit;
-#[cfg(test)]
-mod told;
 mod view;
 mod walk;
 mod world;

@@ -90,12 +90,26 @@ pub(crate) fn touched_by(store: &Store) -> Touched
 pub(crate) fn none_touched() -> Touched
     ensures { result ≡ [] }
 {
-    Touched {
-        pages: ArrayVec::new(),
-    }
+    Touched::none()
 }
 
 impl Touched {
+    /// No page.
+    pub fn none() -> Touched
+        ensures { result ≡ [] }
+    {
+        Touched {
+            pages: ArrayVec::new(),
+        }
+    }
+
+    /// The same pages once more, to be kept beside an answer that is handed on. It takes no memory.
+    pub fn copied(&self) -> Touched
+        ensures { result ≡ self.now }
+    {
+        listed(&self.pages)
+    }
+
     /// The pages, in the order in which they were touched.
     pub fn pages(&self) -> &[PageNo]
         ensures { result.now ≡ self.now }

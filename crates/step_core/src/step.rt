@@ -1,11 +1,12 @@
 //! Steps as values: what a bench is told to do, and what each step answered.
 
-ghost use Rattle.std.specs.Prelude.{◌≡◌};
+ghost use Rattle.std.specs.Prelude.{◌≡◌, length};
 
 use crate::refused::Touched;
+use crate::reserve::pages_of_request;
 use controller_walk::WalkState;
 use entry_codec::Status;
-use io_commands::{FillFault, Request};
+use io_commands::{Draft, FillFault, Request};
 use machine_model::words::{Reaped, Refusal};
 use std::marker::Model;
 
@@ -226,4 +227,20 @@ pub enum Reply {
         /// The pages that a step of the controller touched before it was refused.
         touched: Touched,
     },
+}
+
+impl Reply {
+    /// What is answered of a command that was reserved.
+    pub fn reserved(draft: &Draft) -> Reply
+        ensures { result ≡ Reply.Reserved draft.now.q draft.now.cid (length draft.now.data_pages) (length draft.now.chain_pages) }
+    {
+        let request = draft.request();
+        let (data, chain) = pages_of_request(request, draft.segment() as u16);
+        Reply::Reserved {
+            q: draft.q(),
+            cid: draft.cid(),
+            data,
+            chain,
+        }
+    }
 }

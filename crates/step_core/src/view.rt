@@ -1,6 +1,6 @@
 //! What a world shows: whose each page is, how many pages each class has, and whether something was forged.
 
-ghost use Rattle.std.specs.Prelude.{◌≡◌, ◌<◌, ◌≤◌, length};
+ghost use Rattle.std.specs.Prelude.{◌≡◌, ◌==◌, ◌<◌, ◌≤◌, length};
 ghost use Rattle.std.specs.List.{Contains};
 ghost use Rattle.machine_model.specs.Claims.{claims_of, counts_of, IsSound};
 ghost use Rattle.page_ledger.specs.Counting.{total};
@@ -33,6 +33,13 @@ impl World {
         ensures most { length self.now.memory ≤ 65536 }
     {
         self.parts.ledger.pages()
+    }
+
+    /// Whether no command is outstanding, of an I/O queue or of queue 0.
+    pub fn is_idle(&self) -> bool
+        ensures { result ≡ (length self.now.host.records == 0) }
+    {
+        self.parts.records.is_empty()
     }
 
     /// Whether nothing was forged.

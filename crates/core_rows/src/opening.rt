@@ -1,6 +1,5 @@
 //! Openings at their borders, what a world shows as it opens, and its end.
 
-use super::*;
 use block_image::Image;
 use io_commands::Ticket;
 use page_ledger::{Counts, Owner};
@@ -8,6 +7,7 @@ use page_memory::{Half, PageNo};
 use std::alloc::Global;
 use std::process::Abort;
 use std::test::Fail;
+use step_core::*;
 
 /// A small world.
 const SMALL: Config = Config {

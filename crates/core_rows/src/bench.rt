@@ -1,6 +1,5 @@
 //! Lists of steps on a bench: values that are about and values that are not, and steps that are refused.
 
-use super::*;
 use crate::told::{
     AS_OPENED, USUAL, build, bytes, cancel, collect, complete, fill, gather, read_one, release,
     reserve, run, submit,
@@ -10,6 +9,7 @@ use io_commands::{Kind, Piece};
 use page_ledger::Owner;
 use page_memory::{Half, PageNo};
 use std::test::Fail;
+use step_core::*;
 
 #[test]
 fn a_draft_is_filled_built_and_cancelled(rt: HostRuntime) -> Result<(), Fail> {

@@ -1,12 +1,12 @@
 //! Commands reserved, cancelled, submitted and rung, an entry forged, and queues that are not retired.
 
-use super::*;
 use block_image::Image;
 use io_commands::{Draft, Kind, Piece, Pieces, Request, RequestFault, Ticket};
 use page_ledger::Counts;
 use page_memory::PageNo;
 use std::alloc::Global;
 use std::test::Fail;
+use step_core::*;
 
 /// A world of 16 pages with one I/O queue of 4 entries: pages 4 to 15 are free.
 fn open(alloc: Global) -> Result<World, Fail> {

@@ -1,6 +1,5 @@
 //! Lists of steps with what each must answer, as the tests write them.
 
-use super::*;
 use block_image::Image;
 use controller_walk::WalkState;
 use io_commands::{Kind, Piece, Pieces, Request};
@@ -8,6 +7,7 @@ use page_ledger::Counts;
 use std::alloc::Global;
 use std::process::Abort;
 use std::test::Fail;
+use step_core::*;
 
 /// 16 pages and one I/O queue of 4 entries: pages 4 to 15 are free.
 pub(crate) const USUAL: Config = Config {

@@ -1,9 +1,9 @@
 //! Completions reaped that no command waits for.
 
-use super::*;
 use block_image::Image;
 use std::alloc::Global;
 use std::test::Fail;
+use step_core::*;
 
 /// A world of 16 pages with one I/O queue of 4 entries.
 fn open(alloc: Global) -> Result<World, Fail> {

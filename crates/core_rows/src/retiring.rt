@@ -1,8 +1,8 @@
 //! A queue that is deleted and retired.
 
-use super::*;
 use crate::told::{build, collect, read_one, release, run, submit};
 use std::test::Fail;
+use step_core::*;
 
 #[test]
 fn what_was_never_fetched_ends_with_its_queue(rt: HostRuntime) -> Result<(), Fail> {

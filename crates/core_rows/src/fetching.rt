@@ -1,8 +1,8 @@
 //! Entries that are fetched, once each, and one whose identifier is fetched already.
 
-use super::*;
 use crate::told::{build, collect, complete, read_one, release, run, submit};
 use std::test::Fail;
+use step_core::*;
 
 #[test]
 fn nothing_rung_is_idle(rt: HostRuntime) -> Result<(), Fail> {

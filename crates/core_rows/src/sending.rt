@@ -1,10 +1,10 @@
 //! Admin commands that are sent, and what is against them.
 
-use super::*;
 use block_image::Image;
 use entry_codec::Status;
 use std::alloc::Global;
 use std::test::Fail;
+use step_core::*;
 
 /// A world of 16 pages with one I/O queue of 4 entries.
 fn open(alloc: Global) -> Result<World, Fail> {
