@@ -1,0 +1,4 @@
+pub mod Histories
+pub mod EachReceipt
+pub mod Standing
+pub mod Runs

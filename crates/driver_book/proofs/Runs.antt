@@ -1,0 +1,133 @@
+-- A log that grows by a step.
+use Rattle.std.proofs.Common.{◌≡◌, ℕ, ◌+◌, List, [], ◌∷◌, ◌++◌, Option, Some, None, Bool, true, false, not, ◌||◌, cond, Result, Ok, Err, is_ok, true≢false, refl, sym, ap, ◌∙◌, arith}
+use Rattle.std.proofs.lemmas.List.{append-nil}
+use Rattle.std.proofs.lemmas.List.Sums.{sum_by_push}
+use Rattle.std.specs.Prelude.{is_some}
+use Rattle.io_commands.specs.Drafts.{DraftContents}
+use Rattle.io_commands.specs.Values.{TicketContents}
+use Rattle.machine_model.specs.Events as events
+use Rattle.machine_model.specs.Events.{Event}
+use Rattle.machine_model.specs.State.{State}
+use Rattle.machine_model.specs.Step as machine
+use Rattle.machine_model.specs.declared.words.Refusal.TheVariants as refusal
+use Rattle.driver_book.specs.Calls.{noted, entries, Does}
+use Rattle.driver_book.proofs.Histories.{leads_further}
+use Rattle.driver_book.specs.History.{asked, told, entry, is_submission, is_accepted, accepted}
+use Rattle.driver_book.specs.State.{BookContents, IsBook, is_seated, AreSeated}
+use Rattle.driver_book.specs.declared.log.Entry.{Entry}
+use Rattle.step_core.specs.Replies.{accept_reply}
+use Rattle.step_core.specs.declared.refused.Refused.{Refused}
+use Rattle.world_tables.specs.Touching.{StaysAllowed}
+
+-- Counts
+
+accepted_push : (log : List Entry) (e : Entry) → accepted (log ++ e ∷ []) ≡ accepted log + cond (is_accepted e) 1 0
+accepted_push log e = sum_by_push (λ (x : Entry). cond (is_accepted x) 1 0) log e
+
+pub accepted_other : (log : List Entry) (e : Entry) → is_accepted e ≡ false → accepted (log ++ e ∷ []) ≡ accepted log
+accepted_other log e other = accepted_push log e ∙ ap (λ (x : Bool). accepted log + cond x 1 0) other ∙ omega arith
+
+pub accepted_more : (log : List Entry) (e : Entry) → is_accepted e ≡ true → accepted (log ++ e ∷ []) ≡ accepted log + 1
+accepted_more log e is = accepted_push log e ∙ ap (λ (x : Bool). accepted log + cond x 1 0) is
+
+seated_push : (log : List Entry) (e : Entry) → AreSeated log → is_seated e ≡ true → AreSeated (log ++ e ∷ [])
+seated_push [] e are is = (is, tt)
+seated_push (x ∷ xs) e are is = (are.0, seated_push xs e are.1 is)
+
+not_accepted : (seat : Option ℕ) (b : Bool) → b ≡ false → (is_some seat || not b) ≡ true
+not_accepted (Some n) b isnt = refl
+not_accepted None b isnt = ap not isnt
+
+-- Books
+
+-- an entry that is no accepted submission
+book_step : {o w v : State} {log : List Entry} {tally subs parts out made ledger : ℕ} (seat : Option ℕ) (e : Event) (r : events.Reply)
+    → IsBook o w log tally subs parts out made ledger → machine.Step w e r v → is_submission (asked e) (told r) ≡ false
+    → IsBook o v (log ++ entry seat (asked e) (told r) ∷ []) tally subs parts out made ledger
+book_step {o = o} {w = w} {v = v} {log = log} seat e r b step other =
+    let written : Entry = entry seat (asked e) (told r) in
+    let same : accepted (log ++ written ∷ []) ≡ accepted log = accepted_other log written other in
+    record {
+      legal = leads_further o w v log written b.legal (record { event = e; answer = r; asks = refl; tells = refl; step = step });
+      counted = same ∙ b.counted;
+      numbered = b.numbered ∙ sym same;
+      seated = seated_push log written b.seated (not_accepted seat (is_submission (asked e) (told r)) other);
+      shares = b.shares;
+      all_parts = b.all_parts;
+      given = b.given;
+      most = b.most;
+    }
+
+-- an accepted submission of a seat that is counted
+book_accept : {o w v : State} {log : List Entry} {tally more subs parts out made ledger : ℕ} (seat : ℕ) (d : DraftContents)
+    → IsBook o w log tally subs parts out made ledger → machine.Step w (events.Submit d) events.Accepted v → more ≡ tally + 1
+    → IsBook o v (log ++ entry (Some seat) (asked (events.Submit d)) (told events.Accepted) ∷ []) more (subs + 1) parts out made ledger
+book_accept {o = o} {w = w} {v = v} {log = log} seat d b step counted =
+    let written : Entry = entry (Some seat) (asked (events.Submit d)) (told events.Accepted) in
+    let one : accepted (log ++ written ∷ []) ≡ accepted log + 1 = accepted_more log written refl in
+    record {
+      legal = leads_further o w v log written b.legal (record { event = events.Submit d; answer = events.Accepted; asks = refl; tells = refl; step = step });
+      counted = one ∙ ap (λ (n : ℕ). n + 1) b.counted ∙ sym counted;
+      numbered = ap (λ (n : ℕ). n + 1) b.numbered ∙ sym one;
+      seated = seated_push log written b.seated refl;
+      shares = b.shares;
+      all_parts = b.all_parts;
+      given = b.given;
+      most = b.most;
+    }
+
+-- What a step leaves is a book of the log with what was written of it: nothing, where memory was refused.
+pub keeps_book : {o w v : State} {log now : List Entry} {tally subs parts out made ledger : ℕ} (seat : Option ℕ) (e : Event) (r : events.Reply)
+    → IsBook o w log tally subs parts out made ledger → machine.Step w e r v → is_submission (asked e) (told r) ≡ false → now ≡ log ++ entries seat (asked e) (noted r)
+    → IsBook o v now tally subs parts out made ledger
+keeps_book {log = log} seat e (events.Refused refusal.Memory pages) b step other is = rw (is ∙ append-nil log, step.2) b
+keeps_book seat e (events.Refused why pages) b step other is = rw is (book_step seat e (events.Refused why pages) b step other)
+keeps_book seat e r b step other is = rw is (book_step seat e r b step other)
+
+-- so does an accepted submission, where it is counted, ..
+pub accepts_book : {o w v : State} {log now : List Entry} {tally more subs parts out made ledger : ℕ} (seat : ℕ) (d : DraftContents) (answer : Result TicketContents (Refused DraftContents))
+    → is_ok answer ≡ true → IsBook o w log tally subs parts out made ledger → machine.Step w (events.Submit d) (accept_reply answer) v
+    → now ≡ log ++ entries (Some seat) (asked (events.Submit d)) (noted (accept_reply answer)) → more ≡ tally + 1
+    → IsBook o v now more (subs + 1) parts out made ledger
+accepts_book seat d (Ok ticket) ok b step is counted = rw is (book_accept seat d b step counted)
+accepts_book seat d (Err r) ok b step is counted = absurd (true≢false (sym ok))
+
+-- .. and a refused one
+pub refused_submission : (d : DraftContents) (answer : Result TicketContents (Refused DraftContents)) → is_ok answer ≡ false → is_submission (asked (events.Submit d)) (told (accept_reply answer)) ≡ false
+refused_submission d (Ok ticket) isnt = absurd (true≢false isnt)
+refused_submission d (Err r) isnt = refl
+
+-- a book as it opens
+pub empty_book : {o w : State} {log : List Entry} {tally parts ledger : ℕ} → o ≡ w → log ≡ [] → tally ≡ 0 → parts ≡ ledger → ledger ≡ 65536 → IsBook o w log tally 0 parts 0 0 ledger
+empty_book is none zero all number = rw (none, zero) (record {
+  legal = sym is;
+  counted = refl;
+  numbered = refl;
+  seated = tt;
+  shares = omega (arith, all, number);
+  all_parts = number;
+  given = omega arith;
+  most = omega arith;
+})
+
+-- What the calls do
+
+-- where something was written
+made : (old new : BookContents) (v : State) (now : List Entry) (seat : Option ℕ) (e : Event) (r : events.Reply) → machine.Step old.world e r v
+    → now ≡ old.log ++ entry seat (asked e) (told r) ∷ [] → new ≡ record old { world = v; log = now }
+    → machine.Step old.world e r new.world × (new ≡ record old { world = new.world; log = old.log ++ entry seat (asked e) (told r) ∷ [] })
+made old new v now seat e r step is left = rw (left, is) (step, refl)
+
+pub does : (old new : BookContents) (v : State) (now : List Entry) (seat : Option ℕ) (e : Event) (r : events.Reply) → machine.Step old.world e r v
+    → now ≡ old.log ++ entries seat (asked e) (noted r) → new ≡ record old { world = v; log = now }
+    → Does old seat e r new
+does old new v now seat e (events.Refused refusal.Memory pages) step is left =
+    left
+    ∙ ap (λ (w : State). let x : BookContents = record old { world = w; log = now } in x) step.2
+    ∙ ap (λ (l : List Entry). let x : BookContents = record old { log = l } in x) (is ∙ append-nil old.log)
+does old new v now seat e (events.Refused why pages) step is left = made old new v now seat e (events.Refused why pages) step is left
+does old new v now seat e r step is left = made old new v now seat e r step is left
+
+-- a fact of the world inside a book
+pub touches_in : (book : BookContents) (w : State) (e : Event) (r : events.Reply) → book.world ≡ w → StaysAllowed w e r → StaysAllowed book.world e r
+touches_in book w e r is stays = rw is stays

@@ -1,0 +1,10 @@
+use Rattle.std.proofs.Common.{None, refl}
+use Rattle.machine_model.specs.Events as events
+use Rattle.step_core.specs.Replies.{ring_reply}
+use Rattle.driver_book.proofs.Runs.{keeps_book}
+use Rattle.driver_book.proofs.book.Book.forge.Goals as goal
+
+pub invariant_of-self-2 : goal.invariant_of-self-2
+invariant_of-self-2 g c =
+    keeps_book None (events.Forge c.args.q c.args.slot c.args.bytes) (ring_reply c.forge-answer.result) c.self.invariant c.forge-answer.ensures refl
+    (rw (c.note.ensures, c.reserve.ensures.items, c.done.ensures) refl)

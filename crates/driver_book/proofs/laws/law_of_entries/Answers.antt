@@ -1,0 +1,5 @@
+use Rattle.driver_book.proofs.Histories.{entries_stay}
+use Rattle.driver_book.proofs.laws.law_of_entries.Goals as goal
+
+pub returns : goal.returns
+returns c = entries_stay

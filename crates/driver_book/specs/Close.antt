@@ -1,0 +1,124 @@
+-- What it is to close a book: its log is compared with the receipts of its seats.
+use Rattle.std.specs.Prelude.{◌≡◌, ◌⊎◌, ℕ, ◌+◌, ◌<◌, ◌≤◌, ◌==◌, ◌&&◌, Bool, true, false, Option, Some, None, is_none, List, [], ◌∷◌, length, map, count_by, slice_get, take, drop, sum_by, if◌then◌else◌}
+use Rattle.std.specs.List.{list_any}
+use Rattle.entry_codec.specs.declared.status.Status.{Status}
+use Rattle.entry_codec.specs.declared.status.TheConstants.Status.{ABORTED_SQ_DELETION}
+use Rattle.machine_model.specs.Claims.{counts_of}
+use Rattle.machine_model.specs.Status.{same_status}
+use Rattle.machine_model.specs.declared.words.Reaped.TheVariants.{Done}
+use Rattle.driver_book.specs.History.{is_accepted, accepted}
+use Rattle.driver_book.specs.State.{BookContents, SeatContents}
+use Rattle.driver_book.specs.declared.log.CloseFault.{CloseFault}
+use Rattle.driver_book.specs.declared.log.CloseFault.TheVariants.{Missing, SeatOut, StillOut, Memory}
+use Rattle.driver_book.specs.declared.log.Entry.{Entry}
+use Rattle.driver_book.specs.declared.log.Receipt.{Receipt}
+use Rattle.driver_book.specs.declared.log.Report.{Report}
+use Rattle.step_core.specs.declared.step.Reply.{Reply}
+use Rattle.step_core.specs.declared.step.Reply.TheVariants as reply
+use Rattle.step_core.specs.declared.step.Step.{Step}
+use Rattle.step_core.specs.declared.step.Step.TheVariants as step
+
+-- How the log says that a command ended
+
+-- the status with which a step made a submitted command of a queue held: its completion was reaped, or its queue retired
+abbrev pub status_by : ℕ → ℕ → Step → Reply → Option Status
+status_by q cid (step.Reap of) (reply.Reaps (Done ended status)) = if (of == q) && (ended == cid) then Some status else None
+status_by q cid (step.Retire of) reply.Accepted = if of == q then Some ABORTED_SQ_DELETION else None
+status_by q cid what answer = None
+
+abbrev pub first_of : Option Status → Option Status → Option Status
+first_of (Some status) later = Some status
+first_of None later = later
+
+-- the first status that a log goes on to give a submitted command
+abbrev pub held : ℕ → ℕ → List Entry → Option Status
+held q cid [] = None
+held q cid (e ∷ es) = first_of (status_by q cid e.step e.answer) (held q cid es)
+
+-- Which receipt is that of a submission
+
+abbrev pub same_seat : Option ℕ → Option ℕ → Bool
+same_seat None None = true
+same_seat None (Some b) = false
+same_seat (Some a) None = false
+same_seat (Some a) (Some b) = a == b
+
+-- how many submissions of a seat were accepted
+abbrev pub accepted_of : Option ℕ → List Entry → ℕ
+accepted_of seat log = count_by (λ e. is_accepted e && same_seat e.seat seat) log
+
+-- no status yet, or the one that the log gives
+abbrev pub fits_status : Option Status → Option Status → Bool
+fits_status None told = true
+fits_status (Some status) None = false
+fits_status (Some status) (Some told) = same_status status told
+
+-- the queue and identifier of a submission
+abbrev pub queue_in : Step → ℕ
+queue_in (step.Submit q cid) = q
+queue_in what = 0
+
+abbrev pub identifier_in : Step → ℕ
+identifier_in (step.Submit q cid) = cid
+identifier_in what = 0
+
+abbrev pub is_receipt_of : ℕ → ℕ → ℕ → Option Status → Option Receipt → Bool
+is_receipt_of number q cid told None = false
+is_receipt_of number q cid told (Some r) = (r.number == number) && (r.q == q) && (r.cid == cid) && fits_status r.status told
+
+-- a seat of this number has at this place that receipt
+abbrev pub has : Option ℕ → ℕ → ℕ → ℕ → ℕ → Option Status → SeatContents → Bool
+has seat place number q cid told s = same_seat (Some s.number) seat && is_receipt_of number q cid told (slice_get s.receipts place)
+
+-- The submission at place p of the log, the j-th of its seat, stands in the j-th receipt of that seat: it has the submission's number, queue
+-- and identifier, and no status or the one that the log gave the command.
+abbrev pub stands : List Entry → List SeatContents → ℕ → Entry → Bool
+stands log seats p e =
+    let q = queue_in e.step in
+    let cid = identifier_in e.step in
+    list_any (has e.seat (accepted_of e.seat (take p log)) (accepted (take p log)) q cid (held q cid (drop (p + 1) log))) seats
+
+abbrev pub StandsAt : List Entry → List SeatContents → ℕ → Type 0
+StandsAt log seats p = (e : Entry) → slice_get log p ≡ Some e → is_accepted e ≡ true → stands log seats p e ≡ true
+
+-- each accepted submission before place n stands in the receipts
+abbrev pub StandBefore : List Entry → List SeatContents → ℕ → Type 0
+StandBefore log seats n = (p : ℕ) → p < n → StandsAt log seats p
+
+abbrev pub AllStand : List Entry → List SeatContents → Type 0
+AllStand log seats = StandBefore log seats (length log)
+
+-- the first accepted submission that stands in no receipt: its seat and its number
+abbrev pub IsMissing : List Entry → List SeatContents → ℕ → ℕ → Type 0
+IsMissing log seats seat number =
+    (p : ℕ) × (e : Entry)
+    × (slice_get log p ≡ Some e) × (is_accepted e ≡ true) × (e.seat ≡ Some seat) × (number ≡ accepted (take p log))
+    × (stands log seats p e ≡ false) × StandBefore log seats p
+
+-- how many receipts seats have
+abbrev pub receipts_of : List SeatContents → ℕ
+receipts_of seats = sum_by (λ s. length s.receipts) seats
+
+-- some receipt has no status
+abbrev pub has_open : List SeatContents → Bool
+has_open seats = list_any (λ s. list_any (λ r. is_none r.status) s.receipts) seats
+
+-- How a close ends
+
+-- every receipt has its status, and no command is outstanding
+abbrev pub IsDone : BookContents → List SeatContents → Type 0
+IsDone book seats = (has_open seats ≡ false) × (length book.world.host.records ≡ 0)
+
+-- why a book was not closed: the cause, and no earlier one
+abbrev pub RefusesClose : CloseFault → BookContents → List SeatContents → Type 0
+RefusesClose (Missing seat number) book seats = IsMissing book.log seats seat number
+RefusesClose SeatOut book seats = AllStand book.log seats × (length seats < book.out)
+RefusesClose StillOut book seats =
+    AllStand book.log seats × (book.out ≤ length seats) × ((has_open seats ≡ true) ⊎ (0 < length book.world.host.records))
+RefusesClose Memory book seats = AllStand book.log seats × (book.out ≤ length seats) × IsDone book seats
+
+-- what a closed book says
+pub record Reports (report : Report) (book : BookContents) (seats : List SeatContents) : Type 0 where
+  pub submissions : report.submissions ≡ accepted book.log
+  pub counts : report.counts ≡ counts_of book.world.host
+  pub receipts : report.receipts ≡ map (λ s. s.receipts) seats

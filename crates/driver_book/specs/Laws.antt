@@ -1,0 +1,38 @@
+-- What holds of every log that leads from an opening.
+use Rattle.std.specs.Prelude.{◌≡◌, ℕ, ◌&&◌, IsTrue, None, List, ◌∷◌, ◌++◌, map}
+use Rattle.block_image.specs.Blocks.{IsImage}
+use Rattle.machine_model.specs.Image.{Made}
+use Rattle.machine_model.specs.Laws.{TrustedRun}
+use Rattle.machine_model.specs.State.{State}
+use Rattle.machine_model.specs.Touch.{stays_allowed, stays_own}
+use Rattle.world_tables.specs.Opening.{refusal_of_config, opening_of}
+use Rattle.world_tables.specs.declared.config.Config.{Config}
+use Rattle.driver_book.specs.History.{asked, told, TellsOf, LeadsTo}
+use Rattle.driver_book.specs.declared.log.Entry.{Entry}
+
+-- the states before and behind an entry of a log, and what it tells of: where nothing was forged before it, it names allowed pages alone
+pub record IsEntryOf (opening : State) (before : List Entry) (e : Entry) (after : List Entry) (world : State) : Type 0 where
+  pub old : State
+  pub new : State
+  pub comes : LeadsTo opening before old
+  pub tells : TellsOf old e new
+  pub goes : LeadsTo new after world
+  pub stays : IsTrue old.trusted → IsTrue (stays_allowed old tells.answer && stays_own old tells.event tells.answer)
+
+abbrev pub entries_name_allowed_pages : Type 0
+entries_name_allowed_pages =
+    (config : Config) (image : List ℕ) (before : List Entry) (e : Entry) (after : List Entry) (world : State)
+    → refusal_of_config config ≡ None → IsImage image → LeadsTo (opening_of config image) (before ++ e ∷ after) world
+    → IsEntryOf (opening_of config image) before e after world
+
+-- a log that leads to a trusted world is a run of which the machine's laws speak
+pub record IsTrustedLog (image : List ℕ) (log : List Entry) (world : State) : Type 0 where
+  pub made : List Made
+  pub happened : map (λ e. e.step) log ≡ map (λ m. asked m.event) made
+  pub answered : map (λ e. e.answer) log ≡ map (λ m. told m.reply) made
+  pub run : TrustedRun image made world
+
+abbrev pub logs_are_trusted_runs : Type 0
+logs_are_trusted_runs =
+    (config : Config) (image : List ℕ) (log : List Entry) (world : State)
+    → refusal_of_config config ≡ None → IsImage image → LeadsTo (opening_of config image) log world → IsTrue world.trusted → IsTrustedLog image log world

@@ -1,0 +1,5 @@
+pub mod History
+pub mod State
+pub mod Calls
+pub mod Close
+pub mod Laws

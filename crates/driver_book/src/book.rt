@@ -1,0 +1,183 @@
+//! The book itself: how it opens and ends, and what it shows.
+
+ghost use Rattle.std.specs.Prelude.{◌≡◌, ◌+◌, ◌<◌, ◌≤◌, [], false, true, length, vec_len, vec_capacity, None, IfOk, IfErr, OnOk, OnErr};
+ghost use Rattle.std.specs.List.{Contains};
+ghost use Rattle.machine_model.specs.Claims.{claims_of, counts_of, IsSound};
+ghost use Rattle.page_ledger.specs.Counting.{total};
+ghost use Rattle.world_tables.specs.Opening.{refusal_of_config, opening_of, RefusesOpening};
+ghost use Rattle.driver_book.specs.History.{LeadsTo};
+ghost use Rattle.driver_book.specs.State.{BookContents};
+
+use crate::log::{Entry, NoSeat};
+use crate::seat::Seat;
+use block_image::Image;
+use page_ledger::{Counts, Owner};
+use page_memory::PageNo;
+use std::alloc::Global;
+use std::marker::{Brand, Model};
+use std::sync::ledger;
+use std::sync::ledger::{Blank, Ledger, Share};
+use step_core::{Ended, OpenRefused, World};
+use world_tables::Config;
+
+/// The ledger of one book, and the state with which that book opens, which contracts alone know.
+pub trait Driver: Ledger {
+    ghost use Rattle.machine_model.specs.State.{State};
+
+    ghost opening: { State };
+}
+
+impl Driver for Brand {
+    ghost use Rattle.std.specs.Prelude.{[]};
+    ghost use Rattle.machine_model.specs.Opening.{opening as opening_of_numbers};
+
+    ghost opening = { opening_of_numbers 0 0 0 0 [] };
+}
+
+/// A world, and the log of all its steps since it opened. Contracts see both, and how many seats were made.
+#[derive(Drop)]
+pub struct Book<L: Driver> {
+    pub(crate) alloc: Global,
+    pub(crate) world: World,
+    pub(crate) log: Vec<Entry>,
+    pub(crate) submissions: u64,
+    pub(crate) tally: ledger::Book<L>,
+    pub(crate) rest: Share<L>,
+    pub(crate) made: u16,
+    pub(crate) out: u16,
+    pub(crate) stopping: bool,
+}
+
+impl<L: Driver> Model for Book<L> {
+    ghost use Rattle.driver_book.specs.State.{BookContents, IsBook};
+
+    ghost Value = { BookContents };
+
+    ghost view = { λ b. record { opening = L.opening; world = b.world; log = b.log.items; made = b.made; out = b.out; taken = b.rest.amount; stopping = b.stopping } };
+
+    ghost invariant = { λ b. IsBook L.opening b.world b.log.items b.tally.total b.submissions b.rest.parts b.out b.made L.parts };
+}
+
+impl<L: Driver> Book<L> {
+    /// Opens a world over an image, and a book of it, with an empty log and no seat. The blank ledger has 65,536 parts and opens
+    /// this book alone.
+    ///
+    /// # Errors
+    ///
+    /// As [`World::open`]. The image comes back.
+    pub fn open(
+        alloc: Global,
+        config: Config,
+        image: Image,
+        blank: Blank,
+    ) -> Result<Book<L>, OpenRefused>
+        requires name { blank.name ≡ L.name }
+        requires parts { blank.parts ≡ L.parts }
+        requires number { blank.parts ≡ 65536 }
+        requires opening { L.opening ≡ opening_of config image }
+        ensures fits { IfOk result (λ book. refusal_of_config config ≡ None) }
+        ensures opened { IfOk result (λ book. book ≡ record { opening = opening_of config image; world = opening_of config image; log = []; made = 0; out = 0; taken = 0; stopping = false }) }
+        ensures refused { IfErr result (λ refused. RefusesOpening config refused.why) }
+        ensures handed_back { IfErr result (λ refused. refused.image ≡ image) }
+    {
+        let world = match World::open(alloc, config, image) {
+            Ok(world) => world,
+            Err(refused) => return Err(refused),
+        };
+        let (tally, rest) = blank.open::<L>();
+        Ok(Book {
+            alloc,
+            world,
+            log: Vec::new(alloc),
+            submissions: 0,
+            tally,
+            rest,
+            made: 0,
+            out: 0,
+            stopping: false,
+        })
+    }
+
+    /// Shows that the log leads from the opening to the world as it is: its entries tell of the steps of a run of the machine. And that
+    /// the world is sound. It does nothing.
+    pub fn check(&self)
+        ensures opening { self.now.opening ≡ L.opening }
+        ensures legal { LeadsTo self.now.opening self.now.log self.now.world }
+        ensures sound { IsSound self.now.world }
+    {
+        self.world.check();
+        let _log = &self.log;
+    }
+
+    /// The log, the oldest entry first.
+    pub fn log(&self) -> &[Entry]
+        ensures { result.now ≡ self.now.log }
+    {
+        self.log.as_slice()
+    }
+
+    /// Makes a seat, with the next number and no receipts. It takes no memory and writes nothing down.
+    ///
+    /// # Errors
+    ///
+    /// Where 65,535 seats were made.
+    pub fn seat(&mut self) -> Result<Seat<L>, NoSeat>
+        ensures seat { IfOk result (λ seat. seat ≡ record { number = self.old.made; receipts = [] }) }
+        ensures made { OnOk result (self.new ≡ record self.old { made = self.old.made + 1; out = self.old.out + 1 }) }
+        ensures room { OnOk result (self.old.made < 65535) }
+        ensures refused { OnErr result (self.new ≡ self.old) }
+        ensures all { OnErr result (self.old.made ≡ 65535) }
+    {
+        if self.made == u16::MAX {
+            return Err(NoSeat);
+        }
+        let seat = Seat::new(self.alloc, self.made, self.rest.split_off(1, 0));
+        self.made += 1;
+        self.out += 1;
+        Ok(seat)
+    }
+
+    /// Tells the workers to stop. It writes nothing down.
+    pub fn stop(&mut self)
+        ensures { self.new ≡ record self.old { stopping = true } }
+    {
+        self.stopping = true;
+    }
+
+    /// Whether the workers are told to stop.
+    pub fn stopping(&self) -> bool
+        ensures { result ≡ self.now.stopping }
+    {
+        self.stopping
+    }
+
+    /// Whose a page of the pool is. It writes nothing down.
+    pub fn owner(&self, p: PageNo) -> Owner
+        requires { p < length self.now.world.memory }
+        ensures { Contains (claims_of self.now.world.host) (p, result) }
+    {
+        self.world.owner(p)
+    }
+
+    /// How many pages are free, and how many belong to queues, to chains and to data. It writes nothing down.
+    pub fn counts(&self) -> Counts
+        ensures counts { result ≡ counts_of self.now.world.host }
+        ensures all { total result ≡ length self.now.world.memory }
+    {
+        self.world.counts()
+    }
+
+    /// How many pages the pool has, 8 to 65,536.
+    pub fn pages(&self) -> u32
+        ensures pages { result ≡ length self.now.world.memory }
+        ensures least { 8 ≤ length self.now.world.memory }
+        ensures most { length self.now.world.memory ≤ 65536 }
+    {
+        self.world.pages()
+    }
+
+    /// Ends the book and its world. It takes no memory.
+    pub fn end(self) -> Ended {
+        self.world.end()
+    }
+}

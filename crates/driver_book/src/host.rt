@@ -1,0 +1,209 @@
+//! The host's steps that need no seat, each written down.
+
+ghost use Rattle.std.specs.Prelude.{◌≡◌, None, IfErr};
+ghost use Rattle.machine_model.specs.Events as events;
+ghost use Rattle.step_core.specs.Replies.{reserve_reply, accept_reply, collect_reply, ring_reply, reap_reply, send_reply};
+ghost use Rattle.driver_book.specs.Calls.{Does};
+
+use crate::book::{Book, Driver};
+use crate::note::{collected, done, ended, note, reaped, reserved, sent};
+use io_commands::{Draft, Finished, Request, Ticket};
+use machine_model::words::{Reaped, Refusal};
+use step_core::{Refused, Step};
+
+/// A value that is handed back, as the log did not grow.
+pub(crate) fn unlogged<T>(value: T) -> Refused<T>
+    ensures value { result.value ≡ value }
+    ensures why { result.why ≡ Refusal.Memory }
+{
+    Refused {
+        value,
+        why: Refusal::Memory,
+    }
+}
+
+impl<L: Driver> Book<L> {
+    /// [`step_core::World::reserve`].
+    ///
+    /// # Errors
+    ///
+    /// As there; `Memory` also where the log cannot grow. The request is handed back, and the book is as it was.
+    pub fn reserve(&mut self, q: u16, request: Request) -> Result<Draft, Refused<Request>>
+        ensures step { Does self.old None (events.Reserve q request) (reserve_reply result) self.new }
+        ensures back { IfErr result (λ r. r.value ≡ request) }
+    {
+        if self.log.reserve(1).is_err() {
+            return Err(unlogged(request));
+        }
+        let Ok(asked) = request.copied(self.alloc) else {
+            return Err(unlogged(request));
+        };
+        let answer = self.world.reserve(q, request);
+        note(
+            &mut self.log,
+            None,
+            Step::Reserve { q, request: asked },
+            reserved(&answer),
+        );
+        answer
+    }
+
+    /// [`step_core::World::cancel`].
+    ///
+    /// # Errors
+    ///
+    /// As there; `Memory` where the log cannot grow. The draft is handed back.
+    pub fn cancel(&mut self, draft: Draft) -> Result<(), Refused<Draft>>
+        ensures step { Does self.old None (events.Cancel draft) (accept_reply result) self.new }
+        ensures back { IfErr result (λ r. r.value ≡ draft) }
+    {
+        if self.log.reserve(1).is_err() {
+            return Err(unlogged(draft));
+        }
+        let step = Step::Cancel {
+            q: draft.q(),
+            cid: draft.cid(),
+        };
+        let answer = self.world.cancel(draft);
+        note(&mut self.log, None, step, ended(&answer));
+        answer
+    }
+
+    /// [`step_core::World::ring`].
+    ///
+    /// # Errors
+    ///
+    /// As there; `Memory` where the log cannot grow.
+    pub fn ring(&mut self, q: u16) -> Result<(), Refusal>
+        ensures { Does self.old None (events.Ring q) (ring_reply result) self.new }
+    {
+        if self.log.reserve(1).is_err() {
+            return Err(Refusal::Memory);
+        }
+        let answer = self.world.ring(q);
+        note(&mut self.log, None, Step::Ring { q }, done(&answer));
+        answer
+    }
+
+    /// [`step_core::World::reap`].
+    ///
+    /// # Errors
+    ///
+    /// As there; `Memory` also where the log cannot grow.
+    pub fn reap(&mut self, q: u16) -> Result<Reaped, Refusal>
+        ensures { Does self.old None (events.Reap q) (reap_reply result) self.new }
+    {
+        if self.log.reserve(1).is_err() {
+            return Err(Refusal::Memory);
+        }
+        let answer = self.world.reap(q);
+        note(&mut self.log, None, Step::Reap { q }, reaped(&answer));
+        answer
+    }
+
+    /// [`step_core::World::collect`].
+    ///
+    /// # Errors
+    ///
+    /// As there; `Memory` also where the log cannot grow. The ticket is handed back.
+    pub fn collect(&mut self, ticket: Ticket) -> Result<Finished, Refused<Ticket>>
+        ensures step { Does self.old None (events.Collect ticket.q ticket.cid) (collect_reply result) self.new }
+        ensures back { IfErr result (λ r. r.value ≡ ticket) }
+    {
+        if self.log.reserve(1).is_err() {
+            return Err(unlogged(ticket));
+        }
+        let step = Step::Collect {
+            q: ticket.q(),
+            cid: ticket.cid(),
+        };
+        let answer = self.world.collect(ticket);
+        note(&mut self.log, None, step, collected(&answer));
+        answer
+    }
+
+    /// [`step_core::World::abort`].
+    ///
+    /// # Errors
+    ///
+    /// As there; `Memory` also where the log cannot grow.
+    pub fn abort(&mut self, q: u16, cid: u16) -> Result<u16, Refusal>
+        ensures { Does self.old None (events.Abort q cid) (send_reply result) self.new }
+    {
+        if self.log.reserve(1).is_err() {
+            return Err(Refusal::Memory);
+        }
+        let answer = self.world.abort(q, cid);
+        note(&mut self.log, None, Step::Abort { q, cid }, sent(&answer));
+        answer
+    }
+
+    /// [`step_core::World::delete_sq`].
+    ///
+    /// # Errors
+    ///
+    /// As there; `Memory` also where the log cannot grow.
+    pub fn delete_sq(&mut self, q: u16) -> Result<u16, Refusal>
+        ensures { Does self.old None (events.DeleteSq q) (send_reply result) self.new }
+    {
+        if self.log.reserve(1).is_err() {
+            return Err(Refusal::Memory);
+        }
+        let answer = self.world.delete_sq(q);
+        note(&mut self.log, None, Step::DeleteSq { q }, sent(&answer));
+        answer
+    }
+
+    /// [`step_core::World::delete_cq`].
+    ///
+    /// # Errors
+    ///
+    /// As there; `Memory` also where the log cannot grow.
+    pub fn delete_cq(&mut self, q: u16) -> Result<u16, Refusal>
+        ensures { Does self.old None (events.DeleteCq q) (send_reply result) self.new }
+    {
+        if self.log.reserve(1).is_err() {
+            return Err(Refusal::Memory);
+        }
+        let answer = self.world.delete_cq(q);
+        note(&mut self.log, None, Step::DeleteCq { q }, sent(&answer));
+        answer
+    }
+
+    /// [`step_core::World::retire`].
+    ///
+    /// # Errors
+    ///
+    /// As there; `Memory` where the log cannot grow.
+    pub fn retire(&mut self, q: u16) -> Result<(), Refusal>
+        ensures { Does self.old None (events.Retire q) (ring_reply result) self.new }
+    {
+        if self.log.reserve(1).is_err() {
+            return Err(Refusal::Memory);
+        }
+        let answer = self.world.retire(q);
+        note(&mut self.log, None, Step::Retire { q }, done(&answer));
+        answer
+    }
+
+    /// [`step_core::World::forge`].
+    ///
+    /// # Errors
+    ///
+    /// As there; `Memory` where the log cannot grow.
+    pub fn forge(&mut self, q: u16, slot: u16, bytes: [u8; 16]) -> Result<(), Refusal>
+        ensures { Does self.old None (events.Forge q slot bytes) (ring_reply result) self.new }
+    {
+        if self.log.reserve(1).is_err() {
+            return Err(Refusal::Memory);
+        }
+        let answer = self.world.forge(q, slot, bytes);
+        note(
+            &mut self.log,
+            None,
+            Step::Forge { q, slot, bytes },
+            done(&answer),
+        );
+        answer
+    }
+}

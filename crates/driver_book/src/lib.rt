@@ -1,0 +1,32 @@
+//! A book: a world with the log of all its steps, and the seats of those who submit.
+//!
+//! [`Book`] is the value that a driver keeps under its one lock. Each step of the world is one method, which makes the step and writes it
+//! down. The log, from the opening on, is a run of the machine that leads to the world as it is ([`Book::check`]). Who submits has a
+//! [`Seat`], which keeps a receipt for each accepted submission. [`Book::close`] compares the log with the receipts: an answer means that
+//! the receipts handed in are the accepted submissions of the log, all of them and no more.
+//!
+//! A ledger of the standard library (`std::sync::ledger`) counts the submissions on either side. It is the type parameter of a book and
+//! of its seats, so a seat is always one of its own book.
+//!
+//! `specs/History.antt` says where a log leads, `specs/Calls.antt` what the calls do, `specs/Close.antt` what it is to close a book.
+#![tactic(auto)]
+
+mod book;
+mod close;
+#[cfg(test)]
+mod close_tests;
+mod device;
+mod host;
+pub mod laws;
+mod log;
+mod note;
+#[cfg(test)]
+mod row_tests;
+mod seat;
+#[cfg(test)]
+mod tests;
+
+pub use book::{Book, Driver};
+pub use close::CloseRefused;
+pub use log::{CloseFault, Entry, NoSeat, Receipt, Receipts, Report};
+pub use seat::Seat;

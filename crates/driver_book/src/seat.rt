@@ -1,0 +1,167 @@
+//! Seats: who submits has one, with a receipt for each accepted submission.
+
+ghost use Rattle.std.specs.Prelude.{◌≡◌, ◌≤◌, ◌<◌, ◌+◌, [], true, Some, None, position, length, vec_len, vec_capacity, IfOk, IfErr, OnOk};
+ghost use Rattle.std.specs.List.{list_any};
+ghost use Rattle.machine_model.specs.Events as events;
+ghost use Rattle.step_core.specs.Replies.{accept_reply};
+ghost use Rattle.driver_book.specs.Calls.{Does, Receives, Settles, is_open_for as is_open_receipt, settled};
+
+use crate::book::{Book, Driver};
+use crate::host::unlogged;
+use crate::log::Receipt;
+use crate::note::{ended, note, submitted};
+use entry_codec::Status;
+use io_commands::{Draft, Finished, Ticket};
+use std::alloc::Global;
+use std::marker::Model;
+use std::sync::ledger::{Ledger, Share};
+use step_core::{Refused, Step};
+
+/// A seat at a book, with its receipts. It may be dropped, which [`Book::close`] finds out.
+#[derive(Drop)]
+pub struct Seat<L: Ledger> {
+    pub(crate) number: u16,
+    pub(crate) share: Share<L>,
+    pub(crate) receipts: Vec<Receipt>,
+}
+
+impl<L: Ledger> Model for Seat<L> {
+    ghost use Rattle.std.specs.Prelude.{◌≡◌, length};
+    ghost use Rattle.driver_book.specs.State.{SeatContents};
+
+    ghost Value = { SeatContents };
+
+    ghost view = { λ s. record { number = s.number; receipts = s.receipts.items } };
+
+    ghost invariant = { λ s. (s.share.parts ≡ 1) × (s.share.amount ≡ length s.receipts.items) };
+}
+
+impl<L: Ledger> Seat<L> {
+    /// A seat without receipts.
+    pub(crate) fn new(alloc: Global, number: u16, share: Share<L>) -> Self
+        requires parts { share.parts ≡ 1 }
+        requires amount { share.amount ≡ 0 }
+        ensures { result ≡ record { number = number; receipts = [] } }
+    {
+        Seat {
+            number,
+            share,
+            receipts: Vec::new(alloc),
+        }
+    }
+
+    /// Its number: seats are numbered from 0, as they are made.
+    pub fn number(&self) -> u16
+        ensures { result ≡ self.now.number }
+    {
+        self.number
+    }
+
+    /// Its receipts, one for each accepted submission, in their order. It takes no memory.
+    pub fn receipts(&self) -> &[Receipt]
+        ensures { result.now ≡ self.now.receipts }
+    {
+        self.receipts.as_slice()
+    }
+
+    /// Whether it has a receipt for this command without a status: the command was submitted for this seat, and is not released. That is
+    /// what [`Book::release`] owes.
+    pub fn awaits(&self, q: u16, cid: u16) -> bool
+        ensures { result ≡ list_any (is_open_receipt q cid) self.now.receipts }
+    {
+        self.receipts.iter().any(|r| is_open_for(r, q, cid))
+    }
+}
+
+/// Whether a receipt is for this command, and has no status yet.
+fn is_open_for(receipt: &Receipt, q: u16, cid: u16) -> bool
+    ensures { result ≡ is_open_receipt q cid receipt.now }
+{
+    receipt.q == q && receipt.cid == cid && receipt.status.is_none()
+}
+
+/// Where the first receipt for this command without a status stands.
+fn first_open(receipts: &[Receipt], q: u16, cid: u16) -> Option<usize>
+    ensures { result ≡ position (is_open_receipt q cid) receipts.now }
+{
+    receipts.iter().position(|r| is_open_for(r, q, cid))
+}
+
+/// Gives the first receipt for this command without a status its status.
+fn settle(receipts: &mut [Receipt], q: u16, cid: u16, status: Status)
+    ensures { receipts.new ≡ settled q cid status receipts.old }
+{
+    if let Some(i) = first_open(receipts, q, cid) {
+        receipts[i].status = Some(status);
+    }
+}
+
+impl<L: Driver> Book<L> {
+    /// [`step_core::World::submit`], for a seat, which gets a receipt where the submission is accepted.
+    ///
+    /// # Errors
+    ///
+    /// As there; the draft is handed back. `Memory` where the log or the seat's receipts cannot grow; book and seat are then as they
+    /// were.
+    pub fn submit(&mut self, seat: &mut Seat<L>, draft: Draft) -> Result<Ticket, Refused<Draft>>
+        ensures step { Does self.old (Some seat.old.number) (events.Submit draft) (accept_reply result) self.new }
+        ensures receipt { Receives self.old.log seat.old draft result seat.new }
+        ensures back { IfErr result (λ r. r.value ≡ draft) }
+        ensures ticket { IfOk result (λ ticket. ticket ≡ record { q = draft.q; cid = draft.cid }) }
+    {
+        if self.log.reserve(1).is_err() || seat.receipts.reserve(1).is_err() {
+            return Err(unlogged(draft));
+        }
+        let (q, cid) = (draft.q(), draft.cid());
+        let answer = self.world.submit(draft);
+        note(
+            &mut self.log,
+            Some(seat.number),
+            Step::Submit { q, cid },
+            submitted(&answer),
+        );
+        if answer.is_ok() {
+            self.tally.add(&mut seat.share, 1);
+            seat.receipts.push_reserved(Receipt {
+                number: self.submissions,
+                q,
+                cid,
+                status: None,
+            });
+            self.submissions += 1;
+        }
+        answer
+    }
+
+    /// [`step_core::World::release`], for the seat that submitted the command: its receipt gets the status.
+    ///
+    /// # Errors
+    ///
+    /// As there; the command is handed back. `Memory` where the log cannot grow; book and seat are then as they were.
+    pub fn release(
+        &mut self,
+        seat: &mut Seat<L>,
+        finished: Finished,
+    ) -> Result<(), Refused<Finished>>
+        requires { list_any (is_open_receipt finished.q finished.cid) seat.old.receipts ≡ true }
+        ensures step { Does self.old (Some seat.old.number) (events.Release finished) (accept_reply result) self.new }
+        ensures receipt { Settles seat.old finished result seat.new }
+        ensures back { IfErr result (λ r. r.value ≡ finished) }
+    {
+        if self.log.reserve(1).is_err() {
+            return Err(unlogged(finished));
+        }
+        let (q, cid, status) = (finished.q(), finished.cid(), finished.status());
+        let answer = self.world.release(finished);
+        note(
+            &mut self.log,
+            Some(seat.number),
+            Step::Release { q, cid },
+            ended(&answer),
+        );
+        if answer.is_ok() {
+            settle(seat.receipts.as_mut_slice(), q, cid, status);
+        }
+        answer
+    }
+}
