@@ -7,7 +7,7 @@
 ghost use Rattle.std.specs.Prelude.{◌≡◌, ◌+◌, ◌*◌, ◌<◌, ◌≤◌, ◌↔◌, ◌⊎◌, [], ◌++◌, IsTrue, IsOk, IsErrOf, IfOk, IfErr, length, replicate};
 ghost use Rattle.block_image.specs.Blocks.{IsImage, IsInRange, block_count, blocks_at, with_blocks, BlocksAreWhole, PutIsRead, PutKeepsOthers, PutKeepsLength};
 
-use std::alloc::Global;
+use std::alloc::{Allocator, Global};
 use std::marker::Model;
 use thiserror::Error;
 
@@ -34,9 +34,9 @@ pub enum ImageError {
 /// The refusal of [`Image::from_bytes`]: no byte, or the last block is cut short, or more than [`MAX_BYTES`] bytes.
 #[derive(Debug, Drop, Error)]
 #[error("an image is 1 to 65536 blocks of 512 bytes")]
-pub struct BadLength {
+pub struct BadLength<A: Allocator = Global> {
     /// The bytes as they were handed in.
-    pub bytes: Vec<u8>,
+    pub bytes: Vec<u8, A>,
 }
 
 /// The blocks of the namespace, 1 to [`MAX_BLOCKS`] of [`BLOCK_SIZE`] bytes each.
@@ -44,11 +44,11 @@ pub struct BadLength {
 /// A range of blocks is named by its first, the Starting LBA or SLBA of a Compare, Read or Write (NVM Command Set
 /// Specification 1.0, sections 3.2.1, 3.2.4 and 3.2.6). The buffer that goes with it says how many blocks it has.
 #[derive(Debug, Drop)]
-pub struct Image {
-    bytes: Vec<u8>,
+pub struct Image<A: Allocator = Global> {
+    bytes: Vec<u8, A>,
 }
 
-impl Model for Image {
+impl<A: Allocator> Model for Image<A> {
     ghost use Rattle.std.specs.Prelude.{List, ℕ};
     ghost use Rattle.block_image.specs.Blocks.{IsImage};
 
@@ -59,9 +59,9 @@ impl Model for Image {
     ghost invariant = { λ image. IsImage image.bytes.items };
 }
 
-impl Image {
+impl<A: Allocator> Image<A> {
     /// An image of so many blocks, each byte zero.
-    pub fn zeroed(alloc: Global, blocks: u32) -> Result<Image, ImageError>
+    pub fn zeroed(alloc: A, blocks: u32) -> Result<Self, ImageError>
         ensures zero { IfOk result (λ image. image ≡ replicate (512 * blocks) 0) }
         ensures image { IfOk result (λ image. IsImage image) }
         ensures bad_length { IsErrOf result ImageError.BadLength ↔ ((blocks ≡ 0) ⊎ (MAX_BLOCKS < blocks)) }
@@ -75,7 +75,7 @@ impl Image {
     }
 
     /// The image that the bytes are. A refusal hands them back.
-    pub fn from_bytes(bytes: Vec<u8>) -> Result<Image, BadLength>
+    pub fn from_bytes(bytes: Vec<u8, A>) -> Result<Self, BadLength<A>>
         ensures good_length { IsOk result ↔ IsImage bytes.items }
         ensures image { IfOk result (λ image. image ≡ bytes.items) }
         ensures handed_back { IfErr result (λ refused. refused.bytes ≡ bytes) }

@@ -9,7 +9,7 @@ use Rattle.std.proofs.lemmas.Bool.Decides.{nat_tests}
 use Rattle.io_commands.specs.declared.request.Kind.{Kind}
 use Rattle.io_commands.specs.declared.request.Piece.{Piece}
 use Rattle.io_commands.specs.declared.request.Piece.TheVariants.{Data, Bucket}
-use Rattle.io_commands.specs.declared.request.Request.{Request}
+use Rattle.io_commands.specs.Asked.{Request}
 use Rattle.sgl_chain.specs.Chains.{Sgl, pages_needed, segment_bytes}
 use Rattle.sgl_chain.specs.Spells.{Holds, IsLaid, SpellsWhereLaid}
 use Rattle.page_memory.specs.Memory.{Memory}

@@ -4,7 +4,7 @@ use Rattle.io_commands.specs.Requests.{FitsRequest}
 use Rattle.io_commands.specs.Values.{data_part, chain_part}
 use Rattle.io_commands.specs.Drafts.{DraftContents, IsDraft}
 
-abbrev pub contents_of : Inside → DraftContents
+abbrev pub contents_of : {A : Type 0} → Inside A → DraftContents
 contents_of d =
     record {
       q = d.q;
@@ -16,5 +16,5 @@ contents_of d =
       entry = d.entry;
     }
 
-abbrev pub KeepsDraft : Inside → Type 0
+abbrev pub KeepsDraft : {A : Type 0} → Inside A → Type 0
 KeepsDraft d = IsDraft (contents_of d) × FitsRequest d.request

@@ -8,7 +8,7 @@ use Rattle.sgl_chain.specs.Spells.{Spells, Holds}
 use Rattle.page_memory.specs.Memory.{Memory}
 use Rattle.page_memory.specs.Pages.{with_bytes}
 use Rattle.entry_codec.specs.declared.submission.SubEntry.{SubEntry}
-use Rattle.io_commands.specs.declared.request.Request.{Request}
+use Rattle.io_commands.specs.Asked.{Request}
 use Rattle.io_commands.specs.Requests.{opcode_of, data_count, parts_of, FitsRequest}
 use Rattle.io_commands.specs.DataBytes.{PagesOut}
 use Rattle.io_commands.specs.Values.{numbers_of, IsGood}

@@ -4,7 +4,7 @@ use Rattle.io_commands.specs.declared.finished.Finished.TheInside.{Inside}
 use Rattle.io_commands.specs.Requests.{data_count}
 use Rattle.io_commands.specs.Values.{FinishedContents, IsGood, data_part, chain_part}
 
-abbrev pub contents_of : Inside → FinishedContents
+abbrev pub contents_of : {A : Type 0} → Inside A → FinishedContents
 contents_of f =
     record {
       q = f.q;
@@ -16,6 +16,6 @@ contents_of f =
     }
 
 -- its request passes its check, and each data piece has its page
-pub record IsFinished (f : Inside) : Type 0 where
+pub record IsFinished {A : Type 0} (f : Inside A) : Type 0 where
   pub good : IsGood f.request
   pub enough : data_count f.request.pieces ≤ length f.pages.items

@@ -5,3 +5,4 @@ pub mod Finisheds
 pub mod Jobs
 pub mod Requests
 pub mod Values
+pub mod Asked

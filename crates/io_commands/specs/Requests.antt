@@ -11,7 +11,7 @@ use Rattle.io_commands.specs.declared.request.Kind.{Kind}
 use Rattle.io_commands.specs.declared.request.Kind.TheVariants.{Read, Write, Compare}
 use Rattle.io_commands.specs.declared.request.Piece.{Piece}
 use Rattle.io_commands.specs.declared.request.Piece.TheVariants.{Data, Bucket}
-use Rattle.io_commands.specs.declared.request.Request.{Request}
+use Rattle.io_commands.specs.Asked.{Request}
 use Rattle.io_commands.specs.declared.request.RequestFault.{RequestFault}
 use Rattle.io_commands.specs.declared.request.RequestFault.TheVariants.{TooManyPieces, EmptyPiece, CrossesPage, BadCount, LengthMismatch}
 

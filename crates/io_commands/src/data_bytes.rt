@@ -7,10 +7,10 @@ ghost use Rattle.io_commands.specs.DataBytes.{data_length, filled, gathered};
 
 use crate::request::Piece;
 use page_memory::{Page, PageNo};
-use std::alloc::AllocError;
+use std::alloc::{AllocError, Allocator};
 
 /// Puts bytes into the data pieces, one piece after the other.
-pub(crate) fn fill(pieces: &[Piece], pages: &mut [(PageNo, Page)], bytes: &[u8])
+pub(crate) fn fill<A: Allocator>(pieces: &[Piece], pages: &mut [(PageNo, Page<A>)], bytes: &[u8])
     requires inside { list_any crosses_page pieces.now ≡ false }
     requires enough { data_count pieces.now ≤ length pages.old }
     requires length { sum_by data_length pieces.now ≤ length bytes.now }
@@ -32,9 +32,9 @@ pub(crate) fn fill(pieces: &[Piece], pages: &mut [(PageNo, Page)], bytes: &[u8])
 }
 
 /// Puts bytes into the data pieces of the first pages.
-pub(crate) fn fill_first(
+pub(crate) fn fill_first<A: Allocator>(
     pieces: &[Piece],
-    pages: &mut Vec<(PageNo, Page)>,
+    pages: &mut Vec<(PageNo, Page<A>), A>,
     count: usize,
     bytes: &[u8],
 )
@@ -49,10 +49,10 @@ pub(crate) fn fill_first(
 }
 
 /// Appends the bytes of the data pieces, one piece after the other.
-pub(crate) fn push_data(
+pub(crate) fn push_data<A: Allocator, B: Allocator>(
     pieces: &[Piece],
-    pages: &[(PageNo, Page)],
-    out: &mut Vec<u8>,
+    pages: &[(PageNo, Page<A>)],
+    out: &mut Vec<u8, B>,
 ) -> Result<(), AllocError>
     requires inside { list_any crosses_page pieces.now ≡ false }
     requires enough { data_count pieces.now ≤ length pages.now }

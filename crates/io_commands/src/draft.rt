@@ -13,22 +13,22 @@ use crate::layout::{chain_of, lay_all};
 use crate::request::{Kind, Request};
 use entry_codec::SubEntry;
 use page_memory::{Page, PageNo};
-use std::alloc::{AllocError, Allocator};
+use std::alloc::{AllocError, Allocator, Global};
 use std::marker::Model;
 use thiserror::Error;
 
 /// A command that is being prepared: its pages are out of the store, so nobody else reaches them. It must be spent: it
 /// is no `Drop`.
-pub struct Draft {
+pub struct Draft<A: Allocator = Global> {
     q: u16,
     cid: u16,
-    request: Request,
-    pages: Vec<(PageNo, Page)>,
+    request: Request<A>,
+    pages: Vec<(PageNo, Page<A>), A>,
     segment: usize,
     entry: Option<SubEntry>,
 }
 
-impl Model for Draft {
+impl<A: Allocator> Model for Draft<A> {
     ghost use Rattle.io_commands.specs.Drafts.{DraftContents};
 
     ghost Value = { DraftContents };
@@ -42,15 +42,15 @@ impl Model for Draft {
 
 /// What a draft is made of.
 #[derive(Drop)]
-pub struct DraftParts {
+pub struct DraftParts<A: Allocator = Global> {
     /// The queue.
     pub q: u16,
     /// The identifier.
     pub cid: u16,
     /// What the host asks for.
-    pub request: Request,
+    pub request: Request<A>,
     /// The pages with their bytes: one for each data piece, then those of the chain.
-    pub pages: Vec<(PageNo, Page)>,
+    pub pages: Vec<(PageNo, Page<A>), A>,
     /// The most descriptors of a segment.
     pub segment: usize,
 }
@@ -66,14 +66,14 @@ pub enum FillFault {
     WrongLength,
 }
 
-impl Draft {
+impl<A: Allocator> Draft<A> {
     /// A draft, not yet built. The pages are those of the data pieces, in order, and then those of the chain, in order;
     /// they are distinct, and `segment` is the most descriptors of a segment.
     pub fn make(
         q: u16,
         cid: u16,
-        request: Request,
-        pages: Vec<(PageNo, Page)>,
+        request: Request<A>,
+        pages: Vec<(PageNo, Page<A>), A>,
         segment: usize,
     ) -> Self
         requires good { IsGood request }
@@ -116,7 +116,7 @@ impl Draft {
     }
 
     /// What the host asks for.
-    pub fn request(&self) -> &Request
+    pub fn request(&self) -> &Request<A>
         ensures request { result.now ≡ self.now.request }
         ensures draft { IsDraft self.now }
         ensures fits { FitsRequest self.now.request }
@@ -132,7 +132,7 @@ impl Draft {
     }
 
     /// The pages with their bytes: one for each data piece, then those of the chain.
-    pub fn pages(&self) -> &[(PageNo, Page)]
+    pub fn pages(&self) -> &[(PageNo, Page<A>)]
         ensures { result.now ≡ self.now.data_pages ++ self.now.chain_pages }
     {
         &self.pages
@@ -161,11 +161,11 @@ impl Draft {
         if matches!(self.request.kind, Kind::Read) {
             return Err(FillFault::NotASource);
         }
-        if bytes.len() as u64 != self.request.pieces.data_bytes() {
+        if bytes.len() as u64 != self.request.data_bytes() {
             return Err(FillFault::WrongLength);
         }
-        let data = self.request.pieces.data_pages();
-        let pieces = self.request.pieces.as_slice();
+        let data = self.request.data_pages();
+        let pieces = self.request.pieces();
         fill_first(pieces, &mut self.pages, data, bytes);
         Ok(())
     }
@@ -176,13 +176,13 @@ impl Draft {
     /// # Errors
     ///
     /// Where memory is refused; the draft is then as it was.
-    pub fn build<A: Allocator + Clone>(&mut self, alloc: A) -> Result<(), AllocError>
+    pub fn build<B: Allocator + Clone>(&mut self, alloc: B) -> Result<(), AllocError>
         ensures built { OnOk result (self.new ≡ built self.old) }
         ensures spells { OnOk result (SpellsItsParts self.new) }
         ensures refused { OnErr result (self.new ≡ self.old) }
     {
         let chain = chain_of(alloc, &self.request, self.pages.as_slice(), self.segment)?;
-        let data = self.request.pieces.data_pages();
+        let data = self.request.data_pages();
         lay_all(&chain, &mut self.pages, data);
         let first = chain.first().write();
         self.entry = Some(io_entry(self.cid, &self.request, first));
@@ -190,7 +190,7 @@ impl Draft {
     }
 
     /// What it was made of, with the pages as they are now.
-    pub fn apart(self) -> DraftParts
+    pub fn apart(self) -> DraftParts<A>
         ensures queue { result.q ≡ self.q }
         ensures identifier { result.cid ≡ self.cid }
         ensures request { result.request ≡ self.request }
@@ -217,7 +217,7 @@ impl Draft {
 
 /// The entry that the driver sends for a request (NVM Command Set 1.0, Read, Write and Compare): SGLs in the data pointer
 /// (PSDT 01b), namespace 1, the first block in CDW10 and CDW11, the number of blocks less one in CDW12; all else zero (own).
-fn io_entry(cid: u16, request: &Request, sgl1: [u8; 16]) -> SubEntry
+fn io_entry<A: Allocator>(cid: u16, request: &Request<A>, sgl1: [u8; 16]) -> SubEntry
     requires { 0 < request.now.blocks }
     ensures { result ≡ spec_io_entry cid request.now sgl1 }
 {

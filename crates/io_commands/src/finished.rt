@@ -9,19 +9,19 @@ use crate::data_bytes::push_data;
 use crate::request::{Kind, Request};
 use entry_codec::Status;
 use page_memory::{Page, PageNo};
-use std::alloc::{AllocError, Global};
+use std::alloc::{AllocError, Allocator, Global};
 use std::marker::Model;
 
 /// A command that has ended: its status, and its pages with their bytes. It must be spent: it is no `Drop`.
-pub struct Finished {
+pub struct Finished<A: Allocator = Global> {
     q: u16,
     cid: u16,
-    request: Request,
+    request: Request<A>,
     status: Status,
-    pages: Vec<(PageNo, Page)>,
+    pages: Vec<(PageNo, Page<A>), A>,
 }
 
-impl Model for Finished {
+impl<A: Allocator> Model for Finished<A> {
     ghost use Rattle.io_commands.specs.Values.{FinishedContents};
     ghost use Rattle.io_commands.specs.Finisheds.{contents_of, IsFinished};
 
@@ -34,27 +34,27 @@ impl Model for Finished {
 
 /// What a finished command is made of.
 #[derive(Drop)]
-pub struct FinishedParts {
+pub struct FinishedParts<A: Allocator = Global> {
     /// The queue.
     pub q: u16,
     /// The identifier.
     pub cid: u16,
     /// What the host asked for.
-    pub request: Request,
+    pub request: Request<A>,
     /// How it ended.
     pub status: Status,
     /// The pages with their bytes: one for each data piece, then those of the chain.
-    pub pages: Vec<(PageNo, Page)>,
+    pub pages: Vec<(PageNo, Page<A>), A>,
 }
 
-impl Finished {
+impl<A: Allocator> Finished<A> {
     /// A command that has ended. The pages are those of the data pieces, in order, and then those of the chain.
     pub fn make(
         q: u16,
         cid: u16,
-        request: Request,
+        request: Request<A>,
         status: Status,
-        pages: Vec<(PageNo, Page)>,
+        pages: Vec<(PageNo, Page<A>), A>,
     ) -> Self
         requires good { IsGood request }
         requires enough { data_count request.pieces ≤ length pages.items }
@@ -84,7 +84,7 @@ impl Finished {
     }
 
     /// What the host asked for.
-    pub fn request(&self) -> &Request
+    pub fn request(&self) -> &Request<A>
         ensures { result.now ≡ self.now.request }
     {
         &self.request
@@ -105,7 +105,7 @@ impl Finished {
     }
 
     /// The pages with their bytes: one for each data piece, then those of the chain.
-    pub fn pages(&self) -> &[(PageNo, Page)]
+    pub fn pages(&self) -> &[(PageNo, Page<A>)]
         ensures { result.now ≡ self.now.data_pages ++ self.now.chain_pages }
     {
         &self.pages
@@ -117,7 +117,7 @@ impl Finished {
     /// # Errors
     ///
     /// Where memory is refused.
-    pub fn gather(&self, alloc: Global) -> Result<Vec<u8>, AllocError>
+    pub fn gather<B: Allocator>(&self, alloc: B) -> Result<Vec<u8, B>, AllocError>
         ensures { IfOk result (λ bytes. bytes.items ≡ gathered_from self.now) }
     {
         match self.request.kind {
@@ -136,7 +136,7 @@ impl Finished {
     }
 
     /// What it was made of, with the pages as they are now.
-    pub fn apart(self) -> FinishedParts
+    pub fn apart(self) -> FinishedParts<A>
         ensures queue { result.q ≡ self.q }
         ensures identifier { result.cid ≡ self.cid }
         ensures request { result.request ≡ self.request }

@@ -13,7 +13,7 @@ use block_image::{BLOCK_SIZE, Image};
 use controller_walk::{Walk, WalkState};
 use entry_codec::{Status, SubEntry, io_opcode};
 use page_memory::Dma;
-use std::alloc::{AllocError, Global};
+use std::alloc::{AllocError, Allocator, Global};
 use std::marker::Model;
 
 /// A fetched command of an I/O queue, which waits for its walk or for its completion.
@@ -21,15 +21,15 @@ use std::marker::Model;
 /// A controller that is reset may drop it. Contracts see its entry, the blocks of its image, its bytes, its walk, if it has
 /// one, and its verdict, once it has one.
 #[derive(Drop)]
-pub struct Job {
+pub struct Job<A: Allocator = Global> {
     entry: SubEntry,
     blocks: u32,
-    bytes: Vec<u8>,
+    bytes: Vec<u8, A>,
     walk: Option<Walk>,
     verdict: Option<Status>,
 }
 
-impl Model for Job {
+impl<A: Allocator> Model for Job<A> {
     ghost use Rattle.io_commands.specs.Jobs.{JobContents, IsJobBy};
 
     ghost Value = { JobContents };
@@ -92,12 +92,12 @@ fn checked(entry: &SubEntry, blocks: u32) -> Result<Kind, Status>
 }
 
 /// The bytes that a command begins with: the blocks of a Read, and zeros for what a Write or a Compare fetches.
-fn first_bytes(
-    alloc: Global,
+fn first_bytes<A: Allocator, B: Allocator>(
+    alloc: A,
     entry: &SubEntry,
     kind: Kind,
-    image: &Image,
-) -> Result<Vec<u8>, AllocError>
+    image: &Image<B>,
+) -> Result<Vec<u8, A>, AllocError>
     requires passes { io_fault (block_count image.now) entry.now ≡ None }
     requires kind { kind_of_opcode entry.now.opcode ≡ Some kind }
     ensures bytes { IfOk result (λ bytes. bytes.items ≡ spec_first_bytes image.now entry.now (Some kind)) }
@@ -119,7 +119,11 @@ fn first_bytes(
 /// # Errors
 ///
 /// Where memory is refused.
-pub fn begin_job(alloc: Global, entry: &SubEntry, image: &Image) -> Result<Job, AllocError>
+pub fn begin_job<A: Allocator, B: Allocator>(
+    alloc: A,
+    entry: &SubEntry,
+    image: &Image<B>,
+) -> Result<Job<A>, AllocError>
     ensures entry { IfOk result (λ job. job.entry ≡ entry.now) }
     ensures blocks { IfOk result (λ job. job.blocks ≡ block_count image.now) }
     ensures verdict { IfOk result (λ job. job.verdict ≡ io_fault (block_count image.now) entry.now) }
@@ -162,7 +166,7 @@ fn verdict_after(state: WalkState) -> Option<Status>
     }
 }
 
-impl Job {
+impl<A: Allocator> Job<A> {
     /// Does the next unit of the walk, and answers as [`Walk::step`] does: `End` gives the verdict Successful Completion, a
     /// fault gives its status, and after `More` there is no verdict still.
     ///
@@ -224,7 +228,7 @@ impl Job {
 ///
 /// Where the verdict is Successful Completion a Write puts its bytes over its blocks, and a Compare whose bytes differ from
 /// its blocks ends with Compare Failure. All else leaves the image, and ends with the verdict.
-pub fn finish_job(job: Job, image: &mut Image) -> Status
+pub fn finish_job<A: Allocator, B: Allocator>(job: Job<A>, image: &mut Image<B>) -> Status
     requires verdict { IsSome job.verdict }
     requires blocks { block_count image.old ≡ job.blocks }
     ensures status { result ≡ finished_status image.old job }

@@ -14,9 +14,9 @@ use sgl_chain::{Chain, Part};
 use std::alloc::{AllocError, Allocator};
 
 /// Appends the parts of pieces, each data piece in its page.
-pub(crate) fn push_parts<A: Allocator>(
+pub(crate) fn push_parts<A: Allocator, B: Allocator>(
     pieces: &[Piece],
-    pages: &[(PageNo, Page)],
+    pages: &[(PageNo, Page<B>)],
     out: &mut Vec<Part, A>,
 ) -> Result<(), AllocError>
     requires inside { list_any crosses_page pieces.now ≡ false }
@@ -42,10 +42,10 @@ pub(crate) fn push_parts<A: Allocator>(
 }
 
 /// The parts of pieces, each data piece in its page.
-pub(crate) fn parts_of<A: Allocator>(
+pub(crate) fn parts_of<A: Allocator, B: Allocator>(
     alloc: A,
     pieces: &[Piece],
-    pages: &[(PageNo, Page)],
+    pages: &[(PageNo, Page<B>)],
 ) -> Result<Vec<Part, A>, AllocError>
     requires inside { list_any crosses_page pieces.now ≡ false }
     ensures { IfOk result (λ parts. parts.items ≡ spec_parts_of pieces.now (spec_numbers_of pages.now)) }
@@ -56,9 +56,9 @@ pub(crate) fn parts_of<A: Allocator>(
 }
 
 /// The numbers of pages.
-pub(crate) fn numbers_of<A: Allocator>(
+pub(crate) fn numbers_of<A: Allocator, B: Allocator>(
     alloc: A,
-    pages: &[(PageNo, Page)],
+    pages: &[(PageNo, Page<B>)],
 ) -> Result<Vec<PageNo, A>, AllocError>
     ensures { IfOk result (λ numbers. numbers.items ≡ spec_numbers_of pages.now) }
 {
@@ -70,7 +70,7 @@ pub(crate) fn numbers_of<A: Allocator>(
 }
 
 /// Lays the last segments of a chain in pages, as many as there are pages, one in each.
-fn lay_last<A: Allocator>(chain: &Chain<A>, pages: &mut [(PageNo, Page)])
+fn lay_last<A: Allocator, B: Allocator>(chain: &Chain<A>, pages: &mut [(PageNo, Page<B>)])
     requires { length pages.old ≤ length chain.now.segments }
     ensures { pages.new ≡ laid (drop (length chain.now.segments - length pages.old) chain.now.segments) pages.old }
 {
@@ -82,7 +82,7 @@ fn lay_last<A: Allocator>(chain: &Chain<A>, pages: &mut [(PageNo, Page)])
 }
 
 /// Lays the segments of a chain in the pages from one on, one in each.
-pub(crate) fn lay_all<A: Allocator>(chain: &Chain<A>, pages: &mut Vec<(PageNo, Page)>, from: usize)
+pub(crate) fn lay_all<A: Allocator, B: Allocator>(chain: &Chain<A>, pages: &mut Vec<(PageNo, Page<B>), B>, from: usize)
     requires { length pages.old.items ≡ from + length chain.now.segments }
     ensures { pages.new.items ≡ take from pages.old.items ++ laid chain.now.segments (drop from pages.old.items) }
 {
@@ -91,10 +91,10 @@ pub(crate) fn lay_all<A: Allocator>(chain: &Chain<A>, pages: &mut Vec<(PageNo, P
 }
 
 /// The chain of a request in its pages, of which those of the data pieces come first.
-pub(crate) fn chain_of<A: Allocator + Clone>(
+pub(crate) fn chain_of<A: Allocator + Clone, B: Allocator>(
     alloc: A,
-    request: &Request,
-    pages: &[(PageNo, Page)],
+    request: &Request<B>,
+    pages: &[(PageNo, Page<B>)],
     segment: usize,
 ) -> Result<Chain<A>, AllocError>
     requires good { IsGood request.now }
@@ -106,8 +106,8 @@ pub(crate) fn chain_of<A: Allocator + Clone>(
     ensures count { IfOk result (λ chain. length chain.segments ≡ pages_needed (length request.now.pieces) segment) }
     ensures spells { IfOk result (λ chain. SpellsWhereLaid (spec_numbers_of (chain_part request.now pages.now)) chain (spec_parts_of request.now.pieces (spec_numbers_of (data_part request.now pages.now)))) }
 {
-    let pieces = request.pieces.as_slice();
-    let (front, behind) = pages.split_at(request.pieces.data_pages());
+    let pieces = request.pieces();
+    let (front, behind) = pages.split_at(request.data_pages());
     let parts = parts_of(alloc.clone()?, pieces, front)?;
     let numbers = numbers_of(alloc.clone()?, behind)?;
     match Chain::build(alloc, parts.as_slice(), numbers.as_slice(), segment) {

@@ -16,7 +16,7 @@ mod ticket;
 pub use draft::{Draft, DraftParts, FillFault};
 pub use finished::{Finished, FinishedParts};
 pub use job::{Job, begin_job, finish_job};
-pub use request::{Kind, MAX_BLOCKS, MAX_PIECES, Piece, Pieces, Request, RequestFault};
+pub use request::{Kind, MAX_BLOCKS, MAX_PIECES, Piece, Pieces, Request, RequestFault, RequestOf};
 pub use ticket::Ticket;
 
 #[cfg(test)]

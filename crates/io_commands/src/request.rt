@@ -8,7 +8,7 @@ ghost use Rattle.io_commands.specs.Requests.{direction_of, opcode_of, is_empty_p
 
 use entry_codec::io_opcode;
 use sgl_descriptor::Direction;
-use std::alloc::{AllocError, Global};
+use std::alloc::{AllocError, Allocator, Global};
 use std::marker::Model;
 use thiserror::Error;
 
@@ -119,11 +119,11 @@ impl Piece {
 
 /// A list of pieces. Contracts see it as that list.
 #[derive(Debug, Drop)]
-pub struct Pieces {
-    pieces: Vec<Piece>,
+pub struct Pieces<A: Allocator = Global> {
+    pieces: Vec<Piece, A>,
 }
 
-impl Model for Pieces {
+impl<A: Allocator> Model for Pieces<A> {
     ghost use Rattle.std.specs.Prelude.{List};
     ghost use Rattle.io_commands.specs.declared.request.Piece.{Piece};
 
@@ -132,9 +132,9 @@ impl Model for Pieces {
     ghost view = { λ p. p.pieces.items };
 }
 
-impl Pieces {
+impl<A: Allocator> Pieces<A> {
     /// The pieces of a vector, in order.
-    pub fn from_vec(pieces: Vec<Piece>) -> Self
+    pub fn from_vec(pieces: Vec<Piece, A>) -> Self
         ensures { result ≡ pieces.items }
     {
         Pieces { pieces }
@@ -152,7 +152,7 @@ impl Pieces {
     /// # Errors
     ///
     /// Where memory is refused.
-    pub fn copied(&self, alloc: Global) -> Result<Self, AllocError>
+    pub fn copied<B: Allocator>(&self, alloc: B) -> Result<Pieces<B>, AllocError>
         ensures { IfOk result (λ pieces. pieces ≡ self.now) }
     {
         Ok(Pieces {
@@ -250,9 +250,10 @@ pub enum RequestFault {
     LengthMismatch,
 }
 
-/// What a host asks for: `blocks` blocks of 512 bytes from `slba` on, and the pieces of memory that take part.
+/// What a host asks for: `blocks` blocks of 512 bytes from `slba` on, and the pieces of memory that take part. A host
+/// writes it as [`Request`]; contracts see the pieces as a list, whatever holds them.
 #[derive(Debug, Drop)]
-pub struct Request {
+pub struct RequestOf<P> {
     /// Which command.
     pub kind: Kind,
     /// The first block.
@@ -260,16 +261,19 @@ pub struct Request {
     /// How many blocks.
     pub blocks: u32,
     /// The pieces, in the order of the data.
-    pub pieces: Pieces,
+    pub pieces: P,
 }
 
-impl Request {
+/// A request whose pieces stand in the memory of one allocator.
+pub type Request<A = Global> = RequestOf<Pieces<A>>;
+
+impl<A: Allocator> Request<A> {
     /// The same request once more.
     ///
     /// # Errors
     ///
     /// Where memory is refused.
-    pub fn copied(&self, alloc: Global) -> Result<Self, AllocError>
+    pub fn copied<B: Allocator>(&self, alloc: B) -> Result<Request<B>, AllocError>
         ensures { IfOk result (λ request. request ≡ self.now) }
     {
         Ok(Request {
@@ -278,6 +282,28 @@ impl Request {
             blocks: self.blocks,
             pieces: self.pieces.copied(alloc)?,
         })
+    }
+
+    /// The pieces.
+    pub fn pieces(&self) -> &[Piece]
+        ensures { result.now ≡ self.now.pieces }
+    {
+        self.pieces.as_slice()
+    }
+
+    /// How many data pages the pieces take.
+    pub fn data_pages(&self) -> usize
+        ensures { result ≡ data_count self.now.pieces }
+    {
+        self.pieces.data_pages()
+    }
+
+    /// How many bytes the data pieces are together.
+    pub fn data_bytes(&self) -> u64
+        requires { length self.now.pieces ≤ 1024 }
+        ensures { result ≡ sum_by data_length self.now.pieces }
+    {
+        self.pieces.data_bytes()
     }
 
     /// Reads the request. That each of its numbers fits its type is then known to contracts.

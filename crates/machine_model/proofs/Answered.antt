@@ -9,7 +9,7 @@ use Rattle.controller_walk.specs.declared.walk.WalkState.{WalkState}
 use Rattle.controller_walk.specs.Units.{Act, first_passing, touched, units}
 use Rattle.entry_codec.specs.declared.status.Status.{Status}
 use Rattle.io_commands.specs.Requests.{fault_of}
-use Rattle.io_commands.specs.declared.request.Request.{Request}
+use Rattle.io_commands.specs.Asked.{Request}
 use Rattle.io_commands.specs.declared.request.RequestFault.{RequestFault}
 use Rattle.machine_model.specs.State.{State, Job}
 use Rattle.machine_model.specs.Refusals.{causes, reserve_causes, refusal_of, job_at, job_is, post_page}

@@ -13,7 +13,7 @@ use Rattle.io_commands.specs.Drafts.{DraftContents}
 use Rattle.io_commands.specs.Jobs.{is_success}
 use Rattle.controller_walk.specs.Units.{first_passing}
 use Rattle.io_commands.specs.Values.{numbers_of}
-use Rattle.io_commands.specs.declared.request.Request.{Request}
+use Rattle.io_commands.specs.Asked.{Request}
 use Rattle.page_memory.specs.Pages.{with_page_bytes}
 use Rattle.queue_pair.specs.Memory.{half_pages}
 use Rattle.page_memory.specs.declared.page.Half.TheVariants.{Submission, Completion}

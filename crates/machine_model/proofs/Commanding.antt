@@ -18,7 +18,7 @@ use Rattle.entry_codec.specs.declared.submission.SubEntry.{SubEntry}
 use Rattle.entry_codec.specs.declared.status.Status.{Status}
 use Rattle.entry_codec.specs.declared.status.TheConstants.Status.{COMMAND_ID_CONFLICT, ABORT_REQUESTED}
 use Rattle.entry_codec.specs.declared.admin_opcode.TheConstants.{DELETE_IO_SQ}
-use Rattle.io_commands.specs.declared.request.Request.{Request}
+use Rattle.io_commands.specs.Asked.{Request}
 use Rattle.io_commands.specs.Requests.{parts_of}
 use Rattle.io_commands.specs.Drafts.{io_entry}
 use Rattle.io_commands.specs.Jobs.{is_success, verdict_of, direction_of_entry, io_fault, bytes_after_check}

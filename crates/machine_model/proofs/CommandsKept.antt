@@ -9,7 +9,7 @@ use Rattle.page_ledger.specs.Owners.{is_among}
 use Rattle.sgl_descriptor.specs.Spelling.{spelling}
 use Rattle.sgl_chain.specs.Spells.{Spells}
 use Rattle.entry_codec.specs.declared.submission.SubEntry.{SubEntry}
-use Rattle.io_commands.specs.declared.request.Request.{Request}
+use Rattle.io_commands.specs.Asked.{Request}
 use Rattle.io_commands.specs.declared.request.RequestFault.{RequestFault}
 use Rattle.io_commands.specs.Requests.{fault_of, parts_of, data_count, FitsRequest}
 use Rattle.io_commands.specs.Drafts.{DraftContents, io_entry, draft_first, draft_parts, draft_entry}

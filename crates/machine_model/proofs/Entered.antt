@@ -11,7 +11,7 @@ use Rattle.page_ledger.specs.Owners.{is_among}
 use Rattle.page_memory.specs.Memory.{page_of}
 use Rattle.page_memory.specs.Pages.{Pages, page_at}
 use Rattle.sgl_descriptor.specs.Targets.{counted_in}
-use Rattle.io_commands.specs.declared.request.Request.{Request}
+use Rattle.io_commands.specs.Asked.{Request}
 use Rattle.io_commands.specs.declared.request.Kind.{Kind}
 use Rattle.io_commands.specs.declared.request.Kind.TheVariants.{Read, Write, Compare}
 use Rattle.io_commands.specs.declared.request.Piece.{Piece}

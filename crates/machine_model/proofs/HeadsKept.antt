@@ -13,7 +13,7 @@ use Rattle.entry_codec.specs.declared.status.Status.{Status}
 use Rattle.io_commands.specs.Drafts.{DraftContents}
 use Rattle.io_commands.specs.Values.{numbers_of}
 use Rattle.io_commands.specs.Jobs.{is_success}
-use Rattle.io_commands.specs.declared.request.Request.{Request}
+use Rattle.io_commands.specs.Asked.{Request}
 use Rattle.queue_pair.specs.Rings.{HostRing, next_tail, next_head, knowing}
 use Rattle.queue_pair.specs.Slots.{next_slot, distance}
 use Rattle.queue_pair.proofs.Order.{distance_grows}

@@ -14,7 +14,7 @@ use Rattle.sgl_descriptor.specs.Spelling.{spelling}
 use Rattle.controller_walk.specs.Units.{Act, Stays, Reads, Moves, units}
 use Rattle.entry_codec.specs.declared.submission.SubEntry.{SubEntry}
 use Rattle.entry_codec.specs.declared.status.Status.{Status}
-use Rattle.io_commands.specs.declared.request.Request.{Request}
+use Rattle.io_commands.specs.Asked.{Request}
 use Rattle.io_commands.specs.Requests.{direction_of}
 use Rattle.io_commands.specs.DataBytes.{PagesOut}
 use Rattle.io_commands.specs.Drafts.{DraftContents}

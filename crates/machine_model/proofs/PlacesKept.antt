@@ -16,7 +16,7 @@ use Rattle.io_commands.specs.Drafts.{DraftContents}
 use Rattle.io_commands.specs.Values.{numbers_of}
 use Rattle.controller_walk.specs.Units.{first_passing}
 use Rattle.io_commands.specs.Jobs.{is_success}
-use Rattle.io_commands.specs.declared.request.Request.{Request}
+use Rattle.io_commands.specs.Asked.{Request}
 use Rattle.io_commands.proofs.Spelled.{carries_entry}
 use Rattle.page_memory.specs.Pages.{with_page_bytes}
 use Rattle.queue_pair.specs.Rings.{HostRing, next_tail, next_head, knowing}

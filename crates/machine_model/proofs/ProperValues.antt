@@ -5,7 +5,7 @@ use Rattle.std.proofs.lemmas.Bool.{true≢false, not-false}
 use Rattle.std.proofs.lemmas.List.Elements.{All-nil, All-cons, All-head, All-tail}
 use Rattle.page_ledger.specs.Owners.{is_among}
 use Rattle.entry_codec.specs.declared.status.Status.{Status}
-use Rattle.io_commands.specs.declared.request.Request.{Request}
+use Rattle.io_commands.specs.Asked.{Request}
 use Rattle.io_commands.specs.declared.request.RequestFault.{RequestFault}
 use Rattle.io_commands.specs.Drafts.{DraftContents, IsDraft, IsBuiltIfAny}
 use Rattle.io_commands.specs.Requests.{FitsRequest, fault_of, data_count}

@@ -12,7 +12,7 @@ use Rattle.sgl_descriptor.specs.Targets.{Target, Place, targets}
 use Rattle.controller_walk.specs.Units.{units}
 use Rattle.entry_codec.specs.declared.submission.SubEntry.{SubEntry}
 use Rattle.entry_codec.specs.declared.status.Status.{Status}
-use Rattle.io_commands.specs.declared.request.Request.{Request}
+use Rattle.io_commands.specs.Asked.{Request}
 use Rattle.io_commands.specs.declared.request.Kind.TheVariants.{Read}
 use Rattle.io_commands.specs.Requests.{parts_of}
 use Rattle.io_commands.specs.Drafts.{DraftContents}

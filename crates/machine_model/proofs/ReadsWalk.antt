@@ -18,7 +18,7 @@ use Rattle.controller_walk.proofs.All.{list_moves_all}
 use Rattle.admin_commands.specs.Verdicts.{is_absent}
 use Rattle.controller_walk.specs.declared.walk.WalkState.{WalkState}
 use Rattle.entry_codec.specs.declared.submission.SubEntry.{SubEntry}
-use Rattle.io_commands.specs.declared.request.Request.{Request}
+use Rattle.io_commands.specs.Asked.{Request}
 use Rattle.io_commands.specs.declared.request.Kind.TheVariants.{Read}
 use Rattle.io_commands.specs.Requests.{parts_of, direction_of}
 use Rattle.io_commands.specs.Drafts.{DraftContents}

@@ -13,7 +13,7 @@ use Rattle.entry_codec.specs.declared.status.TheConstants.Status.{ABORTED_SQ_DEL
 use Rattle.io_commands.specs.Drafts.{DraftContents}
 use Rattle.io_commands.specs.Values.{numbers_of, FinishedContents}
 use Rattle.io_commands.specs.Jobs.{is_success}
-use Rattle.io_commands.specs.declared.request.Request.{Request}
+use Rattle.io_commands.specs.Asked.{Request}
 use Rattle.page_memory.specs.Pages.{with_page_bytes}
 use Rattle.machine_model.specs.Memory.{with_pages, without_pages}
 use Rattle.machine_model.specs.Commands.{Work, Io, Management}

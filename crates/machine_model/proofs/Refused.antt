@@ -5,7 +5,7 @@ use Rattle.std.specs.List.{AllByRecursion}
 use Rattle.std.proofs.lemmas.Bool.{and_parts, true≢false}
 use Rattle.std.proofs.lemmas.List.{map-append}
 use Rattle.io_commands.specs.Values.{numbers_of}
-use Rattle.io_commands.specs.declared.request.Request.{Request}
+use Rattle.io_commands.specs.Asked.{Request}
 use Rattle.controller_walk.specs.Units.{first_passing}
 use Rattle.machine_model.specs.State.{State, Record, Phase, record_at, pages_of}
 use Rattle.machine_model.specs.Refusals.{record_is, is_of, asks_for}

@@ -20,7 +20,7 @@ use Rattle.controller_walk.specs.Serving.{Serves}
 use Rattle.controller_walk.proofs.Serving.{list_served}
 use Rattle.entry_codec.specs.declared.submission.SubEntry.{SubEntry}
 use Rattle.entry_codec.specs.declared.status.TheConstants.Status.{DATA_TRANSFER_ERROR}
-use Rattle.io_commands.specs.declared.request.Request.{Request}
+use Rattle.io_commands.specs.Asked.{Request}
 use Rattle.io_commands.specs.Requests.{parts_of, direction_of}
 use Rattle.io_commands.specs.Drafts.{io_entry}
 use Rattle.io_commands.specs.Jobs.{direction_of_entry, need_of_entry}

@@ -18,7 +18,7 @@ use Rattle.sgl_descriptor.proofs.Spells.{reads_itself}
 use Rattle.sgl_chain.specs.Chains.{first_of}
 use Rattle.sgl_chain.specs.Spells.{Spells, Holds}
 use Rattle.sgl_chain.proofs.Spelled.{spells}
-use Rattle.io_commands.specs.declared.request.Request.{Request}
+use Rattle.io_commands.specs.Asked.{Request}
 use Rattle.io_commands.specs.declared.request.Kind.{Kind}
 use Rattle.io_commands.specs.declared.request.Kind.TheVariants.{Read, Write, Compare}
 use Rattle.io_commands.specs.declared.request.Piece.{Piece}

@@ -6,7 +6,7 @@ use Rattle.admin_commands.specs.Entries.{admin_entry}
 use Rattle.io_commands.specs.Values.{numbers_of}
 use Rattle.entry_codec.specs.declared.submission.SubEntry.{SubEntry}
 use Rattle.admin_commands.specs.declared.AdminKind.TheVariants.{Abort, DeleteSq, DeleteCq}
-use Rattle.io_commands.specs.declared.request.Request.{Request}
+use Rattle.io_commands.specs.Asked.{Request}
 use Rattle.controller_walk.specs.Units.{first_passing}
 use Rattle.page_memory.specs.Pages.{with_page_bytes}
 use Rattle.machine_model.specs.Memory.{with_pages, without_pages}

@@ -12,7 +12,7 @@ use Rattle.io_commands.specs.Drafts.{DraftContents}
 use Rattle.io_commands.specs.Values.{numbers_of}
 use Rattle.std.proofs.lemmas.Bool.Decides.{nat_tests}
 use Rattle.controller_walk.specs.Units.{first_passing}
-use Rattle.io_commands.specs.declared.request.Request.{Request}
+use Rattle.io_commands.specs.Asked.{Request}
 use Rattle.page_memory.specs.Pages.{Pages, page_at, with_page_bytes}
 use Rattle.page_memory.specs.declared.page.Half.TheVariants.{Submission, Completion}
 use Rattle.entry_codec.specs.declared.submission.SubEntry.{SubEntry}

@@ -3,7 +3,7 @@ use Rattle.std.specs.Prelude.{ℕ, List}
 use Rattle.controller_walk.specs.declared.walk.WalkState.{WalkState}
 use Rattle.io_commands.specs.Drafts.{DraftContents}
 use Rattle.io_commands.specs.Values.{FinishedContents}
-use Rattle.io_commands.specs.declared.request.Request.{Request}
+use Rattle.io_commands.specs.Asked.{Request}
 pub use Rattle.machine_model.specs.declared.words.Refusal.{Refusal}
 pub use Rattle.machine_model.specs.declared.words.Refusal.TheVariants.{NoQueue, Deleting, Bad, NoIdentifier, NoPages, Memory, Stranger, NotBuilt, QueueGone, QueueFull, NotYet, WrongState, NoSuchCommand, NotDeleted, NotDrained, NoSlot, Idle, SlotOut, Full, NoJob, Nothing, Walking, Waits}
 pub use Rattle.machine_model.specs.declared.words.RejectedFor.{RejectedFor}

@@ -6,7 +6,7 @@ use Rattle.sgl_descriptor.specs.declared.Direction.TheVariants.{Destination}
 use Rattle.sgl_descriptor.specs.Targets.{Target, Place, Discarded, targets}
 use Rattle.io_commands.specs.Requests.{parts_of}
 use Rattle.io_commands.specs.DataBytes.{gathered}
-use Rattle.io_commands.specs.declared.request.Request.{Request}
+use Rattle.io_commands.specs.Asked.{Request}
 use Rattle.io_commands.specs.declared.request.Kind.TheVariants.{Read, Write, Compare}
 use Rattle.io_commands.specs.declared.request.Kind.{Kind}
 use Rattle.machine_model.specs.State.{State}

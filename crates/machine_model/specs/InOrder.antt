@@ -3,7 +3,7 @@ use Rattle.std.specs.Prelude.{◌≡◌, ◌≤◌, ℕ, IsTrue, List, map}
 use Rattle.block_image.specs.Blocks.{IsImage}
 use Rattle.io_commands.specs.Drafts.{DraftContents}
 use Rattle.io_commands.specs.Values.{FinishedContents}
-use Rattle.io_commands.specs.declared.request.Request.{Request}
+use Rattle.io_commands.specs.Asked.{Request}
 use Rattle.page_memory.specs.Pages.{AreWhole}
 use Rattle.machine_model.specs.Claims.{IsSound}
 use Rattle.machine_model.specs.Events as events

@@ -14,7 +14,7 @@ use Rattle.admin_commands.specs.Entries.{named_queue, named_command}
 use Rattle.io_commands.specs.DataBytes.{gathered}
 use Rattle.io_commands.specs.Values.{FinishedContents, numbers_of}
 use Rattle.entry_codec.specs.declared.submission.SubEntry.{SubEntry}
-use Rattle.io_commands.specs.declared.request.Request.{Request}
+use Rattle.io_commands.specs.Asked.{Request}
 use Rattle.io_commands.specs.declared.request.Kind.TheVariants.{Read, Write, Compare}
 use Rattle.page_memory.specs.Pages.{page_at, byte_at}
 use Rattle.entry_codec.specs.declared.status.TheConstants.Status.{SUCCESS, ABORT_REQUESTED, ABORTED_SQ_DELETION, LBA_OUT_OF_RANGE, COMPARE_FAILURE}

@@ -31,3 +31,4 @@ pub mod WorkedForged
 pub mod WorkedLaws
 pub mod WorkedSound
 pub mod InOrder
+pub mod Work

@@ -12,7 +12,7 @@ use Rattle.entry_codec.specs.declared.submission.SubEntry.{SubEntry}
 use Rattle.io_commands.specs.Requests.{fault_of, data_count}
 use Rattle.controller_walk.specs.Units.{first_passing}
 use Rattle.io_commands.specs.declared.request.RequestFault.{RequestFault}
-use Rattle.io_commands.specs.declared.request.Request.{Request}
+use Rattle.io_commands.specs.Asked.{Request}
 use Rattle.io_commands.specs.declared.request.Piece.TheVariants.{Data, Bucket}
 use Rattle.io_commands.specs.declared.request.Piece.{Piece}
 use Rattle.io_commands.specs.declared.request.Kind.TheVariants.{Read, Write, Compare}

@@ -15,7 +15,7 @@ use Rattle.sgl_chain.specs.Chains.{pages_needed}
 use Rattle.io_commands.specs.Values.{FinishedContents, numbers_of, gathered_from}
 use Rattle.io_commands.specs.Requests.{data_count}
 use Rattle.io_commands.specs.DataBytes.{data_length, filled}
-use Rattle.io_commands.specs.declared.request.Request.{Request}
+use Rattle.io_commands.specs.Asked.{Request}
 use Rattle.io_commands.specs.declared.request.Piece.{Piece}
 use Rattle.io_commands.specs.declared.request.Kind.TheVariants.{Read, Write, Compare}
 use Rattle.io_commands.specs.declared.request.Kind.{Kind}

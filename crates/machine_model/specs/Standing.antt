@@ -9,7 +9,7 @@ use Rattle.sgl_chain.specs.Spells.{Spells}
 use Rattle.controller_walk.specs.declared.walk.WalkState.TheVariants.{End}
 use Rattle.controller_walk.specs.Units.{units, verdict}
 use Rattle.entry_codec.specs.declared.submission.SubEntry.{SubEntry}
-use Rattle.io_commands.specs.declared.request.Request.{Request}
+use Rattle.io_commands.specs.Asked.{Request}
 use Rattle.io_commands.specs.Requests.{data_count, parts_of, FitsRequest}
 use Rattle.io_commands.specs.Drafts.{io_entry}
 use Rattle.io_commands.specs.Values.{IsGood}

@@ -8,7 +8,7 @@ use Rattle.sgl_chain.specs.Chains.{pages_needed}
 use Rattle.io_commands.specs.Values.{FinishedContents, numbers_of}
 use Rattle.io_commands.specs.Requests.{data_count}
 use Rattle.entry_codec.specs.declared.completion.ComEntry.{ComEntry}
-use Rattle.io_commands.specs.declared.request.Request.{Request}
+use Rattle.io_commands.specs.Asked.{Request}
 use Rattle.page_memory.specs.Pages.{Pages, page_at, zero_page, AreWhole}
 use Rattle.machine_model.specs.Memory.{is_in}
 use Rattle.machine_model.specs.Proper.{IsProper}

@@ -37,9 +37,9 @@ pub enum HostState {
 
 /// What an outstanding command is for.
 #[derive(Drop)]
-pub enum Work {
+pub enum Work<R = Request> {
     /// A command of an I/O queue.
-    Io(Request),
+    Io(R),
     /// A command of queue 0.
     Management(AdminKind),
 }

@@ -8,17 +8,17 @@ ghost use Rattle.page_ledger.specs.Runs.{lowest_run as spec_lowest_run};
 
 use crate::owner::{Counts, Group, NoPages, Owner};
 use page_memory::{Half, OpenFault, PageNo};
-use std::alloc::Global;
+use std::alloc::{Allocator, Global};
 use std::marker::Model;
 
 /// The owner of each page of a pool. Contracts see it as the list of the owners, in the pages' order.
 #[derive(Drop)]
-pub struct Ledger {
-    owners: Vec<Owner>,
+pub struct Ledger<A: Allocator = Global> {
+    owners: Vec<Owner, A>,
     counts: Counts,
 }
 
-impl Model for Ledger {
+impl<A: Allocator> Model for Ledger<A> {
     ghost use Rattle.std.specs.Prelude.{◌≡◌, ◌≤◌, List, length};
     ghost use Rattle.page_ledger.specs.declared.owner.Owner.{Owner};
     ghost use Rattle.page_ledger.specs.Counting.{counts_of};
@@ -30,13 +30,13 @@ impl Model for Ledger {
     ghost invariant = { λ l. (8 ≤ length l.owners.items) × (length l.owners.items ≤ 65536) × (l.counts ≡ counts_of l.owners.items) };
 }
 
-impl Ledger {
+impl<A: Allocator> Ledger<A> {
     /// Opens a pool of so many pages, all of them free.
     ///
     /// # Errors
     ///
     /// 1. `BadSize` exactly where the number is outside 8 to 65,536. 2. `Memory` where memory is refused.
-    pub fn open(alloc: Global, pages: u32) -> Result<Self, OpenFault>
+    pub fn open(alloc: A, pages: u32) -> Result<Self, OpenFault>
         ensures free { IfOk result (λ ledger. ledger ≡ replicate pages Owner.Free) }
         ensures bad_size { (result ≡ Err OpenFault.BadSize) ↔ ((pages < 8) ⊎ (65536 < pages)) }
     {
@@ -63,7 +63,7 @@ impl Ledger {
     /// # Errors
     ///
     /// `NoPages` exactly where fewer than `k` pages are free. Then nothing changed.
-    pub fn grant(&mut self, owner: Owner, k: u32, into: &mut Vec<PageNo>) -> Result<(), NoPages>
+    pub fn grant(&mut self, owner: Owner, k: u32, into: &mut Vec<PageNo, A>) -> Result<(), NoPages>
         requires owned { is_free owner ≡ false }
         requires room { vec_len into.old + k ≤ vec_capacity into.old }
         ensures enough { OnOk result (k ≤ length (free_pages self.old)) }
@@ -148,7 +148,7 @@ impl Ledger {
     }
 }
 
-impl Ledger {
+impl<A: Allocator> Ledger<A> {
     /// Gives one page of the pool to an owner.
     fn set(&mut self, p: PageNo, owner: Owner)
         requires { p < length self.old }
@@ -199,7 +199,7 @@ impl Ledger {
 }
 
 /// Appends the `k` lowest free pages to a list that has room for them.
-fn push_lowest_free(owners: &[Owner], k: u32, into: &mut Vec<PageNo>)
+fn push_lowest_free<A: Allocator>(owners: &[Owner], k: u32, into: &mut Vec<PageNo, A>)
     requires pool { length owners.now ≤ 65536 }
     requires free { k ≤ length (free_pages owners.now) }
     requires room { vec_len into.old + k ≤ vec_capacity into.old }

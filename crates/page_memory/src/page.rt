@@ -3,7 +3,7 @@
 ghost use Rattle.std.specs.Prelude.{◌≡◌, ◌+◌, ◌≤◌, IfOk, length};
 ghost use Rattle.page_memory.specs.Pages.{zero_page, with_bytes};
 
-use std::alloc::{AllocError, Global};
+use std::alloc::{AllocError, Allocator, Global};
 use std::marker::Model;
 
 /// How many bytes a page has (own: a memory page size of 4,096 bytes).
@@ -35,11 +35,11 @@ pub enum Half {
 
 /// The 4,096 bytes of a page. Contracts see it as the list of its bytes.
 #[derive(Drop)]
-pub struct Page {
-    bytes: Box<[u8; 4096]>,
+pub struct Page<A: Allocator = Global> {
+    bytes: Box<[u8; 4096], A>,
 }
 
-impl Model for Page {
+impl<A: Allocator> Model for Page<A> {
     ghost use Rattle.std.specs.Prelude.{◌≡◌, List, ℕ, length};
 
     ghost Value = { List ℕ };
@@ -49,10 +49,10 @@ impl Model for Page {
     ghost invariant = { λ p. length p.bytes.value ≡ 4096 };
 }
 
-impl Page {
+impl<A: Allocator> Page<A> {
     /// A page of zeros.
     #[tactic(auto, unfolding(crate::specs::Pages::zero_page))]
-    pub(crate) fn zeroed(alloc: Global) -> Result<Self, AllocError>
+    pub(crate) fn zeroed(alloc: A) -> Result<Self, AllocError>
         ensures zero { IfOk result (λ page. page ≡ zero_page) }
         ensures len { IfOk result (λ page. length page ≡ 4096) }
     {

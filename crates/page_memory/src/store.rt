@@ -9,7 +9,7 @@ ghost use Rattle.page_memory.specs.Memory.{written};
 use crate::dma::{Dma, Unreadable};
 use crate::page::{PAGE_BYTES, Page, PageNo};
 use arrayvec::ArrayVec;
-use std::alloc::{AllocError, Global};
+use std::alloc::{AllocError, Allocator, Global};
 use std::marker::Model;
 use thiserror::Error;
 
@@ -37,12 +37,12 @@ impl From<AllocError> for OpenFault {
 
 /// The pages of a pool, each in or out, and the list of pages touched through [`Dma`].
 #[derive(Drop)]
-pub struct Store {
-    pages: Vec<Option<Page>>,
+pub struct Store<A: Allocator = Global> {
+    pages: Vec<Option<Page<A>>, A>,
     touched: ArrayVec<PageNo, 4>,
 }
 
-impl Model for Store {
+impl<A: Allocator> Model for Store<A> {
     ghost use Rattle.std.specs.Prelude.{◌≤◌, length};
     ghost use Rattle.page_memory.specs.Pages.{Contents, IsPool};
 
@@ -53,13 +53,13 @@ impl Model for Store {
     ghost invariant = { λ s. IsPool s.pages.items };
 }
 
-impl Store {
+impl<A: Allocator + Clone> Store<A> {
     /// Opens a pool of so many pages, all in and all zero, with nothing touched.
     ///
     /// # Errors
     ///
     /// 1. `BadSize` exactly where the number is outside 8 to 65,536. 2. `Memory` where memory is refused.
-    pub fn open(alloc: Global, pages: u32) -> Result<Self, OpenFault>
+    pub fn open(alloc: A, pages: u32) -> Result<Self, OpenFault>
         ensures pages { IfOk result (λ store. store.pages ≡ replicate pages (Some zero_page)) }
         ensures touched { IfOk result (λ store. store.touched ≡ []) }
         ensures bad_size { (result ≡ Err OpenFault.BadSize) ↔ ((pages < 8) ⊎ (65536 < pages)) }
@@ -67,9 +67,9 @@ impl Store {
         if !(8..=65_536).contains(&pages) {
             return Err(OpenFault::BadSize);
         }
-        let mut all = Vec::with_capacity(alloc, pages as usize)?;
+        let mut all = Vec::with_capacity(alloc.clone()?, pages as usize)?;
         for _ in 0..pages {
-            let page = Page::zeroed(alloc)?;
+            let page = Page::zeroed(alloc.clone()?)?;
             all.push(Some(page)).map_err(AllocError::from)?;
         }
         Ok(Store {
@@ -77,7 +77,9 @@ impl Store {
             touched: ArrayVec::new(),
         })
     }
+}
 
+impl<A: Allocator> Store<A> {
     /// How many pages the pool has, in and out. Each page that is in has its 4,096 bytes.
     pub fn pages(&self) -> u32
         ensures count { result ≡ length self.now.pages }
@@ -87,7 +89,7 @@ impl Store {
     }
 
     /// Moves a page out; `None`, with nothing changed, where it is out already or outside the pool.
-    pub fn take(&mut self, p: PageNo) -> Option<Page>
+    pub fn take(&mut self, p: PageNo) -> Option<Page<A>>
         ensures page { result ≡ page_at self.old.pages p }
         ensures out { self.new ≡ record self.old { pages = slice_set self.old.pages p None } }
     {
@@ -98,7 +100,7 @@ impl Store {
     }
 
     /// Moves a page in that was out.
-    pub fn put(&mut self, p: PageNo, page: Page)
+    pub fn put(&mut self, p: PageNo, page: Page<A>)
         requires { slice_get self.old.pages p ≡ Some None }
         ensures { self.new ≡ record self.old { pages = slice_set self.old.pages p (Some page) } }
     {
@@ -128,9 +130,9 @@ impl Store {
     }
 }
 
-impl Store {
+impl<A: Allocator> Store<A> {
     /// The page of this number, where it is in.
-    fn page(&self, number: u64) -> Option<&Page>
+    fn page(&self, number: u64) -> Option<&Page<A>>
         ensures { option_copied result ≡ page_at self.now.pages number }
     {
         match self.pages.get(number as usize) {
@@ -206,7 +208,7 @@ impl Range {
     }
 }
 
-impl Dma for Store {
+impl<A: Allocator> Dma for Store<A> {
     ghost use Rattle.page_memory.specs.Pages.{byte_at};
     ghost use Rattle.std.specs.Prelude.{length};
 

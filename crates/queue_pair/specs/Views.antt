@@ -3,7 +3,7 @@ use Rattle.queue_pair.specs.Rings.{HostSide, DeviceSide}
 use Rattle.queue_pair.specs.declared.host.HostPair.TheInside as host
 use Rattle.queue_pair.specs.declared.device.DevicePair.TheInside as device
 
-abbrev pub host_side : host.Inside → HostSide
+abbrev pub host_side : {A : Type 0} → host.Inside A → HostSide
 host_side pair = record {
   q = pair.q;
   entries = pair.entries;

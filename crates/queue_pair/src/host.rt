@@ -13,12 +13,12 @@ use crate::image::submission_image;
 use crate::slots::{completion_address, lies_between, phase_after, slot_after, submission_address};
 use entry_codec::{ComEntry, SubEntry};
 use page_memory::{Dma, PageNo};
-use std::alloc::{AllocError, Global};
+use std::alloc::{AllocError, Allocator, Global};
 use std::marker::Model;
 
 /// The host's side of a queue pair: where it posts entries and takes completions, and which identifiers are claimed.
 #[derive(Drop)]
-pub struct HostPair {
+pub struct HostPair<A: Allocator = Global> {
     q: u16,
     entries: u16,
     sq: PageNo,
@@ -27,10 +27,10 @@ pub struct HostPair {
     phase: bool,
     known_head: u16,
     tail: u16,
-    claimed: Vec<bool>,
+    claimed: Vec<bool, A>,
 }
 
-impl Model for HostPair {
+impl<A: Allocator> Model for HostPair<A> {
     ghost use Rattle.queue_pair.specs.Rings.{HostSide};
 
     ghost Value = { HostSide };
@@ -43,7 +43,7 @@ impl Model for HostPair {
     ghost invariant = { λ pair. IsHostSide (host_side pair) };
 }
 
-impl HostPair {
+impl<A: Allocator> HostPair<A> {
     /// The host's side of queue `q` with so many entries in each ring, whose halves begin at the pages `sq` and `cq`. Nothing is
     /// posted, the first completion is expected with phase 1, and no identifier is claimed.
     ///
@@ -51,12 +51,12 @@ impl HostPair {
     ///
     /// `AllocError` where memory for the table of identifiers is refused.
     pub fn open(
-        alloc: Global,
+        alloc: A,
         q: u16,
         entries: u16,
         sq: PageNo,
         cq: PageNo,
-    ) -> Result<HostPair, AllocError>
+    ) -> Result<Self, AllocError>
         requires least { 2 ≤ entries }
         requires most { entries ≤ 1024 }
         ensures queue { IfOk result (λ pair. (pair.q ≡ q) × (pair.entries ≡ entries)) }

@@ -4,7 +4,7 @@ use Rattle.std.specs.Prelude.{ℕ, ◌^◌, ◌==◌, nat_lt, nat_le, Bool, fals
 use Rattle.std.specs.List.{list_any}
 use Rattle.io_commands.specs.declared.request.Kind.{Kind}
 use Rattle.io_commands.specs.declared.request.Piece.{Piece}
-use Rattle.io_commands.specs.declared.request.Request.{Request}
+use Rattle.io_commands.specs.Asked.{Request}
 use Rattle.script_cli.specs.Lines.{words}
 use Rattle.script_cli.specs.Numbers.{number, hex, sixteen_bytes, kind}
 use Rattle.script_cli.specs.Pieces.{piece}

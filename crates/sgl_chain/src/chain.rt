@@ -216,7 +216,7 @@ impl<A: Allocator> Chain<A> {
     }
 
     /// Writes the bytes of segment `i`, counted from 0, at the start of a page. The rest of the page stays.
-    pub fn lay(&self, i: usize, page: &mut Page)
+    pub fn lay<B: Allocator>(&self, i: usize, page: &mut Page<B>)
         requires { i < length self.now.segments }
         ensures bytes { page.new ≡ with_bytes page.old 0 (segment_bytes (segment_at self.now.segments i)) }
         ensures len { length page.new ≡ 4096 }

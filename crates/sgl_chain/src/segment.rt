@@ -152,7 +152,7 @@ impl<A: Allocator> Segment<A> {
     }
 
     /// Writes the bytes of this segment's descriptors at the start of a page. The rest of the page stays.
-    pub(crate) fn lay(&self, page: &mut Page)
+    pub(crate) fn lay<B: Allocator>(&self, page: &mut Page<B>)
         ensures bytes { page.new ≡ with_bytes page.old 0 (segment_bytes self.now.descriptors) }
         ensures len { length page.new ≡ 4096 }
     {
@@ -172,7 +172,7 @@ impl<A: Allocator> Segment<A> {
 }
 
 /// Writes the bytes of descriptors at the start of a page. The rest of the page stays.
-fn lay_descriptors(descriptors: &[Descriptor], page: &mut Page)
+fn lay_descriptors<B: Allocator>(descriptors: &[Descriptor], page: &mut Page<B>)
     requires { length descriptors.now ≤ 256 }
     ensures bytes { page.new ≡ with_bytes page.old 0 (segment_bytes descriptors.now) }
     ensures len { length page.new ≡ 4096 }

@@ -2,7 +2,7 @@
 use Rattle.std.specs.Prelude.{ℕ, [], Result, Ok, Err}
 use Rattle.io_commands.specs.Drafts.{DraftContents}
 use Rattle.io_commands.specs.Values.{FinishedContents, TicketContents}
-use Rattle.io_commands.specs.declared.request.Request.{Request}
+use Rattle.io_commands.specs.Asked.{Request}
 use Rattle.machine_model.specs.Events as events
 use Rattle.machine_model.specs.Events.{Reply}
 use Rattle.machine_model.specs.declared.words.Reaped.{Reaped}

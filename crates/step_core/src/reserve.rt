@@ -14,7 +14,7 @@ ghost use Rattle.step_core.specs.Replies.{reserve_reply};
 ghost use Rattle.step_core.specs.Parts.{tables_of};
 ghost use Rattle.world_tables.specs.Tables.{state_of};
 ghost use Rattle.world_tables.specs.Whole.{IsWhole};
-ghost use Rattle.world_tables.specs.declared.queue.Queue.{Queue as QueueValue};
+ghost use Rattle.world_tables.specs.Rows.{Queue as QueueValue};
 
 use crate::moving::move_out_zeroed;
 use crate::parts::Parts;

@@ -18,7 +18,7 @@ use Rattle.machine_model.specs.Step.{KeepsDevice, reaped_entry}
 use Rattle.machine_model.specs.declared.words.HostState.{HostState}
 use Rattle.machine_model.specs.declared.words.HostState.TheVariants.{Live, Deleting, Retired, Gone}
 use Rattle.machine_model.specs.declared.words.Reaped.TheVariants as found
-use Rattle.machine_model.specs.declared.words.Work.{Work}
+use Rattle.machine_model.specs.Work.{Work}
 use Rattle.machine_model.specs.declared.words.Work.TheVariants.{Management}
 use Rattle.page_ledger.specs.Owners.{free_pages, given_back, is_half}
 use Rattle.page_memory.specs.Pages.{byte_at}
@@ -30,7 +30,7 @@ use Rattle.world_tables.specs.Reaping.{gives_back, heard, meant, over, state_del
 use Rattle.world_tables.specs.Tables.{Tables, state_of, host_queue_of, device_queue_of, sq_pages_of, cq_pages_of}
 use Rattle.machine_model.specs.Memory.{memory_of}
 use Rattle.world_tables.specs.Whole.{IsWhole, IsQueue, IsRecord, RingsStand, TellsCommand, TellsQueue, WalksStand}
-use Rattle.world_tables.specs.declared.queue.Queue.{Queue}
+use Rattle.world_tables.specs.Rows.{Queue}
 use Rattle.world_tables.proofs.HalvesGiven.{OwnsHalf, commands-told, half-owned, others-told}
 use Rattle.world_tables.proofs.Identifiers.{claim-less}
 use Rattle.world_tables.proofs.Lists.{all-filter, found_any, none_is_not, some_is}

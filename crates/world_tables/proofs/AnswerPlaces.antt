@@ -16,7 +16,7 @@ use Rattle.queue_pair.specs.Slots.{is_full}
 use Rattle.queue_pair.proofs.Halves.{outside_agrees, completion_outside}
 use Rattle.world_tables.specs.Tables.{Tables, sq_pages_of, cq_pages_of}
 use Rattle.world_tables.specs.Whole.{HaveOwner}
-use Rattle.world_tables.specs.declared.queue.Queue.{Queue}
+use Rattle.world_tables.specs.Rows.{Queue}
 use Rattle.world_tables.proofs.Ringing.{AreRinged}
 use Rattle.world_tables.proofs.Showing.{AgreeAt, halves_apart}
 

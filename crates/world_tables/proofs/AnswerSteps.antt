@@ -10,7 +10,7 @@ use Rattle.queue_pair.specs.Memory.{completion_page, phased}
 use Rattle.queue_pair.specs.Rings.{DeviceSide, answer_posted}
 use Rattle.world_tables.specs.Serving.{completion_by, with_device, with_answer, PostsFor}
 use Rattle.world_tables.specs.Tables.{Tables}
-use Rattle.world_tables.specs.declared.queue.Queue.{Queue}
+use Rattle.world_tables.specs.Rows.{Queue}
 use Rattle.world_tables.proofs.Changing.{change-agree}
 
 pub posts_for : (t : Tables) (q cid : ℕ) (st : Status) (dw0 head : ℕ) (queue : Queue) (pages : Pages) (queues : List Queue) (made : ComEntry) (device : DeviceSide) (touched : List ℕ)

@@ -23,7 +23,7 @@ use Rattle.queue_pair.proofs.Round.{told_alike}
 use Rattle.world_tables.specs.Serving.{completion_by, with_answer, answered}
 use Rattle.world_tables.specs.Tables.{Tables, state_of, present, host_queue_of, device_queue_of, answer_of, cq_pages_of, answers_of}
 use Rattle.world_tables.specs.Whole.{RingsStand, IsHonest, HeadsFollow}
-use Rattle.world_tables.specs.declared.queue.Queue.{Queue}
+use Rattle.world_tables.specs.Rows.{Queue}
 use Rattle.world_tables.proofs.Lists.{map-change, map-agree, changed_at, Changed}
 use Rattle.world_tables.proofs.AnswerPlaces.{CanAnswer, answer_written, agree_elsewhere, agree_submission}
 use Rattle.world_tables.proofs.Ringing.{AreRinged, not_gone, slice_get-map, fetch_slot-is, post_slot-is, completion_slot_page}

@@ -8,7 +8,7 @@ use Rattle.entry_codec.specs.declared.status.Status.{Status}
 use Rattle.io_commands.specs.DataBytes.{PagesOut}
 use Rattle.io_commands.specs.Requests.{data_count}
 use Rattle.io_commands.specs.Values.{FinishedContents, IsGood, data_part, chain_part}
-use Rattle.io_commands.specs.declared.request.Request.{Request}
+use Rattle.io_commands.specs.Asked.{Request}
 use Rattle.machine_model.specs.After.{collected}
 use Rattle.machine_model.specs.Events as events
 use Rattle.machine_model.specs.Memory.{is_in, without_pages}
@@ -18,7 +18,7 @@ use Rattle.machine_model.specs.Step.{Step, Refuses, finished_from, pages_with_by
 use Rattle.machine_model.specs.declared.words.Phase.{Phase}
 use Rattle.machine_model.specs.declared.words.Phase.TheVariants.{Held}
 use Rattle.machine_model.specs.declared.words.Refusal.TheVariants as refusal
-use Rattle.machine_model.specs.declared.words.Work.{Work}
+use Rattle.machine_model.specs.Work.{Work}
 use Rattle.machine_model.specs.declared.words.Work.TheVariants.{Io}
 use Rattle.machine_model.proofs.Refused.{found_all}
 use Rattle.machine_model.proofs.Taken.{is_out}

@@ -24,9 +24,9 @@ use Rattle.queue_pair.specs.Slots.{is_full, distance}
 use Rattle.world_tables.specs.Serving.{ended, completed, without_submission, queues_of_end, image_of_end, status_of_end, without_task, completion_of_task, complete_refusal, task_refusal, post_refusal, is_full_for, is_out_for, waits_among}
 use Rattle.world_tables.specs.Tables.{Tables, state_of, present, host_queue_of, device_queue_of, job_of, entry_of_work, dw0_of_work, verdict_of_work, answers_of, answer_of, cq_pages_of}
 use Rattle.world_tables.specs.Whole.{IsWhole, is_task, is_deletion, FitsTask}
-use Rattle.world_tables.specs.declared.queue.Queue.{Queue}
-use Rattle.world_tables.specs.declared.task.Task.{Task}
-use Rattle.world_tables.specs.declared.task.TaskWork.{TaskWork}
+use Rattle.world_tables.specs.Rows.{Queue}
+use Rattle.world_tables.specs.Rows.{Task}
+use Rattle.world_tables.specs.Rows.{TaskWork}
 use Rattle.world_tables.specs.declared.task.TaskWork.TheVariants as task
 use Rattle.world_tables.proofs.Answering.{answered_state}
 use Rattle.world_tables.proofs.Changing.{change-other, get-at}

@@ -16,9 +16,9 @@ use Rattle.queue_pair.proofs.Order.{next_below}
 use Rattle.world_tables.specs.Serving.{with_answer, ended, without_submission, queues_of_end, image_of_end, status_of_end, without_task}
 use Rattle.world_tables.specs.Tables.{Tables, state_of, host_queue_of, device_queue_of, job_of, entry_of_work}
 use Rattle.world_tables.specs.Whole.{RingsStand, is_deletion, FitsTask}
-use Rattle.world_tables.specs.declared.queue.Queue.{Queue}
-use Rattle.world_tables.specs.declared.task.Task.{Task}
-use Rattle.world_tables.specs.declared.task.TaskWork.{TaskWork}
+use Rattle.world_tables.specs.Rows.{Queue}
+use Rattle.world_tables.specs.Rows.{Task}
+use Rattle.world_tables.specs.Rows.{TaskWork}
 use Rattle.world_tables.specs.declared.task.TaskWork.TheVariants as task
 use Rattle.world_tables.proofs.Answering.{map-changed}
 use Rattle.world_tables.proofs.Keeping.{Follows, FollowAll, all_same, all_changed, queues_follow, tells_follow}

@@ -9,7 +9,7 @@ use Rattle.io_commands.specs.DataBytes.{PagesOut}
 use Rattle.io_commands.specs.Drafts.{DraftContents, IsDraft}
 use Rattle.io_commands.specs.Requests.{FitsRequest}
 use Rattle.io_commands.specs.Values.{FinishedContents, numbers_of}
-use Rattle.io_commands.specs.declared.request.Request.{Request}
+use Rattle.io_commands.specs.Asked.{Request}
 use Rattle.machine_model.specs.After.{after_end, change}
 use Rattle.machine_model.specs.Claims.{is_away}
 use Rattle.machine_model.specs.Events as events
@@ -37,7 +37,7 @@ use Rattle.world_tables.specs.Commands.{ended, without_claim, CanPut, Brings, Be
 use Rattle.world_tables.specs.Tables.{Tables, state_of}
 use Rattle.world_tables.specs.Whole.{IsWhole, TellsCommand, IsRecord}
 use Rattle.page_memory.specs.Pages.{Pages}
-use Rattle.world_tables.specs.declared.queue.Queue as declared
+use Rattle.world_tables.specs.Rows as declared
 use Rattle.world_tables.proofs.Comparing.{without_record-at}
 use Rattle.world_tables.proofs.Identifiers.{claim-less}
 use Rattle.world_tables.proofs.Lists.{all-filter, all-filter_by, all-from, all-to, all-front, all-back, found_is, found_at, found_any, some_is}

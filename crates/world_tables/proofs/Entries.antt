@@ -31,7 +31,7 @@ use Rattle.queue_pair.proofs.Order.{distance_grows, in_range_below, in_range_nea
 use Rattle.world_tables.specs.Posting.{with_tail_moved, tail_place, posted, CanPost}
 use Rattle.world_tables.specs.Tables.{Tables, state_of, host_queue_of, device_queue_of, unfetched_of, rung_of, answer_of, sq_pages_of, cq_pages_of, present}
 use Rattle.world_tables.specs.Whole.{IsQueue, RingsStand, HaveOwner, HeadsFollow}
-use Rattle.world_tables.specs.declared.queue.Queue.{Queue}
+use Rattle.world_tables.specs.Rows.{Queue}
 use Rattle.world_tables.proofs.Forging.{index-from, page-written, place-written, place-parts}
 use Rattle.world_tables.proofs.Queues.{change-at, each-change, map-change, map-moved, present-append}
 use Rattle.world_tables.proofs.Showing.{AgreeAt, halves_apart, seen_alike, stands_alike}

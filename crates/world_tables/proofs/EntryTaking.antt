@@ -22,7 +22,7 @@ use Rattle.queue_pair.proofs.Order.{next_below, distance_below, distance_none, d
 use Rattle.world_tables.specs.Serving.{with_taken, taken_off}
 use Rattle.world_tables.specs.Tables.{Tables, state_of, present, unfetched_of, rung_of, host_queue_of, device_queue_of}
 use Rattle.world_tables.specs.Whole.{RingsStand, HeadsFollow}
-use Rattle.world_tables.specs.declared.queue.Queue.{Queue}
+use Rattle.world_tables.specs.Rows.{Queue}
 use Rattle.world_tables.proofs.Answering.{map-changed, same_queue}
 use Rattle.world_tables.proofs.Keeping.{Follows, FollowAll, all_changed, queues_follow, tells_follow}
 use Rattle.world_tables.proofs.Lists.{map-change, changed_at}

@@ -19,9 +19,9 @@ use Rattle.world_tables.specs.Serving.{task_of}
 use Rattle.world_tables.specs.Fetching.{IsBegun, stopped_work, aborted, stopped_with_queue, stopping, without_completion, tasks_after, queues_after, status_of_verdict, dw0_of_verdict, admin_task}
 use Rattle.world_tables.specs.Tables.{Tables, entry_of_work}
 use Rattle.world_tables.specs.Whole.{IsHonest, WalkStands, WalksStand, RingsStand, is_task, is_deletion, AreTasks, FitsTask, FitsVerdict}
-use Rattle.world_tables.specs.declared.queue.Queue.{Queue}
-use Rattle.world_tables.specs.declared.task.Task.{Task}
-use Rattle.world_tables.specs.declared.task.TaskWork.{TaskWork}
+use Rattle.world_tables.specs.Rows.{Queue}
+use Rattle.world_tables.specs.Rows.{Task}
+use Rattle.world_tables.specs.Rows.{TaskWork}
 use Rattle.world_tables.specs.declared.task.TaskWork.TheVariants as task
 use Rattle.world_tables.proofs.Keeping.{FollowAll, all_same, all_changed}
 use Rattle.world_tables.proofs.Lists.{changed_at, all-append, all-map}

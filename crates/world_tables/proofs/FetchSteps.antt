@@ -28,8 +28,8 @@ use Rattle.queue_pair.proofs.Order.{distance_none, distance_same}
 use Rattle.world_tables.specs.Serving.{fetch_refusal, queue_refusal, entry_refusal, entry_at_head, is_idle, is_full_for, is_out_for, task_of, with_task}
 use Rattle.world_tables.specs.Tables.{Tables, state_of, host_queue_of, device_queue_of, unfetched_of, rung_of, job_of, sq_pages_of}
 use Rattle.world_tables.specs.Whole.{IsWhole, is_task}
-use Rattle.world_tables.specs.declared.queue.Queue.{Queue}
-use Rattle.world_tables.specs.declared.task.Task.{Task}
+use Rattle.world_tables.specs.Rows.{Queue}
+use Rattle.world_tables.specs.Rows.{Task}
 use Rattle.world_tables.specs.declared.task.TaskWork.TheVariants as task
 use Rattle.world_tables.proofs.CompleteSteps.{full_seen, post_page-is, queue_lives}
 use Rattle.world_tables.proofs.Ringing.{AreRinged, slice_get-map, fetch_slot-is, submission_slot_page}

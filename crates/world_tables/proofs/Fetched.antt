@@ -26,8 +26,8 @@ use Rattle.world_tables.specs.Serving.{fetch_refusal, queue_refusal, entry_refus
 use Rattle.world_tables.specs.Tables.{Tables, state_of, host_queue_of}
 use Rattle.world_tables.specs.Whole as whole
 use Rattle.world_tables.specs.Whole.{WalksStand, IsHonest, is_task, AreTasks, FitsTask, FitsVerdict}
-use Rattle.world_tables.specs.declared.queue.Queue.{Queue}
-use Rattle.world_tables.specs.declared.task.Task.{Task}
+use Rattle.world_tables.specs.Rows.{Queue}
+use Rattle.world_tables.specs.Rows.{Task}
 use Rattle.world_tables.specs.declared.task.TaskWork.TheVariants as task
 use Rattle.world_tables.proofs.AnswerPlaces.{CanAnswer}
 use Rattle.world_tables.proofs.Answering.{answered_state, answered_stands, length-completion_bytes, same_queue}

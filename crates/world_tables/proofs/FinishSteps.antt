@@ -18,9 +18,9 @@ use Rattle.machine_model.specs.declared.words.Refusal.TheVariants as refusal
 use Rattle.world_tables.specs.Serving.{CompletesTo, PostsFor, answered, completed, completion_by, completion_of_task, ended, complete_refusal, task_refusal, post_refusal, queues_of_end, image_of_end, status_of_end, waits_among, without_task}
 use Rattle.world_tables.specs.Tables.{Tables, state_of, verdict_of_work, dw0_of_work}
 use Rattle.world_tables.specs.Whole.{IsWhole, is_task, FitsTask, FitsVerdict}
-use Rattle.world_tables.specs.declared.queue.Queue.{Queue}
-use Rattle.world_tables.specs.declared.task.Task.{Task}
-use Rattle.world_tables.specs.declared.task.TaskWork.{TaskWork}
+use Rattle.world_tables.specs.Rows.{Queue}
+use Rattle.world_tables.specs.Rows.{Task}
+use Rattle.world_tables.specs.Rows.{TaskWork}
 use Rattle.world_tables.specs.declared.task.TaskWork.TheVariants as task
 use Rattle.world_tables.proofs.Changing.{get-at}
 use Rattle.world_tables.proofs.CompleteSteps.{task_fits, task_named, task_queue, queue_stays}

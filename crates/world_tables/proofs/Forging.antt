@@ -21,7 +21,7 @@ use Rattle.world_tables.specs.Forging.{overwritten, forged, IsCompletionSlot}
 use Rattle.world_tables.specs.Exact.{Leads}
 use Rattle.world_tables.specs.Tables.{Tables, state_of, host_queue_of, cq_pages_of}
 use Rattle.world_tables.specs.Whole.{IsWhole}
-use Rattle.world_tables.specs.declared.queue.Queue.{Queue}
+use Rattle.world_tables.specs.Rows.{Queue}
 use Rattle.world_tables.proofs.Queues.{completion_page-in}
 use Rattle.world_tables.proofs.Steps.{open_step, sound_after}
 

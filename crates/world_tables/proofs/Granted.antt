@@ -6,7 +6,7 @@ use Rattle.io_commands.specs.DataBytes.{PagesOut}
 use Rattle.io_commands.specs.Drafts.{DraftContents}
 use Rattle.io_commands.specs.Requests.{data_count, FitsRequest}
 use Rattle.io_commands.specs.Values.{numbers_of, data_part, chain_part}
-use Rattle.io_commands.specs.declared.request.Request.{Request}
+use Rattle.io_commands.specs.Asked.{Request}
 use Rattle.machine_model.specs.After.{change}
 use Rattle.machine_model.specs.Events as events
 use Rattle.machine_model.specs.Memory.{without_pages, zeroed_pages}
@@ -23,7 +23,7 @@ use Rattle.page_memory.specs.Pages.{Pages, zero_page}
 use Rattle.world_tables.specs.Commands.{reserved, with_claim, CanTake, Grants, new_draft}
 use Rattle.world_tables.specs.Tables.{Tables, state_of}
 use Rattle.world_tables.specs.Whole.{IsWhole}
-use Rattle.world_tables.specs.declared.queue.Queue.{Queue}
+use Rattle.world_tables.specs.Rows.{Queue}
 use Rattle.world_tables.proofs.Reserved.{reserved_step, reserved_whole}
 use Rattle.world_tables.proofs.Pages.{can-take, free-in, one-le, without-append}
 

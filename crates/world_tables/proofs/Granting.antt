@@ -5,7 +5,7 @@ use Rattle.std.proofs.lemmas.Bool.{true≢false, eqb-false, cases_lt}
 use Rattle.std.proofs.lemmas.Bool.Decides.{nat_tests}
 use Rattle.std.proofs.lemmas.Option.{slice_get-map, slice_get_within}
 use Rattle.io_commands.specs.Requests.{fault_of, data_count}
-use Rattle.io_commands.specs.declared.request.Request.{Request}
+use Rattle.io_commands.specs.Asked.{Request}
 use Rattle.io_commands.specs.declared.request.RequestFault.{RequestFault}
 use Rattle.machine_model.specs.Events as events
 use Rattle.machine_model.specs.Refusals.{refusal_of, no_io_queue, in_state, is_deleting, is_retired, is_gone, no_identifier, pages_wanted, host_queue}
@@ -20,7 +20,7 @@ use Rattle.sgl_chain.specs.Chains.{pages_needed}
 use Rattle.world_tables.specs.Commands.{state_at, passes, takes_no_io, Grants}
 use Rattle.world_tables.specs.Tables.{Tables, state_of, host_queue_of}
 use Rattle.world_tables.specs.Whole.{IsWhole, is_outstanding}
-use Rattle.world_tables.specs.declared.queue.Queue.{Queue}
+use Rattle.world_tables.specs.Rows.{Queue}
 use Rattle.world_tables.proofs.Identifiers.{outstanding-among}
 use Rattle.world_tables.proofs.Lists.{some_is}
 use Rattle.world_tables.proofs.Pages.{one-le}

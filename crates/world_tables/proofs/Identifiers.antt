@@ -11,7 +11,7 @@ use Rattle.page_ledger.specs.Owners.{is_among}
 use Rattle.page_ledger.proofs.Tables.{slice_get-set_same, slice_get-set_other}
 use Rattle.world_tables.specs.Commands.{with_claim, without_claim}
 use Rattle.world_tables.specs.Whole.{ClaimsIdentifiers, ClaimIdentifiers, is_outstanding}
-use Rattle.world_tables.specs.declared.queue.Queue.{Queue}
+use Rattle.world_tables.specs.Rows.{Queue}
 use Rattle.world_tables.proofs.Lists.{changed_at, Changed}
 
 -- a command is outstanding where its identifier is counted

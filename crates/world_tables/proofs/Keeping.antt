@@ -17,8 +17,8 @@ use Rattle.page_memory.specs.Pages.{Pages, IsPool}
 use Rattle.queue_pair.specs.Rings.{IsHostSide, IsDeviceSide}
 use Rattle.world_tables.specs.Tables.{Tables, state_of, host_queue_of}
 use Rattle.world_tables.specs.Whole.{IsWhole, WalksStand, IsHonest, IsQueue, AreQueues, AreTasks, ClaimsIdentifiers, Tells, HaveOwner, IsRecord}
-use Rattle.world_tables.specs.declared.queue.Queue.{Queue}
-use Rattle.world_tables.specs.declared.task.Task.{Task}
+use Rattle.world_tables.specs.Rows.{Queue}
+use Rattle.world_tables.specs.Rows.{Task}
 use Rattle.world_tables.proofs.Lists.{changed_at, Changed, length-change}
 
 -- a queue of which the controller's side alone went on

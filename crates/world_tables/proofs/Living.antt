@@ -8,7 +8,7 @@ use Rattle.machine_model.specs.State.{HostQueue}
 use Rattle.machine_model.proofs.BackedAll.{there_runs}
 use Rattle.world_tables.specs.Tables.{Tables, state_of, host_queue_of}
 use Rattle.world_tables.specs.Whole.{IsWhole}
-use Rattle.world_tables.specs.declared.queue.Queue.{Queue}
+use Rattle.world_tables.specs.Rows.{Queue}
 use Rattle.world_tables.proofs.Ringing.{slice_get-map}
 use Rattle.world_tables.proofs.Trusted.{absent_of, honest_of}
 

@@ -23,9 +23,9 @@ use Rattle.queue_pair.specs.Lists.{unfetched}
 use Rattle.world_tables.specs.Fetching.{view_for, stopped_work, aborted, stopped_with_queue, stopping, without_completion, acted, managed_by, managed}
 use Rattle.world_tables.specs.Tables.{Tables, state_of, present, rung_of, host_queue_of, device_queue_of, job_of, verdict_of_work}
 use Rattle.world_tables.specs.Whole.{is_task, is_deletion, AreTasks}
-use Rattle.world_tables.specs.declared.queue.Queue.{Queue}
-use Rattle.world_tables.specs.declared.task.Task.{Task}
-use Rattle.world_tables.specs.declared.task.TaskWork.{TaskWork}
+use Rattle.world_tables.specs.Rows.{Queue}
+use Rattle.world_tables.specs.Rows.{Task}
+use Rattle.world_tables.specs.Rows.{TaskWork}
 use Rattle.world_tables.specs.declared.task.TaskWork.TheVariants as task
 use Rattle.world_tables.proofs.Answering.{map-changed}
 use Rattle.world_tables.proofs.FetchSteps.{decided_state}

@@ -16,7 +16,7 @@ use Rattle.page_memory.specs.Pages.{Pages, IsPool, byte_at}
 use Rattle.world_tables.specs.Commands.{claims_changed}
 use Rattle.world_tables.specs.Tables.{Tables, state_of, host_queue_of, device_queue_of}
 use Rattle.world_tables.specs.Whole.{IsWhole, IsQueue, ClaimIdentifiers, TellsQueue, TellsCommand, IsRecord, AreTasks, RingsStand}
-use Rattle.world_tables.specs.declared.queue.Queue.{Queue}
+use Rattle.world_tables.specs.Rows.{Queue}
 use Rattle.world_tables.proofs.Lists.{length-change, map-change}
 use Rattle.world_tables.proofs.Spared.{Spares, honest_of, device_queues_stay, rings_stay, claims_keep_queue, claims_keep_rings, claims_keep_tells, each_claimed}
 use Rattle.world_tables.proofs.Walks.{walks_after}

@@ -26,8 +26,8 @@ use Rattle.world_tables.specs.Opening.{opening_of, refusal_of_config, sq_from, c
 use Rattle.world_tables.specs.Tables.{state_of, host_queue_of, device_queue_of}
 use Rattle.world_tables.specs.Whole.{IsQueue, ClaimsIdentifiers, TellsQueue, RingsStand, IsHonest, IsWhole}
 use Rattle.world_tables.specs.declared.config.Config.{Config}
-use Rattle.world_tables.specs.declared.queue.Queue.{Queue}
-use Rattle.world_tables.specs.declared.task.Task.{Task}
+use Rattle.world_tables.specs.Rows.{Queue}
+use Rattle.world_tables.specs.Rows.{Task}
 
 -- The state
 

@@ -23,7 +23,7 @@ use Rattle.page_memory.specs.declared.page.Half.{Half}
 use Rattle.page_memory.specs.declared.page.Half.TheVariants.{Submission, Completion}
 use Rattle.world_tables.specs.Tables.{Tables, state_of, host_queue_of, sq_pages_of, cq_pages_of}
 use Rattle.world_tables.specs.Whole.{Tells, TellsCommand, TellsQueue}
-use Rattle.world_tables.specs.declared.queue.Queue as declared
+use Rattle.world_tables.specs.Rows as declared
 use Rattle.world_tables.proofs.Lists.{some_is, none_is_not}
 use Rattle.world_tables.proofs.Pages.{times-some, among-append, owned-once}
 

@@ -26,7 +26,7 @@ use Rattle.queue_pair.proofs.Order.{next_below}
 use Rattle.queue_pair.proofs.Pools.{pages_in}
 use Rattle.world_tables.specs.Tables.{Tables, present}
 use Rattle.world_tables.specs.Whole.{IsWhole, TellsCommand, HaveOwner}
-use Rattle.world_tables.specs.declared.queue.Queue.{Queue}
+use Rattle.world_tables.specs.Rows.{Queue}
 
 -- Lists with one member changed
 

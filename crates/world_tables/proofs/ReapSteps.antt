@@ -5,7 +5,7 @@ use Rattle.std.specs.Option.{option_map, option_map_or}
 use Rattle.std.proofs.lemmas.Option.{slice_get-map}
 use Rattle.admin_commands.specs.declared.AdminKind.{AdminKind}
 use Rattle.entry_codec.specs.declared.completion.ComEntry.{ComEntry}
-use Rattle.io_commands.specs.declared.request.Request.{Request}
+use Rattle.io_commands.specs.Asked.{Request}
 use Rattle.machine_model.specs.After.{change, held}
 use Rattle.machine_model.specs.Events as events
 use Rattle.machine_model.specs.Refusals.{refusal_of, is_gone, is_submitted}
@@ -15,7 +15,7 @@ use Rattle.machine_model.specs.declared.words.Reaped.TheVariants as found
 use Rattle.machine_model.specs.declared.words.Refusal.TheVariants as refusal
 use Rattle.machine_model.specs.declared.words.RejectedFor.{RejectedFor}
 use Rattle.machine_model.specs.declared.words.RejectedFor.TheVariants as rejected
-use Rattle.machine_model.specs.declared.words.Work.{Work}
+use Rattle.machine_model.specs.Work.{Work}
 use Rattle.machine_model.specs.declared.words.Work.TheVariants.{Io, Management}
 use Rattle.queue_pair.specs.Memory.{phased}
 use Rattle.queue_pair.specs.Slots.{is_in_range}
@@ -25,7 +25,7 @@ use Rattle.world_tables.specs.Forging.{lacks_completion}
 use Rattle.world_tables.specs.Reaping.{Answered, ReapsTo, consumed, ended_with, heard, kind_of, meant, over, seen_at, with_answer_heard}
 use Rattle.world_tables.specs.Tables.{Tables, state_of, host_queue_of}
 use Rattle.world_tables.specs.Whole.{IsWhole, is_outstanding}
-use Rattle.world_tables.specs.declared.queue.Queue.{Queue}
+use Rattle.world_tables.specs.Rows.{Queue}
 use Rattle.world_tables.proofs.AdminReaped.{EndsAdmin, admin-leads, admin-whole, ended_admin}
 use Rattle.world_tables.proofs.Comparing.{with_record-at, without_record-at}
 use Rattle.world_tables.proofs.Ending.{at_most_once}

@@ -9,14 +9,14 @@ use Rattle.machine_model.specs.Claims.{OwnsFit}
 use Rattle.machine_model.specs.Events as events
 use Rattle.machine_model.specs.State.{Record, is_at, pages_of, with_record}
 use Rattle.machine_model.specs.declared.words.Reaped.TheVariants as found
-use Rattle.machine_model.specs.declared.words.Work.{Work}
+use Rattle.machine_model.specs.Work.{Work}
 use Rattle.machine_model.specs.declared.words.Work.TheVariants.{Io, Management}
 use Rattle.machine_model.proofs.Refused.{found_all}
 use Rattle.page_memory.specs.Pages.{byte_at}
 use Rattle.world_tables.specs.Reaping.{ended_with, heard, with_answer_heard}
 use Rattle.world_tables.specs.Tables.{Tables, state_of}
 use Rattle.world_tables.specs.Whole.{IsWhole, IsQueue, IsRecord, ClaimsIdentifiers, FitsWork, RingsStand, TellsQueue}
-use Rattle.world_tables.specs.declared.queue.Queue.{Queue}
+use Rattle.world_tables.specs.Rows.{Queue}
 use Rattle.world_tables.proofs.Entries.{same-queue}
 use Rattle.world_tables.proofs.Lists.{found_is}
 use Rattle.world_tables.proofs.Queues.{each-change}

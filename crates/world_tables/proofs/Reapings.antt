@@ -7,7 +7,7 @@ use Rattle.std.proofs.lemmas.Option.{slice_get-map}
 use Rattle.block_image.specs.Blocks.{block_count}
 use Rattle.entry_codec.specs.declared.completion.ComEntry.{ComEntry}
 use Rattle.entry_codec.specs.declared.status.Status.{Status}
-use Rattle.io_commands.specs.declared.request.Request.{Request}
+use Rattle.io_commands.specs.Asked.{Request}
 use Rattle.machine_model.specs.After as a
 use Rattle.machine_model.specs.After.{after_reap, change, held}
 use Rattle.machine_model.specs.Events as events
@@ -16,7 +16,7 @@ use Rattle.machine_model.specs.State.{State, HostQueue, DeviceQueue, Record, rec
 use Rattle.machine_model.specs.Step.{reaped, reaped_entry}
 use Rattle.machine_model.specs.declared.words.Reaped.TheVariants as found
 use Rattle.machine_model.specs.declared.words.RejectedFor.{RejectedFor}
-use Rattle.machine_model.specs.declared.words.Work.{Work}
+use Rattle.machine_model.specs.Work.{Work}
 use Rattle.machine_model.specs.declared.words.Work.TheVariants.{Io}
 use Rattle.page_memory.specs.Pages.{byte_at}
 use Rattle.queue_pair.specs.Lists.{answers, front}
@@ -27,7 +27,7 @@ use Rattle.world_tables.specs.Reaping.{consumed, ended_with, seen_at, with_answe
 use Rattle.world_tables.specs.Exact.{Leads}
 use Rattle.world_tables.specs.Tables.{Tables, state_of, host_queue_of, device_queue_of, present}
 use Rattle.world_tables.specs.Whole.{IsWhole, IsHonest, IsQueue, IsRecord, AreTasks, ClaimsIdentifiers, HeadsFollow, RingsStand, TellsQueue}
-use Rattle.world_tables.specs.declared.queue.Queue.{Queue}
+use Rattle.world_tables.specs.Rows.{Queue}
 use Rattle.world_tables.proofs.Entries.{same-queue}
 use Rattle.world_tables.proofs.Queues.{each-change, map-change}
 use Rattle.world_tables.proofs.Seen.{all-answers-there, trusted-seen}

@@ -4,7 +4,7 @@ use Rattle.std.specs.List.{AllByRecursion}
 use Rattle.machine_model.specs.State.{Record, is_at, with_record}
 use Rattle.page_ledger.specs.declared.owner.Owner.{Owner}
 use Rattle.world_tables.specs.Whole.{ClaimIdentifiers, IsRecord, TellsCommand, is_outstanding}
-use Rattle.world_tables.specs.declared.queue.Queue.{Queue}
+use Rattle.world_tables.specs.Rows.{Queue}
 use Rattle.world_tables.proofs.Lists.{all-map, any-map}
 use Rattle.machine_model.proofs.Sound.{changed}
 

@@ -8,7 +8,7 @@ use Rattle.std.proofs.lemmas.Option.{slice_get-map, slice_get_within}
 use Rattle.io_commands.specs.Drafts.{DraftContents}
 use Rattle.io_commands.specs.Requests.{fault_of, data_count, FitsRequest}
 use Rattle.io_commands.specs.Values.{numbers_of}
-use Rattle.io_commands.specs.declared.request.Request.{Request}
+use Rattle.io_commands.specs.Asked.{Request}
 use Rattle.machine_model.specs.After.{after_reserve}
 use Rattle.machine_model.specs.Events as events
 use Rattle.machine_model.specs.Refusals.{refusal_of, no_io_queue, in_state, is_deleting, is_retired, is_gone, no_identifier, pages_wanted, host_queue}
@@ -28,7 +28,7 @@ use Rattle.page_memory.specs.declared.page.Half.{Half}
 use Rattle.world_tables.specs.Commands.{reserved, record_of_draft}
 use Rattle.world_tables.specs.Tables.{Tables, state_of, host_queue_of}
 use Rattle.world_tables.specs.Whole.{IsWhole, TellsCommand, HaveOwner, IsRecord}
-use Rattle.world_tables.specs.declared.queue.Queue as declared
+use Rattle.world_tables.specs.Rows as declared
 use Rattle.world_tables.proofs.Identifiers.{claim-more}
 use Rattle.world_tables.proofs.Lists.{all-append, all-all, some_is}
 use Rattle.world_tables.proofs.Moved.{Fits, due, surely, moved_leaves, moved_whole}

@@ -18,7 +18,7 @@ use Rattle.machine_model.specs.declared.words.HostState.TheVariants.{Live, Delet
 use Rattle.machine_model.specs.declared.words.Phase.TheVariants.{Held}
 use Rattle.machine_model.specs.declared.words.Refusal.{Refusal}
 use Rattle.machine_model.specs.declared.words.Refusal.TheVariants as refusal
-use Rattle.machine_model.specs.declared.words.Work.{Work}
+use Rattle.machine_model.specs.Work.{Work}
 use Rattle.machine_model.specs.declared.words.Work.TheVariants.{Io, Management}
 use Rattle.page_ledger.specs.Owners.{free_pages, given_back, is_half, is_same_half}
 use Rattle.page_ledger.specs.declared.owner.Owner.{Owner}
@@ -36,7 +36,7 @@ use Rattle.world_tables.specs.Reaping.{seen_at, with_state}
 use Rattle.world_tables.specs.Retiring.{retired, with_lost}
 use Rattle.world_tables.specs.Tables.{Tables, state_of, host_queue_of, device_queue_of, sq_pages_of, cq_pages_of}
 use Rattle.world_tables.specs.Whole.{IsWhole, IsQueue, IsRecord, ClaimsIdentifiers, FitsWork, RingsStand, TellsCommand, TellsQueue}
-use Rattle.world_tables.specs.declared.queue.Queue.{Queue}
+use Rattle.world_tables.specs.Rows.{Queue}
 use Rattle.world_tables.proofs.HalvesGiven.{commands-told, half-owned, others-told, owner-stays}
 use Rattle.world_tables.proofs.Lists.{all-map, any-map, some_is}
 use Rattle.world_tables.proofs.Owners.{given-free}

@@ -19,7 +19,7 @@ use Rattle.queue_pair.proofs.Round.{tail_moved, head_moved}
 use Rattle.queue_pair.proofs.Pools.{pages_in}
 use Rattle.world_tables.specs.Tables.{Tables, state_of, present, unfetched_of, answers_of, host_queue_of, device_queue_of, answer_of}
 use Rattle.world_tables.specs.Whole.{AreQueues, IsHonest, Tells}
-use Rattle.world_tables.specs.declared.queue.Queue.{Queue}
+use Rattle.world_tables.specs.Rows.{Queue}
 
 -- what stands of the rings where nothing was forged
 pub record AreRinged (t : Tables) : Type 0 where

@@ -22,7 +22,7 @@ use Rattle.queue_pair.specs.Rings.{DeviceSide, IsDeviceSide}
 use Rattle.queue_pair.proofs.Halves.{completion_there}
 use Rattle.world_tables.specs.Tables.{Tables, state_of, host_queue_of, device_queue_of, answer_of, cq_pages_of, present}
 use Rattle.world_tables.specs.Whole.{IsWhole, IsQueue}
-use Rattle.world_tables.specs.declared.queue.Queue.{Queue}
+use Rattle.world_tables.specs.Rows.{Queue}
 use Rattle.world_tables.proofs.Forging.{completion-fits, completion-offset, completion-page, slot-in, place-parts}
 use Rattle.world_tables.proofs.Queues.{answers-there, completion-in, queue-at}
 use Rattle.world_tables.proofs.Spared.{honest_of}

@@ -16,7 +16,7 @@ use Rattle.world_tables.specs.Posting.{CanPost, CanPostTo, Posts, posted}
 use Rattle.world_tables.specs.Sending.{CanSend, Sends, asked, named_causes, noted, sending}
 use Rattle.world_tables.specs.Tables.{Tables, state_of}
 use Rattle.world_tables.specs.Whole.{IsWhole}
-use Rattle.world_tables.specs.declared.queue.Queue.{Queue}
+use Rattle.world_tables.specs.Rows.{Queue}
 use Rattle.world_tables.proofs.Granting.{next-left, none-left}
 use Rattle.world_tables.proofs.Lists.{some_is}
 use Rattle.world_tables.proofs.Sending.{IsTyped, can-send, first-changed, some-first}

@@ -33,7 +33,7 @@ use Rattle.world_tables.specs.Reaping.{with_state}
 use Rattle.world_tables.specs.Sending.{CanSend, Sends, asked, noted, record_of_admin, sending, sent}
 use Rattle.world_tables.specs.Tables.{Tables, state_of, device_queue_of, host_queue_of}
 use Rattle.world_tables.specs.Whole.{AreTasks, ClaimsIdentifiers, IsHonest, IsQueue, IsRecord, IsWhole, RingsStand, TellsCommand, TellsQueue, WalksStand}
-use Rattle.world_tables.specs.declared.queue.Queue.{Queue}
+use Rattle.world_tables.specs.Rows.{Queue}
 use Rattle.world_tables.proofs.AdminReaped.{state-set, with_device}
 use Rattle.world_tables.proofs.Entries.{AreRinged, posted-exact, posted-part, posted-queue, posted-rings, submission_length, tail-fits, tail-in}
 use Rattle.world_tables.proofs.Forging.{pool-with_bytes}

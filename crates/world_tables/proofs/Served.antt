@@ -18,8 +18,8 @@ use Rattle.world_tables.specs.Serving.{ended, completed, without_task, queues_of
 use Rattle.world_tables.specs.Tables.{Tables, state_of, host_queue_of, entry_of_work, verdict_of_work}
 use Rattle.world_tables.specs.Whole as whole
 use Rattle.world_tables.specs.Whole.{IsHonest, is_task, WalkStands, WalksStand}
-use Rattle.world_tables.specs.declared.queue.Queue.{Queue}
-use Rattle.world_tables.specs.declared.task.Task.{Task}
+use Rattle.world_tables.specs.Rows.{Queue}
+use Rattle.world_tables.specs.Rows.{Task}
 use Rattle.world_tables.proofs.Answering.{answered_stands, length-completion_bytes}
 use Rattle.world_tables.proofs.Completing.{ringed_ended, answer_follows, end_follows}
 use Rattle.world_tables.proofs.CompleteSteps.{complete_refusal-is, completed_state, can_answer_ended, task_fits, task_named, task_queue_there, queue_lives, post_page-is}

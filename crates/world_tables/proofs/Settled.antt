@@ -20,7 +20,7 @@ use Rattle.page_memory.specs.Pages.{IsPool, byte_at}
 use Rattle.world_tables.specs.Reaping.{with_state}
 use Rattle.world_tables.specs.Tables.{Tables, state_of, sq_pages_of, cq_pages_of}
 use Rattle.world_tables.specs.Whole.{IsWhole, IsHonest, IsQueue, IsRecord, AreQueues, AreTasks, ClaimIdentifiers, ClaimsIdentifiers, HaveOwner, RingsStand, Tells, TellsCommand, TellsQueue, WalksStand}
-use Rattle.world_tables.specs.declared.queue.Queue.{Queue}
+use Rattle.world_tables.specs.Rows.{Queue}
 use Rattle.world_tables.proofs.Queues.{each-change}
 use Rattle.world_tables.proofs.Steps.{length-change, on_true}
 

@@ -17,7 +17,7 @@ use Rattle.queue_pair.proofs.Halves.{entries_agree, answers_agree, phases_agree}
 use Rattle.queue_pair.proofs.Lists.{answers_none}
 use Rattle.world_tables.specs.Tables.{present, unfetched_of, device_queue_of}
 use Rattle.world_tables.specs.Whole.{IsQueue, RingsStand, HaveOwner, HeadsFollow}
-use Rattle.world_tables.specs.declared.queue.Queue.{Queue}
+use Rattle.world_tables.specs.Rows.{Queue}
 
 -- the memories agree on the halves that a queue is seen by
 pub record AgreeAt (m m' : Memory) (queue : Queue) : Type 0 where

@@ -26,7 +26,7 @@ use Rattle.queue_pair.proofs.Pools.{pages_agree}
 use Rattle.world_tables.specs.Commands.{claims_changed}
 use Rattle.world_tables.specs.Tables.{Tables, state_of, present, host_queue_of, device_queue_of, sq_pages_of, cq_pages_of, unfetched_of, answer_of}
 use Rattle.world_tables.specs.Whole.{IsQueue, TellsQueue, RingsStand, IsHonest, IsWhole, HeadsFollow}
-use Rattle.world_tables.specs.declared.queue.Queue.{Queue}
+use Rattle.world_tables.specs.Rows.{Queue}
 use Rattle.world_tables.proofs.Lists.{map-agree, changed_at, Changed}
 use Rattle.world_tables.proofs.Pages.{among-from}
 

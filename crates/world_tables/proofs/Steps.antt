@@ -12,7 +12,7 @@ use Rattle.entry_codec.specs.declared.status.Status.{Status}
 use Rattle.entry_codec.specs.declared.submission.SubEntry.{SubEntry}
 use Rattle.io_commands.specs.Drafts.{DraftContents}
 use Rattle.machine_model.specs.After.{after, change, on_device_queue, posted, after_submit, after_reap, after_work, after_admin, half_freed, heard, consumed, after_forge, gone, retired, lost, on_records}
-use Rattle.machine_model.specs.declared.words.Work.{Work}
+use Rattle.machine_model.specs.Work.{Work}
 use Rattle.machine_model.specs.declared.words.Work.TheVariants.{Io, Management}
 use Rattle.machine_model.specs.Events as events
 use Rattle.machine_model.specs.Events.{Event, Reply}

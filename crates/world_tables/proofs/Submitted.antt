@@ -19,7 +19,7 @@ use Rattle.machine_model.specs.Refusals.{refusal_of, host_queue, is_drafted, is_
 use Rattle.machine_model.specs.State.{State, Device, HostQueue, DeviceQueue, Record, is_at, pages_of, with_record}
 use Rattle.machine_model.specs.declared.words.HostState.{HostState}
 use Rattle.machine_model.specs.declared.words.HostState.TheVariants.{Live, Deleting, Retired, Gone}
-use Rattle.machine_model.specs.declared.words.Work.{Work}
+use Rattle.machine_model.specs.Work.{Work}
 use Rattle.machine_model.specs.declared.words.Work.TheVariants.{Io, Management}
 use Rattle.machine_model.specs.declared.words.Refusal.TheVariants as refusal
 use Rattle.machine_model.proofs.Counting.{held_once}
@@ -37,7 +37,7 @@ use Rattle.world_tables.specs.Exact.{Leads}
 use Rattle.world_tables.specs.Submitting.{brought_in, submitted, CanSubmit}
 use Rattle.world_tables.specs.Tables.{Tables, state_of, device_queue_of}
 use Rattle.world_tables.specs.Whole.{IsWhole, IsHonest, IsQueue, IsRecord, AreTasks, ClaimsIdentifiers, TellsCommand, TellsQueue, FitsWork}
-use Rattle.world_tables.specs.declared.queue.Queue.{Queue}
+use Rattle.world_tables.specs.Rows.{Queue}
 use Rattle.world_tables.specs.Commands.{Brings}
 use Rattle.world_tables.proofs.Ending.{cancel_brings, joined-pages}
 use Rattle.world_tables.proofs.Entries.{AreRinged, posted-part, posted-exact, posted-rings, posted-queue, tail-in, tail-fits, submission_length}

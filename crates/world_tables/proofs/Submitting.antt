@@ -24,7 +24,7 @@ use Rattle.world_tables.specs.Posting.{CanPost, CanPostTo, Posts}
 use Rattle.world_tables.specs.Submitting.{brought_in, submitted, IsReady, Submits}
 use Rattle.world_tables.specs.Tables.{Tables, state_of, host_queue_of}
 use Rattle.world_tables.specs.Whole.{IsWhole}
-use Rattle.world_tables.specs.declared.queue.Queue.{Queue}
+use Rattle.world_tables.specs.Rows.{Queue}
 use Rattle.world_tables.proofs.Comparing.{with_record-at}
 use Rattle.world_tables.proofs.Ending.{Finishes, at_most_once, belongs-passes, belongs_brings, ended_can_put}
 use Rattle.world_tables.proofs.Granting.{in_state-is}

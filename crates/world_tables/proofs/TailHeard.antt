@@ -23,7 +23,7 @@ use Rattle.world_tables.specs.Exact.{Exactly}
 use Rattle.world_tables.specs.Ringing.{with_tail_heard, rung, lacks_submission}
 use Rattle.world_tables.specs.Tables.{Tables, state_of, host_queue_of, device_queue_of, unfetched_of, rung_of, present}
 use Rattle.world_tables.specs.Whole.{IsWhole, IsQueue, IsHonest, RingsStand, ClaimsIdentifiers, TellsQueue, IsRecord, AreTasks}
-use Rattle.world_tables.specs.declared.queue.Queue.{Queue}
+use Rattle.world_tables.specs.Rows.{Queue}
 use Rattle.world_tables.proofs.Queues.{each-change, map-same, map-change, submission-in, entries-there, length-present, range-ends}
 use Rattle.world_tables.proofs.Steps.{host_step, length-change, sound_after, history_after, when_true}
 use Rattle.world_tables.proofs.Walks.{walks_after}

@@ -6,7 +6,7 @@ use Rattle.machine_model.specs.Events as events
 use Rattle.machine_model.specs.Refusals.{refusal_of}
 use Rattle.machine_model.specs.State.{Record, is_at, pages_of, with_record}
 use Rattle.machine_model.specs.Step.{Step, finished_from}
-use Rattle.machine_model.specs.declared.words.Work.{Work}
+use Rattle.machine_model.specs.Work.{Work}
 use Rattle.machine_model.specs.declared.words.Work.TheVariants.{Io, Management}
 use Rattle.machine_model.proofs.Counting.{held_once}
 use Rattle.machine_model.proofs.Parts.{length-without_pages}
@@ -18,7 +18,7 @@ use Rattle.page_memory.specs.declared.page.Half.{Half}
 use Rattle.world_tables.specs.Commands.{taken_out, claims_changed, CanTake}
 use Rattle.world_tables.specs.Tables.{Tables, state_of}
 use Rattle.world_tables.specs.Whole.{IsWhole, TellsCommand, IsRecord, FitsWork, ClaimIdentifiers, is_outstanding}
-use Rattle.world_tables.specs.declared.queue.Queue as declared
+use Rattle.world_tables.specs.Rows as declared
 use Rattle.world_tables.proofs.Lists.{all-map, any-map, change-same, found_at, some_is}
 use Rattle.world_tables.proofs.Moved.{Fits, due, moved, surely, moved_leaves, moved_whole}
 use Rattle.world_tables.proofs.Owners.{command-owner}

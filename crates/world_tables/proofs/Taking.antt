@@ -15,7 +15,7 @@ use Rattle.queue_pair.proofs.Phases.{tie_kept_by_advance}
 use Rattle.world_tables.specs.Reaping.{with_answer_heard}
 use Rattle.world_tables.specs.Tables.{answer_of, device_queue_of, present}
 use Rattle.world_tables.specs.Whole.{HeadsFollow, IsQueue, RingsStand}
-use Rattle.world_tables.specs.declared.queue.Queue.{Queue}
+use Rattle.world_tables.specs.Rows.{Queue}
 use Rattle.world_tables.proofs.Entries.{in-range}
 use Rattle.world_tables.proofs.Queues.{range-ends}
 

@@ -11,7 +11,7 @@ use Rattle.machine_model.specs.State.{Job}
 use Rattle.world_tables.specs.Serving.{without_task, waits_among, has_success}
 use Rattle.world_tables.specs.Tables.{Tables, state_of, job_of, entry_of_work}
 use Rattle.world_tables.specs.Whole.{is_task, AreTasks, FitsTask}
-use Rattle.world_tables.specs.declared.task.Task.{Task}
+use Rattle.world_tables.specs.Rows.{Task}
 
 -- Lists that are seen member by member
 

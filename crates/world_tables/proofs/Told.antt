@@ -20,7 +20,7 @@ use Rattle.page_memory.specs.declared.page.Half.{Half}
 use Rattle.page_memory.specs.declared.page.Half.TheVariants.{Submission, Completion}
 use Rattle.world_tables.specs.Tables.{Tables, state_of, host_queue_of, sq_pages_of, cq_pages_of}
 use Rattle.world_tables.specs.Whole.{HaveOwner, TellsCommand, TellsQueue, IsWhole}
-use Rattle.world_tables.specs.declared.queue.Queue as declared
+use Rattle.world_tables.specs.Rows as declared
 
 -- Each claim has its owner in the table
 

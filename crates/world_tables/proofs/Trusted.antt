@@ -23,7 +23,7 @@ use Rattle.queue_pair.specs.Memory.{half_pages}
 use Rattle.queue_pair.proofs.Pools.{pages_in}
 use Rattle.world_tables.specs.Tables.{Tables, state_of, host_queue_of, device_queue_of, sq_pages_of, cq_pages_of}
 use Rattle.world_tables.specs.Whole.{IsWhole, IsHonest, TellsCommand, HaveOwner}
-use Rattle.world_tables.specs.declared.queue.Queue.{Queue}
+use Rattle.world_tables.specs.Rows.{Queue}
 use Rattle.world_tables.proofs.Ringing.{AreRinged, slice_get-map}
 use Rattle.world_tables.proofs.Showing.{among_from}
 

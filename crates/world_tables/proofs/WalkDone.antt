@@ -35,8 +35,8 @@ use Rattle.sgl_descriptor.specs.declared.Direction.TheVariants.{Destination, Sou
 use Rattle.world_tables.specs.Tables.{Tables, state_of, host_queue_of, job_of, entry_of_work}
 use Rattle.world_tables.specs.Walking.{ended_refusal, walk_refusal, WalksTo, stepped, walked}
 use Rattle.world_tables.specs.Whole.{IsWhole, AreTasks, FitsTask, FitsVerdict, WalkStands, WalksStand, TellsCommand, is_task}
-use Rattle.world_tables.specs.declared.task.Task.{Task}
-use Rattle.world_tables.specs.declared.task.TaskWork.{TaskWork}
+use Rattle.world_tables.specs.Rows.{Task}
+use Rattle.world_tables.specs.Rows.{TaskWork}
 use Rattle.world_tables.specs.declared.task.TaskWork.TheVariants as task
 use Rattle.world_tables.proofs.CompleteSteps.{task_fits, task_queue, queue_there}
 use Rattle.world_tables.proofs.Keeping.{Serves, serves_forged, serves_whole, all_same}

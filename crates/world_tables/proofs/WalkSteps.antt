@@ -26,8 +26,8 @@ use Rattle.sgl_descriptor.specs.declared.Direction.TheVariants.{Destination, Sou
 use Rattle.world_tables.specs.Tables.{Tables, state_of, job_of, entry_of_work, verdict_of_work}
 use Rattle.world_tables.specs.Walking.{ended_refusal, walk_refusal, WalksTo, stepped}
 use Rattle.world_tables.specs.Whole.{IsWhole, FitsTask, WalkStands, is_task}
-use Rattle.world_tables.specs.declared.task.Task.{Task}
-use Rattle.world_tables.specs.declared.task.TaskWork.{TaskWork}
+use Rattle.world_tables.specs.Rows.{Task}
+use Rattle.world_tables.specs.Rows.{TaskWork}
 use Rattle.world_tables.specs.declared.task.TaskWork.TheVariants as task
 use Rattle.world_tables.proofs.CompleteSteps.{task_fits}
 use Rattle.world_tables.proofs.Lists.{all-at, none_is_not}

@@ -26,8 +26,8 @@ use Rattle.page_memory.specs.Memory.{Memory}
 use Rattle.page_memory.specs.Pages.{Pages}
 use Rattle.world_tables.specs.Tables.{Tables, state_of, job_of}
 use Rattle.world_tables.specs.Whole.{IsWhole, FitsTask, WalkStands, WalksStand}
-use Rattle.world_tables.specs.declared.task.Task.{Task}
-use Rattle.world_tables.specs.declared.task.TaskWork.{TaskWork}
+use Rattle.world_tables.specs.Rows.{Task}
+use Rattle.world_tables.specs.Rows.{TaskWork}
 use Rattle.world_tables.specs.declared.task.TaskWork.TheVariants as task
 use Rattle.world_tables.proofs.Ringing.{slice_get-map}
 

@@ -3,7 +3,7 @@ use Rattle.std.specs.Prelude.{◌≡◌, ℕ, None, Some, List, [], ◌∷◌, f
 use Rattle.std.specs.Option.{option_map_or}
 use Rattle.entry_codec.specs.declared.status.Status.{Status}
 use Rattle.io_commands.specs.DataBytes.{PagesOut}
-use Rattle.io_commands.specs.declared.request.Request.{Request}
+use Rattle.io_commands.specs.Asked.{Request}
 use Rattle.machine_model.specs.State.{Record, is_at}
 use Rattle.machine_model.specs.declared.words.Phase.TheVariants.{Held}
 use Rattle.machine_model.specs.declared.words.Work.TheVariants.{Io}

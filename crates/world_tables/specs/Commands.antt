@@ -5,7 +5,7 @@ use Rattle.io_commands.specs.DataBytes.{PagesOut}
 use Rattle.io_commands.specs.Drafts.{DraftContents}
 use Rattle.io_commands.specs.Requests.{data_count}
 use Rattle.io_commands.specs.Values.{numbers_of, IsGood}
-use Rattle.io_commands.specs.declared.request.Request.{Request}
+use Rattle.io_commands.specs.Asked.{Request}
 use Rattle.machine_model.specs.After.{change, collected}
 use Rattle.machine_model.specs.Events as events
 use Rattle.machine_model.specs.Memory.{without_pages, with_pages, zeroed_pages}
@@ -23,7 +23,7 @@ use Rattle.page_ledger.specs.declared.owner.Role.TheVariants.{Data, Chain}
 use Rattle.page_memory.specs.Pages.{Pages, page_at}
 use Rattle.sgl_chain.specs.Chains.{pages_needed}
 use Rattle.world_tables.specs.Tables.{Tables, state_of}
-use Rattle.world_tables.specs.declared.queue.Queue.{Queue}
+use Rattle.world_tables.specs.Rows.{Queue}
 
 -- a queue with its claimed identifiers changed
 abbrev pub claims_changed : (List Bool → List Bool) → Queue → Queue

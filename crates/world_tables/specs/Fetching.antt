@@ -21,9 +21,9 @@ use Rattle.queue_pair.specs.Rings.{DeviceSide}
 use Rattle.world_tables.specs.Serving.{is_idle, entry_at_head, with_taken, taken_off, answered, completion_by, task_of, with_task}
 use Rattle.world_tables.specs.Tables.{Tables, verdict_of_work}
 use Rattle.world_tables.specs.Whole.{is_task}
-use Rattle.world_tables.specs.declared.queue.Queue.{Queue}
-use Rattle.world_tables.specs.declared.task.Task.{Task}
-use Rattle.world_tables.specs.declared.task.TaskWork.{TaskWork}
+use Rattle.world_tables.specs.Rows.{Queue}
+use Rattle.world_tables.specs.Rows.{Task}
+use Rattle.world_tables.specs.Rows.{TaskWork}
 use Rattle.world_tables.specs.declared.task.TaskWork.TheVariants.{Io, Admin}
 
 -- a queue with something to fetch, and the entry at the controller's head

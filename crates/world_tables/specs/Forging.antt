@@ -5,7 +5,7 @@ use Rattle.machine_model.specs.Refusals.{is_gone}
 use Rattle.page_memory.specs.Pages.{with_page_bytes}
 use Rattle.queue_pair.specs.Memory.{completion_place}
 use Rattle.world_tables.specs.Tables.{Tables}
-use Rattle.world_tables.specs.declared.queue.Queue.{Queue}
+use Rattle.world_tables.specs.Rows.{Queue}
 
 -- no queue of a number has a completion half
 abbrev pub lacks_completion : Option Queue → Bool

@@ -15,3 +15,4 @@ pub mod Fetching
 pub mod Walking
 pub mod Touching
 pub mod Sending
+pub mod Rows

@@ -15,7 +15,7 @@ use Rattle.queue_pair.specs.Memory.{half_pages}
 use Rattle.queue_pair.specs.Rings.{fresh_host_ring, fresh_device_ring, none_claimed}
 use Rattle.world_tables.specs.Tables.{Tables}
 use Rattle.world_tables.specs.declared.config.Config.{Config}
-use Rattle.world_tables.specs.declared.queue.Queue.{Queue}
+use Rattle.world_tables.specs.Rows.{Queue}
 
 -- the refusal of a configuration, and the machine that it opens
 abbrev pub refusal_of_config : Config → Option OpenRefusal

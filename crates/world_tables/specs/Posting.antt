@@ -12,7 +12,7 @@ use Rattle.queue_pair.specs.Slots.{is_full}
 use Rattle.world_tables.specs.Forging.{overwritten}
 use Rattle.world_tables.specs.Tables.{Tables}
 use Rattle.world_tables.specs.Whole.{AreQueues, TellsQueue}
-use Rattle.world_tables.specs.declared.queue.Queue.{Queue}
+use Rattle.world_tables.specs.Rows.{Queue}
 
 -- a queue whose host's tail moved on
 abbrev pub with_tail_moved : Queue → Queue

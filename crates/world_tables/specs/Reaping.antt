@@ -15,7 +15,7 @@ use Rattle.machine_model.specs.declared.words.HostState.{HostState}
 use Rattle.machine_model.specs.declared.words.HostState.TheVariants.{Live, Deleting, Gone}
 use Rattle.machine_model.specs.declared.words.Phase.TheVariants.{Submitted}
 use Rattle.machine_model.specs.declared.words.Reaped.{Reaped}
-use Rattle.machine_model.specs.declared.words.Work.{Work}
+use Rattle.machine_model.specs.Work.{Work}
 use Rattle.machine_model.specs.declared.words.Work.TheVariants.{Io, Management}
 use Rattle.page_ledger.specs.Owners.{given_back, is_half}
 use Rattle.page_memory.specs.declared.page.Half.TheVariants.{Completion}
@@ -26,7 +26,7 @@ use Rattle.world_tables.specs.Commands.{passes, state_at, without_claim}
 use Rattle.machine_model.specs.Rings.{head_bell}
 use Rattle.world_tables.specs.Tables.{Tables, state_of}
 use Rattle.world_tables.specs.Whole.{IsWhole}
-use Rattle.world_tables.specs.declared.queue.Queue.{Queue}
+use Rattle.world_tables.specs.Rows.{Queue}
 
 -- a queue of which the completion at the head was taken, and the head was rung
 abbrev pub with_answer_taken : Queue → Queue

@@ -5,7 +5,7 @@ use Rattle.machine_model.specs.After.{change}
 use Rattle.machine_model.specs.Refusals.{is_retired, is_gone}
 use Rattle.queue_pair.specs.Rings.{hearing_tail}
 use Rattle.world_tables.specs.Tables.{Tables}
-use Rattle.world_tables.specs.declared.queue.Queue.{Queue}
+use Rattle.world_tables.specs.Rows.{Queue}
 
 -- a queue whose controller heard the host's tail
 abbrev pub with_tail_heard : Queue → Queue

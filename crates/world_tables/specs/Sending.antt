@@ -19,7 +19,7 @@ use Rattle.world_tables.specs.Commands.{passes, with_claim}
 use Rattle.world_tables.specs.Posting.{posted}
 use Rattle.world_tables.specs.Reaping.{with_state}
 use Rattle.world_tables.specs.Tables.{Tables, state_of}
-use Rattle.world_tables.specs.declared.queue.Queue.{Queue}
+use Rattle.world_tables.specs.Rows.{Queue}
 
 -- the call that sends a command
 abbrev pub sending : AdminKind → Event

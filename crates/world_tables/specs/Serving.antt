@@ -22,9 +22,9 @@ use Rattle.queue_pair.specs.Rings.{DeviceSide, answer_posted, entry_taken}
 use Rattle.queue_pair.specs.Slots.{is_full}
 use Rattle.world_tables.specs.Tables.{Tables, entry_of_work, verdict_of_work, dw0_of_work}
 use Rattle.world_tables.specs.Whole.{is_task, is_deletion}
-use Rattle.world_tables.specs.declared.queue.Queue.{Queue}
-use Rattle.world_tables.specs.declared.task.Task.{Task}
-use Rattle.world_tables.specs.declared.task.TaskWork.{TaskWork}
+use Rattle.world_tables.specs.Rows.{Queue}
+use Rattle.world_tables.specs.Rows.{Task}
+use Rattle.world_tables.specs.Rows.{TaskWork}
 use Rattle.world_tables.specs.declared.task.TaskWork.TheVariants.{Io, Admin}
 
 -- The rings

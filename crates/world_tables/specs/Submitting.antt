@@ -13,7 +13,7 @@ use Rattle.queue_pair.specs.Slots.{is_full}
 use Rattle.world_tables.specs.Commands.{BelongsToDraft}
 use Rattle.world_tables.specs.Posting.{posted}
 use Rattle.world_tables.specs.Tables.{Tables, state_of}
-use Rattle.world_tables.specs.declared.queue.Queue.{Queue}
+use Rattle.world_tables.specs.Rows.{Queue}
 
 -- a draft's pages come in with its bytes, and its command is submitted
 abbrev pub brought_in : DraftContents → Tables → Tables

@@ -9,7 +9,7 @@ use Rattle.machine_model.specs.declared.words.Refusal.TheVariants as refusal
 use Rattle.page_memory.specs.Pages.{Pages, byte_at, AreWhole}
 use Rattle.world_tables.specs.Tables.{Tables, verdict_of_work}
 use Rattle.world_tables.specs.Whole.{is_task}
-use Rattle.world_tables.specs.declared.task.Task.{Task}
+use Rattle.world_tables.specs.Rows.{Task}
 use Rattle.world_tables.specs.declared.task.TaskWork.TheVariants.{Io}
 
 -- what a walk may be refused for: a task that has a verdict has no more to walk, and an admin command has one from its fetch on

@@ -17,7 +17,7 @@ use Rattle.machine_model.specs.Claims.{IsSound}
 use Rattle.entry_codec.specs.declared.status.Status.{Status}
 use Rattle.machine_model.specs.declared.words.Phase.{Phase}
 use Rattle.machine_model.specs.declared.words.Phase.TheVariants.{Drafted, Submitted, Held, Collected}
-use Rattle.machine_model.specs.declared.words.Work.{Work}
+use Rattle.machine_model.specs.Work.{Work}
 use Rattle.machine_model.specs.declared.words.Work.TheVariants.{Io, Management}
 use Rattle.machine_model.specs.Histories.{HasHistory}
 use Rattle.machine_model.specs.Memory.{memory_of}
@@ -34,9 +34,9 @@ use Rattle.queue_pair.specs.Lists.{answers, IsPair, HasPhases, AreTied}
 use Rattle.queue_pair.specs.Rings.{IsHostSide, IsDeviceSide}
 use Rattle.queue_pair.specs.Slots.{is_in_range}
 use Rattle.world_tables.specs.Tables.{Tables, state_of, present, sq_pages_of, cq_pages_of, entry_of_work}
-use Rattle.world_tables.specs.declared.queue.Queue.{Queue}
-use Rattle.world_tables.specs.declared.task.Task.{Task}
-use Rattle.world_tables.specs.declared.task.TaskWork.{TaskWork}
+use Rattle.world_tables.specs.Rows.{Queue}
+use Rattle.world_tables.specs.Rows.{Task}
+use Rattle.world_tables.specs.Rows.{TaskWork}
 use Rattle.world_tables.specs.declared.task.TaskWork.TheVariants as task
 
 -- both sides of a queue speak of the same rings, with their positions inside

@@ -6,11 +6,11 @@ use queue_pair::{DevicePair, HostPair};
 
 /// What the host and the controller keep of a queue.
 #[derive(Drop)]
-pub struct Queue {
+pub struct Queue<H = HostPair> {
     /// What the host knows of it.
     pub state: HostState,
     /// The host's side of its rings.
-    pub host: HostPair,
+    pub host: H,
     /// The controller's state of the submission queue.
     pub sq: SqState,
     /// Whether the controller has the completion queue.

@@ -1,13 +1,15 @@
 //! An outstanding command at the host.
 
 use entry_codec::Status;
+use io_commands::Request;
 use machine_model::words::{Phase, Work};
 use page_memory::PageNo;
+use std::alloc::{Allocator, Global};
 use std::marker::Model;
 
 /// What the host keeps of an outstanding command. Contracts see it as the machine's record.
 #[derive(Drop)]
-pub struct Record {
+pub struct Record<A: Allocator = Global> {
     /// Its queue.
     pub q: u16,
     /// Its identifier.
@@ -15,16 +17,16 @@ pub struct Record {
     /// How far it has come.
     pub phase: Phase,
     /// What it is for.
-    pub work: Work,
+    pub work: Work<Request<A>>,
     /// The pages of its data pieces.
-    pub data_pages: Vec<PageNo>,
+    pub data_pages: Vec<PageNo, A>,
     /// The pages of its chain.
-    pub chain_pages: Vec<PageNo>,
+    pub chain_pages: Vec<PageNo, A>,
     /// How it ended, once that is known.
     pub status: Option<Status>,
 }
 
-impl Model for Record {
+impl<A: Allocator> Model for Record<A> {
     ghost use Rattle.machine_model.specs.State as machine;
 
     ghost Value = { machine.Record };

@@ -6,7 +6,7 @@ build-requires-clause-some g c =
     rw (
       c.as_slice.ensures.value,
       c.in_ok-parts.ensures,
-      c.as_slice-pieces.ensures,
+      c.pieces-pieces.ensures,
       all_parts c.args.request.now c.args.pages.now c.split_at.result.0.now c.args.segment c.requires.pages (rw c.data_pages.ensures at c.split_at.ensures.front),
     )
     (some_pieces c.args.request.now.kind c.args.request.now.blocks c.args.request.now.pieces c.requires.good)
@@ -16,7 +16,7 @@ build-requires-clause-pages g c =
     rw (
       c.as_slice.ensures.value,
       c.in_ok-parts.ensures,
-      c.as_slice-pieces.ensures,
+      c.pieces-pieces.ensures,
       all_parts c.args.request.now c.args.pages.now c.split_at.result.0.now c.args.segment c.requires.pages (rw c.data_pages.ensures at c.split_at.ensures.front),
       c.as_slice-2.ensures.value,
       c.in_ok-numbers.ensures,
@@ -28,7 +28,7 @@ returns-in-Ok-clause-count g c =
     rw (
       c.as_slice.ensures.value,
       c.in_ok-parts.ensures,
-      c.as_slice-pieces.ensures,
+      c.pieces-pieces.ensures,
       all_parts c.args.request.now c.args.pages.now c.split_at.result.0.now c.args.segment c.requires.pages (rw c.data_pages.ensures at c.split_at.ensures.front),
     )
     at c.in-Ok.ensures.count

@@ -7,12 +7,12 @@ use Rattle.page_ledger.proofs.ledger.push_lowest_free.Goals as goal
 use Rattle.page_ledger.proofs.ledger.push_lowest_free.Goals.{then-is_free, else-is_free}
 
 pub returns-then-left-eq0-clause-pages : goal.returns-then-left-eq0-clause-pages
-returns-then-left-eq0-clause-pages c =
+returns-then-left-eq0-clause-pages g c =
     c.loop-p.invariant.pages ∙ ap (λ l. c.args.into.now.items ++ l)
     (sym (front_taken (is_owned_at is_free c.args.owners.now) c.loop-p.p (length c.args.owners.now) c.args.k (omega arith) (omega (arith, c.loop-p.invariant.left))))
 
 pub loop-p-preserved : goal.loop-p-preserved
-loop-p-preserved c =
+loop-p-preserved g c =
     elim c.if-is_free.branch [
       | then-is_free w ↦
           let more = walk-yes is_free c.args.owners.now c.loop-p.p Free c.loop-p-test.true (sym c.is_free.ensures ∙ w.if-is_free.true) in

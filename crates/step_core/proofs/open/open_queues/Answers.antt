@@ -6,7 +6,7 @@ use Rattle.page_ledger.proofs.Pages.{pages_from-more}
 use Rattle.page_memory.specs.declared.page.Half.TheVariants.{Submission, Completion}
 use Rattle.queue_pair.specs.Memory.{half_pages}
 use Rattle.world_tables.specs.Opening.{sq_from, cq_from, fresh_at, fresh_queue, fresh_queues}
-use Rattle.world_tables.specs.declared.queue.Queue.{Queue}
+use Rattle.world_tables.specs.Rows.{Queue}
 use Rattle.step_core.proofs.open.open_queues.Goals as goal
 
 many : (n q : ℕ) → length (fresh_queues n q) ≡ q

@@ -4,4 +4,4 @@ use Rattle.page_ledger.proofs.Numbers.{counts-add_up}
 use Rattle.page_ledger.proofs.ledger.Ledger.counts.Goals as goal
 
 pub returns-clause-sum : goal.returns-clause-sum
-returns-clause-sum c = rw (← c.self.view_is) (ap total c.self.invariant.2 ∙ counts-add_up c.self.inside.owners.items)
+returns-clause-sum g c = rw (← c.self.view_is) (ap total c.self.invariant.2 ∙ counts-add_up c.self.inside.owners.items)

@@ -7,7 +7,7 @@ use Rattle.page_ledger.proofs.ledger.Ledger.free_group.Goals as goal
 use Rattle.page_ledger.proofs.ledger.Ledger.free_group.Goals.{then-has, else-has}
 
 pub loop-p-preserved : goal.loop-p-preserved
-loop-p-preserved c =
+loop-p-preserved g c =
     let within : c.loop-p.p < length c.args.self.now = omega (arith, c.pages-p-end.ensures.pages) in
     elim c.if-has.branch [
       | then-has w ↦
@@ -31,10 +31,10 @@ loop-p-preserved c =
     ]
 
 pub returns-clause-freed : goal.returns-clause-freed
-returns-clause-freed c =
+returns-clause-freed g c =
     c.loop-p.invariant.owners ∙ given_below-all (is_member c.args.group) c.loop-p.p c.args.self.now (omega (arith, c.pages-p-end.ensures.pages))
 
 pub returns-clause-number : goal.returns-clause-number
-returns-clause-number c =
+returns-clause-number g c =
     let p : c.loop-p.p ≡ length c.args.self.now = omega (arith, c.pages-p-end.ensures.pages) in
     c.loop-p.invariant.number ∙ (rw (p, take-length) (sym (length-pages_owned (is_member c.args.group) c.args.self.now)))

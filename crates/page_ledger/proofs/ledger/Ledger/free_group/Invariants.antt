@@ -5,7 +5,7 @@ use Rattle.page_ledger.proofs.Tables.{given_below}
 use Rattle.page_ledger.proofs.ledger.Ledger.free_group.Given as goal
 
 abbrev pub invariant-loop-p : goal.invariant-loop-p
-invariant-loop-p l = record {
+invariant-loop-p g l = record {
   owners : l.self ≡ given_below (is_member l.group) l.p l.fn.self;
   size : length l.self ≡ length l.fn.self;
   number : l.freed ≡ count_by (is_member l.group) (take l.p l.fn.self);

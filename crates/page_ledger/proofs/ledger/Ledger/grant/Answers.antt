@@ -5,7 +5,7 @@ use Rattle.page_ledger.proofs.Tables.{appended, free-within}
 use Rattle.page_ledger.proofs.ledger.Ledger.grant.Goals as goal
 
 pub give-requires : goal.give-requires
-give-requires c =
+give-requires g c =
     let table = c.deref.ensures.value ∙ c.self.view_is in
     let now : c.deref-2.result.now ≡ c.args.into.now.items ++ take c.args.k (free_pages c.args.self.now) =
     c.deref-2.ensures.value ∙ (c.push_lowest_free.ensures.pages ∙ ap (λ l. c.args.into.now.items ++ take c.args.k (free_pages l)) table) in

@@ -8,7 +8,7 @@ use Rattle.page_ledger.proofs.Numbers.{counts-free}
 use Rattle.page_ledger.proofs.ledger.Ledger.open.Goals as goal
 
 pub invariant_of-result : goal.invariant_of-result
-invariant_of-result c =
+invariant_of-result g c =
     let counter : c.loop.counter ≡ c.args.pages = omega arith in
     let size : length c.loop.owners.items ≡ c.args.pages = ap length c.loop.invariant.free ∙ (length-replicate c.loop.counter Free ∙ counter) in (
       rw size (grind (arith, common_steps, c.if-not-contains.ensures.cases.0, c.new.ensures.start)),

@@ -3,12 +3,12 @@ use Rattle.page_ledger.proofs.Numbers.{counted-some, counted-few, counts-set}
 use Rattle.page_ledger.proofs.ledger.Ledger.set.Goals as goal
 
 pub one_less-requires : goal.one_less-requires
-one_less-requires c =
+one_less-requires g c =
     let within : c.p.inside.0 < length c.self.inside.owners.items = rw (c.p.view_is, c.self.view_is) c.requires in
     rw c.self.invariant.2 (counted-some c.self.inside.owners.items c.p.inside.0 c.index-before.result.now within c.index-before.ensures)
 
 pub one_more-self-inside-requires : goal.one_more-self-inside-requires
-one_more-self-inside-requires c =
+one_more-self-inside-requires g c =
     let within : c.p.inside.0 < length c.self.inside.owners.items = rw (c.p.view_is, c.self.view_is) c.requires in
     rw (c.one_less.ensures, c.self.invariant.2) (omega (
       arith,
@@ -17,7 +17,7 @@ one_more-self-inside-requires c =
     ))
 
 pub invariant_of-self : goal.invariant_of-self
-invariant_of-self c =
+invariant_of-self g c =
     let within : c.p.inside.0 < length c.self.inside.owners.items = rw (c.p.view_is, c.self.view_is) c.requires in
     let size = length-set c.self.inside.owners.items c.p.inside.0 c.args.owner in (
       omega (arith, size, c.self.invariant.0),

@@ -4,6 +4,6 @@ use Rattle.page_memory.proofs.Whole.{zeros_pool}
 use Rattle.page_memory.proofs.store.Store.open.Goals as goal
 
 pub invariant_of-result : goal.invariant_of-result
-invariant_of-result c =
+invariant_of-result g c =
     let few : c.args.pages ≤ 65536 = grind (arith, common_steps, c.if-not-contains.ensures.cases) in
     zeros_pool c.loop.counter c.loop.all.items c.loop.invariant (omega (arith, few, c.loop.auto.counter-end))

@@ -3,4 +3,4 @@ use Rattle.page_memory.specs.Pages.{zero_page}
 use Rattle.page_memory.proofs.store.Store.open.Given as goal
 
 abbrev pub invariant-loop : goal.invariant-loop
-invariant-loop l = l.all.items ≡ replicate l.counter (Some zero_page)
+invariant-loop g l = l.all.items ≡ replicate l.counter (Some zero_page)

@@ -5,7 +5,7 @@ use Rattle.world_tables.specs.Serving.{waits_among}
 use Rattle.step_core.specs.Parts.{tables_of}
 use Rattle.world_tables.specs.Tables.{verdict_of_work}
 use Rattle.world_tables.specs.Whole.{is_task}
-use Rattle.world_tables.specs.declared.task.Task.{Task}
+use Rattle.world_tables.specs.Rows.{Task}
 use Rattle.world_tables.proofs.Changing.{get-at}
 use Rattle.world_tables.proofs.CompleteSteps.{task_at, task_queue, refusal_posts}
 use Rattle.step_core.proofs.parts.Parts.check_complete.Goals as goal

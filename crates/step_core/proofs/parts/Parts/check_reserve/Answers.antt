@@ -5,7 +5,7 @@ use Rattle.page_ledger.specs.declared.owner.Counts.{Counts}
 use Rattle.world_tables.specs.Commands.{state_at, passes, takes_no_io}
 use Rattle.step_core.specs.Parts.{tables_of}
 use Rattle.world_tables.specs.Tables.{Tables, state_of}
-use Rattle.world_tables.specs.declared.queue.Queue.{Queue}
+use Rattle.world_tables.specs.Rows.{Queue}
 use Rattle.world_tables.proofs.Granting.{in_state-is, no_io-is, refuses-no_identifier, refuses-too_few, none-left, next-left, granted, Asked}
 use Rattle.world_tables.proofs.Reserved.{queue_there}
 use Rattle.step_core.proofs.parts.Parts.check_reserve.Goals as goal

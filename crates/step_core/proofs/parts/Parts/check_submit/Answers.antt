@@ -5,7 +5,7 @@ use Rattle.machine_model.specs.State.{Record}
 use Rattle.step_core.specs.Parts.{tables_of}
 use Rattle.world_tables.specs.Commands.{passes, state_at, BelongsToDraft}
 use Rattle.world_tables.specs.Tables.{Tables, state_of}
-use Rattle.world_tables.specs.declared.queue.Queue.{Queue}
+use Rattle.world_tables.specs.Rows.{Queue}
 use Rattle.world_tables.proofs.Submitting.{submit_ready}
 use Rattle.step_core.proofs.parts.Parts.check_submit.Goals as goal
 

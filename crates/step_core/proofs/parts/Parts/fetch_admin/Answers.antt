@@ -1,6 +1,6 @@
 use Rattle.std.proofs.Common.{List, ap}
 use Rattle.step_core.specs.Parts.{tables_of}
-use Rattle.world_tables.specs.declared.task.Task.{Task}
+use Rattle.world_tables.specs.Rows.{Task}
 use Rattle.world_tables.proofs.Fetched.{memory_step, managed_step}
 use Rattle.step_core.proofs.parts.Parts.fetch_admin.Goals as goal
 

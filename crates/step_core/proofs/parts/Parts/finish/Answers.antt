@@ -5,7 +5,7 @@ use Rattle.std.specs.List.{remove}
 use Rattle.world_tables.specs.Serving.{post_refusal, image_of_end, queues_of_end, PostsFor}
 use Rattle.step_core.specs.Parts.{tables_of}
 use Rattle.world_tables.specs.Tables.{Tables}
-use Rattle.world_tables.specs.declared.queue.Queue.{Queue}
+use Rattle.world_tables.specs.Rows.{Queue}
 use Rattle.world_tables.proofs.CompleteSteps.{queue_there, task_queue}
 use Rattle.world_tables.proofs.FinishSteps.{ready, ready_verdict, ready_fits, ready_queue, ready_post, ready_there, end_fits, finishes, of_some}
 use Rattle.step_core.proofs.parts.Parts.finish.Goals as goal

@@ -2,7 +2,7 @@ use Rattle.std.proofs.Common.{◌≡◌, ◌∙◌, refl, slice_set, sym, subst}
 use Rattle.step_core.specs.Parts.{tables_of}
 use Rattle.world_tables.specs.Posting.{posted}
 use Rattle.world_tables.specs.Tables.{Tables}
-use Rattle.world_tables.specs.declared.queue.Queue.{Queue}
+use Rattle.world_tables.specs.Rows.{Queue}
 use Rattle.world_tables.proofs.Entries.{post-room, post-there, post-told}
 use Rattle.world_tables.proofs.Lists.{some_is}
 use Rattle.world_tables.proofs.Queues.{queue-at}
