@@ -15,9 +15,9 @@ use Rattle.machine_model.specs.State.{State, Job}
 use Rattle.machine_model.specs.Refusals.{causes, reserve_causes, refusal_of, job_at, job_is, post_page}
 use Rattle.machine_model.specs.Proper.{IsProper}
 use Rattle.machine_model.specs.After.{after, course_of, next_answer, next_unit}
-use Rattle.machine_model.specs.Step.{Step, Refuses, MayRefuse, Answers, AnswersAnything, IsController, LeavesByController, LeavesByHost, allocates, forges, touched_by_refusal, unit_answered}
+use Rattle.machine_model.specs.Step.{Step, Refuses, MayRefuse, Answers, AnswersAnything, IsController, LeavesByController, LeavesByHost, allocates, forges, reaped, touched_by_refusal, unit_answered}
 use Rattle.machine_model.specs.Events as events
-use Rattle.machine_model.specs.Events.{Event, Refusal}
+use Rattle.machine_model.specs.Events.{Event, Reaped, Refusal}
 use Rattle.machine_model.specs.InOrder.{IsInOrder, IsAnswered, every_event_is_answered}
 use Rattle.machine_model.proofs.Refused.{first_fails, rest_fails}
 use Rattle.machine_model.proofs.Placed.{is_job, find_sound}
@@ -124,6 +124,7 @@ fetch_refusable s q = go s.trusted refl
 -- Events that are accepted or refused
 
 abbrev pub is_plain : Event → Bool
+is_plain (events.Submit d) = true
 is_plain (events.Cancel d) = true
 is_plain (events.Ring q) = true
 is_plain (events.Release f) = true
@@ -138,6 +139,7 @@ plain_of_host (events.Complete q cid) h = absurd (true≢false (sym h))
 plain_of_host e h = refl
 
 plain_answers : (s : State) (e : Event) → is_plain e ≡ true → Answers s e events.Accepted
+plain_answers s (events.Submit d) h = tt
 plain_answers s (events.Cancel d) h = tt
 plain_answers s (events.Ring q) h = tt
 plain_answers s (events.Release f) h = tt
@@ -165,6 +167,28 @@ acceptable s e proper plain = go (refusal_of s e) refl
         inr (
           left.0,
           (proper, permits_judged (AnswersAnything s e events.Accepted) (s.trusted || not (IsController e)) judged (h, plain_answers s e plain), left.1),
+        )
+
+-- Reaps
+
+abbrev IsReaped : State → ℕ → Type 0
+IsReaped s q = (what : Reaped) × (left : State) × Step s (events.Reap q) (events.Reaps what) left
+
+pub reap_answered : (s : State) (q : ℕ) → ((why : Refusal) × (touched : List ℕ) × Step s (events.Reap q) (events.Refused why touched) s) ⊎ ((what : Reaped) × (left : State) × Step s (events.Reap q) (events.Reaps what) left)
+reap_answered s q = go (refusal_of s (events.Reap q)) refl
+  where
+    judged : IsJudged s (events.Reap q)
+    judged = host_judged s (events.Reap q) refl
+
+    go : (o : Option Refusal) → refusal_of s (events.Reap q) ≡ o → IsRefused s (events.Reap q) ⊎ IsReaped s q
+    go (Some why) h = inl (refused_for s (events.Reap q) tt judged why h)
+    go None h =
+        let reply = events.Reaps (reaped s q) in
+        let left = left_by_host s (after s (events.Reap q) reply) s.trusted false refl in
+        inr (
+          reaped s q,
+          left.0,
+          (tt, permits_judged (AnswersAnything s (events.Reap q) reply) (s.trusted || true) judged (h, refl), left.1),
         )
 
 -- Walks
@@ -274,6 +298,10 @@ answer_plain : (s : State) (e : Event) → IsRefused s e ⊎ ((left : State) × 
 answer_plain s e (inl h) = answer_refused s e h
 answer_plain s e (inr h) = record { reply = events.Accepted; left = h.0; step = h.1 }
 
+answer_reap : (s : State) (q : ℕ) → IsRefused s (events.Reap q) ⊎ IsReaped s q → IsAnswered s (events.Reap q)
+answer_reap s q (inl h) = answer_refused s (events.Reap q) h
+answer_reap s q (inr h) = record { reply = events.Reaps h.0; left = h.1; step = h.2 }
+
 answer_walk : (s : State) (q cid : ℕ) → IsRefused s (events.Walk q cid) ⊎ IsWalked s q cid → IsAnswered s (events.Walk q cid)
 answer_walk s q cid (inl h) = answer_refused s (events.Walk q cid) h
 answer_walk s q cid (inr h) = record { reply = events.Walked h.0 h.1; left = h.2; step = h.3 }
@@ -286,6 +314,8 @@ pub answers_every_event : every_event_is_answered
 answers_every_event s (events.Fetch q) order proper = answer_refused s (events.Fetch q) (fetch_refusable s q)
 answers_every_event s (events.Walk q cid) order proper = answer_walk s q cid (walk_answered s q cid order)
 answers_every_event s (events.Complete q cid) order proper = answer_complete s q cid (complete_answered s q cid)
+answers_every_event s (events.Reap q) order proper = answer_reap s q (reap_answered s q)
+answers_every_event s (events.Submit d) order proper = answer_plain s (events.Submit d) (acceptable s (events.Submit d) proper refl)
 answers_every_event s (events.Cancel d) order proper = answer_plain s (events.Cancel d) (acceptable s (events.Cancel d) proper refl)
 answers_every_event s (events.Ring q) order proper = answer_plain s (events.Ring q) (acceptable s (events.Ring q) proper refl)
 answers_every_event s (events.Release f) order proper = answer_plain s (events.Release f) (acceptable s (events.Release f) proper refl)

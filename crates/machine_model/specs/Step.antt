@@ -94,8 +94,6 @@ IsController e = false
 -- the calls that may want memory
 abbrev pub allocates : Event → Bool
 allocates (events.Reserve q r) = true
-allocates (events.Submit d) = true
-allocates (events.Reap q) = true
 allocates (events.Collect q cid) = true
 allocates (events.Abort q cid) = true
 allocates (events.DeleteSq q) = true

@@ -4,7 +4,7 @@ ghost use Rattle.std.specs.Prelude.{◌≡◌, ◌+◌, ◌*◌, ◌<◌, ◌≤
 ghost use Rattle.std.specs.Option.{option_copied};
 ghost use Rattle.page_memory.specs.Pages.{zero_page, page_at, byte_at, IsWhole, AreWhole};
 ghost use Rattle.std.specs.Bool.{OnTrue};
-ghost use Rattle.page_memory.specs.Memory.{written};
+ghost use Rattle.page_memory.specs.Memory.{page_of, written};
 
 use crate::dma::{Dma, Unreadable};
 use crate::page::{PAGE_BYTES, Page, PageNo};
@@ -127,6 +127,13 @@ impl<A: Allocator> Store<A> {
             Some(slot) => slot.is_some(),
             None => false,
         }
+    }
+
+    /// Whether the page of an address is in, so that its bytes can be read and written. Nothing is touched.
+    pub fn is_reachable(&self, addr: u64) -> bool
+        ensures { result ≡ is_some (page_at self.now.pages (page_of addr)) }
+    {
+        self.page(addr / 4096).is_some()
     }
 }
 
@@ -264,7 +271,12 @@ impl<A: Allocator> Dma for Store<A> {
         &self.touched
     }
 
-    fn clear(&mut self) {
+    fn clear(&mut self)
+        ensures cleared { self.new ≡ record self.old { touched = [] } }
+        ensures touched { self.new.touched ≡ [] }
+        ensures memory { byte_at self.new.pages ≡ byte_at self.old.pages }
+        ensures pool { length self.new.pages ≡ length self.old.pages }
+    {
         self.touched.clear();
     }
 }

@@ -146,26 +146,18 @@ impl DevicePair {
         self.head = slot_after(self.entries, self.head);
     }
 
-    /// Whether [`DevicePair::post`] would put a completion now. The page of the slot is touched where it is looked at and is in.
-    ///
-    /// # Errors
-    ///
-    /// 1. `Full` exactly where n - 1 slots lie from the known head to the tail. 2. `SlotOut` exactly where the slot lies on a page
-    /// that is out.
-    pub fn can_post<D: Dma>(&self, dma: &mut D) -> Result<(), PostFault>
-        requires room { length (D.reached dma.old) ≤ 2 }
-        ensures full { (result ≡ Err PostFault.Full) ↔ IsTrue (is_full self.now.entries self.now.ring.known_head self.now.ring.tail) }
-        ensures out { (result ≡ Err PostFault.SlotOut) ↔ (IsFalse (is_full self.now.entries self.now.ring.known_head self.now.ring.tail) × (completion_slot (D.memory dma.old) self.now.cq self.now.ring.tail ≡ None)) }
-        ensures memory { D.memory dma.new ≡ D.memory dma.old }
-        ensures pool { D.page_count dma.new ≡ D.page_count dma.old }
+    /// Whether n - 1 slots lie from the known head to the tail, so that no completion can be posted.
+    pub fn is_full(&self) -> bool
+        ensures { result ≡ is_full self.now.entries self.now.ring.known_head self.now.ring.tail }
     {
-        if slot_after(self.entries, self.tail) == self.known_head {
-            return Err(PostFault::Full);
-        }
-        match dma.read(completion_address(self.cq, self.tail), &mut [0; 16]) {
-            Ok(()) => Ok(()),
-            Err(_) => Err(PostFault::SlotOut),
-        }
+        slot_after(self.entries, self.tail) == self.known_head
+    }
+
+    /// The address of the slot that the next completion goes to.
+    pub fn post_address(&self) -> u64
+        ensures { result ≡ completion_place self.now.cq self.now.ring.tail }
+    {
+        completion_address(self.cq, self.tail)
     }
 
     /// Puts a completion, with its phase bit set to the phase of this pass, into the slot at the tail.
@@ -189,8 +181,7 @@ impl DevicePair {
         ensures refused { OnErr result ((self.new ≡ self.old) × (D.memory dma.new ≡ D.memory dma.old) × (D.reached dma.new ≡ D.reached dma.old)) }
         ensures pool { D.page_count dma.new ≡ D.page_count dma.old }
     {
-        let tail = slot_after(self.entries, self.tail);
-        if tail == self.known_head {
+        if self.is_full() {
             return Err(PostFault::Full);
         }
         let bytes = completion_image(ComEntry {
@@ -202,7 +193,7 @@ impl DevicePair {
             Err(_) => return Err(PostFault::SlotOut),
         }
         self.phase = phase_after(self.entries, self.tail, self.phase);
-        self.tail = tail;
+        self.tail = slot_after(self.entries, self.tail);
         Ok(())
     }
 }

@@ -1,5 +1,5 @@
 -- Each step of a bench has an answer.
-use Rattle.std.proofs.Common.{◌≡◌, ◌⊎◌, inl, inr, ℕ, Bool, true, false, Option, Some, None, List, [], refl}
+use Rattle.std.proofs.Common.{◌≡◌, ◌⊎◌, inl, inr, ℕ, Bool, true, false, Option, Some, None, List, [], ◌∷◌, ◌++◌, refl}
 use Rattle.std.specs.List.{list_any}
 use Rattle.controller_walk.specs.declared.walk.WalkState.{WalkState}
 use Rattle.io_commands.specs.Drafts.{DraftContents}
@@ -7,6 +7,7 @@ use Rattle.io_commands.specs.Values.{FinishedContents}
 use Rattle.io_commands.specs.declared.draft.FillFault.{FillFault}
 use Rattle.machine_model.specs.Events as events
 use Rattle.machine_model.specs.Events.{Event}
+use Rattle.machine_model.specs.declared.words.Reaped.{Reaped}
 use Rattle.machine_model.specs.Image.{is_draft, draft_of}
 use Rattle.machine_model.specs.Proper.{IsProper, IsProperDraft}
 use Rattle.machine_model.specs.Script.{Table, is_finished, finished_at, is_ticket, fill_fault}
@@ -16,7 +17,7 @@ use Rattle.machine_model.specs.Step.{allocates, IsController}
 use Rattle.machine_model.specs.declared.words.Refusal.{Refusal}
 use Rattle.machine_model.specs.declared.words.Refusal.TheVariants as refusal
 use Rattle.world_tables.proofs.Lists.{found_at, all-at}
-use Rattle.machine_model.proofs.Answered.{IsRefused, refusable, fetch_refusable, acceptable, walk_answered, complete_answered}
+use Rattle.machine_model.proofs.Answered.{IsRefused, refusable, fetch_refusable, acceptable, reap_answered, walk_answered, complete_answered}
 use Rattle.step_core.specs.Bench.{without_first, Does}
 use Rattle.step_core.specs.Going.{IsTableInOrder, GoesOn, benches_go_on}
 use Rattle.step_core.specs.declared.step.Reply.{Reply}
@@ -49,6 +50,12 @@ retires t q (inr h) = leaves t (step.Retire q) reply.Accepted h.0 (h.1, refl)
 forges : (t : Table) (q slot : ℕ) (bytes : List ℕ) → MayBeAccepted t.world (events.Forge q slot bytes) → GoesOn t (step.Forge q slot bytes)
 forges t q slot bytes (inl h) = refused t (step.Forge q slot bytes) h.0 h.1 (h.2, refl)
 forges t q slot bytes (inr h) = leaves t (step.Forge q slot bytes) reply.Accepted h.0 (h.1, refl)
+
+reaps : (t : Table) (q : ℕ)
+    → IsRefused t.world (events.Reap q) ⊎ ((what : Reaped) × (left : State) × machine.Step t.world (events.Reap q) (events.Reaps what) left)
+    → GoesOn t (step.Reap q)
+reaps t q (inl h) = refused t (step.Reap q) h.0 h.1 (h.2, refl)
+reaps t q (inr h) = leaves t (step.Reap q) (reply.Reaps h.0) h.1 (h.2, refl)
 
 walks : (t : Table) (q cid : ℕ)
     → IsRefused t.world (events.Walk q cid) ⊎ ((outcome : WalkState) × (touched : List ℕ) × (left : State) × machine.Step t.world (events.Walk q cid) (events.Walked outcome touched) left)
@@ -98,11 +105,13 @@ builds t q cid = go (draft_of q cid t.drafts) refl
 submits : (t : Table) (q cid : ℕ) → IsTableInOrder t → GoesOn t (step.Submit q cid)
 submits t q cid h = go (draft_of q cid t.drafts) refl
   where
+    answered : (d : DraftContents) → draft_of q cid t.drafts ≡ Some d → MayBeAccepted t.world (events.Submit d) → GoesOn t (step.Submit q cid)
+    answered d e (inl may) = refused t (step.Submit q cid) may.0 may.1 (rw e (may.2, refl))
+    answered d e (inr done) = record { answer = reply.Accepted; left = record t { world = done.0; drafts = without_first (is_draft q cid) t.drafts; tickets = t.tickets ++ (q, cid) ∷ [] }; does = rw e (done.1, refl) }
+
     go : (o : Option DraftContents) → draft_of q cid t.drafts ≡ o → GoesOn t (step.Submit q cid)
     go None e = no_value t (step.Submit q cid) (rw e (refl, refl))
-    go (Some d) e =
-        let may : IsRefused t.world (events.Submit d) = refusable t.world (events.Submit d) (draft_is_proper t q cid d h e) refl refl in
-        refused t (step.Submit q cid) may.0 may.1 (rw e (may.2, refl))
+    go (Some d) e = answered d e (acceptable t.world (events.Submit d) (draft_is_proper t q cid d h e) refl)
 
 cancels : (t : Table) (q cid : ℕ) → IsTableInOrder t → GoesOn t (step.Cancel q cid)
 cancels t q cid h = go (draft_of q cid t.drafts) refl
@@ -158,9 +167,7 @@ goes_on t (step.Fetch q) h fit =
     refused t (step.Fetch q) may.0 may.1 (may.2, refl)
 goes_on t (step.Walk q cid) h fit = walks t q cid (walk_answered t.world q cid h.world)
 goes_on t (step.Complete q cid) h fit = completes t q cid (complete_answered t.world q cid)
-goes_on t (step.Reap q) h fit =
-    let may : IsRefused t.world (events.Reap q) = refusable t.world (events.Reap q) tt refl refl in
-    refused t (step.Reap q) may.0 may.1 (may.2, refl)
+goes_on t (step.Reap q) h fit = reaps t q (reap_answered t.world q)
 goes_on t (step.Collect q cid) h fit = collects t q cid
 goes_on t (step.Gather q cid) h fit = gathers t q cid
 goes_on t (step.Release q cid) h fit = releases t q cid h

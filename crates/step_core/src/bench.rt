@@ -1,6 +1,6 @@
 //! A bench: lists of steps are run on a world, with the drafts, tickets and finished commands that are about.
 
-ghost use Rattle.std.specs.Prelude.{◌≡◌, ◌+◌, ◌<◌, ◌≤◌, [], length, vec_len, vec_capacity, None, IfOk, IfErr, OnOk, OnErr};
+ghost use Rattle.std.specs.Prelude.{◌≡◌, ◌+◌, ◌<◌, ◌≤◌, ◌⊎◌, [], length, vec_len, vec_capacity, None, IfOk, IfErr, OnOk, OnErr};
 ghost use Rattle.std.specs.List.{Contains};
 ghost use Rattle.machine_model.specs.Claims.{claims_of, counts_of, IsSound};
 ghost use Rattle.machine_model.specs.Script.{table};
@@ -41,6 +41,7 @@ impl Kept {
     fn make_room(&mut self, many: usize) -> Result<(), AllocError>
         ensures same { table_of self.new ≡ table_of self.old }
         ensures room { OnOk result (HasRoom many self.new) }
+        ensures full { OnErr result ((vec_capacity self.old.drafts < vec_len self.old.drafts + many) ⊎ (vec_capacity self.old.tickets < vec_len self.old.tickets + many) ⊎ (vec_capacity self.old.finished < vec_len self.old.finished + many)) }
     {
         self.drafts.reserve(many)?;
         self.tickets.reserve(many)?;

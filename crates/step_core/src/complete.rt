@@ -1,6 +1,6 @@
 //! The controller completes a command.
 
-ghost use Rattle.std.specs.Prelude.{◌≡◌, ◌<◌, None, IfOk, IfSome, IsSome, length, find, slice_get};
+ghost use Rattle.std.specs.Prelude.{◌≡◌, ◌<◌, ◌≤◌, None, IfOk, IfSome, IsSome, length, find, slice_get};
 ghost use Rattle.std.specs.Result.{result_err};
 ghost use Rattle.block_image.specs.Blocks.{block_count};
 ghost use Rattle.machine_model.specs.After.{change};
@@ -23,6 +23,7 @@ use entry_codec::admin_opcode::DELETE_IO_SQ;
 use entry_codec::{Status, SubEntry};
 use io_commands::finish_job;
 use machine_model::words::Refusal;
+use page_memory::Dma;
 use world_tables::{Queue, Task, TaskWork};
 
 /// Whether an admin command that ends so leaves nothing of a submission queue.
@@ -43,12 +44,11 @@ fn drop_submission(queues: &mut [Queue], q: u16)
 
 impl Parts {
     /// The place of the task that completes, or the first cause against it. Nothing changes.
-    fn check_complete(&mut self, q: u16, cid: u16) -> Result<usize, Refusal>
-        requires whole { IsWhole (tables_of self.old) }
-        ensures refusal { result_err result ≡ complete_refusal (tables_of self.old) q cid }
-        ensures place { IfOk result (λ place. find (is_task q cid) self.old.tasks.items ≡ slice_get self.old.tasks.items place) }
-        ensures within { IfOk result (λ place. place < length self.old.tasks.items) }
-        ensures same { tables_of self.new ≡ tables_of self.old }
+    fn check_complete(&self, q: u16, cid: u16) -> Result<usize, Refusal>
+        requires whole { IsWhole (tables_of self.now) }
+        ensures refusal { result_err result ≡ complete_refusal (tables_of self.now) q cid }
+        ensures place { IfOk result (λ place. find (is_task q cid) self.now.tasks.items ≡ slice_get self.now.tasks.items place) }
+        ensures within { IfOk result (λ place. place < length self.now.tasks.items) }
     {
         let Some(place) = find_task(&self.tasks, q, cid) else {
             return Err(Refusal::NoJob);
@@ -60,8 +60,7 @@ impl Parts {
         if is_waiting(&self.tasks, task) {
             return Err(Refusal::Waits);
         }
-        let pair = self.queues[usize::from(q)].device;
-        match check_post(&mut self.store, &pair) {
+        match check_post(&self.store, &self.queues[usize::from(q)].device) {
             Ok(()) => Ok(place),
             Err(why) => Err(why),
         }
@@ -77,6 +76,7 @@ impl Parts {
         ensures dw0 { result.1 ≡ dw0_of_work work }
         ensures tables { tables_of self.new ≡ record (tables_of self.old) { image = image_of_end self.old.image work; queues = queues_of_end work self.old.queues.items } }
         ensures as_long { length (image_of_end self.old.image work) ≡ length self.old.image }
+        ensures touched { self.new.store.touched ≡ self.old.store.touched }
     {
         match work {
             TaskWork::Io(job) => (finish_job(job, &mut self.image), 0),
@@ -94,7 +94,8 @@ impl Parts {
         requires there { q < length self.old.queues.items }
         requires room { IfSome (slice_get self.old.queues.items q) (λ queue. post_refusal self.old.store.pages queue.device ≡ None) }
         requires fits { status.sct < 8 }
-        ensures { IfSome (slice_get self.old.queues.items q) (λ queue. PostsFor (tables_of self.old) q cid status dw0 queue (tables_of self.new) self.new.store.touched) }
+        requires few { length self.old.store.touched ≤ 2 }
+        ensures { IfSome (slice_get self.old.queues.items q) (λ queue. PostsFor (tables_of self.old) q cid status dw0 queue (tables_of self.new) self.old.store.touched self.new.store.touched) }
     {
         let mut pair = self.queues[usize::from(q)].device;
         let made = completion(q, cid, status, dw0, pair.head());
@@ -110,7 +111,8 @@ impl Parts {
         requires found { find (is_task q cid) self.old.tasks.items ≡ slice_get self.old.tasks.items place }
         requires within { place < length self.old.tasks.items }
         requires accepted { complete_refusal (tables_of self.old) q cid ≡ None }
-        ensures { CompletesTo (tables_of self.old) q cid (tables_of self.new) self.new.store.touched }
+        requires few { length self.old.store.touched ≤ 2 }
+        ensures { CompletesTo (tables_of self.old) q cid (tables_of self.new) self.old.store.touched self.new.store.touched }
     {
         let task = self.tasks.remove(place);
         let (status, dw0) = self.end_work(q, task.work);
@@ -132,6 +134,7 @@ impl Parts {
                 });
             }
         };
+        self.store.clear();
         self.finish(q, cid, place);
         Ok(Completed {
             touched: touched_by(&self.store),

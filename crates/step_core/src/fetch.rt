@@ -1,6 +1,6 @@
 //! The controller fetches an entry.
 
-ghost use Rattle.std.specs.Prelude.{◌≡◌, ◌≢◌, ◌<◌, ◌+◌, ◌≤◌, ◌==◌, ◌++◌, ◌∷◌, [], None, Some, true, false, IfOk, IfSome, OnOk, find, is_some, length, slice_get, vec_len, vec_capacity};
+ghost use Rattle.std.specs.Prelude.{◌≡◌, ◌≢◌, ◌<◌, ◌+◌, ◌≤◌, ◌==◌, ◌++◌, ◌∷◌, [], None, Some, true, false, IfOk, IfSome, OnErr, OnOk, find, is_some, length, slice_get, vec_len, vec_capacity};
 ghost use Rattle.std.specs.Result.{result_err};
 ghost use Rattle.machine_model.specs.Events as events;
 ghost use Rattle.machine_model.specs.Step.{Step};
@@ -8,7 +8,7 @@ ghost use Rattle.page_memory.specs.Pages.{byte_at};
 ghost use Rattle.queue_pair.specs.Memory.{entry_at, submission_page};
 ghost use Rattle.step_core.specs.Parts.{tables_of};
 ghost use Rattle.step_core.specs.Replies.{fetch_reply};
-ghost use Rattle.world_tables.specs.Fetching.{LooksAt, IsBegun, live_side, side_refusal, head_refusal, begun, managed};
+ghost use Rattle.world_tables.specs.Fetching.{LooksAt, LooksFrom, IsBegun, live_side, side_refusal, head_refusal, begun, managed};
 ghost use Rattle.world_tables.specs.Serving.{is_idle, with_taken, taken_off, task_of};
 ghost use Rattle.world_tables.specs.Tables.{state_of};
 ghost use Rattle.world_tables.specs.Touching.{StaysAllowed};
@@ -18,7 +18,7 @@ use crate::answer::check_post;
 use crate::lookup::find_task;
 use crate::manage::view_of;
 use crate::parts::Parts;
-use crate::refused::{Fetched, StepRefused, Touched, none_touched, touched_by};
+use crate::refused::{Fetched, StepRefused, Touched, touched_by};
 use crate::world::World;
 use admin_commands::{SqState, decide};
 use entry_codec::{Status, SubEntry};
@@ -46,15 +46,16 @@ fn live_pair(queues: &[Queue], q: u16) -> Option<DevicePair>
 ///
 /// 1. `Idle`: nothing is rung. 2. `SlotOut`: the page of its slot is out.
 fn head_entry(store: &mut Store, pair: &DevicePair) -> Result<SubEntry, Refusal>
+    requires room { length store.old.touched ≤ 2 }
     ensures refusal { result_err result ≡ side_refusal store.old.pages pair.now }
     ensures some { IfOk result (λ e. pair.now.ring.head ≢ pair.now.ring.bell) }
     ensures entry { IfOk result (λ e. entry_at (byte_at store.old.pages) pair.now.sq pair.now.ring.head ≡ Some e) }
-    ensures touched { OnOk result (store.new.touched ≡ submission_page pair.now.sq pair.now.ring.head ∷ []) }
+    ensures touched { OnOk result (store.new.touched ≡ store.old.touched ++ submission_page pair.now.sq pair.now.ring.head ∷ []) }
+    ensures refused { OnErr result (store.new.touched ≡ store.old.touched) }
     ensures pages { store.new.pages ≡ store.old.pages }
 {
     let _before = store.pages();
     let _head = pair.head();
-    store.clear();
     let answer = match pair.next_entry(store) {
         Ok(Some(entry)) => Ok(entry),
         Ok(None) => Err(Refusal::Idle),
@@ -94,8 +95,10 @@ fn task(q: u16, work: TaskWork) -> Task
 impl Parts {
     /// The entry at the head of a queue, or the first cause against it. Nothing changes.
     fn look(&mut self, q: u16) -> Result<SubEntry, Refusal>
+        requires room { length self.old.store.touched ≤ 2 }
         ensures refusal { result_err result ≡ head_refusal (tables_of self.old) q }
-        ensures entry { IfOk result (λ e. LooksAt (tables_of self.old) q e self.new.store.touched) }
+        ensures entry { IfOk result (λ e. LooksFrom (tables_of self.old) q e self.old.store.touched self.new.store.touched) }
+        ensures refused { OnErr result (self.new.store.touched ≡ self.old.store.touched) }
         ensures same { tables_of self.new ≡ tables_of self.old }
     {
         let Some(pair) = live_pair(&self.queues, q) else {
@@ -110,6 +113,7 @@ impl Parts {
         requires busy { IfSome (slice_get self.old.queues.items q) (λ queue. is_idle queue ≡ false) }
         ensures tables { tables_of self.new ≡ taken_off q (tables_of self.old) }
         ensures tasks { self.new.tasks ≡ self.old.tasks }
+        ensures touched { self.new.store.touched ≡ self.old.store.touched }
     {
         take_entry(&mut self.queues[usize::from(q)]);
     }
@@ -191,6 +195,7 @@ impl Parts {
         requires unknown { is_some (find (is_task 0 entry.cid) self.old.tasks.items) ≡ false }
         ensures step { Step (state_of (tables_of self.old)) (events.Fetch 0) (fetch_reply result) (state_of (tables_of self.new)) }
         ensures kept { IsWhole (tables_of self.new) }
+        ensures full { OnErr result (vec_capacity self.old.tasks ≤ vec_len self.old.tasks) }
     {
         match self.tasks.reserve(1) {
             Ok(()) => {}
@@ -216,11 +221,12 @@ impl Parts {
         requires whole { IsWhole (tables_of self.old) }
         requires found { LooksAt (tables_of self.old) q entry touched }
         requires known { is_some (find (is_task q entry.cid) self.old.tasks.items) ≡ true }
+        requires recorded { self.old.store.touched ≡ touched }
         ensures step { Step (state_of (tables_of self.old)) (events.Fetch q) (fetch_reply result) (state_of (tables_of self.new)) }
         ensures kept { IsWhole (tables_of self.new) }
     {
         let pair = self.queues[usize::from(q)].device;
-        match check_post(&mut self.store, &pair) {
+        match check_post(&self.store, &pair) {
             Ok(()) => {}
             Err(why) => return Err(StepRefused { why, touched }),
         }
@@ -228,7 +234,7 @@ impl Parts {
         self.answer(q, entry.cid, Status::COMMAND_ID_CONFLICT, 0);
         Ok(Fetched {
             cid: entry.cid,
-            touched: touched.then(&self.store),
+            touched: touched_by(&self.store),
         })
     }
 }
@@ -240,12 +246,13 @@ impl Parts {
         ensures step { Step (state_of (tables_of self.old)) (events.Fetch q) (fetch_reply result) (state_of (tables_of self.new)) }
         ensures kept { IsWhole (tables_of self.new) }
     {
+        self.store.clear();
         let entry = match self.look(q) {
             Ok(entry) => entry,
             Err(why) => {
                 return Err(StepRefused {
                     why,
-                    touched: none_touched(),
+                    touched: touched_by(&self.store),
                 });
             }
         };

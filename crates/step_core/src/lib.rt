@@ -46,9 +46,17 @@ mod walk;
 mod world;
 
 pub use bench::Bench;
+pub use block_image::{BadLength, Image, ImageError};
+pub use controller_walk::WalkState;
 pub use ended::{Ended, Leftover};
+pub use entry_codec::Status;
+pub use io_commands::{
+    Draft, FillFault, Finished, Kind, Piece, Pieces, Request, RequestFault, RequestOf, Ticket,
+};
 pub use machine_model::words::{HostState, OpenRefusal, Phase, Reaped, Refusal, RejectedFor};
 pub use open::OpenRefused;
+pub use page_ledger::{Counts, Owner, Role};
+pub use page_memory::{Half, Page, PageNo};
 pub use refused::{Completed, Fetched, Refused, StepRefused, Touched, Walked};
 pub use step::{Bytes, Reply, Step};
 pub use world::World;

@@ -1,6 +1,6 @@
 //! How calls answer that they were refused, and which pages the controller touched.
 
-ghost use Rattle.std.specs.Prelude.{◌≡◌, ◌≤◌, ◌+◌, ◌++◌, [], length};
+ghost use Rattle.std.specs.Prelude.{◌≡◌, ◌≤◌, [], length};
 
 use arrayvec::ArrayVec;
 use controller_walk::WalkState;
@@ -115,19 +115,5 @@ impl Touched {
         ensures { result.now ≡ self.now }
     {
         &self.pages
-    }
-}
-
-impl Touched {
-    /// These pages, and behind them those that a store noted.
-    pub(crate) fn then(self, store: &Store) -> Touched
-        requires { length self + length store.now.touched ≤ 4 }
-        ensures { result ≡ self ++ store.now.touched }
-    {
-        let mut pages = self.pages;
-        for number in store.touched().as_slice() {
-            pages.push(*number);
-        }
-        Touched { pages }
     }
 }

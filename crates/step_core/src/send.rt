@@ -1,6 +1,6 @@
 //! The host sends admin commands on queue 0.
 
-ghost use Rattle.std.specs.Prelude.{◌≡◌, ◌<◌, [], None, false, IfOk, IfErr, OnOk, length, find, vec_len, vec_capacity};
+ghost use Rattle.std.specs.Prelude.{◌≡◌, ◌≢◌, ◌<◌, ◌≤◌, [], Err, None, false, IfOk, IfErr, OnOk, OnErr, length, find, vec_len, vec_capacity};
 ghost use Rattle.std.specs.List.{list_any};
 ghost use Rattle.std.specs.Option.{option_map_or};
 ghost use Rattle.admin_commands.specs.declared.AdminKind.TheVariants as kinds;
@@ -80,6 +80,7 @@ impl Parts {
     fn check_abort(&self, q: u16, cid: u16) -> Result<(), Refusal>
         ensures free { OnOk result (first_passing (named_causes (state_of (tables_of self.now)) (kinds.Abort q cid)) ≡ None) }
         ensures refused { IfErr result (λ why. Refuses (state_of (tables_of self.now)) (events.Abort q cid) why []) }
+        ensures known { result ≢ Err Refusal.Memory }
     {
         let state = host_state(&self.queues, q);
         if takes_no_io(q, state) {
@@ -98,6 +99,7 @@ impl Parts {
     fn check_delete_sq(&self, q: u16) -> Result<(), Refusal>
         ensures free { OnOk result (first_passing (named_causes (state_of (tables_of self.now)) (kinds.DeleteSq q)) ≡ None) }
         ensures refused { IfErr result (λ why. Refuses (state_of (tables_of self.now)) (events.DeleteSq q) why []) }
+        ensures known { result ≢ Err Refusal.Memory }
     {
         let state = host_state(&self.queues, q);
         if takes_no_io(q, state) {
@@ -113,6 +115,7 @@ impl Parts {
     fn check_delete_cq(&self, q: u16) -> Result<(), Refusal>
         ensures free { OnOk result (first_passing (named_causes (state_of (tables_of self.now)) (kinds.DeleteCq q)) ≡ None) }
         ensures refused { IfErr result (λ why. Refuses (state_of (tables_of self.now)) (events.DeleteCq q) why []) }
+        ensures known { result ≢ Err Refusal.Memory }
     {
         let state = host_state(&self.queues, q);
         if lacks_queue(q, state) {
@@ -131,6 +134,7 @@ impl Parts {
     fn check_named(&self, kind: AdminKind) -> Result<(), Refusal>
         ensures free { OnOk result (first_passing (named_causes (state_of (tables_of self.now)) kind) ≡ None) }
         ensures refused { IfErr result (λ why. Refuses (state_of (tables_of self.now)) (sending kind) why []) }
+        ensures known { result ≢ Err Refusal.Memory }
     {
         match kind {
             AdminKind::Abort { q, cid } => self.check_abort(q, cid),
@@ -146,6 +150,7 @@ impl Parts {
         requires { IsWhole (tables_of self.now) }
         ensures ready { IfOk result (λ cid. CanSend (tables_of self.now) kind cid) }
         ensures refused { IfErr result (λ why. Refuses (state_of (tables_of self.now)) (sending kind) why []) }
+        ensures known { result ≢ Err Refusal.Memory }
     {
         match self.check_named(kind) {
             Ok(()) => {}
@@ -164,6 +169,7 @@ impl Parts {
     fn reserve_record(&mut self) -> Result<(), AllocError>
         ensures same { tables_of self.new ≡ tables_of self.old }
         ensures space { OnOk result (vec_len self.new.records < vec_capacity self.new.records) }
+        ensures full { OnErr result (vec_capacity self.old.records ≤ vec_len self.old.records) }
     {
         self.records.reserve(1)
     }
@@ -219,6 +225,7 @@ impl Parts {
         requires whole { IsWhole (tables_of self.old) }
         ensures step { Step (state_of (tables_of self.old)) (sending kind) (send_reply result) (state_of (tables_of self.new)) }
         ensures whole { IsWhole (tables_of self.new) }
+        ensures full { result ≡ Err Refusal.Memory → vec_capacity self.old.records ≤ vec_len self.old.records }
     {
         let cid = match self.check_send(kind) {
             Ok(cid) => cid,

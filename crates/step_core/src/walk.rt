@@ -24,10 +24,10 @@ use world_tables::{Task, TaskWork};
 /// Does the next unit of a job's walk.
 fn step_job(store: &mut Store, job: &mut Job) -> WalkState
     requires going { job.old.verdict ≡ None }
-    ensures { DoesUnit store.old.pages store.new.pages job.old job.new result store.new.touched }
+    requires room { length store.old.touched ≤ 2 }
+    ensures { DoesUnit store.old.pages store.new.pages job.old job.new result store.old.touched store.new.touched }
 {
     let _before = store.pages();
-    store.clear();
     let outcome = job.step(store);
     let _after = store.pages();
     outcome
@@ -37,7 +37,8 @@ fn step_job(store: &mut Store, job: &mut Job) -> WalkState
 fn step_task(store: &mut Store, task: &mut Task) -> WalkState
     requires going { verdict_of_work task.old.work ≡ None }
     requires few { task.old.units_done ≤ 12545 }
-    ensures { StepsTask store.old.pages store.new.pages task.old task.new result store.new.touched }
+    requires room { length store.old.touched ≤ 2 }
+    ensures { StepsTask store.old.pages store.new.pages task.old task.new result store.old.touched store.new.touched }
 {
     match &mut task.work {
         TaskWork::Io(job) => {
@@ -71,7 +72,8 @@ impl Parts {
         requires found { find (is_task q cid) self.old.tasks.items ≡ slice_get self.old.tasks.items place }
         requires within { place < length self.old.tasks.items }
         requires accepted { walk_refusal (tables_of self.old) q cid ≡ None }
-        ensures { WalksTo (tables_of self.old) q cid (tables_of self.new) result self.new.store.touched }
+        requires room { length self.old.store.touched ≤ 2 }
+        ensures { WalksTo (tables_of self.old) q cid (tables_of self.new) result self.old.store.touched self.new.store.touched }
     {
         step_task(&mut self.store, &mut self.tasks[place])
     }
@@ -91,6 +93,7 @@ impl Parts {
                 });
             }
         };
+        self.store.clear();
         let state = self.advance(q, cid, place);
         Ok(Walked {
             state,

@@ -254,7 +254,7 @@ can_refuse t q queue e r can room typed = record {
 }
 
 pub conflict_done : (t new : Tables) (q : ℕ) (queue : Queue) (e : SubEntry) (posted : List ℕ) → whole.IsWhole t → HasAtHead t q queue e → is_some (find (is_task q e.cid) t.tasks) ≡ true → post_refusal t.pages queue.device ≡ None
-    → PostsFor (taken_off q t) q e.cid COMMAND_ID_CONFLICT 0 (with_taken queue) new posted
+    → PostsFor (taken_off q t) q e.cid COMMAND_ID_CONFLICT 0 (with_taken queue) new [] posted
     → Step (state_of t) (events.Fetch q) (events.Fetched e.cid (page_of_entry queue ∷ posted)) (state_of new) × whole.IsWhole new
 conflict_done t new q queue e posted w h known room posts =
     let u = conflicted q e queue t in
@@ -325,16 +325,18 @@ managed_step t mid new e touched w same found free is =
     let done = managed_done t new found.queue e w found.head free (is ∙ ap (λ (u : Tables). managed e (taken_off 0 u)) same) in
     (step_with t 0 (events.Fetched e.cid) new touched _ found.touches done.0, done.1)
 
-pub conflict_step : (t mid new : Tables) (q : ℕ) (e : SubEntry) (queue : Queue) (touched posted all : List ℕ) → whole.IsWhole t → mid ≡ taken_off q t → LooksAt t q e touched → is_some (find (is_task q e.cid) t.tasks) ≡ true
-    → slice_get t.queues q ≡ Some queue → post_refusal t.pages queue.device ≡ None → IfSome (slice_get mid.queues q) (λ queue. PostsFor mid q e.cid COMMAND_ID_CONFLICT 0 queue new posted) → all ≡ touched ++ posted
+pub conflict_step : (t mid new : Tables) (q : ℕ) (e : SubEntry) (queue : Queue) (touched all : List ℕ) → whole.IsWhole t → mid ≡ taken_off q t → LooksAt t q e touched → is_some (find (is_task q e.cid) t.tasks) ≡ true
+    → slice_get t.queues q ≡ Some queue → post_refusal t.pages queue.device ≡ None → IfSome (slice_get mid.queues q) (λ queue. PostsFor mid q e.cid COMMAND_ID_CONFLICT 0 queue new touched all)
     → Step (state_of t) (events.Fetch q) (events.Fetched e.cid all) (state_of new) × whole.IsWhole new
-conflict_step t mid new q e queue touched posted all w same found known here room posts is =
+conflict_step t mid new q e queue touched all w same found known here room posts =
     let own = same_queue t.queues q queue found.queue here found.head.here in
-    let post : PostsFor (taken_off q t) q e.cid COMMAND_ID_CONFLICT 0 (with_taken found.queue) new posted =
-    subst (λ (o : Option Queue). IfSome o (λ queue. PostsFor (taken_off q t) q e.cid COMMAND_ID_CONFLICT 0 queue new posted)) (change-here q with_taken t.queues found.queue found.head.here)
-    (subst (λ (u : Tables). IfSome (slice_get u.queues q) (λ queue. PostsFor u q e.cid COMMAND_ID_CONFLICT 0 queue new posted)) same posts) in
-    let done = conflict_done t new q found.queue e posted w found.head known (subst (λ (x : Queue). post_refusal t.pages x.device ≡ None) own room) post in
-    (step_with t q (events.Fetched e.cid) new all _ (is ∙ ap (λ (xs : List ℕ). xs ++ posted) found.touches) done.0, done.1)
+    let post : PostsFor (taken_off q t) q e.cid COMMAND_ID_CONFLICT 0 (with_taken found.queue) new touched all =
+    subst (λ (o : Option Queue). IfSome o (λ queue. PostsFor (taken_off q t) q e.cid COMMAND_ID_CONFLICT 0 queue new touched all)) (change-here q with_taken t.queues found.queue found.head.here)
+    (subst (λ (u : Tables). IfSome (slice_get u.queues q) (λ queue. PostsFor u q e.cid COMMAND_ID_CONFLICT 0 queue new touched all)) same posts) in
+    let posted : List ℕ = completion_page found.queue.device.cq found.queue.device.ring.tail ∷ [] in
+    let alone : PostsFor (taken_off q t) q e.cid COMMAND_ID_CONFLICT 0 (with_taken found.queue) new [] posted = record { leaves = post.leaves; typed = post.typed; touches = refl } in
+    let done = conflict_done t new q found.queue e posted w found.head known (subst (λ (x : Queue). post_refusal t.pages x.device ≡ None) own room) alone in
+    (step_with t q (events.Fetched e.cid) new all _ (post.touches ∙ ap (λ (xs : List ℕ). xs ++ posted) found.touches) done.0, done.1)
 
 -- behind the entry that was taken there is room as before
 pub taken_there : (t mid : Tables) (q : ℕ) (e : SubEntry) (touched : List ℕ) → LooksAt t q e touched → mid ≡ taken_off q t → q < length mid.queues
@@ -345,12 +347,3 @@ pub taken_room : (t mid : Tables) (q : ℕ) (queue : Queue) → mid ≡ taken_of
 taken_room t mid q queue same here room =
     subst (λ (u : Tables). IfSome (slice_get u.queues q) (λ queue. post_refusal u.pages queue.device ≡ None)) (sym same)
     (subst (λ (o : Option Queue). IfSome o (λ queue. post_refusal t.pages queue.device ≡ None)) (sym (change-here q with_taken t.queues queue here)) room)
-
-pub few_touched : (t mid new : Tables) (q cid : ℕ) (e : SubEntry) (queue : Queue) (touched posted : List ℕ) → LooksAt t q e touched → mid ≡ taken_off q t → slice_get t.queues q ≡ Some queue
-    → IfSome (slice_get mid.queues q) (λ queue. PostsFor mid q cid COMMAND_ID_CONFLICT 0 queue new posted) → length touched + length posted ≤ 4
-few_touched t mid new q cid e queue touched posted found same here posts =
-    let post : PostsFor mid q cid COMMAND_ID_CONFLICT 0 (with_taken queue) new posted =
-    subst (λ (o : Option Queue). IfSome o (λ queue. PostsFor mid q cid COMMAND_ID_CONFLICT 0 queue new posted)) (ap (λ (u : Tables). slice_get u.queues q) same ∙ change-here q with_taken t.queues queue here) posts in
-    let one : length touched ≡ 1 = ap length found.touches in
-    let two : length posted ≡ 1 = ap length post.touches in
-    omega arith

@@ -103,10 +103,10 @@ ready_post t q cid place k r = go (slice_get t.queues q) (if_none (waits_among t
 without_ready : (t : Tables) (q cid place : ℕ) (k : Task) → Ready t q cid place k → remove t.tasks place ≡ without_task q cid t.tasks
 without_ready t q cid place k r = sym (without-one (is_task q cid) t.tasks place k r.at (task-is q cid t.tasks k r.found) (r.whole.tasks.differ q cid))
 
-pub finishes : (t : Tables) (q cid place : ℕ) (k : Task) (queue : Queue) (mid new : Tables) (st : Status) (dw0 : ℕ) (touched : List ℕ) → Ready t q cid place k → slice_get t.queues q ≡ Some queue
+pub finishes : (t : Tables) (q cid place : ℕ) (k : Task) (queue : Queue) (mid new : Tables) (st : Status) (dw0 : ℕ) (reached touched : List ℕ) → Ready t q cid place k → slice_get t.queues q ≡ Some queue
     → mid ≡ record t { tasks = remove t.tasks place; image = image_of_end t.image k.work; queues = queues_of_end k.work t.queues } → st ≡ status_of_end t.image k.work → dw0 ≡ dw0_of_work k.work
-    → length (image_of_end t.image k.work) ≡ length t.image → PostsFor mid q cid st dw0 queue new touched → CompletesTo t q cid new touched
-finishes t q cid place k queue mid new st dw0 touched r here is est edw long posts =
+    → length (image_of_end t.image k.work) ≡ length t.image → PostsFor mid q cid st dw0 queue new reached touched → CompletesTo t q cid new reached touched
+finishes t q cid place k queue mid new st dw0 reached touched r here is est edw long posts =
     let named = task_named q cid t.tasks k r.found in
     let entry : completion_by q cid st dw0 queue ≡ completion_of_task t.image k queue =
     ap₂ (λ (st : Status) (dw0 : ℕ). completion_by q cid st dw0 queue) est edw ∙ ap₂ (λ (q cid : ℕ). completion_by q cid (status_of_end t.image k.work) (dw0_of_work k.work) queue) (sym named.0) (sym named.1) in
@@ -139,10 +139,11 @@ refused_step t new q cid why touched w same e none =
     subst (λ (u : Tables). Step (state_of t) (events.Complete q cid) (events.Refused why touched) (state_of u)) (sym same)
     (subst (λ (xs : List ℕ). Step (state_of t) (events.Complete q cid) (events.Refused why xs) (state_of t)) (sym none) (complete_refused t q cid why w e))
 
-pub completes_step : (t t' new : Tables) (q cid : ℕ) (touched touched' : List ℕ) → IsWhole t → t' ≡ t → CompletesTo t' q cid new touched → touched' ≡ touched
+pub completes_step : (t t' new : Tables) (q cid : ℕ) (reached touched touched' : List ℕ) → IsWhole t → t' ≡ t → reached ≡ [] → CompletesTo t' q cid new reached touched → touched' ≡ touched
     → Step (state_of t) (events.Complete q cid) (events.Completed touched') (state_of new) × IsWhole new
-completes_step t t' new q cid touched touched' w same to seen =
-    let at : CompletesTo t q cid new touched = subst (λ (u : Tables). CompletesTo u q cid new touched) same to in
+completes_step t t' new q cid reached touched touched' w same none to seen =
+    let at : CompletesTo t q cid new [] touched =
+    subst (λ (xs : List ℕ). CompletesTo t q cid new xs touched) none (subst (λ (u : Tables). CompletesTo u q cid new reached touched) same to) in
     let done = complete_done t q cid at.task at.queue w at.completes in (
       subst (λ (u : Tables). Step (state_of t) (events.Complete q cid) (events.Completed touched') (state_of u)) (sym at.leaves)
           (subst (λ (xs : List ℕ). Step (state_of t) (events.Complete q cid) (events.Completed xs) (state_of (completed at.task at.queue t))) (sym (seen ∙ at.touches)) done.0),

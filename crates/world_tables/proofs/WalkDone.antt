@@ -65,7 +65,7 @@ not_refused t q cid k job w found work going =
 
 -- The machine's state
 
-walked_by : (t : Tables) (q cid : ℕ) (new : Tables) (outcome : WalkState) (touched : List ℕ) → IsWhole t → t.trusted ≡ true → (h : WalksTo t q cid new outcome touched)
+walked_by : (t : Tables) (q cid : ℕ) (new : Tables) (outcome : WalkState) (touched : List ℕ) → IsWhole t → t.trusted ≡ true → (h : WalksTo t q cid new outcome [] touched)
     → after_walk q cid (state_of t) ≡ with_jobs new.pages (map job_of (slice_set t.tasks h.place (stepped h.steps.job' h.task))) (state_of t)
 walked_by t q cid new outcome touched w on h =
     let s = state_of t in
@@ -81,12 +81,12 @@ walked_by t q cid new outcome touched w on h =
     ∙ moved_is t q cid h.place k job h.steps.job' outcome (verdict_of _) (direction_of_entry job.entry) u.act is found told.1 (ap verdict_of (sym next.due))
     ∙ ap (λ (pages : Pages). with_jobs pages (map job_of (slice_set t.tasks h.place (stepped h.steps.job' k))) s) (sym told.0)
 
-memory_walked : (t : Tables) (q cid : ℕ) (new : Tables) (outcome : WalkState) (touched : List ℕ) → IsWhole t → t.trusted ≡ true → WalksTo t q cid new outcome touched → (after_walk q cid (state_of t)).memory ≡ new.pages
+memory_walked : (t : Tables) (q cid : ℕ) (new : Tables) (outcome : WalkState) (touched : List ℕ) → IsWhole t → t.trusted ≡ true → WalksTo t q cid new outcome [] touched → (after_walk q cid (state_of t)).memory ≡ new.pages
 unfolding with_jobs
 memory_walked t q cid new outcome touched w on h = ap (λ (s : State). s.memory) (walked_by t q cid new outcome touched w on h)
 
 -- no page of a queue is written
-spared : (t : Tables) (q cid : ℕ) (new : Tables) (outcome : WalkState) (touched : List ℕ) → IsWhole t → t.trusted ≡ true → WalksTo t q cid new outcome touched → Spares t new.pages
+spared : (t : Tables) (q cid : ℕ) (new : Tables) (outcome : WalkState) (touched : List ℕ) → IsWhole t → t.trusted ≡ true → WalksTo t q cid new outcome [] touched → Spares t new.pages
 spared t q cid new outcome touched w on h = record {
   same = λ k half p own.
       ap (λ (pages : Pages). page_at pages p) (sym (memory_walked t q cid new outcome touched w on h))
@@ -103,7 +103,7 @@ spared t q cid new outcome touched w on h = record {
         go false e = e
         go true e = absurd (true≢false (sym (among_left p x.list.command.data_pages x.list.command.chain_pages e) ∙ none))
 
-walked_state : (t : Tables) (q cid : ℕ) (new : Tables) (outcome : WalkState) (touched : List ℕ) → IsWhole t → t.trusted ≡ true → (h : WalksTo t q cid new outcome touched)
+walked_state : (t : Tables) (q cid : ℕ) (new : Tables) (outcome : WalkState) (touched : List ℕ) → IsWhole t → t.trusted ≡ true → (h : WalksTo t q cid new outcome [] touched)
     → state_of (walked h.place (stepped h.steps.job' h.task) new.pages t) ≡ after_walk q cid (state_of t)
 unfolding with_jobs
 walked_state t q cid new outcome touched w on h =
@@ -118,7 +118,7 @@ walked_state t q cid new outcome touched w on h =
 steps_of : (blocks q steps : ℕ) (job : JobContents) → FitsTask blocks q steps (task.Io job) → steps + left_of_walk job.walk ≤ 12545
 steps_of blocks q steps job fits = fits.2
 
-pub tasks_walked : (t : Tables) (q cid : ℕ) (new : Tables) (outcome : WalkState) (touched : List ℕ) → IsWhole t → (h : WalksTo t q cid new outcome touched)
+pub tasks_walked : (t : Tables) (q cid : ℕ) (new : Tables) (outcome : WalkState) (touched : List ℕ) → IsWhole t → (h : WalksTo t q cid new outcome [] touched)
     → AreTasks (block_count t.image) (length t.queues) (slice_set t.tasks h.place (stepped h.steps.job' h.task))
 tasks_walked t q cid new outcome touched w h =
     let k = h.task in
@@ -146,7 +146,7 @@ stay_by dir (Reads place) pages bytes = refl
 stay_by Destination (Moves place n offset) pages bytes = in_store-with_bytes pages (place / 4096) (place % 4096) (take n (drop offset bytes))
 stay_by Source (Moves place n offset) pages bytes = refl
 
-walk_serves : (t : Tables) (q cid : ℕ) (new : Tables) (outcome : WalkState) (touched : List ℕ) → IsWhole t → (h : WalksTo t q cid new outcome touched)
+walk_serves : (t : Tables) (q cid : ℕ) (new : Tables) (outcome : WalkState) (touched : List ℕ) → IsWhole t → (h : WalksTo t q cid new outcome [] touched)
     → Serves t new.pages t.queues (slice_set t.tasks h.place (stepped h.steps.job' h.task)) t.image
 walk_serves t q cid new outcome touched w h =
     let u = unit_of t q cid new outcome touched h in
@@ -168,7 +168,7 @@ more_verdict More e P h = h
 more_verdict End e P h = cc
 more_verdict (Fault status) e P h = cc
 
-further_stands : (t : Tables) (q cid : ℕ) (new : Tables) (outcome : WalkState) (touched : List ℕ) → IsWhole t → t.trusted ≡ true → (h : WalksTo t q cid new outcome touched)
+further_stands : (t : Tables) (q cid : ℕ) (new : Tables) (outcome : WalkState) (touched : List ℕ) → IsWhole t → t.trusted ≡ true → (h : WalksTo t q cid new outcome [] touched)
     → WalkStands (memory_of t.pages) (h.task.units_done + 1) (task.Io h.steps.job')
 further_stands t q cid new outcome touched w on h none =
     let u = unit_of t q cid new outcome touched h in
@@ -178,7 +178,7 @@ further_stands t q cid new outcome touched w on h none =
     ∙ sym next.left
     ∙ ap (λ (e : SubEntry). after_units (h.task.units_done + 1) (course_of (state_of t) (record (seen h.task h.steps.job) { entry = e }))) (sym h.steps.does.entry)
 
-walks_walked : (t : Tables) (q cid : ℕ) (new : Tables) (outcome : WalkState) (touched : List ℕ) → IsWhole t → t.trusted ≡ true → (h : WalksTo t q cid new outcome touched)
+walks_walked : (t : Tables) (q cid : ℕ) (new : Tables) (outcome : WalkState) (touched : List ℕ) → IsWhole t → t.trusted ≡ true → (h : WalksTo t q cid new outcome [] touched)
     → WalksStand (memory_of new.pages) (slice_set t.tasks h.place (stepped h.steps.job' h.task))
 walks_walked t q cid new outcome touched w on h =
     let s = state_of t in
@@ -213,7 +213,7 @@ walk_refused t q cid why w e = may why (subst (λ (o : Option Refusal). IfSome o
     tasks None = λ h. (tt, either_by t.trusted _ _ (λ x. (h, refl)) (λ x. refl), refl)
     tasks (Some k) = ended _
 
-pub walk_done : (t : Tables) (q cid : ℕ) (new : Tables) (outcome : WalkState) (touched : List ℕ) → IsWhole t → WalksTo t q cid new outcome touched
+pub walk_done : (t : Tables) (q cid : ℕ) (new : Tables) (outcome : WalkState) (touched : List ℕ) → IsWhole t → WalksTo t q cid new outcome [] touched
     → Step (state_of t) (events.Walk q cid) (events.Walked outcome touched) (state_of new) × IsWhole new
 walk_done t q cid new outcome touched w h = subst Done (sym is) (step, whole)
   where
@@ -241,7 +241,7 @@ walk_done t q cid new outcome touched w h = subst Done (sym is) (step, whole)
                   subst (λ (o : Option Act). unit_answered o (next_answer (state_of t) (seen h.task h.steps.job)) outcome touched) (sym next.unit) (next.due, sym u.touches),
                 ),
               ))
-              (λ off. (ap is_some known, h.steps.does.few)),
+              (λ off. (ap is_some known, let few : length touched ≤ 2 = h.steps.does.few in omega arith)),
           match_by t.trusted _ _ (λ on. walked_state t q cid new outcome touched w on h)
               (λ off. serves_forged t left.pages left.queues left.tasks left.image (events.Walk q cid) (events.Walked outcome touched) refl (walk_serves t q cid new outcome touched w h)),
         )

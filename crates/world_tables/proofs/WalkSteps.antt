@@ -75,12 +75,12 @@ seen k job = job_of (record k { work = task.Io job })
 pub seen_is : (k : Task) (job : JobContents) → k.work ≡ task.Io job → job_of k ≡ seen k job
 seen_is k job e = ap (λ (work : TaskWork). job_of (record k { work = work })) e
 
-pub unit_of : (t : Tables) (q cid : ℕ) (new : Tables) (outcome : WalkState) (touched : List ℕ) (h : WalksTo t q cid new outcome touched)
+pub unit_of : (t : Tables) (q cid : ℕ) (new : Tables) (outcome : WalkState) (touched : List ℕ) (h : WalksTo t q cid new outcome [] touched)
     → FirstUnit (job_course (byte_at t.pages) h.steps.job) (direction_of_entry h.steps.job.entry) (byte_at t.pages) (byte_at new.pages) h.steps.job.bytes h.steps.job'.bytes outcome
     (job_course (byte_at t.pages) h.steps.job') touched
 unit_of t q cid new outcome touched h = first_unit _ _ _ _ _ _ _ _ _ h.steps.does.does h.steps.does.leaves
 
-pub unit_told : (t : Tables) (q cid : ℕ) (new : Tables) (outcome : WalkState) (touched : List ℕ) → IsWhole t → (h : WalksTo t q cid new outcome touched)
+pub unit_told : (t : Tables) (q cid : ℕ) (new : Tables) (outcome : WalkState) (touched : List ℕ) → IsWhole t → (h : WalksTo t q cid new outcome [] touched)
     → (let act = (unit_of t q cid new outcome touched h).act in
     (new.pages ≡ pages_by (direction_of_entry h.steps.job.entry) act t.pages h.steps.job.bytes) × (h.steps.job'.bytes ≡ bytes_by (direction_of_entry h.steps.job.entry) act t.pages h.steps.job.bytes))
 unit_told t q cid new outcome touched w h =
@@ -98,7 +98,7 @@ pub record NextUnit (t : Tables) (k : Task) (job : JobContents) (outcome : WalkS
   pub left : after_units (k.units_done + 1) (course_of (state_of t) (seen k job)) ≡ rest
   pub due : next_answer (state_of t) (seen k job) ≡ outcome
 
-pub next_of : (t : Tables) (q cid : ℕ) (new : Tables) (outcome : WalkState) (touched : List ℕ) → IsWhole t → t.trusted ≡ true → (h : WalksTo t q cid new outcome touched)
+pub next_of : (t : Tables) (q cid : ℕ) (new : Tables) (outcome : WalkState) (touched : List ℕ) → IsWhole t → t.trusted ≡ true → (h : WalksTo t q cid new outcome [] touched)
     → (let u = unit_of t q cid new outcome touched h in NextUnit t h.task h.steps.job outcome u.act u.rest)
 next_of t q cid new outcome touched w on h =
     let u = unit_of t q cid new outcome touched h in

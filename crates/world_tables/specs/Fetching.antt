@@ -1,5 +1,5 @@
 -- What a fetch makes of the tables, behind the entry that it takes.
-use Rattle.std.specs.Prelude.{◌≡◌, ℕ, ◌==◌, ◌≤◌, false, Option, Some, None, List, [], ◌∷◌, find, is_none, slice_get, map, if◌then◌else◌}
+use Rattle.std.specs.Prelude.{◌≡◌, ℕ, ◌==◌, ◌≤◌, false, Option, Some, None, List, [], ◌∷◌, ◌++◌, find, is_none, slice_get, map, if◌then◌else◌}
 use Rattle.std.specs.Option.{option_and_then, option_map_or}
 use Rattle.admin_commands.specs.Entries.{named_queue, named_command}
 use Rattle.admin_commands.specs.Verdicts.{decision, is_live}
@@ -41,6 +41,12 @@ pub record LooksAt (t : Tables) (q : ℕ) (e : SubEntry) (touched : List ℕ) : 
   pub queue : Queue
   pub head : HasAtHead t q queue e
   pub touches : touched ≡ submission_page queue.device.sq queue.device.ring.head ∷ []
+
+-- and behind the pages that were touched before
+pub record LooksFrom (t : Tables) (q : ℕ) (e : SubEntry) (reached touched : List ℕ) : Type 0 where
+  pub pages : List ℕ
+  pub looks : LooksAt t q e pages
+  pub behind : touched ≡ reached ++ pages
 
 -- what a look at the head is refused for
 abbrev pub side_refusal : Pages → DeviceSide → Option Refusal

@@ -132,19 +132,19 @@ pub record Completes (t : Tables) (q cid : ℕ) (task : Task) (queue : Queue) : 
   pub fits : FitsCompletion (completion_of_task t.image task queue)
   pub as_long : length (image_of_end t.image task.work) ≡ length t.image
 
--- what the completion of a command leaves, with the page that it touches
-pub record CompletesTo (t : Tables) (q cid : ℕ) (new : Tables) (touched : List ℕ) : Type 0 where
+-- what the completion of a command leaves, with the page that it touches behind those touched before
+pub record CompletesTo (t : Tables) (q cid : ℕ) (new : Tables) (reached touched : List ℕ) : Type 0 where
   pub task : Task
   pub queue : Queue
   pub completes : Completes t q cid task queue
   pub leaves : new ≡ completed task queue t
-  pub touches : touched ≡ completion_page queue.device.cq queue.device.ring.tail ∷ []
+  pub touches : touched ≡ reached ++ completion_page queue.device.cq queue.device.ring.tail ∷ []
 
--- a posted completion of a command, with the page that it touches
-pub record PostsFor (t : Tables) (q cid : ℕ) (st : Status) (dw0 : ℕ) (queue : Queue) (new : Tables) (touched : List ℕ) : Type 0 where
+-- a posted completion of a command, with the page that it touches behind those touched before
+pub record PostsFor (t : Tables) (q cid : ℕ) (st : Status) (dw0 : ℕ) (queue : Queue) (new : Tables) (reached touched : List ℕ) : Type 0 where
   pub leaves : new ≡ answered q (completion_by q cid st dw0 queue) queue t
   pub typed : IsComEntry (completion_by q cid st dw0 queue)
-  pub touches : touched ≡ completion_page queue.device.cq queue.device.ring.tail ∷ []
+  pub touches : touched ≡ reached ++ completion_page queue.device.cq queue.device.ring.tail ∷ []
 
 -- Fetches
 

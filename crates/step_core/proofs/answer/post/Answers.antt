@@ -13,7 +13,7 @@ unreachable-requires c =
     let tells : TellsPost c.args.store.now.pages device c.post.result = record {
       whole = c.pages-before.ensures.whole;
       full = c.post.ensures.full;
-      out = subst (λ (m : Memory). (c.post.result ≡ Err fault.SlotOut) ↔ (IsFalse (is_full_for device) × (completion_slot m device.cq device.ring.tail ≡ None))) c.clear.ensures.memory c.post.ensures.out;
+      out = c.post.ensures.out;
     } in
     never_refused c.args.store.now.pages device c.post.result c.in-Err.field-0 tells c.requires.can c.in-Err.is
 
@@ -22,5 +22,4 @@ returns-clause-pages c =
     let device = c.args.pair.now in
     let e = phased device.ring.phase c.args.completion in
     posted_pages c.args.store.now.pages c.post.new.dma.pages device.cq device.ring.tail e c.pages-before.ensures.whole c.pages-after.ensures.whole
-    (c.post.ensures.pool ∙ c.clear.ensures.pool) (refused_not c.args.store.now.pages device c.requires.can)
-    (c.in-Ok.ensures.written ∙ ap (λ (m : Memory). written m (completion_place device.cq device.ring.tail) (completion_bytes e)) c.clear.ensures.memory)
+    c.post.ensures.pool (refused_not c.args.store.now.pages device c.requires.can) c.in-Ok.ensures.written

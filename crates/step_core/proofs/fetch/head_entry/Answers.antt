@@ -17,7 +17,7 @@ returns-clause-entry c =
     elim c.match-next_entry.branch [
       | in-Ok-Some w ↦
           let some : device.ring.head ≢ device.ring.bell = w.in-Ok-Some.ensures.rung.0 (subst IsSome (sym w.in-Ok-Some.field-0-is) refl) in
-          let is : Some w.in-Ok-Some.entry ≡ front (rung m device) = sym w.in-Ok-Some.field-0-is ∙ w.in-Ok-Some.ensures.front ∙ ap (λ (m : Memory). front (rung m device)) c.clear.ensures.memory in
+          let is : Some w.in-Ok-Some.entry ≡ front (rung m device) = sym w.in-Ok-Some.field-0-is ∙ w.in-Ok-Some.ensures.front in
           subst (λ (r : Result SubEntry Refusal). IfOk r (λ e. entry_at m device.sq device.ring.head ≡ Some e)) (sym w.answer-is) (front_entry m device w.in-Ok-Some.entry c.head-head.ensures.proper some is)
       | in-Ok-None w ↦ subst (λ (r : Result SubEntry Refusal). IfOk r (λ e. entry_at m device.sq device.ring.head ≡ Some e)) (sym w.answer-is) tt
       | in-Err w ↦ subst (λ (r : Result SubEntry Refusal). IfOk r (λ e. entry_at m device.sq device.ring.head ≡ Some e)) (sym w.answer-is) tt
@@ -26,4 +26,4 @@ returns-clause-entry c =
 pub returns-clause-pages : goal.returns-clause-pages
 returns-clause-pages c =
     same_pages c.next_entry.new.dma.pages c.args.store.now.pages c.pages-after.ensures.whole c.pages-before.ensures.whole
-    (c.next_entry.ensures.pool ∙ c.clear.ensures.pool) (c.next_entry.ensures.memory ∙ c.clear.ensures.memory)
+    c.next_entry.ensures.pool c.next_entry.ensures.memory

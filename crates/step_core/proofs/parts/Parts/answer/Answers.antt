@@ -17,7 +17,7 @@ returns c =
     let inside : c.from-2.result < length t.queues = subst (λ (i : ℕ). i < length t.queues) (sym c.from-2.ensures) c.requires.there in
     if_at _ _ queue here
     (posts_for t c.args.q c.args.cid c.args.status c.args.dw0 c.head.result queue c.post.new.store.pages
-    (slice_set t.queues c.from-2.result (with_device c.post.new.pair c.index_mut.result.now)) c.completion-made.result c.post.new.pair c.post.new.store.touched
+    (slice_set t.queues c.from-2.result (with_device c.post.new.pair c.index_mut.result.now)) c.completion-made.result c.post.new.pair c.args.self.now.store.touched c.post.new.store.touched
     here c.head.ensures.head c.completion-made.ensures.is c.completion-made.ensures.typed c.post.ensures.pair c.post.ensures.pages
     (change-at c.args.q c.from-2.result (with_device c.post.new.pair) t.queues c.index_mut.result.now _ c.from-2.ensures inside c.index_mut.ensures.value refl)
     c.post.ensures.touched)

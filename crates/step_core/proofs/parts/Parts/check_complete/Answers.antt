@@ -37,7 +37,7 @@ returns-in-Ok-clause-refusal c =
     let free : waits_among t.tasks k ≡ false = sym (ap (λ (xs : List Task). waits_among xs k) c.deref-2.ensures.value) ∙ sym c.is_waiting.ensures ∙ c.if-is_waiting.false in
     let here : slice_get t.queues c.args.q ≡ Some c.index.result.now =
     get-at c.args.q t.queues c.index.result.now there (subst (λ (i : ℕ). c.index.result.now ≡ get_or t.queues i c.index.result.now) c.from.ensures c.index.ensures) in
-    sym (ap result_err c.in-Ok.is) ∙ c.check_post.ensures.refusal ∙ sym (refusal_posts t c.args.q c.args.cid k c.index.result.now found some free here)
+    sym (ap result_err c.in-Ok.is) ∙ c.check_post.ensures ∙ sym (refusal_posts t c.args.q c.args.cid k c.index.result.now found some free here)
 
 pub returns-in-Err-clause-refusal : goal.returns-in-Err-clause-refusal
 returns-in-Err-clause-refusal c =
@@ -52,4 +52,4 @@ returns-in-Err-clause-refusal c =
     let free : waits_among t.tasks k ≡ false = sym (ap (λ (xs : List Task). waits_among xs k) c.deref-2.ensures.value) ∙ sym c.is_waiting.ensures ∙ c.if-is_waiting.false in
     let here : slice_get t.queues c.args.q ≡ Some c.index.result.now =
     get-at c.args.q t.queues c.index.result.now there (subst (λ (i : ℕ). c.index.result.now ≡ get_or t.queues i c.index.result.now) c.from.ensures c.index.ensures) in
-    sym (ap result_err c.in-Err.is) ∙ c.check_post.ensures.refusal ∙ sym (refusal_posts t c.args.q c.args.cid k c.index.result.now found some free here)
+    sym (ap result_err c.in-Err.is) ∙ c.check_post.ensures ∙ sym (refusal_posts t c.args.q c.args.cid k c.index.result.now found some free here)

@@ -1,4 +1,4 @@
-use Rattle.std.proofs.Common.{◌≡◌, ◌<◌, None, Some, IfSome, length, slice_get, ap, sym, ◌∙◌, subst}
+use Rattle.std.proofs.Common.{◌≡◌, ℕ, List, ◌<◌, None, Some, IfSome, length, slice_get, ap, sym, ◌∙◌, subst}
 use Rattle.block_image.specs.Blocks.{block_count}
 use Rattle.entry_codec.specs.declared.status.Status.{Status}
 use Rattle.std.specs.List.{remove}
@@ -53,6 +53,7 @@ returns c =
     let is : mid ≡ record t { tasks = remove t.tasks c.args.place; image = image_of_end t.image k.work; queues = queues_of_end k.work t.queues } =
     c.end_work-dw0.ensures.tables ∙ ap (λ tasks. record t { tasks = tasks; image = image_of_end t.image k.work; queues = queues_of_end k.work t.queues }) c.remove-task.ensures.items in
     let there : slice_get mid.queues c.args.q ≡ Some queue = ap (λ (u : Tables). slice_get u.queues c.args.q) is ∙ ready_queue t c.args.q c.args.cid c.args.place k r ∙ here in
-    finishes t c.args.q c.args.cid c.args.place k queue mid (tables_of c.answer.new.self) c.end_work-dw0.result.0 c.end_work-dw0.result.1 c.answer.new.self.store.touched r here is
+    finishes t c.args.q c.args.cid c.args.place k queue mid (tables_of c.answer.new.self) c.end_work-dw0.result.0 c.end_work-dw0.result.1 c.args.self.now.store.touched c.answer.new.self.store.touched r here is
     c.end_work-dw0.ensures.status c.end_work-dw0.ensures.dw0 c.end_work-dw0.ensures.as_long
-    (of_some (λ (queue : Queue). PostsFor mid c.args.q c.args.cid c.end_work-dw0.result.0 c.end_work-dw0.result.1 queue (tables_of c.answer.new.self) c.answer.new.self.store.touched) (slice_get mid.queues c.args.q) queue there c.answer.ensures)
+    (of_some (λ (queue : Queue). PostsFor mid c.args.q c.args.cid c.end_work-dw0.result.0 c.end_work-dw0.result.1 queue (tables_of c.answer.new.self) c.args.self.now.store.touched c.answer.new.self.store.touched) (slice_get mid.queues c.args.q) queue there
+    (subst (λ (reached : List ℕ). IfSome (slice_get mid.queues c.args.q) (λ (queue : Queue). PostsFor mid c.args.q c.args.cid c.end_work-dw0.result.0 c.end_work-dw0.result.1 queue (tables_of c.answer.new.self) reached c.answer.new.self.store.touched)) c.end_work-dw0.ensures.touched c.answer.ensures))
