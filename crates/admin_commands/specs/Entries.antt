@@ -1,5 +1,7 @@
 -- The entries of admin commands, and what they name.
-use Rattle.std.specs.Prelude.{ℕ, ◌+◌, ◌*◌, ◌/◌, ◌%◌, replicate}
+use Rattle.std.specs.Prelude.{ℕ, ◌+◌, ◌*◌, ◌/◌, ◌%◌, ◌==◌, ◌||◌, not, if◌then◌else◌, Result, Ok, Err, replicate}
+use Rattle.entry_codec.specs.declared.status.Status.{Status}
+use Rattle.entry_codec.specs.declared.status.TheConstants.Status.{INVALID_OPCODE, INVALID_FIELD}
 use Rattle.entry_codec.specs.declared.submission.SubEntry.{SubEntry}
 use Rattle.entry_codec.specs.declared.admin_opcode.TheConstants as opcodes
 use Rattle.admin_commands.specs.declared.AdminKind.{AdminKind}
@@ -42,3 +44,12 @@ named_queue entry = entry.cdw10 % 65536
 -- the command that an entry names, of that queue
 abbrev pub named_command : SubEntry → ℕ
 named_command entry = entry.cdw10 / 65536
+
+-- the command that an entry asks for, or the status of the first field that is refused: the opcode, and then FUSE
+abbrev pub kind_or_fault : SubEntry → Result AdminKind Status
+kind_or_fault entry =
+    if not ((entry.opcode == opcodes.ABORT) || (entry.opcode == opcodes.DELETE_IO_SQ) || (entry.opcode == opcodes.DELETE_IO_CQ)) then Err INVALID_OPCODE
+    else if not (entry.fuse == 0) then Err INVALID_FIELD
+    else if entry.opcode == opcodes.ABORT then Ok (Abort (named_queue entry) (named_command entry))
+    else if entry.opcode == opcodes.DELETE_IO_SQ then Ok (DeleteSq (named_queue entry))
+    else Ok (DeleteCq (named_queue entry))

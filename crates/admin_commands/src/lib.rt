@@ -10,7 +10,7 @@ pub mod laws;
 
 ghost use Rattle.std.specs.Prelude.{◌≡◌};
 ghost use Rattle.entry_codec.specs.Submission.{FitsSubmission};
-ghost use Rattle.admin_commands.specs.Entries.{admin_entry, named_queue, named_command};
+ghost use Rattle.admin_commands.specs.Entries.{admin_entry, named_queue, named_command, kind_or_fault};
 ghost use Rattle.admin_commands.specs.Verdicts.{decision, abort_verdict, delete_sq_verdict, delete_cq_verdict};
 
 use entry_codec::admin_opcode::{ABORT, DELETE_IO_CQ, DELETE_IO_SQ};
@@ -142,18 +142,32 @@ pub fn command_of(entry: &SubEntry) -> u16
 pub fn decide(entry: &SubEntry, view: &DeviceView) -> AdminVerdict
     ensures { result ≡ decision entry.now view.now }
 {
-    if !matches!(entry.opcode, ABORT | DELETE_IO_SQ | DELETE_IO_CQ) {
-        return answer(Status::INVALID_OPCODE, 0);
+    match read(entry) {
+        Err(fault) => answer(fault, 0),
+        Ok(AdminKind::Abort { q, cid }) => decide_abort(q, cid, view),
+        Ok(AdminKind::DeleteSq { q }) => decide_delete_sq(q, view),
+        Ok(AdminKind::DeleteCq { q }) => decide_delete_cq(q, view),
     }
-    if entry.fuse != 0 {
-        return answer(Status::INVALID_FIELD, 0);
-    }
+}
+
+/// The command of an admin entry, or the status of its first field that is refused.
+fn read(entry: &SubEntry) -> Result<AdminKind, Status>
+    ensures { result ≡ kind_or_fault entry.now }
+{
     let q = queue_of(entry);
-    match entry.opcode {
-        ABORT => decide_abort(q, command_of(entry), view),
-        DELETE_IO_SQ => decide_delete_sq(q, view),
-        _ => decide_delete_cq(q, view),
+    let kind = match entry.opcode {
+        ABORT => AdminKind::Abort {
+            q,
+            cid: command_of(entry),
+        },
+        DELETE_IO_SQ => AdminKind::DeleteSq { q },
+        DELETE_IO_CQ => AdminKind::DeleteCq { q },
+        _ => return Err(Status::INVALID_OPCODE),
+    };
+    if entry.fuse != 0 {
+        return Err(Status::INVALID_FIELD);
     }
+    Ok(kind)
 }
 
 fn answer(status: Status, dw0: u32) -> AdminVerdict

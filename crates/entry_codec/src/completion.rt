@@ -32,8 +32,9 @@ pub struct ComEntry {
 }
 
 impl ComEntry {
-    /// The entry's bytes, with zeros in what is reserved or ignored. Its numbers are those of a value of its type, which the
-    /// laws of this module ask for.
+    /// The entry's bytes, with zeros in what is reserved or ignored. The caller sees to it that the status code type is below
+    /// 8: no value is cut off to fit its bits. The entry's numbers are those of a value of its type, which the laws of this
+    /// module ask for.
     #[tactic(auto, unfolding(crate::specs::Completion::completion_bytes))]
     pub fn write(self) -> [u8; 16]
         requires fits { FitsCompletion self }

@@ -42,8 +42,8 @@ pub struct SubEntry {
 }
 
 impl SubEntry {
-    /// The entry's bytes, with zeros in what is reserved. Its numbers are those of a value of its type, which the laws of
-    /// this module ask for.
+    /// The entry's bytes, with zeros in what is reserved. The caller sees to it that FUSE and PSDT are below 4: no value is
+    /// cut off to fit its bits. The entry's numbers are those of a value of its type, which the laws of this module ask for.
     #[tactic(auto, unfolding(crate::specs::Submission::submission_bytes))]
     pub fn write(self) -> [u8; 64]
         requires fits { FitsSubmission self }

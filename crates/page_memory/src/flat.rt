@@ -11,19 +11,19 @@ ghost use Rattle.page_memory.specs.Flat.{without};
 use crate::dma::{Dma, Unreadable};
 use crate::page::{PAGE_BYTES, PageNo};
 use arrayvec::ArrayVec;
-use std::alloc::{AllocError, Global};
+use std::alloc::{AllocError, Allocator, Global};
 use std::marker::Model;
 
 /// The bytes of a pool one after the other, each there or missing, and the list of pages touched through [`Dma`].
 ///
 /// It takes two bytes of memory for each byte of the pool.
 #[derive(Drop)]
-pub struct FlatMemory {
-    bytes: Vec<Option<u8>>,
+pub struct FlatMemory<A: Allocator = Global> {
+    bytes: Vec<Option<u8>, A>,
     touched: ArrayVec<PageNo, 4>,
 }
 
-impl Model for FlatMemory {
+impl<A: Allocator> Model for FlatMemory<A> {
     ghost use Rattle.page_memory.specs.Flat.{FlatContents, IsFlat};
 
     ghost Value = { FlatContents };
@@ -33,13 +33,13 @@ impl Model for FlatMemory {
     ghost invariant = { λ m. IsFlat m.bytes.items };
 }
 
-impl FlatMemory {
+impl<A: Allocator> FlatMemory<A> {
     /// A pool of so many pages, every byte there and zero, with nothing touched.
     ///
     /// # Errors
     ///
     /// Where memory is refused.
-    pub fn zeroed(alloc: Global, pages: u32) -> Result<Self, AllocError>
+    pub fn zeroed(alloc: A, pages: u32) -> Result<Self, AllocError>
         requires { pages ≤ 65536 }
         ensures bytes { IfOk result (λ memory. memory.bytes ≡ replicate (4096 * pages) (Some 0)) }
         ensures touched { IfOk result (λ memory. memory.touched ≡ []) }
@@ -76,7 +76,7 @@ impl FlatMemory {
     }
 }
 
-impl FlatMemory {
+impl<A: Allocator> FlatMemory<A> {
     /// Whether each byte of a range is there.
     fn is_there(&self, addr: u64, count: usize) -> bool
         requires some { 0 < count }
@@ -123,7 +123,7 @@ impl FlatMemory {
     }
 }
 
-impl Dma for FlatMemory {
+impl<A: Allocator> Dma for FlatMemory<A> {
     ghost use Rattle.std.specs.Prelude.{◌/◌, length};
     ghost use Rattle.page_memory.specs.Pages.{slot_at};
 

@@ -4,7 +4,7 @@ use Rattle.page_memory.specs.Pages.{slot_at}
 use Rattle.page_memory.proofs.flat.FlatMemoryDma.write.Given as goal
 
 abbrev pub invariant-loop-k : goal.invariant-loop-k
-invariant-loop-k l =
+invariant-loop-k g l =
     (length l.self.bytes ≡ length l.initial.self.bytes)
     × (l.self.touched ≡ l.initial.self.touched)
     × (slot_at l.self.bytes ≡ written (slot_at l.initial.self.bytes) l.addr (take l.k l.bytes))

@@ -1,0 +1,51 @@
+//! Chains that are built and flattened.
+
+use crate::heap::{MANY, is_empty_after_refusal};
+use page_memory::PageNo;
+use refusing::{Refusal, Refusing};
+use sgl_chain::{BuildFault, Chain};
+use sgl_descriptor::Part;
+
+/// Five parts, on four pages with segments of two descriptors.
+const PARTS: [Part; 5] = [Part::Bucket { len: 512 }; 5];
+
+const PAGES: [PageNo; 4] = [PageNo(1), PageNo(2), PageNo(3), PageNo(4)];
+
+#[test]
+fn a_chain_takes_lists_and_links(rt: HostRuntime) {
+    let heap = Refusing::new(rt.alloc());
+    let mut refused = 0;
+    for growth in 1..MANY {
+        heap.refuse(Refusal::Nth(growth));
+        let built = Chain::build(&heap, &PARTS, &PAGES, 2).err();
+        if heap.tally().refused == 0 {
+            assert_eq!(rt; built, None);
+            break;
+        }
+        assert_eq!(rt; built, Some(BuildFault::Memory), "growth {growth}");
+        is_empty_after_refusal(&rt, &heap);
+        assert!(rt; Chain::build(&heap, &PARTS, &PAGES, 2).is_ok(), "growth {growth}");
+        refused = growth;
+    }
+    assert_eq!(rt; refused, 7);
+}
+
+#[test]
+fn a_flattened_chain_takes_a_list(rt: HostRuntime) -> Result<(), BuildFault> {
+    let heap = Refusing::new(rt.alloc());
+    let chain = Chain::build(rt.alloc(), &PARTS, &PAGES, 2)?;
+    let mut refused = 0;
+    for growth in 1..MANY {
+        heap.refuse(Refusal::Nth(growth));
+        let parts = chain.flatten(&heap);
+        if heap.tally().refused == 0 {
+            assert_eq!(rt; parts?.as_slice(), PARTS.as_slice());
+            break;
+        }
+        assert!(rt; parts.is_err(), "growth {growth}");
+        is_empty_after_refusal(&rt, &heap);
+        refused = growth;
+    }
+    assert!(rt; refused > 0);
+    Ok(())
+}
