@@ -85,7 +85,11 @@ fn lay_from<A: Allocator, B: Allocator>(segment: &Segment<A>, pages: &mut [(Page
 }
 
 /// Lays the segments of a chain in the pages from one on, one in each.
-pub(crate) fn lay_all<A: Allocator, B: Allocator>(chain: &Chain<A>, pages: &mut Vec<(PageNo, Page<B>), B>, from: usize)
+pub(crate) fn lay_all<A: Allocator, B: Allocator>(
+    chain: &Chain<A>,
+    pages: &mut Vec<(PageNo, Page<B>), B>,
+    from: usize,
+)
     requires { length pages.old.items ≡ from + length chain.now.segments }
     ensures { pages.new.items ≡ take from pages.old.items ++ laid chain.now.segments (drop from pages.old.items) }
 {

@@ -1,4 +1,4 @@
-use Rattle.std.proofs.Common.{◌≡◌, ◌≤◌, ◌*◌, false, take, length, sum_by}
+use Rattle.std.proofs.Common.{◌≡◌, ◌≤◌, ◌*◌, false, take, length}
 use Rattle.std.specs.List.{list_any}
 use Rattle.io_commands.specs.Requests.{is_empty_piece, crosses_page, counted_lengths}
 use Rattle.io_commands.proofs.request.Request+A.check.Given as goal
