@@ -1,11 +1,15 @@
 -- The image of a namespace: the bytes of its blocks, 512 to a block, one block after another.
 use Rattle.std.specs.Prelude.{◌≡◌, ℕ, ◌+◌, ◌*◌, ◌/◌, ◌%◌, ◌<◌, ◌≤◌, ◌⊎◌, List, ◌++◌, length, take, drop}
 
--- 1 to 65,536 blocks, each of them whole
+-- the most blocks that an image has
+abbrev pub most_blocks : ℕ
+most_blocks = 65536
+
+-- one block or more, at most so many, and each of them whole
 pub record IsImage (bytes : List ℕ) : Type 0 where
   pub whole : length bytes % 512 ≡ 0
   pub some : 0 < length bytes
-  pub few : length bytes ≤ 512 * 65536
+  pub few : length bytes ≤ 512 * most_blocks
 
 -- how many blocks an image or a buffer is
 abbrev pub block_count : List ℕ → ℕ

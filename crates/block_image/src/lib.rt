@@ -5,7 +5,7 @@
 #![tactic(auto)]
 
 ghost use Rattle.std.specs.Prelude.{◌≡◌, ◌+◌, ◌*◌, ◌<◌, ◌≤◌, ◌↔◌, ◌⊎◌, [], ◌++◌, IsTrue, IsOk, IsErrOf, IfOk, IfErr, length, replicate};
-ghost use Rattle.block_image.specs.Blocks.{IsImage, IsInRange, block_count, blocks_at, with_blocks, BlocksAreWhole, PutIsRead, PutKeepsOthers, PutKeepsLength};
+ghost use Rattle.block_image.specs.Blocks.{IsImage, IsInRange, most_blocks, block_count, blocks_at, with_blocks, BlocksAreWhole, PutIsRead, PutKeepsOthers, PutKeepsLength};
 
 use std::alloc::{Allocator, Global};
 use std::marker::Model;
@@ -64,7 +64,7 @@ impl<A: Allocator> Image<A> {
     pub fn zeroed(alloc: A, blocks: u32) -> Result<Self, ImageError>
         ensures zero { IfOk result (λ image. image ≡ replicate (512 * blocks) 0) }
         ensures image { IfOk result (λ image. IsImage image) }
-        ensures bad_length { IsErrOf result ImageError.BadLength ↔ ((blocks ≡ 0) ⊎ (MAX_BLOCKS < blocks)) }
+        ensures bad_length { IsErrOf result ImageError.BadLength ↔ ((blocks ≡ 0) ⊎ (most_blocks < blocks)) }
     {
         if !(1..=MAX_BLOCKS).contains(&blocks) {
             return Err(ImageError::BadLength);

@@ -1,5 +1,5 @@
 -- What a host asks for: which blocks, in which direction, and the pieces of memory that take part.
-use Rattle.std.specs.Prelude.{ℕ, ◌+◌, ◌*◌, ◌^◌, ◌<◌, ◌==◌, nat_lt, Bool, true, false, ◌||◌, not, Option, Some, None, List, [], ◌∷◌, length, sum_by, count_by, All, if◌then◌else◌}
+use Rattle.std.specs.Prelude.{ℕ, ◌+◌, ◌*◌, ◌^◌, ◌<◌, ◌==◌, nat_lt, Bool, true, false, ◌||◌, not, Option, List, [], ◌∷◌, length, sum_by, count_by, All}
 use Rattle.controller_walk.specs.Units.{first_passing}
 use Rattle.std.specs.List.{list_any}
 use Rattle.sgl_descriptor.specs.declared.Direction.{Direction}

@@ -1,12 +1,12 @@
 -- What drafts, tickets and finished commands are.
-use Rattle.std.specs.Prelude.{◌≡◌, ℕ, None, List, [], map, take, drop}
+use Rattle.std.specs.Prelude.{◌≡◌, ℕ, None, List, [], map, take, drop, sum_by}
 use Rattle.entry_codec.specs.declared.status.Status.{Status}
 use Rattle.io_commands.specs.Asked.{Request}
 use Rattle.io_commands.specs.declared.request.Piece.{Piece}
 use Rattle.io_commands.specs.declared.request.Kind.{Kind}
 use Rattle.io_commands.specs.declared.request.Kind.TheVariants.{Read, Write, Compare}
 use Rattle.io_commands.specs.Requests.{data_count, fault_of}
-use Rattle.io_commands.specs.DataBytes.{PagesOut, gathered}
+use Rattle.io_commands.specs.DataBytes.{PagesOut, data_length, gathered}
 
 -- a submitted command
 pub record TicketContents : Type 0 where
@@ -44,3 +44,9 @@ gathered_by Compare pieces pages = []
 
 abbrev pub gathered_from : FinishedContents → List ℕ
 gathered_from f = gathered_by f.request.kind f.request.pieces f.data_pages
+
+-- how many bytes that is
+abbrev pub gathered_length : Kind → List Piece → ℕ
+gathered_length Read pieces = sum_by data_length pieces
+gathered_length Write pieces = 0
+gathered_length Compare pieces = 0

@@ -1,6 +1,7 @@
 //! The bytes of data pieces in their pages.
 
-ghost use Rattle.std.specs.Prelude.{◌≡◌, ◌≤◌, ◌++◌, length, take, drop, sum_by, OnOk, false};
+ghost use Rattle.std.specs.Prelude.{◌≡◌, ◌<◌, ◌≤◌, ◌+◌, ◌++◌, length, take, drop, sum_by, vec_len, OnOk, OnErr, false};
+ghost use Rattle.std.specs.Vec.{vec_capacity};
 ghost use Rattle.std.specs.List.{list_any};
 ghost use Rattle.io_commands.specs.Requests.{crosses_page, data_count};
 ghost use Rattle.io_commands.specs.DataBytes.{data_length, filled, gathered};
@@ -56,7 +57,8 @@ pub(crate) fn push_data<A: Allocator, B: Allocator>(
 ) -> Result<(), AllocError>
     requires inside { list_any crosses_page pieces.now ≡ false }
     requires enough { data_count pieces.now ≤ length pages.now }
-    ensures { OnOk result (out.new.items ≡ out.old.items ++ gathered pieces.now pages.now) }
+    ensures gathered { OnOk result (out.new.items ≡ out.old.items ++ gathered pieces.now pages.now) }
+    ensures full { OnErr result (vec_capacity out.old < vec_len out.old + sum_by data_length pieces.now) }
 {
     let Some((piece, others)) = pieces.split_first() else {
         return Ok(());

@@ -1,9 +1,9 @@
 //! A command that has ended, with its pages taken out again.
 
-ghost use Rattle.std.specs.Prelude.{◌≡◌, ◌≤◌, ◌++◌, length, IfOk, []};
+ghost use Rattle.std.specs.Prelude.{◌≡◌, ◌<◌, ◌≤◌, ◌++◌, length, IfOk, OnErr, []};
 ghost use Rattle.io_commands.specs.Requests.{data_count};
 ghost use Rattle.io_commands.specs.DataBytes.{gathered};
-ghost use Rattle.io_commands.specs.Values.{IsGood, data_part, chain_part, gathered_from};
+ghost use Rattle.io_commands.specs.Values.{IsGood, data_part, chain_part, gathered_from, gathered_length};
 
 use crate::data_bytes::push_data;
 use crate::request::{Kind, Request};
@@ -90,6 +90,13 @@ impl<A: Allocator> Finished<A> {
         &self.request
     }
 
+    /// Which command it was.
+    pub fn kind(&self) -> Kind
+        ensures { result ≡ self.now.request.kind }
+    {
+        self.request.kind
+    }
+
     /// How many of its pages are those of its data pieces.
     pub fn data_pages(&self) -> usize
         ensures { result ≡ length self.now.data_pages }
@@ -116,14 +123,15 @@ impl<A: Allocator> Finished<A> {
     ///
     /// # Errors
     ///
-    /// Where memory is refused.
+    /// Where memory is refused, which is asked for once, and only where data pieces were read.
     pub fn gather<B: Allocator>(&self, alloc: B) -> Result<Vec<u8, B>, AllocError>
-        ensures { IfOk result (λ bytes. bytes.items ≡ gathered_from self.now) }
+        ensures gathered { IfOk result (λ bytes. bytes.items ≡ gathered_from self.now) }
+        ensures refused { OnErr result (0 < gathered_length self.now.request.kind self.now.request.pieces) }
     {
         match self.request.kind {
             Kind::Read => {
                 let data = self.request.pieces.data_pages();
-                let mut bytes = Vec::new(alloc);
+                let mut bytes = Vec::with_capacity(alloc, self.request.data_bytes() as usize)?;
                 push_data(
                     self.request.pieces.as_slice(),
                     &self.pages[..data],

@@ -1,6 +1,6 @@
 //! The controller's side: a command of an I/O queue from its fetch to its completion.
 
-ghost use Rattle.std.specs.Prelude.{◌≡◌, ◌<◌, ◌≤◌, ◌+◌, ◌*◌, ◌-◌, ◌^◌, ◌++◌, ◌∷◌, [], length, replicate, ℕ, IsSome, IfOk, None, Some};
+ghost use Rattle.std.specs.Prelude.{◌≡◌, ◌<◌, ◌≤◌, ◌+◌, ◌*◌, ◌-◌, ◌^◌, ◌++◌, ◌∷◌, [], length, replicate, ℕ, IsSome, IfOk, OnErr, None, Some};
 ghost use Rattle.std.specs.Result.{result_err};
 ghost use Rattle.block_image.specs.Blocks.{block_count};
 ghost use Rattle.controller_walk.specs.Walks.{DoesFirst, LeavesRest};
@@ -118,7 +118,7 @@ fn first_bytes<A: Allocator, B: Allocator>(
 ///
 /// # Errors
 ///
-/// Where memory is refused.
+/// Where memory is refused, which a command that fails a check does not ask for.
 pub fn begin_job<A: Allocator, B: Allocator>(
     alloc: A,
     entry: &SubEntry,
@@ -131,6 +131,7 @@ pub fn begin_job<A: Allocator, B: Allocator>(
     ensures walk { IfOk result (λ job. BeginsWalk entry.now (io_fault (block_count image.now) entry.now) job.walk) }
     ensures left { IfOk result (λ job. left_of_walk job.walk ≤ 12545) }
     ensures job { IfOk result (λ job. IsJob job) }
+    ensures refused { OnErr result (io_fault (block_count image.now) entry.now ≡ None) }
 {
     let blocks = image.blocks();
     match checked(entry, blocks) {

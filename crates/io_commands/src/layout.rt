@@ -1,48 +1,50 @@
 //! The parts of a command in its pages, and its chain laid in them.
 
-ghost use Rattle.std.specs.Prelude.{◌≡◌, ◌≤◌, ◌+◌, ◌-◌, ◌++◌, length, take, drop, IfOk, OnOk, false};
+ghost use Rattle.std.specs.Prelude.{◌≡◌, ◌≤◌, ◌+◌, ◌++◌, length, take, drop, vec_len, IfOk, false};
+ghost use Rattle.std.specs.Vec.{vec_capacity};
 ghost use Rattle.std.specs.List.{list_any};
 ghost use Rattle.io_commands.specs.Requests.{crosses_page, data_count, parts_of as spec_parts_of};
 ghost use Rattle.io_commands.specs.Values.{numbers_of as spec_numbers_of, IsGood, data_part, chain_part};
-ghost use Rattle.sgl_chain.specs.Chains.{pages_needed, first_of, segments_on};
+ghost use Rattle.sgl_chain.specs.Chains.{pages_needed, first_of, segments_on, segments_from};
 ghost use Rattle.sgl_chain.specs.Spells.{SpellsWhereLaid};
 ghost use Rattle.io_commands.specs.Drafts.{laid};
 
 use crate::request::{Piece, Request};
 use page_memory::{Page, PageNo};
-use sgl_chain::{Chain, Part};
+use sgl_chain::{Chain, Part, Segment};
 use std::alloc::{AllocError, Allocator};
 
 /// Appends the parts of pieces, each data piece in its page.
-pub(crate) fn push_parts<A: Allocator, B: Allocator>(
+fn push_parts<A: Allocator, B: Allocator>(
     pieces: &[Piece],
     pages: &[(PageNo, Page<B>)],
     out: &mut Vec<Part, A>,
-) -> Result<(), AllocError>
+)
     requires inside { list_any crosses_page pieces.now ≡ false }
-    ensures { OnOk result (out.new.items ≡ out.old.items ++ spec_parts_of pieces.now (spec_numbers_of pages.now)) }
+    requires room { vec_len out.old + length pieces.now ≤ vec_capacity out.old }
+    ensures { out.new.items ≡ out.old.items ++ spec_parts_of pieces.now (spec_numbers_of pages.now) }
 {
     let Some((piece, others)) = pieces.split_first() else {
-        return Ok(());
+        return;
     };
     match *piece {
         Piece::Bucket { len } => {
-            out.push(Part::Bucket { len })?;
-            push_parts(others, pages, out)
+            out.push_reserved(Part::Bucket { len });
+            push_parts(others, pages, out);
         }
         Piece::Data { offset, len } => {
             let Some((page, behind)) = pages.split_first() else {
-                return Ok(());
+                return;
             };
             let addr = 4096 * u64::from(page.0.0) + u64::from(offset);
-            out.push(Part::Data { addr, len })?;
-            push_parts(others, behind, out)
+            out.push_reserved(Part::Data { addr, len });
+            push_parts(others, behind, out);
         }
     }
 }
 
 /// The parts of pieces, each data piece in its page.
-pub(crate) fn parts_of<A: Allocator, B: Allocator>(
+fn parts_of<A: Allocator, B: Allocator>(
     alloc: A,
     pieces: &[Piece],
     pages: &[(PageNo, Page<B>)],
@@ -50,44 +52,51 @@ pub(crate) fn parts_of<A: Allocator, B: Allocator>(
     requires inside { list_any crosses_page pieces.now ≡ false }
     ensures { IfOk result (λ parts. parts.items ≡ spec_parts_of pieces.now (spec_numbers_of pages.now)) }
 {
-    let mut parts = Vec::new(alloc);
-    push_parts(pieces, pages, &mut parts)?;
+    let mut parts = Vec::with_capacity(alloc, pieces.len())?;
+    push_parts(pieces, pages, &mut parts);
     Ok(parts)
 }
 
 /// The numbers of pages.
-pub(crate) fn numbers_of<A: Allocator, B: Allocator>(
+fn numbers_of<A: Allocator, B: Allocator>(
     alloc: A,
     pages: &[(PageNo, Page<B>)],
 ) -> Result<Vec<PageNo, A>, AllocError>
     ensures { IfOk result (λ numbers. numbers.items ≡ spec_numbers_of pages.now) }
 {
-    let mut numbers = Vec::new(alloc);
-    for page in pages {
-        numbers.push(page.0)?;
+    let mut numbers = Vec::with_capacity(alloc, pages.len())?;
+    for (number, _) in pages {
+        numbers.push_reserved(*number);
     }
     Ok(numbers)
 }
 
-/// Lays the last segments of a chain in pages, as many as there are pages, one in each.
-fn lay_last<A: Allocator, B: Allocator>(chain: &Chain<A>, pages: &mut [(PageNo, Page<B>)])
-    requires { length pages.old ≤ length chain.now.segments }
-    ensures { pages.new ≡ laid (drop (length chain.now.segments - length pages.old) chain.now.segments) pages.old }
+/// Lays a segment and those behind it in pages, one in each.
+fn lay_from<A: Allocator, B: Allocator>(segment: &Segment<A>, pages: &mut [(PageNo, Page<B>)])
+    requires { length pages.old ≡ length (segments_from segment.now) }
+    ensures { pages.new ≡ laid (segments_from segment.now) pages.old }
 {
-    let i = chain.segments() - pages.len();
     if let Some((page, behind)) = pages.split_first_mut() {
-        chain.lay(i, &mut page.1);
-        lay_last(chain, behind);
+        segment.lay(&mut page.1);
+        if let Some(next) = &segment.next {
+            lay_from(next, behind);
+        }
     }
 }
 
 /// Lays the segments of a chain in the pages from one on, one in each.
-pub(crate) fn lay_all<A: Allocator, B: Allocator>(chain: &Chain<A>, pages: &mut Vec<(PageNo, Page<B>), B>, from: usize)
+pub(crate) fn lay_all<A: Allocator, B: Allocator>(
+    chain: &Chain<A>,
+    pages: &mut Vec<(PageNo, Page<B>), B>,
+    from: usize,
+)
     requires { length pages.old.items ≡ from + length chain.now.segments }
     ensures { pages.new.items ≡ take from pages.old.items ++ laid chain.now.segments (drop from pages.old.items) }
 {
-    let all = pages.as_mut_slice();
-    lay_last(chain, &mut all[from..]);
+    if let Some(segment) = chain.head() {
+        let all = pages.as_mut_slice();
+        lay_from(segment, &mut all[from..]);
+    }
 }
 
 /// The chain of a request in its pages, of which those of the data pieces come first.

@@ -2,9 +2,8 @@
 
 ghost use Rattle.std.specs.Prelude.{◌≡◌, ◌≤◌, length, sum_by, All, IfOk, Ok};
 ghost use Rattle.std.specs.Result.{result_err};
-ghost use Rattle.std.specs.List.{list_any};
 ghost use Rattle.io_commands.specs.DataBytes.{data_length};
-ghost use Rattle.io_commands.specs.Requests.{direction_of, opcode_of, is_empty_piece, crosses_page as spec_crosses_page, is_data as spec_is_data, counted_length, counted_lengths, data_count, fault_of, FitsPiece, FitsRequest};
+ghost use Rattle.io_commands.specs.Requests.{direction_of, opcode_of, is_empty_piece, crosses_page as spec_crosses_page, is_data as spec_is_data, counted_length, data_count, fault_of, FitsPiece, FitsRequest};
 
 use entry_codec::io_opcode;
 use sgl_descriptor::Direction;
@@ -160,20 +159,6 @@ impl<A: Allocator> Pieces<A> {
         })
     }
 
-    /// Whether a piece has length 0.
-    pub fn has_empty(&self) -> bool
-        ensures { result ≡ list_any is_empty_piece self.now }
-    {
-        self.as_slice().iter().any(|piece| piece.is_empty())
-    }
-
-    /// Whether a data piece passes the end of its page.
-    pub fn has_crossing(&self) -> bool
-        ensures { result ≡ list_any spec_crosses_page self.now }
-    {
-        self.as_slice().iter().any(|piece| piece.crosses_page())
-    }
-
     /// How many data pages the pieces take.
     pub fn data_pages(&self) -> usize
         ensures { result ≡ data_count self.now }
@@ -192,17 +177,6 @@ impl<A: Allocator> Pieces<A> {
         self.as_slice()
             .iter()
             .map(|piece| u64::from(piece.data_len()))
-            .sum()
-    }
-
-    /// How many bytes of a command of this kind the pieces are together.
-    pub fn counted(&self, kind: Kind) -> u64
-        requires { length self.now ≤ 1024 }
-        ensures { result ≡ counted_lengths kind self.now }
-    {
-        self.as_slice()
-            .iter()
-            .map(|piece| u64::from(piece.counted(kind)))
             .sum()
     }
 }
@@ -323,19 +297,26 @@ impl<A: Allocator> Request<A> {
     pub fn check(&self) -> Result<(), RequestFault>
         ensures { result_err result ≡ fault_of self.now.kind self.now.blocks self.now.pieces }
     {
-        if self.pieces.as_slice().len() > MAX_PIECES {
+        let pieces = self.pieces.as_slice();
+        if pieces.len() > MAX_PIECES {
             return Err(RequestFault::TooManyPieces);
         }
-        if self.pieces.has_empty() {
-            return Err(RequestFault::EmptyPiece);
+        let mut crosses = false;
+        let mut counted = 0;
+        for piece in pieces {
+            if piece.is_empty() {
+                return Err(RequestFault::EmptyPiece);
+            }
+            crosses |= piece.crosses_page();
+            counted += u64::from(piece.counted(self.kind));
         }
-        if self.pieces.has_crossing() {
+        if crosses {
             return Err(RequestFault::CrossesPage);
         }
         if self.blocks == 0 || self.blocks > MAX_BLOCKS {
             return Err(RequestFault::BadCount);
         }
-        if self.pieces.counted(self.kind) != 512 * u64::from(self.blocks) {
+        if counted != 512 * u64::from(self.blocks) {
             return Err(RequestFault::LengthMismatch);
         }
         Ok(())

@@ -1,6 +1,6 @@
 //! Chains: built, laid in pages, flattened.
 
-ghost use Rattle.std.specs.Prelude.{◌≡◌, ◌<◌, ◌≤◌, ◌↔◌, ◌^◌, ◌+◌, Err, IfOk, length, drop};
+ghost use Rattle.std.specs.Prelude.{◌≡◌, ◌<◌, ◌≤◌, ◌↔◌, ◌^◌, ◌+◌, [], Err, IfOk, IsOk, MatchOption, length, drop};
 ghost use Rattle.page_memory.specs.Pages.{with_bytes};
 ghost use Rattle.sgl_chain.specs.Chains.{AllFit, pages_needed, segments_within, link, segments_on, segments_from, first_of, segment_at, segment_bytes, parts_of};
 ghost use Rattle.sgl_chain.specs.Spells.{SpellsWhereLaid};
@@ -151,6 +151,7 @@ impl<A: Allocator + Clone> Chain<A> {
         ensures parts { IfOk result (λ chain. parts_of chain ≡ parts.now) }
 
         ensures too_many_parts { (result ≡ Err BuildFault.TooManyParts) ↔ (1024 < length parts.now) }
+        ensures one_part_takes_no_memory { length parts.now ≡ 1 → IsOk result }
     {
         if parts.len() > MAX_PARTS {
             return Err(BuildFault::TooManyParts);
@@ -172,6 +173,7 @@ fn build_chain<A: Allocator + Clone>(
     ensures first { IfOk result (λ chain. chain.first ≡ first_of segment_size pages.now parts.now) }
     ensures segments { IfOk result (λ chain. chain.segments ≡ segments_on segment_size pages.now parts.now) }
     ensures fits { IfOk result (λ chain. AllFit chain.segments) }
+    ensures one { length parts.now ≡ 1 → IsOk result }
 {
     if let [part] = parts {
         let first = part.descriptor();
@@ -191,6 +193,16 @@ impl<A: Allocator> Chain<A> {
         ensures { result ≡ self.now.first }
     {
         self.first
+    }
+
+    /// The first segment, which shows those behind it; `None` where the chain is one part.
+    ///
+    /// Who lays each segment in its page goes from here along [`Segment::next`], and not by [`Chain::lay`], which goes to
+    /// its segment from the front each time.
+    pub fn head(&self) -> Option<&Segment<A>>
+        ensures { MatchOption result (self.now.segments ≡ []) (λ segment. self.now.segments ≡ segments_from segment.now) }
+    {
+        self.segments.as_ref()
     }
 
     /// How many segments the chain has: as many as it was built on pages.

@@ -102,8 +102,10 @@ impl<A: Allocator> Descs<A> {
 /// each segment behind it.
 #[derive(Drop)]
 pub struct Segment<A: Allocator> {
-    pub(crate) descs: Descs<A>,
-    pub(crate) next: Option<Box<Segment<A>, A>>,
+    /// The descriptors of this segment.
+    pub descs: Descs<A>,
+    /// The segment behind it, `None` at the last.
+    pub next: Option<Box<Segment<A>, A>>,
 }
 
 impl<A: Allocator> Model for Segment<A> {
@@ -122,13 +124,6 @@ impl<A: Allocator> Model for Segment<A> {
 }
 
 impl<A: Allocator> Segment<A> {
-    /// The descriptors of this segment.
-    pub fn descs(&self) -> &Descs<A>
-        ensures { result.now ≡ self.now.descriptors }
-    {
-        &self.descs
-    }
-
     /// How many segments there are from this one on.
     pub(crate) fn count(&self) -> usize
         requires { length (segments_from self.now) < 2 ^ 32 }
@@ -152,7 +147,7 @@ impl<A: Allocator> Segment<A> {
     }
 
     /// Writes the bytes of this segment's descriptors at the start of a page. The rest of the page stays.
-    pub(crate) fn lay<B: Allocator>(&self, page: &mut Page<B>)
+    pub fn lay<B: Allocator>(&self, page: &mut Page<B>)
         ensures bytes { page.new ≡ with_bytes page.old 0 (segment_bytes self.now.descriptors) }
         ensures len { length page.new ≡ 4096 }
     {

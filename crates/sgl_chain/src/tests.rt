@@ -137,7 +137,7 @@ fn three_parts_stand_on_two_pages(rt: HostRuntime) -> Result<(), Fail> {
         ]
         .as_slice()
     );
-    assert_eq!(rt; chain.image_of(1).descs().as_slice().len(), 2);
+    assert_eq!(rt; chain.image_of(1).descs.as_slice().len(), 2);
     Ok(())
 }
 

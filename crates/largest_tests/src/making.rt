@@ -1,0 +1,39 @@
+//! Bytes, pieces and requests of the largest commands.
+
+use io_commands::{Kind, Piece, Pieces, Request};
+use std::alloc::{AllocError, Global};
+
+/// The most blocks that a command moves.
+pub(crate) const BLOCKS: u32 = 2_048;
+
+/// Bytes of so many blocks, of which no two within 64 KiB are alike.
+pub(crate) fn blocks(alloc: Global, count: usize) -> Result<Vec<u8>, AllocError> {
+    let mut bytes = Vec::new(alloc);
+    for block in 0..count {
+        for at in 0..512 {
+            let byte = (at % 251) as u8 ^ (block % 256) as u8;
+            bytes.push(byte)?;
+        }
+    }
+    Ok(bytes)
+}
+
+/// The most pieces, of 1,024 bytes each, at three places of their pages.
+fn most_pieces(alloc: Global) -> Result<Pieces, AllocError> {
+    let mut pieces = Vec::new(alloc);
+    for piece in 0..1_024 {
+        let offset = 1_536 * (piece % 3);
+        pieces.push(Piece::Data { offset, len: 1_024 })?;
+    }
+    Ok(Pieces::from_vec(pieces))
+}
+
+/// A command of the most blocks in the most pieces, from block 0 on.
+pub(crate) fn largest(alloc: Global, kind: Kind) -> Result<Request, AllocError> {
+    Ok(Request {
+        kind,
+        slba: 0,
+        blocks: BLOCKS,
+        pieces: most_pieces(alloc)?,
+    })
+}
