@@ -1,8 +1,8 @@
 -- A log that grows by a step.
-use Rattle.std.proofs.Common.{◌≡◌, ℕ, ◌+◌, List, [], ◌∷◌, ◌++◌, Option, Some, None, Bool, true, false, not, ◌||◌, cond, Result, Ok, Err, is_ok, true≢false, refl, sym, ap, ◌∙◌, arith}
+use Rattle.std.proofs.Common.{◌≡◌, ◌⊎◌, inr, ℕ, ◌+◌, List, [], ◌∷◌, ◌++◌, Option, Some, None, Bool, true, false, not, ◌||◌, cond, Result, Ok, Err, is_ok, true≢false, refl, sym, ap, ◌∙◌, arith}
 use Rattle.std.proofs.lemmas.List.{append-nil}
 use Rattle.std.proofs.lemmas.List.Sums.{sum_by_push}
-use Rattle.std.specs.Prelude.{is_some}
+use Rattle.std.specs.Prelude.{is_some, MatchBool}
 use Rattle.io_commands.specs.Drafts.{DraftContents}
 use Rattle.io_commands.specs.Values.{TicketContents}
 use Rattle.machine_model.specs.Events as events
@@ -10,7 +10,7 @@ use Rattle.machine_model.specs.Events.{Event}
 use Rattle.machine_model.specs.State.{State}
 use Rattle.machine_model.specs.Step as machine
 use Rattle.machine_model.specs.declared.words.Refusal.TheVariants as refusal
-use Rattle.driver_book.specs.Calls.{noted, entries, Does}
+use Rattle.driver_book.specs.Calls.{noted, entries, Does, WantsMemoryFor, MayWorldWant}
 use Rattle.driver_book.proofs.Histories.{leads_further}
 use Rattle.driver_book.specs.History.{asked, told, entry, is_submission, is_accepted, accepted}
 use Rattle.driver_book.specs.State.{BookContents, IsBook, is_seated, AreSeated}
@@ -113,21 +113,56 @@ empty_book is none zero all number = rw (none, zero) (record {
 -- What the calls do
 
 -- where something was written
-made : (old new : BookContents) (v : State) (now : List Entry) (seat : Option ℕ) (e : Event) (r : events.Reply) → machine.Step old.world e r v
-    → now ≡ old.log ++ entry seat (asked e) (told r) ∷ [] → new ≡ record old { world = v; log = now }
-    → machine.Step old.world e r new.world × (new ≡ record old { world = new.world; log = old.log ++ entry seat (asked e) (told r) ∷ [] })
-made old new v now seat e r step is left = rw (left, is) (step, refl)
+made : (old new : BookContents) (v : State) (now : List Entry) (spare : ℕ) (seat : Option ℕ) (e : Event) (r : events.Reply) → machine.Step old.world e r v
+    → now ≡ old.log ++ entry seat (asked e) (told r) ∷ [] → new ≡ record old { world = v; log = now; spare = spare }
+    → machine.Step old.world e r new.world × (new ≡ record old { world = new.world; log = old.log ++ entry seat (asked e) (told r) ∷ []; spare = new.spare })
+made old new v now spare seat e r step is left = rw (left, is) (step, refl)
 
-pub does : (old new : BookContents) (v : State) (now : List Entry) (seat : Option ℕ) (e : Event) (r : events.Reply) → machine.Step old.world e r v
-    → now ≡ old.log ++ entries seat (asked e) (noted r) → new ≡ record old { world = v; log = now }
+does : (old new : BookContents) (v : State) (now : List Entry) (spare : ℕ) (seat : Option ℕ) (e : Event) (r : events.Reply) → machine.Step old.world e r v
+    → now ≡ old.log ++ entries seat (asked e) (noted r) → new ≡ record old { world = v; log = now; spare = spare }
     → Does old seat e r new
-does old new v now seat e (events.Refused refusal.Memory pages) step is left =
-    left
-    ∙ ap (λ (w : State). let x : BookContents = record old { world = w; log = now } in x) step.2
-    ∙ ap (λ (l : List Entry). let x : BookContents = record old { log = l } in x) (is ∙ append-nil old.log)
-does old new v now seat e (events.Refused why pages) step is left = made old new v now seat e (events.Refused why pages) step is left
-does old new v now seat e r step is left = made old new v now seat e r step is left
+does old new v now spare seat e (events.Refused refusal.Memory pages) step is left =
+    let same : new ≡ record old { spare = spare }
+    = left
+    ∙ ap (λ (w : State). let x : BookContents = record old { world = w; log = now; spare = spare } in x) step.2
+    ∙ ap (λ (l : List Entry). let x : BookContents = record old { log = l; spare = spare } in x) (is ∙ append-nil old.log) in
+    rw same refl
+does old new v now spare seat e (events.Refused why pages) step is left = made old new v now spare seat e (events.Refused why pages) step is left
+does old new v now spare seat e r step is left = made old new v now spare seat e r step is left
+
+-- so with the contents of a book that was opened
+pub does_in : {at old : BookContents} → at ≡ old → (v : State) (now : List Entry) (spare : ℕ) (seat : Option ℕ) (e : Event) (r : events.Reply) → machine.Step at.world e r v
+    → now ≡ at.log ++ entries seat (asked e) (noted r) → Does old seat e r (let new : BookContents = record at { world = v; log = now; spare = spare } in new)
+does_in {at = at} same v now spare seat e r step is =
+    let new : BookContents = record at { world = v; log = now; spare = spare } in
+    rw (← same) (does at new v now spare seat e r step is refl)
 
 -- a fact of the world inside a book
 pub touches_in : (book : BookContents) (w : State) (e : Event) (r : events.Reply) → book.world ≡ w → StaysAllowed w e r → StaysAllowed book.world e r
 touches_in book w e r is stays = rw is stays
+
+-- Want of memory
+
+-- an event that takes no memory is never refused for want of it
+never_wanted : (e : Event) (touched : List ℕ) → machine.allocates e ≡ false → machine.MayRefuse e refusal.Memory touched → ⊥
+never_wanted (events.Fetch q) touched none may = true≢false none
+never_wanted e touched none may = may
+
+never_permitted : (s : State) (e : Event) (touched : List ℕ) → machine.allocates e ≡ false → machine.Permits s e (events.Refused refusal.Memory touched) → ⊥
+never_permitted s e touched none = go (s.trusted || not (machine.IsController e))
+  where
+    go : (b : Bool) → MatchBool b (machine.Refuses s e refusal.Memory touched) (machine.MayRefuse e refusal.Memory touched) → ⊥
+    go true r = true≢false (sym r.0 ∙ none)
+    go false may = never_wanted e touched none may
+
+pub takes_no_memory : (Cause : Type 0) (s new : State) (e : Event) (r : events.Reply) → machine.allocates e ≡ false → machine.Step s e r new → WantsMemoryFor Cause r
+takes_no_memory Cause s new e (events.Refused refusal.Memory touched) none step = absurd (never_permitted s e touched none step.1)
+takes_no_memory Cause s new e (events.Refused why touched) none step = tt
+takes_no_memory Cause s new e r none step = tt
+
+-- any other wants memory where the world permits it
+pub takes_memory : (Cause : Type 0) {at old : BookContents} → at ≡ old → (new : State) (e : Event) (r : events.Reply) → machine.Step at.world e r new
+    → WantsMemoryFor (Cause ⊎ MayWorldWant old e) r
+takes_memory Cause same new e (events.Refused refusal.Memory touched) step = inr (rw (← same) (touched, step.1))
+takes_memory Cause same new e (events.Refused why touched) step = tt
+takes_memory Cause same new e r step = tt

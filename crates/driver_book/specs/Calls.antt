@@ -1,10 +1,11 @@
 -- What the calls of a book do: each makes one step of the world, and writes it down.
-use Rattle.std.specs.Prelude.{◌≡◌, ℕ, ◌==◌, ◌&&◌, Bool, is_none, Option, Some, None, Result, Ok, Err, List, [], ◌∷◌, ◌++◌, position, slice_set, slice_index_or}
+use Rattle.std.specs.Prelude.{◌≡◌, ◌⊎◌, ℕ, ◌==◌, ◌&&◌, Bool, is_none, Option, Some, None, option_and_then, Result, Ok, Err, List, [], ◌∷◌, ◌++◌, position, slice_set, slice_index_or}
 use Rattle.entry_codec.specs.declared.status.Status.{Status}
 use Rattle.io_commands.specs.Drafts.{DraftContents}
 use Rattle.io_commands.specs.Values.{FinishedContents, TicketContents}
 use Rattle.machine_model.specs.Events as events
 use Rattle.machine_model.specs.Events.{Event}
+use Rattle.machine_model.specs.State.{State, Host, record_at}
 use Rattle.machine_model.specs.Step as machine
 use Rattle.machine_model.specs.declared.words.Refusal.TheVariants as refusal
 use Rattle.driver_book.specs.History.{asked, told, entry, accepted}
@@ -25,11 +26,31 @@ abbrev pub entries : Option ℕ → Step → Option Reply → List Entry
 entries seat what None = []
 entries seat what (Some answer) = entry seat what answer ∷ []
 
--- A call that answers want of memory leaves the book as it was. Any other is one step of the world, and the last entry of the log.
+-- A call that answers want of memory leaves the book as it was. Any other is one step of the world, and the last entry of the log. The log
+-- may have got room in either case.
 abbrev pub Does : BookContents → Option ℕ → Event → events.Reply → BookContents → Type 0
-Does old seat e (events.Refused refusal.Memory touched) new = new ≡ old
+Does old seat e (events.Refused refusal.Memory touched) new = new ≡ record old { spare = new.spare }
 Does old seat e r new =
-    machine.Step old.world e r new.world × (new ≡ record old { world = new.world; log = old.log ++ entry seat (asked e) (told r) ∷ [] })
+    machine.Step old.world e r new.world × (new ≡ record old { world = new.world; log = old.log ++ entry seat (asked e) (told r) ∷ []; spare = new.spare })
+
+-- Why memory was wanted
+
+-- want of memory is answered for this cause alone
+abbrev pub WantsMemoryFor : Type 0 → events.Reply → Type 0
+WantsMemoryFor Cause (events.Refused refusal.Memory touched) = Cause
+WantsMemoryFor Cause r = Unit {0}
+
+-- the log takes no entry before it has to grow
+abbrev pub IsLogFull : BookContents → Type 0
+IsLogFull book = book.spare ≡ 0
+
+-- so with the list of a seat's receipts
+abbrev pub AreReceiptsFull : SeatContents → Type 0
+AreReceiptsFull seat = seat.spare ≡ 0
+
+-- the event takes memory of the world's own, and nothing else stands in its way
+abbrev pub MayWorldWant : BookContents → Event → Type 0
+MayWorldWant book e = (touched : List ℕ) × machine.Permits book.world e (events.Refused refusal.Memory touched)
 
 -- Receipts
 
@@ -38,22 +59,26 @@ receipt number q cid status = record { number = number; q = q; cid = cid; status
 
 -- a seat has a receipt more for an accepted submission
 abbrev pub Receives : List Entry → SeatContents → DraftContents → Result TicketContents (Refused DraftContents) → SeatContents → Type 0
-Receives log old d (Ok ticket) new = new ≡ record old { receipts = old.receipts ++ receipt (accepted log) d.q d.cid None ∷ [] }
-Receives log old d (Err r) new = new ≡ old
+Receives log old d (Ok ticket) new = new ≡ record old { receipts = old.receipts ++ receipt (accepted log) d.q d.cid None ∷ []; spare = new.spare }
+Receives log old d (Err r) new = new ≡ record old { spare = new.spare }
 
 -- a receipt for this command, without a status yet
 abbrev pub is_open_for : ℕ → ℕ → Receipt → Bool
 is_open_for q cid r = (r.q == q) && (r.cid == cid) && is_none r.status
 
-abbrev pub settled_at : Option ℕ → Status → List Receipt → List Receipt
+abbrev pub settled_at : Option ℕ → Option Status → List Receipt → List Receipt
 settled_at None status receipts = receipts
-settled_at (Some i) status receipts = slice_set receipts i (record (slice_index_or receipts i (receipt 0 0 0 None)) { status = Some status })
+settled_at (Some i) status receipts = slice_set receipts i (record (slice_index_or receipts i (receipt 0 0 0 None)) { status = status })
 
--- the first receipt for this command without a status gets it
-abbrev pub settled : ℕ → ℕ → Status → List Receipt → List Receipt
+-- the first receipt for this command without a status gets this one
+abbrev pub settled : ℕ → ℕ → Option Status → List Receipt → List Receipt
 settled q cid status receipts = settled_at (position (is_open_for q cid) receipts) status receipts
 
--- the receipt of a command gets its status as it is released
-abbrev pub Settles : SeatContents → FinishedContents → {A : Type 0} → Result A (Refused FinishedContents) → SeatContents → Type 0
-Settles old f (Ok done) new = new ≡ record old { receipts = settled f.q f.cid f.status old.receipts }
-Settles old f (Err r) new = new ≡ old
+-- the status that an outstanding command has, once it ended
+abbrev pub status_at : Host → ℕ → ℕ → Option Status
+status_at h q cid = option_and_then (λ r. r.status) (record_at h q cid)
+
+-- the receipt of a command gets the status that the command has in this world, as it is released
+abbrev pub Settles : State → SeatContents → FinishedContents → {A : Type 0} → Result A (Refused FinishedContents) → SeatContents → Type 0
+Settles world old f (Ok done) new = new ≡ record old { receipts = settled f.q f.cid (status_at world.host f.q f.cid) old.receipts }
+Settles world old f (Err r) new = new ≡ old

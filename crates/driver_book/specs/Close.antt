@@ -109,13 +109,13 @@ has_open seats = list_any (λ s. list_any (λ r. is_none r.status) s.receipts) s
 abbrev pub IsDone : BookContents → List SeatContents → Type 0
 IsDone book seats = (has_open seats ≡ false) × (length book.world.host.records ≡ 0)
 
--- why a book was not closed: the cause, and no earlier one
+-- why a book was not closed: the cause, and no earlier one; memory is wanted for the list of the seats' receipts, where there is a seat
 abbrev pub RefusesClose : CloseFault → BookContents → List SeatContents → Type 0
 RefusesClose (Missing seat number) book seats = IsMissing book.log seats seat number
 RefusesClose SeatOut book seats = AllStand book.log seats × (length seats < book.out)
 RefusesClose StillOut book seats =
     AllStand book.log seats × (book.out ≤ length seats) × ((has_open seats ≡ true) ⊎ (0 < length book.world.host.records))
-RefusesClose Memory book seats = AllStand book.log seats × (book.out ≤ length seats) × IsDone book seats
+RefusesClose Memory book seats = AllStand book.log seats × (book.out ≤ length seats) × IsDone book seats × (0 < length seats)
 
 -- what a closed book says
 pub record Reports (report : Report) (book : BookContents) (seats : List SeatContents) : Type 0 where

@@ -7,7 +7,7 @@ use Rattle.driver_book.specs.declared.log.Entry.{Entry}
 use Rattle.driver_book.specs.declared.log.Receipt.{Receipt}
 
 -- A book: the world as it was opened and as it is, the log between, how many seats were made, how many of them no close took, how many
--- submissions the others had, and whether the workers are told to stop.
+-- submissions the others had, whether the workers are told to stop, and how many entries the log takes before it has to grow.
 pub record BookContents : Type 0 where
   pub opening : State
   pub world : State
@@ -16,10 +16,13 @@ pub record BookContents : Type 0 where
   pub out : ℕ
   pub taken : ℕ
   pub stopping : Bool
+  pub spare : ℕ
 
+-- A seat: its number, its receipts, and how many more of them it takes before their list has to grow.
 pub record SeatContents : Type 0 where
   pub number : ℕ
   pub receipts : List Receipt
+  pub spare : ℕ
 
 -- each accepted submission was made by a seat
 abbrev pub is_seated : Entry → Bool

@@ -17,7 +17,7 @@ use std::alloc::Global;
 use std::marker::{Brand, Model};
 use std::sync::ledger;
 use std::sync::ledger::{Blank, Ledger, Share};
-use step_core::{Ended, OpenRefused, World};
+use step_core::{Ended, OpenRefusal, World};
 use world_tables::Config;
 
 /// The ledger of one book, and the state with which that book opens, which contracts alone know.
@@ -32,6 +32,17 @@ impl Driver for Brand {
     ghost use Rattle.machine_model.specs.Opening.{opening as opening_of_numbers};
 
     ghost opening = { opening_of_numbers 0 0 0 0 [] };
+}
+
+/// A book that was not opened: why, and what was handed in.
+#[derive(Drop)]
+pub struct BookRefused {
+    /// Why.
+    pub why: OpenRefusal,
+    /// The image, as it was handed in.
+    pub image: Image,
+    /// The ledger, as it was handed in.
+    pub blank: Blank,
 }
 
 /// A world, and the log of all its steps since it opened. Contracts see both, and how many seats were made.
@@ -49,11 +60,12 @@ pub struct Book<L: Driver> {
 }
 
 impl<L: Driver> Model for Book<L> {
+    ghost use Rattle.std.specs.Prelude.{◌-◌, vec_len, vec_capacity};
     ghost use Rattle.driver_book.specs.State.{BookContents, IsBook};
 
     ghost Value = { BookContents };
 
-    ghost view = { λ b. record { opening = L.opening; world = b.world; log = b.log.items; made = b.made; out = b.out; taken = b.rest.amount; stopping = b.stopping } };
+    ghost view = { λ b. record { opening = L.opening; world = b.world; log = b.log.items; made = b.made; out = b.out; taken = b.rest.amount; stopping = b.stopping; spare = vec_capacity b.log - vec_len b.log } };
 
     ghost invariant = { λ b. IsBook L.opening b.world b.log.items b.tally.total b.submissions b.rest.parts b.out b.made L.parts };
 }
@@ -64,25 +76,32 @@ impl<L: Driver> Book<L> {
     ///
     /// # Errors
     ///
-    /// As [`World::open`]. The image comes back.
+    /// As [`World::open`]. The image and the ledger come back.
     pub fn open(
         alloc: Global,
         config: Config,
         image: Image,
         blank: Blank,
-    ) -> Result<Book<L>, OpenRefused>
+    ) -> Result<Book<L>, BookRefused>
         requires name { blank.name ≡ L.name }
         requires parts { blank.parts ≡ L.parts }
         requires number { blank.parts ≡ 65536 }
         requires opening { L.opening ≡ opening_of config image }
         ensures fits { IfOk result (λ book. refusal_of_config config ≡ None) }
-        ensures opened { IfOk result (λ book. book ≡ record { opening = opening_of config image; world = opening_of config image; log = []; made = 0; out = 0; taken = 0; stopping = false }) }
+        ensures opened { IfOk result (λ book. book ≡ record { opening = opening_of config image; world = opening_of config image; log = []; made = 0; out = 0; taken = 0; stopping = false; spare = 0 }) }
         ensures refused { IfErr result (λ refused. RefusesOpening config refused.why) }
-        ensures handed_back { IfErr result (λ refused. refused.image ≡ image) }
+        ensures image { IfErr result (λ refused. refused.image ≡ image) }
+        ensures blank { IfErr result (λ refused. refused.blank ≡ blank) }
     {
         let world = match World::open(alloc, config, image) {
             Ok(world) => world,
-            Err(refused) => return Err(refused),
+            Err(refused) => {
+                return Err(BookRefused {
+                    why: refused.why,
+                    image: refused.image,
+                    blank,
+                });
+            }
         };
         let (tally, rest) = blank.open::<L>();
         Ok(Book {
@@ -122,7 +141,7 @@ impl<L: Driver> Book<L> {
     ///
     /// Where 65,535 seats were made.
     pub fn seat(&mut self) -> Result<Seat<L>, NoSeat>
-        ensures seat { IfOk result (λ seat. seat ≡ record { number = self.old.made; receipts = [] }) }
+        ensures seat { IfOk result (λ seat. seat ≡ record { number = self.old.made; receipts = []; spare = 0 }) }
         ensures made { OnOk result (self.new ≡ record self.old { made = self.old.made + 1; out = self.old.out + 1 }) }
         ensures room { OnOk result (self.old.made < 65535) }
         ensures refused { OnErr result (self.new ≡ self.old) }

@@ -1,10 +1,10 @@
 //! The controller's steps, each written down.
 
-ghost use Rattle.std.specs.Prelude.{◌≡◌, [], None};
+ghost use Rattle.std.specs.Prelude.{◌≡◌, ◌⊎◌, [], None};
 ghost use Rattle.machine_model.specs.Events as events;
 ghost use Rattle.step_core.specs.Replies.{complete_reply, fetch_reply, walk_reply};
 ghost use Rattle.world_tables.specs.Touching.{StaysAllowed};
-ghost use Rattle.driver_book.specs.Calls.{Does};
+ghost use Rattle.driver_book.specs.Calls.{Does, WantsMemoryFor, IsLogFull, MayWorldWant};
 
 use crate::book::{Book, Driver};
 use crate::note::{completed, fetched, note, walked};
@@ -31,6 +31,7 @@ impl<L: Driver> Book<L> {
     pub fn fetch(&mut self, q: u16) -> Result<Fetched, StepRefused>
         ensures step { Does self.old None (events.Fetch q) (fetch_reply result) self.new }
         ensures touches { StaysAllowed self.old.world (events.Fetch q) (fetch_reply result) }
+        ensures memory { WantsMemoryFor (IsLogFull self.old ⊎ MayWorldWant self.old (events.Fetch q)) (fetch_reply result) }
     {
         if self.log.reserve(1).is_err() {
             return Err(unlogged());
@@ -48,6 +49,7 @@ impl<L: Driver> Book<L> {
     pub fn walk(&mut self, q: u16, cid: u16) -> Result<Walked, StepRefused>
         ensures step { Does self.old None (events.Walk q cid) (walk_reply result) self.new }
         ensures touches { StaysAllowed self.old.world (events.Walk q cid) (walk_reply result) }
+        ensures memory { WantsMemoryFor (IsLogFull self.old) (walk_reply result) }
     {
         if self.log.reserve(1).is_err() {
             return Err(unlogged());
@@ -65,6 +67,7 @@ impl<L: Driver> Book<L> {
     pub fn complete(&mut self, q: u16, cid: u16) -> Result<Completed, StepRefused>
         ensures step { Does self.old None (events.Complete q cid) (complete_reply result) self.new }
         ensures touches { StaysAllowed self.old.world (events.Complete q cid) (complete_reply result) }
+        ensures memory { WantsMemoryFor (IsLogFull self.old) (complete_reply result) }
     {
         if self.log.reserve(1).is_err() {
             return Err(unlogged());

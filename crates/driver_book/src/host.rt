@@ -1,9 +1,9 @@
 //! The host's steps that need no seat, each written down.
 
-ghost use Rattle.std.specs.Prelude.{◌≡◌, None, IfErr};
+ghost use Rattle.std.specs.Prelude.{◌≡◌, ◌⊎◌, None, IfErr};
 ghost use Rattle.machine_model.specs.Events as events;
 ghost use Rattle.step_core.specs.Replies.{reserve_reply, accept_reply, collect_reply, ring_reply, reap_reply, send_reply};
-ghost use Rattle.driver_book.specs.Calls.{Does};
+ghost use Rattle.driver_book.specs.Calls.{Does, WantsMemoryFor, IsLogFull, MayWorldWant};
 
 use crate::book::{Book, Driver};
 use crate::note::{collected, done, ended, note, reaped, reserved, sent};
@@ -56,6 +56,7 @@ impl<L: Driver> Book<L> {
     pub fn cancel(&mut self, draft: Draft) -> Result<(), Refused<Draft>>
         ensures step { Does self.old None (events.Cancel draft) (accept_reply result) self.new }
         ensures back { IfErr result (λ r. r.value ≡ draft) }
+        ensures memory { WantsMemoryFor (IsLogFull self.old) (accept_reply result) }
     {
         if self.log.reserve(1).is_err() {
             return Err(unlogged(draft));
@@ -75,7 +76,8 @@ impl<L: Driver> Book<L> {
     ///
     /// As there; `Memory` where the log cannot grow.
     pub fn ring(&mut self, q: u16) -> Result<(), Refusal>
-        ensures { Does self.old None (events.Ring q) (ring_reply result) self.new }
+        ensures step { Does self.old None (events.Ring q) (ring_reply result) self.new }
+        ensures memory { WantsMemoryFor (IsLogFull self.old) (ring_reply result) }
     {
         if self.log.reserve(1).is_err() {
             return Err(Refusal::Memory);
@@ -91,7 +93,8 @@ impl<L: Driver> Book<L> {
     ///
     /// As there; `Memory` also where the log cannot grow.
     pub fn reap(&mut self, q: u16) -> Result<Reaped, Refusal>
-        ensures { Does self.old None (events.Reap q) (reap_reply result) self.new }
+        ensures step { Does self.old None (events.Reap q) (reap_reply result) self.new }
+        ensures memory { WantsMemoryFor (IsLogFull self.old ⊎ MayWorldWant self.old (events.Reap q)) (reap_reply result) }
     {
         if self.log.reserve(1).is_err() {
             return Err(Refusal::Memory);
@@ -109,6 +112,7 @@ impl<L: Driver> Book<L> {
     pub fn collect(&mut self, ticket: Ticket) -> Result<Finished, Refused<Ticket>>
         ensures step { Does self.old None (events.Collect ticket.q ticket.cid) (collect_reply result) self.new }
         ensures back { IfErr result (λ r. r.value ≡ ticket) }
+        ensures memory { WantsMemoryFor (IsLogFull self.old ⊎ MayWorldWant self.old (events.Collect ticket.q ticket.cid)) (collect_reply result) }
     {
         if self.log.reserve(1).is_err() {
             return Err(unlogged(ticket));
@@ -128,7 +132,8 @@ impl<L: Driver> Book<L> {
     ///
     /// As there; `Memory` also where the log cannot grow.
     pub fn abort(&mut self, q: u16, cid: u16) -> Result<u16, Refusal>
-        ensures { Does self.old None (events.Abort q cid) (send_reply result) self.new }
+        ensures step { Does self.old None (events.Abort q cid) (send_reply result) self.new }
+        ensures memory { WantsMemoryFor (IsLogFull self.old ⊎ MayWorldWant self.old (events.Abort q cid)) (send_reply result) }
     {
         if self.log.reserve(1).is_err() {
             return Err(Refusal::Memory);
@@ -144,7 +149,8 @@ impl<L: Driver> Book<L> {
     ///
     /// As there; `Memory` also where the log cannot grow.
     pub fn delete_sq(&mut self, q: u16) -> Result<u16, Refusal>
-        ensures { Does self.old None (events.DeleteSq q) (send_reply result) self.new }
+        ensures step { Does self.old None (events.DeleteSq q) (send_reply result) self.new }
+        ensures memory { WantsMemoryFor (IsLogFull self.old ⊎ MayWorldWant self.old (events.DeleteSq q)) (send_reply result) }
     {
         if self.log.reserve(1).is_err() {
             return Err(Refusal::Memory);
@@ -160,7 +166,8 @@ impl<L: Driver> Book<L> {
     ///
     /// As there; `Memory` also where the log cannot grow.
     pub fn delete_cq(&mut self, q: u16) -> Result<u16, Refusal>
-        ensures { Does self.old None (events.DeleteCq q) (send_reply result) self.new }
+        ensures step { Does self.old None (events.DeleteCq q) (send_reply result) self.new }
+        ensures memory { WantsMemoryFor (IsLogFull self.old ⊎ MayWorldWant self.old (events.DeleteCq q)) (send_reply result) }
     {
         if self.log.reserve(1).is_err() {
             return Err(Refusal::Memory);
@@ -176,7 +183,8 @@ impl<L: Driver> Book<L> {
     ///
     /// As there; `Memory` where the log cannot grow.
     pub fn retire(&mut self, q: u16) -> Result<(), Refusal>
-        ensures { Does self.old None (events.Retire q) (ring_reply result) self.new }
+        ensures step { Does self.old None (events.Retire q) (ring_reply result) self.new }
+        ensures memory { WantsMemoryFor (IsLogFull self.old) (ring_reply result) }
     {
         if self.log.reserve(1).is_err() {
             return Err(Refusal::Memory);
@@ -192,7 +200,8 @@ impl<L: Driver> Book<L> {
     ///
     /// As there; `Memory` where the log cannot grow.
     pub fn forge(&mut self, q: u16, slot: u16, bytes: [u8; 16]) -> Result<(), Refusal>
-        ensures { Does self.old None (events.Forge q slot bytes) (ring_reply result) self.new }
+        ensures step { Does self.old None (events.Forge q slot bytes) (ring_reply result) self.new }
+        ensures memory { WantsMemoryFor (IsLogFull self.old) (ring_reply result) }
     {
         if self.log.reserve(1).is_err() {
             return Err(Refusal::Memory);

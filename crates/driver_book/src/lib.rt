@@ -13,20 +13,14 @@
 
 mod book;
 mod close;
-#[cfg(test)]
-mod close_tests;
 mod device;
 mod host;
 pub mod laws;
 mod log;
 mod note;
-#[cfg(test)]
-mod row_tests;
 mod seat;
-#[cfg(test)]
-mod tests;
 
-pub use book::{Book, Driver};
+pub use book::{Book, BookRefused, Driver};
 pub use close::CloseRefused;
 pub use log::{CloseFault, Entry, NoSeat, Receipt, Receipts, Report};
 pub use seat::Seat;

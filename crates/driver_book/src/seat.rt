@@ -1,10 +1,10 @@
 //! Seats: who submits has one, with a receipt for each accepted submission.
 
-ghost use Rattle.std.specs.Prelude.{◌≡◌, ◌≤◌, ◌<◌, ◌+◌, [], true, Some, None, position, length, vec_len, vec_capacity, IfOk, IfErr, OnOk};
+ghost use Rattle.std.specs.Prelude.{◌≡◌, ◌⊎◌, ◌≤◌, ◌<◌, ◌+◌, [], true, Some, None, position, length, vec_len, vec_capacity, IfOk, IfErr, OnOk};
 ghost use Rattle.std.specs.List.{list_any};
 ghost use Rattle.machine_model.specs.Events as events;
 ghost use Rattle.step_core.specs.Replies.{accept_reply};
-ghost use Rattle.driver_book.specs.Calls.{Does, Receives, Settles, is_open_for as is_open_receipt, settled};
+ghost use Rattle.driver_book.specs.Calls.{Does, Receives, Settles, WantsMemoryFor, IsLogFull, AreReceiptsFull, MayWorldWant, is_open_for as is_open_receipt, settled};
 
 use crate::book::{Book, Driver};
 use crate::host::unlogged;
@@ -26,12 +26,12 @@ pub struct Seat<L: Ledger> {
 }
 
 impl<L: Ledger> Model for Seat<L> {
-    ghost use Rattle.std.specs.Prelude.{◌≡◌, length};
+    ghost use Rattle.std.specs.Prelude.{◌≡◌, ◌-◌, length, vec_len, vec_capacity};
     ghost use Rattle.driver_book.specs.State.{SeatContents};
 
     ghost Value = { SeatContents };
 
-    ghost view = { λ s. record { number = s.number; receipts = s.receipts.items } };
+    ghost view = { λ s. record { number = s.number; receipts = s.receipts.items; spare = vec_capacity s.receipts - vec_len s.receipts } };
 
     ghost invariant = { λ s. (s.share.parts ≡ 1) × (s.share.amount ≡ length s.receipts.items) };
 }
@@ -41,7 +41,7 @@ impl<L: Ledger> Seat<L> {
     pub(crate) fn new(alloc: Global, number: u16, share: Share<L>) -> Self
         requires parts { share.parts ≡ 1 }
         requires amount { share.amount ≡ 0 }
-        ensures { result ≡ record { number = number; receipts = [] } }
+        ensures { result ≡ record { number = number; receipts = []; spare = 0 } }
     {
         Seat {
             number,
@@ -87,12 +87,12 @@ fn first_open(receipts: &[Receipt], q: u16, cid: u16) -> Option<usize>
     receipts.iter().position(|r| is_open_for(r, q, cid))
 }
 
-/// Gives the first receipt for this command without a status its status.
-fn settle(receipts: &mut [Receipt], q: u16, cid: u16, status: Status)
+/// Gives the first receipt for this command without a status the status that the command has.
+fn settle(receipts: &mut [Receipt], q: u16, cid: u16, status: Option<Status>)
     ensures { receipts.new ≡ settled q cid status receipts.old }
 {
     if let Some(i) = first_open(receipts, q, cid) {
-        receipts[i].status = Some(status);
+        receipts[i].status = status;
     }
 }
 
@@ -108,8 +108,12 @@ impl<L: Driver> Book<L> {
         ensures receipt { Receives self.old.log seat.old draft result seat.new }
         ensures back { IfErr result (λ r. r.value ≡ draft) }
         ensures ticket { IfOk result (λ ticket. ticket ≡ record { q = draft.q; cid = draft.cid }) }
+        ensures memory { WantsMemoryFor ((IsLogFull self.old ⊎ AreReceiptsFull seat.old) ⊎ MayWorldWant self.old (events.Submit draft)) (accept_reply result) }
     {
-        if self.log.reserve(1).is_err() || seat.receipts.reserve(1).is_err() {
+        if self.log.reserve(1).is_err() {
+            return Err(unlogged(draft));
+        }
+        if seat.receipts.reserve(1).is_err() {
             return Err(unlogged(draft));
         }
         let (q, cid) = (draft.q(), draft.cid());
@@ -133,7 +137,8 @@ impl<L: Driver> Book<L> {
         answer
     }
 
-    /// [`step_core::World::release`], for the seat that submitted the command: its receipt gets the status.
+    /// [`step_core::World::release`], for the seat that submitted the command: its receipt gets the status that the world kept, whatever
+    /// the finished command says.
     ///
     /// # Errors
     ///
@@ -145,13 +150,15 @@ impl<L: Driver> Book<L> {
     ) -> Result<(), Refused<Finished>>
         requires { list_any (is_open_receipt finished.q finished.cid) seat.old.receipts ≡ true }
         ensures step { Does self.old (Some seat.old.number) (events.Release finished) (accept_reply result) self.new }
-        ensures receipt { Settles seat.old finished result seat.new }
+        ensures receipt { Settles self.old.world seat.old finished result seat.new }
         ensures back { IfErr result (λ r. r.value ≡ finished) }
+        ensures memory { WantsMemoryFor (IsLogFull self.old) (accept_reply result) }
     {
         if self.log.reserve(1).is_err() {
             return Err(unlogged(finished));
         }
-        let (q, cid, status) = (finished.q(), finished.cid(), finished.status());
+        let (q, cid) = (finished.q(), finished.cid());
+        let status = self.world.status_of(q, cid);
         let answer = self.world.release(finished);
         note(
             &mut self.log,

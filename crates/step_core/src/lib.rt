@@ -39,6 +39,7 @@ mod reserve;
 mod retire;
 mod ring;
 mod send;
+mod status;
 mod step;
 mod submit;
 mod view;

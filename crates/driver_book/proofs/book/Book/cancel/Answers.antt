@@ -1,7 +1,8 @@
-use Rattle.std.proofs.Common.{None, refl}
+use Rattle.std.proofs.Common.{◌-◌, vec_capacity, vec_len, None, refl}
 use Rattle.machine_model.specs.Events as events
 use Rattle.step_core.specs.Replies.{accept_reply}
-use Rattle.driver_book.proofs.Runs.{does, keeps_book}
+use Rattle.driver_book.specs.Calls.{IsLogFull}
+use Rattle.driver_book.proofs.Runs.{does_in, keeps_book, takes_no_memory}
 use Rattle.driver_book.proofs.book.Book.cancel.Goals as goal
 
 pub invariant_of-self-2 : goal.invariant_of-self-2
@@ -11,5 +12,8 @@ invariant_of-self-2 g c =
 
 pub returns-clause-step : goal.returns-clause-step
 returns-clause-step g c =
-    rw (← c.self.view_is)
-    (does _ _ c.cancel-answer.new.self c.note.new.log.items None (events.Cancel c.args.draft) (accept_reply c.cancel-answer.result) c.cancel-answer.ensures.step (rw (c.note.ensures, c.reserve.ensures.items, c.q.ensures, c.cid.ensures, c.ended.ensures) refl) refl)
+    does_in c.self.view_is c.cancel-answer.new.self c.note.new.log.items (vec_capacity c.note.new.log - vec_len c.note.new.log) None (events.Cancel c.args.draft) (accept_reply c.cancel-answer.result) c.cancel-answer.ensures.step (rw (c.note.ensures, c.reserve.ensures.items, c.q.ensures, c.cid.ensures, c.ended.ensures) refl)
+
+pub returns-clause-memory : goal.returns-clause-memory
+returns-clause-memory g c =
+    takes_no_memory (IsLogFull c.args.self.now) c.self.inside.world c.cancel-answer.new.self (events.Cancel c.args.draft) (accept_reply c.cancel-answer.result) refl c.cancel-answer.ensures.step
