@@ -19,6 +19,7 @@ mod device;
 mod host;
 pub mod laws;
 mod log;
+mod look;
 mod note;
 #[cfg(test)]
 mod row_tests;

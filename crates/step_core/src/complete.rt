@@ -43,7 +43,7 @@ fn drop_submission(queues: &mut [Queue], q: u16)
 
 impl Parts {
     /// The place of the task that completes, or the first cause against it. Nothing changes.
-    fn check_complete(&mut self, q: u16, cid: u16) -> Result<usize, Refusal>
+    pub(crate) fn check_complete(&mut self, q: u16, cid: u16) -> Result<usize, Refusal>
         requires whole { IsWhole (tables_of self.old) }
         ensures refusal { result_err result ≡ complete_refusal (tables_of self.old) q cid }
         ensures place { IfOk result (λ place. find (is_task q cid) self.old.tasks.items ≡ slice_get self.old.tasks.items place) }

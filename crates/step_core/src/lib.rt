@@ -27,6 +27,7 @@ mod forge;
 mod kept;
 mod kept_values;
 pub mod laws;
+mod look;
 mod lookup;
 mod manage;
 mod moving;
@@ -47,6 +48,7 @@ mod world;
 
 pub use bench::Bench;
 pub use ended::{Ended, Leftover};
+pub use look::ControllerStep;
 pub use machine_model::words::{HostState, OpenRefusal, Phase, Reaped, Refusal, RejectedFor};
 pub use open::OpenRefused;
 pub use refused::{Completed, Fetched, Refused, StepRefused, Touched, Walked};
