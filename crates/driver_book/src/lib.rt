@@ -17,6 +17,7 @@ mod device;
 mod host;
 pub mod laws;
 mod log;
+mod look;
 mod note;
 mod seat;
 

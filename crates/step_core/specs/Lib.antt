@@ -4,3 +4,4 @@ pub mod Bench
 pub mod Kept
 pub mod Laws
 pub mod Going
+pub mod Looks

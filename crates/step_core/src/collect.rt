@@ -84,7 +84,7 @@ fn mark_collected(records: &mut Vec<Record>, place: usize)
 
 impl Parts {
     /// The place of a command that is held.
-    fn check_collect(&self, q: u16, cid: u16) -> Result<usize, Refusal>
+    pub(crate) fn check_collect(&self, q: u16, cid: u16) -> Result<usize, Refusal>
         requires { IsWhole (tables_of self.now) }
         ensures place { IfOk result (λ place. StandsAt (tables_of self.now) q cid place) }
         ensures within { IfOk result (λ place. place < length self.now.records.items) }

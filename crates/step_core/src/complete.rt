@@ -44,7 +44,7 @@ fn drop_submission(queues: &mut [Queue], q: u16)
 
 impl Parts {
     /// The place of the task that completes, or the first cause against it. Nothing changes.
-    fn check_complete(&self, q: u16, cid: u16) -> Result<usize, Refusal>
+    pub(crate) fn check_complete(&self, q: u16, cid: u16) -> Result<usize, Refusal>
         requires whole { IsWhole (tables_of self.now) }
         ensures refusal { result_err result ≡ complete_refusal (tables_of self.now) q cid }
         ensures place { IfOk result (λ place. find (is_task q cid) self.now.tasks.items ≡ slice_get self.now.tasks.items place) }

@@ -30,7 +30,7 @@ use std::alloc::AllocError;
 use world_tables::{Queue, Task, TaskWork};
 
 /// The controller's side of a queue that is live there.
-fn live_pair(queues: &[Queue], q: u16) -> Option<DevicePair>
+pub(crate) fn live_pair(queues: &[Queue], q: u16) -> Option<DevicePair>
     ensures { result ≡ live_side (slice_get queues.now q) }
 {
     let queue = queues.get(usize::from(q))?;
@@ -45,7 +45,7 @@ fn live_pair(queues: &[Queue], q: u16) -> Option<DevicePair>
 /// # Errors
 ///
 /// 1. `Idle`: nothing is rung. 2. `SlotOut`: the page of its slot is out.
-fn head_entry(store: &mut Store, pair: &DevicePair) -> Result<SubEntry, Refusal>
+pub(crate) fn head_entry(store: &mut Store, pair: &DevicePair) -> Result<SubEntry, Refusal>
     requires room { length store.old.touched ≤ 2 }
     ensures refusal { result_err result ≡ side_refusal store.old.pages pair.now }
     ensures some { IfOk result (λ e. pair.now.ring.head ≢ pair.now.ring.bell) }
@@ -66,7 +66,7 @@ fn head_entry(store: &mut Store, pair: &DevicePair) -> Result<SubEntry, Refusal>
 }
 
 /// Whether a queue has a task of this identifier.
-fn is_known(tasks: &[Task], q: u16, cid: u16) -> bool
+pub(crate) fn is_known(tasks: &[Task], q: u16, cid: u16) -> bool
     ensures { result ≡ is_some (find (is_task q cid) tasks.now) }
 {
     find_task(tasks, q, cid).is_some()

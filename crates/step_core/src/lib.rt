@@ -27,6 +27,7 @@ mod forge;
 mod kept;
 mod kept_values;
 pub mod laws;
+mod look;
 mod lookup;
 mod manage;
 mod moving;
@@ -54,6 +55,7 @@ pub use entry_codec::Status;
 pub use io_commands::{
     Draft, FillFault, Finished, Kind, Piece, Pieces, Request, RequestFault, RequestOf, Ticket,
 };
+pub use look::ControllerStep;
 pub use machine_model::words::{HostState, OpenRefusal, Phase, Reaped, Refusal, RejectedFor};
 pub use open::OpenRefused;
 pub use page_ledger::{Counts, Owner, Role};

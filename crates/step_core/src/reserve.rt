@@ -30,7 +30,7 @@ use world_tables::{Queue, Record};
 
 /// What a request gets: an identifier, and so many pages for its data and for its chain.
 #[derive(Clone, Copy)]
-struct Grant {
+pub(crate) struct Grant {
     cid: u16,
     front: u32,
     back: u32,
@@ -158,7 +158,7 @@ pub(crate) fn pages_of_request(request: &Request, segment: u16) -> (u32, u32)
 
 impl Parts {
     /// What a request gets, or the first cause against it.
-    fn check_reserve(&self, q: u16, request: &Request) -> Result<Grant, Refusal>
+    pub(crate) fn check_reserve(&self, q: u16, request: &Request) -> Result<Grant, Refusal>
         requires { IsWhole (tables_of self.now) }
         ensures granted { IfOk result (λ g. Grants (tables_of self.now) q request.now g.cid g.front g.back) }
         ensures refused { IfErr result (λ why. Refuses (state_of (tables_of self.now)) (events.Reserve q request.now) why []) }

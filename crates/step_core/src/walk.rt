@@ -52,7 +52,7 @@ fn step_task(store: &mut Store, task: &mut Task) -> WalkState
 
 impl Parts {
     /// The place of the task whose walk goes on, or the first cause against it.
-    fn check_walk(&self, q: u16, cid: u16) -> Result<usize, Refusal>
+    pub(crate) fn check_walk(&self, q: u16, cid: u16) -> Result<usize, Refusal>
         ensures refusal { result_err result ≡ walk_refusal (tables_of self.now) q cid }
         ensures place { IfOk result (λ place. find (is_task q cid) self.now.tasks.items ≡ slice_get self.now.tasks.items place) }
         ensures within { IfOk result (λ place. place < length self.now.tasks.items) }

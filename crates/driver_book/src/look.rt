@@ -1,0 +1,45 @@
+//! Looks at a book: what would be answered. They make no step, and nothing is written down.
+
+ghost use Rattle.std.specs.Prelude.{◌≡◌, ℕ, true, false, None, IfSome, IfNone, IsTrue};
+ghost use Rattle.machine_model.specs.Events as events;
+ghost use Rattle.machine_model.specs.Refusals.{refusal_of};
+ghost use Rattle.step_core.specs.Looks.{has_completion, event_of, IsAtRest};
+
+use crate::book::{Book, Driver};
+use io_commands::Request;
+use machine_model::words::Refusal;
+use step_core::ControllerStep;
+
+impl<L: Driver> Book<L> {
+    /// [`step_core::World::reserve_refusal`].
+    pub fn reserve_refusal(&self, q: u16, request: &Request) -> Option<Refusal>
+        ensures { result ≡ refusal_of self.now.world (events.Reserve q request.now) }
+    {
+        self.world.reserve_refusal(q, request)
+    }
+
+    /// [`step_core::World::collect_refusal`].
+    pub fn collect_refusal(&self, q: u16, cid: u16) -> Option<Refusal>
+        ensures { result ≡ refusal_of self.now.world (events.Collect q cid) }
+    {
+        self.world.collect_refusal(q, cid)
+    }
+
+    /// [`step_core::World::next_completion`].
+    pub fn next_completion(&mut self) -> Option<u16>
+        ensures some { IfSome result (λ q. has_completion self.old.world q ≡ true) }
+        ensures none { IfNone result ((q : ℕ) → has_completion self.old.world q ≡ false) }
+        ensures same { self.new ≡ self.old }
+    {
+        self.world.next_completion()
+    }
+
+    /// [`step_core::World::next_step`].
+    pub fn next_step(&mut self) -> Option<ControllerStep>
+        ensures possible { IfSome result (λ step. IsTrue self.old.world.trusted → refusal_of self.old.world (event_of step) ≡ None) }
+        ensures rest { IfNone result (IsTrue self.old.world.trusted → IsAtRest self.old.world) }
+        ensures same { self.new ≡ self.old }
+    {
+        self.world.next_step()
+    }
+}
