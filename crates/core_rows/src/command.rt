@@ -230,6 +230,34 @@ fn a_draft_of_another_world_is_a_stranger(rt: HostRuntime) -> Result<(), Fail> {
 }
 
 #[test]
+fn a_draft_that_another_world_refused_is_submitted_by_its_own(
+    rt: HostRuntime,
+) -> Result<(), Fail> {
+    let mut world = open(rt.alloc())?;
+    let mut other = open(rt.alloc())?;
+    let mut draft = match world.reserve(1, read(rt.alloc(), 1)?) {
+        Ok(draft) => draft,
+        Err(_) => return Err(Fail::from("it was not reserved")),
+    };
+    let built = draft.build(rt.alloc()).is_ok();
+    let (refused, submitted) = match other.submit(draft) {
+        Ok(ticket) => (None, Some(ticket.apart())),
+        Err(Refused { value, why }) => match world.submit(value) {
+            Ok(ticket) => (Some(why), Some(ticket.apart())),
+            Err(Refused { value, .. }) => {
+                noted(value);
+                (Some(why), None)
+            }
+        },
+    };
+    assert!(rt; built);
+    assert_eq!(rt; refused, Some(Refusal::Stranger));
+    assert_eq!(rt; submitted, Some((1, 0)));
+    assert_eq!(rt; (other.counts().free_pages, world.counts().free_pages), (12, 11));
+    Ok(())
+}
+
+#[test]
 fn a_forged_entry_ends_the_trust(rt: HostRuntime) -> Result<(), Fail> {
     let mut world = open(rt.alloc())?;
     assert_eq!(rt; world.forge(2, 0, [0; 16]), Err(Refusal::NoQueue));

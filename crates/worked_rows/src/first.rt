@@ -400,6 +400,19 @@ counts free 12 queue 4 chain 0 data 0
     Ok(())
 }
 
+/// An image that is read has the bytes of its reader.
+#[test]
+fn an_image_has_its_bytes(rt: HostRuntime) -> Result<(), Fail> {
+    let image = striped(rt.alloc())?;
+    assert_eq!(rt; image.blocks(), 2);
+    let mut bytes = [0; 1024];
+    image.copy_out(0, &mut bytes);
+    for (at, byte) in bytes.iter().enumerate() {
+        assert_eq!(rt; *byte, if at < 512 { 0x11 } else { 0x22 }, "byte {at}");
+    }
+    Ok(())
+}
+
 /// The image has bytes of its own.
 #[test]
 fn an_image_is_read(rt: HostRuntime) -> Result<(), Fail> {

@@ -1,7 +1,7 @@
 //! How a script is played.
 
 use block_image::Image;
-use script_cli::run_steps;
+use script_cli::{read_image, run_steps};
 use std::alloc::Global;
 use std::test::Fail;
 use step_core::Config;
@@ -22,13 +22,12 @@ pub fn zeros(alloc: Global) -> Result<Image, Fail> {
     }
 }
 
-/// An image of two blocks: 512 times 11h, then 512 times 22h.
+/// An image of two blocks that is read from its bytes: 512 times 11h, then 512 times 22h.
 pub fn striped(alloc: Global) -> Result<Image, Fail> {
-    let mut bytes = vec![in alloc; 0x11; 512]?;
-    for _ in 0..512 {
-        bytes.push(0x22)?;
-    }
-    match Image::from_bytes(bytes) {
+    let mut bytes = [0x11; 1024];
+    bytes[512..].fill(0x22);
+    let mut reader = bytes.as_slice();
+    match read_image(alloc, &mut reader) {
         Ok(image) => Ok(image),
         Err(_) => Err(Fail::from("no image")),
     }
