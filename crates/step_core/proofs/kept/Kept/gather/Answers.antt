@@ -12,7 +12,7 @@ returns-in_default-clause-does c =
 pub returns-in-Ok-clause-does : goal.returns-in-Ok-clause-does
 returns-in-Ok-clause-does c =
     let e : position (is_finished c.args.q c.args.cid) c.args.self.now.finished.items ≡ Some c.in-Some.place = cc in
-    gathers (table_of c.args.self.now) c.args.q c.args.cid c.in-Some.place c.index.result.now c.from_vec.result e c.index.ensures (c.from_vec.ensures ∙ c.in-Ok.ensures)
+    gathers (table_of c.args.self.now) c.args.q c.args.cid c.in-Some.place c.index.result.now c.from_vec.result e c.index.ensures (c.from_vec.ensures ∙ c.in-Ok.ensures.gathered)
 
 pub returns-in-Err-clause-does : goal.returns-in-Err-clause-does
 returns-in-Err-clause-does c =
