@@ -230,9 +230,7 @@ fn a_draft_of_another_world_is_a_stranger(rt: HostRuntime) -> Result<(), Fail> {
 }
 
 #[test]
-fn a_draft_that_another_world_refused_is_submitted_by_its_own(
-    rt: HostRuntime,
-) -> Result<(), Fail> {
+fn a_draft_that_another_world_refused_is_submitted_by_its_own(rt: HostRuntime) -> Result<(), Fail> {
     let mut world = open(rt.alloc())?;
     let mut other = open(rt.alloc())?;
     let mut draft = match world.reserve(1, read(rt.alloc(), 1)?) {
@@ -253,7 +251,10 @@ fn a_draft_that_another_world_refused_is_submitted_by_its_own(
     assert!(rt; built);
     assert_eq!(rt; refused, Some(Refusal::Stranger));
     assert_eq!(rt; submitted, Some((1, 0)));
-    assert_eq!(rt; (other.counts().free_pages, world.counts().free_pages), (12, 11));
+    assert_eq!(rt;
+        (other.counts().free_pages, world.counts().free_pages),
+        (12, 11)
+    );
     Ok(())
 }
 

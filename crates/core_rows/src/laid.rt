@@ -125,7 +125,10 @@ fn a_chain_of_two_segments_has_its_bytes(rt: HostRuntime) -> Result<(), Fail> {
     let sgl1 = draft.entry().map(|entry| entry.sgl1);
     let laid = (first_two(draft.pages(), 3), first_two(draft.pages(), 4));
     let finished = ended(&mut world, draft)?;
-    let stand = (first_two(finished.pages(), 3), first_two(finished.pages(), 4));
+    let stand = (
+        first_two(finished.pages(), 3),
+        first_two(finished.pages(), 4),
+    );
     finished.apart();
     assert_eq!(rt;
         sgl1,

@@ -9,6 +9,8 @@ mod command;
 #[cfg(test)]
 mod fetching;
 #[cfg(test)]
+mod heads;
+#[cfg(test)]
 mod laid;
 #[cfg(test)]
 mod opening;

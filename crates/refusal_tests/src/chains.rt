@@ -24,7 +24,10 @@ fn a_chain_takes_lists_and_links(rt: HostRuntime) {
         }
         assert_eq!(rt; built, Some(BuildFault::Memory), "growth {growth}");
         is_empty_after_refusal(&rt, &heap);
-        assert!(rt; Chain::build(&heap, &PARTS, &PAGES, 2).is_ok(), "growth {growth}");
+        assert!(rt;
+            Chain::build(&heap, &PARTS, &PAGES, 2).is_ok(),
+            "growth {growth}"
+        );
         refused = growth;
     }
     assert_eq!(rt; refused, 7);

@@ -64,9 +64,15 @@ fn builds_refused(rt: &impl Abort, heap: &Heap, draft: &mut Draft) -> u64 {
             assert!(rt; built.is_ok() && draft.entry().is_some());
             break;
         }
-        assert!(rt; built.is_err() && draft.entry().is_none(), "growth {growth}");
+        assert!(rt;
+            built.is_err() && draft.entry().is_none(),
+            "growth {growth}"
+        );
         for (_, page) in draft.pages() {
-            assert!(rt; page.bytes().iter().all(|byte| *byte == 0), "growth {growth}");
+            assert!(rt;
+                page.bytes().iter().all(|byte| *byte == 0),
+                "growth {growth}"
+            );
         }
         is_empty_after_refusal(rt, heap);
         refused = growth;
@@ -149,7 +155,9 @@ fn a_job_takes_one_block(rt: HostRuntime) -> Result<(), Fail> {
     assert!(rt; begin_job(&heap, &READ, &image).is_err());
     is_empty_after_refusal(&rt, &heap);
     heap.refuse(Refusal::Nth(2));
-    let verdict = begin_job(&heap, &READ, &image).ok().map(|job| job.verdict());
+    let verdict = begin_job(&heap, &READ, &image)
+        .ok()
+        .map(|job| job.verdict());
     assert_eq!(rt; verdict, Some(None));
     assert_eq!(rt; (heap.tally().calls, heap.tally().blocks), (1, 0));
     Ok(())
