@@ -26,7 +26,7 @@ struct Work<L: Driver> {
 }
 
 /// Starts a submitter for each list of jobs, a poller and a controller, and joins them.
-fn work<L: Driver + Send + Sync, G: Gate + Sync, R: Threads + Wait + Sync>(
+fn run_workers<L: Driver + Send + Sync, G: Gate + Sync, R: Threads + Wait + Sync>(
     rt: &R,
     alloc: Global,
     shared: &Shared<L>,
@@ -158,7 +158,7 @@ pub fn run_threads<L: Driver + Send + Sync, G: Gate + Sync, R: Threads + Wait + 
         }
     };
     let shared = Shared::new(book);
-    let worked = work(rt, alloc, &shared, gate, jobs);
+    let worked = run_workers(rt, alloc, &shared, gate, jobs);
     let book = shared.end();
     finish(alloc, book, worked?)
 }

@@ -23,6 +23,7 @@ pub(crate) enum Halt {
 }
 
 /// What a request on a queue is answered now.
+#[derive(Clone, Copy)]
 enum Turn {
     /// It would be reserved.
     Free,
@@ -66,20 +67,17 @@ impl<L: Driver> Shared<L> {
         q: u16,
         request: Request,
     ) -> Result<Draft, Halt> {
-        let mut book = self.lock(rt);
-        for _ in rt.forever() {
-            match turn_of(&book, q, &request) {
-                Turn::Free => {
-                    return match book.reserve(q, request) {
-                        Ok(draft) => Ok(draft),
-                        Err(_) => Err(Halt::Memory),
-                    };
-                }
-                Turn::Later => book = self.freed.wait(rt, book),
-                Turn::Never(halt) => return Err(halt),
-            }
+        let mut book = self.freed.wait_while(rt, self.lock(rt), |book| {
+            matches!(turn_of(book, q, &request), Turn::Later)
+        });
+        match turn_of(&*book, q, &request) {
+            Turn::Free => match book.reserve(q, request) {
+                Ok(draft) => Ok(draft),
+                Err(_) => Err(Halt::Memory),
+            },
+            Turn::Later => Err(Halt::Stopped),
+            Turn::Never(halt) => Err(halt),
         }
-        unreachable!()
     }
 
     /// Waits until a command has ended, and collects it.

@@ -1,7 +1,8 @@
 //! What the threads do: submitters carry jobs through, a poller takes completions, a controller serves.
 
-ghost use Rattle.std.specs.Prelude.{◌≡◌, ◌≤◌, true, length};
+ghost use Rattle.std.specs.Prelude.{◌≡◌, ◌≤◌, true, length, IfOk};
 ghost use Rattle.std.specs.List.{list_any};
+ghost use Rattle.driver_book.specs.Calls.{is_open_for};
 
 use crate::gate::{Gate, Point};
 use crate::jobs::{Job, JobEnd, JobRefusal};
@@ -121,7 +122,9 @@ fn submitted<L: Driver, R: Wait>(
     shared: &Shared<L>,
     seat: &mut Seat<L>,
     draft: Draft,
-) -> Result<Ticket, Halt> {
+) -> Result<Ticket, Halt>
+    ensures { IfOk result (λ ticket. list_any (is_open_for ticket.q ticket.cid) seat.new.receipts ≡ true) }
+{
     match shared.submit(rt, seat, draft) {
         Ok(ticket) => Ok(ticket),
         Err(refused) => {
@@ -141,7 +144,9 @@ fn finished<L: Driver, R: Wait>(
     shared: &Shared<L>,
     seat: &mut Seat<L>,
     finished: Finished,
-) -> Result<JobEnd, Halt> {
+) -> Result<JobEnd, Halt>
+    requires { list_any (is_open_for finished.q finished.cid) seat.old.receipts ≡ true }
+{
     let status = finished.status();
     let Ok(bytes) = finished.gather(alloc) else {
         let _spent = finished.apart();
