@@ -1,0 +1,23 @@
+-- What a run of threads leaves.
+use Rattle.std.specs.Prelude.{◌≡◌, None, List}
+use Rattle.driver_book.specs.History.{accepted}
+use Rattle.driver_book.specs.State.{BookContents, SeatContents}
+use Rattle.driver_book.specs.declared.log.Report.{Report}
+use Rattle.machine_model.specs.State.{State}
+use Rattle.world_tables.specs.Opening.{refusal_of_config, RefusesOpening}
+use Rattle.world_tables.specs.declared.config.Config.{Config}
+use Rattle.driver_threads.specs.Sharing.{Closes}
+use Rattle.driver_threads.specs.declared.jobs.RunFault.{RunFault}
+use Rattle.driver_threads.specs.declared.jobs.RunFault.TheVariants.{Open}
+
+-- the report is that of this very book, which was closed with some seats and is otherwise as it was
+pub record RanFrom (opening : State) (report : Report) (book : BookContents) : Type 0 where
+  pub seats : List SeatContents
+  pub before : BookContents
+  pub closed : Closes opening report seats before
+  pub same : book ≡ record before { out = 0; taken = accepted before.log }
+
+-- a run is refused for its opening where that is refused, and for nothing else then
+abbrev pub RefusesRun : Config → RunFault → Type 0
+RefusesRun config (Open why) = RefusesOpening config why
+RefusesRun config why = refusal_of_config config ≡ None

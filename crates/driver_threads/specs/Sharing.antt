@@ -1,0 +1,78 @@
+-- What a call of a shared book says: that some book of this opening, whose log leads from there to its world, did it.
+use Rattle.std.specs.Prelude.{◌≡◌, ℕ, ◌≤◌, Option, Some, None, List, length, Result, MatchOption}
+use Rattle.std.specs.List.{Contains}
+use Rattle.io_commands.specs.Drafts.{DraftContents}
+use Rattle.io_commands.specs.Values.{FinishedContents, TicketContents}
+use Rattle.machine_model.specs.Claims.{claims_of, counts_of, IsSound}
+use Rattle.machine_model.specs.Events as events
+use Rattle.machine_model.specs.Events.{Event, Reply}
+use Rattle.machine_model.specs.State.{State}
+use Rattle.page_ledger.specs.Counting.{total}
+use Rattle.page_ledger.specs.declared.owner.Counts.{Counts}
+use Rattle.page_ledger.specs.declared.owner.Owner.{Owner}
+use Rattle.driver_book.specs.Calls.{Does, Receives, Settles}
+use Rattle.driver_book.specs.Close.{AllStand, IsDone, RefusesClose, Reports, receipts_of}
+use Rattle.driver_book.specs.History.{LeadsTo, accepted}
+use Rattle.driver_book.specs.State.{BookContents, SeatContents}
+use Rattle.driver_book.specs.declared.log.CloseFault.{CloseFault}
+use Rattle.driver_book.specs.declared.log.Report.{Report}
+use Rattle.step_core.specs.Replies.{accept_reply}
+use Rattle.step_core.specs.declared.refused.Refused.{Refused}
+
+-- A book of this opening: its log is that of a run that leads from there to the world as it is, and the world is sound, so each page has one
+-- owner, the counts add up, and the identifiers of a queue are distinct.
+pub record IsBookOf (opening : State) (book : BookContents) : Type 0 where
+  pub opens : book.opening ≡ opening
+  pub legal : LeadsTo opening book.log book.world
+  pub sound : IsSound book.world
+
+-- some book of this opening made this step
+pub record Made (opening : State) (seat : Option ℕ) (e : Event) (r : Reply) : Type 0 where
+  pub old : BookContents
+  pub new : BookContents
+  pub of : IsBookOf opening old
+  pub does : Does old seat e r new
+
+-- and gave the seat a receipt, where the submission was accepted
+pub record Submitted (opening : State) (seat : SeatContents) (d : DraftContents) (result : Result TicketContents (Refused DraftContents)) (next : SeatContents) : Type 0 where
+  pub old : BookContents
+  pub new : BookContents
+  pub of : IsBookOf opening old
+  pub does : Does old (Some seat.number) (events.Submit d) (accept_reply result) new
+  pub receives : Receives old.log seat d result next
+
+-- and gave the seat's receipt its status, where the command was released
+pub record Released (opening : State) (seat : SeatContents) (f : FinishedContents) {A : Type 0} (result : Result A (Refused FinishedContents)) (next : SeatContents) : Type 0 where
+  pub old : BookContents
+  pub new : BookContents
+  pub of : IsBookOf opening old
+  pub does : Does old (Some seat.number) (events.Release f) (accept_reply result) new
+  pub settles : Settles seat f result next
+
+-- some book of this opening says whose a page is; it has no such page
+pub record Tells (opening : State) (p : ℕ) (answer : Option Owner) : Type 0 where
+  pub book : BookContents
+  pub of : IsBookOf opening book
+  pub tells : MatchOption answer (length book.world.memory ≤ p) (λ owner. Contains (claims_of book.world.host) (p, owner))
+
+pub record Counted (opening : State) (counts : Counts) : Type 0 where
+  pub book : BookContents
+  pub of : IsBookOf opening book
+  pub counts_are : counts ≡ counts_of book.world.host
+  pub all : total counts ≡ length book.world.memory
+
+-- A book of this opening was closed with these seats: each accepted submission of its log stands in their receipts, there is no further
+-- receipt, each has its status, and no command was outstanding.
+pub record Closes (opening : State) (report : Report) (seats : List SeatContents) (book : BookContents) : Type 0 where
+  pub of : IsBookOf opening book
+  pub stand : AllStand book.log seats
+  pub no_more : receipts_of seats ≡ accepted book.log
+  pub all_seats : book.out ≤ length seats
+  pub done : IsDone book seats
+  pub reports : Reports report book seats
+
+-- some book of this opening was not closed, for this cause and no earlier one
+pub record StaysOpen (opening : State) (why : CloseFault) (seats : List SeatContents) : Type 0 where
+  pub book : BookContents
+  pub of : IsBookOf opening book
+  pub refuses : RefusesClose why book seats

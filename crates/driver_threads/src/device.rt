@@ -1,0 +1,52 @@
+//! The controller's steps of a shared book.
+
+ghost use Rattle.std.specs.Prelude.{None};
+ghost use Rattle.driver_threads.specs.Sharing.{Made};
+ghost use Rattle.machine_model.specs.Events as events;
+ghost use Rattle.step_core.specs.Replies.{complete_reply, fetch_reply, walk_reply};
+
+use crate::shared::Shared;
+use driver_book::Driver;
+use std::sync::Wait;
+use step_core::{Completed, Fetched, StepRefused, Walked};
+
+impl<L: Driver> Shared<L> {
+    /// [`driver_book::Book::fetch`].
+    ///
+    /// # Errors
+    ///
+    /// As there.
+    pub fn fetch<R: Wait>(&self, rt: &R, q: u16) -> Result<Fetched, StepRefused>
+        ensures { Made L.opening None (events.Fetch q) (fetch_reply result) }
+    {
+        let answer = self.lock(rt).fetch(q);
+        self.wake();
+        answer
+    }
+
+    /// [`driver_book::Book::walk`].
+    ///
+    /// # Errors
+    ///
+    /// As there.
+    pub fn walk<R: Wait>(&self, rt: &R, q: u16, cid: u16) -> Result<Walked, StepRefused>
+        ensures { Made L.opening None (events.Walk q cid) (walk_reply result) }
+    {
+        let answer = self.lock(rt).walk(q, cid);
+        self.wake();
+        answer
+    }
+
+    /// [`driver_book::Book::complete`].
+    ///
+    /// # Errors
+    ///
+    /// As there.
+    pub fn complete<R: Wait>(&self, rt: &R, q: u16, cid: u16) -> Result<Completed, StepRefused>
+        ensures { Made L.opening None (events.Complete q cid) (complete_reply result) }
+    {
+        let answer = self.lock(rt).complete(q, cid);
+        self.wake();
+        answer
+    }
+}

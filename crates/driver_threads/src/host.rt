@@ -1,0 +1,192 @@
+//! The host's steps of a shared book.
+
+ghost use Rattle.std.specs.Prelude.{◌≡◌, true, None, IfErr, IfOk};
+ghost use Rattle.std.specs.List.{list_any};
+ghost use Rattle.driver_book.specs.Calls.{is_open_for};
+ghost use Rattle.driver_threads.specs.Sharing.{Made, Submitted, Released};
+ghost use Rattle.machine_model.specs.Events as events;
+ghost use Rattle.step_core.specs.Replies.{reserve_reply, accept_reply, collect_reply, ring_reply, reap_reply, send_reply};
+
+use crate::shared::Shared;
+use driver_book::{Driver, Seat};
+use io_commands::{Draft, Finished, Request, Ticket};
+use std::sync::Wait;
+use step_core::{Reaped, Refusal, Refused};
+
+impl<L: Driver> Shared<L> {
+    /// [`driver_book::Book::reserve`].
+    ///
+    /// # Errors
+    ///
+    /// As there; the request is handed back.
+    pub fn reserve<R: Wait>(
+        &self,
+        rt: &R,
+        q: u16,
+        request: Request,
+    ) -> Result<Draft, Refused<Request>>
+        ensures step { Made L.opening None (events.Reserve q request) (reserve_reply result) }
+        ensures back { IfErr result (λ r. r.value ≡ request) }
+    {
+        self.lock(rt).reserve(q, request)
+    }
+
+    /// [`driver_book::Book::submit`]. The seat's receipt for the command has no status yet, which is what [`Shared::release`] owes.
+    ///
+    /// # Errors
+    ///
+    /// As there; the draft is handed back, and the seat is as it was.
+    pub fn submit<R: Wait>(
+        &self,
+        rt: &R,
+        seat: &mut Seat<L>,
+        draft: Draft,
+    ) -> Result<Ticket, Refused<Draft>>
+        ensures step { Submitted L.opening seat.old draft result seat.new }
+        ensures back { IfErr result (λ r. r.value ≡ draft) }
+        ensures ticket { IfOk result (λ ticket. ticket ≡ record { q = draft.q; cid = draft.cid }) }
+        ensures awaits { IfOk result (λ ticket. list_any (is_open_for ticket.q ticket.cid) seat.new.receipts ≡ true) }
+    {
+        self.lock(rt).submit(seat, draft)
+    }
+
+    /// [`driver_book::Book::cancel`].
+    ///
+    /// # Errors
+    ///
+    /// As there; the draft is handed back.
+    pub fn cancel<R: Wait>(&self, rt: &R, draft: Draft) -> Result<(), Refused<Draft>>
+        ensures step { Made L.opening None (events.Cancel draft) (accept_reply result) }
+        ensures back { IfErr result (λ r. r.value ≡ draft) }
+    {
+        let answer = self.lock(rt).cancel(draft);
+        self.wake();
+        answer
+    }
+
+    /// [`driver_book::Book::ring`].
+    ///
+    /// # Errors
+    ///
+    /// As there.
+    pub fn ring<R: Wait>(&self, rt: &R, q: u16) -> Result<(), Refusal>
+        ensures { Made L.opening None (events.Ring q) (ring_reply result) }
+    {
+        let answer = self.lock(rt).ring(q);
+        self.wake();
+        answer
+    }
+
+    /// [`driver_book::Book::reap`].
+    ///
+    /// # Errors
+    ///
+    /// As there.
+    pub fn reap<R: Wait>(&self, rt: &R, q: u16) -> Result<Reaped, Refusal>
+        ensures { Made L.opening None (events.Reap q) (reap_reply result) }
+    {
+        let answer = self.lock(rt).reap(q);
+        self.wake();
+        answer
+    }
+
+    /// [`driver_book::Book::collect`]. It does not wait.
+    ///
+    /// # Errors
+    ///
+    /// As there; the ticket is handed back.
+    pub fn collect<R: Wait>(&self, rt: &R, ticket: Ticket) -> Result<Finished, Refused<Ticket>>
+        ensures step { Made L.opening None (events.Collect ticket.q ticket.cid) (collect_reply result) }
+        ensures back { IfErr result (λ r. r.value ≡ ticket) }
+        ensures command { IfOk result (λ finished. (finished.q ≡ ticket.q) × (finished.cid ≡ ticket.cid)) }
+    {
+        self.lock(rt).collect(ticket)
+    }
+
+    /// [`driver_book::Book::release`].
+    ///
+    /// # Errors
+    ///
+    /// As there; the command is handed back, and the seat is as it was.
+    pub fn release<R: Wait>(
+        &self,
+        rt: &R,
+        seat: &mut Seat<L>,
+        finished: Finished,
+    ) -> Result<(), Refused<Finished>>
+        requires { list_any (is_open_for finished.q finished.cid) seat.old.receipts ≡ true }
+        ensures step { Released L.opening seat.old finished result seat.new }
+        ensures back { IfErr result (λ r. r.value ≡ finished) }
+    {
+        let answer = self.lock(rt).release(seat, finished);
+        self.wake();
+        answer
+    }
+
+    /// [`driver_book::Book::abort`].
+    ///
+    /// # Errors
+    ///
+    /// As there.
+    pub fn abort<R: Wait>(&self, rt: &R, q: u16, cid: u16) -> Result<u16, Refusal>
+        ensures { Made L.opening None (events.Abort q cid) (send_reply result) }
+    {
+        self.lock(rt).abort(q, cid)
+    }
+
+    /// [`driver_book::Book::delete_sq`].
+    ///
+    /// # Errors
+    ///
+    /// As there.
+    pub fn delete_sq<R: Wait>(&self, rt: &R, q: u16) -> Result<u16, Refusal>
+        ensures { Made L.opening None (events.DeleteSq q) (send_reply result) }
+    {
+        let answer = self.lock(rt).delete_sq(q);
+        self.wake();
+        answer
+    }
+
+    /// [`driver_book::Book::delete_cq`].
+    ///
+    /// # Errors
+    ///
+    /// As there.
+    pub fn delete_cq<R: Wait>(&self, rt: &R, q: u16) -> Result<u16, Refusal>
+        ensures { Made L.opening None (events.DeleteCq q) (send_reply result) }
+    {
+        self.lock(rt).delete_cq(q)
+    }
+
+    /// [`driver_book::Book::retire`].
+    ///
+    /// # Errors
+    ///
+    /// As there.
+    pub fn retire<R: Wait>(&self, rt: &R, q: u16) -> Result<(), Refusal>
+        ensures { Made L.opening None (events.Retire q) (ring_reply result) }
+    {
+        let answer = self.lock(rt).retire(q);
+        self.wake();
+        answer
+    }
+
+    /// [`driver_book::Book::forge`].
+    ///
+    /// # Errors
+    ///
+    /// As there.
+    pub fn forge<R: Wait>(
+        &self,
+        rt: &R,
+        q: u16,
+        slot: u16,
+        bytes: [u8; 16],
+    ) -> Result<(), Refusal>
+        ensures { Made L.opening None (events.Forge q slot bytes) (ring_reply result) }
+    {
+        let answer = self.lock(rt).forge(q, slot, bytes);
+        self.wake();
+        answer
+    }
+}

@@ -1,0 +1,126 @@
+//! What submitters are told to do, and how their jobs and a whole run end.
+
+ghost use Rattle.std.specs.Prelude.{◌≡◌, map};
+
+use driver_book::{Book, CloseFault, Driver, Report};
+use entry_codec::Status;
+use io_commands::{Request, RequestFault};
+use std::marker::Model;
+use step_core::{Bytes, OpenRefusal};
+use thiserror::Error;
+
+/// A command that a submitter carries through.
+#[derive(Debug, Drop)]
+pub struct Job {
+    /// Its queue.
+    pub q: u16,
+    /// What is asked for.
+    pub request: Request,
+    /// The data of a Write or a Compare; where it is shorter than the data pieces, zeros stand behind it. A Read has none, and what
+    /// stands here of it is not looked at.
+    pub bytes: Bytes,
+}
+
+/// How a job ended.
+#[derive(Debug, Drop)]
+pub enum JobEnd {
+    /// Its command was carried through.
+    Done {
+        /// How the command ended.
+        status: Status,
+        /// What it gathered: a Read's data pieces joined in order, and nothing of a Write or a Compare.
+        bytes: Bytes,
+    },
+    /// It was refused, and left nothing.
+    Refused(JobRefusal),
+}
+
+/// Why a job was refused: the first of these that holds.
+#[derive(Clone, Copy, Debug, PartialEq, Eq, Error)]
+pub enum JobRefusal {
+    /// There is no such I/O queue, or its submission half was given back.
+    #[error("there is no such queue")]
+    NoQueue,
+    /// The queue takes no more commands: it is being deleted.
+    #[error("the queue takes no more commands")]
+    QueueGone,
+    /// The request has a fault.
+    #[error("the request has a fault: {0}")]
+    Bad(RequestFault),
+    /// It needs more pages than the queues leave of the pool.
+    #[error("{need} pages are needed, and no queue owns {pool}")]
+    NoPages {
+        /// How many pages it needs.
+        need: u32,
+        /// How many pages no queue owns.
+        pool: u32,
+    },
+    /// There are more bytes than its data pieces take.
+    #[error("there are more bytes than the data pieces take")]
+    WrongLength,
+}
+
+/// How the jobs of submitters ended, one list for each submitter. Contracts see these lists.
+#[derive(Debug, Drop)]
+pub struct JobEnds {
+    lists: Vec<Vec<JobEnd>>,
+}
+
+impl Model for JobEnds {
+    ghost use Rattle.std.specs.Prelude.{List, map};
+    ghost use Rattle.driver_threads.specs.declared.jobs.JobEnd.{JobEnd};
+
+    ghost Value = { List (List JobEnd) };
+
+    ghost view = { λ e. map (λ list. list.items) e.lists.items };
+}
+
+impl JobEnds {
+    /// These lists.
+    pub(crate) fn of(lists: Vec<Vec<JobEnd>>) -> Self
+        ensures { result ≡ map (λ list. list.items) lists.items }
+    {
+        JobEnds { lists }
+    }
+
+    /// The lists, one for each submitter, in their order.
+    pub fn as_slice(&self) -> &[Vec<JobEnd>]
+        ensures { map (λ list. list.items) result.now ≡ self.now }
+    {
+        &self.lists
+    }
+}
+
+/// What a run of threads leaves.
+#[derive(Drop)]
+pub struct Ran<L: Driver> {
+    /// What the book said as it was closed.
+    pub report: Report,
+    /// How the jobs ended.
+    pub jobs: JobEnds,
+    /// The book.
+    pub book: Book<L>,
+}
+
+/// Why a run of threads failed.
+#[derive(Clone, Copy, Debug, PartialEq, Eq, Error)]
+pub enum RunFault {
+    /// No world was opened.
+    #[error("no world was opened")]
+    Open(OpenRefusal),
+    /// A thread could not be made.
+    #[error("a thread could not be made")]
+    NoThread,
+    /// A gate was closed to a worker: the least of those to whom one was.
+    #[error("the gate was closed to worker {worker}")]
+    GateClosed {
+        /// The worker.
+        worker: u16,
+    },
+    /// The book was not closed.
+    #[error("the book was not closed: {0}")]
+    Close(CloseFault),
+    /// Memory was refused.
+    #[error("memory was refused")]
+    Memory,
+}

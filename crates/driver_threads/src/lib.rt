@@ -1,0 +1,26 @@
+//! A book under a lock, and the threads that work on it.
+//!
+//! [`Shared`] has a [`Book`](driver_book::Book) under one lock. Whoever takes the lock finds a book of the opening: its log tells of a run of the
+//! machine that leads to the world as it is. Each call makes one step of it, or looks at it.
+//!
+//! [`submitter`]s carry jobs through, one after the other; a [`poller`] takes completions, a [`controller`] serves. Data is filled, lists are
+//! built and bytes are gathered outside the lock. Who waits sleeps on a condition variable and looks at the book as it wakes: a wait makes no
+//! step and writes nothing down, so the log of a run is as long as its jobs make it, whatever the schedule.
+//!
+//! [`run_threads`] opens a book, runs submitters over it with a poller and a controller, each in a thread of its own, and closes it.
+#![tactic(auto)]
+
+mod device;
+mod gate;
+mod host;
+mod jobs;
+mod run;
+mod shared;
+mod waits;
+mod workers;
+
+pub use gate::{Gate, GateClosed, Open, Point};
+pub use jobs::{Job, JobEnd, JobEnds, JobRefusal, Ran, RunFault};
+pub use run::run_threads;
+pub use shared::Shared;
+pub use workers::{Worked, controller, poller, submitter};

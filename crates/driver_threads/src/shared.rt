@@ -1,0 +1,117 @@
+//! A book that threads share.
+
+ghost use Rattle.std.specs.Prelude.{◌≡◌, [], IfOk, IfErr};
+ghost use Rattle.std.specs.Sync.Mutex.{mutex_guard_value};
+ghost use Rattle.driver_book.specs.State.{BookContents};
+ghost use Rattle.driver_threads.specs.Sharing.{IsBookOf, Tells, Counted, Closes, StaysOpen};
+
+use driver_book::{Book, CloseRefused, Driver, NoSeat, Report, Seat};
+use page_ledger::{Counts, Owner};
+use page_memory::PageNo;
+use std::sync::{Condvar, Mutex, MutexGuard, Wait};
+
+/// A book under the driver's lock. Each call makes one step of it, or looks at it, while it has the lock.
+///
+/// Who waits sleeps on a condition variable, looks at the book as it wakes, and makes its step once it would be answered otherwise.
+#[derive(Drop)]
+pub struct Shared<L: Driver> {
+    book: Mutex<Book<L>>,
+    /// Submitters wait here: for identifiers, for pages, and for the end of their commands.
+    pub(crate) freed: Condvar,
+    /// The poller and the controller wait here: for completions, and for entries to fetch.
+    pub(crate) work: Condvar,
+}
+
+impl<L: Driver> Shared<L> {
+    /// Puts a book under a lock.
+    pub fn new(book: Book<L>) -> Self {
+        Shared {
+            book: Mutex::new(book),
+            freed: Condvar::new(),
+            work: Condvar::new(),
+        }
+    }
+
+    /// Takes the lock. What it finds there is a book of the opening: its log leads from the opening to the world, which is sound.
+    pub(crate) fn lock<R: Wait>(&self, rt: &R) -> MutexGuard<'_, Book<L>>
+        ensures { IsBookOf L.opening (mutex_guard_value result) }
+    {
+        let book = self.book.lock(rt);
+        book.check();
+        book
+    }
+
+    /// Wakes all that wait, since what they look at has changed.
+    pub(crate) fn wake(&self) {
+        self.freed.notify_all();
+        self.work.notify_all();
+    }
+
+    /// Makes a seat, with the next number and no receipts.
+    ///
+    /// # Errors
+    ///
+    /// Where 65,535 seats were made.
+    pub fn seat<R: Wait>(&self, rt: &R) -> Result<Seat<L>, NoSeat>
+        ensures { IfOk result (λ seat. seat.receipts ≡ []) }
+    {
+        self.lock(rt).seat()
+    }
+
+    /// Tells the workers to stop.
+    pub fn stop<R: Wait>(&self, rt: &R) {
+        self.lock(rt).stop();
+        self.wake();
+    }
+
+    /// Whether the workers are told to stop.
+    pub fn stopping<R: Wait>(&self, rt: &R) -> bool {
+        self.lock(rt).stopping()
+    }
+
+    /// Whose a page is; `None` for one that the pool does not have.
+    pub fn owner<R: Wait>(&self, rt: &R, p: PageNo) -> Option<Owner>
+        ensures { Tells L.opening p result }
+    {
+        let book = self.lock(rt);
+        if p.0 < book.pages() {
+            Some(book.owner(p))
+        } else {
+            None
+        }
+    }
+
+    /// How many pages are free, and how many belong to queues, to chains and to data.
+    pub fn counts<R: Wait>(&self, rt: &R) -> Counts
+        ensures { Counted L.opening result }
+    {
+        self.lock(rt).counts()
+    }
+
+    /// Compares the log with the receipts of the seats, as [`Book::close`], and takes the seats.
+    ///
+    /// # Errors
+    ///
+    /// As there; the seats are handed back.
+    pub fn close<R: Wait>(
+        &self,
+        rt: &R,
+        seats: Vec<Seat<L>>,
+    ) -> Result<Report, CloseRefused<L>>
+        ensures closed { IfOk result (λ report. (book : BookContents) × Closes L.opening report seats.items book) }
+        ensures cause { IfErr result (λ refused. StaysOpen L.opening refused.why seats.items) }
+        ensures back { IfErr result (λ refused. refused.seats.items ≡ seats.items) }
+    {
+        self.lock(rt).close(seats)
+    }
+
+    /// The book, once nobody shares it.
+    pub fn end(self) -> Book<L> {
+        let Shared {
+            book,
+            freed: _,
+            work: _,
+        } = self;
+        book.into_inner()
+    }
+}

@@ -1,0 +1,276 @@
+//! What the threads do: submitters carry jobs through, a poller takes completions, a controller serves.
+
+ghost use Rattle.std.specs.Prelude.{◌≡◌, ◌≤◌, true, length, IfOk};
+ghost use Rattle.std.specs.List.{list_any};
+ghost use Rattle.driver_book.specs.Calls.{is_open_for};
+
+use crate::gate::{Gate, Point};
+use crate::jobs::{Job, JobEnd, JobRefusal};
+use crate::shared::Shared;
+use crate::waits::Halt;
+use driver_book::{Driver, Seat};
+use io_commands::{Draft, Finished, Kind, Ticket};
+use std::alloc::{AllocError, Global};
+use std::sync::Wait;
+use std::sync::ledger::Ledger;
+use step_core::{Bytes, Refusal};
+
+/// What a submitter gives back.
+#[derive(Drop)]
+pub struct Worked<L: Ledger> {
+    /// Its seat; none where no more seats were to be had.
+    pub seat: Option<Seat<L>>,
+    /// How its jobs ended, in their order. It has fewer than there were jobs where the workers were told to stop.
+    pub ends: Vec<JobEnd>,
+    /// Whether a gate was closed to it.
+    pub closed: bool,
+    /// Whether memory was refused to it.
+    pub short: bool,
+}
+
+/// A submitter's gate, and whether it was closed once.
+#[derive(Drop)]
+struct Watch<'a, G> {
+    gate: &'a G,
+    worker: u16,
+    closed: bool,
+}
+
+impl<G: Gate> Watch<'_, G> {
+    /// The submitter is at this point of a job.
+    fn pass(&mut self, point: Point) {
+        if self.gate.at(self.worker, point).is_err() {
+            self.closed = true;
+        }
+    }
+}
+
+/// The bytes, with zeros behind them up to a length.
+fn padded(bytes: Bytes, whole: usize) -> Result<Vec<u8>, AllocError>
+    requires { length bytes ≤ whole }
+{
+    let mut padded = bytes.into_vec();
+    padded.resize(whole, 0)?;
+    Ok(padded)
+}
+
+/// Fills a source with its bytes, and with zeros behind them. No lock is held.
+fn fill(draft: &mut Draft, bytes: Bytes) -> Result<(), Halt> {
+    let request = draft.request();
+    if matches!(request.kind, Kind::Read) {
+        return Ok(());
+    }
+    let whole = request.data_bytes() as usize;
+    if whole < bytes.as_slice().len() {
+        return Err(Halt::Refused(JobRefusal::WrongLength));
+    }
+    let Ok(padded) = padded(bytes, whole) else {
+        return Err(Halt::Memory);
+    };
+    match draft.fill(&padded) {
+        Ok(()) => Ok(()),
+        Err(_) => Err(Halt::Refused(JobRefusal::WrongLength)),
+    }
+}
+
+/// Fills a draft and builds it. No lock is held.
+fn prepare(alloc: Global, draft: &mut Draft, bytes: Bytes) -> Result<(), Halt> {
+    fill(draft, bytes)?;
+    match draft.build(alloc) {
+        Ok(()) => Ok(()),
+        Err(_) => Err(Halt::Memory),
+    }
+}
+
+/// Gives a draft up: a refused job leaves nothing, and who stops spends what he holds.
+fn give_up<L: Driver, R: Wait>(rt: &R, shared: &Shared<L>, draft: Draft, halt: Halt) -> Halt {
+    match halt {
+        Halt::Refused(_) => match shared.cancel(rt, draft) {
+            Ok(()) => halt,
+            Err(refused) => {
+                let _spent = refused.value.apart();
+                Halt::Memory
+            }
+        },
+        Halt::Stopped | Halt::Memory => {
+            let _spent = draft.apart();
+            halt
+        }
+    }
+}
+
+/// Reserves for a job, fills and builds.
+fn drafted<L: Driver, G: Gate, R: Wait>(
+    rt: &R,
+    alloc: Global,
+    shared: &Shared<L>,
+    watch: &mut Watch<G>,
+    job: Job,
+) -> Result<Draft, Halt> {
+    let Job { q, request, bytes } = job;
+    let mut draft = shared.reserve_when_free(rt, q, request)?;
+    watch.pass(Point::Reserved);
+    match prepare(alloc, &mut draft, bytes) {
+        Ok(()) => Ok(draft),
+        Err(halt) => Err(give_up(rt, shared, draft, halt)),
+    }
+}
+
+/// Submits a draft for a seat. A queue that takes no more commands refuses the job.
+fn submitted<L: Driver, R: Wait>(
+    rt: &R,
+    shared: &Shared<L>,
+    seat: &mut Seat<L>,
+    draft: Draft,
+) -> Result<Ticket, Halt>
+    ensures { IfOk result (λ ticket. list_any (is_open_for ticket.q ticket.cid) seat.new.receipts ≡ true) }
+{
+    match shared.submit(rt, seat, draft) {
+        Ok(ticket) => Ok(ticket),
+        Err(refused) => {
+            let halt = match refused.why {
+                Refusal::Memory => Halt::Memory,
+                _ => Halt::Refused(JobRefusal::QueueGone),
+            };
+            Err(give_up(rt, shared, refused.value, halt))
+        }
+    }
+}
+
+/// Gathers what a finished command brought, and releases it. Nothing is held while it gathers.
+fn finished<L: Driver, R: Wait>(
+    rt: &R,
+    alloc: Global,
+    shared: &Shared<L>,
+    seat: &mut Seat<L>,
+    finished: Finished,
+) -> Result<JobEnd, Halt>
+    requires { list_any (is_open_for finished.q finished.cid) seat.old.receipts ≡ true }
+{
+    let status = finished.status();
+    let Ok(bytes) = finished.gather(alloc) else {
+        let _spent = finished.apart();
+        return Err(Halt::Memory);
+    };
+    match shared.release(rt, seat, finished) {
+        Ok(()) => Ok(JobEnd::Done {
+            status,
+            bytes: Bytes::from_vec(bytes),
+        }),
+        Err(refused) => {
+            let _spent = refused.value.apart();
+            Err(Halt::Memory)
+        }
+    }
+}
+
+/// Carries a job through: reserve, fill, build, submit, ring, collect, gather, release.
+fn carry<L: Driver, G: Gate, R: Wait>(
+    rt: &R,
+    alloc: Global,
+    shared: &Shared<L>,
+    seat: &mut Seat<L>,
+    watch: &mut Watch<G>,
+    job: Job,
+) -> Result<JobEnd, Halt> {
+    let q = job.q;
+    let draft = drafted(rt, alloc, shared, watch, job)?;
+    let ticket = submitted(rt, shared, seat, draft)?;
+    watch.pass(Point::Submitted);
+    match shared.ring(rt, q) {
+        Err(Refusal::Memory) => {
+            let _spent = ticket.apart();
+            return Err(Halt::Memory);
+        }
+        Ok(()) | Err(_) => {}
+    }
+    let command = shared.collect_when_held(rt, ticket)?;
+    let end = finished(rt, alloc, shared, seat, command)?;
+    watch.pass(Point::Released);
+    Ok(end)
+}
+
+/// Takes a seat, and carries jobs through, one after the other. It waits for identifiers and pages that others hold, and for the end of its
+/// commands. Where memory is refused to it, all workers are told to stop; what it holds is spent.
+pub fn submitter<L: Driver, G: Gate, R: Wait>(
+    rt: &R,
+    alloc: Global,
+    shared: &Shared<L>,
+    gate: &G,
+    worker: u16,
+    jobs: Vec<Job>,
+) -> Worked<L> {
+    let mut watch = Watch {
+        gate,
+        worker,
+        closed: false,
+    };
+    let mut worked = Worked {
+        seat: None,
+        ends: Vec::new(alloc),
+        closed: false,
+        short: false,
+    };
+    let Ok(mut seat) = shared.seat(rt) else {
+        return worked;
+    };
+    for job in jobs {
+        if worked.ends.reserve(1).is_err() {
+            worked.short = true;
+            break;
+        }
+        match carry(rt, alloc, shared, &mut seat, &mut watch, job) {
+            Ok(end) => worked.ends.push_reserved(end),
+            Err(Halt::Refused(why)) => worked.ends.push_reserved(JobEnd::Refused(why)),
+            Err(Halt::Stopped) => break,
+            Err(Halt::Memory) => {
+                worked.short = true;
+                break;
+            }
+        }
+    }
+    if worked.short {
+        shared.stop(rt);
+    }
+    worked.closed = watch.closed;
+    worked.seat = Some(seat);
+    worked
+}
+
+/// Takes completions from the queues as they come, until the workers are told to stop.
+///
+/// # Errors
+///
+/// Where memory is refused to it. All workers are told to stop then.
+pub fn poller<L: Driver, R: Wait>(rt: &R, shared: &Shared<L>) -> Result<(), AllocError> {
+    for _ in rt.forever() {
+        match shared.reap_next(rt) {
+            Ok(true) => {}
+            Ok(false) => return Ok(()),
+            Err(refused) => {
+                shared.stop(rt);
+                return Err(refused);
+            }
+        }
+    }
+    unreachable!()
+}
+
+/// Serves as the controller, a step at a time, until the workers are told to stop.
+///
+/// # Errors
+///
+/// Where memory is refused to it. All workers are told to stop then.
+pub fn controller<L: Driver, R: Wait>(rt: &R, shared: &Shared<L>) -> Result<(), AllocError> {
+    for _ in rt.forever() {
+        match shared.serve_next(rt) {
+            Ok(true) => {}
+            Ok(false) => return Ok(()),
+            Err(refused) => {
+                shared.stop(rt);
+                return Err(refused);
+            }
+        }
+    }
+    unreachable!()
+}
