@@ -3,7 +3,7 @@
 ghost use Rattle.std.specs.Prelude.{◌≡◌, ◌<◌, ◌≤◌, IfOk, length};
 
 use page_memory::PageNo;
-use sgl_chain::{BuildFault, Chain, Part, pages_needed};
+use sgl_chain::{Chain, Part, pages_needed};
 use std::alloc::{AllocError, AllocGlobal, Global};
 use std::process::Abort;
 use std::test::Fail;
@@ -78,14 +78,5 @@ fn the_longest_chains_come_back(rt: HostRuntime) -> Result<(), Fail> {
     comes_back(&rt, 1024, 3)?;
     comes_back(&rt, 1024, 255)?;
     comes_back(&rt, 1024, 256)?;
-    Ok(())
-}
-
-#[test]
-fn one_part_more_is_too_many(rt: HostRuntime) -> Result<(), Fail> {
-    let parts = numbered_parts(rt.alloc(), 1025)?;
-    let pages = numbered_pages(rt.alloc(), pages_needed(1025, 2))?;
-    let chain = Chain::build(rt.alloc(), parts.as_slice(), pages.as_slice(), 2);
-    assert_eq!(rt; chain.err(), Some(BuildFault::TooManyParts));
     Ok(())
 }

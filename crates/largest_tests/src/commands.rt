@@ -30,8 +30,13 @@ fn the_largest_write_replaces_each_byte(rt: HostRuntime) -> Result<(), Fail> {
     let mut image = Image::zeroed(rt.alloc(), BLOCKS)?;
     let mut store = Store::open(rt.alloc(), 2_048)?;
     let request = largest(rt.alloc(), Kind::Write)?;
-    let (entry, request, needed) =
-        drafted(&rt, rt.alloc(), &mut store, request, Some(bytes.as_slice()))?;
+    let (entry, request, needed) = drafted(
+        &rt,
+        rt.alloc(),
+        &mut store,
+        request,
+        Some(bytes.as_slice()),
+    )?;
     let status = served(&rt, rt.alloc(), &mut store, &mut image, &entry)?;
     assert_eq!(rt; status, Status::SUCCESS);
     assert_eq!(rt; image.blocks(), BLOCKS);
@@ -57,8 +62,7 @@ fn the_largest_compare_sees_the_last_byte(rt: HostRuntime) -> Result<(), Fail> {
         (other.as_slice(), Status::COMPARE_FAILURE),
     ] {
         let request = largest(rt.alloc(), Kind::Compare)?;
-        let (entry, _request, _needed) =
-            drafted(&rt, rt.alloc(), &mut store, request, Some(data))?;
+        let (entry, _request, _needed) = drafted(&rt, rt.alloc(), &mut store, request, Some(data))?;
         let status = served(&rt, rt.alloc(), &mut store, &mut image, &entry)?;
         assert_eq!(rt; status, want);
     }

@@ -10,7 +10,7 @@ pub(crate) const BLOCKS: u32 = 2_048;
 pub(crate) fn blocks(alloc: Global, count: usize) -> Result<Vec<u8>, AllocError> {
     let mut bytes = Vec::new(alloc);
     for block in 0..count {
-        for at in 0..512 {
+        for at in 0..512usize {
             let byte = (at % 251) as u8 ^ (block % 256) as u8;
             bytes.push(byte)?;
         }

@@ -80,6 +80,7 @@ fn a_missing_byte_beside_the_data_is_not_met(rt: HostRuntime) -> Result<(), Fail
     let mut memory = FlatMemory::zeroed(rt.alloc(), 8)?;
     assert_eq!(rt; memory.pages(), 8);
     memory.remove(0x2000, 1);
+    assert_eq!(rt; memory.pages(), 8);
     memory.remove(0x2201, 1);
     let mut staging = [7; 512];
     let mut walk = Walk::begin(block.write(), Direction::Destination, 512);
@@ -88,6 +89,9 @@ fn a_missing_byte_beside_the_data_is_not_met(rt: HostRuntime) -> Result<(), Fail
     assert_eq!(rt; walk.need(), 512);
     memory.clear();
     assert_eq!(rt; walk.step(&mut memory, &mut staging), WalkState::End);
-    assert_eq!(rt; (memory.byte(0x2001), memory.byte(0x2200)), (Some(7), Some(7)));
+    assert_eq!(rt;
+        (memory.byte(0x2001), memory.byte(0x2200)),
+        (Some(7), Some(7))
+    );
     Ok(())
 }

@@ -47,7 +47,9 @@ fn a_script_reads_the_most_blocks(rt: HostRuntime) -> Result<(), Fail> {
         return Err(Fail::from("text that is not ASCII"));
     };
     let output = output.as_str();
-    assert!(rt; output.starts_with("1 reserve q 64 cid 0 data 1024 chain 1023
+    assert!(rt;
+        output.starts_with(
+            "1 reserve q 64 cid 0 data 1024 chain 1023
 2 build ok
 3 submit ok
 4 ring ok
@@ -56,14 +58,20 @@ fn a_script_reads_the_most_blocks(rt: HostRuntime) -> Result<(), Fail> {
 7 walk more touched 2324
 8 walk more touched 1300
 9 walk more touched 2324
-"));
-    assert!(rt; output.ends_with("
+"
+        )
+    );
+    assert!(rt;
+        output.ends_with(
+            "
 3077 complete ok touched 1296
 3078 reap done cid 0 status 0:00
 3079 collect status 0:00
 3080 gather 11*524288,22*524288
 3081 release ok
 counts free 64236 queue 1300 chain 0 data 0
-"));
+"
+        )
+    );
     Ok(())
 }

@@ -15,7 +15,11 @@ use std::test::Fail;
 const STEPS: u32 = 12_546;
 
 /// Moves the pages of a store out, from page 1 on.
-fn taken(alloc: Global, store: &mut Store, count: usize) -> Result<Vec<(PageNo, Page)>, AllocError> {
+fn taken(
+    alloc: Global,
+    store: &mut Store,
+    count: usize,
+) -> Result<Vec<(PageNo, Page)>, AllocError> {
     let mut pages = Vec::new(alloc);
     for number in 1..store.pages() {
         if pages.len() == count {

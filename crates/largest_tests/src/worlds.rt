@@ -118,7 +118,13 @@ fn the_largest_world_reads_each_byte(rt: HostRuntime) -> Result<(), Fail> {
     let finished = collected(&mut world, ticket)?;
     let read = gathered(&mut world, rt.alloc(), finished)?;
     assert_eq!(rt; steps, Some(1_024 + 1_023 + 1_024));
-    assert_eq!(rt; reaped.ok(), Some(Reaped::Done { cid: 0, status: Status::SUCCESS }));
+    assert_eq!(rt;
+        reaped.ok(),
+        Some(Reaped::Done {
+            cid: 0,
+            status: Status::SUCCESS
+        })
+    );
     assert!(rt; read.as_slice() == bytes.as_slice());
     assert_eq!(rt; world.counts(), AS_OPENED);
     Ok(())
