@@ -3,3 +3,4 @@ pub mod State
 pub mod Calls
 pub mod Close
 pub mod Laws
+pub mod Passes

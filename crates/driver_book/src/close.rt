@@ -1,11 +1,12 @@
 //! How a book is closed: its log is compared with the receipts of its seats.
 
-ghost use Rattle.std.specs.Prelude.{◌≡◌, ℕ, ◌+◌, ◌<◌, ◌≤◌, ◌&&◌, length, map, take, Some, is_none, MatchOption, slice_get, vec_len, vec_capacity, IfOk, IfErr, OnOk, OnErr};
+ghost use Rattle.std.specs.Prelude.{◌≡◌, ℕ, ◌+◌, ◌<◌, ◌≤◌, ◌&&◌, length, map, take, Some, is_none, MatchOption, IfSome, IfNone, slice_get, vec_len, vec_capacity, IfOk, IfErr, OnOk, OnErr};
 ghost use Rattle.std.specs.List.{list_any};
 ghost use Rattle.machine_model.specs.Status.{same_status as same_statuses};
 ghost use Rattle.driver_book.specs.History.{accepted, is_accepted, is_submission as is_step_of_submission};
 ghost use Rattle.driver_book.specs.State.{AreSeated};
 ghost use Rattle.driver_book.specs.Close.{status_by, held, same_seat, accepted_of, fits_status, queue_in, identifier_in, is_receipt_of, has, stands, AllStand, IsMissing, receipts_of, has_open, IsDone, RefusesClose, Reports};
+ghost use Rattle.driver_book.specs.Passes.{is_known, StandOf, AreKnown, IsMissingAt};
 ghost use Rattle.driver_book.specs.declared.log.Receipt.{Receipt as AReceipt};
 
 use crate::book::{Book, Driver};
@@ -35,6 +36,13 @@ fn is_accepted_step(step: &Step, answer: &Reply) -> bool
     }
 }
 
+/// Whether an entry is a submission that was accepted.
+fn is_submission(entry: &Entry) -> bool
+    ensures { result ≡ is_accepted entry.now }
+{
+    is_accepted_step(&entry.step, &entry.answer)
+}
+
 /// Whether two seats, or none, are one.
 fn is_same_seat(a: Option<u16>, b: Option<u16>) -> bool
     ensures { result ≡ same_seat a b }
@@ -46,18 +54,17 @@ fn is_same_seat(a: Option<u16>, b: Option<u16>) -> bool
     }
 }
 
-/// Whether an entry is an accepted submission of this seat.
-fn is_of(entry: &Entry, seat: Option<u16>) -> bool
-    ensures { result ≡ (is_accepted entry.now && same_seat entry.now.seat seat) }
+/// How many submissions a log has that were accepted.
+fn accepted_in(log: &[Entry]) -> u64
+    ensures { result ≡ accepted log.now }
 {
-    is_accepted_step(&entry.step, &entry.answer) && is_same_seat(entry.seat, seat)
-}
-
-/// How many submissions of a seat a log has.
-fn count_of(log: &[Entry], seat: Option<u16>) -> usize
-    ensures { result ≡ accepted_of seat log.now }
-{
-    log.iter().filter(|e| is_of(e, seat)).count()
+    let mut number = 0;
+    for p in 0..log.len() {
+        if is_submission(&log[p]) {
+            number += 1;
+        }
+    }
+    number
 }
 
 /// The status with which a step ended a submitted command.
@@ -166,22 +173,24 @@ fn any_has<L: Ledger>(seats: &[Seat<L>], seat: Option<u16>, place: usize, wanted
     seats.iter().any(|s| has_receipt(s, seat, place, wanted))
 }
 
-/// Whether the submission at place `p` of the log, which is the one of this number, stands in the receipts.
+/// Whether the submission at `index` of the log, which is the one of this number, and the one at this place of its seat, stands in the
+/// receipts.
 fn does_stand<L: Ledger>(
     log: &[Entry],
     seats: &[Seat<L>],
-    p: usize,
+    index: usize,
     number: u64,
+    place: usize,
     entry: &Entry,
 ) -> bool
-    requires within { p < length log.now }
-    requires number { number ≡ accepted (take p log.now) }
-    ensures { result ≡ stands log.now seats.now p entry.now }
+    requires within { index < length log.now }
+    requires number { number ≡ accepted (take index log.now) }
+    requires place { place ≡ accepted_of entry.now.seat (take index log.now) }
+    ensures { result ≡ stands log.now seats.now index entry.now }
 {
-    let place = count_of(&log[..p], entry.seat);
     let q = queue_of_step(&entry.step);
     let cid = identifier_of_step(&entry.step);
-    let status = status_in(q, cid, &log[p + 1..]);
+    let status = status_in(q, cid, &log[index + 1..]);
     let wanted = Receipt {
         number,
         q,
@@ -191,22 +200,74 @@ fn does_stand<L: Ledger>(
     any_has(seats, entry.seat, place, wanted)
 }
 
-/// The first accepted submission that stands in no receipt: its seat and its number.
-fn missing<L: Ledger>(log: &[Entry], seats: &[Seat<L>]) -> Option<(u16, u64)>
-    requires { AreSeated log.now }
-    ensures { MatchOption result (AllStand log.now seats.now) (λ m. IsMissing log.now seats.now m.0 m.1) }
+/// Goes through the first entries of a log, with the place of one seat: where its first submission stands that is in no receipt.
+fn missing_of<L: Ledger>(log: &[Entry], seats: &[Seat<L>], seat: u16, end: usize) -> Option<usize>
+    requires { end ≤ length log.now }
+    ensures none { IfNone result (StandOf (Some seat) log.now seats.now end) }
+    ensures within { IfSome result (λ p. p < end) }
+    ensures before { IfSome result (λ p. StandOf (Some seat) log.now seats.now p) }
+    ensures missing { IfSome result (λ p. IsMissingAt log.now seats.now p) }
 {
     let mut number = 0;
-    for p in 0..log.len() {
+    let mut place = 0;
+    for p in 0..end {
         let entry = &log[p];
-        if is_accepted_step(&entry.step, &entry.answer) {
-            if !does_stand(log, seats, p, number, entry) {
-                return Some((entry.seat.unwrap_or(0), number));
+        if is_submission(entry) {
+            if is_same_seat(entry.seat, Some(seat)) {
+                if !does_stand(log, seats, p, number, place, entry) {
+                    return Some(p);
+                }
+                place += 1;
             }
             number += 1;
         }
     }
     None
+}
+
+/// Whether a seat of this number was handed in.
+fn has_seat<L: Ledger>(seats: &[Seat<L>], seat: Option<u16>) -> bool
+    ensures { result ≡ is_known seats.now seat }
+{
+    seats.iter().any(|s| is_same_seat(Some(s.number), seat))
+}
+
+/// How far the accepted submissions of a log are of seats that were handed in.
+fn known_until<L: Ledger>(log: &[Entry], seats: &[Seat<L>]) -> usize
+    ensures within { result ≤ length log.now }
+    ensures known { AreKnown log.now seats.now result }
+    ensures missing { result < length log.now → IsMissingAt log.now seats.now result }
+{
+    for p in 0..log.len() {
+        let entry = &log[p];
+        if is_submission(entry) {
+            if !has_seat(seats, entry.seat) {
+                return p;
+            }
+        }
+    }
+    log.len()
+}
+
+/// The first accepted submission that stands in no receipt: its seat and its number. The log is gone through once for each seat, up to
+/// the first that is missing so far.
+fn missing<L: Ledger>(log: &[Entry], seats: &[Seat<L>]) -> Option<(u16, u64)>
+    requires { AreSeated log.now }
+    ensures { MatchOption result (AllStand log.now seats.now) (λ m. IsMissing log.now seats.now m.0 m.1) }
+{
+    let mut end = known_until(log, seats);
+    for i in 0..seats.len() {
+        let holder = &seats[i];
+        match missing_of(log, seats, holder.number, end) {
+            Some(p) => end = p,
+            None => {}
+        }
+    }
+    if end == log.len() {
+        return None;
+    }
+    let number = accepted_in(&log[..end]);
+    Some((log[end].seat.unwrap_or(0), number))
 }
 
 /// Whether a receipt of a seat has no status.

@@ -1,7 +1,12 @@
 //! The command line.
 
+use crate::fault::Fault;
+use clap::error::ErrorKind;
 use clap::{Arg, ArgMatches, Command, value_parser};
-use std::alloc::{AllocError, Global};
+use script_cli::RunFault;
+use std::alloc::{AllocError, AllocGlobal, Global};
+use std::env::Env;
+use std::io;
 use step_core::Config;
 
 /// What `nvmesgl --help` says first.
@@ -60,6 +65,9 @@ prints
 
 Exit status: 0 done, 1 the script is at fault, 2 the arguments, the image or the opening,
 3 memory or the output. docs/SCRIPT.md in the repository has all of this in full.";
+
+/// What is said of a word that is not text.
+const NOT_TEXT: &str = "invalid UTF-8 was detected in one or more arguments";
 
 /// The options of `steps`.
 #[derive(Clone, Copy, Debug)]
@@ -155,6 +163,22 @@ pub fn command<'a>(alloc: Global) -> Result<Command<'a>, AllocError> {
         .after_help(AFTER)
         .subcommand_required(true)
         .subcommand(steps)
+}
+
+/// The words of the command line, the program's name first.
+///
+/// # Errors
+///
+/// `Arguments` where a word is not UTF-8, and `Memory` where memory is refused.
+pub fn words<R: Env + AllocGlobal>(rt: &R) -> Result<Vec<String>, Fault> {
+    let alloc = rt.alloc();
+    match std::env::args(rt) {
+        Ok(words) => Ok(words.collect(alloc)?),
+        Err(why) if why.kind() == io::ErrorKind::InvalidData => Err(Fault::Arguments(
+            command(alloc)?.error(ErrorKind::InvalidValue, NOT_TEXT)?,
+        )),
+        Err(_) => Err(Fault::Run(RunFault::Memory)),
+    }
 }
 
 impl<'a> Options<'a> {

@@ -67,10 +67,3 @@ impl From<AllocError> for Fault {
         Fault::Run(RunFault::Memory)
     }
 }
-
-/// The words of the command line could not be had for want of memory.
-impl From<io::Error> for Fault {
-    fn from(_fault: io::Error) -> Self {
-        Fault::Run(RunFault::Memory)
-    }
-}

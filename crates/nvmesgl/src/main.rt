@@ -5,8 +5,10 @@
 
 mod arguments;
 mod fault;
+#[cfg(test)]
+mod tests;
 
-use arguments::{Options, command};
+use arguments::{Options, command, words};
 use block_image::{Image, ImageError};
 use fault::Fault;
 use script_cli::{ImageFault, read_image, run_steps};
@@ -28,7 +30,7 @@ fn main(rt: HostRuntime) -> ExitCode {
 /// Reads the command line, and does what it says.
 fn start(rt: &HostRuntime) -> Result<(), Fault> {
     let alloc = rt.alloc();
-    let words: Vec<String> = std::env::args(rt)?.collect(alloc)?;
+    let words = words(rt)?;
     let matches = match command(alloc)?.try_get_matches_from(words.as_slice()) {
         Ok(matches) => matches,
         Err(why) => return Fault::shown(rt, why),

@@ -1,7 +1,6 @@
-use Rattle.std.proofs.Common.{◌≡◌, take}
-use Rattle.driver_book.specs.History.{accepted}
-use Rattle.driver_book.specs.Close.{StandBefore}
+use Rattle.driver_book.proofs.Standing.{Searched}
 use Rattle.driver_book.proofs.close.missing.Given as goal
 
-abbrev pub invariant-loop-p : goal.invariant-loop-p
-invariant-loop-p g l = (l.number ≡ accepted (take l.p l.log)) × StandBefore l.log l.seats l.p
+-- the seats so far were gone through
+abbrev pub invariant-loop-i : goal.invariant-loop-i
+invariant-loop-i g l = Searched l.log l.seats l.i l.end

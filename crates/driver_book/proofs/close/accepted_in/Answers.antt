@@ -1,0 +1,19 @@
+use Rattle.std.proofs.Common.{◌≡◌, true, false, arith, sym, ap, ◌∙◌}
+use Rattle.std.proofs.lemmas.List.Sums.{count_by_more_yes, count_by_more_no}
+use Rattle.driver_book.specs.History.{is_accepted}
+use Rattle.driver_book.proofs.close.accepted_in.Goals as goal
+use Rattle.driver_book.proofs.close.accepted_in.Goals.{then-is_submission, else-is_submission}
+
+pub loop-p-preserved : goal.loop-p-preserved
+loop-p-preserved c =
+    let log = c.args.log.now in
+    let x = c.index-log-p.result in
+    let here = c.index-log-p.is in
+    elim c.if-is_submission.branch [
+      | then-is_submission w ↦
+          let accepts : is_accepted x ≡ true = sym c.is_submission.ensures ∙ w.if-is_submission.true in
+          w.number-is ∙ omega (arith, c.loop-p.invariant, count_by_more_yes is_accepted log c.loop-p.p x (omega arith) (ap is_accepted (sym here) ∙ accepts))
+      | else-is_submission w ↦
+          let isnt : is_accepted x ≡ false = sym c.is_submission.ensures ∙ w.if-is_submission.false in
+          w.number-is ∙ omega (arith, c.loop-p.invariant, count_by_more_no is_accepted log c.loop-p.p x (omega arith) (ap is_accepted (sym here) ∙ isnt))
+    ]

@@ -1,0 +1,36 @@
+use Rattle.std.proofs.Common.{◌≡◌, Some, true, false, arith, sym, ◌∙◌}
+use Rattle.driver_book.specs.History.{is_accepted}
+use Rattle.driver_book.proofs.Standing.{pass_own, pass_other, pass_none, place_of_own, missing_here}
+use Rattle.driver_book.proofs.close.missing_of.Goals as goal
+use Rattle.driver_book.proofs.close.missing_of.Goals.{then-is_submission, then-is_same_seat+else-not-does_stand, else-is_same_seat, else-is_submission}
+
+pub does_stand-requires-clause-place : goal.does_stand-requires-clause-place
+does_stand-requires-clause-place g c =
+    place_of_own c.args.log.now c.args.seats.now (Some c.args.seat) c.loop-p.p c.loop-p.number c.loop-p.place c.index-log-p.result.seat (sym c.is_same_seat.ensures ∙ c.if-is_same_seat.true) c.loop-p.invariant
+
+pub returns-then-not-does_stand-clause-missing : goal.returns-then-not-does_stand-clause-missing
+returns-then-not-does_stand-clause-missing g c =
+    missing_here c.args.log.now c.args.seats.now c.loop-p.p c.index-log-p.result (omega arith) c.index-log-p.is (sym c.is_submission.ensures ∙ c.if-is_submission.true)
+    (sym c.does_stand.ensures ∙ c.if-not-does_stand.true)
+
+pub loop-p-preserved : goal.loop-p-preserved
+loop-p-preserved g c =
+    let log = c.args.log.now in
+    let seats = c.args.seats.now in
+    let p = c.loop-p.p in
+    let x = c.index-log-p.result in
+    let here = c.index-log-p.is in
+    elim c.if-is_submission.branch [
+      | then-is_submission w ↦ elim w.if-is_same_seat.branch [
+        | then-is_same_seat+else-not-does_stand w' ↦
+            rw (w.number-is, w.place-is, w'.place-is)
+            (pass_own log seats (Some c.args.seat) p c.loop-p.number c.loop-p.place x (omega arith) here (sym c.is_submission.ensures ∙ w.if-is_submission.true) (sym w.is_same_seat.ensures ∙ w'.if-is_same_seat.true)
+            (sym w'.does_stand.ensures ∙ w'.if-not-does_stand.false) c.loop-p.invariant)
+        | else-is_same_seat w' ↦
+            rw (w.number-is, w.place-is, w'.place-is)
+            (pass_other log seats (Some c.args.seat) p c.loop-p.number c.loop-p.place x (omega arith) here (sym c.is_submission.ensures ∙ w.if-is_submission.true) (sym w.is_same_seat.ensures ∙ w'.if-is_same_seat.false) c.loop-p.invariant)
+      ]
+      | else-is_submission w ↦
+          rw (w.number-is, w.place-is)
+          (pass_none log seats (Some c.args.seat) p c.loop-p.number c.loop-p.place x (omega arith) here (sym c.is_submission.ensures ∙ w.if-is_submission.false) c.loop-p.invariant)
+    ]
