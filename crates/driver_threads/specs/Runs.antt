@@ -17,7 +17,12 @@ pub record RanFrom (opening : State) (report : Report) (book : BookContents) : T
   pub closed : Closes opening report seats before
   pub same : book ≡ record before { out = 0; taken = accepted before.log }
 
--- a run is refused for its opening where that is refused, and for nothing else then
+-- a fault of a run whose book was opened
+abbrev pub IsAfterOpening : RunFault → Type 0
+IsAfterOpening (Open why) = ⊥
+IsAfterOpening why = Unit {0}
+
+-- A run is refused for its opening where that is refused, and then for nothing else: want of memory for the opening is its own fault.
 abbrev pub RefusesRun : Config → RunFault → Type 0
 RefusesRun config (Open why) = RefusesOpening config why
 RefusesRun config why = refusal_of_config config ≡ None

@@ -1,7 +1,7 @@
 //! A run of threads over a new book, and what it leaves.
 
 ghost use Rattle.std.specs.Prelude.{◌≡◌, ◌≤◌, vec_len, IfOk, IfErr};
-ghost use Rattle.driver_threads.specs.Runs.{RanFrom, RefusesRun};
+ghost use Rattle.driver_threads.specs.Runs.{IsAfterOpening, RanFrom, RefusesRun};
 ghost use Rattle.world_tables.specs.Opening.{opening_of};
 
 use crate::gate::Gate;
@@ -16,6 +16,27 @@ use std::sync::ledger::Blank;
 use std::thread;
 use std::thread::Threads;
 use step_core::{Config, OpenRefusal};
+
+/// Why a run failed whose book was opened.
+#[derive(Clone, Copy)]
+enum Failure {
+    NoThread,
+    GateClosed { worker: u16 },
+    Close(CloseFault),
+    Memory,
+}
+
+/// The fault that a failure is.
+fn fault_of(failure: Failure) -> RunFault
+    ensures { IsAfterOpening result }
+{
+    match failure {
+        Failure::NoThread => RunFault::NoThread,
+        Failure::GateClosed { worker } => RunFault::GateClosed { worker },
+        Failure::Close(why) => RunFault::Close(why),
+        Failure::Memory => RunFault::Memory,
+    }
+}
 
 /// What the threads gave back.
 #[derive(Drop)]
@@ -32,21 +53,21 @@ fn run_workers<L: Driver + Send + Sync, G: Gate + Sync, R: Threads + Wait + Sync
     shared: &Shared<L>,
     gate: &G,
     jobs: Vec<Vec<Job>>,
-) -> Result<Work<L>, RunFault> {
+) -> Result<Work<L>, Failure> {
     let count = jobs.len();
     let Ok(mut workers) = Vec::with_capacity(alloc, count) else {
-        return Err(RunFault::Memory);
+        return Err(Failure::Memory);
     };
     let Ok(mut handles) = Vec::with_capacity(alloc, count) else {
-        return Err(RunFault::Memory);
+        return Err(Failure::Memory);
     };
     thread::scope(thread::scope_env(), rt, |scope| {
         let Ok(polls) = scope.spawn(move || poller(rt, shared)) else {
-            return Err(RunFault::NoThread);
+            return Err(Failure::NoThread);
         };
         let Ok(serves) = scope.spawn(move || controller(rt, shared)) else {
             shared.stop(rt);
-            return Err(RunFault::NoThread);
+            return Err(Failure::NoThread);
         };
         let mut all_started = true;
         let mut short = false;
@@ -69,7 +90,7 @@ fn run_workers<L: Driver + Send + Sync, G: Gate + Sync, R: Threads + Wait + Sync
         if all_started {
             Ok(Work { workers, short })
         } else {
-            Err(RunFault::NoThread)
+            Err(Failure::NoThread)
         }
     })
 }
@@ -83,11 +104,11 @@ fn first_closed<L: Driver>(workers: &[Worked<L>]) -> Option<u16> {
 }
 
 /// Closes the book with the seats of the workers.
-fn finish<L: Driver>(alloc: Global, book: Book<L>, work: Work<L>) -> Result<Ran<L>, RunFault>
+fn finish<L: Driver>(alloc: Global, book: Book<L>, work: Work<L>) -> Result<Ran<L>, Failure>
     ensures closed { IfOk result (λ ran. RanFrom L.opening ran.report ran.book) }
 {
     if let Some(worker) = first_closed(&work.workers) {
-        return Err(RunFault::GateClosed { worker });
+        return Err(Failure::GateClosed { worker });
     }
     let mut short = work.short;
     let mut seats = Vec::new(alloc);
@@ -102,11 +123,11 @@ fn finish<L: Driver>(alloc: Global, book: Book<L>, work: Work<L>) -> Result<Ran<
         short = short || one || lists.push(ends).is_err();
         match seat {
             Some(seat) => short = seats.push(seat).is_err() || short,
-            None => return Err(RunFault::NoThread),
+            None => return Err(Failure::NoThread),
         }
     }
     if short {
-        return Err(RunFault::Memory);
+        return Err(Failure::Memory);
     }
     let mut book = book;
     match book.close(seats) {
@@ -116,8 +137,8 @@ fn finish<L: Driver>(alloc: Global, book: Book<L>, work: Work<L>) -> Result<Ran<
             book,
         }),
         Err(refused) => match refused.why {
-            CloseFault::Memory => Err(RunFault::Memory),
-            why => Err(RunFault::Close(why)),
+            CloseFault::Memory => Err(Failure::Memory),
+            why => Err(Failure::Close(why)),
         },
     }
 }
@@ -158,7 +179,12 @@ pub fn run_threads<L: Driver + Send + Sync, G: Gate + Sync, R: Threads + Wait + 
         }
     };
     let shared = Shared::new(book);
-    let worked = run_workers(rt, alloc, &shared, gate, jobs);
-    let book = shared.end();
-    finish(alloc, book, worked?)
+    let ran = match run_workers(rt, alloc, &shared, gate, jobs) {
+        Ok(work) => finish(alloc, shared.end(), work),
+        Err(failure) => Err(failure),
+    };
+    match ran {
+        Ok(ran) => Ok(ran),
+        Err(failure) => Err(fault_of(failure)),
+    }
 }
