@@ -94,7 +94,7 @@ impl<L: Driver> Book<L> {
     /// As there; `Memory` also where the log cannot grow.
     pub fn reap(&mut self, q: u16) -> Result<Reaped, Refusal>
         ensures step { Does self.old None (events.Reap q) (reap_reply result) self.new }
-        ensures memory { WantsMemoryFor (IsLogFull self.old ⊎ MayWorldWant self.old (events.Reap q)) (reap_reply result) }
+        ensures memory { WantsMemoryFor (IsLogFull self.old) (reap_reply result) }
     {
         if self.log.reserve(1).is_err() {
             return Err(Refusal::Memory);

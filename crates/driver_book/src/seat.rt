@@ -108,7 +108,7 @@ impl<L: Driver> Book<L> {
         ensures receipt { Receives self.old.log seat.old draft result seat.new }
         ensures back { IfErr result (λ r. r.value ≡ draft) }
         ensures ticket { IfOk result (λ ticket. ticket ≡ record { q = draft.q; cid = draft.cid }) }
-        ensures memory { WantsMemoryFor ((IsLogFull self.old ⊎ AreReceiptsFull seat.old) ⊎ MayWorldWant self.old (events.Submit draft)) (accept_reply result) }
+        ensures memory { WantsMemoryFor (IsLogFull self.old ⊎ AreReceiptsFull seat.old) (accept_reply result) }
     {
         if self.log.reserve(1).is_err() {
             return Err(unlogged(draft));

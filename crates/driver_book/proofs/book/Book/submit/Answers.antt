@@ -2,7 +2,7 @@ use Rattle.std.proofs.Common.{◌⊎◌, ◌-◌, vec_capacity, vec_len, Some, r
 use Rattle.machine_model.specs.Events as events
 use Rattle.step_core.specs.Replies.{accept_reply}
 use Rattle.driver_book.specs.Calls.{IsLogFull, AreReceiptsFull}
-use Rattle.driver_book.proofs.Runs.{accepts_book, does_in, keeps_book, refused_submission, takes_memory}
+use Rattle.driver_book.proofs.Runs.{accepts_book, does_in, keeps_book, refused_submission, takes_no_memory}
 use Rattle.driver_book.proofs.book.Book.submit.Goals as goal
 
 pub invariant_of-self-then-is_ok : goal.invariant_of-self-then-is_ok
@@ -21,4 +21,4 @@ returns-else-is_ok-clause-step g c =
 
 pub returns-else-is_ok-clause-memory : goal.returns-else-is_ok-clause-memory
 returns-else-is_ok-clause-memory g c =
-    takes_memory (IsLogFull c.args.self.now ⊎ AreReceiptsFull c.args.seat.now) c.self.view_is c.submit-answer.new.self (events.Submit c.args.draft) (accept_reply c.submit-answer.result) c.submit-answer.ensures.step
+    takes_no_memory (IsLogFull c.args.self.now ⊎ AreReceiptsFull c.args.seat.now) c.self.inside.world c.submit-answer.new.self (events.Submit c.args.draft) (accept_reply c.submit-answer.result) refl c.submit-answer.ensures.step
