@@ -33,7 +33,6 @@ fn around_a_bucket(alloc: Global) -> Result<Request, AllocError> {
 #[test]
 fn a_bucket_discards_its_own_block(rt: HostRuntime) -> Result<(), Fail> {
     let bytes = blocks(rt.alloc(), 5)?;
-    assert_eq!(rt; bytes.len(), 5 * 512);
     let copy = Vec::from_slice(rt.alloc(), bytes.as_slice())?;
     let mut image = Image::from_bytes(copy).ok().ok_or("an image")?;
     let mut store = Store::open(rt.alloc(), 8)?;
@@ -43,8 +42,9 @@ fn a_bucket_discards_its_own_block(rt: HostRuntime) -> Result<(), Fail> {
     let status = served(&rt, rt.alloc(), &mut store, &mut image, &entry)?;
     assert_eq!(rt; status, Status::SUCCESS);
     let read = gathered(&rt, rt.alloc(), &mut store, request, status, needed)?;
-    assert_eq!(rt; read.len(), 2 * 512);
-    assert!(rt; read[..512] == bytes[512..2 * 512]);
-    assert!(rt; read[512..] == bytes[3 * 512..4 * 512]);
+    let mut want = Vec::new(rt.alloc());
+    want.extend_from_slice(bytes.get(512..1_024).ok_or("block 1")?)?;
+    want.extend_from_slice(bytes.get(1_536..2_048).ok_or("block 3")?)?;
+    assert_eq!(rt; read.as_slice(), want.as_slice());
     Ok(())
 }

@@ -6,12 +6,12 @@ use std::alloc::{AllocError, Global};
 /// The most blocks that a command moves.
 pub(crate) const BLOCKS: u32 = 2_048;
 
-/// Bytes of so many blocks, of which no two within 64 KiB are alike.
+/// Bytes of so many blocks, of which no two are alike.
 pub(crate) fn blocks(alloc: Global, count: usize) -> Result<Vec<u8>, AllocError> {
     let mut bytes = Vec::new(alloc);
     for block in 0..count {
         for at in 0..512usize {
-            let byte = (at % 251) as u8 ^ (block % 256) as u8;
+            let byte = ((at + block / 256) % 251) as u8 ^ (block % 256) as u8;
             bytes.push(byte)?;
         }
     }
