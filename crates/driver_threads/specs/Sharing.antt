@@ -49,6 +49,12 @@ pub record Released (opening : State) (seat : SeatContents) (f : FinishedContent
   pub does : Does old (Some seat.number) (events.Release f) (accept_reply result) new
   pub settles : Settles seat f result next
 
+-- some book of this opening has made all its seats
+pub record GivesNoSeat (opening : State) : Type 0 where
+  pub book : BookContents
+  pub of : IsBookOf opening book
+  pub all : book.made ≡ 65535
+
 -- some book of this opening says whose a page is; it has no such page
 pub record Tells (opening : State) (p : ℕ) (answer : Option Owner) : Type 0 where
   pub book : BookContents

@@ -176,13 +176,7 @@ impl<L: Driver> Shared<L> {
     /// # Errors
     ///
     /// As there.
-    pub fn forge<R: Wait>(
-        &self,
-        rt: &R,
-        q: u16,
-        slot: u16,
-        bytes: [u8; 16],
-    ) -> Result<(), Refusal>
+    pub fn forge<R: Wait>(&self, rt: &R, q: u16, slot: u16, bytes: [u8; 16]) -> Result<(), Refusal>
         ensures { Made L.opening None (events.Forge q slot bytes) (ring_reply result) }
     {
         let answer = self.lock(rt).forge(q, slot, bytes);

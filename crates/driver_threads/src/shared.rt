@@ -3,7 +3,7 @@
 ghost use Rattle.std.specs.Prelude.{◌≡◌, [], IfOk, IfErr};
 ghost use Rattle.std.specs.Sync.Mutex.{mutex_guard_value};
 ghost use Rattle.driver_book.specs.State.{BookContents};
-ghost use Rattle.driver_threads.specs.Sharing.{IsBookOf, Tells, Counted, Closes, StaysOpen};
+ghost use Rattle.driver_threads.specs.Sharing.{IsBookOf, GivesNoSeat, Tells, Counted, Closes, StaysOpen};
 
 use driver_book::{Book, CloseRefused, Driver, NoSeat, Report, Seat};
 use page_ledger::{Counts, Owner};
@@ -53,7 +53,8 @@ impl<L: Driver> Shared<L> {
     ///
     /// Where 65,535 seats were made.
     pub fn seat<R: Wait>(&self, rt: &R) -> Result<Seat<L>, NoSeat>
-        ensures { IfOk result (λ seat. seat.receipts ≡ []) }
+        ensures seat { IfOk result (λ seat. seat.receipts ≡ []) }
+        ensures refused { IfErr result (λ none. GivesNoSeat L.opening) }
     {
         self.lock(rt).seat()
     }
@@ -93,11 +94,7 @@ impl<L: Driver> Shared<L> {
     /// # Errors
     ///
     /// As there; the seats are handed back.
-    pub fn close<R: Wait>(
-        &self,
-        rt: &R,
-        seats: Vec<Seat<L>>,
-    ) -> Result<Report, CloseRefused<L>>
+    pub fn close<R: Wait>(&self, rt: &R, seats: Vec<Seat<L>>) -> Result<Report, CloseRefused<L>>
         ensures closed { IfOk result (λ report. (book : BookContents) × Closes L.opening report seats.items book) }
         ensures cause { IfErr result (λ refused. StaysOpen L.opening refused.why seats.items) }
         ensures back { IfErr result (λ refused. refused.seats.items ≡ seats.items) }

@@ -1,0 +1,296 @@
+//! Two worked rows of steps through a shared book: commands that are aborted, and a queue that is deleted while its commands are about.
+
+ghost use Rattle.std.specs.Prelude.{◌≡◌};
+ghost use Rattle.world_tables.specs.Opening.{opening_of};
+
+use crate::calls::{
+    USUAL, cancelled, collected, completed, counts, done, fetched, managed, opened, receipt,
+    released, reserved, seated, served, submitted, walked,
+};
+use block_image::Image;
+use controller_walk::WalkState;
+use driver_book::{Driver, Seat};
+use driver_threads::Shared;
+use entry_codec::Status;
+use io_commands::{Draft, Finished, Kind, Piece, Pieces, Request, Ticket};
+use page_memory::PageNo;
+use std::alloc::Global;
+use std::marker::Brand;
+use std::process::Abort;
+use std::sync::Wait;
+use std::sync::ledger::Blank;
+use std::test::Fail;
+use step_core::{Reaped, Refusal};
+use world_tables::Config;
+
+/// How the command 0 of queue 0 ended, with a first word of 0.
+fn managed_with(status: Status) -> Reaped {
+    Reaped::AdminDone {
+        cid: 0,
+        status,
+        dw0: 0,
+    }
+}
+
+/// Submits a Read of one block for a seat.
+fn begun<L: Driver, R: Abort + Wait>(
+    rt: &R,
+    shared: &Shared<L>,
+    seat: &mut Seat<L>,
+    alloc: Global,
+) -> Ticket {
+    let draft = reserved(rt, shared, alloc, Kind::Read, 0);
+    submitted(rt, shared, seat, alloc, draft)
+}
+
+/// Collects a command, which ended so.
+fn ended<L: Driver, R: Abort + Wait>(
+    rt: &R,
+    shared: &Shared<L>,
+    ticket: Ticket,
+    status: Status,
+) -> Finished {
+    let finished = collected(rt, shared, ticket);
+    assert_eq!(rt; finished.status(), status);
+    finished
+}
+
+/// Collects a command, which ended so, and releases it.
+fn settled<L: Driver, R: Abort + Wait>(
+    rt: &R,
+    shared: &Shared<L>,
+    seat: &mut Seat<L>,
+    ticket: Ticket,
+    status: Status,
+) {
+    let finished = ended(rt, shared, ticket, status);
+    released(rt, shared, seat, finished);
+}
+
+/// The controller fetches command 0 and walks one step; then it is aborted.
+fn abort_in_the_walk<L: Driver, R: Abort + Wait>(rt: &R, shared: &Shared<L>) {
+    assert_eq!(rt; shared.ring(rt, 1), Ok(()));
+    assert_eq!(rt; fetched(rt, shared, 1), Ok((0, Some(PageNo(2)))));
+    assert_eq!(rt; walked(rt, shared, 1, 0), Ok(WalkState::More));
+    assert_eq!(rt; shared.abort(rt, 1, 0), Ok(0));
+    assert_eq!(rt; shared.ring(rt, 0), Ok(()));
+    assert_eq!(rt; fetched(rt, shared, 0), Ok((0, Some(PageNo(0)))));
+    assert_eq!(rt; completed(rt, shared, 0, 0), Err(Refusal::Waits));
+    assert_eq!(rt; walked(rt, shared, 1, 0), Err(Refusal::Nothing));
+    assert_eq!(rt; completed(rt, shared, 1, 0), Ok(Some(PageNo(3))));
+    assert_eq!(rt; completed(rt, shared, 0, 0), Ok(Some(PageNo(1))));
+    assert_eq!(rt; shared.reap(rt, 1), Ok(done(0, Status::ABORT_REQUESTED)));
+    assert_eq!(rt; shared.reap(rt, 0), Ok(managed_with(Status::SUCCESS)));
+    assert_eq!(rt; shared.abort(rt, 1, 0), Err(Refusal::NoSuchCommand));
+}
+
+/// The controller walks command 1 to its end; its abort comes too late.
+fn abort_after_the_walk<L: Driver, R: Abort + Wait>(rt: &R, shared: &Shared<L>) {
+    assert_eq!(rt; shared.ring(rt, 1), Ok(()));
+    assert_eq!(rt; fetched(rt, shared, 1), Ok((1, Some(PageNo(2)))));
+    assert_eq!(rt; walked(rt, shared, 1, 1), Ok(WalkState::More));
+    assert_eq!(rt; walked(rt, shared, 1, 1), Ok(WalkState::End));
+    assert_eq!(rt; shared.abort(rt, 1, 1), Ok(0));
+    managed(rt, shared, 0, 1);
+    assert_eq!(rt; completed(rt, shared, 1, 1), Ok(Some(PageNo(3))));
+    assert_eq!(rt; shared.reap(rt, 1), Ok(done(1, Status::SUCCESS)));
+}
+
+/// Command 2 is aborted before the controller fetches it, which changes nothing.
+fn abort_before_the_fetch<L: Driver, R: Abort + Wait>(rt: &R, shared: &Shared<L>) {
+    assert_eq!(rt; shared.abort(rt, 1, 2), Ok(0));
+    managed(rt, shared, 0, 1);
+    assert_eq!(rt; shared.ring(rt, 1), Ok(()));
+    served(rt, shared, 2);
+}
+
+/// Three Reads, and an abort of each.
+fn abort_three<L: Driver, R: Abort + Wait>(
+    rt: &R,
+    alloc: Global,
+    config: Config,
+    image: Image,
+    blank: Blank,
+)
+    requires name { blank.name ≡ L.name }
+    requires parts { blank.parts ≡ L.parts }
+    requires number { blank.parts ≡ 65536 }
+    requires opening { L.opening ≡ opening_of config image }
+{
+    let shared: Shared<L> = Shared::new(opened(rt, alloc, config, image, blank));
+    let mut seat = seated(rt, &shared);
+    let first = begun(rt, &shared, &mut seat, alloc);
+    abort_in_the_walk(rt, &shared);
+    let second = begun(rt, &shared, &mut seat, alloc);
+    abort_after_the_walk(rt, &shared);
+    let third = begun(rt, &shared, &mut seat, alloc);
+    abort_before_the_fetch(rt, &shared);
+    settled(rt, &shared, &mut seat, first, Status::ABORT_REQUESTED);
+    settled(rt, &shared, &mut seat, second, Status::SUCCESS);
+    settled(rt, &shared, &mut seat, third, Status::SUCCESS);
+    let receipts = [
+        receipt(0, 0, Some(Status::ABORT_REQUESTED)),
+        receipt(1, 1, Some(Status::SUCCESS)),
+        receipt(2, 2, Some(Status::SUCCESS)),
+    ];
+    assert_eq!(rt; seat.receipts(), receipts.as_slice());
+    assert_eq!(rt; shared.counts(rt), counts(12, 4, 0));
+    assert_eq!(rt; shared.end().log().len(), 47);
+}
+
+/// A Read of one block that is reserved and built, and has this page.
+fn drafted<L: Driver, R: Abort + Wait>(rt: &R, shared: &Shared<L>, alloc: Global, page: PageNo) -> Draft {
+    let mut draft = reserved(rt, shared, alloc, Kind::Read, 0);
+    let built = draft.build(alloc).is_ok() && draft.pages().len() == 1;
+    let first = draft.pages().first().map(|(page, _)| *page);
+    if !built || first != Some(page) {
+        let _parts = draft.apart();
+        panic!(rt; "it was not drafted");
+    }
+    draft
+}
+
+/// Why a reservation on queue 1 is refused.
+fn refusal_of_a_reservation<L: Driver, R: Abort + Wait>(
+    rt: &R,
+    shared: &Shared<L>,
+    alloc: Global,
+) -> Option<Refusal> {
+    let piece = Piece::Data {
+        offset: 0,
+        len: 512,
+    };
+    let Ok(pieces) = Vec::from_slice(alloc, &[piece]) else {
+        panic!(rt; "no memory for the pieces");
+    };
+    let request = Request {
+        kind: Kind::Read,
+        slba: 0,
+        blocks: 1,
+        pieces: Pieces::from_vec(pieces),
+    };
+    match shared.reserve(rt, 1, request) {
+        Ok(draft) => {
+            let _parts = draft.apart();
+            None
+        }
+        Err(refused) => Some(refused.why),
+    }
+}
+
+/// A draft that is not submitted, as its queue is gone.
+fn too_late<L: Driver, R: Abort + Wait>(
+    rt: &R,
+    shared: &Shared<L>,
+    seat: &mut Seat<L>,
+    draft: Draft,
+) -> Draft {
+    match shared.submit(rt, seat, draft) {
+        Ok(ticket) => {
+            let _parts = ticket.apart();
+            panic!(rt; "it was submitted")
+        }
+        Err(refused) => {
+            assert_eq!(rt; refused.why, Refusal::QueueGone);
+            refused.value
+        }
+    }
+}
+
+/// The deletion of completion queue 1 is refused, as its submission queue is about.
+fn delete_too_early<L: Driver, R: Abort + Wait>(rt: &R, shared: &Shared<L>) {
+    assert_eq!(rt; shared.delete_cq(rt, 1), Ok(0));
+    assert_eq!(rt; shared.ring(rt, 0), Ok(()));
+    assert_eq!(rt; fetched(rt, shared, 0), Ok((0, Some(PageNo(0)))));
+    assert_eq!(rt; completed(rt, shared, 0, 0), Ok(Some(PageNo(1))));
+    assert_eq!(rt;
+        shared.reap(rt, 0),
+        Ok(managed_with(Status::INVALID_QUEUE_DELETION))
+    );
+}
+
+/// Submission queue 1 is deleted: its deletion is answered behind the command that was fetched.
+fn delete_in_the_walk<L: Driver, R: Abort + Wait>(rt: &R, shared: &Shared<L>) {
+    assert_eq!(rt; shared.delete_sq(rt, 1), Ok(0));
+    assert_eq!(rt; shared.ring(rt, 0), Ok(()));
+    assert_eq!(rt; fetched(rt, shared, 0), Ok((0, Some(PageNo(0)))));
+    assert_eq!(rt; completed(rt, shared, 0, 0), Err(Refusal::Waits));
+    assert_eq!(rt; completed(rt, shared, 1, 0), Ok(Some(PageNo(3))));
+    assert_eq!(rt; completed(rt, shared, 0, 0), Ok(Some(PageNo(1))));
+}
+
+/// Queue 1 is retired once its deletion is known, and its completions are reaped.
+fn retire_in_order<L: Driver, R: Abort + Wait>(rt: &R, shared: &Shared<L>, alloc: Global) {
+    assert_eq!(rt; shared.retire(rt, 1), Err(Refusal::NotDeleted));
+    assert_eq!(rt;
+        refusal_of_a_reservation(rt, shared, alloc),
+        Some(Refusal::Deleting)
+    );
+    assert_eq!(rt; shared.reap(rt, 0), Ok(managed_with(Status::SUCCESS)));
+    assert_eq!(rt; shared.retire(rt, 1), Err(Refusal::NotDrained));
+    assert_eq!(rt; shared.reap(rt, 1), Ok(done(0, Status::ABORTED_SQ_DELETION)));
+    assert_eq!(rt; shared.retire(rt, 1), Ok(()));
+}
+
+/// The controller fetches the first of two commands, and walks one step.
+fn begin_a_walk<L: Driver, R: Abort + Wait>(rt: &R, shared: &Shared<L>) {
+    assert_eq!(rt; shared.ring(rt, 1), Ok(()));
+    assert_eq!(rt; fetched(rt, shared, 1), Ok((0, Some(PageNo(2)))));
+    assert_eq!(rt; walked(rt, shared, 1, 0), Ok(WalkState::More));
+}
+
+/// A queue that is deleted while one command is walked, one waits to be fetched, and one is a draft.
+fn delete_a_queue<L: Driver, R: Abort + Wait>(
+    rt: &R,
+    alloc: Global,
+    config: Config,
+    image: Image,
+    blank: Blank,
+)
+    requires name { blank.name ≡ L.name }
+    requires parts { blank.parts ≡ L.parts }
+    requires number { blank.parts ≡ 65536 }
+    requires opening { L.opening ≡ opening_of config image }
+{
+    let shared: Shared<L> = Shared::new(opened(rt, alloc, config, image, blank));
+    let mut seat = seated(rt, &shared);
+    let first = drafted(rt, &shared, alloc, PageNo(4));
+    let second = drafted(rt, &shared, alloc, PageNo(5));
+    let third = drafted(rt, &shared, alloc, PageNo(6));
+    let first = submitted(rt, &shared, &mut seat, alloc, first);
+    let second = submitted(rt, &shared, &mut seat, alloc, second);
+    begin_a_walk(rt, &shared);
+    delete_too_early(rt, &shared);
+    delete_in_the_walk(rt, &shared);
+    retire_in_order(rt, &shared, alloc);
+    let second = ended(rt, &shared, second, Status::ABORTED_SQ_DELETION);
+    let third = too_late(rt, &shared, &mut seat, third);
+    cancelled(rt, &shared, third);
+    settled(rt, &shared, &mut seat, first, Status::ABORTED_SQ_DELETION);
+    released(rt, &shared, &mut seat, second);
+    assert_eq!(rt; shared.delete_cq(rt, 1), Ok(0));
+    managed(rt, &shared, 0, 0);
+    let receipts = [
+        receipt(0, 0, Some(Status::ABORTED_SQ_DELETION)),
+        receipt(1, 1, Some(Status::ABORTED_SQ_DELETION)),
+    ];
+    assert_eq!(rt; seat.receipts(), receipts.as_slice());
+    assert_eq!(rt; shared.counts(rt), counts(14, 2, 0));
+    assert_eq!(rt; shared.end().log().len(), 36);
+}
+
+#[test]
+fn commands_are_aborted(rt: HostRuntime) -> Result<(), Fail> {
+    let alloc = rt.alloc();
+    let image = Image::zeroed(alloc, 64)?;
+    abort_three::<Brand, HostRuntime>(&rt, alloc, USUAL, image, Blank::new(65536));
+    Ok(())
+}
+
+#[test]
+fn a_queue_is_deleted(rt: HostRuntime) -> Result<(), Fail> {
+    let alloc = rt.alloc();
+    let image = Image::zeroed(alloc, 64)?;
+    delete_a_queue::<Brand, HostRuntime>(&rt, alloc, USUAL, image, Blank::new(65536));
+    Ok(())
+}

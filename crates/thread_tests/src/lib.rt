@@ -1,0 +1,17 @@
+//! Shared books and runs of threads, with what they must leave whatever the schedule. It has tests alone.
+#![tactic(auto)]
+
+#[cfg(test)]
+mod admin_rows;
+#[cfg(test)]
+mod calls;
+#[cfg(test)]
+mod closing;
+#[cfg(test)]
+mod crowd;
+#[cfg(test)]
+mod forged_rows;
+#[cfg(test)]
+mod rows;
+#[cfg(test)]
+mod runs;

@@ -1,0 +1,134 @@
+//! Runs of threads, and what they leave.
+
+ghost use Rattle.std.specs.Prelude.{◌≡◌, ◌≤◌, vec_len};
+ghost use Rattle.world_tables.specs.Opening.{opening_of};
+
+use block_image::Image;
+use driver_book::{Driver, Report};
+use driver_threads::{Gate, Job, JobEnd, JobEnds, Ran, RunFault, run_threads};
+use entry_codec::Status;
+use io_commands::{Kind, Piece, Pieces, Request};
+use page_ledger::Owner;
+use page_memory::PageNo;
+use std::alloc::{AllocError, Global};
+use std::marker::Brand;
+use std::sync::Wait;
+use std::sync::ledger::Blank;
+use std::thread::Threads;
+use step_core::{Bytes, Reply};
+use world_tables::Config;
+
+/// What a run leaves.
+#[derive(Drop)]
+pub(crate) struct Outcome {
+    pub(crate) report: Report,
+    pub(crate) jobs: JobEnds,
+    /// Whose each page is.
+    pub(crate) owners: Vec<Owner>,
+    /// How many entries the log has.
+    pub(crate) entries: usize,
+    /// How many of them are refusals.
+    pub(crate) refusals: usize,
+}
+
+/// Runs jobs over a new book.
+fn outcome_of<L: Driver + Send + Sync, G: Gate + Sync, R: Threads + Wait + Sync>(
+    rt: &R,
+    alloc: Global,
+    config: Config,
+    image: Image,
+    jobs: Vec<Vec<Job>>,
+    gate: &G,
+    blank: Blank,
+) -> Result<Outcome, RunFault>
+    requires name { blank.name ≡ L.name }
+    requires parts { blank.parts ≡ L.parts }
+    requires number { blank.parts ≡ 65536 }
+    requires opening { L.opening ≡ opening_of config image }
+    requires some { 1 ≤ vec_len jobs }
+    requires few { vec_len jobs ≤ 16 }
+{
+    let ran: Ran<L> = run_threads(rt, alloc, config, image, jobs, gate, blank)?;
+    let mut owners = Vec::new(alloc);
+    for p in 0..ran.book.pages() {
+        if owners.push(ran.book.owner(PageNo(p))).is_err() {
+            return Err(RunFault::Memory);
+        }
+    }
+    let entries = ran.book.log().len();
+    let refusals = ran
+        .book
+        .log()
+        .iter()
+        .filter(|entry| matches!(entry.answer, Reply::Refused { .. }))
+        .count();
+    let Ran {
+        report,
+        jobs,
+        book: _,
+    } = ran;
+    Ok(Outcome {
+        report,
+        jobs,
+        owners,
+        entries,
+        refusals,
+    })
+}
+
+/// Runs jobs over a new book, whose image has so many zero blocks.
+pub(crate) fn play<G: Gate + Sync, R: Threads + Wait + Sync>(
+    rt: &R,
+    alloc: Global,
+    config: Config,
+    blocks: u32,
+    jobs: Vec<Vec<Job>>,
+    gate: &G,
+) -> Result<Outcome, RunFault>
+    requires some { 1 ≤ vec_len jobs }
+    requires few { vec_len jobs ≤ 16 }
+{
+    let Ok(image) = Image::zeroed(alloc, blocks) else {
+        return Err(RunFault::Memory);
+    };
+    outcome_of::<Brand, G, R>(rt, alloc, config, image, jobs, gate, Blank::new(65536))
+}
+
+/// A job of so many blocks, each in a piece of its own.
+pub(crate) fn job(
+    alloc: Global,
+    q: u16,
+    kind: Kind,
+    slba: u64,
+    blocks: u32,
+    bytes: &[u8],
+) -> Result<Job, AllocError> {
+    let mut pieces = Vec::new(alloc);
+    for _ in 0..blocks {
+        pieces.push(Piece::Data {
+            offset: 0,
+            len: 512,
+        })?;
+    }
+    Ok(Job {
+        q,
+        request: Request {
+            kind,
+            slba,
+            blocks,
+            pieces: Pieces::from_vec(pieces),
+        },
+        bytes: Bytes::from_vec(Vec::from_slice(alloc, bytes)?),
+    })
+}
+
+/// Whether a job was carried through, with this status and these bytes.
+pub(crate) fn is_done(end: &JobEnd, status: Status, bytes: &[u8]) -> bool {
+    match end {
+        JobEnd::Done {
+            status: told,
+            bytes: gathered,
+        } => *told == status && gathered.as_slice() == bytes,
+        JobEnd::Refused(_) => false,
+    }
+}
