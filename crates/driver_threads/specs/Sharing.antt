@@ -47,7 +47,7 @@ pub record Released (opening : State) (seat : SeatContents) (f : FinishedContent
   pub new : BookContents
   pub of : IsBookOf opening old
   pub does : Does old (Some seat.number) (events.Release f) (accept_reply result) new
-  pub settles : Settles seat f result next
+  pub settles : Settles old.world seat f result next
 
 -- some book of this opening has made all its seats
 pub record GivesNoSeat (opening : State) : Type 0 where
