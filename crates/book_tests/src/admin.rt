@@ -3,13 +3,13 @@
 ghost use Rattle.std.specs.Prelude.{◌≡◌};
 ghost use Rattle.world_tables.specs.Opening.{opening_of};
 
-use driver_book::*;
 use crate::calls::{
-    USUAL, begun, cancelled, collected, counts, drafted, managed, opened, receipt, released, seated,
-    served, submitted,
+    USUAL, begun, cancelled, collected, counts, drafted, managed, opened, receipt, released,
+    seated, served, submitted,
 };
 use block_image::Image;
 use controller_walk::WalkState;
+use driver_book::*;
 use entry_codec::Status;
 use io_commands::{Draft, Finished, Kind, Piece, Pieces, Request, Ticket};
 use page_memory::PageNo;

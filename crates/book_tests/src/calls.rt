@@ -3,8 +3,8 @@
 ghost use Rattle.std.specs.Prelude.{◌≡◌};
 ghost use Rattle.world_tables.specs.Opening.{opening_of};
 
-use driver_book::*;
 use block_image::Image;
+use driver_book::*;
 use entry_codec::Status;
 use io_commands::{Draft, Finished, Kind, Piece, Pieces, Request, Ticket};
 use page_ledger::{Counts, Owner};
@@ -124,7 +124,12 @@ pub(crate) fn begun<L: Driver, R: Abort>(
 }
 
 /// A Read of one block that is reserved and built, and has this page.
-pub(crate) fn drafted<L: Driver, R: Abort>(rt: &R, book: &mut Book<L>, alloc: Global, page: PageNo) -> Draft {
+pub(crate) fn drafted<L: Driver, R: Abort>(
+    rt: &R,
+    book: &mut Book<L>,
+    alloc: Global,
+    page: PageNo,
+) -> Draft {
     let mut draft = reserved(rt, book, alloc, Kind::Read, 0);
     let built = draft.build(alloc).is_ok() && draft.pages().len() == 1;
     let first = draft.pages().first().map(|(page, _)| *page);

@@ -3,11 +3,9 @@
 ghost use Rattle.std.specs.Prelude.{◌≡◌};
 ghost use Rattle.world_tables.specs.Opening.{opening_of};
 
-use driver_book::*;
-use crate::calls::{
-    USUAL, begun, collected, counts, opened, receipt, released, seated, served,
-};
+use crate::calls::{USUAL, begun, collected, counts, opened, receipt, released, seated, served};
 use block_image::Image;
+use driver_book::*;
 use entry_codec::Status;
 use io_commands::Finished;
 use std::alloc::Global;
@@ -201,7 +199,10 @@ fn close_many<L: Driver, R: Abort>(
     assert_eq!(rt; report.receipts.as_slice().len(), 40);
     let ended = Some(Status::SUCCESS);
     for (number, receipts) in report.receipts.as_slice().iter().enumerate() {
-        assert_eq!(rt; receipts.as_slice(), [receipt(number as u64, 0, ended)].as_slice());
+        assert_eq!(rt;
+            receipts.as_slice(),
+            [receipt(number as u64, 0, ended)].as_slice()
+        );
     }
     Ok(())
 }

@@ -154,17 +154,11 @@ fn forge_three<L: Driver, R: Abort>(
 {
     let mut book: Book<L> = opened(rt, alloc, config, image, blank);
     assert_eq!(rt; book.forge(1, 0, completion(0, 1, 3)), Ok(()));
-    assert_eq!(rt;
-        book.reap(1),
-        Ok(Reaped::Rejected(RejectedFor::UnknownId))
-    );
+    assert_eq!(rt; book.reap(1), Ok(Reaped::Rejected(RejectedFor::UnknownId)));
     assert_eq!(rt; book.forge(1, 1, completion(1, 1, 0)), Ok(()));
     assert_eq!(rt; book.reap(1), Ok(Reaped::Rejected(RejectedFor::BadHead)));
     assert_eq!(rt; book.forge(1, 2, completion(0, 0, 0)), Ok(()));
-    assert_eq!(rt;
-        book.reap(1),
-        Ok(Reaped::Rejected(RejectedFor::WrongQueue))
-    );
+    assert_eq!(rt; book.reap(1), Ok(Reaped::Rejected(RejectedFor::WrongQueue)));
     assert_eq!(rt; book.reap(1), Ok(Reaped::Empty));
     assert_eq!(rt; book.forge(1, 4, completion(0, 0, 0)), Err(Refusal::NoSlot));
     assert_eq!(rt; book.counts(), counts(12, 4, 0));

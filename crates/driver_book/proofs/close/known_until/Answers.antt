@@ -1,4 +1,4 @@
-use Rattle.std.proofs.Common.{◌≡◌, true, false, true≢false, arith, sym, ◌∙◌}
+use Rattle.std.proofs.Common.{true≢false, sym, ◌∙◌}
 use Rattle.driver_book.proofs.Standing.{known_here, unknown_here}
 use Rattle.driver_book.proofs.close.known_until.Goals as goal
 use Rattle.driver_book.proofs.close.known_until.Goals.{then-is_submission+else-not-has_seat, else-is_submission}

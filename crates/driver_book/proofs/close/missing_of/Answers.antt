@@ -1,5 +1,4 @@
-use Rattle.std.proofs.Common.{◌≡◌, Some, true, false, arith, sym, ◌∙◌}
-use Rattle.driver_book.specs.History.{is_accepted}
+use Rattle.std.proofs.Common.{Some, arith, sym, ◌∙◌}
 use Rattle.driver_book.proofs.Standing.{pass_own, pass_other, pass_none, place_of_own, missing_here}
 use Rattle.driver_book.proofs.close.missing_of.Goals as goal
 use Rattle.driver_book.proofs.close.missing_of.Goals.{then-is_submission, then-is_same_seat+else-not-does_stand, else-is_same_seat, else-is_submission}
