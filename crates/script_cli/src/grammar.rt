@@ -19,7 +19,10 @@ const MAX_LINE: usize = 16_384;
 
 /// The pieces that all words left are. The outer error is that memory was refused.
 #[tactic(auto, unfolding(crate::specs::Grammar::pieces_from))]
-pub(crate) fn pieces(alloc: Global, words: &mut Words<'_>) -> Result<Result<Pieces, LineFault>, AllocError>
+pub(crate) fn pieces(
+    alloc: Global,
+    words: &mut Words<'_>,
+) -> Result<Result<Pieces, LineFault>, AllocError>
     ensures { IfOk result (λ r. r ≡ pieces_from [] words.old) }
 {
     let mut pieces = Vec::new(alloc);
