@@ -1,21 +1,20 @@
 -- The lines of a script have numbers that fit.
 use Rattle.std.proofs.Common.{◌≡◌, ◌<◌, ◌+◌, ◌^◌, ◌==◌, ◌&&◌, ℕ, Bool, true, false, nat_lt, nat_le, Option, Some, None, Result, Ok, Err, List, [], ◌∷◌, ◌++◌, length, option_and_then, if◌then◌else◌, refl, subst, eqb-true, ltb-true}
 use Rattle.std.specs.Prelude.{All, IfOk}
-use Rattle.std.specs.List.{list_any}
 use Rattle.std.proofs.lemmas.List.Elements.{All-nil, All-push}
 use Rattle.io_commands.specs.Requests.{FitsPiece}
 use Rattle.io_commands.specs.declared.request.Piece.{Piece}
 use Rattle.io_commands.specs.declared.request.Piece.TheVariants.{Data, Bucket}
 use Rattle.machine_model.proofs.Members.{all_append}
-use Rattle.script_cli.specs.Grammar.{Words, ◌>>=◌, value_or, wanted, number_word, kind_word, hex_word, sixteen_bytes_word, nothing_more, with_piece, pieces_from, reserve_line, fill_line, forge_line, queue_line, command_line, verb_line, begins_comment, known_verb_line, line_of_words, is_high, line_of}
-use Rattle.script_cli.specs.Lines.{words, lines, before, onward}
+use Rattle.script_cli.specs.Grammar.{Words, ◌>>=◌, value_or, wanted, number_word, kind_word, hex_word, sixteen_bytes_word, nothing_more, with_piece, pieces_from, reserve_line, fill_line, forge_line, queue_line, command_line, verb_line, begins_comment, known_verb_line, line_of_words, words_of, line_of}
+use Rattle.script_cli.specs.Lines.{lines, before, onward}
 use Rattle.script_cli.specs.Numbers.{digits_from, if_below, number, hex, if_sixteen, sixteen_bytes}
 use Rattle.script_cli.specs.Pieces.{number32, is_plus, data_of, data_piece, bucket_piece, piece}
 use Rattle.script_cli.specs.Runs.{IsFitLine, AreFitLines}
 use Rattle.script_cli.specs.Scripts.{numbered_line, numbered, with_line, then_lines, script_from, script_of}
 use Rattle.script_cli.specs.Verbs.{verb_named, queue_step, command_step}
 use Rattle.script_cli.specs.declared.fault.LineFault.{LineFault}
-use Rattle.script_cli.specs.declared.fault.LineFault.TheVariants.{LongLine, NotAscii, TooManyLines}
+use Rattle.script_cli.specs.declared.fault.LineFault.TheVariants.{TooManyLines}
 use Rattle.script_cli.specs.declared.fault.ScriptFault.TheVariants as fault
 use Rattle.script_cli.specs.declared.script.Line.{Line}
 use Rattle.script_cli.specs.declared.script.Line.TheVariants as line
@@ -199,12 +198,7 @@ words_fit (first ∷ rest) = go (begins_comment first)
     go false = known_verb_fits rest (verb_named first)
 
 line_fits : (bytes : List ℕ) → IfOk (line_of bytes) IsFitLine
-line_fits bytes = go (nat_lt 16384 (length bytes)) (list_any is_high bytes)
-  where
-    go : (long high : Bool) → IfOk (if long then Err LongLine else if high then Err NotAscii else line_of_words (words bytes)) IsFitLine
-    go true high = tt
-    go false true = tt
-    go false false = words_fit (words bytes)
+line_fits bytes = whatever_fits IsFitLine (words_of bytes) line_of_words words_fit
 
 numbered_fits : (n : ℕ) (bytes : List ℕ) → IfOk (numbered_line n bytes) IsFitLine
 numbered_fits n bytes = go (nat_lt 65536 n)

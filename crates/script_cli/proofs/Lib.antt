@@ -1,6 +1,7 @@
 pub mod Cuts
 pub mod Digits
 pub mod Inputs
+pub mod JobReading
 pub mod Reading
 pub mod Runs
 pub mod FitLines

@@ -125,8 +125,12 @@ line_of_words (first ∷ rest) = if begins_comment first then Ok line.Nothing el
 abbrev pub is_high : ℕ → Bool
 is_high b = nat_le 128 b
 
-abbrev pub line_of : List ℕ → Result Line LineFault
-line_of bytes =
+-- the words of a line, where it is neither too long nor has a byte that is not ASCII
+abbrev pub words_of : List ℕ → Result Words LineFault
+words_of bytes =
     if nat_lt 16384 (length bytes) then Err LongLine
     else if list_any is_high bytes then Err NotAscii
-    else line_of_words (words bytes)
+    else Ok (words bytes)
+
+abbrev pub line_of : List ℕ → Result Line LineFault
+line_of bytes = words_of bytes >>= line_of_words

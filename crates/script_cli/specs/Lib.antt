@@ -1,6 +1,8 @@
 pub mod Faults
 pub mod Grammar
 pub mod Inputs
+pub mod JobLines
+pub mod Jobs
 pub mod Lines
 pub mod Numbers
 pub mod Owners

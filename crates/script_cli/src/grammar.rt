@@ -3,7 +3,7 @@
 ghost use Rattle.std.specs.Prelude.{◌≡◌, IfOk, Ok, Err, MatchResult, []};
 ghost use Rattle.std.specs.List.{list_any};
 ghost use Rattle.script_cli.specs.declared.verb.Verb.TheVariants.{Owners};
-ghost use Rattle.script_cli.specs.Grammar.{pieces_from, reserve_line as spec_reserve_line, fill_line as spec_fill_line, forge_line as spec_forge_line, queue_line as spec_queue_line, command_line as spec_command_line, verb_line as spec_verb_line, line_of_words, begins_comment as spec_begins_comment, is_high, line_of};
+ghost use Rattle.script_cli.specs.Grammar.{pieces_from, reserve_line as spec_reserve_line, fill_line as spec_fill_line, forge_line as spec_forge_line, queue_line as spec_queue_line, command_line as spec_command_line, verb_line as spec_verb_line, line_of_words, begins_comment as spec_begins_comment, is_high, words_of as spec_words_of, line_of};
 
 use crate::fault::LineFault;
 use crate::script::Line;
@@ -19,7 +19,10 @@ const MAX_LINE: usize = 16_384;
 
 /// The pieces that all words left are. The outer error is that memory was refused.
 #[tactic(auto, unfolding(crate::specs::Grammar::pieces_from))]
-fn pieces(alloc: Global, words: &mut Words<'_>) -> Result<Result<Pieces, LineFault>, AllocError>
+pub(crate) fn pieces(
+    alloc: Global,
+    words: &mut Words<'_>,
+) -> Result<Result<Pieces, LineFault>, AllocError>
     ensures { IfOk result (λ r. r ≡ pieces_from [] words.old) }
 {
     let mut pieces = Vec::new(alloc);
@@ -155,7 +158,7 @@ fn verb_line(
 }
 
 /// Whether a word begins a comment.
-fn begins_comment(word: &[u8]) -> bool
+pub(crate) fn begins_comment(word: &[u8]) -> bool
     ensures { result ≡ spec_begins_comment word.now }
 {
     match word.split_first() {
@@ -190,15 +193,25 @@ fn has_high(line: &[u8]) -> bool
     line.iter().any(|byte| *byte >= 128)
 }
 
+/// The words of a line, or a fault of the line as a whole.
+pub(crate) fn words_of(line: &[u8]) -> Result<Words<'_>, LineFault>
+    ensures { result ≡ spec_words_of line.now }
+{
+    if line.len() > MAX_LINE {
+        return Err(LineFault::LongLine);
+    }
+    if has_high(line) {
+        return Err(LineFault::NotAscii);
+    }
+    Ok(Words::of(line))
+}
+
 /// What a line is, or its first fault. The outer error is that memory was refused.
 pub(crate) fn read_line(alloc: Global, line: &[u8]) -> Result<Result<Line, LineFault>, AllocError>
     ensures { IfOk result (λ r. r ≡ line_of line.now) }
 {
-    if line.len() > MAX_LINE {
-        return Ok(Err(LineFault::LongLine));
+    match words_of(line) {
+        Ok(mut words) => line_of_its_words(alloc, &mut words),
+        Err(fault) => Ok(Err(fault)),
     }
-    if has_high(line) {
-        return Ok(Err(LineFault::NotAscii));
-    }
-    line_of_its_words(alloc, &mut Words::of(line))
 }

@@ -11,6 +11,10 @@
 mod fault;
 mod grammar;
 mod input;
+mod job_lines;
+#[cfg(test)]
+mod job_tests;
+mod jobs;
 mod lines;
 mod output;
 mod owners;
@@ -25,10 +29,13 @@ mod values;
 mod verb;
 mod words;
 pub mod worked;
+pub mod worked_jobs;
 pub mod worked_replies;
 
 pub use fault::{LineFault, RunFault, ScriptFault};
 pub use input::{ImageFault, read_image};
+pub use job_lines::{JobAnswer, append_job_line};
+pub use jobs::{JobLine, JobScript, read_jobs};
 pub use owners::{append_counts, append_owners};
 pub use reply::append_reply;
 pub use run::run_steps;

@@ -14,7 +14,7 @@ use step_core::Step;
 pub(crate) const MAX_SCRIPT: usize = 1_048_576;
 
 /// The most lines of a script.
-const MAX_LINES: u32 = 65_536;
+pub(crate) const MAX_LINES: u32 = 65_536;
 
 /// What a line of a script is.
 #[derive(Debug, Drop)]

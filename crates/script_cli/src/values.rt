@@ -62,6 +62,14 @@ pub(crate) fn number16(word: &[u8]) -> Option<u16>
     u16::try_from(number64(word)?).ok()
 }
 
+/// The number of 1 to 20 decimal digits, if it is below a limit.
+pub(crate) fn number_below(limit: u16, word: &[u8]) -> Option<u16>
+    ensures { result ≡ number limit word.now }
+{
+    let value = number16(word)?;
+    if value < limit { Some(value) } else { None }
+}
+
 /// The value of a hexadecimal digit.
 fn hex_digit(byte: u8) -> Option<u8>
     ensures value { result ≡ spec_hex_digit byte }

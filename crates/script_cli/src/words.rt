@@ -8,7 +8,7 @@ ghost use Rattle.script_cli.specs.declared.fault.LineFault.TheVariants.{MissingW
 ghost use Rattle.script_cli.specs.declared.script.Line.{Line};
 
 use crate::fault::LineFault;
-use crate::values::{bytes, kind, number16, number32, number64, sixteen_bytes};
+use crate::values::{bytes, kind, number_below, number16, number32, number64, sixteen_bytes};
 use io_commands::Kind;
 use std::alloc::{AllocError, Global};
 use std::marker::Model;
@@ -106,6 +106,15 @@ impl<'a> Words<'a> {
     {
         let word = self.wanted()?;
         number16(word).ok_or(LineFault::BadNumber)
+    }
+
+    /// Takes a number that is below a limit.
+    #[tactic(auto, unfolding(crate::specs::Grammar::number_word))]
+    pub(crate) fn number_below(&mut self, limit: u16) -> Result<u16, LineFault>
+        ensures { MatchResult result (λ n. number_word limit self.old ≡ Ok (n, self.new)) (λ fault. number_word limit self.old ≡ Err fault) }
+    {
+        let word = self.wanted()?;
+        number_below(limit, word).ok_or(LineFault::BadNumber)
     }
 
     /// Takes a number of 32 bits.
