@@ -50,13 +50,7 @@ impl<A: Allocator> HostPair<A> {
     /// # Errors
     ///
     /// `AllocError` where memory for the table of identifiers is refused.
-    pub fn open(
-        alloc: A,
-        q: u16,
-        entries: u16,
-        sq: PageNo,
-        cq: PageNo,
-    ) -> Result<Self, AllocError>
+    pub fn open(alloc: A, q: u16, entries: u16, sq: PageNo, cq: PageNo) -> Result<Self, AllocError>
         requires least { 2 ≤ entries }
         requires most { entries ≤ 1024 }
         ensures queue { IfOk result (λ pair. (pair.q ≡ q) × (pair.entries ≡ entries)) }
