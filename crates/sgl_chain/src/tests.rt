@@ -95,6 +95,13 @@ fn one_part_more_is_too_many(rt: HostRuntime) -> Result<(), Fail> {
     Ok(())
 }
 
+/// How many descriptors segment `i` has.
+fn descriptors_in(chain: &Chain<Global>, i: usize) -> usize
+    requires { i < length chain.now.segments }
+{
+    chain.image_of(i).descs.as_slice().len()
+}
+
 #[test]
 fn three_parts_stand_on_two_pages(rt: HostRuntime) -> Result<(), Fail> {
     let parts = [
@@ -137,7 +144,7 @@ fn three_parts_stand_on_two_pages(rt: HostRuntime) -> Result<(), Fail> {
         ]
         .as_slice()
     );
-    assert_eq!(rt; chain.image_of(1).descs.as_slice().len(), 2);
+    assert_eq!(rt; descriptors_in(&chain, 1), 2);
     Ok(())
 }
 
