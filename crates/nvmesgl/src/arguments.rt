@@ -174,9 +174,9 @@ pub fn words<R: Env + AllocGlobal>(rt: &R) -> Result<Vec<String>, Fault> {
     let alloc = rt.alloc();
     match std::env::args(rt) {
         Ok(words) => Ok(words.collect(alloc)?),
-        Err(why) if why.kind() == io::ErrorKind::InvalidData => Err(Fault::Arguments(
-            command(alloc)?.error(ErrorKind::InvalidValue, NOT_TEXT)?,
-        )),
+        Err(why) if why.kind() == io::ErrorKind::InvalidData => Err(Fault::Arguments(command(
+            alloc,
+        )?.error(ErrorKind::InvalidValue, NOT_TEXT)?)),
         Err(_) => Err(Fault::Run(RunFault::Memory)),
     }
 }
