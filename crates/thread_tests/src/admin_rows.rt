@@ -139,7 +139,12 @@ fn abort_three<L: Driver, R: Abort + Wait>(
 }
 
 /// A Read of one block that is reserved and built, and has this page.
-fn drafted<L: Driver, R: Abort + Wait>(rt: &R, shared: &Shared<L>, alloc: Global, page: PageNo) -> Draft {
+fn drafted<L: Driver, R: Abort + Wait>(
+    rt: &R,
+    shared: &Shared<L>,
+    alloc: Global,
+    page: PageNo,
+) -> Draft {
     let mut draft = reserved(rt, shared, alloc, Kind::Read, 0);
     let built = draft.build(alloc).is_ok() && draft.pages().len() == 1;
     let first = draft.pages().first().map(|(page, _)| *page);
@@ -228,7 +233,10 @@ fn retire_in_order<L: Driver, R: Abort + Wait>(rt: &R, shared: &Shared<L>, alloc
     );
     assert_eq!(rt; shared.reap(rt, 0), Ok(managed_with(Status::SUCCESS)));
     assert_eq!(rt; shared.retire(rt, 1), Err(Refusal::NotDrained));
-    assert_eq!(rt; shared.reap(rt, 1), Ok(done(0, Status::ABORTED_SQ_DELETION)));
+    assert_eq!(rt;
+        shared.reap(rt, 1),
+        Ok(done(0, Status::ABORTED_SQ_DELETION))
+    );
     assert_eq!(rt; shared.retire(rt, 1), Ok(()));
 }
 

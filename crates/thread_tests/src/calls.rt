@@ -104,7 +104,8 @@ pub(crate) fn submitted<L: Driver, R: Abort + Wait>(
 /// The controller fetches the next entry of queue 1, walks its list of one descriptor, and completes it.
 pub(crate) fn served<L: Driver, R: Abort + Wait>(rt: &R, shared: &Shared<L>, cid: u16) {
     assert_eq!(rt;
-        shared.fetch(rt, 1)
+        shared
+            .fetch(rt, 1)
             .map(|done| done.cid)
             .map_err(|refused| refused.why),
         Ok(cid)
@@ -186,7 +187,8 @@ pub(crate) fn receipt(number: u64, cid: u16, status: Option<Status>) -> Receipt 
 pub(crate) fn managed<L: Driver, R: Abort + Wait>(rt: &R, shared: &Shared<L>, cid: u16, dw0: u32) {
     assert_eq!(rt; shared.ring(rt, 0), Ok(()));
     assert_eq!(rt;
-        shared.fetch(rt, 0)
+        shared
+            .fetch(rt, 0)
             .map(|done| done.cid)
             .map_err(|refused| refused.why),
         Ok(cid)
@@ -210,7 +212,11 @@ fn only(touched: &Touched) -> Option<PageNo> {
 }
 
 /// The identifier that a fetch answers, and the page that it touched.
-pub(crate) fn fetched<L: Driver, R: Wait>(rt: &R, shared: &Shared<L>, q: u16) -> Result<(u16, Option<PageNo>), Refusal> {
+pub(crate) fn fetched<L: Driver, R: Wait>(
+    rt: &R,
+    shared: &Shared<L>,
+    q: u16,
+) -> Result<(u16, Option<PageNo>), Refusal> {
     match shared.fetch(rt, q) {
         Ok(done) => Ok((done.cid, only(&done.touched))),
         Err(refused) => Err(refused.why),
@@ -218,7 +224,12 @@ pub(crate) fn fetched<L: Driver, R: Wait>(rt: &R, shared: &Shared<L>, q: u16) ->
 }
 
 /// What a unit of a walk answers.
-pub(crate) fn walked<L: Driver, R: Wait>(rt: &R, shared: &Shared<L>, q: u16, cid: u16) -> Result<WalkState, Refusal> {
+pub(crate) fn walked<L: Driver, R: Wait>(
+    rt: &R,
+    shared: &Shared<L>,
+    q: u16,
+    cid: u16,
+) -> Result<WalkState, Refusal> {
     match shared.walk(rt, q, cid) {
         Ok(done) => Ok(done.state),
         Err(refused) => Err(refused.why),
@@ -226,7 +237,12 @@ pub(crate) fn walked<L: Driver, R: Wait>(rt: &R, shared: &Shared<L>, q: u16, cid
 }
 
 /// The page that a completion touched.
-pub(crate) fn completed<L: Driver, R: Wait>(rt: &R, shared: &Shared<L>, q: u16, cid: u16) -> Result<Option<PageNo>, Refusal> {
+pub(crate) fn completed<L: Driver, R: Wait>(
+    rt: &R,
+    shared: &Shared<L>,
+    q: u16,
+    cid: u16,
+) -> Result<Option<PageNo>, Refusal> {
     match shared.complete(rt, q, cid) {
         Ok(done) => Ok(only(&done.touched)),
         Err(refused) => Err(refused.why),
@@ -237,4 +253,3 @@ pub(crate) fn completed<L: Driver, R: Wait>(rt: &R, shared: &Shared<L>, q: u16, 
 pub(crate) fn done(cid: u16, status: Status) -> Reaped {
     Reaped::Done { cid, status }
 }
-

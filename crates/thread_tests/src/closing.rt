@@ -48,12 +48,16 @@ fn kept_open<L: Driver, R: Abort + Wait>(
     }
 }
 
+/// The first of seats that came back.
+fn first_of<L: Driver, R: Abort>(rt: &R, seats: Vec<Seat<L>>) -> Seat<L> {
+    match seats.into_iter().next() {
+        Some(seat) => seat,
+        None => panic!(rt; "the seat is lost"),
+    }
+}
+
 /// What a close that succeeds answers.
-fn closed<L: Driver, R: Abort + Wait>(
-    rt: &R,
-    shared: &Shared<L>,
-    seats: Vec<Seat<L>>,
-) -> Report {
+fn closed<L: Driver, R: Abort + Wait>(rt: &R, shared: &Shared<L>, seats: Vec<Seat<L>>) -> Report {
     match shared.close(rt, seats) {
         Ok(report) => report,
         Err(_) => panic!(rt; "it was not closed"),
@@ -79,6 +83,13 @@ fn has_receipts(report: &Report, first: Receipt, second: Receipt) -> bool {
     }
 }
 
+/// The controller serves commands 0 and 1 of queue 1.
+fn serve_both<L: Driver, R: Abort + Wait>(rt: &R, shared: &Shared<L>) {
+    assert_eq!(rt; shared.ring(rt, 1), Ok(()));
+    served(rt, shared, 0);
+    served(rt, shared, 1);
+}
+
 /// Each of two seats submits once. One is kept back, then both are handed in too early, and at last in time.
 fn keep_a_seat_back<L: Driver, R: Abort + Wait>(
     rt: &R,
@@ -99,18 +110,14 @@ fn keep_a_seat_back<L: Driver, R: Abort + Wait>(
     let two = begun(rt, &shared, alloc, &mut second);
     let (why, seats) = kept_open(rt, &shared, listed(rt, alloc, first, None));
     assert_eq!(rt; why, CloseFault::Missing { seat: 1, number: 1 });
-    let Some(first) = seats.into_iter().next() else {
-        panic!(rt; "the seat is lost");
-    };
+    let first = first_of(rt, seats);
     let (why, seats) = kept_open(rt, &shared, listed(rt, alloc, first, Some(second)));
     assert_eq!(rt; why, CloseFault::StillOut);
     let mut seats = seats.into_iter();
     let (Some(mut first), Some(mut second)) = (seats.next(), seats.next()) else {
         panic!(rt; "the seats are lost");
     };
-    assert_eq!(rt; shared.ring(rt, 1), Ok(()));
-    served(rt, &shared, 0);
-    served(rt, &shared, 1);
+    serve_both(rt, &shared);
     let two = collected(rt, &shared, two);
     released(rt, &shared, &mut second, two);
     let one = collected(rt, &shared, one);
@@ -142,9 +149,7 @@ fn keep_an_idle_seat_back<L: Driver, R: Abort + Wait>(
     let second = seated(rt, &shared);
     let (why, seats) = kept_open(rt, &shared, listed(rt, alloc, first, None));
     assert_eq!(rt; why, CloseFault::SeatOut);
-    let Some(first) = seats.into_iter().next() else {
-        panic!(rt; "the seat is lost");
-    };
+    let first = first_of(rt, seats);
     let report = closed(rt, &shared, listed(rt, alloc, first, Some(second)));
     assert_eq!(rt; report.submissions, 0);
 }

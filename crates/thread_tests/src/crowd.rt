@@ -48,11 +48,10 @@ fn rounds(alloc: Global, worker: u8) -> Result<Vec<Job>, AllocError> {
 /// Whether these are the ends of one round.
 fn is_round(ends: &[JobEnd], worker: u8, round: u8) -> bool {
     match ends {
-        [write, read, equal, other] =>
-            is_done(write, Status::SUCCESS, &[])
-                && is_done(read, Status::SUCCESS, &blocks(worker, round))
-                && is_done(equal, Status::SUCCESS, &[])
-                && is_done(other, Status::COMPARE_FAILURE, &[]),
+        [write, read, equal, other] => is_done(write, Status::SUCCESS, &[])
+            && is_done(read, Status::SUCCESS, &blocks(worker, round))
+            && is_done(equal, Status::SUCCESS, &[])
+            && is_done(other, Status::COMPARE_FAILURE, &[]),
         _ => false,
     }
 }

@@ -50,7 +50,10 @@ fn reject_three<L: Driver, R: Abort + Wait>(
     assert_eq!(rt; shared.forge(rt, 1, 2, forged(0, 0, 0)), Ok(()));
     assert_eq!(rt; shared.reap(rt, 1), rejected(RejectedFor::WrongQueue));
     assert_eq!(rt; shared.reap(rt, 1), Ok(Reaped::Empty));
-    assert_eq!(rt; shared.forge(rt, 1, 4, forged(0, 1, 0)), Err(Refusal::NoSlot));
+    assert_eq!(rt;
+        shared.forge(rt, 1, 4, forged(0, 1, 0)),
+        Err(Refusal::NoSlot)
+    );
     assert_eq!(rt; shared.counts(rt), counts(12, 4, 0));
 }
 

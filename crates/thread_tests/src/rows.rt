@@ -3,9 +3,7 @@
 
 use crate::calls::{USUAL, counts};
 use crate::runs::{Outcome, is_done, job, play};
-use driver_threads::{
-    Gate, GateClosed, Job, JobEnd, JobRefusal, Open, Point, RunFault,
-};
+use driver_threads::{Gate, GateClosed, Job, JobEnd, JobRefusal, Open, Point, RunFault};
 use entry_codec::Status;
 use io_commands::{Kind, RequestFault};
 use page_ledger::Owner;
@@ -88,7 +86,10 @@ fn writes_and_reads(alloc: Global, q: u16, first: u64, byte: u8) -> Result<Vec<J
 /// Whether these are the ends of three such Writes and Reads.
 fn are_written_and_read(ends: &[JobEnd], byte: u8) -> bool {
     ends.len() == 6
-        && ends.iter().take(3).all(|end| is_done(end, Status::SUCCESS, &[]))
+        && ends
+            .iter()
+            .take(3)
+            .all(|end| is_done(end, Status::SUCCESS, &[]))
         && ends.iter().skip(3).zip(0..3u8).all(|(end, i)| {
             let mut block = [0u8; 512];
             block[0] = byte.wrapping_add(i);
@@ -102,15 +103,33 @@ fn two_submitters<G: Gate + Sync, R: Threads + Wait + Sync>(
     alloc: Global,
     gate: &G,
 ) -> Result<Outcome, Fail> {
-    let jobs = vec![
-        in alloc;
+    let jobs = vec![in alloc;
         writes_and_reads(alloc, 1, 0, 0xA0)?,
-        writes_and_reads(alloc, 1, 8, 0xB0)?
+        writes_and_reads(alloc, 1, 8, 0xB0)?,
     ]?;
     if jobs.len() != 2 {
         return Err(Fail::from("two lists"));
     }
     Ok(play(rt, alloc, USUAL, 64, jobs, gate)?)
+}
+
+/// The first four pages are those of the queues, and the others are free.
+fn check_owners<R: Abort>(rt: &R, owners: &[Owner]) {
+    let ring = |q, half| Owner::Queue { q, half };
+    let queues = [
+        ring(0, Half::Submission),
+        ring(0, Half::Completion),
+        ring(1, Half::Submission),
+        ring(1, Half::Completion),
+    ];
+    assert_eq!(rt; owners.len(), 16);
+    assert!(rt;
+        owners
+            .iter()
+            .zip(queues)
+            .all(|(owner, queue)| *owner == queue)
+    );
+    assert!(rt; owners.iter().skip(4).all(|owner| *owner == Owner::Free));
 }
 
 /// What two submitters must leave, whatever the schedule: each job has one reserve, submit, ring, fetch, complete, reap, collect and release
@@ -124,19 +143,17 @@ fn check<R: Abort>(rt: &R, outcome: &Outcome) {
         }
         _ => panic!(rt; "two lists"),
     }
-    let ring = |q, half| Owner::Queue { q, half };
-    let queues = [
-        ring(0, Half::Submission),
-        ring(0, Half::Completion),
-        ring(1, Half::Submission),
-        ring(1, Half::Completion),
-    ];
-    assert_eq!(rt; outcome.owners.len(), 16);
-    assert!(rt; outcome.owners.iter().zip(queues).all(|(owner, queue)| *owner == queue));
-    assert!(rt; outcome.owners.iter().skip(4).all(|owner| *owner == Owner::Free));
+    check_owners(rt, &outcome.owners);
     assert_eq!(rt; outcome.report.counts, counts(12, 4, 0));
     assert_eq!(rt; outcome.report.submissions, 12);
-    assert!(rt; outcome.report.receipts.as_slice().iter().all(|list| list.len() == 6));
+    assert!(rt;
+        outcome
+            .report
+            .receipts
+            .as_slice()
+            .iter()
+            .all(|list| list.len() == 6)
+    );
     assert_eq!(rt; outcome.refusals, 0);
     assert_eq!(rt; outcome.entries, 12 * 10);
 }
@@ -165,11 +182,10 @@ fn two_submitters_meet_once_submitted(rt: HostRuntime) -> Result<(), Fail> {
 #[test]
 fn a_closed_gate_is_told(rt: HostRuntime) -> Result<(), Fail> {
     let alloc = rt.alloc();
-    let jobs = vec![
-        in alloc;
+    let jobs = vec![in alloc;
         writes_and_reads(alloc, 1, 0, 0)?,
         writes_and_reads(alloc, 1, 8, 0)?,
-        writes_and_reads(alloc, 1, 16, 0)?
+        writes_and_reads(alloc, 1, 16, 0)?,
     ]?;
     assert_eq!(rt; jobs.len(), 3);
     match play(&rt, alloc, USUAL, 64, jobs, &Closed) {
@@ -188,10 +204,9 @@ fn submitters_have_queues_of_their_own(rt: HostRuntime) -> Result<(), Fail> {
         entries: 2,
         segment: 256,
     };
-    let jobs = vec![
-        in alloc;
+    let jobs = vec![in alloc;
         writes_and_reads(alloc, 1, 0, 0x10)?,
-        writes_and_reads(alloc, 2, 8, 0x20)?
+        writes_and_reads(alloc, 2, 8, 0x20)?,
     ]?;
     assert_eq!(rt; jobs.len(), 2);
     let outcome = play(&rt, alloc, config, 64, jobs, &Open)?;
@@ -219,13 +234,12 @@ fn refusal_of(end: &JobEnd) -> Option<JobRefusal> {
 #[test]
 fn jobs_are_refused(rt: HostRuntime) -> Result<(), Fail> {
     let alloc = rt.alloc();
-    let list = vec![
-        in alloc;
+    let list = vec![in alloc;
         job(alloc, 2, Kind::Read, 0, 1, &[])?,
         job(alloc, 1, Kind::Read, 0, 0, &[])?,
         job(alloc, 1, Kind::Read, 0, 12, &[])?,
         job(alloc, 1, Kind::Write, 0, 1, &[1; 513])?,
-        job(alloc, 1, Kind::Read, 0, 11, &[])?
+        job(alloc, 1, Kind::Read, 0, 11, &[])?,
     ]?;
     let jobs = vec![in alloc; list]?;
     assert_eq!(rt; jobs.len(), 1);
@@ -241,7 +255,11 @@ fn jobs_are_refused(rt: HostRuntime) -> Result<(), Fail> {
     match ends {
         [list] => {
             assert_eq!(rt; list.len(), 5);
-            assert!(rt; list.iter().zip(wanted).all(|(end, why)| refusal_of(end) == why));
+            assert!(rt;
+                list.iter()
+                    .zip(wanted)
+                    .all(|(end, why)| refusal_of(end) == why)
+            );
         }
         _ => panic!(rt; "one list"),
     }
@@ -255,7 +273,11 @@ fn jobs_are_refused(rt: HostRuntime) -> Result<(), Fail> {
 #[test]
 fn an_opening_is_refused(rt: HostRuntime) -> Result<(), Fail> {
     let alloc = rt.alloc();
-    let config = Config { queues: 4, pages: 8, ..USUAL };
+    let config = Config {
+        queues: 4,
+        pages: 8,
+        ..USUAL
+    };
     let jobs = vec![in alloc; Vec::new(alloc)]?;
     assert_eq!(rt; jobs.len(), 1);
     let why = OpenRefusal::NoPages { need: 10, free: 8 };

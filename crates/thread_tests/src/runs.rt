@@ -4,7 +4,7 @@ ghost use Rattle.std.specs.Prelude.{◌≡◌, ◌≤◌, vec_len};
 ghost use Rattle.world_tables.specs.Opening.{opening_of};
 
 use block_image::Image;
-use driver_book::{Driver, Report};
+use driver_book::{Book, Driver, Report};
 use driver_threads::{Gate, Job, JobEnd, JobEnds, Ran, RunFault, run_threads};
 use entry_codec::Status;
 use io_commands::{Kind, Piece, Pieces, Request};
@@ -31,6 +31,17 @@ pub(crate) struct Outcome {
     pub(crate) refusals: usize,
 }
 
+/// Whose each page is.
+fn owners_of<L: Driver>(alloc: Global, book: &Book<L>) -> Result<Vec<Owner>, RunFault> {
+    let mut owners = Vec::new(alloc);
+    for p in 0..book.pages() {
+        if owners.push(book.owner(PageNo(p))).is_err() {
+            return Err(RunFault::Memory);
+        }
+    }
+    Ok(owners)
+}
+
 /// Runs jobs over a new book.
 fn outcome_of<L: Driver + Send + Sync, G: Gate + Sync, R: Threads + Wait + Sync>(
     rt: &R,
@@ -49,12 +60,7 @@ fn outcome_of<L: Driver + Send + Sync, G: Gate + Sync, R: Threads + Wait + Sync>
     requires few { vec_len jobs ≤ 16 }
 {
     let ran: Ran<L> = run_threads(rt, alloc, config, image, jobs, gate, blank)?;
-    let mut owners = Vec::new(alloc);
-    for p in 0..ran.book.pages() {
-        if owners.push(ran.book.owner(PageNo(p))).is_err() {
-            return Err(RunFault::Memory);
-        }
-    }
+    let owners = owners_of(alloc, &ran.book)?;
     let entries = ran.book.log().len();
     let refusals = ran
         .book
