@@ -2,6 +2,7 @@
 
 use block_image::Image;
 use controller_walk::WalkState;
+use entry_codec::SubEntry;
 use io_commands::{Draft, Finished, Kind, Piece, Pieces, Request};
 use page_memory::{Page, PageNo};
 use std::alloc::Global;
@@ -94,7 +95,7 @@ fn first_two(pages: &[(PageNo, Page)], place: usize) -> Option<(PageNo, [u8; 32]
 }
 
 #[test]
-fn the_entry_of_one_block_has_its_bytes(rt: HostRuntime) -> Result<(), Fail> {
+fn the_entry_of_one_block_is_what_its_bytes_spell(rt: HostRuntime) -> Result<(), Fail> {
     let mut world = open(rt.alloc(), 256)?;
     let draft = built(&mut world, rt.alloc(), 1, &[BLOCK])?;
     let entry = draft.entry();
@@ -105,7 +106,7 @@ fn the_entry_of_one_block_has_its_bytes(rt: HostRuntime) -> Result<(), Fail> {
     bytes[4] = 0x01;
     bytes[25] = 0x40;
     bytes[33] = 0x02;
-    assert_eq!(rt; entry.map(|entry| entry.write()), Some(bytes));
+    assert_eq!(rt; entry, Some(SubEntry::read(&bytes)));
     Ok(())
 }
 
