@@ -2,10 +2,12 @@
 //!
 //! [`read_script`] reads a script to its lines that do something, or to its first fault; [`append_reply`], [`append_owners`] and
 //! [`append_counts`] write what its steps answered. The grammar and the lines are this project's own.
+//! [`read_jobs`] reads a script of jobs for submitters in the same way, and [`append_job_line`] writes how a job ended.
 //!
 //! `specs/Lines.antt` cuts a text into lines and words, `specs/Numbers.antt` and `specs/Pieces.antt` say what single words stand for,
 //! `specs/Grammar.antt` what a line is, and `specs/Scripts.antt` what a script is, or its first fault. `specs/Replies.antt` and
-//! `specs/Owners.antt` have the text that is printed. [`worked`] and [`worked_replies`] compute some of these.
+//! `specs/Owners.antt` have the text that is printed. `specs/Jobs.antt` and `specs/JobLines.antt` say the same of jobs. [`worked`],
+//! [`worked_jobs`] and [`worked_replies`] compute some of these.
 #![tactic(auto)]
 
 mod fault;
