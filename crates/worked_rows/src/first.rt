@@ -489,3 +489,43 @@ fn nothing_is_to_do(rt: HostRuntime) -> Result<(), Fail> {
     );
     Ok(())
 }
+
+/// Seven commands of a queue of eight entries are outstanding at once, and an admin command beside them.
+#[test]
+fn seven_commands_are_outstanding(rt: HostRuntime) -> Result<(), Fail> {
+    let alloc = rt.alloc();
+    let config = Config {
+        entries: 8,
+        ..USUAL
+    };
+    let output = played(
+        alloc,
+        config,
+        zeros(alloc)?,
+        "reserve 1 read 0 1 0+512
+reserve 1 read 0 1 0+512
+reserve 1 read 0 1 0+512
+reserve 1 read 0 1 0+512
+reserve 1 read 0 1 0+512
+reserve 1 read 0 1 0+512
+reserve 1 read 0 1 0+512
+reserve 1 read 0 1 0+512
+delete_cq 1
+",
+    )?;
+    assert_eq!(rt;
+        output.as_str(),
+        "1 reserve q 1 cid 0 data 1 chain 0
+2 reserve q 1 cid 1 data 1 chain 0
+3 reserve q 1 cid 2 data 1 chain 0
+4 reserve q 1 cid 3 data 1 chain 0
+5 reserve q 1 cid 4 data 1 chain 0
+6 reserve q 1 cid 5 data 1 chain 0
+7 reserve q 1 cid 6 data 1 chain 0
+8 reserve refused NoIdentifier
+9 delete_cq cid 0
+counts free 5 queue 4 chain 0 data 7
+"
+    );
+    Ok(())
+}
