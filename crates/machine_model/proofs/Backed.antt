@@ -36,27 +36,7 @@ use Rattle.machine_model.proofs.Placing.{waiting, answering, waiting_same, answe
 use Rattle.machine_model.proofs.Placements.{on_job_q, on_job_entry, stopped_q, stopped_entry}
 use Rattle.machine_model.proofs.Tying.{Fit}
 use Rattle.machine_model.proofs.TiedHost.{below, asked_some, small}
-
--- an answer that tells no success
-abbrev pub fails : ℕ → Answer → ℕ
-fails c an = one ((an.cid == c) && not (is_success an.status))
-
--- how often a command of queue 0 stands at the controller, an answer with success left out
-abbrev pub unsettled : ℕ → List DeviceQueue → List Job → ℕ
-unsettled c ds js = total (entry_is c) (waiting ds) + (total (job_is c) js + total (fails c) (answering ds))
-
--- an outstanding deletion of a queue, which succeeded
-pub record Settles (rs : List Record) (ds : List DeviceQueue) (js : List Job) (q : ℕ) : Type 0 where
-  pub cid : ℕ
-  pub knows : Knows rs cid (DeleteSq q)
-  pub settled : unsettled cid ds js ≡ 0
-
--- whether the host has a queue, and doesn't know it to be deleted
-abbrev pub hoped_at : List HostQueue → ℕ → Bool
-hoped_at hs q = option_map_or (λ h. not (is_over h.state)) (slice_get hs q) false
-
-abbrev pub Backed : List Record → List HostQueue → List DeviceQueue → List Job → Type 0
-Backed rs hs ds js = (q : ℕ) → hoped_at hs q ≡ true → gone_at ds q ≡ true → Settles rs ds js q
+pub use Rattle.machine_model.specs.Agreeing.{fails, unsettled, Settles, hoped_at, Backed}
 
 -- Steps of the controller that delete no queue
 

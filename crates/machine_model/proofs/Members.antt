@@ -6,6 +6,7 @@ use Rattle.machine_model.specs.State.{Record, is_at, with_record}
 use Rattle.machine_model.specs.Refusals.{is_submitted}
 use Rattle.machine_model.proofs.Counting.{one}
 use Rattle.machine_model.proofs.Totals.{total, here}
+pub use Rattle.machine_model.specs.Weights.{sent}
 
 abbrev pub In : {A : Type 0} → A → List A → Type 0
 In {A} x xs = (w : A → ℕ) → w x ≤ total w xs
@@ -120,10 +121,6 @@ all_with P Q q cid f rs r0 e once others own all = go rs (is_found q cid rs r0 e
     go : (xs : List Record) → AllByRecursion (λ r. is_at q cid r ≡ true → r ≡ r0) xs → AllByRecursion P xs → AllByRecursion Q (with_record q cid f xs)
     go [] same all = tt
     go (x ∷ xs) same all = (one_of x (is_at q cid x) refl same.0 all.0, go xs same.1 all.1)
-
--- how much the submitted commands of a queue count, by their identifiers
-abbrev pub sent : ℕ → (ℕ → ℕ) → Record → ℕ
-sent q w r = if (r.q == q) && is_submitted r.phase then w r.cid else 0
 
 -- where a submitted command of an identifier counts, its record is found
 pub sent_found : (q cid : ℕ) (rs : List Record) → 0 < total (sent q (λ c. one (c == cid))) rs → total (here q cid) rs < 2 → (r : Record) × (find (is_at q cid) rs ≡ Some r) × (is_submitted r.phase ≡ true)

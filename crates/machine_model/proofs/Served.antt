@@ -45,29 +45,9 @@ use Rattle.machine_model.proofs.Grounds.{Grounds}
 use Rattle.machine_model.proofs.Reaching.{list_in}
 use Rattle.machine_model.proofs.Ending.{lists_end, bytes_there}
 use Rattle.machine_model.proofs.Entered.{good_is, entry_direction, entry_need, parts_count, parts_lie, parts_there}
+pub use Rattle.machine_model.specs.Agreeing.{past_at, answers_at, unfetched_count, job_weight, Places, Commands}
 
 -- The invariant
-
-abbrev pub past_at : List HostQueue → ℕ → Bool
-past_at hs q = option_map_or (λ h. is_past h.state) (slice_get hs q) false
-
-abbrev pub answers_at : List DeviceQueue → ℕ → List Answer
-answers_at qs q = option_map_or (λ at. at.answers) (slice_get qs q) []
-
--- how much the entries count that a queue has not fetched, by their identifiers; of a retired queue none does
-abbrev pub unfetched_count : ℕ → (ℕ → ℕ) → List HostQueue → List DeviceQueue → ℕ
-unfetched_count q w hs qs = if past_at hs q then 0 else total (λ e. w e.cid) (unfetched_at qs q)
-
-abbrev pub job_weight : ℕ → (ℕ → ℕ) → Job → ℕ
-job_weight q w j = if j.q == q then w j.entry.cid else 0
-
--- the entries, jobs and answers of a queue count no more than its submitted commands
-abbrev pub Places : List HostQueue → List Record → List DeviceQueue → List Job → Type 0
-Places hs rs qs js =
-    (q : ℕ) (w : ℕ → ℕ) → unfetched_count q w hs qs + (total (job_weight q w) js + total (λ an. w an.cid) (answers_at qs q)) ≤ total (sent q w) rs
-
-abbrev pub Commands : Pages → List DeviceQueue → List Job → List Record → Type 0
-Commands m qs js rs = AllByRecursion (CommandStands m qs js) rs
 
 pub record Stood (s : State) : Type 0 where
   pub grounds : Grounds s

@@ -30,5 +30,8 @@ pub mod WorkedAdmin
 pub mod WorkedForged
 pub mod WorkedLaws
 pub mod WorkedSound
+pub mod Weights
+pub mod Agreeing
+pub mod AgreeingLaws
 pub mod InOrder
 pub mod Work
