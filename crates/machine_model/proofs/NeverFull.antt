@@ -262,7 +262,7 @@ refused_not_full : (s : State) → Roomy s → (e : Event) (why : Refusal) (touc
 refused_not_full s r e events.Memory touched h = refl
 refused_not_full s r e why touched h = rows_say (causes s e) (no_cause s r e) why h.0
 
-reply_not_full : (s : State) → Roomy s → s.trusted ≡ true → (e : Event) (reply : Reply) → Permits s e reply → is_full reply ≡ false
+pub reply_not_full : (s : State) → Roomy s → s.trusted ≡ true → (e : Event) (reply : Reply) → Permits s e reply → is_full reply ≡ false
 reply_not_full s r t e (events.Refused why touched) h = same_full why touched ∙ refused_not_full s r e why touched (permitted _ s.trusted (not (IsController e)) t h)
 reply_not_full s r t e reply h = refl
 

@@ -65,13 +65,13 @@ abbrev pub agreed_chains_stand : Type 0
 agreed_chains_stand =
     (s : State) (q cid : ℕ) (r : Record) → SidesAgree s → record_at s.host q cid ≡ Some r → IsTrue (is_submitted r.phase) → HasChainIfIo s r r.work
 
--- no step changes a byte of a chain page of a record that is submitted, and stays so
+-- no step changes a byte of a chain page of a record that is submitted
 abbrev pub agreed_chains_stay : Type 0
 agreed_chains_stay =
     (old : State) (e : Event) (reply : Reply) (new : State) (q cid : ℕ) (r : Record) (p : ℕ)
     → SidesAgree old → IsTrue old.trusted → Step old e reply new
-    → record_at old.host q cid ≡ Some r → IsTrue (is_submitted r.phase) → record_at new.host q cid ≡ Some r
-    → IsTrue (is_among r.chain_pages p) → page_at new.memory p ≡ page_at old.memory p
+    → record_at old.host q cid ≡ Some r → IsTrue (is_submitted r.phase) → IsTrue (is_among r.chain_pages p)
+    → page_at new.memory p ≡ page_at old.memory p
 
 -- each step of the controller stays in what is allowed, and in its own queue or command
 abbrev pub agreeing_steps_stay_allowed : Type 0

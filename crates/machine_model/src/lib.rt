@@ -2,7 +2,7 @@
 //! events may answer and leave, and laws of every run.
 //!
 //! There is no code here but the types of [`words`]. Each public function has an empty body, and its clauses are what is proved: in [`laws`] laws of
-//! every step or run, in [`worked`] whole runs that are computed from the definitions. A reader begins with `docs/MACHINE.md`.
+//! every step or run, in [`agreement`] laws of states, in [`worked`] whole runs that are computed from the definitions. A reader begins with `docs/MACHINE.md`.
 //!
 //! - `specs/State.antt` is the state, `specs/Events.antt` the events, replies and refusals.
 //! - `specs/Refusals.antt` says which refusal an event meets, `specs/After.antt` what an accepted one leaves, and
@@ -15,6 +15,7 @@
 //! Specification 2.0 and the NVM Command Set Specification 1.0.
 #![tactic(auto)]
 
+pub mod agreement;
 pub mod laws;
 pub mod words;
 pub mod worked;
