@@ -36,7 +36,7 @@ use Rattle.machine_model.proofs.Placing.{waiting, answering, waiting_same, answe
 use Rattle.machine_model.proofs.Placements.{on_job_q, on_job_entry, stopped_q, stopped_entry}
 use Rattle.machine_model.proofs.Tying.{Fit}
 use Rattle.machine_model.proofs.TiedHost.{below, asked_some, small}
-pub use Rattle.machine_model.specs.Agreeing.{fails, unsettled, Settles, hoped_at, Backed}
+pub use Rattle.machine_model.specs.Agreeing.{fails, unsettled, Settles, is_hoped_at as hoped_at, DeletionsAreHeard as Backed}
 
 -- Steps of the controller that delete no queue
 

@@ -13,7 +13,7 @@ use Rattle.machine_model.proofs.Totals.{total, here}
 use Rattle.machine_model.proofs.Paired.{is_past}
 use Rattle.machine_model.proofs.Members.{sent}
 use Rattle.machine_model.proofs.Served.{answers_at}
-pub use Rattle.machine_model.specs.Agreeing.{sent_count, AnswersBehind, HeadBehind, Heads}
+pub use Rattle.machine_model.specs.Agreeing.{sent_count, AreAnswersBehind as AnswersBehind, IsHeadBehind as HeadBehind, AreHeadsBehind as Heads}
 
 -- Answers, as something changes
 

@@ -16,7 +16,7 @@ use Rattle.page_memory.specs.declared.page.Half.TheVariants.{Submission, Complet
 use Rattle.machine_model.specs.Step.{host_part}
 use Rattle.machine_model.specs.Positions.{IsInRing}
 use Rattle.machine_model.proofs.Positions.{InRings, all_at}
-pub use Rattle.machine_model.specs.Agreeing.{is_past, is_over, PairOk, Paired, on_queue}
+pub use Rattle.machine_model.specs.Agreeing.{is_given_back as is_past, is_known_deleted as is_over, QueueFits as PairOk, QueuesFit as Paired, on_queue}
 
 pub paired_host : (n k : ℕ) (f : HostQueue → HostQueue) (hs : List HostQueue) (ds : List DeviceQueue)
     → ((h : HostQueue) (d : DeviceQueue) → slice_get hs k ≡ Some h → slice_get ds k ≡ Some d → PairOk n h d → PairOk n (f h) d) → Paired n hs ds → Paired n (change k f hs) ds

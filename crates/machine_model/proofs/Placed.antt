@@ -15,7 +15,7 @@ use Rattle.machine_model.specs.State.{Record, DeviceQueue, Job, Answer, is_at, w
 pub use Rattle.machine_model.specs.Refusals.{is_job}
 use Rattle.machine_model.proofs.Counting.{one}
 use Rattle.machine_model.proofs.Totals.{total, total-append, total_without, total-filter, here}
-pub use Rattle.machine_model.specs.Agreeing.{gone_at, there_at, Knows, Settled, Promised, EntryKnown, JobKnown, AnswerKnown, entry_is, job_is, answer_is, Placed}
+pub use Rattle.machine_model.specs.Agreeing.{is_absent_at as gone_at, has_completions_at as there_at, Knows, Settled, Promised, EntryKnown, JobKnown, AnswerKnown, entry_is, job_is, answer_is, AdminCommandsStand as Placed}
 
 all-map : {A : Type 0} (P Q : A → Type 0) → ((x : A) → P x → Q x) → (xs : List A) → AllByRecursion P xs → AllByRecursion Q xs
 all-map P Q f [] all = tt

@@ -32,6 +32,7 @@ pub mod WorkedLaws
 pub mod WorkedSound
 pub mod Weights
 pub mod Agreeing
+pub mod Always
 pub mod AgreeingLaws
 pub mod InOrder
 pub mod Work
