@@ -1,5 +1,5 @@
 -- What follows where both sides agree.
-use Rattle.std.proofs.Common.{true, not, ap}
+use Rattle.std.proofs.Common.{not, ap}
 use Rattle.machine_model.specs.AgreeingLaws.{agreeing_sides_are_linked, agreed_live_queues_are_there, agreeing_sides_have_room, agreed_admin_commands_stand_once, agreed_jobs_stand, agreed_jobs_keep_their_lists, agreed_chains_stand, agreed_chains_stay, agreeing_steps_stay_allowed}
 use Rattle.machine_model.proofs.Agreeing.{stood_of, roomy_of}
 use Rattle.machine_model.proofs.BackedAll.{there_from_backed}

@@ -3,14 +3,10 @@ use Rattle.std.proofs.Common.{◌≡◌, ℕ, true, List}
 use Rattle.machine_model.specs.Agreeing.{SidesAgree}
 use Rattle.machine_model.specs.AgreeingLaws.{openings_agree, steps_keep_agreement, trusted_runs_agree}
 use Rattle.machine_model.specs.After as a
-use Rattle.machine_model.specs.Claims.{IsSound}
 use Rattle.machine_model.specs.Events.{Event, Reply}
-use Rattle.machine_model.specs.Image.{Made}
-use Rattle.machine_model.specs.Laws.{TrustedRun}
 use Rattle.machine_model.specs.Opening.{Opens, opening}
 use Rattle.machine_model.specs.Proper.{IsProper}
 use Rattle.machine_model.specs.State.{State}
-use Rattle.machine_model.specs.Step.{Step}
 use Rattle.machine_model.proofs.Asked.{asked_from_fit}
 use Rattle.machine_model.proofs.BackedAll.{BackedS, backed_event, backed_opening}
 use Rattle.machine_model.proofs.Grounds.{along_proper, each_proper_step}

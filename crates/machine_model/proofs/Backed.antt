@@ -1,6 +1,6 @@
 -- Where nothing was forged: a submission queue that is gone at the controller was deleted by a command that the host knows, or will
 -- know, to have succeeded. What each event of the controller does to that.
-use Rattle.std.proofs.Common.{◌≡◌, ℕ, zero, suc, ◌+◌, ◌-◌, ◌<◌, ◌≤◌, ◌==◌, Bool, true, false, not, ◌&&◌, Option, Some, None, List, [], ◌∷◌, ◌++◌, map, length, filter, find, take, drop, ◌/◌, ◌%◌, slice_get, is_none, if◌then◌else◌, refl, ap, sym, ◌∙◌, arith, subst, eqb-true}
+use Rattle.std.proofs.Common.{◌≡◌, ℕ, zero, suc, ◌+◌, ◌-◌, ◌<◌, ◌≤◌, ◌==◌, Bool, true, false, not, ◌&&◌, Option, Some, None, List, [], ◌∷◌, ◌++◌, map, length, filter, find, take, drop, ◌/◌, ◌%◌, is_none, if◌then◌else◌, refl, ap, sym, ◌∙◌, arith, subst, eqb-true}
 use Rattle.std.specs.Option.{option_map_or}
 use Rattle.std.proofs.lemmas.Bool.{true≢false, and_parts, eqb-false}
 use Rattle.controller_walk.specs.Units.{Act, Stays, Reads, Moves, first_passing}
@@ -30,7 +30,6 @@ use Rattle.machine_model.proofs.Totals.{total, total-append, total-map, total-fi
 use Rattle.machine_model.proofs.Refused.{first_fails, rest_fails}
 use Rattle.machine_model.proofs.Managed.{managed_by_case}
 use Rattle.machine_model.proofs.Asked.{was_asked}
-use Rattle.machine_model.proofs.Paired.{is_over}
 use Rattle.machine_model.proofs.Placed.{Knows, JobKnown, gone_at, entry_is, job_is, answer_is, is_job, find_sound, find_all, total_gone}
 use Rattle.machine_model.proofs.Placing.{waiting, answering, waiting_same, answering_same, waiting_other, answering_other, taken_entry, wrong_opcode, device-answered, final_admin, verdict_there, waits_or_out, ne_zero}
 use Rattle.machine_model.proofs.Placements.{on_job_q, on_job_entry, stopped_q, stopped_entry}

@@ -5,14 +5,11 @@ use Rattle.std.proofs.lemmas.Bool.{true≢false}
 use Rattle.std.proofs.lemmas.Bool.Decides.{nat_tests}
 use Rattle.queue_pair.specs.Slots.{next_slot, distance, moved}
 use Rattle.queue_pair.proofs.Order.{next_below, distance_same, next_full, distance_grows, distance_shrinks}
-use Rattle.machine_model.specs.State.{HostQueue, DeviceQueue, Record, Answer}
+use Rattle.machine_model.specs.State.{Record, Answer}
 use Rattle.machine_model.specs.Refusals.{is_submitted}
 use Rattle.machine_model.specs.After.{change}
 use Rattle.machine_model.proofs.Counting.{one}
 use Rattle.machine_model.proofs.Totals.{total, here}
-use Rattle.machine_model.proofs.Paired.{is_past}
-use Rattle.machine_model.proofs.Members.{sent}
-use Rattle.machine_model.proofs.Served.{answers_at}
 pub use Rattle.machine_model.specs.Agreeing.{sent_count, AreAnswersBehind as AnswersBehind, IsHeadBehind as HeadBehind, AreHeadsBehind as Heads}
 
 -- Answers, as something changes

@@ -1,5 +1,5 @@
 -- Every step leaves the host's queues their halves, and its commands their pages.
-use Rattle.std.proofs.Common.{◌≡◌, ℕ, zero, suc, ◌+◌, ◌<◌, ◌==◌, Bool, true, false, not, ◌&&◌, ◌||◌, Option, Some, None, List, [], ◌∷◌, ◌++◌, length, map, slice_get, is_some, is_none, if◌then◌else◌, refl, ap, sym, ◌∙◌, arith, subst}
+use Rattle.std.proofs.Common.{◌≡◌, ℕ, zero, suc, ◌+◌, ◌<◌, ◌==◌, Bool, true, false, not, ◌&&◌, ◌||◌, Option, Some, None, List, [], ◌∷◌, ◌++◌, length, map, slice_get, is_some, is_none, if◌then◌else◌, refl, ap, sym, ◌∙◌, subst}
 use Rattle.std.specs.Option.{option_map_or}
 use Rattle.std.specs.List.{AllByRecursion}
 use Rattle.std.proofs.lemmas.Bool.{true≢false, not-false, or_parts}
@@ -15,19 +15,17 @@ use Rattle.io_commands.specs.Drafts.{DraftContents}
 use Rattle.io_commands.specs.Jobs.{is_success}
 use Rattle.io_commands.specs.Asked.{Request}
 use Rattle.io_commands.specs.Requests.{data_count}
-use Rattle.io_commands.specs.Values.{numbers_of}
 use Rattle.page_memory.specs.Pages.{with_page_bytes}
 use Rattle.page_memory.specs.declared.page.Half.TheVariants.{Submission, Completion}
 use Rattle.queue_pair.specs.Memory.{half_pages}
 use Rattle.queue_pair.specs.Rings.{HostRing, next_tail, next_head, knowing}
 use Rattle.machine_model.specs.Always.{HasHalves, IsProvided, IsHostProvided, each_step_provides, every_run_provides}
 use Rattle.machine_model.specs.Agreeing.{is_given_back}
-use Rattle.machine_model.specs.Claims.{IsSound}
 use Rattle.machine_model.specs.Commands.{Work, Io, Management}
 use Rattle.machine_model.specs.Memory.{with_pages, without_pages}
-use Rattle.machine_model.specs.State.{State, Host, HostQueue, HostState, Live, Deleting, Retired, Gone, Record, Drafted, Submitted, Held, is_at, record_at, pages_of, with_record, without_record}
+use Rattle.machine_model.specs.State.{State, HostQueue, HostState, Live, Deleting, Retired, Gone, Record, Submitted, Held, is_at, record_at, pages_of, with_record, without_record}
 use Rattle.machine_model.specs.Refusals.{host_queue, refusal_of, seen_entry, in_state, is_retired, is_gone, is_deleting, is_deleted, is_asked, is_submitted, no_io_queue, no_identifier, queue_full, slot_page, slot_offset}
-use Rattle.machine_model.specs.Opening.{opening, queues_from}
+use Rattle.machine_model.specs.Opening.{queues_from}
 use Rattle.machine_model.specs.Step.{HostPart, host_part, IsController, IsReserved, IsNewIdentifier}
 use Rattle.machine_model.specs.After as a
 use Rattle.machine_model.specs.After.{change}

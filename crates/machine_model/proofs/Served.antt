@@ -2,7 +2,6 @@
 use Rattle.std.proofs.Common.{◌≡◌, ℕ, zero, suc, ◌+◌, ◌*◌, ◌%◌, ◌^◌, ◌<◌, ◌≤◌, ◌==◌, nat_lt, Bool, true, false, Option, Some, None, List, [], ◌∷◌, ◌++◌, length, slice_get, slice_index, is_some, find, if◌then◌else◌, refl, ap, sym, ◌∙◌, arith, subst, eqb-true, eq-eqb, add-zero, ltb-true}
 use Rattle.std.specs.List.{AllByRecursion}
 use Rattle.std.specs.Prelude.{option_map, option_and_then}
-use Rattle.std.specs.Option.{option_map_or}
 use Rattle.std.proofs.lemmas.Bool.{true≢false, and_parts}
 use Rattle.std.proofs.lemmas.Option.{slice_get-get_or, slice_get_within}
 use Rattle.page_ledger.specs.Owners.{is_among}
@@ -26,20 +25,19 @@ use Rattle.io_commands.specs.Drafts.{io_entry}
 use Rattle.io_commands.specs.Jobs.{direction_of_entry, need_of_entry}
 use Rattle.machine_model.specs.Memory.{memory_of}
 use Rattle.machine_model.specs.Commands.{Work, Io, Management}
-use Rattle.machine_model.specs.State.{State, HostQueue, DeviceQueue, Record, Drafted, Submitted, Held, Collected, Job, Answer, is_at, record_at, pages_of}
+use Rattle.machine_model.specs.State.{State, Record, Drafted, Submitted, Held, Collected, Job, is_at, record_at, pages_of}
 use Rattle.machine_model.specs.Refusals.{is_submitted}
 use Rattle.machine_model.specs.Claims.{OwnsFit}
 use Rattle.machine_model.specs.After.{course_of}
 use Rattle.machine_model.specs.Reached.{only, on_pages, CourseIn, AreApart, IsListIn}
-use Rattle.machine_model.specs.Standing.{IsSized, unfetched_at, ListStands, StandsAs, CommandStands, HasUnitLeft}
+use Rattle.machine_model.specs.Standing.{IsSized, ListStands, StandsAs, CommandStands, HasUnitLeft}
 use Rattle.machine_model.proofs.Counting.{one, times-append, held_once, not_held}
 use Rattle.machine_model.proofs.Totals.{total}
 use Rattle.machine_model.proofs.Parts.{in_store, length-in_store}
 use Rattle.machine_model.proofs.Owned.{in_record}
 use Rattle.machine_model.proofs.Taken.{is_out, taken, none_here, in_is}
 use Rattle.machine_model.proofs.Placed.{find_sound}
-use Rattle.machine_model.proofs.Paired.{is_past}
-use Rattle.machine_model.proofs.Members.{In, in_found, all_at_found, sent, sent_found}
+use Rattle.machine_model.proofs.Members.{In, in_found, all_at_found, sent_found}
 use Rattle.machine_model.proofs.Elsewhere.{sent_page, owned_once}
 use Rattle.machine_model.proofs.Grounds.{Grounds}
 use Rattle.machine_model.proofs.Reaching.{list_in}
