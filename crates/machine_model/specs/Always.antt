@@ -26,7 +26,7 @@ HasPagesFor segment (Io request) data_pages chain_pages =
     (length data_pages ≡ data_count request.pieces) × (length chain_pages ≡ pages_needed (length request.pieces) segment)
 HasPagesFor segment (Management a) data_pages chain_pages = Unit {0}
 
--- an outstanding command has them, and an identifier that a ring of its queue's entries has room for
+-- an outstanding command has them, and an identifier below its queue's entries less one
 pub record IsProvided (n segment : ℕ) (r : Record) : Type 0 where
   pub identifier : r.cid < n - 1
   pub pages : HasPagesFor segment r.work r.data_pages r.chain_pages
