@@ -1,5 +1,5 @@
 -- What a fetch keeps, and what it makes of what it looked at.
-use Rattle.std.proofs.Common.{◌≡◌, ℕ, ◌+◌, ◌<◌, ◌==◌, ◌||◌, not, nat_lt, Bool, true, false, cond, Option, Some, None, is_none, is_some, Result, Ok, Err, List, [], ◌∷◌, ◌++◌, length, find, get_or, slice_set, if◌then◌else◌, refl, ap, ap₂, sym, ◌∙◌, arith, subst, eqb-true}
+use Rattle.std.proofs.Common.{◌≡◌, ◌≢◌, ℕ, ◌+◌, ◌<◌, ◌==◌, ◌||◌, not, nat_lt, Bool, true, false, cond, Option, Some, None, IfNone, is_none, is_some, Result, Ok, Err, List, [], ◌∷◌, ◌++◌, length, find, get_or, slice_set, if◌then◌else◌, refl, ap, ap₂, sym, ◌∙◌, arith, subst, eqb-true}
 use Rattle.std.specs.List.{count_by}
 use Rattle.std.proofs.lemmas.Bool.{true≢false}
 use Rattle.block_image.specs.Blocks.{block_count}
@@ -12,7 +12,7 @@ use Rattle.page_memory.specs.Memory.{Memory}
 use Rattle.std.specs.Result.{OnOk}
 use Rattle.entry_codec.specs.declared.status.TheConstants.Status.{COMMAND_ID_CONFLICT}
 use Rattle.controller_core.specs.Answering.{completion_by, memory_posted, page_posted, with_answer}
-use Rattle.controller_core.specs.Fetching.{IsBegun, Begins, AnswersKnown}
+use Rattle.controller_core.specs.Fetching.{IsBegun, Begins, AnswersKnown, LooksAt, FetchesTo, Takes, TakesIn, is_known, entry_refusal, answer_refusal}
 use Rattle.controller_core.specs.Managing.{with_taken, command_of}
 use Rattle.controller_core.specs.declared.command.Work.TheVariants.{Io}
 use Rattle.controller_core.specs.declared.queue.ControllerQueue.{ControllerQueue}
@@ -110,3 +110,31 @@ begins_in v c c' q e job k queues before commands same begun eq eb ek ec is =
       is = begun;
       leaves = is ∙ ap₂ (λ (xs : List ControllerQueue) (ys : List FetchedCommand). record { queues = xs; commands = ys; image = v.image }) eq (ec ∙ ap₂ (λ (xs : List FetchedCommand) (x : FetchedCommand). xs ++ x ∷ []) eb ek);
     })
+
+-- An entry whose identifier is unknown
+
+unknown_by : (o : Option ℕ) (xs : List FetchedCommand) (q cid : ℕ) → false ≡ is_some o → IfNone o (find (is_command q cid) xs ≡ None) → is_some (find (is_command q cid) xs) ≡ false
+unknown_by None xs q cid e none = ap is_some none
+unknown_by (Some i) xs q cid e none = absurd (true≢false (sym e))
+
+no_zero : (q : ℕ) → q ≢ 0 → (q == 0) ≡ false
+no_zero q ne = go (q == 0) refl
+  where
+    go : (b : Bool) → (q == 0) ≡ b → b ≡ false
+    go true h = absurd (ne (eqb-true q 0 h))
+    go false h = refl
+
+pub begins_fetch : (v c c' : Contents) (xs : List FetchedCommand) (o : Option ℕ) (m m1 m2 : Memory) (q : ℕ) (e : SubEntry) (touched : List ℕ) → v ≡ c → xs ≡ v.commands
+    → false ≡ is_some o → IfNone o (find (is_command q e.cid) xs ≡ None) → q ≢ 0 → LooksAt c m1 q e touched → m1 ≡ m → m2 ≡ m1 → Begins c q e c' → FetchesTo c m q e.cid c' m2 touched
+begins_fetch v c c' xs o m m1 m2 q e touched same ex eo none ne looks before after begins =
+    let unknown : is_known c q e ≡ false =
+    subst (λ (ys : List FetchedCommand). is_some (find (is_command q e.cid) ys) ≡ false) (ex ∙ ap (λ (x : Contents). x.commands) same) (unknown_by o xs q e.cid eo none) in
+    record {
+      entry = e;
+      looked = touched;
+      looks = subst (λ (n : Memory). LooksAt c n q e touched) before looks;
+      named = refl;
+      room = ap (λ (b : Bool). if b then answer_refusal c.queues m q else None) unknown;
+      takes = subst (λ (b : Bool). Takes b c q e m touched c' m2 touched) (sym unknown)
+          (subst (λ (b : Bool). TakesIn b c q e c') (sym (no_zero q ne)) begins, after ∙ before, refl);
+    }
