@@ -96,7 +96,7 @@ fn take_entry<A: Allocator>(queues: &mut Vec<ControllerQueue, A>, q: u16)
     requires rung { IfSome (slice_get queues.old.items q) (λ queue. queue.device.ring.head ≢ queue.device.ring.bell) }
     ensures { queues.new.items ≡ change q with_taken queues.old.items }
 {
-    queues[usize::from(q)].take();
+    queues[usize::from(q)].device.take();
 }
 
 /// Takes the entry at the head of a queue, and answers its identifier at once. Where that is refused nothing changed.
@@ -144,20 +144,6 @@ impl<A: Allocator + Copy> Controller<A> {
             return Err(Refusal::Idle);
         };
         head_entry(&pair, dma)
-    }
-
-    /// Takes the entry at the head of a queue, and answers its identifier at once. Where that is refused nothing changed.
-    fn answer_known<D: Dma>(&mut self, q: u16, cid: u16, dma: &mut D) -> Result<(), Refusal>
-        requires there { q < length self.old.queues }
-        requires rung { IfSome (slice_get self.old.queues q) (λ queue. queue.device.ring.head ≢ queue.device.ring.bell) }
-        requires room { length (D.reached dma.old) ≤ 2 }
-        ensures refusal { result_err result ≡ answer_refusal self.old.queues (D.memory dma.old) q }
-        ensures answers { OnOk result (AnswersKnown self.old.queues q cid (D.memory dma.old) (D.reached dma.old) self.new.queues (D.memory dma.new) (D.reached dma.new)) }
-        ensures others { (self.new.commands ≡ self.old.commands) × (self.new.image ≡ self.old.image) }
-        ensures refused { OnErr result ((self.new ≡ self.old) × (D.memory dma.new ≡ D.memory dma.old) × (D.reached dma.new ≡ D.reached dma.old)) }
-        ensures pool { D.page_count dma.new ≡ D.page_count dma.old }
-    {
-        answer_in(&mut self.queues, q, cid, dma)
     }
 
     /// Takes the entry at the head of an I/O queue, as a command behind the others.
@@ -212,7 +198,7 @@ impl<A: Allocator + Copy> Controller<A> {
         let entry = self.look(q, dma)?;
         let cid = entry.cid;
         if find_command(&self.commands, q, cid).is_some() {
-            self.answer_known(q, cid, dma)?;
+            answer_in(&mut self.queues, q, cid, dma)?;
             return Ok(cid);
         }
         if q == 0 {

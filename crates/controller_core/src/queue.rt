@@ -1,8 +1,7 @@
 //! A queue at the controller.
 
-ghost use Rattle.std.specs.Prelude.{◌≡◌, ◌≢◌};
+ghost use Rattle.std.specs.Prelude.{◌≡◌};
 ghost use Rattle.controller_core.specs.Doorbells.{with_tail, with_head};
-ghost use Rattle.controller_core.specs.Managing.{with_taken};
 
 use admin_commands::SqState;
 use page_memory::PageNo;
@@ -47,13 +46,5 @@ impl ControllerQueue {
             Ok(()) => {}
             Err(_) => {}
         }
-    }
-
-    /// Takes the entry at the head.
-    pub(crate) fn take(&mut self)
-        requires { self.old.device.ring.head ≢ self.old.device.ring.bell }
-        ensures { self.new ≡ with_taken self.old }
-    {
-        self.device.take();
     }
 }

@@ -3,7 +3,7 @@
 ghost use Rattle.std.specs.Prelude.{◌≡◌, ◌<◌, ◌≤◌, [], None, IfOk, IfSome, OnErr, find, length, slice_get};
 ghost use Rattle.std.specs.Result.{result_err};
 ghost use Rattle.controller_core.specs.Contents.{is_command};
-ghost use Rattle.controller_core.specs.Walking.{refusal_among, walk_refusal, DoesUnit, WalksAmong, WalksTo};
+ghost use Rattle.controller_core.specs.Walking.{refusal_among, walk_refusal, WalksAmong, WalksTo};
 
 use crate::command::{FetchedCommand, Work};
 use crate::controller::Controller;
@@ -33,16 +33,6 @@ fn check_walk<A: Allocator>(
     Ok(place)
 }
 
-/// Does the next unit of a job's walk.
-fn step_job<A: Allocator, D: Dma>(job: &mut Job<A>, dma: &mut D) -> WalkState
-    requires going { job.old.verdict ≡ None }
-    requires clear { D.reached dma.old ≡ [] }
-    ensures unit { DoesUnit (D.memory dma.old) job.old result job.new (D.memory dma.new) (D.reached dma.new) }
-    ensures pool { D.page_count dma.new ≡ D.page_count dma.old }
-{
-    job.step(dma)
-}
-
 /// Does the next unit of the command at a place, whose walk goes on.
 fn walk_at<A: Allocator, D: Dma>(
     commands: &mut Vec<FetchedCommand<Job<A>>, A>,
@@ -62,7 +52,7 @@ fn walk_at<A: Allocator, D: Dma>(
     let command = &mut commands[place];
     match &mut command.work {
         Work::Io(job) => {
-            let state = step_job(job, dma);
+            let state = job.step(dma);
             command.units_done += 1;
             state
         }
