@@ -5,3 +5,4 @@ pub mod Ready
 pub mod Fetched
 pub mod Managed
 pub mod Opened
+pub mod OneWay

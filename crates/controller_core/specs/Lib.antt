@@ -6,3 +6,4 @@ pub mod Completing
 pub mod Managing
 pub mod Fetching
 pub mod Opening
+pub mod Laws

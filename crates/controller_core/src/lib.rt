@@ -15,6 +15,7 @@ mod complete;
 mod controller;
 mod doorbell;
 mod fetch;
+pub mod laws;
 mod lookup;
 mod manage;
 mod queue;

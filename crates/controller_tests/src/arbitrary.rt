@@ -7,6 +7,7 @@ use std::process::Abort;
 use std::test::Fail;
 
 /// A generator of numbers that is the same in each run: the upper half of a linear congruence modulo 2^64.
+#[derive(Drop)]
 struct Numbers {
     state: u64,
 }

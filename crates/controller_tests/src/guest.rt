@@ -20,6 +20,7 @@ pub(crate) const ENTRIES: u16 = 4;
 pub(crate) const DATA: u64 = 0x4000;
 
 /// The guest's memory, and the controller, which is lent it at each call.
+#[derive(Drop)]
 pub(crate) struct Guest {
     pub(crate) memory: FlatMemory,
     pub(crate) controller: Controller,
