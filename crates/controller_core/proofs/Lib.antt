@@ -6,3 +6,4 @@ pub mod Fetched
 pub mod Managed
 pub mod Opened
 pub mod OneWay
+pub mod FirstRead

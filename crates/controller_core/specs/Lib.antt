@@ -7,3 +7,4 @@ pub mod Managing
 pub mod Fetching
 pub mod Opening
 pub mod Laws
+pub mod Worked

@@ -21,6 +21,7 @@ mod manage;
 mod queue;
 mod refusal;
 mod walk;
+pub mod worked;
 
 pub use command::{FetchedCommand, Work};
 pub use controller::{Controller, OpenRefused};
