@@ -1,8 +1,7 @@
 -- The first Read, worked.
-use Rattle.std.proofs.Common.{◌≡◌, ◌≢◌, ℕ, ◌∷◌, [], None, Some, replicate, refl, arith}
+use Rattle.std.proofs.Common.{◌∷◌, [], replicate, refl, arith}
 use Rattle.controller_walk.specs.Units.{moving}
 use Rattle.controller_walk.specs.declared.walk.WalkState.TheVariants.{More, End}
-use Rattle.entry_codec.specs.Completion.{completion_bytes}
 use Rattle.entry_codec.specs.Submission.{submission_of}
 use Rattle.entry_codec.specs.Worked.{first_read}
 use Rattle.page_memory.specs.Memory.{bytes_at}
@@ -20,11 +19,15 @@ first_fetch = record {
   looks = record { device = _; here = refl; rung = λ e. absurd (omega arith); at = refl; touches = refl };
   named = refl;
   room = refl;
-  takes = (record {
-    job = read_begun;
-    is = record { entry = refl; blocks = refl; verdict = refl; bytes = refl; walk = λ m. refl; left = omega arith };
-    leaves = refl;
-  }, refl, refl);
+  takes = (
+    record {
+      job = read_begun;
+      is = record { entry = refl; blocks = refl; verdict = refl; bytes = refl; walk = λ m. refl; left = omega arith };
+      leaves = refl;
+    },
+    refl,
+    refl,
+  );
 }
 
 pub first_unit : WalksTo with_read_begun 1 0 memory_with_entry More with_read_halfway memory_with_entry []

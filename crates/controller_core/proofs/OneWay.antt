@@ -1,28 +1,26 @@
 -- Each call goes one way.
-use Rattle.std.proofs.Common.{◌≡◌, ◌≢◌, ℕ, zero, suc, ◌==◌, ◌<◌, ◌+◌, ◌++◌, take, drop, ◌∷◌, [], Bool, true, false, cond, Option, Some, None, List, map, find, slice_get, slice_set, if◌then◌else◌, refl, ap, ap₂, sym, ◌∙◌, subst, arith, eqb-true}
+use Rattle.std.proofs.Common.{◌≡◌, ℕ, zero, suc, ◌==◌, ◌<◌, ◌+◌, ◌++◌, take, drop, ◌∷◌, [], Bool, true, false, Option, Some, None, List, map, slice_get, slice_set, if◌then◌else◌, refl, ap, ap₂, sym, ◌∙◌, subst, arith, eqb-true}
 use Rattle.std.specs.List.{count_by}
 use Rattle.std.specs.Option.{option_map_or}
-use Rattle.std.proofs.lemmas.Bool.{true≢false}
 use Rattle.std.proofs.lemmas.List.{map-append}
 use Rattle.controller_walk.specs.Units.{Act, Stays, Reads, Moves, Course, Closes, Does}
 use Rattle.controller_walk.specs.Walks.{Acts, DoesFirst, LeavesRest}
 use Rattle.controller_walk.specs.declared.walk.WalkState.{WalkState}
-use Rattle.entry_codec.specs.declared.status.Status.{Status}
 use Rattle.entry_codec.specs.declared.submission.SubEntry.{SubEntry}
 use Rattle.io_commands.specs.Jobs.{JobContents, job_course, direction_of_entry, verdict_of}
-use Rattle.page_memory.specs.Memory.{Memory, bytes_at}
+use Rattle.page_memory.specs.Memory.{Memory}
 use Rattle.queue_pair.specs.Memory.{entry_at, submission_page}
 use Rattle.queue_pair.specs.Rings.{DeviceSide}
 use Rattle.sgl_descriptor.specs.declared.Direction.{Direction}
 use Rattle.sgl_descriptor.specs.declared.Direction.TheVariants.{Destination, Source}
 use Rattle.entry_codec.specs.declared.status.TheConstants.Status.{COMMAND_ID_CONFLICT}
 use Rattle.controller_core.specs.Answering.{completion_by, memory_posted, page_posted}
-use Rattle.controller_core.specs.Completing.{CompletesTo, completed, status_of_end}
-use Rattle.controller_core.specs.Contents.{Contents, IsController, FetchedCommand, Work, dw0_of_work, is_command}
-use Rattle.controller_core.specs.Fetching.{FetchesTo, LooksAt, AnswersKnown, Begins, IsBegun, TakesIn, Takes, RefusedBy, RefusedEntry, is_known, entry_refusal, side_refusal, live_side, look_refusal, begun}
+use Rattle.controller_core.specs.Completing.{completed, status_of_end}
+use Rattle.controller_core.specs.Contents.{Contents, FetchedCommand, Work, dw0_of_work, is_command}
+use Rattle.controller_core.specs.Fetching.{LooksAt, Begins, IsBegun, TakesIn, Takes, RefusedBy, RefusedEntry, is_known, entry_refusal, side_refusal, look_refusal, begun}
 use Rattle.controller_core.specs.Laws.{AreAlike, unplaced_command, WalksOneWay, CompletesOneWay, FetchesOneWay, RefusesOneWay, ServedUnlessMemory}
 use Rattle.controller_core.specs.Managing.{command_of, with_taken}
-use Rattle.controller_core.specs.Walking.{DoesUnit, WalksAmong, WalksTo, stepped}
+use Rattle.controller_core.specs.Walking.{DoesUnit, stepped}
 use Rattle.controller_core.specs.declared.command.Work.TheVariants.{Io}
 use Rattle.controller_core.specs.declared.queue.ControllerQueue.{ControllerQueue}
 use Rattle.controller_core.specs.declared.refusal.Refusal.{Refusal}
@@ -88,34 +86,38 @@ one_walk c q cid m o o' x x' n n' t t' is w w' =
     same_place p c.commands a.place a'.place a.command a'.command (is.commands.differ q cid) a.at (found_is p c.commands a.command a.found) a'.at (found_is p c.commands a'.command a'.found) in
     let work = one_job m a.job a.job' a'.job' o o' n n' t t' a.unit u in
     let command : unplaced_command (stepped a.job' a.command) ≡ unplaced_command (stepped a'.job' a'.command) =
-    ap (λ (y : FetchedCommand). unplaced_command (stepped a.job' y)) k ∙ ap (λ (y : Work). record a'.command { units_done = a'.command.units_done + 1; work = y }) work in
-    (r.0,
-    record {
-      queues = w.queues ∙ sym w'.queues;
-      commands = ap (map unplaced_command) a.leaves ∙ map-set unplaced_command c.commands a.place (stepped a.job' a.command)
-          ∙ ap₂ (λ (i : ℕ) (y : FetchedCommand). slice_set (map unplaced_command c.commands) i y) place command
-          ∙ sym (ap (map unplaced_command) a'.leaves ∙ map-set unplaced_command c.commands a'.place (stepped a'.job' a'.command));
-      image = w.image ∙ sym w'.image;
-    },
-    r.1, r.3)
+    ap (λ (y : FetchedCommand). unplaced_command (stepped a.job' y)) k ∙ ap (λ (y : Work). record a'.command { units_done = a'.command.units_done + 1; work = y }) work in (
+      r.0,
+      record {
+        queues = w.queues ∙ sym w'.queues;
+        commands = ap (map unplaced_command) a.leaves ∙ map-set unplaced_command c.commands a.place (stepped a.job' a.command)
+            ∙ ap₂ (λ (i : ℕ) (y : FetchedCommand). slice_set (map unplaced_command c.commands) i y) place command
+            ∙ sym (ap (map unplaced_command) a'.leaves ∙ map-set unplaced_command c.commands a'.place (stepped a'.job' a'.command));
+        image = w.image ∙ sym w'.image;
+      },
+      r.1,
+      r.3,
+    )
 
 -- Completions
 
 pub one_completion : CompletesOneWay
 one_completion c q cid m x x' n n' t t' w w' =
     let k : w.command ≡ w'.command = same_found w.found w'.found in
-    let queue : w.queue ≡ w'.queue = same_found w.here w'.here in
-    (w.leaves ∙ ap (λ (y : FetchedCommand). completed q cid y.work c) k ∙ sym w'.leaves,
-    w.memory ∙ ap₂ (λ (y : FetchedCommand) (z : ControllerQueue). memory_posted m z.device (completion_by q cid (status_of_end c.image y.work) (dw0_of_work y.work) z.device)) k queue ∙ sym w'.memory,
-    w.touches ∙ ap (λ (z : ControllerQueue). page_posted z.device ∷ []) queue ∙ sym w'.touches)
+    let queue : w.queue ≡ w'.queue = same_found w.here w'.here in (
+      w.leaves ∙ ap (λ (y : FetchedCommand). completed q cid y.work c) k ∙ sym w'.leaves,
+      w.memory ∙ ap₂ (λ (y : FetchedCommand) (z : ControllerQueue). memory_posted m z.device (completion_by q cid (status_of_end c.image y.work) (dw0_of_work y.work) z.device)) k queue ∙ sym w'.memory,
+      w.touches ∙ ap (λ (z : ControllerQueue). page_posted z.device ∷ []) queue ∙ sym w'.touches,
+    )
 
 -- Fetches
 
 one_look : (c : Contents) (m : Memory) (q : ℕ) (e e' : SubEntry) (t t' : List ℕ) → LooksAt c m q e t → LooksAt c m q e' t' → (e ≡ e') × (t ≡ t')
 one_look c m q e e' t t' l l' =
-    let device : l.device ≡ l'.device = same_found l.here l'.here in
-    (same_found l.at (ap (λ (d : DeviceSide). entry_at m d.sq d.ring.head) device ∙ l'.at),
-    l.touches ∙ ap (λ (d : DeviceSide). submission_page d.sq d.ring.head ∷ []) device ∙ sym l'.touches)
+    let device : l.device ≡ l'.device = same_found l.here l'.here in (
+      same_found l.at (ap (λ (d : DeviceSide). entry_at m d.sq d.ring.head) device ∙ l'.at),
+      l.touches ∙ ap (λ (d : DeviceSide). submission_page d.sq d.ring.head ∷ []) device ∙ sym l'.touches,
+    )
 
 begun_alike : (image : List ℕ) (e : SubEntry) (q : ℕ) (j j' : JobContents) → IsBegun image e j → IsBegun image e j' → unplaced_command (command_of q (Io j)) ≡ unplaced_command (command_of q (Io j'))
 begun_alike image e q j j' b b' =
@@ -143,10 +145,11 @@ one_taken false c q e x x' h g = one_begin c q e x x' h g
 
 one_take : (b : Bool) (c : Contents) (q : ℕ) (e : SubEntry) (m : Memory) (look : List ℕ) (x x' : Contents) (n n' : Memory) (t t' : List ℕ) → Takes b c q e m look x n t → Takes b c q e m look x' n' t' → AreAlike x x' × (n ≡ n') × (t ≡ t')
 one_take true c q e m look x x' n n' t t' h g =
-    let queue : h.0.queue ≡ g.0.queue = same_found h.0.here g.0.here in
-    (record { queues = h.0.leaves ∙ sym g.0.leaves; commands = ap (map unplaced_command) (h.1 ∙ sym g.1); image = h.2 ∙ sym g.2 },
-    h.0.memory ∙ ap (λ (z : ControllerQueue). memory_posted m z.device (completion_by q e.cid COMMAND_ID_CONFLICT 0 (with_taken z).device)) queue ∙ sym g.0.memory,
-    h.0.touches ∙ ap (λ (z : ControllerQueue). look ++ page_posted z.device ∷ []) queue ∙ sym g.0.touches)
+    let queue : h.0.queue ≡ g.0.queue = same_found h.0.here g.0.here in (
+      record { queues = h.0.leaves ∙ sym g.0.leaves; commands = ap (map unplaced_command) (h.1 ∙ sym g.1); image = h.2 ∙ sym g.2 },
+      h.0.memory ∙ ap (λ (z : ControllerQueue). memory_posted m z.device (completion_by q e.cid COMMAND_ID_CONFLICT 0 (with_taken z).device)) queue ∙ sym g.0.memory,
+      h.0.touches ∙ ap (λ (z : ControllerQueue). look ++ page_posted z.device ∷ []) queue ∙ sym g.0.touches,
+    )
 one_take false c q e m look x x' n n' t t' h g = (one_taken (q == 0) c q e x x' h.0 g.0, h.1 ∙ sym g.1, h.2 ∙ sym g.2)
 
 takes_same : (c : Contents) (q : ℕ) (e e' : SubEntry) (m : Memory) (look look' : List ℕ) (x : Contents) (n : Memory) (t : List ℕ) → e ≡ e' → look ≡ look' → Takes (is_known c q e) c q e m look x n t → Takes (is_known c q e') c q e' m look' x n t

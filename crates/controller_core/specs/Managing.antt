@@ -1,5 +1,5 @@
 -- What an entry of queue 0 does as it is fetched.
-use Rattle.std.specs.Prelude.{ℕ, ◌==◌, false, Option, Some, None, List, [], ◌∷◌, ◌++◌, find, is_none, slice_get, map, if◌then◌else◌}
+use Rattle.std.specs.Prelude.{ℕ, ◌==◌, false, Some, None, List, [], ◌∷◌, ◌++◌, find, is_none, slice_get, map, if◌then◌else◌}
 use Rattle.std.specs.Option.{option_map_or}
 use Rattle.admin_commands.specs.Entries.{named_queue, named_command}
 use Rattle.admin_commands.specs.Verdicts.{decision}

@@ -15,12 +15,21 @@ fn an_abort_waits_for_its_command(rt: HostRuntime) -> Result<(), Fail> {
     let mut guest = Guest::open(&rt)?;
     guest.submit(&rt, 1, 0, io_entry(READ, 0, 0, 1, DATA, 512));
     assert_eq!(rt; guest.controller.fetch(1, &mut guest.memory), Ok(0));
-    assert_eq!(rt; guest.controller.walk(1, 0, &mut guest.memory), Ok(WalkState::More));
+    assert_eq!(rt;
+        guest.controller.walk(1, 0, &mut guest.memory),
+        Ok(WalkState::More)
+    );
     guest.submit(&rt, 0, 0, entry(AdminKind::Abort { q: 1, cid: 0 }, 0));
     assert_eq!(rt; guest.controller.fetch(0, &mut guest.memory), Ok(0));
     assert!(rt; guest.has_touched(&[0]));
-    assert_eq!(rt; guest.controller.complete(0, 0, &mut guest.memory), Err(Refusal::Waits));
-    assert_eq!(rt; guest.controller.walk(1, 0, &mut guest.memory), Err(Refusal::Nothing));
+    assert_eq!(rt;
+        guest.controller.complete(0, 0, &mut guest.memory),
+        Err(Refusal::Waits)
+    );
+    assert_eq!(rt;
+        guest.controller.walk(1, 0, &mut guest.memory),
+        Err(Refusal::Nothing)
+    );
     assert_eq!(rt; guest.controller.complete(1, 0, &mut guest.memory), Ok(()));
     assert!(rt; guest.has_touched(&[3]));
     assert_eq!(rt; guest.halfword(&rt, 1, 0), 0x000F);
@@ -46,19 +55,31 @@ fn a_queue_is_deleted(rt: HostRuntime) -> Result<(), Fail> {
     guest.submit(&rt, 1, 0, io_entry(READ, 0, 0, 1, DATA, 512));
     guest.submit(&rt, 1, 1, io_entry(READ, 1, 1, 1, DATA, 512));
     assert_eq!(rt; guest.controller.fetch(1, &mut guest.memory), Ok(0));
-    assert_eq!(rt; guest.controller.walk(1, 0, &mut guest.memory), Ok(WalkState::More));
+    assert_eq!(rt;
+        guest.controller.walk(1, 0, &mut guest.memory),
+        Ok(WalkState::More)
+    );
 
     guest.submit(&rt, 0, 0, entry(AdminKind::DeleteCq { q: 1 }, 0));
     assert_eq!(rt; guest.controller.fetch(0, &mut guest.memory), Ok(0));
     assert_eq!(rt; guest.controller.complete(0, 0, &mut guest.memory), Ok(()));
-    assert_eq!(rt; guest.completion(&rt, 0, 0).status, Status::INVALID_QUEUE_DELETION);
+    assert_eq!(rt;
+        guest.completion(&rt, 0, 0).status,
+        Status::INVALID_QUEUE_DELETION
+    );
 
     guest.submit(&rt, 0, 1, entry(AdminKind::DeleteSq { q: 1 }, 1));
     assert_eq!(rt; guest.controller.fetch(0, &mut guest.memory), Ok(1));
     assert!(rt; matches!(guest.controller.queues()[1].state, SqState::Stopping));
     // The second Read is not fetched any more.
-    assert_eq!(rt; guest.controller.fetch(1, &mut guest.memory), Err(Refusal::Idle));
-    assert_eq!(rt; guest.controller.complete(0, 1, &mut guest.memory), Err(Refusal::Waits));
+    assert_eq!(rt;
+        guest.controller.fetch(1, &mut guest.memory),
+        Err(Refusal::Idle)
+    );
+    assert_eq!(rt;
+        guest.controller.complete(0, 1, &mut guest.memory),
+        Err(Refusal::Waits)
+    );
     assert_eq!(rt; guest.controller.complete(1, 0, &mut guest.memory), Ok(()));
     assert_eq!(rt; guest.halfword(&rt, 1, 0), 0x0011);
     assert_eq!(rt; guest.controller.complete(0, 1, &mut guest.memory), Ok(()));
@@ -80,7 +101,10 @@ fn a_wrong_opcode(rt: HostRuntime) -> Result<(), Fail> {
     let mut guest = Guest::open(&rt)?;
     guest.submit(&rt, 0, 0, io_entry(0x77, 5, 0, 1, DATA, 512));
     assert_eq!(rt; guest.controller.fetch(0, &mut guest.memory), Ok(5));
-    assert_eq!(rt; guest.controller.walk(0, 5, &mut guest.memory), Err(Refusal::Nothing));
+    assert_eq!(rt;
+        guest.controller.walk(0, 5, &mut guest.memory),
+        Err(Refusal::Nothing)
+    );
     assert_eq!(rt; guest.controller.complete(0, 5, &mut guest.memory), Ok(()));
     assert_eq!(rt; guest.halfword(&rt, 0, 0), 0x0003);
     Ok(())

@@ -18,10 +18,19 @@ fn a_read_of_one_block(rt: HostRuntime) -> Result<(), Fail> {
     assert!(rt; guest.has_touched(&[2]));
     assert_eq!(rt; guest.controller.commands().len(), 1);
     // It walks the list: first the entry's own descriptor, then the one part of the data, in page 4.
-    assert_eq!(rt; guest.controller.walk(1, 0, &mut guest.memory), Ok(WalkState::More));
+    assert_eq!(rt;
+        guest.controller.walk(1, 0, &mut guest.memory),
+        Ok(WalkState::More)
+    );
     assert!(rt; guest.has_touched(&[]));
-    assert_eq!(rt; guest.controller.complete(1, 0, &mut guest.memory), Err(Refusal::Walking));
-    assert_eq!(rt; guest.controller.walk(1, 0, &mut guest.memory), Ok(WalkState::End));
+    assert_eq!(rt;
+        guest.controller.complete(1, 0, &mut guest.memory),
+        Err(Refusal::Walking)
+    );
+    assert_eq!(rt;
+        guest.controller.walk(1, 0, &mut guest.memory),
+        Ok(WalkState::End)
+    );
     assert!(rt; guest.has_touched(&[4]));
     // It posts the completion into page 3, and forgets the command.
     assert_eq!(rt; guest.controller.complete(1, 0, &mut guest.memory), Ok(()));
@@ -51,7 +60,10 @@ fn a_write_is_read_back(rt: HostRuntime) -> Result<(), Fail> {
         guest.submit(&rt, 1, slot, entry);
         assert_eq!(rt; guest.controller.fetch(1, &mut guest.memory), Ok(entry.cid));
         guest.walk_to_end(&rt, 1, entry.cid);
-        assert_eq!(rt; guest.controller.complete(1, entry.cid, &mut guest.memory), Ok(()));
+        assert_eq!(rt;
+            guest.controller.complete(1, entry.cid, &mut guest.memory),
+            Ok(())
+        );
         let completion = guest.completion(&rt, 1, slot);
         assert_eq!(rt; completion.cid, entry.cid);
         assert_eq!(rt; completion.sqhd, slot + 1);
@@ -87,7 +99,10 @@ fn blocks_past_the_end(rt: HostRuntime) -> Result<(), Fail> {
     guest.submit(&rt, 1, 0, io_entry(READ, 0, 63, 2, DATA, 1024));
     assert_eq!(rt; guest.controller.fetch(1, &mut guest.memory), Ok(0));
     assert!(rt; guest.has_touched(&[2]));
-    assert_eq!(rt; guest.controller.walk(1, 0, &mut guest.memory), Err(Refusal::Nothing));
+    assert_eq!(rt;
+        guest.controller.walk(1, 0, &mut guest.memory),
+        Err(Refusal::Nothing)
+    );
     assert_eq!(rt; guest.controller.complete(1, 0, &mut guest.memory), Ok(()));
     assert!(rt; guest.has_touched(&[3]));
     assert_eq!(rt; guest.halfword(&rt, 1, 0), 0x0101);
@@ -100,8 +115,14 @@ fn data_past_the_memory(rt: HostRuntime) -> Result<(), Fail> {
     let mut guest = Guest::open(&rt)?;
     guest.submit(&rt, 1, 0, io_entry(READ, 3, 0, 1, 0x7F00, 512));
     assert_eq!(rt; guest.controller.fetch(1, &mut guest.memory), Ok(3));
-    assert_eq!(rt; guest.controller.walk(1, 3, &mut guest.memory), Ok(WalkState::More));
-    assert_eq!(rt; guest.controller.walk(1, 3, &mut guest.memory), Ok(WalkState::More));
+    assert_eq!(rt;
+        guest.controller.walk(1, 3, &mut guest.memory),
+        Ok(WalkState::More)
+    );
+    assert_eq!(rt;
+        guest.controller.walk(1, 3, &mut guest.memory),
+        Ok(WalkState::More)
+    );
     assert!(rt; guest.has_touched(&[7]));
     assert_eq!(rt;
         guest.controller.walk(1, 3, &mut guest.memory),

@@ -12,13 +12,22 @@ use std::test::Fail;
 fn doorbells_out_of_range(rt: HostRuntime) -> Result<(), Fail> {
     let mut guest = Guest::open(&rt)?;
     guest.controller.tail_doorbell(1, 4);
-    assert_eq!(rt; guest.controller.fetch(1, &mut guest.memory), Err(Refusal::Idle));
+    assert_eq!(rt;
+        guest.controller.fetch(1, &mut guest.memory),
+        Err(Refusal::Idle)
+    );
     guest.controller.tail_doorbell(2, 1);
-    assert_eq!(rt; guest.controller.fetch(2, &mut guest.memory), Err(Refusal::Idle));
+    assert_eq!(rt;
+        guest.controller.fetch(2, &mut guest.memory),
+        Err(Refusal::Idle)
+    );
     guest.controller.tail_doorbell(1, 3);
     // A slot of zeros is an entry, of an opcode that no I/O queue has.
     assert_eq!(rt; guest.controller.fetch(1, &mut guest.memory), Ok(0));
-    assert_eq!(rt; guest.controller.commands()[0].work.verdict(), Some(Status::INVALID_OPCODE));
+    assert_eq!(rt;
+        guest.controller.commands()[0].work.verdict(),
+        Some(Status::INVALID_OPCODE)
+    );
     guest.controller.head_doorbell(1, 1);
     assert_eq!(rt; guest.controller.queues()[1].device.head(), 1);
     assert!(rt; !guest.controller.queues()[1].device.is_full());
@@ -36,13 +45,22 @@ fn a_full_completion_ring(rt: HostRuntime) -> Result<(), Fail> {
     guest.submit(&rt, 1, 3, io_entry(0x77, 3, 0, 1, DATA, 512));
     assert_eq!(rt; guest.controller.fetch(1, &mut guest.memory), Ok(3));
     for cid in 0..3 {
-        assert_eq!(rt; guest.controller.complete(1, cid, &mut guest.memory), Ok(()));
+        assert_eq!(rt;
+            guest.controller.complete(1, cid, &mut guest.memory),
+            Ok(())
+        );
     }
-    assert_eq!(rt; guest.controller.complete(1, 3, &mut guest.memory), Err(Refusal::Full));
+    assert_eq!(rt;
+        guest.controller.complete(1, 3, &mut guest.memory),
+        Err(Refusal::Full)
+    );
     assert_eq!(rt; guest.controller.commands().len(), 1);
     guest.controller.head_doorbell(1, 1);
     assert_eq!(rt; guest.controller.complete(1, 3, &mut guest.memory), Ok(()));
-    assert_eq!(rt; guest.controller.complete(1, 3, &mut guest.memory), Err(Refusal::NoJob));
+    assert_eq!(rt;
+        guest.controller.complete(1, 3, &mut guest.memory),
+        Err(Refusal::NoJob)
+    );
     Ok(())
 }
 
@@ -72,15 +90,27 @@ fn slots_with_a_missing_byte(rt: HostRuntime) -> Result<(), Fail> {
     guest.submit(&rt, 1, 0, io_entry(0x77, 0, 0, 1, DATA, 512));
     assert_eq!(rt; guest.controller.fetch(1, &mut guest.memory), Ok(0));
     guest.memory.remove(0x3000 + 15, 1);
-    assert_eq!(rt; guest.controller.complete(1, 0, &mut guest.memory), Err(Refusal::SlotOut));
+    assert_eq!(rt;
+        guest.controller.complete(1, 0, &mut guest.memory),
+        Err(Refusal::SlotOut)
+    );
     assert!(rt; guest.has_touched(&[]));
     assert_eq!(rt; guest.controller.commands().len(), 1);
     guest.memory.remove(0x2000 + 64, 1);
     guest.controller.tail_doorbell(1, 2);
-    assert_eq!(rt; guest.controller.fetch(1, &mut guest.memory), Err(Refusal::SlotOut));
+    assert_eq!(rt;
+        guest.controller.fetch(1, &mut guest.memory),
+        Err(Refusal::SlotOut)
+    );
     assert!(rt; guest.has_touched(&[]));
-    assert_eq!(rt; guest.controller.complete(1, 9, &mut guest.memory), Err(Refusal::NoJob));
-    assert_eq!(rt; guest.controller.walk(1, 9, &mut guest.memory), Err(Refusal::NoJob));
+    assert_eq!(rt;
+        guest.controller.complete(1, 9, &mut guest.memory),
+        Err(Refusal::NoJob)
+    );
+    assert_eq!(rt;
+        guest.controller.walk(1, 9, &mut guest.memory),
+        Err(Refusal::NoJob)
+    );
     guest.memory.clear();
     Ok(())
 }

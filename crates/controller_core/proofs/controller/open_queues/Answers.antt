@@ -1,5 +1,4 @@
-use Rattle.std.proofs.Common.{◌≡◌, ◌++◌, ◌∷◌, [], length, take, List, ap, ap₂, sym, ◌∙◌, arith}
-use Rattle.controller_core.specs.Opening.{fresh_queue, queues_from}
+use Rattle.std.proofs.Common.{◌++◌, ◌∷◌, [], length, List, ap, ap₂, sym, ◌∙◌, arith}
 use Rattle.controller_core.specs.declared.queue.ControllerQueue.{ControllerQueue}
 use Rattle.controller_core.proofs.Opened.{many_taken, queues-more}
 use Rattle.controller_core.proofs.controller.open_queues.Goals as goal

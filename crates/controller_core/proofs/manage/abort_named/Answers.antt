@@ -1,4 +1,4 @@
-use Rattle.std.proofs.Common.{◌<◌, ◌≤◌, length, ap, sym, ◌∙◌, arith}
+use Rattle.std.proofs.Common.{◌<◌, ◌≤◌, length, arith}
 use Rattle.controller_core.specs.Managing.{aborted}
 use Rattle.controller_core.proofs.Lists.{swept-next, swept-all}
 use Rattle.controller_core.proofs.manage.abort_named.Goals as goal

@@ -1,4 +1,4 @@
-use Rattle.std.proofs.Common.{◌<◌, ◌≤◌, length, ap, sym, ◌∙◌, arith}
+use Rattle.std.proofs.Common.{◌<◌, ◌≤◌, length, arith}
 use Rattle.controller_core.specs.Managing.{stopped_with_queue}
 use Rattle.controller_core.proofs.Lists.{swept-next, swept-all}
 use Rattle.controller_core.proofs.manage.stop_all.Goals as goal

@@ -1,5 +1,4 @@
 use Rattle.std.proofs.Common.{refl}
-use Rattle.controller_core.specs.Fetching.{IsBegun}
 use Rattle.controller_core.proofs.Fetched.{begun_in, begins_in}
 use Rattle.controller_core.proofs.controller.Controller.begin_entry.Goals as goal
 

@@ -1,10 +1,7 @@
 use Rattle.std.proofs.Common.{refl, sym, subst, ◌<◌}
 use Rattle.entry_codec.specs.declared.status.Status.{Status}
-use Rattle.controller_core.proofs.Ready.{is_found_in, end_over, end_fits, end_there, end_post, refusal_in, finishes_in, finished_kept}
+use Rattle.controller_core.proofs.Ready.{is_found_in, end_fits, end_there, end_post, refusal_in, finishes_in, finished_kept}
 use Rattle.controller_core.proofs.controller.Controller.finish.Goals as goal
-
-
-
 
 pub answer-requires-clause-there : goal.answer-requires-clause-there
 answer-requires-clause-there g c =
