@@ -1,0 +1,3 @@
+pub mod VerdictsWorked
+pub mod EndsFalling
+pub mod EndsFront
