@@ -88,3 +88,18 @@ abbrev pub collects_tell_how_commands_ended : Type 0
 collects_tell_how_commands_ended =
     (image : List ℕ) (earlier later : List Made) (m : Made) (end : State) (q cid : ℕ) (f : FinishedContents) → TrustedRun image (earlier ++ m ∷ later) end
     → m.event ≡ events.Collect q cid → m.reply ≡ events.Collects f → WasCompleted earlier q cid f.status ⊎ WasLost earlier q cid f.status
+
+-- The five statuses of a command that was collected, each with its cause: it succeeded; an Abort of it, or a deletion of its queue, was
+-- fetched while it was at the controller; it was lost with its queue; its blocks passed the image's end; a Compare found a difference
+pub data CauseOfEnd (earlier : List Made) (q cid : ℕ) (st : Status) : Type 0 where
+  Succeeded : WasCompleted earlier q cid st → st ≡ SUCCESS → CauseOfEnd earlier q cid st
+  Aborted : (end : WasCompleted earlier q cid st) → st ≡ ABORT_REQUESTED → IsTrue (list_any (aborts q cid) (since_fetch q cid end.before)) → CauseOfEnd earlier q cid st
+  Stopped : (end : WasCompleted earlier q cid st) → st ≡ ABORTED_SQ_DELETION → IsTrue (list_any (deletes q) (since_fetch q cid end.before)) → CauseOfEnd earlier q cid st
+  Lost : WasLost earlier q cid st → CauseOfEnd earlier q cid st
+  PastImage : (end : WasCompleted earlier q cid st) → st ≡ LBA_OUT_OF_RANGE → IsTrue (passes_image end.completion q cid) → CauseOfEnd earlier q cid st
+  Differed : (end : WasCompleted earlier q cid st) → st ≡ COMPARE_FAILURE → IsTrue (is_compare end.completion q cid) → CauseOfEnd earlier q cid st
+
+abbrev pub every_collect_has_its_cause : Type 0
+every_collect_has_its_cause =
+    (image : List ℕ) (earlier later : List Made) (m : Made) (end : State) (q cid : ℕ) (f : FinishedContents) → TrustedRun image (earlier ++ m ∷ later) end
+    → m.event ≡ events.Collect q cid → m.reply ≡ events.Collects f → CauseOfEnd earlier q cid f.status
