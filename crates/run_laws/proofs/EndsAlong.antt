@@ -16,7 +16,7 @@ use Rattle.machine_model.proofs.Trusted.{forged_untrusted}
 use Rattle.machine_model.proofs.Grounds.{trusted_at_first}
 use Rattle.machine_model.proofs.EveryStatus.{as_made}
 
-permitted : {A : Type 0} (B : Type 0) (t c : Bool) → t ≡ true → MatchBool (t || c) A B → A
+pub permitted : {A : Type 0} (B : Type 0) (t c : Bool) → t ≡ true → MatchBool (t || c) A B → A
 permitted B true c e h = h
 permitted B false c e h = absurd (true≢false (sym e))
 
@@ -37,6 +37,11 @@ taken_step P refused taken old e (events.Reserved d) new step t u =
     subst (P old e (events.Reserved d)) (sym (exact _ old.trusted t step.2)) (taken old e (events.Reserved d) step.0 (permitted _ old.trusted (not (IsController e)) t step.1) t)
 taken_step P refused taken old e reply new step t u =
     subst (P old e reply) (sym (exact _ old.trusted t step.2)) (taken old e reply step.0 (permitted _ old.trusted (not (IsController e)) t step.1) t)
+
+-- a run in two parts
+pub cut : (xs ys : List Made) (s end : State) → Steps s (xs ++ ys) end → (mid : State) × Steps s xs mid × Steps mid ys end
+cut [] ys s end steps = (s, refl, steps)
+cut (x ∷ xs) ys s end (is, mid, step, rest) = let c = cut xs ys mid end rest in (c.0, (is, mid, step, c.1), c.2)
 
 abbrev pub made_of : State → Event → Reply → Made
 made_of s e reply = record { before = s; event = e; reply = reply }

@@ -6,6 +6,7 @@ use Rattle.std.proofs.lemmas.Bool.{true≢false, eqb-false}
 use Rattle.queue_pair.specs.Slots.{next_slot, distance, moved, is_full}
 use Rattle.queue_pair.specs.Rings.{HostRing, next_tail, next_head, knowing}
 use Rattle.queue_pair.proofs.Order.{distance_below, distance_grows}
+use Rattle.machine_model.specs.Opening.{device_queue as opened}
 use Rattle.machine_model.specs.Positions.{IsInRing}
 use Rattle.machine_model.specs.State.{HostQueue, DeviceQueue, Answer}
 use Rattle.machine_model.specs.After.{change}
@@ -50,12 +51,6 @@ falls_answered n tail top [] u an below is h = (below, omega (arith, is, h), ome
 falls_answered n tail top (x ∷ ans) u an below is h = (h.0, h.1, falls_answered n tail (distance n x.sq_head tail) ans u an below is h.2)
 
 -- Queues, as one changes
-
-none_is : {A : Type 0} {x : A} → None ≡ Some x → ⊥
-none_is e = cc
-
-some_is : {A : Type 0} {x y : A} → Some x ≡ Some y → x ≡ y
-some_is e = cc
 
 pub fall_device : (n k : ℕ) (g : DeviceQueue → DeviceQueue) (hs : List HostQueue) (qs : List DeviceQueue)
     → ((queue : HostQueue) (at : DeviceQueue) → slice_get hs k ≡ Some queue → slice_get qs k ≡ Some at → FallsAt n queue.ring at → FallsAt n queue.ring (g at))
@@ -129,3 +124,9 @@ all_posted n q hs qs more same one rings room h =
     (λ queue at eh eq falls.
     subst (λ (ans : List Answer). Falls n (next_slot n queue.ring.tail) (distance n queue.ring.known_head (next_slot n queue.ring.tail)) ans (length (more at).unfetched)) (sym (same at))
     (subst (Falls n (next_slot n queue.ring.tail) (distance n queue.ring.known_head (next_slot n queue.ring.tail)) at.answers) (sym (one at)) (at_posted n queue at (rings queue eh) (room queue eh) falls))) h
+
+-- the queues of an opening
+pub opened_lists : (k q : ℕ) (at : DeviceQueue) → slice_get (replicate k opened) q ≡ Some at → at ≡ opened
+opened_lists zero q at e = absurd cc
+opened_lists (suc k) zero at e = cc
+opened_lists (suc k) (suc q) at e = opened_lists k q at e

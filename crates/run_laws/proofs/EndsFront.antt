@@ -63,7 +63,8 @@ use Rattle.machine_model.proofs.WalksKept.{stood_on, stood_at_opening}
 use Rattle.machine_model.proofs.Heads.{head_at}
 use Rattle.machine_model.proofs.HeadsAll.{no_conflict}
 use Rattle.run_laws.specs.Ends.{answers_of, front, reaps_answer_the_front, nothing_conflicts}
-use Rattle.run_laws.proofs.EndsFalling.{Falls, FallsAt, AllFall, falls_more, falls_less, falls_to, falls_answered, fall_device, fall_both, fall_host, all_posted, change_twice, longer, shorter}
+use Rattle.run_laws.proofs.EndsAlong.{permitted}
+use Rattle.run_laws.proofs.EndsFalling.{opened_lists, Falls, FallsAt, AllFall, falls_more, falls_less, falls_to, falls_answered, fall_device, fall_both, fall_host, all_posted, change_twice, longer, shorter}
 
 abbrev pub Fall : State → Type 0
 Fall s = AllFall s.entries s.host.queues s.device.queues
@@ -81,11 +82,7 @@ fall_entry q entry s rings room h =
 fall_sent : (adm : AdminKind) (id : ℕ) (entry : SubEntry) (s : State) → Grounds s → queue_full s 0 ≡ false → Fall s → Fall (a.sent adm id entry s)
 fall_sent adm id entry s g room h =
     let s1 = a.on_records (λ records. records ++ record { q = 0; cid = id; phase = Submitted; work = Management adm; data_pages = []; chain_pages = []; status = None } ∷ []) s in
-    subst (λ (part : HostPart). AllFall part.entries part.host.queues (a.posted 0 entry s1).device.queues) (sym (part-posted 0 entry s1))
-    (subst (λ (d : Device). AllFall s.entries (change 0 (λ x. record x { ring = next_tail s.entries x.ring }) s.host.queues) d.queues) (sym (device-posted 0 entry s1))
-    (all_posted s.entries 0 s.host.queues s.device.queues (λ at. record at { unfetched = at.unfetched ++ entry ∷ [] }) (λ at. refl) (λ at. longer at.unfetched entry)
-    (λ queue e. ring_in s g 0 queue e)
-    (λ queue e. sym (ap (λ (o : Option HostQueue). option_map_or (λ queue. is_full s.entries queue.ring.known_head queue.ring.tail) o true) e) ∙ room) h))
+    fall_entry 0 entry s1 (λ queue e. ring_in s g 0 queue e) room h
 
 -- Reaping
 
@@ -299,11 +296,6 @@ pub record Fronted (s : State) : Type 0 where
 fronted_on : (s : State) (e : Event) (reply : Reply) → IsProper e → Accepts s e reply → s.trusted ≡ true → Fronted s → Fronted (a.after s e reply)
 fronted_on s e reply proper ok t f = record { stood = stood_on s e reply proper ok t f.stood; fall = fall_event s e reply ok t f.stood f.fall }
 
-opened_lists : (k q : ℕ) (at : DeviceQueue) → slice_get (replicate k opened) q ≡ Some at → at ≡ opened
-opened_lists zero q at e = absurd cc
-opened_lists (suc k) zero at e = cc
-opened_lists (suc k) (suc q) at e = opened_lists k q at e
-
 fronted_at_opening : (pages queues n s : ℕ) (image : List ℕ) → Opens pages queues n s → Fronted (opening pages queues n s image)
 fronted_at_opening pages queues n s image opens = record {
   stood = stood_at_opening pages queues n s image opens;
@@ -402,10 +394,6 @@ front_reaped s f t q there =
     go : (o : Option DeviceQueue) → device_queue s q ≡ o → option_map_or (reaped_entry s q) (option_map (entry_of q) (option_and_then (λ queue. first_answer queue.answers) o)) Empty ≡ front q (option_map_or (λ at. at.answers) o [])
     go None eq = refl
     go (Some at) eq = first at eq at.answers refl
-
-permitted : {A : Type 0} (B : Type 0) (t c : Bool) → t ≡ true → MatchBool (t || c) A B → A
-permitted B true c e h = h
-permitted B false c e h = absurd (true≢false (sym e))
 
 pub reaps_answer : reaps_answer_the_front
 reaps_answer image made s new q what run step =

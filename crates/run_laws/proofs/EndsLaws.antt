@@ -35,12 +35,8 @@ use Rattle.machine_model.proofs.Out.{named, status_in}
 use Rattle.machine_model.proofs.Members.{all_at_found}
 use Rattle.machine_model.proofs.PlacesKept.{reaped_answer, ids_of}
 use Rattle.run_laws.specs.Ends.{retires, retires_by, submits, WasCompleted, WasLost, CauseOfEnd, Succeeded, Aborted, Stopped, Lost, PastImage, Differed, ends_come_from_completions, retired_queues_were_deleted, collects_tell_how_commands_ended, every_collect_has_its_cause}
-use Rattle.run_laws.proofs.EndsAlong.{Before, before_step}
+use Rattle.run_laws.proofs.EndsAlong.{permitted, Before, before_step}
 use Rattle.run_laws.proofs.EndsTold.{CompletedIn, EndedIn, AnswerTold, HeldTold, Told, told_carried, told_at_opening, deleted_before, first_told}
-
-permitted : {A : Type 0} (B : Type 0) (t c : Bool) → t ≡ true → MatchBool (t || c) A B → A
-permitted B true c e h = h
-permitted B false c e h = absurd (true≢false (sym e))
 
 told_before : (image : List ℕ) (earlier later : List Made) (m : Made) (end : State) → TrustedRun image (earlier ++ m ∷ later) end → Before Told earlier m
 told_before image earlier later m end run =

@@ -52,6 +52,7 @@ use Rattle.machine_model.proofs.Reading.{Member, members}
 use Rattle.machine_model.proofs.WalksKept.{stood_on, stood_at_opening}
 use Rattle.run_laws.specs.Ends.{submits_by, submits, retires_by, retires, WasLost}
 use Rattle.run_laws.proofs.EndsAlong.{made_of, Carried}
+use Rattle.run_laws.proofs.EndsFalling.{opened_lists}
 use Rattle.run_laws.proofs.EndsRecords.{RecordsTurn, records_turn}
 use Rattle.run_laws.proofs.EndsJobs.{jobs_turn}
 use Rattle.run_laws.proofs.EndsGone.{GoneTold, DeletionFetched, deletions_turn, gone_on}
@@ -325,11 +326,6 @@ told_refused done s e why touched h = record {
 
 pub told_carried : Carried Told
 told_carried = record { refused = told_refused; taken = told_on }
-
-opened_lists : (k q : ℕ) (at : DeviceQueue) → slice_get (replicate k opened) q ≡ Some at → at ≡ opened
-opened_lists zero q at e = absurd cc
-opened_lists (suc k) zero at e = cc
-opened_lists (suc k) (suc q) at e = opened_lists k q at e
 
 nothing_answered : (k q : ℕ) → list_at (λ at. at.answers) (replicate k opened) q ≡ []
 nothing_answered zero q = refl

@@ -8,3 +8,4 @@ pub mod EndsGone
 pub mod EndsTold
 pub mod EndsLaws
 pub mod VerdictsStay
+pub mod VerdictsCount

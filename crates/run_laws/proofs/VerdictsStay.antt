@@ -1,5 +1,5 @@
 -- A verdict stays.
-use Rattle.std.proofs.Common.{◌≡◌, ℕ, ◌+◌, ◌==◌, Bool, true, false, ◌&&◌, ◌||◌, Option, Some, None, List, [], ◌∷◌, slice_get, is_some, is_none, refl, ap, sym, ◌∙◌, subst, eqb-true, eq-eqb, IsTrue}
+use Rattle.std.proofs.Common.{◌≡◌, ℕ, ◌+◌, ◌==◌, Bool, true, false, ◌&&◌, ◌||◌, Option, Some, None, List, [], ◌∷◌, slice_get, is_some, is_none, refl, ap, ap₂, sym, ◌∙◌, subst, eqb-true, eq-eqb, IsTrue}
 use Rattle.std.specs.Option.{option_map_or}
 use Rattle.std.specs.List.{AllByRecursion}
 use Rattle.std.proofs.lemmas.Bool.{true≢false, and_parts}
@@ -13,7 +13,7 @@ use Rattle.machine_model.specs.After as a
 use Rattle.machine_model.specs.Events as events
 use Rattle.machine_model.specs.Events.{Event, Reply}
 use Rattle.machine_model.specs.declared.words.Refusal.{Refusal}
-use Rattle.machine_model.specs.declared.words.Refusal.TheVariants.{NoJob, Nothing}
+use Rattle.machine_model.specs.declared.words.Refusal.TheVariants.{NoJob, Nothing, Memory}
 use Rattle.machine_model.specs.Image.{Made}
 use Rattle.machine_model.specs.Laws.{TrustedRun}
 use Rattle.machine_model.proofs.Placed.{is_job, find_sound}
@@ -24,8 +24,9 @@ use Rattle.machine_model.proofs.Served.{Stood}
 use Rattle.machine_model.proofs.CommandsAll.{Walking}
 use Rattle.machine_model.proofs.WalksKept.{one_job, stood_on, stood_at_opening}
 use Rattle.machine_model.proofs.JobsMove.{is_walked, begun_job, walked}
-use Rattle.run_laws.specs.Verdicts.{KeepsVerdict, verdicts_stay, verdicts_end_walks}
-use Rattle.run_laws.proofs.EndsAlong.{taken_step}
+use Rattle.machine_model.specs.Step.{Step, Refuses}
+use Rattle.run_laws.specs.Verdicts.{KeepsVerdict, IsRefusedWalk, verdicts_stay, verdicts_end_walks}
+use Rattle.run_laws.proofs.EndsAlong.{permitted, taken_step}
 use Rattle.run_laws.proofs.EndsJobs.{JobsTurn, jobs_turn}
 
 -- what is so of each job before, and after
@@ -71,7 +72,32 @@ runs_keep_verdicts image made old new e reply q cid before after st run step tru
     only : (s : State) → Stood s → job_at s q cid ≡ Some before → AllByRecursion (Is q cid before) s.device.jobs
     only s stood at = only_found (is_job q cid) s.device.jobs before at (one_job s stood q cid)
 
-pub verdict_ends_walks : verdicts_end_walks
-verdict_ends_walks s q cid job st at v =
+-- A walk of a job that has a verdict
+
+walk_refusal : (s : State) (q cid : ℕ) (job : Job) (st : Status) → job_at s q cid ≡ Some job → job.verdict ≡ Some st → refusal_of s (events.Walk q cid) ≡ Some Nothing
+walk_refusal s q cid job st at v =
     ap (λ (o : Option Job). first_passing ((is_none o, NoJob) ∷ (option_map_or (λ j. is_some j.verdict || (j.q == 0)) o false, Nothing) ∷ [])) at
     ∙ ap (λ (o : Option Status). first_passing ((false, NoJob) ∷ (is_some o || (job.q == 0), Nothing) ∷ [])) v
+
+some_is : {x y : Refusal} → Some x ≡ Some y → x ≡ y
+some_is e = cc
+
+refused_so : (s : State) (q cid : ℕ) (why : Refusal) (touched : List ℕ) → refusal_of s (events.Walk q cid) ≡ Some Nothing → Refuses s (events.Walk q cid) why touched → events.Refused why touched ≡ events.Refused Nothing []
+refused_so s q cid Memory touched is h = absurd (true≢false (sym h.0))
+refused_so s q cid why touched is h = ap₂ (λ (w : Refusal) (pages : List ℕ). events.Refused w pages) (some_is (sym h.0 ∙ is)) h.1
+
+pub verdict_ends_walks : verdicts_end_walks
+verdict_ends_walks image made s new reply q cid job st run step at v = go reply step
+  where
+    is : refusal_of s (events.Walk q cid) ≡ Some Nothing
+    is = walk_refusal s q cid job st at v
+
+    none : refusal_of s (events.Walk q cid) ≡ None → ⊥
+    none e = nothing_none (sym is ∙ e)
+      where
+        nothing_none : Some Nothing ≡ None → ⊥
+        nothing_none e = cc
+
+    go : (reply : Reply) → Step s (events.Walk q cid) reply new → IsRefusedWalk s reply new
+    go (events.Refused why touched) step = record { refused = refused_so s q cid why touched is (permitted _ s.trusted false run.trusted step.1); same = step.2 }
+    go reply step = absurd (none (permitted _ s.trusted false run.trusted step.1).0)
