@@ -9,3 +9,4 @@ pub mod EndsTold
 pub mod EndsLaws
 pub mod VerdictsStay
 pub mod VerdictsCount
+pub mod VerdictsJobs

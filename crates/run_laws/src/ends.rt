@@ -1,7 +1,7 @@
 //! How commands end where nothing was forged. Each function does nothing.
 
 ghost use Rattle.run_laws.specs.Ends.{reaps_answer_the_front, nothing_conflicts, ends_come_from_completions, retired_queues_were_deleted, collects_tell_how_commands_ended, every_collect_has_its_cause};
-ghost use Rattle.run_laws.specs.Verdicts.{verdicts_stay, verdicts_end_walks, first_verdicts_count};
+ghost use Rattle.run_laws.specs.Verdicts.{jobs_stay, verdicts_stay, verdicts_end_walks, first_verdicts_count};
 
 /// Where nothing was forged, a reap answers the oldest completion of its queue, and none where there is none: no completion is rejected.
 pub fn law_of_reaps()
@@ -36,11 +36,12 @@ pub fn law_of_collects()
     ensures causes { every_collect_has_its_cause }
 {}
 
-/// Where nothing was forged, only the first verdict of a command counts: a job that has one keeps it, its bytes and its count of walk steps,
-/// as long as it is there, and is walked no more.
+/// Where nothing was forged, only the first verdict of a command counts: its job stays until it completes, and as soon as it has a verdict it
+/// keeps it, its bytes and its count of walk steps, and is walked no more.
 ///
 /// So the command completes with that verdict; only a Compare whose data came without a fault may find a difference besides.
 pub fn law_of_verdicts()
+    ensures jobs { jobs_stay }
     ensures stay { verdicts_stay }
     ensures ends_walks { verdicts_end_walks }
     ensures count { first_verdicts_count }

@@ -1,3 +1,4 @@
+use Rattle.run_laws.proofs.VerdictsJobs.{runs_keep_jobs}
 use Rattle.run_laws.proofs.VerdictsCount.{runs_count_first_verdicts}
 use Rattle.run_laws.proofs.VerdictsStay.{runs_keep_verdicts, verdict_ends_walks}
 use Rattle.run_laws.proofs.ends.law_of_verdicts.Goals as goal
@@ -10,3 +11,6 @@ returns-clause-ends_walks c = verdict_ends_walks
 
 pub returns-clause-count : goal.returns-clause-count
 returns-clause-count c = runs_count_first_verdicts
+
+pub returns-clause-jobs : goal.returns-clause-jobs
+returns-clause-jobs c = runs_keep_jobs
