@@ -1,10 +1,9 @@
 -- The heads that the answers of a queue tell never come back: each is as near to the tail as the one before it, the first as the head
 -- that the host knows, and what is not fetched is nearer than all.
-use Rattle.std.proofs.Common.{◌≡◌, ◌⊎◌, inl, inr, ℕ, zero, suc, ◌+◌, ◌-◌, ◌<◌, ◌≤◌, ◌==◌, Bool, true, false, Option, Some, None, List, [], ◌∷◌, ◌++◌, length, drop, slice_get, replicate, if◌then◌else◌, refl, ap, sym, ◌∙◌, arith, subst}
-use Rattle.std.specs.Option.{option_map_or}
-use Rattle.std.proofs.lemmas.Bool.{true≢false, eqb-false}
-use Rattle.queue_pair.specs.Slots.{next_slot, distance, moved, is_full}
-use Rattle.queue_pair.specs.Rings.{HostRing, next_tail, next_head, knowing}
+use Rattle.std.proofs.Common.{◌≡◌, ◌⊎◌, inl, inr, ℕ, zero, suc, ◌-◌, ◌<◌, ◌≤◌, false, Some, List, [], ◌∷◌, ◌++◌, length, drop, slice_get, replicate, refl, ap, sym, ◌∙◌, arith, subst}
+use Rattle.std.proofs.lemmas.Bool.{eqb-false}
+use Rattle.queue_pair.specs.Slots.{next_slot, distance, is_full}
+use Rattle.queue_pair.specs.Rings.{HostRing, next_tail}
 use Rattle.queue_pair.proofs.Order.{distance_below, distance_grows}
 use Rattle.machine_model.specs.Opening.{device_queue as opened}
 use Rattle.machine_model.specs.Positions.{IsInRing}

@@ -1,11 +1,11 @@
 -- Every event keeps the heads that answers tell in order, so a reap answers the oldest answer.
-use Rattle.std.proofs.Common.{◌≡◌, ◌⊎◌, inl, inr, ℕ, zero, suc, ◌+◌, ◌-◌, ◌<◌, ◌≤◌, ◌==◌, nat_lt, nat_le, Bool, true, false, not, ◌&&◌, ◌||◌, Option, Some, None, List, [], ◌∷◌, ◌++◌, length, map, drop, slice_get, replicate, is_some, is_none, find, option_and_then, if◌then◌else◌, refl, ap, sym, ◌∙◌, arith, subst, eqb-true, eq-eqb, MatchBool}
+use Rattle.std.proofs.Common.{◌≡◌, ◌⊎◌, inl, inr, ℕ, ◌+◌, ◌-◌, ◌<◌, ◌≤◌, ◌==◌, nat_lt, nat_le, Bool, true, false, not, ◌&&◌, ◌||◌, Option, Some, None, List, [], ◌∷◌, ◌++◌, length, map, drop, slice_get, is_some, is_none, option_and_then, if◌then◌else◌, refl, ap, sym, ◌∙◌, arith, subst, eq-eqb}
 use Rattle.std.specs.Option.{option_map_or, option_map}
-use Rattle.std.proofs.lemmas.Bool.{true≢false, and_parts, or_parts}
+use Rattle.std.proofs.lemmas.Bool.{true≢false, or_parts}
 use Rattle.std.proofs.lemmas.Bool.Decides.{nat_tests}
-use Rattle.queue_pair.specs.Slots.{next_slot, distance, moved, is_full, is_in_range}
-use Rattle.queue_pair.specs.Rings.{HostRing, next_tail, next_head, knowing}
-use Rattle.queue_pair.proofs.Order.{distance_below, distance_is, distance_same}
+use Rattle.queue_pair.specs.Slots.{distance, moved, is_full, is_in_range}
+use Rattle.queue_pair.specs.Rings.{next_tail, next_head, knowing}
+use Rattle.queue_pair.proofs.Order.{distance_below, distance_is}
 use Rattle.admin_commands.specs.Entries.{admin_entry, named_queue}
 use Rattle.admin_commands.specs.declared.AdminKind.TheVariants.{Abort, DeleteSq, DeleteCq}
 use Rattle.admin_commands.specs.declared.AdminKind.{AdminKind}
@@ -22,10 +22,10 @@ use Rattle.machine_model.specs.Work.{Work}
 use Rattle.machine_model.specs.declared.words.Work.TheVariants.{Io, Management}
 use Rattle.machine_model.specs.Claims.{OwnsFit}
 use Rattle.machine_model.specs.Proper.{IsProper}
-use Rattle.machine_model.specs.Opening.{Opens, opening, queues_from, device_queue as opened}
+use Rattle.machine_model.specs.Opening.{Opens, opening}
 use Rattle.machine_model.specs.State.{State, Device, HostQueue, DeviceQueue, Record, Job, Answer, is_at, record_at, pages_of, with_record, without_record}
-use Rattle.machine_model.specs.Refusals.{is_submitted, is_retired, is_live, is_gone, is_deleting, host_queue, device_queue, refusal_of, next_rung, job_at, conflicts, seen_entry, first_answer, entry_of, in_state, queue_full, no_identifier, no_io_queue, record_is, is_of, is_drafted, cq_deletion_outstanding, fetch_slot, slot_page, slot_offset}
-use Rattle.machine_model.specs.Step.{Step, IsController, HostPart, host_part, reaped, reaped_as, reaped_entry, submitted_at, fits_ring}
+use Rattle.machine_model.specs.Refusals.{is_submitted, is_retired, is_live, is_gone, is_deleting, host_queue, device_queue, next_rung, job_at, conflicts, seen_entry, first_answer, entry_of, in_state, queue_full, no_identifier, no_io_queue, record_is, is_of, is_drafted, cq_deletion_outstanding, fetch_slot, slot_page, slot_offset}
+use Rattle.machine_model.specs.Step.{HostPart, reaped, reaped_as, reaped_entry, submitted_at, fits_ring}
 use Rattle.machine_model.specs.After as a
 use Rattle.machine_model.specs.After.{change}
 use Rattle.machine_model.specs.Events as events
@@ -41,7 +41,7 @@ use Rattle.machine_model.specs.declared.words.Reaped.{Reaped}
 use Rattle.machine_model.specs.declared.words.Reaped.TheVariants.{Empty, Done, AdminDone, Rejected}
 use Rattle.machine_model.specs.declared.words.RejectedFor.TheVariants.{WrongQueue, BadHead, UnknownId}
 use Rattle.machine_model.specs.Image.{Made}
-use Rattle.machine_model.specs.Laws.{TrustedRun, Steps}
+use Rattle.machine_model.specs.Laws.{TrustedRun}
 use Rattle.machine_model.proofs.Counting.{one}
 use Rattle.machine_model.proofs.Totals.{total}
 use Rattle.machine_model.proofs.Parts.{part-posted}
@@ -49,12 +49,10 @@ use Rattle.machine_model.proofs.Steps.{Accepts, part_controller}
 use Rattle.machine_model.proofs.Refused.{first_fails, rest_fails}
 use Rattle.machine_model.proofs.Managed.{managed_by_case}
 use Rattle.machine_model.proofs.Placing.{device-posted, device-answered}
-use Rattle.machine_model.proofs.Placed.{find_sound}
-use Rattle.machine_model.proofs.Paired.{PairOk, Paired}
 use Rattle.machine_model.proofs.Standing.{seen_trusted}
 use Rattle.machine_model.proofs.Out.{named}
 use Rattle.machine_model.proofs.Members.{sent_found, all_at_found}
-use Rattle.machine_model.proofs.Grounds.{Grounds, along_proper, ring_in, pair_at}
+use Rattle.machine_model.proofs.Grounds.{Grounds, along_proper, ring_in}
 use Rattle.machine_model.proofs.Served.{Stood, answers_at}
 use Rattle.machine_model.proofs.PlacesKept.{reaped_answer, ids_of}
 use Rattle.machine_model.proofs.Placements.{in_hand}

@@ -8,7 +8,6 @@ use Rattle.admin_commands.specs.Verdicts.{is_absent}
 use Rattle.admin_commands.specs.declared.AdminKind.TheVariants.{Abort, DeleteSq, DeleteCq}
 use Rattle.admin_commands.specs.declared.AdminKind.{AdminKind}
 use Rattle.admin_commands.specs.declared.SqState.TheVariants.{Absent, Stopping}
-use Rattle.controller_walk.specs.Units.{Act}
 use Rattle.entry_codec.specs.declared.submission.SubEntry.{SubEntry}
 use Rattle.entry_codec.specs.declared.completion.ComEntry.{ComEntry}
 use Rattle.entry_codec.specs.declared.status.Status.{Status}
@@ -33,10 +32,9 @@ use Rattle.machine_model.specs.Laws.{deletes}
 use Rattle.machine_model.proofs.Steps.{Accepts}
 use Rattle.machine_model.proofs.Managed.{managed_by_case}
 use Rattle.machine_model.proofs.Placing.{device-posted, device-answered}
-use Rattle.machine_model.proofs.Placed.{is_job, find_sound}
+use Rattle.machine_model.proofs.Placed.{is_job}
 use Rattle.machine_model.proofs.Placements.{in_hand}
 use Rattle.machine_model.proofs.QueuesMove.{queues_walk}
-use Rattle.machine_model.proofs.CommandsAll.{Walking}
 use Rattle.machine_model.proofs.Members.{all_at_found}
 use Rattle.machine_model.proofs.Caused.{any_longer, any_last}
 use Rattle.machine_model.proofs.Served.{Stood}

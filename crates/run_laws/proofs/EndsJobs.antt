@@ -13,7 +13,7 @@ use Rattle.entry_codec.specs.declared.submission.SubEntry.{SubEntry}
 use Rattle.entry_codec.specs.declared.status.Status.{Status}
 use Rattle.entry_codec.specs.declared.status.TheConstants.Status.{SUCCESS, COMMAND_ID_CONFLICT, ABORT_REQUESTED, ABORTED_SQ_DELETION, INVALID_OPCODE, INVALID_FIELD, INVALID_QUEUE_IDENTIFIER, INVALID_QUEUE_DELETION}
 use Rattle.entry_codec.specs.declared.admin_opcode.TheConstants.{ABORT, DELETE_IO_SQ, DELETE_IO_CQ}
-use Rattle.io_commands.specs.Jobs.{is_success, verdict_of, io_fault, bytes_after_check, direction_of_entry}
+use Rattle.io_commands.specs.Jobs.{is_success, verdict_of, direction_of_entry}
 use Rattle.page_memory.specs.Pages.{with_bytes, with_page_bytes}
 use Rattle.machine_model.specs.State.{State, Device, Job}
 use Rattle.machine_model.specs.Refusals.{next_rung, job_at, conflicts}

@@ -1,5 +1,5 @@
 -- How commands end, in each trusted run.
-use Rattle.std.proofs.Common.{◌≡◌, ◌⊎◌, inl, inr, ℕ, ◌==◌, nat_lt, Bool, true, false, not, ◌&&◌, ◌||◌, Option, Some, None, List, [], ◌∷◌, ◌++◌, option_and_then, MatchBool, refl, ap, ap₂, sym, ◌∙◌, arith, subst, eqb-true, IsTrue}
+use Rattle.std.proofs.Common.{◌≡◌, ◌⊎◌, inl, inr, ℕ, ◌==◌, nat_lt, Bool, true, false, not, ◌&&◌, ◌||◌, Option, Some, None, List, [], ◌∷◌, ◌++◌, option_and_then, refl, ap, ap₂, sym, ◌∙◌, arith, subst, eqb-true}
 use Rattle.std.specs.Option.{option_map_or, option_map}
 use Rattle.std.specs.List.{list_any}
 use Rattle.std.proofs.lemmas.Bool.{true≢false, and_parts, not-false}
@@ -21,12 +21,12 @@ use Rattle.machine_model.specs.declared.words.Reaped.TheVariants.{Empty, Done}
 use Rattle.machine_model.specs.Claims.{OwnsFit}
 use Rattle.machine_model.specs.Opening.{opening}
 use Rattle.machine_model.specs.State.{State, Record, is_at, record_at, pages_of}
-use Rattle.machine_model.specs.Refusals.{is_submitted, is_held, record_is, entry_of, refusal_of}
-use Rattle.machine_model.specs.Step.{Step, reaped, reaped_entry, finished_from, asked_by, pages_with_bytes, IsController}
+use Rattle.machine_model.specs.Refusals.{is_submitted, is_held, record_is, entry_of}
+use Rattle.machine_model.specs.Step.{Step, reaped_entry, finished_from, asked_by, pages_with_bytes}
 use Rattle.machine_model.specs.Events as events
 use Rattle.machine_model.specs.Events.{Event, Reply}
 use Rattle.machine_model.specs.Image.{Made}
-use Rattle.machine_model.specs.Laws.{TrustedRun, aborts, deletes, since_fetch, passes_image, is_compare, has_cause}
+use Rattle.machine_model.specs.Laws.{TrustedRun, aborts, deletes, since_fetch, passes_image, is_compare}
 use Rattle.machine_model.proofs.Steps.{Accepts}
 use Rattle.machine_model.proofs.Refused.{first_fails, rest_fails}
 use Rattle.machine_model.proofs.EveryStatus.{statuses_have_causes}
@@ -34,7 +34,7 @@ use Rattle.machine_model.proofs.TiedReap.{told_entry}
 use Rattle.machine_model.proofs.Out.{named, status_in}
 use Rattle.machine_model.proofs.Members.{all_at_found}
 use Rattle.machine_model.proofs.PlacesKept.{reaped_answer, ids_of}
-use Rattle.run_laws.specs.Ends.{retires, retires_by, submits, WasCompleted, WasLost, CauseOfEnd, Succeeded, Aborted, Stopped, Lost, PastImage, Differed, ends_come_from_completions, retired_queues_were_deleted, collects_tell_how_commands_ended, every_collect_has_its_cause}
+use Rattle.run_laws.specs.Ends.{retires_by, WasCompleted, WasLost, CauseOfEnd, Succeeded, Aborted, Stopped, Lost, PastImage, Differed, ends_come_from_completions, retired_queues_were_deleted, collects_tell_how_commands_ended, every_collect_has_its_cause}
 use Rattle.run_laws.proofs.EndsAlong.{permitted, Before, before_step}
 use Rattle.run_laws.proofs.EndsTold.{CompletedIn, EndedIn, AnswerTold, HeldTold, Told, told_carried, told_at_opening, deleted_before, first_told}
 

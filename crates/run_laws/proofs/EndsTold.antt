@@ -1,5 +1,5 @@
 -- Where statuses come from: those of answers and of held commands, along a run.
-use Rattle.std.proofs.Common.{◌≡◌, ◌⊎◌, inl, inr, ℕ, zero, suc, ◌+◌, ◌≤◌, ◌==◌, Bool, true, false, not, ◌&&◌, ◌||◌, Option, Some, None, List, [], ◌∷◌, ◌++◌, slice_get, replicate, is_some, is_none, option_and_then, if◌then◌else◌, refl, ap, sym, ◌∙◌, arith, subst, eqb-true, eq-eqb}
+use Rattle.std.proofs.Common.{◌≡◌, ◌⊎◌, inl, inr, ℕ, zero, suc, ◌+◌, ◌≤◌, ◌==◌, Bool, true, false, not, ◌&&◌, ◌||◌, Option, Some, None, List, [], ◌∷◌, ◌++◌, slice_get, replicate, is_some, is_none, option_and_then, refl, ap, sym, ◌∙◌, arith, subst, eqb-true, eq-eqb}
 use Rattle.std.specs.Option.{option_map_or, option_map}
 use Rattle.std.specs.List.{AllByRecursion, list_any}
 use Rattle.std.proofs.lemmas.Bool.{true≢false, and_parts, not-false}
@@ -9,10 +9,9 @@ use Rattle.entry_codec.specs.declared.completion.ComEntry.{ComEntry}
 use Rattle.entry_codec.specs.declared.status.Status.{Status}
 use Rattle.entry_codec.specs.declared.status.TheConstants.Status.{ABORTED_SQ_DELETION}
 use Rattle.io_commands.specs.Asked.{Request}
-use Rattle.io_commands.specs.Drafts.{DraftContents}
 use Rattle.io_commands.specs.Values.{numbers_of}
 use Rattle.machine_model.specs.Work.{Work}
-use Rattle.machine_model.specs.declared.words.Work.TheVariants.{Io, Management}
+use Rattle.machine_model.specs.declared.words.Work.TheVariants.{Io}
 use Rattle.machine_model.specs.declared.words.HostState.{HostState}
 use Rattle.machine_model.specs.declared.words.HostState.TheVariants.{Live, Deleting, Retired, Gone}
 use Rattle.machine_model.specs.declared.words.Phase.{Phase}
@@ -24,7 +23,7 @@ use Rattle.machine_model.specs.Proper.{IsProper}
 use Rattle.machine_model.specs.Opening.{Opens, opening, device_queue as opened}
 use Rattle.machine_model.specs.Claims.{OwnsFit}
 use Rattle.machine_model.specs.State.{State, HostQueue, DeviceQueue, Record, Job, Answer, is_at, record_at, pages_of}
-use Rattle.machine_model.specs.Refusals.{is_live, queue_full, is_submitted, is_drafted, is_held, is_deleted, in_state, host_queue, device_queue, job_at, seen_entry, first_answer, entry_of, record_is, is_of, refusal_of}
+use Rattle.machine_model.specs.Refusals.{is_live, queue_full, is_submitted, is_drafted, is_held, is_deleted, in_state, host_queue, job_at, seen_entry, first_answer, entry_of, record_is, is_of, refusal_of}
 use Rattle.machine_model.specs.Step.{reaped, reaped_entry}
 use Rattle.machine_model.specs.After as a
 use Rattle.machine_model.specs.Events as events
@@ -37,7 +36,6 @@ use Rattle.machine_model.proofs.Steps.{Accepts}
 use Rattle.admin_commands.specs.Entries.{named_queue}
 use Rattle.machine_model.proofs.Caused.{any_longer}
 use Rattle.machine_model.proofs.Refused.{first_fails, found, pages_match}
-use Rattle.machine_model.proofs.Placed.{find_sound}
 use Rattle.machine_model.proofs.Paired.{is_over}
 use Rattle.machine_model.proofs.TiedReap.{told_entry}
 use Rattle.machine_model.proofs.Out.{named, status_in}
@@ -46,11 +44,10 @@ use Rattle.machine_model.proofs.Grounds.{pair_at}
 use Rattle.machine_model.proofs.Served.{Stood, answers_at}
 use Rattle.machine_model.proofs.Queues.{list_at}
 use Rattle.machine_model.proofs.QueuesMove.{QueueMove, queues_event}
-use Rattle.machine_model.proofs.RecordsMove.{takes}
 use Rattle.machine_model.proofs.PlacesKept.{reaped_answer, ids_of}
 use Rattle.machine_model.proofs.Reading.{Member, members}
 use Rattle.machine_model.proofs.WalksKept.{stood_on, stood_at_opening}
-use Rattle.run_laws.specs.Ends.{submits_by, submits, retires_by, retires, WasLost}
+use Rattle.run_laws.specs.Ends.{submits_by, submits, retires_by, WasLost}
 use Rattle.run_laws.proofs.EndsAlong.{made_of, Carried}
 use Rattle.run_laws.proofs.EndsFalling.{opened_lists}
 use Rattle.run_laws.proofs.EndsRecords.{RecordsTurn, records_turn}

@@ -1,5 +1,5 @@
 -- A command completes with its first verdict.
-use Rattle.std.proofs.Common.{◌≡◌, ◌⊎◌, inl, inr, ℕ, ◌==◌, Bool, true, false, not, ◌&&◌, ◌||◌, Option, Some, None, List, [], ◌∷◌, ◌++◌, if◌then◌else◌, refl, ap, ap₂, sym, ◌∙◌, subst, eqb-true, eq-eqb, IsTrue, unwrap_or}
+use Rattle.std.proofs.Common.{◌≡◌, ◌⊎◌, inl, inr, ℕ, ◌==◌, Bool, true, false, not, ◌&&◌, ◌||◌, Option, Some, None, List, [], ◌∷◌, ◌++◌, if◌then◌else◌, refl, ap, ap₂, sym, ◌∙◌, subst, eqb-true, eq-eqb, unwrap_or}
 use Rattle.std.specs.Option.{option_map, option_map_or}
 use Rattle.std.specs.List.{AllByRecursion, list_any}
 use Rattle.std.specs.Str.{bytes_eq}
@@ -15,18 +15,14 @@ use Rattle.io_commands.specs.declared.request.Kind.{Kind}
 use Rattle.io_commands.specs.declared.request.Kind.TheVariants.{Read, Write, Compare}
 use Rattle.io_commands.specs.Jobs as jobs
 use Rattle.io_commands.specs.Jobs.{is_success, kind_of_opcode, first_block, block_number}
-use Rattle.machine_model.specs.Status.{same_status}
-use Rattle.machine_model.specs.Proper.{IsProper}
 use Rattle.machine_model.specs.Opening.{opening}
 use Rattle.machine_model.specs.State.{State, Job}
 use Rattle.machine_model.specs.Refusals.{job_at, next_rung}
-use Rattle.machine_model.specs.After as a
 use Rattle.machine_model.specs.After.{final_status}
 use Rattle.machine_model.specs.Events as events
 use Rattle.machine_model.specs.Events.{Event, Reply}
-use Rattle.machine_model.specs.declared.words.Refusal.{Refusal}
 use Rattle.machine_model.specs.Image.{Made}
-use Rattle.machine_model.specs.Laws.{TrustedRun, Steps, status_by, status_given, fetches, fetches_by, is_compare}
+use Rattle.machine_model.specs.Laws.{TrustedRun, Steps, status_by, fetches, fetches_by}
 use Rattle.machine_model.proofs.Placed.{is_job, find_sound}
 use Rattle.machine_model.proofs.Steps.{Accepts}
 use Rattle.machine_model.proofs.Members.{all_at_found, all_in, only_found}
@@ -34,7 +30,7 @@ use Rattle.machine_model.proofs.Grounds.{trusted_at_first, along_proper}
 use Rattle.machine_model.proofs.Served.{Stood}
 use Rattle.machine_model.proofs.WalksKept.{one_job, stood_on, stood_at_opening}
 use Rattle.run_laws.specs.Verdicts.{FoundDifference, first_verdicts_count}
-use Rattle.run_laws.proofs.EndsAlong.{made_of, cut, Carried, Before, before_step}
+use Rattle.run_laws.proofs.EndsAlong.{made_of, cut, Carried, before_step}
 use Rattle.run_laws.proofs.EndsJobs.{JobsTurn, jobs_turn}
 
 -- each job of the command has this verdict

@@ -1,9 +1,9 @@
 -- A job stays until it completes.
-use Rattle.std.proofs.Common.{◌≡◌, ℕ, ◌+◌, ◌-◌, ◌/◌, ◌%◌, ◌==◌, Bool, true, false, not, ◌&&◌, Option, Some, None, List, [], ◌∷◌, ◌++◌, map, filter, find, take, drop, is_some, is_none, if◌then◌else◌, refl, ap, sym, ◌∙◌, subst, eqb-true, eq-eqb}
+use Rattle.std.proofs.Common.{◌≡◌, ℕ, ◌+◌, ◌/◌, ◌%◌, ◌==◌, Bool, true, false, not, ◌&&◌, Option, Some, None, List, [], ◌∷◌, ◌++◌, map, filter, find, take, drop, is_some, is_none, if◌then◌else◌, refl, ap, sym, ◌∙◌, subst, eqb-true, eq-eqb}
 use Rattle.std.specs.Option.{option_map, option_map_or}
 use Rattle.std.proofs.lemmas.Bool.{true≢false, and_parts}
 use Rattle.admin_commands.specs.Entries.{named_queue, named_command}
-use Rattle.admin_commands.specs.declared.SqState.TheVariants.{Absent, Stopping}
+use Rattle.admin_commands.specs.declared.SqState.TheVariants.{Absent}
 use Rattle.controller_walk.specs.Units.{Act, Stays, Reads, Moves}
 use Rattle.sgl_descriptor.specs.declared.Direction.{Direction}
 use Rattle.sgl_descriptor.specs.declared.Direction.TheVariants.{Destination, Source}
@@ -18,7 +18,6 @@ use Rattle.machine_model.specs.Refusals.{job_at, next_rung, conflicts}
 use Rattle.machine_model.specs.After as a
 use Rattle.machine_model.specs.Events as events
 use Rattle.machine_model.specs.Events.{Event, Reply}
-use Rattle.machine_model.specs.Step.{Step, IsController}
 use Rattle.machine_model.specs.Laws.{status_by}
 use Rattle.machine_model.proofs.Managed.{managed_by_case}
 use Rattle.machine_model.proofs.Placing.{device-answered}

@@ -1,15 +1,12 @@
 -- A verdict stays.
-use Rattle.std.proofs.Common.{◌≡◌, ℕ, ◌+◌, ◌==◌, Bool, true, false, ◌&&◌, ◌||◌, Option, Some, None, List, [], ◌∷◌, slice_get, is_some, is_none, refl, ap, ap₂, sym, ◌∙◌, subst, eqb-true, eq-eqb, IsTrue}
+use Rattle.std.proofs.Common.{◌≡◌, ℕ, ◌==◌, true, false, ◌||◌, Option, Some, None, List, [], ◌∷◌, is_some, is_none, refl, ap, ap₂, sym, ◌∙◌, subst, eqb-true}
 use Rattle.std.specs.Option.{option_map_or}
 use Rattle.std.specs.List.{AllByRecursion}
 use Rattle.std.proofs.lemmas.Bool.{true≢false, and_parts}
 use Rattle.entry_codec.specs.declared.status.Status.{Status}
-use Rattle.entry_codec.specs.declared.submission.SubEntry.{SubEntry}
-use Rattle.controller_walk.specs.Units.{Act, first_passing}
+use Rattle.controller_walk.specs.Units.{first_passing}
 use Rattle.machine_model.specs.State.{State, Job}
-use Rattle.machine_model.specs.Refusals.{job_at, refusal_of, job_is}
-use Rattle.machine_model.specs.Proper.{IsProper}
-use Rattle.machine_model.specs.After as a
+use Rattle.machine_model.specs.Refusals.{job_at, refusal_of}
 use Rattle.machine_model.specs.Events as events
 use Rattle.machine_model.specs.Events.{Event, Reply}
 use Rattle.machine_model.specs.declared.words.Refusal.{Refusal}
@@ -17,13 +14,10 @@ use Rattle.machine_model.specs.declared.words.Refusal.TheVariants.{NoJob, Nothin
 use Rattle.machine_model.specs.Image.{Made}
 use Rattle.machine_model.specs.Laws.{TrustedRun}
 use Rattle.machine_model.proofs.Placed.{is_job, find_sound}
-use Rattle.machine_model.proofs.Steps.{Accepts}
 use Rattle.machine_model.proofs.Members.{all_at_found, all_in, only_found}
-use Rattle.machine_model.proofs.Grounds.{along_proper, each_proper_step}
+use Rattle.machine_model.proofs.Grounds.{along_proper}
 use Rattle.machine_model.proofs.Served.{Stood}
-use Rattle.machine_model.proofs.CommandsAll.{Walking}
 use Rattle.machine_model.proofs.WalksKept.{one_job, stood_on, stood_at_opening}
-use Rattle.machine_model.proofs.JobsMove.{is_walked, begun_job, walked}
 use Rattle.machine_model.specs.Step.{Step, Refuses}
 use Rattle.run_laws.specs.Verdicts.{KeepsVerdict, IsRefusedWalk, verdicts_stay, verdicts_end_walks}
 use Rattle.run_laws.proofs.EndsAlong.{permitted, taken_step}

@@ -1,12 +1,10 @@
 -- How commands end where nothing was forged: what a reap and a collect answer, and where that comes from.
-use Rattle.std.specs.Prelude.{◌≡◌, ◌⊎◌, ℕ, ◌==◌, nat_lt, Bool, true, false, ◌&&◌, not, IsTrue, Some, List, [], ◌∷◌, ◌++◌, if◌then◌else◌}
+use Rattle.std.specs.Prelude.{◌≡◌, ◌⊎◌, ℕ, ◌==◌, nat_lt, Bool, false, ◌&&◌, not, IsTrue, Some, List, [], ◌∷◌, ◌++◌, if◌then◌else◌}
 use Rattle.std.specs.List.{list_any}
 use Rattle.std.specs.Option.{option_map_or}
 use Rattle.entry_codec.specs.declared.status.Status.{Status}
 use Rattle.entry_codec.specs.declared.status.TheConstants.Status.{SUCCESS, ABORT_REQUESTED, ABORTED_SQ_DELETION, LBA_OUT_OF_RANGE, COMPARE_FAILURE}
 use Rattle.io_commands.specs.Values.{FinishedContents}
-use Rattle.io_commands.specs.Jobs.{is_success}
-use Rattle.machine_model.specs.Status.{same_status}
 use Rattle.machine_model.specs.State.{State, Answer}
 use Rattle.machine_model.specs.Refusals.{device_queue, conflicts, record_is, is_submitted}
 use Rattle.machine_model.specs.Step.{Step}
