@@ -291,16 +291,16 @@ pub record Fronted (s : State) : Type 0 where
   pub stood : Stood s
   pub fall : Fall s
 
-fronted_on : (s : State) (e : Event) (reply : Reply) → IsProper e → Accepts s e reply → s.trusted ≡ true → Fronted s → Fronted (a.after s e reply)
+pub fronted_on : (s : State) (e : Event) (reply : Reply) → IsProper e → Accepts s e reply → s.trusted ≡ true → Fronted s → Fronted (a.after s e reply)
 fronted_on s e reply proper ok t f = record { stood = stood_on s e reply proper ok t f.stood; fall = fall_event s e reply ok t f.stood f.fall }
 
-fronted_at_opening : (pages queues n s : ℕ) (image : List ℕ) → Opens pages queues n s → Fronted (opening pages queues n s image)
+pub fronted_at_opening : (pages queues n s : ℕ) (image : List ℕ) → Opens pages queues n s → Fronted (opening pages queues n s image)
 fronted_at_opening pages queues n s image opens = record {
   stood = stood_at_opening pages queues n s image opens;
   fall = λ q queue at eh eq. subst (FallsAt n queue.ring) (sym (opened_lists (queues + 1) q at eq)) (omega arith);
 }
 
-runs_are_fronted : (image : List ℕ) (made : List Made) (s : State) → TrustedRun image made s → Fronted s
+pub runs_are_fronted : (image : List ℕ) (made : List Made) (s : State) → TrustedRun image made s → Fronted s
 runs_are_fronted image made s run = along_proper Fronted fronted_on fronted_at_opening image made s run
 
 pub runs_have_no_conflicts : nothing_conflicts
@@ -349,7 +349,7 @@ answered_record s stood q at an rest e is =
     let counts : 1 ≤ total (λ (x : Answer). w x.cid) (answers_at s.device.queues q) = subst (λ (xs : List Answer). 1 ≤ total (λ (x : Answer). w x.cid) xs) (sym list) (omega (arith, ap one (eq-eqb an.cid an.cid refl))) in
     sent_found q an.cid s.host.records (omega (arith, counts, stood.places q w)) (stood.grounds.stands.0.once q an.cid)
 
-front_reaped : (s : State) → Fronted s → s.trusted ≡ true → (q : ℕ) → is_none (host_queue s q) ≡ false → reaped s q ≡ front q (answers_of s q)
+pub front_reaped : (s : State) → Fronted s → s.trusted ≡ true → (q : ℕ) → is_none (host_queue s q) ≡ false → reaped s q ≡ front q (answers_of s q)
 front_reaped s f t q there =
     ap (λ (o : Option ComEntry). option_map_or (reaped_entry s q) o Empty) (seen_trusted s q t) ∙ go (device_queue s q) refl
   where

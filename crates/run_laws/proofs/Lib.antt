@@ -4,6 +4,7 @@ pub mod EndsFront
 pub mod EndsRecords
 pub mod EndsJobs
 pub mod EndsAlong
+pub mod EndsQueues
 pub mod EndsGone
 pub mod EndsTold
 pub mod EndsLaws
