@@ -7,6 +7,7 @@ pub mod EndsAlong
 pub mod EndsQueues
 pub mod EndsGone
 pub mod EndsTold
+pub mod EndsPhases
 pub mod EndsLaws
 pub mod VerdictsStay
 pub mod VerdictsCount

@@ -31,6 +31,7 @@ use Rattle.machine_model.proofs.Served.{Stood}
 use Rattle.machine_model.proofs.WalksKept.{one_job, stood_on, stood_at_opening}
 use Rattle.run_laws.specs.Verdicts.{FoundDifference, first_verdicts_count}
 use Rattle.run_laws.proofs.EndsAlong.{made_of, cut, Carried, before_step}
+use Rattle.run_laws.proofs.EndsPhases.{none_parts}
 use Rattle.run_laws.proofs.EndsJobs.{JobsTurn, jobs_turn}
 
 -- each job of the command has this verdict
@@ -41,18 +42,6 @@ Has q cid st j = is_job q cid j ≡ true → j.verdict ≡ Some st
 record Marked (q cid : ℕ) (st : Status) (done : List Made) (s : State) : Type 0 where
   pub stood : Stood s
   pub jobs : list_any (fetches q cid) done ≡ false → AllByRecursion (Has q cid st) s.device.jobs
-
-none_parts : (f : Made → Bool) (xs : List Made) (m : Made) → list_any f (xs ++ m ∷ []) ≡ false → (list_any f xs ≡ false) × (f m ≡ false)
-none_parts f [] m h = (refl, go (f m) h)
-  where
-    go : (b : Bool) → (b || false) ≡ false → b ≡ false
-    go true h = h
-    go false h = refl
-none_parts f (x ∷ xs) m h = go (f x) h (none_parts f xs m)
-  where
-    go : (b : Bool) → (b || list_any f (xs ++ m ∷ [])) ≡ false → (list_any f (xs ++ m ∷ []) ≡ false → (list_any f xs ≡ false) × (f m ≡ false)) → ((b || list_any f xs) ≡ false) × (f m ≡ false)
-    go true h ih = absurd (true≢false h)
-    go false h ih = ih h
 
 fetched_by : (s : State) (k : ℕ) (reply : Reply) (entry : SubEntry) → Accepts s (events.Fetch k) reply → next_rung s k ≡ Some entry → fetches_by k entry.cid (events.Fetch k) reply ≡ true
 fetched_by s k (events.Fetched c touched) entry ok next =
