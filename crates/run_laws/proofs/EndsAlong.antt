@@ -1,6 +1,7 @@
 -- Trusted runs, step by step, with the steps made so far.
-use Rattle.std.proofs.Common.{◌≡◌, ℕ, Bool, true, false, not, ◌||◌, List, [], ◌∷◌, ◌++◌, MatchBool, refl, ap, sym, ◌∙◌, subst}
+use Rattle.std.proofs.Common.{◌≡◌, ℕ, ◌==◌, nat_lt, arith, Bool, true, false, not, ◌||◌, List, [], ◌∷◌, ◌++◌, MatchBool, refl, ap, sym, ◌∙◌, subst}
 use Rattle.std.proofs.lemmas.Bool.{true≢false}
+use Rattle.std.proofs.lemmas.Bool.Decides.{nat_tests}
 use Rattle.std.proofs.lemmas.List.{append-nil, append_assoc}
 use Rattle.machine_model.specs.Proper.{IsProper}
 use Rattle.machine_model.specs.State.{State}
@@ -15,6 +16,9 @@ use Rattle.machine_model.proofs.Steps.{Accepts, part_left}
 use Rattle.machine_model.proofs.Trusted.{forged_untrusted}
 use Rattle.machine_model.proofs.Grounds.{trusted_at_first}
 use Rattle.machine_model.proofs.EveryStatus.{as_made}
+
+pub positive : (q : ℕ) → nat_lt 0 q ≡ true → (q == 0) ≡ false
+positive q h = grind (arith, nat_tests, h)
 
 pub permitted : {A : Type 0} (B : Type 0) (t c : Bool) → t ≡ true → MatchBool (t || c) A B → A
 permitted B true c e h = h

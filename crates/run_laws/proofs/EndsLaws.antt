@@ -35,7 +35,7 @@ use Rattle.machine_model.proofs.Out.{named, status_in}
 use Rattle.machine_model.proofs.Members.{all_at_found}
 use Rattle.machine_model.proofs.PlacesKept.{reaped_answer, ids_of}
 use Rattle.run_laws.specs.Ends.{retires_by, WasCompleted, WasLost, CauseOfEnd, Succeeded, Aborted, Stopped, Lost, PastImage, Differed, ends_come_from_completions, retired_queues_were_deleted, collects_tell_how_commands_ended, every_collect_has_its_cause}
-use Rattle.run_laws.proofs.EndsAlong.{permitted, Before, before_step}
+use Rattle.run_laws.proofs.EndsAlong.{permitted, positive, Before, before_step}
 use Rattle.run_laws.proofs.EndsTold.{CompletedIn, EndedIn, AnswerTold, HeldTold, Told, told_carried, told_at_opening, deleted_before, first_told}
 
 told_before : (image : List ℕ) (earlier later : List Made) (m : Made) (end : State) → TrustedRun image (earlier ++ m ∷ later) end → Before Told earlier m
@@ -53,9 +53,6 @@ with_cause image earlier later m end q cid st run io c = record {
   cause = statuses_have_causes image c.before (c.between ++ m ∷ later) c.completion end q cid st
       (subst (λ (ms : List Made). TrustedRun image ms end) (ap (λ (xs : List Made). xs ++ m ∷ later) c.parts ∙ append_assoc c.before (c.completion ∷ c.between) (m ∷ later)) run) io c.given;
 }
-
-positive : (q : ℕ) → nat_lt 0 q ≡ true → (q == 0) ≡ false
-positive q h = grind (arith, nat_tests, h)
 
 above : (q : ℕ) → (q == 0) ≡ false → nat_lt 0 q ≡ true
 above q h = grind (arith, nat_tests, h)

@@ -9,6 +9,7 @@ pub mod EndsGone
 pub mod EndsTold
 pub mod EndsPhases
 pub mod EndsLaws
+pub mod EndsTwice
 pub mod VerdictsStay
 pub mod VerdictsCount
 pub mod VerdictsJobs

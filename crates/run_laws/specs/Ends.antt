@@ -101,3 +101,25 @@ abbrev pub every_collect_has_its_cause : Type 0
 every_collect_has_its_cause =
     (image : List ℕ) (earlier later : List Made) (m : Made) (end : State) (q cid : ℕ) (f : FinishedContents) → TrustedRun image (earlier ++ m ∷ later) end
     → m.event ≡ events.Collect q cid → m.reply ≡ events.Collects f → CauseOfEnd earlier q cid f.status
+
+-- Each command ends once: between two completions of its identifier it was submitted anew, and so between two reaps that answer it, and
+-- between two collects
+abbrev pub commands_complete_once : Type 0
+commands_complete_once =
+    (image : List ℕ) (earlier : List Made) (first : Made) (between : List Made) (second : Made) (later : List Made) (end : State) (q cid : ℕ) (st st' : Status)
+    → TrustedRun image (earlier ++ first ∷ between ++ second ∷ later) end → IsTrue (nat_lt 0 q)
+    → status_given first q cid ≡ Some st → status_given second q cid ≡ Some st' → IsTrue (list_any (submits q cid) between)
+
+abbrev pub ends_are_told_once : Type 0
+ends_are_told_once =
+    (image : List ℕ) (earlier : List Made) (first : Made) (between : List Made) (second : Made) (later : List Made) (end : State) (q cid : ℕ) (st st' : Status)
+    → TrustedRun image (earlier ++ first ∷ between ++ second ∷ later) end → IsTrue (nat_lt 0 q)
+    → first.event ≡ events.Reap q → first.reply ≡ events.Reaps (Done cid st) → second.event ≡ events.Reap q → second.reply ≡ events.Reaps (Done cid st')
+    → IsTrue (list_any (submits q cid) between)
+
+abbrev pub commands_are_collected_once : Type 0
+commands_are_collected_once =
+    (image : List ℕ) (earlier : List Made) (first : Made) (between : List Made) (second : Made) (later : List Made) (end : State) (q cid : ℕ) (f f' : FinishedContents)
+    → TrustedRun image (earlier ++ first ∷ between ++ second ∷ later) end
+    → first.event ≡ events.Collect q cid → first.reply ≡ events.Collects f → second.event ≡ events.Collect q cid → second.reply ≡ events.Collects f'
+    → IsTrue (list_any (submits q cid) between)
