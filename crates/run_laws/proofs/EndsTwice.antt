@@ -93,7 +93,7 @@ submitted_anew test l q cid other first second between later end at t all finds 
 
 -- Reaping
 
-reap_leaves : (s : State) (q cid : ℕ) (st : Status) → Stood s → (q == 0) ≡ false → named (reaped s q) ≡ Some cid → AllByRecursion (NotIn is_submitted q cid) (a.after_reap q (Done cid st) s).host.records
+pub reap_leaves : (s : State) (q cid : ℕ) (st : Status) → Stood s → (q == 0) ≡ false → named (reaped s q) ≡ Some cid → AllByRecursion (NotIn is_submitted q cid) (a.after_reap q (Done cid st) s).host.records
 reap_leaves s q cid st stood other n = go (record_at s.host q cid) refl
   where
     of_work : (r : Record) → record_at s.host q cid ≡ Some r → (w : Work) → r.work ≡ w → OwnsFit r.q w (pages_of r) → (t : State) → AllByRecursion (NotIn is_submitted q cid) (a.after_work w q cid st t).host.records
@@ -125,7 +125,7 @@ reaps_leave first mid q cid st step t t' stood other is_event is_reply =
     (subst (λ (x : Reply). AllByRecursion (NotIn is_submitted q cid) (a.after s (events.Reap q) x).host.records) (sym is') (reap_leaves s q cid st stood other (ap named (sym ok'.1)))))
     first.before first.event first.reply mid step t t' stood is_event is_reply
 
-submitted_later : IsLater is_submitted
+pub submitted_later : IsLater is_submitted
 submitted_later = record { drafted = refl; submitted = refl; collected = refl }
 
 pub runs_tell_once : ends_are_told_once

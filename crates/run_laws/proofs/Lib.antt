@@ -13,3 +13,4 @@ pub mod EndsTwice
 pub mod VerdictsStay
 pub mod VerdictsCount
 pub mod VerdictsJobs
+pub mod EndsOnce

@@ -127,7 +127,7 @@ job_gives m q cid j verdict at v = admin (j.q == 0)
     admin true = inl (ap (λ (o : Option Status). unwrap_or o SUCCESS) v)
     admin false = subst (λ (o : Option Status). Gives m q cid verdict (jobs.status_after m.before.device.image j.entry j.bytes o)) (sym v) (by_success (is_success verdict) refl)
 
-given_job : (s : State) (e : Event) (reply : Reply) (q cid : ℕ) (st : Status) → status_by s e reply q cid ≡ Some st → (j : Job) × (job_at s q cid ≡ Some j) × (final_status s j ≡ st)
+pub given_job : (s : State) (e : Event) (reply : Reply) (q cid : ℕ) (st : Status) → status_by s e reply q cid ≡ Some st → (j : Job) × (job_at s q cid ≡ Some j) × (final_status s j ≡ st)
 given_job s (events.Complete k c) (events.Completed touched) q cid st given = go ((k == q) && (c == cid)) given
   where
     at : (o : Option Job) → job_at s q cid ≡ o → option_map (final_status s) o ≡ Some st → (j : Job) × (job_at s q cid ≡ Some j) × (final_status s j ≡ st)

@@ -1,6 +1,6 @@
 //! How commands end where nothing was forged. Each function does nothing.
 
-ghost use Rattle.run_laws.specs.Ends.{reaps_answer_the_front, nothing_conflicts, ends_come_from_completions, retired_queues_were_deleted, collects_tell_how_commands_ended, every_collect_has_its_cause, ends_are_told_once, commands_are_collected_once};
+ghost use Rattle.run_laws.specs.Ends.{reaps_answer_the_front, nothing_conflicts, ends_come_from_completions, retired_queues_were_deleted, collects_tell_how_commands_ended, every_collect_has_its_cause, commands_complete_once, ends_are_told_once, commands_are_collected_once};
 ghost use Rattle.run_laws.specs.Verdicts.{jobs_stay, verdicts_stay, verdicts_end_walks, first_verdicts_count};
 
 /// Where nothing was forged, a reap answers the oldest completion of its queue, and none where there is none: no completion is rejected.
@@ -36,9 +36,10 @@ pub fn law_of_collects()
     ensures causes { every_collect_has_its_cause }
 {}
 
-/// Where nothing was forged, each command ends once: between two reaps that answer an identifier, and between two collects of it, it was
-/// submitted anew.
+/// Where nothing was forged, each command of an I/O queue ends once: between two completions of an identifier, between two reaps that answer
+/// it, and between two collects of it, it was submitted anew.
 pub fn law_of_single_ends()
+    ensures completions { commands_complete_once }
     ensures reaps { ends_are_told_once }
     ensures collects { commands_are_collected_once }
 {}
