@@ -1,28 +1,15 @@
 -- A submission queue that is absent at the controller was deleted: a Delete SQ of it was fetched.
-use Rattle.std.proofs.Common.{◌≡◌, ◌⊎◌, inl, inr, ℕ, ◌-◌, ◌==◌, Bool, true, false, ◌&&◌, Option, Some, None, List, [], ◌∷◌, ◌++◌, length, map, drop, slice_get, is_some, if◌then◌else◌, refl, ap, sym, ◌∙◌, subst, eqb-true, eq-eqb}
+use Rattle.std.proofs.Common.{◌≡◌, ◌⊎◌, inl, inr, ℕ, ◌-◌, ◌==◌, true, false, ◌&&◌, Option, Some, List, [], ◌∷◌, ◌++◌, length, drop, slice_get, refl, ap, sym, ◌∙◌, subst, eq-eqb}
 use Rattle.std.specs.Option.{option_map_or}
 use Rattle.std.specs.List.{AllByRecursion, list_any}
-use Rattle.std.proofs.lemmas.Bool.{true≢false, and_parts}
-use Rattle.admin_commands.specs.Entries.{admin_entry, named_queue}
+use Rattle.std.proofs.lemmas.Bool.{true≢false}
+use Rattle.admin_commands.specs.Entries.{named_queue}
 use Rattle.admin_commands.specs.Verdicts.{is_absent}
-use Rattle.admin_commands.specs.declared.AdminKind.TheVariants.{Abort, DeleteSq, DeleteCq}
-use Rattle.admin_commands.specs.declared.AdminKind.{AdminKind}
 use Rattle.admin_commands.specs.declared.SqState.TheVariants.{Absent, Stopping}
 use Rattle.entry_codec.specs.declared.submission.SubEntry.{SubEntry}
-use Rattle.entry_codec.specs.declared.completion.ComEntry.{ComEntry}
-use Rattle.entry_codec.specs.declared.status.Status.{Status}
-use Rattle.entry_codec.specs.declared.status.TheConstants.Status.{COMMAND_ID_CONFLICT}
 use Rattle.entry_codec.specs.declared.admin_opcode.TheConstants.{DELETE_IO_SQ}
-use Rattle.io_commands.specs.Jobs.{is_success}
-use Rattle.page_memory.specs.Pages.{with_page_bytes}
-use Rattle.machine_model.specs.Memory.{with_pages, without_pages}
-use Rattle.machine_model.specs.Work.{Work}
-use Rattle.machine_model.specs.declared.words.Work.TheVariants.{Io, Management}
-use Rattle.machine_model.specs.declared.words.Phase.TheVariants.{Submitted}
-use Rattle.machine_model.specs.declared.words.Reaped.{Reaped}
-use Rattle.machine_model.specs.declared.words.Reaped.TheVariants.{Empty, Done, AdminDone, Rejected}
-use Rattle.machine_model.specs.State.{State, Device, HostQueue, DeviceQueue, Record, Job, record_at, pages_of, with_record, without_record}
-use Rattle.machine_model.specs.Refusals.{is_retired, host_queue, next_rung, job_at, conflicts, seen_entry, fetch_slot, slot_page, slot_offset}
+use Rattle.machine_model.specs.State.{State, DeviceQueue, Job}
+use Rattle.machine_model.specs.Refusals.{next_rung}
 use Rattle.machine_model.specs.After as a
 use Rattle.machine_model.specs.After.{change}
 use Rattle.machine_model.specs.Events as events
@@ -30,16 +17,11 @@ use Rattle.machine_model.specs.Events.{Event, Reply}
 use Rattle.machine_model.specs.Image.{Made}
 use Rattle.machine_model.specs.Laws.{deletes}
 use Rattle.machine_model.proofs.Steps.{Accepts}
-use Rattle.machine_model.proofs.Managed.{managed_by_case}
-use Rattle.machine_model.proofs.Placing.{device-posted, device-answered}
 use Rattle.machine_model.proofs.Placed.{is_job}
-use Rattle.machine_model.proofs.Placements.{in_hand}
-use Rattle.machine_model.proofs.QueuesMove.{queues_walk}
 use Rattle.machine_model.proofs.Members.{all_at_found}
 use Rattle.machine_model.proofs.Caused.{any_longer, any_last}
 use Rattle.machine_model.proofs.Served.{Stood}
 use Rattle.machine_model.proofs.Heads.{changed_at}
-use Rattle.machine_model.proofs.HeadsAll.{no_conflict}
 use Rattle.run_laws.proofs.EndsAlong.{made_of}
 use Rattle.run_laws.proofs.EndsJobs.{JobsTurn}
 use Rattle.run_laws.proofs.EndsQueues.{QueuesTurn, queues_turn}

@@ -1,6 +1,6 @@
 -- Between two completions of a command it was submitted anew: while its answer waits nothing else of it is at the controller, and then it
 -- is not submitted.
-use Rattle.std.proofs.Common.{◌≡◌, ◌⊎◌, inl, inr, ℕ, zero, suc, ◌+◌, ◌<◌, ◌≤◌, ◌-◌, ◌==◌, Bool, true, false, not, ◌&&◌, ◌||◌, Option, Some, None, List, [], ◌∷◌, ◌++◌, length, drop, filter, slice_get, is_some, is_none, if◌then◌else◌, refl, ap, sym, ◌∙◌, arith, subst, eqb-true, eq-eqb, IsTrue}
+use Rattle.std.proofs.Common.{◌≡◌, ◌⊎◌, inl, inr, ℕ, zero, suc, ◌+◌, ◌≤◌, ◌-◌, ◌==◌, Bool, true, false, not, ◌&&◌, ◌||◌, Option, Some, None, List, [], ◌∷◌, ◌++◌, length, drop, slice_get, is_some, is_none, if◌then◌else◌, refl, ap, sym, ◌∙◌, arith, subst, eqb-true, eq-eqb}
 use Rattle.std.specs.Option.{option_map, option_map_or}
 use Rattle.std.specs.List.{AllByRecursion, list_any}
 use Rattle.std.proofs.lemmas.Bool.{true≢false, and_parts, or_parts}
@@ -14,9 +14,8 @@ use Rattle.machine_model.specs.declared.words.Refusal.{Refusal}
 use Rattle.machine_model.specs.declared.words.Refusal.TheVariants as refusal
 use Rattle.machine_model.specs.declared.words.Reaped.{Reaped}
 use Rattle.machine_model.specs.declared.words.Reaped.TheVariants.{Done, AdminDone}
-use Rattle.machine_model.specs.State.{State, Device, DeviceQueue, Record, Job, Answer, is_at, record_at}
+use Rattle.machine_model.specs.State.{State, Device, DeviceQueue, Record, Job, Answer, is_at}
 use Rattle.machine_model.specs.Refusals.{is_submitted, is_gone, is_job, in_state, host_queue, device_queue, refusal_of, job_at, job_is, waits, answers_full, post_page, fetch_slot}
-use Rattle.machine_model.specs.Step.{Step, reaped}
 use Rattle.machine_model.specs.After as a
 use Rattle.machine_model.specs.After.{change}
 use Rattle.machine_model.specs.Events as events
@@ -38,7 +37,7 @@ use Rattle.run_laws.proofs.EndsAlong.{positive, made_of, taken_step, Carried, be
 use Rattle.run_laws.proofs.EndsQueues.{QueuesTurn, queues_turn}
 use Rattle.run_laws.proofs.EndsRecords.{records_turn}
 use Rattle.run_laws.proofs.EndsFront.{Fronted, fronted_on, front_reaped}
-use Rattle.run_laws.proofs.EndsPhases.{IsLater, NotIn, phases_turn, none_parts}
+use Rattle.run_laws.proofs.EndsPhases.{NotIn, phases_turn, none_parts}
 use Rattle.run_laws.proofs.EndsTwice.{At, at_step, reap_leaves, submitted_later}
 use Rattle.run_laws.proofs.VerdictsCount.{given_job}
 

@@ -1,19 +1,17 @@
 -- A command that has ended is not submitted or held again before it is submitted anew.
-use Rattle.std.proofs.Common.{◌≡◌, ℕ, ◌==◌, nat_lt, Bool, true, false, ◌&&◌, ◌||◌, Option, Some, None, List, [], ◌∷◌, ◌++◌, map, is_some, if◌then◌else◌, refl, ap, sym, ◌∙◌, subst, eqb-true, eq-eqb, IsTrue}
-use Rattle.std.specs.Option.{option_map_or}
+use Rattle.std.proofs.Common.{◌≡◌, ℕ, ◌==◌, Bool, true, false, ◌||◌, Some, List, [], ◌∷◌, ◌++◌, if◌then◌else◌, refl, sym, ◌∙◌, subst, eqb-true, eq-eqb}
 use Rattle.std.specs.List.{AllByRecursion, list_any}
 use Rattle.std.proofs.lemmas.Bool.{true≢false, and_parts}
 use Rattle.io_commands.specs.Drafts.{DraftContents}
 use Rattle.machine_model.specs.declared.words.Phase.{Phase}
 use Rattle.machine_model.specs.declared.words.Phase.TheVariants.{Drafted, Submitted, Held, Collected}
-use Rattle.machine_model.specs.State.{State, Record, is_at, record_at, with_record}
+use Rattle.machine_model.specs.State.{State, Record, is_at, with_record}
 use Rattle.machine_model.specs.Refusals.{is_submitted}
-use Rattle.machine_model.specs.After as a
 use Rattle.machine_model.specs.Events as events
 use Rattle.machine_model.specs.Events.{Event, Reply}
 use Rattle.machine_model.specs.Image.{Made}
 use Rattle.machine_model.proofs.Steps.{Accepts}
-use Rattle.machine_model.proofs.Out.{named, reaped_submitted}
+use Rattle.machine_model.proofs.Out.{reaped_submitted}
 use Rattle.machine_model.proofs.Served.{Stood}
 use Rattle.machine_model.proofs.PlacesKept.{ids_of}
 use Rattle.machine_model.proofs.WalksKept.{stood_on}

@@ -1,10 +1,8 @@
 -- What each event does to the controller's queues, one change after the other.
-use Rattle.std.proofs.Common.{◌≡◌, ◌⊎◌, inl, inr, ℕ, ◌-◌, ◌==◌, Bool, true, false, ◌&&◌, Option, Some, None, List, [], ◌∷◌, ◌++◌, length, map, drop, slice_get, is_some, if◌then◌else◌, refl, ap, sym, ◌∙◌, subst, eqb-true, eq-eqb}
+use Rattle.std.proofs.Common.{◌≡◌, ℕ, ◌-◌, ◌==◌, Bool, true, false, ◌&&◌, Option, Some, None, List, [], ◌∷◌, ◌++◌, length, map, drop, is_some, if◌then◌else◌, refl, ap, sym, ◌∙◌, subst, eqb-true}
 use Rattle.std.specs.Option.{option_map_or}
-use Rattle.std.specs.List.{AllByRecursion, list_any}
 use Rattle.std.proofs.lemmas.Bool.{true≢false, and_parts}
 use Rattle.admin_commands.specs.Entries.{admin_entry, named_queue}
-use Rattle.admin_commands.specs.Verdicts.{is_absent}
 use Rattle.admin_commands.specs.declared.AdminKind.TheVariants.{Abort, DeleteSq, DeleteCq}
 use Rattle.admin_commands.specs.declared.AdminKind.{AdminKind}
 use Rattle.admin_commands.specs.declared.SqState.TheVariants.{Absent, Stopping}
@@ -27,21 +25,13 @@ use Rattle.machine_model.specs.After as a
 use Rattle.machine_model.specs.After.{change}
 use Rattle.machine_model.specs.Events as events
 use Rattle.machine_model.specs.Events.{Event, Reply}
-use Rattle.machine_model.specs.Image.{Made}
-use Rattle.machine_model.specs.Laws.{deletes}
 use Rattle.machine_model.proofs.Steps.{Accepts}
 use Rattle.machine_model.proofs.Managed.{managed_by_case}
 use Rattle.machine_model.proofs.Placing.{device-posted, device-answered}
-use Rattle.machine_model.proofs.Placed.{is_job}
 use Rattle.machine_model.proofs.Placements.{in_hand}
 use Rattle.machine_model.proofs.QueuesMove.{queues_walk}
-use Rattle.machine_model.proofs.Members.{all_at_found}
-use Rattle.machine_model.proofs.Caused.{any_longer, any_last}
 use Rattle.machine_model.proofs.Served.{Stood}
-use Rattle.machine_model.proofs.Heads.{changed_at}
 use Rattle.machine_model.proofs.HeadsAll.{no_conflict}
-use Rattle.run_laws.proofs.EndsAlong.{made_of}
-use Rattle.run_laws.proofs.EndsJobs.{JobsTurn}
 
 -- what a statement about all the queues outlives, however the event changes one of them
 pub record QueuesTurn (P : List DeviceQueue → Type 0) (s : State) (e : Event) : Type 0 where

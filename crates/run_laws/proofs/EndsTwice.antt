@@ -1,10 +1,9 @@
 -- Between two reaps that answer a command, and between two collects of it, it was submitted anew.
-use Rattle.std.proofs.Common.{◌≡◌, ℕ, ◌==◌, nat_lt, Bool, true, false, not, ◌&&◌, ◌||◌, Option, Some, None, List, [], ◌∷◌, ◌++◌, option_and_then, if◌then◌else◌, refl, ap, sym, ◌∙◌, subst, eq-eqb, IsTrue}
+use Rattle.std.proofs.Common.{◌≡◌, ℕ, ◌==◌, Bool, true, false, not, ◌||◌, Option, Some, None, List, [], ◌∷◌, ◌++◌, option_and_then, refl, ap, sym, ◌∙◌, subst, eq-eqb}
 use Rattle.std.specs.Option.{option_map, option_map_or}
 use Rattle.std.specs.List.{AllByRecursion, list_any}
 use Rattle.std.proofs.lemmas.Bool.{true≢false, not-false}
 use Rattle.std.proofs.lemmas.List.{append_assoc}
-use Rattle.entry_codec.specs.declared.completion.ComEntry.{ComEntry}
 use Rattle.entry_codec.specs.declared.status.Status.{Status}
 use Rattle.io_commands.specs.Values.{FinishedContents}
 use Rattle.machine_model.specs.Work.{Work}
@@ -17,7 +16,7 @@ use Rattle.machine_model.specs.Claims.{OwnsFit}
 use Rattle.machine_model.specs.Memory.{without_pages}
 use Rattle.machine_model.specs.Opening.{opening}
 use Rattle.machine_model.specs.State.{State, Record, is_at, record_at, pages_of, with_record}
-use Rattle.machine_model.specs.Refusals.{is_submitted, is_held, record_is, refusal_of, seen_entry}
+use Rattle.machine_model.specs.Refusals.{is_submitted, is_held, record_is, seen_entry}
 use Rattle.machine_model.specs.Step.{Step, finished_from, asked_by, pages_with_bytes, reaped}
 use Rattle.machine_model.specs.After as a
 use Rattle.machine_model.specs.Events as events
