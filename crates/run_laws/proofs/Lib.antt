@@ -1,0 +1,16 @@
+pub mod VerdictsWorked
+pub mod EndsFalling
+pub mod EndsFront
+pub mod EndsRecords
+pub mod EndsJobs
+pub mod EndsAlong
+pub mod EndsQueues
+pub mod EndsGone
+pub mod EndsTold
+pub mod EndsPhases
+pub mod EndsLaws
+pub mod EndsTwice
+pub mod VerdictsStay
+pub mod VerdictsCount
+pub mod VerdictsJobs
+pub mod EndsOnce
