@@ -29,7 +29,7 @@ use Rattle.machine_model.specs.Events as events
 use Rattle.machine_model.specs.Events.{Event, Reply}
 use Rattle.machine_model.specs.Reached.{only, on_pages}
 use Rattle.machine_model.specs.Standing.{HasEntry, StandsAs, CommandStands, HasUnitLeft, JobStands, jobs_stand, jobs_keep_their_lists}
-use Rattle.machine_model.proofs.Steps.{Accepts, part_left}
+use Rattle.machine_model.proofs.Steps.{Accepts, part_left, permitted, exact}
 use Rattle.machine_model.proofs.Trusted.{forged_untrusted}
 use Rattle.machine_model.proofs.Placed.{is_job, find_sound}
 use Rattle.machine_model.proofs.Members.{in_found, all_at_found}
@@ -52,14 +52,6 @@ pub stood_after : (image : List ℕ) (made : List Made) (end : State) → Truste
 stood_after image made end run = along_proper Stood stood_on stood_at_opening image made end run
 
 -- what a step from a trusted state is: nothing happens, or an accepted event leaves exactly one state
-permitted : {A : Type 0} (B : Type 0) (t c : Bool) → t ≡ true → MatchBool (t || c) A B → A
-permitted B true c e h = h
-permitted B false c e h = absurd (true≢false (sym e))
-
-exact : {A : Type 0} (B : Type 0) (t : Bool) → t ≡ true → MatchBool t A B → A
-exact B true e h = h
-exact B false e h = absurd (true≢false (sym e))
-
 pub step_is : (old : State) (e : Event) (reply : Reply) (new : State) → Step old e reply new → old.trusted ≡ true
     → (new ≡ old) ⊎ (IsProper e × Accepts old e reply × (new.memory ≡ (a.after old e reply).memory) × (new.trusted ≡ true → new ≡ a.after old e reply))
 step_is old e (events.Refused why touched) new step t = inl step.2

@@ -7,6 +7,7 @@ use Rattle.machine_model.specs.Refusals.{is_submitted}
 use Rattle.machine_model.proofs.Counting.{one}
 use Rattle.machine_model.proofs.Totals.{total, here}
 pub use Rattle.machine_model.specs.Weights.{sent}
+pub use Rattle.machine_model.proofs.Positions.{all_at}
 
 abbrev pub In : {A : Type 0} → A → List A → Type 0
 In {A} x xs = (w : A → ℕ) → w x ≤ total w xs
@@ -51,11 +52,6 @@ all_at_found P test (y ∷ xs) x e all = go (test y) e (λ e. all_at_found P tes
 pub all_indexed : {A : Type 0} (P Q : A → Type 0) (xs : List A) → ((k : ℕ) (x : A) → slice_get xs k ≡ Some x → P x → Q x) → AllByRecursion P xs → AllByRecursion Q xs
 all_indexed P Q [] f all = tt
 all_indexed P Q (x ∷ xs) f all = (f 0 x refl all.0, all_indexed P Q xs (λ k y e p. f (suc k) y e p) all.1)
-
-pub all_at : {A : Type 0} (P : A → Type 0) (xs : List A) (k : ℕ) (x : A) → slice_get xs k ≡ Some x → AllByRecursion P xs → P x
-all_at P [] k x e h = absurd cc
-all_at P (y ∷ xs) zero x e h = let same : y ≡ x = cc in subst P same h.0
-all_at P (y ∷ xs) (suc k) x e h = all_at P xs k x e h.1
 
 -- with what else holds of all
 pub all_in_both : {A : Type 0} (P X Q : A → Type 0) (xs : List A) → ((x : A) → In x xs → X x → P x → Q x) → AllByRecursion X xs → AllByRecursion P xs → AllByRecursion Q xs

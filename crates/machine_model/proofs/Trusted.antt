@@ -26,7 +26,7 @@ use Rattle.machine_model.specs.Image.{Made}
 use Rattle.machine_model.proofs.Counting.{one, times-append, times-cons}
 use Rattle.machine_model.proofs.Totals.{total, times-outstanding}
 use Rattle.machine_model.proofs.Parts.{part-posted}
-use Rattle.machine_model.proofs.Steps.{Accepts, IsKept, each_step, part_controller, part_left}
+use Rattle.machine_model.proofs.Steps.{Accepts, IsKept, each_step, part_controller, part_left, permitted, exact}
 use Rattle.machine_model.proofs.Owned.{HoldsPart}
 use Rattle.machine_model.proofs.Refused.{first_fails}
 use Rattle.machine_model.proofs.Sound.{host_event}
@@ -111,14 +111,6 @@ trusted_before old e reply new step t = go old.trusted refl
     go false e' = absurd (true≢false (sym t ∙ each_step Distrusts distrust_event old e reply new step e'))
 
 -- A trusted step leaves exactly one state
-
-permitted : {A : Type 0} (B : Type 0) (t c : Bool) → t ≡ true → MatchBool (t || c) A B → A
-permitted B true c e h = h
-permitted B false c e h = absurd (true≢false (sym e))
-
-exact : {A : Type 0} (B : Type 0) (t : Bool) → t ≡ true → MatchBool t A B → A
-exact B true e h = h
-exact B false e h = absurd (true≢false (sym e))
 
 -- an entry that is forged ends the trust
 forged_ends : (o : Option HostQueue) (f : HostQueue → State) (s : State) (b : Bool) → ((x : HostQueue) → (f x).trusted ≡ false) → (is_none o || b) ≡ false → (option_map_or f o s).trusted ≡ false
