@@ -1,0 +1,1 @@
+//! What steps answer. Each function does nothing.
