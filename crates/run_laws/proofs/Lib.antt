@@ -1,0 +1,3 @@
+pub mod DataAlong
+pub mod DataKept
+pub mod DataFound
