@@ -1,3 +1,4 @@
 pub mod DataAlong
 pub mod DataKept
 pub mod DataFound
+pub mod DataUnread
