@@ -2,3 +2,5 @@ pub mod DataAlong
 pub mod DataKept
 pub mod DataFound
 pub mod DataUnread
+pub mod DataOnce
+pub mod DataLaws
