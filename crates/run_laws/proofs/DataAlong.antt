@@ -10,6 +10,7 @@ use Rattle.machine_model.specs.Step.{Step, IsController, HostPart}
 use Rattle.machine_model.specs.After as a
 use Rattle.machine_model.specs.Events as events
 use Rattle.machine_model.specs.Events.{Event, Reply}
+use Rattle.machine_model.specs.declared.words.Refusal.{Refusal}
 use Rattle.machine_model.proofs.Steps.{Accepts, part_left}
 use Rattle.machine_model.proofs.Trusted.{forged_untrusted}
 use Rattle.machine_model.proofs.Grounds.{trusted_at_first}
@@ -31,16 +32,21 @@ exact : {A : Type 0} (B : Type 0) (t : Bool) → t ≡ true → MatchBool t A B 
 exact B true e h = h
 exact B false e h = absurd (true≢false (sym e))
 
-pub one_step : (Q : State → Type 0) (old : State) (e : Event) (reply : Reply) (new : State) → Step old e reply new → old.trusted ≡ true → new.trusted ≡ true → Stood old
-    → (Going old e reply → Q old → Q (a.after old e reply)) → Q old → Q new
-one_step Q old e (events.Refused why touched) new step t u stood each h = subst Q (sym step.2) h
-one_step Q old (events.Forge q slot bytes) reply new step t u stood each h =
+-- what a step leaves: the same state where it is refused, else the one that is due
+pub left_step : (Q : State → Type 0) (old : State) (e : Event) (reply : Reply) (new : State) → Step old e reply new → old.trusted ≡ true → new.trusted ≡ true → Stood old
+    → ((why : Refusal) (touched : List ℕ) → reply ≡ events.Refused why touched → Q old) → (Going old e reply → Q (a.after old e reply)) → Q new
+left_step Q old e (events.Refused why touched) new step t u stood refused each = subst Q (sym step.2) (refused why touched refl)
+left_step Q old (events.Forge q slot bytes) reply new step t u stood refused each =
     let ok = permitted _ old.trusted true t step.1 in
     absurd (true≢false (sym u ∙ (ap (λ (part : HostPart). part.trusted) (part_left old (events.Forge q slot bytes) reply new step.2) ∙ forged_untrusted old q slot bytes ok.0)))
-one_step Q old e (events.Reserved d) new step t u stood each h =
-    subst Q (sym (exact _ old.trusted t step.2)) (each (record { proper = step.0; ok = permitted _ old.trusted (not (IsController e)) t step.1; trusted = t; stood = stood }) h)
-one_step Q old e reply new step t u stood each h =
-    subst Q (sym (exact _ old.trusted t step.2)) (each (record { proper = step.0; ok = permitted _ old.trusted (not (IsController e)) t step.1; trusted = t; stood = stood }) h)
+left_step Q old e (events.Reserved d) new step t u stood refused each =
+    subst Q (sym (exact _ old.trusted t step.2)) (each (record { proper = step.0; ok = permitted _ old.trusted (not (IsController e)) t step.1; trusted = t; stood = stood }))
+left_step Q old e reply new step t u stood refused each =
+    subst Q (sym (exact _ old.trusted t step.2)) (each (record { proper = step.0; ok = permitted _ old.trusted (not (IsController e)) t step.1; trusted = t; stood = stood }))
+
+pub one_step : (Q : State → Type 0) (old : State) (e : Event) (reply : Reply) (new : State) → Step old e reply new → old.trusted ≡ true → new.trusted ≡ true → Stood old
+    → (Going old e reply → Q old → Q (a.after old e reply)) → Q old → Q new
+one_step Q old e reply new step t u stood each h = left_step Q old e reply new step t u stood (λ why touched is. h) (λ g. each g h)
 
 pub stood_step : (old : State) (e : Event) (reply : Reply) (new : State) → Step old e reply new → old.trusted ≡ true → new.trusted ≡ true → Stood old → Stood new
 stood_step old e reply new step t u stood = one_step Stood old e reply new step t u stood (λ x h. stood_on old e reply x.proper x.ok x.trusted h) stood

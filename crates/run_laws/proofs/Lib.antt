@@ -4,3 +4,4 @@ pub mod DataFound
 pub mod DataUnread
 pub mod DataOnce
 pub mod DataLaws
+pub mod DataChains

@@ -1,18 +1,23 @@
 -- What a command gives back, said of the run from its own submission to its collection.
-use Rattle.std.specs.Prelude.{◌≡◌, ℕ, Bool, not, IsTrue, Some, List, [], ◌∷◌, ◌++◌, All}
+use Rattle.std.specs.Prelude.{◌≡◌, ℕ, Bool, not, IsTrue, is_some, Some, List, [], ◌∷◌, ◌++◌, All}
 use Rattle.std.specs.List.{list_any}
 use Rattle.sgl_descriptor.specs.declared.Direction.TheVariants.{Destination}
 use Rattle.sgl_descriptor.specs.Targets.{targets}
 use Rattle.entry_codec.specs.declared.status.TheConstants.Status.{ABORTED_SQ_DELETION}
 use Rattle.io_commands.specs.Requests.{parts_of}
 use Rattle.io_commands.specs.DataBytes.{gathered}
-use Rattle.io_commands.specs.Drafts.{DraftContents}
+use Rattle.io_commands.specs.Drafts.{DraftContents, draft_first}
 use Rattle.io_commands.specs.Values.{FinishedContents, numbers_of}
 use Rattle.io_commands.specs.Jobs.{is_success}
 use Rattle.io_commands.specs.Asked.{Request}
-use Rattle.machine_model.specs.State.{State}
-use Rattle.machine_model.specs.Image.{Made, is_draft, submitted_by, image_after, read_of}
-use Rattle.machine_model.specs.Laws.{TrustedRun, fetches, collected_of, is_read, blocks_of_request, partly}
+use Rattle.page_memory.specs.Pages.{byte_at}
+use Rattle.sgl_chain.specs.Spells.{Spells}
+use Rattle.sgl_descriptor.specs.Spelling.{spelling}
+use Rattle.machine_model.specs.declared.words.Work.TheVariants.{Io}
+use Rattle.machine_model.specs.Refusals.{is_submitted}
+use Rattle.machine_model.specs.State.{State, Record, record_at}
+use Rattle.machine_model.specs.Image.{Made, is_draft, draft_of, submitted_by, image_after, read_of}
+use Rattle.machine_model.specs.Laws.{TrustedRun, fetches, collected_of, is_read, blocks_of_request, partly, drafts_of, entries_of}
 use Rattle.machine_model.specs.Step.{IsReserved, zeroed}
 
 -- whether a step is an accepted submission of this queue and identifier
@@ -118,3 +123,21 @@ abbrev pub successful_reads_give_their_blocks : Type 0
 successful_reads_give_their_blocks =
     (f : FetchedCommand) → IsTrue (is_read f.command.finished) → IsTrue (is_success f.command.finished.status)
     → bytes_collected f.command ≡ read_of f.command.finished.request (numbers_of f.command.finished.data_pages) (image_at_fetch f)
+
+-- A command's list
+
+-- a submitted command has a draft's request and pages: its chain spells the draft's list, and each entry of it at the controller names that list
+pub record HasListOf (d : DraftContents) (s : State) (r : Record) (request : Request) : Type 0 where
+  pub is_built : IsTrue (is_some d.entry)
+  pub request_is : d.request ≡ request
+  pub data_pages : numbers_of d.data_pages ≡ r.data_pages
+  pub chain_pages : numbers_of d.chain_pages ≡ r.chain_pages
+  pub spells : Spells (byte_at s.memory) (draft_first d) (parts_of request.pieces r.data_pages)
+  pub named : All (λ e. e.sgl1 ≡ spelling (draft_first d)) (entries_of s r.q r.cid)
+
+-- that draft is the latest that was submitted of its queue and identifier
+abbrev pub chains_are_the_drafts : Type 0
+chains_are_the_drafts =
+    (image : List ℕ) (made : List Made) (end : State) (q cid : ℕ) (r : Record) (request : Request) → TrustedRun image made end
+    → record_at end.host q cid ≡ Some r → IsTrue (is_submitted r.phase) → r.work ≡ Io request
+    → (d : DraftContents) × (draft_of q cid (drafts_of made) ≡ Some d) × HasListOf d end r request

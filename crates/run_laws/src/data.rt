@@ -1,6 +1,6 @@
 //! What a command's pages and lists hold, between its submission and its collection. Each function does nothing.
 
-ghost use Rattle.run_laws.specs.Submitted.{requests_stay, data_pages_stay, chain_pages_stay, unfetched_commands_keep_their_data, unfetched_reads_keep_the_drafts_bytes, unfetched_commands_were_deleted, successful_commands_were_fetched, drafts_of_reserve_have_zeros, unfetched_reads_of_zeros_gather_zeros, commands_are_fetched_once, fetched_reads_give_a_prefix, successful_reads_give_their_blocks};
+ghost use Rattle.run_laws.specs.Submitted.{requests_stay, data_pages_stay, chain_pages_stay, unfetched_commands_keep_their_data, unfetched_reads_keep_the_drafts_bytes, unfetched_commands_were_deleted, successful_commands_were_fetched, drafts_of_reserve_have_zeros, unfetched_reads_of_zeros_gather_zeros, commands_are_fetched_once, fetched_reads_give_a_prefix, successful_reads_give_their_blocks, chains_are_the_drafts};
 
 /// Where nothing was forged, a collected command has the request and the pages of the draft that was submitted.
 pub fn law_of_kept_commands()
@@ -30,4 +30,12 @@ pub fn law_of_fetched_commands()
     ensures once { commands_are_fetched_once }
     ensures prefix { fetched_reads_give_a_prefix }
     ensures blocks { successful_reads_give_their_blocks }
+{}
+
+/// Where nothing was forged, a submitted command has the request and the pages of the latest draft of its queue and identifier.
+///
+/// That draft was built; the command's chain spells the draft's list, and each entry of the command that stands at the
+/// controller names that list.
+pub fn law_of_drafted_chains()
+    ensures { chains_are_the_drafts }
 {}
