@@ -5,3 +5,6 @@ pub mod DataUnread
 pub mod DataOnce
 pub mod DataLaws
 pub mod DataChains
+pub mod WalkedCompares
+pub mod WalkedCounts
+pub mod WalkedEnds

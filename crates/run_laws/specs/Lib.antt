@@ -1,1 +1,2 @@
 pub mod Submitted
+pub mod Walked
