@@ -1,5 +1,5 @@
 -- A walk that ended goes on no more: its job has a verdict until it is completed.
-use Rattle.std.proofs.Common.{◌≡◌, ℕ, ◌+◌, ◌/◌, ◌%◌, ◌==◌, Bool, true, false, not, ◌&&◌, ◌||◌, Option, Some, None, List, [], ◌∷◌, ◌++◌, map, filter, find, take, drop, is_some, is_none, if◌then◌else◌, refl, ap, sym, ◌∙◌, subst, eqb-true, eq-eqb}
+use Rattle.std.proofs.Common.{◌≡◌, ℕ, ◌+◌, ◌/◌, ◌%◌, ◌==◌, Bool, true, false, not, ◌&&◌, ◌||◌, Option, Some, None, List, [], ◌∷◌, ◌++◌, map, filter, find, take, drop, is_some, is_none, MatchBool, if◌then◌else◌, refl, ap, sym, ◌∙◌, subst, eqb-true, eq-eqb}
 use Rattle.std.specs.Option.{option_map_or}
 use Rattle.std.specs.List.{list_any}
 use Rattle.std.proofs.lemmas.Bool.{true≢false, and_parts, or_parts}
@@ -236,3 +236,142 @@ decided_step q cid s (events.Walk k c) reply g far h = absurd g.ok.1
 decided_step q cid s (events.Complete k c) (events.Completed touched) g far h = of_list q cid (a.after_complete k c s) (complete_decided s k c q cid far (decided_in q cid s h))
 decided_step q cid s (events.Complete k c) reply g far h = absurd g.ok.1
 decided_step q cid s e reply g far h = of_list q cid (a.after s e reply) (subst (DecidedIn q cid) (sym (host_jobs s e reply g.ok refl)) (decided_in q cid s h))
+
+-- What a walk step leaves its job
+
+walked_one : (q cid : ℕ) (f : Job → Job) → ((j : Job) → (f j).q ≡ j.q) → ((j : Job) → (f j).entry ≡ j.entry) → (js : List Job) (j : Job) → find (is_job q cid) js ≡ Some j
+    → find (is_job q cid) (map (λ (x : Job). if (x.q == q) && (x.entry.cid == cid) then f x else x) js) ≡ Some (f j)
+walked_one q cid f same_q same_entry js j e =
+    found_mapped q cid (λ (x : Job). if (x.q == q) && (x.entry.cid == cid) then f x else x) (λ x. either x ((x.q == q) && (x.entry.cid == cid))) js j e
+    ∙ ap (λ (b : Bool). Some (if b then f j else j)) (find_sound (is_job q cid) js j e)
+  where
+    either : (x : Job) (b : Bool) → is_job q cid (if b then f x else x) ≡ is_job q cid x
+    either x true = rw (same_q x, same_entry x) refl
+    either x false = refl
+
+-- its verdict is what the walk step answers
+pub record WalkedTo (q cid : ℕ) (s : State) (verdict : Option Status) : Type 0 where
+  pub job : Job
+  pub found : job_at s q cid ≡ Some job
+  pub is : job.verdict ≡ verdict
+
+walk_leaves : (s : State) (q cid : ℕ) (j : Job) (act : Act) → job_at s q cid ≡ Some j → a.next_unit s j ≡ Some act → WalkedTo q cid (a.after_walk q cid s) (verdict_of (a.next_answer s j))
+walk_leaves s q cid j act at unit =
+    subst (λ (o : Option Job). WalkedTo q cid (option_map_or (λ j. option_map_or (λ act. a.on_job q cid (λ k. record k { units_done = k.units_done + 1; verdict = verdict_of (a.next_answer s j) }) (a.moved (direction_of_entry j.entry) act q cid s)) (a.next_unit s j) s) o s) (verdict_of (a.next_answer s j)))
+    (sym at)
+    (subst (λ (o : Option Act). WalkedTo q cid (option_map_or (λ act. a.on_job q cid (λ k. record k { units_done = k.units_done + 1; verdict = verdict_of (a.next_answer s j) }) (a.moved (direction_of_entry j.entry) act q cid s)) o s) (verdict_of (a.next_answer s j)))
+    (sym unit) (moved (direction_of_entry j.entry) act))
+  where
+    last : (js : List Job) (x : Job) → find (is_job q cid) js ≡ Some x
+        → (y : Job) × (find (is_job q cid) (map (λ (k : Job). if (k.q == q) && (k.entry.cid == cid) then record k { units_done = k.units_done + 1; verdict = verdict_of (a.next_answer s j) } else k) js) ≡ Some y) × (y.verdict ≡ verdict_of (a.next_answer s j))
+    last js x e = (record x { units_done = x.units_done + 1; verdict = verdict_of (a.next_answer s j) }, walked_one q cid (λ k. record k { units_done = k.units_done + 1; verdict = verdict_of (a.next_answer s j) }) (λ k. refl) (λ k. refl) js x e, refl)
+
+    as_record : (t : State) → (y : Job) × (job_at t q cid ≡ Some y) × (y.verdict ≡ verdict_of (a.next_answer s j)) → WalkedTo q cid t (verdict_of (a.next_answer s j))
+    as_record t h = record { job = h.0; found = h.1; is = h.2 }
+
+    moved : (dir : Direction) (x : Act) → WalkedTo q cid (a.on_job q cid (λ k. record k { units_done = k.units_done + 1; verdict = verdict_of (a.next_answer s j) }) (a.moved dir x q cid s)) (verdict_of (a.next_answer s j))
+    moved dir Stays = as_record (a.on_job q cid (λ k. record k { units_done = k.units_done + 1; verdict = verdict_of (a.next_answer s j) }) s) (last s.device.jobs j at)
+    moved dir (Reads place) = as_record (a.on_job q cid (λ k. record k { units_done = k.units_done + 1; verdict = verdict_of (a.next_answer s j) }) s) (last s.device.jobs j at)
+    moved Source (Moves place n offset) =
+        as_record (a.on_job q cid (λ k. record k { units_done = k.units_done + 1; verdict = verdict_of (a.next_answer s j) }) (a.moved Source (Moves place n offset) q cid s))
+        (last (map (λ (k : Job). if (k.q == q) && (k.entry.cid == cid) then record k { bytes = with_bytes k.bytes offset (a.page_bytes s.memory place n) } else k) s.device.jobs)
+        (record j { bytes = with_bytes j.bytes offset (a.page_bytes s.memory place n) })
+        (walked_one q cid (λ k. record k { bytes = with_bytes k.bytes offset (a.page_bytes s.memory place n) }) (λ k. refl) (λ k. refl) s.device.jobs j at))
+    moved Destination (Moves place n offset) = over (job_at s q cid)
+      where
+        over : (o : Option Job) → WalkedTo q cid (a.on_job q cid (λ k. record k { units_done = k.units_done + 1; verdict = verdict_of (a.next_answer s j) })
+            (option_map_or (λ j. a.on_memory (λ mem. with_page_bytes mem (place / 4096) (place % 4096) (take n (drop offset j.bytes))) s) o s)) (verdict_of (a.next_answer s j))
+        over None = as_record (a.on_job q cid (λ k. record k { units_done = k.units_done + 1; verdict = verdict_of (a.next_answer s j) }) s) (last s.device.jobs j at)
+        over (Some x) = as_record (a.on_job q cid (λ k. record k { units_done = k.units_done + 1; verdict = verdict_of (a.next_answer s j) }) (a.on_memory (λ mem. with_page_bytes mem (place / 4096) (place % 4096) (take n (drop offset x.bytes))) s)) (last s.device.jobs j at)
+
+walk_left : (s : State) (q cid : ℕ) (outcome : WalkState) (touched : List ℕ) → Going s (events.Walk q cid) (events.Walked outcome touched) → WalkedTo q cid (a.after_walk q cid s) (verdict_of outcome)
+walk_left s q cid outcome touched g = go (a.next_unit s g.ok.1.0) refl g.ok.1.2
+  where
+    go : (o : Option Act) → a.next_unit s g.ok.1.0 ≡ o → unit_answered o (a.next_answer s g.ok.1.0) outcome touched → WalkedTo q cid (a.after_walk q cid s) (verdict_of outcome)
+    go None u h = absurd h
+    go (Some act) u h = subst (λ (x : WalkState). WalkedTo q cid (a.after_walk q cid s) (verdict_of x)) h.0 (walk_leaves s q cid g.ok.1.0 act g.ok.1.1 u)
+
+undecided_is : (outcome : WalkState) → is_none (verdict_of outcome) ≡ is_more outcome
+undecided_is More = refl
+undecided_is End = refl
+undecided_is (Fault status) = refl
+
+exact : {A : Type 0} (B : Type 0) (t : Bool) → t ≡ true → MatchBool t A B → A
+exact B true e h = h
+exact B false e h = absurd (true≢false (sym e))
+
+pub walks_tell : walks_go_on_without_a_verdict
+walks_tell image made s new q cid outcome touched run step =
+    let ok = permitted _ s.trusted false run.trusted step.1 in
+    let x = walk_left s q cid outcome touched (record { proper = tt; ok = ok; trusted = run.trusted; stood = stood_after image made s run }) in
+    subst (λ (t : State). HasJobSo t q cid outcome) (sym (exact _ s.trusted run.trusted step.2))
+    (record { job = x.job; found = x.found; undecided = ap is_none x.is ∙ undecided_is outcome })
+
+-- Along the steps
+
+walk_event : (q cid : ℕ) (e : Event) (reply : Reply) → walks_by q cid e reply ≡ true → (outcome : WalkState) × (touched : List ℕ) × (e ≡ events.Walk q cid) × (reply ≡ events.Walked outcome touched)
+walk_event q cid (events.Walk k c) (events.Walked outcome touched) h =
+    let ids = and_parts (k == q) (c == cid) h in
+    (outcome, touched, ap (λ (n : ℕ). events.Walk n c) (eqb-true k q ids.0) ∙ ap (events.Walk q) (eqb-true c cid ids.1), refl)
+walk_event q cid e reply h = absurd (true≢false (sym h))
+
+end_event : (q cid : ℕ) (e : Event) (reply : Reply) → ends_walk_by q cid e reply ≡ true
+    → (outcome : WalkState) × (touched : List ℕ) × (e ≡ events.Walk q cid) × (reply ≡ events.Walked outcome touched) × (is_more outcome ≡ false)
+end_event q cid (events.Walk k c) (events.Walked outcome touched) h =
+    let parts = and_parts ((k == q) && (c == cid)) (not (is_more outcome)) h in
+    let ids = and_parts (k == q) (c == cid) parts.0 in
+    (outcome, touched, ap (λ (n : ℕ). events.Walk n c) (eqb-true k q ids.0) ∙ ap (events.Walk q) (eqb-true c cid ids.1), refl, turned (is_more outcome) parts.1)
+  where
+    turned : (b : Bool) → not b ≡ true → b ≡ false
+    turned true h = absurd (true≢false (sym h))
+    turned false h = refl
+end_event q cid e reply h = absurd (true≢false (sym h))
+
+has_verdict : (o : Option Status) → is_none o ≡ false → is_some o ≡ true
+has_verdict None h = absurd (true≢false h)
+has_verdict (Some v) h = refl
+
+ended : (s new : State) (e : Event) (reply : Reply) (q cid : ℕ) → Step s e reply new → s.trusted ≡ true → Stood s → ends_walk_by q cid e reply ≡ true → Decided q cid new
+ended s new e reply q cid step t stood is =
+    let x = end_event q cid e reply is in
+    let made : Step s (events.Walk q cid) (events.Walked x.0 x.1) new = subst (λ (y : Event). Step s y (events.Walked x.0 x.1) new) x.2 (subst (λ (y : Reply). Step s e y new) x.3 step) in
+    let ok = permitted _ s.trusted false t made.1 in
+    let w = walk_left s q cid x.0 x.1 (record { proper = tt; ok = ok; trusted = t; stood = stood }) in
+    subst (Decided q cid) (sym (exact _ s.trusted t made.2)) (record { job = w.job; found = w.found; over = ap is_some w.is ∙ has_verdict (verdict_of x.0) (undecided_is x.0 ∙ x.4) })
+
+not_again : (s new : State) (e : Event) (reply : Reply) (q cid : ℕ) → Step s e reply new → s.trusted ≡ true → Stood s → walks_by q cid e reply ≡ true → Decided q cid s → ⊥
+not_again s new e reply q cid step t stood is h =
+    let x = walk_event q cid e reply is in
+    let made : Step s (events.Walk q cid) (events.Walked x.0 x.1) new = subst (λ (y : Event). Step s y (events.Walked x.0 x.1) new) x.2 (subst (λ (y : Reply). Step s e y new) x.3 step) in
+    no_walk s q cid x.0 x.1 (record { proper = tt; ok = permitted _ s.trusted false t made.1; trusted = t; stood = stood }) h
+
+pub last_ends : only_the_last_walk_ends
+last_ends image before walked between again later end q cid run ends walks = go (list_any (completes q cid) between) refl
+  where
+    s0 : State
+    s0 = opening run.pages run.queues run.entries run.segment image
+
+    at_again : (mid : State) × Steps (opening run.pages run.queues run.entries run.segment image) (before ++ walked ∷ between) mid × Steps mid (again ∷ later) end
+    at_again = steps_split (before ++ walked ∷ between) (again ∷ later) (opening run.pages run.queues run.entries run.segment image) end run.steps
+
+    at_walked : (mid : State) × Steps (opening run.pages run.queues run.entries run.segment image) before mid × Steps mid (walked ∷ between) at_again.0
+    at_walked = steps_split before (walked ∷ between) (opening run.pages run.queues run.entries run.segment image) at_again.0 at_again.1
+
+    trusted_again : at_again.0.trusted ≡ true
+    trusted_again = trusted_at_first (again ∷ later) at_again.0 end at_again.2 run.trusted
+
+    trusted_walked : at_walked.0.trusted ≡ true
+    trusted_walked = trusted_at_first (walked ∷ between) at_walked.0 at_again.0 at_walked.2 trusted_again
+
+    stood_walked : Stood at_walked.0
+    stood_walked = stood_along before s0 at_walked.0 at_walked.1 trusted_walked (stood_at_opening run.pages run.queues run.entries run.segment image run.opens)
+
+    stood_behind : Stood at_walked.2.1
+    stood_behind = stood_step at_walked.0 walked.event walked.reply at_walked.2.1 at_walked.2.2 trusted_walked (trusted_at_first between at_walked.2.1 at_again.0 at_walked.2.3 trusted_again) stood_walked
+
+    go : (b : Bool) → list_any (completes q cid) between ≡ b → b ≡ true
+    go true e = refl
+    go false e =
+        let kept = along_steps (Decided q cid) (completes q cid) (λ s e reply g far h. decided_step q cid s e reply g far h) between at_walked.2.1 at_again.0 at_walked.2.3 trusted_again stood_behind e
+        (ended at_walked.0 at_walked.2.1 walked.event walked.reply q cid at_walked.2.2 trusted_walked stood_walked ends) in
+        absurd (not_again at_again.0 at_again.2.1 again.event again.reply q cid at_again.2.2 trusted_again kept.0 walks kept.1)
