@@ -1,2 +1,3 @@
 pub mod Submitted
 pub mod Walked
+pub mod WorkedHeads
