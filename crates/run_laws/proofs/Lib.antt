@@ -8,3 +8,4 @@ pub mod DataChains
 pub mod WalkedCompares
 pub mod WalkedCounts
 pub mod WalkedEnds
+pub mod AcceptedFree

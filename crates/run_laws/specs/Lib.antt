@@ -1,3 +1,4 @@
 pub mod Submitted
 pub mod Walked
 pub mod WorkedHeads
+pub mod Accepted
