@@ -9,3 +9,4 @@ pub mod WalkedCompares
 pub mod WalkedCounts
 pub mod WalkedEnds
 pub mod AcceptedFree
+pub mod AcceptedHeld
