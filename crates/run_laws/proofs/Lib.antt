@@ -10,3 +10,4 @@ pub mod WalkedCounts
 pub mod WalkedEnds
 pub mod AcceptedFree
 pub mod AcceptedHeld
+pub mod AcceptedEvents
