@@ -1,5 +1,5 @@
 -- What collected commands give back.
-use Rattle.std.proofs.Common.{◌≡◌, ℕ, ◌+◌, ◌-◌, ◌==◌, Bool, true, false, not, ◌&&◌, ◌||◌, Option, Some, None, List, [], ◌∷◌, ◌++◌, take, drop, replicate, All, if◌then◌else◌, refl, ap, sym, ◌∙◌, subst, eq-eqb, eqb-true, append_assoc, append-nil}
+use Rattle.std.proofs.Common.{◌≡◌, ℕ, ◌+◌, ◌-◌, ◌==◌, Bool, true, false, not, ◌&&◌, ◌||◌, Option, Some, None, List, [], ◌∷◌, ◌++◌, take, drop, replicate, All, MatchBool, if◌then◌else◌, refl, ap, sym, ◌∙◌, subst, eq-eqb, eqb-true, append_assoc, append-nil}
 use Rattle.std.specs.Option.{option_map_or}
 use Rattle.std.specs.List.{AllByRecursion, list_any}
 use Rattle.std.proofs.lemmas.Bool.{true≢false, and_parts, or_parts}
@@ -23,7 +23,7 @@ use Rattle.machine_model.specs.Events as events
 use Rattle.machine_model.proofs.Members.{all_at_found}
 use Rattle.machine_model.proofs.Gathered.{Stands}
 use Rattle.machine_model.proofs.ReadLaws.{reads_give, stopped_reads}
-use Rattle.run_laws.specs.Submitted.{CollectedCommand, FetchedCommand, submits, was_fetched, unfetched_commands_keep_their_data, unfetched_reads_keep_the_drafts_bytes, unfetched_commands_were_deleted, successful_commands_were_fetched, AreZeros, drafts_of_reserve_have_zeros, unfetched_reads_of_zeros_gather_zeros, commands_are_fetched_once, fetched_reads_give_a_prefix, successful_reads_give_their_blocks}
+use Rattle.run_laws.specs.Submitted.{CollectedCommand, FetchedCommand, submits, was_fetched, unfetched_commands_keep_their_data, unfetched_commands_keep_the_drafts_bytes, unfetched_commands_were_deleted, successful_commands_were_fetched, AreZeros, drafts_of_reserve_are_zero, unfetched_commands_of_zeros_gather_zeros, commands_are_fetched_once, fetched_reads_give_a_prefix, successful_reads_give_their_blocks}
 use Rattle.run_laws.proofs.DataAlong.{along_steps}
 use Rattle.run_laws.proofs.DataKept.{IsOfDraft, found_draft, held_goes}
 use Rattle.run_laws.proofs.DataUnread.{Unread, Untouched, Waits, unread_step, unread_submit}
@@ -64,7 +64,7 @@ data_kept c none =
     let w = waited c (not_any (was_fetched c) none) in
     (course c).collects.data_pages ∙ ap (pages_with_bytes (course c).third.memory) (sym w.0.data_pages) ∙ handed_out (course c).third.memory c.draft.data_pages w.1.stand
 
-pub bytes_kept : unfetched_reads_keep_the_drafts_bytes
+pub bytes_kept : unfetched_commands_keep_the_drafts_bytes
 bytes_kept c none = ap (λ (r : Request). gathered r.pieces c.finished.data_pages) (request_stays c) ∙ ap (gathered c.draft.request.pieces) (data_kept c none)
 
 pub was_deleted : unfetched_commands_were_deleted
@@ -102,10 +102,14 @@ left_zeroed : (xs ys : PagesOut) → zeroed (xs ++ ys) → zeroed xs
 left_zeroed [] ys h = All-nil (λ (p : ℕ × List ℕ). p.1 ≡ zero_page)
 left_zeroed (x ∷ xs) ys h = All-cons (λ (p : ℕ × List ℕ). p.1 ≡ zero_page) x xs (All-head (λ (p : ℕ × List ℕ). p.1 ≡ zero_page) x (xs ++ ys) h) (left_zeroed xs ys (All-tail (λ (p : ℕ × List ℕ). p.1 ≡ zero_page) x (xs ++ ys) h))
 
-pub reserved_zeros : drafts_of_reserve_have_zeros
-reserved_zeros s q r d h = left_zeroed d.data_pages d.chain_pages h.zero
+pub reserved_zeros : drafts_of_reserve_are_zero
+reserved_zeros s new q r d step = left_zeroed d.data_pages d.chain_pages (judged _ s.trusted step.1).1.zero
+  where
+    judged : {A : Type 0} (B : Type 0) (t : Bool) → MatchBool (t || true) A B → A
+    judged B true h = h
+    judged B false h = h
 
-pub zeros_kept : unfetched_reads_of_zeros_gather_zeros
+pub zeros_kept : unfetched_commands_of_zeros_gather_zeros
 zeros_kept c zero none = subst AreZeros (sym (bytes_kept c none)) (zeros_gathered c.draft.request.pieces c.draft.data_pages zero)
 
 -- A command that was fetched

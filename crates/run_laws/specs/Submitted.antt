@@ -18,7 +18,8 @@ use Rattle.machine_model.specs.Refusals.{is_submitted}
 use Rattle.machine_model.specs.State.{State, Record, record_at}
 use Rattle.machine_model.specs.Image.{Made, is_draft, draft_of, submitted_by, image_after, read_of}
 use Rattle.machine_model.specs.Laws.{TrustedRun, fetches, collected_of, is_read, blocks_of_request, partly, drafts_of, entries_of}
-use Rattle.machine_model.specs.Step.{IsReserved, zeroed}
+use Rattle.machine_model.specs.Step.{Step, zeroed}
+use Rattle.machine_model.specs.Events as events
 
 -- whether a step is an accepted submission of this queue and identifier
 abbrev pub submits : ℕ → ℕ → Made → Bool
@@ -70,8 +71,8 @@ chain_pages_stay = (c : CollectedCommand) → numbers_of c.finished.chain_pages 
 abbrev pub unfetched_commands_keep_their_data : Type 0
 unfetched_commands_keep_their_data = (c : CollectedCommand) → IsTrue (not (was_fetched c)) → c.finished.data_pages ≡ c.draft.data_pages
 
-abbrev pub unfetched_reads_keep_the_drafts_bytes : Type 0
-unfetched_reads_keep_the_drafts_bytes = (c : CollectedCommand) → IsTrue (not (was_fetched c)) → bytes_collected c ≡ bytes_drafted c
+abbrev pub unfetched_commands_keep_the_drafts_bytes : Type 0
+unfetched_commands_keep_the_drafts_bytes = (c : CollectedCommand) → IsTrue (not (was_fetched c)) → bytes_collected c ≡ bytes_drafted c
 
 -- its queue was deleted: no other status is given without a fetch
 abbrev pub unfetched_commands_were_deleted : Type 0
@@ -80,15 +81,16 @@ unfetched_commands_were_deleted = (c : CollectedCommand) → IsTrue (not (was_fe
 abbrev pub successful_commands_were_fetched : Type 0
 successful_commands_were_fetched = (c : CollectedCommand) → IsTrue (is_success c.finished.status) → IsTrue (was_fetched c)
 
--- a draft with pages of zeros gathers zeros; so are the pages of a draft that was just reserved
+-- the pages of a draft that was just reserved are zeros, and where a draft was submitted so, the command gathers zeros
 abbrev pub AreZeros : List ℕ → Type 0
 AreZeros bytes = All (λ b. b ≡ 0) bytes
 
-abbrev pub drafts_of_reserve_have_zeros : Type 0
-drafts_of_reserve_have_zeros = (s : State) (q : ℕ) (r : Request) (d : DraftContents) → IsReserved s q r d → zeroed d.data_pages
+abbrev pub drafts_of_reserve_are_zero : Type 0
+drafts_of_reserve_are_zero =
+    (s new : State) (q : ℕ) (r : Request) (d : DraftContents) → Step s (events.Reserve q r) (events.Reserved d) new → zeroed d.data_pages
 
-abbrev pub unfetched_reads_of_zeros_gather_zeros : Type 0
-unfetched_reads_of_zeros_gather_zeros = (c : CollectedCommand) → zeroed c.draft.data_pages → IsTrue (not (was_fetched c)) → AreZeros (bytes_collected c)
+abbrev pub unfetched_commands_of_zeros_gather_zeros : Type 0
+unfetched_commands_of_zeros_gather_zeros = (c : CollectedCommand) → zeroed c.draft.data_pages → IsTrue (not (was_fetched c)) → AreZeros (bytes_collected c)
 
 -- One that was fetched
 

@@ -1,6 +1,6 @@
 //! What a command's pages and lists hold, between its submission and its collection. Each function does nothing.
 
-ghost use Rattle.run_laws.specs.Submitted.{requests_stay, data_pages_stay, chain_pages_stay, unfetched_commands_keep_their_data, unfetched_reads_keep_the_drafts_bytes, unfetched_commands_were_deleted, successful_commands_were_fetched, drafts_of_reserve_have_zeros, unfetched_reads_of_zeros_gather_zeros, commands_are_fetched_once, fetched_reads_give_a_prefix, successful_reads_give_their_blocks, chains_are_the_drafts};
+ghost use Rattle.run_laws.specs.Submitted.{requests_stay, data_pages_stay, chain_pages_stay, unfetched_commands_keep_their_data, unfetched_commands_keep_the_drafts_bytes, unfetched_commands_were_deleted, successful_commands_were_fetched, drafts_of_reserve_are_zero, unfetched_commands_of_zeros_gather_zeros, commands_are_fetched_once, fetched_reads_give_a_prefix, successful_reads_give_their_blocks, chains_are_the_drafts};
 
 /// Where nothing was forged, a collected command has the request and the pages of the draft that was submitted.
 pub fn law_of_kept_commands()
@@ -15,11 +15,11 @@ pub fn law_of_kept_commands()
 /// The pages of a draft that was just reserved are zeros, and where they were submitted so, an unfetched command gathers zeros.
 pub fn law_of_unfetched_commands()
     ensures pages { unfetched_commands_keep_their_data }
-    ensures bytes { unfetched_reads_keep_the_drafts_bytes }
+    ensures bytes { unfetched_commands_keep_the_drafts_bytes }
     ensures status { unfetched_commands_were_deleted }
     ensures successes { successful_commands_were_fetched }
-    ensures reserved { drafts_of_reserve_have_zeros }
-    ensures zeros { unfetched_reads_of_zeros_gather_zeros }
+    ensures reserved { drafts_of_reserve_are_zero }
+    ensures zeros { unfetched_commands_of_zeros_gather_zeros }
 {}
 
 /// Where nothing was forged, a command is fetched once at most. A Read that was fetched gathers so many of its blocks' first
