@@ -1,5 +1,5 @@
 -- An event that no cause refuses is accepted.
-use Rattle.std.proofs.Common.{◌≡◌, ℕ, ◌+◌, ◌-◌, ◌<◌, ◌≤◌, ◌==◌, nat_lt, nat_le, Bool, true, false, not, ◌&&◌, ◌||◌, Option, Some, None, All, List, [], ◌∷◌, ◌++◌, length, take, drop, slice_get, is_some, is_none, get_or, MatchBool, if◌then◌else◌, refl, ap, sym, ◌∙◌, arith, subst, eqb-true}
+use Rattle.std.proofs.Common.{◌≡◌, ℕ, ◌+◌, ◌-◌, ◌<◌, ◌≤◌, ◌==◌, nat_lt, nat_le, Bool, true, false, not, ◌&&◌, ◌||◌, Option, Some, None, List, [], ◌∷◌, ◌++◌, length, take, drop, slice_get, is_some, is_none, get_or, MatchBool, if◌then◌else◌, refl, ap, sym, ◌∙◌, arith, subst, eqb-true}
 use Rattle.std.specs.Option.{option_map, option_map_or, option_and_then}
 use Rattle.std.proofs.lemmas.Bool.{true≢false, or_parts, and_parts, not-false, not-true}
 use Rattle.std.proofs.lemmas.Bool.Decides.{nat_tests}
@@ -12,15 +12,11 @@ use Rattle.entry_codec.specs.declared.status.Status.{Status}
 use Rattle.entry_codec.specs.declared.submission.SubEntry.{SubEntry}
 use Rattle.io_commands.specs.Asked.{Request}
 use Rattle.io_commands.specs.Requests.{fault_of, data_count}
-use Rattle.io_commands.specs.declared.request.RequestFault.{RequestFault}
 use Rattle.io_commands.specs.Drafts.{DraftContents}
 use Rattle.io_commands.specs.Values.{FinishedContents, numbers_of}
 use Rattle.machine_model.specs.Memory.{is_in, zeroed_pages}
-use Rattle.machine_model.specs.Work.{Work}
-use Rattle.machine_model.specs.declared.words.Work.TheVariants.{Io, Management}
 use Rattle.machine_model.specs.declared.words.Phase.{Phase}
 use Rattle.machine_model.specs.declared.words.Phase.TheVariants.{Drafted, Submitted, Held, Collected}
-use Rattle.machine_model.specs.declared.words.Refusal.{Refusal}
 use Rattle.machine_model.specs.declared.words.Refusal.TheVariants as refusals
 use Rattle.machine_model.specs.State.{State, Record, Job, is_at, record_at, outstanding_on}
 use Rattle.machine_model.specs.Refusals.{refusal_of, host_queue, next_rung, job_at, job_is, post_page, fetch_page, conflicts, answers_full, record_is, is_submitted, is_held, is_deleting, in_state, no_io_queue, no_identifier, queue_full, pages_wanted, is_retired, is_gone, cq_deletion_outstanding}
@@ -28,7 +24,7 @@ use Rattle.machine_model.specs.Proper.{IsProper}
 use Rattle.machine_model.specs.Claims.{IsSound}
 use Rattle.machine_model.specs.InOrder.{IsInOrder}
 use Rattle.machine_model.specs.After.{after, course_of, next_answer, next_unit}
-use Rattle.machine_model.specs.Step.{Step, Answers, AnswersAnything, IsController, IsReserved, IsNewIdentifier, AreFree, LeavesByController, LeavesByHost, times, forges, reaped, touched_by_fetch, unit_answered, finished_from, asked_by, pages_with_bytes, host_part}
+use Rattle.machine_model.specs.Step.{Answers, AnswersAnything, IsController, IsReserved, IsNewIdentifier, LeavesByController, LeavesByHost, times, forges, reaped, touched_by_fetch, unit_answered, finished_from, asked_by, pages_with_bytes}
 use Rattle.machine_model.specs.Events as events
 use Rattle.machine_model.specs.Events.{Event, Reply}
 use Rattle.machine_model.proofs.Steps.{part_controller}
@@ -38,7 +34,7 @@ use Rattle.machine_model.proofs.Refused.{first_fails, rest_fails}
 use Rattle.machine_model.proofs.Placed.{is_job, find_sound}
 use Rattle.machine_model.proofs.Members.{all_at_found}
 use Rattle.machine_model.proofs.JobLaws.{runs_have_jobs}
-use Rattle.run_laws.specs.Accepted.{HasEnded, EndedIfHeld, IsReady, IsAccepted, is_refusal, every_event_is_accepted_or_has_a_cause, queue_of, forged_worlds_accept_the_controller}
+use Rattle.run_laws.specs.Accepted.{HasEnded, EndedIfHeld, IsReady, IsAccepted, is_refusal, every_event_is_accepted_or_has_a_cause, forged_worlds_accept_the_controller}
 use Rattle.run_laws.proofs.AcceptedFree.{free_number, are_free, numbers_zeroed, both_zeroed, first_length, second_length}
 
 permits_judged : {A : Type 0} (B : Type 0) (b : Bool) → b ≡ true → A → MatchBool b A B

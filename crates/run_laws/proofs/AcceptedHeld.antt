@@ -1,6 +1,6 @@
 -- A held command is an I/O command and has its status, after each step, whatever was forged.
-use Rattle.std.proofs.Common.{◌≡◌, ℕ, ◌==◌, Bool, true, false, not, ◌&&◌, ◌||◌, Option, Some, None, List, [], ◌∷◌, ◌++◌, map, is_none, is_some, MatchBool, if◌then◌else◌, refl, ap, sym, ◌∙◌, subst, eqb-true, eq-eqb}
-use Rattle.std.specs.Option.{option_map_or, option_and_then}
+use Rattle.std.proofs.Common.{◌≡◌, ℕ, ◌==◌, Bool, true, false, not, ◌&&◌, ◌||◌, Option, Some, None, List, [], ◌∷◌, ◌++◌, map, is_some, MatchBool, if◌then◌else◌, refl, ap, sym, ◌∙◌, subst, eqb-true, eq-eqb}
+use Rattle.std.specs.Option.{option_map_or}
 use Rattle.std.specs.List.{AllByRecursion}
 use Rattle.std.proofs.lemmas.Bool.{true≢false, not-false, and_parts}
 use Rattle.admin_commands.specs.Entries.{admin_entry}
@@ -24,10 +24,9 @@ use Rattle.machine_model.specs.declared.words.Reaped.{Reaped}
 use Rattle.machine_model.specs.declared.words.Reaped.TheVariants.{Empty, Done, AdminDone, Rejected}
 use Rattle.machine_model.specs.declared.words.Refusal.TheVariants as refusals
 use Rattle.machine_model.specs.State.{State, Host, HostQueue, Record, is_at, record_at, pages_of, with_record, without_record}
-use Rattle.machine_model.specs.Refusals.{is_submitted, is_held, is_live, is_deleted, is_retired, host_queue, refusal_of, in_state, seen_entry, slot_page, slot_offset}
+use Rattle.machine_model.specs.Refusals.{is_submitted, is_held, is_live, is_deleted, is_retired, host_queue, in_state, seen_entry, slot_page, slot_offset}
 use Rattle.machine_model.specs.Claims.{IsSound, OwnsFit, AdminLives}
-use Rattle.machine_model.specs.Step.{Step, Permits, IsController, HostPart, host_part, asked_by}
-use Rattle.machine_model.specs.Opening.{opening}
+use Rattle.machine_model.specs.Step.{Step, Permits, IsController, HostPart, asked_by}
 use Rattle.machine_model.specs.After as a
 use Rattle.machine_model.specs.Events as events
 use Rattle.machine_model.specs.Events.{Event, Reply}
@@ -35,9 +34,9 @@ use Rattle.machine_model.proofs.Parts.{part-posted}
 use Rattle.machine_model.proofs.Steps.{Accepts, part_controller, part_left}
 use Rattle.machine_model.proofs.Refused.{first_fails}
 use Rattle.machine_model.proofs.Placed.{find_sound}
-use Rattle.machine_model.proofs.Members.{all_map, all_filter, all_append, all_at_found, all_in, all_in_both}
+use Rattle.machine_model.proofs.Members.{all_map, all_filter, all_append, all_at_found, all_in_both}
 use Rattle.machine_model.proofs.InOrders.{opens_in_order, order_kept}
-use Rattle.run_laws.specs.Accepted.{HasEnded, EndedIfHeld, IsReady, openings_are_ready, steps_keep_ready}
+use Rattle.run_laws.specs.Accepted.{EndedIfHeld, openings_are_ready, steps_keep_ready}
 
 abbrev pub AllEnded : List Record → Type 0
 AllEnded records = AllByRecursion EndedIfHeld records
@@ -91,9 +90,9 @@ ended_done q cid st s sound h = go (record_at s.host q cid) refl
 
     each : (q == 0) ≡ false → (r : Record) (b : Bool) → is_at q cid r ≡ b → OwnsFit r.q r.work (pages_of r) × EndedIfHeld r → EndedIfHeld (if b then a.held st r else r)
     each other r true at p = λ held. record {
-          is_io = io_of r (ap (λ (n : ℕ). n == 0) (eqb-true r.q q (and_parts (r.q == q) (r.cid == cid) at).0) ∙ other) r.work p.0;
-          has_status = refl;
-        }
+      is_io = io_of r (ap (λ (n : ℕ). n == 0) (eqb-true r.q q (and_parts (r.q == q) (r.cid == cid) at).0) ∙ other) r.work p.0;
+      has_status = refl;
+    }
     each other r false at p = p.1
 
     work : (t : State) → t.host.records ≡ s.host.records → (r : Record) (w : Work) → r.work ≡ w → record_at s.host q cid ≡ Some r → AllEnded (a.after_work w q cid st t).host.records
@@ -143,9 +142,9 @@ ended_lost q other rs h = all_map (λ r. OwnsFit r.q r.work (pages_of r) × Ende
   where
     each : (r : Record) (b : Bool) → ((r.q == q) && is_submitted r.phase) ≡ b → OwnsFit r.q r.work (pages_of r) × EndedIfHeld r → EndedIfHeld (if b then record r { phase = Held; status = Some ABORTED_SQ_DELETION } else r)
     each r true at p = λ held. record {
-          is_io = io_of r (ap (λ (n : ℕ). n == 0) (eqb-true r.q q (and_parts (r.q == q) (is_submitted r.phase) at).0) ∙ other) r.work p.0;
-          has_status = refl;
-        }
+      is_io = io_of r (ap (λ (n : ℕ). n == 0) (eqb-true r.q q (and_parts (r.q == q) (is_submitted r.phase) at).0) ∙ other) r.work p.0;
+      has_status = refl;
+    }
     each r false at p = p.1
 
 -- Every event of the host

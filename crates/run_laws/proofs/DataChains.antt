@@ -1,5 +1,5 @@
 -- The list of a submitted command is its draft's, from its submission to its completion.
-use Rattle.std.proofs.Common.{◌≡◌, ◌⊎◌, ℕ, zero, suc, ◌+◌, ◌%◌, ◌<◌, ◌≤◌, ◌==◌, Bool, true, false, not, ◌&&◌, ◌||◌, Option, Some, None, All, is_some, is_none, List, [], ◌∷◌, ◌++◌, length, slice_get, filter, find, if◌then◌else◌, refl, ap, sym, ◌∙◌, arith, subst, eqb-true, eq-eqb, append-nil, append_assoc}
+use Rattle.std.proofs.Common.{◌≡◌, ℕ, zero, suc, ◌%◌, ◌<◌, ◌==◌, Bool, true, false, not, ◌&&◌, Option, Some, None, All, is_some, is_none, List, [], ◌∷◌, ◌++◌, slice_get, filter, if◌then◌else◌, refl, ap, sym, ◌∙◌, arith, subst, eqb-true, eq-eqb, append-nil, append_assoc}
 use Rattle.std.specs.Option.{option_map_or, option_and_then}
 use Rattle.page_memory.specs.Memory.{Memory, page_of}
 use Rattle.std.specs.List.{AllByRecursion}
@@ -25,7 +25,7 @@ use Rattle.machine_model.specs.Reached.{only, on_pages}
 use Rattle.machine_model.specs.Claims.{OwnsFit}
 use Rattle.machine_model.specs.Standing.{unfetched_at, HasEntry, ListStands, StandsAs, CommandStands}
 use Rattle.machine_model.specs.State.{State, Device, HostQueue, DeviceQueue, Record, Job, is_at, record_at, with_record, pages_of}
-use Rattle.machine_model.specs.Refusals.{host_queue, is_submitted, is_drafted, is_live, in_state, is_of, job_at, queue_full, record_is, refusal_of}
+use Rattle.machine_model.specs.Refusals.{host_queue, is_submitted, is_drafted, is_live, in_state, is_of, job_at, queue_full, record_is}
 use Rattle.machine_model.specs.Image.{Made, draft_of, submitted_by}
 use Rattle.machine_model.specs.Laws.{Steps, drafts_of, entries_of}
 use Rattle.machine_model.specs.Opening.{opening}
@@ -37,15 +37,13 @@ use Rattle.machine_model.specs.Events.{Event, Reply}
 use Rattle.machine_model.specs.declared.words.Refusal.{Refusal}
 use Rattle.machine_model.specs.declared.words.Refusal.TheVariants as refusals
 use Rattle.machine_model.proofs.Counting.{one}
-use Rattle.machine_model.proofs.Totals.{total}
 use Rattle.machine_model.proofs.Steps.{Accepts}
 use Rattle.machine_model.proofs.Refused.{first_fails, rest_fails}
 use Rattle.machine_model.proofs.Placed.{is_job, find_sound}
 use Rattle.machine_model.proofs.Placing.{device-posted}
-use Rattle.machine_model.proofs.Members.{In, in_found, all_at_found, all_append, all_drop_one, all_in, all_in_both, sent}
+use Rattle.machine_model.proofs.Members.{In, in_found, all_at_found, all_append, all_drop_one, all_in_both, sent}
 use Rattle.machine_model.proofs.Grounds.{trusted_at_first, pair_at}
 use Rattle.machine_model.proofs.Served.{Stood, page_below, data_of, chain_of}
-use Rattle.machine_model.proofs.Queues.{list_at}
 use Rattle.machine_model.proofs.PlacesKept.{ids_of, drafted_not}
 use Rattle.machine_model.proofs.Commanding.{keeps_fetch, keeps_walk, keeps_complete}
 use Rattle.machine_model.proofs.Submitting.{first_read}
@@ -56,7 +54,7 @@ use Rattle.machine_model.proofs.RecordsMove.{RecordsMove, records_event}
 use Rattle.machine_model.proofs.QueuesMove.{QueueMove, queues_event}
 use Rattle.run_laws.specs.Submitted.{HasListOf, chains_are_the_drafts}
 use Rattle.run_laws.proofs.DataAlong.{Going, left_step, stood_step}
-use Rattle.run_laws.proofs.DataKept.{IsOfDraft, Found, found_draft, submits_of, drafts_same}
+use Rattle.run_laws.proofs.DataKept.{IsOfDraft, Found, found_draft, submits_of}
 
 -- What is known
 
@@ -246,7 +244,7 @@ chains_move drafts s e reply g = record {
       where
         still : (l' : ListStands (a.after s e reply).memory (a.after s e reply).device.queues (a.after s e reply).device.jobs r request) × (l'.first ≡ h.list.first)
         still = list_kept s.memory (a.after s e reply).memory s.device.queues (a.after s e reply).device.queues s.device.jobs (a.after s e reply).device.jobs r request
-          ((stay_after s e reply g.ok g.stood).chains r within sub) (λ wanted has. entry_kept s e reply g r.q r.cid fit (other_draft s e reply g r within sub) wanted has) h.list
+            ((stay_after s e reply g.ok g.stood).chains r within sub) (λ wanted has. entry_kept s e reply g r.q r.cid fit (other_draft s e reply g r within sub) wanted has) h.list
 
     new : (d : DraftContents) (reply : Reply) → Going s (events.Submit d) reply → (entry : SubEntry) (r : Record) → d.entry ≡ Some entry → record_at s.host d.q d.cid ≡ Some r
         → is_of is_drafted d.request (numbers_of d.data_pages) (numbers_of d.chain_pages) r ≡ true → (w : Work) → r.work ≡ w

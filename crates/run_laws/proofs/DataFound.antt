@@ -1,12 +1,11 @@
 -- What a collection finds: the command's held record, and its pages as they stand.
-use Rattle.std.proofs.Common.{◌≡◌, ℕ, ◌==◌, Bool, true, false, not, ◌&&◌, ◌||◌, Option, Some, None, List, [], ◌∷◌, ◌++◌, MatchBool, refl, ap, sym, ◌∙◌, subst, eq-eqb, eqb-true}
+use Rattle.std.proofs.Common.{◌≡◌, ℕ, Bool, true, false, not, ◌||◌, Option, Some, None, List, [], ◌∷◌, ◌++◌, MatchBool, refl, ap, sym, ◌∙◌, subst, eq-eqb}
 use Rattle.std.specs.Option.{option_map_or, option_map, option_and_then}
-use Rattle.std.specs.List.{AllByRecursion, list_any}
-use Rattle.std.proofs.lemmas.Bool.{true≢false, not-false, and_parts, or_parts}
-use Rattle.page_memory.specs.Pages.{Pages, page_at}
+use Rattle.std.specs.List.{list_any}
+use Rattle.std.proofs.lemmas.Bool.{true≢false, not-false}
+use Rattle.page_memory.specs.Pages.{Pages}
 use Rattle.entry_codec.specs.declared.status.Status.{Status}
 use Rattle.io_commands.specs.Asked.{Request}
-use Rattle.io_commands.specs.DataBytes.{PagesOut}
 use Rattle.io_commands.specs.Drafts.{DraftContents}
 use Rattle.io_commands.specs.Values.{FinishedContents, numbers_of}
 use Rattle.machine_model.specs.Work.{Work}
@@ -15,8 +14,8 @@ use Rattle.machine_model.specs.declared.words.Phase.{Phase}
 use Rattle.machine_model.specs.declared.words.Phase.TheVariants.{Drafted, Submitted, Held, Collected}
 use Rattle.machine_model.specs.State.{State, Record, is_at, record_at}
 use Rattle.machine_model.specs.Refusals.{is_submitted, is_held, record_is, refusal_of}
-use Rattle.machine_model.specs.Image.{Made, is_draft, submitted_by}
-use Rattle.machine_model.specs.Laws.{Steps, collected_of, fetches}
+use Rattle.machine_model.specs.Image.{Made, submitted_by}
+use Rattle.machine_model.specs.Laws.{Steps, collected_of}
 use Rattle.machine_model.specs.Opening.{opening}
 use Rattle.machine_model.specs.Step.{Step, finished_from, asked_by, pages_with_bytes}
 use Rattle.machine_model.specs.After as a
@@ -29,10 +28,9 @@ use Rattle.machine_model.proofs.Members.{all_at_found}
 use Rattle.machine_model.proofs.Served.{Stood}
 use Rattle.machine_model.proofs.PlacesKept.{ids_of}
 use Rattle.machine_model.proofs.WalksKept.{stood_at_opening}
-use Rattle.machine_model.proofs.Gathered.{Stands}
 use Rattle.run_laws.specs.Submitted.{CollectedCommand, submits}
-use Rattle.run_laws.proofs.DataAlong.{Going, permitted, one_step, stood_step, steps_split, stood_along, along_steps}
-use Rattle.run_laws.proofs.DataKept.{IsOfDraft, Follows, AllFollow, Found, found_draft, follow_submit, follow_step, held_goes}
+use Rattle.run_laws.proofs.DataAlong.{Going, permitted, stood_step, steps_split, stood_along, along_steps}
+use Rattle.run_laws.proofs.DataKept.{IsOfDraft, Follows, AllFollow, found_draft, follow_submit, follow_step, held_goes}
 
 pub record Collects (s : State) (f : FinishedContents) : Type 0 where
   pub command : Record

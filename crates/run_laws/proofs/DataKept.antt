@@ -1,9 +1,8 @@
 -- A submitted command keeps its draft's request and pages, until another draft of its identifier is submitted.
-use Rattle.std.proofs.Common.{◌≡◌, ℕ, ◌==◌, nat_eq, Bool, true, false, not, ◌&&◌, ◌||◌, Some, None, List, [], ◌∷◌, ◌++◌, refl, ap, sym, ◌∙◌, subst, eqb-true, eq-eqb}
-use Rattle.std.specs.List.{AllByRecursion, list_any}
+use Rattle.std.proofs.Common.{◌≡◌, ℕ, ◌==◌, nat_eq, Bool, true, false, ◌&&◌, ◌||◌, Some, refl, ap, sym, ◌∙◌, subst, eqb-true, eq-eqb}
+use Rattle.std.specs.List.{AllByRecursion}
 use Rattle.std.specs.Cmp.Lexicographic.{pointwise}
 use Rattle.std.proofs.lemmas.Bool.{true≢false, and_parts, or_parts}
-use Rattle.entry_codec.specs.declared.submission.SubEntry.{SubEntry}
 use Rattle.io_commands.specs.Drafts.{DraftContents}
 use Rattle.io_commands.specs.Values.{numbers_of}
 use Rattle.machine_model.specs.Work.{Work}
@@ -13,11 +12,10 @@ use Rattle.machine_model.specs.declared.words.Phase.{Phase}
 use Rattle.machine_model.specs.declared.words.Phase.TheVariants.{Drafted, Submitted, Held, Collected}
 use Rattle.machine_model.specs.State.{State, Record, is_at, record_at, pages_of}
 use Rattle.machine_model.specs.Refusals.{is_submitted, is_drafted, is_held, is_of, asks_for}
-use Rattle.machine_model.specs.Image.{Made}
 use Rattle.machine_model.specs.After as a
 use Rattle.machine_model.specs.Events as events
 use Rattle.machine_model.specs.Events.{Event, Reply}
-use Rattle.machine_model.proofs.Refused.{pages_match, same_lists}
+use Rattle.machine_model.proofs.Refused.{same_lists}
 use Rattle.machine_model.proofs.Members.{all_at_found, is_found}
 use Rattle.machine_model.proofs.Submitting.{requests_same}
 use Rattle.machine_model.proofs.PlacesKept.{ids_of}
@@ -25,7 +23,7 @@ use Rattle.machine_model.proofs.Known.{submit_record}
 use Rattle.machine_model.proofs.Out.{named, reaped_submitted}
 use Rattle.machine_model.specs.Step.{reaped}
 use Rattle.entry_codec.specs.declared.status.TheConstants.Status.{ABORTED_SQ_DELETION}
-use Rattle.machine_model.proofs.RecordsMove.{RecordsMove, records_event, takes}
+use Rattle.machine_model.proofs.RecordsMove.{RecordsMove, records_event}
 use Rattle.run_laws.specs.Submitted.{submits}
 use Rattle.run_laws.proofs.DataAlong.{Going}
 

@@ -1,12 +1,11 @@
 -- What collected commands give back.
-use Rattle.std.proofs.Common.{◌≡◌, ℕ, ◌+◌, ◌-◌, ◌==◌, Bool, true, false, not, ◌&&◌, ◌||◌, Option, Some, None, List, [], ◌∷◌, ◌++◌, take, drop, replicate, All, MatchBool, if◌then◌else◌, refl, ap, sym, ◌∙◌, subst, eq-eqb, eqb-true, append_assoc, append-nil}
+use Rattle.std.proofs.Common.{◌≡◌, ℕ, ◌+◌, ◌-◌, ◌==◌, Bool, true, false, not, ◌&&◌, ◌||◌, Option, Some, List, [], ◌∷◌, ◌++◌, take, drop, MatchBool, if◌then◌else◌, refl, ap, sym, ◌∙◌, subst, eq-eqb, append_assoc, append-nil}
 use Rattle.std.specs.Option.{option_map_or}
 use Rattle.std.specs.List.{AllByRecursion, list_any}
-use Rattle.std.proofs.lemmas.Bool.{true≢false, and_parts, or_parts}
+use Rattle.std.proofs.lemmas.Bool.{true≢false, or_parts}
 use Rattle.std.proofs.lemmas.List.Elements.{All-head, All-tail, All-append, All-take, All-drop, All-replicate, All-nil, All-cons}
 use Rattle.page_memory.specs.Pages.{Pages, page_at, zero_page}
 use Rattle.entry_codec.specs.declared.status.Status.{Status}
-use Rattle.entry_codec.specs.declared.status.TheConstants.Status.{ABORTED_SQ_DELETION}
 use Rattle.io_commands.specs.declared.request.Piece.{Piece}
 use Rattle.io_commands.specs.declared.request.Piece.TheVariants.{Data, Bucket}
 use Rattle.io_commands.specs.DataBytes.{PagesOut, gathered}
@@ -14,11 +13,10 @@ use Rattle.io_commands.specs.Drafts.{DraftContents}
 use Rattle.io_commands.specs.Values.{numbers_of}
 use Rattle.io_commands.specs.Asked.{Request}
 use Rattle.io_commands.specs.Jobs.{is_success}
-use Rattle.machine_model.specs.State.{State, Record, is_at}
+use Rattle.machine_model.specs.State.{is_at}
 use Rattle.machine_model.specs.Image.{Made, is_draft, draft_of, submitted_by}
 use Rattle.machine_model.specs.Laws.{TrustedRun, Steps, fetches, drafts_of}
 use Rattle.machine_model.specs.Step.{zeroed, pages_with_bytes}
-use Rattle.machine_model.specs.After as a
 use Rattle.machine_model.specs.Events as events
 use Rattle.machine_model.proofs.Members.{all_at_found}
 use Rattle.machine_model.proofs.Gathered.{Stands}

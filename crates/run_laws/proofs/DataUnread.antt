@@ -1,25 +1,19 @@
 -- A command that is never fetched: the controller has no job and no answer of it, and its data pages keep the draft's bytes.
-use Rattle.std.proofs.Common.{◌≡◌, ℕ, ◌==◌, nat_eq, Bool, true, false, not, ◌&&◌, ◌||◌, Option, Some, None, List, [], ◌∷◌, ◌++◌, drop, refl, ap, sym, ◌∙◌, arith, subst, eqb-true, eq-eqb}
+use Rattle.std.proofs.Common.{◌≡◌, ℕ, ◌==◌, Bool, true, false, ◌||◌, Option, Some, None, List, [], ◌∷◌, ◌++◌, drop, refl, ap, sym, ◌∙◌, arith, subst, eqb-true, eq-eqb}
 use Rattle.std.specs.Option.{option_map_or, option_map, option_and_then}
-use Rattle.std.specs.List.{AllByRecursion, list_any}
+use Rattle.std.specs.List.{AllByRecursion}
 use Rattle.std.proofs.lemmas.Bool.{true≢false, and_parts, or_parts, or_left, or_right}
 use Rattle.page_ledger.specs.Owners.{is_among}
 use Rattle.page_memory.specs.Pages.{Pages, page_at}
 use Rattle.entry_codec.specs.declared.submission.SubEntry.{SubEntry}
-use Rattle.entry_codec.specs.declared.status.Status.{Status}
 use Rattle.entry_codec.specs.declared.status.TheConstants.Status.{ABORTED_SQ_DELETION}
 use Rattle.io_commands.specs.DataBytes.{PagesOut}
 use Rattle.io_commands.specs.Drafts.{DraftContents}
 use Rattle.io_commands.specs.Values.{numbers_of}
-use Rattle.io_commands.specs.Jobs.{is_success}
 use Rattle.machine_model.specs.Memory.{with_pages}
-use Rattle.machine_model.specs.Work.{Work}
-use Rattle.machine_model.specs.declared.words.Work.TheVariants.{Io, Management}
-use Rattle.machine_model.specs.declared.words.Phase.{Phase}
-use Rattle.machine_model.specs.declared.words.Phase.TheVariants.{Drafted, Submitted, Held, Collected}
+use Rattle.machine_model.specs.declared.words.Phase.TheVariants.{Held}
 use Rattle.machine_model.specs.State.{State, DeviceQueue, Record, Job, Answer, is_at, record_at, with_record}
-use Rattle.machine_model.specs.Refusals.{is_submitted, is_drafted, is_held, refusal_of, job_at, next_rung, first_answer, device_queue}
-use Rattle.machine_model.specs.Image.{Made}
+use Rattle.machine_model.specs.Refusals.{is_held, job_at, next_rung, first_answer, device_queue}
 use Rattle.machine_model.specs.Laws.{fetches, fetches_by}
 use Rattle.machine_model.specs.Step.{reaped}
 use Rattle.machine_model.specs.After as a
@@ -27,11 +21,10 @@ use Rattle.machine_model.specs.Events as events
 use Rattle.machine_model.specs.Events.{Event, Reply}
 use Rattle.machine_model.proofs.Counting.{one}
 use Rattle.machine_model.proofs.Totals.{total}
-use Rattle.machine_model.proofs.Steps.{Accepts}
 use Rattle.machine_model.proofs.Placed.{is_job, find_sound}
 use Rattle.machine_model.proofs.Out.{named}
-use Rattle.machine_model.proofs.Members.{In, all_at_found, all_append, all_in_both, sent}
-use Rattle.machine_model.proofs.Served.{Stood, answers_at}
+use Rattle.machine_model.proofs.Members.{In, all_at_found, all_append, sent}
+use Rattle.machine_model.proofs.Served.{answers_at}
 use Rattle.machine_model.proofs.Queues.{list_at}
 use Rattle.machine_model.proofs.PlacesKept.{ids_of, drafted_not, reaped_answer}
 use Rattle.machine_model.proofs.CommandsKept.{nobody, no_job}
@@ -44,7 +37,7 @@ use Rattle.machine_model.proofs.JobsMove.{JobsMove, jobs_event}
 use Rattle.machine_model.proofs.QueuesMove.{QueueMove, queues_event}
 use Rattle.run_laws.specs.Submitted.{submits}
 use Rattle.run_laws.proofs.DataAlong.{Going}
-use Rattle.run_laws.proofs.DataKept.{goes_on, IsOfDraft, Follows, AllFollow, Found, found_draft, only_drafted, sub_goes, held_goes, not_sent, drafts_same, submit_clash, reaped_on, submits_of, follow_step, follow_submit}
+use Rattle.run_laws.proofs.DataKept.{goes_on, IsOfDraft, Found, found_draft, only_drafted, sub_goes, not_sent, drafts_same, submit_clash, submits_of}
 
 -- What is known
 
@@ -212,9 +205,9 @@ unread_first d s g x = record {
   reserves = λ y is on. absurd (true≢false (sym on));
   sends = λ adm id is on. absurd (not_sent d id x.other is);
   submits = λ y entry r is built found fits p at on. (
-        again (a.submitted r) r refl refl refl (subst (λ (z : DraftContents). IsOfDraft z r) (sym (drafts_same is)) (submits_of y r fits).0),
-        record { stand = stand entry (ap (λ (z : DraftContents). z.entry) (drafts_same is) ∙ built); deleted = λ held. absurd (true≢false (sym held)) },
-      );
+    again (a.submitted r) r refl refl refl (subst (λ (z : DraftContents). IsOfDraft z r) (sym (drafts_same is)) (submits_of y r fits).0),
+    record { stand = stand entry (ap (λ (z : DraftContents). z.entry) (drafts_same is) ∙ built); deleted = λ held. absurd (true≢false (sym held)) },
+  );
   reaps = λ q cid st request r is n status found w p at on. absurd (none is);
   loses = λ r within sub free only at on. absurd (only_drafted s d x r only at (sub_goes r.phase sub));
   collects = λ r p at on. absurd (true≢false (sym on));

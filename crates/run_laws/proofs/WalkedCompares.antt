@@ -1,7 +1,7 @@
 -- A Compare is told by its draft.
 use Rattle.std.proofs.Common.{◌≡◌, ℕ, ◌==◌, Bool, true, false, ◌&&◌, Option, Some, None, List, [], ◌∷◌, ◌++◌, if◌then◌else◌, refl, ap, sym, ◌∙◌, subst, eqb-true, append-nil}
 use Rattle.std.specs.Option.{option_map, option_map_or}
-use Rattle.std.proofs.lemmas.Bool.{true≢false, and_parts}
+use Rattle.std.proofs.lemmas.Bool.{and_parts}
 use Rattle.entry_codec.specs.declared.status.Status.{Status}
 use Rattle.entry_codec.specs.declared.io_opcode.TheConstants.{COMPARE, READ, WRITE}
 use Rattle.controller_walk.specs.Units.{first_passing}
@@ -14,8 +14,8 @@ use Rattle.machine_model.specs.State.{State, Job}
 use Rattle.machine_model.specs.Refusals.{job_at}
 use Rattle.machine_model.specs.After.{final_status}
 use Rattle.machine_model.specs.Opening.{opening}
-use Rattle.machine_model.specs.Image.{Made, draft_of}
-use Rattle.machine_model.specs.Laws.{TrustedRun, status_by, status_given, drafts_of, is_compare}
+use Rattle.machine_model.specs.Image.{draft_of}
+use Rattle.machine_model.specs.Laws.{status_by, drafts_of}
 use Rattle.machine_model.specs.Events as events
 use Rattle.machine_model.specs.Events.{Event, Reply}
 use Rattle.machine_model.proofs.Placed.{is_job, find_sound}

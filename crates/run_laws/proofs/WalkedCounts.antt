@@ -1,19 +1,16 @@
 -- A job has done as many units as there were walk steps of it since its fetch.
-use Rattle.std.proofs.Common.{◌≡◌, ℕ, ◌+◌, ◌==◌, nat_lt, Bool, true, false, not, ◌&&◌, ◌||◌, Option, Some, None, List, [], ◌∷◌, ◌++◌, length, filter, slice_get, is_some, if◌then◌else◌, refl, ap, sym, ◌∙◌, arith, subst, eqb-true, eq-eqb, append-nil, append_assoc}
-use Rattle.std.specs.Option.{option_map, option_map_or}
+use Rattle.std.proofs.Common.{◌≡◌, ℕ, ◌+◌, ◌==◌, nat_lt, Bool, true, false, ◌&&◌, Some, List, [], ◌∷◌, ◌++◌, length, filter, slice_get, if◌then◌else◌, refl, ap, sym, ◌∙◌, arith, subst, eqb-true, eq-eqb, append-nil, append_assoc}
+use Rattle.std.specs.Option.{option_map}
 use Rattle.std.specs.List.{AllByRecursion, list_any}
 use Rattle.std.proofs.lemmas.Bool.{true≢false, and_parts}
 use Rattle.std.proofs.lemmas.Bool.Decides.{nat_tests}
-use Rattle.controller_walk.specs.Units.{Act}
 use Rattle.entry_codec.specs.declared.submission.SubEntry.{SubEntry}
-use Rattle.entry_codec.specs.declared.status.Status.{Status}
 use Rattle.machine_model.specs.State.{State, Job}
-use Rattle.machine_model.specs.Refusals.{job_at, next_rung}
+use Rattle.machine_model.specs.Refusals.{next_rung}
 use Rattle.machine_model.specs.Opening.{opening}
 use Rattle.machine_model.specs.Image.{Made}
 use Rattle.machine_model.specs.Laws.{Steps, fetches, fetches_by, since_fetch}
 use Rattle.machine_model.specs.Step.{Step}
-use Rattle.machine_model.specs.After as a
 use Rattle.machine_model.specs.Events as events
 use Rattle.machine_model.specs.Events.{Event, Reply}
 use Rattle.machine_model.specs.declared.words.Refusal.{Refusal}
@@ -25,7 +22,6 @@ use Rattle.machine_model.proofs.WalksKept.{stood_at_opening}
 use Rattle.machine_model.proofs.Placements.{in_hand}
 use Rattle.machine_model.proofs.Caused.{since_more, any_longer, any_last}
 use Rattle.machine_model.proofs.CausedKept.{not_conflicting, none_found, refused_no_fetch}
-use Rattle.machine_model.proofs.CommandsAll.{Walking}
 use Rattle.machine_model.proofs.EveryStatus.{as_made}
 use Rattle.machine_model.proofs.JobsMove.{JobsMove, jobs_event, is_walked}
 use Rattle.run_laws.specs.Walked.{walks_by, walks_of, times_walked, units_done_count_the_walks}

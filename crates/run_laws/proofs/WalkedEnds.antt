@@ -1,10 +1,10 @@
 -- A walk that ended goes on no more: its job has a verdict until it is completed.
-use Rattle.std.proofs.Common.{◌≡◌, ℕ, ◌+◌, ◌/◌, ◌%◌, ◌==◌, Bool, true, false, not, ◌&&◌, ◌||◌, Option, Some, None, List, [], ◌∷◌, ◌++◌, map, filter, find, take, drop, is_some, is_none, MatchBool, if◌then◌else◌, refl, ap, sym, ◌∙◌, subst, eqb-true, eq-eqb}
+use Rattle.std.proofs.Common.{◌≡◌, ℕ, ◌+◌, ◌/◌, ◌%◌, ◌==◌, Bool, true, false, not, ◌&&◌, Option, Some, None, List, [], ◌∷◌, ◌++◌, map, filter, find, take, drop, is_some, is_none, MatchBool, if◌then◌else◌, refl, ap, sym, ◌∙◌, subst, eqb-true, eq-eqb}
 use Rattle.std.specs.Option.{option_map_or}
 use Rattle.std.specs.List.{list_any}
-use Rattle.std.proofs.lemmas.Bool.{true≢false, and_parts, or_parts}
+use Rattle.std.proofs.lemmas.Bool.{true≢false, and_parts}
 use Rattle.admin_commands.specs.Entries.{named_queue, named_command}
-use Rattle.admin_commands.specs.declared.SqState.TheVariants.{Absent, Stopping}
+use Rattle.admin_commands.specs.declared.SqState.TheVariants.{Absent}
 use Rattle.controller_walk.specs.Units.{Act, Stays, Reads, Moves}
 use Rattle.controller_walk.specs.declared.walk.WalkState.{WalkState}
 use Rattle.controller_walk.specs.declared.walk.WalkState.TheVariants.{More, End, Fault}
@@ -19,8 +19,7 @@ use Rattle.page_memory.specs.Pages.{with_page_bytes, with_bytes}
 use Rattle.machine_model.specs.State.{State, Device, Job}
 use Rattle.machine_model.specs.Refusals.{job_at, next_rung, conflicts}
 use Rattle.machine_model.specs.Opening.{opening}
-use Rattle.machine_model.specs.Image.{Made}
-use Rattle.machine_model.specs.Laws.{Steps, TrustedRun}
+use Rattle.machine_model.specs.Laws.{Steps}
 use Rattle.machine_model.specs.Step.{Step, unit_answered}
 use Rattle.machine_model.specs.After as a
 use Rattle.machine_model.specs.Events as events
@@ -28,16 +27,15 @@ use Rattle.machine_model.specs.Events.{Event, Reply}
 use Rattle.machine_model.proofs.Managed.{managed_by_case}
 use Rattle.machine_model.proofs.Placing.{device-answered}
 use Rattle.machine_model.proofs.Placed.{is_job, find_sound}
-use Rattle.machine_model.proofs.Steps.{Accepts}
 use Rattle.machine_model.proofs.Grounds.{trusted_at_first}
 use Rattle.machine_model.proofs.Served.{Stood}
 use Rattle.machine_model.proofs.WalksKept.{host_jobs, stood_at_opening}
 use Rattle.machine_model.proofs.Placements.{in_hand}
 use Rattle.machine_model.proofs.CausedKept.{not_conflicting}
-use Rattle.machine_model.proofs.CommandsAll.{Walking, walking}
+use Rattle.machine_model.proofs.CommandsAll.{walking}
 use Rattle.machine_model.proofs.JobLaws.{stood_after}
-use Rattle.run_laws.specs.Walked.{is_more, HasJobSo, walks_go_on_without_a_verdict, walks_by, walks_of, completes_by, completes, ends_walk_by, ends_walk, only_the_last_walk_ends}
-use Rattle.run_laws.proofs.DataAlong.{Going, permitted, one_step, stood_step, steps_split, stood_along, along_steps}
+use Rattle.run_laws.specs.Walked.{is_more, HasJobSo, walks_go_on_without_a_verdict, walks_by, completes_by, completes, ends_walk_by, only_the_last_walk_ends}
+use Rattle.run_laws.proofs.DataAlong.{Going, permitted, stood_step, steps_split, stood_along, along_steps}
 
 -- Finding a job in changed lists
 
