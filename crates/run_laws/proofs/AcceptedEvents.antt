@@ -24,7 +24,7 @@ use Rattle.machine_model.specs.Proper.{IsProper}
 use Rattle.machine_model.specs.Claims.{IsSound}
 use Rattle.machine_model.specs.InOrder.{IsInOrder}
 use Rattle.machine_model.specs.After.{after, course_of, next_answer, next_unit}
-use Rattle.machine_model.specs.Step.{Answers, AnswersAnything, IsController, IsReserved, IsNewIdentifier, LeavesByController, LeavesByHost, times, forges, reaped, touched_by_fetch, unit_answered, finished_from, asked_by, pages_with_bytes}
+use Rattle.machine_model.specs.Step.{Permits, Answers, AnswersAnything, IsController, IsReserved, IsNewIdentifier, LeavesByController, LeavesByHost, times, forges, reaped, touched_by_fetch, unit_answered, finished_from, asked_by, pages_with_bytes}
 use Rattle.machine_model.specs.Events as events
 use Rattle.machine_model.specs.Events.{Event, Reply}
 use Rattle.machine_model.proofs.Steps.{part_controller}
@@ -34,7 +34,7 @@ use Rattle.machine_model.proofs.Refused.{first_fails, rest_fails}
 use Rattle.machine_model.proofs.Placed.{is_job, find_sound}
 use Rattle.machine_model.proofs.Members.{all_at_found}
 use Rattle.machine_model.proofs.JobLaws.{runs_have_jobs}
-use Rattle.run_laws.specs.Accepted.{HasEnded, EndedIfHeld, IsReady, IsAccepted, is_refusal, every_event_is_accepted_or_has_a_cause, forged_worlds_accept_the_controller}
+use Rattle.run_laws.specs.Accepted.{HasEnded, EndedIfHeld, IsReady, IsAccepted, is_refusal, every_event_is_accepted_or_has_a_cause, queue_of, forged_worlds_accept_the_controller, forged_worlds_know_their_queues}
 use Rattle.run_laws.proofs.AcceptedFree.{free_number, are_free, numbers_zeroed, both_zeroed, first_length, second_length}
 
 permits_judged : {A : Type 0} (B : Type 0) (b : Bool) → b ≡ true → A → MatchBool b A B
@@ -393,3 +393,20 @@ controller_accepted s (events.Complete q cid) order forged c there = record {
   );
 }
 controller_accepted s e order forged c there = absurd (true≢false (sym c))
+
+answered_anything : {B : Type 0} (A : Type 0) (t : Bool) → t ≡ false → MatchBool (t || false) A B → B
+answered_anything A true e h = absurd (true≢false e)
+answered_anything A false e h = h
+
+pub queues_known : forged_worlds_know_their_queues
+queues_known s new e reply forged c step accepted = go e reply (not-true s.trusted forged) c step.1 accepted
+  where
+    go : (e : Event) (reply : Reply) → s.trusted ≡ false → IsController e ≡ true → Permits s e reply → not (is_refusal reply) ≡ true → is_some (host_queue s (queue_of e)) ≡ true
+    go e (events.Refused why pages) t c permits accepted = absurd (true≢false (sym accepted))
+    go (events.Fetch q) (events.Fetched cid pages) t c permits accepted = (answered_anything _ s.trusted t permits).0
+    go (events.Walk q cid) (events.Walked outcome pages) t c permits accepted = (answered_anything _ s.trusted t permits).0
+    go (events.Complete q cid) (events.Completed pages) t c permits accepted = (answered_anything _ s.trusted t permits).0
+    go (events.Fetch q) reply t c permits accepted = absurd (answered_anything _ s.trusted t permits)
+    go (events.Walk q cid) reply t c permits accepted = absurd (answered_anything _ s.trusted t permits)
+    go (events.Complete q cid) reply t c permits accepted = absurd (answered_anything _ s.trusted t permits)
+    go e reply t c permits accepted = absurd (true≢false (sym c))

@@ -21,7 +21,7 @@ use Rattle.machine_model.specs.Events as events
 use Rattle.machine_model.proofs.Members.{all_at_found}
 use Rattle.machine_model.proofs.Gathered.{Stands}
 use Rattle.machine_model.proofs.ReadLaws.{reads_give, stopped_reads}
-use Rattle.run_laws.specs.Submitted.{CollectedCommand, FetchedCommand, submits, was_fetched, unfetched_commands_keep_their_data, unfetched_commands_keep_the_drafts_bytes, unfetched_commands_were_deleted, successful_commands_were_fetched, AreZeros, drafts_of_reserve_are_zero, unfetched_commands_of_zeros_gather_zeros, commands_are_fetched_once, fetched_reads_give_a_prefix, successful_reads_give_their_blocks}
+use Rattle.run_laws.specs.Submitted.{CollectedCommand, FetchedCommand, submits, was_fetched, unfetched_commands_keep_their_data, unfetched_commands_keep_the_drafts_bytes, unfetched_commands_were_deleted, successful_commands_were_fetched, AreZeros, drafts_of_reserve_are_zero, unfetched_commands_of_zeros_gather_zeros, fetched_commands_have_their_fetch, commands_are_fetched_once, fetched_reads_give_a_prefix, successful_reads_give_their_blocks}
 use Rattle.run_laws.proofs.DataAlong.{along_steps}
 use Rattle.run_laws.proofs.DataKept.{IsOfDraft, found_draft, held_goes}
 use Rattle.run_laws.proofs.DataUnread.{Unread, Untouched, Waits, unread_step, unread_submit}
@@ -111,6 +111,28 @@ pub zeros_kept : unfetched_commands_of_zeros_gather_zeros
 zeros_kept c zero none = subst AreZeros (sym (bytes_kept c none)) (zeros_gathered c.draft.request.pieces c.draft.data_pages zero)
 
 -- A command that was fetched
+
+record SplitAt (test : Made → Bool) (made : List Made) : Type 0 where
+  before : List Made
+  at : Made
+  behind : List Made
+  split : made ≡ before ++ at ∷ behind
+  passes : test at ≡ true
+
+split_at : (test : Made → Bool) (made : List Made) → list_any test made ≡ true → SplitAt test made
+split_at test [] h = absurd (true≢false (sym h))
+split_at test (m ∷ made) h = go (test m) refl h (split_at test made)
+  where
+    go : (b : Bool) → test m ≡ b → (b || list_any test made) ≡ true → (list_any test made ≡ true → SplitAt test made) → SplitAt test (m ∷ made)
+    go true e h rest = record { before = []; at = m; behind = made; split = refl; passes = e }
+    go false e h rest =
+        let x = rest h in
+        record { before = m ∷ x.before; at = x.at; behind = x.behind; split = ap (λ (xs : List Made). m ∷ xs) x.split; passes = x.passes }
+
+pub has_fetch : fetched_commands_have_their_fetch
+has_fetch c fetched =
+    let x = split_at (fetches c.finished.q c.finished.cid) c.between fetched in
+    (record { command = c; before_fetch = x.before; fetched = x.at; after_fetch = x.behind; split = x.split; is_fetch = x.passes }, refl)
 
 pub fetched_once : commands_are_fetched_once
 fetched_once f = ap not (sym (fetched_of f.command (f.before_fetch ++ f.after_fetch)) ∙ once_of)

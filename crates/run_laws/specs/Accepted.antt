@@ -59,3 +59,9 @@ queue_of e = 0
 abbrev pub forged_worlds_accept_the_controller : Type 0
 forged_worlds_accept_the_controller =
     (s : State) (e : Event) → IsInOrder s → IsTrue (not s.trusted) → IsTrue (IsController e) → IsTrue (is_some (host_queue s (queue_of e))) → IsAccepted s e
+
+-- and of no other queue
+abbrev pub forged_worlds_know_their_queues : Type 0
+forged_worlds_know_their_queues =
+    (s new : State) (e : Event) (reply : Reply) → IsTrue (not s.trusted) → IsTrue (IsController e) → Step s e reply new → IsTrue (not (is_refusal reply))
+    → IsTrue (is_some (host_queue s (queue_of e)))

@@ -107,6 +107,10 @@ pub record FetchedCommand : Type 0 where
 abbrev pub image_at_fetch : FetchedCommand → List ℕ
 image_at_fetch f = image_after f.command.image (f.command.before ++ f.command.submitted ∷ f.before_fetch)
 
+-- what was fetched has its fetch
+abbrev pub fetched_commands_have_their_fetch : Type 0
+fetched_commands_have_their_fetch = (c : CollectedCommand) → IsTrue (was_fetched c) → (f : FetchedCommand) × (f.command ≡ c)
+
 -- a command is fetched once
 abbrev pub commands_are_fetched_once : Type 0
 commands_are_fetched_once =

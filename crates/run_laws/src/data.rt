@@ -1,6 +1,6 @@
 //! What a command's pages and lists hold, between its submission and its collection. Each function does nothing.
 
-ghost use Rattle.run_laws.specs.Submitted.{requests_stay, data_pages_stay, chain_pages_stay, unfetched_commands_keep_their_data, unfetched_commands_keep_the_drafts_bytes, unfetched_commands_were_deleted, successful_commands_were_fetched, drafts_of_reserve_are_zero, unfetched_commands_of_zeros_gather_zeros, commands_are_fetched_once, fetched_reads_give_a_prefix, successful_reads_give_their_blocks, chains_are_the_drafts};
+ghost use Rattle.run_laws.specs.Submitted.{requests_stay, data_pages_stay, chain_pages_stay, unfetched_commands_keep_their_data, unfetched_commands_keep_the_drafts_bytes, unfetched_commands_were_deleted, successful_commands_were_fetched, drafts_of_reserve_are_zero, unfetched_commands_of_zeros_gather_zeros, fetched_commands_have_their_fetch, commands_are_fetched_once, fetched_reads_give_a_prefix, successful_reads_give_their_blocks, chains_are_the_drafts};
 
 /// Where nothing was forged, a collected command has the request and the pages of the draft that was submitted.
 pub fn law_of_kept_commands()
@@ -27,6 +27,7 @@ pub fn law_of_unfetched_commands()
 ///
 /// One that ended with success gathers all its blocks' bytes but for the discarded ones.
 pub fn law_of_fetched_commands()
+    ensures fetch { fetched_commands_have_their_fetch }
     ensures once { commands_are_fetched_once }
     ensures prefix { fetched_reads_give_a_prefix }
     ensures blocks { successful_reads_give_their_blocks }

@@ -1,5 +1,8 @@
-use Rattle.run_laws.proofs.DataLaws.{fetched_once, prefix_given, blocks_given}
+use Rattle.run_laws.proofs.DataLaws.{has_fetch, fetched_once, prefix_given, blocks_given}
 use Rattle.run_laws.proofs.data.law_of_fetched_commands.Goals as goal
+
+pub returns-clause-fetch : goal.returns-clause-fetch
+returns-clause-fetch c = has_fetch
 
 pub returns-clause-once : goal.returns-clause-once
 returns-clause-once c = fetched_once
