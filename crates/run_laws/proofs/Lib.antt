@@ -11,3 +11,4 @@ pub mod WalkedEnds
 pub mod AcceptedFree
 pub mod AcceptedHeld
 pub mod AcceptedEvents
+pub mod DataSubmitted

@@ -44,6 +44,20 @@ pub record CollectedCommand : Type 0 where
   pub identifier : draft.cid ≡ finished.cid
   pub alone : IsTrue (not (list_any (submits finished.q finished.cid) between))
 
+-- so each collection in such a run is that of a command that was submitted
+pub record IsCollectionIn (image : List ℕ) (earlier : List Made) (m : Made) (later : List Made) (f : FinishedContents) : Type 0 where
+  pub command : CollectedCommand
+  pub its_image : command.image ≡ image
+  pub steps_before : command.before ++ command.submitted ∷ command.between ≡ earlier
+  pub its_step : command.collected ≡ m
+  pub steps_behind : command.later ≡ later
+  pub its_contents : command.finished ≡ f
+
+abbrev pub collected_commands_were_submitted : Type 0
+collected_commands_were_submitted =
+    (image : List ℕ) (earlier later : List Made) (m : Made) (end : State) (f : FinishedContents) → TrustedRun image (earlier ++ m ∷ later) end
+    → collected_of m.event m.reply ≡ Some f → IsCollectionIn image earlier m later f
+
 -- it is fetched in some step between
 abbrev pub was_fetched : CollectedCommand → Bool
 was_fetched c = list_any (fetches c.finished.q c.finished.cid) c.between
