@@ -1,29 +1,25 @@
 -- A command that is collected was submitted.
-use Rattle.std.proofs.Common.{◌≡◌, ℕ, ◌==◌, Bool, true, false, ◌&&◌, ◌||◌, Some, None, List, [], ◌∷◌, ◌++◌, is_some, if◌then◌else◌, refl, ap, sym, ◌∙◌, subst, eqb-true, eq-eqb, append-nil, append_assoc}
+use Rattle.std.proofs.Common.{◌≡◌, ℕ, ◌==◌, Bool, true, false, ◌&&◌, ◌||◌, Some, List, [], ◌∷◌, ◌++◌, is_some, if◌then◌else◌, refl, ap, sym, ◌∙◌, subst, eqb-true, eq-eqb, append_assoc}
 use Rattle.std.specs.List.{AllByRecursion, list_any}
 use Rattle.std.proofs.lemmas.Bool.{true≢false, and_parts}
-use Rattle.entry_codec.specs.declared.status.TheConstants.Status.{ABORTED_SQ_DELETION}
 use Rattle.io_commands.specs.Drafts.{DraftContents}
-use Rattle.io_commands.specs.Values.{FinishedContents}
 use Rattle.machine_model.specs.Work.{Work}
-use Rattle.machine_model.specs.declared.words.Phase.TheVariants.{Held}
 use Rattle.machine_model.specs.declared.words.Refusal.{Refusal}
 use Rattle.machine_model.specs.Claims.{OwnsFit}
 use Rattle.machine_model.specs.State.{State, Record, is_at, pages_of}
 use Rattle.machine_model.specs.Opening.{opening}
 use Rattle.machine_model.specs.Image.{Made, is_draft, draft_of, submitted_by}
-use Rattle.machine_model.specs.Laws.{TrustedRun, Steps, drafts_of, collected_of}
+use Rattle.machine_model.specs.Laws.{TrustedRun, Steps, drafts_of}
 use Rattle.machine_model.specs.Step.{Step}
-use Rattle.machine_model.specs.After as a
 use Rattle.machine_model.specs.Events as events
 use Rattle.machine_model.specs.Events.{Event, Reply}
 use Rattle.machine_model.proofs.Grounds.{trusted_at_first}
-use Rattle.machine_model.proofs.Members.{all_at_found, all_in}
+use Rattle.machine_model.proofs.Members.{all_at_found}
 use Rattle.machine_model.proofs.PlacesKept.{ids_of}
 use Rattle.machine_model.proofs.Served.{Stood}
 use Rattle.machine_model.proofs.WalksKept.{stood_at_opening}
 use Rattle.machine_model.proofs.RecordsMove.{RecordsMove, records_event}
-use Rattle.run_laws.specs.Submitted.{CollectedCommand, IsCollectionIn, submits, collected_commands_were_submitted}
+use Rattle.run_laws.specs.Submitted.{submits, collected_commands_were_submitted}
 use Rattle.run_laws.proofs.DataAlong.{Going, left_step, stood_step, steps_split, stood_along}
 use Rattle.run_laws.proofs.DataKept.{goes_on, reaped_on, sub_goes, held_goes}
 use Rattle.run_laws.proofs.DataFound.{Collects, collects_held}
