@@ -14,3 +14,17 @@ pub mod VerdictsStay
 pub mod VerdictsCount
 pub mod VerdictsJobs
 pub mod EndsOnce
+pub mod DataAlong
+pub mod DataKept
+pub mod DataFound
+pub mod DataUnread
+pub mod DataOnce
+pub mod DataLaws
+pub mod DataChains
+pub mod WalkedCompares
+pub mod WalkedCounts
+pub mod WalkedEnds
+pub mod AcceptedFree
+pub mod AcceptedHeld
+pub mod AcceptedEvents
+pub mod DataSubmitted
