@@ -1,5 +1,5 @@
 -- What was written is the text of the run, or a front of it.
-use Rattle.std.proofs.Common.{ap, sym, ◌≡◌, ◌∙◌, List, true, is_some}
+use Rattle.std.proofs.Common.{ap, sym, ◌≡◌, ◌∙◌, true, is_some}
 use Rattle.std.specs.List.{list_all}
 use Rattle.script_cli.proofs.JobRuns.{jobs_text_is, run_writes, run_is_cut}
 use Rattle.script_cli.specs.Headings.{headings_of, end_at}
