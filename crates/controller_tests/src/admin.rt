@@ -70,7 +70,7 @@ fn a_queue_is_deleted(rt: HostRuntime) -> Result<(), Fail> {
 
     guest.submit(&rt, 0, 1, entry(AdminKind::DeleteSq { q: 1 }, 1));
     assert_eq!(rt; guest.controller.fetch(0, &mut guest.memory), Ok(1));
-    assert!(rt; matches!(guest.controller.queues()[1].state, SqState::Stopping));
+    assert!(rt; matches!(guest.io_queue(&rt).state, SqState::Stopping));
     // The second Read is not fetched any more.
     assert_eq!(rt;
         guest.controller.fetch(1, &mut guest.memory),
@@ -84,14 +84,14 @@ fn a_queue_is_deleted(rt: HostRuntime) -> Result<(), Fail> {
     assert_eq!(rt; guest.halfword(&rt, 1, 0), 0x0011);
     assert_eq!(rt; guest.controller.complete(0, 1, &mut guest.memory), Ok(()));
     assert_eq!(rt; guest.completion(&rt, 0, 1).status, Status::SUCCESS);
-    assert!(rt; matches!(guest.controller.queues()[1].state, SqState::Absent));
+    assert!(rt; matches!(guest.io_queue(&rt).state, SqState::Absent));
 
     guest.controller.head_doorbell(0, 2);
     guest.submit(&rt, 0, 2, entry(AdminKind::DeleteCq { q: 1 }, 2));
     assert_eq!(rt; guest.controller.fetch(0, &mut guest.memory), Ok(2));
     assert_eq!(rt; guest.controller.complete(0, 2, &mut guest.memory), Ok(()));
     assert_eq!(rt; guest.completion(&rt, 0, 2).status, Status::SUCCESS);
-    assert!(rt; !guest.controller.queues()[1].cq_there);
+    assert!(rt; !guest.io_queue(&rt).cq_there);
     Ok(())
 }
 

@@ -1,5 +1,7 @@
 //! A hundred thousand calls over pages with arbitrary bytes.
 
+ghost use Rattle.std.specs.Prelude.{◌<◌};
+
 use crate::guest::{Guest, io_entry};
 use controller_core::Refusal;
 use page_memory::{Dma, FlatMemory};
@@ -22,10 +24,10 @@ impl Numbers {
     }
 
     /// A number below another.
-    fn below(&mut self, count: u32) -> u32 {
-        if count == 0 {
-            return 0;
-        }
+    fn below(&mut self, count: u32) -> u32
+        requires { 0 < count }
+        ensures { result < count }
+    {
         self.next() % count
     }
 }
@@ -41,8 +43,8 @@ fn scramble(rt: &impl Abort, memory: &mut FlatMemory, numbers: &mut Numbers, pag
 
 /// An entry over few blocks, with a list that begins somewhere in the memory, so that many walks get beyond their first unit.
 fn likely_entry(numbers: &mut Numbers) -> [u8; 64] {
-    let opcode = [0x02, 0x01, 0x05, 0x00, 0x04, 0x08][numbers.below(6) as usize % 6];
-    let blocks = 1 + numbers.below(3) as u16 % 3;
+    let opcode = [0x02, 0x01, 0x05, 0x00, 0x04, 0x08][numbers.below(6) as usize];
+    let blocks = 1 + numbers.below(3) as u16;
     let addr = u64::from(numbers.below(0x8000));
     let mut bytes = io_entry(
         opcode,
@@ -55,17 +57,17 @@ fn likely_entry(numbers: &mut Numbers) -> [u8; 64] {
     .write();
     // One in four names its list by another descriptor, or has another byte that is wrong.
     if numbers.below(4) == 0 {
-        let place = numbers.below(64) as usize % 64;
+        let place = numbers.below(64) as usize;
         bytes[place] = numbers.below(256) as u8;
     }
     bytes
 }
 
-/// Does a call with arbitrary arguments, most of them of a command that there is. Whether it was refused.
+/// Does a call with arbitrary arguments, often of a command that there is. Whether it was refused.
 fn call(guest: &mut Guest, numbers: &mut Numbers) -> Option<Refusal> {
     let mut q = numbers.below(3) as u16;
     let mut cid = numbers.below(8) as u16;
-    let chosen = numbers.below(guest.controller.commands().len() as u32 + 1) as usize;
+    let chosen = numbers.below(10) as usize;
     if let Some(command) = guest.controller.commands().get(chosen) {
         q = command.q;
         cid = command.work.entry().cid;

@@ -49,33 +49,33 @@ fn a_read_of_one_block(rt: HostRuntime) -> Result<(), Fail> {
 #[test]
 fn a_write_is_read_back(rt: HostRuntime) -> Result<(), Fail> {
     let mut guest = Guest::open(&rt)?;
+    guest.memory.clear();
     guest.memory.write(DATA, &[0xAB; 512])?;
     let other = DATA + 0x1000;
-    let entries = [
-        io_entry(WRITE, 7, 5, 1, DATA, 512),
-        io_entry(READ, 8, 5, 1, other, 512),
-        io_entry(COMPARE, 9, 5, 1, other, 512),
-    ];
-    for (slot, entry) in (0..3u16).zip(entries) {
-        guest.submit(&rt, 1, slot, entry);
-        assert_eq!(rt; guest.controller.fetch(1, &mut guest.memory), Ok(entry.cid));
-        guest.walk_to_end(&rt, 1, entry.cid);
-        assert_eq!(rt;
-            guest.controller.complete(1, entry.cid, &mut guest.memory),
-            Ok(())
-        );
-        let completion = guest.completion(&rt, 1, slot);
-        assert_eq!(rt; completion.cid, entry.cid);
-        assert_eq!(rt; completion.sqhd, slot + 1);
-        assert_eq!(rt; completion.status, entry_codec::Status::SUCCESS);
-    }
+    guest.serve(&rt, 0, io_entry(WRITE, 7, 5, 1, DATA, 512));
+    guest.serve(&rt, 1, io_entry(READ, 8, 5, 1, other, 512));
+    guest.serve(&rt, 2, io_entry(COMPARE, 9, 5, 1, other, 512));
     let mut bytes = [0; 512];
     guest.memory.clear();
     guest.memory.read(other, &mut bytes)?;
     assert_eq!(rt; bytes, [0xAB; 512]);
+    Ok(())
+}
+
+/// The image has what a Write put into it.
+#[test]
+fn a_write_changes_the_image(rt: HostRuntime) -> Result<(), Fail> {
+    let mut guest = Guest::open(&rt)?;
+    guest.memory.clear();
+    guest.memory.write(DATA, &[0xCD; 512])?;
+    guest.serve(&rt, 0, io_entry(WRITE, 1, 63, 1, DATA, 512));
+    let image = guest.controller.image();
+    assert_eq!(rt; image.blocks(), 64);
     let mut block = [0; 512];
-    guest.controller.image().copy_out(5, &mut block);
-    assert_eq!(rt; block, [0xAB; 512]);
+    image.copy_out(63, &mut block);
+    assert_eq!(rt; block, [0xCD; 512]);
+    image.copy_out(62, &mut block);
+    assert_eq!(rt; block, [0; 512]);
     Ok(())
 }
 
@@ -83,6 +83,7 @@ fn a_write_is_read_back(rt: HostRuntime) -> Result<(), Fail> {
 #[test]
 fn a_compare_that_differs(rt: HostRuntime) -> Result<(), Fail> {
     let mut guest = Guest::open(&rt)?;
+    guest.memory.clear();
     guest.memory.write(DATA, &[1])?;
     guest.submit(&rt, 1, 0, io_entry(COMPARE, 2, 0, 1, DATA, 512));
     assert_eq!(rt; guest.controller.fetch(1, &mut guest.memory), Ok(2));

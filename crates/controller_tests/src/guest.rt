@@ -5,9 +5,9 @@ ghost use Rattle.std.specs.Prelude.{◌<◌};
 ghost use Rattle.entry_codec.specs.Submission.{FitsSubmission};
 
 use block_image::Image;
-use controller_core::{Controller, QueuePages};
+use controller_core::{Controller, ControllerQueue, QueuePages};
 use controller_walk::WalkState;
-use entry_codec::{ComEntry, SubEntry};
+use entry_codec::{ComEntry, Status, SubEntry};
 use page_memory::{Dma, FlatMemory, PageNo};
 use sgl_descriptor::Descriptor;
 use std::process::Abort;
@@ -95,6 +95,29 @@ impl Guest {
                 .iter()
                 .zip(pages)
                 .all(|(page, number)| page.0 == *number)
+    }
+
+    /// Carries a command of the I/O queue from its entry to its completion, which says that it went well.
+    pub(crate) fn serve(&mut self, rt: &impl Abort, slot: u16, entry: SubEntry)
+        requires fits { FitsSubmission entry }
+        requires slot { slot < 4 }
+    {
+        self.submit(rt, 1, slot, entry);
+        assert_eq!(rt; self.controller.fetch(1, &mut self.memory), Ok(entry.cid));
+        self.walk_to_end(rt, 1, entry.cid);
+        assert_eq!(rt; self.controller.complete(1, entry.cid, &mut self.memory), Ok(()));
+        let completion = self.completion(rt, 1, slot);
+        assert_eq!(rt; completion.cid, entry.cid);
+        assert_eq!(rt; completion.sqhd, (slot + 1) % ENTRIES);
+        assert_eq!(rt; completion.status, Status::SUCCESS);
+    }
+
+    /// The I/O queue at the controller.
+    pub(crate) fn io_queue(&self, rt: &impl Abort) -> &ControllerQueue {
+        match self.controller.queues().get(1) {
+            Some(queue) => queue,
+            None => panic!(rt; "there is no I/O queue"),
+        }
     }
 
     /// Walks a command to its end.

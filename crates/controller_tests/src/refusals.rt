@@ -24,13 +24,13 @@ fn doorbells_out_of_range(rt: HostRuntime) -> Result<(), Fail> {
     guest.controller.tail_doorbell(1, 3);
     // A slot of zeros is an entry, of an opcode that no I/O queue has.
     assert_eq!(rt; guest.controller.fetch(1, &mut guest.memory), Ok(0));
-    assert_eq!(rt;
-        guest.controller.commands()[0].work.verdict(),
-        Some(Status::INVALID_OPCODE)
-    );
+    let command = guest.controller.commands().first().expect(&rt, "it is fetched");
+    assert!(rt; command.is_named(1, 0));
+    assert_eq!(rt; command.work.entry().opcode, 0);
+    assert_eq!(rt; command.work.verdict(), Some(Status::INVALID_OPCODE));
     guest.controller.head_doorbell(1, 1);
-    assert_eq!(rt; guest.controller.queues()[1].device.head(), 1);
-    assert!(rt; !guest.controller.queues()[1].device.is_full());
+    assert_eq!(rt; guest.io_queue(&rt).device.head(), 1);
+    assert!(rt; !guest.io_queue(&rt).device.is_full());
     Ok(())
 }
 
@@ -89,6 +89,7 @@ fn slots_with_a_missing_byte(rt: HostRuntime) -> Result<(), Fail> {
     let mut guest = Guest::open(&rt)?;
     guest.submit(&rt, 1, 0, io_entry(0x77, 0, 0, 1, DATA, 512));
     assert_eq!(rt; guest.controller.fetch(1, &mut guest.memory), Ok(0));
+    assert_eq!(rt; guest.memory.pages(), 8);
     guest.memory.remove(0x3000 + 15, 1);
     assert_eq!(rt;
         guest.controller.complete(1, 0, &mut guest.memory),
@@ -96,6 +97,7 @@ fn slots_with_a_missing_byte(rt: HostRuntime) -> Result<(), Fail> {
     );
     assert!(rt; guest.has_touched(&[]));
     assert_eq!(rt; guest.controller.commands().len(), 1);
+    assert_eq!(rt; guest.memory.pages(), 8);
     guest.memory.remove(0x2000 + 64, 1);
     guest.controller.tail_doorbell(1, 2);
     assert_eq!(rt;
