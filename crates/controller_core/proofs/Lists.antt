@@ -126,6 +126,14 @@ get-at q [] x l e = absurd (omega arith)
 get-at {A = A} zero (z ∷ xs) x l e = ap (λ (w : A). Some w) (sym e)
 get-at (suc q) (z ∷ xs) x l e = get-at q xs x (omega arith) e
 
+-- two changes that bear one another, in either order
+pub change-change : {A : Type 0} (j k : ℕ) (f g : A → A) → ((x : A) → f (g x) ≡ g (f x)) → (xs : List A) → change j f (change k g xs) ≡ change k g (change j f xs)
+change-change j k f g same [] = refl
+change-change zero zero f g same (x ∷ xs) = ap (λ y. y ∷ xs) (same x)
+change-change zero (suc k) f g same (x ∷ xs) = refl
+change-change (suc j) zero f g same (x ∷ xs) = refl
+change-change (suc j) (suc k) f g same (x ∷ xs) = ap (λ ys. x ∷ ys) (change-change j k f g same xs)
+
 -- the member itself
 pub change-here : {A : Type 0} (k : ℕ) (f : A → A) (xs : List A) (x : A) → slice_get xs k ≡ Some x → slice_get (change k f xs) k ≡ Some (f x)
 change-here k f [] x e = cc

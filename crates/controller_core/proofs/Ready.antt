@@ -1,7 +1,7 @@
 -- A command that was found ready completes.
-use Rattle.std.proofs.Common.{◌≡◌, ℕ, ◌<◌, ◌==◌, ◌&&◌, ◌++◌, ◌∷◌, [], not, ◌/◌, Bool, true, false, Option, Some, None, IsSome, IfSome, is_none, is_some, List, length, find, slice_get, get_or, if◌then◌else◌, refl, ap, ap₂, sym, ◌∙◌, arith, subst, eqb-true}
+use Rattle.std.proofs.Common.{◌≡◌, ℕ, ◌<◌, ◌==◌, ◌&&◌, ◌++◌, ◌∷◌, [], not, ◌/◌, Bool, true, false, Option, Some, None, Result, Ok, Err, IsSome, IfSome, is_none, is_some, List, length, find, slice_get, slice_set, get_or, if◌then◌else◌, refl, ap, ap₂, sym, ◌∙◌, arith, subst, eqb-true}
 use Rattle.std.specs.List.{remove}
-use Rattle.std.specs.Option.{option_map_or}
+use Rattle.std.specs.Result.{OnOk}
 use Rattle.std.proofs.lemmas.Bool.{eqb-false}
 use Rattle.admin_commands.specs.Entries.{named_queue}
 use Rattle.block_image.specs.Blocks.{block_count}
@@ -15,11 +15,13 @@ use Rattle.controller_core.specs.Contents.{change, Contents, IsController, AreCo
 use Rattle.controller_core.specs.declared.refusal.Refusal.{Refusal}
 use Rattle.controller_core.specs.declared.refusal.Refusal.TheVariants as refusal
 use Rattle.page_memory.specs.Memory.{Memory}
-use Rattle.controller_core.specs.Answering.{post_refusal, completion_by, memory_posted, page_posted, with_answer, Posts}
+use Rattle.queue_pair.specs.Rings.{DeviceSide, answer_posted}
+use Rattle.controller_core.specs.Answering.{answer_refusal, completion_by, memory_posted, page_posted, with_answer, Posts}
 use Rattle.controller_core.specs.Completing.{CompletesTo, complete_refusal, command_refusal, queues_of_end, image_of_end, status_of_end, waits_among, without_command, without_submission, IsOver}
+use Rattle.controller_core.specs.Doorbells.{with_side}
 use Rattle.controller_core.specs.declared.command.Work.TheVariants.{Io, Admin}
 use Rattle.controller_core.specs.declared.queue.ControllerQueue.{ControllerQueue}
-use Rattle.controller_core.proofs.Lists.{length-change, all-at, all-filter, count-filter, change-other, found_is, get-at, without-one}
+use Rattle.controller_core.proofs.Lists.{some_is, change-change, length-change, all-at, change-at, all-filter, count-filter, found_is, get-at, without-one}
 
 -- How a command ends
 
@@ -48,14 +50,6 @@ end_fits blocks q done image (Admin entry status dw0) fits = fits.1
 pub end_over : (blocks q done : ℕ) (work : Work) → FitsWork blocks q done work → IsOver blocks work
 end_over blocks q done (Io job) fits = fits.1
 end_over blocks q done (Admin entry status dw0) fits = tt
-
-queue_stays : (blocks q done : ℕ) (queues : List ControllerQueue) (work : Work) → FitsWork blocks q done work → slice_get (queues_of_end work queues) q ≡ slice_get queues q
-queue_stays blocks q done queues (Io job) fits = refl
-queue_stays blocks q done queues (Admin entry status dw0) fits = by (is_deletion entry status) refl
-  where
-    by : (b : Bool) → is_deletion entry status ≡ b → slice_get (if b then change (named_queue entry) without_submission queues else queues) q ≡ slice_get queues q
-    by true e = change-other (named_queue entry) q without_submission queues (λ same. eqb-false (named_queue entry) 0 (fits.2 e) (same ∙ fits.0))
-    by false e = refl
 
 length-end : (work : Work) (queues : List ControllerQueue) → length (queues_of_end work queues) ≡ length queues
 length-end (Io job) queues = refl
@@ -98,57 +92,38 @@ is_found c q cid place k is found inside e =
       alone = without-one (is_command q cid) c.commands place k at (found_is (is_command q cid) c.commands k found') (is.commands.differ q cid);
     }
 
--- What may be refused
-
-if_none : (b : Bool) (why : Refusal) (rest : Option Refusal) → (if b then Some why else rest) ≡ None → (b ≡ false) × (rest ≡ None)
-if_none true why rest e = cc
-if_none false why rest e = (refl, e)
-
-pub refusal_found : (c : Contents) (m : Memory) (q cid place : ℕ) (k : FetchedCommand) → IsFound c q cid place k → complete_refusal c m q cid ≡ command_refusal c m q k
-refusal_found c m q cid place k f = ap (λ (o : Option FetchedCommand). option_map_or (command_refusal c m q) o (Some refusal.NoJob)) f.found
-
-pub refusal_last : (c : Contents) (m : Memory) (q : ℕ) (k : FetchedCommand) (queue : ControllerQueue) → is_none (verdict_of_work k.work) ≡ false → waits_among c.commands k ≡ false → slice_get c.queues q ≡ Some queue
-    → command_refusal c m q k ≡ post_refusal m queue.device
-refusal_last c m q k queue a b e = rw (a, b, e) refl
-
-some_of : (o : Option Status) → is_none o ≡ false → IsSome o
-some_of None e = cc
-some_of (Some x) e = refl
-
-pub ready_verdict : (c : Contents) (m : Memory) (q : ℕ) (k : FetchedCommand) → command_refusal c m q k ≡ None → IsSome (verdict_of_work k.work)
-ready_verdict c m q k e = some_of (verdict_of_work k.work) (if_none (is_none (verdict_of_work k.work)) refusal.Walking _ e).0
-
-pub ready_post : (c : Contents) (m : Memory) (q : ℕ) (k : FetchedCommand) → command_refusal c m q k ≡ None → IfSome (slice_get c.queues q) (λ queue. post_refusal m queue.device ≡ None)
-ready_post c m q k e = go (slice_get c.queues q) (if_none (waits_among c.commands k) refusal.Waits _ (if_none (is_none (verdict_of_work k.work)) refusal.Walking _ e).1).1
-  where
-    go : (o : Option ControllerQueue) → option_map_or (λ (queue : ControllerQueue). post_refusal m queue.device) o None ≡ None → IfSome o (λ queue. post_refusal m queue.device ≡ None)
-    go None e = tt
-    go (Some queue) e = e
-
--- behind the end of its work the queue can still post
-pub end_there : (c : Contents) (q cid place : ℕ) (k : FetchedCommand) (queues : List ControllerQueue) → IsFound c q cid place k → queues ≡ queues_of_end k.work c.queues → q < length queues
-end_there c q cid place k queues f e = subst (λ (n : ℕ). q < n) (sym (ap length e ∙ length-end k.work c.queues)) f.there
-
-pub end_post : (c : Contents) (m : Memory) (q cid place : ℕ) (k : FetchedCommand) (queues : List ControllerQueue) → IsFound c q cid place k → complete_refusal c m q cid ≡ None → queues ≡ queues_of_end k.work c.queues
-    → IfSome (slice_get queues q) (λ queue. post_refusal m queue.device ≡ None)
-end_post c m q cid place k queues f none e =
-    subst (λ (o : Option ControllerQueue). IfSome o (λ queue. post_refusal m queue.device ≡ None))
-    (sym (ap (λ (xs : List ControllerQueue). slice_get xs q) e ∙ queue_stays (block_count c.image) q k.units_done c.queues k.work f.fits))
-    (ready_post c m q k (sym (refusal_found c m q cid place k f) ∙ none))
+pub verdict_at : (v c : Contents) (place : ℕ) (k : FetchedCommand) → v ≡ c → slice_get v.commands place ≡ Some k → IfSome (slice_get c.commands place) (λ k. IsSome (verdict_of_work k.work)) → IsSome (verdict_of_work k.work)
+verdict_at v c place k e at known =
+    subst (λ (o : Option FetchedCommand). IfSome o (λ k. IsSome (verdict_of_work k.work))) at
+    (subst (λ (x : Contents). IfSome (slice_get x.commands place) (λ k. IsSome (verdict_of_work k.work))) (sym e) known)
 
 -- What it leaves
 
-pub finishes : (c : Contents) (m m' : Memory) (q cid place : ℕ) (k : FetchedCommand) (queues queues' : List ControllerQueue) (commands : List FetchedCommand) (image : List ℕ) (st : Status) (dw0 : ℕ) (reached touched : List ℕ)
-    → IsFound c q cid place k → queues ≡ queues_of_end k.work c.queues → commands ≡ remove c.commands place → image ≡ image_of_end c.image k.work → st ≡ status_of_end c.image k.work → dw0 ≡ dw0_of_work k.work → reached ≡ []
-    → Posts queues q cid st dw0 m reached queues' m' touched → CompletesTo c q cid m (record { queues = queues'; commands = commands; image = image }) m' touched
-finishes c m m' q cid place k queues queues' commands image st dw0 reached touched f eq ec ei es ed er posts =
+end-posted : (work : Work) (q : ℕ) (queues : List ControllerQueue) → queues_of_end work (change q with_answer queues) ≡ change q with_answer (queues_of_end work queues)
+end-posted (Io job) q queues = refl
+end-posted (Admin entry status dw0) q queues = by (is_deletion entry status)
+  where
+    by : (b : Bool) → (if b then change (named_queue entry) without_submission (change q with_answer queues) else change q with_answer queues)
+        ≡ change q with_answer (if b then change (named_queue entry) without_submission queues else queues)
+    by true = change-change (named_queue entry) q without_submission with_answer (λ queue. refl) queues
+    by false = refl
+
+-- what was posted for a command at a place, and what was done for the same command behind that
+pub finishes : (c : Contents) (m m' : Memory) (q cid place : ℕ) (k k' : FetchedCommand) (queues queues' : List ControllerQueue) (commands : List FetchedCommand) (image : List ℕ) (st : Status) (dw0 : ℕ) (reached touched : List ℕ)
+    → IsFound c q cid place k → IsFound c q cid place k' → st ≡ status_of_end c.image k.work → dw0 ≡ dw0_of_work k.work → reached ≡ [] → Posts c.queues q cid st dw0 m reached queues m' touched
+    → commands ≡ remove c.commands place → queues' ≡ queues_of_end k'.work queues → image ≡ image_of_end c.image k'.work → CompletesTo c q cid m (record { queues = queues'; commands = commands; image = image }) m' touched
+finishes c m m' q cid place k k' queues queues' commands image st dw0 reached touched f f' es ed er posts ec eq ei =
+    let same : k ≡ k' = some_is (sym f.at ∙ f'.at) in
+    let by_status : st ≡ status_of_end c.image k'.work = es ∙ ap (λ (x : FetchedCommand). status_of_end c.image x.work) same in
+    let by_dw0 : dw0 ≡ dw0_of_work k'.work = ed ∙ ap (λ (x : FetchedCommand). dw0_of_work x.work) same in
+    let left : queues' ≡ change q with_answer (queues_of_end k'.work c.queues) = eq ∙ (ap (queues_of_end k'.work) posts.queues_posted ∙ end-posted k'.work q c.queues) in
     record {
-      command = k;
+      command = k';
       queue = posts.queue;
-      found = f.found;
-      here = sym (queue_stays (block_count c.image) q k.units_done c.queues k.work f.fits) ∙ (ap (λ (xs : List ControllerQueue). slice_get xs q) (sym eq) ∙ posts.here);
-      leaves = rw (posts.queues_posted, eq, ec, ei, ← f.alone) refl;
-      memory = posts.memory ∙ ap₂ (λ (st : Status) (dw0 : ℕ). memory_posted m posts.queue.device (completion_by q cid st dw0 posts.queue.device)) es ed;
+      found = f'.found;
+      here = posts.here;
+      leaves = rw (left, ec, ei, ← f'.alone) refl;
+      memory = posts.memory ∙ ap₂ (λ (st : Status) (dw0 : ℕ). memory_posted m posts.queue.device (completion_by q cid st dw0 posts.queue.device)) by_status by_dw0;
       touches = posts.touches ∙ ap (λ (xs : List ℕ). xs ++ page_posted posts.queue.device ∷ []) er;
     }
 
@@ -159,10 +134,10 @@ commands-without blocks queues q cid commands are = record {
 }
 
 pub finished_kept : (c : Contents) (m m' : Memory) (q cid place : ℕ) (k : FetchedCommand) (queues queues' : List ControllerQueue) (commands : List FetchedCommand) (image : List ℕ) (st : Status) (dw0 : ℕ) (reached touched : List ℕ)
-    → IsController c → IsFound c q cid place k → queues ≡ queues_of_end k.work c.queues → commands ≡ remove c.commands place → length image ≡ length c.image
-    → Posts queues q cid st dw0 m reached queues' m' touched → IsController (record { queues = queues'; commands = commands; image = image })
-finished_kept c m m' q cid place k queues queues' commands image st dw0 reached touched is f eq ec ei posts =
-    let size : length queues' ≡ length c.queues = ap length posts.queues_posted ∙ (length-change q with_answer queues ∙ (ap length eq ∙ length-end k.work c.queues)) in
+    → IsController c → IsFound c q cid place k → Posts c.queues q cid st dw0 m reached queues m' touched → commands ≡ remove c.commands place → queues' ≡ queues_of_end k.work queues → length image ≡ length c.image
+    → IsController (record { queues = queues'; commands = commands; image = image })
+finished_kept c m m' q cid place k queues queues' commands image st dw0 reached touched is f posts ec eq ei =
+    let size : length queues' ≡ length c.queues = ap length eq ∙ (length-end k.work queues ∙ (ap length posts.queues_posted ∙ length-change q with_answer c.queues)) in
     record {
       commands =
           subst (λ (n : ℕ). AreCommands (block_count image) n commands) (sym size)
@@ -171,10 +146,19 @@ finished_kept c m m' q cid place k queues queues' commands image st dw0 reached 
     }
 
 -- A completion is posted in a queue that is there.
-pub posts_by : (queues queues' : List ControllerQueue) (q i cid : ℕ) (st : Status) (dw0 : ℕ) (m m' : Memory) (reached reached' : List ℕ) (queue : ControllerQueue)
-    → slice_get queues q ≡ Some queue → queues' ≡ change q with_answer queues → m' ≡ memory_posted m queue.device (completion_by q cid st dw0 queue.device) → reached' ≡ reached ++ page_posted queue.device ∷ []
-    → Posts queues q cid st dw0 m reached queues' m' reached'
-posts_by queues queues' q i cid st dw0 m m' reached reached' queue here eq em er = record { queue = queue; here = here; queues_posted = eq; memory = em; touches = er }
+pub posts_by : (result : Result (Unit {0}) Refusal) (queues : List ControllerQueue) (q i cid : ℕ) (st : Status) (dw0 : ℕ) (m m' : Memory) (reached reached' : List ℕ) (queue : ControllerQueue) (device : DeviceSide)
+    → i ≡ q → q < length queues → queue ≡ get_or queues i queue → OnOk result (device ≡ record queue.device { ring = answer_posted queue.device.entries queue.device.ring })
+    → OnOk result (m' ≡ memory_posted m queue.device (completion_by q cid st dw0 queue.device)) → OnOk result (reached' ≡ reached ++ page_posted queue.device ∷ [])
+    → OnOk result (Posts queues q cid st dw0 m reached (slice_set queues i (with_side device queue)) m' reached')
+posts_by (Err why) queues q i cid st dw0 m m' reached reached' queue device same there at a b d = tt
+posts_by (Ok x) queues q i cid st dw0 m m' reached reached' queue device same there at a b d =
+    record {
+      queue = queue;
+      here = get-at q queues queue there (subst (λ (k : ℕ). queue ≡ get_or queues k queue) same at);
+      queues_posted = change-at q i with_answer queues queue (with_side device queue) same (omega (arith, same, there)) at (ap (λ (side : DeviceSide). with_side side queue) a);
+      memory = b;
+      touches = d;
+    }
 
 -- The same of a controller's value and of what is in it
 
@@ -183,26 +167,10 @@ is_found_in v c q cid place k e is found inside at =
     is_found v q cid place k is
     (subst (λ (x : Contents). find (is_command q cid) x.commands ≡ slice_get x.commands place) (sym e) found) (subst (λ (x : Contents). place < length x.commands) (sym e) inside) at
 
-pub is_found_among : (v : Contents) (xs : List FetchedCommand) (q cid place : ℕ) (k : FetchedCommand) → xs ≡ v.commands → IsController v → find (is_command q cid) xs ≡ slice_get xs place → place < length xs → k ≡ get_or v.commands place k → IsFound v q cid place k
-is_found_among v xs q cid place k e is found inside at =
-    is_found v q cid place k is (subst (λ (x : List FetchedCommand). find (is_command q cid) x ≡ slice_get x place) e found) (subst (λ (x : List FetchedCommand). place < length x) e inside) at
-
-pub refusal_in : (v c : Contents) (m : Memory) (q cid : ℕ) → v ≡ c → complete_refusal c m q cid ≡ None → complete_refusal v m q cid ≡ None
-refusal_in v c m q cid e none = ap (λ (x : Contents). complete_refusal x m q cid) e ∙ none
-
-pub told : (v c : Contents) (xs : List FetchedCommand) (ys : List ControllerQueue) (m : Memory) (q cid place : ℕ) (k : FetchedCommand) (queue : ControllerQueue) (verdict : Option Status) (o : Option Refusal) → v ≡ c → IsFound v q cid place k → xs ≡ v.commands → ys ≡ v.queues
-    → is_some verdict ≡ true → verdict ≡ verdict_of_work k.work → false ≡ waits_among xs k → slice_get ys q ≡ Some queue → o ≡ post_refusal m queue.device → o ≡ complete_refusal c m q cid
-told v c xs ys m q cid place k queue verdict o e f ex ey some ev waits at is =
-    is ∙ (sym (refusal_last v m q k queue (ap is_none (sym ev) ∙ ap not some) (ap (λ (x : List FetchedCommand). waits_among x k) (sym ex) ∙ sym waits)
-    (ap (λ (x : List ControllerQueue). slice_get x q) (sym ey) ∙ at))
-    ∙ (sym (refusal_found v m q cid place k f) ∙ ap (λ (x : Contents). complete_refusal x m q cid) e))
-
-pub there_among : (v : Contents) (ys : List ControllerQueue) (q cid place : ℕ) (k : FetchedCommand) → IsFound v q cid place k → ys ≡ v.queues → q < length ys
-there_among v ys q cid place k f e = subst (λ (x : List ControllerQueue). q < length x) (sym e) f.there
-
-pub finishes_in : (v c c' : Contents) (m m' : Memory) (q cid place : ℕ) (k : FetchedCommand) (queues queues' : List ControllerQueue) (commands : List FetchedCommand) (image : List ℕ) (st : Status) (dw0 : ℕ) (reached touched : List ℕ)
-    → v ≡ c → IsFound v q cid place k → queues ≡ queues_of_end k.work v.queues → commands ≡ remove v.commands place → image ≡ image_of_end v.image k.work → st ≡ status_of_end v.image k.work → dw0 ≡ dw0_of_work k.work → reached ≡ []
-    → Posts queues q cid st dw0 m reached queues' m' touched → c' ≡ record { queues = queues'; commands = commands; image = image } → CompletesTo c q cid m c' m' touched
-finishes_in v c c' m m' q cid place k queues queues' commands image st dw0 reached touched e f eq ec ei es ed er posts is =
+pub finishes_in : (v c c' : Contents) (m m1 m' : Memory) (q cid place : ℕ) (k k' : FetchedCommand) (queues queues' : List ControllerQueue) (commands : List FetchedCommand) (image : List ℕ) (st : Status) (dw0 : ℕ) (reached touched : List ℕ)
+    → v ≡ c → m1 ≡ m → IsFound v q cid place k → IsFound v q cid place k' → st ≡ status_of_end v.image k.work → dw0 ≡ dw0_of_work k.work → reached ≡ [] → Posts v.queues q cid st dw0 m1 reached queues m' touched
+    → commands ≡ remove v.commands place → queues' ≡ queues_of_end k'.work queues → image ≡ image_of_end v.image k'.work → c' ≡ record { queues = queues'; commands = commands; image = image } → CompletesTo c q cid m c' m' touched
+finishes_in v c c' m m1 m' q cid place k k' queues queues' commands image st dw0 reached touched e em f f' es ed er posts ec eq ei is =
     subst (λ (x : Contents). CompletesTo x q cid m c' m' touched) e
-    (subst (λ (x : Contents). CompletesTo v q cid m x m' touched) (sym is) (finishes v m m' q cid place k queues queues' commands image st dw0 reached touched f eq ec ei es ed er posts))
+    (subst (λ (n : Memory). CompletesTo v q cid n c' m' touched) em
+    (subst (λ (x : Contents). CompletesTo v q cid m1 x m' touched) (sym is) (finishes v m1 m' q cid place k k' queues queues' commands image st dw0 reached touched f f' es ed er posts ec eq ei)))

@@ -1,5 +1,6 @@
 -- A completion is posted.
 use Rattle.std.specs.Prelude.{◌≡◌, ℕ, ◌++◌, ◌∷◌, [], Option, Some, None, List, slice_get, is_none, if◌then◌else◌}
+use Rattle.std.specs.Option.{option_map_or}
 use Rattle.entry_codec.specs.Completion.{completion_bytes}
 use Rattle.entry_codec.specs.declared.completion.ComEntry.{ComEntry}
 use Rattle.entry_codec.specs.declared.status.Status.{Status}
@@ -19,6 +20,10 @@ post_refusal m device =
     if is_full device.entries device.ring.known_head device.ring.tail then Some refusal.Full
     else if is_none (completion_slot m device.cq device.ring.tail) then Some refusal.SlotOut
     else None
+
+-- the same of a queue by its number
+abbrev pub answer_refusal : List ControllerQueue → Memory → ℕ → Option Refusal
+answer_refusal queues m q = option_map_or (λ queue. post_refusal m queue.device) (slice_get queues q) None
 
 -- the completion of a command, with the submission head and the phase of this moment
 abbrev pub completion_by : ℕ → ℕ → Status → ℕ → DeviceSide → ComEntry

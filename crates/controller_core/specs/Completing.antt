@@ -9,7 +9,7 @@ use Rattle.entry_codec.specs.declared.status.Status.{Status}
 use Rattle.io_commands.specs.Jobs.{finished_status, finished_image, is_success}
 use Rattle.page_memory.specs.Memory.{Memory}
 use Rattle.controller_core.specs.Contents.{Contents, FetchedCommand, Work, change, entry_of_work, verdict_of_work, dw0_of_work, is_command, is_deletion}
-use Rattle.controller_core.specs.Answering.{post_refusal, completion_by, memory_posted, page_posted, with_answer}
+use Rattle.controller_core.specs.Answering.{answer_refusal, completion_by, memory_posted, page_posted, with_answer}
 use Rattle.controller_core.specs.declared.command.Work.TheVariants.{Io, Admin}
 use Rattle.controller_core.specs.declared.queue.ControllerQueue.{ControllerQueue}
 use Rattle.controller_core.specs.declared.refusal.Refusal.{Refusal}
@@ -35,7 +35,7 @@ abbrev pub command_refusal : Contents → Memory → ℕ → FetchedCommand → 
 command_refusal c m q k =
     if is_none (verdict_of_work k.work) then Some refusal.Walking
     else if waits_among c.commands k then Some refusal.Waits
-    else option_map_or (λ queue. post_refusal m queue.device) (slice_get c.queues q) None
+    else answer_refusal c.queues m q
 
 -- what a completion is refused for, the first that holds
 abbrev pub complete_refusal : Contents → Memory → ℕ → ℕ → Option Refusal

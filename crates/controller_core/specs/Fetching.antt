@@ -9,7 +9,7 @@ use Rattle.io_commands.specs.Jobs.{JobContents, io_fault, bytes_after_check, Beg
 use Rattle.page_memory.specs.Memory.{Memory}
 use Rattle.queue_pair.specs.Memory.{submission_page, entry_at}
 use Rattle.queue_pair.specs.Rings.{DeviceSide}
-use Rattle.controller_core.specs.Answering.{post_refusal, completion_by, memory_posted, page_posted, with_answer}
+use Rattle.controller_core.specs.Answering.{answer_refusal, completion_by, memory_posted, page_posted, with_answer}
 use Rattle.controller_core.specs.Contents.{Contents, change, is_command}
 use Rattle.controller_core.specs.Managing.{with_taken, command_of, managed}
 use Rattle.controller_core.specs.declared.command.Work.TheVariants.{Io}
@@ -32,9 +32,6 @@ look_refusal c m q = option_map_or (side_refusal m) (live_side (slice_get c.queu
 
 abbrev pub is_known : Contents → ℕ → SubEntry → Bool
 is_known c q e = is_some (find (is_command q e.cid) c.commands)
-
-abbrev pub answer_refusal : List ControllerQueue → Memory → ℕ → Option Refusal
-answer_refusal queues m q = option_map_or (λ queue. post_refusal m queue.device) (slice_get queues q) None
 
 -- An identifier that was fetched and not completed is answered at once, and wants room for that.
 abbrev pub entry_refusal : Contents → Memory → ℕ → SubEntry → Option Refusal

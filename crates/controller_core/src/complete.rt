@@ -1,12 +1,14 @@
 //! The controller completes a command.
 
-ghost use Rattle.std.specs.Prelude.{◌≡◌, ◌<◌, [], None, IfOk, IsSome, Some, OnOk, OnErr, length, find, slice_get};
+ghost use Rattle.std.specs.Prelude.{◌≡◌, ◌<◌, [], IfErr, IfOk, IfSome, IsSome, Some, OnOk, OnErr, length, find, slice_get};
 ghost use Rattle.std.specs.Result.{result_err};
 ghost use Rattle.block_image.specs.Blocks.{block_count};
+ghost use Rattle.page_memory.specs.Memory.{Memory};
+ghost use Rattle.controller_core.specs.Answering.{answer_refusal};
 ghost use Rattle.controller_core.specs.Completing.{complete_refusal, status_of_end, image_of_end, queues_of_end, without_submission, IsOver, CompletesTo};
 ghost use Rattle.controller_core.specs.Contents.{change, dw0_of_work, verdict_of_work, is_command, is_deletion};
 
-use crate::answer::{answer, check_post};
+use crate::answer::answer;
 use crate::command::Work;
 use crate::controller::Controller;
 use crate::lookup::{find_command, is_success, is_waiting};
@@ -36,48 +38,53 @@ fn drop_submission<A: Allocator>(queues: &mut Vec<ControllerQueue, A>, q: u16)
     }
 }
 
-/// Ends a command: the status of its completion, and its command specific double word.
-fn end_work<A: Allocator>(
+impl<A: Allocator> Work<Job<A>> {
+    /// How a command ends over an image: the status of its completion, and its command specific double word.
+    fn end<B: Allocator>(&self, image: &Image<B>) -> (Status, u32)
+        requires verdict { IsSome (verdict_of_work self.now) }
+        requires over { IsOver (block_count image.now) self.now }
+        ensures status { result.0 ≡ status_of_end image.now self.now }
+        ensures dw0 { result.1 ≡ dw0_of_work self.now }
+    {
+        match self {
+            Work::Io(job) => (job.final_status(image), 0),
+            Work::Admin { status, dw0, .. } => (*status, *dw0),
+        }
+    }
+}
+
+/// Does what a command does at its end: a Write puts its bytes over its blocks, and a deletion leaves nothing of its queue.
+fn settle<A: Allocator>(
     queues: &mut Vec<ControllerQueue, A>,
     image: &mut Image<A>,
     work: Work<Job<A>>,
-) -> (Status, u32)
+)
     requires verdict { IsSome (verdict_of_work work) }
     requires over { IsOver (block_count image.old) work }
-    ensures status { result.0 ≡ status_of_end image.old work }
-    ensures dw0 { result.1 ≡ dw0_of_work work }
     ensures queues { queues.new.items ≡ queues_of_end work queues.old.items }
     ensures image { image.new ≡ image_of_end image.old work }
     ensures as_long { length image.new ≡ length image.old }
 {
     match work {
-        Work::Io(job) => (finish_job(job, image), 0),
-        Work::Admin { entry, status, dw0 } => {
+        Work::Io(job) => {
+            finish_job(job, image);
+        }
+        Work::Admin { entry, status, .. } => {
             if deletes(&entry, status) {
                 drop_submission(queues, queue_of(&entry));
             }
-            (status, dw0)
         }
     }
 }
 
-/// The queue of a number.
-fn queue_at(queues: &[ControllerQueue], q: u16) -> &ControllerQueue
-    requires { q < length queues.now }
-    ensures { slice_get queues.now q ≡ Some result.now }
-{
-    &queues[usize::from(q)]
-}
-
 impl<A: Allocator> Controller<A> {
-    /// The place of the command that completes, or the first cause against it. Nothing changes, but that a page is touched.
-    fn check_complete<D: Dma>(&self, q: u16, cid: u16, dma: &mut D) -> Result<usize, Refusal>
-        requires clear { D.reached dma.old ≡ [] }
-        ensures refusal { result_err result ≡ complete_refusal self.now (D.memory dma.old) q cid }
+    /// The place of the command that completes, or the first cause against it that lies in the command.
+    fn check_complete(&self, q: u16, cid: u16) -> Result<usize, Refusal>
+        ensures refused { IfErr result (λ why. (m : Memory) → complete_refusal self.now m q cid ≡ Some why) }
+        ensures ready { IfOk result (λ place. (m : Memory) → complete_refusal self.now m q cid ≡ answer_refusal self.now.queues m q) }
         ensures place { IfOk result (λ place. find (is_command q cid) self.now.commands ≡ slice_get self.now.commands place) }
         ensures within { IfOk result (λ place. place < length self.now.commands) }
-        ensures memory { D.memory dma.new ≡ D.memory dma.old }
-        ensures pool { D.page_count dma.new ≡ D.page_count dma.old }
+        ensures verdict { IfOk result (λ place. IfSome (slice_get self.now.commands place) (λ k. IsSome (verdict_of_work k.work))) }
     {
         let Some(place) = find_command(&self.commands, q, cid) else {
             return Err(Refusal::NoJob);
@@ -89,24 +96,7 @@ impl<A: Allocator> Controller<A> {
         if is_waiting(&self.commands, command) {
             return Err(Refusal::Waits);
         }
-        match check_post(&queue_at(&self.queues, q).device, dma) {
-            Ok(()) => Ok(place),
-            Err(why) => Err(why),
-        }
-    }
-
-    /// Completes the command at a place, which was found ready.
-    fn finish<D: Dma>(&mut self, q: u16, cid: u16, place: usize, dma: &mut D)
-        requires found { find (is_command q cid) self.old.commands ≡ slice_get self.old.commands place }
-        requires within { place < length self.old.commands }
-        requires accepted { complete_refusal self.old (D.memory dma.old) q cid ≡ None }
-        requires clear { D.reached dma.old ≡ [] }
-        ensures completes { CompletesTo self.old q cid (D.memory dma.old) self.new (D.memory dma.new) (D.reached dma.new) }
-        ensures pool { D.page_count dma.new ≡ D.page_count dma.old }
-    {
-        let command = self.commands.remove(place);
-        let (status, dw0) = end_work(&mut self.queues, &mut self.image, command.work);
-        answer(&mut self.queues, q, cid, status, dw0, dma);
+        Ok(place)
     }
 
     /// Posts the completion of a fetched command, and forgets the command. A Write that ends well changes the image here, and a
@@ -125,14 +115,11 @@ impl<A: Allocator> Controller<A> {
         ensures pool { D.page_count dma.new ≡ D.page_count dma.old }
     {
         dma.clear();
-        let checked = self.check_complete(q, cid, dma);
-        dma.clear();
-        match checked {
-            Ok(place) => {
-                self.finish(q, cid, place, dma);
-                Ok(())
-            }
-            Err(why) => Err(why),
-        }
+        let place = self.check_complete(q, cid)?;
+        let (status, dw0) = self.commands[place].work.end(&self.image);
+        answer(&mut self.queues, q, cid, status, dw0, dma)?;
+        let command = self.commands.remove(place);
+        settle(&mut self.queues, &mut self.image, command.work);
+        Ok(())
     }
 }

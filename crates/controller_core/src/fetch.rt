@@ -4,12 +4,13 @@ ghost use Rattle.std.specs.Prelude.{◌≡◌, ◌≢◌, ◌<◌, ◌+◌, ◌�
 ghost use Rattle.std.specs.Result.{result_err};
 ghost use Rattle.entry_codec.specs.declared.status.TheConstants.Status.{COMMAND_ID_CONFLICT};
 ghost use Rattle.queue_pair.specs.Memory.{entry_at, submission_page};
-ghost use Rattle.controller_core.specs.Answering.{post_refusal, completion_by, memory_posted, page_posted, with_answer};
+ghost use Rattle.controller_core.specs.Answering.{answer_refusal, post_refusal, completion_by, memory_posted, page_posted, with_answer};
 ghost use Rattle.controller_core.specs.Contents.{change, is_command};
-ghost use Rattle.controller_core.specs.Fetching.{live_side, side_refusal, look_refusal, answer_refusal, LooksAt, Begins, AnswersKnown, Fetches};
+ghost use Rattle.controller_core.specs.Fetching.{live_side, side_refusal, look_refusal, LooksAt, Begins, AnswersKnown, Fetches};
 ghost use Rattle.controller_core.specs.Managing.{with_taken, command_of, managed};
 ghost use Rattle.controller_core.specs.declared.command.Work.TheVariants.{Io};
 
+use crate::answer::post_completion;
 use crate::command::{FetchedCommand, Work};
 use crate::controller::Controller;
 use crate::lookup::find_command;
@@ -17,10 +18,10 @@ use crate::manage::{act, view_of};
 use crate::queue::ControllerQueue;
 use crate::refusal::Refusal;
 use admin_commands::{SqState, decide};
-use entry_codec::{ComEntry, Status, SubEntry};
+use entry_codec::{Status, SubEntry};
 use io_commands::{Job, begin_job};
 use page_memory::Dma;
-use queue_pair::{DevicePair, PostFault};
+use queue_pair::DevicePair;
 use std::alloc::{AllocError, Allocator};
 
 /// The rings of a queue from which entries are fetched.
@@ -49,7 +50,6 @@ fn head_entry<D: Dma>(pair: &DevicePair, dma: &mut D) -> Result<SubEntry, Refusa
     ensures memory { D.memory dma.new ≡ D.memory dma.old }
     ensures pool { D.page_count dma.new ≡ D.page_count dma.old }
 {
-    let _head = pair.head();
     match pair.next_entry(dma) {
         Ok(Some(entry)) => Ok(entry),
         Ok(None) => Err(Refusal::Idle),
@@ -71,22 +71,9 @@ impl ControllerQueue {
     {
         let mut pair = self.device;
         pair.take();
-        let completion = ComEntry {
-            dw0: 0,
-            sqhd: pair.head(),
-            sqid: q,
-            cid,
-            phase: false,
-            status: Status::COMMAND_ID_CONFLICT,
-        };
-        match pair.post(dma, completion) {
-            Ok(()) => {
-                self.device = pair;
-                Ok(())
-            }
-            Err(PostFault::Full) => Err(Refusal::Full),
-            Err(PostFault::SlotOut) => Err(Refusal::SlotOut),
-        }
+        post_completion(&mut pair, q, cid, Status::COMMAND_ID_CONFLICT, 0, dma)?;
+        self.device = pair;
+        Ok(())
     }
 }
 
