@@ -5,7 +5,7 @@ use Rattle.machine_model.specs.InOrder.{IsInOrder}
 use Rattle.machine_model.specs.Laws.{Steps}
 use Rattle.machine_model.specs.State.{State}
 use Rattle.machine_model.proofs.InOrders.{opens_in_order, order_kept}
-use Rattle.machine_model.proofs.JobLaws.{all_runs_stay}
+use Rattle.machine_model.proofs.Agreed.{agreed_stays}
 use Rattle.world_tables.specs.Opening.{opening_of}
 use Rattle.driver_book.specs.History.{asked, told, TellsOf, LeadsTo}
 use Rattle.driver_book.specs.Laws.{IsEntryOf, entries_name_allowed_pages, logs_are_trusted_runs}
@@ -38,7 +38,7 @@ entries_stay config image before e after world opens is_image leads = go (leads_
           comes = comes;
           tells = tells;
           goes = goes;
-          stays = λ trusted. let history = order.history trusted in all_runs_stay history.image history.made old new tells.event tells.answer history.run tells.step;
+          stays = λ trusted. agreed_stays old new tells.event tells.answer (order.agree trusted) trusted tells.step;
         }
 
 -- the steps of a log as they were made

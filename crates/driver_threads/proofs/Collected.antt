@@ -1,5 +1,5 @@
 -- A finished command is that of the ticket with which it was collected.
-use Rattle.std.proofs.Common.{◌≡◌, ℕ, ◌==◌, Bool, true, false, ◌||◌, Option, Some, None, List, Result, Ok, Err, find, IfOk, MatchBool, refl, ap, sym, ◌∙◌}
+use Rattle.std.proofs.Common.{◌≡◌, ℕ, ◌==◌, Bool, true, false, ◌||◌, Option, Some, None, Result, Ok, Err, find, IfOk, MatchBool, refl, ap, sym, ◌∙◌}
 use Rattle.std.specs.Prelude.{option_and_then}
 use Rattle.std.specs.Option.{option_map, option_map_or}
 use Rattle.std.proofs.lemmas.Bool.{eqb-true}
@@ -9,7 +9,7 @@ use Rattle.entry_codec.specs.declared.status.Status.{Status}
 use Rattle.io_commands.specs.Asked.{Request}
 use Rattle.io_commands.specs.Values.{FinishedContents, TicketContents}
 use Rattle.machine_model.specs.Events as events
-use Rattle.machine_model.specs.State.{State, Record, is_at, pages_of}
+use Rattle.machine_model.specs.State.{State, Record, is_at}
 use Rattle.machine_model.specs.Step.{finished_from, asked_by, pages_with_bytes}
 use Rattle.step_core.specs.Replies.{collect_reply}
 use Rattle.step_core.specs.declared.refused.Refused.{Refused}

@@ -1,5 +1,5 @@
 -- What a call of a shared book says: that some book of this opening, whose log leads from there to its world, did it.
-use Rattle.std.specs.Prelude.{◌≡◌, ℕ, ◌≤◌, Option, Some, None, List, length, Result, MatchOption}
+use Rattle.std.specs.Prelude.{◌≡◌, ℕ, ◌≤◌, Option, Some, List, length, Result, MatchOption}
 use Rattle.std.specs.List.{Contains}
 use Rattle.io_commands.specs.Drafts.{DraftContents}
 use Rattle.io_commands.specs.Values.{FinishedContents, TicketContents}

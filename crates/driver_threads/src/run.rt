@@ -1,20 +1,20 @@
 //! A run of threads over a new book, and what it leaves.
 
-ghost use Rattle.std.specs.Prelude.{◌≡◌, ◌≤◌, vec_len, IfOk, IfErr};
+ghost use Rattle.std.specs.Prelude.{◌≡◌, ◌≤◌, map, length, vec_len, IfOk, IfErr};
 ghost use Rattle.driver_threads.specs.Runs.{IsAfterOpening, RanFrom, RefusesRun};
 ghost use Rattle.world_tables.specs.Opening.{opening_of};
 
 use crate::gate::Gate;
-use crate::jobs::{Job, JobEnds, Ran, RunFault};
+use crate::jobs::{Job, JobEnd, JobEnds, Ran, RunFault};
 use crate::shared::Shared;
 use crate::workers::{Worked, controller, poller, submitter};
 use block_image::Image;
-use driver_book::{Book, CloseFault, Driver};
-use std::alloc::Global;
+use driver_book::{Book, CloseFault, Driver, Seat};
+use std::alloc::{AllocError, Global};
 use std::sync::Wait;
 use std::sync::ledger::Blank;
 use std::thread;
-use std::thread::Threads;
+use std::thread::{JoinHandle, Threads};
 use step_core::{Config, OpenRefusal};
 
 /// Why a run failed whose book was opened.
@@ -46,6 +46,33 @@ struct Work<L: Driver> {
     short: bool,
 }
 
+/// How long each list is.
+fn lengths<T>(alloc: Global, lists: &[Vec<T>]) -> Result<Vec<usize>, AllocError>
+    ensures { IfOk result (λ lengths. lengths.items ≡ map (λ list. length list.items) lists.now) }
+{
+    lists.iter().map(|list| list.len()).collect(alloc)
+}
+
+/// Joins the submitters, tells the poller and the controller to stop, and joins them.
+fn join_all<L: Driver, R: Threads + Wait>(
+    rt: &R,
+    alloc: Global,
+    shared: &Shared<L>,
+    submitters: Vec<JoinHandle<Worked<L>>>,
+    polls: JoinHandle<Result<(), AllocError>>,
+    serves: JoinHandle<Result<(), AllocError>>,
+) -> Work<L> {
+    let mut workers = Vec::new(alloc);
+    let mut short = false;
+    for handle in submitters {
+        short = workers.push(handle.join(rt)).is_err() || short;
+    }
+    shared.stop(rt);
+    short = serves.join(rt).is_err() || short;
+    short = polls.join(rt).is_err() || short;
+    Work { workers, short }
+}
+
 /// Starts a submitter for each list of jobs, a poller and a controller, and joins them.
 fn run_workers<L: Driver + Send + Sync, G: Gate + Sync, R: Threads + Wait + Sync>(
     rt: &R,
@@ -54,11 +81,7 @@ fn run_workers<L: Driver + Send + Sync, G: Gate + Sync, R: Threads + Wait + Sync
     gate: &G,
     jobs: Vec<Vec<Job>>,
 ) -> Result<Work<L>, Failure> {
-    let count = jobs.len();
-    let Ok(mut workers) = Vec::with_capacity(alloc, count) else {
-        return Err(Failure::Memory);
-    };
-    let Ok(mut handles) = Vec::with_capacity(alloc, count) else {
+    let Ok(mut handles) = Vec::with_capacity(alloc, jobs.len()) else {
         return Err(Failure::Memory);
     };
     thread::scope(thread::scope_env(), rt, |scope| {
@@ -81,14 +104,10 @@ fn run_workers<L: Driver + Send + Sync, G: Gate + Sync, R: Threads + Wait + Sync
                 }
             }
         }
-        for handle in handles {
-            short = workers.push(handle.join(rt)).is_err() || short;
-        }
-        shared.stop(rt);
-        short = serves.join(rt).is_err() || short;
-        short = polls.join(rt).is_err() || short;
+        let mut work = join_all(rt, alloc, shared, handles, polls, serves);
+        work.short = work.short || short;
         if all_started {
-            Ok(Work { workers, short })
+            Ok(work)
         } else {
             Err(Failure::NoThread)
         }
@@ -103,13 +122,22 @@ fn first_closed<L: Driver>(workers: &[Worked<L>]) -> Option<u16> {
         .map(|(worker, _)| worker)
 }
 
-/// Closes the book with the seats of the workers.
-fn finish<L: Driver>(alloc: Global, book: Book<L>, work: Work<L>) -> Result<Ran<L>, Failure>
-    ensures closed { IfOk result (λ ran. RanFrom L.opening ran.report ran.book) }
+/// What submitters hand in: their seats, and how their jobs ended.
+#[derive(Drop)]
+struct HandedIn<L: Driver> {
+    seats: Vec<Seat<L>>,
+    lists: Vec<Vec<JobEnd>>,
+}
+
+/// Takes what the submitters hand in, whose lists of jobs are so long. A job without an end is one before which the workers were told to
+/// stop, as memory was refused to one of them.
+fn handed_in<L: Driver>(
+    alloc: Global,
+    work: Work<L>,
+    jobs: &[usize],
+) -> Result<HandedIn<L>, Failure>
+    ensures { IfOk result (λ hand. map (λ list. length list.items) hand.lists.items ≡ jobs.now) }
 {
-    if let Some(worker) = first_closed(&work.workers) {
-        return Err(Failure::GateClosed { worker });
-    }
     let mut short = work.short;
     let mut seats = Vec::new(alloc);
     let mut lists = Vec::new(alloc);
@@ -118,17 +146,34 @@ fn finish<L: Driver>(alloc: Global, book: Book<L>, work: Work<L>) -> Result<Ran<
             seat,
             ends,
             closed: _,
-            short: one,
+            short: _,
         } = worked;
-        short = short || one || lists.push(ends).is_err();
+        short = lists.push(ends).is_err() || short;
         match seat {
             Some(seat) => short = seats.push(seat).is_err() || short,
             None => return Err(Failure::NoThread),
         }
     }
-    if short {
-        return Err(Failure::Memory);
+    match lengths(alloc, &lists) {
+        Ok(ends) if !short && ends.as_slice() == jobs => Ok(HandedIn { seats, lists }),
+        _ => Err(Failure::Memory),
     }
+}
+
+/// Closes the book with the seats of the workers, whose lists of jobs are so long.
+fn finish<L: Driver>(
+    alloc: Global,
+    book: Book<L>,
+    work: Work<L>,
+    jobs: &[usize],
+) -> Result<Ran<L>, Failure>
+    ensures closed { IfOk result (λ ran. RanFrom L.opening ran.report ran.book) }
+    ensures all_jobs { IfOk result (λ ran. map length ran.jobs ≡ jobs.now) }
+{
+    if let Some(worker) = first_closed(&work.workers) {
+        return Err(Failure::GateClosed { worker });
+    }
+    let HandedIn { seats, lists } = handed_in(alloc, work, jobs)?;
     let mut book = book;
     match book.close(seats) {
         Ok(report) => Ok(Ran {
@@ -143,14 +188,34 @@ fn finish<L: Driver>(alloc: Global, book: Book<L>, work: Work<L>) -> Result<Ran<
     }
 }
 
+/// Runs submitters, a poller and a controller over a book, and closes it.
+fn run_over<L: Driver + Send + Sync, G: Gate + Sync, R: Threads + Wait + Sync>(
+    rt: &R,
+    alloc: Global,
+    book: Book<L>,
+    gate: &G,
+    jobs: Vec<Vec<Job>>,
+) -> Result<Ran<L>, Failure>
+    ensures closed { IfOk result (λ ran. RanFrom L.opening ran.report ran.book) }
+    ensures all_jobs { IfOk result (λ ran. map length ran.jobs ≡ map (λ list. length list.items) jobs.items) }
+{
+    let Ok(many) = lengths(alloc, &jobs) else {
+        return Err(Failure::Memory);
+    };
+    let shared = Shared::new(book);
+    let work = run_workers(rt, alloc, &shared, gate, jobs)?;
+    finish(alloc, shared.end(), work, &many)
+}
+
 /// Opens a book, runs a submitter for each list of jobs, a poller and a controller over it in threads of their own, and closes it with the
 /// submitters' seats. A list's place, from 0, is the worker of its submitter.
 ///
 /// # Errors
 ///
 /// In this order: `Open` where no book is opened. `NoThread` where a thread cannot be made. `GateClosed` where a gate was closed to a
-/// worker, and then the least. `Close` where the book is not closed. `Memory` where memory is refused to the opening, to a worker or to
-/// the closing. What was moved in is dropped.
+/// worker, and then the least. `Close` where the book is not closed. `Memory` where memory is refused to the opening, to the run, to a
+/// worker or to the closing; a worker to whom it is refused tells the others to stop, so that jobs have no end. What was moved in is
+/// dropped.
 pub fn run_threads<L: Driver + Send + Sync, G: Gate + Sync, R: Threads + Wait + Sync>(
     rt: &R,
     alloc: Global,
@@ -167,6 +232,7 @@ pub fn run_threads<L: Driver + Send + Sync, G: Gate + Sync, R: Threads + Wait + 
     requires some { 1 ≤ vec_len jobs }
     requires few { vec_len jobs ≤ 16 }
     ensures ran { IfOk result (λ ran. RanFrom (opening_of config image) ran.report ran.book) }
+    ensures all_jobs { IfOk result (λ ran. map length ran.jobs ≡ map (λ list. length list.items) jobs.items) }
     ensures refused { IfErr result (RefusesRun config) }
 {
     let book = match Book::<L>::open(alloc, config, image, blank) {
@@ -178,12 +244,7 @@ pub fn run_threads<L: Driver + Send + Sync, G: Gate + Sync, R: Threads + Wait + 
             };
         }
     };
-    let shared = Shared::new(book);
-    let ran = match run_workers(rt, alloc, &shared, gate, jobs) {
-        Ok(work) => finish(alloc, shared.end(), work),
-        Err(failure) => Err(failure),
-    };
-    match ran {
+    match run_over(rt, alloc, book, gate, jobs) {
         Ok(ran) => Ok(ran),
         Err(failure) => Err(fault_of(failure)),
     }

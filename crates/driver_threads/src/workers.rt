@@ -1,6 +1,6 @@
 //! What the threads do: submitters carry jobs through, a poller takes completions, a controller serves.
 
-ghost use Rattle.std.specs.Prelude.{◌≡◌, ◌≤◌, true, length, IfOk};
+ghost use Rattle.std.specs.Prelude.{◌≡◌, ◌+◌, ◌≤◌, true, length, vec_len, IfOk, OnOk};
 ghost use Rattle.std.specs.List.{list_any};
 ghost use Rattle.driver_book.specs.Calls.{is_open_for};
 
@@ -190,6 +190,36 @@ fn carry<L: Driver, G: Gate, R: Wait>(
     Ok(end)
 }
 
+/// Carries jobs through, one after the other, and notes how each ended.
+///
+/// # Errors
+///
+/// Where the workers are told to stop, or memory is refused. The job and those behind it have no end then.
+fn carry_all<L: Driver, G: Gate, R: Wait>(
+    rt: &R,
+    alloc: Global,
+    shared: &Shared<L>,
+    seat: &mut Seat<L>,
+    watch: &mut Watch<G>,
+    jobs: Vec<Job>,
+    ends: &mut Vec<JobEnd>,
+) -> Result<(), Halt>
+    ensures all { OnOk result (vec_len ends.new ≡ vec_len ends.old + vec_len jobs) }
+    ensures most { vec_len ends.new ≤ vec_len ends.old + vec_len jobs }
+{
+    for job in jobs {
+        if ends.reserve(1).is_err() {
+            return Err(Halt::Memory);
+        }
+        match carry(rt, alloc, shared, seat, watch, job) {
+            Ok(end) => ends.push_reserved(end),
+            Err(Halt::Refused(why)) => ends.push_reserved(JobEnd::Refused(why)),
+            Err(halt) => return Err(halt),
+        }
+    }
+    Ok(())
+}
+
 /// Takes a seat, and carries jobs through, one after the other. It waits for identifiers and pages that others hold, and for the end of its
 /// commands. Where memory is refused to it, all workers are told to stop; what it holds is spent.
 pub fn submitter<L: Driver, G: Gate, R: Wait>(
@@ -199,7 +229,9 @@ pub fn submitter<L: Driver, G: Gate, R: Wait>(
     gate: &G,
     worker: u16,
     jobs: Vec<Job>,
-) -> Worked<L> {
+) -> Worked<L>
+    ensures { vec_len result.ends ≤ vec_len jobs }
+{
     let mut watch = Watch {
         gate,
         worker,
@@ -214,22 +246,17 @@ pub fn submitter<L: Driver, G: Gate, R: Wait>(
     let Ok(mut seat) = shared.seat(rt) else {
         return worked;
     };
-    for job in jobs {
-        if worked.ends.reserve(1).is_err() {
-            worked.short = true;
-            break;
-        }
-        match carry(rt, alloc, shared, &mut seat, &mut watch, job) {
-            Ok(end) => worked.ends.push_reserved(end),
-            Err(Halt::Refused(why)) => worked.ends.push_reserved(JobEnd::Refused(why)),
-            Err(Halt::Stopped) => break,
-            Err(Halt::Memory) => {
-                worked.short = true;
-                break;
-            }
-        }
-    }
-    if worked.short {
+    let carried = carry_all(
+        rt,
+        alloc,
+        shared,
+        &mut seat,
+        &mut watch,
+        jobs,
+        &mut worked.ends,
+    );
+    if carried == Err(Halt::Memory) {
+        worked.short = true;
         shared.stop(rt);
     }
     worked.closed = watch.closed;

@@ -210,6 +210,29 @@ impl<A: Allocator> Job<A> {
         self.verdict
     }
 
+    /// The status that a job with a verdict completes with, over an image of as many blocks as that of its begin.
+    ///
+    /// Where the verdict is Successful Completion a Compare whose bytes differ from its blocks ends with Compare Failure (NVM
+    /// Command Set Specification 1.0, Compare). All else ends with the verdict.
+    pub fn final_status<B: Allocator>(&self, image: &Image<B>) -> Status
+        requires verdict { IsSome self.now.verdict }
+        requires blocks { block_count image.now ≡ self.now.blocks }
+        ensures status { result ≡ finished_status image.now self.now }
+    {
+        let Some(verdict) = self.verdict else {
+            unreachable!()
+        };
+        if verdict != Status::SUCCESS {
+            return verdict;
+        }
+        match kind_of(self.entry.opcode) {
+            Some(Kind::Compare) if !image.equal(first_block(&self.entry), &self.bytes) => {
+                Status::COMPARE_FAILURE
+            }
+            _ => Status::SUCCESS,
+        }
+    }
+
     /// The entry as it was fetched.
     pub fn entry(&self) -> &SubEntry
         ensures { result.now ≡ self.now.entry }
@@ -236,27 +259,12 @@ pub fn finish_job<A: Allocator, B: Allocator>(job: Job<A>, image: &mut Image<B>)
     ensures image { image.new ≡ finished_image image.old job }
     ensures as_long { length image.new ≡ length image.old }
 {
-    let Job {
-        entry,
-        bytes,
-        verdict,
-        ..
-    } = job;
-    let Some(verdict) = verdict else {
-        unreachable!()
-    };
-    if verdict != Status::SUCCESS {
-        return verdict;
+    let status = job.final_status(image);
+    let Job { entry, bytes, .. } = job;
+    if status == Status::SUCCESS && kind_of(entry.opcode) == Some(Kind::Write) {
+        image.copy_in(first_block(&entry), &bytes);
     }
-    let slba = first_block(&entry);
-    match kind_of(entry.opcode) {
-        Some(Kind::Write) => {
-            image.copy_in(slba, &bytes);
-            Status::SUCCESS
-        }
-        Some(Kind::Compare) if !image.equal(slba, &bytes) => Status::COMPARE_FAILURE,
-        _ => Status::SUCCESS,
-    }
+    status
 }
 
 /// An opcode is the command whose opcode it is, and no other opcode is a command.

@@ -21,7 +21,8 @@ use Rattle.machine_model.specs.Events.{Event, Reaped, Refusal}
 use Rattle.machine_model.specs.InOrder.{IsInOrder, IsAnswered, every_event_is_answered}
 use Rattle.machine_model.proofs.Refused.{first_fails, rest_fails}
 use Rattle.machine_model.proofs.Placed.{is_job, find_sound}
-use Rattle.machine_model.proofs.JobLaws.{runs_have_jobs}
+use Rattle.machine_model.proofs.Agreeing.{stood_of}
+use Rattle.machine_model.proofs.JobLaws.{stood_has_jobs}
 
 -- Want of memory is no cause
 
@@ -238,8 +239,7 @@ has_unit : (s : State) (q cid : ℕ) (j : Job) → s.trusted ≡ true → IsInOr
     → (act : Act) × (next_unit s j ≡ Some act)
 has_unit s q cid j t order found unfinished io =
     let ids = and_parts (j.q == q) (j.entry.cid == cid) (find_sound (is_job q cid) s.device.jobs j found) in
-    let past = order.history t in
-    let stands = runs_have_jobs past.image past.made s q cid j past.run (above_zero q (ap (λ (k : ℕ). k == 0) (sym (eqb-true j.q q ids.0)) ∙ io)) found in
+    let stands = stood_has_jobs s (stood_of s (order.agree t)) q cid j (above_zero q (ap (λ (k : ℕ). k == 0) (sym (eqb-true j.q q ids.0)) ∙ io)) found in
     there (units (course_of s j)) j.units_done (stands.unit_left unfinished)
   where
     there : (acts : List Act) (k : ℕ) → k < length acts → (act : Act) × (slice_get acts k ≡ Some act)

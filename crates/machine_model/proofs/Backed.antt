@@ -1,6 +1,6 @@
 -- Where nothing was forged: a submission queue that is gone at the controller was deleted by a command that the host knows, or will
 -- know, to have succeeded. What each event of the controller does to that.
-use Rattle.std.proofs.Common.{◌≡◌, ℕ, zero, suc, ◌+◌, ◌-◌, ◌<◌, ◌≤◌, ◌==◌, Bool, true, false, not, ◌&&◌, Option, Some, None, List, [], ◌∷◌, ◌++◌, map, length, filter, find, take, drop, ◌/◌, ◌%◌, slice_get, is_none, if◌then◌else◌, refl, ap, sym, ◌∙◌, arith, subst, eqb-true}
+use Rattle.std.proofs.Common.{◌≡◌, ℕ, zero, suc, ◌+◌, ◌-◌, ◌<◌, ◌≤◌, ◌==◌, Bool, true, false, not, ◌&&◌, Option, Some, None, List, [], ◌∷◌, ◌++◌, map, length, filter, find, take, drop, ◌/◌, ◌%◌, is_none, if◌then◌else◌, refl, ap, sym, ◌∙◌, arith, subst, eqb-true}
 use Rattle.std.specs.Option.{option_map_or}
 use Rattle.std.proofs.lemmas.Bool.{true≢false, and_parts, eqb-false}
 use Rattle.controller_walk.specs.Units.{Act, Stays, Reads, Moves, first_passing}
@@ -30,33 +30,12 @@ use Rattle.machine_model.proofs.Totals.{total, total-append, total-map, total-fi
 use Rattle.machine_model.proofs.Refused.{first_fails, rest_fails}
 use Rattle.machine_model.proofs.Managed.{managed_by_case}
 use Rattle.machine_model.proofs.Asked.{was_asked}
-use Rattle.machine_model.proofs.Paired.{is_over}
 use Rattle.machine_model.proofs.Placed.{Knows, JobKnown, gone_at, entry_is, job_is, answer_is, is_job, find_sound, find_all, total_gone}
 use Rattle.machine_model.proofs.Placing.{waiting, answering, waiting_same, answering_same, waiting_other, answering_other, taken_entry, wrong_opcode, device-answered, final_admin, verdict_there, waits_or_out, ne_zero}
 use Rattle.machine_model.proofs.Placements.{on_job_q, on_job_entry, stopped_q, stopped_entry}
 use Rattle.machine_model.proofs.Tying.{Fit}
 use Rattle.machine_model.proofs.TiedHost.{below, asked_some, small}
-
--- an answer that tells no success
-abbrev pub fails : ℕ → Answer → ℕ
-fails c an = one ((an.cid == c) && not (is_success an.status))
-
--- how often a command of queue 0 stands at the controller, an answer with success left out
-abbrev pub unsettled : ℕ → List DeviceQueue → List Job → ℕ
-unsettled c ds js = total (entry_is c) (waiting ds) + (total (job_is c) js + total (fails c) (answering ds))
-
--- an outstanding deletion of a queue, which succeeded
-pub record Settles (rs : List Record) (ds : List DeviceQueue) (js : List Job) (q : ℕ) : Type 0 where
-  pub cid : ℕ
-  pub knows : Knows rs cid (DeleteSq q)
-  pub settled : unsettled cid ds js ≡ 0
-
--- whether the host has a queue, and doesn't know it to be deleted
-abbrev pub hoped_at : List HostQueue → ℕ → Bool
-hoped_at hs q = option_map_or (λ h. not (is_over h.state)) (slice_get hs q) false
-
-abbrev pub Backed : List Record → List HostQueue → List DeviceQueue → List Job → Type 0
-Backed rs hs ds js = (q : ℕ) → hoped_at hs q ≡ true → gone_at ds q ≡ true → Settles rs ds js q
+pub use Rattle.machine_model.specs.Agreeing.{fails, unsettled, Settles, is_hoped_at as hoped_at, DeletionsAreHeard as Backed}
 
 -- Steps of the controller that delete no queue
 

@@ -444,7 +444,7 @@ backed_reap (suc k) (events.AdminDone cid st dw0) s t e stands fit h = backed_do
 by_controller : (s : State) (e : Event) (reply : Reply) → host_part (a.after s e reply) ≡ host_part s → Backed s.host.records s.host.queues (a.after s e reply).device.queues (a.after s e reply).device.jobs → BackedS (a.after s e reply)
 by_controller s e reply same h = subst (λ (part : HostPart). Backed part.host.records part.host.queues (a.after s e reply).device.queues (a.after s e reply).device.jobs) (sym same) h
 
-backed_event : (s : State) (e : Event) (reply : Reply) → Accepts s e reply → s.trusted ≡ true → StandsSound s → FitS s → BackedS s → BackedS (a.after s e reply)
+pub backed_event : (s : State) (e : Event) (reply : Reply) → Accepts s e reply → s.trusted ≡ true → StandsSound s → FitS s → BackedS s → BackedS (a.after s e reply)
 backed_event s e (events.Refused why touched) ok t stands fit h = h
 backed_event s (events.Reserve q r) (events.Reserved d) ok t stands fit h =
     let new : Record = record { q = d.q; cid = d.cid; phase = Drafted; work = Io d.request; data_pages = numbers_of d.data_pages; chain_pages = numbers_of d.chain_pages; status = None } in
@@ -475,7 +475,7 @@ backed_event s e reply ok t stands fit h = absurd ok.1
 -- Every run
 
 -- no queue is gone as a world opens
-backed_opening : (pages queues n s : ℕ) (image : List ℕ) → BackedS (opening pages queues n s image)
+pub backed_opening : (pages queues n s : ℕ) (image : List ℕ) → BackedS (opening pages queues n s image)
 backed_opening pages queues n s image q hoped gone = absurd (go 0 (queues + 1) q hoped gone)
   where
     go : (page count q : ℕ) → hoped_at (queues_from page n count) q ≡ true → gone_at (replicate count opened) q ≡ true → ⊥
@@ -484,7 +484,7 @@ backed_opening pages queues n s image q hoped gone = absurd (go 0 (queues + 1) q
     go page (suc count) (suc q) hoped gone = go (page + half_pages n Submission + half_pages n Completion) count q hoped gone
 
 -- what the host has for live is there
-there_from_backed : (s : State) → StandsSound s → FitS s → BackedS s → (q : ℕ) (queue : HostQueue) → host_queue s q ≡ Some queue → is_live queue.state ≡ true → absent s q ≡ false
+pub there_from_backed : (s : State) → StandsSound s → FitS s → BackedS s → (q : ℕ) (queue : HostQueue) → host_queue s q ≡ Some queue → is_live queue.state ≡ true → absent s q ≡ false
 there_from_backed s stands fit h q queue e live = go (absent s q) refl
   where
     not_over : (st : HostState) → is_live st ≡ true → (is_over st ≡ false) × (is_asked st ≡ false)

@@ -40,6 +40,7 @@ use Rattle.machine_model.proofs.Caused.{cause, CausedIfIo}
 use Rattle.machine_model.proofs.EveryStatus.{Traced, traced_step, has_verdict, as_made}
 use Rattle.machine_model.proofs.Known.{Known}
 use Rattle.machine_model.proofs.Images.{JobDraft, job_draft, known_step, known_at_opening}
+use Rattle.machine_model.proofs.Steps.{permitted}
 
 -- What is known before a step of a run
 
@@ -165,10 +166,6 @@ told done drafts s q cid j d traced known at none compare latest fine = go (j.q 
     go : (b : Bool) → (j.q == 0) ≡ b → final_status s j ≡ (if bytes_eq (gathered d.request.pieces d.data_pages) (blocks_of_request d.request s.device.image) then SUCCESS else COMPARE_FAILURE)
     go true z = absurd (no_draft (sym (subst (λ (n : ℕ). draft_of n cid drafts ≡ None) (sym (eqb-true j.q 0 z) ∙ its_queue) (known.no_admin cid)) ∙ latest))
     go false z = with_verdict z j.verdict refl (has_verdict s q cid j none at)
-
-permitted : {A : Type 0} (B : Type 0) (t c : Bool) → t ≡ true → MatchBool (t || c) A B → A
-permitted B true c e h = h
-permitted B false c e h = absurd (true≢false (sym e))
 
 given : (done : List Made) (drafts : List DraftContents) (s : State) (e : Event) (reply : Reply) (new : State) (q cid : ℕ) (st : Status) (d : DraftContents) → Step s e reply new → s.trusted ≡ true → Traced done s → Known drafts s
     → status_by s e reply q cid ≡ Some st → option_map_or (λ (j : Job). j.entry.opcode == COMPARE) (job_at s q cid) false ≡ true → draft_of q cid drafts ≡ Some d

@@ -4,9 +4,7 @@ use Rattle.std.proofs.lemmas.Bool.{eqb-false, true≢false}
 use Rattle.page_ledger.specs.Owners.{is_among, pages_from}
 use Rattle.machine_model.specs.Step.{times}
 use Rattle.machine_model.specs.After.{without_numbers, joined_in_order}
-
-abbrev pub one : Bool → ℕ
-one b = if b then 1 else 0
+pub use Rattle.machine_model.specs.Weights.{one}
 
 counted : (b : Bool) (n : ℕ) → (if b then 1 + n else n) ≡ one b + n
 counted true n = refl

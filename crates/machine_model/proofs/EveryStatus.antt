@@ -32,7 +32,7 @@ use Rattle.machine_model.specs.Memory.{is_in}
 use Rattle.machine_model.specs.Step.{Step, IsController, HostPart}
 use Rattle.machine_model.specs.After.{change}
 use Rattle.machine_model.specs.Opening.{opening}
-use Rattle.machine_model.proofs.Steps.{Accepts, part_left}
+use Rattle.machine_model.proofs.Steps.{Accepts, part_left, permitted, exact}
 use Rattle.machine_model.proofs.Trusted.{forged_untrusted}
 use Rattle.machine_model.proofs.Refused.{first_fails, rest_fails}
 use Rattle.machine_model.proofs.Grounds.{trusted_at_first}
@@ -58,14 +58,6 @@ traced_on earlier s e reply proper ok t h =
       stood = stood_on s e reply proper ok t h.stood;
       caused = subst (λ (n : ℕ). AllCaused (earlier ++ record { before = s; event = e; reply = reply } ∷ []) n (a.after s e reply).device.jobs) (sym (same_blocks s (a.after s e reply) k.image)) k.jobs;
     }
-
-permitted : {A : Type 0} (B : Type 0) (t c : Bool) → t ≡ true → MatchBool (t || c) A B → A
-permitted B true c e h = h
-permitted B false c e h = absurd (true≢false (sym e))
-
-exact : {A : Type 0} (B : Type 0) (t : Bool) → t ≡ true → MatchBool t A B → A
-exact B true e h = h
-exact B false e h = absurd (true≢false (sym e))
 
 pub traced_step : (earlier : List Made) (old : State) (e : Event) (reply : Reply) (new : State) → Step old e reply new → old.trusted ≡ true → new.trusted ≡ true → Traced earlier old
     → Traced (earlier ++ record { before = old; event = e; reply = reply } ∷ []) new

@@ -13,7 +13,7 @@ use Rattle.machine_model.specs.Image.{Made}
 use Rattle.machine_model.specs.After as a
 use Rattle.machine_model.specs.Events as events
 use Rattle.machine_model.specs.Events.{Event, Reply}
-use Rattle.machine_model.proofs.Steps.{Accepts, part_controller, part_left}
+use Rattle.machine_model.proofs.Steps.{Accepts, part_controller, part_left, permitted, exact}
 use Rattle.machine_model.proofs.Out.{TakenPart, Both, both_events}
 use Rattle.machine_model.proofs.Opening.{holds_at_opening, fits_pool, taken_at_opening}
 use Rattle.machine_model.proofs.Positions.{InRings, rings_on, rings_at_opening, all_at}
@@ -63,14 +63,6 @@ grounds_at_opening pages queues n s image opens = record {
 }
 
 -- Trusted runs, step by step, with what the caller's values are
-
-permitted : {A : Type 0} (B : Type 0) (t c : Bool) → t ≡ true → MatchBool (t || c) A B → A
-permitted B true c e h = h
-permitted B false c e h = absurd (true≢false (sym e))
-
-exact : {A : Type 0} (B : Type 0) (t : Bool) → t ≡ true → MatchBool t A B → A
-exact B true e h = h
-exact B false e h = absurd (true≢false (sym e))
 
 pub each_proper_step : (Q : State → Type 0)
     → ((s : State) (e : Event) (reply : Reply) → IsProper e → Accepts s e reply → s.trusted ≡ true → Q s → Q (a.after s e reply))

@@ -69,7 +69,7 @@ all_events s e reply ok c h = (both_events s e reply ok c h.0, asked_event s e r
 all_from_sound : (s : State) → IsSound s → All (host_part s)
 all_from_sound s sound = ((holds_from_sound s sound, taken_from_out s sound.out), asked_from_fit s.host sound.deletions, sound.admin)
 
-sound_from_all : (s : State) → All (host_part s) → IsSound s
+pub sound_from_all : (s : State) → All (host_part s) → IsSound s
 sound_from_all s all =
     let owners : HasOneOwner (length s.memory) s.host = subst (λ (k : ℕ). HasOneOwner k s.host) (length-in_store s.memory) (owners_from_holds _ s.host all.0.0) in
     record {

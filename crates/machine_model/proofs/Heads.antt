@@ -5,31 +5,12 @@ use Rattle.std.proofs.lemmas.Bool.{true≢false}
 use Rattle.std.proofs.lemmas.Bool.Decides.{nat_tests}
 use Rattle.queue_pair.specs.Slots.{next_slot, distance, moved}
 use Rattle.queue_pair.proofs.Order.{next_below, distance_same, next_full, distance_grows, distance_shrinks}
-use Rattle.machine_model.specs.State.{HostQueue, DeviceQueue, Record, Answer}
+use Rattle.machine_model.specs.State.{Record, Answer}
 use Rattle.machine_model.specs.Refusals.{is_submitted}
 use Rattle.machine_model.specs.After.{change}
 use Rattle.machine_model.proofs.Counting.{one}
 use Rattle.machine_model.proofs.Totals.{total, here}
-use Rattle.machine_model.proofs.Paired.{is_past}
-use Rattle.machine_model.proofs.Members.{sent}
-use Rattle.machine_model.proofs.Served.{answers_at}
-
--- how many commands of a queue are submitted
-abbrev pub sent_count : ℕ → List Record → ℕ
-sent_count q rs = total (sent q (λ c. 1)) rs
-
--- Each answer's head is a slot, and fewer slots behind the tail than commands are submitted that this answer and those before it don't end.
-abbrev pub AnswersBehind : (n tail k : ℕ) → List Answer → Type 0
-AnswersBehind n tail k [] = Unit {0}
-AnswersBehind n tail k (an ∷ ans) = (an.sq_head < n) × (distance n an.sq_head tail < k) × AnswersBehind n tail (k - 1) ans
-
-pub record HeadBehind (n k : ℕ) (queue : HostQueue) (ans : List Answer) : Type 0 where
-  pub known : distance n queue.ring.known_head queue.ring.tail ≤ k
-  pub answers : AnswersBehind n queue.ring.tail k ans
-
-pub record Heads (n : ℕ) (hs : List HostQueue) (rs : List Record) (qs : List DeviceQueue) : Type 0 where
-  pub ids : AllByRecursion (λ r. r.cid < n - 1) rs
-  pub behind : (q : ℕ) (queue : HostQueue) → slice_get hs q ≡ Some queue → is_past queue.state ≡ false → HeadBehind n (sent_count q rs) queue (answers_at qs q)
+pub use Rattle.machine_model.specs.Agreeing.{sent_count, AreAnswersBehind as AnswersBehind, IsHeadBehind as HeadBehind, AreHeadsBehind as Heads}
 
 -- Answers, as something changes
 

@@ -38,7 +38,7 @@ use Rattle.machine_model.specs.Events.{Event, Reply, Refusal}
 use Rattle.machine_model.proofs.Managed.{managed_by_case}
 use Rattle.machine_model.proofs.Placing.{device-answered}
 use Rattle.machine_model.proofs.Placed.{is_job, find_sound}
-use Rattle.machine_model.proofs.Steps.{Accepts, part_left}
+use Rattle.machine_model.proofs.Steps.{Accepts, part_left, permitted, exact}
 use Rattle.machine_model.proofs.Trusted.{forged_untrusted}
 use Rattle.machine_model.proofs.Grounds.{trusted_at_first}
 use Rattle.machine_model.proofs.Members.{in_found, all_at_found}
@@ -206,14 +206,6 @@ image_on drafts s (events.Complete q cid) reply ok stood known = absurd ok.1
 image_on drafts s e reply ok stood known = host_image s e reply ok refl
 
 -- Steps and runs
-
-permitted : {A : Type 0} (B : Type 0) (t c : Bool) → t ≡ true → MatchBool (t || c) A B → A
-permitted B true c e h = h
-permitted B false c e h = absurd (true≢false (sym e))
-
-exact : {A : Type 0} (B : Type 0) (t : Bool) → t ≡ true → MatchBool t A B → A
-exact B true e h = h
-exact B false e h = absurd (true≢false (sym e))
 
 pub record StepKnown (drafts : List DraftContents) (s : State) (e : Event) (reply : Reply) (t : State) : Type 0 where
   pub stood : Stood t

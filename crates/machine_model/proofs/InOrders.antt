@@ -20,11 +20,11 @@ use Rattle.machine_model.specs.After as a
 use Rattle.machine_model.specs.Events as events
 use Rattle.machine_model.specs.Events.{Event, Reply, Reaped}
 use Rattle.machine_model.proofs.Headline.{steps_keep, runs_are_sound}
-use Rattle.machine_model.proofs.Histories.{histories_open, histories_grow}
+use Rattle.machine_model.proofs.Agreeing.{stood_of, opening_agrees, step_keeps_agreement}
 use Rattle.machine_model.proofs.Opening.{in_limits}
 use Rattle.machine_model.proofs.Parts.{part-posted}
 use Rattle.machine_model.proofs.Steps.{Accepts, IsKept, each_step}
-use Rattle.machine_model.proofs.WholePages.{steps_keep_pages_whole}
+use Rattle.machine_model.proofs.WholePages.{stood_keeps_pages_whole}
 use Rattle.page_memory.specs.Pages.{with_page_bytes}
 
 -- No event of the host changes the segment length
@@ -114,7 +114,7 @@ opens_in_order pages queues n s image opens bytes =
       whole = (zeros_pool pages (opening pages queues n s image).memory refl limits.0).whole;
       least_segment = limits.1.0;
       most_segment = limits.1.1;
-      history = λ trusted. histories_open pages queues n s image opens bytes;
+      agree = λ trusted. opening_agrees pages queues n s image opens;
     }
 
 pub order_kept : steps_keep_order
@@ -122,8 +122,8 @@ order_kept old e reply new order step =
     let limits = each_step (λ part. InLimits part.segment) limits_event old e reply new step (order.least_segment, order.most_segment) in
     record {
       sound = steps_keep old e reply new step order.sound;
-      whole = steps_keep_pages_whole old e reply new order.history step order.whole;
+      whole = stood_keeps_pages_whole old e reply new (λ trusted. stood_of old (order.agree trusted)) step order.whole;
       least_segment = limits.0;
       most_segment = limits.1;
-      history = λ trusted. let before = histories_grow old e reply new step trusted in before.1 (order.history before.0);
+      agree = λ trusted. let before = step_keeps_agreement old e reply new step trusted in before.1 (order.agree before.0);
     }

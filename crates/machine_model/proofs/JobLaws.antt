@@ -18,9 +18,9 @@ use Rattle.machine_model.specs.Memory.{memory_of}
 use Rattle.machine_model.specs.Proper.{IsProper}
 use Rattle.machine_model.specs.Commands.{Work, Io, Management}
 use Rattle.machine_model.specs.State.{State, DeviceQueue, Record, Job, record_at, pages_of, is_at}
-use Rattle.machine_model.specs.Refusals.{job_at}
+use Rattle.machine_model.specs.Refusals.{is_submitted, job_at}
 use Rattle.machine_model.specs.Step.{Step, IsController, unit_answered, Permits, Refuses, HostPart}
-use Rattle.machine_model.specs.Touch.{allowed, pages_of_command, pages_at_queues}
+use Rattle.machine_model.specs.Touch.{allowed, pages_of_command, pages_at_queues, stays_allowed, stays_own}
 use Rattle.machine_model.specs.Image.{Made}
 use Rattle.machine_model.specs.Laws.{TrustedRun, HasChainIfIo, entries_of, chains_stand, chains_stay, trusted_steps_stay_allowed}
 use Rattle.machine_model.specs.After as a
@@ -28,8 +28,8 @@ use Rattle.machine_model.specs.After.{course_of}
 use Rattle.machine_model.specs.Events as events
 use Rattle.machine_model.specs.Events.{Event, Reply}
 use Rattle.machine_model.specs.Reached.{only, on_pages}
-use Rattle.machine_model.specs.Standing.{HasEntry, StandsAs, CommandStands, HasUnitLeft, jobs_stand, jobs_keep_their_lists}
-use Rattle.machine_model.proofs.Steps.{Accepts, part_left}
+use Rattle.machine_model.specs.Standing.{HasEntry, StandsAs, CommandStands, HasUnitLeft, JobStands, jobs_stand, jobs_keep_their_lists}
+use Rattle.machine_model.proofs.Steps.{Accepts, part_left, permitted, exact}
 use Rattle.machine_model.proofs.Trusted.{forged_untrusted}
 use Rattle.machine_model.proofs.Placed.{is_job, find_sound}
 use Rattle.machine_model.proofs.Members.{in_found, all_at_found}
@@ -39,21 +39,19 @@ use Rattle.machine_model.proofs.Served.{Stood, JobList, job_list, list_of_job, c
 use Rattle.machine_model.proofs.Commanding.{keeps_fetch, keeps_walk, keeps_complete}
 use Rattle.machine_model.proofs.CommandsAll.{Walking, walking, unit_in}
 use Rattle.machine_model.proofs.WalksKept.{stood_on, stood_at_opening, ListsStay, stay_untouched, stay_walk, host_jobs}
-use Rattle.machine_model.proofs.TiedAll.{runs_stay}
+use Rattle.machine_model.proofs.Touching.{IsLinked, stays}
+use Rattle.machine_model.proofs.Paired.{linked_from_tied}
+use Rattle.machine_model.proofs.Tied.{tied_from_fit}
 use Rattle.io_commands.specs.Jobs.{direction_of_entry, need_of_entry}
+
+-- what stands so is linked
+pub stood_linked : (s : State) → Stood s → IsLinked s
+stood_linked s stood = linked_from_tied s stood.grounds.rings (tied_from_fit s stood.grounds.fit)
 
 pub stood_after : (image : List ℕ) (made : List Made) (end : State) → TrustedRun image made end → Stood end
 stood_after image made end run = along_proper Stood stood_on stood_at_opening image made end run
 
 -- what a step from a trusted state is: nothing happens, or an accepted event leaves exactly one state
-permitted : {A : Type 0} (B : Type 0) (t c : Bool) → t ≡ true → MatchBool (t || c) A B → A
-permitted B true c e h = h
-permitted B false c e h = absurd (true≢false (sym e))
-
-exact : {A : Type 0} (B : Type 0) (t : Bool) → t ≡ true → MatchBool t A B → A
-exact B true e h = h
-exact B false e h = absurd (true≢false (sym e))
-
 pub step_is : (old : State) (e : Event) (reply : Reply) (new : State) → Step old e reply new → old.trusted ≡ true
     → (new ≡ old) ⊎ (IsProper e × Accepts old e reply × (new.memory ≡ (a.after old e reply).memory) × (new.trusted ≡ true → new ≡ a.after old e reply))
 step_is old e (events.Refused why touched) new step t = inl step.2
@@ -106,9 +104,8 @@ entries_named s q cid entry has =
         let ids = and_parts (j.q == q) (j.entry.cid == cid) (find_sound (is_job q cid) s.device.jobs j e) in
         (ap (λ (y : SubEntry). y.sgl1) (all_at_found (λ j. j.q ≡ q → j.entry.cid ≡ cid → j.entry ≡ entry) (is_job q cid) s.device.jobs j e has.fetched (eqb-true j.q q ids.0) (eqb-true j.entry.cid cid ids.1)), tt)
 
-pub runs_have_chains : chains_stand
-runs_have_chains image made end q cid r run found sub =
-    let stood = stood_after image made end run in
+pub stood_has_chains : (end : State) → Stood end → (q cid : ℕ) (r : Record) → record_at end.host q cid ≡ Some r → is_submitted r.phase ≡ true → HasChainIfIo end r r.work
+stood_has_chains end stood q cid r found sub =
     of r.work (all_at_found (CommandStands end.memory end.device.queues end.device.jobs) (is_at q cid) end.host.records r found stood.commands)
   where
     of : (w : Work) → StandsAs end.memory end.device.queues end.device.jobs r w → HasChainIfIo end r w
@@ -121,19 +118,27 @@ runs_have_chains image made end q cid r run found sub =
         }
     of (Management adm) c = tt
 
+pub runs_have_chains : chains_stand
+runs_have_chains image made end q cid r run found sub = stood_has_chains end (stood_after image made end run) q cid r found sub
+
 pub stay_after : (s : State) (e : Event) (reply : Reply) → Accepts s e reply → Stood s → ListsStay s (a.after s e reply).memory
 stay_after s (events.Walk q cid) (events.Refused why touched) ok h = absurd ok.1
 stay_after s (events.Walk q cid) reply ok h = stay_walk s q cid ok.0 h
 stay_after s e reply ok h = stay_untouched s e reply ok refl h
 
-pub runs_keep_chains : chains_stay
-runs_keep_chains image made m old new q cid r p run step found sub still chain = go (step_is old m.event m.reply new step run.trusted)
+pub stood_keeps_chains : (old : State) (event : Event) (reply : Reply) (new : State) (q cid : ℕ) (r : Record) (p : ℕ) → Stood old → old.trusted ≡ true → Step old event reply new
+    → record_at old.host q cid ≡ Some r → is_submitted r.phase ≡ true → is_among r.chain_pages p ≡ true → page_at new.memory p ≡ page_at old.memory p
+stood_keeps_chains old event reply new q cid r p stood trusted step found sub chain = go (step_is old event reply new step trusted)
   where
-    go : (new ≡ old) ⊎ (IsProper m.event × Accepts old m.event m.reply × (new.memory ≡ (a.after old m.event m.reply).memory) × (new.trusted ≡ true → new ≡ a.after old m.event m.reply)) → page_at new.memory p ≡ page_at old.memory p
+    go : (new ≡ old) ⊎ (IsProper event × Accepts old event reply × (new.memory ≡ (a.after old event reply).memory) × (new.trusted ≡ true → new ≡ a.after old event reply)) → page_at new.memory p ≡ page_at old.memory p
     go (inl e) = ap (λ (s : State). page_at s.memory p) e
     go (inr (proper, ok, e, all)) =
         ap (λ (pages : Pages). page_at pages p) e
-        ∙ (stay_after old m.event m.reply ok (stood_after image made old run)).chains r (in_found (is_at q cid) old.host.records r found) sub p chain
+        ∙ (stay_after old event reply ok stood).chains r (in_found (is_at q cid) old.host.records r found) sub p chain
+
+pub runs_keep_chains : chains_stay
+runs_keep_chains image made m old new q cid r p run step found sub still chain =
+    stood_keeps_chains old m.event m.reply new q cid r p (stood_after image made old run) run.trusted step found sub chain
 
 -- Jobs
 
@@ -145,9 +150,8 @@ list_at s stood q cid j some e =
     let ids = and_parts (j.q == q) (j.entry.cid == cid) (find_sound (is_job q cid) s.device.jobs j e) in
     job_list s stood j (in_found (is_job q cid) s.device.jobs j e) (ap (λ (k : ℕ). k == 0) (eqb-true j.q q ids.0) ∙ not_zero q some) (λ P all. all_at_found P (is_job q cid) s.device.jobs j e all)
 
-pub runs_have_jobs : jobs_stand
-runs_have_jobs image made end q cid j run some e =
-    let stood = stood_after image made end run in
+pub stood_has_jobs : (end : State) → Stood end → (q cid : ℕ) (j : Job) → nat_lt 0 q ≡ true → job_at end q cid ≡ Some j → JobStands end j
+stood_has_jobs end stood q cid j some e =
     let l = list_at end stood q cid j some e in
     let ids = and_parts (j.q == q) (j.entry.cid == cid) (find_sound (is_job q cid) end.device.jobs j e) in
     record {
@@ -165,6 +169,9 @@ runs_have_jobs image made end q cid j run some e =
       unit_left = all_at_found (HasUnitLeft end) (is_job q cid) end.device.jobs j e stood.walks (ap (λ (k : ℕ). k == 0) (eqb-true j.q q ids.0) ∙ not_zero q some);
     }
 
+pub runs_have_jobs : jobs_stand
+runs_have_jobs image made end q cid j run some e = stood_has_jobs end (stood_after image made end run) q cid j some e
+
 -- a job of an identifier has one entry before and after a step
 same_entry : (s : State) (e : Event) (reply : Reply) → Accepts s e reply → (q cid : ℕ) (entry : SubEntry) → AllByRecursion (λ j. j.q ≡ q → j.entry.cid ≡ cid → j.entry ≡ entry) s.device.jobs
     → HasEntry s.device.queues s.device.jobs q cid entry → AllByRecursion (λ j. j.q ≡ q → j.entry.cid ≡ cid → j.entry ≡ entry) (a.after s e reply).device.jobs
@@ -174,12 +181,10 @@ same_entry s (events.Walk k c) reply ok q cid entry jobs has = (keeps_walk s k c
 same_entry s (events.Complete k c) reply ok q cid entry jobs has = (keeps_complete s k c q cid entry has).fetched
 same_entry s e reply ok q cid entry jobs has = subst (AllByRecursion (λ j. j.q ≡ q → j.entry.cid ≡ cid → j.entry ≡ entry)) (sym (host_jobs s e reply ok refl)) jobs
 
-pub runs_keep_lists : jobs_keep_their_lists
-runs_keep_lists image made old new e reply q cid before after run step trusted some found found' = go (step_is old e reply new step run.trusted)
+pub stood_keeps_lists : (old new : State) (e : Event) (reply : Reply) (q cid : ℕ) (before after : Job) → Stood old → old.trusted ≡ true → Step old e reply new → new.trusted ≡ true
+    → nat_lt 0 q ≡ true → job_at old q cid ≡ Some before → job_at new q cid ≡ Some after → (after.entry ≡ before.entry) × (course_of new after ≡ course_of old before)
+stood_keeps_lists old new e reply q cid before after stood was step trusted some found found' = go (step_is old e reply new step was)
   where
-    stood : Stood old
-    stood = stood_after image made old run
-
     go : (new ≡ old) ⊎ (IsProper e × Accepts old e reply × (new.memory ≡ (a.after old e reply).memory) × (new.trusted ≡ true → new ≡ a.after old e reply)) → (after.entry ≡ before.entry) × (course_of new after ≡ course_of old before)
     go (inl same) =
         let same' : before ≡ after = cc (found, sym (ap (λ (s : State). job_at s q cid) same) ∙ found') in
@@ -204,6 +209,10 @@ runs_keep_lists image made old new e reply q cid before after run step trusted s
               ∙ ap (λ (x : SubEntry). course_of (a.after old e reply) (record after { entry = x })) entry
               ∙ same_list old (a.after old e reply) stood before l (stay.chains l.command l.within l.phase) (stay.own l.command l.within l.phase),
         )
+
+pub runs_keep_lists : jobs_keep_their_lists
+runs_keep_lists image made old new e reply q cid before after run step trusted some found found' =
+    stood_keeps_lists old new e reply q cid before after (stood_after image made old run) run.trusted step trusted some found found'
 
 -- Touches
 
@@ -265,20 +274,23 @@ walk_stays s q cid outcome pages ok stood =
         ∙ act_touches w.list.command.chain_pages w.list.command.data_pages act
         (unit_in (on_pages w.list.command.chain_pages) (on_pages w.list.command.data_pages) (course_of s j) j.units_done act (course_in s j w.list) e)
 
-pub all_runs_stay : trusted_steps_stay_allowed
-all_runs_stay image made old new (events.Walk q cid) (events.Refused why touched) run step = refused_walk why step.1
+-- each step from a state that stands so stays in what is allowed
+pub stood_stays : (old new : State) (e : Event) (reply : Reply) → Stood old → old.trusted ≡ true → Step old e reply new → (stays_allowed old reply && stays_own old e reply) ≡ true
+stood_stays old new (events.Walk q cid) (events.Refused why touched) stood trusted step = refused_walk why step.1
   where
     refused_walk : (why : events.Refusal) → Permits old (events.Walk q cid) (events.Refused why touched) → (list_all (is_among (allowed old)) touched && list_all (is_among (pages_of_command old q cid)) touched) ≡ true
     refused_walk why permits =
-        let none : touched ≡ [] = empty why (permitted _ old.trusted false run.trusted permits) in
+        let none : touched ≡ [] = empty why (permitted _ old.trusted false trusted permits) in
         subst (λ (pages : List ℕ). (list_all (is_among (allowed old)) pages && list_all (is_among (pages_of_command old q cid)) pages) ≡ true) (sym none) refl
       where
         empty : (why : events.Refusal) → Refuses old (events.Walk q cid) why touched → touched ≡ []
         empty events.Memory h = h.2
         empty why h = h.1
-all_runs_stay image made old new (events.Walk q cid) (events.Walked outcome pages) run step =
-    walk_stays old q cid outcome pages (permitted _ old.trusted false run.trusted step.1) (stood_after image made old run)
-all_runs_stay image made old new (events.Walk q cid) (events.Fetched c touched) run step = absurd (permitted _ old.trusted false run.trusted step.1).1
-all_runs_stay image made old new (events.Walk q cid) (events.Completed touched) run step = absurd (permitted _ old.trusted false run.trusted step.1).1
-all_runs_stay image made old new (events.Walk q cid) reply run step = refl
-all_runs_stay image made old new e reply run step = runs_stay image made old new e reply run step refl
+stood_stays old new (events.Walk q cid) (events.Walked outcome pages) stood trusted step = walk_stays old q cid outcome pages (permitted _ old.trusted false trusted step.1) stood
+stood_stays old new (events.Walk q cid) (events.Fetched c touched) stood trusted step = absurd (permitted _ old.trusted false trusted step.1).1
+stood_stays old new (events.Walk q cid) (events.Completed touched) stood trusted step = absurd (permitted _ old.trusted false trusted step.1).1
+stood_stays old new (events.Walk q cid) reply stood trusted step = refl
+stood_stays old new e reply stood trusted step = stays old e reply new step trusted (stood_linked old stood) refl
+
+pub all_runs_stay : trusted_steps_stay_allowed
+all_runs_stay image made old new e reply run step = stood_stays old new e reply (stood_after image made old run) run.trusted step

@@ -78,6 +78,9 @@ pub mod ReadsWalk
 pub mod ReadsAlong
 pub mod ReadLaws
 pub mod WholePages
+pub mod Provided
+pub mod Agreeing
+pub mod Agreed
 pub mod InOrders
 pub mod Answered
 pub mod MadeRuns

@@ -6,6 +6,8 @@ use Rattle.machine_model.specs.State.{Record, is_at, with_record}
 use Rattle.machine_model.specs.Refusals.{is_submitted}
 use Rattle.machine_model.proofs.Counting.{one}
 use Rattle.machine_model.proofs.Totals.{total, here}
+pub use Rattle.machine_model.specs.Weights.{sent}
+pub use Rattle.machine_model.proofs.Positions.{all_at}
 
 abbrev pub In : {A : Type 0} → A → List A → Type 0
 In {A} x xs = (w : A → ℕ) → w x ≤ total w xs
@@ -50,11 +52,6 @@ all_at_found P test (y ∷ xs) x e all = go (test y) e (λ e. all_at_found P tes
 pub all_indexed : {A : Type 0} (P Q : A → Type 0) (xs : List A) → ((k : ℕ) (x : A) → slice_get xs k ≡ Some x → P x → Q x) → AllByRecursion P xs → AllByRecursion Q xs
 all_indexed P Q [] f all = tt
 all_indexed P Q (x ∷ xs) f all = (f 0 x refl all.0, all_indexed P Q xs (λ k y e p. f (suc k) y e p) all.1)
-
-pub all_at : {A : Type 0} (P : A → Type 0) (xs : List A) (k : ℕ) (x : A) → slice_get xs k ≡ Some x → AllByRecursion P xs → P x
-all_at P [] k x e h = absurd cc
-all_at P (y ∷ xs) zero x e h = let same : y ≡ x = cc in subst P same h.0
-all_at P (y ∷ xs) (suc k) x e h = all_at P xs k x e h.1
 
 -- with what else holds of all
 pub all_in_both : {A : Type 0} (P X Q : A → Type 0) (xs : List A) → ((x : A) → In x xs → X x → P x → Q x) → AllByRecursion X xs → AllByRecursion P xs → AllByRecursion Q xs
@@ -120,10 +117,6 @@ all_with P Q q cid f rs r0 e once others own all = go rs (is_found q cid rs r0 e
     go : (xs : List Record) → AllByRecursion (λ r. is_at q cid r ≡ true → r ≡ r0) xs → AllByRecursion P xs → AllByRecursion Q (with_record q cid f xs)
     go [] same all = tt
     go (x ∷ xs) same all = (one_of x (is_at q cid x) refl same.0 all.0, go xs same.1 all.1)
-
--- how much the submitted commands of a queue count, by their identifiers
-abbrev pub sent : ℕ → (ℕ → ℕ) → Record → ℕ
-sent q w r = if (r.q == q) && is_submitted r.phase then w r.cid else 0
 
 -- where a submitted command of an identifier counts, its record is found
 pub sent_found : (q cid : ℕ) (rs : List Record) → 0 < total (sent q (λ c. one (c == cid))) rs → total (here q cid) rs < 2 → (r : Record) × (find (is_at q cid) rs ≡ Some r) × (is_submitted r.phase ≡ true)

@@ -28,7 +28,7 @@ use Rattle.machine_model.specs.Events.{Event, Reply, Refusal}
 use Rattle.machine_model.proofs.Counting.{one, times-append, held_once}
 use Rattle.machine_model.proofs.Totals.{total}
 use Rattle.machine_model.proofs.Parts.{in_store, length-in_store}
-use Rattle.machine_model.proofs.Steps.{Accepts}
+use Rattle.machine_model.proofs.Steps.{Accepts, permitted}
 use Rattle.machine_model.proofs.Refused.{found, pages_match}
 use Rattle.machine_model.proofs.Owned.{in_queue}
 use Rattle.machine_model.proofs.Taken.{taken, taken_le, none_here, in_is}
@@ -254,15 +254,11 @@ same_full events.Full touched = refl
 same_full events.SlotOut touched = refl
 same_full why touched = refl
 
-permitted : {A : Type 0} (B : Type 0) (t c : Bool) → t ≡ true → MatchBool (t || c) A B → A
-permitted B true c e h = h
-permitted B false c e h = absurd (true≢false (sym e))
-
 refused_not_full : (s : State) → Roomy s → (e : Event) (why : Refusal) (touched : List ℕ) → Refuses s e why touched → full why ≡ false
 refused_not_full s r e events.Memory touched h = refl
 refused_not_full s r e why touched h = rows_say (causes s e) (no_cause s r e) why h.0
 
-reply_not_full : (s : State) → Roomy s → s.trusted ≡ true → (e : Event) (reply : Reply) → Permits s e reply → is_full reply ≡ false
+pub reply_not_full : (s : State) → Roomy s → s.trusted ≡ true → (e : Event) (reply : Reply) → Permits s e reply → is_full reply ≡ false
 reply_not_full s r t e (events.Refused why touched) h = same_full why touched ∙ refused_not_full s r e why touched (permitted _ s.trusted (not (IsController e)) t h)
 reply_not_full s r t e reply h = refl
 

@@ -16,34 +16,7 @@ use Rattle.page_memory.specs.declared.page.Half.TheVariants.{Submission, Complet
 use Rattle.machine_model.specs.Step.{host_part}
 use Rattle.machine_model.specs.Positions.{IsInRing}
 use Rattle.machine_model.proofs.Positions.{InRings, all_at}
-
-abbrev pub is_past : HostState → Bool
-is_past Live = false
-is_past (Deleting noted) = false
-is_past Retired = true
-is_past Gone = true
-
-abbrev pub is_over : HostState → Bool
-is_over Live = false
-is_over (Deleting noted) = noted
-is_over Retired = true
-is_over Gone = true
-
-pub record PairOk (n : ℕ) (h : HostQueue) (d : DeviceQueue) : Type 0 where
-  -- the halves are whole until they are freed
-  pub sub : is_past h.state ≡ false → length h.sq_pages ≡ half_pages n Submission
-  pub comp : is_gone h.state ≡ false → length h.cq_pages ≡ half_pages n Completion
-  -- what the host holds for deleted is deleted
-  pub over : is_over h.state ≡ true → is_absent d.state ≡ true
-  pub gone : is_gone h.state ≡ true → d.cq_there ≡ false
-  -- a submission queue has its completion queue
-  pub half : is_absent d.state ≡ false → d.cq_there ≡ true
-
-abbrev pub Paired : ℕ → List HostQueue → List DeviceQueue → Type 0
-Paired n [] [] = Unit {0}
-Paired n [] (d ∷ ds) = ⊥
-Paired n (h ∷ hs) [] = ⊥
-Paired n (h ∷ hs) (d ∷ ds) = PairOk n h d × Paired n hs ds
+pub use Rattle.machine_model.specs.Agreeing.{is_given_back as is_past, is_known_deleted as is_over, QueueFits as PairOk, QueuesFit as Paired, on_queue}
 
 pub paired_host : (n k : ℕ) (f : HostQueue → HostQueue) (hs : List HostQueue) (ds : List DeviceQueue)
     → ((h : HostQueue) (d : DeviceQueue) → slice_get hs k ≡ Some h → slice_get ds k ≡ Some d → PairOk n h d → PairOk n (f h) d) → Paired n hs ds → Paired n (change k f hs) ds
@@ -68,9 +41,6 @@ paired_at n k [] (x ∷ ds) d e p = absurd p
 paired_at n k (h ∷ hs) [] d e p = absurd p
 paired_at n zero (h ∷ hs) (x ∷ ds) d e p = let same : x ≡ d = cc in (h, refl, subst (λ (y : DeviceQueue). PairOk n h y) same p.0)
 paired_at n (suc k) (h ∷ hs) (x ∷ ds) d e p = paired_at n k hs ds d e p.1
-
-abbrev pub on_queue : ℕ → Job → ℕ
-on_queue q j = one (j.q == q)
 
 -- with whether each job's queue is there, what a touch needs
 pub record Tied (s : State) : Type 0 where

@@ -1,9 +1,7 @@
 -- Where nothing was forged: each admin command's entry is in one place, and says what its record says.
-use Rattle.std.proofs.Common.{◌≡◌, ℕ, ◌+◌, ◌%◌, ◌<◌, ◌≤◌, ◌==◌, Bool, true, false, not, ◌&&◌, Some, List, [], ◌∷◌, ◌++◌, map, filter, find, slice_get, if◌then◌else◌, refl, ap, sym, ◌∙◌, arith, subst, eqb-true, eq-eqb}
-use Rattle.std.specs.Option.{option_map_or}
+use Rattle.std.proofs.Common.{◌≡◌, ℕ, ◌+◌, ◌%◌, ◌<◌, ◌≤◌, ◌==◌, Bool, true, false, not, Some, List, [], ◌∷◌, ◌++◌, map, filter, find, if◌then◌else◌, refl, ap, sym, ◌∙◌, arith, subst, eqb-true, eq-eqb}
 use Rattle.std.specs.List.{AllByRecursion}
 use Rattle.std.proofs.lemmas.Bool.{true≢false, and_parts}
-use Rattle.admin_commands.specs.Verdicts.{is_absent}
 use Rattle.admin_commands.specs.Entries.{admin_entry}
 use Rattle.entry_codec.specs.declared.submission.SubEntry.{SubEntry}
 use Rattle.admin_commands.specs.declared.AdminKind.TheVariants.{Abort, DeleteSq, DeleteCq}
@@ -15,51 +13,7 @@ use Rattle.machine_model.specs.State.{Record, DeviceQueue, Job, Answer, is_at, w
 pub use Rattle.machine_model.specs.Refusals.{is_job}
 use Rattle.machine_model.proofs.Counting.{one}
 use Rattle.machine_model.proofs.Totals.{total, total-append, total_without, total-filter, here}
-
-abbrev pub gone_at : List DeviceQueue → ℕ → Bool
-gone_at ds q = option_map_or (λ at. is_absent at.state) (slice_get ds q) true
-
-abbrev pub there_at : List DeviceQueue → ℕ → Bool
-there_at ds q = option_map_or (λ at. at.cq_there) (slice_get ds q) false
-
-abbrev pub Knows : List Record → ℕ → AdminKind → Type 0
-Knows rs c adm = (r : Record) × (find (is_at 0 c) rs ≡ Some r) × (r.work ≡ Management adm)
-
--- what a success means for the controller's queues
-abbrev pub Settled : List DeviceQueue → AdminKind → Type 0
-Settled ds (Abort q cid) = Unit {0}
-Settled ds (DeleteSq q) = gone_at ds (q % 65536) ≡ true
-Settled ds (DeleteCq q) = there_at ds (q % 65536) ≡ false
-
--- what is so from the fetch on
-abbrev pub Promised : List DeviceQueue → AdminKind → Type 0
-Promised ds (Abort q cid) = Unit {0}
-Promised ds (DeleteSq q) = (q % 65536 == 0) ≡ false
-Promised ds (DeleteCq q) = there_at ds (q % 65536) ≡ false
-
-abbrev pub EntryKnown : List Record → SubEntry → Type 0
-EntryKnown rs e = (adm : AdminKind) × Knows rs e.cid adm × (e ≡ admin_entry adm e.cid)
-
-abbrev pub JobKnown : List Record → List DeviceQueue → Job → Type 0
-JobKnown rs ds j = (j.q ≡ 0) → (adm : AdminKind) × Knows rs j.entry.cid adm × (j.entry ≡ admin_entry adm j.entry.cid) × ((st : Status) → j.verdict ≡ Some st → is_success st ≡ true → Promised ds adm)
-
-abbrev pub AnswerKnown : List Record → List DeviceQueue → Answer → Type 0
-AnswerKnown rs ds an = (adm : AdminKind) × Knows rs an.cid adm × (is_success an.status ≡ true → Settled ds adm)
-
-abbrev pub entry_is : ℕ → SubEntry → ℕ
-entry_is c e = one (e.cid == c)
-
-abbrev pub job_is : ℕ → Job → ℕ
-job_is c j = one ((j.q == 0) && (j.entry.cid == c))
-
-abbrev pub answer_is : ℕ → Answer → ℕ
-answer_is c an = one (an.cid == c)
-
-pub record Placed (rs : List Record) (un : List SubEntry) (js : List Job) (ans : List Answer) (ds : List DeviceQueue) : Type 0 where
-  pub places : (c : ℕ) → total (entry_is c) un + (total (job_is c) js + total (answer_is c) ans) ≤ total (here 0 c) rs
-  pub entries : AllByRecursion (EntryKnown rs) un
-  pub jobs : AllByRecursion (JobKnown rs ds) js
-  pub answers : AllByRecursion (AnswerKnown rs ds) ans
+pub use Rattle.machine_model.specs.Agreeing.{is_absent_at as gone_at, has_completions_at as there_at, Knows, Settled, Promised, EntryKnown, JobKnown, AnswerKnown, entry_is, job_is, answer_is, AdminCommandsStand as Placed}
 
 all-map : {A : Type 0} (P Q : A → Type 0) → ((x : A) → P x → Q x) → (xs : List A) → AllByRecursion P xs → AllByRecursion Q xs
 all-map P Q f [] all = tt

@@ -33,12 +33,7 @@ use Rattle.machine_model.proofs.Placed.{JobKnown, Knows, find_all, find_sound, P
 use Rattle.entry_codec.specs.declared.admin_opcode.TheConstants.{ABORT, DELETE_IO_SQ}
 use Rattle.io_commands.specs.Jobs.{direction_of_entry, verdict_of}
 use Rattle.io_commands.specs.Jobs.{io_fault, bytes_after_check}
-
-abbrev pub waiting : List DeviceQueue → List SubEntry
-waiting ds = option_map_or (λ at. at.unfetched) (slice_get ds 0) []
-
-abbrev pub answering : List DeviceQueue → List Answer
-answering ds = option_map_or (λ at. at.answers) (slice_get ds 0) []
+pub use Rattle.machine_model.specs.Agreeing.{waiting, answering}
 
 pub record PlacedIn (rs : List Record) (d : Device) : Type 0 where
   pub placed : Placed rs (waiting d.queues) d.jobs (answering d.queues) d.queues

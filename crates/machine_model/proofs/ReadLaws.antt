@@ -38,6 +38,7 @@ use Rattle.machine_model.proofs.Gathered.{Gathers, Stands, gathers_pieces, all_s
 use Rattle.machine_model.proofs.Reading.{Images, fetched_in, read_targets, read_blocks, ReadSoFar, ReadIfIo, ReadRecord, Member, members, sized_of}
 use Rattle.machine_model.proofs.ReadsKept.{targets_length, blocks_length}
 use Rattle.machine_model.proofs.ReadsAlong.{ReadsKnown, images_of, reads_along}
+use Rattle.machine_model.proofs.Steps.{permitted}
 
 -- Steps in two parts
 
@@ -91,10 +92,6 @@ found_record s q cid r f found held (Io request) w (Some v) st e =
   where
     inside : {a b : FinishedContents} → Some a ≡ Some b → a ≡ b
     inside e = cc
-
-permitted : {A : Type 0} (B : Type 0) (t c : Bool) → t ≡ true → MatchBool (t || c) A B → A
-permitted B true c e h = h
-permitted B false c e h = absurd (true≢false (sym e))
 
 found_in : (s : State) (e : Event) (reply : Reply) (new : State) (f : FinishedContents) → Step s e reply new → s.trusted ≡ true → collected_of e reply ≡ Some f → Found s f
 found_in s (events.Collect q cid) (events.Collects g) new f step t is = go (record_at s.host q cid) refl (ok.1 ∙ is)

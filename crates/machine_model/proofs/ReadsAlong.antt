@@ -27,7 +27,7 @@ use Rattle.machine_model.specs.Events as events
 use Rattle.machine_model.specs.Events.{Event, Reply, Refusal, Reaped}
 use Rattle.machine_model.proofs.Counting.{one}
 use Rattle.machine_model.proofs.Totals.{total}
-use Rattle.machine_model.proofs.Steps.{Accepts, part_left}
+use Rattle.machine_model.proofs.Steps.{Accepts, part_left, permitted, exact}
 use Rattle.machine_model.proofs.Trusted.{forged_untrusted}
 use Rattle.machine_model.proofs.Refused.{pages_match, same_lists}
 use Rattle.machine_model.proofs.Out.{named, reaped_submitted}
@@ -272,14 +272,6 @@ reads_on drafts at s e reply x h = record {
     by : (b : Bool) (q cid : ℕ) → length (if b then s.device.image else at q cid) ≡ length (a.after s e reply).device.image
     by true q cid = sym x.image
     by false q cid = h.images q cid ∙ sym x.image
-
-permitted : {A : Type 0} (B : Type 0) (t c : Bool) → t ≡ true → MatchBool (t || c) A B → A
-permitted B true c e h = h
-permitted B false c e h = absurd (true≢false (sym e))
-
-exact : {A : Type 0} (B : Type 0) (t : Bool) → t ≡ true → MatchBool t A B → A
-exact B true e h = h
-exact B false e h = absurd (true≢false (sym e))
 
 refused_same : (s : State) (drafts : List DraftContents) (at : Images) (e : Event) (why : Refusal) (touched : List ℕ) → ReadsKnown drafts at s → ReadsKnown (submitted_by e (events.Refused why touched) ++ drafts) (fetched_in s e (events.Refused why touched) at) s
 refused_same s drafts at (events.Submit d) why touched h = h

@@ -2,7 +2,6 @@
 use Rattle.std.proofs.Common.{◌≡◌, ℕ, zero, suc, ◌+◌, ◌*◌, ◌%◌, ◌^◌, ◌<◌, ◌≤◌, ◌==◌, nat_lt, Bool, true, false, Option, Some, None, List, [], ◌∷◌, ◌++◌, length, slice_get, slice_index, is_some, find, if◌then◌else◌, refl, ap, sym, ◌∙◌, arith, subst, eqb-true, eq-eqb, add-zero, ltb-true}
 use Rattle.std.specs.List.{AllByRecursion}
 use Rattle.std.specs.Prelude.{option_map, option_and_then}
-use Rattle.std.specs.Option.{option_map_or}
 use Rattle.std.proofs.lemmas.Bool.{true≢false, and_parts}
 use Rattle.std.proofs.lemmas.Option.{slice_get-get_or, slice_get_within}
 use Rattle.page_ledger.specs.Owners.{is_among}
@@ -26,48 +25,27 @@ use Rattle.io_commands.specs.Drafts.{io_entry}
 use Rattle.io_commands.specs.Jobs.{direction_of_entry, need_of_entry}
 use Rattle.machine_model.specs.Memory.{memory_of}
 use Rattle.machine_model.specs.Commands.{Work, Io, Management}
-use Rattle.machine_model.specs.State.{State, HostQueue, DeviceQueue, Record, Drafted, Submitted, Held, Collected, Job, Answer, is_at, record_at, pages_of}
+use Rattle.machine_model.specs.State.{State, Record, Drafted, Submitted, Held, Collected, Job, is_at, record_at, pages_of}
 use Rattle.machine_model.specs.Refusals.{is_submitted}
 use Rattle.machine_model.specs.Claims.{OwnsFit}
 use Rattle.machine_model.specs.After.{course_of}
 use Rattle.machine_model.specs.Reached.{only, on_pages, CourseIn, AreApart, IsListIn}
-use Rattle.machine_model.specs.Standing.{IsSized, unfetched_at, ListStands, StandsAs, CommandStands, HasUnitLeft}
+use Rattle.machine_model.specs.Standing.{IsSized, ListStands, StandsAs, CommandStands, HasUnitLeft}
 use Rattle.machine_model.proofs.Counting.{one, times-append, held_once, not_held}
 use Rattle.machine_model.proofs.Totals.{total}
 use Rattle.machine_model.proofs.Parts.{in_store, length-in_store}
 use Rattle.machine_model.proofs.Owned.{in_record}
 use Rattle.machine_model.proofs.Taken.{is_out, taken, none_here, in_is}
 use Rattle.machine_model.proofs.Placed.{find_sound}
-use Rattle.machine_model.proofs.Paired.{is_past}
-use Rattle.machine_model.proofs.Members.{In, in_found, all_at_found, sent, sent_found}
+use Rattle.machine_model.proofs.Members.{In, in_found, all_at_found, sent_found}
 use Rattle.machine_model.proofs.Elsewhere.{sent_page, owned_once}
 use Rattle.machine_model.proofs.Grounds.{Grounds}
 use Rattle.machine_model.proofs.Reaching.{list_in}
 use Rattle.machine_model.proofs.Ending.{lists_end, bytes_there}
 use Rattle.machine_model.proofs.Entered.{good_is, entry_direction, entry_need, parts_count, parts_lie, parts_there}
+pub use Rattle.machine_model.specs.Agreeing.{is_given_back_at as past_at, answers_at, unfetched_count, job_weight, CommandsStandOnce as Places, CommandsStand as Commands}
 
 -- The invariant
-
-abbrev pub past_at : List HostQueue → ℕ → Bool
-past_at hs q = option_map_or (λ h. is_past h.state) (slice_get hs q) false
-
-abbrev pub answers_at : List DeviceQueue → ℕ → List Answer
-answers_at qs q = option_map_or (λ at. at.answers) (slice_get qs q) []
-
--- how much the entries count that a queue has not fetched, by their identifiers; of a retired queue none does
-abbrev pub unfetched_count : ℕ → (ℕ → ℕ) → List HostQueue → List DeviceQueue → ℕ
-unfetched_count q w hs qs = if past_at hs q then 0 else total (λ e. w e.cid) (unfetched_at qs q)
-
-abbrev pub job_weight : ℕ → (ℕ → ℕ) → Job → ℕ
-job_weight q w j = if j.q == q then w j.entry.cid else 0
-
--- the entries, jobs and answers of a queue count no more than its submitted commands
-abbrev pub Places : List HostQueue → List Record → List DeviceQueue → List Job → Type 0
-Places hs rs qs js =
-    (q : ℕ) (w : ℕ → ℕ) → unfetched_count q w hs qs + (total (job_weight q w) js + total (λ an. w an.cid) (answers_at qs q)) ≤ total (sent q w) rs
-
-abbrev pub Commands : Pages → List DeviceQueue → List Job → List Record → Type 0
-Commands m qs js rs = AllByRecursion (CommandStands m qs js) rs
 
 pub record Stood (s : State) : Type 0 where
   pub grounds : Grounds s

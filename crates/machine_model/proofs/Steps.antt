@@ -30,6 +30,15 @@ part_left s e (events.Refused why touched) new h = ap host_part h
 part_left s e (events.Reserved d) new h = either_part (not (forges e) && s.trusted) (IsController e) (after s e (events.Reserved d)) s new h
 part_left s e reply new h = either_part (not (forges e) && s.trusted) (IsController e) (after s e reply) s new h
 
+-- what is permitted, and what is left, where nothing was forged
+pub permitted : {A : Type 0} (B : Type 0) (t c : Bool) → t ≡ true → MatchBool (t || c) A B → A
+permitted B true c e h = h
+permitted B false c e h = absurd (true≢false (sym e))
+
+pub exact : {A : Type 0} (B : Type 0) (t : Bool) → t ≡ true → MatchBool t A B → A
+exact B true e h = h
+exact B false e h = absurd (true≢false (sym e))
+
 abbrev pub Accepts : State → Event → Reply → Type 0
 Accepts s e reply = (refusal_of s e ≡ None) × Answers s e reply
 

@@ -4,10 +4,7 @@ use Rattle.machine_model.specs.State.{Record, is_at, without_record, with_record
 use Rattle.machine_model.specs.Step.{times}
 use Rattle.machine_model.specs.After.{change}
 use Rattle.machine_model.proofs.Counting.{one, times-cons, times-append}
-
-abbrev pub total : {A : Type 0} → (A → ℕ) → List A → ℕ
-total w [] = 0
-total w (x ∷ xs) = w x + total w xs
+pub use Rattle.machine_model.specs.Weights.{total, here}
 
 pub total-append : {A : Type 0} (w : A → ℕ) (xs ys : List A) → total w (xs ++ ys) ≡ total w xs + total w ys
 total-append w [] ys = omega arith
@@ -20,10 +17,6 @@ total-map w f same (x ∷ xs) = omega (arith, same x, total-map w f same xs)
 pub times-flat_map : {A : Type 0} (p : ℕ) (f : A → List ℕ) (xs : List A) → times p (flat_map f xs) ≡ total (λ x. times p (f x)) xs
 times-flat_map p f [] = refl
 times-flat_map p f (x ∷ xs) = omega (arith, times-append p (f x) (flat_map f xs), times-flat_map p f xs)
-
--- how often an identifier of a queue is outstanding
-abbrev pub here : ℕ → ℕ → Record → ℕ
-here q cid r = one (is_at q cid r)
 
 pub times-outstanding : (cid q : ℕ) (records : List Record) → times cid (map (λ r. r.cid) (filter (λ r. r.q == q) records)) ≡ total (here q cid) records
 times-outstanding cid q [] = refl

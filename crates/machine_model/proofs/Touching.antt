@@ -25,6 +25,7 @@ use Rattle.queue_pair.specs.Slots.{next_slot, moved}
 use Rattle.machine_model.specs.Positions.{IsInRing}
 use Rattle.machine_model.proofs.Positions.{next_below}
 pub use Rattle.machine_model.specs.Linked.{IsLinked}
+use Rattle.machine_model.proofs.Steps.{permitted}
 
 abbrev pub is_walk : Event → Bool
 is_walk (events.Walk q cid) = true
@@ -75,10 +76,10 @@ at_queues p (suc k) (x ∷ queues) (y ∷ ats) queue at e e' h =
 entry_inside : (n k : ℕ) → k < n → k * 64 / 4096 < half_pages n Submission
 entry_inside n k l = omega arith
 
-answer_inside : (n k : ℕ) → k < n → k * 16 / 4096 < half_pages n Completion
+pub answer_inside : (n k : ℕ) → k < n → k * 16 / 4096 < half_pages n Completion
 answer_inside n k l = omega arith
 
-moved_below : (n slot many : ℕ) → slot < n → moved n slot many < n
+pub moved_below : (n slot many : ℕ) → slot < n → moved n slot many < n
 moved_below n slot zero h = h
 moved_below n slot (suc many) h = moved_below n (next_slot n slot) many (next_below n slot h)
 
@@ -223,10 +224,6 @@ fetched_stays s q linked there = go (conflicts s q)
     go : (b : Bool) → BothWithin s (pages_of_queue s q) (if b then fetch_page s q ∷ post_page s q ∷ [] else fetch_page s q ∷ [])
     go true = two_stay s q (fetch_page s q) (post_page s q) (fetch_stays_in s q linked there) (post_stays_in s q linked there)
     go false = one_stays s q (fetch_page s q) (fetch_stays_in s q linked there)
-
-permitted : {A : Type 0} (B : Type 0) (t c : Bool) → t ≡ true → MatchBool (t || c) A B → A
-permitted B true c e h = h
-permitted B false c e h = absurd (true≢false (sym e))
 
 abbrev after_no_job : State → ℕ → ℕ → List (Bool × Refusal)
 after_no_job s q cid =

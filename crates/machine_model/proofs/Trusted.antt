@@ -1,5 +1,5 @@
 -- Runs in which nothing was forged.
-use Rattle.std.proofs.Common.{◌≡◌, ℕ, suc, ◌+◌, ◌==◌, Bool, true, false, not, ◌&&◌, ◌||◌, Option, Some, None, List, [], ◌∷◌, ◌++◌, is_none, map, filter, replicate, MatchBool, if◌then◌else◌, refl, ap, sym, ◌∙◌, arith, subst}
+use Rattle.std.proofs.Common.{◌≡◌, ℕ, suc, ◌+◌, ◌≤◌, ◌==◌, Bool, true, false, not, ◌&&◌, ◌||◌, Option, Some, None, List, [], ◌∷◌, ◌++◌, is_none, map, filter, replicate, MatchBool, if◌then◌else◌, refl, ap, sym, ◌∙◌, arith, subst}
 use Rattle.std.specs.Option.{option_map_or}
 use Rattle.std.specs.Prelude.{nat_le}
 use Rattle.std.proofs.lemmas.Bool.{true≢false}
@@ -14,19 +14,19 @@ use Rattle.entry_codec.specs.declared.status.Status.{Status}
 use Rattle.io_commands.specs.Jobs.{is_success}
 use Rattle.machine_model.specs.Memory.{with_pages, without_pages}
 use Rattle.machine_model.specs.Commands.{Work, Io, Management}
-use Rattle.machine_model.specs.State.{State, HostQueue, Record, Job, Answer, record_at, pages_of, with_record, without_record}
+use Rattle.machine_model.specs.State.{State, HostQueue, Record, Job, Answer, record_at, outstanding_on, pages_of, with_record, without_record}
 use Rattle.machine_model.specs.Refusals.{refusal_of, in_state, is_gone, host_queue, seen_entry, is_retired, slot_page, slot_offset}
 use Rattle.machine_model.specs.Opening.{Opens, opening, device_queue as opened}
 use Rattle.machine_model.specs.Step.{Step, IsController, HostPart, host_part, times}
 use Rattle.machine_model.specs.After as a
 use Rattle.machine_model.specs.Events as events
 use Rattle.machine_model.specs.Events.{Event, Reply}
-use Rattle.machine_model.specs.Laws.{admin_commands_stand_once, TrustedRun, Steps}
+use Rattle.machine_model.specs.Laws.{admin_commands_stand_once, admin_places, TrustedRun, Steps}
 use Rattle.machine_model.specs.Image.{Made}
 use Rattle.machine_model.proofs.Counting.{one, times-append, times-cons}
 use Rattle.machine_model.proofs.Totals.{total, times-outstanding}
 use Rattle.machine_model.proofs.Parts.{part-posted}
-use Rattle.machine_model.proofs.Steps.{Accepts, IsKept, each_step, part_controller, part_left}
+use Rattle.machine_model.proofs.Steps.{Accepts, IsKept, each_step, part_controller, part_left, permitted, exact}
 use Rattle.machine_model.proofs.Owned.{HoldsPart}
 use Rattle.machine_model.proofs.Refused.{first_fails}
 use Rattle.machine_model.proofs.Sound.{host_event}
@@ -111,14 +111,6 @@ trusted_before old e reply new step t = go old.trusted refl
     go false e' = absurd (true≢false (sym t ∙ each_step Distrusts distrust_event old e reply new step e'))
 
 -- A trusted step leaves exactly one state
-
-permitted : {A : Type 0} (B : Type 0) (t c : Bool) → t ≡ true → MatchBool (t || c) A B → A
-permitted B true c e h = h
-permitted B false c e h = absurd (true≢false (sym e))
-
-exact : {A : Type 0} (B : Type 0) (t : Bool) → t ≡ true → MatchBool t A B → A
-exact B true e h = h
-exact B false e h = absurd (true≢false (sym e))
 
 -- an entry that is forged ends the trust
 forged_ends : (o : Option HostQueue) (f : HostQueue → State) (s : State) (b : Bool) → ((x : HostQueue) → (f x).trusted ≡ false) → (is_none o || b) ≡ false → (option_map_or f o s).trusted ≡ false
@@ -214,9 +206,9 @@ along_trusted Q each first image made end run =
     each_trusted_run Q each (opening run.pages run.queues run.entries run.segment image) (events_of made) (replies_of made) end
     (run_of _ made end run.steps) run.trusted (first run.pages run.queues run.entries run.segment image run.opens)
 
-pub admins_stand_once : admin_commands_stand_once
-admins_stand_once image made new cid run =
-    let stands = along_trusted StandsSound both_on (λ pages queues n s image opens. (holds_at_opening pages queues n s image (fits_pool pages queues n s opens), opening_stands pages queues n s image)) image made new run in
+-- admin commands stand once where each of their places is known
+pub stands_once : (new : State) (cid : ℕ) → StandsSound new → times cid (admin_places new) ≤ times cid (outstanding_on new.host 0)
+stands_once new cid stands =
     let un = map (λ (e : SubEntry). e.cid) (waiting new.device.queues) in
     let js = map (λ (j : Job). j.entry.cid) (filter (λ (j : Job). j.q == 0) new.device.jobs) in
     let ans = map (λ (an : Answer). an.cid) (answering new.device.queues) in
@@ -230,3 +222,8 @@ admins_stand_once image made new cid run =
       times-map (λ (an : Answer). an.cid) cid (answering new.device.queues),
       times-outstanding cid 0 new.host.records,
     )
+
+pub admins_stand_once : admin_commands_stand_once
+admins_stand_once image made new cid run =
+    stands_once new cid
+    (along_trusted StandsSound both_on (λ pages queues n s image opens. (holds_at_opening pages queues n s image (fits_pool pages queues n s opens), opening_stands pages queues n s image)) image made new run)

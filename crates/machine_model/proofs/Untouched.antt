@@ -32,7 +32,7 @@ use Rattle.machine_model.specs.Step.{times}
 use Rattle.machine_model.specs.After as a
 use Rattle.machine_model.specs.Events as events
 use Rattle.machine_model.specs.Events.{Event, Reply, Refusal, Reaped}
-use Rattle.machine_model.proofs.Touching.{is_walk}
+use Rattle.machine_model.proofs.Touching.{is_walk, answer_inside, moved_below}
 use Rattle.machine_model.proofs.Managed.{managed_by_case}
 use Rattle.machine_model.proofs.Counting.{one}
 use Rattle.machine_model.proofs.Totals.{total}
@@ -61,13 +61,6 @@ pub record Kept (s : State) (p : ℕ) : Type 0 where
 
 entry_inside : (n k : ℕ) → k < n → k * 64 / 4096 < half_pages n Submission
 entry_inside n k l = omega arith
-
-answer_inside : (n k : ℕ) → k < n → k * 16 / 4096 < half_pages n Completion
-answer_inside n k l = omega arith
-
-moved_below : (n slot many : ℕ) → slot < n → moved n slot many < n
-moved_below n slot zero h = h
-moved_below n slot (suc many) h = moved_below n (next_slot n slot) many (next_below n slot h)
 
 -- what is known of the queue whose slot is written: its half is whole, the page is none of it, and the position is in the ring
 abbrev pub PostsElsewhere : State → ℕ → ℕ → Type 0

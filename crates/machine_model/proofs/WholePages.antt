@@ -243,17 +243,22 @@ untrusted_step old e reply new untrusted step whole =
     whole_forged old.trusted (forges e) (IsController e) old (a.after old e reply) new untrusted
     (λ c. whole_after old e reply step.0 (of_host _ old.trusted (IsController e) c step.1) (λ is. absurd (true≢false (sym is ∙ c))) whole) step.2
 
-trusted_step : (old : State) (e : Event) (reply : Reply) (new : State) → old.trusted ≡ true → HasHistory old → Step old e reply new → AreWhole old.memory → AreWhole new.memory
-trusted_step old e reply new trusted history step whole = go (step_is old e reply new step trusted)
+trusted_step : (old : State) (e : Event) (reply : Reply) (new : State) → old.trusted ≡ true → Stood old → Step old e reply new → AreWhole old.memory → AreWhole new.memory
+trusted_step old e reply new trusted stood step whole = go (step_is old e reply new step trusted)
   where
     go : (new ≡ old) ⊎ (IsProper e × Accepts old e reply × (new.memory ≡ (a.after old e reply).memory) × (new.trusted ≡ true → new ≡ a.after old e reply)) → AreWhole new.memory
     go (inl is) = subst (λ (s : State). AreWhole s.memory) (sym is) whole
-    go (inr (proper, ok, is, all)) = subst AreWhole (sym is) (whole_after old e reply proper ok (λ c. stood_after history.image history.made old history.run) whole)
+    go (inr (proper, ok, is, all)) = subst AreWhole (sym is) (whole_after old e reply proper ok (λ c. stood) whole)
 
--- each step keeps pages whole; of a walk that writes this takes the run that led to its job
-pub steps_keep_pages_whole : (old : State) (e : Event) (reply : Reply) (new : State) → (IsTrue old.trusted → HasHistory old) → Step old e reply new → AreWhole old.memory → AreWhole new.memory
-steps_keep_pages_whole old e reply new history step whole = go old.trusted refl
+-- each step keeps pages whole; of a walk that writes this takes that its job stands
+pub stood_keeps_pages_whole : (old : State) (e : Event) (reply : Reply) (new : State) → (old.trusted ≡ true → Stood old) → Step old e reply new → AreWhole old.memory → AreWhole new.memory
+stood_keeps_pages_whole old e reply new stood step whole = go old.trusted refl
   where
     go : (b : Bool) → old.trusted ≡ b → AreWhole new.memory
-    go true trusted = trusted_step old e reply new trusted (history trusted) step whole
+    go true trusted = trusted_step old e reply new trusted (stood trusted) step whole
     go false untrusted = untrusted_step old e reply new untrusted step whole
+
+-- so they stay behind a run
+pub steps_keep_pages_whole : (old : State) (e : Event) (reply : Reply) (new : State) → (IsTrue old.trusted → HasHistory old) → Step old e reply new → AreWhole old.memory → AreWhole new.memory
+steps_keep_pages_whole old e reply new history step whole =
+    stood_keeps_pages_whole old e reply new (λ trusted. let h = history trusted in stood_after h.image h.made old h.run) step whole

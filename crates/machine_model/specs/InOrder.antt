@@ -5,10 +5,10 @@ use Rattle.io_commands.specs.Drafts.{DraftContents}
 use Rattle.io_commands.specs.Values.{FinishedContents}
 use Rattle.io_commands.specs.Asked.{Request}
 use Rattle.page_memory.specs.Pages.{AreWhole}
+use Rattle.machine_model.specs.Agreeing.{SidesAgree}
 use Rattle.machine_model.specs.Claims.{IsSound}
 use Rattle.machine_model.specs.Events as events
 use Rattle.machine_model.specs.Events.{Event, Reply}
-use Rattle.machine_model.specs.Histories.{HasHistory}
 use Rattle.machine_model.specs.Image.{Made}
 use Rattle.machine_model.specs.Laws.{TrustedRun}
 use Rattle.machine_model.specs.Opening.{opening, Opens}
@@ -17,13 +17,13 @@ use Rattle.machine_model.specs.Run.{Run}
 use Rattle.machine_model.specs.State.{State}
 use Rattle.machine_model.specs.Step.{Step}
 
--- a sound state whose pages that are in are whole, and which has a history unless something was forged
+-- a sound state whose pages that are in are whole, and whose sides agree unless something was forged
 pub record IsInOrder (s : State) : Type 0 where
   pub sound : IsSound s
   pub whole : AreWhole s.memory
   pub least_segment : 2 ≤ s.segment
   pub most_segment : s.segment ≤ 256
-  pub history : IsTrue s.trusted → HasHistory s
+  pub agree : IsTrue s.trusted → SidesAgree s
 
 abbrev pub openings_are_in_order : Type 0
 openings_are_in_order =

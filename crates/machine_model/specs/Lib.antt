@@ -30,5 +30,9 @@ pub mod WorkedAdmin
 pub mod WorkedForged
 pub mod WorkedLaws
 pub mod WorkedSound
+pub mod Weights
+pub mod Agreeing
+pub mod Always
+pub mod AgreeingLaws
 pub mod InOrder
 pub mod Work

@@ -1,5 +1,6 @@
 //! Laws of the machine, of every step and of every run. Each function does nothing.
 
+ghost use Rattle.machine_model.specs.Always.{each_step_provides, every_run_provides};
 ghost use Rattle.machine_model.specs.Built.{built_drafts_spell_in_store};
 ghost use Rattle.machine_model.specs.Claims.{each_step_keeps, every_run_is_sound, every_run_takes_out, counts_add_up};
 ghost use Rattle.machine_model.specs.Histories.{openings_have_histories, steps_make_histories};
@@ -48,6 +49,16 @@ pub fn law_of_forged_worlds()
 pub fn law_of_positions()
     ensures steps { each_step_stays_in_rings }
     ensures runs { every_run_stays_in_rings }
+{}
+
+/// Each queue of the host has its halves until it gives them back, and none of their pages from then on: after every run from an
+/// opening, forged entries or not.
+///
+/// Each outstanding command has an identifier below its queue's entries less one, and an I/O command as many data and chain pages as its
+/// request wants. A sound state that is provided so stays so, whatever the step.
+pub fn law_of_provisions()
+    ensures steps { each_step_provides }
+    ensures runs { every_run_provides }
 {}
 
 /// Where nothing was forged, each admin command stands at the controller once, and only while it is outstanding.
@@ -107,8 +118,8 @@ pub fn law_of_histories()
     ensures runs { runs_are_made }
 {}
 
-/// Each step keeps a state in order, forged entries or not: sound, each page that is in whole, with a history unless something was
-/// forged. An opening is in order.
+/// Each step keeps a state in order, forged entries or not: sound, each page that is in whole, and both sides agreeing unless something
+/// was forged. An opening is in order.
 ///
 /// What it hands out is fit to be handed in again: the draft of a reserved command, and the pages of a collected one.
 pub fn law_of_order()

@@ -1,6 +1,9 @@
 //! The command line.
 
+ghost use Rattle.std.specs.Prelude.{◌≤◌, IfOk};
+
 use crate::fault::Fault;
+use crate::help::{ABOUT, AFTER, STEPS_ABOUT, STEPS_AFTER, THREADS_ABOUT, THREADS_AFTER};
 use clap::error::ErrorKind;
 use clap::{Arg, ArgMatches, Command, value_parser};
 use script_cli::RunFault;
@@ -9,67 +12,13 @@ use std::env::Env;
 use std::io;
 use step_core::Config;
 
-/// What `nvmesgl --help` says first.
-const ABOUT: &str =
-    "An NVMe host driver and a modelled controller that move data by scatter-gather lists.
-
-It drives no real device. `nvmesgl steps` plays a script over a fresh pool of pages and
-prints what each step answered.";
-
-/// What `nvmesgl --help` says last.
-const AFTER: &str = "One block, read:
-  printf 'reserve 1 read 0 1 0+512\\nbuild 1 0\\nsubmit 1 0\\nring 1\\nfetch 1\\nwalk 1 0\\nwalk 1 0\\ncomplete 1 0\\nreap 1\\ncollect 1 0\\ngather 1 0\\nrelease 1 0\\n' | nvmesgl steps
-
-docs/SCRIPT.md in the repository has the scripts, the replies and the exit statuses;
-docs/PROFILE.md says what the steps mean, and examples/ has scripts with their output.";
-
-/// What `nvmesgl steps --help` says first.
-const STEPS_ABOUT: &str =
-    "Plays a script from standard input, step by step, and prints what each step answered.
-
-The script is read and checked whole before its first step. A refused step is an answer too:
-the run goes on, and its exit status is 0.";
-
-/// What `nvmesgl steps --help` says last.
-const STEPS_AFTER: &str = "A script has one step on each line; `#` begins a comment.
-  reserve Q KIND SLBA BLOCKS PIECE..   KIND is read, write or compare; a PIECE is OFFSET+LEN,
-                                       bytes of a page of its own, or xLEN, bytes left out
-  fill Q CID HEX                       the bytes of a Write or Compare, zeros behind them
-  build Q CID                          lays the scatter-gather list
-  submit Q CID  |  cancel Q CID        sends the command, or gives it up
-  ring Q                               tells the controller
-  fetch Q                              the controller takes an entry,
-  walk Q CID                           does one unit of its list,
-  complete Q CID                       and posts its completion
-  reap Q                               takes a completion
-  collect Q CID  |  gather Q CID  |  release Q CID
-                                       its status, a Read's bytes, and its pages given back
-  abort Q CID                          asks the controller to stop a command, on queue 0
-  delete_sq Q  |  delete_cq Q          asks it to drop a queue's halves, on queue 0
-  retire Q                             gives up a queue whose submission half is deleted
-  forge Q SLOT HEX                     overwrites a completion slot with 16 bytes
-  owners                               prints who owns which page
-
-Example:
-  printf 'reserve 1 read 0 1 0+512\\nowners\\ncancel 1 0\\n' | nvmesgl steps
-prints
-  1 reserve q 1 cid 0 data 1 chain 0
-  0-0 queue 0 sq
-  1-1 queue 0 cq
-  2-2 queue 1 sq
-  3-3 queue 1 cq
-  4-4 command 1 0 data
-  5-15 free
-  3 cancel ok
-  counts free 12 queue 4 chain 0 data 0
-
-Exit status: 0 done, 1 the script is at fault, 2 the arguments, the image or the opening,
-3 memory or the output. docs/SCRIPT.md in the repository has all of this in full.";
-
 /// What is said of a word that is not text.
 const NOT_TEXT: &str = "invalid UTF-8 was detected in one or more arguments";
 
-/// The options of `steps`.
+/// What is said of a number of submitters that is out of range.
+const BAD_SUBMITTERS: &str = "the value of '--submitters <N>' is not in 1..=16";
+
+/// The options that both commands have.
 #[derive(Clone, Copy, Debug)]
 pub struct Options<'a> {
     /// What the world is opened with.
@@ -123,6 +72,13 @@ const BLOCKS: Number = Number {
     help: "Zero blocks of the image, 512 bytes each: 1 to 65536",
 };
 
+const SUBMITTERS: Number = Number {
+    name: "submitters",
+    usual: 2,
+    shown: "2",
+    help: "Submitters, each in a thread of its own: 1 to 16",
+};
+
 impl Number {
     /// The option, as the command line has it.
     fn arg<'a>(&self, alloc: Global) -> Arg<'a> {
@@ -140,29 +96,40 @@ impl Number {
     }
 }
 
-/// The command line.
-pub fn command<'a>(alloc: Global) -> Result<Command<'a>, AllocError> {
+/// A command with the options that both have.
+fn with_options<'a>(alloc: Global, command: Command<'a>) -> Result<Command<'a>, AllocError> {
     let image = Arg::new(alloc, "image")
         .long("image")
         .value_name("FILE")
         .help("The image's bytes, 1 to 65536 whole blocks, in place of --blocks");
-    let steps = Command::new(alloc, "steps")
-        .about("Plays a script from standard input")
-        .long_about(STEPS_ABOUT)
-        .after_help(STEPS_AFTER)
+    command
         .arg(PAGES.arg(alloc))?
         .arg(QUEUES.arg(alloc))?
         .arg(ENTRIES.arg(alloc))?
         .arg(SEGMENT.arg(alloc))?
         .arg(BLOCKS.arg(alloc))?
-        .arg(image)?;
+        .arg(image)
+}
+
+/// The command line.
+pub fn command<'a>(alloc: Global) -> Result<Command<'a>, AllocError> {
+    let steps = Command::new(alloc, "steps")
+        .about("Plays a script from standard input")
+        .long_about(STEPS_ABOUT)
+        .after_help(STEPS_AFTER);
+    let threads = Command::new(alloc, "threads")
+        .about("Runs the jobs of a script from standard input in threads")
+        .long_about(THREADS_ABOUT)
+        .after_help(THREADS_AFTER)
+        .arg(SUBMITTERS.arg(alloc))?;
     Command::new(alloc, "nvmesgl")
         .bin_name("nvmesgl")?
-        .about("An NVMe host driver and a modelled controller, played step by step")
+        .about("An NVMe host driver and a modelled controller, played step by step or in threads")
         .long_about(ABOUT)
         .after_help(AFTER)
         .subcommand_required(true)
-        .subcommand(steps)
+        .subcommand(with_options(alloc, steps)?)?
+        .subcommand(with_options(alloc, threads)?)
 }
 
 /// The words of the command line, the program's name first.
@@ -194,5 +161,23 @@ impl<'a> Options<'a> {
             blocks: BLOCKS.value(given),
             image: given.get_str("image"),
         }
+    }
+}
+
+/// How many submitters there are.
+///
+/// # Errors
+///
+/// `Arguments` where they are not 1 to 16, and `Memory` where memory is refused.
+pub fn submitters(alloc: Global, given: &ArgMatches<'_>) -> Result<u16, Fault>
+    ensures least { IfOk result (λ n. 1 ≤ n) }
+    ensures most { IfOk result (λ n. n ≤ 16) }
+{
+    match u16::try_from(SUBMITTERS.value(given)) {
+        Ok(n @ 1..=16) => Ok(n),
+        _ => Err(Fault::Arguments(command(alloc)?.error(
+            ErrorKind::ValueValidation,
+            BAD_SUBMITTERS,
+        )?)),
     }
 }

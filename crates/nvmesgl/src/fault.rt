@@ -18,7 +18,7 @@ pub enum Fault {
 
 impl Fault {
     /// Prints a help text that was asked for; any other error of the arguments is a fault.
-    pub fn shown(rt: &HostRuntime, why: clap::Error) -> Result<(), Fault> {
+    pub fn shown<R: Print + Eprint>(rt: &R, why: clap::Error) -> Result<(), Fault> {
         if why.kind() == ErrorKind::OutOfMemory {
             return Err(Fault::Run(RunFault::Memory));
         }

@@ -2,7 +2,7 @@
 
 ghost use Rattle.std.specs.Io.{WritesAtMost};
 
-use crate::arguments::words;
+use crate::arguments::{command, submitters, words};
 use crate::fault::Fault;
 use std::env::{Env, FillError};
 use std::test::Fail;
@@ -60,6 +60,49 @@ fn a_word_that_is_not_text_is_a_wrong_argument(rt: HostRuntime) -> Result<(), Fa
                 assert!(rt; matches!(&fault, Fault::Arguments(_)));
             }
         }
+    }
+    Ok(())
+}
+
+#[test]
+fn submitters_are_one_to_sixteen(rt: HostRuntime) -> Result<(), Fail> {
+    let alloc = rt.alloc();
+    for (value, wanted) in [
+        ("1", Some(1)),
+        ("16", Some(16)),
+        ("+5", Some(5)),
+        ("007", Some(7)),
+        ("0", None),
+        ("17", None),
+        ("65537", None),
+        ("4294967295", None),
+    ] {
+        let words = ["nvmesgl", "threads", "--submitters", value];
+        let matches = command(alloc)?.try_get_matches_from(&words)?;
+        let given = matches.subcommand_matches("threads").ok_or("no command")?;
+        match submitters(alloc, given) {
+            Ok(number) => assert_eq!(rt; Some(number), wanted),
+            Err(fault) => {
+                assert_eq!(rt; fault.exit_status(), 2);
+                assert_eq!(rt; None, wanted);
+            }
+        }
+    }
+    Ok(())
+}
+
+#[test]
+fn submitters_are_told_to_threads_alone(rt: HostRuntime) -> Result<(), Fail> {
+    let alloc = rt.alloc();
+    let usual = command(alloc)?.try_get_matches_from(&["nvmesgl", "threads"])?;
+    let given = usual.subcommand_matches("threads").ok_or("no command")?;
+    assert!(rt; matches!(submitters(alloc, given), Ok(2)));
+    for words in [
+        ["nvmesgl", "steps", "--submitters", "2"],
+        ["nvmesgl", "threads", "--submitters", "-1"],
+        ["nvmesgl", "threads", "--submitters", "two"],
+    ] {
+        assert!(rt; command(alloc)?.try_get_matches_from(&words).is_err());
     }
     Ok(())
 }

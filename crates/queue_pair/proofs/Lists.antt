@@ -68,13 +68,16 @@ answers_posted m m' cq n tail tail' place bytes entry host wrote at next count s
     ∙ ap (λ (x : ℕ). answers_between (written m (completion_place cq tail) bytes) cq n host.ring.head x) next
     ∙ answers_append m cq n host.ring.head tail bytes entry count spelled below t room
 
+-- what is read of a slot is the entry that stands there
+pub read_is_entry : (m : Memory) (sq slot place : ℕ) (bytes : List ℕ) (entry : SubEntry) → bytes_at m place 64 ≡ Some bytes → place ≡ submission_place sq slot → entry ≡ submission_of bytes → entry_at m sq slot ≡ Some entry
+read_is_entry m sq slot place bytes entry read at is =
+    ap (λ (x : Option (List ℕ)). option_map submission_of x) (ap (λ (p : ℕ). bytes_at m p 64) (sym at) ∙ read) ∙ ap (λ (e : SubEntry). Some e) (sym is)
+
 -- the entry that is read at the head is the front of the rung list
 pub read_is_front : (m : Memory) (sq n head bell place : ℕ) (bytes : List ℕ) (entry : SubEntry) → bytes_at m place 64 ≡ Some bytes → place ≡ submission_place sq head → entry ≡ submission_of bytes → head < n → bell < n → head ≢ bell →
     Some entry ≡ front (entries_between m sq n head bell)
 read_is_front m sq n head bell place bytes entry read at is h b some =
-    ap (λ (e : SubEntry). Some e) is
-    ∙ sym (ap (λ (x : Option (List ℕ)). option_map submission_of x) (ap (λ (p : ℕ). bytes_at m p 64) (sym at) ∙ read))
-    ∙ ap front (sym (entries_pop m sq n head bell h b some))
+    sym (read_is_entry m sq head place bytes entry read at is) ∙ ap front (sym (entries_pop m sq n head bell h b some))
 
 -- how many there are, and where a list is cut
 pub length_seen : {X : Type 0} (f : ℕ → X) (slots : List ℕ) → length (map f slots) ≡ length slots

@@ -1,6 +1,6 @@
 //! The controller's side of a queue pair.
 
-ghost use Rattle.std.specs.Prelude.{◌≡◌, ◌≢◌, ◌<◌, ◌≤◌, ◌↔◌, ◌++◌, ◌∷◌, [], Err, IfOk, IsErr, IsOk, IsSome, IsNone, IsTrue, IsFalse, OnOk, OnErr, Some, None, length};
+ghost use Rattle.std.specs.Prelude.{◌≡◌, ◌≢◌, ◌<◌, ◌≤◌, ◌↔◌, ◌++◌, ◌∷◌, [], Err, IfOk, IfSome, IsErr, IsOk, IsSome, IsNone, IsTrue, IsFalse, OnOk, OnErr, Some, None, length};
 ghost use Rattle.page_memory.specs.Memory.{Memory, written};
 ghost use Rattle.entry_codec.specs.Completion.{completion_bytes, FitsCompletion};
 ghost use Rattle.queue_pair.specs.Slots.{is_full, is_in_range};
@@ -117,6 +117,7 @@ impl DevicePair {
         requires room { length (D.reached dma.old) ≤ 2 }
         ensures front { IfOk result (λ entry. entry ≡ front (rung (D.memory dma.old) self.now)) }
         ensures rung { IfOk result (λ entry. IsSome entry ↔ (self.now.ring.head ≢ self.now.ring.bell)) }
+        ensures entry { IfOk result (λ entry. IfSome entry (λ e. entry_at (D.memory dma.old) self.now.sq self.now.ring.head ≡ Some e)) }
         ensures out { IsErr result ↔ ((self.now.ring.head ≢ self.now.ring.bell) × (submission_slot (D.memory dma.old) self.now.sq self.now.ring.head ≡ None)) }
         ensures touched { IfOk result (λ entry. IsSome entry → D.reached dma.new ≡ D.reached dma.old ++ submission_page self.now.sq self.now.ring.head ∷ []) }
         ensures untouched { IfOk result (λ entry. IsNone entry → D.reached dma.new ≡ D.reached dma.old) }

@@ -90,7 +90,7 @@ word_fits : {A : Type 0} (P : A → Type 0) (fault : LineFault) (value : List �
 word_fits P fault value [] holds = tt
 word_fits P fault value (word ∷ rest) holds = value_fits P fault rest (value word) (holds word)
 
-number_fits : (limit : ℕ) (ws : Words) → IfOk (number_word limit ws) (λ r. r.0 < limit)
+pub number_fits : (limit : ℕ) (ws : Words) → IfOk (number_word limit ws) (λ r. r.0 < limit)
 unfolding number_word
 number_fits limit ws = word_fits (λ n. n < limit) _ (number limit) ws (number_is_below limit)
 
@@ -109,11 +109,11 @@ pieces_fit so_far (word ∷ rest) fit = go (piece word) (piece_fits word) (λ mo
     go (Some p) fits onward = onward (so_far ++ (p ∷ [])) (All-push FitsPiece so_far p fit (fits p refl))
 
 -- what holds of a word is known where the words after it are read
-then_fits : {A B : Type 0} (P : A → Type 0) (Q : B → Type 0) (r : Result A LineFault) (next : A → Result B LineFault) → IfOk r P → ((a : A) → P a → IfOk (next a) Q) → IfOk (r >>= next) Q
+pub then_fits : {A B : Type 0} (P : A → Type 0) (Q : B → Type 0) (r : Result A LineFault) (next : A → Result B LineFault) → IfOk r P → ((a : A) → P a → IfOk (next a) Q) → IfOk (r >>= next) Q
 then_fits P Q (Ok a) next holds onward = onward a holds
 then_fits P Q (Err fault) next holds onward = tt
 
-whatever_fits : {A B : Type 0} (Q : B → Type 0) (r : Result A LineFault) (next : A → Result B LineFault) → ((a : A) → IfOk (next a) Q) → IfOk (r >>= next) Q
+pub whatever_fits : {A B : Type 0} (Q : B → Type 0) (r : Result A LineFault) (next : A → Result B LineFault) → ((a : A) → IfOk (next a) Q) → IfOk (r >>= next) Q
 whatever_fits Q (Ok a) next onward = onward a
 whatever_fits Q (Err fault) next onward = tt
 

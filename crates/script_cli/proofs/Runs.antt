@@ -1,18 +1,18 @@
 -- Runs of scripts.
-use Rattle.std.proofs.Common.{arith, ◌≡◌, ◌<◌, ◌≤◌, ◌+◌, ◌⊎◌, inl, inr, ℕ, Bool, true, false, nat_lt, Option, None, Result, Ok, Err, List, [], ◌∷◌, ◌++◌, length, take, refl, sym, ap, ◌∙◌, subst}
+use Rattle.std.proofs.Common.{arith, ◌≡◌, ◌+◌, ◌⊎◌, inl, inr, ℕ, Option, None, Result, Ok, Err, List, [], ◌∷◌, ◌++◌, take, refl, sym, ◌∙◌, subst}
 use Rattle.std.specs.Prelude.{OnOk, OnErr, IfErr}
 use Rattle.std.specs.Io.KnownBytes.{Appends, Keeps}
-use Rattle.std.proofs.lemmas.Bool.{ltb-true, ltb-false}
 use Rattle.std.proofs.lemmas.Grind.{common_steps}
 use Rattle.block_image.specs.Blocks.{IsImage}
 use Rattle.machine_model.specs.Script.{Table, table}
-use Rattle.std.proofs.lemmas.List.{take_all}
 use Rattle.script_cli.proofs.GoingOn.{cut_is_front}
-use Rattle.script_cli.proofs.Inputs.{first_are_long, appends_more, appends_none, keeps_then}
+use Rattle.script_cli.proofs.Limits.{same_if_short}
+use Rattle.script_cli.proofs.Inputs.{appends_more, appends_none, keeps_then}
 use Rattle.script_cli.specs.Faults.{fault_of_script}
 use Rattle.script_cli.specs.Inputs.{AreFirstOf, Gains, IsFront}
 use Rattle.script_cli.specs.Runs.{PrintsLine, Prints, last_line, IsRunText, IsFrontOfFirst, HasScript, HasFault, IsNoScript, EndsWith}
-use Rattle.script_cli.specs.Scripts.{script_of, IsReading}
+use Rattle.script_cli.specs.Lines.{lines}
+use Rattle.script_cli.specs.Scripts.{script_from, script_of, IsReading}
 use Rattle.script_cli.specs.declared.fault.RunFault.{RunFault}
 use Rattle.script_cli.specs.declared.fault.RunFault.TheVariants as run
 use Rattle.script_cli.specs.declared.fault.ScriptFault.{ScriptFault}
@@ -24,18 +24,7 @@ use Rattle.world_tables.specs.declared.config.Config.{Config}
 -- The script of the first bytes is that of all
 
 same_script : (text all : List ℕ) → text ≡ take (1048576 + 1) all → script_of text ≡ script_of all
-same_script text all first = go (nat_lt 1048576 (length all)) refl
-  where
-    go : (b : Bool) → nat_lt 1048576 (length all) ≡ b → script_of text ≡ script_of all
-    go true e =
-        let long : 1048576 < length all = ltb-true 1048576 (length all) e in
-        let len = first_are_long 1048576 text all first long in
-        let l : nat_lt 1048576 (length text) ≡ true = ap (nat_lt 1048576) len in
-        rw (e, l) refl
-    go false e =
-        let few : length all ≤ 1048576 = ltb-false 1048576 (length all) e in
-        let same : text ≡ all = first ∙ take_all (1048576 + 1) all (omega (arith, few)) in
-        ap script_of same
+same_script text all first = same_if_short (Err fault.TooLong) (λ t. script_from [] 1 (lines t)) text all first
 
 pub script_is_told : (told : Option (List ℕ)) (text : List ℕ) (script : List Numbered) → AreFirstOf 1048576 told text → script_of text ≡ Ok script → HasScript told script
 script_is_told told text script (all, same, first) good = (all, same, sym (same_script text all first) ∙ good)

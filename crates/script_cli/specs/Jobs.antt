@@ -36,7 +36,7 @@ data_words Compare ws = hex_word ws
 
 abbrev pub job : ℕ → JobHead → List Piece → List ℕ → JobLine
 job number head pieces bytes =
-    record { number = number; submitter = head.submitter; q = head.q; request = request_of head.kind head.slba head.blocks pieces; bytes = bytes }
+    record { number = number; submitter = head.submitter; job = record { q = head.q; request = request_of head.kind head.slba head.blocks pieces; bytes = bytes } }
 
 -- what follows `job` in the line of this number, where there are so many submitters
 unfoldable pub job_words : ℕ → ℕ → Words → Result JobLine LineFault

@@ -1,7 +1,9 @@
 pub mod Faults
 pub mod Grammar
+pub mod Headings
 pub mod Inputs
 pub mod JobLines
+pub mod JobRuns
 pub mod Jobs
 pub mod Lines
 pub mod Numbers

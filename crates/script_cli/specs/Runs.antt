@@ -115,5 +115,7 @@ EndsWith told config image before after run.TooLong = HasFault told fault.TooLon
 EndsWith told config image before after run.Unreadable = Keeps before after
 EndsWith told config image before after run.BadConfig = IsNotOpened told config opening.BadConfig × Keeps before after
 EndsWith told config image before after (run.NoPages need free) = IsNotOpened told config (opening.NoPages need free) × Keeps before after
+EndsWith told config image before after run.NoThread = ⊥
+EndsWith told config image before after (run.Close why) = ⊥
 EndsWith told config image before after run.Memory = Keeps before after ⊎ Writes told config image before after IsCutText
 EndsWith told config image before after run.OutputFailed = Writes told config image before after IsCutText

@@ -1,8 +1,9 @@
 //! The faults of a script, and of its run.
 
 ghost use Rattle.std.specs.Prelude.{◌≡◌};
-ghost use Rattle.script_cli.specs.Faults.{fault_of_script, fault_of_opening, status_of_run};
+ghost use Rattle.script_cli.specs.Faults.{fault_of_script, fault_of_opening, fault_of_closing, fault_of_threads, status_of_run};
 
+use driver_book::CloseFault;
 use std::alloc::AllocError;
 use step_core::OpenRefusal;
 use thiserror::Error;
@@ -61,6 +62,23 @@ pub enum ScriptFault {
     Memory,
 }
 
+/// Why the book of a run of threads was not closed.
+#[derive(Clone, Copy, Debug, PartialEq, Eq, Error)]
+pub enum NotClosed {
+    /// A submission stands in no receipt.
+    #[error("Missing")]
+    Missing,
+    /// A seat was not handed in.
+    #[error("SeatOut")]
+    SeatOut,
+    /// A command was still outstanding.
+    #[error("StillOut")]
+    StillOut,
+    /// A gate was closed to a submitter.
+    #[error("GateClosed")]
+    GateClosed,
+}
+
 /// Why a run of a script ended early.
 #[derive(Clone, Copy, Debug, PartialEq, Eq, Error)]
 pub enum RunFault {
@@ -89,6 +107,12 @@ pub enum RunFault {
         /// How many the pool has.
         free: u32,
     },
+    /// A thread could not be made.
+    #[error("thread")]
+    NoThread,
+    /// The book of the threads was not closed.
+    #[error("close: {0}")]
+    Close(NotClosed),
     /// Memory was refused, and not inside a step.
     #[error("memory")]
     Memory,
@@ -105,7 +129,9 @@ impl RunFault {
         match self {
             RunFault::Line { .. } | RunFault::TooLong | RunFault::Unreadable => 1,
             RunFault::BadConfig | RunFault::NoPages { .. } => 2,
-            RunFault::Memory | RunFault::OutputFailed => 3,
+            RunFault::NoThread | RunFault::Close(_) | RunFault::Memory | RunFault::OutputFailed => {
+                3
+            }
         }
     }
 }
@@ -140,5 +166,30 @@ pub(crate) fn not_opened(why: OpenRefusal) -> RunFault
         OpenRefusal::BadConfig => RunFault::BadConfig,
         OpenRefusal::NoPages { need, free } => RunFault::NoPages { need, free },
         OpenRefusal::Memory => RunFault::Memory,
+    }
+}
+
+/// The fault of a run whose book was not closed.
+fn not_closed(why: CloseFault) -> RunFault
+    ensures { result ≡ fault_of_closing why }
+{
+    match why {
+        CloseFault::Missing { .. } => RunFault::Close(NotClosed::Missing),
+        CloseFault::SeatOut => RunFault::Close(NotClosed::SeatOut),
+        CloseFault::StillOut => RunFault::Close(NotClosed::StillOut),
+        CloseFault::Memory => RunFault::Memory,
+    }
+}
+
+/// The fault of a run whose threads failed.
+pub(crate) fn not_run(why: driver_threads::RunFault) -> RunFault
+    ensures { result ≡ fault_of_threads why }
+{
+    match why {
+        driver_threads::RunFault::Open(why) => not_opened(why),
+        driver_threads::RunFault::NoThread => RunFault::NoThread,
+        driver_threads::RunFault::GateClosed { .. } => RunFault::Close(NotClosed::GateClosed),
+        driver_threads::RunFault::Close(why) => not_closed(why),
+        driver_threads::RunFault::Memory => RunFault::Memory,
     }
 }

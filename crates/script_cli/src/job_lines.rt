@@ -2,41 +2,15 @@
 
 ghost use Rattle.std.specs.Prelude.{◌≡◌, ◌++◌, OnOk, string_bytes, codes};
 ghost use Rattle.entry_codec.specs.Status.{status_text};
-ghost use Rattle.script_cli.specs.JobLines.{kind_text, too_few_text, job_answer_text, job_text};
+ghost use Rattle.script_cli.specs.JobLines.{kind_text, too_few_text, job_refusal_text, job_end_text, job_text};
 ghost use Rattle.script_cli.specs.Replies.{gathered_text, request_fault_name as spec_request_fault_name};
 
 use crate::reply::{put_gathered, put_not_filled, request_fault_name};
+use driver_threads::{JobEnd, JobRefusal};
 use entry_codec::Status;
 use io_commands::{FillFault, Kind, RequestFault};
 use std::alloc::AllocError;
 use step_core::Bytes;
-
-/// How a job ended.
-#[derive(Debug, Drop)]
-pub enum JobAnswer {
-    /// Its command was carried through.
-    Done {
-        /// How the command ended.
-        status: Status,
-        /// What it gathered: nothing of a Write or a Compare.
-        bytes: Bytes,
-    },
-    /// There is no such I/O queue.
-    NoQueue,
-    /// The queue takes no more commands.
-    QueueGone,
-    /// The request has a fault.
-    Bad(RequestFault),
-    /// It needs more pages than the queues leave of the pool.
-    NoPages {
-        /// How many pages it needs.
-        need: u32,
-        /// How many pages no queue owns.
-        pool: u32,
-    },
-    /// There are more bytes than its data pieces take.
-    WrongLength,
-}
 
 /// The word of a kind of command.
 fn kind_name(kind: Kind) -> &'static str
@@ -72,17 +46,26 @@ fn put_too_few(out: &mut String, need: u32, pool: u32) -> Result<(), AllocError>
     write!(out, "refused NoPages need {need} pool {pool}")
 }
 
-/// Puts how a job ended.
-fn put_job_answer(out: &mut String, answer: &JobAnswer) -> Result<(), AllocError>
-    ensures { OnOk result (string_bytes out.new ≡ string_bytes out.old ++ job_answer_text answer.now) }
+/// Puts why a job was refused.
+fn put_job_refusal(out: &mut String, why: JobRefusal) -> Result<(), AllocError>
+    ensures { OnOk result (string_bytes out.new ≡ string_bytes out.old ++ job_refusal_text why) }
 {
-    match answer {
-        JobAnswer::Done { status, bytes } => put_done(out, *status, bytes),
-        JobAnswer::NoQueue => out.push_str("refused NoQueue"),
-        JobAnswer::QueueGone => out.push_str("refused QueueGone"),
-        JobAnswer::Bad(why) => put_bad(out, *why),
-        JobAnswer::NoPages { need, pool } => put_too_few(out, *need, *pool),
-        JobAnswer::WrongLength => put_not_filled(out, FillFault::WrongLength),
+    match why {
+        JobRefusal::NoQueue => out.push_str("refused NoQueue"),
+        JobRefusal::QueueGone => out.push_str("refused QueueGone"),
+        JobRefusal::Bad(fault) => put_bad(out, fault),
+        JobRefusal::NoPages { need, pool } => put_too_few(out, need, pool),
+        JobRefusal::WrongLength => put_not_filled(out, FillFault::WrongLength),
+    }
+}
+
+/// Puts how a job ended.
+fn put_job_end(out: &mut String, end: &JobEnd) -> Result<(), AllocError>
+    ensures { OnOk result (string_bytes out.new ≡ string_bytes out.old ++ job_end_text end.now) }
+{
+    match end {
+        JobEnd::Done { status, bytes } => put_done(out, *status, bytes),
+        JobEnd::Refused(why) => put_job_refusal(out, *why),
     }
 }
 
@@ -96,12 +79,12 @@ pub fn append_job_line(
     number: u32,
     seat: u16,
     kind: Kind,
-    answer: &JobAnswer,
+    end: &JobEnd,
 ) -> Result<(), AllocError>
-    ensures { OnOk result (string_bytes out.new ≡ string_bytes out.old ++ job_text number seat kind answer.now) }
+    ensures { OnOk result (string_bytes out.new ≡ string_bytes out.old ++ job_text number seat kind end.now) }
 {
     let name = kind_name(kind);
     write!(out, "{number} seat {seat} {name} ")?;
-    put_job_answer(out, answer)?;
+    put_job_end(out, end)?;
     out.push_str("\n")
 }

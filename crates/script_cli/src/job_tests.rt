@@ -1,6 +1,7 @@
 //! Scripts of jobs through the public call, and the lines of how jobs ended.
 
 use super::*;
+use driver_threads::{JobEnd, JobRefusal};
 use entry_codec::Status;
 use io_commands::{Kind, Piece, RequestFault};
 use std::alloc::Global;
@@ -64,10 +65,10 @@ fn a_write_and_a_read(rt: HostRuntime) -> Result<(), Fail> {
     let jobs = script.into_jobs();
     assert_eq!(rt; jobs.len(), 2);
     let (write, read) = (&jobs[0], &jobs[1]);
-    assert_eq!(rt; (write.number, write.submitter, write.q), (1, 0, 1));
-    assert_eq!(rt; (write.request.slba, write.request.blocks), (2, 1));
-    assert_eq!(rt; write.request.kind, Kind::Write);
-    assert_eq!(rt; write.bytes.as_slice(), [162, 176].as_slice());
+    assert_eq!(rt; (write.number, write.submitter, write.job.q), (1, 0, 1));
+    assert_eq!(rt; (write.job.request.slba, write.job.request.blocks), (2, 1));
+    assert_eq!(rt; write.job.request.kind, Kind::Write);
+    assert_eq!(rt; write.job.bytes.as_slice(), [162, 176].as_slice());
     let pieces = [
         Piece::Bucket { len: 8 },
         Piece::Data {
@@ -75,10 +76,10 @@ fn a_write_and_a_read(rt: HostRuntime) -> Result<(), Fail> {
             len: 504,
         },
     ];
-    assert_eq!(rt; write.request.pieces.as_slice(), pieces.as_slice());
-    assert_eq!(rt; (read.number, read.submitter, read.q), (3, 1, 1));
-    assert_eq!(rt; read.request.kind, Kind::Read);
-    assert_eq!(rt; read.bytes.as_slice().len(), 0);
+    assert_eq!(rt; write.job.request.pieces.as_slice(), pieces.as_slice());
+    assert_eq!(rt; (read.number, read.submitter, read.job.q), (3, 1, 1));
+    assert_eq!(rt; read.job.request.kind, Kind::Read);
+    assert_eq!(rt; read.job.bytes.as_slice().len(), 0);
     Ok(())
 }
 
@@ -87,30 +88,36 @@ fn lines_of_jobs(rt: HostRuntime) -> Result<(), Fail> {
     let mut out = String::new(rt.alloc());
     let mut block = vec![in rt.alloc(); 0; 511]?;
     block.insert(0, 178)?;
-    let answers = [
+    let ends = [
         (
             Kind::Write,
-            JobAnswer::Done {
+            JobEnd::Done {
                 status: Status::SUCCESS,
                 bytes: Bytes::from_vec(Vec::new(rt.alloc())),
             },
         ),
         (
             Kind::Read,
-            JobAnswer::Done {
+            JobEnd::Done {
                 status: Status::SUCCESS,
                 bytes: Bytes::from_vec(block),
             },
         ),
-        (Kind::Read, JobAnswer::NoQueue),
-        (Kind::Read, JobAnswer::QueueGone),
-        (Kind::Compare, JobAnswer::Bad(RequestFault::LengthMismatch)),
-        (Kind::Read, JobAnswer::NoPages { need: 13, pool: 12 }),
-        (Kind::Compare, JobAnswer::WrongLength),
+        (Kind::Read, JobEnd::Refused(JobRefusal::NoQueue)),
+        (Kind::Read, JobEnd::Refused(JobRefusal::QueueGone)),
+        (
+            Kind::Compare,
+            JobEnd::Refused(JobRefusal::Bad(RequestFault::LengthMismatch)),
+        ),
+        (
+            Kind::Read,
+            JobEnd::Refused(JobRefusal::NoPages { need: 13, pool: 12 }),
+        ),
+        (Kind::Compare, JobEnd::Refused(JobRefusal::WrongLength)),
     ];
     let mut number = 1u32;
-    for (kind, answer) in &answers {
-        append_job_line(&mut out, number, 1, *kind, answer)?;
+    for (kind, end) in &ends {
+        append_job_line(&mut out, number, 1, *kind, end)?;
         number = number.wrapping_add(1);
     }
     assert_eq!(rt;

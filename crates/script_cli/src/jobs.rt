@@ -1,6 +1,6 @@
 //! Scripts of jobs, as the jobs that submitters are told to do.
 
-ghost use Rattle.std.specs.Prelude.{◌≡◌, ◌≤◌, IfOk, MatchResult, Ok, Err, OnOk, length};
+ghost use Rattle.std.specs.Prelude.{◌≡◌, ◌≤◌, ◌<◌, All, IfOk, MatchResult, Ok, Err, OnOk, length};
 ghost use Rattle.script_cli.specs.Jobs.{head_words, data_words, job_words, job_of_words, numbered_job as spec_numbered_job, with_job, jobs_in, jobs_of, IsReadAs};
 
 use crate::fault::{LineFault, ScriptFault};
@@ -8,24 +8,21 @@ use crate::grammar::{begins_comment, pieces, words_of};
 use crate::lines::split_line;
 use crate::script::{MAX_LINES, MAX_SCRIPT};
 use crate::words::Words;
+use driver_threads::Job;
 use io_commands::{Kind, Request};
 use std::alloc::{AllocError, Global};
 use std::marker::Model;
 use step_core::Bytes;
 
-/// A job of a script: a command that a submitter carries through.
+/// A line of a script of jobs.
 #[derive(Debug, Drop)]
 pub struct JobLine {
     /// The number of its line, from 1.
     pub number: u32,
     /// Its submitter, from 0.
     pub submitter: u16,
-    /// Its queue.
-    pub q: u16,
-    /// What is asked for.
-    pub request: Request,
-    /// The bytes of a Write or a Compare; a Read has none.
-    pub bytes: Bytes,
+    /// What the submitter is told to do.
+    pub job: Job,
 }
 
 /// What stands before the bytes and the pieces of a job.
@@ -134,9 +131,11 @@ fn job_line(
     Ok(Ok(JobLine {
         number,
         submitter: head.submitter,
-        q: head.q,
-        request,
-        bytes,
+        job: Job {
+            q: head.q,
+            request,
+            bytes,
+        },
     }))
 }
 
@@ -230,7 +229,8 @@ fn read_job_lines(alloc: Global, text: &[u8], submitters: u16) -> Result<JobScri
 /// [`ScriptFault::TooLong`] before any line is looked at, else the first fault of the first line that has one.
 #[tactic(auto, using(crate::proofs::JobReading::jobs_are_read))]
 pub fn read_jobs(alloc: Global, text: &[u8], submitters: u16) -> Result<JobScript, ScriptFault>
-    ensures { IsReadAs (jobs_of submitters text.now) result }
+    ensures script { IsReadAs (jobs_of submitters text.now) result }
+    ensures below { IfOk result (All (λ line. line.submitter < submitters)) }
 {
     if text.len() > MAX_SCRIPT {
         return Err(ScriptFault::TooLong);

@@ -14,6 +14,7 @@ mod fault;
 mod grammar;
 mod input;
 mod job_lines;
+mod job_runs;
 #[cfg(test)]
 mod job_tests;
 mod jobs;
@@ -34,9 +35,10 @@ pub mod worked;
 pub mod worked_jobs;
 pub mod worked_replies;
 
-pub use fault::{LineFault, RunFault, ScriptFault};
+pub use fault::{LineFault, NotClosed, RunFault, ScriptFault};
 pub use input::{ImageFault, read_image};
-pub use job_lines::{JobAnswer, append_job_line};
+pub use job_lines::append_job_line;
+pub use job_runs::run_jobs;
 pub use jobs::{JobLine, JobScript, read_jobs};
 pub use owners::{append_counts, append_owners};
 pub use reply::append_reply;

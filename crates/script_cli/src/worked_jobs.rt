@@ -1,6 +1,8 @@
 //! Worked lines of jobs, and of how they ended. Each function computes some.
 
 ghost use Rattle.std.specs.Prelude.{◌≡◌, ℕ, List, ◌<◌, length, None, Some, Ok, Err, [], ◌∷◌, ◌++◌, codes, replicate};
+ghost use Rattle.driver_threads.specs.declared.jobs.JobEnd.TheVariants as end;
+ghost use Rattle.driver_threads.specs.declared.jobs.JobRefusal.TheVariants as refusal;
 ghost use Rattle.entry_codec.specs.declared.status.TheConstants.Status.{SUCCESS, COMPARE_FAILURE};
 ghost use Rattle.io_commands.specs.declared.request.Kind.TheVariants as kind;
 ghost use Rattle.io_commands.specs.declared.request.Piece.TheVariants as piece;
@@ -10,7 +12,6 @@ ghost use Rattle.script_cli.specs.Jobs.{head, job, job_of_line, jobs_of};
 ghost use Rattle.script_cli.specs.Worked.{fed, all_fed};
 ghost use Rattle.script_cli.specs.declared.fault.LineFault.TheVariants as fault;
 ghost use Rattle.script_cli.specs.declared.fault.ScriptFault.TheVariants as script_fault;
-ghost use Rattle.script_cli.specs.declared.job_lines.JobAnswer.TheVariants as answer;
 
 /// Some good lines, where there are two submitters.
 #[tactic(auto, unfolding(crate::specs::Grammar::number_word, crate::specs::Grammar::kind_word, crate::specs::Grammar::hex_word, crate::specs::Grammar::pieces_from, crate::specs::Jobs::head_words, crate::specs::Jobs::data_words, crate::specs::Jobs::job_words))]
@@ -54,11 +55,11 @@ pub fn job_scripts_are_read()
 
 /// How jobs ended.
 pub fn job_lines_print()
-    ensures written { job_text 1 0 kind.Write (answer.Done SUCCESS []) ≡ fed (codes "1 seat 0 write status 0:00 -") }
-    ensures read { job_text 12 1 kind.Read (answer.Done SUCCESS (178 ∷ replicate 511 0)) ≡ fed (codes "12 seat 1 read status 0:00 B2*1,00*511") }
-    ensures differs { job_text 3 1 kind.Compare (answer.Done COMPARE_FAILURE []) ≡ fed (codes "3 seat 1 compare status 2:85 -") }
-    ensures no_queue { job_text 3 1 kind.Read answer.NoQueue ≡ fed (codes "3 seat 1 read refused NoQueue") }
-    ensures bad { job_text 3 1 kind.Read (answer.Bad request.LengthMismatch) ≡ fed (codes "3 seat 1 read refused Bad LengthMismatch") }
-    ensures too_few { job_text 3 1 kind.Read (answer.NoPages 13 12) ≡ fed (codes "3 seat 1 read refused NoPages need 13 pool 12") }
-    ensures too_many_bytes { job_text 3 1 kind.Write answer.WrongLength ≡ fed (codes "3 seat 1 write refused WrongLength") }
+    ensures written { job_text 1 0 kind.Write (end.Done SUCCESS []) ≡ fed (codes "1 seat 0 write status 0:00 -") }
+    ensures read { job_text 12 1 kind.Read (end.Done SUCCESS (178 ∷ replicate 511 0)) ≡ fed (codes "12 seat 1 read status 0:00 B2*1,00*511") }
+    ensures differs { job_text 3 1 kind.Compare (end.Done COMPARE_FAILURE []) ≡ fed (codes "3 seat 1 compare status 2:85 -") }
+    ensures no_queue { job_text 3 1 kind.Read (end.Refused refusal.NoQueue) ≡ fed (codes "3 seat 1 read refused NoQueue") }
+    ensures bad { job_text 3 1 kind.Read (end.Refused (refusal.Bad request.LengthMismatch)) ≡ fed (codes "3 seat 1 read refused Bad LengthMismatch") }
+    ensures too_few { job_text 3 1 kind.Read (end.Refused (refusal.NoPages 13 12)) ≡ fed (codes "3 seat 1 read refused NoPages need 13 pool 12") }
+    ensures too_many_bytes { job_text 3 1 kind.Write (end.Refused refusal.WrongLength) ≡ fed (codes "3 seat 1 write refused WrongLength") }
 {}

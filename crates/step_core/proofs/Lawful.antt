@@ -4,13 +4,12 @@ use Rattle.std.specs.List.{list_all}
 use Rattle.page_ledger.specs.Owners.{is_among}
 use Rattle.machine_model.specs.Events as events
 use Rattle.machine_model.specs.Events.{Event}
-use Rattle.machine_model.specs.Histories.{HasHistory}
 use Rattle.machine_model.specs.InOrder.{runs_are_made, IsTrustedRunOf}
 use Rattle.machine_model.specs.Run.{Run}
 use Rattle.machine_model.specs.Script.{Table, table}
 use Rattle.machine_model.specs.State.{State}
 use Rattle.machine_model.specs.Touch.{allowed, stays_allowed, stays_own, own_pages, touched_by}
-use Rattle.machine_model.proofs.JobLaws.{all_runs_stay}
+use Rattle.machine_model.proofs.Agreed.{agreed_stays}
 use Rattle.world_tables.specs.Opening.{opening_of}
 use Rattle.step_core.specs.Going.{IsTableInOrder, benches_touch_what_they_may, benches_make_trusted_runs}
 use Rattle.step_core.specs.Laws.{is_outside, Asks, Says, AreOf, BeginsWith, IsRunOf}
@@ -77,9 +76,7 @@ none_outside what answer e r out asks says = absurd cc
 
 stays : (t new : Table) (e : Event) (r : events.Reply) → IsTableInOrder t → IsTrue t.world.trusted → (es : List Event) (rs : List events.Reply) → Run t.world (e ∷ es) (r ∷ rs) new.world
     → IsTrue (stays_allowed t.world r && stays_own t.world e r)
-stays t new e r h trusted es rs run =
-    let past : HasHistory t.world = h.world.history trusted in
-    all_runs_stay past.image past.made t.world run.0 e r past.run run.1
+stays t new e r h trusted es rs run = agreed_stays t.world run.0 e r (h.world.agree trusted) trusted run.1
 
 pub touches_what_it_may : benches_touch_what_they_may
 touches_what_it_may t what answer new e r h trusted does asks says =

@@ -19,13 +19,14 @@ const SMALL: Config = Config {
 };
 
 /// How often each submitter writes, reads and compares.
-const ROUNDS: u8 = 8;
+const ROUNDS: u8 = 50;
 
-/// The three blocks that a submitter writes in a round.
+/// The three blocks that a submitter writes in a round: no two rounds of any submitters have the same.
 fn blocks(worker: u8, round: u8) -> [u8; 1536] {
-    let mut bytes = [worker; 1536];
+    let mut bytes = [0; 1536];
     for (i, byte) in bytes.iter_mut().enumerate() {
-        *byte = byte.wrapping_mul(16).wrapping_add(round) ^ (i % 251) as u8;
+        let own = if i % 2 == 0 { worker } else { round };
+        *byte = own ^ (i % 251) as u8;
     }
     bytes
 }

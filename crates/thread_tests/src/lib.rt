@@ -15,3 +15,5 @@ mod forged_rows;
 mod rows;
 #[cfg(test)]
 mod runs;
+#[cfg(test)]
+mod turned_away;

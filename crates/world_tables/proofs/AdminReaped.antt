@@ -41,7 +41,7 @@ use Rattle.world_tables.proofs.Reaped.{settled-heard}
 use Rattle.world_tables.proofs.Reapings.{Sees, heard-device, heard-host, knowing_head, on_head, one_fewer, reap-none, reaped-told, seen-entry, with_all, with_lists}
 use Rattle.world_tables.proofs.Settled.{HasBoth, Settled, cq-kept, rings-of, settled-gone, settled-state, settled-with, sq-kept, whole-of}
 use Rattle.world_tables.proofs.Spared.{claims_keep_queue, claims_keep_rings, claims_keep_tells, each_claimed}
-use Rattle.world_tables.proofs.Steps.{open_step, sound_after, history_after, length-change}
+use Rattle.world_tables.proofs.Steps.{open_step, sound_after, agree_after, length-change}
 
 -- What the end of an admin command leans on: a queue whose deletion it ends has both halves, and one of which it gives back a half owns that half's pages
 abbrev pub Means : AdminKind → Tables → Type 0
@@ -344,5 +344,5 @@ admin-whole t w q x e kind sees ends below =
     let step = open_step (state_of t) (events.Reap q) (events.Reaps (found.AdminDone e.cid e.status e.dw0)) (state_of new) refl tt (admin-leads t w q x e kind sees ends) in
     whole-of new (meant-settled u kind e.status (settled-over t w q x e kind sees ends below) (over-means t w q e kind ends))
     (sound_after (state_of t) (events.Reap q) (events.Reaps (found.AdminDone e.cid e.status e.dw0)) (state_of new) step w.sound)
-    (history_after (state_of t) (events.Reap q) (events.Reaps (found.AdminDone e.cid e.status e.dw0)) (state_of new) step w.history)
+    (agree_after (state_of t) (events.Reap q) (events.Reaps (found.AdminDone e.cid e.status e.dw0)) (state_of new) step w.agree)
     (meant-walks u kind e.status w.walks)

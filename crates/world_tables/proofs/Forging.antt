@@ -160,7 +160,7 @@ forge-whole t w q slot place bytes count s =
       image = w.image;
       honest = tt;
       walks = tt;
-      history = tt;
+      agree = tt;
     }
 
 -- as the code tells it

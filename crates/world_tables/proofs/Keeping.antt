@@ -5,12 +5,12 @@ use Rattle.std.specs.List.{AllByRecursion}
 use Rattle.block_image.specs.Blocks.{IsImage, block_count}
 use Rattle.machine_model.specs.After.{after, change}
 use Rattle.machine_model.specs.Events.{Event, Reply}
-use Rattle.machine_model.specs.Histories.{HasHistory}
+use Rattle.machine_model.specs.Agreeing.{SidesAgree}
 use Rattle.machine_model.specs.Memory.{memory_of}
 use Rattle.machine_model.specs.State.{HostQueue}
 use Rattle.machine_model.specs.Step.{Step, IsController, LeavesByController, host_part}
 use Rattle.machine_model.proofs.Headline.{steps_keep}
-use Rattle.machine_model.proofs.Histories.{histories_grow}
+use Rattle.machine_model.proofs.Agreeing.{step_keeps_agreement}
 use Rattle.machine_model.proofs.Parts.{in_store, length-in_store}
 use Rattle.machine_model.proofs.Steps.{part_controller}
 use Rattle.page_memory.specs.Pages.{Pages, IsPool}
@@ -191,5 +191,5 @@ serves_whole t pages queues tasks image e reply w s step walks =
       image = image_as_long t.image image s.as_long w.image;
       honest = s.honest;
       walks = walks;
-      history = trusted_on t.trusted (HasHistory (state_of t)) (HasHistory (state_of u)) w.history (λ is h. (histories_grow (state_of t) e reply (state_of u) step is).1 h);
+      agree = trusted_on t.trusted (SidesAgree (state_of t)) (SidesAgree (state_of u)) w.agree (λ is agree. (step_keeps_agreement (state_of t) e reply (state_of u) step is).1 agree);
     }

@@ -9,7 +9,7 @@ use Rattle.machine_model.specs.Events.{Event, Reply}
 use Rattle.machine_model.specs.State.{State, HostQueue, DeviceQueue, Record}
 use Rattle.machine_model.specs.Step.{Step, LeavesByHost, host_part}
 use Rattle.machine_model.proofs.Headline.{steps_keep}
-use Rattle.machine_model.proofs.Histories.{histories_grow}
+use Rattle.machine_model.proofs.Agreeing.{step_keeps_agreement}
 use Rattle.page_ledger.specs.Owners.{free_pages}
 use Rattle.page_ledger.specs.declared.owner.Owner.{Owner}
 use Rattle.page_memory.specs.Pages.{Pages, IsPool, byte_at}
@@ -106,8 +106,8 @@ moved_whole t q f pages owners records e reply whole fits step =
             (λ k queue at. rings_stay t pages fits.spares k queue (whole.queues.each k queue at) (whole.owners.queues_told k queue at) ((honest_of t whole on).rings k queue at));
       });
       walks = walks_after t e reply (state_of (moved t q f pages owners records)) whole step;
-      history = OnTrue_from t.trusted _ (λ on.
-          (histories_grow (state_of t) e reply (state_of (moved t q f pages owners records)) step on).1 (OnTrue_at on whole.history));
+      agree = OnTrue_from t.trusted _ (λ on.
+          (step_keeps_agreement (state_of t) e reply (state_of (moved t q f pages owners records)) step on).1 (OnTrue_at on whole.agree));
     }
 
 -- what a call of the host may answer, whether anything was forged or not

@@ -6,11 +6,11 @@ use Rattle.std.proofs.lemmas.Bool.{and_parts, true≢false}
 use Rattle.std.proofs.lemmas.List.{length-replicate, length-map}
 use Rattle.block_image.specs.Blocks.{IsImage}
 use Rattle.machine_model.specs.Claims.{IsSound}
-use Rattle.machine_model.specs.Histories.{HasHistory}
+use Rattle.machine_model.specs.Agreeing.{SidesAgree}
 use Rattle.machine_model.specs.Opening.{queues_from, device_queue, is_config}
 use Rattle.machine_model.specs.State.{State, HostQueue, DeviceQueue, Record}
 use Rattle.machine_model.proofs.Headline.{runs_are_sound}
-use Rattle.machine_model.proofs.Histories.{histories_open}
+use Rattle.machine_model.proofs.Agreeing.{opening_agrees}
 use Rattle.machine_model.proofs.Opening.{fits_pool, in_limits, length-range}
 use Rattle.page_ledger.specs.Owners.{is_among, is_free, is_owned_at, pages_from, free_pages}
 use Rattle.page_ledger.specs.declared.owner.Owner.{Owner}
@@ -243,7 +243,7 @@ opened_whole c owners image opens bytes size granted =
       image = bytes;
       honest = opened_honest c owners image opens;
       walks = tt;
-      history = subst (λ (s : State). HasHistory s) state (histories_open c.pages c.queues c.entries c.segment image opens bytes);
+      agree = subst (λ (s : State). SidesAgree s) state (opening_agrees c.pages c.queues c.entries c.segment image opens);
     }
 
 -- the tables that are made are those

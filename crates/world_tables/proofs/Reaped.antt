@@ -23,7 +23,7 @@ use Rattle.world_tables.proofs.Queues.{each-change}
 use Rattle.world_tables.proofs.Reapings.{EndsIo, Sees, done-leads, heard-stands}
 use Rattle.world_tables.proofs.Records.{Marks, marked-claims, marked-tells}
 use Rattle.world_tables.proofs.Settled.{Settled, rings-of, settled-of, settled-with, whole-of}
-use Rattle.world_tables.proofs.Steps.{open_step, sound_after, history_after, length-change}
+use Rattle.world_tables.proofs.Steps.{open_step, sound_after, agree_after, length-change}
 use Rattle.world_tables.proofs.Taking.{taken-queue}
 
 pub settled-heard : (t : Tables) → IsWhole t → (q : ℕ) (x : Queue) (e : ComEntry) → Sees t q x e → e.sqhd < x.host.entries → Settled (heard q e.sqhd t)
@@ -101,5 +101,5 @@ done-whole t w q cid status x e sees io below =
       rings = λ on. rings-of u s on;
     }))
     (sound_after (state_of t) (events.Reap q) (events.Reaps (found.Done cid status)) (state_of new) step w.sound)
-    (history_after (state_of t) (events.Reap q) (events.Reaps (found.Done cid status)) (state_of new) step w.history)
+    (agree_after (state_of t) (events.Reap q) (events.Reaps (found.Done cid status)) (state_of new) step w.agree)
     w.walks

@@ -32,7 +32,7 @@ use Rattle.world_tables.proofs.Entries.{same-queue}
 use Rattle.world_tables.proofs.Queues.{each-change, map-change}
 use Rattle.world_tables.proofs.Seen.{all-answers-there, trusted-seen}
 use Rattle.world_tables.proofs.Spared.{honest_of}
-use Rattle.world_tables.proofs.Steps.{open_step, sound_after, history_after, length-change, on_true}
+use Rattle.world_tables.proofs.Steps.{open_step, sound_after, agree_after, length-change, on_true}
 use Rattle.world_tables.proofs.Taking.{HasFront, follow-before, has-front, range-behind, taken-queue, taken-seen, taken-stands}
 use Rattle.world_tables.proofs.Walks.{walks_after}
 
@@ -193,7 +193,7 @@ reject-whole t w q x e why sees says =
             (λ y at. subst (λ (z : Queue). RingsStand (byte_at t.pages) q (with_answer_taken z)) (same-queue t.queues q x y sees.at at) (consumed-stands t w on q x e sees));
       });
       walks = walks_after t (events.Reap q) (events.Reaps (found.Rejected why)) (state_of new) w step;
-      history = history_after (state_of t) (events.Reap q) (events.Reaps (found.Rejected why)) (state_of new) step w.history;
+      agree = agree_after (state_of t) (events.Reap q) (events.Reaps (found.Rejected why)) (state_of new) step w.agree;
     }
 
 -- How an I/O command ended is held

@@ -43,7 +43,7 @@ use Rattle.world_tables.proofs.Owners.{given-free}
 use Rattle.world_tables.proofs.Queues.{each-change, map-change, map-same}
 use Rattle.world_tables.proofs.Seen.{all-answers-there, host-at, trusted-seen}
 use Rattle.world_tables.proofs.Settled.{Settled, rings-of, settled-of, settled-with, whole-of}
-use Rattle.world_tables.proofs.Steps.{host_step, sound_after, history_after, length-change}
+use Rattle.world_tables.proofs.Steps.{host_step, sound_after, agree_after, length-change}
 
 -- A queue whose deletion has ended, and at whose head no completion stands
 pub record Retires (t : Tables) (q : ℕ) (x : Queue) : Type 0 where
@@ -248,7 +248,7 @@ retired-whole t w q x r =
     let step = host_step (state_of t) (events.Retire q) events.Accepted (state_of new) refl tt (retire-exact t w q x r) in
     whole-of new (settled-retired t w q x r)
     (sound_after (state_of t) (events.Retire q) events.Accepted (state_of new) step w.sound)
-    (history_after (state_of t) (events.Retire q) events.Accepted (state_of new) step w.history)
+    (agree_after (state_of t) (events.Retire q) events.Accepted (state_of new) step w.agree)
     w.walks
 
 -- As the code tells it

@@ -44,7 +44,7 @@ use Rattle.world_tables.proofs.Living.{admin_live, admin_there}
 use Rattle.world_tables.proofs.Queues.{each-change, submission_page-in}
 use Rattle.world_tables.proofs.Settled.{HasBoth, Settled, rings-of, settled-of, settled-state, settled-with, whole-of}
 use Rattle.world_tables.proofs.Spared.{claims_keep_queue, claims_keep_rings, claims_keep_tells, each_claimed, linked_of, present_kept}
-use Rattle.world_tables.proofs.Steps.{history_after, length-change, on_true, open_step, sound_after}
+use Rattle.world_tables.proofs.Steps.{agree_after, length-change, on_true, open_step, sound_after}
 use Rattle.world_tables.proofs.Submitted.{live-kept}
 use Rattle.world_tables.proofs.Walks.{walks_after}
 
@@ -333,7 +333,7 @@ send-made t kind cid w can is =
       step = step;
       whole = whole-of (asked kind u) (settled-asked u kind (settled-sent t kind cid w can is) (asks-sent t kind cid can.queue can.none))
           (sound_after (state_of t) (sending kind) (events.Sent cid) (state_of (asked kind u)) step w.sound)
-          (history_after (state_of t) (sending kind) (events.Sent cid) (state_of (asked kind u)) step w.history)
+          (agree_after (state_of t) (sending kind) (events.Sent cid) (state_of (asked kind u)) step w.agree)
           (asked-walks u kind (walks_after t (sending kind) (events.Sent cid) (state_of (asked kind u)) w step));
     }
 

@@ -6,7 +6,7 @@ use Rattle.std.proofs.lemmas.Bool.{OnTrue_at}
 use Rattle.block_image.specs.Blocks.{IsImage, block_count}
 use Rattle.machine_model.specs.After.{change}
 use Rattle.machine_model.specs.Claims.{IsSound}
-use Rattle.machine_model.specs.Histories.{HasHistory}
+use Rattle.machine_model.specs.Agreeing.{SidesAgree}
 use Rattle.machine_model.specs.Memory.{memory_of}
 use Rattle.machine_model.specs.Refusals.{is_retired, is_gone}
 use Rattle.machine_model.specs.State.{Record}
@@ -61,8 +61,8 @@ settled-of t w =
       honest = w.honest;
     }
 
-pub whole-of : (t : Tables) → Settled t → IsSound (state_of t) → OnTrue t.trusted (HasHistory (state_of t)) → OnTrue t.trusted (WalksStand (memory_of t.pages) t.tasks) → IsWhole t
-whole-of t s sound history walks =
+pub whole-of : (t : Tables) → Settled t → IsSound (state_of t) → OnTrue t.trusted (SidesAgree (state_of t)) → OnTrue t.trusted (WalksStand (memory_of t.pages) t.tasks) → IsWhole t
+whole-of t s sound agree walks =
     record {
       sound = sound;
       pool = s.pool;
@@ -80,7 +80,7 @@ whole-of t s sound history walks =
       tasks = s.tasks;
       image = s.image;
       honest = s.honest;
-      history = history;
+      agree = agree;
       walks = walks;
     }
 

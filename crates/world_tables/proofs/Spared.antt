@@ -9,7 +9,7 @@ use Rattle.entry_codec.specs.declared.completion.ComEntry.{ComEntry}
 use Rattle.machine_model.specs.After.{change}
 use Rattle.machine_model.specs.Linked.{IsLinked, absent}
 use Rattle.machine_model.specs.Refusals.{is_retired, is_gone}
-use Rattle.machine_model.proofs.TiedAll.{linked_runs}
+use Rattle.machine_model.proofs.Agreed.{agreed_linked}
 use Rattle.page_ledger.specs.Owners.{is_among, owner_at, pages_from}
 use Rattle.page_ledger.specs.declared.owner.Owner.{Owner}
 use Rattle.page_ledger.specs.declared.owner.Owner.TheVariants as owner
@@ -40,7 +40,7 @@ pub honest_of : (t : Tables) → IsWhole t → t.trusted ≡ true → IsHonest t
 honest_of t whole e = OnTrue_at e whole.honest
 
 pub linked_of : (t : Tables) → IsWhole t → t.trusted ≡ true → IsLinked (state_of t)
-linked_of t whole e = let h = OnTrue_at e whole.history in linked_runs h.image h.made (state_of t) h.run
+linked_of t whole e = agreed_linked (state_of t) (OnTrue_at e whole.agree)
 
 -- Halves
 

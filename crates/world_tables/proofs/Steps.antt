@@ -3,9 +3,9 @@ use Rattle.std.proofs.Common.{◌≡◌, ℕ, zero, suc, Bool, true, false, not,
 use Rattle.std.specs.Bool.{OnTrue}
 use Rattle.std.specs.Option.{option_map_or}
 use Rattle.machine_model.specs.Claims.{IsSound}
-use Rattle.machine_model.specs.Histories.{HasHistory}
+use Rattle.machine_model.specs.Agreeing.{SidesAgree}
 use Rattle.machine_model.proofs.Headline.{steps_keep}
-use Rattle.machine_model.proofs.Histories.{histories_grow}
+use Rattle.machine_model.proofs.Agreeing.{step_keeps_agreement}
 use Rattle.admin_commands.specs.declared.AdminKind.TheVariants.{Abort, DeleteSq, DeleteCq}
 use Rattle.admin_commands.specs.declared.AdminKind.{AdminKind}
 use Rattle.entry_codec.specs.declared.status.Status.{Status}
@@ -145,8 +145,8 @@ when_true false P Q f h = tt
 pub sound_after : (s : State) (e : Event) (reply : Reply) (new : State) → Step s e reply new → IsSound s → IsSound new
 sound_after s e reply new step h = steps_keep s e reply new step h
 
-pub history_after : (s : State) (e : Event) (reply : Reply) (new : State) → Step s e reply new → OnTrue s.trusted (HasHistory s) → OnTrue new.trusted (HasHistory new)
-history_after s e reply new step h =
-    on_true new.trusted (HasHistory new) (λ on.
-    let grown = histories_grow s e reply new step on in
-    grown.1 (subst (λ (b : Bool). OnTrue b (HasHistory s)) grown.0 h))
+pub agree_after : (s : State) (e : Event) (reply : Reply) (new : State) → Step s e reply new → OnTrue s.trusted (SidesAgree s) → OnTrue new.trusted (SidesAgree new)
+agree_after s e reply new step agree =
+    on_true new.trusted (SidesAgree new) (λ on.
+    let kept = step_keeps_agreement s e reply new step on in
+    kept.1 (subst (λ (b : Bool). OnTrue b (SidesAgree s)) kept.0 agree))

@@ -48,7 +48,7 @@ use Rattle.world_tables.proofs.Pages.{pool-with, with-other}
 use Rattle.world_tables.proofs.Queues.{each-change, submission-owner, submission_page-in}
 use Rattle.world_tables.proofs.Records.{Marks, marked-claims, marked-records, marked-tells}
 use Rattle.world_tables.proofs.Spared.{Spares, device_queues_stay, honest_of, linked_of, present_kept, rings_stay}
-use Rattle.world_tables.proofs.Steps.{open_step, sound_after, history_after, length-change, on_true}
+use Rattle.world_tables.proofs.Steps.{open_step, sound_after, agree_after, length-change, on_true}
 use Rattle.world_tables.proofs.Walks.{walks_after}
 
 pub live-kept : (s : HostState) → is_live s ≡ true → (is_retired s || is_gone s) ≡ false
@@ -213,5 +213,5 @@ submit-whole t d x entry w c there =
       image = w.image;
       honest = on_true t.trusted (IsHonest new) (λ on. record { rings = posted-rings (brought_in d t) d.q x entry post (ringed t d x entry w on c) });
       walks = walks_after t (events.Submit d) events.Accepted (state_of new) w step;
-      history = history_after (state_of t) (events.Submit d) events.Accepted (state_of new) step w.history;
+      agree = agree_after (state_of t) (events.Submit d) events.Accepted (state_of new) step w.agree;
     }

@@ -25,7 +25,7 @@ use Rattle.world_tables.specs.Tables.{Tables, state_of, host_queue_of, device_qu
 use Rattle.world_tables.specs.Whole.{IsWhole, IsQueue, IsHonest, RingsStand, ClaimsIdentifiers, TellsQueue, IsRecord, AreTasks}
 use Rattle.world_tables.specs.Rows.{Queue}
 use Rattle.world_tables.proofs.Queues.{each-change, map-same, map-change, submission-in, entries-there, length-present, range-ends}
-use Rattle.world_tables.proofs.Steps.{host_step, length-change, sound_after, history_after, when_true}
+use Rattle.world_tables.proofs.Steps.{host_step, length-change, sound_after, agree_after, when_true}
 use Rattle.world_tables.proofs.Walks.{walks_after}
 
 -- The refusal
@@ -160,7 +160,7 @@ rung-keeps t q w live =
             (λ x at. heard-stands (byte_at t.pages) t.entries q x (w.queues.each q x at) (h.rings q x at));
       }) w.honest;
       walks = walks_after t (events.Ring q) events.Accepted (state_of (rung q t)) w step;
-      history = history_after (state_of t) (events.Ring q) events.Accepted (state_of (rung q t)) step w.history;
+      agree = agree_after (state_of t) (events.Ring q) events.Accepted (state_of (rung q t)) step w.agree;
     }
 
 pub ring-there : (queues : List Queue) (q : ℕ) → lacks_submission (slice_get queues q) ≡ false → q < length queues

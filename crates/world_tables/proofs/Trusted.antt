@@ -7,11 +7,11 @@ use Rattle.std.proofs.lemmas.List.Folds.{list_any-append}
 use Rattle.std.proofs.lemmas.Option.{slice_get_within}
 use Rattle.admin_commands.specs.Verdicts.{is_absent}
 use Rattle.machine_model.specs.Claims.{is_away}
-use Rattle.machine_model.specs.Histories.{HasHistory}
+use Rattle.machine_model.specs.Agreeing.{SidesAgree}
 use Rattle.machine_model.specs.Linked.{IsLinked, absent}
 use Rattle.machine_model.specs.Refusals.{is_retired, is_gone}
 use Rattle.machine_model.specs.State.{Record, pages_of, DeviceQueue}
-use Rattle.machine_model.proofs.TiedAll.{linked_runs}
+use Rattle.machine_model.proofs.Agreed.{agreed_linked}
 use Rattle.page_ledger.specs.Owners.{is_among, owner_at, pages_from}
 use Rattle.page_ledger.specs.declared.owner.Owner.{Owner}
 use Rattle.page_ledger.specs.declared.owner.Owner.TheVariants as owner
@@ -64,7 +64,7 @@ some_half : (n : ℕ) → 2 ≤ n → 0 < half_pages n Submission
 some_half n l = omega arith
 
 pub linked_of : (t : Tables) → IsWhole t → t.trusted ≡ true → IsLinked (state_of t)
-linked_of t w e = let h : HasHistory (state_of t) = honest_of t.trusted (HasHistory (state_of t)) e w.history in linked_runs h.image h.made (state_of t) h.run
+linked_of t w e = agreed_linked (state_of t) (honest_of t.trusted (SidesAgree (state_of t)) e w.agree)
 
 pub absent_of : (t : Tables) (q : ℕ) (queue : Queue) → slice_get t.queues q ≡ Some queue → absent (state_of t) q ≡ is_absent queue.sq
 absent_of t q queue here = ap (λ (o : Option DeviceQueue). option_map_or (λ at. is_absent at.state) o true) (slice_get-map (device_queue_of (byte_at t.pages)) t.queues q queue here)

@@ -12,12 +12,12 @@ use Rattle.io_commands.specs.Jobs.{JobContents, job_course, course_of_walk, dire
 use Rattle.machine_model.specs.After as after
 use Rattle.machine_model.specs.After.{course_of}
 use Rattle.machine_model.specs.Events.{Event, Reply}
-use Rattle.machine_model.specs.Histories.{HasHistory}
 use Rattle.machine_model.specs.Memory.{memory_of}
 use Rattle.machine_model.specs.Proper.{IsProper}
 use Rattle.machine_model.specs.State.{State, Job}
 use Rattle.machine_model.specs.Step.{Step}
-use Rattle.machine_model.proofs.JobLaws.{stood_after, step_is, stay_after}
+use Rattle.machine_model.proofs.Agreeing.{stood_of as agreed_stood}
+use Rattle.machine_model.proofs.JobLaws.{step_is, stay_after}
 use Rattle.machine_model.proofs.Members.{all_indexed, all_at, in_at}
 use Rattle.machine_model.proofs.Served.{Stood, job_list, serves_in, course_in, course_ends}
 use Rattle.machine_model.proofs.Steps.{Accepts}
@@ -60,7 +60,7 @@ job_served s m k j stood stay at other =
     serves_in s.memory m l.command.chain_pages l.command.data_pages (stay.chains l.command l.within l.phase) (stay.own l.command l.within l.phase) (course_of s j) (course_in s j l) (course_ends s stood j l)
 
 pub stood_of : (t : Tables) → IsWhole t → t.trusted ≡ true → Stood (state_of t)
-stood_of t w on = let h : HasHistory (state_of t) = OnTrue_at on w.history in stood_after h.image h.made (state_of t) h.run
+stood_of t w on = agreed_stood (state_of t) (OnTrue_at on w.agree)
 
 pub still_stands : (t : Tables) (m : Pages) → IsWhole t → t.trusted ≡ true → ListsStay (state_of t) m → WalksStand (memory_of m) t.tasks
 still_stands t m w on stay =

@@ -1,5 +1,5 @@
 -- What the step of a command's walk makes of the tables.
-use Rattle.std.specs.Prelude.{◌≤◌, ◌≡◌, ℕ, ◌+◌, ◌<◌, Option, Some, None, List, [], find, is_some, length, slice_get, slice_set, if◌then◌else◌}
+use Rattle.std.specs.Prelude.{◌≤◌, ◌≡◌, ℕ, ◌+◌, ◌<◌, Option, Some, None, List, find, is_some, length, slice_get, slice_set, if◌then◌else◌}
 use Rattle.std.specs.Option.{option_map_or}
 use Rattle.controller_walk.specs.Walks.{DoesFirst, LeavesRest}
 use Rattle.controller_walk.specs.declared.walk.WalkState.{WalkState}

@@ -13,13 +13,13 @@ use Rattle.controller_walk.specs.Units.{course_of_list}
 use Rattle.io_commands.specs.Jobs.{is_success, left_of_walk, job_course, direction_of_entry, need_of_entry}
 use Rattle.io_commands.specs.Requests.{data_count}
 use Rattle.io_commands.specs.Values.{IsGood}
+use Rattle.machine_model.specs.Agreeing.{SidesAgree}
 use Rattle.machine_model.specs.Claims.{IsSound}
 use Rattle.entry_codec.specs.declared.status.Status.{Status}
 use Rattle.machine_model.specs.declared.words.Phase.{Phase}
 use Rattle.machine_model.specs.declared.words.Phase.TheVariants.{Drafted, Submitted, Held, Collected}
 use Rattle.machine_model.specs.Work.{Work}
 use Rattle.machine_model.specs.declared.words.Work.TheVariants.{Io, Management}
-use Rattle.machine_model.specs.Histories.{HasHistory}
 use Rattle.machine_model.specs.Memory.{memory_of}
 use Rattle.machine_model.specs.Refusals.{is_retired, is_gone}
 use Rattle.machine_model.specs.State.{Record, is_at}
@@ -151,7 +151,7 @@ pub record RingsStand (m : Memory) (q : ℕ) (queue : Queue) : Type 0 where
 pub record IsHonest (t : Tables) : Type 0 where
   pub rings : (q : ℕ) (queue : Queue) → slice_get t.queues q ≡ Some queue → RingsStand (byte_at t.pages) q queue
 
--- What holds whatever was forged, and, where nothing was, that the rings and the walks stand, and that a run led here.
+-- What holds whatever was forged, and, where nothing was, that the rings and the walks stand, and that both sides agree.
 pub record IsWhole (t : Tables) : Type 0 where
   pub sound : IsSound (state_of t)
   pub pool : IsPool t.pages
@@ -170,4 +170,4 @@ pub record IsWhole (t : Tables) : Type 0 where
   pub image : IsImage t.image
   pub honest : OnTrue t.trusted (IsHonest t)
   pub walks : OnTrue t.trusted (WalksStand (memory_of t.pages) t.tasks)
-  pub history : OnTrue t.trusted (HasHistory (state_of t))
+  pub agree : OnTrue t.trusted (SidesAgree (state_of t))

@@ -1,5 +1,6 @@
-use Rattle.machine_model.proofs.JobLaws.{all_runs_stay}
+use Rattle.machine_model.proofs.Agreed.{agreed_stays}
+use Rattle.machine_model.proofs.Agreeing.{run_agrees}
 use Rattle.machine_model.proofs.laws.law_of_touches.Goals as goal
 
 pub returns : goal.returns
-returns c = all_runs_stay
+returns c = λ image made old new e reply run step. agreed_stays old new e reply (run_agrees image made old run) run.trusted step

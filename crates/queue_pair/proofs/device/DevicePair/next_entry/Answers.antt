@@ -1,5 +1,10 @@
-use Rattle.queue_pair.proofs.Lists.{read_is_front}
+use Rattle.queue_pair.proofs.Lists.{read_is_entry, read_is_front}
 use Rattle.queue_pair.proofs.device.DevicePair.next_entry.Goals as goal
+
+pub returns-clause-entry : goal.returns-clause-entry
+returns-clause-entry g c =
+    rw (← c.self.view_is)
+    (read_is_entry _ c.self.inside.sq c.self.inside.head _ _ _ c.in-Ok.ensures.read c.submission_address.ensures c.read-2.ensures.exact)
 
 pub returns-clause-front : goal.returns-clause-front
 returns-clause-front g c =

@@ -1,0 +1,140 @@
+-- What a fetch keeps, and what it makes of what it looked at.
+use Rattle.std.proofs.Common.{◌≡◌, ◌≢◌, ℕ, ◌+◌, ◌<◌, ◌==◌, ◌||◌, not, nat_lt, Bool, true, false, cond, Option, Some, None, IfNone, is_none, is_some, Result, Ok, Err, List, [], ◌∷◌, ◌++◌, length, find, get_or, slice_set, if◌then◌else◌, refl, ap, ap₂, sym, ◌∙◌, arith, subst, eqb-true}
+use Rattle.std.specs.List.{count_by}
+use Rattle.std.proofs.lemmas.Bool.{true≢false}
+use Rattle.block_image.specs.Blocks.{block_count}
+use Rattle.entry_codec.specs.declared.status.TheConstants.Status.{INVALID_OPCODE, INVALID_NAMESPACE, INVALID_FIELD, LBA_OUT_OF_RANGE}
+use Rattle.entry_codec.specs.declared.submission.SubEntry.{SubEntry}
+use Rattle.io_commands.specs.Jobs.{JobContents, io_fault, kind_of_opcode, block_number, first_block}
+use Rattle.controller_core.specs.Contents.{change, Contents, IsController, AreCommands, FitsCommand, FitsWork, FitsVerdict, is_command, entry_of_work, FetchedCommand}
+use Rattle.controller_core.specs.declared.refusal.Refusal.{Refusal}
+use Rattle.page_memory.specs.Memory.{Memory}
+use Rattle.std.specs.Result.{OnOk}
+use Rattle.entry_codec.specs.declared.status.TheConstants.Status.{COMMAND_ID_CONFLICT}
+use Rattle.controller_core.specs.Answering.{completion_by, memory_posted, page_posted, with_answer}
+use Rattle.controller_core.specs.Fetching.{IsBegun, Begins, AnswersKnown, LooksAt, FetchesTo, Takes, TakesIn, is_known, answer_refusal}
+use Rattle.controller_core.specs.Managing.{with_taken, command_of}
+use Rattle.controller_core.specs.declared.command.Work.TheVariants.{Io}
+use Rattle.controller_core.specs.declared.queue.ControllerQueue.{ControllerQueue}
+use Rattle.controller_core.proofs.Lists.{count-cons, one, all-append, length-change, get-at, change-at}
+use Rattle.controller_core.proofs.Ready.{both_parts}
+
+-- Commands that are counted
+
+count-more : {A : Type 0} (p : A → Bool) (xs : List A) (y : A) → count_by p (xs ++ y ∷ []) ≡ count_by p xs + one (p y)
+count-more p [] y = omega (arith, count-cons p y [])
+count-more p (x ∷ xs) y = omega (arith, count-cons p x xs, count-cons p x (xs ++ y ∷ []), count-more p xs y)
+
+pub none_found : {A : Type 0} (p : A → Bool) (xs : List A) → find p xs ≡ None → count_by p xs ≡ 0
+none_found p [] e = refl
+none_found p (x ∷ xs) e = go (p x) refl e (none_found p xs)
+  where
+    go : (b : Bool) → p x ≡ b → cond b (Some x) (find p xs) ≡ None → (find p xs ≡ None → count_by p xs ≡ 0) → count_by p (x ∷ xs) ≡ 0
+    go true h e rest = cc
+    go false h e rest = omega (arith, count-cons p x xs, ap one h, rest e)
+
+-- One command more
+
+pub commands-with : (blocks queues : ℕ) (commands : List FetchedCommand) (k : FetchedCommand) → AreCommands blocks queues commands → k.q < queues → FitsWork blocks k.q k.units_done k.work
+    → count_by (is_command k.q (entry_of_work k.work).cid) commands ≡ 0 → AreCommands blocks queues (commands ++ k ∷ [])
+commands-with blocks queues commands k are there fits none = record {
+  each = all-append (FitsCommand blocks queues) commands k are.each (there, fits);
+  differ = λ r d. go r d (is_command r d k) refl;
+}
+  where
+    go : (r d : ℕ) (b : Bool) → is_command r d k ≡ b → count_by (is_command r d) (commands ++ k ∷ []) < 2
+    go r d true h =
+        let both = both_parts (k.q == r) ((entry_of_work k.work).cid == d) h in
+        let own : count_by (is_command r d) commands ≡ 0 =
+        subst (λ (x : ℕ). count_by (is_command x d) commands ≡ 0) (eqb-true k.q r both.0)
+        (subst (λ (x : ℕ). count_by (is_command k.q x) commands ≡ 0) (eqb-true (entry_of_work k.work).cid d both.1) none) in
+        omega (arith, count-more (is_command r d) commands k, ap one h, own)
+    go r d false h = omega (arith, count-more (is_command r d) commands k, ap one h, are.differ r d)
+
+pub fault_fits : (blocks : ℕ) (e : SubEntry) → FitsVerdict (io_fault blocks e)
+fault_fits blocks e = by (is_none (kind_of_opcode e.opcode)) (not (e.nsid == 1)) (not (e.fuse == 0) || not (e.psdt == 1)) (nat_lt 2048 (block_number e)) (nat_lt blocks (first_block e + block_number e))
+  where
+    by : (a b c d f : Bool) → FitsVerdict (if a then Some INVALID_OPCODE else if b then Some INVALID_NAMESPACE else if c then Some INVALID_FIELD else if d then Some INVALID_FIELD else if f then Some LBA_OUT_OF_RANGE else None)
+    by true b c d f = omega arith
+    by false true c d f = omega arith
+    by false false true d f = omega arith
+    by false false false true f = omega arith
+    by false false false false true = omega arith
+    by false false false false false = tt
+
+pub not_some : {A : Type 0} (o : Option A) → is_some o ≡ false → o ≡ None
+not_some None e = refl
+not_some (Some x) e = absurd (true≢false e)
+
+pub begun_kept : (c : Contents) (q : ℕ) (e : SubEntry) (job : JobContents) (queues : List ControllerQueue) (commands : List FetchedCommand) → IsController c → (q == 0) ≡ false → q < length c.queues → is_some (find (is_command q e.cid) c.commands) ≡ false
+    → IsBegun c.image e job → queues ≡ change q with_taken c.queues → commands ≡ c.commands ++ command_of q (Io job) ∷ [] → IsController (record { queues = queues; commands = commands; image = c.image })
+begun_kept c q e job queues commands is io there free begun eq ec =
+    record {
+      commands =
+          subst (λ (n : ℕ). AreCommands (block_count c.image) n commands) (sym (ap length eq ∙ length-change q with_taken c.queues))
+          (subst (AreCommands (block_count c.image) (length c.queues)) (sym ec)
+          (commands-with (block_count c.image) (length c.queues) c.commands (command_of q (Io job)) is.commands there
+          (io, begun.blocks, subst FitsVerdict (sym begun.verdict) (fault_fits (block_count c.image) e), omega (arith, begun.left))
+          (subst (λ (x : SubEntry). count_by (is_command q x.cid) c.commands ≡ 0) (sym begun.entry) (none_found (is_command q e.cid) c.commands (not_some (find (is_command q e.cid) c.commands) free)))));
+    }
+
+pub begun_in : (v c : Contents) (q : ℕ) (e : SubEntry) (job : JobContents) (k : FetchedCommand) (queues : List ControllerQueue) (before commands : List FetchedCommand) → v ≡ c → IsController v → (q == 0) ≡ false → q < length c.queues → is_some (find (is_command q e.cid) c.commands) ≡ false
+    → IsBegun v.image e job → queues ≡ change q with_taken v.queues → before ≡ v.commands → k ≡ command_of q (Io job) → commands ≡ before ++ k ∷ [] → IsController (record { queues = queues; commands = commands; image = v.image })
+begun_in v c q e job k queues before commands same is io there free begun eq eb ek ec =
+    begun_kept v q e job queues commands is io (subst (λ (x : Contents). q < length x.queues) (sym same) there) (subst (λ (x : Contents). is_some (find (is_command q e.cid) x.commands) ≡ false) (sym same) free)
+    begun eq (ec ∙ ap₂ (λ (xs : List FetchedCommand) (x : FetchedCommand). xs ++ x ∷ []) eb ek)
+
+pub count_kept : (c : Contents) (queues : List ControllerQueue) → IsController c → length queues ≡ length c.queues → IsController (record { queues = queues; commands = c.commands; image = c.image })
+count_kept c queues is e = record { commands = subst (λ (n : ℕ). AreCommands (block_count c.image) n c.commands) (sym e) is.commands }
+
+pub answers_by : (result : Result (Unit {0}) Refusal) (queues : List ControllerQueue) (q i cid : ℕ) (m m' : Memory) (reached reached' : List ℕ) (queue queue' : ControllerQueue)
+    → i ≡ q → q < length queues → queue ≡ get_or queues i queue → OnOk result (queue' ≡ with_answer (with_taken queue))
+    → OnOk result (m' ≡ memory_posted m queue.device (completion_by q cid COMMAND_ID_CONFLICT 0 (with_taken queue).device)) → OnOk result (reached' ≡ reached ++ page_posted queue.device ∷ [])
+    → OnOk result (AnswersKnown queues q cid m reached (slice_set queues i queue') m' reached')
+answers_by (Err why) queues q i cid m m' reached reached' queue queue' same there at a b d = tt
+answers_by (Ok x) queues q i cid m m' reached reached' queue queue' same there at a b d =
+    record {
+      queue = queue;
+      here = get-at q queues queue there (subst (λ (j : ℕ). queue ≡ get_or queues j queue) same at);
+      leaves = change-at q i (λ queue. with_answer (with_taken queue)) queues queue queue' same (omega (arith, same, there)) at a;
+      memory = b;
+      touches = d;
+    }
+
+pub begins_in : (v c c' : Contents) (q : ℕ) (e : SubEntry) (job : JobContents) (k : FetchedCommand) (queues : List ControllerQueue) (before commands : List FetchedCommand) → v ≡ c
+    → IsBegun v.image e job → queues ≡ change q with_taken v.queues → before ≡ v.commands → k ≡ command_of q (Io job) → commands ≡ before ++ k ∷ [] → c' ≡ record { queues = queues; commands = commands; image = v.image } → Begins c q e c'
+begins_in v c c' q e job k queues before commands same begun eq eb ek ec is =
+    subst (λ (x : Contents). Begins x q e c') same
+    (record {
+      job = job;
+      is = begun;
+      leaves = is ∙ ap₂ (λ (xs : List ControllerQueue) (ys : List FetchedCommand). record { queues = xs; commands = ys; image = v.image }) eq (ec ∙ ap₂ (λ (xs : List FetchedCommand) (x : FetchedCommand). xs ++ x ∷ []) eb ek);
+    })
+
+-- An entry whose identifier is unknown
+
+unknown_by : (o : Option ℕ) (xs : List FetchedCommand) (q cid : ℕ) → false ≡ is_some o → IfNone o (find (is_command q cid) xs ≡ None) → is_some (find (is_command q cid) xs) ≡ false
+unknown_by None xs q cid e none = ap is_some none
+unknown_by (Some i) xs q cid e none = absurd (true≢false (sym e))
+
+no_zero : (q : ℕ) → q ≢ 0 → (q == 0) ≡ false
+no_zero q ne = go (q == 0) refl
+  where
+    go : (b : Bool) → (q == 0) ≡ b → b ≡ false
+    go true h = absurd (ne (eqb-true q 0 h))
+    go false h = refl
+
+pub begins_fetch : (v c c' : Contents) (xs : List FetchedCommand) (o : Option ℕ) (m m1 m2 : Memory) (q : ℕ) (e : SubEntry) (touched : List ℕ) → v ≡ c → xs ≡ v.commands
+    → false ≡ is_some o → IfNone o (find (is_command q e.cid) xs ≡ None) → q ≢ 0 → LooksAt c m1 q e touched → m1 ≡ m → m2 ≡ m1 → Begins c q e c' → FetchesTo c m q e.cid c' m2 touched
+begins_fetch v c c' xs o m m1 m2 q e touched same ex eo none ne looks before after begins =
+    let unknown : is_known c q e ≡ false =
+    subst (λ (ys : List FetchedCommand). is_some (find (is_command q e.cid) ys) ≡ false) (ex ∙ ap (λ (x : Contents). x.commands) same) (unknown_by o xs q e.cid eo none) in
+    record {
+      entry = e;
+      looked = touched;
+      looks = subst (λ (n : Memory). LooksAt c n q e touched) before looks;
+      named = refl;
+      room = ap (λ (b : Bool). if b then answer_refusal c.queues m q else None) unknown;
+      takes = subst (λ (b : Bool). Takes b c q e m touched c' m2 touched) (sym unknown)
+          (subst (λ (b : Bool). TakesIn b c q e c') (sym (no_zero q ne)) begins, after ∙ before, refl);
+    }

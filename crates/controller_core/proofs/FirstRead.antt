@@ -1,0 +1,72 @@
+-- The first Read, worked.
+use Rattle.std.proofs.Common.{◌∷◌, [], replicate, refl, arith}
+use Rattle.controller_walk.specs.Units.{moving}
+use Rattle.controller_walk.specs.declared.walk.WalkState.TheVariants.{More, End}
+use Rattle.entry_codec.specs.Submission.{submission_of}
+use Rattle.entry_codec.specs.Worked.{first_read}
+use Rattle.page_memory.specs.Memory.{bytes_at}
+use Rattle.sgl_descriptor.specs.Spelling.{descriptor_of}
+use Rattle.controller_core.specs.Completing.{CompletesTo}
+use Rattle.controller_core.specs.Fetching.{FetchesTo}
+use Rattle.controller_core.specs.Walking.{WalksTo}
+use Rattle.controller_core.specs.Worked.{rung, memory_with_entry, read_begun, read_halfway, read_walked, with_read_begun, with_read_halfway, with_read_walked, with_read_completed, memory_with_data, memory_with_completion}
+
+pub first_fetch : FetchesTo rung memory_with_entry 1 0 with_read_begun memory_with_entry (2 ∷ [])
+unfolding bytes_at submission_of
+first_fetch = record {
+  entry = first_read;
+  looked = 2 ∷ [];
+  looks = record { device = _; here = refl; rung = λ e. absurd (omega arith); at = refl; touches = refl };
+  named = refl;
+  room = refl;
+  takes = (
+    record {
+      job = read_begun;
+      is = record { entry = refl; blocks = refl; verdict = refl; bytes = refl; walk = λ m. refl; left = omega arith };
+      leaves = refl;
+    },
+    refl,
+    refl,
+  );
+}
+
+pub first_unit : WalksTo with_read_begun 1 0 memory_with_entry More with_read_halfway memory_with_entry []
+unfolding bytes_at descriptor_of moving
+first_unit = record {
+  among = record {
+    place = 0;
+    command = _;
+    job = read_begun;
+    job' = read_halfway;
+    found = refl;
+    at = refl;
+    work = refl;
+    going = refl;
+    unit = record { does = ((refl, refl), refl); leaves = (refl, refl); verdict = refl; entry = refl; blocks = refl; fewer = omega arith };
+    leaves = refl;
+  };
+  queues = refl;
+  image = refl;
+}
+
+pub second_unit : WalksTo with_read_halfway 1 0 memory_with_entry End with_read_walked memory_with_data (4 ∷ [])
+unfolding bytes_at moving
+second_unit = record {
+  among = record {
+    place = 0;
+    command = _;
+    job = read_halfway;
+    job' = read_walked;
+    found = refl;
+    at = refl;
+    work = refl;
+    going = refl;
+    unit = record { does = (((replicate 512 0, refl, refl), refl), refl); leaves = (refl, tt); verdict = refl; entry = refl; blocks = refl; fewer = omega arith };
+    leaves = refl;
+  };
+  queues = refl;
+  image = refl;
+}
+
+pub first_completion : CompletesTo with_read_walked 1 0 memory_with_data with_read_completed memory_with_completion (3 ∷ [])
+first_completion = record { command = _; queue = _; found = refl; here = refl; leaves = refl; memory = refl; touches = refl }

@@ -1,0 +1,9 @@
+pub mod Lists
+pub mod Faults
+pub mod Kept
+pub mod Ready
+pub mod Fetched
+pub mod Managed
+pub mod Opened
+pub mod OneWay
+pub mod FirstRead

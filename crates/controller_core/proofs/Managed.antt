@@ -1,0 +1,177 @@
+-- What an admin entry keeps as it is fetched.
+use Rattle.std.proofs.Common.{◌≡◌, ℕ, ◌+◌, ◌<◌, ◌==◌, ◌&&◌, ◌||◌, not, Bool, true, false, is_none, is_some, Some, List, [], ◌∷◌, ◌++◌, find, length, map, if◌then◌else◌, refl, ap, ap₂, sym, ◌∙◌, arith, subst, eqb-true}
+use Rattle.std.specs.List.{count_by}
+use Rattle.std.proofs.lemmas.Bool.{true≢false}
+use Rattle.admin_commands.specs.Entries.{named_queue, named_command}
+use Rattle.admin_commands.specs.Verdicts.{decision, is_live, is_absent, abort_verdict, delete_sq_verdict, delete_cq_verdict}
+use Rattle.admin_commands.specs.declared.AdminVerdict.{AdminVerdict}
+use Rattle.admin_commands.specs.declared.AdminVerdict.TheVariants.{Answer, AbortJob, StopQueue, DropCompletion}
+use Rattle.admin_commands.specs.declared.DeviceView.{DeviceView}
+use Rattle.block_image.specs.Blocks.{block_count}
+use Rattle.entry_codec.specs.declared.admin_opcode.TheConstants.{ABORT, DELETE_IO_SQ, DELETE_IO_CQ}
+use Rattle.entry_codec.specs.declared.status.Status.{Status}
+use Rattle.entry_codec.specs.declared.status.TheConstants.Status.{SUCCESS, INVALID_OPCODE, INVALID_FIELD, INVALID_QUEUE_IDENTIFIER, INVALID_QUEUE_DELETION, ABORT_REQUESTED, ABORTED_SQ_DELETION}
+use Rattle.entry_codec.specs.declared.submission.SubEntry.{SubEntry}
+use Rattle.io_commands.specs.Jobs.{JobContents}
+use Rattle.controller_core.specs.Contents.{Contents, IsController, AreCommands, FetchedCommand, Work, FitsWork, FitsCommand, change, entry_of_work, is_command, is_deletion}
+use Rattle.controller_core.specs.Managing.{with_taken, command_of, admin_work, stopped_work, aborted, stopped_with_queue, stopping, without_completion, commands_after, queues_after, verdict_for, view_for, managed}
+use Rattle.controller_core.specs.declared.command.Work.TheVariants.{Io, Admin}
+use Rattle.controller_core.specs.declared.queue.ControllerQueue.{ControllerQueue}
+use Rattle.controller_core.proofs.Fetched.{commands-with, none_found, not_some}
+use Rattle.controller_core.proofs.Lists.{all-map, count-cons, one, length-change}
+
+-- What each verdict comes from
+
+if_by : {X : Type 0} (P : X → Type 0) (b : Bool) (x y : X) → (b ≡ true → P x) → (b ≡ false → P y) → P (if b then x else y)
+if_by P true x y f g = f refl
+if_by P false x y f g = g refl
+
+-- No command that is answered at once deletes a queue, and what is deleted is an I/O queue.
+abbrev Suits : SubEntry → AdminVerdict → Type 0
+Suits e (Answer st dw0) = (st.sct < 8) × (is_deletion e st ≡ false)
+Suits e (AbortJob q cid) = (named_queue e == 0) ≡ false
+Suits e (StopQueue q) = (named_queue e == 0) ≡ false
+Suits e (DropCompletion q) = (named_queue e == 0) ≡ false
+
+and_false : (b : Bool) → (b && false) ≡ false
+and_false true = refl
+and_false false = refl
+
+both_true : (a b : Bool) → (a && b) ≡ true → (a ≡ true) × (b ≡ true)
+both_true true b e = (refl, e)
+both_true false b e = cc
+
+either_false : (a b : Bool) → (a || b) ≡ false → (a ≡ false) × (b ≡ false)
+either_false true b e = cc
+either_false false b e = (refl, e)
+
+was_false : (b : Bool) → not b ≡ true → b ≡ false
+was_false true e = cc
+was_false false e = refl
+
+no_abort : (opcode : ℕ) → (opcode == ABORT) ≡ true → (opcode == DELETE_IO_SQ) ≡ false
+no_abort opcode e = ap (λ (k : ℕ). k == DELETE_IO_SQ) (eqb-true opcode ABORT e)
+
+abort_suits : (e : SubEntry) (view : DeviceView) → (e.opcode == ABORT) ≡ true → Suits e (abort_verdict (named_queue e) (named_command e) view)
+abort_suits e view op =
+    if_by (Suits e) (view.target_walks && not (named_queue e == 0)) (AbortJob (named_queue e) (named_command e)) (Answer SUCCESS 1)
+    (λ h. was_false (named_queue e == 0) (both_true view.target_walks (not (named_queue e == 0)) h).1)
+    (λ h. (omega arith, ap (λ (b : Bool). b && true) (no_abort e.opcode op)))
+
+delete_sq_suits : (e : SubEntry) (view : DeviceView) → Suits e (delete_sq_verdict (named_queue e) view)
+delete_sq_suits e view =
+    if_by (Suits e) ((named_queue e == 0) || not (is_live view.sq)) (Answer INVALID_QUEUE_IDENTIFIER 0) (StopQueue (named_queue e))
+    (λ h. (omega arith, and_false (e.opcode == DELETE_IO_SQ)))
+    (λ h. (either_false (named_queue e == 0) (not (is_live view.sq)) h).0)
+
+delete_cq_suits : (e : SubEntry) (view : DeviceView) → Suits e (delete_cq_verdict (named_queue e) view)
+delete_cq_suits e view =
+    if_by (Suits e) ((named_queue e == 0) || not view.cq_there) (Answer INVALID_QUEUE_IDENTIFIER 0) (if not (is_absent view.sq) then Answer INVALID_QUEUE_DELETION 0 else DropCompletion (named_queue e))
+    (λ h. (omega arith, and_false (e.opcode == DELETE_IO_SQ)))
+    (λ h. if_by (Suits e) (not (is_absent view.sq)) (Answer INVALID_QUEUE_DELETION 0) (DropCompletion (named_queue e))
+    (λ h'. (omega arith, and_false (e.opcode == DELETE_IO_SQ)))
+    (λ h'. (either_false (named_queue e == 0) (not view.cq_there) h).0))
+
+decision_suits : (e : SubEntry) (view : DeviceView) → Suits e (decision e view)
+decision_suits e view =
+    if_by (Suits e) (not ((e.opcode == ABORT) || (e.opcode == DELETE_IO_SQ) || (e.opcode == DELETE_IO_CQ))) (Answer INVALID_OPCODE 0) _
+    (λ h. (omega arith, and_false (e.opcode == DELETE_IO_SQ)))
+    (λ h. if_by (Suits e) (not (e.fuse == 0)) (Answer INVALID_FIELD 0) _
+    (λ h. (omega arith, and_false (e.opcode == DELETE_IO_SQ)))
+    (λ h. if_by (Suits e) (e.opcode == ABORT) (abort_verdict (named_queue e) (named_command e) view) _
+    (λ h. abort_suits e view h)
+    (λ h. if_by (Suits e) (e.opcode == DELETE_IO_SQ) (delete_sq_verdict (named_queue e) view) (delete_cq_verdict (named_queue e) view)
+    (λ h. delete_sq_suits e view)
+    (λ h. delete_cq_suits e view))))
+
+admin_fits : (blocks : ℕ) (e : SubEntry) (v : AdminVerdict) → Suits e v → FitsWork blocks 0 0 (admin_work e v)
+admin_fits blocks e (Answer st dw0) s = (refl, s.0, λ h. absurd (true≢false (sym h ∙ s.1)))
+admin_fits blocks e (AbortJob q cid) s = (refl, omega arith, λ h. s)
+admin_fits blocks e (StopQueue q) s = (refl, omega arith, λ h. s)
+admin_fits blocks e (DropCompletion q) s = (refl, omega arith, λ h. s)
+
+-- Commands that are stopped
+
+record Stays (blocks : ℕ) (k k' : FetchedCommand) : Type 0 where
+  pub q : k'.q ≡ k.q
+  pub entry : entry_of_work k'.work ≡ entry_of_work k.work
+  pub fits : FitsWork blocks k.q k.units_done k.work → FitsWork blocks k'.q k'.units_done k'.work
+
+stopped_entry : (st : Status) (work : Work) → entry_of_work (stopped_work st work) ≡ entry_of_work work
+stopped_entry st (Io job) = if_by (λ (j : JobContents). j.entry ≡ job.entry) (is_none job.verdict) (record job { verdict = Some st }) job (λ h. refl) (λ h. refl)
+stopped_entry st (Admin entry status dw0) = refl
+
+stopped_fits : (blocks q done : ℕ) (st : Status) (work : Work) → st.sct < 8 → FitsWork blocks q done work → FitsWork blocks q done (stopped_work st work)
+stopped_fits blocks q done st (Io job) small fits =
+    if_by (λ (j : JobContents). FitsWork blocks q done (Io j)) (is_none job.verdict) (record job { verdict = Some st }) job (λ h. (fits.0, fits.1, small, fits.3)) (λ h. fits)
+stopped_fits blocks q done st (Admin entry status dw0) small fits = fits
+
+aborted_stays : (blocks q cid abort : ℕ) (k : FetchedCommand) → Stays blocks k (aborted q cid abort k)
+aborted_stays blocks q cid abort k =
+    if_by (Stays blocks k) (is_command q cid k) (record k { work = stopped_work ABORT_REQUESTED k.work; waiting_abort = Some abort }) k
+    (λ h. record { q = refl; entry = stopped_entry ABORT_REQUESTED k.work; fits = stopped_fits blocks k.q k.units_done ABORT_REQUESTED k.work (omega arith) })
+    (λ h. record { q = refl; entry = refl; fits = λ f. f })
+
+stopped_stays : (blocks q : ℕ) (k : FetchedCommand) → Stays blocks k (stopped_with_queue q k)
+stopped_stays blocks q k =
+    if_by (Stays blocks k) (k.q == q) (record k { work = stopped_work ABORTED_SQ_DELETION k.work }) k
+    (λ h. record { q = refl; entry = stopped_entry ABORTED_SQ_DELETION k.work; fits = stopped_fits blocks k.q k.units_done ABORTED_SQ_DELETION k.work (omega arith) })
+    (λ h. record { q = refl; entry = refl; fits = λ f. f })
+
+count-mapped : {A : Type 0} (p : A → Bool) (f : A → A) → ((x : A) → p (f x) ≡ p x) → (xs : List A) → count_by p (map f xs) ≡ count_by p xs
+count-mapped p f same [] = refl
+count-mapped p f same (x ∷ xs) = count-cons p (f x) (map f xs) ∙ ap₂ (λ (b : Bool) (n : ℕ). one b + n) (same x) (count-mapped p f same xs) ∙ sym (count-cons p x xs)
+
+-- what holds of the commands behind a verdict
+record CommandsStay (blocks queues : ℕ) (commands commands' : List FetchedCommand) : Type 0 where
+  pub are : AreCommands blocks queues commands → AreCommands blocks queues commands'
+  pub count : (r d : ℕ) → count_by (is_command r d) commands' ≡ count_by (is_command r d) commands
+
+commands_mapped : (blocks queues : ℕ) (f : FetchedCommand → FetchedCommand) → ((k : FetchedCommand) → Stays blocks k (f k)) → (commands : List FetchedCommand) → CommandsStay blocks queues commands (map f commands)
+commands_mapped blocks queues f stay commands = record {
+  are = λ are. record {
+    each = all-map (FitsCommand blocks queues) f (λ k h. (subst (λ (q : ℕ). q < queues) (sym (stay k).q) h.0, (stay k).fits h.1)) commands are.each;
+    differ = λ r d. subst (λ (n : ℕ). n < 2) (sym (counts r d)) (are.differ r d);
+  };
+  count = counts;
+}
+  where
+    counts : (r d : ℕ) → count_by (is_command r d) (map f commands) ≡ count_by (is_command r d) commands
+    counts r d = count-mapped (is_command r d) f (λ k. ap₂ (λ (q : ℕ) (e : SubEntry). (q == r) && (e.cid == d)) (stay k).q (stay k).entry) commands
+
+commands_stay : (blocks queues abort : ℕ) (v : AdminVerdict) (commands : List FetchedCommand) → CommandsStay blocks queues commands (commands_after abort v commands)
+commands_stay blocks queues abort (Answer st dw0) commands = record { are = λ are. are; count = λ r d. refl }
+commands_stay blocks queues abort (AbortJob q cid) commands = commands_mapped blocks queues (aborted q cid abort) (aborted_stays blocks q cid abort) commands
+commands_stay blocks queues abort (StopQueue q) commands = commands_mapped blocks queues (stopped_with_queue q) (stopped_stays blocks q) commands
+commands_stay blocks queues abort (DropCompletion q) commands = record { are = λ are. are; count = λ r d. refl }
+
+length-after : (v : AdminVerdict) (queues : List ControllerQueue) → length (queues_after v queues) ≡ length queues
+length-after (Answer st dw0) queues = refl
+length-after (AbortJob q cid) queues = refl
+length-after (StopQueue q) queues = length-change q stopping queues
+length-after (DropCompletion q) queues = length-change q without_completion queues
+
+pub managed_kept : (c : Contents) (e : SubEntry) → IsController c → 0 < length c.queues → is_some (find (is_command 0 e.cid) c.commands) ≡ false → IsController (managed e c)
+managed_kept c e is there free =
+    let v = verdict_for c e in
+    let blocks = block_count c.image in
+    let stay = commands_stay blocks (length c.queues) e.cid v c.commands in
+    record {
+      commands =
+          subst (λ (n : ℕ). AreCommands blocks n (managed e c).commands) (sym (length-after v (change 0 with_taken c.queues) ∙ length-change 0 with_taken c.queues))
+          (commands-with blocks (length c.queues) (commands_after e.cid v c.commands) (command_of 0 (admin_work e v)) (stay.are is.commands) there
+          (admin_fits blocks e v (decision_suits e (view_for c.queues c.commands e)))
+          (stay.count 0 e.cid ∙ none_found (is_command 0 e.cid) c.commands (not_some (find (is_command 0 e.cid) c.commands) free)));
+    }
+
+pub managed_in : (v c : Contents) (e : SubEntry) (w : AdminVerdict) (took queues : List ControllerQueue) (before after commands : List FetchedCommand) (k : FetchedCommand)
+    → v ≡ c → IsController v → 0 < length c.queues → is_some (find (is_command 0 e.cid) c.commands) ≡ false
+    → w ≡ verdict_for v e → took ≡ change 0 with_taken v.queues → queues ≡ queues_after w took → before ≡ v.commands → after ≡ commands_after e.cid w before
+    → k ≡ command_of 0 (admin_work e w) → commands ≡ after ++ k ∷ [] → IsController (record { queues = queues; commands = commands; image = v.image })
+managed_in v c e w took queues before after commands k same is there free ew et eq eb ea ek ec =
+    let queues_are : queues ≡ (managed e v).queues = eq ∙ ap₂ queues_after ew et in
+    let commands_are : commands ≡ (managed e v).commands =
+    ec ∙ ap₂ (λ (xs : List FetchedCommand) (x : FetchedCommand). xs ++ x ∷ []) (ea ∙ ap₂ (commands_after e.cid) ew eb) (ek ∙ ap (λ (x : AdminVerdict). command_of 0 (admin_work e x)) ew) in
+    subst (λ (xs : List ControllerQueue). IsController (record { queues = xs; commands = commands; image = v.image })) (sym queues_are)
+    (subst (λ (xs : List FetchedCommand). IsController (record { queues = (managed e v).queues; commands = xs; image = v.image })) (sym commands_are)
+    (managed_kept v e is (subst (λ (x : Contents). 0 < length x.queues) (sym same) there) (subst (λ (x : Contents). is_some (find (is_command 0 e.cid) x.commands) ≡ false) (sym same) free)))

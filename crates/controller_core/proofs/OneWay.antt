@@ -1,0 +1,198 @@
+-- Each call goes one way.
+use Rattle.std.proofs.Common.{◌≡◌, ℕ, zero, suc, ◌==◌, ◌<◌, ◌+◌, ◌++◌, take, drop, ◌∷◌, [], Bool, true, false, Option, Some, None, List, map, slice_get, slice_set, if◌then◌else◌, refl, ap, ap₂, sym, ◌∙◌, subst, arith, eqb-true}
+use Rattle.std.specs.List.{count_by}
+use Rattle.std.specs.Option.{option_map_or}
+use Rattle.std.proofs.lemmas.List.{map-append}
+use Rattle.controller_walk.specs.Units.{Act, Stays, Reads, Moves, Course, Closes, Does}
+use Rattle.controller_walk.specs.Walks.{Acts, DoesFirst, LeavesRest}
+use Rattle.controller_walk.specs.declared.walk.WalkState.{WalkState}
+use Rattle.entry_codec.specs.declared.submission.SubEntry.{SubEntry}
+use Rattle.io_commands.specs.Jobs.{JobContents, job_course, direction_of_entry, verdict_of}
+use Rattle.page_memory.specs.Memory.{Memory}
+use Rattle.queue_pair.specs.Memory.{entry_at, submission_page}
+use Rattle.queue_pair.specs.Rings.{DeviceSide}
+use Rattle.sgl_descriptor.specs.declared.Direction.{Direction}
+use Rattle.sgl_descriptor.specs.declared.Direction.TheVariants.{Destination, Source}
+use Rattle.entry_codec.specs.declared.status.TheConstants.Status.{COMMAND_ID_CONFLICT}
+use Rattle.controller_core.specs.Answering.{completion_by, memory_posted, page_posted}
+use Rattle.controller_core.specs.Completing.{completed, status_of_end}
+use Rattle.controller_core.specs.Contents.{Contents, FetchedCommand, Work, dw0_of_work, is_command}
+use Rattle.controller_core.specs.Fetching.{LooksAt, Begins, IsBegun, TakesIn, Takes, RefusedBy, RefusedEntry, is_known, entry_refusal, side_refusal, look_refusal, begun}
+use Rattle.controller_core.specs.Laws.{AreAlike, unplaced_command, WalksOneWay, CompletesOneWay, FetchesOneWay, RefusesOneWay, ServedUnlessMemory}
+use Rattle.controller_core.specs.Managing.{command_of, with_taken}
+use Rattle.controller_core.specs.Walking.{DoesUnit, stepped}
+use Rattle.controller_core.specs.declared.command.Work.TheVariants.{Io}
+use Rattle.controller_core.specs.declared.queue.ControllerQueue.{ControllerQueue}
+use Rattle.controller_core.specs.declared.refusal.Refusal.{Refusal}
+use Rattle.controller_core.specs.declared.refusal.Refusal.TheVariants as refusal
+use Rattle.controller_core.proofs.Lists.{some_is, found_is, here_counted, count-cons, one}
+
+-- Walks
+
+same_found : {A : Type 0} {o : Option A} {a b : A} → o ≡ Some a → o ≡ Some b → a ≡ b
+same_found e f = some_is (sym e ∙ f)
+
+one_act : (dir : Direction) (a : Act) (m n n' : Memory) (b b1 b2 t t' : List ℕ) → Acts dir a m n b b1 [] t → Acts dir a m n' b b2 [] t' → (n ≡ n') × (b1 ≡ b2) × (t ≡ t')
+one_act dir Stays m n n' b b1 b2 t t' h g = (h.0.0 ∙ sym g.0.0, h.0.1 ∙ sym g.0.1, h.1 ∙ sym g.1)
+one_act dir (Reads place) m n n' b b1 b2 t t' h g = (h.0.0 ∙ sym g.0.0, h.0.1 ∙ sym g.0.1, h.1 ∙ sym g.1)
+one_act Destination (Moves place k offset) m n n' b b1 b2 t t' h g = (h.0.0.2 ∙ sym g.0.0.2, h.0.1 ∙ sym g.0.1, h.1 ∙ sym g.1)
+one_act Source (Moves place k offset) m n n' b b1 b2 t t' h g =
+    let f : h.0.0.0 ≡ g.0.0.0 = same_found h.0.0.1 g.0.0.1 in
+    (h.0.1 ∙ sym g.0.1, h.0.0.2 ∙ ap (λ (found : List ℕ). take offset b ++ (found ++ drop (offset + k) b)) f ∙ sym g.0.0.2, h.1 ∙ sym g.1)
+
+one_unit : (c : Course) (dir : Direction) (m n n' : Memory) (b b1 b2 t t' : List ℕ) (o o' : WalkState) (l l' : Course) → DoesFirst c dir m n b b1 [] t → DoesFirst c dir m n' b b2 [] t' → LeavesRest c o l → LeavesRest c o' l'
+    → (o ≡ o') × (n ≡ n') × (b1 ≡ b2) × (t ≡ t')
+one_unit (Closes v) dir m n n' b b1 b2 t t' o o' l l' h g r s = absurd h
+one_unit (Does a rest) dir m n n' b b1 b2 t t' o o' l l' h g r s = let e = one_act dir a m n n' b b1 b2 t t' h g in (r.0 ∙ sym s.0, e.0, e.1, e.2)
+
+same_job : (j j' : JobContents) → Io j ≡ Io j' → j ≡ j'
+same_job j j' e = cc
+
+-- one place has the one member that passes a test
+same_place : {A : Type 0} (p : A → Bool) (xs : List A) (i j : ℕ) (x y : A) → count_by p xs < 2 → slice_get xs i ≡ Some x → p x ≡ true → slice_get xs j ≡ Some y → p y ≡ true → i ≡ j
+same_place p [] i j x y few at e at' e' = cc
+same_place p (z ∷ xs) zero zero x y few at e at' e' = refl
+same_place p (z ∷ xs) zero (suc j) x y few at e at' e' =
+    let first : p z ≡ true = subst (λ w. p w ≡ true) (sym (some_is at)) e in
+    absurd (omega (arith, few, count-cons p z xs, ap one first, here_counted p xs j y at' e'))
+same_place p (z ∷ xs) (suc i) zero x y few at e at' e' =
+    let first : p z ≡ true = subst (λ w. p w ≡ true) (sym (some_is at')) e' in
+    absurd (omega (arith, few, count-cons p z xs, ap one first, here_counted p xs i x at e))
+same_place p (z ∷ xs) (suc i) (suc j) x y few at e at' e' = ap suc (same_place p xs i j x y (omega (arith, few, count-cons p z xs)) at e at' e')
+
+map-set : {A B : Type 0} (f : A → B) (xs : List A) (i : ℕ) (y : A) → map f (slice_set xs i y) ≡ slice_set (map f xs) i (f y)
+map-set f [] i y = refl
+map-set f (x ∷ xs) zero y = refl
+map-set f (x ∷ xs) (suc i) y = ap (λ ys. f x ∷ ys) (map-set f xs i y)
+
+one_job : (m : Memory) (job j j' : JobContents) (o o' : WalkState) (n n' : Memory) (t t' : List ℕ) → DoesUnit m job o j n t → DoesUnit m job o' j' n' t' → Io (record j { walk = None }) ≡ Io (record j' { walk = None })
+one_job m job j j' o o' n n' t t' u u' =
+    let r = one_unit (job_course m job) (direction_of_entry job.entry) m n n' job.bytes _ _ t t' o o' _ _ u.does u'.does u.leaves u'.leaves in
+    let blocks = u.blocks ∙ sym u'.blocks in
+    let entry = u.entry ∙ sym u'.entry in
+    let verdict = u.verdict ∙ ap verdict_of r.0 ∙ sym u'.verdict in
+    λ i. Io (record { blocks = blocks i; entry = entry i; bytes = r.2 i; walk = None; verdict = verdict i })
+
+pub one_walk : WalksOneWay
+one_walk c q cid m o o' x x' n n' t t' is w w' =
+    let a = w.among in
+    let a' = w'.among in
+    let p : FetchedCommand → Bool = is_command q cid in
+    let k : a.command ≡ a'.command = same_found a.found a'.found in
+    let job : a'.job ≡ a.job = same_job _ _ (sym a'.work ∙ (subst (λ (y : FetchedCommand). y.work ≡ Io a.job) k a.work)) in
+    let u : DoesUnit m a.job o' a'.job' n' t' = subst (λ (y : JobContents). DoesUnit m y o' a'.job' n' t') job a'.unit in
+    let r = one_unit (job_course m a.job) (direction_of_entry a.job.entry) m n n' a.job.bytes _ _ t t' o o' _ _ a.unit.does u.does a.unit.leaves u.leaves in
+    let place : a.place ≡ a'.place =
+    same_place p c.commands a.place a'.place a.command a'.command (is.commands.differ q cid) a.at (found_is p c.commands a.command a.found) a'.at (found_is p c.commands a'.command a'.found) in
+    let work = one_job m a.job a.job' a'.job' o o' n n' t t' a.unit u in
+    let command : unplaced_command (stepped a.job' a.command) ≡ unplaced_command (stepped a'.job' a'.command) =
+    ap (λ (y : FetchedCommand). unplaced_command (stepped a.job' y)) k ∙ ap (λ (y : Work). record a'.command { units_done = a'.command.units_done + 1; work = y }) work in (
+      r.0,
+      record {
+        queues = w.queues ∙ sym w'.queues;
+        commands = ap (map unplaced_command) a.leaves ∙ map-set unplaced_command c.commands a.place (stepped a.job' a.command)
+            ∙ ap₂ (λ (i : ℕ) (y : FetchedCommand). slice_set (map unplaced_command c.commands) i y) place command
+            ∙ sym (ap (map unplaced_command) a'.leaves ∙ map-set unplaced_command c.commands a'.place (stepped a'.job' a'.command));
+        image = w.image ∙ sym w'.image;
+      },
+      r.1,
+      r.3,
+    )
+
+-- Completions
+
+pub one_completion : CompletesOneWay
+one_completion c q cid m x x' n n' t t' w w' =
+    let k : w.command ≡ w'.command = same_found w.found w'.found in
+    let queue : w.queue ≡ w'.queue = same_found w.here w'.here in (
+      w.leaves ∙ ap (λ (y : FetchedCommand). completed q cid y.work c) k ∙ sym w'.leaves,
+      w.memory ∙ ap₂ (λ (y : FetchedCommand) (z : ControllerQueue). memory_posted m z.device (completion_by q cid (status_of_end c.image y.work) (dw0_of_work y.work) z.device)) k queue ∙ sym w'.memory,
+      w.touches ∙ ap (λ (z : ControllerQueue). page_posted z.device ∷ []) queue ∙ sym w'.touches,
+    )
+
+-- Fetches
+
+one_look : (c : Contents) (m : Memory) (q : ℕ) (e e' : SubEntry) (t t' : List ℕ) → LooksAt c m q e t → LooksAt c m q e' t' → (e ≡ e') × (t ≡ t')
+one_look c m q e e' t t' l l' =
+    let device : l.device ≡ l'.device = same_found l.here l'.here in (
+      same_found l.at (ap (λ (d : DeviceSide). entry_at m d.sq d.ring.head) device ∙ l'.at),
+      l.touches ∙ ap (λ (d : DeviceSide). submission_page d.sq d.ring.head ∷ []) device ∙ sym l'.touches,
+    )
+
+begun_alike : (image : List ℕ) (e : SubEntry) (q : ℕ) (j j' : JobContents) → IsBegun image e j → IsBegun image e j' → unplaced_command (command_of q (Io j)) ≡ unplaced_command (command_of q (Io j'))
+begun_alike image e q j j' b b' =
+    let blocks = b.blocks ∙ sym b'.blocks in
+    let entry = b.entry ∙ sym b'.entry in
+    let bytes = b.bytes ∙ sym b'.bytes in
+    let verdict = b.verdict ∙ sym b'.verdict in
+    λ i. command_of q (Io (record { blocks = blocks i; entry = entry i; bytes = bytes i; walk = None; verdict = verdict i }))
+
+commands_begun : (c x : Contents) (q : ℕ) (j : JobContents) → x ≡ begun q j c → map unplaced_command x.commands ≡ map unplaced_command c.commands ++ unplaced_command (command_of q (Io j)) ∷ []
+commands_begun c x q j is = ap (λ (y : Contents). map unplaced_command y.commands) is ∙ map-append unplaced_command c.commands (command_of q (Io j) ∷ [])
+
+one_begin : (c : Contents) (q : ℕ) (e : SubEntry) (x x' : Contents) → Begins c q e x → Begins c q e x' → AreAlike x x'
+one_begin c q e x x' b b' = record {
+  queues = ap (λ (y : Contents). y.queues) b.leaves ∙ sym (ap (λ (y : Contents). y.queues) b'.leaves);
+  commands = commands_begun c x q b.job b.leaves ∙ ap (λ (y : FetchedCommand). map unplaced_command c.commands ++ y ∷ []) (begun_alike c.image e q b.job b'.job b.is b'.is) ∙ sym (commands_begun c x' q b'.job b'.leaves);
+  image = ap (λ (y : Contents). y.image) b.leaves ∙ sym (ap (λ (y : Contents). y.image) b'.leaves);
+}
+
+one_taken : (z : Bool) (c : Contents) (q : ℕ) (e : SubEntry) (x x' : Contents) → TakesIn z c q e x → TakesIn z c q e x' → AreAlike x x'
+one_taken true c q e x x' h g =
+    let same = h ∙ sym g in
+    record { queues = ap (λ (y : Contents). y.queues) same; commands = ap (λ (y : Contents). map unplaced_command y.commands) same; image = ap (λ (y : Contents). y.image) same }
+one_taken false c q e x x' h g = one_begin c q e x x' h g
+
+one_take : (b : Bool) (c : Contents) (q : ℕ) (e : SubEntry) (m : Memory) (look : List ℕ) (x x' : Contents) (n n' : Memory) (t t' : List ℕ) → Takes b c q e m look x n t → Takes b c q e m look x' n' t' → AreAlike x x' × (n ≡ n') × (t ≡ t')
+one_take true c q e m look x x' n n' t t' h g =
+    let queue : h.0.queue ≡ g.0.queue = same_found h.0.here g.0.here in (
+      record { queues = h.0.leaves ∙ sym g.0.leaves; commands = ap (map unplaced_command) (h.1 ∙ sym g.1); image = h.2 ∙ sym g.2 },
+      h.0.memory ∙ ap (λ (z : ControllerQueue). memory_posted m z.device (completion_by q e.cid COMMAND_ID_CONFLICT 0 (with_taken z).device)) queue ∙ sym g.0.memory,
+      h.0.touches ∙ ap (λ (z : ControllerQueue). look ++ page_posted z.device ∷ []) queue ∙ sym g.0.touches,
+    )
+one_take false c q e m look x x' n n' t t' h g = (one_taken (q == 0) c q e x x' h.0 g.0, h.1 ∙ sym g.1, h.2 ∙ sym g.2)
+
+takes_same : (c : Contents) (q : ℕ) (e e' : SubEntry) (m : Memory) (look look' : List ℕ) (x : Contents) (n : Memory) (t : List ℕ) → e ≡ e' → look ≡ look' → Takes (is_known c q e) c q e m look x n t → Takes (is_known c q e') c q e' m look' x n t
+takes_same c q e e' m look look' x n t same looks h =
+    subst (λ (l : List ℕ). Takes (is_known c q e') c q e' m l x n t) looks (subst (λ (y : SubEntry). Takes (is_known c q y) c q y m look x n t) same h)
+
+pub one_fetch : FetchesOneWay
+one_fetch c m q cid cid' x x' n n' t t' w w' =
+    let l = one_look c m q w.entry w'.entry w.looked w'.looked w.looks w'.looks in
+    let r = one_take (is_known c q w'.entry) c q w'.entry m w'.looked x x' n n' t t' (takes_same c q w.entry w'.entry m w.looked w'.looked x n t l.0 l.1 w.takes) w'.takes in
+    (w.named ∙ ap (λ (e : SubEntry). e.cid) l.0 ∙ sym w'.named, r.0, r.1, r.2)
+
+abbrev cause_of : Contents → Memory → ℕ → SubEntry → Option Refusal
+cause_of c m q e = if is_known c q e then entry_refusal c m q e else Some refusal.Memory
+
+pub one_refusal : RefusesOneWay
+one_refusal c m q why why' t t' = go (look_refusal c m q)
+  where
+    go : (o : Option Refusal) → RefusedBy o c m q why t → RefusedBy o c m q why' t' → (why ≡ why') × (t ≡ t')
+    go (Some cause) h g = (h.0 ∙ sym g.0, h.1 ∙ sym g.1)
+    go None h g =
+        let l = one_look c m q h.entry g.entry t t' h.looks g.looks in
+        (same_found h.cause (ap (cause_of c m q) l.0 ∙ g.cause), l.1)
+
+no_refusal : (c : Contents) (m : Memory) (q : ℕ) (e : SubEntry) (t : List ℕ) → LooksAt c m q e t → look_refusal c m q ≡ None
+no_refusal c m q e t l =
+    ap (λ (o : Option DeviceSide). option_map_or (side_refusal m) o (Some refusal.Idle)) l.here
+    ∙ ap (λ (b : Bool). if b then Some refusal.Idle else option_map_or (λ e. None) (entry_at m l.device.sq l.device.ring.head) (Some refusal.SlotOut)) (apart (l.device.ring.head == l.device.ring.bell) refl)
+    ∙ ap (λ (o : Option SubEntry). option_map_or (λ e. None) o (Some refusal.SlotOut)) l.at
+  where
+    apart : (b : Bool) → (l.device.ring.head == l.device.ring.bell) ≡ b → (l.device.ring.head == l.device.ring.bell) ≡ false
+    apart true h = absurd (l.rung (eqb-true l.device.ring.head l.device.ring.bell h))
+    apart false h = h
+
+pub served_unless_memory : ServedUnlessMemory
+served_unless_memory c m q cid why x n t t' w h =
+    entry (subst (λ (o : Option Refusal). RefusedBy o c m q why t') (no_refusal c m q w.entry w.looked w.looks) h)
+  where
+    by : (b : Bool) → entry_refusal c m q w.entry ≡ None → (if b then entry_refusal c m q w.entry else Some refusal.Memory) ≡ Some why → why ≡ refusal.Memory
+    by true room cause = cc
+    by false room cause = cc
+
+    entry : RefusedEntry c m q why t' → why ≡ refusal.Memory
+    entry r =
+        let l = one_look c m q w.entry r.entry w.looked t' w.looks r.looks in
+        by (is_known c q w.entry) w.room (ap (cause_of c m q) l.0 ∙ r.cause)

@@ -1,0 +1,5 @@
+use Rattle.controller_core.proofs.OneWay.{one_walk}
+use Rattle.controller_core.proofs.laws.walks_go_one_way.Goals as goal
+
+pub returns : goal.returns
+returns c = one_walk

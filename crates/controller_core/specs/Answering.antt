@@ -1,0 +1,49 @@
+-- A completion is posted.
+use Rattle.std.specs.Prelude.{◌≡◌, ℕ, ◌++◌, ◌∷◌, [], Option, Some, None, List, slice_get, is_none, if◌then◌else◌}
+use Rattle.std.specs.Option.{option_map_or}
+use Rattle.entry_codec.specs.Completion.{completion_bytes}
+use Rattle.entry_codec.specs.declared.completion.ComEntry.{ComEntry}
+use Rattle.entry_codec.specs.declared.status.Status.{Status}
+use Rattle.page_memory.specs.Memory.{Memory, written}
+use Rattle.queue_pair.specs.Memory.{completion_page, completion_place, completion_slot}
+use Rattle.queue_pair.specs.Rings.{DeviceSide, answer_posted}
+use Rattle.queue_pair.specs.Slots.{is_full}
+use Rattle.controller_core.specs.Contents.{change}
+use Rattle.controller_core.specs.Doorbells.{with_side}
+use Rattle.controller_core.specs.declared.queue.ControllerQueue.{ControllerQueue}
+use Rattle.controller_core.specs.declared.refusal.Refusal.{Refusal}
+use Rattle.controller_core.specs.declared.refusal.Refusal.TheVariants as refusal
+
+-- what a completion is refused for: the ring is full, or a byte of the slot at the tail is missing
+abbrev pub post_refusal : Memory → DeviceSide → Option Refusal
+post_refusal m device =
+    if is_full device.entries device.ring.known_head device.ring.tail then Some refusal.Full
+    else if is_none (completion_slot m device.cq device.ring.tail) then Some refusal.SlotOut
+    else None
+
+-- the same of a queue by its number
+abbrev pub answer_refusal : List ControllerQueue → Memory → ℕ → Option Refusal
+answer_refusal queues m q = option_map_or (λ queue. post_refusal m queue.device) (slice_get queues q) None
+
+-- the completion of a command, with the submission head and the phase of this moment
+abbrev pub completion_by : ℕ → ℕ → Status → ℕ → DeviceSide → ComEntry
+completion_by q cid st dw0 device = record { dw0 = dw0; sqhd = device.ring.head; sqid = q; cid = cid; phase = device.ring.phase; status = st }
+
+-- the memory with a completion in the slot at the tail, the page of that slot, and the queue behind it
+abbrev pub memory_posted : Memory → DeviceSide → ComEntry → Memory
+memory_posted m device e = written m (completion_place device.cq device.ring.tail) (completion_bytes e)
+
+abbrev pub page_posted : DeviceSide → ℕ
+page_posted device = completion_page device.cq device.ring.tail
+
+abbrev pub with_answer : ControllerQueue → ControllerQueue
+with_answer queue = with_side (record queue.device { ring = answer_posted queue.device.entries queue.device.ring }) queue
+
+-- A completion is posted for a command of a queue: what is left of the queues and of the memory, with the one page that is touched.
+pub record Posts (queues : List ControllerQueue) (q cid : ℕ) (st : Status) (dw0 : ℕ) (m : Memory) (reached : List ℕ)
+    (queues' : List ControllerQueue) (m' : Memory) (reached' : List ℕ) : Type 0 where
+  pub queue : ControllerQueue
+  pub here : slice_get queues q ≡ Some queue
+  pub queues_posted : queues' ≡ change q with_answer queues
+  pub memory : m' ≡ memory_posted m queue.device (completion_by q cid st dw0 queue.device)
+  pub touches : reached' ≡ reached ++ page_posted queue.device ∷ []

@@ -1,0 +1,87 @@
+-- A fetched command ends, and its completion is posted.
+use Rattle.std.specs.Prelude.{◌≡◌, ℕ, ◌==◌, ◌&&◌, ◌||◌, Bool, false, not, Option, Some, None, List, [], ◌∷◌, filter, find, is_none, slice_get, if◌then◌else◌}
+use Rattle.std.specs.List.{list_any}
+use Rattle.std.specs.Option.{option_map_or}
+use Rattle.admin_commands.specs.Entries.{named_queue}
+use Rattle.admin_commands.specs.declared.SqState.TheVariants.{Absent}
+use Rattle.entry_codec.specs.declared.admin_opcode.TheConstants.{DELETE_IO_SQ}
+use Rattle.entry_codec.specs.declared.status.Status.{Status}
+use Rattle.io_commands.specs.Jobs.{finished_status, finished_image, is_success}
+use Rattle.page_memory.specs.Memory.{Memory}
+use Rattle.controller_core.specs.Contents.{Contents, FetchedCommand, Work, change, entry_of_work, verdict_of_work, dw0_of_work, is_command, is_deletion}
+use Rattle.controller_core.specs.Answering.{answer_refusal, completion_by, memory_posted, page_posted, with_answer}
+use Rattle.controller_core.specs.declared.command.Work.TheVariants.{Io, Admin}
+use Rattle.controller_core.specs.declared.queue.ControllerQueue.{ControllerQueue}
+use Rattle.controller_core.specs.declared.refusal.Refusal.{Refusal}
+use Rattle.controller_core.specs.declared.refusal.Refusal.TheVariants as refusal
+
+-- whether the identifier of an Abort is that for which a command's completion is awaited
+abbrev pub is_abort_of : ℕ → Option ℕ → Bool
+is_abort_of cid None = false
+is_abort_of cid (Some abort) = abort == cid
+
+-- what a command waits for: an Abort for the command that it stopped, a successful deletion for the queue's commands
+abbrev pub has_success : Work → Bool
+has_success work = option_map_or is_success (verdict_of_work work) false
+
+abbrev pub waits_among : List FetchedCommand → FetchedCommand → Bool
+waits_among commands k =
+    (k.q == 0)
+    && (list_any (λ other. is_abort_of (entry_of_work k.work).cid other.waiting_abort) commands
+    || (((entry_of_work k.work).opcode == DELETE_IO_SQ) && has_success k.work
+    && list_any (λ other. other.q == named_queue (entry_of_work k.work)) commands))
+
+abbrev pub command_refusal : Contents → Memory → ℕ → FetchedCommand → Option Refusal
+command_refusal c m q k =
+    if is_none (verdict_of_work k.work) then Some refusal.Walking
+    else if waits_among c.commands k then Some refusal.Waits
+    else answer_refusal c.queues m q
+
+-- what a completion is refused for, the first that holds
+abbrev pub complete_refusal : Contents → Memory → ℕ → ℕ → Option Refusal
+complete_refusal c m q cid = option_map_or (command_refusal c m q) (find (is_command q cid) c.commands) (Some refusal.NoJob)
+
+-- a command of an I/O queue was checked over an image of so many blocks
+abbrev pub IsOver : ℕ → Work → Type 0
+IsOver blocks (Io job) = job.blocks ≡ blocks
+IsOver blocks (Admin entry status dw0) = Unit {0}
+
+-- how a command ends over an image, and the image and the queues that it leaves
+abbrev pub status_of_end : List ℕ → Work → Status
+status_of_end image (Io job) = finished_status image job
+status_of_end image (Admin entry status dw0) = status
+
+abbrev pub image_of_end : List ℕ → Work → List ℕ
+image_of_end image (Io job) = finished_image image job
+image_of_end image (Admin entry status dw0) = image
+
+-- a successful deletion leaves nothing of the queue's submission side
+abbrev pub without_submission : ControllerQueue → ControllerQueue
+without_submission queue = record queue { state = Absent }
+
+abbrev pub queues_of_end : Work → List ControllerQueue → List ControllerQueue
+queues_of_end (Io job) queues = queues
+queues_of_end (Admin entry status dw0) queues =
+    if is_deletion entry status then change (named_queue entry) without_submission queues else queues
+
+abbrev pub without_command : ℕ → ℕ → List FetchedCommand → List FetchedCommand
+without_command q cid commands = filter (λ k. not (is_command q cid k)) commands
+
+-- the controller behind the completion of a command
+abbrev pub completed : ℕ → ℕ → Work → Contents → Contents
+completed q cid work c =
+    record {
+      queues = change q with_answer (queues_of_end work c.queues);
+      commands = without_command q cid c.commands;
+      image = image_of_end c.image work;
+    }
+
+-- What the completion of a command leaves of the controller and of the memory, with the page that it touches.
+pub record CompletesTo (c : Contents) (q cid : ℕ) (m : Memory) (c' : Contents) (m' : Memory) (touched : List ℕ) : Type 0 where
+  pub command : FetchedCommand
+  pub queue : ControllerQueue
+  pub found : find (is_command q cid) c.commands ≡ Some command
+  pub here : slice_get c.queues q ≡ Some queue
+  pub leaves : c' ≡ completed q cid command.work c
+  pub memory : m' ≡ memory_posted m queue.device (completion_by q cid (status_of_end c.image command.work) (dw0_of_work command.work) queue.device)
+  pub touches : touched ≡ page_posted queue.device ∷ []

@@ -1,0 +1,75 @@
+-- What a controller keeps, and what always holds of it.
+use Rattle.std.specs.Prelude.{◌≡◌, ℕ, zero, suc, ◌+◌, ◌<◌, ◌≤◌, ◌==◌, ◌&&◌, Bool, true, false, Option, Some, List, [], ◌∷◌, length, IfSome}
+use Rattle.std.specs.List.{AllByRecursion, count_by}
+use Rattle.admin_commands.specs.Entries.{named_queue}
+use Rattle.block_image.specs.Blocks.{block_count}
+use Rattle.entry_codec.specs.declared.admin_opcode.TheConstants.{DELETE_IO_SQ}
+use Rattle.entry_codec.specs.declared.status.Status.{Status}
+use Rattle.entry_codec.specs.declared.submission.SubEntry.{SubEntry}
+use Rattle.io_commands.specs.Jobs.{JobContents, is_success, left_of_walk}
+use Rattle.controller_core.specs.declared.queue.ControllerQueue.{ControllerQueue}
+use Rattle.controller_core.specs.declared.command.FetchedCommand as command
+use Rattle.controller_core.specs.declared.command.Work as work
+use Rattle.controller_core.specs.declared.command.Work.TheVariants.{Io, Admin}
+
+-- a fetched command as contracts see it: they say nothing of where its bytes are kept
+abbrev pub Work : Type 0
+Work = work.Work JobContents
+
+abbrev pub FetchedCommand : Type 0
+FetchedCommand = command.FetchedCommand JobContents
+
+-- the queues by their numbers, the commands that were fetched and not completed, in the order of the fetches, and the image
+pub record Contents : Type 0 where
+  pub queues : List ControllerQueue
+  pub commands : List FetchedCommand
+  pub image : List ℕ
+
+-- a list of which one member is changed, if it has so many
+abbrev pub change : {A : Type 0} → ℕ → (A → A) → List A → List A
+change k f [] = []
+change zero f (x ∷ xs) = f x ∷ xs
+change (suc k) f (x ∷ xs) = x ∷ change k f xs
+
+abbrev pub entry_of_work : Work → SubEntry
+entry_of_work (Io job) = job.entry
+entry_of_work (Admin entry status dw0) = entry
+
+-- how a command ends, once that is known; an admin command's end is known from its fetch on
+abbrev pub verdict_of_work : Work → Option Status
+verdict_of_work (Io job) = job.verdict
+verdict_of_work (Admin entry status dw0) = Some status
+
+abbrev pub dw0_of_work : Work → ℕ
+dw0_of_work (Io job) = 0
+dw0_of_work (Admin entry status dw0) = dw0
+
+-- the command of an identifier of a queue
+abbrev pub is_command : ℕ → ℕ → FetchedCommand → Bool
+is_command q cid k = (k.q == q) && ((entry_of_work k.work).cid == cid)
+
+-- a status that a completion can carry
+abbrev pub FitsVerdict : Option Status → Type 0
+FitsVerdict verdict = IfSome verdict (λ st. st.sct < 8)
+
+-- whether an admin command that ends so leaves nothing of a submission queue
+abbrev pub is_deletion : SubEntry → Status → Bool
+is_deletion entry status = (entry.opcode == DELETE_IO_SQ) && is_success status
+
+-- A command of an I/O queue was checked over an image of so many blocks, and its walk ends after 12,546 units at most. Only I/O queues
+-- are deleted.
+abbrev pub FitsWork : ℕ → ℕ → ℕ → Work → Type 0
+FitsWork blocks q done (Io job) = ((q == 0) ≡ false) × (job.blocks ≡ blocks) × FitsVerdict job.verdict × (done + left_of_walk job.walk ≤ 12545)
+FitsWork blocks q done (Admin entry status dw0) = (q ≡ 0) × (status.sct < 8) × (is_deletion entry status ≡ true → (named_queue entry == 0) ≡ false)
+
+abbrev pub FitsCommand : ℕ → ℕ → FetchedCommand → Type 0
+FitsCommand blocks queues k = (k.q < queues) × FitsWork blocks k.q k.units_done k.work
+
+-- Each command is one of a queue that is there, and no two commands of a queue have the same identifier.
+pub record AreCommands (blocks queues : ℕ) (commands : List FetchedCommand) : Type 0 where
+  pub each : AllByRecursion (FitsCommand blocks queues) commands
+  pub differ : (q cid : ℕ) → count_by (is_command q cid) commands < 2
+
+-- what always holds of a controller; that the positions in its rings are slots holds of each side of a pair
+pub record IsController (c : Contents) : Type 0 where
+  pub commands : AreCommands (block_count c.image) (length c.queues) c.commands

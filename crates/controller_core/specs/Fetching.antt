@@ -1,0 +1,104 @@
+-- The controller fetches the entry at the head of a queue.
+use Rattle.std.specs.Prelude.{◌≡◌, ◌≢◌, ℕ, ◌==◌, ◌≤◌, ◌++◌, ◌∷◌, [], Bool, true, false, Option, Some, None, Result, Ok, Err, List, find, is_some, slice_get, if◌then◌else◌}
+use Rattle.std.specs.Option.{option_and_then, option_map_or}
+use Rattle.admin_commands.specs.Verdicts.{is_live}
+use Rattle.block_image.specs.Blocks.{block_count}
+use Rattle.entry_codec.specs.declared.status.TheConstants.Status.{COMMAND_ID_CONFLICT}
+use Rattle.entry_codec.specs.declared.submission.SubEntry.{SubEntry}
+use Rattle.io_commands.specs.Jobs.{JobContents, io_fault, bytes_after_check, BeginsWalk, left_of_walk}
+use Rattle.page_memory.specs.Memory.{Memory}
+use Rattle.queue_pair.specs.Memory.{submission_page, entry_at}
+use Rattle.queue_pair.specs.Rings.{DeviceSide}
+use Rattle.controller_core.specs.Answering.{answer_refusal, completion_by, memory_posted, page_posted, with_answer}
+use Rattle.controller_core.specs.Contents.{Contents, change, is_command}
+use Rattle.controller_core.specs.Managing.{with_taken, command_of, managed}
+use Rattle.controller_core.specs.declared.command.Work.TheVariants.{Io}
+use Rattle.controller_core.specs.declared.queue.ControllerQueue.{ControllerQueue}
+use Rattle.controller_core.specs.declared.refusal.Refusal.{Refusal}
+use Rattle.controller_core.specs.declared.refusal.Refusal.TheVariants as refusal
+
+-- the rings of a queue from which entries are fetched
+abbrev pub live_side : Option ControllerQueue → Option DeviceSide
+live_side queue = option_and_then (λ queue. if is_live queue.state then Some queue.device else None) queue
+
+-- the entry at the head, where one was rung and no byte of its slot is missing
+abbrev pub side_refusal : Memory → DeviceSide → Option Refusal
+side_refusal m device =
+    if device.ring.head == device.ring.bell then Some refusal.Idle
+    else option_map_or (λ e. None) (entry_at m device.sq device.ring.head) (Some refusal.SlotOut)
+
+abbrev pub look_refusal : Contents → Memory → ℕ → Option Refusal
+look_refusal c m q = option_map_or (side_refusal m) (live_side (slice_get c.queues q)) (Some refusal.Idle)
+
+abbrev pub is_known : Contents → ℕ → SubEntry → Bool
+is_known c q e = is_some (find (is_command q e.cid) c.commands)
+
+-- An identifier that was fetched and not completed is answered at once, and wants room for that.
+abbrev pub entry_refusal : Contents → Memory → ℕ → SubEntry → Option Refusal
+entry_refusal c m q e = if is_known c q e then answer_refusal c.queues m q else None
+
+-- An entry that was looked at, with the page that is touched.
+pub record LooksAt (c : Contents) (m : Memory) (q : ℕ) (e : SubEntry) (touched : List ℕ) : Type 0 where
+  pub device : DeviceSide
+  pub here : live_side (slice_get c.queues q) ≡ Some device
+  pub rung : device.ring.head ≢ device.ring.bell
+  pub at : entry_at m device.sq device.ring.head ≡ Some e
+  pub touches : touched ≡ submission_page device.sq device.ring.head ∷ []
+
+-- the job that a fetched entry of an I/O queue begins
+pub record IsBegun (image : List ℕ) (e : SubEntry) (job : JobContents) : Type 0 where
+  pub entry : job.entry ≡ e
+  pub blocks : job.blocks ≡ block_count image
+  pub verdict : job.verdict ≡ io_fault (block_count image) e
+  pub bytes : job.bytes ≡ bytes_after_check image e (io_fault (block_count image) e)
+  pub walk : BeginsWalk e (io_fault (block_count image) e) job.walk
+  pub left : left_of_walk job.walk ≤ 12545
+
+abbrev pub begun : ℕ → JobContents → Contents → Contents
+begun q job c = record c { queues = change q with_taken c.queues; commands = c.commands ++ command_of q (Io job) ∷ [] }
+
+-- The entry of an I/O queue is taken, and its command stands behind the others.
+pub record Begins (c : Contents) (q : ℕ) (e : SubEntry) (c' : Contents) : Type 0 where
+  pub job : JobContents
+  pub is : IsBegun c.image e job
+  pub leaves : c' ≡ begun q job c
+
+-- The entry is taken, and its identifier is answered at once.
+pub record AnswersKnown (queues : List ControllerQueue) (q cid : ℕ) (m : Memory) (reached : List ℕ) (queues' : List ControllerQueue) (m' : Memory) (reached' : List ℕ) : Type 0 where
+  pub queue : ControllerQueue
+  pub here : slice_get queues q ≡ Some queue
+  pub leaves : queues' ≡ change q (λ queue. with_answer (with_taken queue)) queues
+  pub memory : m' ≡ memory_posted m queue.device (completion_by q cid COMMAND_ID_CONFLICT 0 (with_taken queue).device)
+  pub touches : reached' ≡ reached ++ page_posted queue.device ∷ []
+
+-- An entry of queue 0 is decided at once, and one of an I/O queue begins a job.
+abbrev pub TakesIn : Bool → Contents → ℕ → SubEntry → Contents → Type 0
+TakesIn true c q e c' = c' ≡ managed e c
+TakesIn false c q e c' = Begins c q e c'
+
+abbrev pub Takes : Bool → Contents → ℕ → SubEntry → Memory → List ℕ → Contents → Memory → List ℕ → Type 0
+Takes true c q e m looked c' m' touched = AnswersKnown c.queues q e.cid m looked c'.queues m' touched × (c'.commands ≡ c.commands) × (c'.image ≡ c.image)
+Takes false c q e m looked c' m' touched = TakesIn (q == 0) c q e c' × (m' ≡ m) × (touched ≡ looked)
+
+-- What a fetch makes of a controller and of the memory.
+pub record FetchesTo (c : Contents) (m : Memory) (q cid : ℕ) (c' : Contents) (m' : Memory) (touched : List ℕ) : Type 0 where
+  pub entry : SubEntry
+  pub looked : List ℕ
+  pub looks : LooksAt c m q entry looked
+  pub named : cid ≡ entry.cid
+  pub room : entry_refusal c m q entry ≡ None
+  pub takes : Takes (is_known c q entry) c q entry m looked c' m' touched
+
+-- What one is refused for: nothing to look at, no room for an answer at once, or else memory for the command.
+pub record RefusedEntry (c : Contents) (m : Memory) (q : ℕ) (why : Refusal) (touched : List ℕ) : Type 0 where
+  pub entry : SubEntry
+  pub looks : LooksAt c m q entry touched
+  pub cause : (if is_known c q entry then entry_refusal c m q entry else Some refusal.Memory) ≡ Some why
+
+abbrev pub RefusedBy : Option Refusal → Contents → Memory → ℕ → Refusal → List ℕ → Type 0
+RefusedBy (Some cause) c m q why touched = (why ≡ cause) × (touched ≡ [])
+RefusedBy None c m q why touched = RefusedEntry c m q why touched
+
+abbrev pub Fetches : Contents → Memory → ℕ → Result ℕ Refusal → Contents → Memory → List ℕ → Type 0
+Fetches c m q (Ok cid) c' m' touched = FetchesTo c m q cid c' m' touched
+Fetches c m q (Err why) c' m' touched = RefusedBy (look_refusal c m q) c m q why touched × (c' ≡ c) × (m' ≡ m)

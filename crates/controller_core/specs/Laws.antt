@@ -1,0 +1,52 @@
+-- Nothing of what a call leaves, answers and touches is open: it hangs on the controller and the memory alone. How a walk keeps its place is
+-- its own matter.
+use Rattle.std.specs.Prelude.{◌≡◌, ℕ, None, List, map}
+use Rattle.controller_walk.specs.declared.walk.WalkState.{WalkState}
+use Rattle.page_memory.specs.Memory.{Memory}
+use Rattle.controller_core.specs.Completing.{CompletesTo}
+use Rattle.controller_core.specs.Contents.{Contents, IsController, FetchedCommand, Work}
+use Rattle.controller_core.specs.Fetching.{FetchesTo, RefusedBy, look_refusal}
+use Rattle.controller_core.specs.Walking.{WalksTo}
+use Rattle.controller_core.specs.declared.command.Work.TheVariants.{Io, Admin}
+use Rattle.controller_core.specs.declared.refusal.Refusal.{Refusal}
+use Rattle.controller_core.specs.declared.refusal.Refusal.TheVariants as refusal
+
+-- a command without the place of its walk
+abbrev pub unplaced : Work → Work
+unplaced (Io job) = Io (record job { walk = None })
+unplaced (Admin entry status dw0) = Admin entry status dw0
+
+abbrev pub unplaced_command : FetchedCommand → FetchedCommand
+unplaced_command k = record k { work = unplaced k.work }
+
+-- The same queues, image and commands, with the same entries, bytes and verdicts.
+pub record AreAlike (c c' : Contents) : Type 0 where
+  pub queues : c.queues ≡ c'.queues
+  pub commands : map unplaced_command c.commands ≡ map unplaced_command c'.commands
+  pub image : c.image ≡ c'.image
+
+abbrev pub WalksOneWay : Type 0
+WalksOneWay =
+    (c : Contents) (q cid : ℕ) (m : Memory) (o o' : WalkState) (x x' : Contents) (n n' : Memory) (t t' : List ℕ)
+    → IsController c → WalksTo c q cid m o x n t → WalksTo c q cid m o' x' n' t' → (o ≡ o') × AreAlike x x' × (n ≡ n') × (t ≡ t')
+
+abbrev pub CompletesOneWay : Type 0
+CompletesOneWay =
+    (c : Contents) (q cid : ℕ) (m : Memory) (x x' : Contents) (n n' : Memory) (t t' : List ℕ)
+    → CompletesTo c q cid m x n t → CompletesTo c q cid m x' n' t' → (x ≡ x') × (n ≡ n') × (t ≡ t')
+
+abbrev pub FetchesOneWay : Type 0
+FetchesOneWay =
+    (c : Contents) (m : Memory) (q cid cid' : ℕ) (x x' : Contents) (n n' : Memory) (t t' : List ℕ)
+    → FetchesTo c m q cid x n t → FetchesTo c m q cid' x' n' t' → (cid ≡ cid') × AreAlike x x' × (n ≡ n') × (t ≡ t')
+
+-- A refusal is determined too, and a fetch that can be served is refused for want of memory alone.
+abbrev pub RefusesOneWay : Type 0
+RefusesOneWay =
+    (c : Contents) (m : Memory) (q : ℕ) (why why' : Refusal) (t t' : List ℕ)
+    → RefusedBy (look_refusal c m q) c m q why t → RefusedBy (look_refusal c m q) c m q why' t' → (why ≡ why') × (t ≡ t')
+
+abbrev pub ServedUnlessMemory : Type 0
+ServedUnlessMemory =
+    (c : Contents) (m : Memory) (q cid : ℕ) (why : Refusal) (x : Contents) (n : Memory) (t t' : List ℕ)
+    → FetchesTo c m q cid x n t → RefusedBy (look_refusal c m q) c m q why t' → why ≡ refusal.Memory

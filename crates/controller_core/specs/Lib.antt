@@ -1,0 +1,10 @@
+pub mod Contents
+pub mod Doorbells
+pub mod Walking
+pub mod Answering
+pub mod Completing
+pub mod Managing
+pub mod Fetching
+pub mod Opening
+pub mod Laws
+pub mod Worked

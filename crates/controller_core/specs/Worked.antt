@@ -1,0 +1,88 @@
+-- A controller for worked runs: an admin queue in the pages 0 and 1, an I/O queue in the pages 2 and 3, four entries in each ring, over an
+-- image of one block of bytes 11h. The first slot of the I/O queue has the entry of a Read of that block to the page at 4000h.
+use Rattle.std.specs.Prelude.{ℕ, ◌∷◌, [], List, Option, Some, None, replicate, slice_range}
+use Rattle.controller_walk.specs.Worked.{eight_pages}
+use Rattle.controller_walk.specs.declared.progress.State.{State}
+use Rattle.controller_walk.specs.declared.progress.State.TheVariants.{First, Data, Over}
+use Rattle.entry_codec.specs.Completion.{completion_bytes}
+use Rattle.entry_codec.specs.Worked.{first_sgl1, first_read, first_read_bytes, first_completion}
+use Rattle.entry_codec.specs.declared.status.Status.{Status}
+use Rattle.entry_codec.specs.declared.status.TheConstants.Status.{SUCCESS}
+use Rattle.entry_codec.specs.declared.submission.SubEntry.{SubEntry}
+use Rattle.io_commands.specs.Jobs.{JobContents}
+use Rattle.page_memory.specs.Memory.{Memory, written}
+use Rattle.queue_pair.specs.Rings.{fresh_device_ring}
+use Rattle.sgl_descriptor.specs.declared.Direction.TheVariants.{Destination}
+use Rattle.controller_core.specs.Answering.{completion_by}
+use Rattle.controller_core.specs.Completing.{completed}
+use Rattle.controller_core.specs.Contents.{Contents}
+use Rattle.controller_core.specs.Doorbells.{tail_rung}
+use Rattle.controller_core.specs.Fetching.{begun}
+use Rattle.controller_core.specs.Managing.{command_of}
+use Rattle.controller_core.specs.Opening.{opened}
+use Rattle.controller_core.specs.declared.command.Work.TheVariants.{Io}
+use Rattle.controller_core.specs.declared.queue.QueuePages.{QueuePages}
+
+abbrev pub block : List ℕ
+block = replicate 512 0x11
+
+abbrev pub admin_pages : QueuePages
+admin_pages = record { sq = 0; cq = 1 }
+
+abbrev pub io_pages : QueuePages
+io_pages = record { sq = 2; cq = 3 }
+
+abbrev pub fresh : Contents
+fresh = opened 4 (admin_pages ∷ io_pages ∷ []) block
+
+abbrev pub rung : Contents
+rung = tail_rung 1 1 fresh
+
+abbrev pub memory_with_entry : Memory
+memory_with_entry = written eight_pages 0x2000 first_read_bytes
+
+-- the Read, whose walk meets this next with so many bytes wanted
+abbrev pub read_at : State → ℕ → Option Status → JobContents
+read_at state wanted verdict =
+    record {
+      blocks = 1;
+      entry = first_read;
+      bytes = block;
+      walk = Some (record { direction = Destination; need = 512; wanted = wanted; allowed = 4095; state = state });
+      verdict = verdict;
+    }
+
+abbrev pub read_begun : JobContents
+read_begun = read_at (First first_sgl1) 512 None
+
+abbrev pub read_halfway : JobContents
+read_halfway = read_at (Data (record { place = 0x4000; len = 512; offset = 0 }) None) 0 None
+
+abbrev pub read_walked : JobContents
+read_walked = read_at Over 0 (Some SUCCESS)
+
+abbrev pub with_read_begun : Contents
+with_read_begun = begun 1 read_begun rung
+
+abbrev pub with_read_halfway : Contents
+with_read_halfway = record with_read_begun { commands = record (command_of 1 (Io read_halfway)) { units_done = 1 } ∷ [] }
+
+abbrev pub with_read_walked : Contents
+with_read_walked = record with_read_begun { commands = record (command_of 1 (Io read_walked)) { units_done = 2 } ∷ [] }
+
+abbrev pub memory_with_data : Memory
+memory_with_data = written memory_with_entry 0x4000 block
+
+abbrev pub with_read_completed : Contents
+with_read_completed = completed 1 0 (Io read_walked) with_read_walked
+
+abbrev pub memory_with_completion : Memory
+memory_with_completion = written memory_with_data 0x3000 (completion_bytes first_completion)
+
+-- an entry of queue 0 with an opcode that no admin command has
+abbrev pub wrong_opcode : SubEntry
+wrong_opcode = record first_read { opcode = 0x77 }
+
+-- the halfword of status and phase in the first completion of a queue, for a command that ends so
+abbrev pub status_bytes : Status → List ℕ
+status_bytes st = slice_range (completion_bytes (completion_by 1 0 st 0 (record { q = 1; entries = 4; sq = 2; cq = 3; ring = fresh_device_ring }))) 14 16

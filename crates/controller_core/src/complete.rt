@@ -1,0 +1,125 @@
+//! The controller completes a command.
+
+ghost use Rattle.std.specs.Prelude.{◌≡◌, ◌<◌, [], IfErr, IfOk, IfSome, IsSome, Some, OnOk, OnErr, length, find, slice_get};
+ghost use Rattle.std.specs.Result.{result_err};
+ghost use Rattle.block_image.specs.Blocks.{block_count};
+ghost use Rattle.page_memory.specs.Memory.{Memory};
+ghost use Rattle.controller_core.specs.Answering.{answer_refusal};
+ghost use Rattle.controller_core.specs.Completing.{complete_refusal, status_of_end, image_of_end, queues_of_end, without_submission, IsOver, CompletesTo};
+ghost use Rattle.controller_core.specs.Contents.{change, dw0_of_work, verdict_of_work, is_command, is_deletion};
+
+use crate::answer::answer;
+use crate::command::Work;
+use crate::controller::Controller;
+use crate::lookup::{find_command, is_success, is_waiting};
+use crate::queue::ControllerQueue;
+use crate::refusal::Refusal;
+use admin_commands::{SqState, queue_of};
+use block_image::Image;
+use entry_codec::admin_opcode::DELETE_IO_SQ;
+use entry_codec::{Status, SubEntry};
+use io_commands::{Job, finish_job};
+use page_memory::Dma;
+use std::alloc::Allocator;
+
+/// Whether an admin command that ends so leaves nothing of a submission queue.
+fn deletes(entry: &SubEntry, status: Status) -> bool
+    ensures { result ≡ is_deletion entry.now status }
+{
+    entry.opcode == DELETE_IO_SQ && is_success(status)
+}
+
+/// Leaves nothing of a queue's submission side, where there is such a queue.
+fn drop_submission<A: Allocator>(queues: &mut Vec<ControllerQueue, A>, q: u16)
+    ensures { queues.new.items ≡ change q without_submission queues.old.items }
+{
+    if usize::from(q) < queues.len() {
+        queues[usize::from(q)].state = SqState::Absent;
+    }
+}
+
+impl<A: Allocator> Work<Job<A>> {
+    /// How a command ends over an image: the status of its completion, and its command specific double word.
+    fn end<B: Allocator>(&self, image: &Image<B>) -> (Status, u32)
+        requires verdict { IsSome (verdict_of_work self.now) }
+        requires over { IsOver (block_count image.now) self.now }
+        ensures status { result.0 ≡ status_of_end image.now self.now }
+        ensures dw0 { result.1 ≡ dw0_of_work self.now }
+    {
+        match self {
+            Work::Io(job) => (job.final_status(image), 0),
+            Work::Admin { status, dw0, .. } => (*status, *dw0),
+        }
+    }
+}
+
+/// Does what a command does at its end: a Write puts its bytes over its blocks, and a deletion leaves nothing of its queue.
+fn settle<A: Allocator>(
+    queues: &mut Vec<ControllerQueue, A>,
+    image: &mut Image<A>,
+    work: Work<Job<A>>,
+)
+    requires verdict { IsSome (verdict_of_work work) }
+    requires over { IsOver (block_count image.old) work }
+    ensures queues { queues.new.items ≡ queues_of_end work queues.old.items }
+    ensures image { image.new ≡ image_of_end image.old work }
+    ensures as_long { length image.new ≡ length image.old }
+{
+    match work {
+        Work::Io(job) => {
+            finish_job(job, image);
+        }
+        Work::Admin { entry, status, .. } => {
+            if deletes(&entry, status) {
+                drop_submission(queues, queue_of(&entry));
+            }
+        }
+    }
+}
+
+impl<A: Allocator> Controller<A> {
+    /// The place of the command that completes, or the first cause against it that lies in the command.
+    fn check_complete(&self, q: u16, cid: u16) -> Result<usize, Refusal>
+        ensures refused { IfErr result (λ why. (m : Memory) → complete_refusal self.now m q cid ≡ Some why) }
+        ensures ready { IfOk result (λ place. (m : Memory) → complete_refusal self.now m q cid ≡ answer_refusal self.now.queues m q) }
+        ensures place { IfOk result (λ place. find (is_command q cid) self.now.commands ≡ slice_get self.now.commands place) }
+        ensures within { IfOk result (λ place. place < length self.now.commands) }
+        ensures verdict { IfOk result (λ place. IfSome (slice_get self.now.commands place) (λ k. IsSome (verdict_of_work k.work))) }
+    {
+        let Some(place) = find_command(&self.commands, q, cid) else {
+            return Err(Refusal::NoJob);
+        };
+        let command = &self.commands[place];
+        if command.work.verdict().is_none() {
+            return Err(Refusal::Walking);
+        }
+        if is_waiting(&self.commands, command) {
+            return Err(Refusal::Waits);
+        }
+        Ok(place)
+    }
+
+    /// Posts the completion of a fetched command, and forgets the command. A Write that ends well changes the image here, and a
+    /// deletion of a submission queue leaves nothing of it (NVM Express Base Specification 2.0, "Common Completion Queue Entry",
+    /// section 3.3.3.2).
+    ///
+    /// # Errors
+    ///
+    /// 1. `NoJob`: there is no such command. 2. `Walking`: its list isn't walked to the end. 3. `Waits`: an Abort waits for the
+    /// command that it stopped, a deletion for the commands of its queue. 4. `Full`: the completion ring is full. 5. `SlotOut`: a
+    /// byte of the slot is missing. Then nothing changed, and the touched list is empty.
+    pub fn complete<D: Dma>(&mut self, q: u16, cid: u16, dma: &mut D) -> Result<(), Refusal>
+        ensures refusal { result_err result ≡ complete_refusal self.old (D.memory dma.old) q cid }
+        ensures refused { OnErr result ((self.new ≡ self.old) × (D.memory dma.new ≡ D.memory dma.old) × (D.reached dma.new ≡ [])) }
+        ensures completes { OnOk result (CompletesTo self.old q cid (D.memory dma.old) self.new (D.memory dma.new) (D.reached dma.new)) }
+        ensures pool { D.page_count dma.new ≡ D.page_count dma.old }
+    {
+        dma.clear();
+        let place = self.check_complete(q, cid)?;
+        let (status, dw0) = self.commands[place].work.end(&self.image);
+        answer(&mut self.queues, q, cid, status, dw0, dma)?;
+        let command = self.commands.remove(place);
+        settle(&mut self.queues, &mut self.image, command.work);
+        Ok(())
+    }
+}

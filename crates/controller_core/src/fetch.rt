@@ -1,0 +1,198 @@
+//! The controller fetches an entry.
+
+ghost use Rattle.std.specs.Prelude.{◌≡◌, ◌≢◌, ◌<◌, ◌+◌, ◌≤◌, ◌==◌, ◌++◌, ◌∷◌, [], None, Some, true, false, IfOk, IfSome, OnOk, OnErr, find, is_some, length, slice_get, vec_len, vec_capacity};
+ghost use Rattle.std.specs.Result.{result_err};
+ghost use Rattle.entry_codec.specs.declared.status.TheConstants.Status.{COMMAND_ID_CONFLICT};
+ghost use Rattle.queue_pair.specs.Memory.{entry_at, submission_page};
+ghost use Rattle.controller_core.specs.Answering.{answer_refusal, post_refusal, completion_by, memory_posted, page_posted, with_answer};
+ghost use Rattle.controller_core.specs.Contents.{change, is_command};
+ghost use Rattle.controller_core.specs.Fetching.{live_side, side_refusal, look_refusal, LooksAt, Begins, AnswersKnown, Fetches};
+ghost use Rattle.controller_core.specs.Managing.{with_taken, command_of, managed};
+ghost use Rattle.controller_core.specs.declared.command.Work.TheVariants.{Io};
+
+use crate::answer::post_completion;
+use crate::command::{FetchedCommand, Work};
+use crate::controller::Controller;
+use crate::lookup::find_command;
+use crate::manage::{act, view_of};
+use crate::queue::ControllerQueue;
+use crate::refusal::Refusal;
+use admin_commands::{SqState, decide};
+use entry_codec::{Status, SubEntry};
+use io_commands::{Job, begin_job};
+use page_memory::Dma;
+use queue_pair::DevicePair;
+use std::alloc::{AllocError, Allocator};
+
+/// The rings of a queue from which entries are fetched.
+fn live_pair(queues: &[ControllerQueue], q: u16) -> Option<DevicePair>
+    ensures { result ≡ live_side (slice_get queues.now q) }
+{
+    let queue = queues.get(usize::from(q))?;
+    match queue.state {
+        SqState::Live => Some(queue.device),
+        SqState::Absent | SqState::Stopping => None,
+    }
+}
+
+/// The entry at the head of a ring.
+///
+/// # Errors
+///
+/// 1. `Idle`: nothing is rung. 2. `SlotOut`: a byte of its slot is missing.
+fn head_entry<D: Dma>(pair: &DevicePair, dma: &mut D) -> Result<SubEntry, Refusal>
+    requires clear { D.reached dma.old ≡ [] }
+    ensures refusal { result_err result ≡ side_refusal (D.memory dma.old) pair.now }
+    ensures some { IfOk result (λ e. pair.now.ring.head ≢ pair.now.ring.bell) }
+    ensures entry { IfOk result (λ e. entry_at (D.memory dma.old) pair.now.sq pair.now.ring.head ≡ Some e) }
+    ensures touched { OnOk result (D.reached dma.new ≡ submission_page pair.now.sq pair.now.ring.head ∷ []) }
+    ensures untouched { OnErr result (D.reached dma.new ≡ []) }
+    ensures memory { D.memory dma.new ≡ D.memory dma.old }
+    ensures pool { D.page_count dma.new ≡ D.page_count dma.old }
+{
+    match pair.next_entry(dma) {
+        Ok(Some(entry)) => Ok(entry),
+        Ok(None) => Err(Refusal::Idle),
+        Err(_) => Err(Refusal::SlotOut),
+    }
+}
+
+impl ControllerQueue {
+    /// Takes the entry at the head, and answers its identifier at once. Where that is refused nothing changed.
+    fn answer_taken<D: Dma>(&mut self, q: u16, cid: u16, dma: &mut D) -> Result<(), Refusal>
+        requires rung { self.old.device.ring.head ≢ self.old.device.ring.bell }
+        requires room { length (D.reached dma.old) ≤ 2 }
+        ensures refusal { result_err result ≡ post_refusal (D.memory dma.old) self.old.device }
+        ensures queue { OnOk result (self.new ≡ with_answer (with_taken self.old)) }
+        ensures written { OnOk result (D.memory dma.new ≡ memory_posted (D.memory dma.old) self.old.device (completion_by q cid COMMAND_ID_CONFLICT 0 (with_taken self.old).device)) }
+        ensures touched { OnOk result (D.reached dma.new ≡ D.reached dma.old ++ page_posted self.old.device ∷ []) }
+        ensures refused { OnErr result ((self.new ≡ self.old) × (D.memory dma.new ≡ D.memory dma.old) × (D.reached dma.new ≡ D.reached dma.old)) }
+        ensures pool { D.page_count dma.new ≡ D.page_count dma.old }
+    {
+        let mut pair = self.device;
+        pair.take();
+        post_completion(&mut pair, q, cid, Status::COMMAND_ID_CONFLICT, 0, dma)?;
+        self.device = pair;
+        Ok(())
+    }
+}
+
+/// Takes the entry at the head of a queue.
+fn take_entry<A: Allocator>(queues: &mut Vec<ControllerQueue, A>, q: u16)
+    requires there { q < length queues.old.items }
+    requires rung { IfSome (slice_get queues.old.items q) (λ queue. queue.device.ring.head ≢ queue.device.ring.bell) }
+    ensures { queues.new.items ≡ change q with_taken queues.old.items }
+{
+    queues[usize::from(q)].device.take();
+}
+
+/// Takes the entry at the head of a queue, and answers its identifier at once. Where that is refused nothing changed.
+fn answer_in<A: Allocator, D: Dma>(
+    queues: &mut Vec<ControllerQueue, A>,
+    q: u16,
+    cid: u16,
+    dma: &mut D,
+) -> Result<(), Refusal>
+    requires there { q < length queues.old.items }
+    requires rung { IfSome (slice_get queues.old.items q) (λ queue. queue.device.ring.head ≢ queue.device.ring.bell) }
+    requires room { length (D.reached dma.old) ≤ 2 }
+    ensures refusal { result_err result ≡ answer_refusal queues.old.items (D.memory dma.old) q }
+    ensures answers { OnOk result (AnswersKnown queues.old.items q cid (D.memory dma.old) (D.reached dma.old) queues.new.items (D.memory dma.new) (D.reached dma.new)) }
+    ensures count { length queues.new.items ≡ length queues.old.items }
+    ensures refused { OnErr result ((queues.new.items ≡ queues.old.items) × (D.memory dma.new ≡ D.memory dma.old) × (D.reached dma.new ≡ D.reached dma.old)) }
+    ensures pool { D.page_count dma.new ≡ D.page_count dma.old }
+{
+    queues[usize::from(q)].answer_taken(q, cid, dma)
+}
+
+/// A command as it is fetched.
+fn fetched<A: Allocator>(q: u16, work: Work<Job<A>>) -> FetchedCommand<Job<A>>
+    ensures { result ≡ command_of q work }
+{
+    FetchedCommand {
+        q,
+        units_done: 0,
+        waiting_abort: None,
+        work,
+    }
+}
+
+impl<A: Allocator + Copy> Controller<A> {
+    /// The entry at the head of a queue, or the first cause against it.
+    fn look<D: Dma>(&self, q: u16, dma: &mut D) -> Result<SubEntry, Refusal>
+        requires clear { D.reached dma.old ≡ [] }
+        ensures refusal { result_err result ≡ look_refusal self.now (D.memory dma.old) q }
+        ensures looks { IfOk result (λ e. LooksAt self.now (D.memory dma.old) q e (D.reached dma.new)) }
+        ensures untouched { OnErr result (D.reached dma.new ≡ []) }
+        ensures memory { D.memory dma.new ≡ D.memory dma.old }
+        ensures pool { D.page_count dma.new ≡ D.page_count dma.old }
+    {
+        let Some(pair) = live_pair(&self.queues, q) else {
+            return Err(Refusal::Idle);
+        };
+        head_entry(&pair, dma)
+    }
+
+    /// Takes the entry at the head of an I/O queue, as a command behind the others.
+    fn begin_entry(&mut self, q: u16, entry: &SubEntry) -> Result<(), AllocError>
+        requires io { (q == 0) ≡ false }
+        requires there { q < length self.old.queues }
+        requires rung { IfSome (slice_get self.old.queues q) (λ queue. queue.device.ring.head ≢ queue.device.ring.bell) }
+        requires unknown { is_some (find (is_command q entry.now.cid) self.old.commands) ≡ false }
+        ensures begins { OnOk result (Begins self.old q entry.now self.new) }
+        ensures refused { OnErr result (self.new ≡ self.old) }
+    {
+        let job = begin_job(self.alloc, entry, &self.image)?;
+        self.commands.reserve(1)?;
+        take_entry(&mut self.queues, q);
+        self.commands.push_reserved(fetched(q, Work::Io(job)));
+        Ok(())
+    }
+
+    /// Takes the entry at the head of queue 0, decides it and does what was decided, and keeps it as a command behind the others.
+    fn manage_entry(&mut self, entry: SubEntry) -> Result<(), AllocError>
+        requires there { 0 < length self.old.queues }
+        requires rung { IfSome (slice_get self.old.queues 0) (λ queue. queue.device.ring.head ≢ queue.device.ring.bell) }
+        requires unknown { is_some (find (is_command 0 entry.cid) self.old.commands) ≡ false }
+        ensures managed { OnOk result (self.new ≡ managed entry self.old) }
+        ensures refused { OnErr result (self.new ≡ self.old) }
+    {
+        self.commands.reserve(1)?;
+        let verdict = decide(&entry, &view_of(&self.queues, &self.commands, &entry));
+        take_entry(&mut self.queues, 0);
+        let (status, dw0) = act(&mut self.queues, &mut self.commands, entry.cid, verdict);
+        let work = Work::Admin { entry, status, dw0 };
+        self.commands.push_reserved(fetched(0, work));
+        Ok(())
+    }
+
+    /// Fetches the entry at the head of a submission queue: the identifier of its command. An entry of an I/O queue begins a job: where
+    /// a field check fails, that is its verdict, and a Read takes its blocks from the image as it is now. An entry of queue 0 is decided
+    /// here: an Abort stops its command, the deletion of a submission queue stops that queue and its commands, and the deletion of a
+    /// completion queue drops it. An identifier that was fetched from the queue and not completed is answered at once, with Command
+    /// Identifier Conflict.
+    ///
+    /// # Errors
+    ///
+    /// 1. `Idle`: there is no such queue, nothing is fetched from it, or nothing is rung. 2. `SlotOut`: a byte of the entry's slot is
+    /// missing. Where the identifier is answered at once: 3. `Full`: the completion ring is full. 4. `SlotOut`: a byte of the
+    /// completion's slot is missing. Else 5. `Memory`, where memory is refused. Then nothing changed.
+    pub fn fetch<D: Dma>(&mut self, q: u16, dma: &mut D) -> Result<u16, Refusal>
+        ensures fetches { Fetches self.old (D.memory dma.old) q result self.new (D.memory dma.new) (D.reached dma.new) }
+        ensures pool { D.page_count dma.new ≡ D.page_count dma.old }
+    {
+        dma.clear();
+        let entry = self.look(q, dma)?;
+        let cid = entry.cid;
+        if find_command(&self.commands, q, cid).is_some() {
+            answer_in(&mut self.queues, q, cid, dma)?;
+            return Ok(cid);
+        }
+        if q == 0 {
+            self.manage_entry(entry)?;
+            return Ok(cid);
+        }
+        self.begin_entry(q, &entry)?;
+        Ok(cid)
+    }
+}

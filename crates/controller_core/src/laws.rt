@@ -1,0 +1,24 @@
+//! Laws of the definitions that the contracts cite. Each function does nothing, and its clause is the law.
+
+ghost use Rattle.controller_core.specs.Laws.{WalksOneWay, CompletesOneWay, FetchesOneWay, RefusesOneWay, ServedUnlessMemory};
+
+/// The contract of a walk leaves nothing open of the answer, the memory and the touched pages, nor of the controller but how a walk keeps
+/// its place.
+pub fn walks_go_one_way()
+    ensures { WalksOneWay }
+{}
+
+/// The contract of a completion leaves nothing open.
+#[tactic(auto, using(crate::proofs::OneWay::one_completion))]
+pub fn completions_go_one_way()
+    ensures { CompletesOneWay }
+{}
+
+/// The contract of a fetch leaves nothing open but want of memory, and how a walk keeps its place: neither what is answered nor why it is
+/// refused. A fetch that can be served is refused for want of memory alone.
+#[tactic(auto, using(crate::proofs::OneWay::one_fetch, crate::proofs::OneWay::one_refusal, crate::proofs::OneWay::served_unless_memory))]
+pub fn fetches_go_one_way()
+    ensures served { FetchesOneWay }
+    ensures refused { RefusesOneWay }
+    ensures unless_memory { ServedUnlessMemory }
+{}

@@ -1,0 +1,29 @@
+//! The controller alone: the device's side of its queues, the commands that it fetched, and the image of its namespace.
+//!
+//! A [`Controller`] is a library for an emulator: each call is lent the memory, as [`page_memory::Dma`], which is the guest's.
+//! Nothing of a host is known here. What crosses is memory, and the values that are written to the two doorbells of a queue
+//! (NVM Express Base Specification 2.0, "Memory-based transport queue model", section 3.3.1).
+//!
+//! The contract of each call holds for every memory, whatever stands there: for what it is refused, what it answers, which pages it
+//! touches, and what it leaves of the controller and of the memory. Each call clears the touched list first, so that behind it the list
+//! has what this call touched.
+#![tactic(auto)]
+
+mod answer;
+mod command;
+mod complete;
+mod controller;
+mod doorbell;
+mod fetch;
+pub mod laws;
+mod lookup;
+mod manage;
+mod queue;
+mod refusal;
+mod walk;
+pub mod worked;
+
+pub use command::{FetchedCommand, Work};
+pub use controller::{Controller, OpenRefused};
+pub use queue::{ControllerQueue, QueuePages};
+pub use refusal::Refusal;

@@ -1,0 +1,50 @@
+//! A queue at the controller.
+
+ghost use Rattle.std.specs.Prelude.{◌≡◌};
+ghost use Rattle.controller_core.specs.Doorbells.{with_tail, with_head};
+
+use admin_commands::SqState;
+use page_memory::PageNo;
+use queue_pair::DevicePair;
+
+/// Where the two halves of a queue begin.
+#[derive(Clone, Copy, Debug, PartialEq, Eq)]
+pub struct QueuePages {
+    /// The first page of its submission queue.
+    pub sq: PageNo,
+    /// The first page of its completion queue.
+    pub cq: PageNo,
+}
+
+/// What the controller keeps of a queue.
+#[derive(Drop)]
+pub struct ControllerQueue {
+    /// The state of the submission queue.
+    pub state: SqState,
+    /// Whether the completion queue is there.
+    pub cq_there: bool,
+    /// The controller's side of the two rings.
+    pub device: DevicePair,
+}
+
+impl ControllerQueue {
+    /// Hears a tail, where it is a slot of the ring.
+    pub(crate) fn hear_tail(&mut self, value: u16)
+        ensures { self.new ≡ with_tail value self.old }
+    {
+        match self.device.tail_bell(value) {
+            Ok(()) => {}
+            Err(_) => {}
+        }
+    }
+
+    /// Hears a head, where it lies from the head that was heard last to the tail.
+    pub(crate) fn hear_head(&mut self, value: u16)
+        ensures { self.new ≡ with_head value self.old }
+    {
+        match self.device.head_bell(value) {
+            Ok(()) => {}
+            Err(_) => {}
+        }
+    }
+}

@@ -1,0 +1,63 @@
+//! Worked runs of the definitions. Each function does nothing, and its clauses are the run.
+#![tactic(auto, unfolding(page_memory::specs::Memory::bytes_at, sgl_descriptor::specs::Spelling::descriptor_of, entry_codec::specs::Submission::submission_of, entry_codec::specs::Completion::completion_bytes, controller_walk::specs::Units::moving, controller_walk::specs::Units::from_place))]
+
+ghost use Rattle.std.specs.Prelude.{◌≡◌, ◌∷◌, [], None, Some, replicate};
+ghost use Rattle.admin_commands.specs.Entries.{admin_entry};
+ghost use Rattle.admin_commands.specs.declared.AdminKind.TheVariants.{Abort};
+ghost use Rattle.controller_walk.specs.declared.walk.WalkState.TheVariants.{More, End};
+ghost use Rattle.entry_codec.specs.Worked.{first_completion_bytes};
+ghost use Rattle.entry_codec.specs.declared.status.TheConstants.Status.{INVALID_OPCODE, DATA_TRANSFER_ERROR, INVALID_SGL_SEGMENT, INVALID_SGL_COUNT, DATA_SGL_LENGTH_INVALID, SGL_TYPE_INVALID};
+ghost use Rattle.page_memory.specs.Memory.{bytes_at};
+ghost use Rattle.controller_core.specs.Completing.{CompletesTo, complete_refusal};
+ghost use Rattle.controller_core.specs.Doorbells.{tail_rung, head_rung};
+ghost use Rattle.controller_core.specs.Fetching.{FetchesTo, look_refusal};
+ghost use Rattle.controller_core.specs.Managing.{command_of, managed};
+ghost use Rattle.controller_core.specs.Walking.{WalksTo, walk_refusal};
+ghost use Rattle.controller_core.specs.Worked.{fresh, rung, memory_with_entry, with_read_begun, with_read_halfway, with_read_walked, with_read_completed, memory_with_data, memory_with_completion, wrong_opcode, status_bytes};
+ghost use Rattle.controller_core.specs.declared.command.Work.TheVariants.{Admin};
+ghost use Rattle.controller_core.specs.declared.refusal.Refusal.TheVariants as refusal;
+
+/// A Read of one block, from the entry in memory to the completion in memory, with the pages that each call touches.
+pub fn worked_first_read()
+    ensures fetch { FetchesTo rung memory_with_entry 1 0 with_read_begun memory_with_entry (2 ∷ []) }
+    ensures first_unit { WalksTo with_read_begun 1 0 memory_with_entry More with_read_halfway memory_with_entry [] }
+    ensures second_unit { WalksTo with_read_halfway 1 0 memory_with_entry End with_read_walked memory_with_data (4 ∷ []) }
+    ensures completion { CompletesTo with_read_walked 1 0 memory_with_data with_read_completed memory_with_completion (3 ∷ []) }
+    ensures data { bytes_at memory_with_completion 0x4000 512 ≡ Some (replicate 512 0x11) }
+    ensures entry { bytes_at memory_with_completion 0x3000 16 ≡ Some first_completion_bytes }
+{}
+
+/// What is refused along that Read.
+pub fn worked_refusals()
+    ensures not_rung { look_refusal fresh memory_with_entry 1 ≡ Some refusal.Idle }
+    ensures no_queue { look_refusal rung memory_with_entry 2 ≡ Some refusal.Idle }
+    ensures unread { walk_refusal rung 1 0 ≡ Some refusal.NoJob }
+    ensures walking { complete_refusal with_read_halfway memory_with_entry 1 0 ≡ Some refusal.Walking }
+    ensures walked { walk_refusal with_read_walked 1 0 ≡ Some refusal.Nothing }
+    ensures ready { complete_refusal with_read_walked memory_with_data 1 0 ≡ None }
+    ensures forgotten { complete_refusal with_read_completed memory_with_completion 1 0 ≡ Some refusal.NoJob }
+{}
+
+/// Doorbells out of their range: a tail that is no slot, a head past the tail, a queue that is not there.
+pub fn worked_doorbells()
+    ensures tail { tail_rung 1 4 fresh ≡ fresh }
+    ensures head { head_rung 1 1 fresh ≡ fresh }
+    ensures no_queue { tail_rung 2 1 fresh ≡ fresh }
+{}
+
+/// An entry of queue 0 with a wrong opcode, and an Abort of the Read in the midst of its walk, which waits for it.
+pub fn worked_admin()
+    ensures wrong { (managed wrong_opcode fresh).commands ≡ command_of 0 (Admin wrong_opcode INVALID_OPCODE 0) ∷ [] }
+    ensures waits { complete_refusal (managed (admin_entry (Abort 1 0) 0) with_read_halfway) memory_with_entry 0 0 ≡ Some refusal.Waits }
+    ensures stopped { walk_refusal (managed (admin_entry (Abort 1 0) 0) with_read_halfway) 1 0 ≡ Some refusal.Nothing }
+    ensures too_late { complete_refusal (managed (admin_entry (Abort 1 0) 0) with_read_walked) memory_with_data 0 0 ≡ None }
+{}
+
+/// The bytes that tell the guest of each fault of a walk, in the first pass of the ring.
+pub fn worked_faults()
+    ensures transfer { status_bytes DATA_TRANSFER_ERROR ≡ 0x09 ∷ 0x00 ∷ [] }
+    ensures segment { status_bytes INVALID_SGL_SEGMENT ≡ 0x1B ∷ 0x00 ∷ [] }
+    ensures count { status_bytes INVALID_SGL_COUNT ≡ 0x1D ∷ 0x00 ∷ [] }
+    ensures length { status_bytes DATA_SGL_LENGTH_INVALID ≡ 0x1F ∷ 0x00 ∷ [] }
+    ensures kind { status_bytes SGL_TYPE_INVALID ≡ 0x23 ∷ 0x00 ∷ [] }
+{}

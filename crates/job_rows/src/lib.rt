@@ -1,0 +1,11 @@
+//! Scripts of jobs through the public call that the command `threads` makes, with all that it writes. It has tests alone.
+#![tactic(auto)]
+
+#[cfg(test)]
+mod faults;
+#[cfg(test)]
+mod playing;
+#[cfg(test)]
+mod refusals;
+#[cfg(test)]
+mod rows;

@@ -1,0 +1,11 @@
+use Rattle.run_laws.proofs.AcceptedEvents.{all_accepted, controller_accepted, queues_known}
+use Rattle.run_laws.proofs.answers.law_of_acceptance.Goals as goal
+
+pub returns-clause-events : goal.returns-clause-events
+returns-clause-events c = all_accepted
+
+pub returns-clause-forged : goal.returns-clause-forged
+returns-clause-forged c = controller_accepted
+
+pub returns-clause-queues : goal.returns-clause-queues
+returns-clause-queues c = queues_known

@@ -1,0 +1,5 @@
+use Rattle.run_laws.proofs.EndsFront.{reaps_answer}
+use Rattle.run_laws.proofs.ends.law_of_reaps.Goals as goal
+
+pub returns : goal.returns
+returns c = reaps_answer

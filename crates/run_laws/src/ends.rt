@@ -1,0 +1,56 @@
+//! How commands end where nothing was forged. Each function does nothing.
+
+ghost use Rattle.run_laws.specs.Ends.{reaps_answer_the_front, nothing_conflicts, ends_come_from_completions, retired_queues_were_deleted, collects_tell_how_commands_ended, every_collect_has_its_cause, commands_complete_once, ends_are_told_once, commands_are_collected_once};
+ghost use Rattle.run_laws.specs.Verdicts.{jobs_stay, verdicts_stay, verdicts_end_walks, first_verdicts_count};
+
+/// Where nothing was forged, a reap answers the oldest completion of its queue, and none where there is none: no completion is rejected.
+pub fn law_of_reaps()
+    ensures { reaps_answer_the_front }
+{}
+
+/// Where nothing was forged, no entry that is fetched has the identifier of a job of its queue, so no command is answered with a conflict
+/// of identifiers.
+pub fn law_of_identifiers()
+    ensures { nothing_conflicts }
+{}
+
+/// Where nothing was forged, the status that a reap answers for a command of an I/O queue is the one that its completion gave it, with its
+/// cause; the command was not submitted anew since.
+pub fn law_of_completions()
+    ensures { ends_come_from_completions }
+{}
+
+/// Where nothing was forged, a queue that is retired was deleted: a Delete SQ of it was fetched before. So no command is lost but with a queue
+/// whose deletion was asked for.
+pub fn law_of_retirements()
+    ensures { retired_queues_were_deleted }
+{}
+
+/// Where nothing was forged, a command that is collected has the status that its completion gave it, or was lost: it was submitted as its
+/// queue was retired, which had been deleted.
+///
+/// So it has one of five statuses, each with its cause: it succeeded; an Abort of it was fetched while it was a job, or a deletion of its
+/// queue, or the queue was retired under it; its blocks passed the image's end; or a Compare found a difference.
+pub fn law_of_collects()
+    ensures ends { collects_tell_how_commands_ended }
+    ensures causes { every_collect_has_its_cause }
+{}
+
+/// Where nothing was forged, each command of an I/O queue ends once: between two completions of an identifier, between two reaps that answer
+/// it, and between two collects of it, it was submitted anew.
+pub fn law_of_single_ends()
+    ensures completions { commands_complete_once }
+    ensures reaps { ends_are_told_once }
+    ensures collects { commands_are_collected_once }
+{}
+
+/// Where nothing was forged, only the first verdict of a command counts: its job stays until it completes, and as soon as it has a verdict it
+/// keeps it, its bytes and its count of walk steps, and is walked no more.
+///
+/// So the command completes with that verdict; only a Compare whose data came without a fault may find a difference besides.
+pub fn law_of_verdicts()
+    ensures jobs { jobs_stay }
+    ensures stay { verdicts_stay }
+    ensures ends_walks { verdicts_end_walks }
+    ensures count { first_verdicts_count }
+{}

@@ -1,0 +1,12 @@
+//! Laws of the machine's runs, above `machine_model`.
+//!
+//! There is no code here: each public function has an empty body, and its clauses are what is proved. In [`ends`] stands how commands
+//! end, in [`data`] what a command's pages and list hold between its submission and its collection, in [`answers`] what steps answer and
+//! which event is accepted. [`worked`] and [`worked_heads`] have whole runs, computed from the definitions.
+#![tactic(auto)]
+
+pub mod answers;
+pub mod data;
+pub mod ends;
+pub mod worked;
+pub mod worked_heads;
