@@ -11,8 +11,8 @@ use Rattle.controller_core.specs.declared.refusal.Refusal.{Refusal}
 use Rattle.page_memory.specs.Memory.{Memory}
 use Rattle.std.specs.Result.{OnOk}
 use Rattle.entry_codec.specs.declared.status.TheConstants.Status.{COMMAND_ID_CONFLICT}
-use Rattle.controller_core.specs.Answering.{completion_by, memory_posted, page_posted, with_answer}
-use Rattle.controller_core.specs.Fetching.{IsBegun, Begins, AnswersKnown, LooksAt, FetchesTo, Takes, TakesIn, is_known, answer_refusal}
+use Rattle.controller_core.specs.Answering.{answer_refusal, completion_by, memory_posted, page_posted, with_answer}
+use Rattle.controller_core.specs.Fetching.{IsBegun, Begins, AnswersKnown, LooksAt, FetchesTo, Takes, TakesIn, is_known, entry_refusal}
 use Rattle.controller_core.specs.Managing.{with_taken, command_of}
 use Rattle.controller_core.specs.declared.command.Work.TheVariants.{Io}
 use Rattle.controller_core.specs.declared.queue.ControllerQueue.{ControllerQueue}

@@ -97,13 +97,6 @@ found_is {A = A} test (y ∷ xs) x e = go (test y) refl e (found_is test xs x)
     go true f g ih = subst (λ (z : A). test z ≡ true) (some_is g) f
     go false f g ih = ih g
 
-pub change-other : {A : Type 0} (j k : ℕ) (f : A → A) (xs : List A) → j ≢ k → slice_get (change j f xs) k ≡ slice_get xs k
-change-other j k f [] far = refl
-change-other zero zero f (x ∷ xs) far = absurd (far refl)
-change-other zero (suc k) f (x ∷ xs) far = refl
-change-other (suc j) zero f (x ∷ xs) far = refl
-change-other (suc j) (suc k) f (x ∷ xs) far = change-other j k f xs (λ e. far (ap suc e))
-
 at_place : {A : Type 0} (q : ℕ) (f : A → A) (xs : List A) (x y : A) → q < length xs → x ≡ get_or xs q x → y ≡ f x → slice_set xs q y ≡ change q f xs
 at_place q f [] x y l e h = absurd (omega arith)
 at_place {A = A} zero f (z ∷ xs) x y l e h = ap (λ (w : A). w ∷ xs) (h ∙ ap f e)
