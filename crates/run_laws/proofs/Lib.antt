@@ -10,3 +10,13 @@ pub mod EndsLaws
 pub mod VerdictsStay
 pub mod VerdictsCount
 pub mod VerdictsJobs
+pub mod DataAlong
+pub mod DataKept
+pub mod DataFound
+pub mod DataUnread
+pub mod DataOnce
+pub mod DataLaws
+pub mod DataChains
+pub mod WalkedCompares
+pub mod WalkedCounts
+pub mod WalkedEnds

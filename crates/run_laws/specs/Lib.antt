@@ -1,3 +1,6 @@
 pub mod Ends
 pub mod Verdicts
 pub mod WorkedVerdicts
+pub mod Submitted
+pub mod Walked
+pub mod WorkedHeads

@@ -1,0 +1,178 @@
+-- What collected commands give back.
+use Rattle.std.proofs.Common.{◌≡◌, ℕ, ◌+◌, ◌-◌, ◌==◌, Bool, true, false, not, ◌&&◌, ◌||◌, Option, Some, None, List, [], ◌∷◌, ◌++◌, take, drop, replicate, All, if◌then◌else◌, refl, ap, sym, ◌∙◌, subst, eq-eqb, eqb-true, append_assoc, append-nil}
+use Rattle.std.specs.Option.{option_map_or}
+use Rattle.std.specs.List.{AllByRecursion, list_any}
+use Rattle.std.proofs.lemmas.Bool.{true≢false, and_parts, or_parts}
+use Rattle.std.proofs.lemmas.List.Elements.{All-head, All-tail, All-append, All-take, All-drop, All-replicate, All-nil, All-cons}
+use Rattle.page_memory.specs.Pages.{Pages, page_at, zero_page}
+use Rattle.entry_codec.specs.declared.status.Status.{Status}
+use Rattle.entry_codec.specs.declared.status.TheConstants.Status.{ABORTED_SQ_DELETION}
+use Rattle.io_commands.specs.declared.request.Piece.{Piece}
+use Rattle.io_commands.specs.declared.request.Piece.TheVariants.{Data, Bucket}
+use Rattle.io_commands.specs.DataBytes.{PagesOut, gathered}
+use Rattle.io_commands.specs.Drafts.{DraftContents}
+use Rattle.io_commands.specs.Values.{numbers_of}
+use Rattle.io_commands.specs.Asked.{Request}
+use Rattle.io_commands.specs.Jobs.{is_success}
+use Rattle.machine_model.specs.State.{State, Record, is_at}
+use Rattle.machine_model.specs.Image.{Made, is_draft, draft_of, submitted_by}
+use Rattle.machine_model.specs.Laws.{TrustedRun, Steps, fetches, drafts_of}
+use Rattle.machine_model.specs.Step.{zeroed, pages_with_bytes}
+use Rattle.machine_model.specs.After as a
+use Rattle.machine_model.specs.Events as events
+use Rattle.machine_model.proofs.Members.{all_at_found}
+use Rattle.machine_model.proofs.Gathered.{Stands}
+use Rattle.machine_model.proofs.ReadLaws.{reads_give, stopped_reads}
+use Rattle.run_laws.specs.Submitted.{CollectedCommand, FetchedCommand, submits, was_fetched, unfetched_commands_keep_their_data, unfetched_reads_keep_the_drafts_bytes, unfetched_commands_were_deleted, successful_commands_were_fetched, AreZeros, drafts_of_reserve_have_zeros, unfetched_reads_of_zeros_gather_zeros, commands_are_fetched_once, fetched_reads_give_a_prefix, successful_reads_give_their_blocks}
+use Rattle.run_laws.proofs.DataAlong.{along_steps}
+use Rattle.run_laws.proofs.DataKept.{IsOfDraft, found_draft, held_goes}
+use Rattle.run_laws.proofs.DataUnread.{Unread, Untouched, Waits, unread_step, unread_submit}
+use Rattle.run_laws.proofs.DataOnce.{once}
+use Rattle.run_laws.proofs.DataFound.{Course, course, not_any, alone_of, at_draft, request_stays}
+
+-- A command that was never fetched
+
+neither : (f g : Made → Bool) (made : List Made) → list_any f made ≡ false → list_any g made ≡ false → list_any (λ m. f m || g m) made ≡ false
+neither f g [] h k = refl
+neither f g (m ∷ made) h k =
+    let a = or_parts (f m) (list_any f made) h in
+    let b = or_parts (g m) (list_any g made) k in
+    rw (a.0, b.0) (neither f g made a.1 b.1)
+
+-- the test of a fetch, said of the draft
+fetched_of : (c : CollectedCommand) (made : List Made) → list_any (fetches c.draft.q c.draft.cid) made ≡ list_any (fetches c.finished.q c.finished.cid) made
+fetched_of c made = ap (λ (n : ℕ). list_any (fetches n c.draft.cid) made) c.queue ∙ ap (λ (n : ℕ). list_any (fetches c.finished.q n) made) c.identifier
+
+waited : (c : CollectedCommand) → was_fetched c ≡ false → IsOfDraft c.draft (course c).collects.command × Untouched c.draft (course c).third (course c).collects.command
+waited c none =
+    let x = course c in
+    let other = (found_draft x.first c.draft events.Accepted x.going).other in
+    let all = along_steps (Unread c.draft) (λ m. submits c.draft.q c.draft.cid m || fetches c.draft.q c.draft.cid m) (λ s e reply g far h. unread_step c.draft other s e reply g far h) c.between x.second x.third x.along x.trusted x.stood_second
+    (neither (submits c.draft.q c.draft.cid) (fetches c.draft.q c.draft.cid) c.between (alone_of c) (fetched_of c c.between ∙ none))
+    (subst (Unread c.draft) (sym x.is_second) (unread_submit c.draft x.first x.going)) in
+    all_at_found (Waits c.draft x.third) (is_at c.finished.q c.finished.cid) x.third.host.records x.collects.command x.collects.found all.1.records (at_draft c x) (held_goes x.collects.command.phase x.collects.held)
+
+-- pages that stand are handed out as they are
+handed_out : (m : Pages) (pages : PagesOut) → AllByRecursion (Stands m) pages → pages_with_bytes m (numbers_of pages) ≡ pages
+handed_out m [] h = refl
+handed_out m (page ∷ pages) h =
+    let same : option_map_or (λ bytes. bytes) (page_at m page.0) [] ≡ page.1 = ap (λ (o : Option (List ℕ)). option_map_or (λ bytes. bytes) o []) h.0.0 in
+    ap (λ (bytes : List ℕ). (page.0, bytes) ∷ pages_with_bytes m (numbers_of pages)) same ∙ ap (λ (rest : PagesOut). page ∷ rest) (handed_out m pages h.1)
+
+pub data_kept : unfetched_commands_keep_their_data
+data_kept c none =
+    let w = waited c (not_any (was_fetched c) none) in
+    (course c).collects.data_pages ∙ ap (pages_with_bytes (course c).third.memory) (sym w.0.data_pages) ∙ handed_out (course c).third.memory c.draft.data_pages w.1.stand
+
+pub bytes_kept : unfetched_reads_keep_the_drafts_bytes
+bytes_kept c none = ap (λ (r : Request). gathered r.pieces c.finished.data_pages) (request_stays c) ∙ ap (gathered c.draft.request.pieces) (data_kept c none)
+
+pub was_deleted : unfetched_commands_were_deleted
+was_deleted c none =
+    let w = waited c (not_any (was_fetched c) none) in
+    inside (sym (course c).collects.status ∙ w.1.deleted (course c).collects.held)
+  where
+    inside : {x y : Status} → Some x ≡ Some y → x ≡ y
+    inside e = cc
+
+pub successes_fetched : successful_commands_were_fetched
+successes_fetched c well = go (was_fetched c) refl
+  where
+    go : (b : Bool) → was_fetched c ≡ b → b ≡ true
+    go true e = refl
+    go false e = absurd (true≢false (sym well ∙ ap is_success (was_deleted c (ap not e))))
+
+-- Zeros
+
+zeros_of_page : AreZeros zero_page
+unfolding zero_page
+zeros_of_page = All-replicate (λ b. b ≡ 0) 4096 0 refl
+
+pub zeros_gathered : (pieces : List Piece) (pages : PagesOut) → zeroed pages → AreZeros (gathered pieces pages)
+zeros_gathered [] pages h = All-nil (λ b. b ≡ 0)
+zeros_gathered (Bucket len ∷ pieces) pages h = zeros_gathered pieces pages h
+zeros_gathered (Data offset len ∷ pieces) [] h = All-nil (λ b. b ≡ 0)
+zeros_gathered (Data offset len ∷ pieces) (page ∷ pages) h =
+    let here : AreZeros page.1 = subst AreZeros (sym (All-head (λ (p : ℕ × List ℕ). p.1 ≡ zero_page) page pages h)) zeros_of_page in
+    All-append (λ b. b ≡ 0) (take (offset + len - offset) (drop offset page.1)) (gathered pieces pages)
+    (All-take (λ b. b ≡ 0) (offset + len - offset) (drop offset page.1) (All-drop (λ b. b ≡ 0) offset page.1 here))
+    (zeros_gathered pieces pages (All-tail (λ (p : ℕ × List ℕ). p.1 ≡ zero_page) page pages h))
+
+left_zeroed : (xs ys : PagesOut) → zeroed (xs ++ ys) → zeroed xs
+left_zeroed [] ys h = All-nil (λ (p : ℕ × List ℕ). p.1 ≡ zero_page)
+left_zeroed (x ∷ xs) ys h = All-cons (λ (p : ℕ × List ℕ). p.1 ≡ zero_page) x xs (All-head (λ (p : ℕ × List ℕ). p.1 ≡ zero_page) x (xs ++ ys) h) (left_zeroed xs ys (All-tail (λ (p : ℕ × List ℕ). p.1 ≡ zero_page) x (xs ++ ys) h))
+
+pub reserved_zeros : drafts_of_reserve_have_zeros
+reserved_zeros s q r d h = left_zeroed d.data_pages d.chain_pages h.zero
+
+pub zeros_kept : unfetched_reads_of_zeros_gather_zeros
+zeros_kept c zero none = subst AreZeros (sym (bytes_kept c none)) (zeros_gathered c.draft.request.pieces c.draft.data_pages zero)
+
+-- A command that was fetched
+
+pub fetched_once : commands_are_fetched_once
+fetched_once f = ap not (sym (fetched_of f.command (f.before_fetch ++ f.after_fetch)) ∙ once_of)
+  where
+    x : Course f.command
+    x = course f.command
+
+    at_fetch : fetches f.command.draft.q f.command.draft.cid f.fetched ≡ true
+    at_fetch = ap (λ (n : ℕ). fetches n f.command.draft.cid f.fetched) f.command.queue ∙ ap (λ (n : ℕ). fetches f.command.finished.q n f.fetched) f.command.identifier ∙ f.is_fetch
+
+    once_of : list_any (fetches f.command.draft.q f.command.draft.cid) (f.before_fetch ++ f.after_fetch) ≡ false
+    once_of = once f.command.draft (found_draft (course f.command).first f.command.draft events.Accepted (course f.command).going).other f.before_fetch f.after_fetch f.fetched (course f.command).second (course f.command).third
+        (subst (λ (made : List Made). Steps (course f.command).second made (course f.command).third) f.split (course f.command).along) (course f.command).trusted (course f.command).stood_second
+        (subst (λ (made : List Made). list_any (submits f.command.draft.q f.command.draft.cid) made ≡ false) f.split (alone_of f.command)) at_fetch
+
+right_any : (test : Made → Bool) (xs ys : List Made) → list_any test (xs ++ ys) ≡ false → list_any test ys ≡ false
+right_any test [] ys h = h
+right_any test (x ∷ xs) ys h = right_any test xs ys (or_parts (test x) (list_any test (xs ++ ys)) h).1
+
+-- the run, split at the fetch
+whole : (f : FetchedCommand) → f.command.before ++ f.command.submitted ∷ f.command.between ≡ f.command.before ++ f.command.submitted ∷ f.before_fetch ++ f.fetched ∷ f.after_fetch
+whole f = ap (λ (made : List Made). f.command.before ++ f.command.submitted ∷ made) f.split ∙ sym (append_assoc f.command.before (f.command.submitted ∷ f.before_fetch) (f.fetched ∷ f.after_fetch))
+
+run_at_fetch : (f : FetchedCommand) → TrustedRun f.command.image (f.command.before ++ f.command.submitted ∷ f.before_fetch ++ f.fetched ∷ f.after_fetch ++ f.command.collected ∷ f.command.later) f.command.end
+run_at_fetch f = subst (λ (made : List Made). TrustedRun f.command.image (made ++ f.command.collected ∷ f.command.later) f.command.end) (whole f) f.command.run
+
+-- the draft is the latest one of its identifier
+drafts_append : (xs ys : List Made) → drafts_of (xs ++ ys) ≡ drafts_of ys ++ drafts_of xs
+drafts_append [] ys = sym (append-nil (drafts_of ys))
+drafts_append (x ∷ xs) ys = ap (λ (ds : List DraftContents). ds ++ submitted_by x.event x.reply) (drafts_append xs ys) ∙ append_assoc (drafts_of ys) (drafts_of xs) (submitted_by x.event x.reply)
+
+none_later : (q cid : ℕ) (ds rest : List DraftContents) → list_any (is_draft q cid) ds ≡ false → draft_of q cid (ds ++ rest) ≡ draft_of q cid rest
+none_later q cid [] rest h = refl
+none_later q cid (d ∷ ds) rest h =
+    let both = or_parts (is_draft q cid d) (list_any (is_draft q cid) ds) h in
+    ap (λ (b : Bool). if b then Some d else draft_of q cid (ds ++ rest)) both.0 ∙ none_later q cid ds rest both.1
+
+pub still_latest : (q cid : ℕ) (made : List Made) (rest : List DraftContents) → list_any (submits q cid) made ≡ false → draft_of q cid (drafts_of made ++ rest) ≡ draft_of q cid rest
+still_latest q cid [] rest h = refl
+still_latest q cid (m ∷ made) rest h =
+    let both = or_parts (submits q cid m) (list_any (submits q cid) made) h in
+    ap (draft_of q cid) (append_assoc (drafts_of made) (submitted_by m.event m.reply) rest)
+    ∙ still_latest q cid made (submitted_by m.event m.reply ++ rest) both.1 ∙ none_later q cid (submitted_by m.event m.reply) rest both.0
+
+latest : (c : CollectedCommand) → draft_of c.finished.q c.finished.cid (drafts_of (c.before ++ c.submitted ∷ c.between)) ≡ Some c.draft
+latest c =
+    ap (draft_of c.finished.q c.finished.cid) (drafts_append c.before (c.submitted ∷ c.between) ∙ append_assoc (drafts_of c.between) (submitted_by c.submitted.event c.submitted.reply) (drafts_of c.before))
+    ∙ still_latest c.finished.q c.finished.cid c.between (submitted_by c.submitted.event c.submitted.reply ++ drafts_of c.before) (not_any (list_any (submits c.finished.q c.finished.cid) c.between) c.alone)
+    ∙ ap (λ (ds : List DraftContents). draft_of c.finished.q c.finished.cid (ds ++ drafts_of c.before)) c.is_submission
+    ∙ ap (λ (b : Bool). if b then Some c.draft else draft_of c.finished.q c.finished.cid (drafts_of c.before)) here
+  where
+    here : ((c.draft.q == c.finished.q) && (c.draft.cid == c.finished.cid)) ≡ true
+    here = rw (eq-eqb c.draft.q c.finished.q c.queue, eq-eqb c.draft.cid c.finished.cid c.identifier) refl
+
+none_behind : (f : FetchedCommand) → not (list_any (fetches f.command.finished.q f.command.finished.cid) f.after_fetch) ≡ true
+none_behind f = ap not (right_any (fetches f.command.finished.q f.command.finished.cid) f.before_fetch f.after_fetch (not_any (list_any (fetches f.command.finished.q f.command.finished.cid) (f.before_fetch ++ f.after_fetch)) (fetched_once f)))
+
+pub prefix_given : fetched_reads_give_a_prefix
+prefix_given f reads =
+    stopped_reads f.command.image (f.command.before ++ f.command.submitted ∷ f.before_fetch) f.fetched f.after_fetch f.command.collected f.command.later f.command.end f.command.finished f.command.draft
+    (run_at_fetch f) f.command.is_collection reads f.is_fetch (none_behind f)
+    (subst (λ (made : List Made). draft_of f.command.finished.q f.command.finished.cid (drafts_of made) ≡ Some f.command.draft) (whole f) (latest f.command))
+
+pub blocks_given : successful_reads_give_their_blocks
+blocks_given f reads well =
+    reads_give f.command.image (f.command.before ++ f.command.submitted ∷ f.before_fetch) f.fetched f.after_fetch f.command.collected f.command.later f.command.end f.command.finished
+    (run_at_fetch f) f.command.is_collection reads well f.is_fetch (none_behind f)

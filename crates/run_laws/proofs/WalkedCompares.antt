@@ -1,0 +1,78 @@
+-- A Compare is told by its draft.
+use Rattle.std.proofs.Common.{◌≡◌, ℕ, ◌==◌, Bool, true, false, ◌&&◌, Option, Some, None, List, [], ◌∷◌, ◌++◌, if◌then◌else◌, refl, ap, sym, ◌∙◌, subst, eqb-true, append-nil}
+use Rattle.std.specs.Option.{option_map, option_map_or}
+use Rattle.std.proofs.lemmas.Bool.{true≢false, and_parts}
+use Rattle.entry_codec.specs.declared.status.Status.{Status}
+use Rattle.entry_codec.specs.declared.io_opcode.TheConstants.{COMPARE, READ, WRITE}
+use Rattle.controller_walk.specs.Units.{first_passing}
+use Rattle.io_commands.specs.Asked.{Request}
+use Rattle.io_commands.specs.declared.request.Kind.{Kind}
+use Rattle.io_commands.specs.declared.request.Kind.TheVariants.{Read, Write, Compare}
+use Rattle.io_commands.specs.Drafts.{DraftContents}
+use Rattle.io_commands.specs.Jobs.{kind_of_opcode}
+use Rattle.machine_model.specs.State.{State, Job}
+use Rattle.machine_model.specs.Refusals.{job_at}
+use Rattle.machine_model.specs.After.{final_status}
+use Rattle.machine_model.specs.Opening.{opening}
+use Rattle.machine_model.specs.Image.{Made, draft_of}
+use Rattle.machine_model.specs.Laws.{TrustedRun, status_by, status_given, drafts_of, is_compare}
+use Rattle.machine_model.specs.Events as events
+use Rattle.machine_model.specs.Events.{Event, Reply}
+use Rattle.machine_model.proofs.Placed.{is_job, find_sound}
+use Rattle.machine_model.proofs.Served.{Stood}
+use Rattle.machine_model.proofs.WalksKept.{stood_at_opening}
+use Rattle.machine_model.proofs.Known.{Known}
+use Rattle.machine_model.proofs.Images.{job_draft, known_at_opening}
+use Rattle.machine_model.proofs.Compares.{before_step, compares_tell}
+use Rattle.run_laws.specs.Walked.{compares_by_their_drafts}
+
+compare_opcode : (opcode : ℕ) → kind_of_opcode opcode ≡ Some Compare → (opcode == COMPARE) ≡ true
+compare_opcode opcode h = go (opcode == WRITE) (opcode == READ) (opcode == COMPARE) h
+  where
+    go : (w r c : Bool) → first_passing ((w, Write) ∷ (r, Read) ∷ (c, Compare) ∷ []) ≡ Some Compare → c ≡ true
+    go true r c h = absurd cc
+    go false true c h = absurd cc
+    go false false true h = refl
+    go false false false h = absurd cc
+
+-- the job of a step that gives a status
+completed_job : (s : State) (e : Event) (reply : Reply) (q cid : ℕ) (st : Status) → status_by s e reply q cid ≡ Some st → (j : Job) × (job_at s q cid ≡ Some j)
+completed_job s (events.Complete q' cid') (events.Completed touched) q cid st h = go ((q' == q) && (cid' == cid)) h
+  where
+    at : (o : Option Job) → job_at s q cid ≡ o → option_map (final_status s) o ≡ Some st → (j : Job) × (job_at s q cid ≡ Some j)
+    at None f h = absurd cc
+    at (Some j) f h = (j, f)
+
+    go : (b : Bool) → (if b then option_map (final_status s) (job_at s q cid) else None) ≡ Some st → (j : Job) × (job_at s q cid ≡ Some j)
+    go true h = at (job_at s q cid) refl h
+    go false h = absurd cc
+completed_job s e reply q cid st h = absurd cc
+
+drafts_same : {x y : DraftContents} → Some x ≡ Some y → x ≡ y
+drafts_same e = cc
+
+-- its opcode is what its draft asks for
+told_by_draft : (drafts : List DraftContents) (s : State) (q cid : ℕ) (j : Job) (d : DraftContents) → Stood s → Known drafts s → job_at s q cid ≡ Some j → draft_of q cid drafts ≡ Some d → d.request.kind ≡ Compare
+    → (j.entry.opcode == COMPARE) ≡ true
+told_by_draft drafts s q cid j d stood known at latest kind = go (j.q == 0) refl
+  where
+    its_queue : j.q ≡ q
+    its_queue = eqb-true j.q q (and_parts (j.q == q) (j.entry.cid == cid) (find_sound (is_job q cid) s.device.jobs j at)).0
+
+    no_draft : None ≡ Some d → ⊥
+    no_draft e = cc
+
+    go : (b : Bool) → (j.q == 0) ≡ b → (j.entry.opcode == COMPARE) ≡ true
+    go true z = absurd (no_draft (sym (subst (λ (n : ℕ). draft_of n cid drafts ≡ None) (sym (eqb-true j.q 0 z) ∙ its_queue) (known.no_admin cid)) ∙ latest))
+    go false z =
+        let k = job_draft drafts s q cid j stood known z at in
+        let same : k.of.draft ≡ d = drafts_same (sym k.latest ∙ latest) in
+        compare_opcode j.entry.opcode (k.kind ∙ ap (λ (r : Request). Some r.kind) (sym k.of.asked) ∙ ap (λ (x : DraftContents). Some x.request.kind) same ∙ ap (λ (x : Kind). Some x) kind)
+
+pub compares_told : compares_by_their_drafts
+compares_told image earlier later m end q cid st d run status latest kind fine =
+    let b = before_step [] earlier later m (opening run.pages run.queues run.entries run.segment image) end [] run.steps run.trusted
+    (record { stood = stood_at_opening run.pages run.queues run.entries run.segment image run.opens; caused = tt }) (known_at_opening run.pages run.queues run.entries run.segment image) in
+    let x = completed_job m.before m.event m.reply q cid st status in
+    let opcode = told_by_draft (drafts_of earlier ++ []) m.before q cid x.0 d b.traced.stood b.known x.1 (ap (draft_of q cid) (append-nil (drafts_of earlier)) ∙ latest) kind in
+    compares_tell image earlier later m end q cid st d run status (ap (λ (o : Option Job). option_map_or (λ j. j.entry.opcode == COMPARE) o false) x.1 ∙ opcode) latest fine

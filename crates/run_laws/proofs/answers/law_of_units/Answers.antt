@@ -1,0 +1,5 @@
+use Rattle.run_laws.proofs.WalkedCounts.{units_counted}
+use Rattle.run_laws.proofs.answers.law_of_units.Goals as goal
+
+pub returns : goal.returns
+returns c = units_counted

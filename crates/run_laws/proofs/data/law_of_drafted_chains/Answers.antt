@@ -1,0 +1,5 @@
+use Rattle.run_laws.proofs.DataChains.{chains_drafted}
+use Rattle.run_laws.proofs.data.law_of_drafted_chains.Goals as goal
+
+pub returns : goal.returns
+returns c = chains_drafted

@@ -1,0 +1,84 @@
+-- What walk steps answer, and how many a job has done; and what a Compare tells.
+use Rattle.std.specs.Prelude.{◌≡◌, ℕ, nat_lt, ◌==◌, Bool, true, false, ◌&&◌, ◌||◌, not, IsTrue, Some, List, [], ◌∷◌, ◌++◌, length, filter, is_none, if◌then◌else◌}
+use Rattle.std.specs.List.{list_any}
+use Rattle.std.specs.Str.{bytes_eq}
+use Rattle.controller_walk.specs.declared.walk.WalkState.{WalkState}
+use Rattle.controller_walk.specs.declared.walk.WalkState.TheVariants.{More, End, Fault}
+use Rattle.entry_codec.specs.declared.status.Status.{Status}
+use Rattle.entry_codec.specs.declared.status.TheConstants.Status.{SUCCESS, ABORT_REQUESTED, ABORTED_SQ_DELETION, LBA_OUT_OF_RANGE, COMPARE_FAILURE}
+use Rattle.io_commands.specs.declared.request.Kind.TheVariants.{Compare}
+use Rattle.io_commands.specs.DataBytes.{gathered}
+use Rattle.io_commands.specs.Drafts.{DraftContents}
+use Rattle.machine_model.specs.Status.{same_status}
+use Rattle.machine_model.specs.State.{State, Job}
+use Rattle.machine_model.specs.Refusals.{job_at}
+use Rattle.machine_model.specs.Image.{Made, draft_of}
+use Rattle.machine_model.specs.Laws.{TrustedRun, since_fetch, status_given, drafts_of, blocks_of_request}
+use Rattle.machine_model.specs.Step.{Step}
+use Rattle.machine_model.specs.Events as events
+use Rattle.machine_model.specs.Events.{Event, Reply}
+
+abbrev pub walks_by : ℕ → ℕ → Event → Reply → Bool
+walks_by q cid (events.Walk q' cid') (events.Walked outcome touched) = (q' == q) && (cid' == cid)
+walks_by q cid e reply = false
+
+-- whether a step is an accepted walk step of this command
+abbrev pub walks_of : ℕ → ℕ → Made → Bool
+walks_of q cid m = walks_by q cid m.event m.reply
+
+-- how often a command was walked since its fetch
+abbrev pub times_walked : ℕ → ℕ → List Made → ℕ
+times_walked q cid made = length (filter (walks_of q cid) (since_fetch q cid made))
+
+abbrev pub units_done_count_the_walks : Type 0
+units_done_count_the_walks =
+    (image : List ℕ) (made : List Made) (end : State) (q cid : ℕ) (j : Job) → TrustedRun image made end → IsTrue (nat_lt 0 q)
+    → job_at end q cid ≡ Some j → j.units_done ≡ times_walked q cid made
+
+-- the walk goes on
+abbrev pub is_more : WalkState → Bool
+is_more More = true
+is_more End = false
+is_more (Fault status) = false
+
+-- the job behind a walk step has no verdict exactly where the step answers that the walk goes on
+pub record HasJobSo (s : State) (q cid : ℕ) (outcome : WalkState) : Type 0 where
+  pub job : Job
+  pub found : job_at s q cid ≡ Some job
+  pub undecided : is_none job.verdict ≡ is_more outcome
+
+abbrev pub walks_go_on_without_a_verdict : Type 0
+walks_go_on_without_a_verdict =
+    (image : List ℕ) (made : List Made) (s new : State) (q cid : ℕ) (outcome : WalkState) (touched : List ℕ) → TrustedRun image made s
+    → Step s (events.Walk q cid) (events.Walked outcome touched) new → HasJobSo new q cid outcome
+
+abbrev pub completes_by : ℕ → ℕ → Event → Reply → Bool
+completes_by q cid (events.Complete q' cid') (events.Completed touched) = (q' == q) && (cid' == cid)
+completes_by q cid e reply = false
+
+-- whether a step completes this command
+abbrev pub completes : ℕ → ℕ → Made → Bool
+completes q cid m = completes_by q cid m.event m.reply
+
+abbrev pub ends_walk_by : ℕ → ℕ → Event → Reply → Bool
+ends_walk_by q cid (events.Walk q' cid') (events.Walked outcome touched) = (q' == q) && (cid' == cid) && not (is_more outcome)
+ends_walk_by q cid e reply = false
+
+-- whether a step is a walk step of this command that answers an end or a fault
+abbrev pub ends_walk : ℕ → ℕ → Made → Bool
+ends_walk q cid m = ends_walk_by q cid m.event m.reply
+
+-- between a walk step that ends the walk and a further walk step of its identifier, the command was completed
+abbrev pub only_the_last_walk_ends : Type 0
+only_the_last_walk_ends =
+    (image : List ℕ) (before : List Made) (walked : Made) (between : List Made) (again : Made) (later : List Made) (end : State) (q cid : ℕ)
+    → TrustedRun image (before ++ walked ∷ between ++ again ∷ later) end
+    → IsTrue (ends_walk q cid walked) → IsTrue (walks_of q cid again) → IsTrue (list_any (completes q cid) between)
+
+-- a Compare, as its draft says, that ended by its data succeeds exactly where its blocks are then its draft's bytes
+abbrev pub compares_by_their_drafts : Type 0
+compares_by_their_drafts =
+    (image : List ℕ) (earlier later : List Made) (m : Made) (end : State) (q cid : ℕ) (st : Status) (d : DraftContents) → TrustedRun image (earlier ++ m ∷ later) end
+    → status_given m q cid ≡ Some st → draft_of q cid (drafts_of earlier) ≡ Some d → d.request.kind ≡ Compare
+    → IsTrue (not (same_status st ABORT_REQUESTED || same_status st ABORTED_SQ_DELETION || same_status st LBA_OUT_OF_RANGE))
+    → st ≡ (if bytes_eq (gathered d.request.pieces d.data_pages) (blocks_of_request d.request m.before.device.image) then SUCCESS else COMPARE_FAILURE)

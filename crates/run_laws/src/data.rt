@@ -1,0 +1,41 @@
+//! What a command's pages and lists hold, between its submission and its collection. Each function does nothing.
+
+ghost use Rattle.run_laws.specs.Submitted.{requests_stay, data_pages_stay, chain_pages_stay, unfetched_commands_keep_their_data, unfetched_reads_keep_the_drafts_bytes, unfetched_commands_were_deleted, successful_commands_were_fetched, drafts_of_reserve_have_zeros, unfetched_reads_of_zeros_gather_zeros, commands_are_fetched_once, fetched_reads_give_a_prefix, successful_reads_give_their_blocks, chains_are_the_drafts};
+
+/// Where nothing was forged, a collected command has the request and the pages of the draft that was submitted.
+pub fn law_of_kept_commands()
+    ensures request { requests_stay }
+    ensures data_pages { data_pages_stay }
+    ensures chain_pages { chain_pages_stay }
+{}
+
+/// Where nothing was forged, a command that was never fetched comes back with its draft's data pages, byte for byte, and the
+/// status of a deleted queue. So one that ended with success was fetched.
+///
+/// The pages of a draft that was just reserved are zeros, and where they were submitted so, an unfetched command gathers zeros.
+pub fn law_of_unfetched_commands()
+    ensures pages { unfetched_commands_keep_their_data }
+    ensures bytes { unfetched_reads_keep_the_drafts_bytes }
+    ensures status { unfetched_commands_were_deleted }
+    ensures successes { successful_commands_were_fetched }
+    ensures reserved { drafts_of_reserve_have_zeros }
+    ensures zeros { unfetched_reads_of_zeros_gather_zeros }
+{}
+
+/// Where nothing was forged, a command is fetched once at most. A Read that was fetched gathers so many of its blocks' first
+/// bytes, from the image of the run at its fetch, and its draft's own bytes behind them.
+///
+/// One that ended with success gathers all its blocks' bytes but for the discarded ones.
+pub fn law_of_fetched_commands()
+    ensures once { commands_are_fetched_once }
+    ensures prefix { fetched_reads_give_a_prefix }
+    ensures blocks { successful_reads_give_their_blocks }
+{}
+
+/// Where nothing was forged, a submitted command has the request and the pages of the latest draft of its queue and identifier.
+///
+/// That draft was built; the command's chain spells the draft's list, and each entry of the command that stands at the
+/// controller names that list.
+pub fn law_of_drafted_chains()
+    ensures { chains_are_the_drafts }
+{}
