@@ -1,0 +1,5 @@
+pub mod Lists
+pub mod KeptValues
+pub mod StepsMade
+pub mod RunsMade
+pub mod Gathered
