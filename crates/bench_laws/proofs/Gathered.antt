@@ -6,7 +6,7 @@ use Rattle.io_commands.specs.DataBytes.{PagesOut, gathered}
 use Rattle.io_commands.specs.Values.{FinishedContents, gathered_from, gathered_by}
 use Rattle.io_commands.specs.declared.request.Kind.{Kind}
 use Rattle.io_commands.specs.declared.request.Kind.TheVariants.{Read, Write, Compare}
-use Rattle.machine_model.specs.Image.{Made}
+use Rattle.machine_model.specs.Image.{Made, draft_of}
 use Rattle.machine_model.specs.Laws.{TrustedRun, fetches, is_read}
 use Rattle.machine_model.specs.Script.{Table, table, finished_at, is_finished}
 use Rattle.machine_model.proofs.Members.{all_at_found}
@@ -15,43 +15,80 @@ use Rattle.world_tables.specs.Opening.{opening_of}
 use Rattle.run_laws.specs.Submitted.{CollectedCommand, FetchedCommand, was_fetched, bytes_collected}
 use Rattle.run_laws.proofs.DataLaws.{bytes_kept, successes_fetched, prefix_given, blocks_given}
 use Rattle.step_core.specs.Bench.{Gathers}
+use Rattle.step_core.specs.Laws.{Says}
 use Rattle.step_core.specs.declared.step.Reply.TheVariants as reply
+use Rattle.step_core.specs.declared.step.Step.TheVariants as step
 use Rattle.bench_laws.specs.Values.{Done, MadeBy, TrustedBench, MakesRun}
-use Rattle.bench_laws.specs.Gathering.{run_of, KeepsCommand, GathersCommand, gathered_bytes_are_of_collected_commands, GathersRead, gathered_reads_have_their_blocks}
+use Rattle.bench_laws.specs.Gathering.{IsOfSteps, KeepsCommand, GathersCommand, gathered_bytes_are_of_collected_commands, GathersRead, gathered_reads_have_their_blocks}
 use Rattle.bench_laws.proofs.Lists.{HasLast, split_last}
 use Rattle.bench_laws.proofs.KeptValues.{WasCollected}
+use Rattle.bench_laws.proofs.Recognised.{SubmitsAt, submits_at, submission_is, collects_at, collection_is, says_collected, SplitAt, split_made}
 use Rattle.bench_laws.proofs.RunsMade.{Ran, ran_of}
 
 -- The command that a bench keeps
+
+abbrev command_of : (image : List ℕ) (end : Table) (f : FinishedContents) (made : List Made) (w : WasCollected made f) → TrustedRun image made end.world → CollectedCommand
+command_of image end f made w run =
+    record {
+      image = image;
+      before = w.before;
+      submitted = w.submitted;
+      between = w.between;
+      collected = w.collected;
+      later = w.later;
+      end = end.world;
+      draft = w.draft;
+      finished = f;
+      run = subst (λ (made : List Made). TrustedRun image made end.world) w.parts run;
+      is_submission = w.is_submission;
+      is_collection = w.is_collection;
+      queue = w.queue;
+      identifier = w.identifier;
+      alone = ap not w.alone;
+    }
+
+-- its two steps
+steps_of : (image : List ℕ) (done : List Done) (end : Table) (q cid : ℕ) (f : FinishedContents) (made : List Made) (w : WasCollected made f) (run : TrustedRun image made end.world)
+    → MadeBy done made → f.q ≡ q → f.cid ≡ cid → IsOfSteps done q cid (command_of image end f made w run)
+steps_of image done end q cid f made w run values queue identifier =
+    record {
+      earlier = first.earlier;
+      submission = first.at;
+      between = first.later;
+      collection = last.at;
+      later = last.later;
+      parts = last.parts ∙ ap (λ (l : List Done). l ++ last.at ∷ last.later) first.parts;
+      submits = submits.is ∙ ap (λ (k : ℕ). step.Submit k w.draft.cid) (w.queue ∙ queue) ∙ ap (step.Submit q) (w.identifier ∙ identifier);
+      draft =
+          ap (λ (k : ℕ). draft_of k cid first.at.before.drafts) (sym (w.queue ∙ queue)) ∙ ap (λ (k : ℕ). draft_of w.draft.q k first.at.before.drafts) (sym (w.identifier ∙ identifier))
+          ∙ submits.found;
+      collects = collects_at last.at.before f.q f.cid last.at.what (last.is_of.event ∙ ap Some w.event) ∙ ap (λ (k : ℕ). step.Collect k f.cid) queue ∙ ap (step.Collect q) identifier;
+      answers = says_collected last.at.answer f (subst (Says last.at.answer) (collection_is w.collected.event w.collected.reply f w.is_collection) last.is_of.says);
+      made_before = first.before;
+      made_between = first.behind;
+      made_later = last.behind;
+    }
+  where
+    last : SplitAt done (w.before ++ w.submitted ∷ w.between) w.collected w.later
+    last = split_made done (w.before ++ w.submitted ∷ w.between) w.collected w.later (subst (MadeBy done) w.parts values)
+
+    first : SplitAt last.earlier w.before w.submitted w.between
+    first = split_made last.earlier w.before w.submitted w.between last.before
+
+    submits : SubmitsAt first.at.before w.draft first.at.what
+    submits = submits_at first.at.before w.draft first.at.what (first.is_of.event ∙ ap Some (submission_is w.submitted.event w.submitted.reply w.draft w.is_submission))
 
 keeps_command : (image : List ℕ) (done : List Done) (end : Table) (q cid : ℕ) (f : FinishedContents) → TrustedBench image done end → finished_at q cid end.finished ≡ Some f
     → (k : KeepsCommand image done end q cid) × (k.command.finished ≡ f)
 keeps_command image done end q cid f b kept =
     (record {
-      command =
-          record {
-            image = image;
-            before = w.before;
-            submitted = w.submitted;
-            between = w.between;
-            collected = w.collected;
-            later = w.later;
-            end = end.world;
-            draft = w.draft;
-            finished = f;
-            run = subst (λ (made : List Made). TrustedRun image made end.world) w.parts run;
-            is_submission = w.is_submission;
-            is_collection = w.is_collection;
-            queue = w.queue;
-            identifier = w.identifier;
-            alone = ap not w.alone;
-          };
+      command = command_of image end f r.made w run;
       image_is = refl;
       end_is = refl;
-      values = subst (MadeBy done) w.parts r.values;
       queue = eqb-true f.q q named.0;
       identifier = eqb-true f.cid cid named.1;
       kept = kept;
+      steps = steps;
     }, refl)
   where
     r : Ran [] (table (opening_of b.config image)) done end
@@ -65,6 +102,9 @@ keeps_command image done end q cid f b kept =
 
     named : ((f.q == q) ≡ true) × ((f.cid == cid) ≡ true)
     named = and_parts (f.q == q) (f.cid == cid) (found_is (is_finished q cid) end.finished f kept)
+
+    steps : IsOfSteps done q cid (command_of image end f r.made w run)
+    steps = steps_of image done end q cid f r.made w run r.values (eqb-true f.q q named.0) (eqb-true f.cid cid named.1)
 
 pub gathers_command : gathered_bytes_are_of_collected_commands
 gathers_command image done end new q cid bytes b does = go (finished_at q cid end.finished) refl does

@@ -32,6 +32,7 @@ pub record WasCollected (made : List Made) (f : FinishedContents) : Type 0 where
   pub parts : made ≡ before ++ submitted ∷ between ++ collected ∷ later
   pub is_submission : submitted_by submitted.event submitted.reply ≡ draft ∷ []
   pub is_collection : collected_of collected.event collected.reply ≡ Some f
+  pub event : collected.event ≡ events.Collect f.q f.cid
   pub queue : draft.q ≡ f.q
   pub identifier : draft.cid ≡ f.cid
   pub alone : list_any (submits f.q f.cid) between ≡ false
@@ -56,6 +57,7 @@ collected_on made m f h =
           ap (λ (l : List Made). l ++ m ∷ []) h.parts ∙ append_assoc (h.before ++ h.submitted ∷ h.between) (h.collected ∷ h.later) (m ∷ []);
       is_submission = h.is_submission;
       is_collection = h.is_collection;
+      event = h.event;
       queue = h.queue;
       identifier = h.identifier;
       alone = h.alone;
@@ -143,8 +145,8 @@ submits_draft q cid (events.Submit d) events.Accepted h =
     either false h = h
 submits_draft q cid e reply h = absurd (true≢false (sym h))
 
-was_collected : (made : List Made) (m : Made) (f : FinishedContents) → list_any (submits f.q f.cid) made ≡ true → collected_of m.event m.reply ≡ Some f → WasCollected (made ++ m ∷ []) f
-was_collected made m f there is =
+was_collected : (made : List Made) (m : Made) (f : FinishedContents) → list_any (submits f.q f.cid) made ≡ true → collected_of m.event m.reply ≡ Some f → m.event ≡ events.Collect f.q f.cid → WasCollected (made ++ m ∷ []) f
+was_collected made m f there is event =
     let l : HasLast (submits f.q f.cid) made = split_last (submits f.q f.cid) made there in
     let d = submits_draft f.q f.cid l.last.event l.last.reply l.passes in
     record {
@@ -157,19 +159,20 @@ was_collected made m f there is =
       parts = ap (λ (x : List Made). x ++ m ∷ []) l.parts;
       is_submission = d.is;
       is_collection = is;
+      event = event;
       queue = d.queue;
       identifier = d.identifier;
       alone = l.none_later;
     }
 
-pub collected_more : (made : List Made) (m : Made) (t new : Table) (q cid : ℕ) (f : FinishedContents) → list_any (is_ticket q cid) t.tickets ≡ true → collected_of m.event m.reply ≡ Some f → f.q ≡ q → f.cid ≡ cid
+pub collected_more : (made : List Made) (m : Made) (t new : Table) (q cid : ℕ) (f : FinishedContents) → list_any (is_ticket q cid) t.tickets ≡ true → collected_of m.event m.reply ≡ Some f → m.event ≡ events.Collect q cid → f.q ≡ q → f.cid ≡ cid
     → ((k n : ℕ) → list_any (is_ticket k n) new.tickets ≡ true → list_any (is_ticket k n) t.tickets ≡ true) → new.finished ≡ t.finished ++ f ∷ [] → AreFrom made t → AreFrom (made ++ m ∷ []) new
-collected_more made m t new q cid f there is queue id fewer finished h =
+collected_more made m t new q cid f there is event queue id fewer finished h =
     record {
       tickets = λ k n there. any_on (submits k n) made m (h.tickets k n (fewer k n there));
       finished =
           subst (AllByRecursion (WasCollected (made ++ m ∷ []))) (sym finished)
-          (all-append (WasCollected (made ++ m ∷ [])) t.finished f (all_on made m t.finished h.finished) (was_collected made m f own is));
+          (all-append (WasCollected (made ++ m ∷ [])) t.finished f (all_on made m t.finished h.finished) (was_collected made m f own is (event ∙ ap (λ (k : ℕ). events.Collect k cid) (sym queue) ∙ ap (events.Collect f.q) (sym id))));
     }
   where
     own : list_any (submits f.q f.cid) made ≡ true

@@ -2,4 +2,5 @@ pub mod Lists
 pub mod KeptValues
 pub mod StepsMade
 pub mod RunsMade
+pub mod Recognised
 pub mod Gathered

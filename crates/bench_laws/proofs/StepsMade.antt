@@ -64,7 +64,7 @@ passes : (past : List Made) (t new : Table) (what : Step) (answer : Reply) (e : 
 passes past t new what answer e r asks says keeps is h =
     makes past t new what answer e r asks says keeps is.0 (ap (λ (x : Table). x.tickets) is.1) (ap (λ (x : Table). x.finished) is.1) h
 
-named_draft : (q cid : ℕ) (drafts : List DraftContents) (d : DraftContents) → draft_of q cid drafts ≡ Some d → (d.q ≡ q) × (d.cid ≡ cid)
+pub named_draft : (q cid : ℕ) (drafts : List DraftContents) (d : DraftContents) → draft_of q cid drafts ≡ Some d → (d.q ≡ q) × (d.cid ≡ cid)
 named_draft q cid drafts d e =
     let both = and_parts (d.q == q) (d.cid == cid) (found_is (is_draft q cid) drafts d e) in
     (eqb-true d.q q both.0, eqb-true d.cid cid both.1)
@@ -136,7 +136,7 @@ collected past t q cid answer new e h is =
       keeps = ap (λ (x : Table). x.finished) is.keeps;
       step = is.step;
       are_from =
-          collected_more past m t new q cid is.finished e refl name.0 name.1
+          collected_more past m t new q cid is.finished e refl refl name.0 name.1
           (λ k n there. any_without (is_ticket k n) (is_ticket q cid) t.tickets (ap (λ (x : Table). list_any (is_ticket k n) x.tickets) (sym is.keeps) ∙ there))
           (ap (λ (x : Table). x.finished) is.keeps) h;
     }

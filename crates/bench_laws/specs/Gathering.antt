@@ -6,7 +6,7 @@ use Rattle.sgl_descriptor.specs.Targets.{targets}
 use Rattle.io_commands.specs.Jobs.{is_success}
 use Rattle.io_commands.specs.Requests.{parts_of}
 use Rattle.io_commands.specs.Values.{gathered_from, numbers_of}
-use Rattle.machine_model.specs.Image.{Made, read_of}
+use Rattle.machine_model.specs.Image.{draft_of, read_of}
 use Rattle.machine_model.specs.Laws.{is_read, blocks_of_request, partly}
 use Rattle.machine_model.specs.Script.{Table, finished_at}
 use Rattle.run_laws.specs.Submitted.{CollectedCommand, FetchedCommand, was_fetched, bytes_drafted, image_at_fetch}
@@ -15,19 +15,32 @@ use Rattle.step_core.specs.declared.step.Reply.TheVariants as reply
 use Rattle.step_core.specs.declared.step.Step.TheVariants as step
 use Rattle.bench_laws.specs.Values.{Done, MadeBy, TrustedBench}
 
--- the run in which a command was collected
-abbrev pub run_of : CollectedCommand → List Made
-run_of c = c.before ++ c.submitted ∷ c.between ++ c.collected ∷ c.later
+-- a command that a bench submitted and collected: the two steps, the draft that the bench kept as it submitted it, and what the machine
+-- made before, between and behind them
+pub record IsOfSteps (done : List Done) (q cid : ℕ) (c : CollectedCommand) : Type 0 where
+  pub earlier : List Done
+  pub submission : Done
+  pub between : List Done
+  pub collection : Done
+  pub later : List Done
+  pub parts : done ≡ earlier ++ submission ∷ between ++ collection ∷ later
+  pub submits : submission.what ≡ step.Submit q cid
+  pub draft : draft_of q cid submission.before.drafts ≡ Some c.draft
+  pub collects : collection.what ≡ step.Collect q cid
+  pub answers : collection.answer ≡ reply.Collected c.finished.status
+  pub made_before : MadeBy earlier c.before
+  pub made_between : MadeBy between c.between
+  pub made_later : MadeBy later c.later
 
--- the command that a bench keeps under a name, from its submission to its collection, in the run that the bench's steps made
+-- the command that a bench keeps under a name, from its submission to its collection
 pub record KeepsCommand (image : List ℕ) (done : List Done) (end : Table) (q cid : ℕ) : Type 0 where
   pub command : CollectedCommand
   pub image_is : command.image ≡ image
   pub end_is : command.end ≡ end.world
-  pub values : MadeBy done (run_of command)
   pub queue : command.finished.q ≡ q
   pub identifier : command.finished.cid ≡ cid
   pub kept : finished_at q cid end.finished ≡ Some command.finished
+  pub steps : IsOfSteps done q cid command
 
 -- a gathered command
 pub record GathersCommand (image : List ℕ) (done : List Done) (end : Table) (q cid : ℕ) (bytes : List ℕ) : Type 0 where
