@@ -4,3 +4,5 @@ pub mod StepsMade
 pub mod RunsMade
 pub mod Recognised
 pub mod Gathered
+pub mod StepsTold
+pub mod Told

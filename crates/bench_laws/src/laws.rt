@@ -1,5 +1,6 @@
 //! Laws of benches, of the values that they keep. Each function does nothing.
 
+ghost use Rattle.bench_laws.specs.Blocks.{benches_write_their_blocks, benches_compare_their_blocks};
 ghost use Rattle.bench_laws.specs.Gathering.{gathered_bytes_are_of_collected_commands, gathered_reads_have_their_blocks};
 ghost use Rattle.bench_laws.specs.Values.{benches_have_tables, benches_make_runs_of_their_values};
 
@@ -22,4 +23,16 @@ pub fn law_of_values()
 pub fn law_of_gathering()
     ensures commands { gathered_bytes_are_of_collected_commands }
     ensures reads { gathered_reads_have_their_blocks }
+{}
+
+/// Where nothing was forged, the image is the opening's, changed by each Write that a step completed with success, in the order of those
+/// steps: the bytes of the draft that the bench kept as it submitted it, over just its blocks.
+pub fn law_of_writes()
+    ensures { benches_write_their_blocks }
+{}
+
+/// Where nothing was forged, a Compare that ended neither by an Abort or a deletion nor for blocks beyond the image succeeds exactly where its
+/// blocks are then the bytes of the draft that the bench kept as it submitted it, and else fails as a Compare.
+pub fn law_of_compares()
+    ensures { benches_compare_their_blocks }
 {}
