@@ -1,8 +1,7 @@
 -- What a bench gathers is of a command that it submitted and collected; so the laws of collected commands tell of the bytes.
-use Rattle.std.proofs.Common.{◌≡◌, ℕ, Bool, true, false, not, Option, Some, None, List, [], ◌∷◌, ◌++◌, refl, ap, sym, ◌∙◌, subst, eqb-true, ◌==◌}
-use Rattle.std.specs.List.{list_any}
+use Rattle.std.proofs.Common.{◌≡◌, ℕ, true, false, not, Option, Some, None, List, [], ◌∷◌, ◌++◌, refl, ap, sym, ◌∙◌, subst, eqb-true, ◌==◌}
 use Rattle.std.proofs.lemmas.Bool.{true≢false, and_parts}
-use Rattle.io_commands.specs.DataBytes.{PagesOut, gathered}
+use Rattle.io_commands.specs.DataBytes.{gathered}
 use Rattle.io_commands.specs.Values.{FinishedContents, gathered_from, gathered_by}
 use Rattle.io_commands.specs.declared.request.Kind.{Kind}
 use Rattle.io_commands.specs.declared.request.Kind.TheVariants.{Read, Write, Compare}
@@ -18,7 +17,7 @@ use Rattle.step_core.specs.Bench.{Gathers}
 use Rattle.step_core.specs.Laws.{Says}
 use Rattle.step_core.specs.declared.step.Reply.TheVariants as reply
 use Rattle.step_core.specs.declared.step.Step.TheVariants as step
-use Rattle.bench_laws.specs.Values.{Done, MadeBy, TrustedBench, MakesRun}
+use Rattle.bench_laws.specs.Values.{Done, MadeBy, TrustedBench}
 use Rattle.bench_laws.specs.Gathering.{IsOfSteps, KeepsCommand, GathersCommand, gathered_bytes_are_of_collected_commands, GathersRead, gathered_reads_have_their_blocks}
 use Rattle.bench_laws.proofs.Lists.{HasLast, split_last}
 use Rattle.bench_laws.proofs.KeptValues.{WasCollected}
@@ -80,16 +79,18 @@ steps_of image done end q cid f made w run values queue identifier =
 
 keeps_command : (image : List ℕ) (done : List Done) (end : Table) (q cid : ℕ) (f : FinishedContents) → TrustedBench image done end → finished_at q cid end.finished ≡ Some f
     → (k : KeepsCommand image done end q cid) × (k.command.finished ≡ f)
-keeps_command image done end q cid f b kept =
-    (record {
-      command = command_of image end f r.made w run;
-      image_is = refl;
-      end_is = refl;
-      queue = eqb-true f.q q named.0;
-      identifier = eqb-true f.cid cid named.1;
-      kept = kept;
-      steps = steps;
-    }, refl)
+keeps_command image done end q cid f b kept = (
+  record {
+    command = command_of image end f r.made w run;
+    image_is = refl;
+    end_is = refl;
+    queue = eqb-true f.q q named.0;
+    identifier = eqb-true f.cid cid named.1;
+    kept = kept;
+    steps = steps;
+  },
+  refl,
+)
   where
     r : Ran [] (table (opening_of b.config image)) done end
     r = ran_of image done end b

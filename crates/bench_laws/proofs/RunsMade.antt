@@ -1,5 +1,5 @@
 -- The steps of a bench make a trusted run with the values that it keeps.
-use Rattle.std.proofs.Common.{◌≡◌, ℕ, Bool, true, false, is_none, List, [], ◌∷◌, ◌++◌, refl, ap, ap₂, sym, ◌∙◌, subst, append-nil, append_assoc}
+use Rattle.std.proofs.Common.{◌≡◌, ℕ, Bool, true, false, is_none, List, [], ◌∷◌, ◌++◌, refl, ap, sym, ◌∙◌, subst, append-nil, append_assoc}
 use Rattle.machine_model.specs.Image.{Made}
 use Rattle.machine_model.specs.Laws.{Steps}
 use Rattle.machine_model.specs.Script.{Table, table}
@@ -8,9 +8,9 @@ use Rattle.machine_model.specs.Step as machine
 use Rattle.step_core.specs.declared.step.Reply.{Reply}
 use Rattle.step_core.specs.declared.step.Step.{Step}
 use Rattle.world_tables.specs.Opening.{opening_of}
-use Rattle.bench_laws.specs.Values.{Done, Goes, HasTables, benches_have_tables, TrustedBench, event_at, MadeBy, MakesRun, benches_make_runs_of_their_values}
+use Rattle.bench_laws.specs.Values.{Done, Goes, benches_have_tables, TrustedBench, event_at, MadeBy, benches_make_runs_of_their_values}
 use Rattle.bench_laws.proofs.KeptValues.{AreFrom}
-use Rattle.bench_laws.proofs.StepsMade.{Makes, InRun, stepped}
+use Rattle.bench_laws.proofs.StepsMade.{InRun, stepped}
 
 -- Tables between steps
 

@@ -1,5 +1,5 @@
 -- Each step of a bench makes a step of the machine with the value that it keeps, or is none.
-use Rattle.std.proofs.Common.{◌≡◌, ℕ, ◌==◌, Bool, true, false, ◌&&◌, is_none, Option, Some, None, List, [], ◌∷◌, ◌++◌, refl, ap, sym, ◌∙◌, subst, eqb-true, if◌then◌else◌}
+use Rattle.std.proofs.Common.{◌≡◌, ℕ, ◌==◌, Bool, true, false, is_none, Option, Some, None, List, [], ◌∷◌, ◌++◌, refl, ap, sym, ◌∙◌, subst, eqb-true, if◌then◌else◌}
 use Rattle.std.specs.List.{list_any}
 use Rattle.std.specs.Option.{option_map}
 use Rattle.std.proofs.lemmas.Bool.{and_parts}
@@ -13,7 +13,7 @@ use Rattle.machine_model.specs.Script.{Table, finished_at, is_ticket, is_finishe
 use Rattle.machine_model.specs.Step as machine
 use Rattle.machine_model.specs.declared.words.Refusal.TheVariants as refusal
 use Rattle.world_tables.proofs.Lists.{found_is}
-use Rattle.step_core.specs.Bench.{Does, Passes, Fills, Builds, Submits, Cancels, Collects, Gathers, Releases, Reserves, Collected, HasNoValue, without_first}
+use Rattle.step_core.specs.Bench.{Does, Passes, Fills, Builds, Submits, Cancels, Collects, Gathers, Releases, Reserves, Collected, without_first}
 use Rattle.step_core.specs.Laws.{Says}
 use Rattle.step_core.specs.declared.step.Reply.{Reply}
 use Rattle.step_core.specs.declared.step.Reply.TheVariants as reply

@@ -6,7 +6,7 @@ use Rattle.io_commands.specs.Drafts.{DraftContents}
 use Rattle.io_commands.specs.Values.{FinishedContents}
 use Rattle.machine_model.specs.Events as events
 use Rattle.machine_model.specs.Events.{Event}
-use Rattle.machine_model.specs.Image.{Made, draft_of, submitted_by, image_by, image_from, succeeds, written_by}
+use Rattle.machine_model.specs.Image.{Made, draft_of, submitted_by, image_by, image_from}
 use Rattle.machine_model.specs.Laws.{drafts_of}
 use Rattle.machine_model.specs.Script.{Table, finished_at, is_ticket}
 use Rattle.machine_model.specs.State.{State}

@@ -1,5 +1,5 @@
 -- What a bench's Writes change and its Compares tell.
-use Rattle.std.proofs.Common.{◌≡◌, ℕ, ◌==◌, Bool, true, false, is_none, Option, Some, None, List, [], ◌∷◌, ◌++◌, refl, ap, sym, ◌∙◌, subst, eq-eqb, MatchBool, if◌then◌else◌}
+use Rattle.std.proofs.Common.{◌≡◌, ℕ, Bool, true, false, is_none, Some, List, [], ◌∷◌, ◌++◌, refl, ap, sym, ◌∙◌, subst, eq-eqb, MatchBool, if◌then◌else◌}
 use Rattle.std.specs.Option.{option_map}
 use Rattle.std.specs.Str.{bytes_eq}
 use Rattle.std.proofs.lemmas.Bool.{true≢false}
@@ -18,10 +18,8 @@ use Rattle.machine_model.proofs.Images.{images_are_runs}
 use Rattle.run_laws.proofs.WalkedCompares.{compares_told}
 use Rattle.step_core.specs.Laws.{Says}
 use Rattle.step_core.specs.declared.step.Reply.{Reply}
-use Rattle.step_core.specs.declared.step.Reply.TheVariants as reply
 use Rattle.step_core.specs.declared.step.Step.{Step}
-use Rattle.step_core.specs.declared.step.Step.TheVariants as step
-use Rattle.bench_laws.specs.Values.{Done, IsOf, MadeBy, MakesRun, event_at, BeginsWith}
+use Rattle.bench_laws.specs.Values.{Done, IsOf, MadeBy, event_at, BeginsWith}
 use Rattle.bench_laws.specs.Blocks.{CompletesCompare, benches_write_their_blocks, benches_compare_their_blocks}
 use Rattle.bench_laws.proofs.RunsMade.{makes_run}
 use Rattle.bench_laws.proofs.StepsTold.{same_drafts, same_image}

@@ -1,6 +1,5 @@
 -- What a bench gathers: bytes of the commands that it submitted and collected.
 use Rattle.std.specs.Prelude.{◌≡◌, ℕ, IsTrue, not, Some, List, ◌∷◌, ◌++◌}
-use Rattle.std.specs.List.{list_any}
 use Rattle.sgl_descriptor.specs.declared.Direction.TheVariants.{Destination}
 use Rattle.sgl_descriptor.specs.Targets.{targets}
 use Rattle.io_commands.specs.Jobs.{is_success}

@@ -3,8 +3,6 @@ use Rattle.std.specs.Prelude.{◌≡◌, ℕ, IsTrue, MatchBool, is_none, Option
 use Rattle.std.specs.List.{list_any}
 use Rattle.std.specs.Option.{option_map}
 use Rattle.block_image.specs.Blocks.{IsImage}
-use Rattle.io_commands.specs.Drafts.{DraftContents}
-use Rattle.io_commands.specs.Values.{FinishedContents}
 use Rattle.machine_model.specs.Events as events
 use Rattle.machine_model.specs.Events.{Event}
 use Rattle.machine_model.specs.Image.{Made, draft_of}
