@@ -10,11 +10,14 @@ use Rattle.io_commands.specs.Drafts.{DraftContents}
 use Rattle.machine_model.specs.After.{final_status}
 use Rattle.machine_model.specs.Events as events
 use Rattle.machine_model.specs.Events.{Event}
-use Rattle.machine_model.specs.Image.{Made, draft_of}
+use Rattle.machine_model.specs.Image.{Made, draft_of, image_after}
 use Rattle.machine_model.specs.Laws.{TrustedRun, status_by, status_given, blocks_of_request}
 use Rattle.machine_model.specs.Refusals.{job_at}
 use Rattle.machine_model.specs.State.{State}
+use Rattle.machine_model.specs.Opening.{opening}
+use Rattle.machine_model.proofs.Grounds.{trusted_at_first}
 use Rattle.machine_model.proofs.Images.{images_are_runs}
+use Rattle.run_laws.proofs.DataAlong.{steps_split}
 use Rattle.run_laws.proofs.WalkedCompares.{compares_told}
 use Rattle.step_core.specs.Laws.{Says}
 use Rattle.step_core.specs.declared.step.Reply.{Reply}
@@ -80,11 +83,29 @@ given earlier d status draft m c h =
     says : m.reply ≡ events.Completed c.touched
     says = subst (λ (a : Reply). Says a m.reply) c.answer h.says
 
+-- the image before a step of a run
+image_then : (image : List ℕ) (before : List Made) (m : Made) (later : List Made) (end : State) → TrustedRun image (before ++ m ∷ later) end → m.before.device.image ≡ image_after image before
+image_then image before m later end run =
+    let parts = steps_split before (m ∷ later) (opening run.pages run.queues run.entries run.segment image) end run.steps in
+    ap (λ (s : State). s.device.image) parts.2.0
+    ∙ images_are_runs image before parts.0
+    (record {
+      pages = run.pages;
+      queues = run.queues;
+      entries = run.entries;
+      segment = run.segment;
+      opens = run.opens;
+      is_image = run.is_image;
+      steps = parts.1;
+      trusted = trusted_at_first (m ∷ later) parts.0 end parts.2 run.trusted;
+    })
+
 pub compares_told_by_steps : benches_compare_their_blocks
 compares_told_by_steps image earlier later d end status draft b c fine =
     let r = makes_run image (earlier ++ d ∷ later) end b in
     let is : is_none (event_at d.before d.what) ≡ false = ap (λ (w : Step). is_none (event_at d.before w)) c.what in
     let s = split_done earlier d later r.made is r.values in
-    subst (λ (x : State). status ≡ (if bytes_eq (gathered draft.request.pieces draft.data_pages) (blocks_of_request draft.request x.device.image) then SUCCESS else COMPARE_FAILURE)) s.is_of.before
-    (compares_told image s.before s.later s.at end.world c.q c.cid status draft (subst (λ (l : List Made). TrustedRun image l end.world) s.parts r.run) (given earlier d status draft s.at c s.is_of)
-    (ap (draft_of c.q c.cid) (same_drafts earlier s.before s.values) ∙ c.draft_is) c.is_compare fine)
+    let run = subst (λ (l : List Made). TrustedRun image l end.world) s.parts r.run in
+    subst (λ (bytes : List ℕ). status ≡ (if bytes_eq (gathered draft.request.pieces draft.data_pages) (blocks_of_request draft.request bytes) then SUCCESS else COMPARE_FAILURE))
+    (image_then image s.before s.at s.later end.world run ∙ same_image [] image earlier s.before s.values)
+    (compares_told image s.before s.later s.at end.world c.q c.cid status draft run (given earlier d status draft s.at c s.is_of) (ap (draft_of c.q c.cid) (same_drafts earlier s.before s.values) ∙ c.draft_is) c.is_compare fine)

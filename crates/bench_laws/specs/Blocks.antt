@@ -63,4 +63,4 @@ benches_compare_their_blocks =
     (image : List ℕ) (earlier later : List Done) (d : Done) (end : Table) (status : Status) (draft : DraftContents) → TrustedBench image (earlier ++ d ∷ later) end
     → CompletesCompare earlier d status draft
     → IsTrue (not (same_status status ABORT_REQUESTED || same_status status ABORTED_SQ_DELETION || same_status status LBA_OUT_OF_RANGE))
-    → status ≡ (if bytes_eq (gathered draft.request.pieces draft.data_pages) (blocks_of_request draft.request d.before.world.device.image) then SUCCESS else COMPARE_FAILURE)
+    → status ≡ (if bytes_eq (gathered draft.request.pieces draft.data_pages) (blocks_of_request draft.request (image_after_steps image earlier)) then SUCCESS else COMPARE_FAILURE)

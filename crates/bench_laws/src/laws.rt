@@ -32,7 +32,8 @@ pub fn law_of_writes()
 {}
 
 /// Where nothing was forged, a Compare that ended neither by an Abort or a deletion nor for blocks beyond the image succeeds exactly where its
-/// blocks are then the bytes of the draft that the bench kept as it submitted it, and else fails as a Compare.
+/// blocks are then the bytes of the draft that the bench kept as it submitted it, and else fails as a Compare. The image is then the
+/// opening's, changed by the Writes before.
 pub fn law_of_compares()
     ensures { benches_compare_their_blocks }
 {}
