@@ -1,0 +1,180 @@
+-- What stands behind the tickets and the finished commands that a bench keeps, in the steps that the machine made.
+use Rattle.std.proofs.Common.{◌≡◌, ℕ, ◌==◌, Bool, true, false, ◌&&◌, ◌||◌, Option, Some, None, List, [], ◌∷◌, ◌++◌, refl, ap, sym, ◌∙◌, subst, eqb-true, append_assoc, MatchBool}
+use Rattle.std.specs.List.{AllByRecursion, list_any}
+use Rattle.std.specs.Option.{option_map, option_and_then}
+use Rattle.std.proofs.lemmas.Bool.{true≢false, and_parts}
+use Rattle.entry_codec.specs.declared.status.Status.{Status}
+use Rattle.io_commands.specs.Asked.{Request}
+use Rattle.io_commands.specs.Drafts.{DraftContents}
+use Rattle.io_commands.specs.Values.{FinishedContents}
+use Rattle.machine_model.specs.Events as events
+use Rattle.machine_model.specs.Events.{Event}
+use Rattle.machine_model.specs.Image.{Made, is_draft, submitted_by}
+use Rattle.machine_model.specs.Laws.{collected_of}
+use Rattle.machine_model.specs.Script.{Table, is_ticket}
+use Rattle.machine_model.specs.State.{State, Record, record_at}
+use Rattle.machine_model.specs.Refusals.{refusal_of}
+use Rattle.machine_model.specs.Step as machine
+use Rattle.machine_model.specs.Step.{finished_from, asked_by, pages_with_bytes}
+use Rattle.machine_model.proofs.PlacesKept.{ids_of}
+use Rattle.world_tables.proofs.Lists.{all-append}
+use Rattle.run_laws.specs.Submitted.{submits}
+use Rattle.bench_laws.proofs.Lists.{any_on, any_last, any_of_more, HasLast, split_last}
+
+-- a command was submitted and collected in these steps
+pub record WasCollected (made : List Made) (f : FinishedContents) : Type 0 where
+  pub before : List Made
+  pub submitted : Made
+  pub between : List Made
+  pub collected : Made
+  pub later : List Made
+  pub draft : DraftContents
+  pub parts : made ≡ before ++ submitted ∷ between ++ collected ∷ later
+  pub is_submission : submitted_by submitted.event submitted.reply ≡ draft ∷ []
+  pub is_collection : collected_of collected.event collected.reply ≡ Some f
+  pub event : collected.event ≡ events.Collect f.q f.cid
+  pub queue : draft.q ≡ f.q
+  pub identifier : draft.cid ≡ f.cid
+  pub alone : list_any (submits f.q f.cid) between ≡ false
+
+-- so was each command that is kept, and each ticket's was submitted
+pub record AreFrom (made : List Made) (t : Table) : Type 0 where
+  pub tickets : (q cid : ℕ) → list_any (is_ticket q cid) t.tickets ≡ true → list_any (submits q cid) made ≡ true
+  pub finished : AllByRecursion (WasCollected made) t.finished
+
+-- One step more
+
+collected_on : (made : List Made) (m : Made) (f : FinishedContents) → WasCollected made f → WasCollected (made ++ m ∷ []) f
+collected_on made m f h =
+    record {
+      before = h.before;
+      submitted = h.submitted;
+      between = h.between;
+      collected = h.collected;
+      later = h.later ++ m ∷ [];
+      draft = h.draft;
+      parts =
+          ap (λ (l : List Made). l ++ m ∷ []) h.parts ∙ append_assoc (h.before ++ h.submitted ∷ h.between) (h.collected ∷ h.later) (m ∷ []);
+      is_submission = h.is_submission;
+      is_collection = h.is_collection;
+      event = h.event;
+      queue = h.queue;
+      identifier = h.identifier;
+      alone = h.alone;
+    }
+
+all_on : (made : List Made) (m : Made) (fs : List FinishedContents) → AllByRecursion (WasCollected made) fs → AllByRecursion (WasCollected (made ++ m ∷ [])) fs
+all_on made m [] all = tt
+all_on made m (f ∷ fs) all = (collected_on made m f all.0, all_on made m fs all.1)
+
+-- of a table with the same tickets and finished commands
+pub same_kept : (made : List Made) (t new : Table) → new.tickets ≡ t.tickets → new.finished ≡ t.finished → AreFrom made t → AreFrom made new
+same_kept made t new tickets finished h =
+    record {
+      tickets = λ q cid there. h.tickets q cid (ap (list_any (is_ticket q cid)) (sym tickets) ∙ there);
+      finished = subst (AllByRecursion (WasCollected made)) (sym finished) h.finished;
+    }
+
+pub from_on : (made : List Made) (m : Made) (t : Table) → AreFrom made t → AreFrom (made ++ m ∷ []) t
+from_on made m t h = record { tickets = λ q cid there. any_on (submits q cid) made m (h.tickets q cid there); finished = all_on made m t.finished h.finished }
+
+-- A submission
+
+submits_own : (q cid a b : ℕ) (d : DraftContents) (m : Made) → submitted_by m.event m.reply ≡ d ∷ [] → d.q ≡ a → d.cid ≡ b → is_ticket q cid (a, b) ≡ true → submits q cid m ≡ true
+submits_own q cid a b d m is queue id named =
+    ap (list_any (is_draft q cid)) is ∙ ap (λ (n : ℕ). ((n == q) && (d.cid == cid)) || false) queue ∙ ap (λ (n : ℕ). ((a == q) && (n == cid)) || false) id
+    ∙ ap (λ (y : Bool). y || false) named
+
+pub submitted_more : (made : List Made) (m : Made) (t new : Table) (q cid : ℕ) (d : DraftContents) → submitted_by m.event m.reply ≡ d ∷ [] → d.q ≡ q → d.cid ≡ cid
+    → new.tickets ≡ t.tickets ++ (q, cid) ∷ [] → new.finished ≡ t.finished → AreFrom made t → AreFrom (made ++ m ∷ []) new
+submitted_more made m t new q cid d is queue id tickets finished h =
+    record {
+      tickets = λ k n there.
+          any_of_more (is_ticket k n) t.tickets (q, cid) (list_any (submits k n) (made ++ m ∷ []) ≡ true) (ap (list_any (is_ticket k n)) (sym tickets) ∙ there)
+          (λ early. any_on (submits k n) made m (h.tickets k n early))
+          (λ late. any_last (submits k n) made m (submits_own k n q cid d m is queue id late));
+      finished = subst (AllByRecursion (WasCollected (made ++ m ∷ []))) (sym finished) (all_on made m t.finished h.finished);
+    }
+
+-- A collection
+
+same_finished : {x y : FinishedContents} → Some x ≡ Some y → x ≡ y
+same_finished e = cc
+
+names_of : (s : State) (r : Record) (f : FinishedContents) (asked : Option Request) (o : Option Status)
+    → option_and_then
+    (λ (request : Request). option_map
+    (λ (st : Status). record { q = r.q; cid = r.cid; request = request; status = st; data_pages = pages_with_bytes s.memory r.data_pages; chain_pages = pages_with_bytes s.memory r.chain_pages })
+    o)
+    asked ≡ Some f → (f.q ≡ r.q) × (f.cid ≡ r.cid)
+names_of s r f None o e = absurd cc
+names_of s r f (Some request) None e = absurd cc
+names_of s r f (Some request) (Some st) e = let same = same_finished e in (ap (λ (x : FinishedContents). x.q) (sym same), ap (λ (x : FinishedContents). x.cid) (sym same))
+
+accepted : {A : Type 0} (B : Type 0) (b : Bool) → MatchBool (b || true) A B → A
+accepted B true h = h
+accepted B false h = h
+
+pub collected_named : (s new : State) (q cid : ℕ) (f : FinishedContents) → machine.Step s (events.Collect q cid) (events.Collects f) new → (f.q ≡ q) × (f.cid ≡ cid)
+collected_named s new q cid f step = go (record_at s.host q cid) refl ok.1
+  where
+    ok : (refusal_of s (events.Collect q cid) ≡ None) × (option_and_then (finished_from s) (record_at s.host q cid) ≡ Some f)
+    ok = accepted _ s.trusted step.1
+
+    go : (o : Option Record) → record_at s.host q cid ≡ o → option_and_then (finished_from s) o ≡ Some f → (f.q ≡ q) × (f.cid ≡ cid)
+    go None e h = absurd cc
+    go (Some r) e h =
+        let its = names_of s r f (asked_by r.work) r.status h in
+        let ids = ids_of s q cid r e in
+        (its.0 ∙ ids.0, its.1 ∙ ids.1)
+
+-- an accepted submission of a name is of a draft of that name
+record SubmitsDraft (q cid : ℕ) (e : Event) (reply : events.Reply) : Type 0 where
+  draft : DraftContents
+  is : submitted_by e reply ≡ draft ∷ []
+  queue : draft.q ≡ q
+  identifier : draft.cid ≡ cid
+
+submits_draft : (q cid : ℕ) (e : Event) (reply : events.Reply) → list_any (is_draft q cid) (submitted_by e reply) ≡ true → SubmitsDraft q cid e reply
+submits_draft q cid (events.Submit d) events.Accepted h =
+    let both = and_parts (d.q == q) (d.cid == cid) (either (is_draft q cid d) h) in
+    record { draft = d; is = refl; queue = eqb-true d.q q both.0; identifier = eqb-true d.cid cid both.1 }
+  where
+    either : (b : Bool) → (b || false) ≡ true → b ≡ true
+    either true h = refl
+    either false h = h
+submits_draft q cid e reply h = absurd (true≢false (sym h))
+
+was_collected : (made : List Made) (m : Made) (f : FinishedContents) → list_any (submits f.q f.cid) made ≡ true → collected_of m.event m.reply ≡ Some f → m.event ≡ events.Collect f.q f.cid → WasCollected (made ++ m ∷ []) f
+was_collected made m f there is event =
+    let l : HasLast (submits f.q f.cid) made = split_last (submits f.q f.cid) made there in
+    let d = submits_draft f.q f.cid l.last.event l.last.reply l.passes in
+    record {
+      before = l.before;
+      submitted = l.last;
+      between = l.later;
+      collected = m;
+      later = [];
+      draft = d.draft;
+      parts = ap (λ (x : List Made). x ++ m ∷ []) l.parts;
+      is_submission = d.is;
+      is_collection = is;
+      event = event;
+      queue = d.queue;
+      identifier = d.identifier;
+      alone = l.none_later;
+    }
+
+pub collected_more : (made : List Made) (m : Made) (t new : Table) (q cid : ℕ) (f : FinishedContents) → list_any (is_ticket q cid) t.tickets ≡ true → collected_of m.event m.reply ≡ Some f → m.event ≡ events.Collect q cid → f.q ≡ q → f.cid ≡ cid
+    → ((k n : ℕ) → list_any (is_ticket k n) new.tickets ≡ true → list_any (is_ticket k n) t.tickets ≡ true) → new.finished ≡ t.finished ++ f ∷ [] → AreFrom made t → AreFrom (made ++ m ∷ []) new
+collected_more made m t new q cid f there is event queue id fewer finished h =
+    record {
+      tickets = λ k n there. any_on (submits k n) made m (h.tickets k n (fewer k n there));
+      finished =
+          subst (AllByRecursion (WasCollected (made ++ m ∷ []))) (sym finished)
+          (all-append (WasCollected (made ++ m ∷ [])) t.finished f (all_on made m t.finished h.finished) (was_collected made m f own is (event ∙ ap (λ (k : ℕ). events.Collect k cid) (sym queue) ∙ ap (events.Collect f.q) (sym id))));
+    }
+  where
+    own : list_any (submits f.q f.cid) made ≡ true
+    own =
+        ap (λ (k : ℕ). list_any (submits k f.cid) made) queue ∙ ap (λ (n : ℕ). list_any (submits q n) made) id ∙ h.tickets q cid there

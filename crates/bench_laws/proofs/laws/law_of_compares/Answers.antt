@@ -1,0 +1,5 @@
+use Rattle.bench_laws.proofs.Told.{compares_told_by_steps}
+use Rattle.bench_laws.proofs.laws.law_of_compares.Goals as goal
+
+pub returns : goal.returns
+returns c = compares_told_by_steps

@@ -1,0 +1,5 @@
+use Rattle.bench_laws.proofs.Told.{writes_told}
+use Rattle.bench_laws.proofs.laws.law_of_writes.Goals as goal
+
+pub returns : goal.returns
+returns c = writes_told

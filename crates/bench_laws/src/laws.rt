@@ -1,0 +1,39 @@
+//! Laws of benches, of the values that they keep. Each function does nothing.
+
+ghost use Rattle.bench_laws.specs.Blocks.{benches_write_their_blocks, benches_compare_their_blocks};
+ghost use Rattle.bench_laws.specs.Gathering.{gathered_bytes_are_of_collected_commands, gathered_reads_have_their_blocks};
+ghost use Rattle.bench_laws.specs.Values.{benches_have_tables, benches_make_runs_of_their_values};
+
+/// What a bench does goes from table to table; and where nothing was forged since it opened, its steps make a trusted run of the machine with
+/// the values that the bench keeps.
+///
+/// Each step that is an event makes one step of the run: a submission with the draft that the bench keeps under that name, filled and built
+/// as its steps said, and a collection with the finished command that the bench keeps from there on.
+pub fn law_of_values()
+    ensures tables { benches_have_tables }
+    ensures runs { benches_make_runs_of_their_values }
+{}
+
+/// Where nothing was forged, the bytes that a bench gathers are those of a command that it submitted and collected in that run, and keeps
+/// since.
+///
+/// A Read that ended with success gathers its blocks' bytes but for the discarded ones, from the image of the run at its fetch. One
+/// that was fetched gathers so many of their first bytes, and its draft's own bytes behind them; one that was not, its draft's own bytes
+/// alone.
+pub fn law_of_gathering()
+    ensures commands { gathered_bytes_are_of_collected_commands }
+    ensures reads { gathered_reads_have_their_blocks }
+{}
+
+/// Where nothing was forged, the image is the opening's, changed by each Write that a step completed with success, in the order of those
+/// steps: the bytes of the draft that the bench kept as it submitted it, over just its blocks.
+pub fn law_of_writes()
+    ensures { benches_write_their_blocks }
+{}
+
+/// Where nothing was forged, a Compare that ended neither by an Abort or a deletion nor for blocks beyond the image succeeds exactly where its
+/// blocks are then the bytes of the draft that the bench kept as it submitted it, and else fails as a Compare. The image is then the
+/// opening's, changed by the Writes before.
+pub fn law_of_compares()
+    ensures { benches_compare_their_blocks }
+{}
