@@ -105,7 +105,10 @@ impl Guest {
         self.submit(rt, 1, slot, entry);
         assert_eq!(rt; self.controller.fetch(1, &mut self.memory), Ok(entry.cid));
         self.walk_to_end(rt, 1, entry.cid);
-        assert_eq!(rt; self.controller.complete(1, entry.cid, &mut self.memory), Ok(()));
+        assert_eq!(rt;
+            self.controller.complete(1, entry.cid, &mut self.memory),
+            Ok(())
+        );
         let completion = self.completion(rt, 1, slot);
         assert_eq!(rt; completion.cid, entry.cid);
         assert_eq!(rt; completion.sqhd, (slot + 1) % ENTRIES);

@@ -24,7 +24,11 @@ fn doorbells_out_of_range(rt: HostRuntime) -> Result<(), Fail> {
     guest.controller.tail_doorbell(1, 3);
     // A slot of zeros is an entry, of an opcode that no I/O queue has.
     assert_eq!(rt; guest.controller.fetch(1, &mut guest.memory), Ok(0));
-    let command = guest.controller.commands().first().expect(&rt, "it is fetched");
+    let command = guest
+        .controller
+        .commands()
+        .first()
+        .expect(&rt, "it is fetched");
     assert!(rt; command.is_named(1, 0));
     assert_eq!(rt; command.work.entry().opcode, 0);
     assert_eq!(rt; command.work.verdict(), Some(Status::INVALID_OPCODE));
