@@ -33,7 +33,7 @@ use Rattle.machine_model.proofs.Elsewhere.{owned_once}
 use Rattle.machine_model.proofs.Refused.{first_fails, rest_fails}
 use Rattle.machine_model.proofs.Placed.{is_job, find_sound}
 use Rattle.machine_model.proofs.Members.{all_at_found}
-use Rattle.machine_model.proofs.JobLaws.{runs_have_jobs}
+use Rattle.machine_model.proofs.Agreed.{agreed_jobs}
 use Rattle.run_laws.specs.Accepted.{HasEnded, EndedIfHeld, IsReady, IsAccepted, is_refusal, every_event_is_accepted_or_has_a_cause, queue_of, forged_worlds_accept_the_controller, forged_worlds_know_their_queues}
 use Rattle.run_laws.proofs.AcceptedFree.{free_number, are_free, numbers_zeroed, both_zeroed, first_length, second_length}
 
@@ -310,8 +310,7 @@ has_unit : (s : State) (q cid : ℕ) (j : Job) → s.trusted ≡ true → IsInOr
     → (act : Act) × (next_unit s j ≡ Some act)
 has_unit s q cid j t order found unfinished io =
     let ids = and_parts (j.q == q) (j.entry.cid == cid) (find_sound (is_job q cid) s.device.jobs j found) in
-    let past = order.history t in
-    let stands = runs_have_jobs past.image past.made s q cid j past.run (above_zero q (ap (λ (k : ℕ). k == 0) (sym (eqb-true j.q q ids.0)) ∙ io)) found in
+    let stands = agreed_jobs s q cid j (order.agree t) (above_zero q (ap (λ (k : ℕ). k == 0) (sym (eqb-true j.q q ids.0)) ∙ io)) found in
     there (units (course_of s j)) j.units_done (stands.unit_left unfinished)
   where
     there : (acts : List Act) (k : ℕ) → k < length acts → (act : Act) × (slice_get acts k ≡ Some act)

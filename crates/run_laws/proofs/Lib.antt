@@ -13,10 +13,7 @@ pub mod EndsTwice
 pub mod VerdictsStay
 pub mod VerdictsCount
 pub mod VerdictsJobs
-<<<<<<< HEAD
 pub mod EndsOnce
-=======
->>>>>>> f27b4e14f1b35a10d34620f7f7abb964f91b4505
 pub mod DataAlong
 pub mod DataKept
 pub mod DataFound
@@ -27,10 +24,7 @@ pub mod DataChains
 pub mod WalkedCompares
 pub mod WalkedCounts
 pub mod WalkedEnds
-<<<<<<< HEAD
 pub mod AcceptedFree
 pub mod AcceptedHeld
 pub mod AcceptedEvents
 pub mod DataSubmitted
-=======
->>>>>>> f27b4e14f1b35a10d34620f7f7abb964f91b4505
