@@ -88,7 +88,7 @@ keeps_command image done end q cid f b kept = (
     queue = eqb-true f.q q named.0;
     identifier = eqb-true f.cid cid named.1;
     kept = kept;
-      last = ap not (ap (λ (k : ℕ). list_any (collects k cid) w.later) (sym (eqb-true f.q q named.0)) ∙ ap (λ (n : ℕ). list_any (collects f.q n) w.later) (sym (eqb-true f.cid cid named.1)) ∙ w.once);
+    last = ap not (ap (λ (k : ℕ). list_any (collects k cid) w.later) (sym (eqb-true f.q q named.0)) ∙ ap (λ (n : ℕ). list_any (collects f.q n) w.later) (sym (eqb-true f.cid cid named.1)) ∙ w.once);
     steps = steps;
   },
   refl,

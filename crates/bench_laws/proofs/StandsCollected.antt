@@ -20,7 +20,7 @@ use Rattle.machine_model.specs.declared.words.Phase.{Phase}
 use Rattle.machine_model.specs.declared.words.Phase.TheVariants.{Drafted, Submitted, Held, Collected}
 use Rattle.machine_model.specs.State.{State, Host, HostQueue, Record, is_at, record_at, pages_of, with_record, without_record}
 use Rattle.machine_model.specs.Refusals.{slot_page, slot_offset, is_submitted, is_drafted, is_held, is_collected, is_live, is_retired, host_queue, refusal_of, record_is, is_of, in_state, queue_full, seen_entry}
-use Rattle.machine_model.specs.Step.{Step, HostPart, host_part, IsController, Permits, reaped}
+use Rattle.machine_model.specs.Step.{Step, HostPart, IsController, Permits, reaped}
 use Rattle.machine_model.specs.After as a
 use Rattle.machine_model.specs.Events as events
 use Rattle.machine_model.specs.Events.{Event, Reply}
@@ -29,7 +29,7 @@ use Rattle.machine_model.specs.declared.words.Reaped.TheVariants.{Empty, Done, A
 use Rattle.machine_model.specs.declared.words.Refusal.TheVariants as refusals
 use Rattle.machine_model.proofs.Parts.{part-posted}
 use Rattle.machine_model.proofs.Steps.{Accepts, part_controller, part_left}
-use Rattle.machine_model.proofs.Refused.{first_fails, rest_fails, found}
+use Rattle.machine_model.proofs.Refused.{first_fails, found}
 use Rattle.machine_model.proofs.Out.{named, reaped_submitted}
 use Rattle.world_tables.proofs.Lists.{found_is}
 use Rattle.run_laws.proofs.DataKept.{submits_of}
@@ -216,7 +216,7 @@ record IsKnown (s : State) (k n : ℕ) : Type 0 where
 known : (s : State) (k n : ℕ) → refusal_of s (events.Collect k n) ≡ None → IsKnown s k n
 known s k n none =
     let x = found (λ (r : Record). is_submitted r.phase || is_held r.phase) s k n
-        (not-false _ (first_fails (not (record_is (λ r. is_submitted r.phase || is_held r.phase) s k n)) refusals.Stranger ((record_is (λ r. is_submitted r.phase) s k n, refusals.NotYet) ∷ []) none)) in
+    (not-false _ (first_fails (not (record_is (λ r. is_submitted r.phase || is_held r.phase) s k n)) refusals.Stranger ((record_is (λ r. is_submitted r.phase) s k n, refusals.NotYet) ∷ []) none)) in
     record { command = x.0; is = x.1; ends = x.2 }
 
 collect_far : (q cid k n : ℕ) (s : State) → refusal_of s (events.Collect k n) ≡ None → (h : On q cid s) → is_at k n h.0 ≡ false
@@ -246,7 +246,7 @@ releases_by q cid e reply = false
 cancel_apart : (q cid : ℕ) (d : DraftContents) (s : State) → refusal_of s (events.Cancel d) ≡ None → (h : On q cid s) → ((d.q == q) && (d.cid == cid)) ≡ false
 cancel_apart q cid d s none h =
     let r = found (is_of is_drafted d.request (numbers_of d.data_pages) (numbers_of d.chain_pages)) s d.q d.cid
-        (not-false _ (first_fails (not (record_is (is_of is_drafted d.request (numbers_of d.data_pages) (numbers_of d.chain_pages)) s d.q d.cid)) refusals.Stranger [] none)) in
+    (not-false _ (first_fails (not (record_is (is_of is_drafted d.request (numbers_of d.data_pages) (numbers_of d.chain_pages)) s d.q d.cid)) refusals.Stranger [] none)) in
     apart q cid d.q d.cid s.host.records h (other_name is_drafted refl q cid d.q d.cid s.host.records h r.0 r.1 (submits_of d r.0 r.2).1)
 
 event_stands : (q cid : ℕ) (s : State) (e : Event) (reply : Reply) → releases_by q cid e reply ≡ false → Accepts s e reply → On q cid s → On q cid (a.after s e reply)
@@ -309,9 +309,12 @@ collected_stands k n s new f step =
 
     go : (o : Option Record) → o ≡ Some x.command → Stands k n (option_map_or (λ r. a.on_records (with_record k n a.collected) (a.on_memory (without_pages (pages_of r)) s)) o s).host.records
     go None e = absurd cc
-    go (Some r) e =
-        (a.collected x.command, find_changed (is_at k n) (λ (y : Record). if is_at k n y then a.collected y else y) (λ y. each y (is_at k n y)) s.host.records x.command x.is
-        ∙ ap (λ (b : Bool). Some (if b then a.collected x.command else x.command)) (found_is (is_at k n) s.host.records x.command x.is), refl)
+    go (Some r) e = (
+      a.collected x.command,
+      find_changed (is_at k n) (λ (y : Record). if is_at k n y then a.collected y else y) (λ y. each y (is_at k n y)) s.host.records x.command x.is
+          ∙ ap (λ (b : Bool). Some (if b then a.collected x.command else x.command)) (found_is (is_at k n) s.host.records x.command x.is),
+      refl,
+    )
       where
         each : (y : Record) (b : Bool) → is_at k n (if b then a.collected y else y) ≡ is_at k n y
         each y true = refl

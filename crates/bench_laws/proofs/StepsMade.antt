@@ -13,7 +13,7 @@ use Rattle.machine_model.specs.Script.{Table, finished_at, is_ticket, is_finishe
 use Rattle.machine_model.specs.Step as machine
 use Rattle.machine_model.specs.declared.words.Refusal.TheVariants as refusal
 use Rattle.world_tables.proofs.Lists.{found_is}
-use Rattle.step_core.specs.Bench.{Does, Passes, Fills, Builds, Submits, Cancels, Collects, Gathers, Releases, Reserves, Collected, without_first}
+use Rattle.step_core.specs.Bench.{Does, Passes, Fills, Builds, Submits, Cancels, Collects, Gathers, Releases, Reserves, Collected}
 use Rattle.step_core.specs.Laws.{Says}
 use Rattle.step_core.specs.declared.step.Reply.{Reply}
 use Rattle.step_core.specs.declared.step.Reply.TheVariants as reply
