@@ -1,5 +1,6 @@
 -- What a bench gathers is of a command that it submitted and collected; so the laws of collected commands tell of the bytes.
 use Rattle.std.proofs.Common.{◌≡◌, ℕ, true, false, not, Option, Some, None, List, [], ◌∷◌, ◌++◌, refl, ap, sym, ◌∙◌, subst, eqb-true, ◌==◌}
+use Rattle.std.specs.List.{list_any}
 use Rattle.std.proofs.lemmas.Bool.{true≢false, and_parts}
 use Rattle.io_commands.specs.DataBytes.{gathered}
 use Rattle.io_commands.specs.Values.{FinishedContents, gathered_from, gathered_by}
@@ -18,7 +19,7 @@ use Rattle.step_core.specs.Laws.{Says}
 use Rattle.step_core.specs.declared.step.Reply.TheVariants as reply
 use Rattle.step_core.specs.declared.step.Step.TheVariants as step
 use Rattle.bench_laws.specs.Values.{Done, MadeBy, TrustedBench}
-use Rattle.bench_laws.specs.Gathering.{IsOfSteps, KeepsCommand, GathersCommand, gathered_bytes_are_of_collected_commands, GathersRead, gathered_reads_have_their_blocks}
+use Rattle.bench_laws.specs.Gathering.{collects, IsOfSteps, KeepsCommand, GathersCommand, gathered_bytes_are_of_collected_commands, GathersRead, gathered_reads_have_their_blocks}
 use Rattle.bench_laws.proofs.Lists.{HasLast, split_last}
 use Rattle.bench_laws.proofs.KeptValues.{WasCollected}
 use Rattle.bench_laws.proofs.Recognised.{SubmitsAt, submits_at, submission_is, collects_at, collection_is, says_collected, SplitAt, split_made}
@@ -87,6 +88,7 @@ keeps_command image done end q cid f b kept = (
     queue = eqb-true f.q q named.0;
     identifier = eqb-true f.cid cid named.1;
     kept = kept;
+    last = ap not (ap (λ (k : ℕ). list_any (collects k cid) w.later) (sym (eqb-true f.q q named.0)) ∙ ap (λ (n : ℕ). list_any (collects f.q n) w.later) (sym (eqb-true f.cid cid named.1)) ∙ w.once);
     steps = steps;
   },
   refl,

@@ -6,3 +6,4 @@ pub mod Recognised
 pub mod Gathered
 pub mod StepsTold
 pub mod Told
+pub mod StandsCollected

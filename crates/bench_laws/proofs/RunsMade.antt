@@ -65,7 +65,7 @@ ran past t (d ∷ done) end from (at, does, rest) =
 -- Runs since the opening
 
 pub ran_of : (image : List ℕ) (done : List Done) (end : Table) (b : TrustedBench image done end) → Ran [] (table (opening_of b.config image)) done end
-ran_of image done end b = ran [] (table (opening_of b.config image)) done end (record { tickets = λ q cid there. there; finished = tt }) b.goes
+ran_of image done end b = ran [] (table (opening_of b.config image)) done end (record { tickets = λ q cid there. there; finished = tt; stands = λ q cid there. absurd cc; few = λ q cid. tt }) b.goes
 
 pub makes_run : benches_make_runs_of_their_values
 makes_run image done end b =

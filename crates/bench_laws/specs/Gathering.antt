@@ -1,11 +1,14 @@
 -- What a bench gathers: bytes of the commands that it submitted and collected.
-use Rattle.std.specs.Prelude.{◌≡◌, ℕ, IsTrue, not, Some, List, ◌∷◌, ◌++◌}
+use Rattle.std.specs.Prelude.{◌≡◌, ℕ, IsTrue, not, Some, List, ◌∷◌, ◌++◌, ◌==◌, ◌&&◌, Bool, false}
+use Rattle.std.specs.List.{list_any}
 use Rattle.sgl_descriptor.specs.declared.Direction.TheVariants.{Destination}
 use Rattle.sgl_descriptor.specs.Targets.{targets}
 use Rattle.io_commands.specs.Jobs.{is_success}
 use Rattle.io_commands.specs.Requests.{parts_of}
 use Rattle.io_commands.specs.Values.{gathered_from, numbers_of}
-use Rattle.machine_model.specs.Image.{draft_of, read_of}
+use Rattle.machine_model.specs.Events as events
+use Rattle.machine_model.specs.Events.{Event}
+use Rattle.machine_model.specs.Image.{Made, draft_of, read_of}
 use Rattle.machine_model.specs.Laws.{is_read, blocks_of_request, partly}
 use Rattle.machine_model.specs.Script.{Table, finished_at}
 use Rattle.run_laws.specs.Submitted.{CollectedCommand, FetchedCommand, was_fetched, bytes_drafted, image_at_fetch}
@@ -31,7 +34,15 @@ pub record IsOfSteps (done : List Done) (q cid : ℕ) (c : CollectedCommand) : T
   pub made_between : MadeBy between c.between
   pub made_later : MadeBy later c.later
 
--- the command that a bench keeps under a name, from its submission to its collection
+-- whether a step collects this name
+abbrev pub collects_by : ℕ → ℕ → Event → events.Reply → Bool
+collects_by q cid (events.Collect k n) (events.Collects f) = (k == q) && (n == cid)
+collects_by q cid e reply = false
+
+abbrev pub collects : ℕ → ℕ → Made → Bool
+collects q cid m = collects_by q cid m.event m.reply
+
+-- the command that a bench keeps under a name, from its submission to its collection: the last collection of that name
 pub record KeepsCommand (image : List ℕ) (done : List Done) (end : Table) (q cid : ℕ) : Type 0 where
   pub command : CollectedCommand
   pub image_is : command.image ≡ image
@@ -40,6 +51,7 @@ pub record KeepsCommand (image : List ℕ) (done : List Done) (end : Table) (q c
   pub identifier : command.finished.cid ≡ cid
   pub kept : finished_at q cid end.finished ≡ Some command.finished
   pub steps : IsOfSteps done q cid command
+  pub last : IsTrue (not (list_any (collects q cid) command.later))
 
 -- a gathered command
 pub record GathersCommand (image : List ℕ) (done : List Done) (end : Table) (q cid : ℕ) (bytes : List ℕ) : Type 0 where

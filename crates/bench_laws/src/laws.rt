@@ -14,7 +14,7 @@ pub fn law_of_values()
     ensures runs { benches_make_runs_of_their_values }
 {}
 
-/// Where nothing was forged, the bytes that a bench gathers are those of a command that it submitted and collected in that run, and keeps
+/// Where nothing was forged, the bytes that a bench gathers are those of the command of that name that it collected last, and keeps
 /// since.
 ///
 /// A Read that ended with success gathers its blocks' bytes but for the discarded ones, from the image of the run at its fetch. One
