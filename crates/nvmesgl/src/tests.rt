@@ -97,12 +97,11 @@ fn submitters_are_told_to_threads_alone(rt: HostRuntime) -> Result<(), Fail> {
     let usual = command(alloc)?.try_get_matches_from(&["nvmesgl", "threads"])?;
     let given = usual.subcommand_matches("threads").ok_or("no command")?;
     assert!(rt; matches!(submitters(alloc, given), Ok(2)));
-    for words in [
-        ["nvmesgl", "steps", "--submitters", "2"],
-        ["nvmesgl", "threads", "--submitters", "-1"],
-        ["nvmesgl", "threads", "--submitters", "two"],
-    ] {
-        assert!(rt; command(alloc)?.try_get_matches_from(&words).is_err());
-    }
+    let of_steps = ["nvmesgl", "steps", "--submitters", "2"];
+    assert!(rt; command(alloc)?.try_get_matches_from(&of_steps).is_err());
+    let below_one = ["nvmesgl", "threads", "--submitters", "-1"];
+    assert!(rt; command(alloc)?.try_get_matches_from(&below_one).is_err());
+    let no_number = ["nvmesgl", "threads", "--submitters", "two"];
+    assert!(rt; command(alloc)?.try_get_matches_from(&no_number).is_err());
     Ok(())
 }
