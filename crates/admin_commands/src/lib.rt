@@ -207,6 +207,3 @@ fn decide_delete_cq(q: u16, view: &DeviceView) -> AdminVerdict
         AdminVerdict::DropCompletion { q }
     }
 }
-
-#[cfg(test)]
-mod tests;

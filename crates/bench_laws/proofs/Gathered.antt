@@ -23,7 +23,7 @@ use Rattle.bench_laws.specs.Gathering.{collects, IsOfSteps, KeepsCommand, Gather
 use Rattle.bench_laws.proofs.Lists.{HasLast, split_last}
 use Rattle.bench_laws.proofs.KeptValues.{WasCollected}
 use Rattle.bench_laws.proofs.Recognised.{SubmitsAt, submits_at, submission_is, collects_at, collection_is, says_collected, SplitAt, split_made}
-use Rattle.bench_laws.proofs.RunsMade.{Ran, ran_of}
+use Rattle.bench_laws.proofs.RunsMade.{Ran, ran_of, run_of}
 
 -- The command that a bench keeps
 
@@ -101,7 +101,7 @@ keeps_command image done end q cid f b kept = (
     w = all_at_found (WasCollected r.made) (is_finished q cid) end.finished f kept r.are_from.finished
 
     run : TrustedRun image r.made end.world
-    run = record { pages = b.config.pages; queues = b.config.queues; entries = b.config.entries; segment = b.config.segment; opens = b.opens; is_image = b.is_image; steps = r.steps; trusted = b.trusted }
+    run = run_of image done end b
 
     named : ((f.q == q) ≡ true) × ((f.cid == cid) ≡ true)
     named = and_parts (f.q == q) (f.cid == cid) (found_is (is_finished q cid) end.finished f kept)

@@ -21,7 +21,7 @@ use Rattle.world_tables.proofs.Lists.{all-append}
 use Rattle.run_laws.specs.Submitted.{submits}
 use Rattle.step_core.specs.Bench.{without_first}
 use Rattle.bench_laws.specs.Gathering.{collects}
-use Rattle.bench_laws.proofs.StandsCollected.{Stands, releases_by, step_stands, not_again, collected_stands}
+use Rattle.bench_laws.proofs.Standing.{Stands, releases_by, step_stands, not_again, collected_stands}
 use Rattle.bench_laws.proofs.Lists.{Few, none_last, few_more, few_without, gone, any_without, all_without, any_on, any_last, any_of_more, HasLast, split_last}
 
 -- a command was submitted and collected in these steps

@@ -6,4 +6,13 @@ pub mod Recognised
 pub mod Gathered
 pub mod StepsTold
 pub mod Told
-pub mod StandsCollected
+pub mod Standing
+pub mod Forgeries
+pub mod FilledBytes
+pub mod DraftMoves
+pub mod Changed
+pub mod DraftsStand
+pub mod Tracked
+pub mod SubmitsDrafts
+pub mod Reserved
+pub mod WorkedBench

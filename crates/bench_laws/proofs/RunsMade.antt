@@ -1,14 +1,16 @@
 -- The steps of a bench make a trusted run with the values that it keeps.
-use Rattle.std.proofs.Common.{◌≡◌, ℕ, Bool, true, false, is_none, List, [], ◌∷◌, ◌++◌, refl, ap, sym, ◌∙◌, subst, append-nil, append_assoc}
+use Rattle.std.proofs.Common.{◌≡◌, ℕ, Bool, true, false, not, is_none, List, [], ◌∷◌, ◌++◌, refl, ap, sym, ◌∙◌, subst, append-nil, append_assoc}
 use Rattle.machine_model.specs.Image.{Made}
-use Rattle.machine_model.specs.Laws.{Steps}
+use Rattle.machine_model.specs.Laws.{Steps, TrustedRun}
 use Rattle.machine_model.specs.Script.{Table, table}
 use Rattle.machine_model.specs.State.{State}
 use Rattle.machine_model.specs.Step as machine
 use Rattle.step_core.specs.declared.step.Reply.{Reply}
 use Rattle.step_core.specs.declared.step.Step.{Step}
 use Rattle.world_tables.specs.Opening.{opening_of}
-use Rattle.bench_laws.specs.Values.{Done, Goes, benches_have_tables, TrustedBench, event_at, MadeBy, benches_make_runs_of_their_values}
+use Rattle.bench_laws.specs.Values.{Done, Goes, benches_have_tables, TrustedBench, event_at, MadeBy, benches_make_runs_of_their_values, benches_of_trusted_worlds_are_unforged}
+use Rattle.machine_model.proofs.NeverRestored.{ends_unforged}
+use Rattle.bench_laws.proofs.Forgeries.{same_forgeries}
 use Rattle.bench_laws.proofs.KeptValues.{AreFrom}
 use Rattle.bench_laws.proofs.StepsMade.{InRun, stepped}
 
@@ -64,14 +66,33 @@ ran past t (d ∷ done) end from (at, does, rest) =
 
 -- Runs since the opening
 
+nothing_kept : {s : State} → AreFrom [] (table s)
+nothing_kept = record { tickets = λ q cid there. there; finished = tt; stands = λ q cid there. absurd cc; few = λ q cid. tt }
+
 pub ran_of : (image : List ℕ) (done : List Done) (end : Table) (b : TrustedBench image done end) → Ran [] (table (opening_of b.config image)) done end
-ran_of image done end b = ran [] (table (opening_of b.config image)) done end (record { tickets = λ q cid there. there; finished = tt; stands = λ q cid there. absurd cc; few = λ q cid. tt }) b.goes
+ran_of image done end b = ran [] (table (opening_of b.config image)) done end nothing_kept b.goes
+
+abbrev pub run_of : (image : List ℕ) (done : List Done) (end : Table) (b : TrustedBench image done end) → TrustedRun image (ran_of image done end b).made end.world
+run_of image done end b =
+    record {
+      pages = b.config.pages;
+      queues = b.config.queues;
+      entries = b.config.entries;
+      segment = b.config.segment;
+      opens = b.opens;
+      is_image = b.is_image;
+      steps = (ran_of image done end b).steps;
+      unforged = ap not (sym (same_forgeries done (ran_of image done end b).made (ran_of image done end b).values)) ∙ b.unforged;
+    }
 
 pub makes_run : benches_make_runs_of_their_values
 makes_run image done end b =
     let r = ran_of image done end b in
-    record {
-      made = r.made;
-      values = r.values;
-      run = record { pages = b.config.pages; queues = b.config.queues; entries = b.config.entries; segment = b.config.segment; opens = b.opens; is_image = b.is_image; steps = r.steps; trusted = b.trusted };
-    }
+    record { made = r.made; values = r.values; run = run_of image done end b }
+
+-- Where the flag is set
+
+pub unforged_where_trusted : benches_of_trusted_worlds_are_unforged
+unforged_where_trusted config image done end goes trusted =
+    let r = ran [] (table (opening_of config image)) done end nothing_kept goes in
+    ap not (same_forgeries done r.made r.values) ∙ ends_unforged r.made (opening_of config image) end.world r.steps trusted

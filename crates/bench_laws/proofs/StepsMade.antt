@@ -22,7 +22,7 @@ use Rattle.step_core.specs.declared.step.Step.TheVariants as step
 use Rattle.bench_laws.specs.Values.{event_at, Keeps}
 use Rattle.bench_laws.proofs.Lists.{any_without}
 use Rattle.bench_laws.specs.Gathering.{collects_by}
-use Rattle.bench_laws.proofs.StandsCollected.{releases_by}
+use Rattle.bench_laws.proofs.Standing.{releases_by}
 use Rattle.bench_laws.proofs.KeptValues.{AreFrom, same_kept, made_on, same_tickets, released_more, submitted_tickets, collected_more}
 
 -- the step of the machine, and what stands behind the values that are kept then

@@ -1,5 +1,5 @@
 -- What a bench's Writes change and its Compares tell.
-use Rattle.std.proofs.Common.{◌≡◌, ℕ, Bool, true, false, is_none, Some, List, [], ◌∷◌, ◌++◌, refl, ap, sym, ◌∙◌, subst, eq-eqb, MatchBool, if◌then◌else◌}
+use Rattle.std.proofs.Common.{◌≡◌, ℕ, Bool, true, false, not, is_none, Some, List, [], ◌∷◌, ◌++◌, refl, ap, sym, ◌∙◌, subst, eq-eqb, MatchBool, if◌then◌else◌}
 use Rattle.std.specs.Option.{option_map}
 use Rattle.std.specs.Str.{bytes_eq}
 use Rattle.std.proofs.lemmas.Bool.{true≢false}
@@ -15,9 +15,9 @@ use Rattle.machine_model.specs.Laws.{TrustedRun, status_by, status_given, blocks
 use Rattle.machine_model.specs.Refusals.{job_at}
 use Rattle.machine_model.specs.State.{State}
 use Rattle.machine_model.specs.Opening.{opening}
-use Rattle.machine_model.proofs.Grounds.{trusted_at_first}
+use Rattle.machine_model.proofs.Unforged.{unforged_front, unforged_run}
 use Rattle.machine_model.proofs.Images.{images_are_runs}
-use Rattle.run_laws.proofs.DataAlong.{steps_split}
+use Rattle.machine_model.proofs.Along.{cut}
 use Rattle.run_laws.proofs.WalkedCompares.{compares_told}
 use Rattle.step_core.specs.Laws.{Says}
 use Rattle.step_core.specs.declared.step.Reply.{Reply}
@@ -86,7 +86,7 @@ given earlier d status draft m c h =
 -- the image before a step of a run
 image_then : (image : List ℕ) (before : List Made) (m : Made) (later : List Made) (end : State) → TrustedRun image (before ++ m ∷ later) end → m.before.device.image ≡ image_after image before
 image_then image before m later end run =
-    let parts = steps_split before (m ∷ later) (opening run.pages run.queues run.entries run.segment image) end run.steps in
+    let parts = cut before (m ∷ later) (opening run.pages run.queues run.entries run.segment image) end run.steps in
     ap (λ (s : State). s.device.image) parts.2.0
     ∙ images_are_runs image before parts.0
     (record {
@@ -97,7 +97,7 @@ image_then image before m later end run =
       opens = run.opens;
       is_image = run.is_image;
       steps = parts.1;
-      trusted = trusted_at_first (m ∷ later) parts.0 end parts.2 run.trusted;
+      unforged = ap not (unforged_front before (m ∷ later) (opening run.pages run.queues run.entries run.segment image) (unforged_run image (before ++ m ∷ later) end run)).none;
     })
 
 pub compares_told_by_steps : benches_compare_their_blocks

@@ -1,5 +1,5 @@
 -- What a bench does, with the tables between its steps, and the run of the machine that its steps make with the values that it keeps.
-use Rattle.std.specs.Prelude.{◌≡◌, ℕ, IsTrue, MatchBool, is_none, Option, Some, None, List, [], ◌∷◌, ◌++◌, map, if◌then◌else◌}
+use Rattle.std.specs.Prelude.{◌≡◌, ℕ, Bool, true, false, not, IsTrue, MatchBool, is_none, Option, Some, None, List, [], ◌∷◌, ◌++◌, map, if◌then◌else◌}
 use Rattle.std.specs.List.{list_any}
 use Rattle.std.specs.Option.{option_map}
 use Rattle.block_image.specs.Blocks.{IsImage}
@@ -12,6 +12,7 @@ use Rattle.machine_model.specs.State.{State}
 use Rattle.step_core.specs.Bench.{Does, DoesAll}
 use Rattle.step_core.specs.Laws.{Says}
 use Rattle.step_core.specs.declared.step.Reply.{Reply}
+use Rattle.step_core.specs.declared.step.Reply.TheVariants as reply
 use Rattle.step_core.specs.declared.step.Step.{Step}
 use Rattle.step_core.specs.declared.step.Step.TheVariants as step
 use Rattle.world_tables.specs.Opening.{refusal_of_config, opening_of}
@@ -41,13 +42,27 @@ pub record HasTables (t : Table) (steps : List Step) (answers : List Reply) (end
 abbrev pub benches_have_tables : Type 0
 benches_have_tables = (t end : Table) (steps : List Step) (answers : List Reply) → DoesAll t steps answers end → HasTables t steps answers end
 
--- a bench that was opened and did these steps, and in which nothing was forged
+-- whether a step forged an entry
+abbrev pub forges_by : Step → Reply → Bool
+forges_by (step.Forge q slot bytes) reply.Accepted = true
+forges_by what answer = false
+
+abbrev pub is_forgery : Done → Bool
+is_forgery d = forges_by d.what d.answer
+
+-- a bench that was opened and did these steps, and in which nothing was forged: none of the steps is an accepted forgery
 pub record TrustedBench (image : List ℕ) (done : List Done) (end : Table) : Type 0 where
   pub config : Config
   pub opens : refusal_of_config config ≡ None
   pub is_image : IsImage image
   pub goes : Goes (table (opening_of config image)) done end
-  pub trusted : IsTrue end.world.trusted
+  pub unforged : IsTrue (not (list_any is_forgery done))
+
+-- in a bench whose world is trusted nothing was forged since it opened: no step restores the trust
+abbrev pub benches_of_trusted_worlds_are_unforged : Type 0
+benches_of_trusted_worlds_are_unforged =
+    (config : Config) (image : List ℕ) (done : List Done) (end : Table) → Goes (table (opening_of config image)) done end → IsTrue end.world.trusted
+    → IsTrue (not (list_any is_forgery done))
 
 -- The machine's steps
 

@@ -7,7 +7,9 @@
 //!
 //! - `specs/Values.antt` has a bench's steps with the tables between them, and the machine's steps that they are.
 //! - `specs/Gathering.antt` says of which command the gathered bytes are, and what a Read gathers.
+//! - `specs/Drafts.antt` says what draft a bench submits: the one that it reserved, with the bytes of its fills.
 //! - `specs/Blocks.antt` says what a bench's Writes change and its Compares tell.
 #![tactic(auto)]
 
 pub mod laws;
+pub mod worked;

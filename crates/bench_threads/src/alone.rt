@@ -75,7 +75,7 @@ fn submitted<L: Driver>(
     match book.submit(seat, draft) {
         Ok(ticket) => Ok(ticket),
         Err(refused) => {
-            let _spent = refused.value.apart();
+            drop(refused.value.apart());
             Err(Fault::Refused)
         }
     }
@@ -119,7 +119,7 @@ fn collected<L: Driver>(book: &mut Book<L>, ticket: Ticket) -> Result<Finished, 
     match book.collect(ticket) {
         Ok(finished) => Ok(finished),
         Err(refused) => {
-            let _spent = refused.value.apart();
+            drop(refused.value.apart());
             Err(Fault::Refused)
         }
     }
@@ -136,7 +136,7 @@ fn released<L: Driver>(
     match book.release(seat, finished) {
         Ok(()) => Ok(()),
         Err(refused) => {
-            let _spent = refused.value.apart();
+            drop(refused.value.apart());
             Err(Fault::Refused)
         }
     }
@@ -153,7 +153,7 @@ fn served<L: Driver>(
 {
     let mut draft = draft;
     if outside.build(&mut draft).is_err() {
-        let _spent = draft.apart();
+        drop(draft.apart());
         return Err(Fault::Memory);
     }
     let ticket = submitted(book, seat, draft)?;
@@ -165,7 +165,7 @@ fn served<L: Driver>(
     if done && book.collect_refusal(q, cid).is_none() {
         Ok(ticket)
     } else {
-        let _spent = ticket.apart();
+        drop(ticket.apart());
         Err(Fault::Refused)
     }
 }
@@ -188,7 +188,7 @@ fn carry<L: Driver>(
             Ok(bytes)
         }
         Err(refused) => {
-            let _spent = finished.apart();
+            drop(finished.apart());
             Err(Fault::from(refused))
         }
     }

@@ -148,6 +148,3 @@ pub fn worked_blocks()
         ≡ replicate 512 0x11 ++ replicate 512 0x33 }
     ensures put_none { with_blocks (replicate 512 0x11) 1 [] ≡ replicate 512 0x11 }
 {}
-
-#[cfg(test)]
-mod tests;

@@ -4,9 +4,10 @@ ghost use Rattle.std.specs.Prelude.{◌≡◌};
 ghost use Rattle.world_tables.specs.Opening.{opening_of};
 
 use crate::calls::{
-    USUAL, begun, cancelled, collected, counts, drafted, managed, opened, receipt, released,
-    seated, served, submitted,
+    USUAL, begun, cancelled, collected, counts, drafted, has_left, has_receipts, managed, opened,
+    receipt, released, seated, served, submitted,
 };
+use crate::row::{Row, play};
 use block_image::Image;
 use controller_walk::WalkState;
 use driver_book::*;
@@ -18,41 +19,8 @@ use std::marker::Brand;
 use std::process::Abort;
 use std::sync::ledger::Blank;
 use std::test::Fail;
-use step_core::{Reaped, Refusal, Touched};
+use step_core::{Reaped, Refusal};
 use world_tables::Config;
-
-/// The only page of these.
-fn only(touched: &Touched) -> Option<PageNo> {
-    if touched.pages().len() == 1 {
-        touched.pages().first().copied()
-    } else {
-        None
-    }
-}
-
-/// The identifier that a fetch answers, and the page that it touched.
-fn fetched<L: Driver>(book: &mut Book<L>, q: u16) -> Result<(u16, Option<PageNo>), Refusal> {
-    match book.fetch(q) {
-        Ok(done) => Ok((done.cid, only(&done.touched))),
-        Err(refused) => Err(refused.why),
-    }
-}
-
-/// What a unit of a walk answers.
-fn walked<L: Driver>(book: &mut Book<L>, q: u16, cid: u16) -> Result<WalkState, Refusal> {
-    match book.walk(q, cid) {
-        Ok(done) => Ok(done.state),
-        Err(refused) => Err(refused.why),
-    }
-}
-
-/// The page that a completion touched.
-fn completed<L: Driver>(book: &mut Book<L>, q: u16, cid: u16) -> Result<Option<PageNo>, Refusal> {
-    match book.complete(q, cid) {
-        Ok(done) => Ok(only(&done.touched)),
-        Err(refused) => Err(refused.why),
-    }
-}
 
 /// How a command of queue 1 ended.
 fn done(cid: u16, status: Status) -> Reaped {
@@ -94,38 +62,47 @@ fn settled<L: Driver, R: Abort>(
 
 /// The controller fetches command 0 and walks one step; then it is aborted.
 fn abort_in_the_walk<L: Driver, R: Abort>(rt: &R, book: &mut Book<L>) {
-    assert_eq!(rt; book.ring(1), Ok(()));
-    assert_eq!(rt; fetched(book, 1), Ok((0, Some(PageNo(2)))));
-    assert_eq!(rt; walked(book, 1, 0), Ok(WalkState::More));
-    assert_eq!(rt; book.abort(1, 0), Ok(0));
-    assert_eq!(rt; book.ring(0), Ok(()));
-    assert_eq!(rt; fetched(book, 0), Ok((0, Some(PageNo(0)))));
-    assert_eq!(rt; completed(book, 0, 0), Err(Refusal::Waits));
-    assert_eq!(rt; walked(book, 1, 0), Err(Refusal::Nothing));
-    assert_eq!(rt; completed(book, 1, 0), Ok(Some(PageNo(3))));
-    assert_eq!(rt; completed(book, 0, 0), Ok(Some(PageNo(1))));
-    assert_eq!(rt; book.reap(1), Ok(done(0, Status::ABORT_REQUESTED)));
-    assert_eq!(rt; book.reap(0), Ok(managed_with(Status::SUCCESS)));
-    assert_eq!(rt; book.abort(1, 0), Err(Refusal::NoSuchCommand));
+    let rows = [
+        Row::Ring(1),
+        Row::Fetch(1, Ok((0, Some(PageNo(2))))),
+        Row::Walk(1, 0, Ok(WalkState::More)),
+        Row::Abort(1, 0, Ok(0)),
+        Row::Ring(0),
+        Row::Fetch(0, Ok((0, Some(PageNo(0))))),
+        Row::Complete(0, 0, Err(Refusal::Waits)),
+        Row::Walk(1, 0, Err(Refusal::Nothing)),
+        Row::Complete(1, 0, Ok(Some(PageNo(3)))),
+        Row::Complete(0, 0, Ok(Some(PageNo(1)))),
+        Row::Reap(1, done(0, Status::ABORT_REQUESTED)),
+        Row::Reap(0, managed_with(Status::SUCCESS)),
+        Row::Abort(1, 0, Err(Refusal::NoSuchCommand)),
+    ];
+    play(rt, book, &rows);
 }
 
 /// The controller walks command 1 to its end; its abort comes too late.
 fn abort_after_the_walk<L: Driver, R: Abort>(rt: &R, book: &mut Book<L>) {
-    assert_eq!(rt; book.ring(1), Ok(()));
-    assert_eq!(rt; fetched(book, 1), Ok((1, Some(PageNo(2)))));
-    assert_eq!(rt; walked(book, 1, 1), Ok(WalkState::More));
-    assert_eq!(rt; walked(book, 1, 1), Ok(WalkState::End));
-    assert_eq!(rt; book.abort(1, 1), Ok(0));
+    let rows = [
+        Row::Ring(1),
+        Row::Fetch(1, Ok((1, Some(PageNo(2))))),
+        Row::Walk(1, 1, Ok(WalkState::More)),
+        Row::Walk(1, 1, Ok(WalkState::End)),
+        Row::Abort(1, 1, Ok(0)),
+    ];
+    play(rt, book, &rows);
     managed(rt, book, 0, 1);
-    assert_eq!(rt; completed(book, 1, 1), Ok(Some(PageNo(3))));
-    assert_eq!(rt; book.reap(1), Ok(done(1, Status::SUCCESS)));
+    let rows = [
+        Row::Complete(1, 1, Ok(Some(PageNo(3)))),
+        Row::Reap(1, done(1, Status::SUCCESS)),
+    ];
+    play(rt, book, &rows);
 }
 
 /// Command 2 is aborted before the controller fetches it, which changes nothing.
 fn abort_before_the_fetch<L: Driver, R: Abort>(rt: &R, book: &mut Book<L>) {
-    assert_eq!(rt; book.abort(1, 2), Ok(0));
+    play(rt, book, &[Row::Abort(1, 2, Ok(0))]);
     managed(rt, book, 0, 1);
-    assert_eq!(rt; book.ring(1), Ok(()));
+    play(rt, book, &[Row::Ring(1)]);
     served(rt, book, 2);
 }
 
@@ -158,9 +135,8 @@ fn abort_three<L: Driver, R: Abort>(
         receipt(1, 1, Some(Status::SUCCESS)),
         receipt(2, 2, Some(Status::SUCCESS)),
     ];
-    assert_eq!(rt; seat.receipts(), receipts.as_slice());
-    assert_eq!(rt; book.counts(), counts(12, 4, 0));
-    assert_eq!(rt; book.log().len(), 47);
+    has_receipts(rt, &seat, &receipts);
+    has_left(rt, &book, counts(12, 4, 0), 47);
 }
 
 /// Why a reservation on queue 1 is refused.
@@ -212,44 +188,53 @@ fn too_late<L: Driver, R: Abort>(
 
 /// The deletion of completion queue 1 is refused, as its submission queue is about.
 fn delete_too_early<L: Driver, R: Abort>(rt: &R, book: &mut Book<L>) {
-    assert_eq!(rt; book.delete_cq(1), Ok(0));
-    assert_eq!(rt; book.ring(0), Ok(()));
-    assert_eq!(rt; fetched(book, 0), Ok((0, Some(PageNo(0)))));
-    assert_eq!(rt; completed(book, 0, 0), Ok(Some(PageNo(1))));
-    assert_eq!(rt;
-        book.reap(0),
-        Ok(managed_with(Status::INVALID_QUEUE_DELETION))
-    );
+    let rows = [
+        Row::DeleteCq(1),
+        Row::Ring(0),
+        Row::Fetch(0, Ok((0, Some(PageNo(0))))),
+        Row::Complete(0, 0, Ok(Some(PageNo(1)))),
+        Row::Reap(0, managed_with(Status::INVALID_QUEUE_DELETION)),
+    ];
+    play(rt, book, &rows);
 }
 
 /// Submission queue 1 is deleted: its deletion is answered behind the command that was fetched.
 fn delete_in_the_walk<L: Driver, R: Abort>(rt: &R, book: &mut Book<L>) {
-    assert_eq!(rt; book.delete_sq(1), Ok(0));
-    assert_eq!(rt; book.ring(0), Ok(()));
-    assert_eq!(rt; fetched(book, 0), Ok((0, Some(PageNo(0)))));
-    assert_eq!(rt; completed(book, 0, 0), Err(Refusal::Waits));
-    assert_eq!(rt; completed(book, 1, 0), Ok(Some(PageNo(3))));
-    assert_eq!(rt; completed(book, 0, 0), Ok(Some(PageNo(1))));
+    let rows = [
+        Row::DeleteSq(1),
+        Row::Ring(0),
+        Row::Fetch(0, Ok((0, Some(PageNo(0))))),
+        Row::Complete(0, 0, Err(Refusal::Waits)),
+        Row::Complete(1, 0, Ok(Some(PageNo(3)))),
+        Row::Complete(0, 0, Ok(Some(PageNo(1)))),
+    ];
+    play(rt, book, &rows);
 }
 
 /// Queue 1 is retired once its deletion is known, and its completions are reaped.
 fn retire_in_order<L: Driver, R: Abort>(rt: &R, book: &mut Book<L>, alloc: Global) {
-    assert_eq!(rt; book.retire(1), Err(Refusal::NotDeleted));
+    play(rt, book, &[Row::Retire(1, Err(Refusal::NotDeleted))]);
     assert_eq!(rt;
         refusal_of_a_reservation(rt, book, alloc),
         Some(Refusal::Deleting)
     );
-    assert_eq!(rt; book.reap(0), Ok(managed_with(Status::SUCCESS)));
-    assert_eq!(rt; book.retire(1), Err(Refusal::NotDrained));
-    assert_eq!(rt; book.reap(1), Ok(done(0, Status::ABORTED_SQ_DELETION)));
-    assert_eq!(rt; book.retire(1), Ok(()));
+    let rows = [
+        Row::Reap(0, managed_with(Status::SUCCESS)),
+        Row::Retire(1, Err(Refusal::NotDrained)),
+        Row::Reap(1, done(0, Status::ABORTED_SQ_DELETION)),
+        Row::Retire(1, Ok(())),
+    ];
+    play(rt, book, &rows);
 }
 
 /// The controller fetches the first of two commands, and walks one step.
 fn begin_a_walk<L: Driver, R: Abort>(rt: &R, book: &mut Book<L>) {
-    assert_eq!(rt; book.ring(1), Ok(()));
-    assert_eq!(rt; fetched(book, 1), Ok((0, Some(PageNo(2)))));
-    assert_eq!(rt; walked(book, 1, 0), Ok(WalkState::More));
+    let rows = [
+        Row::Ring(1),
+        Row::Fetch(1, Ok((0, Some(PageNo(2))))),
+        Row::Walk(1, 0, Ok(WalkState::More)),
+    ];
+    play(rt, book, &rows);
 }
 
 /// A queue that is deleted while one command is walked, one waits to be fetched, and one is a draft.
@@ -281,15 +266,14 @@ fn delete_a_queue<L: Driver, R: Abort>(
     cancelled(rt, &mut book, third);
     settled(rt, &mut book, &mut seat, first, Status::ABORTED_SQ_DELETION);
     released(rt, &mut book, &mut seat, second);
-    assert_eq!(rt; book.delete_cq(1), Ok(0));
+    play(rt, &mut book, &[Row::DeleteCq(1)]);
     managed(rt, &mut book, 0, 0);
     let receipts = [
         receipt(0, 0, Some(Status::ABORTED_SQ_DELETION)),
         receipt(1, 1, Some(Status::ABORTED_SQ_DELETION)),
     ];
-    assert_eq!(rt; seat.receipts(), receipts.as_slice());
-    assert_eq!(rt; book.counts(), counts(14, 2, 0));
-    assert_eq!(rt; book.log().len(), 36);
+    has_receipts(rt, &seat, &receipts);
+    has_left(rt, &book, counts(14, 2, 0), 36);
 }
 
 #[test]

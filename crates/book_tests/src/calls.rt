@@ -3,6 +3,7 @@
 ghost use Rattle.std.specs.Prelude.{◌≡◌};
 ghost use Rattle.world_tables.specs.Opening.{opening_of};
 
+use crate::row::{Row, play};
 use block_image::Image;
 use driver_book::*;
 use entry_codec::Status;
@@ -221,6 +222,50 @@ pub(crate) fn receipt(number: u64, cid: u16, status: Option<Status>) -> Receipt 
     }
 }
 
+/// A seat has these receipts.
+pub(crate) fn has_receipts<L: Driver, R: Abort>(rt: &R, seat: &Seat<L>, want: &[Receipt]) {
+    assert_eq!(rt; seat.receipts(), want);
+}
+
+/// A book's pages are counted so, and its log has so many entries.
+pub(crate) fn has_left<L: Driver, R: Abort>(
+    rt: &R,
+    book: &Book<L>,
+    counts: Counts,
+    entries: usize,
+) {
+    assert_eq!(rt; book.counts(), counts);
+    assert_eq!(rt; book.log().len(), entries);
+}
+
+/// Submits a Write of one block of these bytes for a seat.
+fn written<L: Driver, R: Abort>(
+    rt: &R,
+    book: &mut Book<L>,
+    seat: &mut Seat<L>,
+    alloc: Global,
+    slba: u64,
+    bytes: &[u8],
+) -> Ticket {
+    let mut draft = reserved(rt, book, alloc, Kind::Write, slba);
+    assert!(rt; draft.fill(bytes).is_ok());
+    submitted(rt, book, seat, alloc, draft)
+}
+
+/// Collects a command, gathers its bytes, and releases it.
+fn gathered<L: Driver, R: Abort>(
+    rt: &R,
+    book: &mut Book<L>,
+    seat: &mut Seat<L>,
+    alloc: Global,
+    ticket: Ticket,
+) -> Result<Vec<u8>, Fail> {
+    let finished = collected(rt, book, ticket);
+    let bytes = finished.gather(alloc);
+    released(rt, book, seat, finished);
+    Ok(bytes?)
+}
+
 /// A Write of one seat and a Read of another, of the same block.
 fn write_and_read<L: Driver, R: Abort>(
     rt: &R,
@@ -237,31 +282,21 @@ fn write_and_read<L: Driver, R: Abort>(
     let mut book: Book<L> = opened(rt, alloc, config, image, blank);
     let mut writer = seated(rt, &mut book);
     let mut reader = seated(rt, &mut book);
-    let mut write = reserved(rt, &mut book, alloc, Kind::Write, 5);
-    assert!(rt; write.fill(&[0xAB; 512]).is_ok());
-    let write = submitted(rt, &mut book, &mut writer, alloc, write);
+    let write = written(rt, &mut book, &mut writer, alloc, 5, &[0xAB; 512]);
     let read = reserved(rt, &mut book, alloc, Kind::Read, 5);
     let read = submitted(rt, &mut book, &mut reader, alloc, read);
-    assert_eq!(rt; writer.receipts(), [receipt(0, 0, None)].as_slice());
-    assert_eq!(rt; reader.receipts(), [receipt(1, 1, None)].as_slice());
-    assert_eq!(rt; book.ring(1), Ok(()));
+    has_receipts(rt, &writer, &[receipt(0, 0, None)]);
+    has_receipts(rt, &reader, &[receipt(1, 1, None)]);
+    play(rt, &mut book, &[Row::Ring(1)]);
     served(rt, &mut book, 0);
     served(rt, &mut book, 1);
     let write = collected(rt, &mut book, write);
     released(rt, &mut book, &mut writer, write);
-    let read = collected(rt, &mut book, read);
-    let bytes = read.gather(alloc);
-    released(rt, &mut book, &mut reader, read);
-    assert_eq!(rt; bytes?.as_slice(), [0xAB; 512].as_slice());
-    assert_eq!(rt;
-        writer.receipts(),
-        [receipt(0, 0, Some(Status::SUCCESS))].as_slice()
-    );
-    assert_eq!(rt;
-        reader.receipts(),
-        [receipt(1, 1, Some(Status::SUCCESS))].as_slice()
-    );
-    assert_eq!(rt; book.log().len(), 19);
+    let bytes = gathered(rt, &mut book, &mut reader, alloc, read)?;
+    assert_eq!(rt; bytes.as_slice(), [0xAB; 512].as_slice());
+    has_receipts(rt, &writer, &[receipt(0, 0, Some(Status::SUCCESS))]);
+    has_receipts(rt, &reader, &[receipt(1, 1, Some(Status::SUCCESS))]);
+    has_left(rt, &book, counts(12, 4, 0), 19);
     Ok(())
 }
 
@@ -300,17 +335,16 @@ fn delete_and_retire<L: Driver, R: Abort>(
     let mut seat = seated(rt, &mut book);
     let draft = reserved(rt, &mut book, alloc, Kind::Read, 0);
     let ticket = submitted(rt, &mut book, &mut seat, alloc, draft);
-    assert_eq!(rt; book.delete_sq(1), Ok(0));
+    play(rt, &mut book, &[Row::DeleteSq(1)]);
     managed(rt, &mut book, 0, 0);
-    assert_eq!(rt; book.retire(1), Ok(()));
+    play(rt, &mut book, &[Row::Retire(1, Ok(()))]);
     let finished = collected(rt, &mut book, ticket);
     released(rt, &mut book, &mut seat, finished);
     let ended = receipt(0, 0, Some(Status::ABORTED_SQ_DELETION));
-    assert_eq!(rt; seat.receipts(), [ended].as_slice());
-    assert_eq!(rt; book.delete_cq(1), Ok(0));
+    has_receipts(rt, &seat, &[ended]);
+    play(rt, &mut book, &[Row::DeleteCq(1)]);
     managed(rt, &mut book, 0, 0);
-    assert_eq!(rt; book.counts(), counts(14, 2, 0));
-    assert_eq!(rt; book.log().len(), 15);
+    has_left(rt, &book, counts(14, 2, 0), 15);
 }
 
 /// A command that is aborted before it is fetched, a draft that is cancelled and one that is left over, and a forged entry.

@@ -9,3 +9,5 @@ mod calls;
 mod closing;
 #[cfg(test)]
 mod forging;
+#[cfg(test)]
+mod row;

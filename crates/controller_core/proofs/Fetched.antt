@@ -1,5 +1,5 @@
 -- What a fetch keeps, and what it makes of what it looked at.
-use Rattle.std.proofs.Common.{◌≡◌, ◌≢◌, ℕ, ◌+◌, ◌<◌, ◌==◌, ◌||◌, not, nat_lt, Bool, true, false, cond, Option, Some, None, IfNone, is_none, is_some, Result, Ok, Err, List, [], ◌∷◌, ◌++◌, length, find, get_or, slice_set, if◌then◌else◌, refl, ap, ap₂, sym, ◌∙◌, arith, subst, eqb-true}
+use Rattle.std.proofs.Common.{◌≡◌, ◌≢◌, ℕ, zero, suc, ◌+◌, ◌<◌, ◌==◌, ◌||◌, not, nat_lt, Bool, true, false, cond, Option, Some, None, IfNone, IfSome, is_none, is_some, Result, Ok, Err, List, [], ◌∷◌, ◌++◌, length, find, get_or, slice_get, slice_set, if◌then◌else◌, refl, ap, ap₂, sym, ◌∙◌, arith, subst, eqb-true}
 use Rattle.std.specs.List.{count_by}
 use Rattle.std.proofs.lemmas.Bool.{true≢false}
 use Rattle.block_image.specs.Blocks.{block_count}
@@ -12,8 +12,9 @@ use Rattle.page_memory.specs.Memory.{Memory}
 use Rattle.std.specs.Result.{OnOk}
 use Rattle.entry_codec.specs.declared.status.TheConstants.Status.{COMMAND_ID_CONFLICT}
 use Rattle.controller_core.specs.Answering.{answer_refusal, completion_by, memory_posted, page_posted, with_answer}
-use Rattle.controller_core.specs.Fetching.{IsBegun, Begins, AnswersKnown, LooksAt, FetchesTo, Takes, TakesIn, is_known, entry_refusal}
-use Rattle.controller_core.specs.Managing.{with_taken, command_of}
+use Rattle.controller_core.specs.Fetching.{IsBegun, Begins, AnswersKnown, LooksAt, FetchesTo, Takes, TakesIn, is_known, live_side}
+use Rattle.queue_pair.specs.Rings.{DeviceSide}
+use Rattle.controller_core.specs.Managing.{with_taken, command_of, managed}
 use Rattle.controller_core.specs.declared.command.Work.TheVariants.{Io}
 use Rattle.controller_core.specs.declared.queue.ControllerQueue.{ControllerQueue}
 use Rattle.controller_core.proofs.Lists.{count-cons, one, all-append, length-change, get-at, change-at}
@@ -124,17 +125,71 @@ no_zero q ne = go (q == 0) refl
     go true h = absurd (ne (eqb-true q 0 h))
     go false h = refl
 
-pub begins_fetch : (v c c' : Contents) (xs : List FetchedCommand) (o : Option ℕ) (m m1 m2 : Memory) (q : ℕ) (e : SubEntry) (touched : List ℕ) → v ≡ c → xs ≡ v.commands
-    → false ≡ is_some o → IfNone o (find (is_command q e.cid) xs ≡ None) → q ≢ 0 → LooksAt c m1 q e touched → m1 ≡ m → m2 ≡ m1 → Begins c q e c' → FetchesTo c m q e.cid c' m2 touched
-begins_fetch v c c' xs o m m1 m2 q e touched same ex eo none ne looks before after begins =
+queue_there : (q : ℕ) (queues : List ControllerQueue) (device : DeviceSide) → live_side (slice_get queues q) ≡ Some device → q < length queues
+queue_there q [] device e = cc
+queue_there zero (x ∷ xs) device e = omega arith
+queue_there (suc q) (x ∷ xs) device e = omega (arith, queue_there q xs device e)
+
+pub looked_there : (c : Contents) (m : Memory) (reached : List ℕ) (q : ℕ) (e : SubEntry) (reached' : List ℕ) → LooksAt c m reached q e reached' → q < length c.queues
+looked_there c m reached q e reached' looks = queue_there q c.queues looks.device looks.here
+
+known_by : (o : Option ℕ) (xs : List FetchedCommand) (q cid : ℕ) → is_some o ≡ true → IfSome o (λ i. find (is_command q cid) xs ≡ slice_get xs i) → IfSome o (λ i. i < length xs) → is_some (find (is_command q cid) xs) ≡ true
+known_by None xs q cid e found within = absurd (true≢false (sym e))
+known_by (Some i) xs q cid e found within = ap is_some found ∙ inside i xs within
+  where
+    inside : (i : ℕ) (xs : List FetchedCommand) → i < length xs → is_some (slice_get xs i) ≡ true
+    inside i [] l = absurd (omega arith)
+    inside zero (x ∷ xs) l = refl
+    inside (suc i) (x ∷ xs) l = inside i xs (omega arith)
+
+-- An entry whose identifier is known
+
+pub answers_fetch : (v c c' : Contents) (xs : List FetchedCommand) (o : Option ℕ) (queues : List ControllerQueue) (m m' m'' : Memory) (q : ℕ) (e : SubEntry) (reached looked reached' : List ℕ) → v ≡ c → xs ≡ v.commands
+    → is_some o ≡ true → IfSome o (λ i. find (is_command q e.cid) xs ≡ slice_get xs i) → IfSome o (λ i. i < length xs) → LooksAt c m reached q e looked → m' ≡ m → None ≡ answer_refusal v.queues m' q
+    → AnswersKnown v.queues q e.cid m' looked queues m'' reached' → c' ≡ record { queues = queues; commands = v.commands; image = v.image } → FetchesTo c m reached q e.cid c' m'' reached'
+answers_fetch v c c' xs o queues m m' m'' q e reached looked reached' same ex eo found within looks em room answers is =
+    let known : is_known c q e ≡ true =
+    subst (λ (ys : List FetchedCommand). is_some (find (is_command q e.cid) ys) ≡ true) (ex ∙ ap (λ (x : Contents). x.commands) same) (known_by o xs q e.cid eo found within) in
+    record {
+      entry = e;
+      looked = looked;
+      looks = looks;
+      named = refl;
+      room = ap (λ (b : Bool). if b then answer_refusal c.queues m q else None) known
+          ∙ sym (room ∙ ap₂ (λ (x : Contents) (n : Memory). answer_refusal x.queues n q) same em);
+      takes = subst (λ (b : Bool). Takes b c q e m looked c' m'' reached') (sym known)
+          (subst (λ (x : Contents). Takes true x q e m looked c' m'' reached') same
+          (subst (λ (n : Memory). Takes true v q e n looked c' m'' reached') em
+          (subst (λ (x : Contents). Takes true v q e m' looked x m'' reached') (sym is) (answers, refl, refl))));
+    }
+
+-- and one of queue 0 whose identifier is not
+pub manages_fetch : (v c c' : Contents) (xs : List FetchedCommand) (o : Option ℕ) (m m' : Memory) (reached : List ℕ) (q : ℕ) (e : SubEntry) (reached' : List ℕ) → v ≡ c → xs ≡ v.commands
+    → is_some o ≡ false → IfNone o (find (is_command q e.cid) xs ≡ None) → q ≡ 0 → LooksAt c m reached q e reached' → m' ≡ m → c' ≡ managed e c → FetchesTo c m reached q e.cid c' m' reached'
+manages_fetch v c c' xs o m m' reached q e reached' same ex eo none zeroth looks after managed_by =
+    let unknown : is_known c q e ≡ false =
+    subst (λ (ys : List FetchedCommand). is_some (find (is_command q e.cid) ys) ≡ false) (ex ∙ ap (λ (x : Contents). x.commands) same) (unknown_by o xs q e.cid (sym eo) none) in
+    record {
+      entry = e;
+      looked = reached';
+      looks = looks;
+      named = refl;
+      room = ap (λ (b : Bool). if b then answer_refusal c.queues m q else None) unknown;
+      takes = subst (λ (b : Bool). Takes b c q e m reached' c' m' reached') (sym unknown)
+          (subst (λ (b : Bool). TakesIn b c q e c') (sym (ap (λ (k : ℕ). k == 0) zeroth)) managed_by, after, refl);
+    }
+
+pub begins_fetch : (v c c' : Contents) (xs : List FetchedCommand) (o : Option ℕ) (m m' : Memory) (reached : List ℕ) (q : ℕ) (e : SubEntry) (reached' : List ℕ) → v ≡ c → xs ≡ v.commands
+    → false ≡ is_some o → IfNone o (find (is_command q e.cid) xs ≡ None) → q ≢ 0 → LooksAt c m reached q e reached' → m' ≡ m → Begins c q e c' → FetchesTo c m reached q e.cid c' m' reached'
+begins_fetch v c c' xs o m m' reached q e reached' same ex eo none ne looks after begins =
     let unknown : is_known c q e ≡ false =
     subst (λ (ys : List FetchedCommand). is_some (find (is_command q e.cid) ys) ≡ false) (ex ∙ ap (λ (x : Contents). x.commands) same) (unknown_by o xs q e.cid eo none) in
     record {
       entry = e;
-      looked = touched;
-      looks = subst (λ (n : Memory). LooksAt c n q e touched) before looks;
+      looked = reached';
+      looks = looks;
       named = refl;
       room = ap (λ (b : Bool). if b then answer_refusal c.queues m q else None) unknown;
-      takes = subst (λ (b : Bool). Takes b c q e m touched c' m2 touched) (sym unknown)
-          (subst (λ (b : Bool). TakesIn b c q e c') (sym (no_zero q ne)) begins, after ∙ before, refl);
+      takes = subst (λ (b : Bool). Takes b c q e m reached' c' m' reached') (sym unknown)
+          (subst (λ (b : Bool). TakesIn b c q e c') (sym (no_zero q ne)) begins, after, refl);
     }

@@ -11,7 +11,7 @@ use Rattle.controller_core.specs.Fetching.{FetchesTo}
 use Rattle.controller_core.specs.Walking.{WalksTo}
 use Rattle.controller_core.specs.Worked.{rung, memory_with_entry, read_begun, read_halfway, read_walked, with_read_begun, with_read_halfway, with_read_walked, with_read_completed, memory_with_data, memory_with_completion}
 
-pub first_fetch : FetchesTo rung memory_with_entry 1 0 with_read_begun memory_with_entry (2 ∷ [])
+pub first_fetch : FetchesTo rung memory_with_entry [] 1 0 with_read_begun memory_with_entry (2 ∷ [])
 unfolding bytes_at submission_of
 first_fetch = record {
   entry = first_read;
@@ -30,7 +30,7 @@ first_fetch = record {
   );
 }
 
-pub first_unit : WalksTo with_read_begun 1 0 memory_with_entry More with_read_halfway memory_with_entry []
+pub first_unit : WalksTo with_read_begun 1 0 memory_with_entry (2 ∷ []) More with_read_halfway memory_with_entry (2 ∷ [])
 unfolding bytes_at descriptor_of moving
 first_unit = record {
   among = record {
@@ -49,7 +49,7 @@ first_unit = record {
   image = refl;
 }
 
-pub second_unit : WalksTo with_read_halfway 1 0 memory_with_entry End with_read_walked memory_with_data (4 ∷ [])
+pub second_unit : WalksTo with_read_halfway 1 0 memory_with_entry (2 ∷ []) End with_read_walked memory_with_data (2 ∷ 4 ∷ [])
 unfolding bytes_at moving
 second_unit = record {
   among = record {
@@ -68,5 +68,5 @@ second_unit = record {
   image = refl;
 }
 
-pub first_completion : CompletesTo with_read_walked 1 0 memory_with_data with_read_completed memory_with_completion (3 ∷ [])
+pub first_completion : CompletesTo with_read_walked 1 0 memory_with_data (2 ∷ 4 ∷ []) with_read_completed memory_with_completion (2 ∷ 4 ∷ 3 ∷ [])
 first_completion = record { command = _; queue = _; found = refl; here = refl; leaves = refl; memory = refl; touches = refl }

@@ -1,5 +1,5 @@
 -- Lists of which one member is changed or taken out.
-use Rattle.std.proofs.Common.{◌≡◌, ◌≢◌, ℕ, zero, suc, ◌+◌, ◌<◌, ◌≤◌, Bool, true, false, ◌&&◌, ◌||◌, not, cond, Some, List, [], ◌∷◌, ◌++◌, length, map, filter, find, drop, get_or, slice_get, slice_set, refl, ap, sym, ◌∙◌, arith, subst}
+use Rattle.std.proofs.Common.{◌≡◌, ℕ, zero, suc, ◌+◌, ◌<◌, ◌≤◌, Bool, true, false, ◌&&◌, ◌||◌, not, cond, Some, List, [], ◌∷◌, ◌++◌, length, map, filter, find, drop, get_or, slice_get, slice_set, refl, ap, sym, ◌∙◌, arith, subst}
 use Rattle.std.specs.List.{AllByRecursion, count_by, remove}
 use Rattle.std.proofs.lemmas.List.Sums.{sum_by-cons}
 use Rattle.std.proofs.lemmas.List.{drop_more}
@@ -126,12 +126,6 @@ change-change zero zero f g same (x ∷ xs) = ap (λ y. y ∷ xs) (same x)
 change-change zero (suc k) f g same (x ∷ xs) = refl
 change-change (suc j) zero f g same (x ∷ xs) = refl
 change-change (suc j) (suc k) f g same (x ∷ xs) = ap (λ ys. x ∷ ys) (change-change j k f g same xs)
-
--- the member itself
-pub change-here : {A : Type 0} (k : ℕ) (f : A → A) (xs : List A) (x : A) → slice_get xs k ≡ Some x → slice_get (change k f xs) k ≡ Some (f x)
-change-here k f [] x e = cc
-change-here zero f (y ∷ xs) x e = let same : y ≡ x = cc in ap (λ z. Some (f z)) same
-change-here (suc k) f (y ∷ xs) x e = change-here k f xs x e
 
 pub all_set : {A : Type 0} (P : A → Type 0) (xs : List A) (i : ℕ) (y : A) → AllByRecursion P xs → P y → AllByRecursion P (slice_set xs i y)
 all_set P [] i y all h = tt

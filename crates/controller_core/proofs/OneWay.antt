@@ -32,18 +32,18 @@ use Rattle.controller_core.proofs.Lists.{some_is, found_is, here_counted, count-
 same_found : {A : Type 0} {o : Option A} {a b : A} → o ≡ Some a → o ≡ Some b → a ≡ b
 same_found e f = some_is (sym e ∙ f)
 
-one_act : (dir : Direction) (a : Act) (m n n' : Memory) (b b1 b2 t t' : List ℕ) → Acts dir a m n b b1 [] t → Acts dir a m n' b b2 [] t' → (n ≡ n') × (b1 ≡ b2) × (t ≡ t')
-one_act dir Stays m n n' b b1 b2 t t' h g = (h.0.0 ∙ sym g.0.0, h.0.1 ∙ sym g.0.1, h.1 ∙ sym g.1)
-one_act dir (Reads place) m n n' b b1 b2 t t' h g = (h.0.0 ∙ sym g.0.0, h.0.1 ∙ sym g.0.1, h.1 ∙ sym g.1)
-one_act Destination (Moves place k offset) m n n' b b1 b2 t t' h g = (h.0.0.2 ∙ sym g.0.0.2, h.0.1 ∙ sym g.0.1, h.1 ∙ sym g.1)
-one_act Source (Moves place k offset) m n n' b b1 b2 t t' h g =
+one_act : (dir : Direction) (a : Act) (m n n' : Memory) (b b1 b2 r t t' : List ℕ) → Acts dir a m n b b1 r t → Acts dir a m n' b b2 r t' → (n ≡ n') × (b1 ≡ b2) × (t ≡ t')
+one_act dir Stays m n n' b b1 b2 r t t' h g = (h.0.0 ∙ sym g.0.0, h.0.1 ∙ sym g.0.1, h.1 ∙ sym g.1)
+one_act dir (Reads place) m n n' b b1 b2 r t t' h g = (h.0.0 ∙ sym g.0.0, h.0.1 ∙ sym g.0.1, h.1 ∙ sym g.1)
+one_act Destination (Moves place k offset) m n n' b b1 b2 r t t' h g = (h.0.0.2 ∙ sym g.0.0.2, h.0.1 ∙ sym g.0.1, h.1 ∙ sym g.1)
+one_act Source (Moves place k offset) m n n' b b1 b2 r t t' h g =
     let f : h.0.0.0 ≡ g.0.0.0 = same_found h.0.0.1 g.0.0.1 in
     (h.0.1 ∙ sym g.0.1, h.0.0.2 ∙ ap (λ (found : List ℕ). take offset b ++ (found ++ drop (offset + k) b)) f ∙ sym g.0.0.2, h.1 ∙ sym g.1)
 
-one_unit : (c : Course) (dir : Direction) (m n n' : Memory) (b b1 b2 t t' : List ℕ) (o o' : WalkState) (l l' : Course) → DoesFirst c dir m n b b1 [] t → DoesFirst c dir m n' b b2 [] t' → LeavesRest c o l → LeavesRest c o' l'
+one_unit : (c : Course) (dir : Direction) (m n n' : Memory) (b b1 b2 r t t' : List ℕ) (o o' : WalkState) (l l' : Course) → DoesFirst c dir m n b b1 r t → DoesFirst c dir m n' b b2 r t' → LeavesRest c o l → LeavesRest c o' l'
     → (o ≡ o') × (n ≡ n') × (b1 ≡ b2) × (t ≡ t')
-one_unit (Closes v) dir m n n' b b1 b2 t t' o o' l l' h g r s = absurd h
-one_unit (Does a rest) dir m n n' b b1 b2 t t' o o' l l' h g r s = let e = one_act dir a m n n' b b1 b2 t t' h g in (r.0 ∙ sym s.0, e.0, e.1, e.2)
+one_unit (Closes v) dir m n n' b b1 b2 r t t' o o' l l' h g i j = absurd h
+one_unit (Does a rest) dir m n n' b b1 b2 r t t' o o' l l' h g i j = let e = one_act dir a m n n' b b1 b2 r t t' h g in (i.0 ∙ sym j.0, e.0, e.1, e.2)
 
 same_job : (j j' : JobContents) → Io j ≡ Io j' → j ≡ j'
 same_job j j' e = cc
@@ -65,26 +65,26 @@ map-set f [] i y = refl
 map-set f (x ∷ xs) zero y = refl
 map-set f (x ∷ xs) (suc i) y = ap (λ ys. f x ∷ ys) (map-set f xs i y)
 
-one_job : (m : Memory) (job j j' : JobContents) (o o' : WalkState) (n n' : Memory) (t t' : List ℕ) → DoesUnit m job o j n t → DoesUnit m job o' j' n' t' → Io (record j { walk = None }) ≡ Io (record j' { walk = None })
-one_job m job j j' o o' n n' t t' u u' =
-    let r = one_unit (job_course m job) (direction_of_entry job.entry) m n n' job.bytes _ _ t t' o o' _ _ u.does u'.does u.leaves u'.leaves in
+one_job : (m : Memory) (s : List ℕ) (job j j' : JobContents) (o o' : WalkState) (n n' : Memory) (t t' : List ℕ) → DoesUnit m s job o j n t → DoesUnit m s job o' j' n' t' → Io (record j { walk = None }) ≡ Io (record j' { walk = None })
+one_job m s job j j' o o' n n' t t' u u' =
+    let r = one_unit (job_course m job) (direction_of_entry job.entry) m n n' job.bytes _ _ s t t' o o' _ _ u.does u'.does u.leaves u'.leaves in
     let blocks = u.blocks ∙ sym u'.blocks in
     let entry = u.entry ∙ sym u'.entry in
     let verdict = u.verdict ∙ ap verdict_of r.0 ∙ sym u'.verdict in
     λ i. Io (record { blocks = blocks i; entry = entry i; bytes = r.2 i; walk = None; verdict = verdict i })
 
 pub one_walk : WalksOneWay
-one_walk c q cid m o o' x x' n n' t t' is w w' =
+one_walk c q cid m s o o' x x' n n' t t' is w w' =
     let a = w.among in
     let a' = w'.among in
     let p : FetchedCommand → Bool = is_command q cid in
     let k : a.command ≡ a'.command = same_found a.found a'.found in
     let job : a'.job ≡ a.job = same_job _ _ (sym a'.work ∙ (subst (λ (y : FetchedCommand). y.work ≡ Io a.job) k a.work)) in
-    let u : DoesUnit m a.job o' a'.job' n' t' = subst (λ (y : JobContents). DoesUnit m y o' a'.job' n' t') job a'.unit in
-    let r = one_unit (job_course m a.job) (direction_of_entry a.job.entry) m n n' a.job.bytes _ _ t t' o o' _ _ a.unit.does u.does a.unit.leaves u.leaves in
+    let u : DoesUnit m s a.job o' a'.job' n' t' = subst (λ (y : JobContents). DoesUnit m s y o' a'.job' n' t') job a'.unit in
+    let r = one_unit (job_course m a.job) (direction_of_entry a.job.entry) m n n' a.job.bytes _ _ s t t' o o' _ _ a.unit.does u.does a.unit.leaves u.leaves in
     let place : a.place ≡ a'.place =
     same_place p c.commands a.place a'.place a.command a'.command (is.commands.differ q cid) a.at (found_is p c.commands a.command a.found) a'.at (found_is p c.commands a'.command a'.found) in
-    let work = one_job m a.job a.job' a'.job' o o' n n' t t' a.unit u in
+    let work = one_job m s a.job a.job' a'.job' o o' n n' t t' a.unit u in
     let command : unplaced_command (stepped a.job' a.command) ≡ unplaced_command (stepped a'.job' a'.command) =
     ap (λ (y : FetchedCommand). unplaced_command (stepped a.job' y)) k ∙ ap (λ (y : Work). record a'.command { units_done = a'.command.units_done + 1; work = y }) work in (
       r.0,
@@ -102,21 +102,21 @@ one_walk c q cid m o o' x x' n n' t t' is w w' =
 -- Completions
 
 pub one_completion : CompletesOneWay
-one_completion c q cid m x x' n n' t t' w w' =
+one_completion c q cid m r x x' n n' t t' w w' =
     let k : w.command ≡ w'.command = same_found w.found w'.found in
     let queue : w.queue ≡ w'.queue = same_found w.here w'.here in (
       w.leaves ∙ ap (λ (y : FetchedCommand). completed q cid y.work c) k ∙ sym w'.leaves,
       w.memory ∙ ap₂ (λ (y : FetchedCommand) (z : ControllerQueue). memory_posted m z.device (completion_by q cid (status_of_end c.image y.work) (dw0_of_work y.work) z.device)) k queue ∙ sym w'.memory,
-      w.touches ∙ ap (λ (z : ControllerQueue). page_posted z.device ∷ []) queue ∙ sym w'.touches,
+      w.touches ∙ ap (λ (z : ControllerQueue). r ++ page_posted z.device ∷ []) queue ∙ sym w'.touches,
     )
 
 -- Fetches
 
-one_look : (c : Contents) (m : Memory) (q : ℕ) (e e' : SubEntry) (t t' : List ℕ) → LooksAt c m q e t → LooksAt c m q e' t' → (e ≡ e') × (t ≡ t')
-one_look c m q e e' t t' l l' =
+one_look : (c : Contents) (m : Memory) (r : List ℕ) (q : ℕ) (e e' : SubEntry) (t t' : List ℕ) → LooksAt c m r q e t → LooksAt c m r q e' t' → (e ≡ e') × (t ≡ t')
+one_look c m r q e e' t t' l l' =
     let device : l.device ≡ l'.device = same_found l.here l'.here in (
       same_found l.at (ap (λ (d : DeviceSide). entry_at m d.sq d.ring.head) device ∙ l'.at),
-      l.touches ∙ ap (λ (d : DeviceSide). submission_page d.sq d.ring.head ∷ []) device ∙ sym l'.touches,
+      l.touches ∙ ap (λ (d : DeviceSide). r ++ submission_page d.sq d.ring.head ∷ []) device ∙ sym l'.touches,
     )
 
 begun_alike : (image : List ℕ) (e : SubEntry) (q : ℕ) (j j' : JobContents) → IsBegun image e j → IsBegun image e j' → unplaced_command (command_of q (Io j)) ≡ unplaced_command (command_of q (Io j'))
@@ -157,8 +157,8 @@ takes_same c q e e' m look look' x n t same looks h =
     subst (λ (l : List ℕ). Takes (is_known c q e') c q e' m l x n t) looks (subst (λ (y : SubEntry). Takes (is_known c q y) c q y m look x n t) same h)
 
 pub one_fetch : FetchesOneWay
-one_fetch c m q cid cid' x x' n n' t t' w w' =
-    let l = one_look c m q w.entry w'.entry w.looked w'.looked w.looks w'.looks in
+one_fetch c m s q cid cid' x x' n n' t t' w w' =
+    let l = one_look c m s q w.entry w'.entry w.looked w'.looked w.looks w'.looks in
     let r = one_take (is_known c q w'.entry) c q w'.entry m w'.looked x x' n n' t t' (takes_same c q w.entry w'.entry m w.looked w'.looked x n t l.0 l.1 w.takes) w'.takes in
     (w.named ∙ ap (λ (e : SubEntry). e.cid) l.0 ∙ sym w'.named, r.0, r.1, r.2)
 
@@ -166,16 +166,16 @@ abbrev cause_of : Contents → Memory → ℕ → SubEntry → Option Refusal
 cause_of c m q e = if is_known c q e then entry_refusal c m q e else Some refusal.Memory
 
 pub one_refusal : RefusesOneWay
-one_refusal c m q why why' t t' = go (look_refusal c m q)
+one_refusal c m r q why why' t t' = go (look_refusal c m q)
   where
-    go : (o : Option Refusal) → RefusedBy o c m q why t → RefusedBy o c m q why' t' → (why ≡ why') × (t ≡ t')
+    go : (o : Option Refusal) → RefusedBy o c m r q why t → RefusedBy o c m r q why' t' → (why ≡ why') × (t ≡ t')
     go (Some cause) h g = (h.0 ∙ sym g.0, h.1 ∙ sym g.1)
     go None h g =
-        let l = one_look c m q h.entry g.entry t t' h.looks g.looks in
+        let l = one_look c m r q h.entry g.entry t t' h.looks g.looks in
         (same_found h.cause (ap (cause_of c m q) l.0 ∙ g.cause), l.1)
 
-no_refusal : (c : Contents) (m : Memory) (q : ℕ) (e : SubEntry) (t : List ℕ) → LooksAt c m q e t → look_refusal c m q ≡ None
-no_refusal c m q e t l =
+no_refusal : (c : Contents) (m : Memory) (r : List ℕ) (q : ℕ) (e : SubEntry) (t : List ℕ) → LooksAt c m r q e t → look_refusal c m q ≡ None
+no_refusal c m r q e t l =
     ap (λ (o : Option DeviceSide). option_map_or (side_refusal m) o (Some refusal.Idle)) l.here
     ∙ ap (λ (b : Bool). if b then Some refusal.Idle else option_map_or (λ e. None) (entry_at m l.device.sq l.device.ring.head) (Some refusal.SlotOut)) (apart (l.device.ring.head == l.device.ring.bell) refl)
     ∙ ap (λ (o : Option SubEntry). option_map_or (λ e. None) o (Some refusal.SlotOut)) l.at
@@ -185,14 +185,14 @@ no_refusal c m q e t l =
     apart false h = h
 
 pub served_unless_memory : ServedUnlessMemory
-served_unless_memory c m q cid why x n t t' w h =
-    entry (subst (λ (o : Option Refusal). RefusedBy o c m q why t') (no_refusal c m q w.entry w.looked w.looks) h)
+served_unless_memory c m s q cid why x n t t' w h =
+    entry (subst (λ (o : Option Refusal). RefusedBy o c m s q why t') (no_refusal c m s q w.entry w.looked w.looks) h)
   where
     by : (b : Bool) → entry_refusal c m q w.entry ≡ None → (if b then entry_refusal c m q w.entry else Some refusal.Memory) ≡ Some why → why ≡ refusal.Memory
     by true room cause = cc
     by false room cause = cc
 
-    entry : RefusedEntry c m q why t' → why ≡ refusal.Memory
+    entry : RefusedEntry c m s q why t' → why ≡ refusal.Memory
     entry r =
-        let l = one_look c m q w.entry r.entry w.looked t' w.looks r.looks in
+        let l = one_look c m s q w.entry r.entry w.looked t' w.looks r.looks in
         by (is_known c q w.entry) w.room (ap (cause_of c m q) l.0 ∙ r.cause)

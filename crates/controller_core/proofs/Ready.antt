@@ -1,55 +1,22 @@
 -- A command that was found ready completes.
-use Rattle.std.proofs.Common.{◌≡◌, ℕ, ◌<◌, ◌==◌, ◌&&◌, ◌++◌, ◌∷◌, [], not, ◌/◌, Bool, true, false, Option, Some, None, Result, Ok, Err, IsSome, IfSome, is_none, is_some, List, length, find, slice_get, slice_set, get_or, if◌then◌else◌, refl, ap, ap₂, sym, ◌∙◌, arith, subst, eqb-true}
+use Rattle.std.proofs.Common.{◌≡◌, ℕ, ◌<◌, ◌==◌, ◌&&◌, ◌++◌, ◌∷◌, [], not, ◌/◌, Bool, true, false, Option, Some, Result, Ok, Err, IsSome, IfSome, List, length, find, slice_get, slice_set, get_or, if◌then◌else◌, refl, ap, ap₂, sym, ◌∙◌, arith, subst, eqb-true}
 use Rattle.std.specs.List.{remove}
 use Rattle.std.specs.Result.{OnOk}
-use Rattle.std.proofs.lemmas.Bool.{eqb-false}
 use Rattle.admin_commands.specs.Entries.{named_queue}
 use Rattle.block_image.specs.Blocks.{block_count}
 use Rattle.entry_codec.specs.declared.status.Status.{Status}
-use Rattle.entry_codec.specs.declared.status.TheConstants.Status.{SUCCESS, COMPARE_FAILURE}
-use Rattle.entry_codec.specs.declared.submission.SubEntry.{SubEntry}
-use Rattle.io_commands.specs.Jobs.{status_after, status_by, is_success, kind_of_opcode}
-use Rattle.io_commands.specs.declared.request.Kind.{Kind}
-use Rattle.io_commands.specs.declared.request.Kind.TheVariants.{Read, Write, Compare}
-use Rattle.controller_core.specs.Contents.{change, Contents, IsController, AreCommands, FitsCommand, FitsWork, FitsVerdict, is_command, is_deletion, entry_of_work, verdict_of_work, dw0_of_work, FetchedCommand, Work}
+use Rattle.controller_core.specs.Contents.{change, Contents, IsController, AreCommands, FitsCommand, FitsWork, is_command, is_deletion, entry_of_work, verdict_of_work, dw0_of_work, FetchedCommand, Work}
 use Rattle.controller_core.specs.declared.refusal.Refusal.{Refusal}
-use Rattle.controller_core.specs.declared.refusal.Refusal.TheVariants as refusal
 use Rattle.page_memory.specs.Memory.{Memory}
 use Rattle.queue_pair.specs.Rings.{DeviceSide, answer_posted}
-use Rattle.controller_core.specs.Answering.{answer_refusal, completion_by, memory_posted, page_posted, with_answer, Posts}
-use Rattle.controller_core.specs.Completing.{CompletesTo, complete_refusal, command_refusal, queues_of_end, image_of_end, status_of_end, waits_among, without_command, without_submission, IsOver}
+use Rattle.controller_core.specs.Answering.{completion_by, memory_posted, page_posted, with_answer, Posts}
+use Rattle.controller_core.specs.Completing.{CompletesTo, queues_of_end, image_of_end, status_of_end, without_command, without_submission}
 use Rattle.controller_core.specs.Doorbells.{with_side}
 use Rattle.controller_core.specs.declared.command.Work.TheVariants.{Io, Admin}
 use Rattle.controller_core.specs.declared.queue.ControllerQueue.{ControllerQueue}
 use Rattle.controller_core.proofs.Lists.{some_is, change-change, length-change, all-at, change-at, all-filter, count-filter, found_is, get-at, without-one}
 
 -- How a command ends
-
-by_kind : (image : List ℕ) (e : SubEntry) (bytes : List ℕ) (kind : Option Kind) → (status_by image e bytes kind).sct < 8
-by_kind image e bytes None = omega arith
-by_kind image e bytes (Some Read) = omega arith
-by_kind image e bytes (Some Write) = omega arith
-by_kind image e bytes (Some Compare) = go _
-  where
-    go : (b : Bool) → (if b then SUCCESS else COMPARE_FAILURE).sct < 8
-    go true = omega arith
-    go false = omega arith
-
-by_verdict : (image : List ℕ) (e : SubEntry) (bytes : List ℕ) (v : Option Status) → FitsVerdict v → (status_after image e bytes v).sct < 8
-by_verdict image e bytes None fits = omega arith
-by_verdict image e bytes (Some v) fits = go (is_success v)
-  where
-    go : (b : Bool) → (if b then status_by image e bytes (kind_of_opcode e.opcode) else v).sct < 8
-    go true = by_kind image e bytes (kind_of_opcode e.opcode)
-    go false = fits
-
-pub end_fits : (blocks q done : ℕ) (image : List ℕ) (work : Work) → FitsWork blocks q done work → (status_of_end image work).sct < 8
-end_fits blocks q done image (Io job) fits = by_verdict image job.entry job.bytes job.verdict fits.2
-end_fits blocks q done image (Admin entry status dw0) fits = fits.1
-
-pub end_over : (blocks q done : ℕ) (work : Work) → FitsWork blocks q done work → IsOver blocks work
-end_over blocks q done (Io job) fits = fits.1
-end_over blocks q done (Admin entry status dw0) fits = tt
 
 length-end : (work : Work) (queues : List ControllerQueue) → length (queues_of_end work queues) ≡ length queues
 length-end (Io job) queues = refl
@@ -109,10 +76,10 @@ end-posted (Admin entry status dw0) q queues = by (is_deletion entry status)
     by false = refl
 
 -- what was posted for a command at a place, and what was done for the same command behind that
-pub finishes : (c : Contents) (m m' : Memory) (q cid place : ℕ) (k k' : FetchedCommand) (queues queues' : List ControllerQueue) (commands : List FetchedCommand) (image : List ℕ) (st : Status) (dw0 : ℕ) (reached touched : List ℕ)
-    → IsFound c q cid place k → IsFound c q cid place k' → st ≡ status_of_end c.image k.work → dw0 ≡ dw0_of_work k.work → reached ≡ [] → Posts c.queues q cid st dw0 m reached queues m' touched
-    → commands ≡ remove c.commands place → queues' ≡ queues_of_end k'.work queues → image ≡ image_of_end c.image k'.work → CompletesTo c q cid m (record { queues = queues'; commands = commands; image = image }) m' touched
-finishes c m m' q cid place k k' queues queues' commands image st dw0 reached touched f f' es ed er posts ec eq ei =
+pub finishes : (c : Contents) (m m' : Memory) (q cid place : ℕ) (k k' : FetchedCommand) (queues queues' : List ControllerQueue) (commands : List FetchedCommand) (image : List ℕ) (st : Status) (dw0 : ℕ) (reached reached' : List ℕ)
+    → IsFound c q cid place k → IsFound c q cid place k' → st ≡ status_of_end c.image k.work → dw0 ≡ dw0_of_work k.work → Posts c.queues q cid st dw0 m reached queues m' reached'
+    → commands ≡ remove c.commands place → queues' ≡ queues_of_end k'.work queues → image ≡ image_of_end c.image k'.work → CompletesTo c q cid m reached (record { queues = queues'; commands = commands; image = image }) m' reached'
+finishes c m m' q cid place k k' queues queues' commands image st dw0 reached reached' f f' es ed posts ec eq ei =
     let same : k ≡ k' = some_is (sym f.at ∙ f'.at) in
     let by_status : st ≡ status_of_end c.image k'.work = es ∙ ap (λ (x : FetchedCommand). status_of_end c.image x.work) same in
     let by_dw0 : dw0 ≡ dw0_of_work k'.work = ed ∙ ap (λ (x : FetchedCommand). dw0_of_work x.work) same in
@@ -124,7 +91,7 @@ finishes c m m' q cid place k k' queues queues' commands image st dw0 reached to
       here = posts.here;
       leaves = rw (left, ec, ei, ← f'.alone) refl;
       memory = posts.memory ∙ ap₂ (λ (st : Status) (dw0 : ℕ). memory_posted m posts.queue.device (completion_by q cid st dw0 posts.queue.device)) by_status by_dw0;
-      touches = posts.touches ∙ ap (λ (xs : List ℕ). xs ++ page_posted posts.queue.device ∷ []) er;
+      touches = posts.touches;
     }
 
 commands-without : (blocks queues q cid : ℕ) (commands : List FetchedCommand) → AreCommands blocks queues commands → AreCommands blocks queues (without_command q cid commands)
@@ -133,10 +100,10 @@ commands-without blocks queues q cid commands are = record {
   differ = λ r d. let l = count-filter (is_command r d) (λ (k : FetchedCommand). not (is_command q cid k)) commands in let m = are.differ r d in omega arith;
 }
 
-pub finished_kept : (c : Contents) (m m' : Memory) (q cid place : ℕ) (k : FetchedCommand) (queues queues' : List ControllerQueue) (commands : List FetchedCommand) (image : List ℕ) (st : Status) (dw0 : ℕ) (reached touched : List ℕ)
-    → IsController c → IsFound c q cid place k → Posts c.queues q cid st dw0 m reached queues m' touched → commands ≡ remove c.commands place → queues' ≡ queues_of_end k.work queues → length image ≡ length c.image
+pub finished_kept : (c : Contents) (m m' : Memory) (q cid place : ℕ) (k : FetchedCommand) (queues queues' : List ControllerQueue) (commands : List FetchedCommand) (image : List ℕ) (st : Status) (dw0 : ℕ) (reached reached' : List ℕ)
+    → IsController c → IsFound c q cid place k → Posts c.queues q cid st dw0 m reached queues m' reached' → commands ≡ remove c.commands place → queues' ≡ queues_of_end k.work queues → length image ≡ length c.image
     → IsController (record { queues = queues'; commands = commands; image = image })
-finished_kept c m m' q cid place k queues queues' commands image st dw0 reached touched is f posts ec eq ei =
+finished_kept c m m' q cid place k queues queues' commands image st dw0 reached reached' is f posts ec eq ei =
     let size : length queues' ≡ length c.queues = ap length eq ∙ (length-end k.work queues ∙ (ap length posts.queues_posted ∙ length-change q with_answer c.queues)) in
     record {
       commands =
@@ -167,10 +134,9 @@ is_found_in v c q cid place k e is found inside at =
     is_found v q cid place k is
     (subst (λ (x : Contents). find (is_command q cid) x.commands ≡ slice_get x.commands place) (sym e) found) (subst (λ (x : Contents). place < length x.commands) (sym e) inside) at
 
-pub finishes_in : (v c c' : Contents) (m m1 m' : Memory) (q cid place : ℕ) (k k' : FetchedCommand) (queues queues' : List ControllerQueue) (commands : List FetchedCommand) (image : List ℕ) (st : Status) (dw0 : ℕ) (reached touched : List ℕ)
-    → v ≡ c → m1 ≡ m → IsFound v q cid place k → IsFound v q cid place k' → st ≡ status_of_end v.image k.work → dw0 ≡ dw0_of_work k.work → reached ≡ [] → Posts v.queues q cid st dw0 m1 reached queues m' touched
-    → commands ≡ remove v.commands place → queues' ≡ queues_of_end k'.work queues → image ≡ image_of_end v.image k'.work → c' ≡ record { queues = queues'; commands = commands; image = image } → CompletesTo c q cid m c' m' touched
-finishes_in v c c' m m1 m' q cid place k k' queues queues' commands image st dw0 reached touched e em f f' es ed er posts ec eq ei is =
-    subst (λ (x : Contents). CompletesTo x q cid m c' m' touched) e
-    (subst (λ (n : Memory). CompletesTo v q cid n c' m' touched) em
-    (subst (λ (x : Contents). CompletesTo v q cid m1 x m' touched) (sym is) (finishes v m1 m' q cid place k k' queues queues' commands image st dw0 reached touched f f' es ed er posts ec eq ei)))
+pub finishes_in : (v c c' : Contents) (m m' : Memory) (q cid place : ℕ) (k k' : FetchedCommand) (queues queues' : List ControllerQueue) (commands : List FetchedCommand) (image : List ℕ) (st : Status) (dw0 : ℕ) (reached reached' : List ℕ)
+    → v ≡ c → IsFound v q cid place k → IsFound v q cid place k' → st ≡ status_of_end v.image k.work → dw0 ≡ dw0_of_work k.work → Posts v.queues q cid st dw0 m reached queues m' reached'
+    → commands ≡ remove v.commands place → queues' ≡ queues_of_end k'.work queues → image ≡ image_of_end v.image k'.work → c' ≡ record { queues = queues'; commands = commands; image = image } → CompletesTo c q cid m reached c' m' reached'
+finishes_in v c c' m m' q cid place k k' queues queues' commands image st dw0 reached reached' e f f' es ed posts ec eq ei is =
+    subst (λ (x : Contents). CompletesTo x q cid m reached c' m' reached') e
+    (subst (λ (x : Contents). CompletesTo v q cid m reached x m' reached') (sym is) (finishes v m m' q cid place k k' queues queues' commands image st dw0 reached reached' f f' es ed posts ec eq ei))

@@ -1,5 +1,5 @@
 -- A fetched command ends, and its completion is posted.
-use Rattle.std.specs.Prelude.{◌≡◌, ℕ, ◌==◌, ◌&&◌, ◌||◌, Bool, false, not, Option, Some, None, List, [], ◌∷◌, filter, find, is_none, slice_get, if◌then◌else◌}
+use Rattle.std.specs.Prelude.{◌≡◌, ℕ, ◌==◌, ◌&&◌, ◌||◌, ◌++◌, Bool, false, not, Option, Some, None, List, [], ◌∷◌, filter, find, is_none, slice_get, if◌then◌else◌}
 use Rattle.std.specs.List.{list_any}
 use Rattle.std.specs.Option.{option_map_or}
 use Rattle.admin_commands.specs.Entries.{named_queue}
@@ -76,12 +76,13 @@ completed q cid work c =
       image = image_of_end c.image work;
     }
 
--- What the completion of a command leaves of the controller and of the memory, with the page that it touches.
-pub record CompletesTo (c : Contents) (q cid : ℕ) (m : Memory) (c' : Contents) (m' : Memory) (touched : List ℕ) : Type 0 where
+-- What the completion of a command leaves of the controller and of the memory, with the page that it touches behind those that were
+-- touched before.
+pub record CompletesTo (c : Contents) (q cid : ℕ) (m : Memory) (reached : List ℕ) (c' : Contents) (m' : Memory) (reached' : List ℕ) : Type 0 where
   pub command : FetchedCommand
   pub queue : ControllerQueue
   pub found : find (is_command q cid) c.commands ≡ Some command
   pub here : slice_get c.queues q ≡ Some queue
   pub leaves : c' ≡ completed q cid command.work c
   pub memory : m' ≡ memory_posted m queue.device (completion_by q cid (status_of_end c.image command.work) (dw0_of_work command.work) queue.device)
-  pub touches : touched ≡ page_posted queue.device ∷ []
+  pub touches : reached' ≡ reached ++ page_posted queue.device ∷ []

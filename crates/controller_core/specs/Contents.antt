@@ -1,12 +1,13 @@
 -- What a controller keeps, and what always holds of it.
-use Rattle.std.specs.Prelude.{◌≡◌, ℕ, zero, suc, ◌+◌, ◌<◌, ◌≤◌, ◌==◌, ◌&&◌, Bool, true, false, Option, Some, List, [], ◌∷◌, length, IfSome}
+use Rattle.std.specs.Prelude.{◌≡◌, ℕ, ◌+◌, ◌<◌, ◌≤◌, ◌==◌, ◌&&◌, Bool, true, false, Option, Some, List, length}
 use Rattle.std.specs.List.{AllByRecursion, count_by}
 use Rattle.admin_commands.specs.Entries.{named_queue}
 use Rattle.block_image.specs.Blocks.{block_count}
-use Rattle.entry_codec.specs.declared.admin_opcode.TheConstants.{DELETE_IO_SQ}
 use Rattle.entry_codec.specs.declared.status.Status.{Status}
 use Rattle.entry_codec.specs.declared.submission.SubEntry.{SubEntry}
-use Rattle.io_commands.specs.Jobs.{JobContents, is_success, left_of_walk}
+use Rattle.io_commands.specs.Jobs.{JobContents, left_of_walk}
+pub use Rattle.io_commands.specs.Ends.{FitsVerdict, is_deletion}
+pub use Rattle.queue_pair.specs.Members.{change}
 use Rattle.controller_core.specs.declared.queue.ControllerQueue.{ControllerQueue}
 use Rattle.controller_core.specs.declared.command.FetchedCommand as command
 use Rattle.controller_core.specs.declared.command.Work as work
@@ -25,12 +26,6 @@ pub record Contents : Type 0 where
   pub commands : List FetchedCommand
   pub image : List ℕ
 
--- a list of which one member is changed, if it has so many
-abbrev pub change : {A : Type 0} → ℕ → (A → A) → List A → List A
-change k f [] = []
-change zero f (x ∷ xs) = f x ∷ xs
-change (suc k) f (x ∷ xs) = x ∷ change k f xs
-
 abbrev pub entry_of_work : Work → SubEntry
 entry_of_work (Io job) = job.entry
 entry_of_work (Admin entry status dw0) = entry
@@ -48,15 +43,7 @@ dw0_of_work (Admin entry status dw0) = dw0
 abbrev pub is_command : ℕ → ℕ → FetchedCommand → Bool
 is_command q cid k = (k.q == q) && ((entry_of_work k.work).cid == cid)
 
--- a status that a completion can carry
-abbrev pub FitsVerdict : Option Status → Type 0
-FitsVerdict verdict = IfSome verdict (λ st. st.sct < 8)
-
--- whether an admin command that ends so leaves nothing of a submission queue
-abbrev pub is_deletion : SubEntry → Status → Bool
-is_deletion entry status = (entry.opcode == DELETE_IO_SQ) && is_success status
-
--- A command of an I/O queue was checked over an image of so many blocks, and its walk ends after 12,546 units at most. Only I/O queues
+-- A command of an I/O queue was checked over an image of so many blocks, and its walk ends after 12,545 units at most. Only I/O queues
 -- are deleted.
 abbrev pub FitsWork : ℕ → ℕ → ℕ → Work → Type 0
 FitsWork blocks q done (Io job) = ((q == 0) ≡ false) × (job.blocks ≡ blocks) × FitsVerdict job.verdict × (done + left_of_walk job.walk ≤ 12545)

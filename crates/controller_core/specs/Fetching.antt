@@ -37,13 +37,13 @@ is_known c q e = is_some (find (is_command q e.cid) c.commands)
 abbrev pub entry_refusal : Contents → Memory → ℕ → SubEntry → Option Refusal
 entry_refusal c m q e = if is_known c q e then answer_refusal c.queues m q else None
 
--- An entry that was looked at, with the page that is touched.
-pub record LooksAt (c : Contents) (m : Memory) (q : ℕ) (e : SubEntry) (touched : List ℕ) : Type 0 where
+-- An entry that was looked at: its page is touched, behind those that were touched before.
+pub record LooksAt (c : Contents) (m : Memory) (reached : List ℕ) (q : ℕ) (e : SubEntry) (reached' : List ℕ) : Type 0 where
   pub device : DeviceSide
   pub here : live_side (slice_get c.queues q) ≡ Some device
   pub rung : device.ring.head ≢ device.ring.bell
   pub at : entry_at m device.sq device.ring.head ≡ Some e
-  pub touches : touched ≡ submission_page device.sq device.ring.head ∷ []
+  pub touches : reached' ≡ reached ++ submission_page device.sq device.ring.head ∷ []
 
 -- the job that a fetched entry of an I/O queue begins
 pub record IsBegun (image : List ℕ) (e : SubEntry) (job : JobContents) : Type 0 where
@@ -77,28 +77,28 @@ TakesIn true c q e c' = c' ≡ managed e c
 TakesIn false c q e c' = Begins c q e c'
 
 abbrev pub Takes : Bool → Contents → ℕ → SubEntry → Memory → List ℕ → Contents → Memory → List ℕ → Type 0
-Takes true c q e m looked c' m' touched = AnswersKnown c.queues q e.cid m looked c'.queues m' touched × (c'.commands ≡ c.commands) × (c'.image ≡ c.image)
-Takes false c q e m looked c' m' touched = TakesIn (q == 0) c q e c' × (m' ≡ m) × (touched ≡ looked)
+Takes true c q e m looked c' m' reached' = AnswersKnown c.queues q e.cid m looked c'.queues m' reached' × (c'.commands ≡ c.commands) × (c'.image ≡ c.image)
+Takes false c q e m looked c' m' reached' = TakesIn (q == 0) c q e c' × (m' ≡ m) × (reached' ≡ looked)
 
--- What a fetch makes of a controller and of the memory.
-pub record FetchesTo (c : Contents) (m : Memory) (q cid : ℕ) (c' : Contents) (m' : Memory) (touched : List ℕ) : Type 0 where
+-- What a fetch makes of a controller, of the memory and of the list of the pages touched.
+pub record FetchesTo (c : Contents) (m : Memory) (reached : List ℕ) (q cid : ℕ) (c' : Contents) (m' : Memory) (reached' : List ℕ) : Type 0 where
   pub entry : SubEntry
   pub looked : List ℕ
-  pub looks : LooksAt c m q entry looked
+  pub looks : LooksAt c m reached q entry looked
   pub named : cid ≡ entry.cid
   pub room : entry_refusal c m q entry ≡ None
-  pub takes : Takes (is_known c q entry) c q entry m looked c' m' touched
+  pub takes : Takes (is_known c q entry) c q entry m looked c' m' reached'
 
 -- What one is refused for: nothing to look at, no room for an answer at once, or else memory for the command.
-pub record RefusedEntry (c : Contents) (m : Memory) (q : ℕ) (why : Refusal) (touched : List ℕ) : Type 0 where
+pub record RefusedEntry (c : Contents) (m : Memory) (reached : List ℕ) (q : ℕ) (why : Refusal) (reached' : List ℕ) : Type 0 where
   pub entry : SubEntry
-  pub looks : LooksAt c m q entry touched
+  pub looks : LooksAt c m reached q entry reached'
   pub cause : (if is_known c q entry then entry_refusal c m q entry else Some refusal.Memory) ≡ Some why
 
-abbrev pub RefusedBy : Option Refusal → Contents → Memory → ℕ → Refusal → List ℕ → Type 0
-RefusedBy (Some cause) c m q why touched = (why ≡ cause) × (touched ≡ [])
-RefusedBy None c m q why touched = RefusedEntry c m q why touched
+abbrev pub RefusedBy : Option Refusal → Contents → Memory → List ℕ → ℕ → Refusal → List ℕ → Type 0
+RefusedBy (Some cause) c m reached q why reached' = (why ≡ cause) × (reached' ≡ reached)
+RefusedBy None c m reached q why reached' = RefusedEntry c m reached q why reached'
 
-abbrev pub Fetches : Contents → Memory → ℕ → Result ℕ Refusal → Contents → Memory → List ℕ → Type 0
-Fetches c m q (Ok cid) c' m' touched = FetchesTo c m q cid c' m' touched
-Fetches c m q (Err why) c' m' touched = RefusedBy (look_refusal c m q) c m q why touched × (c' ≡ c) × (m' ≡ m)
+abbrev pub Fetches : Contents → Memory → List ℕ → ℕ → Result ℕ Refusal → Contents → Memory → List ℕ → Type 0
+Fetches c m reached q (Ok cid) c' m' reached' = FetchesTo c m reached q cid c' m' reached'
+Fetches c m reached q (Err why) c' m' reached' = RefusedBy (look_refusal c m q) c m reached q why reached' × (c' ≡ c) × (m' ≡ m)

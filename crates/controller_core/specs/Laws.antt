@@ -1,4 +1,4 @@
--- Nothing of what a call leaves, answers and touches is open: it hangs on the controller and the memory alone. How a walk keeps its place is
+-- Nothing of what a call leaves, answers and touches is open: it hangs on the controller, the memory and the pages touched before alone. How a walk keeps its place is
 -- its own matter.
 use Rattle.std.specs.Prelude.{◌≡◌, ℕ, None, List, map}
 use Rattle.controller_walk.specs.declared.walk.WalkState.{WalkState}
@@ -27,26 +27,26 @@ pub record AreAlike (c c' : Contents) : Type 0 where
 
 abbrev pub WalksOneWay : Type 0
 WalksOneWay =
-    (c : Contents) (q cid : ℕ) (m : Memory) (o o' : WalkState) (x x' : Contents) (n n' : Memory) (t t' : List ℕ)
-    → IsController c → WalksTo c q cid m o x n t → WalksTo c q cid m o' x' n' t' → (o ≡ o') × AreAlike x x' × (n ≡ n') × (t ≡ t')
+    (c : Contents) (q cid : ℕ) (m : Memory) (r : List ℕ) (o o' : WalkState) (x x' : Contents) (n n' : Memory) (t t' : List ℕ)
+    → IsController c → WalksTo c q cid m r o x n t → WalksTo c q cid m r o' x' n' t' → (o ≡ o') × AreAlike x x' × (n ≡ n') × (t ≡ t')
 
 abbrev pub CompletesOneWay : Type 0
 CompletesOneWay =
-    (c : Contents) (q cid : ℕ) (m : Memory) (x x' : Contents) (n n' : Memory) (t t' : List ℕ)
-    → CompletesTo c q cid m x n t → CompletesTo c q cid m x' n' t' → (x ≡ x') × (n ≡ n') × (t ≡ t')
+    (c : Contents) (q cid : ℕ) (m : Memory) (r : List ℕ) (x x' : Contents) (n n' : Memory) (t t' : List ℕ)
+    → CompletesTo c q cid m r x n t → CompletesTo c q cid m r x' n' t' → (x ≡ x') × (n ≡ n') × (t ≡ t')
 
 abbrev pub FetchesOneWay : Type 0
 FetchesOneWay =
-    (c : Contents) (m : Memory) (q cid cid' : ℕ) (x x' : Contents) (n n' : Memory) (t t' : List ℕ)
-    → FetchesTo c m q cid x n t → FetchesTo c m q cid' x' n' t' → (cid ≡ cid') × AreAlike x x' × (n ≡ n') × (t ≡ t')
+    (c : Contents) (m : Memory) (r : List ℕ) (q cid cid' : ℕ) (x x' : Contents) (n n' : Memory) (t t' : List ℕ)
+    → FetchesTo c m r q cid x n t → FetchesTo c m r q cid' x' n' t' → (cid ≡ cid') × AreAlike x x' × (n ≡ n') × (t ≡ t')
 
 -- A refusal is determined too, and a fetch that can be served is refused for want of memory alone.
 abbrev pub RefusesOneWay : Type 0
 RefusesOneWay =
-    (c : Contents) (m : Memory) (q : ℕ) (why why' : Refusal) (t t' : List ℕ)
-    → RefusedBy (look_refusal c m q) c m q why t → RefusedBy (look_refusal c m q) c m q why' t' → (why ≡ why') × (t ≡ t')
+    (c : Contents) (m : Memory) (r : List ℕ) (q : ℕ) (why why' : Refusal) (t t' : List ℕ)
+    → RefusedBy (look_refusal c m q) c m r q why t → RefusedBy (look_refusal c m q) c m r q why' t' → (why ≡ why') × (t ≡ t')
 
 abbrev pub ServedUnlessMemory : Type 0
 ServedUnlessMemory =
-    (c : Contents) (m : Memory) (q cid : ℕ) (why : Refusal) (x : Contents) (n : Memory) (t t' : List ℕ)
-    → FetchesTo c m q cid x n t → RefusedBy (look_refusal c m q) c m q why t' → why ≡ refusal.Memory
+    (c : Contents) (m : Memory) (r : List ℕ) (q cid : ℕ) (why : Refusal) (x : Contents) (n : Memory) (t t' : List ℕ)
+    → FetchesTo c m r q cid x n t → RefusedBy (look_refusal c m q) c m r q why t' → why ≡ refusal.Memory

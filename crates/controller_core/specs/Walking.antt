@@ -1,5 +1,5 @@
 -- What the step of a command's walk does.
-use Rattle.std.specs.Prelude.{◌≡◌, ℕ, ◌+◌, ◌<◌, Option, Some, None, List, [], find, is_some, slice_get, slice_set, if◌then◌else◌}
+use Rattle.std.specs.Prelude.{◌≡◌, ℕ, ◌+◌, ◌<◌, Option, Some, None, List, find, is_some, slice_get, slice_set, if◌then◌else◌}
 use Rattle.std.specs.Option.{option_map_or}
 use Rattle.controller_walk.specs.Walks.{DoesFirst, LeavesRest}
 use Rattle.controller_walk.specs.declared.walk.WalkState.{WalkState}
@@ -21,9 +21,9 @@ abbrev pub walk_refusal : Contents → ℕ → ℕ → Option Refusal
 walk_refusal c q cid = refusal_among c.commands q cid
 
 -- Of what the list still has to do in this memory, the first unit is done, and the rest is left: what is left of the job and of the
--- memory, what is answered, and which pages are touched.
-pub record DoesUnit (m : Memory) (job : JobContents) (outcome : WalkState) (job' : JobContents) (m' : Memory) (touched : List ℕ) : Type 0 where
-  pub does : DoesFirst (job_course m job) (direction_of_entry job.entry) m m' job.bytes job'.bytes [] touched
+-- memory, what is answered, and which pages are touched behind those that were touched before.
+pub record DoesUnit (m : Memory) (reached : List ℕ) (job : JobContents) (outcome : WalkState) (job' : JobContents) (m' : Memory) (reached' : List ℕ) : Type 0 where
+  pub does : DoesFirst (job_course m job) (direction_of_entry job.entry) m m' job.bytes job'.bytes reached reached'
   pub leaves : LeavesRest (job_course m job) outcome (job_course m job')
   pub verdict : job'.verdict ≡ verdict_of outcome
   pub entry : job'.entry ≡ job.entry
@@ -35,7 +35,7 @@ abbrev pub stepped : JobContents → FetchedCommand → FetchedCommand
 stepped job k = record k { units_done = k.units_done + 1; work = Io job }
 
 -- So it is with the job of the command of this name; all other commands stay.
-pub record WalksAmong (commands : List FetchedCommand) (q cid : ℕ) (m : Memory) (outcome : WalkState) (commands' : List FetchedCommand) (m' : Memory) (touched : List ℕ) : Type 0 where
+pub record WalksAmong (commands : List FetchedCommand) (q cid : ℕ) (m : Memory) (reached : List ℕ) (outcome : WalkState) (commands' : List FetchedCommand) (m' : Memory) (reached' : List ℕ) : Type 0 where
   pub place : ℕ
   pub command : FetchedCommand
   pub job : JobContents
@@ -44,11 +44,11 @@ pub record WalksAmong (commands : List FetchedCommand) (q cid : ℕ) (m : Memory
   pub at : slice_get commands place ≡ Some command
   pub work : command.work ≡ Io job
   pub going : job.verdict ≡ None
-  pub unit : DoesUnit m job outcome job' m' touched
+  pub unit : DoesUnit m reached job outcome job' m' reached'
   pub leaves : commands' ≡ slice_set commands place (stepped job' command)
 
 -- and the queues and the image stay
-pub record WalksTo (c : Contents) (q cid : ℕ) (m : Memory) (outcome : WalkState) (c' : Contents) (m' : Memory) (touched : List ℕ) : Type 0 where
-  pub among : WalksAmong c.commands q cid m outcome c'.commands m' touched
+pub record WalksTo (c : Contents) (q cid : ℕ) (m : Memory) (reached : List ℕ) (outcome : WalkState) (c' : Contents) (m' : Memory) (reached' : List ℕ) : Type 0 where
+  pub among : WalksAmong c.commands q cid m reached outcome c'.commands m' reached'
   pub queues : c'.queues ≡ c.queues
   pub image : c'.image ≡ c.image

@@ -1,6 +1,6 @@
 //! The controller completes a command.
 
-ghost use Rattle.std.specs.Prelude.{◌≡◌, ◌<◌, [], IfErr, IfOk, IfSome, IsSome, Some, OnOk, OnErr, length, find, slice_get};
+ghost use Rattle.std.specs.Prelude.{◌≡◌, ◌<◌, ◌≤◌, IfErr, IfOk, IfSome, IsSome, Some, OnOk, OnErr, length, find, slice_get};
 ghost use Rattle.std.specs.Result.{result_err};
 ghost use Rattle.block_image.specs.Blocks.{block_count};
 ghost use Rattle.page_memory.specs.Memory.{Memory};
@@ -101,20 +101,20 @@ impl<A: Allocator> Controller<A> {
 
     /// Posts the completion of a fetched command, and forgets the command. A Write that ends well changes the image here, and a
     /// deletion of a submission queue leaves nothing of it (NVM Express Base Specification 2.0, "Common Completion Queue Entry",
-    /// section 3.3.3.2).
+    /// section 3.3.3.2). The list of the touched pages has two pages at most before, and gets that of the slot.
     ///
     /// # Errors
     ///
     /// 1. `NoJob`: there is no such command. 2. `Walking`: its list isn't walked to the end. 3. `Waits`: an Abort waits for the
     /// command that it stopped, a deletion for the commands of its queue. 4. `Full`: the completion ring is full. 5. `SlotOut`: a
-    /// byte of the slot is missing. Then nothing changed, and the touched list is empty.
+    /// byte of the slot is missing. Then nothing changed, and no page was touched.
     pub fn complete<D: Dma>(&mut self, q: u16, cid: u16, dma: &mut D) -> Result<(), Refusal>
+        requires room { length (D.reached dma.old) ≤ 2 }
         ensures refusal { result_err result ≡ complete_refusal self.old (D.memory dma.old) q cid }
-        ensures refused { OnErr result ((self.new ≡ self.old) × (D.memory dma.new ≡ D.memory dma.old) × (D.reached dma.new ≡ [])) }
-        ensures completes { OnOk result (CompletesTo self.old q cid (D.memory dma.old) self.new (D.memory dma.new) (D.reached dma.new)) }
+        ensures refused { OnErr result ((self.new ≡ self.old) × (D.memory dma.new ≡ D.memory dma.old) × (D.reached dma.new ≡ D.reached dma.old)) }
+        ensures completes { OnOk result (CompletesTo self.old q cid (D.memory dma.old) (D.reached dma.old) self.new (D.memory dma.new) (D.reached dma.new)) }
         ensures pool { D.page_count dma.new ≡ D.page_count dma.old }
     {
-        dma.clear();
         let place = self.check_complete(q, cid)?;
         let (status, dw0) = self.commands[place].work.end(&self.image);
         answer(&mut self.queues, q, cid, status, dw0, dma)?;

@@ -41,12 +41,12 @@ fn live_pair(queues: &[ControllerQueue], q: u16) -> Option<DevicePair>
 ///
 /// 1. `Idle`: nothing is rung. 2. `SlotOut`: a byte of its slot is missing.
 fn head_entry<D: Dma>(pair: &DevicePair, dma: &mut D) -> Result<SubEntry, Refusal>
-    requires clear { D.reached dma.old ≡ [] }
+    requires room { length (D.reached dma.old) ≤ 2 }
     ensures refusal { result_err result ≡ side_refusal (D.memory dma.old) pair.now }
     ensures some { IfOk result (λ e. pair.now.ring.head ≢ pair.now.ring.bell) }
     ensures entry { IfOk result (λ e. entry_at (D.memory dma.old) pair.now.sq pair.now.ring.head ≡ Some e) }
-    ensures touched { OnOk result (D.reached dma.new ≡ submission_page pair.now.sq pair.now.ring.head ∷ []) }
-    ensures untouched { OnErr result (D.reached dma.new ≡ []) }
+    ensures touched { OnOk result (D.reached dma.new ≡ D.reached dma.old ++ submission_page pair.now.sq pair.now.ring.head ∷ []) }
+    ensures untouched { OnErr result (D.reached dma.new ≡ D.reached dma.old) }
     ensures memory { D.memory dma.new ≡ D.memory dma.old }
     ensures pool { D.page_count dma.new ≡ D.page_count dma.old }
 {
@@ -120,10 +120,10 @@ fn fetched<A: Allocator>(q: u16, work: Work<Job<A>>) -> FetchedCommand<Job<A>>
 impl<A: Allocator + Copy> Controller<A> {
     /// The entry at the head of a queue, or the first cause against it.
     fn look<D: Dma>(&self, q: u16, dma: &mut D) -> Result<SubEntry, Refusal>
-        requires clear { D.reached dma.old ≡ [] }
+        requires room { length (D.reached dma.old) ≤ 2 }
         ensures refusal { result_err result ≡ look_refusal self.now (D.memory dma.old) q }
-        ensures looks { IfOk result (λ e. LooksAt self.now (D.memory dma.old) q e (D.reached dma.new)) }
-        ensures untouched { OnErr result (D.reached dma.new ≡ []) }
+        ensures looks { IfOk result (λ e. LooksAt self.now (D.memory dma.old) (D.reached dma.old) q e (D.reached dma.new)) }
+        ensures untouched { OnErr result (D.reached dma.new ≡ D.reached dma.old) }
         ensures memory { D.memory dma.new ≡ D.memory dma.old }
         ensures pool { D.page_count dma.new ≡ D.page_count dma.old }
     {
@@ -170,18 +170,20 @@ impl<A: Allocator + Copy> Controller<A> {
     /// a field check fails, that is its verdict, and a Read takes its blocks from the image as it is now. An entry of queue 0 is decided
     /// here: an Abort stops its command, the deletion of a submission queue stops that queue and its commands, and the deletion of a
     /// completion queue drops it. An identifier that was fetched from the queue and not completed is answered at once, with Command
-    /// Identifier Conflict.
+    /// Identifier Conflict. The list of the touched pages has one page at most before. It gets the entry's page, and behind it that of
+    /// such an answer.
     ///
     /// # Errors
     ///
     /// 1. `Idle`: there is no such queue, nothing is fetched from it, or nothing is rung. 2. `SlotOut`: a byte of the entry's slot is
     /// missing. Where the identifier is answered at once: 3. `Full`: the completion ring is full. 4. `SlotOut`: a byte of the
-    /// completion's slot is missing. Else 5. `Memory`, where memory is refused. Then nothing changed.
+    /// completion's slot is missing. Else 5. `Memory`, where memory is refused. Then nothing changed but the touched list, which has the
+    /// entry's page from the third on.
     pub fn fetch<D: Dma>(&mut self, q: u16, dma: &mut D) -> Result<u16, Refusal>
-        ensures fetches { Fetches self.old (D.memory dma.old) q result self.new (D.memory dma.new) (D.reached dma.new) }
+        requires room { length (D.reached dma.old) ≤ 1 }
+        ensures fetches { Fetches self.old (D.memory dma.old) (D.reached dma.old) q result self.new (D.memory dma.new) (D.reached dma.new) }
         ensures pool { D.page_count dma.new ≡ D.page_count dma.old }
     {
-        dma.clear();
         let entry = self.look(q, dma)?;
         let cid = entry.cid;
         if find_command(&self.commands, q, cid).is_some() {

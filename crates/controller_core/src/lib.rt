@@ -5,8 +5,8 @@
 //! (NVM Express Base Specification 2.0, "Memory-based transport queue model", section 3.3.1).
 //!
 //! The contract of each call holds for every memory, whatever stands there: for what it is refused, what it answers, which pages it
-//! touches, and what it leaves of the controller and of the memory. Each call clears the touched list first, so that behind it the list
-//! has what this call touched.
+//! touches, and what it leaves of the controller and of the memory. A call appends the pages that it touches to the touched list, behind
+//! those that stand there, and asks for room: who wants to see what one call touched clears the list before it.
 #![tactic(auto)]
 
 mod answer;

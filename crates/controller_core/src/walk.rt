@@ -1,6 +1,6 @@
 //! The controller walks the list of a command.
 
-ghost use Rattle.std.specs.Prelude.{◌≡◌, ◌<◌, ◌≤◌, [], None, IfOk, IfSome, OnErr, find, length, slice_get};
+ghost use Rattle.std.specs.Prelude.{◌≡◌, ◌<◌, ◌≤◌, None, IfOk, IfSome, OnErr, find, length, slice_get};
 ghost use Rattle.std.specs.Result.{result_err};
 ghost use Rattle.controller_core.specs.Contents.{is_command};
 ghost use Rattle.controller_core.specs.Walking.{refusal_among, walk_refusal, WalksAmong, WalksTo};
@@ -45,8 +45,8 @@ fn walk_at<A: Allocator, D: Dma>(
     requires within { place < length commands.old.items }
     requires accepted { refusal_among commands.old.items q cid ≡ None }
     requires few { IfSome (slice_get commands.old.items place) (λ k. k.units_done ≤ 12545) }
-    requires clear { D.reached dma.old ≡ [] }
-    ensures among { WalksAmong commands.old.items q cid (D.memory dma.old) result commands.new.items (D.memory dma.new) (D.reached dma.new) }
+    requires room { length (D.reached dma.old) ≤ 2 }
+    ensures among { WalksAmong commands.old.items q cid (D.memory dma.old) (D.reached dma.old) result commands.new.items (D.memory dma.new) (D.reached dma.new) }
     ensures pool { D.page_count dma.new ≡ D.page_count dma.old }
 {
     let command = &mut commands[place];
@@ -62,19 +62,20 @@ fn walk_at<A: Allocator, D: Dma>(
 
 impl<A: Allocator> Controller<A> {
     /// Does the next unit of the list of a fetched command: takes a descriptor, or moves the bytes of one page. With the last unit it
-    /// answers `End` or a fault, which is then the command's verdict (NVM Express Base Specification 2.0, "SGL", section 4.1.2).
+    /// answers `End` or a fault, which is then the command's verdict (NVM Express Base Specification 2.0, "SGL", section 4.1.2). The list of the touched pages has two
+    /// pages at most before, and gets those of the unit.
     ///
     /// # Errors
     ///
     /// 1. `NoJob`: there is no such command. 2. `Nothing`: it has its verdict already, as each admin command has. Then nothing
     /// changed, and no page was touched.
     pub fn walk<D: Dma>(&mut self, q: u16, cid: u16, dma: &mut D) -> Result<WalkState, Refusal>
+        requires room { length (D.reached dma.old) ≤ 2 }
         ensures refusal { result_err result ≡ walk_refusal self.old q cid }
-        ensures refused { OnErr result ((self.new ≡ self.old) × (D.memory dma.new ≡ D.memory dma.old) × (D.reached dma.new ≡ [])) }
-        ensures walks { IfOk result (λ state. WalksTo self.old q cid (D.memory dma.old) state self.new (D.memory dma.new) (D.reached dma.new)) }
+        ensures refused { OnErr result ((self.new ≡ self.old) × (D.memory dma.new ≡ D.memory dma.old) × (D.reached dma.new ≡ D.reached dma.old)) }
+        ensures walks { IfOk result (λ state. WalksTo self.old q cid (D.memory dma.old) (D.reached dma.old) state self.new (D.memory dma.new) (D.reached dma.new)) }
         ensures pool { D.page_count dma.new ≡ D.page_count dma.old }
     {
-        dma.clear();
         let place = check_walk(&self.commands, q, cid)?;
         Ok(walk_at(&mut self.commands, q, cid, place, dma))
     }

@@ -17,12 +17,12 @@ ghost use Rattle.controller_core.specs.Worked.{fresh, rung, memory_with_entry, w
 ghost use Rattle.controller_core.specs.declared.command.Work.TheVariants.{Admin};
 ghost use Rattle.controller_core.specs.declared.refusal.Refusal.TheVariants as refusal;
 
-/// A Read of one block, from the entry in memory to the completion in memory, with the pages that each call touches.
+/// A Read of one block, from the entry in memory to the completion in memory, with the pages that each call touches behind those that were touched before.
 pub fn worked_first_read()
-    ensures fetch { FetchesTo rung memory_with_entry 1 0 with_read_begun memory_with_entry (2 ∷ []) }
-    ensures first_unit { WalksTo with_read_begun 1 0 memory_with_entry More with_read_halfway memory_with_entry [] }
-    ensures second_unit { WalksTo with_read_halfway 1 0 memory_with_entry End with_read_walked memory_with_data (4 ∷ []) }
-    ensures completion { CompletesTo with_read_walked 1 0 memory_with_data with_read_completed memory_with_completion (3 ∷ []) }
+    ensures fetch { FetchesTo rung memory_with_entry [] 1 0 with_read_begun memory_with_entry (2 ∷ []) }
+    ensures first_unit { WalksTo with_read_begun 1 0 memory_with_entry (2 ∷ []) More with_read_halfway memory_with_entry (2 ∷ []) }
+    ensures second_unit { WalksTo with_read_halfway 1 0 memory_with_entry (2 ∷ []) End with_read_walked memory_with_data (2 ∷ 4 ∷ []) }
+    ensures completion { CompletesTo with_read_walked 1 0 memory_with_data (2 ∷ 4 ∷ []) with_read_completed memory_with_completion (2 ∷ 4 ∷ 3 ∷ []) }
     ensures data { bytes_at memory_with_completion 0x4000 512 ≡ Some (replicate 512 0x11) }
     ensures entry { bytes_at memory_with_completion 0x3000 16 ≡ Some first_completion_bytes }
 {}

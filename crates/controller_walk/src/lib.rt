@@ -19,8 +19,6 @@ mod cursor;
 mod faults;
 pub mod laws;
 mod progress;
-#[cfg(test)]
-mod tests;
 mod walk;
 pub mod worked;
 

@@ -6,6 +6,7 @@ use Rattle.machine_model.specs.Laws.{Steps}
 use Rattle.machine_model.specs.State.{State}
 use Rattle.machine_model.proofs.InOrders.{opens_in_order, order_kept}
 use Rattle.machine_model.proofs.Agreed.{agreed_stays}
+use Rattle.machine_model.proofs.NeverRestored.{ends_unforged}
 use Rattle.world_tables.specs.Opening.{opening_of}
 use Rattle.driver_book.specs.History.{asked, told, TellsOf, LeadsTo}
 use Rattle.driver_book.specs.Laws.{IsEntryOf, entries_name_allowed_pages, logs_are_trusted_runs}
@@ -72,6 +73,6 @@ logs_are_runs config image log world opens is_image leads trusted =
         opens = opens;
         is_image = is_image;
         steps = steps_by (opening_of config image) world log leads;
-        trusted = trusted;
+        unforged = ends_unforged (made_by (opening_of config image) world log leads) (opening_of config image) world (steps_by (opening_of config image) world log leads) trusted;
       };
     }

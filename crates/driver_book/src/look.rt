@@ -1,6 +1,6 @@
 //! Looks at a book: what would be answered. They make no step, and nothing is written down.
 
-ghost use Rattle.std.specs.Prelude.{◌≡◌, ℕ, true, false, None, IfSome, IfNone, IsTrue};
+ghost use Rattle.std.specs.Prelude.{◌≡◌, ℕ, ◌<◌, true, false, None, IfSome, IfNone, IsTrue};
 ghost use Rattle.machine_model.specs.Events as events;
 ghost use Rattle.machine_model.specs.Refusals.{refusal_of};
 ghost use Rattle.step_core.specs.Looks.{has_completion, event_of, IsAtRest};
@@ -28,6 +28,7 @@ impl<L: Driver> Book<L> {
     /// [`step_core::World::next_completion`].
     pub fn next_completion(&mut self) -> Option<u16>
         ensures some { IfSome result (λ q. has_completion self.old.world q ≡ true) }
+        ensures first { IfSome result (λ q. (p : ℕ) → p < q → has_completion self.old.world p ≡ false) }
         ensures none { IfNone result ((q : ℕ) → has_completion self.old.world q ≡ false) }
         ensures same { self.new ≡ self.old }
     {

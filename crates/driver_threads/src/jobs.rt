@@ -35,7 +35,7 @@ pub enum JobEnd {
     Refused(JobRefusal),
 }
 
-/// Why a job was refused: the first of these that holds.
+/// Why a job was refused.
 #[derive(Clone, Copy, Debug, PartialEq, Eq, Error)]
 pub enum JobRefusal {
     /// There is no such I/O queue, or its submission half was given back.

@@ -212,7 +212,7 @@ fn run_over<L: Driver + Send + Sync, G: Gate + Sync, R: Threads + Wait + Sync>(
 ///
 /// # Errors
 ///
-/// In this order: `Open` where no book is opened. `NoThread` where a thread cannot be made. `GateClosed` where a gate was closed to a
+/// `Open` where no book is opened, and then nothing else. `NoThread` where a thread cannot be made. `GateClosed` where a gate was closed to a
 /// worker, and then the least. `Close` where the book is not closed. `Memory` where memory is refused to the opening, to the run, to a
 /// worker or to the closing; a worker to whom it is refused tells the others to stop, so that jobs have no end. What was moved in is
 /// dropped.

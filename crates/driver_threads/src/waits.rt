@@ -99,13 +99,13 @@ impl<L: Driver> Shared<L> {
         let stopping = book.stopping();
         drop(book);
         if stopping {
-            let _spent = ticket.apart();
+            drop(ticket.apart());
             return Err(Halt::Stopped);
         }
         match self.collect(rt, ticket) {
             Ok(finished) => Ok(finished),
             Err(refused) => {
-                let _spent = refused.value.apart();
+                drop(refused.value.apart());
                 match refused.why {
                     Refusal::Memory => Err(Halt::Memory),
                     _ => Err(Halt::Stopped),

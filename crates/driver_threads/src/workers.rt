@@ -88,12 +88,12 @@ fn give_up<L: Driver, R: Wait>(rt: &R, shared: &Shared<L>, draft: Draft, halt: H
         Halt::Refused(_) => match shared.cancel(rt, draft) {
             Ok(()) => halt,
             Err(refused) => {
-                let _spent = refused.value.apart();
+                drop(refused.value.apart());
                 Halt::Memory
             }
         },
         Halt::Stopped | Halt::Memory => {
-            let _spent = draft.apart();
+            drop(draft.apart());
             halt
         }
     }
@@ -149,7 +149,7 @@ fn finished<L: Driver, R: Wait>(
 {
     let status = finished.status();
     let Ok(bytes) = finished.gather(alloc) else {
-        let _spent = finished.apart();
+        drop(finished.apart());
         return Err(Halt::Memory);
     };
     match shared.release(rt, seat, finished) {
@@ -158,7 +158,7 @@ fn finished<L: Driver, R: Wait>(
             bytes: Bytes::from_vec(bytes),
         }),
         Err(refused) => {
-            let _spent = refused.value.apart();
+            drop(refused.value.apart());
             Err(Halt::Memory)
         }
     }
@@ -179,7 +179,7 @@ fn carry<L: Driver, G: Gate, R: Wait>(
     watch.pass(Point::Submitted);
     match shared.ring(rt, q) {
         Err(Refusal::Memory) => {
-            let _spent = ticket.apart();
+            drop(ticket.apart());
             return Err(Halt::Memory);
         }
         Ok(()) | Err(_) => {}

@@ -108,22 +108,3 @@ pub fn worked_texts()
     ensures compare_failure { status_text Status.COMPARE_FAILURE ≡ codes "2:85" }
     ensures largest { status_text (record { sct = 255; sc = 255 }) ≡ codes "255:FF" }
 {}
-
-#[cfg(test)]
-mod tests {
-    use super::*;
-    use std::test::Fail;
-
-    #[test]
-    fn texts(rt: HostRuntime) -> Result<(), Fail> {
-        for (status, text) in [
-            (Status::SUCCESS, "0:00"),
-            (Status::INVALID_SGL_SEGMENT, "0:0D"),
-            (Status::INVALID_QUEUE_DELETION, "1:0C"),
-            (Status::COMPARE_FAILURE, "2:85"),
-        ] {
-            assert_eq!(rt; format!(in rt.alloc(); "{status}")?.as_str(), text);
-        }
-        Ok(())
-    }
-}

@@ -6,3 +6,4 @@ pub mod Jobs
 pub mod Requests
 pub mod Values
 pub mod Asked
+pub mod Ends

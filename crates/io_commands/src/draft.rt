@@ -67,8 +67,8 @@ pub enum FillFault {
 }
 
 impl<A: Allocator> Draft<A> {
-    /// A draft, not yet built. The pages are those of the data pieces, in order, and then those of the chain, in order;
-    /// they are distinct, and `segment` is the most descriptors of a segment.
+    /// A draft, not yet built. The pages are those of the data pieces, in order, and then those of the chain, in order.
+    /// `segment` is the most descriptors of a segment.
     pub fn make(
         q: u16,
         cid: u16,

@@ -328,6 +328,3 @@ pub fn worked_ends()
     ensures compare_leaves { image_after (replicate 512 0x11) (entry_over 0x05 0 1) (replicate 512 0x22) (Some Status.SUCCESS) ≡ replicate 512 0x11 }
     ensures read_leaves { image_after (replicate 512 0x11) (entry_over 0x02 0 1) (replicate 512 0x22) (Some Status.SUCCESS) ≡ replicate 512 0x11 }
 {}
-
-#[cfg(test)]
-mod tests;

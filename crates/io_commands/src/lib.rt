@@ -18,6 +18,3 @@ pub use finished::{Finished, FinishedParts};
 pub use job::{Job, begin_job, finish_job};
 pub use request::{Kind, MAX_BLOCKS, MAX_PIECES, Piece, Pieces, Request, RequestFault, RequestOf};
 pub use ticket::Ticket;
-
-#[cfg(test)]
-mod tests;

@@ -2,7 +2,8 @@
 
 use crate::playing::{Narrow, Slow, USUAL, end_of, played};
 use block_image::Image;
-use script_cli::{RunFault, run_jobs};
+use job_cli::run_jobs;
+use script_cli::RunFault;
 use std::io;
 use std::test::Fail;
 use step_core::Config;

@@ -4,6 +4,8 @@
 #[cfg(test)]
 mod faults;
 #[cfg(test)]
+mod lines;
+#[cfg(test)]
 mod playing;
 #[cfg(test)]
 mod refusals;

@@ -3,7 +3,8 @@
 ghost use Rattle.std.specs.Prelude.{◌≤◌};
 
 use block_image::Image;
-use script_cli::{RunFault, run_jobs};
+use job_cli::run_jobs;
+use script_cli::RunFault;
 use std::alloc::Global;
 use std::io;
 use std::io::{ErrorKind, Read, Write};

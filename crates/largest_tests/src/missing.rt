@@ -2,7 +2,7 @@
 
 use controller_walk::{Walk, WalkState};
 use entry_codec::Status;
-use page_memory::{Dma, FlatMemory};
+use page_memory::{FlatMemory, TouchRecord};
 use sgl_descriptor::{Descriptor, Direction};
 use std::process::Abort;
 use std::test::Fail;

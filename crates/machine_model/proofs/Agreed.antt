@@ -5,7 +5,8 @@ use Rattle.machine_model.proofs.Agreeing.{stood_of, roomy_of}
 use Rattle.machine_model.proofs.BackedAll.{there_from_backed}
 use Rattle.machine_model.proofs.JobLaws.{stood_has_chains, stood_has_jobs, stood_keeps_chains, stood_keeps_lists, stood_linked, stood_stays}
 use Rattle.machine_model.proofs.NeverFull.{reply_not_full}
-use Rattle.machine_model.proofs.Trusted.{stands_once, trusted_before}
+use Rattle.machine_model.proofs.Trusted.{stands_once}
+use Rattle.machine_model.proofs.NeverRestored.{trusted_before}
 
 pub agreed_linked : agreeing_sides_are_linked
 agreed_linked s agree = stood_linked s (stood_of s agree)

@@ -9,7 +9,7 @@ use Rattle.machine_model.specs.Proper.{IsProper}
 use Rattle.machine_model.specs.State.{State}
 use Rattle.machine_model.proofs.Asked.{asked_from_fit}
 use Rattle.machine_model.proofs.BackedAll.{BackedS, backed_event, backed_opening}
-use Rattle.machine_model.proofs.Grounds.{along_proper, each_proper_step}
+use Rattle.machine_model.proofs.Along.{along_proper, each_proper_step}
 use Rattle.machine_model.proofs.Headline.{sound_from_all}
 use Rattle.machine_model.proofs.HeadsAll.{heads_at_opening}
 use Rattle.machine_model.proofs.NeverFull.{Roomy, roomy_on}
@@ -17,7 +17,7 @@ use Rattle.machine_model.proofs.Owned.{holds_from_sound}
 use Rattle.machine_model.proofs.Served.{Stood}
 use Rattle.machine_model.proofs.Steps.{Accepts}
 use Rattle.machine_model.proofs.Taken.{taken_from_out}
-use Rattle.machine_model.proofs.Trusted.{trusted_before}
+use Rattle.machine_model.proofs.NeverRestored.{trusted_before}
 use Rattle.machine_model.proofs.WalksKept.{stood_at_opening}
 
 -- The same, as the lemmas on each event have it

@@ -1,11 +1,9 @@
 -- Where nothing was forged: a submission queue that is gone at the controller was deleted by a command that the host knows, or will
 -- know, to have succeeded. What each event of the controller does to that.
-use Rattle.std.proofs.Common.{◌≡◌, ℕ, zero, suc, ◌+◌, ◌-◌, ◌<◌, ◌≤◌, ◌==◌, Bool, true, false, not, ◌&&◌, Option, Some, None, List, [], ◌∷◌, ◌++◌, map, length, filter, find, take, drop, ◌/◌, ◌%◌, is_none, if◌then◌else◌, refl, ap, sym, ◌∙◌, arith, subst, eqb-true}
+use Rattle.std.proofs.Common.{◌≡◌, ℕ, zero, suc, ◌+◌, ◌-◌, ◌<◌, ◌≤◌, ◌==◌, Bool, true, false, not, ◌&&◌, Option, Some, None, List, [], ◌∷◌, ◌++◌, map, length, filter, find, drop, is_none, if◌then◌else◌, refl, ap, sym, ◌∙◌, arith, subst, eqb-true}
 use Rattle.std.specs.Option.{option_map_or}
 use Rattle.std.proofs.lemmas.Bool.{true≢false, and_parts, eqb-false}
-use Rattle.controller_walk.specs.Units.{Act, Stays, Reads, Moves, first_passing}
-use Rattle.sgl_descriptor.specs.declared.Direction.TheVariants.{Destination, Source}
-use Rattle.sgl_descriptor.specs.declared.Direction.{Direction}
+use Rattle.controller_walk.specs.Units.{first_passing}
 use Rattle.admin_commands.specs.Entries.{admin_entry, named_queue, named_command}
 use Rattle.admin_commands.specs.Verdicts.{is_absent}
 use Rattle.admin_commands.specs.declared.SqState.TheVariants.{Absent, Stopping}
@@ -15,8 +13,7 @@ use Rattle.entry_codec.specs.declared.submission.SubEntry.{SubEntry}
 use Rattle.entry_codec.specs.declared.admin_opcode.TheConstants.{DELETE_IO_SQ}
 use Rattle.entry_codec.specs.declared.status.TheConstants.Status.{COMMAND_ID_CONFLICT, ABORT_REQUESTED}
 use Rattle.entry_codec.specs.declared.status.Status.{Status}
-use Rattle.io_commands.specs.Jobs.{is_success, direction_of_entry, verdict_of, io_fault, bytes_after_check}
-use Rattle.page_memory.specs.Pages.{with_bytes, with_page_bytes}
+use Rattle.io_commands.specs.Jobs.{is_success, io_fault, bytes_after_check}
 use Rattle.machine_model.specs.State.{State, HostQueue, Device, DeviceQueue, Record, Job, Answer}
 use Rattle.machine_model.specs.Refusals.{next_rung, job_at, conflicts, fetch_slot, refusal_of, device_queue}
 use Rattle.machine_model.specs.Refusals as refusals
@@ -36,6 +33,7 @@ use Rattle.machine_model.proofs.Placements.{on_job_q, on_job_entry, stopped_q, s
 use Rattle.machine_model.proofs.Tying.{Fit}
 use Rattle.machine_model.proofs.TiedHost.{below, asked_some, small}
 pub use Rattle.machine_model.specs.Agreeing.{fails, unsettled, Settles, is_hoped_at as hoped_at, DeletionsAreHeard as Backed}
+use Rattle.machine_model.proofs.DeviceMoves.{answer_of, unit_done, finished, fetch_by, walk_by, complete_by}
 
 -- Steps of the controller that delete no queue
 
@@ -137,19 +135,10 @@ fails_fewer c (an ∷ ans) = omega (arith, fails_few c an, fails_fewer c ans)
 abbrev pub CalmsTo : State → State → Type 0
 CalmsTo s t = Calms s.device.queues s.device.jobs t.device.queues t.device.jobs
 
-calms-option : {A : Type 0} (s : State) (f : A → State) (o : Option A) → ((x : A) → o ≡ Some x → CalmsTo s (f x)) → CalmsTo s (option_map_or f o s)
-calms-option s f None each = calms_none s.device.queues s.device.jobs
-calms-option s f (Some x) each = each x refl
-
-calms-if : (s : State) (b : Bool) (t u : State) → (b ≡ true → CalmsTo s t) → (b ≡ false → CalmsTo s u) → CalmsTo s (if b then t else u)
-calms-if s true t u ht hu = ht refl
-calms-if s false t u ht hu = hu refl
-
-calms-answered_other : (s t : State) (q cid : ℕ) (st : Status) (dw0 : ℕ) → (q == 0) ≡ false → CalmsTo s t → CalmsTo s (a.answered q cid st dw0 t)
-calms-answered_other s t q cid st dw0 other h =
-    let f : DeviceQueue → DeviceQueue = λ at. record at { answers = at.answers ++ record { cid = cid; status = st; dw0 = dw0; sq_head = fetch_slot t q } ∷ [] } in
-    subst (λ (d : Device). Calms s.device.queues s.device.jobs d.queues d.jobs) (sym (device-answered q cid st dw0 t))
-    (calms_both s.device.queues t.device.queues (change q f t.device.queues) s.device.jobs t.device.jobs t.device.jobs h (calms_other t.device.queues t.device.jobs q f other (λ at e. e)))
+calms-answered_other : (s t : State) (q : ℕ) (an : Answer) → (q == 0) ≡ false → CalmsTo s t → Calms s.device.queues s.device.jobs (change q (λ at. record at { answers = at.answers ++ an ∷ [] }) t.device.queues) t.device.jobs
+calms-answered_other s t q an other h =
+    let f : DeviceQueue → DeviceQueue = λ at. record at { answers = at.answers ++ an ∷ [] } in
+    calms_both s.device.queues t.device.queues (change q f t.device.queues) s.device.jobs t.device.jobs t.device.jobs h (calms_other t.device.queues t.device.jobs q f other (λ at e. e))
 
 -- with an entry of queue 0 in hand
 record Decides (s : State) (e : SubEntry) (t : State) : Type 0 where
@@ -202,64 +191,36 @@ taken s e next = record {
 
 pub calms_fetch : (q : ℕ) (s : State) → CalmsTo s (a.after_fetch q s)
 calms_fetch zero s =
-    calms-option s
-    (λ e. if conflicts s 0 then a.answered 0 e.cid COMMAND_ID_CONFLICT 0 (a.taken_off 0 s) else if 0 == 0 then a.managed e (a.taken_off 0 s) else a.begun 0 e (a.taken_off 0 s))
-    (next_rung s 0)
-    (λ e next.
+    fetch_by (CalmsTo s) s 0 (calms_none s.device.queues s.device.jobs)
+    (λ e next c.
     let off = taken s e next in
-    calms-if s (conflicts s 0) (a.answered 0 e.cid COMMAND_ID_CONFLICT 0 (a.taken_off 0 s)) (if 0 == 0 then a.managed e (a.taken_off 0 s) else a.begun 0 e (a.taken_off 0 s))
-    (λ c. conflict e off)
-    (λ c. let d = decides_managed (a.taken_off 0 s) e in
-    record { gone = λ q g. off.gone q (d.gone q g); less = λ c. omega (arith, off.less c, d.less c) }))
-  where
-    conflict : (e : SubEntry) → TakenOff s e → CalmsTo s (a.answered 0 e.cid COMMAND_ID_CONFLICT 0 (a.taken_off 0 s))
-    conflict e off =
-        let ds1 = (a.taken_off 0 s).device.queues in
-        let an : Answer = record { cid = e.cid; status = COMMAND_ID_CONFLICT; dw0 = 0; sq_head = fetch_slot (a.taken_off 0 s) 0 } in
-        let f : DeviceQueue → DeviceQueue = λ at. record at { answers = at.answers ++ an ∷ [] } in
-        let done : Calms s.device.queues s.device.jobs (change 0 f ds1) s.device.jobs = record {
-          gone = λ q g. off.gone q (gone_back f (λ at z. z) 0 ds1 q g);
-          less = λ c. omega (arith, off.less c, ap (total (entry_is c)) (waiting_same f (λ at. refl) 0 ds1), answered_more ds1 an c, fails_few c an);
-        } in
-        subst (λ (d : Device). Calms s.device.queues s.device.jobs d.queues d.jobs) (sym (device-answered 0 e.cid COMMAND_ID_CONFLICT 0 (a.taken_off 0 s))) done
+    let ds1 = (a.taken_off 0 s).device.queues in
+    let an = answer_of 0 e.cid COMMAND_ID_CONFLICT 0 (a.taken_off 0 s) in
+    let f : DeviceQueue → DeviceQueue = λ at. record at { answers = at.answers ++ an ∷ [] } in
+    record {
+      gone = λ q g. off.gone q (gone_back f (λ at z. z) 0 ds1 q g);
+      less = λ c. omega (arith, off.less c, ap (total (entry_is c)) (waiting_same f (λ at. refl) 0 ds1), answered_more ds1 an c, fails_few c an);
+    })
+    (λ e next c z. let off = taken s e next in
+    let d = decides_managed (a.taken_off 0 s) e in
+    record { gone = λ q g. off.gone q (d.gone q g); less = λ c. omega (arith, off.less c, d.less c) })
+    (λ e next c other. absurd (true≢false other))
 calms_fetch (suc k) s =
-    calms-option s
-    (λ e. if conflicts s (suc k) then a.answered (suc k) e.cid COMMAND_ID_CONFLICT 0 (a.taken_off (suc k) s) else if suc k == 0 then a.managed e (a.taken_off 0 s) else a.begun (suc k) e (a.taken_off (suc k) s))
-    (next_rung s (suc k))
-    (λ e next.
-    let base : CalmsTo s (a.taken_off (suc k) s) = calms_other s.device.queues s.device.jobs (suc k) (λ at. record at { unfetched = drop 1 at.unfetched; rung = at.rung - 1 }) (ne_zero k) (λ at z. z) in
-    calms-if s (conflicts s (suc k)) (a.answered (suc k) e.cid COMMAND_ID_CONFLICT 0 (a.taken_off (suc k) s)) (if suc k == 0 then a.managed e (a.taken_off 0 s) else a.begun (suc k) e (a.taken_off (suc k) s))
-    (λ c. calms-answered_other s (a.taken_off (suc k) s) (suc k) e.cid COMMAND_ID_CONFLICT 0 (ne_zero k) base)
-    (λ c. calms-if s (suc k == 0) (a.managed e (a.taken_off 0 s)) (a.begun (suc k) e (a.taken_off (suc k) s))
-    (λ z. absurd (true≢false (sym z ∙ ne_zero k)))
-    (λ z. let t = a.taken_off (suc k) s in
-    let j = a.new_job (suc k) e (io_fault (a.image_blocks t) e) 0 (bytes_after_check t.device.image e (io_fault (a.image_blocks t) e)) in
-    calms_both s.device.queues t.device.queues t.device.queues s.device.jobs t.device.jobs (t.device.jobs ++ j ∷ []) base (calms_job_more t.device.queues t.device.jobs j (ne_zero k)))))
+    fetch_by (CalmsTo s) s (suc k) (calms_none s.device.queues s.device.jobs)
+    (λ e next c. calms-answered_other s (a.taken_off (suc k) s) (suc k) _ (ne_zero k) base)
+    (λ e next c z. absurd (omega arith))
+    (λ e next c other. let t = a.taken_off (suc k) s in
+    calms_both s.device.queues t.device.queues t.device.queues s.device.jobs t.device.jobs _ base (calms_job_more t.device.queues t.device.jobs (a.new_job (suc k) e (io_fault (a.image_blocks t) e) 0 (bytes_after_check t.device.image e (io_fault (a.image_blocks t) e))) (ne_zero k)))
+  where
+    base : CalmsTo s (a.taken_off (suc k) s)
+    base = calms_other s.device.queues s.device.jobs (suc k) (λ at. record at { unfetched = drop 1 at.unfetched; rung = at.rung - 1 }) (ne_zero k) (λ at z. z)
 
 -- Walking
 
-calms_moved : (dir : Direction) (act : Act) (q cid : ℕ) (s : State) → CalmsTo s (a.moved dir act q cid s)
-calms_moved dir Stays q cid s = calms_none s.device.queues s.device.jobs
-calms_moved dir (Reads place) q cid s = calms_none s.device.queues s.device.jobs
-calms_moved Destination (Moves place n offset) q cid s =
-    calms-option s (λ j. a.on_memory (λ m. with_page_bytes m (place / 4096) (place % 4096) (take n (drop offset j.bytes))) s) (job_at s q cid) (λ j e. calms_none s.device.queues s.device.jobs)
-calms_moved Source (Moves place n offset) q cid s =
-    let f : Job → Job = λ j. record j { bytes = with_bytes j.bytes offset (a.page_bytes s.memory place n) } in
-    calms_jobs s.device.queues s.device.jobs (λ j. if (j.q == q) && (j.entry.cid == cid) then f j else j) (on_job_q q cid f (λ j. refl)) (on_job_entry q cid f (λ j. refl))
-
 pub calms_walk : (q cid : ℕ) (s : State) → CalmsTo s (a.after_walk q cid s)
 calms_walk q cid s =
-    calms-option s
-    (λ j. option_map_or (λ act. a.on_job q cid (λ k. record k { units_done = k.units_done + 1; verdict = verdict_of (a.next_answer s j) }) (a.moved (direction_of_entry j.entry) act q cid s)) (a.next_unit s j) s)
-    (job_at s q cid)
-    (λ j e. calms-option s
-    (λ act. a.on_job q cid (λ k. record k { units_done = k.units_done + 1; verdict = verdict_of (a.next_answer s j) }) (a.moved (direction_of_entry j.entry) act q cid s))
-    (a.next_unit s j)
-    (λ act e'.
-    let t = a.moved (direction_of_entry j.entry) act q cid s in
-    let f : Job → Job = λ k. record k { units_done = k.units_done + 1; verdict = verdict_of (a.next_answer s j) } in
-    calms_both s.device.queues t.device.queues t.device.queues s.device.jobs t.device.jobs (map (λ j. if (j.q == q) && (j.entry.cid == cid) then f j else j) t.device.jobs) (calms_moved (direction_of_entry j.entry) act q cid s)
-    (calms_jobs t.device.queues t.device.jobs (λ j. if (j.q == q) && (j.entry.cid == cid) then f j else j) (on_job_q q cid f (λ j. refl)) (on_job_entry q cid f (λ j. refl)))))
+    walk_by (CalmsTo s) s q cid (calms_none s.device.queues s.device.jobs)
+    (λ j act at u. calms_jobs s.device.queues s.device.jobs (λ k. if (k.q == q) && (k.entry.cid == cid) then unit_done s j act k else k) (on_job_q q cid (unit_done s j act) (λ k. refl)) (on_job_entry q cid (unit_done s j act) (λ k. refl)))
 
 -- Completing
 
@@ -413,16 +374,9 @@ backed_complete zero cid s none stands fit h = go (job_at s 0 cid) refl
         (backed_admin s cid j v.0 e v.1 stands fit h (a.image_completed j s.device.image) ((j.q == 0) && (j.entry.opcode == DELETE_IO_SQ) && is_success v.0) refl)
 backed_complete (suc k) cid s none stands fit h =
     backed_calms s.host.records s.host.queues s.device.queues (a.after_complete (suc k) cid s).device.queues s.device.jobs (a.after_complete (suc k) cid s).device.jobs
-    (calms-option s
-    (λ j. let st = a.final_status s j in a.answered (suc k) cid st j.dw0 (a.deletion_done j st (a.on_device (λ d. record d { image = a.image_completed j d.image }) (a.without_job (suc k) cid s))))
-    (job_at s (suc k) cid)
-    (λ j e.
-    let st = a.final_status s j in
-    let s1 = a.on_device (λ d. record d { image = a.image_completed j d.image }) (a.without_job (suc k) cid s) in
-    let at = and_parts (j.q == suc k) (j.entry.cid == cid) (find_sound (is_job (suc k) cid) s.device.jobs j e) in
-    let jq : (j.q == 0) ≡ false = ap (λ (n : ℕ). n == 0) (eqb-true j.q (suc k) at.0) ∙ ne_zero k in
-    calms-answered_other s (a.deletion_done j st s1) (suc k) cid st j.dw0 (ne_zero k)
-    (undeleted j st s1 jq (calms_job_less s.device.queues s.device.jobs (λ j'. not (is_job (suc k) cid j')))))) h
+    (complete_by (CalmsTo s) s (suc k) cid (calms_none s.device.queues s.device.jobs)
+    (λ j e c. absurd (true≢false (sym (and_parts (j.q == 0) (j.entry.opcode == DELETE_IO_SQ) (and_parts ((j.q == 0) && (j.entry.opcode == DELETE_IO_SQ)) (is_success (a.final_status s j)) c).0).0 ∙ its_queue j e)))
+    (λ j e c. calms-answered_other s (finished (suc k) cid j s) (suc k) _ (ne_zero k) (calms_job_less s.device.queues s.device.jobs (λ j'. not (is_job (suc k) cid j'))))) h
   where
-    undeleted : (j : Job) (st : Status) (s1 : State) → (j.q == 0) ≡ false → CalmsTo s s1 → CalmsTo s (a.deletion_done j st s1)
-    undeleted j st s1 e h = rw e h
+    its_queue : (j : Job) → job_at s (suc k) cid ≡ Some j → (j.q == 0) ≡ false
+    its_queue j e = ap (λ (n : ℕ). n == 0) (eqb-true j.q (suc k) (and_parts (j.q == suc k) (j.entry.cid == cid) (find_sound (is_job (suc k) cid) s.device.jobs j e)).0) ∙ ne_zero k

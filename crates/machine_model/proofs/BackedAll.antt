@@ -1,7 +1,7 @@
 -- Where nothing was forged, a queue that is live at the host is there at the controller: every event keeps that, and every run.
-use Rattle.std.proofs.Common.{◌≡◌, ℕ, zero, suc, ◌+◌, ◌<◌, ◌≤◌, ◌==◌, Bool, true, false, not, ◌&&◌, ◌||◌, Option, Some, None, List, [], ◌∷◌, ◌++◌, length, map, find, drop, replicate, slice_get, is_none, option_and_then, if◌then◌else◌, refl, ap, sym, ◌∙◌, arith, subst, eqb-true, eq-eqb}
+use Rattle.std.proofs.Common.{◌≡◌, ℕ, zero, suc, ◌+◌, ◌<◌, ◌≤◌, ◌==◌, Bool, true, false, not, ◌&&◌, Option, Some, None, List, [], ◌∷◌, ◌++◌, length, map, find, drop, replicate, slice_get, if◌then◌else◌, refl, ap, sym, ◌∙◌, arith, subst, eqb-true, eq-eqb}
 use Rattle.std.specs.Option.{option_map_or}
-use Rattle.std.proofs.lemmas.Bool.{true≢false, not-false, and_parts, or_parts, eqb-false}
+use Rattle.std.proofs.lemmas.Bool.{true≢false, and_parts, eqb-false}
 use Rattle.admin_commands.specs.Entries.{admin_entry}
 use Rattle.admin_commands.specs.declared.AdminKind.TheVariants.{Abort, DeleteSq, DeleteCq}
 use Rattle.admin_commands.specs.declared.AdminKind.{AdminKind}
@@ -9,22 +9,16 @@ use Rattle.entry_codec.specs.declared.completion.ComEntry.{ComEntry}
 use Rattle.entry_codec.specs.declared.submission.SubEntry.{SubEntry}
 use Rattle.entry_codec.specs.declared.status.TheConstants.Status.{ABORTED_SQ_DELETION}
 use Rattle.entry_codec.specs.declared.status.Status.{Status}
-use Rattle.io_commands.specs.Drafts.{DraftContents}
 use Rattle.io_commands.specs.Jobs.{is_success}
-use Rattle.controller_walk.specs.Units.{first_passing}
-use Rattle.io_commands.specs.Values.{numbers_of}
-use Rattle.io_commands.specs.Asked.{Request}
-use Rattle.page_memory.specs.Pages.{with_page_bytes}
 use Rattle.queue_pair.specs.Memory.{half_pages}
 use Rattle.page_memory.specs.declared.page.Half.TheVariants.{Submission, Completion}
 use Rattle.queue_pair.specs.Rings.{HostRing, next_tail, next_head, knowing}
-use Rattle.machine_model.specs.Memory.{with_pages, without_pages}
-use Rattle.machine_model.specs.Commands.{Work, Io, Management}
-use Rattle.machine_model.specs.State.{State, Device, Host, HostQueue, HostState, Live, Deleting, Retired, Gone, DeviceQueue, Record, Phase, Drafted, Submitted, Held, Job, Answer, is_at, record_at, pages_of, with_record, without_record}
-use Rattle.machine_model.specs.Refusals.{is_submitted, is_drafted, is_collected, is_live, is_retired, is_gone, is_deleting, is_asked, in_state, host_queue, device_queue, refusal_of, record_is, is_of, queue_full, no_identifier, no_io_queue, seen_entry, entry_of, first_answer, slot_page, slot_offset}
-use Rattle.machine_model.specs.Claims.{OwnsFit}
-use Rattle.machine_model.specs.Linked.{absent, live_queues_are_there}
-use Rattle.machine_model.specs.Step.{HostPart, host_part, reaped, reaped_entry}
+use Rattle.machine_model.specs.Memory.{with_pages}
+use Rattle.machine_model.specs.Commands.{Management}
+use Rattle.machine_model.specs.State.{State, HostQueue, HostState, Live, Deleting, Retired, Gone, DeviceQueue, Record, Submitted, Held, Job, Answer, is_at, record_at, with_record, without_record}
+use Rattle.machine_model.specs.Refusals.{deletes_sq_of, is_submitted, is_live, is_asked, host_queue}
+use Rattle.machine_model.specs.Linked.{absent}
+use Rattle.machine_model.specs.Step.{IsController, HostPart, host_part}
 use Rattle.machine_model.specs.Opening.{opening, queues_from, device_queue as opened}
 use Rattle.machine_model.specs.Events as events
 use Rattle.machine_model.specs.Events.{Event, Reply, Refusal, Reaped}
@@ -32,22 +26,17 @@ use Rattle.machine_model.specs.After as a
 use Rattle.machine_model.specs.After.{change}
 use Rattle.machine_model.proofs.Counting.{one}
 use Rattle.machine_model.proofs.Totals.{total, total-append, total_without, here}
-use Rattle.machine_model.proofs.Parts.{part-posted}
-use Rattle.machine_model.proofs.Refused.{first_fails, rest_fails, found, found_all}
 use Rattle.machine_model.proofs.Steps.{Accepts, part_controller}
 use Rattle.machine_model.proofs.Sound.{unused}
-use Rattle.machine_model.proofs.Asked.{asks, asks_work, asked_at, was_asked, ring_at}
+use Rattle.machine_model.proofs.Asked.{still_live, asks, asks_work, asked_at, was_asked}
 use Rattle.machine_model.proofs.Paired.{is_over}
 use Rattle.machine_model.proofs.Placed.{Knows, gone_at, entry_is, find_more, find_map, find_filter, find_sound}
-use Rattle.machine_model.proofs.Placing.{answering, device-posted}
-use Rattle.machine_model.proofs.Standing.{StandsSound, answer_named, answering_rest, named, io_record}
+use Rattle.machine_model.proofs.Placing.{answering}
+use Rattle.machine_model.proofs.Standing.{io_other, admin_zero, StandsSound, answering_rest}
 use Rattle.machine_model.proofs.Tied.{FitS}
-use Rattle.machine_model.proofs.TiedReap.{told_entry}
-use Rattle.machine_model.proofs.TiedAll.{all_on, fit_limits}
-use Rattle.machine_model.proofs.Trusted.{along_trusted, opening_stands}
-use Rattle.machine_model.proofs.Opening.{holds_at_opening, fits_pool}
-use Rattle.machine_model.proofs.Backed.{Backed, Settles, Calms, hoped_at, unsettled, fails, backed_calms, backed_complete, calms_fetch, calms_walk, calms_state, calms_other, calms_heard, gone_back}
-use Rattle.machine_model.proofs.Out.{status_in}
+use Rattle.machine_model.proofs.Backed.{Backed, Settles, hoped_at, unsettled, fails, backed_calms, backed_complete, calms_fetch, calms_walk, calms_state, calms_other, calms_heard, gone_back}
+use Rattle.machine_model.proofs.Moves.{drafted_record, host_moves, answer_heard, IsHeard, heard_without, sends, posts}
+use Rattle.machine_model.proofs.Moves.{host_moves, posts, sends, drafted_record, heard_without, IsHeard, answer_heard}
 
 abbrev pub BackedS : State → Type 0
 BackedS s = Backed s.host.records s.host.queues s.device.queues s.device.jobs
@@ -127,18 +116,10 @@ asked_hoped hs q h = go (slice_get hs q) h
 -- Posting
 
 backed_posted : (q : ℕ) (entry : SubEntry) (s : State)
-    → Backed s.host.records s.host.queues (change q (λ at. record at { unfetched = at.unfetched ++ entry ∷ [] }) s.device.queues) s.device.jobs → BackedS (a.posted q entry s)
+    → Backed s.host.records s.host.queues (change q (λ at. record at { unfetched = at.unfetched ++ entry ∷ [] }) s.device.queues) s.device.jobs → BackedS (posts q entry s)
 backed_posted q entry s h =
-    subst (λ (host : Host). Backed host.records host.queues (a.posted q entry s).device.queues (a.posted q entry s).device.jobs) (sym (ap (λ (part : HostPart). part.host) (part-posted q entry s)))
-    (subst (λ (d : Device). Backed s.host.records (change q (λ x. record x { ring = next_tail s.entries x.ring }) s.host.queues) d.queues d.jobs) (sym (device-posted q entry s))
-    (backed_hosts s.host.records s.host.queues (change q (λ x. record x { ring = next_tail s.entries x.ring }) s.host.queues) (change q (λ at. record at { unfetched = at.unfetched ++ entry ∷ [] }) s.device.queues) s.device.jobs
-    (hoped_ring q (next_tail s.entries) s.host.queues) h))
-
-backed_posted_other : (q : ℕ) (entry : SubEntry) (s : State) → (q == 0) ≡ false → BackedS s → BackedS (a.posted q entry s)
-backed_posted_other q entry s other h =
-    backed_posted q entry s
-    (backed_calms s.host.records s.host.queues s.device.queues (change q (λ at. record at { unfetched = at.unfetched ++ entry ∷ [] }) s.device.queues) s.device.jobs s.device.jobs
-    (calms_other s.device.queues s.device.jobs q (λ at. record at { unfetched = at.unfetched ++ entry ∷ [] }) other (λ at z. z)) h)
+    backed_hosts s.host.records s.host.queues (change q (λ x. record x { ring = next_tail s.entries x.ring }) s.host.queues) (change q (λ at. record at { unfetched = at.unfetched ++ entry ∷ [] }) s.device.queues) s.device.jobs
+    (hoped_ring q (next_tail s.entries) s.host.queues) h
 
 find_counts : (w : Record → ℕ) (test : Record → Bool) (rs : List Record) (r : Record) → find test rs ≡ Some r → w r ≤ total w rs
 find_counts w test [] r e = absurd cc
@@ -149,7 +130,7 @@ find_counts w test (x ∷ rs) r e = go (test x) e (find_counts w test rs r)
     go false e ih = omega (arith, ih e)
 
 -- an admin command is sent, with an identifier that no record has
-backed_sent : (adm : AdminKind) (id : ℕ) (s : State) → total (here 0 id) s.host.records ≡ 0 → BackedS s → BackedS (a.sent adm id (admin_entry adm id) s)
+backed_sent : (adm : AdminKind) (id : ℕ) (s : State) → total (here 0 id) s.host.records ≡ 0 → BackedS s → BackedS (sends adm id s)
 backed_sent adm id s none h =
     backed_posted 0 (admin_entry adm id) (a.on_records (λ records. records ++ new ∷ []) s) (λ q hoped gone.
     let old = h q hoped (gone_back more (λ at z. z) 0 s.device.queues q gone) in
@@ -174,95 +155,6 @@ backed_sent adm id s none h =
     posted : (ds : List DeviceQueue) (c : ℕ) → (id == c) ≡ false → unsettled c (change 0 (λ at. record at { unfetched = at.unfetched ++ admin_entry adm id ∷ [] }) ds) s.device.jobs ≤ unsettled c ds s.device.jobs
     posted [] c far = omega arith
     posted (at ∷ ds) c far = omega (arith, total-append (entry_is c) at.unfetched (admin_entry adm id ∷ []), ap one far)
-
-backed_delete : (q id : ℕ) (s : State) → refusal_of s (events.DeleteSq q) ≡ None → total (here 0 id) s.host.records ≡ 0 → BackedS s → BackedS (a.after_delete_sq q id s)
-backed_delete q id s none fresh h =
-    let t = a.sent (DeleteSq q) id (admin_entry (DeleteSq q) id) s in
-    backed_hosts t.host.records t.host.queues (change q a.deleting t.host.queues) t.device.queues t.device.jobs
-    (hoped_back a.deleting q t.host.queues (λ x e o. not_over x e)) (backed_sent (DeleteSq q) id s fresh h)
-  where
-    no : no_io_queue s q ≡ false
-    no = first_fails (no_io_queue s q) events.NoQueue ((in_state is_deleting s q, events.WrongState) ∷ (no_identifier s 0, events.NoIdentifier) ∷ (queue_full s 0, events.QueueFull) ∷ []) none
-
-    deleting : in_state is_deleting s q ≡ false
-    deleting = first_fails (in_state is_deleting s q) events.WrongState ((no_identifier s 0, events.NoIdentifier) ∷ (queue_full s 0, events.QueueFull) ∷ [])
-        (rest_fails (no_io_queue s q) events.NoQueue ((in_state is_deleting s q, events.WrongState) ∷ (no_identifier s 0, events.NoIdentifier) ∷ (queue_full s 0, events.QueueFull) ∷ []) none)
-
-    p1 : (((q == 0) || is_none (host_queue s q) || in_state is_retired s q) ≡ false) × (in_state is_gone s q ≡ false)
-    p1 = or_parts ((q == 0) || is_none (host_queue s q) || in_state is_retired s q) (in_state is_gone s q) no
-
-    at_state : (test : HostState → Bool) (x : HostQueue) → slice_get s.host.queues q ≡ Some x → in_state test s q ≡ false → test x.state ≡ false
-    at_state test x e h = sym (ap (λ o. option_map_or (λ (queue : HostQueue). test queue.state) o false) e) ∙ h
-
-    live : (st : HostState) → is_retired st ≡ false → is_gone st ≡ false → is_deleting st ≡ false → is_over st ≡ false
-    live Live r g d = refl
-    live (Deleting noted) r g d = absurd (true≢false d)
-    live Retired r g d = absurd (true≢false r)
-    live Gone r g d = absurd (true≢false g)
-
-    not_over : (x : HostQueue) → slice_get (a.sent (DeleteSq q) id (admin_entry (DeleteSq q) id) s).host.queues q ≡ Some x → is_over x.state ≡ false
-    not_over x e =
-        let new : Record = record { q = 0; cid = id; phase = Submitted; work = Management (DeleteSq q); data_pages = []; chain_pages = []; status = None } in
-        let s1 = a.on_records (λ records. records ++ new ∷ []) s in
-        let e' : slice_get (change 0 (λ y. record y { ring = next_tail s.entries y.ring }) s.host.queues) q ≡ Some x = sym (ap (λ (part : HostPart). slice_get part.host.queues q) (part-posted 0 (admin_entry (DeleteSq q) id) s1)) ∙ e in
-        let y = ring_at 0 q (next_tail s.entries) s.host.queues x e' in
-        ap is_over y.2 ∙ live y.0.state (at_state is_retired y.0 y.1 (or_parts ((q == 0) || is_none (host_queue s q)) (in_state is_retired s q) p1.0).1) (at_state is_gone y.0 y.1 p1.1) (at_state is_deleting y.0 y.1 deleting)
-
--- Other events of the host
-
-backed_submit : (d : DraftContents) (s : State) → refusal_of s (events.Submit d) ≡ None → StandsSound s → BackedS s → BackedS (a.after_submit d s)
-backed_submit d s none stands h = go d.entry
-  where
-    test : Record → Bool
-    test = is_of is_drafted d.request (numbers_of d.data_pages) (numbers_of d.chain_pages)
-
-    r : (r : Record) × (record_at s.host d.q d.cid ≡ Some r) × (test r ≡ true)
-    r = found test s d.q d.cid (not-false (record_is test s d.q d.cid) (first_fails (not (record_is test s d.q d.cid)) events.Stranger ((is_none d.entry, events.NotBuilt) ∷ (not (in_state is_live s d.q), events.QueueGone) ∷ (queue_full s d.q, events.QueueFull) ∷ []) none))
-
-    other : (d.q == 0) ≡ false
-    other = io_record s d.q d.cid r.0 is_drafted d.request (numbers_of d.data_pages) (numbers_of d.chain_pages) stands.0 r.1 r.2
-
-    go : (o : Option SubEntry) → BackedS (option_map_or (λ entry. a.posted d.q entry (a.on_records (with_record d.q d.cid a.submitted) (a.on_memory (with_pages (d.data_pages ++ d.chain_pages)) s))) o s)
-    go None = h
-    go (Some entry) =
-        backed_posted_other d.q entry (a.on_records (with_record d.q d.cid a.submitted) (a.on_memory (with_pages (d.data_pages ++ d.chain_pages)) s)) other
-        (backed_records s.host.records (with_record d.q d.cid a.submitted s.host.records) s.host.queues s.device.queues s.device.jobs (tells_with s.host.records d.q d.cid a.submitted (λ r. refl) (λ r. refl) (λ r. refl)) h)
-
-backed_ended : (phase : Phase → Bool) (request : Request) (q cid : ℕ) (bytes chain : List (ℕ × List ℕ)) (s : State)
-    → first_passing ((not (record_is (is_of phase request (numbers_of bytes) (numbers_of chain)) s q cid), events.Stranger) ∷ []) ≡ None
-    → StandsSound s → BackedS s → BackedS (a.after_end q cid (bytes ++ chain) s)
-backed_ended phase request q cid bytes chain s none stands h =
-    let fits = not-false _ (first_fails _ events.Stranger [] none) in
-    let r = found (is_of phase request (numbers_of bytes) (numbers_of chain)) s q cid fits in
-    backed_records s.host.records (without_record q cid s.host.records) s.host.queues s.device.queues s.device.jobs
-    (tells_other s.host.records q cid (io_record s q cid r.0 phase request (numbers_of bytes) (numbers_of chain) stands.0 r.1 r.2)) h
-
-backed_collect : (q cid : ℕ) (s : State) → BackedS s → BackedS (a.after_collect q cid s)
-backed_collect q cid s h = go (record_at s.host q cid)
-  where
-    go : (o : Option Record) → BackedS (option_map_or (λ r. a.on_records (with_record q cid a.collected) (a.on_memory (without_pages (pages_of r)) s)) o s)
-    go None = h
-    go (Some r) = backed_records s.host.records (with_record q cid a.collected s.host.records) s.host.queues s.device.queues s.device.jobs (tells_with s.host.records q cid a.collected (λ r. refl) (λ r. refl) (λ r. refl)) h
-
-backed_retire : (q : ℕ) (s : State) → BackedS s → BackedS (a.after_retire q s)
-backed_retire q s h = go (host_queue s q)
-  where
-    h1 : BackedS (a.on_records (λ records. map (a.lost q) records) s)
-    h1 = backed_records s.host.records (map (a.lost q) s.host.records) s.host.queues s.device.queues s.device.jobs (tells_map s.host.records (a.lost q)
-        (λ r. (elim ((r.q == q) && is_submitted r.phase) as (λ b. (if b then record r { phase = Held; status = Some ABORTED_SQ_DELETION } else r).q ≡ r.q) [ true ↦ refl | false ↦ refl ]))
-        (λ r. (elim ((r.q == q) && is_submitted r.phase) as (λ b. (if b then record r { phase = Held; status = Some ABORTED_SQ_DELETION } else r).cid ≡ r.cid) [ true ↦ refl | false ↦ refl ]))
-        (λ r. (elim ((r.q == q) && is_submitted r.phase) as (λ b. (if b then record r { phase = Held; status = Some ABORTED_SQ_DELETION } else r).work ≡ r.work) [ true ↦ refl | false ↦ refl ]))) h
-
-    go : (o : Option HostQueue) → BackedS (option_map_or (λ queue. a.on_host_queue q a.retired (a.given_back queue.sq_pages (a.on_records (λ records. map (a.lost q) records) s))) o (a.on_records (λ records. map (a.lost q) records) s))
-    go None = h1
-    go (Some queue) = backed_hosts (map (a.lost q) s.host.records) s.host.queues (change q a.retired s.host.queues) s.device.queues s.device.jobs (hoped_back a.retired q s.host.queues (λ x e o. absurd (true≢false o))) h1
-
-backed_forge : (q slot : ℕ) (bytes : List ℕ) (s : State) → BackedS s → BackedS (a.after_forge q slot bytes s)
-backed_forge q slot bytes s h = go (host_queue s q)
-  where
-    go : (o : Option HostQueue) → BackedS (option_map_or (λ queue. record (a.on_memory (λ m. with_page_bytes m (slot_page queue.cq_pages 16 slot) (slot_offset 16 slot) bytes) s) { trusted = false }) o s)
-    go None = h
-    go (Some queue) = h
 
 -- Reaping
 
@@ -318,150 +210,141 @@ hears_success s t cid c st hears same none = go (is_success st) refl
         let mine : fails c hears.answer ≡ 1 = rw (eq-eqb hears.answer.cid c (hears.is ∙ sym same), hears.status, e) refl in
         absurd (omega (arith, none, mine, ap (total (fails c)) hears.first))
 
-backed_admin : (adm : AdminKind) (st : Status) (cid : ℕ) (s t : State) (r : Record) → Hears s t cid st → t.host.records ≡ s.host.records → FitS s → ((q : ℕ) → hoped_at t.host.queues q ≡ true → hoped_at s.host.queues q ≡ true)
-    → Calms s.device.queues s.device.jobs t.device.queues t.device.jobs
-    → record_at s.host 0 cid ≡ Some r → r.work ≡ Management adm → total (here 0 cid) s.host.records < 2
-    → BackedS s → BackedS (a.after_admin adm st (a.on_records (without_record 0 cid) t))
-backed_admin adm st cid s t r hears rs fit hopes calms e w once h = go adm w
+-- the answer of queue 0 that is heard of, with the record that goes
+record Noted (s : State) (cid : ℕ) (st : Status) (e : ComEntry) (r : Record) (adm : AdminKind) : Type 0 where
+  hears : Hears s (a.heard 0 e s) cid st
+  fit : FitS s
+  found : record_at s.host 0 cid ≡ Some r
+  work : r.work ≡ Management adm
+  once : total (here 0 cid) s.host.records < 2
+
+hopes_heard : (q : ℕ) (e : ComEntry) (s : State) (k : ℕ) → hoped_at (a.heard q e s).host.queues k ≡ true → hoped_at s.host.queues k ≡ true
+hopes_heard q e s k x = hoped_ring q (next_head s.entries) s.host.queues k (hoped_ring q (knowing e.sqhd) (a.consumed q s).host.queues k x)
+
+-- a deletion of another queue, or of none, is heard of
+others : (s : State) (cid : ℕ) (st : Status) (e : ComEntry) (r : Record) (adm : AdminKind) → Noted s cid st e r adm → BackedS s
+    → (q : ℕ) → (adm ≡ DeleteSq q → ⊥) → hoped_at (a.heard 0 e s).host.queues q ≡ true → gone_at (a.heard 0 e s).device.queues q ≡ true → Settles (without_record 0 cid s.host.records) (a.heard 0 e s).device.queues s.device.jobs q
+others s cid st e r adm noted h q far hoped gone =
+    let calms = calms_heard s.device.queues s.device.jobs 0 in
+    let old = h q (hopes_heard 0 e s q hoped) (calms.gone q gone) in
+    record {
+      cid = old.cid;
+      knows = knows_without s.host.records 0 cid old.cid q (λ z same. differs old.cid old.knows same) old.knows;
+      settled = omega (arith, old.settled, calms.less old.cid);
+    }
   where
-    -- a deletion of another queue, or of none, is heard of
-    others : (adm : AdminKind) → r.work ≡ Management adm → (q : ℕ) → (adm ≡ DeleteSq q → ⊥) → hoped_at t.host.queues q ≡ true → gone_at t.device.queues q ≡ true → Settles (without_record 0 cid t.host.records) t.device.queues t.device.jobs q
-    others adm w q far hoped gone =
-        let old = h q (hopes q hoped) (calms.gone q gone) in
-        record {
-          cid = old.cid;
-          knows = subst (λ (xs : List Record). Knows (without_record 0 cid xs) old.cid (DeleteSq q)) (sym rs) (knows_without s.host.records 0 cid old.cid q (λ z same. differs old.cid old.knows same) old.knows);
-          settled = omega (arith, old.settled, calms.less old.cid);
-        }
-      where
-        differs : (c : ℕ) → Knows s.host.records c (DeleteSq q) → c ≡ cid → ⊥
-        differs c k same =
-            let found' : find (is_at 0 cid) s.host.records ≡ Some k.0 = subst (λ (z : ℕ). find (is_at 0 z) s.host.records ≡ Some k.0) same k.1 in
-            let one' : k.0 ≡ r = cc (found', e) in
-            let works : Management adm ≡ Management (DeleteSq q) = sym w ∙ ap (λ (x : Record). x.work) (sym one') ∙ k.2 in
-            let adms : adm ≡ DeleteSq q = cc works in
-            far adms
+    differs : (c : ℕ) → Knows s.host.records c (DeleteSq q) → c ≡ cid → ⊥
+    differs c k same =
+        let found' : find (is_at 0 cid) s.host.records ≡ Some k.0 = subst (λ (z : ℕ). find (is_at 0 z) s.host.records ≡ Some k.0) same k.1 in
+        let one' : k.0 ≡ r = cc (found', noted.found) in
+        let works : Management adm ≡ Management (DeleteSq q) = sym noted.work ∙ ap (λ (x : Record). x.work) (sym one') ∙ k.2 in
+        let adms : adm ≡ DeleteSq q = cc works in
+        far adms
 
-    go : (adm : AdminKind) → r.work ≡ Management adm → BackedS (a.after_admin adm st (a.on_records (without_record 0 cid) t))
-    go (Abort k c) w = λ q hoped gone. others (Abort k c) w q (λ same. absurd cc) hoped gone
-    go (DeleteSq k) w = λ q hoped gone. by q (k == q) refl hoped gone
-      where
-        over : (b : Bool) → b ≡ true → is_over (if b then Deleting true else Live) ≡ true
-        over true e = refl
-        over false e = absurd (true≢false (sym e))
-
-        hoped_now : (b : Bool) → b ≡ true → (k : ℕ) (hs : List HostQueue) → hoped_at (change k (λ queue. record queue { state = if b then Deleting true else Live }) hs) k ≡ true → ⊥
-        hoped_now b e k [] x = true≢false (sym x)
-        hoped_now b e zero (y ∷ hs) x = true≢false (sym x ∙ ap not (over b e))
-        hoped_now b e (suc k) (y ∷ hs) x = hoped_now b e k hs x
-
-        hoped_other : (b : Bool) (k : ℕ) (hs : List HostQueue) (q : ℕ) → (k ≡ q → ⊥) → hoped_at (change k (λ queue. record queue { state = if b then Deleting true else Live }) hs) q ≡ true → hoped_at hs q ≡ true
-        hoped_other b k [] q far x = x
-        hoped_other b zero (y ∷ hs) zero far x = absurd (far refl)
-        hoped_other b zero (y ∷ hs) (suc q) far x = x
-        hoped_other b (suc k) (y ∷ hs) zero far x = x
-        hoped_other b (suc k) (y ∷ hs) (suc q) far x = hoped_other b k hs q (λ z. far (ap suc z)) x
-
-        by : (q : ℕ) (b : Bool) → (k == q) ≡ b → hoped_at (change k (λ queue. record queue { state = if is_success st then Deleting true else Live }) t.host.queues) q ≡ true → gone_at t.device.queues q ≡ true
-            → Settles (without_record 0 cid t.host.records) t.device.queues t.device.jobs q
-        by q true e' hoped gone =
-            let same : k ≡ q = eqb-true k q e' in
-            let asked : asked_at s.host.queues k ≡ true = was_asked s.host.records s.host.queues k 0 cid r e w once fit.asked in
-            let old = h k (asked_hoped s.host.queues k asked) (subst (λ (z : ℕ). gone_at s.device.queues z ≡ true) (sym same) (calms.gone q gone)) in
-            let ok = hears_success s t cid old.cid st hears (same_deletion s old.cid cid k r old.knows e w once fit) old.settled in
-            absurd (hoped_now (is_success st) ok k t.host.queues (subst (λ (z : ℕ). hoped_at (change k (λ queue. record queue { state = if is_success st then Deleting true else Live }) t.host.queues) z ≡ true) (sym same) hoped))
-        by q false e' hoped gone = others (DeleteSq k) w q (λ same. eqb-false k q e' (cc same)) (hoped_other (is_success st) k t.host.queues q (eqb-false k q e') hoped) gone
-    go (DeleteCq k) w = freed (is_success st && option_map_or (λ queue. is_retired queue.state) (host_queue t k) false)
-      where
-        same : BackedS (a.on_records (without_record 0 cid) t)
-        same = λ q hoped gone. others (DeleteCq k) w q (λ same. absurd cc) hoped gone
-
-        on : (o : Option HostQueue) → BackedS (option_map_or (λ queue. a.on_host_queue k a.gone (a.given_back queue.cq_pages (a.on_records (without_record 0 cid) t))) o (a.on_records (without_record 0 cid) t))
-        on None = same
-        on (Some x) = backed_hosts (without_record 0 cid t.host.records) t.host.queues (change k a.gone t.host.queues) t.device.queues t.device.jobs (hoped_back a.gone k t.host.queues (λ x e o. absurd (true≢false o))) same
-
-        freed : (b : Bool) → BackedS (if b then a.half_freed (λ queue. queue.cq_pages) a.gone k (a.on_records (without_record 0 cid) t) else a.on_records (without_record 0 cid) t)
-        freed true = on (host_queue t k)
-        freed false = same
-
-backed_done_zero : (cid : ℕ) (st : Status) (s : State) → s.trusted ≡ true → named (reaped s 0) ≡ Some cid → status_in (reaped s 0) ≡ Some st → StandsSound s → FitS s → BackedS s
-    → BackedS (option_map_or (λ r. a.after_work r.work 0 cid st (option_map_or (λ e. a.heard 0 e s) (seen_entry s 0) s)) (record_at s.host 0 cid) s)
-backed_done_zero cid st s t n d stands fit h = go (record_at s.host 0 cid) refl
+-- the deletion of a queue is heard of
+backed_noted : (s : State) (cid : ℕ) (st : Status) (e : ComEntry) (r : Record) (k : ℕ) → Noted s cid st e r (DeleteSq k) → BackedS s
+    → BackedS (a.on_host_queue k (λ queue. record queue { state = if is_success st then Deleting true else Live }) (heard_without 0 cid e s))
+backed_noted s cid st e r k noted h q hoped gone = by q (k == q) refl hoped gone
   where
-    an : (an : Answer) × (option_and_then (λ queue. first_answer queue.answers) (device_queue s 0) ≡ Some an) × (an.cid ≡ cid) × (seen_entry s 0 ≡ Some (entry_of 0 an))
-    an = answer_named s cid t n
+    hs : List HostQueue
+    hs = (a.heard 0 e s).host.queues
 
-    status : an.0.status ≡ st
-    status = told_entry s 0 (entry_of 0 an.0) st (subst (λ (o : Option ComEntry). status_in (option_map_or (reaped_entry s 0) o events.Empty) ≡ Some st) an.3 d)
+    over : (b : Bool) → b ≡ true → is_over (if b then Deleting true else Live) ≡ true
+    over true e = refl
+    over false e = absurd (true≢false (sym e))
 
-    hears : Hears s (a.heard 0 (entry_of 0 an.0) s) cid st
-    hears = record { answer = an.0; is = an.2; status = status; first = answering_rest s.device.queues an.0 an.1 }
+    hoped_now : (b : Bool) → b ≡ true → (k : ℕ) (hs : List HostQueue) → hoped_at (change k (λ queue. record queue { state = if b then Deleting true else Live }) hs) k ≡ true → ⊥
+    hoped_now b e k [] x = true≢false (sym x)
+    hoped_now b e zero (y ∷ hs) x = true≢false (sym x ∙ ap not (over b e))
+    hoped_now b e (suc k) (y ∷ hs) x = hoped_now b e k hs x
 
-    hopes : (q : ℕ) → hoped_at (a.heard 0 (entry_of 0 an.0) s).host.queues q ≡ true → hoped_at s.host.queues q ≡ true
-    hopes q x = hoped_ring 0 (next_head s.entries) s.host.queues q (hoped_ring 0 (knowing (entry_of 0 an.0).sqhd) (a.consumed 0 s).host.queues q x)
+    hoped_other : (b : Bool) (k : ℕ) (hs : List HostQueue) (q : ℕ) → (k ≡ q → ⊥) → hoped_at (change k (λ queue. record queue { state = if b then Deleting true else Live }) hs) q ≡ true → hoped_at hs q ≡ true
+    hoped_other b k [] q far x = x
+    hoped_other b zero (y ∷ hs) zero far x = absurd (far refl)
+    hoped_other b zero (y ∷ hs) (suc q) far x = x
+    hoped_other b (suc k) (y ∷ hs) zero far x = x
+    hoped_other b (suc k) (y ∷ hs) (suc q) far x = hoped_other b k hs q (λ z. far (ap suc z)) x
 
-    work : (r : Record) (w : Work) → record_at s.host 0 cid ≡ Some r → r.work ≡ w → BackedS (a.after_work w 0 cid st (a.heard 0 (entry_of 0 an.0) s))
-    work r (Io request) e w =
-        let u = a.heard 0 (entry_of 0 an.0) s in
-        backed_records u.host.records (with_record 0 cid (a.held st) u.host.records) u.host.queues u.device.queues u.device.jobs (tells_with u.host.records 0 cid (a.held st) (λ r. refl) (λ r. refl) (λ r. refl)) (backed_heard 0 (entry_of 0 an.0) s h)
-    work r (Management adm) e w = backed_admin adm st cid s (a.heard 0 (entry_of 0 an.0) s) r hears refl fit hopes (calms_heard s.device.queues s.device.jobs 0) e w (stands.0.once 0 cid) h
-
-    go : (o : Option Record) → record_at s.host 0 cid ≡ o → BackedS (option_map_or (λ r. a.after_work r.work 0 cid st (option_map_or (λ e. a.heard 0 e s) (seen_entry s 0) s)) o s)
-    go None e = h
-    go (Some r) e = rw an.3 (work r r.work e refl)
-
-backed_done_other : (k cid : ℕ) (st : Status) (s : State) → StandsSound s → BackedS s
-    → BackedS (option_map_or (λ r. a.after_work r.work (suc k) cid st (option_map_or (λ e. a.heard (suc k) e s) (seen_entry s (suc k)) s)) (record_at s.host (suc k) cid) s)
-backed_done_other k cid st s stands h = go (record_at s.host (suc k) cid) refl
-  where
-    heard : (o : Option ComEntry) → BackedS (option_map_or (λ e. a.heard (suc k) e s) o s)
-    heard None = h
-    heard (Some e) = backed_heard (suc k) e s h
-
-    work : (r : Record) (w : Work) → record_at s.host (suc k) cid ≡ Some r → r.work ≡ w → (t : State) → BackedS t → BackedS (a.after_work w (suc k) cid st t)
-    work r (Io request) e w t ht =
-        backed_records t.host.records (with_record (suc k) cid (a.held st) t.host.records) t.host.queues t.device.queues t.device.jobs (tells_with t.host.records (suc k) cid (a.held st) (λ r. refl) (λ r. refl) (λ r. refl)) ht
-    work r (Management adm) e w t ht =
-        let fit : OwnsFit r.q (Management adm) (pages_of r) = rw w at (found_all (λ r'. OwnsFit r'.q r'.work (pages_of r')) (is_at (suc k) cid) s.host.records r e stands.0.admins) in
-        let at = and_parts (r.q == suc k) (r.cid == cid) (find_sound (is_at (suc k) cid) s.host.records r e) in
-        let bad : suc k ≡ 0 = sym (eqb-true r.q (suc k) at.0) ∙ fit.0 in
-        absurd (omega arith)
-
-    go : (o : Option Record) → record_at s.host (suc k) cid ≡ o → BackedS (option_map_or (λ r. a.after_work r.work (suc k) cid st (option_map_or (λ e. a.heard (suc k) e s) (seen_entry s (suc k)) s)) o s)
-    go None e = h
-    go (Some r) e = work r r.work e refl (option_map_or (λ e. a.heard (suc k) e s) (seen_entry s (suc k)) s) (heard (seen_entry s (suc k)))
-
-backed_reap : (q : ℕ) (what : Reaped) (s : State) → s.trusted ≡ true → what ≡ reaped s q → StandsSound s → FitS s → BackedS s → BackedS (a.after_reap q what s)
-backed_reap q events.Empty s t e stands fit h = h
-backed_reap q (events.Rejected why) s t e stands fit h = backed_consumed q s h
-backed_reap zero (events.Done cid st) s t e stands fit h = backed_done_zero cid st s t (ap named (sym e)) (ap status_in (sym e)) stands fit h
-backed_reap (suc k) (events.Done cid st) s t e stands fit h = backed_done_other k cid st s stands h
-backed_reap zero (events.AdminDone cid st dw0) s t e stands fit h = backed_done_zero cid st s t (ap named (sym e)) (ap status_in (sym e)) stands fit h
-backed_reap (suc k) (events.AdminDone cid st dw0) s t e stands fit h = backed_done_other k cid st s stands h
+    by : (q : ℕ) (b : Bool) → (k == q) ≡ b → hoped_at (change k (λ queue. record queue { state = if is_success st then Deleting true else Live }) hs) q ≡ true → gone_at (a.heard 0 e s).device.queues q ≡ true
+        → Settles (without_record 0 cid s.host.records) (a.heard 0 e s).device.queues s.device.jobs q
+    by q true e' hoped gone =
+        let same : k ≡ q = eqb-true k q e' in
+        let asked : asked_at s.host.queues k ≡ true = was_asked s.host.records s.host.queues k 0 cid r noted.found noted.work noted.once noted.fit.asked in
+        let old = h k (asked_hoped s.host.queues k asked) (subst (λ (z : ℕ). gone_at s.device.queues z ≡ true) (sym same) ((calms_heard s.device.queues s.device.jobs 0).gone q gone)) in
+        let ok = hears_success s (a.heard 0 e s) cid old.cid st noted.hears (same_deletion s old.cid cid k r old.knows noted.found noted.work noted.once noted.fit) old.settled in
+        absurd (hoped_now (is_success st) ok k hs (subst (λ (z : ℕ). hoped_at (change k (λ queue. record queue { state = if is_success st then Deleting true else Live }) hs) z ≡ true) (sym same) hoped))
+    by q false e' hoped gone = others s cid st e r (DeleteSq k) noted h q (λ same. eqb-false k q e' (cc same)) (hoped_other (is_success st) k hs q (eqb-false k q e') hoped) gone
 
 -- Every event
 
 by_controller : (s : State) (e : Event) (reply : Reply) → host_part (a.after s e reply) ≡ host_part s → Backed s.host.records s.host.queues (a.after s e reply).device.queues (a.after s e reply).device.jobs → BackedS (a.after s e reply)
 by_controller s e reply same h = subst (λ (part : HostPart). Backed part.host.records part.host.queues (a.after s e reply).device.queues (a.after s e reply).device.jobs) (sym same) h
 
+backed_host : (s : State) (e : Event) (reply : Reply) → Accepts s e reply → IsController e ≡ false → s.trusted ≡ true → StandsSound s → FitS s → BackedS s → BackedS (a.after s e reply)
+backed_host s e reply ok c t stands fit h =
+    host_moves (λ (e : Event) (reply : Reply) (t : State). BackedS t) s e reply ok c
+    (record {
+      reserves = λ q request d none is. same_hosts (s.host.records ++ drafted_record d ∷ []) (tells_more s.host.records (drafted_record d));
+      submits = λ d entry r none built its live.
+          backed_posted d.q entry (a.on_records (with_record d.q d.cid a.submitted) (a.on_memory (with_pages (d.data_pages ++ d.chain_pages)) s))
+          (backed_calms (with_record d.q d.cid a.submitted s.host.records) s.host.queues s.device.queues (change d.q (λ at. record at { unfetched = at.unfetched ++ entry ∷ [] }) s.device.queues) s.device.jobs s.device.jobs
+          (calms_other s.device.queues s.device.jobs d.q (λ at. record at { unfetched = at.unfetched ++ entry ∷ [] }) (io_other s d.q d.cid r its.asked.0 stands.0 its.found its.asked.1) (λ at z. z)) (changed d.q d.cid a.submitted (λ r. refl) (λ r. refl) (λ r. refl)));
+      cancels = λ d r its. same_hosts (without_record d.q d.cid s.host.records) (tells_other s.host.records d.q d.cid (io_other s d.q d.cid r its.asked.0 stands.0 its.found its.asked.1));
+      rings = λ q none.
+          backed_calms s.host.records s.host.queues s.device.queues (change q (λ at. record at { rung = length at.unfetched }) s.device.queues) s.device.jobs s.device.jobs
+          (calms_state s.device.queues s.device.jobs q (λ at. record at { rung = length at.unfetched }) (λ at. refl) (λ at. refl) (λ at z. z)) h;
+      rests = λ q is. h;
+      rejects = λ q why is. backed_consumed q s h;
+      tells = λ q cid st what e r request told heard w.
+          let u = a.heard q e s in
+          backed_records u.host.records (with_record q cid (a.held st) u.host.records) u.host.queues u.device.queues u.device.jobs (tells_with u.host.records q cid (a.held st) (λ r. refl) (λ r. refl) (λ r. refl)) (backed_heard q e s h);
+      hears = λ q cid st what e r adm told heard w quiet. kept q cid st e r adm heard w (λ k same. true≢false (sym (eq-eqb k k refl) ∙ (ap (λ (x : AdminKind). deletes_sq_of k (Management x)) (sym same) ∙ quiet k)));
+      notes = λ q cid st what e r k told heard w.
+          subst (λ (z : ℕ). IsHeard s z cid st e r → BackedS (a.on_host_queue k (λ queue. record queue { state = if is_success st then Deleting true else Live }) (heard_without z cid e s))) (sym (admin_zero s q cid r (DeleteSq k) stands.0 heard.found w))
+          (λ heard. backed_noted s cid st e r k (noted cid st e r (DeleteSq k) heard w) h) heard;
+      frees = λ q cid st what e r k queue told heard w at retired good.
+          backed_hosts (without_record q cid s.host.records) (a.heard q e s).host.queues (change k a.gone (a.heard q e s).host.queues) (a.heard q e s).device.queues s.device.jobs (hoped_back a.gone k (a.heard q e s).host.queues (λ x e o. absurd (true≢false o)))
+          (kept q cid st e r (DeleteCq k) heard w (λ k same. absurd cc));
+      collects = λ q cid r f at held is. changed q cid a.collected (λ r. refl) (λ r. refl) (λ r. refl);
+      releases = λ f r its. same_hosts (without_record f.q f.cid s.host.records) (tells_other s.host.records f.q f.cid (io_other s f.q f.cid r its.asked.0 stands.0 its.found its.asked.1));
+      aborts = λ q cid id none new. backed_sent (Abort q cid) id s (unused s 0 id new) h;
+      asks = λ q id queue none new live.
+          let u = sends (DeleteSq q) id s in
+          backed_hosts u.host.records u.host.queues (change q a.deleting u.host.queues) u.device.queues u.device.jobs
+          (hoped_back a.deleting q u.host.queues (λ x e o. ap is_over (still_live s q 0 (next_tail s.entries) queue x live e))) (backed_sent (DeleteSq q) id s (unused s 0 id new) h);
+      drops = λ q id none new. backed_sent (DeleteCq q) id s (unused s 0 id new) h;
+      retires = λ q queue none at deleted.
+          backed_hosts (map (a.lost q) s.host.records) s.host.queues (change q a.retired s.host.queues) s.device.queues s.device.jobs (hoped_back a.retired q s.host.queues (λ x e o. absurd (true≢false o)))
+          (same_hosts (map (a.lost q) s.host.records) (tells_map s.host.records (a.lost q)
+          (λ r. (elim ((r.q == q) && is_submitted r.phase) as (λ b. (if b then record r { phase = Held; status = Some ABORTED_SQ_DELETION } else r).q ≡ r.q) [ true ↦ refl | false ↦ refl ]))
+          (λ r. (elim ((r.q == q) && is_submitted r.phase) as (λ b. (if b then record r { phase = Held; status = Some ABORTED_SQ_DELETION } else r).cid ≡ r.cid) [ true ↦ refl | false ↦ refl ]))
+          (λ r. (elim ((r.q == q) && is_submitted r.phase) as (λ b. (if b then record r { phase = Held; status = Some ABORTED_SQ_DELETION } else r).work ≡ r.work) [ true ↦ refl | false ↦ refl ]))));
+      forges = λ q slot bytes queue none at. h;
+    })
+  where
+    same_hosts : (rs : List Record) → Tells s.host.records rs → Backed rs s.host.queues s.device.queues s.device.jobs
+    same_hosts rs tells = backed_records s.host.records rs s.host.queues s.device.queues s.device.jobs tells h
+
+    changed : (q cid : ℕ) (f : Record → Record) → ((r : Record) → (f r).q ≡ r.q) → ((r : Record) → (f r).cid ≡ r.cid) → ((r : Record) → (f r).work ≡ r.work) → Backed (with_record q cid f s.host.records) s.host.queues s.device.queues s.device.jobs
+    changed q cid f fq fc fw = same_hosts (with_record q cid f s.host.records) (tells_with s.host.records q cid f fq fc fw)
+
+    noted : (cid : ℕ) (st : Status) (e : ComEntry) (r : Record) (adm : AdminKind) → IsHeard s 0 cid st e r → r.work ≡ Management adm → Noted s cid st e r adm
+    noted cid st e r adm heard w =
+        let an = answer_heard s 0 cid st e r t heard in
+        record {
+          hears = record { answer = an.answer; is = an.its_id; status = an.its_status; first = answering_rest s.device.queues an.answer an.first };
+          fit = fit;
+          found = heard.found;
+          work = w;
+          once = stands.0.once 0 cid;
+        }
+
+    kept : (q cid : ℕ) (st : Status) (e : ComEntry) (r : Record) (adm : AdminKind) → IsHeard s q cid st e r → r.work ≡ Management adm → ((k : ℕ) → adm ≡ DeleteSq k → ⊥) → BackedS (heard_without q cid e s)
+    kept q cid st e r adm heard w far =
+        subst (λ (z : ℕ). IsHeard s z cid st e r → BackedS (heard_without z cid e s)) (sym (admin_zero s q cid r adm stands.0 heard.found w))
+        (λ heard k hoped gone. others s cid st e r adm (noted cid st e r adm heard w) h k (far k) hoped gone) heard
+
 pub backed_event : (s : State) (e : Event) (reply : Reply) → Accepts s e reply → s.trusted ≡ true → StandsSound s → FitS s → BackedS s → BackedS (a.after s e reply)
-backed_event s e (events.Refused why touched) ok t stands fit h = h
-backed_event s (events.Reserve q r) (events.Reserved d) ok t stands fit h =
-    let new : Record = record { q = d.q; cid = d.cid; phase = Drafted; work = Io d.request; data_pages = numbers_of d.data_pages; chain_pages = numbers_of d.chain_pages; status = None } in
-    backed_records s.host.records (s.host.records ++ new ∷ []) s.host.queues s.device.queues s.device.jobs (tells_more s.host.records new) h
-backed_event s (events.Submit d) events.Accepted ok t stands fit h = backed_submit d s ok.0 stands h
-backed_event s (events.Cancel d) events.Accepted ok t stands fit h = backed_ended is_drafted d.request d.q d.cid d.data_pages d.chain_pages s ok.0 stands h
-backed_event s (events.Ring q) events.Accepted ok t stands fit h =
-    backed_calms s.host.records s.host.queues s.device.queues (change q (λ at. record at { rung = length at.unfetched }) s.device.queues) s.device.jobs s.device.jobs
-    (calms_state s.device.queues s.device.jobs q (λ at. record at { rung = length at.unfetched }) (λ at. refl) (λ at. refl) (λ at z. z)) h
-backed_event s (events.Reap q) (events.Reaps what) ok t stands fit h = backed_reap q what s t ok.1 stands fit h
-backed_event s (events.Collect q cid) (events.Collects f) ok t stands fit h = backed_collect q cid s h
-backed_event s (events.Release f) events.Accepted ok t stands fit h = backed_ended is_collected f.request f.q f.cid f.data_pages f.chain_pages s ok.0 stands h
-backed_event s (events.Abort q cid) (events.Sent id) ok t stands fit h = backed_sent (Abort q cid) id s (unused s 0 id ok.1) h
-backed_event s (events.DeleteSq q) (events.Sent id) ok t stands fit h = backed_delete q id s ok.0 (unused s 0 id ok.1) h
-backed_event s (events.DeleteCq q) (events.Sent id) ok t stands fit h = backed_sent (DeleteCq q) id s (unused s 0 id ok.1) h
-backed_event s (events.Retire q) events.Accepted ok t stands fit h = backed_retire q s h
-backed_event s (events.Forge q slot bytes) events.Accepted ok t stands fit h = backed_forge q slot bytes s h
 backed_event s (events.Fetch q) (events.Fetched c touched) ok t stands fit h =
     by_controller s (events.Fetch q) (events.Fetched c touched) (part_controller s (events.Fetch q) (events.Fetched c touched) refl)
     (backed_calms s.host.records s.host.queues s.device.queues (a.after_fetch q s).device.queues s.device.jobs (a.after_fetch q s).device.jobs (calms_fetch q s) h)
@@ -470,7 +353,10 @@ backed_event s (events.Walk q cid) (events.Walked o touched) ok t stands fit h =
     (backed_calms s.host.records s.host.queues s.device.queues (a.after_walk q cid s).device.queues s.device.jobs (a.after_walk q cid s).device.jobs (calms_walk q cid s) h)
 backed_event s (events.Complete q cid) (events.Completed touched) ok t stands fit h =
     by_controller s (events.Complete q cid) (events.Completed touched) (part_controller s (events.Complete q cid) (events.Completed touched) refl) (backed_complete q cid s ok.0 stands fit h)
-backed_event s e reply ok t stands fit h = absurd ok.1
+backed_event s (events.Fetch q) reply ok t stands fit h = absurd ok.1
+backed_event s (events.Walk q cid) reply ok t stands fit h = absurd ok.1
+backed_event s (events.Complete q cid) reply ok t stands fit h = absurd ok.1
+backed_event s e reply ok t stands fit h = backed_host s e reply ok refl t stands fit h
 
 -- Every run
 
@@ -500,9 +386,3 @@ there_from_backed s stands fit h q queue e live = go (absent s q) refl
         let old = h q (hoped_of s.host.queues q queue e quiet.0) a' in
         let asked = was_asked s.host.records s.host.queues q 0 old.cid old.knows.0 old.knows.1 old.knows.2 (stands.0.once 0 old.cid) fit.asked in
         absurd (true≢false (sym asked ∙ ap (λ (o : Option HostQueue). option_map_or (λ h. is_asked h.state) o false) e ∙ quiet.1))
-
-pub there_runs : live_queues_are_there
-there_runs image made s q queue run e live =
-    let all = along_trusted (λ s. (StandsSound s × FitS s) × BackedS s) (λ s e reply ok t h. (all_on s e reply ok t h.0, backed_event s e reply ok t h.0.0 h.0.1 h.1))
-    (λ pages queues n s image opens. (((holds_at_opening pages queues n s image (fits_pool pages queues n s opens), opening_stands pages queues n s image), fit_limits pages queues n s image opens), backed_opening pages queues n s image)) image made s run in
-    there_from_backed s all.0.0 all.0.1 all.1 q queue e live

@@ -88,28 +88,28 @@ all_taken mem parts (Does (Reads place) rest) =
     (first.0 ++ others.0, others.1 ∙ ap (λ (x : List Part). x ++ others.0) first.1 ∙ grind (arith, common_steps))
 all_taken mem parts (Does (Moves place n offset) rest) = all_taken mem parts rest
 
-pub moves_to : (m : Pages) (mem : Memory) (dir : Direction) (need : ℕ) (chain own : List ℕ) (all : List Part)
+pub moves_to : (m : Pages) (mem : Memory) (dir : Direction) (need : ℕ) (chain own : List ℕ) (ts : List Target)
     → ((p : ℕ) → is_among own p ≡ true → (page : List ℕ) × (page_at m p ≡ Some page) × (length page ≡ 4096))
-    → (c : Course) (parts : List Part) → MovesAlong mem dir need parts c → parts_taken mem parts c ≡ all → CourseIn (on_pages chain) (on_pages own) c → MovesTo m (targets dir all) c
-moves_to m mem dir need chain own all there (Closes v) parts along is h = tt
-moves_to m mem dir need chain own all there (Does Stays rest) parts along is h = moves_to m mem dir need chain own all there rest parts along is h.1
-moves_to m mem dir need chain own all there (Does (Reads place) rest) parts along is h = moves_to m mem dir need chain own all there rest (taken parts (descriptor_at mem place)) along is h.1
-moves_to m mem dir need chain own all there (Does (Moves place n offset) rest) parts along is h =
+    → (c : Course) (parts : List Part) → MovesAlong mem dir need parts c → targets dir (parts_taken mem parts c) ≡ ts → CourseIn (on_pages chain) (on_pages own) c → MovesTo m ts c
+moves_to m mem dir need chain own ts there (Closes v) parts along is h = tt
+moves_to m mem dir need chain own ts there (Does Stays rest) parts along is h = moves_to m mem dir need chain own ts there rest parts along is h.1
+moves_to m mem dir need chain own ts there (Does (Reads place) rest) parts along is h = moves_to m mem dir need chain own ts there rest (taken parts (descriptor_at mem place)) along is h.1
+moves_to m mem dir need chain own ts there (Does (Moves place n offset) rest) parts along is h =
     let more = all_taken mem parts rest in
     let here : is_among own (page_of place) ≡ true = subst (λ (q : ℕ). is_among own (page_of q) ≡ true) (add-zero place) (h.0.2 0 h.0.0) in
     let page = there (page_of place) here in (
       record {
         some = h.0.0;
         targets = λ i lt.
-            ap (λ (ps : List Part). slice_get (targets dir ps) (offset + i)) (sym is ∙ more.1)
-            ∙ ap (λ (ts : List Target). slice_get ts (offset + i)) (targets-append dir parts more.0)
+            ap (λ (us : List Target). slice_get us (offset + i)) (sym is ∙ ap (targets dir) more.1)
+            ∙ ap (λ (us : List Target). slice_get us (offset + i)) (targets-append dir parts more.0)
             ∙ front_get (targets dir parts) (targets dir more.0) (offset + i) (Place (place + i)) (along.0 i lt);
         one_page = h.0.1;
         page = page.0;
         there = page.1;
         whole = page.2;
       },
-      moves_to m mem dir need chain own all there rest parts along.1 is h.1,
+      moves_to m mem dir need chain own ts there rest parts along.1 is h.1,
     )
 
 -- A byte that is moved is that of its target

@@ -1,51 +1,46 @@
 -- Each step keeps the causes of verdicts.
-use Rattle.std.proofs.Common.{◌≡◌, ℕ, ◌+◌, ◌/◌, ◌%◌, ◌≤◌, ◌==◌, Bool, true, false, not, ◌&&◌, ◌||◌, Option, Some, None, List, [], ◌∷◌, ◌++◌, length, map, filter, find, take, drop, is_some, is_none, if◌then◌else◌, refl, ap, sym, ◌∙◌, arith, subst, eqb-true, eq-eqb}
+use Rattle.std.proofs.Common.{◌≡◌, ℕ, ◌+◌, ◌==◌, Bool, true, false, not, ◌&&◌, Option, Some, None, List, [], ◌∷◌, ◌++◌, length, map, filter, find, is_some, is_none, if◌then◌else◌, refl, ap, sym, ◌∙◌, arith, subst, eqb-true, eq-eqb}
 use Rattle.std.specs.Option.{option_map, option_map_or}
 use Rattle.std.specs.List.{AllByRecursion}
 use Rattle.std.proofs.lemmas.Bool.{true≢false, and_parts}
 use Rattle.std.proofs.lemmas.Bool.Decides.{nat_tests}
 use Rattle.admin_commands.specs.Entries.{named_queue, named_command}
-use Rattle.admin_commands.specs.declared.SqState.TheVariants.{Absent, Stopping}
-use Rattle.admin_commands.specs.declared.AdminVerdict.{AdminVerdict}
-use Rattle.admin_commands.specs.Verdicts.{is_live as is_running, is_absent}
+use Rattle.admin_commands.specs.declared.SqState.TheVariants.{Stopping}
 use Rattle.controller_walk.specs.Units.{Act, Stays, Reads, Moves}
 use Rattle.sgl_descriptor.specs.declared.Direction.{Direction}
 use Rattle.sgl_descriptor.specs.declared.Direction.TheVariants.{Destination, Source}
 use Rattle.entry_codec.specs.declared.submission.SubEntry.{SubEntry}
 use Rattle.entry_codec.specs.declared.status.Status.{Status}
-use Rattle.entry_codec.specs.declared.status.TheConstants.Status.{SUCCESS, COMMAND_ID_CONFLICT, ABORT_REQUESTED, ABORTED_SQ_DELETION, INVALID_OPCODE, INVALID_FIELD, INVALID_QUEUE_IDENTIFIER, INVALID_QUEUE_DELETION}
-use Rattle.entry_codec.specs.declared.admin_opcode.TheConstants.{ABORT, DELETE_IO_SQ, DELETE_IO_CQ}
+use Rattle.entry_codec.specs.declared.status.TheConstants.Status.{SUCCESS, ABORT_REQUESTED, ABORTED_SQ_DELETION}
+use Rattle.entry_codec.specs.declared.admin_opcode.TheConstants.{ABORT, DELETE_IO_SQ}
 use Rattle.io_commands.specs.declared.request.Kind.{Kind}
 use Rattle.io_commands.specs.declared.request.Kind.TheVariants.{Read, Write, Compare}
 use Rattle.io_commands.specs.Jobs.{is_success, verdict_of, io_fault, bytes_after_check, first_block, block_number, need_of_entry, kind_of_opcode, direction_of_entry}
-use Rattle.machine_model.specs.State.{State, Device, DeviceQueue, Record, Job}
-use Rattle.machine_model.specs.Refusals.{is_submitted, next_rung, job_at, conflicts}
+use Rattle.machine_model.specs.State.{State, Job}
+use Rattle.machine_model.specs.Refusals.{next_rung, job_at}
 use Rattle.machine_model.specs.After as a
 use Rattle.machine_model.specs.After.{course_of, walks}
 use Rattle.machine_model.specs.Image.{Made}
 use Rattle.machine_model.specs.Laws.{fetches, fetches_by, aborts, deletes, managed_entry}
-use Rattle.machine_model.specs.Standing.{unfetched_at}
 use Rattle.machine_model.specs.Events as events
 use Rattle.machine_model.specs.Events.{Event, Reply, Refusal}
-use Rattle.machine_model.proofs.Counting.{one}
-use Rattle.machine_model.proofs.Totals.{total}
-use Rattle.machine_model.proofs.Placed.{find_sound, is_job}
-use Rattle.machine_model.proofs.Members.{in_found, all_at_found, all_map, all_append, all_filter, all_of, all_in_both, only_found, sent}
-use Rattle.machine_model.proofs.Served.{Stood, unfetched_count, job_weight, course_ends}
-use Rattle.machine_model.proofs.Placements.{InHand, in_hand, first_is}
-use Rattle.machine_model.proofs.PlacesKept.{running_not_past}
+use Rattle.machine_model.proofs.Placed.{is_job}
+use Rattle.machine_model.proofs.Members.{all_at_found, all_map, all_append, all_filter, all_of, all_in_both, only_found}
+use Rattle.machine_model.proofs.Served.{Stood, course_ends}
+use Rattle.machine_model.proofs.Placements.{InHand, in_hand}
 use Rattle.io_commands.specs.Jobs as jobs
-use Rattle.page_memory.specs.Pages.{with_bytes, with_page_bytes}
+use Rattle.page_memory.specs.Pages.{with_bytes}
 use Rattle.machine_model.specs.Refusals.{refusal_of}
 use Rattle.machine_model.specs.Step.{IsController}
 use Rattle.machine_model.specs.After.{change}
-use Rattle.machine_model.proofs.Totals.{here}
 use Rattle.machine_model.proofs.Steps.{Accepts}
-use Rattle.machine_model.proofs.Placing.{device-answered}
 use Rattle.machine_model.proofs.CommandsAll.{Walking, walking}
 use Rattle.machine_model.proofs.WalksKept.{one_job, host_jobs}
 use Rattle.machine_model.proofs.Lengths.{host_image, moved_length, blocks_put}
 use Rattle.machine_model.proofs.Caused.{cause, goes_well, Caused, CausedIfIo, AllCaused, caused_on, all_on, caused_abort, caused_stop, hand_good, caused_begun, answers_well}
+pub use Rattle.machine_model.proofs.HeadsAll.{no_conflict as not_conflicting}
+use Rattle.machine_model.proofs.Managed.{managed_by_cause}
+use Rattle.machine_model.proofs.DeviceMoves.{unit_bytes, unit_done, finished, fetch_of, walk_by, complete_by}
 
 -- What a step leaves: an image as long, and each verdict with its cause
 pub record Keeps (earlier : List Made) (s t : State) : Type 0 where
@@ -66,28 +61,6 @@ pub not_fetched : (earlier : List Made) (m : Made) (s : State) → ((q cid : ℕ
 not_fetched earlier m s far h = all_on earlier (a.image_blocks s) s.device.jobs m (all_of (λ j. (j.q == 0) ≡ false → fetches j.q j.entry.cid m ≡ false) s.device.jobs (λ j within other. far j.q j.entry.cid)) h
 
 -- Fetching
-
--- where a statement holds of each state that a verdict leaves, it holds of what the fetch leaves; an Abort marks a job that walks
-managed_by_cause : (P : State → Type 0) (e : SubEntry) (s : State) → ((st : Status) (dw0 : ℕ) → P (a.decided e st dw0 s))
-    → ((e.opcode == ABORT) ≡ true → walks s (named_queue e) (named_command e) ≡ true
-    → P (a.decided e SUCCESS 0 (a.on_job (named_queue e) (named_command e) (λ j. record j { verdict = Some ABORT_REQUESTED; waiting_abort = Some e.cid }) s)))
-    → ((e.opcode == DELETE_IO_SQ) ≡ true
-    → P (a.decided e SUCCESS 0 (a.on_device (λ d. record d { jobs = map (a.stopped (named_queue e)) d.jobs }) (a.on_device_queue (named_queue e) (λ at. record at { state = Stopping }) s))))
-    → P (a.decided e SUCCESS 0 (a.on_device_queue (named_queue e) (λ at. record at { cq_there = false }) s))
-    → P (a.managed e s)
-managed_by_cause P e s plain aborts' stops drops =
-    by_if (not ((e.opcode == ABORT) || (e.opcode == DELETE_IO_SQ) || (e.opcode == DELETE_IO_CQ))) _ _ (λ c. plain INVALID_OPCODE 0)
-    (λ c. by_if (not (e.fuse == 0)) _ _ (λ c'. plain INVALID_FIELD 0)
-    (λ c'. by_if (e.opcode == ABORT) _ _
-    (λ is8. by_if (walks s (named_queue e) (named_command e) && not (named_queue e == 0)) _ _ (λ w. aborts' is8 (and_parts (walks s (named_queue e) (named_command e)) (not (named_queue e == 0)) w).0) (λ w. plain SUCCESS 1))
-    (λ not8. by_if (e.opcode == DELETE_IO_SQ) _ _
-    (λ is0. by_if ((named_queue e == 0) || not (is_running (a.sq_state s (named_queue e)))) _ _ (λ w. plain INVALID_QUEUE_IDENTIFIER 0) (λ w. stops is0))
-    (λ not0. by_if ((named_queue e == 0) || not (a.cq_there s (named_queue e))) _ _ (λ w. plain INVALID_QUEUE_IDENTIFIER 0)
-    (λ w. by_if (not (is_absent (a.sq_state s (named_queue e)))) _ _ (λ w'. plain INVALID_QUEUE_DELETION 0) (λ w'. drops))))))
-  where
-    by_if : (b : Bool) (x y : AdminVerdict) → (b ≡ true → P (a.acted e x s)) → (b ≡ false → P (a.acted e y s)) → P (a.acted e (if b then x else y) s)
-    by_if true x y f g = f refl
-    by_if false x y f g = g refl
 
 far_zero : (q : ℕ) → (q == 0) ≡ false → (0 == q) ≡ false
 far_zero q h = grind (arith, nat_tests, h)
@@ -145,34 +118,6 @@ managed_keeps earlier s q e c touched z rung h =
         caused_stop earlier (a.image_blocks s) j m (far j other) (rw jq its) (k other)
     halted is0 j false is k other = caused_on earlier (a.image_blocks s) j m (far j other) (k other)
 
--- no identifier in hand is a job's
-sent_less : (q cid : ℕ) (rs : List Record) → total (sent q (λ c. one (c == cid))) rs ≤ total (here q cid) rs
-sent_less q cid [] = omega arith
-sent_less q cid (x ∷ rs) = omega (arith, sent_less q cid rs, each (x.q == q) (is_submitted x.phase) (x.cid == cid))
-  where
-    each : (a b c : Bool) → (if a && b then one c else 0) ≤ one (a && c)
-    each true true c = omega arith
-    each true false c = omega arith
-    each false b c = omega arith
-
-pub not_conflicting : (s : State) → Stood s → (q : ℕ) (e : SubEntry) → InHand s q e → is_some (job_at s q e.cid) ≡ false
-not_conflicting s stood q e hand = go (job_at s q e.cid) refl
-  where
-    w : ℕ → ℕ
-    w c = one (c == e.cid)
-
-    go : (o : Option Job) → job_at s q e.cid ≡ o → is_some o ≡ false
-    go None f = refl
-    go (Some j) f =
-        let ids = and_parts (j.q == q) (j.entry.cid == e.cid) (find_sound (is_job q e.cid) s.device.jobs j f) in
-        let weigh : job_weight q w j ≡ 1 = rw ids.0 (ap one ids.1) in
-        let un : unfetched_count q w s.host.queues s.device.queues ≡ total (λ (x : SubEntry). w x.cid) (unfetched_at s.device.queues q) =
-        ap (λ (b : Bool). if b then 0 else total (λ (x : SubEntry). w x.cid) (unfetched_at s.device.queues q)) (running_not_past s stood.grounds q e hand) in
-        let mine : 1 ≤ total (λ (x : SubEntry). w x.cid) (unfetched_at s.device.queues q) =
-        subst (λ (xs : List SubEntry). 1 ≤ total (λ (x : SubEntry). w x.cid) xs) (sym (ap (λ (o : Option DeviceQueue). option_map_or (λ at. at.unfetched) o []) hand.at ∙ first_is hand.queue.unfetched e hand.first))
-        (omega (arith, ap one (eq-eqb e.cid e.cid refl))) in
-        absurd (omega (arith, un, mine, weigh, in_found (is_job q e.cid) s.device.jobs j f (job_weight q w), stood.places q w, sent_less q e.cid s.host.records, stood.grounds.stands.0.once q e.cid))
-
 pub none_found : (q cid : ℕ) (js : List Job) → is_some (find (is_job q cid) js) ≡ false → AllByRecursion (λ j. is_job q cid j ≡ false) js
 none_found q cid [] h = tt
 none_found q cid (j ∷ js) h = go (is_job q cid j) refl h (none_found q cid js)
@@ -183,13 +128,20 @@ none_found q cid (j ∷ js) h = go (is_job q cid j) refl h (none_found q cid js)
 
 fetch_keeps : (earlier : List Made) (s : State) (q c : ℕ) (touched : List ℕ) → option_map (λ (e : SubEntry). e.cid) (next_rung s q) ≡ Some c → Stood s → AllCaused earlier (a.image_blocks s) s.device.jobs
     → Keeps (earlier ++ record { before = s; event = events.Fetch q; reply = events.Fetched c touched } ∷ []) s (a.after_fetch q s)
-fetch_keeps earlier s q c touched cid stood h = go (next_rung s q) refl cid
+fetch_keeps earlier s q c touched cid stood h =
+    let x = entry (next_rung s q) refl cid in
+    fetch_of (λ (t : State). Keeps (earlier ++ m ∷ []) s t) s q x.0 x.1 (λ con. absurd (true≢false (sym con ∙ ap (λ (o : Option SubEntry). option_map_or (λ e. is_some (job_at s q e.cid)) o false) x.1 ∙ not_conflicting s stood q x.0 (in_hand s q x.0 x.1))))
+    (λ con z. managed_keeps earlier s q x.0 c touched z x.1 h) (λ con other. begun x.0 (in_hand s q x.0 x.1) (same_cid x.0 x.2) other)
   where
     m : Made
     m = record { before = s; event = events.Fetch q; reply = events.Fetched c touched }
 
     same_cid : (e : SubEntry) → Some e.cid ≡ Some c → c ≡ e.cid
     same_cid e h = cc
+
+    entry : (o : Option SubEntry) → next_rung s q ≡ o → option_map (λ (e : SubEntry). e.cid) o ≡ Some c → (e : SubEntry) × (next_rung s q ≡ Some e) × (Some e.cid ≡ Some c)
+    entry None n is = absurd cc
+    entry (Some e) n is = (e, n, is)
 
     begun : (e : SubEntry) → InHand s q e → c ≡ e.cid → (q == 0) ≡ false → Keeps (earlier ++ record { before = s; event = events.Fetch q; reply = events.Fetched c touched } ∷ []) s (a.begun q e (a.taken_off q s))
     begun e hand is other = record {
@@ -206,29 +158,15 @@ fetch_keeps earlier s q c touched cid stood h = go (next_rung s q) refl cid
             turned : (q k ec c jc : ℕ) → c ≡ ec → ((k == q) && (jc == ec)) ≡ false → ((q == k) && (c == jc)) ≡ false
             turned q k ec c jc is f = grind (arith, nat_tests, is, f)
 
-    inner : (e : SubEntry) → next_rung s q ≡ Some e → c ≡ e.cid → (b z : Bool) → conflicts s q ≡ b → (q == 0) ≡ z
-        → Keeps (earlier ++ record { before = s; event = events.Fetch q; reply = events.Fetched c touched } ∷ []) s
-        (if b then a.answered q e.cid COMMAND_ID_CONFLICT 0 (a.taken_off q s) else if z then a.managed e (a.taken_off 0 s) else a.begun q e (a.taken_off q s))
-    inner e rung is true z con is0 =
-        absurd (true≢false (sym con ∙ ap (λ (o : Option SubEntry). option_map_or (λ e. is_some (job_at s q e.cid)) o false) rung ∙ not_conflicting s stood q e (in_hand s q e rung)))
-    inner e rung is false true con is0 = managed_keeps earlier s q e c touched (eqb-true q 0 is0) rung h
-    inner e rung is false false con is0 = begun e (in_hand s q e rung) is is0
-
-    go : (o : Option SubEntry) → next_rung s q ≡ o → option_map (λ (e : SubEntry). e.cid) o ≡ Some c
-        → Keeps (earlier ++ record { before = s; event = events.Fetch q; reply = events.Fetched c touched } ∷ []) s
-        (option_map_or (λ e. if conflicts s q then a.answered q e.cid COMMAND_ID_CONFLICT 0 (a.taken_off q s) else if q == 0 then a.managed e (a.taken_off 0 s) else a.begun q e (a.taken_off q s)) o s)
-    go None e is = absurd cc
-    go (Some x) e is = inner x e (same_cid x is) (conflicts s q) (q == 0) refl refl
-
 -- Walking
 
 walk_keeps : (earlier : List Made) (s : State) (q cid : ℕ) (m : Made) → ((q cid : ℕ) → fetches q cid m ≡ false) → refusal_of s (events.Walk q cid) ≡ None → Stood s → AllCaused earlier (a.image_blocks s) s.device.jobs
     → Keeps (earlier ++ m ∷ []) s (a.after_walk q cid s)
-walk_keeps earlier s q cid m far none stood h = go (job_at s q cid) refl
+walk_keeps earlier s q cid m far none stood h =
+    walk_by (λ (t : State). Keeps (earlier ++ m ∷ []) s t) s q cid (record { image = refl; jobs = not_fetched earlier m s far h })
+    (λ j act at u. let w = walking s q cid j none stood at in
+    record { image = refl; jobs = each j w (unit_done s j act) (stepped j w (direction_of_entry j.entry) act u) (λ k. refl) })
   where
-    still : Keeps (earlier ++ m ∷ []) s s
-    still = record { image = refl; jobs = not_fetched earlier m s far h }
-
     -- a job that goes on, with its bytes as they are
     goes : (j : Job) → Walking s q cid j → (bytes : List ℕ) → ((kind_of_opcode j.entry.opcode ≡ Some Write) → length j.bytes ≡ need_of_entry j.entry → length bytes ≡ need_of_entry j.entry)
         → Caused (earlier ++ m ∷ []) (a.image_blocks s) j → Caused (earlier ++ m ∷ []) (a.image_blocks s) (record j { bytes = bytes; units_done = j.units_done + 1; verdict = verdict_of (a.next_answer s j) })
@@ -253,79 +191,23 @@ walk_keeps earlier s q cid m far none stood h = go (job_at s q cid) refl
         one_of k true t only p = subst (λ (x : Job). CausedIfIo (earlier ++ m ∷ []) (a.image_blocks s) (f x)) (sym (only t)) (λ other. step (subst (CausedIfIo (earlier ++ m ∷ []) (a.image_blocks s)) (only t) p w.other))
         one_of k false t only p = p
 
-    -- its bytes filled first
-    twice : (j : Job) → Walking s q cid j → (offset : ℕ) (bs : List ℕ) (f : Job → Job) → ((k : Job) → (f k).q ≡ k.q)
-        → (Caused (earlier ++ m ∷ []) (a.image_blocks s) j → Caused (earlier ++ m ∷ []) (a.image_blocks s) (f (record j { bytes = with_bytes j.bytes offset bs })))
-        → AllCaused (earlier ++ m ∷ []) (a.image_blocks s) (map (λ (k : Job). if (k.q == q) && (k.entry.cid == cid) then f k else k) (map (λ (k : Job). if (k.q == q) && (k.entry.cid == cid) then record k { bytes = with_bytes k.bytes offset bs } else k) s.device.jobs))
-    twice j w offset bs f same step =
-        all_map Mid (CausedIfIo (earlier ++ m ∷ []) (a.image_blocks s)) (λ k. if (k.q == q) && (k.entry.cid == cid) then f k else k) (map (λ (k : Job). if (k.q == q) && (k.entry.cid == cid) then record k { bytes = with_bytes k.bytes offset bs } else k) s.device.jobs)
-        (λ k p. outer k (is_job q cid k) refl p)
-        (all_map (λ k. (is_job q cid k ≡ true → k ≡ j) × CausedIfIo (earlier ++ m ∷ []) (a.image_blocks s) k) Mid (λ k. if (k.q == q) && (k.entry.cid == cid) then record k { bytes = with_bytes k.bytes offset bs } else k) s.device.jobs
-        (λ k p. inner k (is_job q cid k) refl p)
-        (all_in_both (λ k. CausedIfIo (earlier ++ m ∷ []) (a.image_blocks s) k) (λ k. is_job q cid k ≡ true → k ≡ j) (λ k. (is_job q cid k ≡ true → k ≡ j) × CausedIfIo (earlier ++ m ∷ []) (a.image_blocks s) k) s.device.jobs
-        (λ k within x p. (x, p)) (only_found (is_job q cid) s.device.jobs j w.found (one_job s stood q cid)) (not_fetched earlier m s far h)))
-      where
-        Mid : Job → Type 0
-        Mid k = (is_job q cid k ≡ true → (k ≡ record j { bytes = with_bytes j.bytes offset bs }) × CausedIfIo (earlier ++ m ∷ []) (a.image_blocks s) j) × (is_job q cid k ≡ false → CausedIfIo (earlier ++ m ∷ []) (a.image_blocks s) k)
-
-        inner : (k : Job) (b : Bool) → is_job q cid k ≡ b → (is_job q cid k ≡ true → k ≡ j) × CausedIfIo (earlier ++ m ∷ []) (a.image_blocks s) k → Mid (if b then record k { bytes = with_bytes k.bytes offset bs } else k)
-        inner k true t p = ((λ z. (ap (λ (x : Job). record x { bytes = with_bytes x.bytes offset bs }) (p.0 t), subst (CausedIfIo (earlier ++ m ∷ []) (a.image_blocks s)) (p.0 t) p.1)), λ z. absurd (true≢false (sym t ∙ z)))
-        inner k false t p = ((λ z. absurd (true≢false (sym z ∙ t))), λ z. p.1)
-
-        outer : (k : Job) (b : Bool) → is_job q cid k ≡ b → Mid k → CausedIfIo (earlier ++ m ∷ []) (a.image_blocks s) (if b then f k else k)
-        outer k true t p = subst (λ (x : Job). CausedIfIo (earlier ++ m ∷ []) (a.image_blocks s) (f x)) (sym (p.0 t).0) (λ other. step ((p.0 t).1 w.other))
-        outer k false t p = p.1 t
-
-    done : (j : Job) → Walking s q cid j → Job → Job
-    done j w k = record k { units_done = k.units_done + 1; verdict = verdict_of (a.next_answer s j) }
-
-    plain : (j : Job) → Walking s q cid j → AllCaused (earlier ++ m ∷ []) (a.image_blocks s) (map (λ (k : Job). if (k.q == q) && (k.entry.cid == cid) then record k { units_done = k.units_done + 1; verdict = verdict_of (a.next_answer s j) } else k) s.device.jobs)
-    plain j w = each j w (λ k. record k { units_done = k.units_done + 1; verdict = verdict_of (a.next_answer s j) }) (λ k. goes j w j.bytes (λ kind len. len) k) (λ k. refl)
-
-    moved : (j : Job) → Walking s q cid j → (dir : Direction) (act : Act) → a.next_unit s j ≡ Some act
-        → Keeps (earlier ++ m ∷ []) s (a.on_job q cid (λ k. record k { units_done = k.units_done + 1; verdict = verdict_of (a.next_answer s j) }) (a.moved dir act q cid s))
-    moved j w dir Stays u = record { image = refl; jobs = plain j w }
-    moved j w dir (Reads place) u = record { image = refl; jobs = plain j w }
-    moved j w Destination (Moves place n offset) u = at (job_at s q cid)
-      where
-        at : (o : Option Job) → Keeps (earlier ++ m ∷ []) s (a.on_job q cid (λ k. record k { units_done = k.units_done + 1; verdict = verdict_of (a.next_answer s j) })
-            (option_map_or (λ j. a.on_memory (λ mem. with_page_bytes mem (place / 4096) (place % 4096) (take n (drop offset j.bytes))) s) o s))
-        at None = record { image = refl; jobs = plain j w }
-        at (Some k) = record { image = refl; jobs = plain j w }
-    moved j w Source (Moves place n offset) u = record {
-      image = refl;
-      jobs = twice j w offset (a.page_bytes s.memory place n) (λ k. record k { units_done = k.units_done + 1; verdict = verdict_of (a.next_answer s j) }) (λ k. refl)
-          (λ k. goes j w (with_bytes j.bytes offset (a.page_bytes s.memory place n)) (λ kind len. moved_length s j place n offset (course_ends s stood j w.list) u len) k);
-    }
-
-    inner : (j : Job) → Walking s q cid j → (o : Option Act) → a.next_unit s j ≡ o
-        → Keeps (earlier ++ m ∷ []) s (option_map_or (λ act. a.on_job q cid (λ k. record k { units_done = k.units_done + 1; verdict = verdict_of (a.next_answer s j) }) (a.moved (direction_of_entry j.entry) act q cid s)) o s)
-    inner j w None u = still
-    inner j w (Some act) u = moved j w (direction_of_entry j.entry) act u
-
-    go : (o : Option Job) → job_at s q cid ≡ o
-        → Keeps (earlier ++ m ∷ []) s (option_map_or (λ j. option_map_or (λ act. a.on_job q cid (λ k. record k { units_done = k.units_done + 1; verdict = verdict_of (a.next_answer s j) }) (a.moved (direction_of_entry j.entry) act q cid s)) (a.next_unit s j) s) o s)
-    go None e = still
-    go (Some j) e = inner j (walking s q cid j none stood e) (a.next_unit s j) refl
+    stepped : (j : Job) → Walking s q cid j → (dir : Direction) (act : Act) → a.next_unit s j ≡ Some act → Caused (earlier ++ m ∷ []) (a.image_blocks s) j
+        → Caused (earlier ++ m ∷ []) (a.image_blocks s) (record j { bytes = unit_bytes s dir act j.bytes; units_done = j.units_done + 1; verdict = verdict_of (a.next_answer s j) })
+    stepped j w dir Stays u k = goes j w j.bytes (λ kind len. len) k
+    stepped j w dir (Reads place) u k = goes j w j.bytes (λ kind len. len) k
+    stepped j w Destination (Moves place n offset) u k = goes j w j.bytes (λ kind len. len) k
+    stepped j w Source (Moves place n offset) u k = goes j w (with_bytes j.bytes offset (a.page_bytes s.memory place n)) (λ kind len. moved_length s j place n offset (course_ends s stood j w.list) u len) k
 
 -- Completing
 
 complete_keeps : (earlier : List Made) (s : State) (q cid : ℕ) (m : Made) → ((q cid : ℕ) → fetches q cid m ≡ false) → Stood s → AllCaused earlier (a.image_blocks s) s.device.jobs
     → Keeps (earlier ++ m ∷ []) s (a.after_complete q cid s)
-complete_keeps earlier s q cid m far stood h = go (job_at s q cid) refl
+complete_keeps earlier s q cid m far stood h =
+    complete_by (λ (t : State). Keeps (earlier ++ m ∷ []) s t) s q cid (record { image = refl; jobs = not_fetched earlier m s far h })
+    (λ j at c. record { image = left j at; jobs = fewer }) (λ j at c. record { image = left j at; jobs = fewer })
   where
     fewer : AllCaused (earlier ++ m ∷ []) (a.image_blocks s) (filter (λ j. not ((j.q == q) && (j.entry.cid == cid))) s.device.jobs)
     fewer = all_filter (CausedIfIo (earlier ++ m ∷ []) (a.image_blocks s)) (λ j. not ((j.q == q) && (j.entry.cid == cid))) s.device.jobs (not_fetched earlier m s far h)
-
-    answered : (st : Status) (dw0 : ℕ) (t : State) → Keeps (earlier ++ m ∷ []) s t → Keeps (earlier ++ m ∷ []) s (a.answered q cid st dw0 t)
-    answered st dw0 t k = record {
-      image = subst (λ (d : Device). length d.image ≡ length s.device.image) (sym (device-answered q cid st dw0 t)) k.image;
-      jobs = subst (λ (d : Device). AllCaused (earlier ++ m ∷ []) (a.image_blocks s) d.jobs) (sym (device-answered q cid st dw0 t)) k.jobs;
-    }
-
-    deleted : (j : Job) (b : Bool) (t : State) → Keeps (earlier ++ m ∷ []) s t → Keeps (earlier ++ m ∷ []) s (if b then a.on_device_queue (named_queue j.entry) (λ at. record at { state = Absent; unfetched = []; rung = 0 }) t else t)
-    deleted j true t k = record { image = k.image; jobs = k.jobs }
-    deleted j false t k = k
 
     -- the image is as long behind a Write
     by_kind : (j : Job) (v : Status) → Caused earlier (a.image_blocks s) j → j.verdict ≡ Some v → is_success v ≡ true → (k : Option Kind) → kind_of_opcode j.entry.opcode ≡ k
@@ -349,14 +231,8 @@ complete_keeps earlier s q cid m far stood h = go (job_at s q cid) refl
     image j c true e = refl
     image j c false e = by_verdict j (c e) j.verdict refl
 
-    go : (o : Option Job) → job_at s q cid ≡ o
-        → Keeps (earlier ++ m ∷ []) s (option_map_or (λ j. let st = a.final_status s j in a.answered q cid st j.dw0 (a.deletion_done j st (a.on_device (λ d. record d { image = a.image_completed j d.image }) (a.without_job q cid s)))) o s)
-    go None e = record { image = refl; jobs = not_fetched earlier m s far h }
-    go (Some j) e =
-        let c = all_at_found (CausedIfIo earlier (a.image_blocks s)) (is_job q cid) s.device.jobs j e h in
-        let t = a.on_device (λ d. record d { image = a.image_completed j d.image }) (a.without_job q cid s) in
-        answered (a.final_status s j) j.dw0 (a.deletion_done j (a.final_status s j) t)
-        (deleted j ((j.q == 0) && (j.entry.opcode == DELETE_IO_SQ) && is_success (a.final_status s j)) t (record { image = image j c (j.q == 0) refl; jobs = fewer }))
+    left : (j : Job) → job_at s q cid ≡ Some j → length (finished q cid j s).device.image ≡ length s.device.image
+    left j at = image j (all_at_found (CausedIfIo earlier (a.image_blocks s)) (is_job q cid) s.device.jobs j at h) (j.q == 0) refl
 
 -- Every step
 

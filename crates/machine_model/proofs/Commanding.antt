@@ -1,42 +1,38 @@
 -- What of the controller's part and of memory each command's list hangs on, and how records change.
-use Rattle.std.proofs.Common.{◌≡◌, ℕ, ◌+◌, ◌-◌, ◌/◌, ◌%◌, ◌==◌, Bool, true, false, not, ◌&&◌, Option, Some, None, List, [], ◌∷◌, ◌++◌, length, map, filter, take, drop, slice_get, if◌then◌else◌, refl, ap, sym, ◌∙◌, subst, eqb-true}
+use Rattle.std.proofs.Common.{◌≡◌, ℕ, ◌-◌, ◌%◌, ◌==◌, Bool, true, false, not, ◌&&◌, Option, Some, None, List, [], ◌∷◌, ◌++◌, length, map, filter, drop, slice_get, if◌then◌else◌, refl, ap, sym, ◌∙◌, subst}
 use Rattle.std.specs.Option.{option_map_or, option_and_then}
 use Rattle.std.specs.List.{AllByRecursion}
 use Rattle.std.proofs.lemmas.Bool.{true≢false}
-use Rattle.controller_walk.specs.Units.{Act, Stays, Reads, Moves}
-use Rattle.sgl_descriptor.specs.declared.Direction.{Direction}
-use Rattle.sgl_descriptor.specs.declared.Direction.TheVariants.{Destination, Source}
 use Rattle.sgl_descriptor.specs.Spelling.{spelling}
 use Rattle.sgl_chain.specs.Laws.{HasBytesOf}
 use Rattle.sgl_chain.proofs.Larger.{spells_there}
 use Rattle.page_ledger.specs.Owners.{is_among}
 use Rattle.page_memory.specs.Memory.{page_of}
-use Rattle.page_memory.specs.Pages.{Pages, page_at, byte_at, with_page_bytes, with_bytes}
+use Rattle.page_memory.specs.Pages.{Pages, page_at, byte_at}
 use Rattle.admin_commands.specs.Entries.{named_queue, named_command}
-use Rattle.admin_commands.specs.declared.SqState.TheVariants.{Absent, Stopping}
+use Rattle.admin_commands.specs.declared.SqState.TheVariants.{Stopping}
 use Rattle.entry_codec.specs.declared.submission.SubEntry.{SubEntry}
 use Rattle.entry_codec.specs.declared.status.Status.{Status}
-use Rattle.entry_codec.specs.declared.status.TheConstants.Status.{COMMAND_ID_CONFLICT, ABORT_REQUESTED}
-use Rattle.entry_codec.specs.declared.admin_opcode.TheConstants.{DELETE_IO_SQ}
+use Rattle.entry_codec.specs.declared.status.TheConstants.Status.{ABORT_REQUESTED}
 use Rattle.io_commands.specs.Asked.{Request}
 use Rattle.io_commands.specs.Requests.{parts_of}
 use Rattle.io_commands.specs.Drafts.{io_entry}
-use Rattle.io_commands.specs.Jobs.{is_success, verdict_of, direction_of_entry, io_fault, bytes_after_check}
+use Rattle.io_commands.specs.Jobs.{io_fault, bytes_after_check}
 use Rattle.machine_model.specs.Commands.{Work, Io, Management}
-use Rattle.machine_model.specs.State.{State, Device, DeviceQueue, Record, Job, pages_of}
-use Rattle.machine_model.specs.Refusals.{is_submitted, next_rung, job_at, conflicts, fetch_slot}
+use Rattle.machine_model.specs.State.{Answer, State, DeviceQueue, Record, Job, pages_of}
+use Rattle.machine_model.specs.Refusals.{is_submitted}
 use Rattle.machine_model.specs.Claims.{OwnsFit}
 use Rattle.machine_model.specs.After as a
 use Rattle.machine_model.specs.After.{change}
 use Rattle.machine_model.specs.Reached.{only, on_pages}
 use Rattle.machine_model.specs.Standing.{HasEntry, ListStands, StandsAs, CommandStands}
 use Rattle.machine_model.proofs.Managed.{managed_by_case}
-use Rattle.machine_model.proofs.Placing.{device-answered}
 use Rattle.machine_model.proofs.Placed.{is_job}
 use Rattle.machine_model.proofs.Members.{In, all_in_both, all_map, all_filter, all_append, all_drop_one}
 use Rattle.machine_model.proofs.Served.{Commands}
 use Rattle.machine_model.proofs.Queues.{all_list}
 use Rattle.machine_model.proofs.Placements.{InHand, in_hand, first_is, on_job_q, on_job_entry, stopped_q, stopped_entry}
+use Rattle.machine_model.proofs.DeviceMoves.{unit_done, finished, cleared, fetch_by, walk_by, complete_by}
 
 -- Where the controller has an entry
 
@@ -85,12 +81,11 @@ keeps_job s q e hand qs' js' j jq je keeps k cid entry h =
 keeps_off : (s : State) (q : ℕ) → Keeps s.device.queues s.device.jobs (a.taken_off q s).device.queues s.device.jobs
 keeps_off s q = keeps_queue s.device.queues s.device.jobs q (λ at. record at { unfetched = drop 1 at.unfetched; rung = at.rung - 1 }) (λ P at all. all_drop_one P at.unfetched all)
 
-keeps_answered : (s t : State) (q cid : ℕ) (st : Status) (dw0 : ℕ) → Keeps s.device.queues s.device.jobs t.device.queues t.device.jobs
-    → Keeps s.device.queues s.device.jobs (a.answered q cid st dw0 t).device.queues (a.answered q cid st dw0 t).device.jobs
-keeps_answered s t q cid st dw0 keeps =
-    let f : DeviceQueue → DeviceQueue = λ at. record at { answers = at.answers ++ record { cid = cid; status = st; dw0 = dw0; sq_head = fetch_slot t q } ∷ [] } in
-    subst (λ (d : Device). Keeps s.device.queues s.device.jobs d.queues d.jobs) (sym (device-answered q cid st dw0 t))
-    (keeps_both s.device.queues t.device.queues (change q f t.device.queues) s.device.jobs t.device.jobs t.device.jobs keeps (keeps_state t.device.queues t.device.jobs q f (λ at. refl)))
+keeps_answered : (s t : State) (q : ℕ) (an : Answer) → Keeps s.device.queues s.device.jobs t.device.queues t.device.jobs
+    → Keeps s.device.queues s.device.jobs (change q (λ at. record at { answers = at.answers ++ an ∷ [] }) t.device.queues) t.device.jobs
+keeps_answered s t q an keeps =
+    let f : DeviceQueue → DeviceQueue = λ at. record at { answers = at.answers ++ an ∷ [] } in
+    keeps_both s.device.queues t.device.queues (change q f t.device.queues) s.device.jobs t.device.jobs t.device.jobs keeps (keeps_state t.device.queues t.device.jobs q f (λ at. refl))
 
 keeps_managed : (s : State) (e : SubEntry) → InHand s 0 e → Keeps s.device.queues s.device.jobs (a.managed e (a.taken_off 0 s)).device.queues (a.managed e (a.taken_off 0 s)).device.jobs
 keeps_managed s e hand =
@@ -128,74 +123,28 @@ keeps_managed s e hand =
     decided t keeps st dw0 = keeps_job s 0 e hand t.device.queues t.device.jobs (a.new_job 0 e (Some st) dw0 []) refl refl keeps
 
 pub keeps_fetch : (s : State) (q : ℕ) → Keeps s.device.queues s.device.jobs (a.after_fetch q s).device.queues (a.after_fetch q s).device.jobs
-keeps_fetch s q = go (next_rung s q) refl
-  where
-    inner : (e : SubEntry) → InHand s q e → (b z : Bool) → (q == 0) ≡ z
-        → Keeps s.device.queues s.device.jobs (if b then a.answered q e.cid COMMAND_ID_CONFLICT 0 (a.taken_off q s) else if z then a.managed e (a.taken_off 0 s) else a.begun q e (a.taken_off q s)).device.queues
-        (if b then a.answered q e.cid COMMAND_ID_CONFLICT 0 (a.taken_off q s) else if z then a.managed e (a.taken_off 0 s) else a.begun q e (a.taken_off q s)).device.jobs
-    inner e hand true z is0 = keeps_answered s (a.taken_off q s) q e.cid COMMAND_ID_CONFLICT 0 (keeps_off s q)
-    inner e hand false true is0 = keeps_managed s e (subst (λ (n : ℕ). InHand s n e) (eqb-true q 0 is0) hand)
-    inner e hand false false is0 =
-        let t = a.taken_off q s in
-        keeps_job s q e hand t.device.queues s.device.jobs (a.new_job q e (io_fault (a.image_blocks t) e) 0 (bytes_after_check t.device.image e (io_fault (a.image_blocks t) e))) refl refl (keeps_off s q)
-
-    go : (o : Option SubEntry) → next_rung s q ≡ o
-        → Keeps s.device.queues s.device.jobs (option_map_or (λ e. if conflicts s q then a.answered q e.cid COMMAND_ID_CONFLICT 0 (a.taken_off q s) else if q == 0 then a.managed e (a.taken_off 0 s) else a.begun q e (a.taken_off q s)) o s).device.queues
-        (option_map_or (λ e. if conflicts s q then a.answered q e.cid COMMAND_ID_CONFLICT 0 (a.taken_off q s) else if q == 0 then a.managed e (a.taken_off 0 s) else a.begun q e (a.taken_off q s)) o s).device.jobs
-    go None n = λ k cid entry h. h
-    go (Some e) n = inner e (in_hand s q e n) (conflicts s q) (q == 0) refl
-
-keeps_moved : (s : State) (dir : Direction) (act : Act) (q cid : ℕ) → Keeps s.device.queues s.device.jobs (a.moved dir act q cid s).device.queues (a.moved dir act q cid s).device.jobs
-keeps_moved s dir Stays q cid = λ k c entry h. h
-keeps_moved s dir (Reads place) q cid = λ k c entry h. h
-keeps_moved s Destination (Moves place n offset) q cid = go (job_at s q cid)
-  where
-    go : (o : Option Job) → Keeps s.device.queues s.device.jobs (option_map_or (λ j. a.on_memory (λ m. with_page_bytes m (place / 4096) (place % 4096) (take n (drop offset j.bytes))) s) o s).device.queues
-        (option_map_or (λ j. a.on_memory (λ m. with_page_bytes m (place / 4096) (place % 4096) (take n (drop offset j.bytes))) s) o s).device.jobs
-    go None = λ k c entry h. h
-    go (Some j) = λ k c entry h. h
-keeps_moved s Source (Moves place n offset) q cid =
-    let f : Job → Job = λ j. record j { bytes = with_bytes j.bytes offset (a.page_bytes s.memory place n) } in
-    keeps_jobs s.device.queues s.device.jobs (λ j. if (j.q == q) && (j.entry.cid == cid) then f j else j) (on_job_q q cid f (λ j. refl)) (on_job_entry q cid f (λ j. refl))
+keeps_fetch s q =
+    fetch_by (λ (t : State). Keeps s.device.queues s.device.jobs t.device.queues t.device.jobs) s q (λ k cid entry h. h)
+    (λ e n c. keeps_answered s (a.taken_off q s) q _ (keeps_off s q))
+    (λ e n c z. keeps_managed s e (subst (λ (n : ℕ). InHand s n e) z (in_hand s q e n)))
+    (λ e n c other. let t = a.taken_off q s in
+    keeps_job s q e (in_hand s q e n) t.device.queues s.device.jobs (a.new_job q e (io_fault (a.image_blocks t) e) 0 (bytes_after_check t.device.image e (io_fault (a.image_blocks t) e))) refl refl (keeps_off s q))
 
 pub keeps_walk : (s : State) (q cid : ℕ) → Keeps s.device.queues s.device.jobs (a.after_walk q cid s).device.queues (a.after_walk q cid s).device.jobs
-keeps_walk s q cid = go (job_at s q cid)
-  where
-    inner : (j : Job) (o : Option Act)
-        → Keeps s.device.queues s.device.jobs (option_map_or (λ act. a.on_job q cid (λ k. record k { units_done = k.units_done + 1; verdict = verdict_of (a.next_answer s j) }) (a.moved (direction_of_entry j.entry) act q cid s)) o s).device.queues
-        (option_map_or (λ act. a.on_job q cid (λ k. record k { units_done = k.units_done + 1; verdict = verdict_of (a.next_answer s j) }) (a.moved (direction_of_entry j.entry) act q cid s)) o s).device.jobs
-    inner j None = λ k c entry h. h
-    inner j (Some act) =
-        let t = a.moved (direction_of_entry j.entry) act q cid s in
-        let f : Job → Job = λ k. record k { units_done = k.units_done + 1; verdict = verdict_of (a.next_answer s j) } in
-        keeps_both s.device.queues t.device.queues t.device.queues s.device.jobs t.device.jobs _ (keeps_moved s (direction_of_entry j.entry) act q cid)
-        (keeps_jobs t.device.queues t.device.jobs (λ j. if (j.q == q) && (j.entry.cid == cid) then f j else j) (on_job_q q cid f (λ j. refl)) (on_job_entry q cid f (λ j. refl)))
-
-    go : (o : Option Job)
-        → Keeps s.device.queues s.device.jobs (option_map_or (λ j. option_map_or (λ act. a.on_job q cid (λ k. record k { units_done = k.units_done + 1; verdict = verdict_of (a.next_answer s j) }) (a.moved (direction_of_entry j.entry) act q cid s)) (a.next_unit s j) s) o s).device.queues
-        (option_map_or (λ j. option_map_or (λ act. a.on_job q cid (λ k. record k { units_done = k.units_done + 1; verdict = verdict_of (a.next_answer s j) }) (a.moved (direction_of_entry j.entry) act q cid s)) (a.next_unit s j) s) o s).device.jobs
-    go None = λ k c entry h. h
-    go (Some j) = inner j (a.next_unit s j)
+keeps_walk s q cid =
+    walk_by (λ (t : State). Keeps s.device.queues s.device.jobs t.device.queues t.device.jobs) s q cid (λ k c entry h. h)
+    (λ j act at u. keeps_jobs s.device.queues s.device.jobs (λ k. if (k.q == q) && (k.entry.cid == cid) then unit_done s j act k else k) (on_job_q q cid (unit_done s j act) (λ k. refl)) (on_job_entry q cid (unit_done s j act) (λ k. refl)))
 
 pub keeps_complete : (s : State) (q cid : ℕ) → Keeps s.device.queues s.device.jobs (a.after_complete q cid s).device.queues (a.after_complete q cid s).device.jobs
-keeps_complete s q cid = go (job_at s q cid)
+keeps_complete s q cid =
+    complete_by (λ (t : State). Keeps s.device.queues s.device.jobs t.device.queues t.device.jobs) s q cid (λ k c entry h. h)
+    (λ j at c. keeps_answered s (a.on_device_queue (named_queue j.entry) cleared (finished q cid j s)) q _
+    (keeps_both s.device.queues s.device.queues (change (named_queue j.entry) cleared s.device.queues) s.device.jobs (finished q cid j s).device.jobs (finished q cid j s).device.jobs less
+    (keeps_queue s.device.queues (finished q cid j s).device.jobs (named_queue j.entry) cleared (λ P at all. tt))))
+    (λ j at c. keeps_answered s (finished q cid j s) q _ less)
   where
-    deleted : (s1 : State) (j : Job) (b : Bool) → Keeps s.device.queues s.device.jobs s1.device.queues s1.device.jobs → Keeps s.device.queues s.device.jobs
-        (if b then a.on_device_queue (named_queue j.entry) (λ at. record at { state = Absent; unfetched = []; rung = 0 }) s1 else s1).device.queues
-        (if b then a.on_device_queue (named_queue j.entry) (λ at. record at { state = Absent; unfetched = []; rung = 0 }) s1 else s1).device.jobs
-    deleted s1 j true keeps =
-        keeps_both s.device.queues s1.device.queues (change (named_queue j.entry) (λ at. record at { state = Absent; unfetched = []; rung = 0 }) s1.device.queues) s.device.jobs s1.device.jobs s1.device.jobs keeps
-        (keeps_queue s1.device.queues s1.device.jobs (named_queue j.entry) (λ at. record at { state = Absent; unfetched = []; rung = 0 }) (λ P at all. tt))
-    deleted s1 j false keeps = keeps
-
-    go : (o : Option Job)
-        → Keeps s.device.queues s.device.jobs (option_map_or (λ j. let st = a.final_status s j in a.answered q cid st j.dw0 (a.deletion_done j st (a.on_device (λ d. record d { image = a.image_completed j d.image }) (a.without_job q cid s)))) o s).device.queues
-        (option_map_or (λ j. let st = a.final_status s j in a.answered q cid st j.dw0 (a.deletion_done j st (a.on_device (λ d. record d { image = a.image_completed j d.image }) (a.without_job q cid s)))) o s).device.jobs
-    go None = λ k c entry h. h
-    go (Some j) =
-        let s1 = a.on_device (λ d. record d { image = a.image_completed j d.image }) (a.without_job q cid s) in
-        keeps_answered s (a.deletion_done j (a.final_status s j) s1) q cid (a.final_status s j) j.dw0
-        (deleted s1 j ((j.q == 0) && (j.entry.opcode == DELETE_IO_SQ) && is_success (a.final_status s j)) (keeps_filter s.device.queues s.device.jobs (λ x. not (is_job q cid x))))
+    less : Keeps s.device.queues s.device.jobs s.device.queues (filter (λ x. not (is_job q cid x)) s.device.jobs)
+    less = keeps_filter s.device.queues s.device.jobs (λ x. not (is_job q cid x))
 
 -- Lists that stay while their chain pages stay
 

@@ -1,5 +1,5 @@
 -- Every event keeps the lists of submitted commands: the other events, a walk last.
-use Rattle.std.proofs.Common.{◌≡◌, ℕ, zero, suc, ◌+◌, ◌/◌, ◌%◌, ◌==◌, Bool, true, false, not, ◌&&◌, ◌||◌, Option, Some, None, List, [], ◌∷◌, ◌++◌, length, map, take, drop, slice_get, is_some, is_none, option_and_then, if◌then◌else◌, refl, ap, sym, ◌∙◌, arith, subst, eqb-true, eq-eqb, add-zero}
+use Rattle.std.proofs.Common.{◌≡◌, ℕ, zero, suc, ◌+◌, ◌/◌, ◌%◌, ◌==◌, Bool, true, false, not, ◌&&◌, ◌||◌, Option, Some, None, List, [], ◌∷◌, ◌++◌, length, take, drop, slice_get, is_some, if◌then◌else◌, refl, ap, sym, ◌∙◌, arith, subst, eqb-true, eq-eqb, add-zero}
 use Rattle.std.specs.Option.{option_map_or}
 use Rattle.std.proofs.lemmas.Bool.{true≢false, and_parts, or_parts}
 use Rattle.page_ledger.specs.Owners.{is_among}
@@ -11,15 +11,14 @@ use Rattle.admin_commands.specs.declared.AdminKind.TheVariants.{Abort, DeleteSq,
 use Rattle.admin_commands.specs.declared.AdminKind.{AdminKind}
 use Rattle.entry_codec.specs.declared.status.Status.{Status}
 use Rattle.entry_codec.specs.declared.status.TheConstants.Status.{ABORTED_SQ_DELETION}
-use Rattle.io_commands.specs.Jobs.{is_success, verdict_of, direction_of_entry}
+use Rattle.io_commands.specs.Jobs.{direction_of_entry}
 use Rattle.page_memory.specs.Memory.{page_of}
 use Rattle.page_memory.specs.Pages.{Pages, page_at, with_page_bytes}
 use Rattle.machine_model.specs.Proper.{IsProper}
 use Rattle.machine_model.specs.Memory.{with_pages, without_pages}
-use Rattle.machine_model.specs.Commands.{Work, Io, Management}
-use Rattle.machine_model.specs.State.{State, Device, Host, HostQueue, DeviceQueue, Record, Submitted, Held, Job, Answer, is_at, record_at, pages_of, with_record, without_record}
-use Rattle.machine_model.specs.Refusals.{is_submitted, host_queue, device_queue, refusal_of, is_retired, seen_entry, entry_of, first_answer, job_at, job_is, slot_page, slot_offset}
-use Rattle.machine_model.specs.Step.{HostPart, IsController, reaped, times}
+use Rattle.machine_model.specs.State.{State, DeviceQueue, Record, Held, Job, is_at, record_at, pages_of, with_record, without_record}
+use Rattle.machine_model.specs.Refusals.{is_submitted, refusal_of, job_at, job_is, slot_page, slot_offset}
+use Rattle.machine_model.specs.Step.{HostPart, IsController, times}
 use Rattle.machine_model.specs.After as a
 use Rattle.machine_model.specs.After.{change}
 use Rattle.machine_model.specs.Events as events
@@ -29,12 +28,8 @@ use Rattle.machine_model.specs.Reached.{on_pages, ActIn, CourseIn}
 use Rattle.machine_model.specs.Standing.{CommandStands}
 use Rattle.machine_model.proofs.Counting.{times-append, held_once}
 use Rattle.machine_model.proofs.Totals.{total}
-use Rattle.machine_model.proofs.Parts.{part-posted}
 use Rattle.machine_model.proofs.Steps.{Accepts, part_controller}
-use Rattle.machine_model.proofs.Refused.{first_fails, rest_fails}
-use Rattle.machine_model.proofs.Placing.{device-posted}
 use Rattle.machine_model.proofs.Placed.{is_job, find_sound}
-use Rattle.machine_model.proofs.Out.{named}
 use Rattle.machine_model.proofs.Owned.{in_record}
 use Rattle.machine_model.proofs.Members.{In, in_found, all_map, all_filter, all_append, all_with, all_at_found}
 use Rattle.machine_model.proofs.Elsewhere.{bytes_elsewhere, owned_once}
@@ -42,11 +37,13 @@ use Rattle.machine_model.proofs.Grounds.{Grounds}
 use Rattle.machine_model.proofs.Untouched.{untouched}
 use Rattle.machine_model.proofs.Served.{Commands, Stood, JobList, job_list, course_in, chain_of, counts_sent}
 use Rattle.machine_model.proofs.Queues.{all_list}
-use Rattle.machine_model.proofs.PlacesKept.{reaped_answer}
 use Rattle.machine_model.proofs.Commanding.{Keeps, keeps_queue, keeps_fetch, keeps_walk, keeps_complete, commands_still, quiet_stands}
 use Rattle.machine_model.proofs.CommandsKept.{CommandsIn, SamePages, still, commands_reserve, commands_submit}
 use Rattle.machine_model.specs.Claims.{OwnsFit}
 use Rattle.machine_model.proofs.Members.{all_in}
+use Rattle.machine_model.proofs.Moves.{host_moves, sends, sent_record}
+use Rattle.machine_model.proofs.DeviceMoves.{unit_memory, walk_by}
+use Rattle.machine_model.proofs.Refused.{unrefused}
 
 same_pages : (s : State) (e : Event) (reply : Reply) → Accepts s e reply → is_walk e ≡ false → Grounds s → SamePages s (a.after s e reply).memory
 same_pages s e reply ok w g p some = untouched s e reply ok w g p some
@@ -68,106 +65,70 @@ commands_ended q cid pages s g same h =
     all_filter (CommandStands (with_pages pages s.memory) s.device.queues s.device.jobs) (λ r. not (is_at q cid r)) s.host.records
     (still s (with_pages pages s.memory) s.device.queues s.device.jobs g same (nothing s.device.queues s.device.jobs) h)
 
-commands_collect : (q cid : ℕ) (s : State) → Grounds s → SamePages s (a.after_collect q cid s).memory → CommandsIn s → CommandsIn (a.after_collect q cid s)
-commands_collect q cid s g same h = go (record_at s.host q cid) refl same
-  where
-    go : (o : Option Record) → record_at s.host q cid ≡ o → SamePages s (option_map_or (λ r. a.on_records (with_record q cid a.collected) (a.on_memory (without_pages (pages_of r)) s)) o s).memory
-        → CommandsIn (option_map_or (λ r. a.on_records (with_record q cid a.collected) (a.on_memory (without_pages (pages_of r)) s)) o s)
-    go None e same = h
-    go (Some r) e same =
-        with_still (without_pages (pages_of r) s.memory) s.device.queues s.device.jobs q cid a.collected s r e g (λ x. refl) (λ x. refl) refl
-        (still s (without_pages (pages_of r) s.memory) s.device.queues s.device.jobs g same (nothing s.device.queues s.device.jobs) h)
-
 -- Sending
 
 -- queue 0 has no I/O command
-commands_sent : (adm : AdminKind) (id : ℕ) (s : State) → Grounds s → SamePages s (a.sent adm id (admin_entry adm id) s).memory → CommandsIn s → CommandsIn (a.sent adm id (admin_entry adm id) s)
+commands_sent : (adm : AdminKind) (id : ℕ) (s : State) → Grounds s → SamePages s (sends adm id s).memory → CommandsIn s → CommandsIn (sends adm id s)
 commands_sent adm id s g same h =
-    let new : Record = record { q = 0; cid = id; phase = Submitted; work = Management adm; data_pages = []; chain_pages = []; status = None } in
-    let s1 = a.on_records (λ records. records ++ new ∷ []) s in
-    let t = a.posted 0 (admin_entry adm id) s1 in
+    let m = (sends adm id s).memory in
     let qs = change 0 (λ at. record at { unfetched = at.unfetched ++ admin_entry adm id ∷ [] }) s.device.queues in
-    let kept : Commands t.memory qs s.device.jobs s.host.records =
-    commands_still (λ r. Unit {0}) s.memory t.memory s.device.queues qs s.device.jobs s.device.jobs s.host.records
+    let kept : Commands m qs s.device.jobs s.host.records =
+    commands_still (λ r. Unit {0}) s.memory m s.device.queues qs s.device.jobs s.device.jobs s.host.records
     (λ r within sub p c. same p (counts_sent s r within sub p (chain_of r p c)))
     (λ r x other sub entry has. record {
       unfetched = all_list (λ e. e.cid ≡ r.cid → e ≡ entry) (λ at. at.unfetched) 0 (λ at. record at { unfetched = at.unfetched ++ admin_entry adm id ∷ [] }) s.device.queues r.q
           (λ at z all. absurd (true≢false (sym (eq-eqb r.q 0 (sym z)) ∙ other))) has.unfetched;
       fetched = has.fetched;
     }) (all_in (λ r. OwnsFit r.q r.work (pages_of r)) (λ r. OwnsFit r.q r.work (pages_of r) × Unit {0}) s.host.records (λ r within f. (f, tt)) g.stands.0.admins) h in
-    let done : Commands t.memory qs s.device.jobs (s.host.records ++ new ∷ []) = all_append (CommandStands t.memory qs s.device.jobs) s.host.records (new ∷ []) kept (tt, tt) in
-    subst (λ (host : Host). Commands t.memory t.device.queues t.device.jobs host.records) (sym (ap (λ (part : HostPart). part.host) (part-posted 0 (admin_entry adm id) s1)))
-    (subst (λ (dev : Device). Commands t.memory dev.queues dev.jobs (s.host.records ++ new ∷ [])) (sym (device-posted 0 (admin_entry adm id) s1)) done)
+    all_append (CommandStands m qs s.device.jobs) s.host.records (sent_record adm id ∷ []) kept (tt, tt)
 
 -- Reaping
-
-commands_admin : (adm : AdminKind) (st : Status) (s : State) → CommandsIn s → CommandsIn (a.after_admin adm st s)
-commands_admin (Abort q cid) st s h = h
-commands_admin (DeleteSq q) st s h = h
-commands_admin (DeleteCq q) st s h = go (is_success st && option_map_or (λ queue. is_retired queue.state) (host_queue s q) false) (host_queue s q)
-  where
-    go : (b : Bool) (o : Option HostQueue) → CommandsIn (if b then option_map_or (λ queue. a.on_host_queue q a.gone (a.given_back queue.cq_pages s)) o s else s)
-    go true None = h
-    go true (Some queue) = h
-    go false o = h
 
 keeps_consumed : (s : State) (q : ℕ) → Keeps s.device.queues s.device.jobs (change q (λ at. record at { answers = drop 1 at.answers }) s.device.queues) s.device.jobs
 keeps_consumed s q = keeps_queue s.device.queues s.device.jobs q (λ at. record at { answers = drop 1 at.answers }) (λ P at all. all)
 
-commands_done : (q cid : ℕ) (st : Status) (s : State) → s.trusted ≡ true → named (reaped s q) ≡ Some cid → Grounds s → CommandsIn s
-    → CommandsIn (option_map_or (λ r. a.after_work r.work q cid st (option_map_or (λ e. a.heard q e s) (seen_entry s q) s)) (record_at s.host q cid) s)
-commands_done q cid st s t n g h = go (record_at s.host q cid) refl
+commands_consumed : (q : ℕ) (s : State) → Grounds s → CommandsIn s → CommandsIn (a.consumed q s)
+commands_consumed q s g h = still s s.memory (change q (λ at. record at { answers = drop 1 at.answers }) s.device.queues) s.device.jobs g (λ p some. refl) (keeps_consumed s q) h
+
+-- Every event of the host
+
+commands_host : (s : State) (e : Event) (reply : Reply) → IsProper e → Accepts s e reply → IsController e ≡ false → is_walk e ≡ false → Stood s → CommandsIn (a.after s e reply)
+commands_host s e reply pr ok c w h =
+    host_moves (λ (e : Event) (reply : Reply) (t : State). IsProper e → SamePages s t.memory → CommandsIn t) s e reply ok c
+    (record {
+      reserves = λ q request d none is pr same. commands_reserve s q request d pr (none, is) h.grounds h.commands;
+      submits = λ d entry r none built its live pr same. commands_submit d entry r s pr built its live h.grounds h.few h.places same h.commands;
+      cancels = λ d r its pr same. commands_ended d.q d.cid (d.data_pages ++ d.chain_pages) s h.grounds same h.commands;
+      rings = λ q none pr same.
+          still s s.memory (change q (λ at. record at { rung = length at.unfetched }) s.device.queues) s.device.jobs h.grounds (λ p some. refl)
+          (keeps_queue s.device.queues s.device.jobs q (λ at. record at { rung = length at.unfetched }) (λ P at all. all)) h.commands;
+      rests = λ q is pr same. h.commands;
+      rejects = λ q why is pr same. commands_consumed q s h.grounds h.commands;
+      tells = λ q cid st what e r request t heard w pr same.
+          with_still s.memory (a.consumed q s).device.queues s.device.jobs q cid (a.held st) s r heard.found h.grounds (λ x. refl) (λ x. refl) refl (commands_consumed q s h.grounds h.commands);
+      hears = λ q cid st what e r adm t heard w quiet pr same. without q cid;
+      notes = λ q cid st what e r k t heard w pr same. without q cid;
+      frees = λ q cid st what e r k queue t heard w at retired good pr same. without q cid;
+      collects = λ q cid r f at held is pr same.
+          with_still (without_pages (pages_of r) s.memory) s.device.queues s.device.jobs q cid a.collected s r at h.grounds (λ x. refl) (λ x. refl) refl
+          (still s (without_pages (pages_of r) s.memory) s.device.queues s.device.jobs h.grounds same (nothing s.device.queues s.device.jobs) h.commands);
+      releases = λ f r its pr same. commands_ended f.q f.cid (f.data_pages ++ f.chain_pages) s h.grounds same h.commands;
+      aborts = λ q cid id none new pr same. commands_sent (Abort q cid) id s h.grounds same h.commands;
+      asks = λ q id queue none new live pr same. commands_sent (DeleteSq q) id s h.grounds same h.commands;
+      drops = λ q id none new pr same. commands_sent (DeleteCq q) id s h.grounds same h.commands;
+      retires = λ q queue none at deleted pr same.
+          all_map (CommandStands s.memory s.device.queues s.device.jobs) (CommandStands s.memory s.device.queues s.device.jobs) (a.lost q) s.host.records (λ r c. lose r ((r.q == q) && is_submitted r.phase) c) h.commands;
+      forges = λ q slot bytes queue none at pr same.
+          still s (with_page_bytes s.memory (slot_page queue.cq_pages 16 slot) (slot_offset 16 slot) bytes) s.device.queues s.device.jobs h.grounds same (nothing s.device.queues s.device.jobs) h.commands;
+    }) pr (same_pages s e reply ok w h.grounds)
   where
-    an : (an : Answer) × (option_and_then (λ queue. first_answer queue.answers) (device_queue s q) ≡ Some an) × (an.cid ≡ cid) × (seen_entry s q ≡ Some (entry_of q an))
-    an = reaped_answer s q cid t n
+    without : (q cid : ℕ) → Commands s.memory (a.consumed q s).device.queues s.device.jobs (without_record q cid s.host.records)
+    without q cid = all_filter (CommandStands s.memory (a.consumed q s).device.queues s.device.jobs) (λ r. not (is_at q cid r)) s.host.records (commands_consumed q s h.grounds h.commands)
 
-    qs : List DeviceQueue
-    qs = change q (λ at. record at { answers = drop 1 at.answers }) s.device.queues
-
-    kept : Commands s.memory (change q (λ at. record at { answers = drop 1 at.answers }) s.device.queues) s.device.jobs s.host.records
-    kept = still s s.memory (change q (λ at. record at { answers = drop 1 at.answers }) s.device.queues) s.device.jobs g (λ p some. refl) (keeps_consumed s q) h
-
-    work : (r : Record) (w : Work) → record_at s.host q cid ≡ Some r → CommandsIn (a.after_work w q cid st (a.heard q (entry_of q an.0) s))
-    work r (Io request) e = with_still s.memory qs s.device.jobs q cid (a.held st) s r e g (λ x. refl) (λ x. refl) refl kept
-    work r (Management adm) e =
-        commands_admin adm st (a.on_records (without_record q cid) (a.heard q (entry_of q an.0) s))
-        (all_filter (CommandStands s.memory qs s.device.jobs) (λ r. not (is_at q cid r)) s.host.records kept)
-
-    go : (o : Option Record) → record_at s.host q cid ≡ o → CommandsIn (option_map_or (λ r. a.after_work r.work q cid st (option_map_or (λ e. a.heard q e s) (seen_entry s q) s)) o s)
-    go None e = h
-    go (Some r) e = rw an.3 (work r r.work e)
-
-commands_reap : (q : ℕ) (what : Reaped) (s : State) → s.trusted ≡ true → what ≡ reaped s q → Grounds s → CommandsIn s → CommandsIn (a.after_reap q what s)
-commands_reap q events.Empty s t e g h = h
-commands_reap q (events.Rejected why) s t e g h = still s s.memory (change q (λ at. record at { answers = drop 1 at.answers }) s.device.queues) s.device.jobs g (λ p some. refl) (keeps_consumed s q) h
-commands_reap q (events.Done cid st) s t e g h = commands_done q cid st s t (ap named (sym e)) g h
-commands_reap q (events.AdminDone cid st dw0) s t e g h = commands_done q cid st s t (ap named (sym e)) g h
-
--- Retiring
-
-commands_retire : (q : ℕ) (s : State) → CommandsIn s → CommandsIn (a.after_retire q s)
-commands_retire q s h = go (host_queue s q)
-  where
-    each : (r : Record) (b : Bool) → CommandStands s.memory s.device.queues s.device.jobs r
+    lose : (r : Record) (b : Bool) → CommandStands s.memory s.device.queues s.device.jobs r
         → CommandStands s.memory s.device.queues s.device.jobs (if b then record r { phase = Held; status = Some ABORTED_SQ_DELETION } else r)
-    each r true c = quiet_stands s.memory s.device.queues s.device.jobs (λ x. record x { phase = Held; status = Some ABORTED_SQ_DELETION }) (λ x. refl) (λ x. refl) r refl c
-    each r false c = c
-
-    lost : Commands s.memory s.device.queues s.device.jobs (map (a.lost q) s.host.records)
-    lost = all_map (CommandStands s.memory s.device.queues s.device.jobs) (CommandStands s.memory s.device.queues s.device.jobs) (a.lost q) s.host.records (λ r c. each r ((r.q == q) && is_submitted r.phase) c) h
-
-    go : (o : Option HostQueue) → CommandsIn (option_map_or (λ queue. a.on_host_queue q a.retired (a.given_back queue.sq_pages (a.on_records (λ records. map (a.lost q) records) s))) o (a.on_records (λ records. map (a.lost q) records) s))
-    go None = lost
-    go (Some queue) = lost
-
-commands_forge : (q slot : ℕ) (bytes : List ℕ) (s : State) → Grounds s → SamePages s (a.after_forge q slot bytes s).memory → CommandsIn s → CommandsIn (a.after_forge q slot bytes s)
-commands_forge q slot bytes s g same h = go (host_queue s q) same
-  where
-    go : (o : Option HostQueue)
-        → SamePages s (option_map_or (λ queue. record (a.on_memory (λ m. with_page_bytes m (slot_page queue.cq_pages 16 slot) (slot_offset 16 slot) bytes) s) { trusted = false }) o s).memory
-        → CommandsIn (option_map_or (λ queue. record (a.on_memory (λ m. with_page_bytes m (slot_page queue.cq_pages 16 slot) (slot_offset 16 slot) bytes) s) { trusted = false }) o s)
-    go None same = h
-    go (Some queue) same = still s (with_page_bytes s.memory (slot_page queue.cq_pages 16 slot) (slot_offset 16 slot) bytes) s.device.queues s.device.jobs g same (nothing s.device.queues s.device.jobs) h
+    lose r true c = quiet_stands s.memory s.device.queues s.device.jobs (λ x. record x { phase = Held; status = Some ABORTED_SQ_DELETION }) (λ x. refl) (λ x. refl) r refl c
+    lose r false c = c
 
 -- The controller
 
@@ -215,37 +176,31 @@ walking s q cid j none stood e =
     no_verdict (Some st) e = absurd (true≢false e)
 
     idle : job_is (λ j. is_some j.verdict || (j.q == 0)) s q cid ≡ false
-    idle = first_fails (job_is (λ j. is_some j.verdict || (j.q == 0)) s q cid) events.Nothing []
-        (rest_fails (is_none (job_at s q cid)) events.NoJob ((job_is (λ j. is_some j.verdict || (j.q == 0)) s q cid, events.Nothing) ∷ []) none)
+    idle = (unrefused s (events.Walk q cid) none).1.0
+
+-- what a unit writes lies on its data pages
+pub unit_elsewhere : (s : State) (j : Job) (p : ℕ) (data_pages : List ℕ) (chain : ℕ → Bool) (dir : Direction) (act : Act) → (dir ≡ Destination → is_among data_pages p ≡ false) → ActIn chain (on_pages data_pages) act
+    → page_at (unit_memory s j dir act) p ≡ page_at s.memory p
+unit_elsewhere s j p data_pages chain dir Stays far h = refl
+unit_elsewhere s j p data_pages chain dir (Reads place) far h = refl
+unit_elsewhere s j p data_pages chain Source (Moves place n offset) far h = refl
+unit_elsewhere s j p data_pages chain Destination (Moves place n offset) far h = bytes_elsewhere s.memory (place / 4096) p (place % 4096) (take n (drop offset j.bytes)) elsewhere
+  where
+    elsewhere : place / 4096 ≡ p → ⊥
+    elsewhere same = true≢false (sym (ap (is_among data_pages) (sym same) ∙ subst (λ (x : ℕ). is_among data_pages (page_of x) ≡ true) (add-zero place) (h.2 0 h.0)) ∙ far refl)
 
 -- what a walk writes lies on a data page of its own command
+pub walk_writes_to : (s : State) (q cid : ℕ) → refusal_of s (events.Walk q cid) ≡ None → Stood s → (p : ℕ)
+    → ((j : Job) → (w : Walking s q cid j) → direction_of_entry j.entry ≡ Destination → is_among w.list.command.data_pages p ≡ false) → page_at (a.after_walk q cid s).memory p ≡ page_at s.memory p
+walk_writes_to s q cid none stood p far =
+    walk_by (λ (t : State). page_at t.memory p ≡ page_at s.memory p) s q cid refl
+    (λ j act at u. let w = walking s q cid j none stood at in
+    unit_elsewhere s j p w.list.command.data_pages (on_pages w.list.command.chain_pages) (direction_of_entry j.entry) act (far j w)
+    (unit_in (on_pages w.list.command.chain_pages) (on_pages w.list.command.data_pages) (a.course_of s j) j.units_done act (course_in s j w.list) u))
+
 pub walk_writes : (s : State) (q cid : ℕ) → refusal_of s (events.Walk q cid) ≡ None → Stood s → (p : ℕ)
     → ((j : Job) → (w : Walking s q cid j) → is_among w.list.command.data_pages p ≡ false) → page_at (a.after_walk q cid s).memory p ≡ page_at s.memory p
-walk_writes s q cid none stood p far = go (job_at s q cid) refl
-  where
-    moved : (data_pages : List ℕ) (chain : ℕ → Bool) → is_among data_pages p ≡ false → (dir : Direction) (act : Act) → ActIn chain (on_pages data_pages) act → page_at (a.moved dir act q cid s).memory p ≡ page_at s.memory p
-    moved data_pages chain far dir Stays h = refl
-    moved data_pages chain far dir (Reads place) h = refl
-    moved data_pages chain far Source (Moves place n offset) h = refl
-    moved data_pages chain far Destination (Moves place n offset) h = at (job_at s q cid)
-      where
-        elsewhere : place / 4096 ≡ p → ⊥
-        elsewhere same = true≢false (sym (ap (is_among data_pages) (sym same) ∙ subst (λ (x : ℕ). is_among data_pages (page_of x) ≡ true) (add-zero place) (h.2 0 h.0)) ∙ far)
-
-        at : (o : Option Job) → page_at (option_map_or (λ j. a.on_memory (λ m. with_page_bytes m (place / 4096) (place % 4096) (take n (drop offset j.bytes))) s) o s).memory p ≡ page_at s.memory p
-        at None = refl
-        at (Some j) = bytes_elsewhere s.memory (place / 4096) p (place % 4096) (take n (drop offset j.bytes)) elsewhere
-
-    inner : (j : Job) → Walking s q cid j → (o : Option Act) → a.next_unit s j ≡ o
-        → page_at (option_map_or (λ act. a.on_job q cid (λ k. record k { units_done = k.units_done + 1; verdict = verdict_of (a.next_answer s j) }) (a.moved (direction_of_entry j.entry) act q cid s)) o s).memory p ≡ page_at s.memory p
-    inner j w None e = refl
-    inner j w (Some act) e =
-        moved w.list.command.data_pages (on_pages w.list.command.chain_pages) (far j w) (direction_of_entry j.entry) act
-        (unit_in (on_pages w.list.command.chain_pages) (on_pages w.list.command.data_pages) (a.course_of s j) j.units_done act (course_in s j w.list) e)
-
-    go : (o : Option Job) → job_at s q cid ≡ o → page_at (option_map_or (λ j. option_map_or (λ act. a.on_job q cid (λ k. record k { units_done = k.units_done + 1; verdict = verdict_of (a.next_answer s j) }) (a.moved (direction_of_entry j.entry) act q cid s)) (a.next_unit s j) s) o s).memory p ≡ page_at s.memory p
-    go None e = refl
-    go (Some j) e = inner j (walking s q cid j none stood e) (a.next_unit s j) refl
+walk_writes s q cid none stood p far = walk_writes_to s q cid none stood p (λ j w d. far j w)
 
 -- so no chain page of a submitted command is written
 times_of : (s : State) → Grounds s → (r r' : Record) → In r s.host.records → In r' s.host.records → (p : ℕ) → is_among r.chain_pages p ≡ true → is_among r'.data_pages p ≡ false
@@ -266,24 +221,6 @@ chains_walk s q cid none stood r within p chain = walk_writes s q cid none stood
 
 -- every event
 pub commands_event : (s : State) (e : Event) (reply : Reply) → IsProper e → Accepts s e reply → s.trusted ≡ true → Stood s → CommandsIn (a.after s e reply)
-commands_event s e (events.Refused why touched) pr ok t h = h.commands
-commands_event s (events.Reserve q r) (events.Reserved d) pr ok t h = commands_reserve s q r d pr ok h.grounds h.commands
-commands_event s (events.Submit d) events.Accepted pr ok t h = commands_submit d s pr ok.0 h.grounds h.few h.places h.commands
-commands_event s (events.Cancel d) events.Accepted pr ok t h =
-    commands_ended d.q d.cid (d.data_pages ++ d.chain_pages) s h.grounds (same_pages s (events.Cancel d) events.Accepted ok refl h.grounds) h.commands
-commands_event s (events.Ring q) events.Accepted pr ok t h =
-    still s s.memory (change q (λ at. record at { rung = length at.unfetched }) s.device.queues) s.device.jobs h.grounds (λ p some. refl)
-    (keeps_queue s.device.queues s.device.jobs q (λ at. record at { rung = length at.unfetched }) (λ P at all. all)) h.commands
-commands_event s (events.Reap q) (events.Reaps what) pr ok t h = commands_reap q what s t ok.1 h.grounds h.commands
-commands_event s (events.Collect q cid) (events.Collects f) pr ok t h = commands_collect q cid s h.grounds (same_pages s (events.Collect q cid) (events.Collects f) ok refl h.grounds) h.commands
-commands_event s (events.Release f) events.Accepted pr ok t h =
-    commands_ended f.q f.cid (f.data_pages ++ f.chain_pages) s h.grounds (same_pages s (events.Release f) events.Accepted ok refl h.grounds) h.commands
-commands_event s (events.Abort q cid) (events.Sent id) pr ok t h = commands_sent (Abort q cid) id s h.grounds (same_pages s (events.Abort q cid) (events.Sent id) ok refl h.grounds) h.commands
-commands_event s (events.DeleteSq q) (events.Sent id) pr ok t h = commands_sent (DeleteSq q) id s h.grounds (same_pages s (events.DeleteSq q) (events.Sent id) ok refl h.grounds) h.commands
-commands_event s (events.DeleteCq q) (events.Sent id) pr ok t h = commands_sent (DeleteCq q) id s h.grounds (same_pages s (events.DeleteCq q) (events.Sent id) ok refl h.grounds) h.commands
-commands_event s (events.Retire q) events.Accepted pr ok t h = commands_retire q s h.commands
-commands_event s (events.Forge q slot bytes) events.Accepted pr ok t h =
-    commands_forge q slot bytes s h.grounds (same_pages s (events.Forge q slot bytes) events.Accepted ok refl h.grounds) h.commands
 commands_event s (events.Fetch q) (events.Fetched c touched) pr ok t h =
     commands_controller s (events.Fetch q) (events.Fetched c touched) refl
     (λ r within sub p chain. same_pages s (events.Fetch q) (events.Fetched c touched) ok refl h.grounds p (counts_sent s r within sub p (chain_of r p chain))) (keeps_fetch s q) h.grounds h.commands
@@ -292,4 +229,7 @@ commands_event s (events.Walk q cid) (events.Walked o touched) pr ok t h =
 commands_event s (events.Complete q cid) (events.Completed touched) pr ok t h =
     commands_controller s (events.Complete q cid) (events.Completed touched) refl
     (λ r within sub p chain. same_pages s (events.Complete q cid) (events.Completed touched) ok refl h.grounds p (counts_sent s r within sub p (chain_of r p chain))) (keeps_complete s q cid) h.grounds h.commands
-commands_event s e reply pr ok t h = absurd ok.1
+commands_event s (events.Fetch q) reply pr ok t h = absurd ok.1
+commands_event s (events.Walk q cid) reply pr ok t h = absurd ok.1
+commands_event s (events.Complete q cid) reply pr ok t h = absurd ok.1
+commands_event s e reply pr ok t h = commands_host s e reply pr ok refl refl h

@@ -1,9 +1,8 @@
 -- Every event keeps the lists of submitted commands.
-use Rattle.std.proofs.Common.{◌≡◌, ℕ, zero, suc, ◌+◌, ◌<◌, ◌≤◌, ◌==◌, nat_lt, Bool, true, false, not, ◌&&◌, Option, Some, None, List, [], ◌∷◌, ◌++◌, length, slice_get, is_some, is_none, nat_eq, if◌then◌else◌, refl, ap, sym, ◌∙◌, arith, subst, eq-eqb}
+use Rattle.std.proofs.Common.{◌≡◌, ℕ, zero, suc, ◌+◌, ◌<◌, ◌≤◌, ◌==◌, Bool, true, false, Option, Some, None, List, [], ◌∷◌, ◌++◌, length, slice_get, is_some, if◌then◌else◌, refl, ap, sym, ◌∙◌, arith, subst, eq-eqb, not}
 use Rattle.std.specs.Option.{option_map_or}
-use Rattle.std.specs.Cmp.Lexicographic.{pointwise}
 use Rattle.std.specs.List.{AllByRecursion}
-use Rattle.std.proofs.lemmas.Bool.{true≢false, not-false, and_parts, and_from, or_left, or_right}
+use Rattle.std.proofs.lemmas.Bool.{true≢false, and_from, or_left, or_right}
 use Rattle.std.proofs.lemmas.List.{length-map}
 use Rattle.page_ledger.specs.Owners.{is_among}
 use Rattle.sgl_descriptor.specs.Spelling.{spelling}
@@ -19,9 +18,9 @@ use Rattle.page_memory.specs.Pages.{Pages, page_at, byte_at}
 use Rattle.machine_model.specs.Proper.{IsProper}
 use Rattle.machine_model.specs.Memory.{with_pages, without_pages}
 use Rattle.machine_model.specs.Commands.{Work, Io, Management}
-use Rattle.machine_model.specs.State.{State, Device, Host, HostQueue, DeviceQueue, Record, Drafted, Job, is_at, record_at, pages_of, with_record}
-use Rattle.machine_model.specs.Refusals.{is_submitted, is_drafted, is_live, is_deleting, refusal_of, record_is, is_of, asks_for, in_state, queue_full, no_identifier, no_io_queue, pages_wanted}
-use Rattle.machine_model.specs.Step.{HostPart, times}
+use Rattle.machine_model.specs.State.{State, HostQueue, DeviceQueue, Record, Drafted, Job, is_at, pages_of, with_record}
+use Rattle.machine_model.specs.Refusals.{is_submitted, is_drafted, is_live, asks_for, in_state, has_sq}
+use Rattle.machine_model.specs.Step.{times}
 use Rattle.machine_model.specs.Claims.{OwnsFit}
 use Rattle.machine_model.specs.After as a
 use Rattle.machine_model.specs.After.{change}
@@ -31,21 +30,20 @@ use Rattle.machine_model.specs.Reached.{only, on_pages}
 use Rattle.machine_model.specs.Standing.{unfetched_at, HasEntry, ListStands, StandsAs, CommandStands}
 use Rattle.machine_model.proofs.Counting.{one, held_once}
 use Rattle.machine_model.proofs.Totals.{total}
-use Rattle.machine_model.proofs.Parts.{part-posted}
 use Rattle.machine_model.proofs.Steps.{Accepts}
-use Rattle.machine_model.proofs.Refused.{first_fails, rest_fails, found, pages_match, same_lists}
-use Rattle.machine_model.proofs.Placing.{device-posted}
 use Rattle.machine_model.proofs.Owned.{in_record, in_queue}
-use Rattle.machine_model.proofs.Paired.{is_past}
 use Rattle.machine_model.proofs.Members.{In, in_found, in_at, all_in, all_in_both, all_append, all_with, is_found, sent, sent_found}
 use Rattle.machine_model.proofs.Elsewhere.{sent_page, owned_once}
 use Rattle.machine_model.proofs.Grounds.{Grounds, pair_at, ring_in}
-use Rattle.machine_model.proofs.Untouched.{untouched, posted_elsewhere, PostsElsewhere, live_past, live_queue}
+use Rattle.machine_model.proofs.Untouched.{posts_elsewhere, untouched, PostsElsewhere, live_queue}
 use Rattle.machine_model.proofs.Served.{Commands, past_at, unfetched_count, job_weight, counts_sent, chain_of, data_of, page_below}
 use Rattle.machine_model.proofs.Queues.{all_list}
-use Rattle.machine_model.proofs.PlacesKept.{PlacesIn, ids_of, drafted_not}
+use Rattle.machine_model.proofs.PlacesKept.{PlacesIn, ids_of}
 use Rattle.machine_model.proofs.Submitting.{requests_same, first_read, brought, draft_spells}
 use Rattle.machine_model.proofs.Commanding.{Keeps, commands_still}
+use Rattle.machine_model.proofs.Moves.{IsOf, posts}
+use Rattle.machine_model.proofs.Refused.{unrefused}
+use Rattle.machine_model.proofs.Halves.{live_has_sq}
 
 abbrev pub CommandsIn : State → Type 0
 CommandsIn s = Commands s.memory s.device.queues s.device.jobs s.host.records
@@ -94,12 +92,7 @@ commands_reserve s q r d proper ok g h =
     no_fault (Some x) e = absurd (true≢false e)
 
     good : fault_of r.kind r.blocks r.pieces ≡ None
-    good =
-        let last = (no_identifier s q, events.NoIdentifier) ∷ (nat_lt (length s.host.free) (pages_wanted s r), events.NoPages (pages_wanted s r) (length s.host.free)) ∷ [] in
-        let third = (is_some (fault_of r.kind r.blocks r.pieces), option_map_or events.Bad (fault_of r.kind r.blocks r.pieces) events.NoQueue) ∷ last in
-        let h1 = rest_fails (no_io_queue s q) events.NoQueue ((in_state is_deleting s q, events.Deleting) ∷ third) ok.0 in
-        let h2 = rest_fails (in_state is_deleting s q) events.Deleting third h1 in
-        no_fault (fault_of r.kind r.blocks r.pieces) (first_fails (is_some (fault_of r.kind r.blocks r.pieces)) (option_map_or events.Bad (fault_of r.kind r.blocks r.pieces) events.NoQueue) last h2)
+    good = no_fault (fault_of r.kind r.blocks r.pieces) (unrefused s (events.Reserve q r) ok.0).1.1.0
 
 -- Submitting
 
@@ -121,41 +114,58 @@ right_part : {B : Type 0} (P : B → Type 0) (xs ys : List B) → AllByRecursion
 right_part P [] ys h = h
 right_part P (x ∷ xs) ys h = right_part P xs ys h.1
 
-pub commands_submit : (d : DraftContents) (s : State) → IsProper (events.Submit d) → refusal_of s (events.Submit d) ≡ None → Grounds s → length s.memory ≤ 65536 → PlacesIn s → CommandsIn s → CommandsIn (a.after_submit d s)
-commands_submit d s proper none g few places h = go d.entry refl (λ p some. untouched s (events.Submit d) events.Accepted (none, tt) refl g p some)
+-- the pages of a draft that is submitted stand in the store
+pub submitted_pages : (s : State) (d : DraftContents) (entry : SubEntry) (r : Record) → IsOf s is_drafted d.request d.q d.cid d.data_pages d.chain_pages r → in_state is_live s d.q ≡ true → Grounds s
+    → AllByRecursion (λ (page : ℕ × List ℕ). page_at (posts d.q entry (a.on_records (with_record d.q d.cid a.submitted) (a.on_memory (with_pages (d.data_pages ++ d.chain_pages)) s))).memory page.0 ≡ Some page.1) (d.data_pages ++ d.chain_pages)
+submitted_pages s d entry r its live g =
+    all_named (d.data_pages ++ d.chain_pages) (λ p x. ap (λ (xs : List ℕ). is_among xs p) (sym its.pages) ∙ x)
+    (brought (d.data_pages ++ d.chain_pages) s.memory (λ p. omega (arith, ap (times p) its.pages, within (in_record p), owned_once _ p s.host g.stands.0))
+    (λ p x. page_below s g r within p (ap (λ (xs : List ℕ). is_among xs p) (sym its.pages) ∙ x)))
+  where
+    s1 : State
+    s1 = a.on_records (with_record d.q d.cid a.submitted) (a.on_memory (with_pages (d.data_pages ++ d.chain_pages)) s)
+
+    within : In r s.host.records
+    within = in_found (is_at d.q d.cid) s.host.records r its.found
+
+    elsewhere : (p : ℕ) → is_among (pages_of r) p ≡ true → PostsElsewhere (a.on_records (with_record d.q d.cid a.submitted) (a.on_memory (with_pages (d.data_pages ++ d.chain_pages)) s)) d.q p
+    elsewhere p x queue e =
+        let pair = pair_at s g d.q queue e in
+        (omega (arith, owned_once _ p s.host g.stands.0, within (in_record p), held_once p (pages_of r) x, in_at s.host.queues d.q queue e (in_queue p)), pair.2.sub (live_has_sq queue.state (live_queue s d.q live queue e)), (ring_in s g d.q queue e).tail)
+
+    all_named : (pages : List (ℕ × List ℕ)) → ((p : ℕ) → is_among (numbers_of pages) p ≡ true → is_among (pages_of r) p ≡ true)
+        → AllByRecursion (λ (page : ℕ × List ℕ). page_at (with_pages (d.data_pages ++ d.chain_pages) s.memory) page.0 ≡ Some page.1) pages
+        → AllByRecursion (λ (page : ℕ × List ℕ). page_at (posts d.q entry (a.on_records (with_record d.q d.cid a.submitted) (a.on_memory (with_pages (d.data_pages ++ d.chain_pages)) s))).memory page.0 ≡ Some page.1) pages
+    all_named [] own h = tt
+    all_named (page ∷ pages) own h = (
+      posts_elsewhere d.q entry s1 page.0 (elsewhere page.0 (own page.0 (or_left (page.0 == page.0) (is_among (numbers_of pages) page.0) (eq-eqb page.0 page.0 refl)))) ∙ h.0,
+      all_named pages (λ p x. own p (or_right (page.0 == p) (is_among (numbers_of pages) p) x)) h.1,
+    )
+
+pub commands_submit : (d : DraftContents) (entry : SubEntry) (r : Record) (s : State) → IsProper (events.Submit d) → d.entry ≡ Some entry → IsOf s is_drafted d.request d.q d.cid d.data_pages d.chain_pages r → in_state is_live s d.q ≡ true
+    → Grounds s → length s.memory ≤ 65536 → PlacesIn s → SamePages s (posts d.q entry (a.on_records (with_record d.q d.cid a.submitted) (a.on_memory (with_pages (d.data_pages ++ d.chain_pages)) s))).memory → CommandsIn s
+    → CommandsIn (posts d.q entry (a.on_records (with_record d.q d.cid a.submitted) (a.on_memory (with_pages (d.data_pages ++ d.chain_pages)) s)))
+commands_submit d entry r s proper e its live g few places same h =
+    let cid : entry.cid ≡ d.cid = ap (λ (x : SubEntry). x.cid) (carries_entry d entry proper.draft e) in
+    let qs = change d.q (λ at. record at { unfetched = at.unfetched ++ entry ∷ [] }) s.device.queues in
+    let m = (after_entry entry).memory in
+    let kept : Commands m qs s.device.jobs s.host.records =
+    commands_still (λ x. is_at d.q d.cid x ≡ true → x ≡ r) s.memory m s.device.queues qs s.device.jobs s.device.jobs s.host.records
+    (λ x w sub p c. same p (counts_sent s x w sub p (chain_of x p c)))
+    (λ x only_one other sub wanted has. others entry cid x only_one sub wanted has)
+    (all_in_both (λ x. is_at d.q d.cid x ≡ true → x ≡ r) (λ r. OwnsFit r.q r.work (pages_of r)) (λ x. OwnsFit x.q x.work (pages_of x) × (is_at d.q d.cid x ≡ true → x ≡ r)) s.host.records (λ x w f o. (f, o)) g.stands.0.admins
+    (is_found d.q d.cid s.host.records r its.found (g.stands.0.once d.q d.cid))) h in
+    all_with (CommandStands m qs s.device.jobs) (CommandStands m qs s.device.jobs) d.q d.cid a.submitted s.host.records r its.found (g.stands.0.once d.q d.cid) (λ x far c. c)
+    (λ c. own entry e r.work refl its.asks c) kept
   where
     after_entry : SubEntry → State
-    after_entry entry = a.posted d.q entry (a.on_records (with_record d.q d.cid a.submitted) (a.on_memory (with_pages (d.data_pages ++ d.chain_pages)) s))
+    after_entry entry = posts d.q entry (a.on_records (with_record d.q d.cid a.submitted) (a.on_memory (with_pages (d.data_pages ++ d.chain_pages)) s))
 
-    r : (r : Record) × (record_at s.host d.q d.cid ≡ Some r) × (is_of is_drafted d.request (numbers_of d.data_pages) (numbers_of d.chain_pages) r ≡ true)
-    r = found (is_of is_drafted d.request (numbers_of d.data_pages) (numbers_of d.chain_pages)) s d.q d.cid
-        (not-false _ (first_fails (not (record_is (is_of is_drafted d.request (numbers_of d.data_pages) (numbers_of d.chain_pages)) s d.q d.cid)) events.Stranger
-        ((is_none d.entry, events.NotBuilt) ∷ (not (in_state is_live s d.q), events.QueueGone) ∷ (queue_full s d.q, events.QueueFull) ∷ []) none))
+    within : In r s.host.records
+    within = in_found (is_at d.q d.cid) s.host.records r its.found
 
-    live : in_state is_live s d.q ≡ true
-    live =
-        not-false _ (first_fails (not (in_state is_live s d.q)) events.QueueGone ((queue_full s d.q, events.QueueFull) ∷ [])
-        (rest_fails (is_none d.entry) events.NotBuilt ((not (in_state is_live s d.q), events.QueueGone) ∷ (queue_full s d.q, events.QueueFull) ∷ [])
-        (rest_fails (not (record_is (is_of is_drafted d.request (numbers_of d.data_pages) (numbers_of d.chain_pages)) s d.q d.cid)) events.Stranger
-        ((is_none d.entry, events.NotBuilt) ∷ (not (in_state is_live s d.q), events.QueueGone) ∷ (queue_full s d.q, events.QueueFull) ∷ []) none)))
-
-    match : (numbers_of (d.data_pages ++ d.chain_pages) ≡ pages_of r.0) × (is_drafted r.0.phase ≡ true)
-    match = pages_match is_drafted d.request d.data_pages d.chain_pages r.0 r.2
-
-    quiet : is_submitted r.0.phase ≡ false
-    quiet = drafted_not r.0.phase match.1
-
-    within : In r.0 s.host.records
-    within = in_found (is_at d.q d.cid) s.host.records r.0 r.1
-
-    parts_of_test : (asks_for d.request r.0.work ≡ true) × (numbers_of d.data_pages ≡ r.0.data_pages) × (numbers_of d.chain_pages ≡ r.0.chain_pages)
-    parts_of_test =
-        let abc_d = and_parts (is_drafted r.0.phase && asks_for d.request r.0.work && pointwise nat_eq (numbers_of d.data_pages) r.0.data_pages) (pointwise nat_eq (numbers_of d.chain_pages) r.0.chain_pages) r.2 in
-        let ab_c = and_parts (is_drafted r.0.phase && asks_for d.request r.0.work) (pointwise nat_eq (numbers_of d.data_pages) r.0.data_pages) abc_d.0 in
-        ((and_parts (is_drafted r.0.phase) (asks_for d.request r.0.work) ab_c.0).1, same_lists (numbers_of d.data_pages) r.0.data_pages ab_c.1, same_lists (numbers_of d.chain_pages) r.0.chain_pages abc_d.1)
-
-    low : (p : ℕ) → is_among (pages_of r.0) p ≡ true → p < 65536
-    low p x = omega (arith, page_below s g r.0 within p x, few)
+    low : (p : ℕ) → is_among (pages_of r) p ≡ true → p < 65536
+    low p x = omega (arith, page_below s g r within p x, few)
 
     -- no entry of this identifier is anywhere
     unsent : total (sent d.q (λ n. one (n == d.cid))) s.host.records ≡ 0
@@ -165,15 +175,15 @@ commands_submit d s proper none g few places h = go d.entry refl (λ p some. unt
         count zero e = refl
         count (suc n) e =
             let x = sent_found d.q d.cid s.host.records (omega (arith, e)) (g.stands.0.once d.q d.cid) in
-            let same : x.0 ≡ r.0 = cc (x.1, r.1) in
-            absurd (true≢false (sym x.2 ∙ ap (λ (y : Record). is_submitted y.phase) same ∙ quiet))
+            let same : x.0 ≡ r = cc (x.1, its.found) in
+            absurd (true≢false (sym x.2 ∙ ap (λ (y : Record). is_submitted y.phase) same ∙ its.quiet))
 
     not_past : past_at s.host.queues d.q ≡ false
     not_past = at (slice_get s.host.queues d.q) live
       where
-        at : (o : Option HostQueue) → option_map_or (λ queue. is_live queue.state) o false ≡ true → option_map_or (λ h. is_past h.state) o false ≡ false
+        at : (o : Option HostQueue) → option_map_or (λ queue. is_live queue.state) o false ≡ true → option_map_or (λ h. not (has_sq h.state)) o false ≡ false
         at None e = refl
-        at (Some queue) e = live_past queue.state e
+        at (Some queue) e = ap not (live_has_sq queue.state e)
 
     no_entries : AllByRecursion (λ (e : SubEntry). e.cid ≡ d.cid → e ≡ draft_entry d) (unfetched_at s.device.queues d.q)
     no_entries =
@@ -195,56 +205,37 @@ commands_submit d s proper none g few places h = go d.entry refl (λ p some. unt
     }
 
     -- the chain pages stand in the store
-    posts : (p : ℕ) → is_among (pages_of r.0) p ≡ true → PostsElsewhere (a.on_records (with_record d.q d.cid a.submitted) (a.on_memory (with_pages (d.data_pages ++ d.chain_pages)) s)) d.q p
-    posts p x queue e =
-        let pair = pair_at s g d.q queue e in
-        (omega (arith, owned_once _ p s.host g.stands.0, within (in_record p), held_once p (pages_of r.0) x, in_at s.host.queues d.q queue e (in_queue p)), pair.2.sub (live_past queue.state (live_queue s d.q live queue e)), (ring_in s g d.q queue e).tail)
-
     stand_there : (entry : SubEntry) → AllByRecursion (λ (page : ℕ × List ℕ). page_at (after_entry entry).memory page.0 ≡ Some page.1) d.chain_pages
-    stand_there entry =
-        let laid = brought (d.data_pages ++ d.chain_pages) s.memory
-        (λ p. omega (arith, ap (times p) match.0, within (in_record p), owned_once _ p s.host g.stands.0))
-        (λ p x. page_below s g r.0 within p (ap (λ (xs : List ℕ). is_among xs p) (sym match.0) ∙ x)) in
-        all_named d.chain_pages (λ p x. chain_of r.0 p (ap (λ (xs : List ℕ). is_among xs p) (sym parts_of_test.2) ∙ x))
-        (right_part (λ (page : ℕ × List ℕ). page_at (with_pages (d.data_pages ++ d.chain_pages) s.memory) page.0 ≡ Some page.1) d.data_pages d.chain_pages laid)
-      where
-        all_named : (pages : List (ℕ × List ℕ)) → ((p : ℕ) → is_among (numbers_of pages) p ≡ true → is_among (pages_of r.0) p ≡ true)
-            → AllByRecursion (λ (page : ℕ × List ℕ). page_at (with_pages (d.data_pages ++ d.chain_pages) s.memory) page.0 ≡ Some page.1) pages → AllByRecursion (λ (page : ℕ × List ℕ). page_at (after_entry entry).memory page.0 ≡ Some page.1) pages
-        all_named [] own h = tt
-        all_named (page ∷ pages) own h = (
-          posted_elsewhere d.q entry (a.on_records (with_record d.q d.cid a.submitted) (a.on_memory (with_pages (d.data_pages ++ d.chain_pages)) s)) page.0
-              (posts page.0 (own page.0 (or_left (page.0 == page.0) (is_among (numbers_of pages) page.0) (eq-eqb page.0 page.0 refl)))) ∙ h.0,
-          all_named pages (λ p x. own p (or_right (page.0 == p) (is_among (numbers_of pages) p) x)) h.1,
-        )
+    stand_there entry = right_part (λ (page : ℕ × List ℕ). page_at (after_entry entry).memory page.0 ≡ Some page.1) d.data_pages d.chain_pages (submitted_pages s d entry r its live g)
 
     new_list : (entry : SubEntry) → d.entry ≡ Some entry → (request : Request) → request ≡ d.request
-        → ListStands (after_entry entry).memory (change d.q (λ at. record at { unfetched = at.unfetched ++ entry ∷ [] }) s.device.queues) s.device.jobs (a.submitted r.0) request
+        → ListStands (after_entry entry).memory (change d.q (λ at. record at { unfetched = at.unfetched ++ entry ∷ [] }) s.device.queues) s.device.jobs (a.submitted r) request
     new_list entry e request same =
         let is : entry ≡ draft_entry d = carries_entry d entry proper.draft e in
-        let ids = ids_of s d.q d.cid r.0 r.1 in
-        let low_data : (p : ℕ) → is_among (numbers_of d.data_pages) p ≡ true → p < 65536 = λ p x. low p (data_of r.0 p (ap (λ (xs : List ℕ). is_among xs p) (sym parts_of_test.1) ∙ x)) in
-        let low_chain : (p : ℕ) → is_among (numbers_of d.chain_pages) p ≡ true → p < 65536 = λ p x. low p (chain_of r.0 p (ap (λ (xs : List ℕ). is_among xs p) (sym parts_of_test.2) ∙ x)) in
+        let ids = ids_of s d.q d.cid r its.found in
+        let low_data : (p : ℕ) → is_among (numbers_of d.data_pages) p ≡ true → p < 65536 = λ p x. low p (data_of r p (ap (λ (xs : List ℕ). is_among xs p) (sym its.data_list) ∙ x)) in
+        let low_chain : (p : ℕ) → is_among (numbers_of d.chain_pages) p ≡ true → p < 65536 = λ p x. low p (chain_of r p (ap (λ (xs : List ℕ). is_among xs p) (sym its.chain_list) ∙ x)) in
         let spelled : Spells (only (on_pages (numbers_of d.chain_pages)) (byte_at (after_entry entry).memory)) (draft_first d) (draft_parts d) =
         draft_spells d entry (after_entry entry).memory proper e low_data low_chain (stand_there entry) in
         record {
           first = draft_first d;
           read = first_read d proper low_data low_chain;
-          spells = subst (λ (chain : List ℕ). Spells (only (on_pages chain) (byte_at (after_entry entry).memory)) (draft_first d) (parts_of request.pieces r.0.data_pages)) parts_of_test.2
-              (subst (λ (pages : List ℕ). Spells (only (on_pages (numbers_of d.chain_pages)) (byte_at (after_entry entry).memory)) (draft_first d) (parts_of request.pieces pages)) parts_of_test.1
+          spells = subst (λ (chain : List ℕ). Spells (only (on_pages chain) (byte_at (after_entry entry).memory)) (draft_first d) (parts_of request.pieces r.data_pages)) its.chain_list
+              (subst (λ (pages : List ℕ). Spells (only (on_pages (numbers_of d.chain_pages)) (byte_at (after_entry entry).memory)) (draft_first d) (parts_of request.pieces pages)) its.data_list
               (subst (λ (x : Request). Spells (only (on_pages (numbers_of d.chain_pages)) (byte_at (after_entry entry).memory)) (draft_first d) (parts_of x.pieces (numbers_of d.data_pages))) (sym same) spelled));
-          entry = subst (λ (x : Request). HasEntry (change d.q (λ at. record at { unfetched = at.unfetched ++ entry ∷ [] }) s.device.queues) s.device.jobs r.0.q r.0.cid (io_entry r.0.cid x (spelling (draft_first d)))) (sym same)
-              (subst (λ (c : ℕ). HasEntry (change d.q (λ at. record at { unfetched = at.unfetched ++ entry ∷ [] }) s.device.queues) s.device.jobs r.0.q c (io_entry c d.request (spelling (draft_first d)))) (sym ids.1)
+          entry = subst (λ (x : Request). HasEntry (change d.q (λ at. record at { unfetched = at.unfetched ++ entry ∷ [] }) s.device.queues) s.device.jobs r.q r.cid (io_entry r.cid x (spelling (draft_first d)))) (sym same)
+              (subst (λ (c : ℕ). HasEntry (change d.q (λ at. record at { unfetched = at.unfetched ++ entry ∷ [] }) s.device.queues) s.device.jobs r.q c (io_entry c d.request (spelling (draft_first d)))) (sym ids.1)
               (subst (λ (q : ℕ). HasEntry (change d.q (λ at. record at { unfetched = at.unfetched ++ entry ∷ [] }) s.device.queues) s.device.jobs q d.cid (draft_entry d)) (sym ids.0) (new_entry entry is)));
         }
 
-    own : (entry : SubEntry) → d.entry ≡ Some entry → (w : Work) → r.0.work ≡ w → asks_for d.request w ≡ true
-        → StandsAs (after_entry entry).memory (change d.q (λ at. record at { unfetched = at.unfetched ++ entry ∷ [] }) s.device.queues) s.device.jobs r.0 w
-        → StandsAs (after_entry entry).memory (change d.q (λ at. record at { unfetched = at.unfetched ++ entry ∷ [] }) s.device.queues) s.device.jobs (a.submitted r.0) w
+    own : (entry : SubEntry) → d.entry ≡ Some entry → (w : Work) → r.work ≡ w → asks_for d.request w ≡ true
+        → StandsAs (after_entry entry).memory (change d.q (λ at. record at { unfetched = at.unfetched ++ entry ∷ [] }) s.device.queues) s.device.jobs r w
+        → StandsAs (after_entry entry).memory (change d.q (λ at. record at { unfetched = at.unfetched ++ entry ∷ [] }) s.device.queues) s.device.jobs (a.submitted r) w
     own entry e (Io request) is asks c = (record { fits = c.0.fits; good = c.0.good; pages = c.0.pages }, λ sub. new_list entry e request (sym (requests_same d.request request asks)))
     own entry e (Management adm) is asks c = tt
 
     -- another command's entries are where they were
-    others : (entry : SubEntry) → entry.cid ≡ d.cid → (x : Record) → (is_at d.q d.cid x ≡ true → x ≡ r.0) → is_submitted x.phase ≡ true → (wanted : SubEntry)
+    others : (entry : SubEntry) → entry.cid ≡ d.cid → (x : Record) → (is_at d.q d.cid x ≡ true → x ≡ r) → is_submitted x.phase ≡ true → (wanted : SubEntry)
         → HasEntry s.device.queues s.device.jobs x.q x.cid wanted → HasEntry (change d.q (λ at. record at { unfetched = at.unfetched ++ entry ∷ [] }) s.device.queues) s.device.jobs x.q x.cid wanted
     others entry cid x only_one sub wanted has = record {
       unfetched = all_list (λ e. e.cid ≡ x.cid → e ≡ wanted) (λ at. at.unfetched) d.q (λ at. record at { unfetched = at.unfetched ++ entry ∷ [] }) s.device.queues x.q
@@ -254,25 +245,5 @@ commands_submit d s proper none g few places h = go d.entry refl (λ p some. unt
       where
         clash : d.q ≡ x.q → entry.cid ≡ x.cid → ⊥
         clash z c =
-            let same : x ≡ r.0 = only_one (and_from (x.q == d.q) (x.cid == d.cid) (eq-eqb x.q d.q (sym z)) (eq-eqb x.cid d.cid (sym c ∙ cid))) in
-            true≢false (sym sub ∙ ap (λ (y : Record). is_submitted y.phase) same ∙ quiet)
-
-    go : (o : Option SubEntry) → d.entry ≡ o
-        → SamePages s (option_map_or (λ entry. a.posted d.q entry (a.on_records (with_record d.q d.cid a.submitted) (a.on_memory (with_pages (d.data_pages ++ d.chain_pages)) s))) o s).memory
-        → CommandsIn (option_map_or (λ entry. a.posted d.q entry (a.on_records (with_record d.q d.cid a.submitted) (a.on_memory (with_pages (d.data_pages ++ d.chain_pages)) s))) o s)
-    go None e same = h
-    go (Some entry) e same =
-        let cid : entry.cid ≡ d.cid = ap (λ (x : SubEntry). x.cid) (carries_entry d entry proper.draft e) in
-        let qs = change d.q (λ at. record at { unfetched = at.unfetched ++ entry ∷ [] }) s.device.queues in
-        let m = (after_entry entry).memory in
-        let kept : Commands m qs s.device.jobs s.host.records =
-        commands_still (λ x. is_at d.q d.cid x ≡ true → x ≡ r.0) s.memory m s.device.queues qs s.device.jobs s.device.jobs s.host.records
-        (λ x w sub p c. same p (counts_sent s x w sub p (chain_of x p c)))
-        (λ x only_one other sub wanted has. others entry cid x only_one sub wanted has)
-        (all_in_both (λ x. is_at d.q d.cid x ≡ true → x ≡ r.0) (λ r. OwnsFit r.q r.work (pages_of r)) (λ x. OwnsFit x.q x.work (pages_of x) × (is_at d.q d.cid x ≡ true → x ≡ r.0)) s.host.records (λ x w f o. (f, o)) g.stands.0.admins
-        (is_found d.q d.cid s.host.records r.0 r.1 (g.stands.0.once d.q d.cid))) h in
-        let done : Commands m qs s.device.jobs (with_record d.q d.cid a.submitted s.host.records) =
-        all_with (CommandStands m qs s.device.jobs) (CommandStands m qs s.device.jobs) d.q d.cid a.submitted s.host.records r.0 r.1 (g.stands.0.once d.q d.cid) (λ x far c. c)
-        (λ c. own entry e r.0.work refl parts_of_test.0 c) kept in
-        subst (λ (host : Host). Commands m (after_entry entry).device.queues (after_entry entry).device.jobs host.records) (sym (ap (λ (part : HostPart). part.host) (part-posted d.q entry (a.on_records (with_record d.q d.cid a.submitted) (a.on_memory (with_pages (d.data_pages ++ d.chain_pages)) s)))))
-        (subst (λ (dev : Device). Commands m dev.queues dev.jobs (with_record d.q d.cid a.submitted s.host.records)) (sym (device-posted d.q entry (a.on_records (with_record d.q d.cid a.submitted) (a.on_memory (with_pages (d.data_pages ++ d.chain_pages)) s)))) done)
+            let same : x ≡ r = only_one (and_from (x.q == d.q) (x.cid == d.cid) (eq-eqb x.q d.q (sym z)) (eq-eqb x.cid d.cid (sym c ∙ cid))) in
+            true≢false (sym sub ∙ ap (λ (y : Record). is_submitted y.phase) same ∙ its.quiet)

@@ -1,5 +1,5 @@
 -- A compare succeeds exactly where its blocks are its draft's bytes.
-use Rattle.std.proofs.Common.{◌≡◌, ℕ, ◌+◌, ◌==◌, nat_lt, Bool, true, false, not, ◌&&◌, ◌||◌, Option, Some, None, List, [], ◌∷◌, ◌++◌, is_some, MatchBool, if◌then◌else◌, refl, ap, ap₂, sym, ◌∙◌, arith, subst, eqb-true, append-nil, append_assoc}
+use Rattle.std.proofs.Common.{◌≡◌, ℕ, ◌+◌, ◌==◌, nat_lt, Bool, true, false, not, ◌&&◌, ◌||◌, Option, Some, None, List, is_some, if◌then◌else◌, refl, ap, ap₂, sym, ◌∙◌, arith, subst, eqb-true}
 use Rattle.std.specs.Option.{option_map, option_map_or}
 use Rattle.std.specs.Prelude.{unwrap_or}
 use Rattle.std.specs.Str.{bytes_eq}
@@ -23,53 +23,21 @@ use Rattle.machine_model.specs.Status.{same_status}
 use Rattle.machine_model.specs.State.{State, Job}
 use Rattle.machine_model.specs.Refusals.{refusal_of, job_at}
 use Rattle.machine_model.specs.Step.{Step}
-use Rattle.machine_model.specs.Opening.{opening}
-use Rattle.machine_model.specs.Image.{Made, draft_of, submitted_by}
-use Rattle.machine_model.specs.Laws.{Steps, status_by, drafts_of, blocks_of_request, aborts, deletes, since_fetch, compares_tell_equality}
+use Rattle.machine_model.specs.Image.{Made, draft_of}
+use Rattle.machine_model.specs.Laws.{status_by, drafts_of, blocks_of_request, aborts, deletes, since_fetch, compares_tell_equality}
 use Rattle.machine_model.specs.After as a
 use Rattle.machine_model.specs.After.{final_status}
 use Rattle.machine_model.specs.Events as events
 use Rattle.machine_model.specs.Events.{Event, Reply}
 use Rattle.machine_model.proofs.Refused.{same_lists}
-use Rattle.machine_model.proofs.Grounds.{trusted_at_first}
 use Rattle.machine_model.proofs.Placed.{is_job, find_sound}
 use Rattle.machine_model.proofs.Members.{all_at_found}
 use Rattle.machine_model.proofs.Entered.{good_is}
-use Rattle.machine_model.proofs.WalksKept.{stood_at_opening}
 use Rattle.machine_model.proofs.Caused.{cause, CausedIfIo}
-use Rattle.machine_model.proofs.EveryStatus.{Traced, traced_step, has_verdict, as_made}
+use Rattle.machine_model.proofs.EveryStatus.{Traced, traced_before, has_verdict}
 use Rattle.machine_model.proofs.Known.{Known}
-use Rattle.machine_model.proofs.Images.{JobDraft, job_draft, known_step, known_at_opening}
+use Rattle.machine_model.proofs.Images.{JobDraft, job_draft, imaged_before}
 use Rattle.machine_model.proofs.Steps.{permitted}
-
--- What is known before a step of a run
-
-pub record Before (done : List Made) (drafts : List DraftContents) (m : Made) : Type 0 where
-  pub traced : Traced done m.before
-  pub known : Known drafts m.before
-  pub next : State
-  pub step : Step m.before m.event m.reply next
-  pub trusted : m.before.trusted ≡ true
-
-pub before_step : (done xs later : List Made) (m : Made) (s end : State) (drafts : List DraftContents) → Steps s (xs ++ m ∷ later) end → end.trusted ≡ true → Traced done s → Known drafts s
-    → Before (done ++ xs) (drafts_of xs ++ drafts) m
-before_step done [] later m s end drafts (is, mid, step, rest) t traced known =
-    subst (λ (ys : List Made). Before ys drafts m) (sym (append-nil done))
-    (record {
-      traced = subst (Traced done) (sym is) traced;
-      known = subst (Known drafts) (sym is) known;
-      next = mid;
-      step = subst (λ (x : State). Step x m.event m.reply mid) (sym is) step;
-      trusted = ap (λ (x : State). x.trusted) is ∙ trusted_at_first (m ∷ later) s end (is, mid, step, rest) t;
-    })
-before_step done (x ∷ xs) later m s end drafts (is, mid, step, rest) t traced known =
-    let now = trusted_at_first (x ∷ (xs ++ m ∷ later)) s end (is, mid, step, rest) t in
-    let then' = trusted_at_first (xs ++ m ∷ later) mid end rest t in
-    let more = subst (λ (y : Made). Traced (done ++ y ∷ []) mid) (sym (as_made x s is)) (traced_step done s x.event x.reply mid step now then' traced) in
-    let k = known_step drafts s x.event x.reply mid step now then' traced.stood known in
-    subst (λ (ys : List Made). Before ys (drafts_of xs ++ submitted_by x.event x.reply ++ drafts) m) (append_assoc done (x ∷ []) xs)
-    (subst (λ (ds : List DraftContents). Before (done ++ x ∷ [] ++ xs) ds m) (sym (append_assoc (drafts_of xs) (submitted_by x.event x.reply) drafts))
-    (before_step (done ++ x ∷ []) xs later m mid end (submitted_by x.event x.reply ++ drafts) rest t more k.known))
 
 -- The status of a compare
 
@@ -195,7 +163,5 @@ given done drafts s e reply new q cid st d step t traced known status compare la
 
 pub compares_tell : compares_tell_equality
 compares_tell image earlier later m end q cid st d run status compare latest fine =
-    let b = before_step [] earlier later m (opening run.pages run.queues run.entries run.segment image) end [] run.steps run.trusted
-    (record { stood = stood_at_opening run.pages run.queues run.entries run.segment image run.opens; caused = tt }) (known_at_opening run.pages run.queues run.entries run.segment image) in
-    given earlier (drafts_of earlier ++ []) m.before m.event m.reply b.next q cid st d b.step b.trusted b.traced b.known status compare
-    (ap (draft_of q cid) (append-nil (drafts_of earlier)) ∙ latest) fine
+    let b = traced_before image earlier later m end run in
+    given earlier (drafts_of earlier) m.before m.event m.reply b.next q cid st d b.step b.trusted b.holds (imaged_before image earlier later m end run).holds.known status compare latest fine

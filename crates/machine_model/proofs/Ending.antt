@@ -13,7 +13,7 @@ use Rattle.sgl_descriptor.specs.declared.Direction.{Direction}
 use Rattle.sgl_descriptor.specs.declared.Part.{Part}
 use Rattle.sgl_descriptor.specs.declared.Part.TheVariants.{Data, Bucket}
 use Rattle.sgl_descriptor.specs.Spelling.{IsLink, is_link, descriptor_of}
-use Rattle.sgl_descriptor.specs.Targets.{descriptor_of_part, counted, counted_in}
+use Rattle.sgl_descriptor.specs.Targets.{descriptor_of_part, counted, counted_in, targets}
 use Rattle.sgl_descriptor.proofs.Spells.{found}
 use Rattle.sgl_chain.specs.Spells.{SpellsBy, Stand, descriptors_in}
 use Rattle.controller_walk.specs.declared.cursor.Named.{Named}
@@ -23,7 +23,7 @@ use Rattle.controller_walk.specs.declared.walk.WalkState.TheVariants.{End, Fault
 use Rattle.controller_walk.specs.Units.{Stays, Reads, Moves, Course, Closes, Does, after_read, from_place, rest_of, goes_on, unless_fault, first_fault, moving, first_part, pages_spanned, entry_cursor, next, segment_start, verdict, named_on, named_last, names_no_segment, passes_end}
 use Rattle.controller_walk.specs.Along.{taken, parts_taken}
 use Rattle.controller_walk.proofs.Courses.{pages_step, from_read, part_most}
-use Rattle.machine_model.specs.Reached.{IsThere, EndsWith, lists_end_well}
+use Rattle.machine_model.specs.Reached.{IsThere, lists_end_well}
 use Rattle.machine_model.proofs.Reaching.{Ahead, PartFirst, LinkFirst, LinkedTo, first_ahead, linked_last, linked_on, spells_ahead}
 
 -- Bytes that are there
@@ -122,6 +122,11 @@ no_fault_of_link c dir wanted addr len l named left aligned whole ends = (
 )
 
 -- Courses that end
+
+-- the course ends without a fault, and its parts are these
+record EndsWith (m : Memory) (parts : List Part) (c : Course) : Type 0 where
+  ends : verdict c ≡ End
+  takes : (before : List Part) → parts_taken m before c ≡ before ++ parts
 
 moves_on : (m : Memory) (parts : List Part) (rest : Course) → EndsWith m parts rest → (n place len offset : ℕ) → n ≡ pages_spanned place len
     → ((k : ℕ) → k < len → is_some (m (place + k)) ≡ true) → EndsWith m parts (moving m n place len offset rest)
@@ -260,5 +265,6 @@ pub lists_end : lists_end_well
 lists_end m sgl1 first parts dir need low spelled (segments, few, by) there count =
     let ends = read_ends m dir need 4095 low (from_ends m dir need low 4095) entry_cursor need first [] segments parts refl tt (spells_ahead m first segments parts by) (omega (arith, few)) count there in (
       subst (λ (o : Option Descriptor). verdict (after_read m dir need entry_cursor need (rest_of 4095 m dir need) o) ≡ End) (sym spelled) ends.0,
-      subst (λ (o : Option Descriptor). parts_taken m (taken [] o) (after_read m dir need entry_cursor need (rest_of 4095 m dir need) o) ≡ parts) (sym spelled) (ends.1 []),
+      ap (targets dir)
+          (subst (λ (o : Option Descriptor). parts_taken m (taken [] o) (after_read m dir need entry_cursor need (rest_of 4095 m dir need) o) ≡ parts) (sym spelled) (ends.1 [])),
     )

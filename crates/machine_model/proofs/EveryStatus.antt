@@ -1,5 +1,5 @@
 -- Every status of an I/O command has its cause.
-use Rattle.std.proofs.Common.{◌≡◌, ℕ, ◌+◌, ◌/◌, ◌==◌, nat_lt, Bool, true, false, not, ◌&&◌, ◌||◌, Option, Some, None, List, [], ◌∷◌, ◌++◌, length, is_some, is_none, if◌then◌else◌, refl, ap, sym, ◌∙◌, arith, subst, eqb-true, eq-eqb, MatchBool}
+use Rattle.std.proofs.Common.{◌≡◌, ℕ, ◌+◌, ◌/◌, ◌==◌, nat_lt, Bool, true, false, not, ◌&&◌, ◌||◌, Option, Some, None, List, [], ◌∷◌, ◌++◌, length, is_some, is_none, if◌then◌else◌, refl, ap, sym, ◌∙◌, arith, subst, eqb-true}
 use Rattle.std.specs.Option.{option_map, option_map_or}
 use Rattle.std.specs.List.{list_any}
 use Rattle.std.proofs.lemmas.Bool.{true≢false, and_parts}
@@ -16,32 +16,29 @@ use Rattle.machine_model.specs.Refusals.{job_at}
 use Rattle.machine_model.specs.After as a
 use Rattle.machine_model.specs.After.{course_of, walks}
 use Rattle.machine_model.specs.Image.{Made}
-use Rattle.machine_model.specs.Laws.{aborts, deletes, since_fetch, status_by, status_given, has_cause, passes_image, is_compare, Steps, every_status_has_its_cause}
+use Rattle.machine_model.specs.Laws.{aborts, deletes, since_fetch, status_by, has_cause, passes_image, is_compare, TrustedRun, every_status_has_its_cause}
 use Rattle.machine_model.specs.Events as events
 use Rattle.machine_model.specs.Events.{Event, Reply, Refusal}
 use Rattle.machine_model.proofs.Placed.{find_sound, is_job}
 use Rattle.machine_model.proofs.Members.{all_at_found}
 use Rattle.machine_model.proofs.Served.{Stood}
-use Rattle.std.proofs.lemmas.List.{append-nil, append_assoc}
 use Rattle.entry_codec.specs.declared.io_opcode.TheConstants.{READ, WRITE, COMPARE}
 use Rattle.block_image.specs.Blocks.{blocks_at}
 use Rattle.io_commands.specs.Jobs as jobs
 use Rattle.machine_model.specs.Proper.{IsProper}
 use Rattle.machine_model.specs.Refusals.{refusal_of, job_is, waits, answers_full, post_page}
 use Rattle.machine_model.specs.Memory.{is_in}
-use Rattle.machine_model.specs.Step.{Step, IsController, HostPart}
+use Rattle.machine_model.specs.Step.{Step}
 use Rattle.machine_model.specs.After.{change}
-use Rattle.machine_model.specs.Opening.{opening}
-use Rattle.machine_model.proofs.Steps.{Accepts, part_left, permitted, exact}
-use Rattle.machine_model.proofs.Trusted.{forged_untrusted}
+use Rattle.machine_model.proofs.Steps.{Accepts, permitted}
 use Rattle.machine_model.proofs.Refused.{first_fails, rest_fails}
-use Rattle.machine_model.proofs.Grounds.{trusted_at_first}
 use Rattle.machine_model.proofs.WalksKept.{stood_on, stood_at_opening}
 use Rattle.machine_model.proofs.Caused.{cause, Caused, CausedIfIo, AllCaused}
 use Rattle.machine_model.specs.After.{final_status}
 use Rattle.std.specs.Str.{bytes_eq}
 use Rattle.std.specs.Prelude.{unwrap_or}
 use Rattle.machine_model.proofs.CausedKept.{event_keeps, not_fetched, refused_no_fetch}
+use Rattle.machine_model.proofs.Along.{Carried, Before, keeps, made_of, run_before}
 
 pub record Traced (earlier : List Made) (s : State) : Type 0 where
   pub stood : Stood s
@@ -59,20 +56,14 @@ traced_on earlier s e reply proper ok t h =
       caused = subst (λ (n : ℕ). AllCaused (earlier ++ record { before = s; event = e; reply = reply } ∷ []) n (a.after s e reply).device.jobs) (sym (same_blocks s (a.after s e reply) k.image)) k.jobs;
     }
 
-pub traced_step : (earlier : List Made) (old : State) (e : Event) (reply : Reply) (new : State) → Step old e reply new → old.trusted ≡ true → new.trusted ≡ true → Traced earlier old
-    → Traced (earlier ++ record { before = old; event = e; reply = reply } ∷ []) new
-traced_step earlier old e (events.Refused why touched) new step t u h =
-    subst (Traced (earlier ++ record { before = old; event = e; reply = events.Refused why touched } ∷ [])) (sym step.2)
-    (record { stood = h.stood; caused = not_fetched earlier (record { before = old; event = e; reply = events.Refused why touched }) old (λ q cid. refused_no_fetch e why touched q cid) h.caused })
-traced_step earlier old (events.Forge q slot bytes) reply new step t u h =
-    let ok = permitted _ old.trusted true t step.1 in
-    absurd (true≢false (sym u ∙ (ap (λ (part : HostPart). part.trusted) (part_left old (events.Forge q slot bytes) reply new step.2) ∙ forged_untrusted old q slot bytes ok.0)))
-traced_step earlier old e (events.Reserved d) new step t u h =
-    subst (Traced (earlier ++ record { before = old; event = e; reply = events.Reserved d } ∷ [])) (sym (exact _ old.trusted t step.2))
-    (traced_on earlier old e (events.Reserved d) step.0 (permitted _ old.trusted (not (IsController e)) t step.1) t h)
-traced_step earlier old e reply new step t u h =
-    subst (Traced (earlier ++ record { before = old; event = e; reply = reply } ∷ [])) (sym (exact _ old.trusted t step.2))
-    (traced_on earlier old e reply step.0 (permitted _ old.trusted (not (IsController e)) t step.1) t h)
+pub traced_carried : Carried Traced
+traced_carried = record {
+  refused = λ done s e why touched h. record { stood = h.stood; caused = not_fetched done (made_of s e (events.Refused why touched)) s (λ q cid. refused_no_fetch e why touched q cid) h.caused };
+  taken = λ done s e reply proper ok t h. traced_on done s e reply proper ok t h;
+}
+
+pub traced_before : (image : List ℕ) (earlier later : List Made) (m : Made) (end : State) → TrustedRun image (earlier ++ m ∷ later) end → Before Traced earlier m
+traced_before image = run_before Traced (keeps Traced traced_carried) image (λ pages queues n s opens. record { stood = stood_at_opening pages queues n s image opens; caused = tt })
 
 -- What a completion gives
 
@@ -98,9 +89,6 @@ compare_opcode opcode h = go (opcode == WRITE) (opcode == READ) (opcode == COMPA
     go false true c h = absurd cc
     go false false true h = refl
     go false false false h = absurd cc
-
-same_self : (st : Status) → same_status st st ≡ true
-same_self st = rw (eq-eqb st.sct st.sct refl, eq-eqb st.sc st.sc refl) refl
 
 job_status : (earlier : List Made) (m : Made) (q cid : ℕ) (j : Job) → (q == 0) ≡ false → job_at m.before q cid ≡ Some j → j.q ≡ q → j.entry.cid ≡ cid → is_some j.verdict ≡ true
     → Caused earlier (a.image_blocks m.before) j → has_cause earlier m q cid (final_status m.before j) ≡ true
@@ -150,7 +138,7 @@ job_status earlier m q cid j other e jq jc some c = subst (λ (st : Status). has
         at true ok = by_kind (kind_of_opcode j.entry.opcode) refl
         at false ok = failed v (c.cause v e)
 
-positive : (q : ℕ) → nat_lt 0 q ≡ true → (q == 0) ≡ false
+pub positive : (q : ℕ) → nat_lt 0 q ≡ true → (q == 0) ≡ false
 positive q h = grind (arith, nat_tests, h)
 
 -- a completion that is accepted had a verdict
@@ -189,25 +177,7 @@ given_status earlier s (events.Complete q' cid') (events.Completed touched) new 
     go false is g = absurd cc
 given_status earlier s e reply new q cid st step t h other given = absurd cc
 
--- the step as it was made
-pub as_made : (m : Made) (s : State) → m.before ≡ s → m ≡ record { before = s; event = m.event; reply = m.reply }
-as_made m s is = ap (λ (x : State). record { before = x; event = m.event; reply = m.reply }) is
-
-along : (earlier xs later : List Made) (m : Made) (s end : State) (q cid : ℕ) (st : Status) → Steps s (xs ++ m ∷ later) end → end.trusted ≡ true → Traced earlier s → (q == 0) ≡ false
-    → status_given m q cid ≡ Some st → has_cause (earlier ++ xs) m q cid st ≡ true
-along earlier [] later m s end q cid st (is, mid, step, rest) t h other given =
-    let now = trusted_at_first (m ∷ later) s end (is, mid, step, rest) t in
-    let made = as_made m s is in
-    let given' : status_by s m.event m.reply q cid ≡ Some st = subst (λ (x : Made). status_given x q cid ≡ Some st) made given in
-    subst (λ (xs : List Made). has_cause xs m q cid st ≡ true) (sym (append-nil earlier))
-    (subst (λ (x : Made). has_cause earlier x q cid st ≡ true) (sym made) (given_status earlier s m.event m.reply mid q cid st step now h other given'))
-along earlier (x ∷ xs) later m s end q cid st (is, mid, step, rest) t h other given =
-    let now = trusted_at_first (x ∷ (xs ++ m ∷ later)) s end (is, mid, step, rest) t in
-    let next = subst (λ (y : Made). Traced (earlier ++ y ∷ []) mid) (sym (as_made x s is)) (traced_step earlier s x.event x.reply mid step now (trusted_at_first (xs ++ m ∷ later) mid end rest t) h) in
-    subst (λ (ys : List Made). has_cause ys m q cid st ≡ true) (append_assoc earlier (x ∷ []) xs)
-    (along (earlier ++ x ∷ []) xs later m mid end q cid st rest t next other given)
-
 pub statuses_have_causes : every_status_has_its_cause
 statuses_have_causes image earlier later m end q cid st run io given =
-    along [] earlier later m (opening run.pages run.queues run.entries run.segment image) end q cid st run.steps run.trusted
-    (record { stood = stood_at_opening run.pages run.queues run.entries run.segment image run.opens; caused = tt }) (positive q io) given
+    let b = traced_before image earlier later m end run in
+    given_status earlier m.before m.event m.reply b.next q cid st b.step b.trusted b.holds (positive q io) given

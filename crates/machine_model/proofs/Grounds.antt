@@ -1,26 +1,21 @@
 -- What is known of every state of a trusted run, taken together.
-use Rattle.std.proofs.Common.{◌≡◌, ℕ, zero, suc, ◌+◌, Bool, true, false, not, ◌||◌, Some, List, [], ◌∷◌, slice_get, MatchBool, refl, ap, sym, ◌∙◌, subst}
-use Rattle.std.proofs.lemmas.Bool.{true≢false}
-use Rattle.machine_model.specs.Proper.{IsProper}
+use Rattle.std.proofs.Common.{◌≡◌, ℕ, zero, suc, ◌+◌, Bool, true, false, Some, List, [], ◌∷◌, slice_get, refl, sym, subst}
 use Rattle.machine_model.specs.Positions.{IsInRing}
 use Rattle.machine_model.specs.State.{State, HostQueue, DeviceQueue}
 use Rattle.machine_model.specs.Refusals.{host_queue}
 use Rattle.machine_model.specs.Opening.{Opens, opening}
 use Rattle.machine_model.specs.Claims.{AdminLives}
-use Rattle.machine_model.specs.Step.{Step, HostPart, host_part, IsController}
-use Rattle.machine_model.specs.Laws.{Steps, TrustedRun}
-use Rattle.machine_model.specs.Image.{Made}
+use Rattle.machine_model.specs.Step.{HostPart, host_part, IsController}
 use Rattle.machine_model.specs.After as a
-use Rattle.machine_model.specs.Events as events
 use Rattle.machine_model.specs.Events.{Event, Reply}
-use Rattle.machine_model.proofs.Steps.{Accepts, part_controller, part_left, permitted, exact}
+use Rattle.machine_model.proofs.Steps.{Accepts, part_controller}
 use Rattle.machine_model.proofs.Out.{TakenPart, Both, both_events}
 use Rattle.machine_model.proofs.Opening.{holds_at_opening, fits_pool, taken_at_opening}
 use Rattle.machine_model.proofs.Positions.{InRings, rings_on, rings_at_opening, all_at}
 use Rattle.machine_model.proofs.Standing.{StandsSound}
 use Rattle.machine_model.proofs.Tied.{FitS}
 use Rattle.machine_model.proofs.TiedAll.{all_on, fit_limits}
-use Rattle.machine_model.proofs.Trusted.{opening_stands, trusted_before, forged_untrusted}
+use Rattle.machine_model.proofs.Trusted.{opening_stands}
 use Rattle.machine_model.proofs.Paired.{PairOk, Paired}
 use Rattle.machine_model.proofs.Zero.{zero_host, zero_opened}
 
@@ -61,39 +56,6 @@ grounds_at_opening pages queues n s image opens = record {
   fit = fit_limits pages queues n s image opens;
   zero_live = zero_opened 0 n (queues + 1);
 }
-
--- Trusted runs, step by step, with what the caller's values are
-
-pub each_proper_step : (Q : State → Type 0)
-    → ((s : State) (e : Event) (reply : Reply) → IsProper e → Accepts s e reply → s.trusted ≡ true → Q s → Q (a.after s e reply))
-    → (old : State) (e : Event) (reply : Reply) (new : State) → Step old e reply new → old.trusted ≡ true → new.trusted ≡ true → Q old → Q new
-each_proper_step Q each old e (events.Refused why touched) new step t u h = subst Q (sym step.2) h
-each_proper_step Q each old (events.Forge q slot bytes) reply new step t u h =
-    let ok = permitted _ old.trusted true t step.1 in
-    absurd (true≢false (sym u ∙ (ap (λ (part : HostPart). part.trusted) (part_left old (events.Forge q slot bytes) reply new step.2) ∙ forged_untrusted old q slot bytes ok.0)))
-each_proper_step Q each old e (events.Reserved d) new step t u h =
-    subst Q (sym (exact _ old.trusted t step.2)) (each old e (events.Reserved d) step.0 (permitted _ old.trusted (not (IsController e)) t step.1) t h)
-each_proper_step Q each old e reply new step t u h =
-    subst Q (sym (exact _ old.trusted t step.2)) (each old e reply step.0 (permitted _ old.trusted (not (IsController e)) t step.1) t h)
-
-pub trusted_at_first : (made : List Made) (s end : State) → Steps s made end → end.trusted ≡ true → s.trusted ≡ true
-trusted_at_first [] s end steps t = ap (λ (x : State). x.trusted) (sym steps) ∙ t
-trusted_at_first (m ∷ made) s end (is, mid, step, rest) t = trusted_before s m.event m.reply mid step (trusted_at_first made mid end rest t)
-
-each_step_of : (Q : State → Type 0)
-    → ((s : State) (e : Event) (reply : Reply) → IsProper e → Accepts s e reply → s.trusted ≡ true → Q s → Q (a.after s e reply))
-    → (made : List Made) (s end : State) → Steps s made end → end.trusted ≡ true → Q s → Q end
-each_step_of Q each [] s end steps t h = subst Q (sym steps) h
-each_step_of Q each (m ∷ made) s end (is, mid, step, rest) t h =
-    each_step_of Q each made mid end rest t (each_proper_step Q each s m.event m.reply mid step (trusted_at_first (m ∷ made) s end (is, mid, step, rest) t) (trusted_at_first made mid end rest t) h)
-
--- what each step keeps, and an opening has, stands at the end of each trusted run
-pub along_proper : (Q : State → Type 0)
-    → ((s : State) (e : Event) (reply : Reply) → IsProper e → Accepts s e reply → s.trusted ≡ true → Q s → Q (a.after s e reply))
-    → ((pages queues n s : ℕ) (image : List ℕ) → Opens pages queues n s → Q (opening pages queues n s image))
-    → (image : List ℕ) (made : List Made) (end : State) → TrustedRun image made end → Q end
-along_proper Q each first image made end run =
-    each_step_of Q each made (opening run.pages run.queues run.entries run.segment image) end run.steps run.trusted (first run.pages run.queues run.entries run.segment image run.opens)
 
 -- Halves and positions of the host's queues
 

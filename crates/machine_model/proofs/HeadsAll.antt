@@ -1,30 +1,23 @@
 -- Every event keeps the heads behind the tail: the controller's, and all together.
-use Rattle.std.proofs.Common.{◌≡◌, ◌⊎◌, inl, inr, ℕ, zero, suc, ◌+◌, ◌-◌, ◌/◌, ◌%◌, ◌<◌, ◌≤◌, ◌==◌, Bool, true, false, not, ◌&&◌, ◌||◌, Option, Some, None, List, [], ◌∷◌, ◌++◌, length, map, take, drop, slice_get, is_some, is_none, replicate, if◌then◌else◌, refl, ap, sym, ◌∙◌, arith, subst, eqb-true, eq-eqb}
+use Rattle.std.proofs.Common.{◌≡◌, ◌⊎◌, inl, inr, ℕ, zero, suc, ◌+◌, ◌-◌, ◌<◌, ◌≤◌, ◌==◌, Bool, true, false, not, ◌&&◌, Option, Some, None, List, [], ◌∷◌, ◌++◌, length, map, drop, slice_get, is_some, replicate, if◌then◌else◌, refl, ap, sym, ◌∙◌, arith, subst, eqb-true, eq-eqb}
 use Rattle.std.specs.Option.{option_map_or}
 use Rattle.std.specs.List.{AllByRecursion}
-use Rattle.std.proofs.lemmas.Bool.{true≢false, not-false, and_parts, or_parts}
+use Rattle.std.proofs.lemmas.Bool.{true≢false, and_parts}
 use Rattle.std.proofs.lemmas.Bool.Decides.{nat_tests}
-use Rattle.admin_commands.specs.Entries.{admin_entry, named_queue}
-use Rattle.admin_commands.specs.declared.SqState.TheVariants.{Absent, Stopping}
+use Rattle.admin_commands.specs.Entries.{named_queue}
+use Rattle.admin_commands.specs.declared.SqState.TheVariants.{Stopping}
 use Rattle.admin_commands.specs.declared.AdminKind.TheVariants.{Abort, DeleteSq, DeleteCq}
-use Rattle.controller_walk.specs.Units.{Act, Stays, Reads, Moves}
-use Rattle.sgl_descriptor.specs.declared.Direction.{Direction}
-use Rattle.sgl_descriptor.specs.declared.Direction.TheVariants.{Destination, Source}
 use Rattle.entry_codec.specs.declared.submission.SubEntry.{SubEntry}
 use Rattle.entry_codec.specs.declared.status.Status.{Status}
-use Rattle.entry_codec.specs.declared.status.TheConstants.Status.{COMMAND_ID_CONFLICT, ABORTED_SQ_DELETION}
-use Rattle.entry_codec.specs.declared.admin_opcode.TheConstants.{DELETE_IO_SQ}
-use Rattle.io_commands.specs.Values.{numbers_of}
-use Rattle.io_commands.specs.Jobs.{is_success, verdict_of, direction_of_entry}
-use Rattle.page_memory.specs.Pages.{with_page_bytes}
+use Rattle.entry_codec.specs.declared.status.TheConstants.Status.{ABORTED_SQ_DELETION}
+use Rattle.io_commands.specs.Jobs.{is_success}
 use Rattle.queue_pair.specs.Slots.{distance, moved}
 use Rattle.queue_pair.proofs.Order.{distance_same}
 use Rattle.machine_model.specs.Proper.{IsProper}
 use Rattle.machine_model.specs.Positions.{IsInRing}
-use Rattle.machine_model.specs.Commands.{Io, Management}
-use Rattle.machine_model.specs.State.{State, Device, Host, HostQueue, HostState, Live, Deleting, Retired, Gone, DeviceQueue, Record, Drafted, Submitted, Held, Job, Answer}
-use Rattle.machine_model.specs.Refusals.{is_submitted, is_drafted, is_collected, is_retired, is_gone, is_deleting, is_deleted, host_queue, device_queue, refusal_of, in_state, queue_full, no_identifier, no_io_queue, cq_deletion_outstanding, record_is, seen_entry, next_rung, job_at, conflicts, fetch_slot, slot_page, slot_offset}
-use Rattle.machine_model.specs.Step.{HostPart, host_part, IsController}
+use Rattle.machine_model.specs.State.{with_record, is_at, without_record, record_at, State, Device, Host, HostQueue, Live, Deleting, DeviceQueue, Record, Held, Job, Answer}
+use Rattle.machine_model.specs.Refusals.{is_submitted, device_queue, job_at, fetch_slot, has_sq}
+use Rattle.machine_model.specs.Step.{HostPart, IsController}
 use Rattle.machine_model.specs.After as a
 use Rattle.machine_model.specs.After.{change}
 use Rattle.machine_model.specs.Events as events
@@ -32,62 +25,35 @@ use Rattle.machine_model.specs.Events.{Event, Reply, Refusal}
 use Rattle.machine_model.specs.Opening.{Opens, opening, queues_from, device_queue as opened}
 use Rattle.machine_model.specs.Standing.{unfetched_at}
 use Rattle.machine_model.proofs.Counting.{one}
-use Rattle.machine_model.proofs.Totals.{total, total-append, total-map, here}
-use Rattle.machine_model.proofs.Parts.{part-posted, part-answered}
+use Rattle.machine_model.proofs.Totals.{total_with, total_without, total, total-append, total-map, here}
 use Rattle.machine_model.proofs.Steps.{Accepts, part_controller}
-use Rattle.machine_model.proofs.Refused.{first_fails, rest_fails}
 use Rattle.machine_model.proofs.Managed.{managed_by_case}
-use Rattle.machine_model.proofs.Placing.{device-answered}
 use Rattle.machine_model.proofs.Placed.{is_job, find_sound}
-use Rattle.machine_model.proofs.Asked.{ring_at}
-use Rattle.machine_model.proofs.Paired.{is_past}
-use Rattle.machine_model.proofs.Members.{in_found, all_map, all_append, sent}
+use Rattle.machine_model.proofs.Members.{all_filter, in_found, all_map, all_append, sent}
 use Rattle.machine_model.proofs.Grounds.{Grounds, ring_in}
-use Rattle.machine_model.proofs.Served.{Stood, Places, past_at, unfetched_count, job_weight, answers_at}
+use Rattle.machine_model.proofs.Served.{Stood, past_at, unfetched_count, job_weight, answers_at}
 use Rattle.machine_model.proofs.Queues.{list_same}
 use Rattle.machine_model.proofs.Placements.{InHand, in_hand, first_is}
-use Rattle.machine_model.proofs.PlacesKept.{PlacesIn, places_event, drafted_not, collected_not, running_not_past, sent_not}
-use Rattle.machine_model.proofs.Heads.{HeadBehind, AnswersBehind, sent_count, behind_answered, head_at, few_outstanding, sent_outstanding, changed_at, total_ones}
-use Rattle.machine_model.proofs.HeadsKept.{HeadsIn, HeadsS, heads_records, heads_device, heads_state, heads_sent, heads_submit, heads_ended, heads_collect, heads_reap}
+use Rattle.machine_model.proofs.PlacesKept.{sent_is, ids_of, held_not, PlacesIn, places_event, running_not_past, sent_not}
+use Rattle.machine_model.proofs.Heads.{Heads, HeadBehind, AnswersBehind, sent_count, behind_answered, head_at, few_outstanding, sent_outstanding, changed_at, total_ones}
+use Rattle.machine_model.proofs.HeadsKept.{drafted_room, heads_less, ids_with, heads_heard, heads_consumed, heads_posted, HeadsIn, HeadsS, heads_records, heads_device, heads_state, heads_sent}
 use Rattle.queue_pair.specs.Rings.{HostRing, next_tail, fresh_host_ring}
 use Rattle.queue_pair.specs.Memory.{half_pages}
 use Rattle.page_memory.specs.declared.page.Half.TheVariants.{Submission, Completion}
+use Rattle.machine_model.proofs.Moves.{host_moves, sends, drafted_record, heard_without, IsHeard, answer_heard}
+use Rattle.machine_model.proofs.Asked.{still_live, asked_note}
+use Rattle.machine_model.proofs.Refused.{unrefused}
+use Rattle.entry_codec.specs.declared.completion.ComEntry.{ComEntry}
+use Rattle.machine_model.specs.Memory.{with_pages}
+use Rattle.machine_model.proofs.DeviceMoves.{fetch_by, walk_by}
+use Rattle.machine_model.proofs.DeviceMoves.{answers, finished, cleared, complete_by}
+use Rattle.machine_model.proofs.Halves.{asked_has_sq}
 
--- Deleting and retiring
+-- Retiring
 
-heads_delete : (q id : ℕ) (s : State) → Accepts s (events.DeleteSq q) (events.Sent id) → Grounds s → HeadsS s → HeadsS (a.after_delete_sq q id s)
-heads_delete q id s ok g h =
-    let t = a.sent (DeleteSq q) id (admin_entry (DeleteSq q) id) s in
-    heads_state t.entries q a.deleting t.host.queues t.host.records t.device.queues (λ x. refl) (λ x e open'. not_past x e)
-    (heads_sent (DeleteSq q) id s ok.1 (first_fails (no_identifier s 0) events.NoIdentifier ((queue_full s 0, events.QueueFull) ∷ []) (rest_fails (in_state is_deleting s q) events.WrongState ((no_identifier s 0, events.NoIdentifier) ∷ (queue_full s 0, events.QueueFull) ∷ [])
-    (rest_fails (no_io_queue s q) events.NoQueue ((in_state is_deleting s q, events.WrongState) ∷ (no_identifier s 0, events.NoIdentifier) ∷ (queue_full s 0, events.QueueFull) ∷ []) ok.0))) g h)
+heads_retire : (q : ℕ) (s : State) → HeadsS s → Heads s.entries (change q a.retired s.host.queues) (map (a.lost q) s.host.records) s.device.queues
+heads_retire q s h = record { ids = ids; behind = λ k x ex open'. at k x open' (changed_at q a.retired s.host.queues k x ex) }
   where
-    gone : (((q == 0) || is_none (host_queue s q) || in_state is_retired s q) ≡ false) × (in_state is_gone s q ≡ false)
-    gone = or_parts ((q == 0) || is_none (host_queue s q) || in_state is_retired s q) (in_state is_gone s q)
-        (first_fails (no_io_queue s q) events.NoQueue ((in_state is_deleting s q, events.WrongState) ∷ (no_identifier s 0, events.NoIdentifier) ∷ (queue_full s 0, events.QueueFull) ∷ []) ok.0)
-
-    at : (st : HostState) → is_retired st ≡ false → is_gone st ≡ false → is_past st ≡ false
-    at Live r g = refl
-    at (Deleting noted) r g = refl
-    at Retired r g = absurd (true≢false r)
-    at Gone r g = absurd (true≢false g)
-
-    not_past : (x : HostQueue) → slice_get (a.sent (DeleteSq q) id (admin_entry (DeleteSq q) id) s).host.queues q ≡ Some x → is_past x.state ≡ false
-    not_past x e =
-        let new : Record = record { q = 0; cid = id; phase = Submitted; work = Management (DeleteSq q); data_pages = []; chain_pages = []; status = None } in
-        let s1 = a.on_records (λ records. records ++ new ∷ []) s in
-        let e' : slice_get (change 0 (λ y. record y { ring = next_tail s.entries y.ring }) s.host.queues) q ≡ Some x = sym (ap (λ (part : HostPart). slice_get part.host.queues q) (part-posted 0 (admin_entry (DeleteSq q) id) s1)) ∙ e in
-        let y = ring_at 0 q (next_tail s.entries) s.host.queues x e' in
-        ap is_past y.2 ∙ at y.0.state
-        (sym (ap (λ (o : Option HostQueue). option_map_or (λ queue. is_retired queue.state) o false) y.1) ∙ (or_parts ((q == 0) || is_none (host_queue s q)) (in_state is_retired s q) gone.0).1)
-        (sym (ap (λ (o : Option HostQueue). option_map_or (λ queue. is_gone queue.state) o false) y.1) ∙ gone.1)
-
-heads_retire : (q : ℕ) (s : State) → refusal_of s (events.Retire q) ≡ None → HeadsS s → HeadsS (a.after_retire q s)
-heads_retire q s none h = go (host_queue s q) refl
-  where
-    deleted : in_state is_deleted s q ≡ true
-    deleted = not-false _ (first_fails (not (in_state is_deleted s q)) events.NotDeleted ((is_some (seen_entry s q), events.NotDrained) ∷ []) none)
-
     ids : AllByRecursion (λ (r : Record). r.cid < s.entries - 1) (map (a.lost q) s.host.records)
     ids = all_map (λ (r : Record). r.cid < s.entries - 1) (λ (r : Record). r.cid < s.entries - 1) (a.lost q) s.host.records (λ x low. each x ((x.q == q) && is_submitted x.phase) low) h.ids
       where
@@ -108,21 +74,10 @@ heads_retire q s none h = go (host_queue s q) refl
     other : (q k : ℕ) → (q ≡ k → ⊥) → (q == k) ≡ false
     other q k far = grind (arith, nat_tests)
 
-    at : (k : ℕ) (x : HostQueue) → is_past x.state ≡ false → ((q ≡ k) × ((y : HostQueue) × (slice_get s.host.queues k ≡ Some y) × (x ≡ a.retired y))) ⊎ ((q ≡ k → ⊥) × (slice_get s.host.queues k ≡ Some x))
+    at : (k : ℕ) (x : HostQueue) → has_sq x.state ≡ true → ((q ≡ k) × ((y : HostQueue) × (slice_get s.host.queues k ≡ Some y) × (x ≡ a.retired y))) ⊎ ((q ≡ k → ⊥) × (slice_get s.host.queues k ≡ Some x))
         → HeadBehind s.entries (sent_count k (map (a.lost q) s.host.records)) x (answers_at s.device.queues k)
-    at k x open' (inl (same, (y, e, is))) = absurd (true≢false (ap (λ (z : HostQueue). is_past z.state) (sym is) ∙ open'))
+    at k x open' (inl (same, (y, e, is))) = absurd (true≢false (sym open' ∙ ap (λ (z : HostQueue). has_sq z.state) is))
     at k x open' (inr (far, e)) = subst (λ (m : ℕ). HeadBehind s.entries m x (answers_at s.device.queues k)) (sym (same_sent k (other q k far))) (h.behind k x e open')
-
-    go : (o : Option HostQueue) → host_queue s q ≡ o → HeadsS (option_map_or (λ queue. a.on_host_queue q a.retired (a.given_back queue.sq_pages (a.on_records (λ records. map (a.lost q) records) s))) o (a.on_records (λ records. map (a.lost q) records) s))
-    go None e = absurd (true≢false (sym deleted ∙ ap (λ (o : Option HostQueue). option_map_or (λ queue. is_deleted queue.state) o false) e))
-    go (Some queue) e = record { ids = ids; behind = λ k x ex open'. at k x open' (changed_at q a.retired s.host.queues k x ex) }
-
-heads_forge : (q slot : ℕ) (bytes : List ℕ) (s : State) → HeadsS s → HeadsS (a.after_forge q slot bytes s)
-heads_forge q slot bytes s h = go (host_queue s q)
-  where
-    go : (o : Option HostQueue) → HeadsS (option_map_or (λ queue. record (a.on_memory (λ m. with_page_bytes m (slot_page queue.cq_pages 16 slot) (slot_offset 16 slot) bytes) s) { trusted = false }) o s)
-    go None = h
-    go (Some queue) = h
 
 -- Fetching
 
@@ -170,41 +125,15 @@ same_managed s e =
     (λ not8 not0 gone k. list_same (λ at. at.answers) (named_queue e) (λ at. record at { cq_there = false }) (a.taken_off 0 s).device.queues k (λ at. refl) ∙ same_off s 0 k)
 
 same_fetch : (s : State) → Stood s → (q : ℕ) → Same s (a.after_fetch q s).device
-same_fetch s stood q = go (next_rung s q) refl
-  where
-    inner : (e : SubEntry) → InHand s q e → (b z : Bool) → b ≡ is_some (job_at s q e.cid)
-        → Same s (if b then a.answered q e.cid COMMAND_ID_CONFLICT 0 (a.taken_off q s) else if z then a.managed e (a.taken_off 0 s) else a.begun q e (a.taken_off q s)).device
-    inner e hand true z is = absurd (true≢false (is ∙ no_conflict s stood q e hand))
-    inner e hand false true is = same_managed s e
-    inner e hand false false is = same_off s q
-
-    go : (o : Option SubEntry) → next_rung s q ≡ o
-        → Same s (option_map_or (λ e. if conflicts s q then a.answered q e.cid COMMAND_ID_CONFLICT 0 (a.taken_off q s) else if q == 0 then a.managed e (a.taken_off 0 s) else a.begun q e (a.taken_off q s)) o s).device
-    go None n = λ k. refl
-    go (Some e) n = inner e (in_hand s q e n) (conflicts s q) (q == 0) (ap (λ (o : Option SubEntry). option_map_or (λ e. is_some (job_at s q e.cid)) o false) n)
+same_fetch s stood q =
+    fetch_by (λ (t : State). Same s t.device) s q (λ k. refl)
+    (λ e n c. absurd (true≢false (sym c ∙ ap (λ (o : Option SubEntry). option_map_or (λ e. is_some (job_at s q e.cid)) o false) n ∙ no_conflict s stood q e (in_hand s q e n))))
+    (λ e n c z. same_managed s e) (λ e n c other. same_off s q)
 
 -- Walking
 
-same_moved : (s : State) (dir : Direction) (act : Act) (q cid : ℕ) → Same s (a.moved dir act q cid s).device
-same_moved s dir Stays q cid = λ k. refl
-same_moved s dir (Reads place) q cid = λ k. refl
-same_moved s Source (Moves place n offset) q cid = λ k. refl
-same_moved s Destination (Moves place n offset) q cid = go (job_at s q cid)
-  where
-    go : (o : Option Job) → Same s (option_map_or (λ j. a.on_memory (λ m. with_page_bytes m (place / 4096) (place % 4096) (take n (drop offset j.bytes))) s) o s).device
-    go None = λ k. refl
-    go (Some j) = λ k. refl
-
 same_walk : (s : State) (q cid : ℕ) → Same s (a.after_walk q cid s).device
-same_walk s q cid = go (job_at s q cid)
-  where
-    inner : (j : Job) (o : Option Act) → Same s (option_map_or (λ act. a.on_job q cid (λ k. record k { units_done = k.units_done + 1; verdict = verdict_of (a.next_answer s j) }) (a.moved (direction_of_entry j.entry) act q cid s)) o s).device
-    inner j None = λ k. refl
-    inner j (Some act) = same_moved s (direction_of_entry j.entry) act q cid
-
-    go : (o : Option Job) → Same s (option_map_or (λ j. option_map_or (λ act. a.on_job q cid (λ k. record k { units_done = k.units_done + 1; verdict = verdict_of (a.next_answer s j) }) (a.moved (direction_of_entry j.entry) act q cid s)) (a.next_unit s j) s) o s).device
-    go None = λ k. refl
-    go (Some j) = inner j (a.next_unit s j)
+same_walk s q cid = walk_by (λ (t : State). Same s t.device) s q cid (λ k. refl) (λ j act at u k. refl)
 
 -- Completing
 
@@ -214,11 +143,8 @@ few_sent s g h q = omega (arith, sent_outstanding q s.host.records, few_outstand
 -- an answer is posted where entries and answers leave one command
 heads_answered : (q cid : ℕ) (st : Status) (dw0 : ℕ) (t : State) → 0 < t.entries → ((k : ℕ) → sent_count k t.host.records ≤ t.entries - 1)
     → ((queue : HostQueue) → slice_get t.host.queues q ≡ Some queue → IsInRing t.entries queue.ring)
-    → PlacesIn (a.answered q cid st dw0 t) → HeadsS t → HeadsS (a.answered q cid st dw0 t)
-heads_answered q cid st dw0 t pos few rings places h =
-    subst (λ (part : HostPart). HeadsIn part (a.answered q cid st dw0 t).device.queues) (sym (part-answered q cid st dw0 t))
-    (subst (λ (d : Device). HeadsIn (host_part t) d.queues) (sym (device-answered q cid st dw0 t))
-    (record { ids = h.ids; behind = λ k queue e open'. at k queue e open' (q == k) refl }))
+    → PlacesIn (answers q cid st dw0 t) → HeadsS t → HeadsS (answers q cid st dw0 t)
+heads_answered q cid st dw0 t pos few rings placed h = record { ids = h.ids; behind = λ k queue e open'. at k queue e open' (q == k) refl }
   where
     an : Answer
     an = record { cid = cid; status = st; dw0 = dw0; sq_head = fetch_slot t q }
@@ -228,11 +154,6 @@ heads_answered q cid st dw0 t pos few rings places h =
 
     after : List DeviceQueue
     after = change q (λ at. record at { answers = at.answers ++ record { cid = cid; status = st; dw0 = dw0; sq_head = fetch_slot t q } ∷ [] }) t.device.queues
-
-    placed : Places t.host.queues t.host.records (change q (λ at. record at { answers = at.answers ++ record { cid = cid; status = st; dw0 = dw0; sq_head = fetch_slot t q } ∷ [] }) t.device.queues) t.device.jobs
-    placed =
-        subst (λ (host : Host). Places host.queues host.records (change q (λ at. record at { answers = at.answers ++ record { cid = cid; status = st; dw0 = dw0; sq_head = fetch_slot t q } ∷ [] }) t.device.queues) t.device.jobs) (ap (λ (part : HostPart). part.host) (part-answered q cid st dw0 t))
-        (subst (λ (d : Device). Places (a.answered q cid st dw0 t).host.queues (a.answered q cid st dw0 t).host.records d.queues d.jobs) (device-answered q cid st dw0 t) places)
 
     elsewhere : (q k : ℕ) (qs : List DeviceQueue) (g : DeviceQueue → DeviceQueue) → (q == k) ≡ false → answers_at (change q g qs) k ≡ answers_at qs k
     elsewhere q k [] g far = refl
@@ -259,7 +180,7 @@ heads_answered q cid st dw0 t pos few rings places h =
     none_there zero (x ∷ qs) g e = absurd cc
     none_there (suc q) (x ∷ qs) g e = none_there q qs g e
 
-    at : (k : ℕ) (queue : HostQueue) → slice_get t.host.queues k ≡ Some queue → is_past queue.state ≡ false → (b : Bool) → (q == k) ≡ b
+    at : (k : ℕ) (queue : HostQueue) → slice_get t.host.queues k ≡ Some queue → has_sq queue.state ≡ true → (b : Bool) → (q == k) ≡ b
         → HeadBehind t.entries (sent_count k t.host.records) queue (answers_at (change q (λ at. record at { answers = at.answers ++ record { cid = cid; status = st; dw0 = dw0; sq_head = fetch_slot t q } ∷ [] }) t.device.queues) k)
     at k queue e open' false far = subst (HeadBehind t.entries (sent_count k t.host.records) queue) (sym (elsewhere q k t.device.queues _ far)) (h.behind k queue e open')
     at k queue e open' true same =
@@ -267,7 +188,7 @@ heads_answered q cid st dw0 t pos few rings places h =
         subst (λ (m : ℕ). HeadBehind t.entries (sent_count m t.host.records) queue (answers_at (change q (λ at. record at { answers = at.answers ++ record { cid = cid; status = st; dw0 = dw0; sq_head = fetch_slot t q } ∷ [] }) t.device.queues) m)) z
         (mine queue (subst (λ (m : ℕ). slice_get t.host.queues m ≡ Some queue) (sym z) e) open' (slice_get t.device.queues q) refl)
       where
-        mine : (queue : HostQueue) → slice_get t.host.queues q ≡ Some queue → is_past queue.state ≡ false → (o : Option DeviceQueue) → slice_get t.device.queues q ≡ o
+        mine : (queue : HostQueue) → slice_get t.host.queues q ≡ Some queue → has_sq queue.state ≡ true → (o : Option DeviceQueue) → slice_get t.device.queues q ≡ o
             → HeadBehind t.entries (sent_count q t.host.records) queue (answers_at (change q (λ at. record at { answers = at.answers ++ record { cid = cid; status = st; dw0 = dw0; sq_head = fetch_slot t q } ∷ [] }) t.device.queues) q)
         mine queue e open' None d =
             subst (HeadBehind t.entries (sent_count q t.host.records) queue) (sym (none_there q t.device.queues _ d)) (record { known = (h.behind q queue e open').known; answers = tt })
@@ -276,7 +197,7 @@ heads_answered q cid st dw0 t pos few rings places h =
             let b = h.behind q queue e open' in
             let before : AnswersBehind t.entries queue.ring.tail (sent_count q t.host.records) x.answers =
             subst (λ (o : Option DeviceQueue). AnswersBehind t.entries queue.ring.tail (sent_count q t.host.records) (option_map_or (λ at. at.answers) o [])) d b.answers in
-            let past : past_at t.host.queues q ≡ false = ap (λ (o : Option HostQueue). option_map_or (λ h. is_past h.state) o false) e ∙ open' in
+            let past : past_at t.host.queues q ≡ false = ap (λ (o : Option HostQueue). option_map_or (λ h. not (has_sq h.state)) o false) e ∙ ap not open' in
             let entries' : unfetched_count q (λ c. 1) t.host.queues (change q g t.device.queues) ≡ length x.unfetched =
             ap (λ (b : Bool). if b then 0 else total (λ (e : SubEntry). 1) (unfetched_at (change q g t.device.queues) q)) past ∙ ap (total (λ (e : SubEntry). 1)) (own_entries q t.device.queues x g d) ∙ total_ones x.unfetched in
             let answers' : total (λ (an : Answer). 1) (answers_at (change q g t.device.queues) q) ≡ length x.answers + 1 =
@@ -292,23 +213,17 @@ heads_answered q cid st dw0 t pos few rings places h =
             (record { known = b.known; answers = behind_answered t.entries queue.ring.tail (sent_count q t.host.records) x.answers an low (omega (arith, far, room)) before })
 
 heads_complete : (q cid : ℕ) (s : State) → Grounds s → PlacesIn (a.after_complete q cid s) → HeadsS s → HeadsS (a.after_complete q cid s)
-heads_complete q cid s g places h = go (job_at s q cid) places
+heads_complete q cid s g places h =
+    complete_by (λ (t : State). PlacesIn t → HeadsS t) s q cid (λ places. h)
+    (λ j at c. answered (a.on_device_queue (named_queue j.entry) cleared (finished q cid j s)) j refl refl
+    (heads_device s.entries s.host.queues s.host.records s.device.queues (change (named_queue j.entry) cleared s.device.queues) (λ n. list_same (λ at. at.answers) (named_queue j.entry) cleared s.device.queues n (λ at. refl)) h))
+    (λ j at c. answered (finished q cid j s) j refl refl h) places
   where
-    done : (j : Job) (st : Status) (b : Bool)
-        → PlacesIn (a.answered q cid st j.dw0 (if b then a.on_device_queue (named_queue j.entry) (λ at. record at { state = Absent; unfetched = []; rung = 0 }) (a.on_device (λ d. record d { image = a.image_completed j d.image }) (a.without_job q cid s)) else a.on_device (λ d. record d { image = a.image_completed j d.image }) (a.without_job q cid s)))
-        → HeadsS (a.answered q cid st j.dw0 (if b then a.on_device_queue (named_queue j.entry) (λ at. record at { state = Absent; unfetched = []; rung = 0 }) (a.on_device (λ d. record d { image = a.image_completed j d.image }) (a.without_job q cid s)) else a.on_device (λ d. record d { image = a.image_completed j d.image }) (a.without_job q cid s)))
-    done j st true places =
-        let s1 = a.on_device (λ d. record d { image = a.image_completed j d.image }) (a.without_job q cid s) in
-        heads_answered q cid st j.dw0 (a.on_device_queue (named_queue j.entry) (λ at. record at { state = Absent; unfetched = []; rung = 0 }) s1) g.fit.some_entries (few_sent s g h) (λ queue e. ring_in s g q queue e) places
-        (heads_device s.entries s.host.queues s.host.records s.device.queues (change (named_queue j.entry) (λ at. record at { state = Absent; unfetched = []; rung = 0 }) s.device.queues)
-        (λ n. list_same (λ at. at.answers) (named_queue j.entry) (λ at. record at { state = Absent; unfetched = []; rung = 0 }) s.device.queues n (λ at. refl)) h)
-    done j st false places =
-        heads_answered q cid st j.dw0 (a.on_device (λ d. record d { image = a.image_completed j d.image }) (a.without_job q cid s)) g.fit.some_entries (few_sent s g h) (λ queue e. ring_in s g q queue e) places h
-
-    go : (o : Option Job) → PlacesIn (option_map_or (λ j. let st = a.final_status s j in a.answered q cid st j.dw0 (a.deletion_done j st (a.on_device (λ d. record d { image = a.image_completed j d.image }) (a.without_job q cid s)))) o s)
-        → HeadsS (option_map_or (λ j. let st = a.final_status s j in a.answered q cid st j.dw0 (a.deletion_done j st (a.on_device (λ d. record d { image = a.image_completed j d.image }) (a.without_job q cid s)))) o s)
-    go None places = h
-    go (Some j) places = done j (a.final_status s j) ((j.q == 0) && (j.entry.opcode == DELETE_IO_SQ) && is_success (a.final_status s j)) places
+    answered : (t : State) (j : Job) → t.entries ≡ s.entries → t.host ≡ s.host → HeadsS t → PlacesIn (answers q cid (a.final_status s j) j.dw0 t) → HeadsS (answers q cid (a.final_status s j) j.dw0 t)
+    answered t j n host ht places =
+        heads_answered q cid (a.final_status s j) j.dw0 t (subst (λ (k : ℕ). 0 < k) (sym n) g.fit.some_entries)
+        (λ k. subst (λ (x : Host). sent_count k x.records ≤ t.entries - 1) (sym host) (subst (λ (m : ℕ). sent_count k s.host.records ≤ m - 1) (sym n) (few_sent s g h k)))
+        (λ queue e. subst (λ (m : ℕ). IsInRing m queue.ring) (sym n) (ring_in s g q queue (subst (λ (x : Host). slice_get x.queues q ≡ Some queue) host e))) places ht
 
 -- Every event
 
@@ -317,40 +232,79 @@ controller_heads s e reply c same h =
     subst (λ (part : HostPart). HeadsIn part (a.after s e reply).device.queues) (sym (part_controller s e reply c))
     (heads_device s.entries s.host.queues s.host.records s.device.queues (a.after s e reply).device.queues same h)
 
+heads_host : (s : State) (e : Event) (reply : Reply) → Accepts s e reply → IsController e ≡ false → s.trusted ≡ true → Grounds s → HeadsS s → HeadsS (a.after s e reply)
+heads_host s e reply ok c t g h =
+    host_moves (λ (e : Event) (reply : Reply) (t : State). HeadsS t) s e reply ok c
+    (record {
+      reserves = λ q request d none is.
+          heads_records s.entries s.host.queues s.host.records (s.host.records ++ drafted_record d ∷ []) s.device.queues
+          (all_append (λ r. r.cid < s.entries - 1) s.host.records (drafted_record d ∷ []) h.ids (is.identifier.in_range, tt))
+          (λ k. omega (arith, total-append (sent k (λ c. 1)) s.host.records (drafted_record d ∷ []))) h;
+      submits = λ d entry r none built its live.
+          let ids = ids_of s d.q d.cid r its.found in
+          heads_posted d.q entry (a.on_records (with_record d.q d.cid a.submitted) (a.on_memory (with_pages (d.data_pages ++ d.chain_pages)) s)) s.host.records (ids_with (s.entries - 1) d.q d.cid a.submitted s.host.records (λ x. refl) h.ids)
+          (λ k. omega (
+            arith,
+            total_with (sent k (λ c. 1)) d.q d.cid a.submitted s.host.records r its.found (g.stands.0.once d.q d.cid),
+            sent_not k (λ c. 1) r its.quiet,
+            sent_is d.q d.cid k (λ c. 1) (a.submitted r) ids.0 ids.1 refl,
+          ))
+          (drafted_room s d.q r ids.0 (in_found (is_at d.q d.cid) s.host.records r its.found) its.quiet g h) (λ queue e. ring_in s g d.q queue e) h;
+      cancels = λ d r its. ended d.q d.cid r its.found its.quiet;
+      rings = λ q none.
+          heads_device s.entries s.host.queues s.host.records s.device.queues (change q (λ at. record at { rung = length at.unfetched }) s.device.queues)
+          (λ k. list_same (λ at. at.answers) q (λ at. record at { rung = length at.unfetched }) s.device.queues k (λ at. refl)) h;
+      rests = λ q is. h;
+      rejects = λ q why is. heads_consumed q s h;
+      tells = λ q cid st what e r request told heard w.
+          good q cid st e r heard (with_record q cid (a.held st) s.host.records) (ids_with (s.entries - 1) q cid (a.held st) s.host.records (λ x. refl) h.ids)
+          (λ k. omega (arith, total_with (sent k (λ c. 1)) q cid (a.held st) s.host.records r heard.found (g.stands.0.once q cid), sent_not k (λ c. 1) (a.held st r) refl));
+      hears = λ q cid st what e r adm told heard w quiet. without q cid st e r heard;
+      notes = λ q cid st what e r k told heard w.
+          let u = a.heard q e s in
+          heads_state s.entries k (λ queue. record queue { state = if is_success st then Deleting true else Live }) u.host.queues (without_record q cid s.host.records) u.device.queues (λ x. refl)
+          (λ x ex open'. asked_has_sq x.state (asked_note s q cid st e r k g.stands.0 g.fit.asked heard w x ex)) (without q cid st e r heard);
+      frees = λ q cid st what e r k queue told heard w at retired good.
+          let u = a.heard q e s in heads_state s.entries k a.gone u.host.queues (without_record q cid s.host.records) u.device.queues (λ x. refl) (λ x ex open'. absurd (true≢false (sym open'))) (without q cid st e r heard);
+      collects = λ q cid r f at held is.
+          heads_records s.entries s.host.queues s.host.records (with_record q cid a.collected s.host.records) s.device.queues (ids_with (s.entries - 1) q cid a.collected s.host.records (λ x. refl) h.ids)
+          (λ k. omega (arith, total_with (sent k (λ c. 1)) q cid a.collected s.host.records r at (g.stands.0.once q cid), sent_not k (λ c. 1) r (held_not r.phase held), sent_not k (λ c. 1) (a.collected r) refl)) h;
+      releases = λ f r its. ended f.q f.cid r its.found its.quiet;
+      aborts = λ q cid id none new. heads_sent (Abort q cid) id s new (unrefused s (events.Abort q cid) none).1.1.1.0 g h;
+      asks = λ q id queue none new live.
+          let u = sends (DeleteSq q) id s in
+          heads_state s.entries q a.deleting u.host.queues u.host.records u.device.queues (λ x. refl) (λ x ex open'. ap has_sq (still_live s q 0 (next_tail s.entries) queue x live ex))
+          (heads_sent (DeleteSq q) id s new (unrefused s (events.DeleteSq q) none).1.1.0 g h);
+      drops = λ q id none new. heads_sent (DeleteCq q) id s new (unrefused s (events.DeleteCq q) none).1.1.0 g h;
+      retires = λ q queue none at deleted. heads_retire q s h;
+      forges = λ q slot bytes queue none at. h;
+    })
+  where
+    ended : (q cid : ℕ) (r : Record) → record_at s.host q cid ≡ Some r → is_submitted r.phase ≡ false → Heads s.entries s.host.queues (without_record q cid s.host.records) s.device.queues
+    ended q cid r at quiet = heads_less (λ r. not (is_at q cid r)) s (λ k. omega (arith, total_without (sent k (λ c. 1)) q cid s.host.records r at (g.stands.0.once q cid), sent_not k (λ c. 1) r quiet)) h
+
+    good : (q cid : ℕ) (st : Status) (e : ComEntry) (r : Record) → IsHeard s q cid st e r → (rs : List Record) → AllByRecursion (λ r. r.cid < s.entries - 1) rs
+        → ((k : ℕ) → sent_count k s.host.records ≤ sent_count k rs + sent k (λ c. 1) r) → Heads s.entries (a.heard q e s).host.queues rs (change q (λ at. record at { answers = drop 1 at.answers }) s.device.queues)
+    good q cid st e r heard rs ids less =
+        let an = answer_heard s q cid st e r t heard in
+        let its = ids_of s q cid r heard.found in
+        subst (λ (x : ComEntry). Heads s.entries (a.heard q x s).host.queues rs (change q (λ at. record at { answers = drop 1 at.answers }) s.device.queues)) (sym an.is)
+        (heads_heard q an.answer s rs an.first ids (λ k. omega (arith, less k, sent_is q cid k (λ c. 1) r its.0 its.1 heard.submitted)) h)
+
+    without : (q cid : ℕ) (st : Status) (e : ComEntry) (r : Record) → IsHeard s q cid st e r → HeadsS (heard_without q cid e s)
+    without q cid st e r heard =
+        good q cid st e r heard (without_record q cid s.host.records) (all_filter (λ r. r.cid < s.entries - 1) (λ r. not (is_at q cid r)) s.host.records h.ids)
+        (λ k. omega (arith, total_without (sent k (λ c. 1)) q cid s.host.records r heard.found (g.stands.0.once q cid)))
+
 pub heads_event : (s : State) (e : Event) (reply : Reply) → IsProper e → Accepts s e reply → s.trusted ≡ true → Stood s → HeadsS s → HeadsS (a.after s e reply)
-heads_event s e (events.Refused why touched) pr ok t stood h = h
-heads_event s (events.Reserve q r) (events.Reserved d) pr ok t stood h =
-    let new : Record = record { q = d.q; cid = d.cid; phase = Drafted; work = Io d.request; data_pages = numbers_of d.data_pages; chain_pages = numbers_of d.chain_pages; status = None } in
-    heads_records s.entries s.host.queues s.host.records (s.host.records ++ new ∷ []) s.device.queues (all_append (λ r. r.cid < s.entries - 1) s.host.records (new ∷ []) h.ids (ok.1.identifier.in_range, tt))
-    (λ k. omega (arith, total-append (sent k (λ c. 1)) s.host.records (new ∷ []))) h
-heads_event s (events.Submit d) events.Accepted pr ok t stood h = heads_submit d s ok.0 stood.grounds h
-heads_event s (events.Cancel d) events.Accepted pr ok t stood h = heads_ended is_drafted drafted_not d.request d.q d.cid d.data_pages d.chain_pages s ok.0 stood.grounds h
-heads_event s (events.Ring q) events.Accepted pr ok t stood h =
-    heads_device s.entries s.host.queues s.host.records s.device.queues (change q (λ at. record at { rung = length at.unfetched }) s.device.queues)
-    (λ k. list_same (λ at. at.answers) q (λ at. record at { rung = length at.unfetched }) s.device.queues k (λ at. refl)) h
-heads_event s (events.Reap q) (events.Reaps what) pr ok t stood h = heads_reap q what s t ok.1 stood.grounds h
-heads_event s (events.Collect q cid) (events.Collects f) pr ok t stood h = heads_collect q cid s ok.0 stood.grounds h
-heads_event s (events.Release f) events.Accepted pr ok t stood h = heads_ended is_collected collected_not f.request f.q f.cid f.data_pages f.chain_pages s ok.0 stood.grounds h
-heads_event s (events.Abort q cid) (events.Sent id) pr ok t stood h =
-    heads_sent (Abort q cid) id s ok.1
-    (first_fails (no_identifier s 0) events.NoIdentifier ((queue_full s 0, events.QueueFull) ∷ [])
-    (rest_fails (not (record_is (λ r. is_submitted r.phase) s q cid)) events.NoSuchCommand ((no_identifier s 0, events.NoIdentifier) ∷ (queue_full s 0, events.QueueFull) ∷ [])
-    (rest_fails (in_state is_deleting s q) events.WrongState ((not (record_is (λ r. is_submitted r.phase) s q cid), events.NoSuchCommand) ∷ (no_identifier s 0, events.NoIdentifier) ∷ (queue_full s 0, events.QueueFull) ∷ [])
-    (rest_fails (no_io_queue s q) events.NoQueue ((in_state is_deleting s q, events.WrongState) ∷ (not (record_is (λ r. is_submitted r.phase) s q cid), events.NoSuchCommand) ∷ (no_identifier s 0, events.NoIdentifier) ∷ (queue_full s 0, events.QueueFull) ∷ []) ok.0)))) stood.grounds h
-heads_event s (events.DeleteSq q) (events.Sent id) pr ok t stood h = heads_delete q id s ok stood.grounds h
-heads_event s (events.DeleteCq q) (events.Sent id) pr ok t stood h =
-    heads_sent (DeleteCq q) id s ok.1
-    (first_fails (no_identifier s 0) events.NoIdentifier ((queue_full s 0, events.QueueFull) ∷ [])
-    (rest_fails (in_state is_deleting s q || (in_state is_retired s q && cq_deletion_outstanding s q)) events.WrongState ((no_identifier s 0, events.NoIdentifier) ∷ (queue_full s 0, events.QueueFull) ∷ [])
-    (rest_fails ((q == 0) || is_none (host_queue s q) || in_state is_gone s q) events.NoQueue
-    ((in_state is_deleting s q || (in_state is_retired s q && cq_deletion_outstanding s q), events.WrongState) ∷ (no_identifier s 0, events.NoIdentifier) ∷ (queue_full s 0, events.QueueFull) ∷ []) ok.0))) stood.grounds h
-heads_event s (events.Retire q) events.Accepted pr ok t stood h = heads_retire q s ok.0 h
-heads_event s (events.Forge q slot bytes) events.Accepted pr ok t stood h = heads_forge q slot bytes s h
 heads_event s (events.Fetch q) (events.Fetched c touched) pr ok t stood h = controller_heads s (events.Fetch q) (events.Fetched c touched) refl (same_fetch s stood q) h
 heads_event s (events.Walk q cid) (events.Walked o touched) pr ok t stood h = controller_heads s (events.Walk q cid) (events.Walked o touched) refl (same_walk s q cid) h
 heads_event s (events.Complete q cid) (events.Completed touched) pr ok t stood h =
     heads_complete q cid s stood.grounds (places_event s (events.Complete q cid) (events.Completed touched) pr ok t stood.grounds stood.places) h
-heads_event s e reply pr ok t stood h = absurd ok.1
+heads_event s (events.Fetch q) reply pr ok t stood h = absurd ok.1
+heads_event s (events.Walk q cid) reply pr ok t stood h = absurd ok.1
+heads_event s (events.Complete q cid) reply pr ok t stood h = absurd ok.1
+heads_event s e reply pr ok t stood h = heads_host s e reply ok refl t stood.grounds h
 
 -- at the opening
 

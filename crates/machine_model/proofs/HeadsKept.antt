@@ -1,48 +1,28 @@
 -- Every event keeps the heads behind the tail.
-use Rattle.std.proofs.Common.{◌≡◌, ◌⊎◌, inl, inr, ℕ, zero, suc, ◌+◌, ◌-◌, ◌<◌, ◌≤◌, ◌==◌, nat_le, Bool, true, false, not, ◌&&◌, ◌||◌, Option, Some, None, List, [], ◌∷◌, ◌++◌, length, filter, drop, slice_get, is_none, option_and_then, if◌then◌else◌, refl, ap, sym, ◌∙◌, arith, subst, eq-eqb}
-use Rattle.std.specs.Option.{option_map_or}
+use Rattle.std.proofs.Common.{◌≡◌, ◌⊎◌, inl, inr, ℕ, zero, suc, ◌+◌, ◌-◌, ◌<◌, ◌≤◌, ◌==◌, nat_le, Bool, true, false, ◌&&◌, Some, List, [], ◌∷◌, ◌++◌, length, filter, drop, slice_get, option_and_then, if◌then◌else◌, refl, ap, sym, ◌∙◌, arith, subst, eq-eqb}
 use Rattle.std.specs.List.{AllByRecursion}
-use Rattle.std.proofs.lemmas.Bool.{true≢false, not-false}
 use Rattle.std.proofs.lemmas.Bool.Decides.{nat_tests}
 use Rattle.admin_commands.specs.Entries.{admin_entry}
-use Rattle.admin_commands.specs.declared.AdminKind.TheVariants.{Abort, DeleteSq, DeleteCq}
 use Rattle.admin_commands.specs.declared.AdminKind.{AdminKind}
-use Rattle.controller_walk.specs.Units.{first_passing}
 use Rattle.entry_codec.specs.declared.submission.SubEntry.{SubEntry}
-use Rattle.entry_codec.specs.declared.status.Status.{Status}
-use Rattle.io_commands.specs.Drafts.{DraftContents}
-use Rattle.io_commands.specs.Values.{numbers_of}
-use Rattle.io_commands.specs.Jobs.{is_success}
-use Rattle.io_commands.specs.Asked.{Request}
 use Rattle.queue_pair.specs.Rings.{HostRing, next_tail, next_head, knowing}
 use Rattle.queue_pair.specs.Slots.{next_slot, distance}
 use Rattle.queue_pair.proofs.Order.{distance_grows}
 use Rattle.machine_model.specs.Positions.{IsInRing}
-use Rattle.machine_model.specs.Memory.{with_pages, without_pages}
-use Rattle.machine_model.specs.Commands.{Work, Io, Management}
-use Rattle.machine_model.specs.State.{State, Device, HostQueue, HostState, Live, Deleting, Retired, Gone, DeviceQueue, Record, Phase, Submitted, Answer, is_at, record_at, pages_of, with_record, without_record, outstanding_on}
-use Rattle.machine_model.specs.Refusals.{is_submitted, is_drafted, is_held, is_live, is_retired, is_asked, host_queue, device_queue, refusal_of, record_is, is_of, in_state, queue_full, no_identifier, seen_entry, entry_of, first_answer}
-use Rattle.machine_model.specs.Step.{HostPart, host_part, IsNewIdentifier, reaped}
+use Rattle.machine_model.specs.State.{State, HostQueue, DeviceQueue, Record, Answer, is_at, with_record, outstanding_on}
+use Rattle.machine_model.specs.Refusals.{is_submitted, device_queue, no_identifier, entry_of, first_answer, has_sq}
+use Rattle.machine_model.specs.Step.{HostPart, host_part, IsNewIdentifier}
 use Rattle.machine_model.specs.After as a
 use Rattle.machine_model.specs.After.{change}
-use Rattle.machine_model.specs.Events as events
-use Rattle.machine_model.specs.Events.{Event, Reply, Refusal, Reaped}
 use Rattle.machine_model.proofs.Counting.{one}
-use Rattle.machine_model.proofs.Totals.{total, total-append, total_with, total_without, here}
-use Rattle.machine_model.proofs.Parts.{part-posted}
-use Rattle.machine_model.proofs.Refused.{first_fails, rest_fails, found, pages_match}
-use Rattle.machine_model.proofs.Placing.{device-posted}
-use Rattle.machine_model.proofs.Out.{named, reaped_submitted}
-use Rattle.machine_model.proofs.Asked.{was_asked}
-use Rattle.machine_model.proofs.Paired.{is_past}
-use Rattle.machine_model.proofs.Tied.{FitS}
-use Rattle.machine_model.proofs.TiedHost.{fit-heard}
-use Rattle.machine_model.proofs.Members.{In, in_found, all_map, all_filter, all_append, sent}
+use Rattle.machine_model.proofs.Totals.{total, total-append}
+use Rattle.machine_model.proofs.Members.{In, all_map, all_filter, all_append, sent}
 use Rattle.machine_model.proofs.Grounds.{Grounds, ring_in}
 use Rattle.machine_model.proofs.Served.{answers_at}
 use Rattle.machine_model.proofs.Queues.{list_same}
-use Rattle.machine_model.proofs.PlacesKept.{reaped_answer, ids_of, drafted_not, sent_not, sent_is}
+use Rattle.machine_model.proofs.PlacesKept.{sent_is}
 use Rattle.machine_model.proofs.Heads.{Heads, HeadBehind, AnswersBehind, sent_count, behind_more, behind_posted, on_queue', few_outstanding, sent_outstanding, length_outstanding, changed_at}
+use Rattle.machine_model.proofs.Moves.{posts, sends, sent_record}
 
 abbrev pub HeadsIn : HostPart → List DeviceQueue → Type 0
 HeadsIn part qs = Heads part.entries part.host.queues part.host.records qs
@@ -68,16 +48,16 @@ heads_device n hs rs qs qs' same h = record {
 
 -- a queue of the host changes, its ring left alone, and is past where it was
 pub heads_state : (n k : ℕ) (f : HostQueue → HostQueue) (hs : List HostQueue) (rs : List Record) (qs : List DeviceQueue) → ((x : HostQueue) → (f x).ring ≡ x.ring)
-    → ((x : HostQueue) → slice_get hs k ≡ Some x → is_past (f x).state ≡ false → is_past x.state ≡ false) → Heads n hs rs qs → Heads n (change k f hs) rs qs
+    → ((x : HostQueue) → slice_get hs k ≡ Some x → has_sq (f x).state ≡ true → has_sq x.state ≡ true) → Heads n hs rs qs → Heads n (change k f hs) rs qs
 heads_state n k f hs rs qs ring past h = record {
   ids = h.ids;
   behind = λ q queue e open'. at q queue open' (changed_at k f hs q queue e);
 }
   where
-    at : (q : ℕ) (queue : HostQueue) → is_past queue.state ≡ false → ((k ≡ q) × ((x : HostQueue) × (slice_get hs q ≡ Some x) × (queue ≡ f x))) ⊎ ((k ≡ q → ⊥) × (slice_get hs q ≡ Some queue))
+    at : (q : ℕ) (queue : HostQueue) → has_sq queue.state ≡ true → ((k ≡ q) × ((x : HostQueue) × (slice_get hs q ≡ Some x) × (queue ≡ f x))) ⊎ ((k ≡ q → ⊥) × (slice_get hs q ≡ Some queue))
         → HeadBehind n (sent_count q rs) queue (answers_at qs q)
     at q queue open' (inl (same, (x, e, is))) =
-        let before : is_past x.state ≡ false = past x (subst (λ (z : ℕ). slice_get hs z ≡ Some x) (sym same) e) (ap (λ (y : HostQueue). is_past y.state) (sym is) ∙ open') in
+        let before : has_sq x.state ≡ true = past x (subst (λ (z : ℕ). slice_get hs z ≡ Some x) (sym same) e) (ap (λ (y : HostQueue). has_sq y.state) (sym is) ∙ open') in
         let b = h.behind q x e before in
         let r : queue.ring ≡ x.ring = ap (λ (y : HostQueue). y.ring) is ∙ ring x in
         record {
@@ -88,23 +68,20 @@ heads_state n k f hs rs qs ring past h = record {
 
 -- Posting
 
-heads_posted : (q : ℕ) (entry : SubEntry) (s : State) (rs : List Record) → AllByRecursion (λ r. r.cid < s.entries - 1) s.host.records
+pub heads_posted : (q : ℕ) (entry : SubEntry) (s : State) (rs : List Record) → AllByRecursion (λ r. r.cid < s.entries - 1) s.host.records
     → ((k : ℕ) → sent_count k rs + (if q == k then 1 else 0) ≤ sent_count k s.host.records) → sent_count q rs < s.entries - 1
     → ((queue : HostQueue) → slice_get s.host.queues q ≡ Some queue → IsInRing s.entries queue.ring)
-    → Heads s.entries s.host.queues rs s.device.queues → HeadsS (a.posted q entry s)
-heads_posted q entry s rs ids more few rings h =
-    subst (λ (part : HostPart). HeadsIn part (a.posted q entry s).device.queues) (sym (part-posted q entry s))
-    (subst (λ (d : Device). HeadsIn (host_part (a.on_ring q (next_tail s.entries) s)) d.queues) (sym (device-posted q entry s))
-    (record {
-      ids = ids;
-      behind = λ k queue e open'. subst (HeadBehind s.entries (sent_count k s.host.records) queue) (sym (list_same (λ at. at.answers) q (λ at. record at { unfetched = at.unfetched ++ entry ∷ [] }) s.device.queues k (λ at. refl)))
-          (at k queue open' (changed_at q (λ x. record x { ring = next_tail s.entries x.ring }) s.host.queues k queue e));
-    }))
+    → Heads s.entries s.host.queues rs s.device.queues → HeadsS (posts q entry s)
+heads_posted q entry s rs ids more few rings h = record {
+  ids = ids;
+  behind = λ k queue e open'. subst (HeadBehind s.entries (sent_count k s.host.records) queue) (sym (list_same (λ at. at.answers) q (λ at. record at { unfetched = at.unfetched ++ entry ∷ [] }) s.device.queues k (λ at. refl)))
+      (at k queue open' (changed_at q (λ x. record x { ring = next_tail s.entries x.ring }) s.host.queues k queue e));
+}
   where
     n : ℕ
     n = s.entries
 
-    at : (k : ℕ) (queue : HostQueue) → is_past queue.state ≡ false
+    at : (k : ℕ) (queue : HostQueue) → has_sq queue.state ≡ true
         → ((q ≡ k) × ((x : HostQueue) × (slice_get s.host.queues k ≡ Some x) × (queue ≡ record x { ring = next_tail s.entries x.ring }))) ⊎ ((q ≡ k → ⊥) × (slice_get s.host.queues k ≡ Some queue))
         → HeadBehind s.entries (sent_count k s.host.records) queue (answers_at s.device.queues k)
     at k queue open' (inr (far, e)) =
@@ -112,7 +89,7 @@ heads_posted q entry s rs ids more few rings h =
         let le : sent_count k rs ≤ sent_count k s.host.records = omega (arith, more k) in
         record { known = omega (arith, b.known, le); answers = behind_more s.entries queue.ring.tail (sent_count k rs) (sent_count k s.host.records) (answers_at s.device.queues k) le b.answers }
     at k queue open' (inl (same, (x, e, is))) =
-        let b = h.behind k x e (ap (λ (y : HostQueue). is_past y.state) (sym is) ∙ open') in
+        let b = h.behind k x e (ap (λ (y : HostQueue). has_sq y.state) (sym is) ∙ open') in
         let r = rings x (subst (λ (z : ℕ). slice_get s.host.queues z ≡ Some x) (sym same) e) in
         let few' : sent_count k rs < s.entries - 1 = subst (λ (z : ℕ). sent_count z rs < s.entries - 1) same few in
         let one_more : sent_count k rs + 1 ≤ sent_count k s.host.records = omega (arith, more k, ap one (eq-eqb q k same)) in
@@ -128,9 +105,9 @@ heads_posted q entry s rs ids more few rings h =
 few_sent : (s : State) → Grounds s → HeadsS s → (q : ℕ) → total (on_queue' q) s.host.records ≤ s.entries - 1
 few_sent s g h q = few_outstanding q (s.entries - 1) s.host.records h.ids g.stands.0.once
 
-pub heads_sent : (adm : AdminKind) (id : ℕ) (s : State) → IsNewIdentifier s 0 id → no_identifier s 0 ≡ false → Grounds s → HeadsS s → HeadsS (a.sent adm id (admin_entry adm id) s)
+pub heads_sent : (adm : AdminKind) (id : ℕ) (s : State) → IsNewIdentifier s 0 id → no_identifier s 0 ≡ false → Grounds s → HeadsS s → HeadsS (sends adm id s)
 heads_sent adm id s new room g h =
-    let r : Record = record { q = 0; cid = id; phase = Submitted; work = Management adm; data_pages = []; chain_pages = []; status = None } in
+    let r = sent_record adm id in
     heads_posted 0 (admin_entry adm id) (a.on_records (λ records. records ++ r ∷ []) s) s.host.records
     (all_append (λ r. r.cid < s.entries - 1) s.host.records (r ∷ []) h.ids (new.in_range, tt))
     (λ k. omega (arith, total-append (sent k (λ c. 1)) s.host.records (r ∷ []), sent_is 0 id k (λ c. 1) r refl refl refl))
@@ -156,76 +133,21 @@ drafted_room s q r same within quiet g h =
         each false true = refl
         each false false = refl
 
-pub heads_submit : (d : DraftContents) (s : State) → refusal_of s (events.Submit d) ≡ None → Grounds s → HeadsS s → HeadsS (a.after_submit d s)
-heads_submit d s none g h = go d.entry
-  where
-    r : (r : Record) × (record_at s.host d.q d.cid ≡ Some r) × (is_of is_drafted d.request (numbers_of d.data_pages) (numbers_of d.chain_pages) r ≡ true)
-    r = found (is_of is_drafted d.request (numbers_of d.data_pages) (numbers_of d.chain_pages)) s d.q d.cid
-        (not-false _ (first_fails (not (record_is (is_of is_drafted d.request (numbers_of d.data_pages) (numbers_of d.chain_pages)) s d.q d.cid)) events.Stranger
-        ((is_none d.entry, events.NotBuilt) ∷ (not (in_state is_live s d.q), events.QueueGone) ∷ (queue_full s d.q, events.QueueFull) ∷ []) none))
-
-    quiet : is_submitted r.0.phase ≡ false
-    quiet = drafted_not r.0.phase (pages_match is_drafted d.request d.data_pages d.chain_pages r.0 r.2).1
-
-    room : sent_count d.q s.host.records < s.entries - 1
-    room = drafted_room s d.q r.0 (ids_of s d.q d.cid r.0 r.1).0 (in_found (is_at d.q d.cid) s.host.records r.0 r.1) quiet g h
-
-    kept : AllByRecursion (λ (r : Record). r.cid < s.entries - 1) (with_record d.q d.cid a.submitted s.host.records)
-    kept = all_map (λ (r : Record). r.cid < s.entries - 1) (λ (r : Record). r.cid < s.entries - 1) (λ r. if is_at d.q d.cid r then a.submitted r else r) s.host.records (λ x low. each x (is_at d.q d.cid x) low) h.ids
-      where
-        each : (x : Record) (b : Bool) → x.cid < s.entries - 1 → (if b then a.submitted x else x).cid < s.entries - 1
-        each x true low = low
-        each x false low = low
-
-    go : (o : Option SubEntry) → HeadsS (option_map_or (λ entry. a.posted d.q entry (a.on_records (with_record d.q d.cid a.submitted) (a.on_memory (with_pages (d.data_pages ++ d.chain_pages)) s))) o s)
-    go None = h
-    go (Some entry) =
-        heads_posted d.q entry (a.on_records (with_record d.q d.cid a.submitted) (a.on_memory (with_pages (d.data_pages ++ d.chain_pages)) s)) s.host.records kept
-        (λ k. omega (
-          arith,
-          total_with (sent k (λ c. 1)) d.q d.cid a.submitted s.host.records r.0 r.1 (g.stands.0.once d.q d.cid),
-          sent_not k (λ c. 1) r.0 quiet,
-          sent_is d.q d.cid k (λ c. 1) (a.submitted r.0) (ids_of s d.q d.cid r.0 r.1).0 (ids_of s d.q d.cid r.0 r.1).1 refl,
-        ))
-        room (λ queue e. ring_in s g d.q queue e) h
-
 -- Records that go, or change without being sent
 
-heads_less : (keep : Record → Bool) (s : State) → ((q : ℕ) → sent_count q s.host.records ≤ sent_count q (filter keep s.host.records)) → HeadsS s → Heads s.entries s.host.queues (filter keep s.host.records) s.device.queues
+pub heads_less : (keep : Record → Bool) (s : State) → ((q : ℕ) → sent_count q s.host.records ≤ sent_count q (filter keep s.host.records)) → HeadsS s → Heads s.entries s.host.queues (filter keep s.host.records) s.device.queues
 heads_less keep s same h = heads_records s.entries s.host.queues s.host.records (filter keep s.host.records) s.device.queues (all_filter (λ r. r.cid < s.entries - 1) keep s.host.records h.ids) same h
 
-ids_with : (n q cid : ℕ) (f : Record → Record) (rs : List Record) → ((r : Record) → (f r).cid ≡ r.cid) → AllByRecursion (λ r. r.cid < n) rs → AllByRecursion (λ r. r.cid < n) (with_record q cid f rs)
+pub ids_with : (n q cid : ℕ) (f : Record → Record) (rs : List Record) → ((r : Record) → (f r).cid ≡ r.cid) → AllByRecursion (λ r. r.cid < n) rs → AllByRecursion (λ r. r.cid < n) (with_record q cid f rs)
 ids_with n q cid f rs same h = all_map (λ r. r.cid < n) (λ r. r.cid < n) (λ r. if is_at q cid r then f r else r) rs (λ x low. each x (is_at q cid x) low) h
   where
     each : (x : Record) (b : Bool) → x.cid < n → (if b then f x else x).cid < n
     each x true low = subst (λ (c : ℕ). c < n) (sym (same x)) low
     each x false low = low
 
-pub heads_ended : (phase : Phase → Bool) → ((ph : Phase) → phase ph ≡ true → is_submitted ph ≡ false) → (request : Request) (q cid : ℕ) (bytes chain : List (ℕ × List ℕ)) (s : State)
-    → first_passing ((not (record_is (is_of phase request (numbers_of bytes) (numbers_of chain)) s q cid), events.Stranger) ∷ []) ≡ None
-    → Grounds s → HeadsS s → HeadsS (a.after_end q cid (bytes ++ chain) s)
-heads_ended phase far request q cid bytes chain s none g h =
-    let r = found (is_of phase request (numbers_of bytes) (numbers_of chain)) s q cid (not-false _ (first_fails _ events.Stranger [] none)) in
-    heads_less (λ r. not (is_at q cid r)) s
-    (λ k. omega (arith, total_without (sent k (λ c. 1)) q cid s.host.records r.0 r.1 (g.stands.0.once q cid), sent_not k (λ c. 1) r.0 (far r.0.phase (pages_match phase request bytes chain r.0 r.2).1))) h
-
-pub heads_collect : (q cid : ℕ) (s : State) → refusal_of s (events.Collect q cid) ≡ None → Grounds s → HeadsS s → HeadsS (a.after_collect q cid s)
-heads_collect q cid s none g h = go (record_at s.host q cid) refl
-  where
-    far : record_is (λ r. is_submitted r.phase) s q cid ≡ false
-    far = first_fails (record_is (λ r. is_submitted r.phase) s q cid) events.NotYet []
-        (rest_fails (not (record_is (λ r. is_submitted r.phase || is_held r.phase) s q cid)) events.Stranger ((record_is (λ r. is_submitted r.phase) s q cid, events.NotYet) ∷ []) none)
-
-    go : (o : Option Record) → record_at s.host q cid ≡ o → HeadsS (option_map_or (λ r. a.on_records (with_record q cid a.collected) (a.on_memory (without_pages (pages_of r)) s)) o s)
-    go None e = h
-    go (Some r) e =
-        let far' : is_submitted r.phase ≡ false = sym (ap (λ (o : Option Record). option_map_or (λ r. is_submitted r.phase) o false) e) ∙ far in
-        heads_records s.entries s.host.queues s.host.records (with_record q cid a.collected s.host.records) s.device.queues (ids_with (s.entries - 1) q cid a.collected s.host.records (λ x. refl) h.ids)
-        (λ k. omega (arith, total_with (sent k (λ c. 1)) q cid a.collected s.host.records r e (g.stands.0.once q cid), sent_not k (λ c. 1) r far', sent_not k (λ c. 1) (a.collected r) refl)) h
-
 -- Reaping
 
-heads_consumed : (q : ℕ) (s : State) → HeadsS s → HeadsS (a.consumed q s)
+pub heads_consumed : (q : ℕ) (s : State) → HeadsS s → HeadsS (a.consumed q s)
 heads_consumed q s h = record {
   ids = h.ids;
   behind = λ k queue e open'. at k queue open' (changed_at q (λ x. record x { ring = next_head s.entries x.ring }) s.host.queues k queue e);
@@ -245,18 +167,18 @@ heads_consumed q s h = record {
         over (suc q) (at ∷ qs) zero h = h
         over (suc q) (at ∷ qs) (suc k) h = over q qs k h
 
-    at : (k : ℕ) (queue : HostQueue) → is_past queue.state ≡ false
+    at : (k : ℕ) (queue : HostQueue) → has_sq queue.state ≡ true
         → ((q ≡ k) × ((x : HostQueue) × (slice_get s.host.queues k ≡ Some x) × (queue ≡ record x { ring = next_head s.entries x.ring }))) ⊎ ((q ≡ k → ⊥) × (slice_get s.host.queues k ≡ Some queue))
         → HeadBehind s.entries (sent_count k s.host.records) queue (answers_at (change q (λ at. record at { answers = drop 1 at.answers }) s.device.queues) k)
     at k queue open' (inr (far, e)) =
         let b = h.behind k queue e open' in record { known = b.known; answers = dropped k queue.ring.tail (sent_count k s.host.records) b.answers }
     at k queue open' (inl (same, (x, e, is))) =
-        let b = h.behind k x e (ap (λ (y : HostQueue). is_past y.state) (sym is) ∙ open') in
+        let b = h.behind k x e (ap (λ (y : HostQueue). has_sq y.state) (sym is) ∙ open') in
         subst (λ (y : HostQueue). HeadBehind s.entries (sent_count k s.host.records) y (answers_at (change q (λ at. record at { answers = drop 1 at.answers }) s.device.queues) k)) (sym is)
         (record { known = b.known; answers = dropped k x.ring.tail (sent_count k s.host.records) b.answers })
 
 -- a good answer: the host knows its head, and one command is submitted no more
-heads_heard : (q : ℕ) (an : Answer) (s : State) (rs : List Record) → option_and_then (λ queue. first_answer queue.answers) (device_queue s q) ≡ Some an → AllByRecursion (λ r. r.cid < s.entries - 1) rs
+pub heads_heard : (q : ℕ) (an : Answer) (s : State) (rs : List Record) → option_and_then (λ queue. first_answer queue.answers) (device_queue s q) ≡ Some an → AllByRecursion (λ r. r.cid < s.entries - 1) rs
     → ((k : ℕ) → sent_count k s.host.records ≤ sent_count k rs + (if q == k then 1 else 0)) → HeadsS s
     → Heads s.entries (a.heard q (entry_of q an) s).host.queues rs (change q (λ at. record at { answers = drop 1 at.answers }) s.device.queues)
 heads_heard q an s rs first ids less h = record {
@@ -290,7 +212,7 @@ heads_heard q an s rs first ids less h = record {
         over (suc q) (at ∷ qs) (suc k) far = over q qs k (λ e. far (ap suc e))
 
     -- the queue itself
-    own : (k : ℕ) (x : HostQueue) → q ≡ k → slice_get s.host.queues k ≡ Some x → is_past x.state ≡ false
+    own : (k : ℕ) (x : HostQueue) → q ≡ k → slice_get s.host.queues k ≡ Some x → has_sq x.state ≡ true
         → (distance s.entries an.sq_head x.ring.tail ≤ sent_count k rs) × AnswersBehind s.entries x.ring.tail (sent_count k rs) (answers_at (change q (λ at. record at { answers = drop 1 at.answers }) s.device.queues) k)
     own k x same e open' =
         let b = h.behind k x e open' in
@@ -301,13 +223,13 @@ heads_heard q an s rs first ids less h = record {
           behind_more s.entries x.ring.tail (sent_count k s.host.records - 1) (sent_count k rs) (answers_at (change q (λ at. record at { answers = drop 1 at.answers }) s.device.queues) k) (omega (arith, less k, one')) front.2,
         )
 
-    at : (k : ℕ) (queue : HostQueue) → is_past queue.state ≡ false
+    at : (k : ℕ) (queue : HostQueue) → has_sq queue.state ≡ true
         → ((q ≡ k) × ((x : HostQueue) × (slice_get (change q (λ x. record x { ring = next_head s.entries x.ring }) s.host.queues) k ≡ Some x) × (queue ≡ record x { ring = knowing (entry_of q an).sqhd x.ring })))
         ⊎ ((q ≡ k → ⊥) × (slice_get (change q (λ x. record x { ring = next_head s.entries x.ring }) s.host.queues) k ≡ Some queue))
         → HeadBehind s.entries (sent_count k rs) queue (answers_at (change q (λ at. record at { answers = drop 1 at.answers }) s.device.queues) k)
     at k queue open' (inl (same, (x, e, is))) = elim (changed_at q (λ x. record x { ring = next_head s.entries x.ring }) s.host.queues k x e) [
       | inl (same', (y, ey, isy)) ↦
-          let state : is_past y.state ≡ false = ap (λ (z : HostQueue). is_past z.state) (sym isy) ∙ ap (λ (z : HostQueue). is_past z.state) (sym is) ∙ open' in
+          let state : has_sq y.state ≡ true = ap (λ (z : HostQueue). has_sq z.state) (sym isy) ∙ ap (λ (z : HostQueue). has_sq z.state) (sym is) ∙ open' in
           let o = own k y same ey state in
           let ring : queue.ring ≡ knowing (entry_of q an).sqhd (next_head s.entries y.ring) = ap (λ (z : HostQueue). z.ring) is ∙ ap (λ (z : HostQueue). knowing (entry_of q an).sqhd z.ring) isy in
           record {
@@ -330,53 +252,3 @@ heads_heard q an s rs first ids less h = record {
       where
         other : (q k : ℕ) → (q ≡ k → ⊥) → (q == k) ≡ false
         other q k far = grind (arith, nat_tests)
-
-heads_admin : (adm : AdminKind) (st : Status) (q cid : ℕ) (t : State) (r : Record) → record_at t.host q cid ≡ Some r → r.work ≡ Management adm → total (here q cid) t.host.records < 2 → FitS t
-    → HeadsS (a.on_records (without_record q cid) t) → HeadsS (a.after_admin adm st (a.on_records (without_record q cid) t))
-heads_admin (Abort k c) st q cid t r e w once f h = h
-heads_admin (DeleteSq k) st q cid t r e w once f h =
-    heads_state t.entries k (λ queue. record queue { state = if is_success st then Deleting true else Live }) t.host.queues (without_record q cid t.host.records) t.device.queues (λ x. refl)
-    (λ x ex open'. asked_not_past x.state (sym (ap (λ (o : Option HostQueue). option_map_or (λ h. is_asked h.state) o false) ex) ∙ was_asked t.host.records t.host.queues k q cid r e w once f.asked)) h
-  where
-    asked_not_past : (st : HostState) → is_asked st ≡ true → is_past st ≡ false
-    asked_not_past Live e = refl
-    asked_not_past (Deleting noted) e = refl
-    asked_not_past Retired e = absurd (true≢false (sym e))
-    asked_not_past Gone e = absurd (true≢false (sym e))
-heads_admin (DeleteCq k) st q cid t r e w once f h = go (is_success st && option_map_or (λ queue. is_retired queue.state) (host_queue t k) false) (host_queue t k)
-  where
-    go : (b : Bool) (o : Option HostQueue) → HeadsS (if b then option_map_or (λ queue. a.on_host_queue k a.gone (a.given_back queue.cq_pages (a.on_records (without_record q cid) t))) o (a.on_records (without_record q cid) t) else a.on_records (without_record q cid) t)
-    go true None = h
-    go true (Some queue) = heads_state t.entries k a.gone t.host.queues (without_record q cid t.host.records) t.device.queues (λ x. refl) (λ x ex open'. absurd (true≢false open')) h
-    go false o = h
-
-heads_done : (q cid : ℕ) (st : Status) (s : State) → s.trusted ≡ true → named (reaped s q) ≡ Some cid → Grounds s → HeadsS s
-    → HeadsS (option_map_or (λ r. a.after_work r.work q cid st (option_map_or (λ e. a.heard q e s) (seen_entry s q) s)) (record_at s.host q cid) s)
-heads_done q cid st s t n g h = go (record_at s.host q cid) refl
-  where
-    an : (an : Answer) × (option_and_then (λ queue. first_answer queue.answers) (device_queue s q) ≡ Some an) × (an.cid ≡ cid) × (seen_entry s q ≡ Some (entry_of q an))
-    an = reaped_answer s q cid t n
-
-    sub : (r : Record) × (record_at s.host q cid ≡ Some r) × (is_submitted r.phase ≡ true)
-    sub = reaped_submitted s q cid n
-
-    work : (r : Record) (w : Work) → record_at s.host q cid ≡ Some r → is_submitted r.phase ≡ true → r.work ≡ w → HeadsS (a.after_work w q cid st (a.heard q (entry_of q an.0) s))
-    work r (Io request) e is w =
-        heads_heard q an.0 s (with_record q cid (a.held st) s.host.records) an.1 (ids_with (s.entries - 1) q cid (a.held st) s.host.records (λ x. refl) h.ids)
-        (λ k. omega (arith, total_with (sent k (λ c. 1)) q cid (a.held st) s.host.records r e (g.stands.0.once q cid), sent_not k (λ c. 1) (a.held st r) refl, sent_is q cid k (λ c. 1) r (ids_of s q cid r e).0 (ids_of s q cid r e).1 is)) h
-    work r (Management adm) e is w =
-        heads_admin adm st q cid (a.heard q (entry_of q an.0) s) r e w (g.stands.0.once q cid) (fit-heard q (entry_of q an.0) s g.fit)
-        (heads_heard q an.0 s (without_record q cid s.host.records) an.1 (all_filter (λ r. r.cid < s.entries - 1) (λ r. not (is_at q cid r)) s.host.records h.ids)
-        (λ k. omega (arith, total_without (sent k (λ c. 1)) q cid s.host.records r e (g.stands.0.once q cid), sent_is q cid k (λ c. 1) r (ids_of s q cid r e).0 (ids_of s q cid r e).1 is)) h)
-
-    go : (o : Option Record) → record_at s.host q cid ≡ o → HeadsS (option_map_or (λ r. a.after_work r.work q cid st (option_map_or (λ e. a.heard q e s) (seen_entry s q) s)) o s)
-    go None e = h
-    go (Some r) e =
-        let same : sub.0 ≡ r = cc (sub.1, e) in
-        rw an.3 (work r r.work e (subst (λ (x : Record). is_submitted x.phase ≡ true) same sub.2) refl)
-
-pub heads_reap : (q : ℕ) (what : Reaped) (s : State) → s.trusted ≡ true → what ≡ reaped s q → Grounds s → HeadsS s → HeadsS (a.after_reap q what s)
-heads_reap q events.Empty s t e g h = h
-heads_reap q (events.Rejected why) s t e g h = heads_consumed q s h
-heads_reap q (events.Done cid st) s t e g h = heads_done q cid st s t (ap named (sym e)) g h
-heads_reap q (events.AdminDone cid st dw0) s t e g h = heads_done q cid st s t (ap named (sym e)) g h

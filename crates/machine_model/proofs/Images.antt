@@ -1,5 +1,5 @@
 -- The image of a run is the opening's, changed by the writes that succeeded.
-use Rattle.std.proofs.Common.{◌≡◌, ℕ, ◌+◌, ◌/◌, ◌%◌, ◌==◌, Bool, true, false, not, ◌&&◌, ◌||◌, Option, Some, None, List, [], ◌∷◌, ◌++◌, take, drop, is_some, MatchBool, if◌then◌else◌, refl, ap, sym, ◌∙◌, arith, subst, eqb-true}
+use Rattle.std.proofs.Common.{◌≡◌, ℕ, ◌==◌, Bool, true, false, ◌&&◌, Option, Some, None, List, [], ◌∷◌, ◌++◌, is_some, if◌then◌else◌, refl, ap, sym, ◌∙◌, arith, subst, eqb-true, append-nil, append_assoc}
 use Rattle.std.specs.Option.{option_map_or}
 use Rattle.std.specs.Prelude.{unwrap_or}
 use Rattle.std.specs.Str.{bytes_eq}
@@ -7,13 +7,11 @@ use Rattle.std.proofs.lemmas.Bool.{true≢false, and_parts}
 use Rattle.admin_commands.specs.Entries.{named_queue}
 use Rattle.admin_commands.specs.declared.SqState.TheVariants.{Absent}
 use Rattle.block_image.specs.Blocks.{blocks_at, with_blocks}
-use Rattle.controller_walk.specs.Units.{Act, Stays, Reads, Moves}
-use Rattle.sgl_descriptor.specs.declared.Direction.{Direction}
-use Rattle.sgl_descriptor.specs.declared.Direction.TheVariants.{Destination, Source}
+use Rattle.sgl_descriptor.specs.declared.Direction.TheVariants.{Source}
 use Rattle.sgl_descriptor.specs.Spelling.{spelling}
 use Rattle.entry_codec.specs.declared.submission.SubEntry.{SubEntry}
 use Rattle.entry_codec.specs.declared.status.Status.{Status}
-use Rattle.entry_codec.specs.declared.status.TheConstants.Status.{SUCCESS, COMMAND_ID_CONFLICT, COMPARE_FAILURE}
+use Rattle.entry_codec.specs.declared.status.TheConstants.Status.{SUCCESS, COMPARE_FAILURE}
 use Rattle.entry_codec.specs.declared.admin_opcode.TheConstants.{DELETE_IO_SQ}
 use Rattle.io_commands.specs.Asked.{Request}
 use Rattle.io_commands.specs.declared.request.Kind.{Kind}
@@ -23,14 +21,11 @@ use Rattle.io_commands.specs.DataBytes.{gathered}
 use Rattle.io_commands.specs.Drafts.{DraftContents, io_entry}
 use Rattle.io_commands.specs.Jobs as jobs
 use Rattle.io_commands.specs.Jobs.{is_success, verdict_of, direction_of_entry, direction_by, kind_of_opcode, first_block}
-use Rattle.page_memory.specs.Pages.{with_page_bytes}
 use Rattle.machine_model.specs.Proper.{IsProper}
 use Rattle.machine_model.specs.State.{State, Device, Job, is_at}
-use Rattle.machine_model.specs.Refusals.{refusal_of, job_at, next_rung, conflicts}
-use Rattle.machine_model.specs.Step.{Step, IsController, HostPart}
-use Rattle.machine_model.specs.Opening.{opening}
+use Rattle.machine_model.specs.Refusals.{refusal_of, job_at}
 use Rattle.machine_model.specs.Image.{Made, is_write, draft_of, submitted_by, written_by, succeeds, image_by, image_from}
-use Rattle.machine_model.specs.Laws.{Steps, the_image_is_the_runs}
+use Rattle.machine_model.specs.Laws.{TrustedRun, drafts_of, the_image_is_the_runs}
 use Rattle.machine_model.specs.After as a
 use Rattle.machine_model.specs.After.{final_status}
 use Rattle.machine_model.specs.Events as events
@@ -38,9 +33,7 @@ use Rattle.machine_model.specs.Events.{Event, Reply, Refusal}
 use Rattle.machine_model.proofs.Managed.{managed_by_case}
 use Rattle.machine_model.proofs.Placing.{device-answered}
 use Rattle.machine_model.proofs.Placed.{is_job, find_sound}
-use Rattle.machine_model.proofs.Steps.{Accepts, part_left, permitted, exact}
-use Rattle.machine_model.proofs.Trusted.{forged_untrusted}
-use Rattle.machine_model.proofs.Grounds.{trusted_at_first}
+use Rattle.machine_model.proofs.Steps.{Accepts}
 use Rattle.machine_model.proofs.Members.{in_found, all_at_found}
 use Rattle.machine_model.proofs.PlacesKept.{ids_of}
 use Rattle.machine_model.proofs.Served.{Stood, JobList, job_list}
@@ -50,6 +43,8 @@ use Rattle.machine_model.proofs.Caused.{goes_well}
 use Rattle.machine_model.proofs.EveryStatus.{has_verdict}
 use Rattle.machine_model.proofs.Known.{OfDraft, OfDraftIfIo, JobKnown, RecordKnown, Known}
 use Rattle.machine_model.proofs.KnownJobs.{known_on, all_carried}
+use Rattle.machine_model.proofs.DeviceMoves.{fetch_by, walk_by}
+use Rattle.machine_model.proofs.Along.{Carried, AtOpenings, Before, keeps, made_of, run_along, run_before}
 
 -- The entry of a request
 
@@ -163,38 +158,12 @@ complete_image drafts s q cid none stood known = go (job_at s q cid) refl
 -- The others
 
 fetch_image : (s : State) (q : ℕ) → (a.after_fetch q s).device.image ≡ s.device.image
-fetch_image s q = go (next_rung s q)
-  where
-    inner : (e : SubEntry) (b z : Bool) → (if b then a.answered q e.cid COMMAND_ID_CONFLICT 0 (a.taken_off q s) else if z then a.managed e (a.taken_off 0 s) else a.begun q e (a.taken_off q s)).device.image ≡ s.device.image
-    inner e true z = ap (λ (d : Device). d.image) (device-answered q e.cid COMMAND_ID_CONFLICT 0 (a.taken_off q s))
-    inner e false true = managed_by_case (λ (t : State). t.device.image ≡ s.device.image) e (a.taken_off 0 s) refl refl (λ is8. refl) (λ is8. refl) refl (λ is0 q0 runs. refl) refl (λ not8 not0 gone. refl)
-    inner e false false = refl
-
-    go : (o : Option SubEntry)
-        → (option_map_or (λ e. if conflicts s q then a.answered q e.cid COMMAND_ID_CONFLICT 0 (a.taken_off q s) else if q == 0 then a.managed e (a.taken_off 0 s) else a.begun q e (a.taken_off q s)) o s).device.image ≡ s.device.image
-    go None = refl
-    go (Some e) = inner e (conflicts s q) (q == 0)
+fetch_image s q =
+    fetch_by (λ (t : State). t.device.image ≡ s.device.image) s q refl (λ e n c. refl)
+    (λ e n c z. managed_by_case (λ (t : State). t.device.image ≡ s.device.image) e (a.taken_off 0 s) refl refl (λ is8. refl) (λ is8. refl) refl (λ is0 q0 runs. refl) refl (λ not8 not0 gone. refl)) (λ e n c other. refl)
 
 pub walk_image : (s : State) (q cid : ℕ) → (a.after_walk q cid s).device.image ≡ s.device.image
-walk_image s q cid = go (job_at s q cid)
-  where
-    moved : (j : Job) (dir : Direction) (act : Act) → (a.on_job q cid (λ k. record k { units_done = k.units_done + 1; verdict = verdict_of (a.next_answer s j) }) (a.moved dir act q cid s)).device.image ≡ s.device.image
-    moved j dir Stays = refl
-    moved j dir (Reads place) = refl
-    moved j Source (Moves place n offset) = refl
-    moved j Destination (Moves place n offset) = at (job_at s q cid)
-      where
-        at : (o : Option Job) → (option_map_or (λ j. a.on_memory (λ m. with_page_bytes m (place / 4096) (place % 4096) (take n (drop offset j.bytes))) s) o s).device.image ≡ s.device.image
-        at None = refl
-        at (Some k) = refl
-
-    inner : (j : Job) (o : Option Act) → (option_map_or (λ act. a.on_job q cid (λ k. record k { units_done = k.units_done + 1; verdict = verdict_of (a.next_answer s j) }) (a.moved (direction_of_entry j.entry) act q cid s)) o s).device.image ≡ s.device.image
-    inner j None = refl
-    inner j (Some act) = moved j (direction_of_entry j.entry) act
-
-    go : (o : Option Job) → (option_map_or (λ j. option_map_or (λ act. a.on_job q cid (λ k. record k { units_done = k.units_done + 1; verdict = verdict_of (a.next_answer s j) }) (a.moved (direction_of_entry j.entry) act q cid s)) (a.next_unit s j) s) o s).device.image ≡ s.device.image
-    go None = refl
-    go (Some j) = inner j (a.next_unit s j)
+walk_image s q cid = walk_by (λ (t : State). t.device.image ≡ s.device.image) s q cid refl (λ j act at u. refl)
 
 pub image_on : (drafts : List DraftContents) (s : State) (e : Event) (reply : Reply) → Accepts s e reply → Stood s → Known drafts s → (a.after s e reply).device.image ≡ image_by s drafts s.device.image e reply
 image_on drafts s (events.Fetch q) (events.Fetched c touched) ok stood known = fetch_image s q
@@ -227,37 +196,53 @@ refused_image : (s : State) (drafts : List DraftContents) (image : List ℕ) (e 
 refused_image s drafts image (events.Complete q cid) why touched = refl
 refused_image s drafts image e why touched = refl
 
-pub known_step : (drafts : List DraftContents) (old : State) (e : Event) (reply : Reply) (new : State) → Step old e reply new → old.trusted ≡ true → new.trusted ≡ true → Stood old → Known drafts old → StepKnown drafts old e reply new
-known_step drafts old e (events.Refused why touched) new step t u stood known =
-    subst (StepKnown drafts old e (events.Refused why touched)) (sym step.2)
-    (record {
-      stood = stood;
-      known = subst (λ (ds : List DraftContents). Known (ds ++ drafts) old) (sym (refused_drafts e why touched)) known;
-      image = sym (refused_image old drafts old.device.image e why touched);
-    })
-known_step drafts old (events.Forge q slot bytes) reply new step t u stood known =
-    let ok = permitted _ old.trusted true t step.1 in
-    absurd (true≢false (sym u ∙ (ap (λ (part : HostPart). part.trusted) (part_left old (events.Forge q slot bytes) reply new step.2) ∙ forged_untrusted old q slot bytes ok.0)))
-known_step drafts old e (events.Reserved d) new step t u stood known =
-    subst (StepKnown drafts old e (events.Reserved d)) (sym (exact _ old.trusted t step.2))
-    (accepted_known drafts old e (events.Reserved d) step.0 (permitted _ old.trusted (not (IsController e)) t step.1) t stood known)
-known_step drafts old e reply new step t u stood known =
-    subst (StepKnown drafts old e reply) (sym (exact _ old.trusted t step.2))
-    (accepted_known drafts old e reply step.0 (permitted _ old.trusted (not (IsController e)) t step.1) t stood known)
+-- one step more
+pub drafts_more : (done : List Made) (m : Made) → drafts_of (done ++ m ∷ []) ≡ submitted_by m.event m.reply ++ drafts_of done
+drafts_more [] m = sym (append-nil (submitted_by m.event m.reply))
+drafts_more (x ∷ done) m = ap (λ (ds : List DraftContents). ds ++ submitted_by x.event x.reply) (drafts_more done m) ∙ append_assoc (submitted_by m.event m.reply) (drafts_of done) (submitted_by x.event x.reply)
 
-pub known_at_opening : (pages queues n s : ℕ) (image : List ℕ) → Known [] (opening pages queues n s image)
-known_at_opening pages queues n s image = record { records = tt; jobs = tt; no_admin = λ cid. refl }
+image_more : (drafts : List DraftContents) (image : List ℕ) (done : List Made) (m : Made)
+    → image_from drafts image (done ++ m ∷ []) ≡ image_by m.before (drafts_of done ++ drafts) (image_from drafts image done) m.event m.reply
+image_more drafts image [] m = refl
+image_more drafts image (x ∷ done) m =
+    let first = submitted_by x.event x.reply in
+    let changed = image_by x.before drafts image x.event x.reply in
+    image_more (first ++ drafts) changed done m ∙ ap (λ (ds : List DraftContents). image_by m.before ds (image_from (first ++ drafts) changed done) m.event m.reply) (sym (append_assoc (drafts_of done) first drafts))
 
-pub image_along : (made : List Made) (s end : State) (drafts : List DraftContents) (image : List ℕ) → Steps s made end → end.trusted ≡ true → Stood s → Known drafts s → s.device.image ≡ image
-    → end.device.image ≡ image_from drafts image made
-image_along [] s end drafts image steps t stood known same = ap (λ (x : State). x.device.image) steps ∙ same
-image_along (m ∷ made) s end drafts image (is, mid, step, rest) t stood known same =
-    let now = trusted_at_first (m ∷ made) s end (is, mid, step, rest) t in
-    let k = known_step drafts s m.event m.reply mid step now (trusted_at_first made mid end rest t) stood known in
-    image_along made mid end (submitted_by m.event m.reply ++ drafts) (image_by m.before drafts image m.event m.reply) rest t k.stood k.known
-    (k.image ∙ ap (λ (x : List ℕ). image_by s drafts x m.event m.reply) same ∙ ap (λ (x : State). image_by x drafts image m.event m.reply) (sym is))
+-- the drafts of what was done are known, and the image is what it left
+pub record Imaged (image : List ℕ) (done : List Made) (s : State) : Type 0 where
+  pub stood : Stood s
+  pub known : Known (drafts_of done) s
+  pub image_is : s.device.image ≡ image_from [] image done
+
+imaged_more : (image : List ℕ) (done : List Made) (m : Made) (t : State) → Imaged image done m.before → StepKnown (drafts_of done) m.before m.event m.reply t → Imaged image (done ++ m ∷ []) t
+imaged_more image done m t h k = record {
+  stood = k.stood;
+  known = subst (λ (ds : List DraftContents). Known ds t) (sym (drafts_more done m)) k.known;
+  image_is = k.image ∙ ap (λ (x : List ℕ). image_by m.before (drafts_of done) x m.event m.reply) h.image_is
+      ∙ ap (λ (ds : List DraftContents). image_by m.before ds (image_from [] image done) m.event m.reply) (sym (append-nil (drafts_of done))) ∙ sym (image_more [] image done m);
+}
+
+images_carried : (image : List ℕ) → Carried (Imaged image)
+images_carried image = record {
+  refused = λ done s e why touched h. imaged_more image done (made_of s e (events.Refused why touched)) s h
+      (record {
+        stood = h.stood;
+        known = subst (λ (ds : List DraftContents). Known (ds ++ drafts_of done) s) (sym (refused_drafts e why touched)) h.known;
+        image = sym (refused_image s (drafts_of done) s.device.image e why touched);
+      });
+  taken = λ done s e reply proper ok t h. imaged_more image done (made_of s e reply) (a.after s e reply) h (accepted_known (drafts_of done) s e reply proper ok t h.stood h.known);
+}
+
+imaged_at_opening : (image : List ℕ) → AtOpenings image (Imaged image)
+imaged_at_opening image pages queues n s opens = record {
+  stood = stood_at_opening pages queues n s image opens;
+  known = record { records = tt; jobs = tt; no_admin = λ cid. refl };
+  image_is = refl;
+}
+
+pub imaged_before : (image : List ℕ) (earlier later : List Made) (m : Made) (end : State) → TrustedRun image (earlier ++ m ∷ later) end → Before (Imaged image) earlier m
+imaged_before image = run_before (Imaged image) (keeps (Imaged image) (images_carried image)) image (imaged_at_opening image)
 
 pub images_are_runs : the_image_is_the_runs
-images_are_runs image made end run =
-    image_along made (opening run.pages run.queues run.entries run.segment image) end [] image run.steps run.trusted
-    (stood_at_opening run.pages run.queues run.entries run.segment image run.opens) (known_at_opening run.pages run.queues run.entries run.segment image) refl
+images_are_runs image made end run = (run_along (Imaged image) (keeps (Imaged image) (images_carried image)) image (imaged_at_opening image) made end run).image_is

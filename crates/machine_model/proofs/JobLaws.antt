@@ -1,5 +1,5 @@
 -- The laws of lists in trusted runs.
-use Rattle.std.proofs.Common.{◌≡◌, ◌⊎◌, inl, inr, ℕ, ◌==◌, nat_lt, Bool, true, false, not, ◌&&◌, ◌||◌, Option, Some, None, List, [], ◌∷◌, ◌++◌, filter, find, flat_map, slice_get, is_some, All, MatchBool, if◌then◌else◌, refl, ap, sym, ◌∙◌, arith, subst, eqb-true}
+use Rattle.std.proofs.Common.{◌≡◌, ◌⊎◌, inl, inr, ℕ, ◌==◌, nat_lt, Bool, true, false, not, ◌&&◌, ◌||◌, Option, Some, None, List, [], ◌∷◌, ◌++◌, filter, find, flat_map, slice_get, is_some, All, if◌then◌else◌, refl, ap, sym, ◌∙◌, arith, subst, eqb-true}
 use Rattle.std.specs.Option.{option_map_or}
 use Rattle.std.specs.List.{AllByRecursion, list_all}
 use Rattle.std.proofs.lemmas.Bool.{true≢false, and_parts, and_from}
@@ -22,18 +22,18 @@ use Rattle.machine_model.specs.Refusals.{is_submitted, job_at}
 use Rattle.machine_model.specs.Step.{Step, IsController, unit_answered, Permits, Refuses, HostPart}
 use Rattle.machine_model.specs.Touch.{allowed, pages_of_command, pages_at_queues, stays_allowed, stays_own}
 use Rattle.machine_model.specs.Image.{Made}
-use Rattle.machine_model.specs.Laws.{TrustedRun, HasChainIfIo, entries_of, chains_stand, chains_stay, trusted_steps_stay_allowed}
+use Rattle.machine_model.specs.Laws.{TrustedRun, HasChainIfIo, entries_of}
 use Rattle.machine_model.specs.After as a
 use Rattle.machine_model.specs.After.{course_of}
 use Rattle.machine_model.specs.Events as events
 use Rattle.machine_model.specs.Events.{Event, Reply}
 use Rattle.machine_model.specs.Reached.{only, on_pages}
-use Rattle.machine_model.specs.Standing.{HasEntry, StandsAs, CommandStands, HasUnitLeft, JobStands, jobs_stand, jobs_keep_their_lists}
+use Rattle.machine_model.specs.Standing.{HasEntry, StandsAs, CommandStands, HasUnitLeft, JobStands}
 use Rattle.machine_model.proofs.Steps.{Accepts, part_left, permitted, exact}
 use Rattle.machine_model.proofs.Trusted.{forged_untrusted}
 use Rattle.machine_model.proofs.Placed.{is_job, find_sound}
 use Rattle.machine_model.proofs.Members.{in_found, all_at_found}
-use Rattle.machine_model.proofs.Grounds.{along_proper}
+use Rattle.machine_model.proofs.Along.{along_proper}
 use Rattle.machine_model.proofs.Keeping.{lists_keep, act_touches}
 use Rattle.machine_model.proofs.Served.{Stood, JobList, job_list, list_of_job, course_in, course_ends, same_list, apart_in, chain_of, data_of, more_than_only, among_left, among_right}
 use Rattle.machine_model.proofs.Commanding.{keeps_fetch, keeps_walk, keeps_complete}
@@ -118,9 +118,6 @@ stood_has_chains end stood q cid r found sub =
         }
     of (Management adm) c = tt
 
-pub runs_have_chains : chains_stand
-runs_have_chains image made end q cid r run found sub = stood_has_chains end (stood_after image made end run) q cid r found sub
-
 pub stay_after : (s : State) (e : Event) (reply : Reply) → Accepts s e reply → Stood s → ListsStay s (a.after s e reply).memory
 stay_after s (events.Walk q cid) (events.Refused why touched) ok h = absurd ok.1
 stay_after s (events.Walk q cid) reply ok h = stay_walk s q cid ok.0 h
@@ -135,10 +132,6 @@ stood_keeps_chains old event reply new q cid r p stood trusted step found sub ch
     go (inr (proper, ok, e, all)) =
         ap (λ (pages : Pages). page_at pages p) e
         ∙ (stay_after old event reply ok stood).chains r (in_found (is_at q cid) old.host.records r found) sub p chain
-
-pub runs_keep_chains : chains_stay
-runs_keep_chains image made m old new q cid r p run step found sub still chain =
-    stood_keeps_chains old m.event m.reply new q cid r p (stood_after image made old run) run.trusted step found sub chain
 
 -- Jobs
 
@@ -168,9 +161,6 @@ stood_has_jobs end stood q cid j some e =
       ends = course_ends end stood j l;
       unit_left = all_at_found (HasUnitLeft end) (is_job q cid) end.device.jobs j e stood.walks (ap (λ (k : ℕ). k == 0) (eqb-true j.q q ids.0) ∙ not_zero q some);
     }
-
-pub runs_have_jobs : jobs_stand
-runs_have_jobs image made end q cid j run some e = stood_has_jobs end (stood_after image made end run) q cid j some e
 
 -- a job of an identifier has one entry before and after a step
 same_entry : (s : State) (e : Event) (reply : Reply) → Accepts s e reply → (q cid : ℕ) (entry : SubEntry) → AllByRecursion (λ j. j.q ≡ q → j.entry.cid ≡ cid → j.entry ≡ entry) s.device.jobs
@@ -209,10 +199,6 @@ stood_keeps_lists old new e reply q cid before after stood was step trusted some
               ∙ ap (λ (x : SubEntry). course_of (a.after old e reply) (record after { entry = x })) entry
               ∙ same_list old (a.after old e reply) stood before l (stay.chains l.command l.within l.phase) (stay.own l.command l.within l.phase),
         )
-
-pub runs_keep_lists : jobs_keep_their_lists
-runs_keep_lists image made old new e reply q cid before after run step trusted some found found' =
-    stood_keeps_lists old new e reply q cid before after (stood_after image made old run) run.trusted step trusted some found found'
 
 -- Touches
 
@@ -291,6 +277,3 @@ stood_stays old new (events.Walk q cid) (events.Fetched c touched) stood trusted
 stood_stays old new (events.Walk q cid) (events.Completed touched) stood trusted step = absurd (permitted _ old.trusted false trusted step.1).1
 stood_stays old new (events.Walk q cid) reply stood trusted step = refl
 stood_stays old new e reply stood trusted step = stays old e reply new step trusted (stood_linked old stood) refl
-
-pub all_runs_stay : trusted_steps_stay_allowed
-all_runs_stay image made old new e reply run step = stood_stays old new e reply (stood_after image made old run) run.trusted step

@@ -1,40 +1,36 @@
--- What each event does to the controller's jobs, one by one.
-use Rattle.std.proofs.Common.{◌≡◌, ℕ, ◌+◌, ◌/◌, ◌%◌, ◌==◌, Bool, true, false, not, ◌&&◌, Option, Some, None, List, [], ◌∷◌, ◌++◌, map, take, drop, slice_get, is_none, if◌then◌else◌, refl, sym, ◌∙◌, subst}
+-- What each event does to the controller's jobs, one by one: an Abort and a deletion mark only jobs that have no verdict, and the job of an admin
+-- command is of the entry that was next.
+use Rattle.std.proofs.Common.{filter, ◌≡◌, is_some, ap, ℕ, ◌+◌, ◌==◌, Bool, true, false, not, ◌&&◌, Option, Some, None, List, [], ◌∷◌, ◌++◌, map, slice_get, is_none, if◌then◌else◌, refl, sym, ◌∙◌, subst}
 use Rattle.std.specs.Option.{option_map_or}
 use Rattle.std.specs.List.{AllByRecursion}
-use Rattle.std.proofs.lemmas.Bool.{true≢false}
+use Rattle.std.proofs.lemmas.Bool.{true≢false, and_parts}
 use Rattle.admin_commands.specs.Entries.{named_queue, named_command}
-use Rattle.admin_commands.specs.declared.SqState.TheVariants.{Absent}
-use Rattle.controller_walk.specs.Units.{Act, Stays, Reads, Moves}
+use Rattle.controller_walk.specs.Units.{Act}
 use Rattle.sgl_descriptor.specs.declared.Direction.{Direction}
-use Rattle.sgl_descriptor.specs.declared.Direction.TheVariants.{Destination, Source}
 use Rattle.entry_codec.specs.declared.submission.SubEntry.{SubEntry}
 use Rattle.entry_codec.specs.declared.status.Status.{Status}
-use Rattle.entry_codec.specs.declared.status.TheConstants.Status.{COMMAND_ID_CONFLICT, ABORT_REQUESTED, ABORTED_SQ_DELETION}
-use Rattle.entry_codec.specs.declared.admin_opcode.TheConstants.{DELETE_IO_SQ}
+use Rattle.entry_codec.specs.declared.status.TheConstants.Status.{SUCCESS, ABORT_REQUESTED, ABORTED_SQ_DELETION}
 use Rattle.io_commands.specs.Jobs.{is_success, verdict_of, io_fault, bytes_after_check, direction_of_entry}
-use Rattle.page_memory.specs.Pages.{with_bytes, with_page_bytes}
-use Rattle.machine_model.specs.State.{State, Device, Job}
-use Rattle.machine_model.specs.Refusals.{next_rung, job_at, conflicts}
+use Rattle.machine_model.specs.State.{State, Job}
+use Rattle.machine_model.specs.Refusals.{next_rung, job_at}
 use Rattle.machine_model.specs.Step.{unit_answered}
 use Rattle.machine_model.specs.After as a
 use Rattle.machine_model.specs.Events as events
 use Rattle.machine_model.specs.Events.{Event, Reply}
-use Rattle.machine_model.proofs.Managed.{managed_by_case}
-use Rattle.machine_model.proofs.Placing.{device-answered}
+use Rattle.machine_model.proofs.HeadsAll.{no_conflict}
+use Rattle.machine_model.proofs.Placements.{in_hand}
 use Rattle.machine_model.proofs.Placed.{is_job}
 use Rattle.machine_model.proofs.Steps.{Accepts}
 use Rattle.machine_model.proofs.Members.{all_indexed, all_at, all_map, all_filter, all_append, only_found}
 use Rattle.machine_model.proofs.Served.{Stood}
 use Rattle.machine_model.proofs.CommandsAll.{Walking, walking}
 use Rattle.machine_model.proofs.WalksKept.{one_job, host_jobs}
+use Rattle.machine_model.proofs.DeviceMoves.{unit_bytes, unit_done, walk_is, fetch_by, complete_by}
+use Rattle.machine_model.proofs.Managed.{managed_by_cause}
 
 -- the bytes that a walk step leaves a job
 abbrev pub walked_bytes : State → Job → Direction → Act → List ℕ
-walked_bytes s j dir Stays = j.bytes
-walked_bytes s j dir (Reads place) = j.bytes
-walked_bytes s j Destination (Moves place n offset) = j.bytes
-walked_bytes s j Source (Moves place n offset) = with_bytes j.bytes offset (a.page_bytes s.memory place n)
+walked_bytes s j dir act = unit_bytes s dir act j.bytes
 
 abbrev pub walked : State → Job → Act → Job
 walked s j act = record j { bytes = walked_bytes s j (direction_of_entry j.entry) act; units_done = j.units_done + 1; verdict = verdict_of (a.next_answer s j) }
@@ -50,146 +46,96 @@ begun_job s q e = a.new_job q e (io_fault (a.image_blocks s) e) 0 (bytes_after_c
 -- what P says of a job before an event gives Q of it after, however the event changes it
 pub record JobsMove (P Q : Job → Type 0) (s : State) (e : Event) : Type 0 where
   pub stays : (k : ℕ) (j : Job) → slice_get s.device.jobs k ≡ Some j → is_walked e j ≡ false → P j → Q j
-  pub fails : (k : ℕ) (j : Job) (st : Status) (waiting : Option ℕ) → slice_get s.device.jobs k ≡ Some j → is_walked e j ≡ false → is_success st ≡ false → P j → Q (record j { verdict = Some st; waiting_abort = waiting })
-  pub manages : (j : Job) → j.q ≡ 0 → Q j
-  pub begins : (q : ℕ) (entry : SubEntry) → e ≡ events.Fetch q → next_rung s q ≡ Some entry → (q == 0) ≡ false → Q (begun_job s q entry)
+  pub fails : (k : ℕ) (j : Job) (st : Status) (waiting : Option ℕ) → slice_get s.device.jobs k ≡ Some j → is_walked e j ≡ false → is_success st ≡ false → j.verdict ≡ None → P j → Q (record j { verdict = Some st; waiting_abort = waiting })
+  pub manages : (entry : SubEntry) (st : Status) (dw0 : ℕ) → e ≡ events.Fetch 0 → next_rung s 0 ≡ Some entry → is_some (job_at s 0 entry.cid) ≡ false → Q (a.new_job 0 entry (Some st) dw0 [])
+  pub begins : (q : ℕ) (entry : SubEntry) → e ≡ events.Fetch q → next_rung s q ≡ Some entry → (q == 0) ≡ false → is_some (job_at s q entry.cid) ≡ false → Q (begun_job s q entry)
   pub walks : (q cid : ℕ) (j : Job) (act : Act) → e ≡ events.Walk q cid → Walking s q cid j → a.next_unit s j ≡ Some act → P j → Q (walked s j act)
+
+nothing : (o : Option Status) → is_none o ≡ true → o ≡ None
+nothing None h = refl
+nothing (Some st) h = absurd (true≢false (sym h))
 
 -- Fetching
 
-jobs_fetch : (P Q : Job → Type 0) (s : State) (q : ℕ) → JobsMove P Q s (events.Fetch q) → AllByRecursion P s.device.jobs → AllByRecursion Q (a.after_fetch q s).device.jobs
-jobs_fetch P Q s q move h = go (next_rung s q) refl
+jobs_fetch : (P Q : Job → Type 0) (s : State) (q : ℕ) → JobsMove P Q s (events.Fetch q) → Stood s → AllByRecursion P s.device.jobs → AllByRecursion Q (a.after_fetch q s).device.jobs
+jobs_fetch P Q s q move stood h =
+    fetch_by (λ (t : State). AllByRecursion Q t.device.jobs) s q still (λ e n c. still) (λ e n c z. managed e z n)
+    (λ e n c other. all_append Q s.device.jobs (begun_job s q e ∷ []) still (move.begins q e refl n other (no_conflict s stood q e (in_hand s q e n)), tt))
   where
     still : AllByRecursion Q s.device.jobs
     still = all_indexed P Q s.device.jobs (λ k j f p. move.stays k j f refl p) h
 
-    managed : (e : SubEntry) → AllByRecursion Q (a.managed e (a.taken_off 0 s)).device.jobs
-    managed e =
-        managed_by_case (λ (t : State). AllByRecursion Q t.device.jobs) e (a.taken_off 0 s)
-        (one_more s.device.jobs _ 0 still) (one_more s.device.jobs _ 0 still)
-        (λ is8. one_more (map (λ (j : Job). if (j.q == named_queue e) && (j.entry.cid == named_command e) then record j { verdict = Some ABORT_REQUESTED; waiting_abort = Some e.cid } else j) s.device.jobs) _ 0
+    managed : (e : SubEntry) → q ≡ 0 → next_rung s q ≡ Some e → AllByRecursion Q (a.managed e (a.taken_off 0 s)).device.jobs
+    managed e z rung =
+        managed_by_cause (λ (t : State). AllByRecursion Q t.device.jobs) e (a.taken_off 0 s)
+        (λ st dw0. one_more s.device.jobs st dw0 still)
+        (λ is8 w. one_more (map (λ (j : Job). if (j.q == named_queue e) && (j.entry.cid == named_command e) then record j { verdict = Some ABORT_REQUESTED; waiting_abort = Some e.cid } else j) s.device.jobs) SUCCESS 0
         (mapped (λ (j : Job). if (j.q == named_queue e) && (j.entry.cid == named_command e) then record j { verdict = Some ABORT_REQUESTED; waiting_abort = Some e.cid } else j)
-        (λ k j f p. aborted k j f p ((j.q == named_queue e) && (j.entry.cid == named_command e)))))
-        (λ is8. one_more s.device.jobs _ 1 still)
-        (one_more s.device.jobs _ 0 still)
-        (λ is0 q0 runs. one_more (map (a.stopped (named_queue e)) s.device.jobs) _ 0 (mapped (a.stopped (named_queue e)) (λ k j f p. halted k j f p ((j.q == named_queue e) && is_none j.verdict))))
-        (one_more s.device.jobs _ 0 still)
-        (λ not8 not0 gone. one_more s.device.jobs _ 0 still)
+        (λ k j f p. aborted w k j f p ((j.q == named_queue e) && (j.entry.cid == named_command e)) refl)))
+        (λ is0. one_more (map (a.stopped (named_queue e)) s.device.jobs) SUCCESS 0 (mapped (a.stopped (named_queue e)) (λ k j f p. halted k j f p ((j.q == named_queue e) && is_none j.verdict) refl)))
+        (one_more s.device.jobs SUCCESS 0 still)
       where
         one_more : (js : List Job) (st : Status) (dw0 : ℕ) → AllByRecursion Q js → AllByRecursion Q (js ++ a.new_job 0 e (Some st) dw0 [] ∷ [])
-        one_more js st dw0 all = all_append Q js (a.new_job 0 e (Some st) dw0 [] ∷ []) all (move.manages (a.new_job 0 e (Some st) dw0 []) refl, tt)
+        one_more js st dw0 all =
+            all_append Q js (a.new_job 0 e (Some st) dw0 [] ∷ []) all
+            (move.manages e st dw0 (ap (λ (k : ℕ). events.Fetch k) z) (subst (λ (k : ℕ). next_rung s k ≡ Some e) z rung) (subst (λ (k : ℕ). is_some (job_at s k e.cid) ≡ false) z (no_conflict s stood q e (in_hand s q e rung))), tt)
 
         mapped : (f : Job → Job) → ((k : ℕ) (j : Job) → slice_get s.device.jobs k ≡ Some j → P j → Q (f j)) → AllByRecursion Q (map f s.device.jobs)
         mapped f each = all_map (λ j. Q (f j)) Q f s.device.jobs (λ j p. p) (all_indexed P (λ j. Q (f j)) s.device.jobs each h)
 
-        aborted : (k : ℕ) (j : Job) → slice_get s.device.jobs k ≡ Some j → P j → (b : Bool) → Q (if b then record j { verdict = Some ABORT_REQUESTED; waiting_abort = Some e.cid } else j)
-        aborted k j f p true = move.fails k j ABORT_REQUESTED (Some e.cid) f refl refl p
-        aborted k j f p false = move.stays k j f refl p
+        walking_job : (o : Option Job) → job_at s (named_queue e) (named_command e) ≡ o → option_map_or (λ j. is_none j.verdict) o false ≡ true → (k : ℕ) (j : Job) → slice_get s.device.jobs k ≡ Some j → is_job (named_queue e) (named_command e) j ≡ true → j.verdict ≡ None
+        walking_job None at w k j f is = absurd (true≢false (sym w))
+        walking_job (Some j0) at w k j f is =
+            let same : j ≡ j0 = all_at (λ x. is_job (named_queue e) (named_command e) x ≡ true → x ≡ j0) s.device.jobs k j f (only_found (is_job (named_queue e) (named_command e)) s.device.jobs j0 at (one_job s stood (named_queue e) (named_command e))) is in
+            ap (λ (x : Job). x.verdict) same ∙ nothing j0.verdict w
 
-        halted : (k : ℕ) (j : Job) → slice_get s.device.jobs k ≡ Some j → P j → (b : Bool) → Q (if b then record j { verdict = Some ABORTED_SQ_DELETION } else j)
-        halted k j f p true = move.fails k j ABORTED_SQ_DELETION j.waiting_abort f refl refl p
-        halted k j f p false = move.stays k j f refl p
+        aborted : a.walks s (named_queue e) (named_command e) ≡ true → (k : ℕ) (j : Job) → slice_get s.device.jobs k ≡ Some j → P j → (b : Bool) → is_job (named_queue e) (named_command e) j ≡ b
+            → Q (if b then record j { verdict = Some ABORT_REQUESTED; waiting_abort = Some e.cid } else j)
+        aborted w k j f p true is = move.fails k j ABORT_REQUESTED (Some e.cid) f refl refl (walking_job (job_at s (named_queue e) (named_command e)) refl w k j f is) p
+        aborted w k j f p false is = move.stays k j f refl p
 
-    inner : (e : SubEntry) → next_rung s q ≡ Some e → (b z : Bool) → (q == 0) ≡ z
-        → AllByRecursion Q (if b then a.answered q e.cid COMMAND_ID_CONFLICT 0 (a.taken_off q s) else if z then a.managed e (a.taken_off 0 s) else a.begun q e (a.taken_off q s)).device.jobs
-    inner e n true z is0 = subst (λ (d : Device). AllByRecursion Q d.jobs) (sym (device-answered q e.cid COMMAND_ID_CONFLICT 0 (a.taken_off q s))) still
-    inner e n false true is0 = managed e
-    inner e n false false is0 = all_append Q s.device.jobs (begun_job s q e ∷ []) still (move.begins q e refl n is0, tt)
-
-    go : (o : Option SubEntry) → next_rung s q ≡ o
-        → AllByRecursion Q (option_map_or (λ e. if conflicts s q then a.answered q e.cid COMMAND_ID_CONFLICT 0 (a.taken_off q s) else if q == 0 then a.managed e (a.taken_off 0 s) else a.begun q e (a.taken_off q s)) o s).device.jobs
-    go None n = still
-    go (Some e) n = inner e n (conflicts s q) (q == 0) refl
+        halted : (k : ℕ) (j : Job) → slice_get s.device.jobs k ≡ Some j → P j → (b : Bool) → ((j.q == named_queue e) && is_none j.verdict) ≡ b → Q (if b then record j { verdict = Some ABORTED_SQ_DELETION } else j)
+        halted k j f p true is = move.fails k j ABORTED_SQ_DELETION j.waiting_abort f refl refl (nothing j.verdict (and_parts (j.q == named_queue e) (is_none j.verdict) is).1) p
+        halted k j f p false is = move.stays k j f refl p
 
 -- Walking
 
 jobs_walk : (P Q : Job → Type 0) (s : State) (q cid : ℕ) (reply : Reply) → JobsMove P Q s (events.Walk q cid) → Accepts s (events.Walk q cid) reply → Stood s → AllByRecursion P s.device.jobs
     → (j : Job) → job_at s q cid ≡ Some j → (act : Act) → a.next_unit s j ≡ Some act → AllByRecursion Q (a.after_walk q cid s).device.jobs
 jobs_walk P Q s q cid reply move ok stood h j at act u =
-    subst (λ (o : Option Job). AllByRecursion Q (option_map_or (λ j. option_map_or (λ act. a.on_job q cid (λ k. record k { units_done = k.units_done + 1; verdict = verdict_of (a.next_answer s j) }) (a.moved (direction_of_entry j.entry) act q cid s)) (a.next_unit s j) s) o s).device.jobs)
-    (sym at)
-    (subst (λ (o : Option Act). AllByRecursion Q (option_map_or (λ act. a.on_job q cid (λ k. record k { units_done = k.units_done + 1; verdict = verdict_of (a.next_answer s j) }) (a.moved (direction_of_entry j.entry) act q cid s)) o s).device.jobs)
-    (sym u) (moved (direction_of_entry j.entry) refl act refl))
+    subst (λ (t : State). AllByRecursion Q t.device.jobs) (walk_is s q cid j act at u)
+    (all_map Mid Q (λ k. if (k.q == q) && (k.entry.cid == cid) then unit_done s j act k else k) s.device.jobs (λ k p. one k (is_job q cid k) refl p) before)
   where
-    w : Walking s q cid j
-    w = walking s q cid j ok.0 stood at
+    Mid : Job → Type 0
+    Mid k = (is_job q cid k ≡ true → Q (unit_done s j act k)) × (is_job q cid k ≡ false → Q k)
 
-    step : Job → Job
-    step k = record k { units_done = k.units_done + 1; verdict = verdict_of (a.next_answer s j) }
+    same : (k : ℕ) (x : Job) → slice_get s.device.jobs k ≡ Some x → is_job q cid x ≡ true → x ≡ j
+    same k x e = all_at (λ k. is_job q cid k ≡ true → k ≡ j) s.device.jobs k x e (only_found (is_job q cid) s.device.jobs j at (one_job s stood q cid))
 
-    -- before the last change: the job as it is then, and the others
-    Mid : (Job → Job) → Job → Type 0
-    Mid f k = (is_job q cid k ≡ true → Q (record (f k) { units_done = (f k).units_done + 1; verdict = verdict_of (a.next_answer s j) })) × (is_job q cid k ≡ false → Q k)
+    before : AllByRecursion Mid s.device.jobs
+    before =
+        all_indexed P Mid s.device.jobs
+        (λ k x e p. (λ t. subst (λ (y : Job). Q (unit_done s j act y)) (sym (same k x e t)) (move.walks q cid j act refl (walking s q cid j ok.0 stood at) u (subst P (same k x e t) p)), λ t. move.stays k x e t p)) h
 
-    only : AllByRecursion (λ k. is_job q cid k ≡ true → k ≡ j) s.device.jobs
-    only = only_found (is_job q cid) s.device.jobs j at (one_job s stood q cid)
-
-    before : (f : Job → Job) → (P j → Q (record (f j) { units_done = (f j).units_done + 1; verdict = verdict_of (a.next_answer s j) })) → AllByRecursion (Mid f) s.device.jobs
-    before f own =
-        all_indexed P (Mid f) s.device.jobs
-        (λ k x e p. (
-          λ t. subst (λ (y : Job). Q (record (f y) { units_done = (f y).units_done + 1; verdict = verdict_of (a.next_answer s j) })) (sym (all_at (λ k. is_job q cid k ≡ true → k ≡ j) s.device.jobs k x e only t))
-              (own (subst P (all_at (λ k. is_job q cid k ≡ true → k ≡ j) s.device.jobs k x e only t) p)),
-          λ t. move.stays k x e t p,
-        )) h
-
-    last : (js : List Job) → AllByRecursion (Mid (λ k. k)) js → AllByRecursion Q (map (λ (k : Job). if (k.q == q) && (k.entry.cid == cid) then record k { units_done = k.units_done + 1; verdict = verdict_of (a.next_answer s j) } else k) js)
-    last js all = all_map (Mid (λ k. k)) Q (λ k. if (k.q == q) && (k.entry.cid == cid) then record k { units_done = k.units_done + 1; verdict = verdict_of (a.next_answer s j) } else k) js (λ k p. one k (is_job q cid k) refl p) all
-      where
-        one : (k : Job) (b : Bool) → is_job q cid k ≡ b → Mid (λ k. k) k → Q (if b then record k { units_done = k.units_done + 1; verdict = verdict_of (a.next_answer s j) } else k)
-        one k true t p = p.0 t
-        one k false t p = p.1 t
-
-    -- what the unit leaves the job, by the direction that its entry tells
-    own : (dir : Direction) → direction_of_entry j.entry ≡ dir → (x : Act) → act ≡ x → P j → Q (record j { bytes = walked_bytes s j dir x; units_done = j.units_done + 1; verdict = verdict_of (a.next_answer s j) })
-    own dir d x is p =
-        subst (λ (y : Direction). Q (record j { bytes = walked_bytes s j y x; units_done = j.units_done + 1; verdict = verdict_of (a.next_answer s j) })) d
-        (subst (λ (y : Act). Q (record j { bytes = walked_bytes s j (direction_of_entry j.entry) y; units_done = j.units_done + 1; verdict = verdict_of (a.next_answer s j) })) is (move.walks q cid j act refl w u p))
-
-    moved : (dir : Direction) → direction_of_entry j.entry ≡ dir → (x : Act) → act ≡ x
-        → AllByRecursion Q (a.on_job q cid (λ k. record k { units_done = k.units_done + 1; verdict = verdict_of (a.next_answer s j) }) (a.moved dir x q cid s)).device.jobs
-    moved dir d Stays is = last s.device.jobs (before (λ k. k) (own dir d Stays is))
-    moved dir d (Reads place) is = last s.device.jobs (before (λ k. k) (own dir d (Reads place) is))
-    moved Destination d (Moves place n offset) is = at_memory (job_at s q cid)
-      where
-        at_memory : (o : Option Job) → AllByRecursion Q (a.on_job q cid (λ k. record k { units_done = k.units_done + 1; verdict = verdict_of (a.next_answer s j) })
-            (option_map_or (λ j. a.on_memory (λ mem. with_page_bytes mem (place / 4096) (place % 4096) (take n (drop offset j.bytes))) s) o s)).device.jobs
-        at_memory None = last s.device.jobs (before (λ k. k) (own Destination d (Moves place n offset) is))
-        at_memory (Some k) = last s.device.jobs (before (λ k. k) (own Destination d (Moves place n offset) is))
-    moved Source d (Moves place n offset) is =
-        last (map (λ (k : Job). if (k.q == q) && (k.entry.cid == cid) then record k { bytes = with_bytes k.bytes offset (a.page_bytes s.memory place n) } else k) s.device.jobs)
-        (all_map (Mid (λ k. record k { bytes = with_bytes k.bytes offset (a.page_bytes s.memory place n) })) (Mid (λ k. k))
-        (λ k. if (k.q == q) && (k.entry.cid == cid) then record k { bytes = with_bytes k.bytes offset (a.page_bytes s.memory place n) } else k) s.device.jobs (λ k p. one k (is_job q cid k) refl p)
-        (before (λ k. record k { bytes = with_bytes k.bytes offset (a.page_bytes s.memory place n) }) (own Source d (Moves place n offset) is)))
-      where
-        one : (k : Job) (b : Bool) → is_job q cid k ≡ b → Mid (λ k. record k { bytes = with_bytes k.bytes offset (a.page_bytes s.memory place n) }) k
-            → Mid (λ k. k) (if b then record k { bytes = with_bytes k.bytes offset (a.page_bytes s.memory place n) } else k)
-        one k true t p = ((λ z. p.0 t), λ z. absurd (true≢false (sym t ∙ z)))
-        one k false t p = ((λ z. absurd (true≢false (sym z ∙ t))), λ z. p.1 t)
+    one : (k : Job) (b : Bool) → is_job q cid k ≡ b → Mid k → Q (if b then unit_done s j act k else k)
+    one k true t p = p.0 t
+    one k false t p = p.1 t
 
 -- Completing
 
 jobs_complete : (P Q : Job → Type 0) (s : State) (q cid : ℕ) → JobsMove P Q s (events.Complete q cid) → AllByRecursion P s.device.jobs → AllByRecursion Q (a.after_complete q cid s).device.jobs
-jobs_complete P Q s q cid move h = go (job_at s q cid)
+jobs_complete P Q s q cid move h = complete_by (λ (t : State). AllByRecursion Q t.device.jobs) s q cid still (λ j at c. less) (λ j at c. less)
   where
     still : AllByRecursion Q s.device.jobs
     still = all_indexed P Q s.device.jobs (λ k j f p. move.stays k j f refl p) h
 
-    deleted : (s1 : State) (j : Job) (b : Bool) → AllByRecursion Q s1.device.jobs → AllByRecursion Q (if b then a.on_device_queue (named_queue j.entry) (λ at. record at { state = Absent; unfetched = []; rung = 0 }) s1 else s1).device.jobs
-    deleted s1 j true h = h
-    deleted s1 j false h = h
-
-    go : (o : Option Job) → AllByRecursion Q (option_map_or (λ j. let st = a.final_status s j in a.answered q cid st j.dw0 (a.deletion_done j st (a.on_device (λ d. record d { image = a.image_completed j d.image }) (a.without_job q cid s)))) o s).device.jobs
-    go None = still
-    go (Some j) =
-        let s1 = a.on_device (λ d. record d { image = a.image_completed j d.image }) (a.without_job q cid s) in
-        subst (λ (d : Device). AllByRecursion Q d.jobs) (sym (device-answered q cid (a.final_status s j) j.dw0 (a.deletion_done j (a.final_status s j) s1)))
-        (deleted s1 j ((j.q == 0) && (j.entry.opcode == DELETE_IO_SQ) && is_success (a.final_status s j)) (all_filter Q (λ x. not (is_job q cid x)) s.device.jobs still))
+    less : AllByRecursion Q (filter (λ x. not (is_job q cid x)) s.device.jobs)
+    less = all_filter Q (λ x. not (is_job q cid x)) s.device.jobs still
 
 -- Every event
 
 pub jobs_event : (P Q : Job → Type 0) (s : State) (e : Event) (reply : Reply) → JobsMove P Q s e → Accepts s e reply → Stood s → AllByRecursion P s.device.jobs → AllByRecursion Q (a.after s e reply).device.jobs
-jobs_event P Q s (events.Fetch q) (events.Fetched c touched) move ok stood h = jobs_fetch P Q s q move h
+jobs_event P Q s (events.Fetch q) (events.Fetched c touched) move ok stood h = jobs_fetch P Q s q move stood h
 jobs_event P Q s (events.Walk q cid) (events.Walked o touched) move ok stood h = go (a.next_unit s ok.1.0) refl ok.1.2
   where
     go : (x : Option Act) → a.next_unit s ok.1.0 ≡ x → unit_answered x (a.next_answer s ok.1.0) o touched → AllByRecursion Q (a.after_walk q cid s).device.jobs

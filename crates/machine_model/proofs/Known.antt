@@ -1,17 +1,16 @@
 -- What is known of source commands: their data pages hold what their drafts gathered, and their jobs carry it.
-use Rattle.std.proofs.Common.{◌≡◌, ℕ, zero, suc, ◌+◌, ◌/◌, ◌%◌, ◌≤◌, ◌==◌, Bool, true, false, not, ◌&&◌, Option, Some, None, List, [], ◌∷◌, ◌++◌, length, take, drop, is_none, replicate, nat_eq, if◌then◌else◌, refl, ap, sym, ◌∙◌, arith, subst, eqb-true, eq-eqb}
+use Rattle.std.proofs.Common.{◌≡◌, ℕ, zero, suc, ◌+◌, ◌≤◌, ◌==◌, Bool, true, false, ◌&&◌, Option, Some, None, List, [], ◌∷◌, ◌++◌, length, take, replicate, nat_eq, if◌then◌else◌, refl, ap, sym, ◌∙◌, arith, subst, eqb-true, eq-eqb}
 use Rattle.std.specs.Option.{option_map_or}
 use Rattle.std.specs.List.{AllByRecursion}
 use Rattle.std.specs.Cmp.Lexicographic.{pointwise}
-use Rattle.std.proofs.lemmas.Bool.{true≢false, and_parts, not-false, or_left, or_right}
+use Rattle.std.proofs.lemmas.Bool.{true≢false, and_parts, or_left, or_right}
 use Rattle.std.proofs.lemmas.List.Elements.{All-head, All-tail}
 use Rattle.page_ledger.specs.Owners.{is_among}
-use Rattle.page_memory.specs.Memory.{page_of}
-use Rattle.page_memory.specs.Pages.{Pages, page_at, with_page_bytes}
+use Rattle.page_memory.specs.Pages.{Pages, page_at}
 use Rattle.sgl_descriptor.specs.declared.Direction.{Direction}
 use Rattle.sgl_descriptor.specs.declared.Direction.TheVariants.{Destination, Source}
 use Rattle.sgl_descriptor.specs.Spelling.{spelling}
-use Rattle.controller_walk.specs.Units.{Act, Stays, Reads, Moves, units}
+use Rattle.controller_walk.specs.Units.{units}
 use Rattle.entry_codec.specs.declared.submission.SubEntry.{SubEntry}
 use Rattle.entry_codec.specs.declared.status.Status.{Status}
 use Rattle.io_commands.specs.Asked.{Request}
@@ -19,39 +18,39 @@ use Rattle.io_commands.specs.Requests.{direction_of}
 use Rattle.io_commands.specs.DataBytes.{PagesOut}
 use Rattle.io_commands.specs.Drafts.{DraftContents}
 use Rattle.io_commands.specs.Values.{numbers_of}
-use Rattle.io_commands.specs.Jobs.{verdict_of, need_of_entry, direction_of_entry}
+use Rattle.io_commands.specs.Jobs.{need_of_entry, direction_of_entry}
 use Rattle.machine_model.specs.Proper.{IsProper, IsPage, ArePages}
 use Rattle.machine_model.specs.Memory.{with_pages}
 use Rattle.machine_model.specs.Commands.{Work, Io, Management}
-use Rattle.machine_model.specs.State.{State, Record, Job, is_at, record_at, pages_of, with_record}
-use Rattle.machine_model.specs.Refusals.{is_submitted, is_drafted, is_live, refusal_of, record_is, is_of, asks_for, in_state, queue_full, job_at}
+use Rattle.machine_model.specs.State.{State, Record, Job, record_at, pages_of, with_record}
+use Rattle.machine_model.specs.Refusals.{is_submitted, is_drafted, refusal_of, is_of, asks_for}
 use Rattle.machine_model.specs.Image.{draft_of, submitted_by}
-use Rattle.machine_model.specs.Step.{times}
 use Rattle.machine_model.specs.After as a
 use Rattle.machine_model.specs.After.{course_of}
 use Rattle.machine_model.specs.Events as events
 use Rattle.machine_model.specs.Events.{Event, Reply}
-use Rattle.machine_model.specs.Reached.{on_pages, ActIn}
 use Rattle.machine_model.proofs.Counting.{one, held_once}
 use Rattle.machine_model.proofs.Totals.{total}
 use Rattle.machine_model.proofs.Touching.{is_walk}
 use Rattle.machine_model.proofs.Steps.{Accepts}
-use Rattle.machine_model.proofs.Refused.{first_fails, rest_fails, found, pages_match, same_lists}
-use Rattle.machine_model.proofs.Owned.{in_record, in_queue}
-use Rattle.machine_model.proofs.Members.{In, in_at, in_found, sent, sent_found}
-use Rattle.machine_model.proofs.Elsewhere.{bytes_elsewhere, owned_once}
-use Rattle.machine_model.proofs.Grounds.{Grounds, pair_at, ring_in}
-use Rattle.machine_model.proofs.Untouched.{untouched, posted_elsewhere, PostsElsewhere, live_past, live_queue}
+use Rattle.machine_model.proofs.Refused.{pages_match, same_lists}
+use Rattle.machine_model.proofs.Owned.{in_record}
+use Rattle.machine_model.proofs.Members.{In, sent, sent_found}
+use Rattle.machine_model.proofs.Elsewhere.{owned_once}
+use Rattle.machine_model.proofs.Grounds.{Grounds}
+use Rattle.machine_model.proofs.Untouched.{untouched}
 use Rattle.machine_model.proofs.PlacesKept.{ids_of, drafted_not}
-use Rattle.machine_model.proofs.Submitting.{requests_same, brought}
+use Rattle.machine_model.proofs.Submitting.{requests_same}
 use Rattle.machine_model.proofs.Entered.{entry_direction}
-use Rattle.machine_model.proofs.Served.{Stood, course_in, counts_sent, data_of, page_below}
-use Rattle.machine_model.proofs.CommandsAll.{Walking, walking, unit_in}
+use Rattle.machine_model.proofs.Served.{Stood, counts_sent, data_of}
+use Rattle.machine_model.proofs.CommandsAll.{walk_writes_to, Walking}
 use Rattle.machine_model.proofs.WalksKept.{ListsStay, stay_untouched, stay_walk}
 use Rattle.machine_model.proofs.Caused.{goes_well}
 use Rattle.machine_model.proofs.Carried.{carried}
 use Rattle.machine_model.proofs.Gathered.{Stands}
 use Rattle.machine_model.proofs.RecordsMove.{RecordsMove}
+use Rattle.machine_model.proofs.Moves.{draft_found, draft_lives, posts, posted_is}
+use Rattle.machine_model.proofs.CommandsKept.{submitted_pages}
 
 -- What is known
 
@@ -119,43 +118,14 @@ other_pages s g r r' within within' src far p own = go (is_among r'.data_pages p
 
 source_walk : (s : State) (q cid : ℕ) → refusal_of s (events.Walk q cid) ≡ None → Stood s → (r : Record) → In r s.host.records → asks_source r.work ≡ true → (p : ℕ) → is_among r.data_pages p ≡ true
     → page_at (a.after_walk q cid s).memory p ≡ page_at s.memory p
-source_walk s q cid none stood r within src p own = go (job_at s q cid) refl
+source_walk s q cid none stood r within src p own =
+    walk_writes_to s q cid none stood p (λ j w d. other_pages s stood.grounds r w.list.command within w.list.within src (far j w d) p own)
   where
     -- the walk's own command is a destination's
     far : (j : Job) (w : Walking s q cid j) → direction_of_entry j.entry ≡ Destination → asks_source w.list.command.work ≡ false
     far j w d =
         let kind : direction_of w.list.request.kind ≡ Destination = sym (entry_direction w.list.command.cid w.list.request (spelling w.list.list.first)) ∙ ap direction_of_entry (sym w.list.entry) ∙ d in
         ap asks_source w.list.work ∙ ap is_source kind
-
-    moved : (j : Job) → Walking s q cid j → (dir : Direction) → direction_of_entry j.entry ≡ dir → (act : Act) → a.next_unit s j ≡ Some act → page_at (a.moved dir act q cid s).memory p ≡ page_at s.memory p
-    moved j w dir d Stays u = refl
-    moved j w dir d (Reads place) u = refl
-    moved j w Source d (Moves place n offset) u = refl
-    moved j w Destination d (Moves place n offset) u = at (job_at s q cid)
-      where
-        inside : ActIn (on_pages w.list.command.chain_pages) (on_pages w.list.command.data_pages) (Moves place n offset)
-        inside = unit_in (on_pages w.list.command.chain_pages) (on_pages w.list.command.data_pages) (course_of s j) j.units_done (Moves place n offset) (course_in s j w.list) u
-
-        same_place : (n : ℕ) → n + 0 ≡ n
-        same_place n = omega arith
-
-        elsewhere : place / 4096 ≡ p → ⊥
-        elsewhere same =
-            true≢false (sym (ap (is_among w.list.command.data_pages) (sym same) ∙ subst (λ (x : ℕ). is_among w.list.command.data_pages (page_of x) ≡ true) (same_place place) (inside.2 0 inside.0))
-            ∙ other_pages s stood.grounds r w.list.command within w.list.within src (far j w d) p own)
-
-        at : (o : Option Job) → page_at (option_map_or (λ j. a.on_memory (λ m. with_page_bytes m (place / 4096) (place % 4096) (take n (drop offset j.bytes))) s) o s).memory p ≡ page_at s.memory p
-        at None = refl
-        at (Some j) = bytes_elsewhere s.memory (place / 4096) p (place % 4096) (take n (drop offset j.bytes)) elsewhere
-
-    inner : (j : Job) → Walking s q cid j → (o : Option Act) → a.next_unit s j ≡ o
-        → page_at (option_map_or (λ act. a.on_job q cid (λ k. record k { units_done = k.units_done + 1; verdict = verdict_of (a.next_answer s j) }) (a.moved (direction_of_entry j.entry) act q cid s)) o s).memory p ≡ page_at s.memory p
-    inner j w None u = refl
-    inner j w (Some act) u = moved j w (direction_of_entry j.entry) refl act u
-
-    go : (o : Option Job) → job_at s q cid ≡ o → page_at (option_map_or (λ j. option_map_or (λ act. a.on_job q cid (λ k. record k { units_done = k.units_done + 1; verdict = verdict_of (a.next_answer s j) }) (a.moved (direction_of_entry j.entry) act q cid s)) (a.next_unit s j) s) o s).memory p ≡ page_at s.memory p
-    go None e = refl
-    go (Some j) e = inner j (walking s q cid j none stood e) (a.next_unit s j) refl
 
 pub source_stays : (s : State) (e : Event) (reply : Reply) → Accepts s e reply → Stood s → (r : Record) → In r s.host.records → is_submitted r.phase ≡ true → asks_source r.work ≡ true → (p : ℕ) → is_among r.data_pages p ≡ true
     → page_at (a.after s e reply).memory p ≡ page_at s.memory p
@@ -202,10 +172,7 @@ unsent s d g r at quiet = count (total (sent d.q (λ n. one (n == d.cid))) s.hos
 
 pub submit_record : (s : State) (d : DraftContents) → refusal_of s (events.Submit d) ≡ None
     → (r : Record) × (record_at s.host d.q d.cid ≡ Some r) × (is_of is_drafted d.request (numbers_of d.data_pages) (numbers_of d.chain_pages) r ≡ true)
-submit_record s d none =
-    found (is_of is_drafted d.request (numbers_of d.data_pages) (numbers_of d.chain_pages)) s d.q d.cid
-    (not-false _ (first_fails (not (record_is (is_of is_drafted d.request (numbers_of d.data_pages) (numbers_of d.chain_pages)) s d.q d.cid)) events.Stranger
-    ((is_none d.entry, events.NotBuilt) ∷ (not (in_state is_live s d.q), events.QueueGone) ∷ (queue_full s d.q, events.QueueFull) ∷ []) none))
+submit_record s d none = let x = draft_found s d none in (x.0, x.1.found, x.1.is)
 
 -- so another submitted command's identifier is not the draft's
 other_draft : (s : State) (e : Event) (reply : Reply) → Accepts s e reply → Grounds s → (r : Record) → In r s.host.records → is_submitted r.phase ≡ true → (d : DraftContents) → e ≡ events.Submit d → ((d.q == r.q) && (d.cid == r.cid)) ≡ false
@@ -245,55 +212,11 @@ left_part P (x ∷ xs) ys h = (h.0, left_part P xs ys h.1)
 pub submitted_stand : (s : State) (d : DraftContents) (entry : SubEntry) → refusal_of s (events.Submit d) ≡ None → ArePages d.data_pages → Grounds s
     → AllByRecursion (Stands (a.posted d.q entry (a.on_records (with_record d.q d.cid a.submitted) (a.on_memory (with_pages (d.data_pages ++ d.chain_pages)) s))).memory) d.data_pages
 submitted_stand s d entry none whole g =
-    all_pages m d.data_pages whole
-    (all_named d.data_pages (λ p x. data_of r.0 p (ap (λ (xs : List ℕ). is_among xs p) (sym numbers) ∙ x))
-    (left_part (λ (page : ℕ × List ℕ). page_at (with_pages (d.data_pages ++ d.chain_pages) s.memory) page.0 ≡ Some page.1) d.data_pages d.chain_pages laid))
-  where
-    s1 : State
-    s1 = a.on_records (with_record d.q d.cid a.submitted) (a.on_memory (with_pages (d.data_pages ++ d.chain_pages)) s)
-
-    m : Pages
-    m = (a.posted d.q entry (a.on_records (with_record d.q d.cid a.submitted) (a.on_memory (with_pages (d.data_pages ++ d.chain_pages)) s))).memory
-
-    r : (r : Record) × (record_at s.host d.q d.cid ≡ Some r) × (is_of is_drafted d.request (numbers_of d.data_pages) (numbers_of d.chain_pages) r ≡ true)
-    r = submit_record s d none
-
-    match : (numbers_of (d.data_pages ++ d.chain_pages) ≡ pages_of r.0) × (is_drafted r.0.phase ≡ true)
-    match = pages_match is_drafted d.request d.data_pages d.chain_pages r.0 r.2
-
-    numbers : numbers_of d.data_pages ≡ r.0.data_pages
-    numbers =
-        let abc_d = and_parts (is_drafted r.0.phase && asks_for d.request r.0.work && pointwise nat_eq (numbers_of d.data_pages) r.0.data_pages) (pointwise nat_eq (numbers_of d.chain_pages) r.0.chain_pages) r.2 in
-        let ab_c = and_parts (is_drafted r.0.phase && asks_for d.request r.0.work) (pointwise nat_eq (numbers_of d.data_pages) r.0.data_pages) abc_d.0 in
-        same_lists (numbers_of d.data_pages) r.0.data_pages ab_c.1
-
-    within : In r.0 s.host.records
-    within = in_found (is_at d.q d.cid) s.host.records r.0 r.1
-
-    live : in_state is_live s d.q ≡ true
-    live =
-        not-false _ (first_fails (not (in_state is_live s d.q)) events.QueueGone ((queue_full s d.q, events.QueueFull) ∷ [])
-        (rest_fails (is_none d.entry) events.NotBuilt ((not (in_state is_live s d.q), events.QueueGone) ∷ (queue_full s d.q, events.QueueFull) ∷ [])
-        (rest_fails (not (record_is (is_of is_drafted d.request (numbers_of d.data_pages) (numbers_of d.chain_pages)) s d.q d.cid)) events.Stranger
-        ((is_none d.entry, events.NotBuilt) ∷ (not (in_state is_live s d.q), events.QueueGone) ∷ (queue_full s d.q, events.QueueFull) ∷ []) none)))
-
-    laid : AllByRecursion (λ (page : ℕ × List ℕ). page_at (with_pages (d.data_pages ++ d.chain_pages) s.memory) page.0 ≡ Some page.1) (d.data_pages ++ d.chain_pages)
-    laid = brought (d.data_pages ++ d.chain_pages) s.memory
-        (λ p. omega (arith, ap (times p) match.0, within (in_record p), owned_once _ p s.host g.stands.0))
-        (λ p x. page_below s g r.0 within p (ap (λ (xs : List ℕ). is_among xs p) (sym match.0) ∙ x))
-
-    posts : (p : ℕ) → is_among (pages_of r.0) p ≡ true → PostsElsewhere (a.on_records (with_record d.q d.cid a.submitted) (a.on_memory (with_pages (d.data_pages ++ d.chain_pages)) s)) d.q p
-    posts p x queue e =
-        let pair = pair_at s g d.q queue e in
-        (omega (arith, owned_once _ p s.host g.stands.0, within (in_record p), held_once p (pages_of r.0) x, in_at s.host.queues d.q queue e (in_queue p)), pair.2.sub (live_past queue.state (live_queue s d.q live queue e)), (ring_in s g d.q queue e).tail)
-
-    all_named : (pages : PagesOut) → ((p : ℕ) → is_among (numbers_of pages) p ≡ true → is_among (pages_of r.0) p ≡ true)
-        → AllByRecursion (λ (page : ℕ × List ℕ). page_at (with_pages (d.data_pages ++ d.chain_pages) s.memory) page.0 ≡ Some page.1) pages → AllByRecursion (λ (page : ℕ × List ℕ). page_at m page.0 ≡ Some page.1) pages
-    all_named [] own h = tt
-    all_named (page ∷ pages) own h = (
-      posted_elsewhere d.q entry s1 page.0 (posts page.0 (own page.0 (or_left (page.0 == page.0) (is_among (numbers_of pages) page.0) (eq-eqb page.0 page.0 refl)))) ∙ h.0,
-      all_named pages (λ p x. own p (or_right (page.0 == p) (is_among (numbers_of pages) p) x)) h.1,
-    )
+    let x = draft_found s d none in
+    all_pages (a.posted d.q entry (a.on_records (with_record d.q d.cid a.submitted) (a.on_memory (with_pages (d.data_pages ++ d.chain_pages)) s))).memory d.data_pages whole
+    (subst (λ (t : State). AllByRecursion (λ (page : ℕ × List ℕ). page_at t.memory page.0 ≡ Some page.1) d.data_pages) (posted_is d.q entry (a.on_records (with_record d.q d.cid a.submitted) (a.on_memory (with_pages (d.data_pages ++ d.chain_pages)) s)))
+    (left_part (λ (page : ℕ × List ℕ). page_at (posts d.q entry (a.on_records (with_record d.q d.cid a.submitted) (a.on_memory (with_pages (d.data_pages ++ d.chain_pages)) s))).memory page.0 ≡ Some page.1) d.data_pages d.chain_pages
+    (submitted_pages s d entry x.0 x.1 (draft_lives s d none) g)))
 
 pub records_known : (drafts : List DraftContents) (s : State) (e : Event) (reply : Reply) → IsProper e → Accepts s e reply → Stood s
     → RecordsMove (RecordKnown drafts s.memory) (RecordKnown (submitted_by e reply ++ drafts) (a.after s e reply).memory) s e
@@ -305,7 +228,7 @@ records_known drafts s e reply proper ok stood = record {
       subst (λ (x : Event). IsProper x → Accepts s x reply → OfDraftIfIo (submitted_by x reply ++ drafts) (a.after s x reply).memory (a.submitted r) r.work) (sym is)
       (λ pr ac. new d reply pr ac entry r built at fits r.work refl) proper ok;
   reaps = λ q cid st request r is n x at w known sub. absurd (true≢false (sym sub));
-  loses = λ r within is far known sub. absurd (true≢false (sym sub));
+  loses = λ q r is within same held far known sub. absurd (true≢false (sym sub));
   collects = λ r known sub. absurd (true≢false (sym sub));
 }
   where

@@ -1,5 +1,5 @@
 -- Each event keeps what is known of source commands, and a source's job that went well has its draft's bytes.
-use Rattle.std.proofs.Common.{◌≡◌, inl, ℕ, zero, suc, ◌+◌, ◌≤◌, ◌==◌, nat_lt, Bool, true, false, not, ◌&&◌, ◌||◌, Option, Some, None, List, [], ◌∷◌, ◌++◌, length, take, slice_get, is_none, replicate, refl, ap, sym, ◌∙◌, arith, subst, eqb-true, eq-eqb}
+use Rattle.std.proofs.Common.{◌≡◌, inl, ℕ, zero, suc, ◌+◌, ◌≤◌, ◌==◌, nat_lt, Bool, true, false, not, ◌&&◌, ◌||◌, Option, Some, None, List, [], ◌∷◌, ◌++◌, length, take, slice_get, is_none, replicate, refl, ap, sym, ◌∙◌, arith, subst, eqb-true}
 use Rattle.std.specs.List.{AllByRecursion}
 use Rattle.std.proofs.lemmas.Bool.{true≢false, and_parts}
 use Rattle.std.proofs.lemmas.List.{length-replicate}
@@ -9,7 +9,7 @@ use Rattle.sgl_descriptor.specs.declared.Direction.{Direction}
 use Rattle.sgl_descriptor.specs.declared.Direction.TheVariants.{Source}
 use Rattle.sgl_descriptor.specs.declared.Part.{Part}
 use Rattle.sgl_descriptor.specs.Spelling.{spelling, descriptor_of}
-use Rattle.sgl_descriptor.specs.Targets.{Place, targets}
+use Rattle.sgl_descriptor.specs.Targets.{Target, Place, targets}
 use Rattle.sgl_descriptor.proofs.Counts.{length-targets}
 use Rattle.controller_walk.specs.Walks.{answer}
 use Rattle.controller_walk.specs.Laws.{after_units}
@@ -122,9 +122,9 @@ jobs_known s e reply ok stood = record {
         bytes = c.bytes ∙ sym (still_carried s e reply ok stood j l dir j.units_done (replicate (need_of_entry j.entry) 0));
         over = λ st v. subst (λ (x : Course). length (units x) ≤ j.units_done) (sym (course_stays s e reply ok stood j l)) (c.over st v);
       };
-  fails = λ k j st waiting at far lost known other dir well. absurd (true≢false (sym well ∙ lost));
-  manages = λ j zero other. absurd (true≢false (sym (eq-eqb j.q 0 zero) ∙ other));
-  begins = λ q entry is next not0 other dir well. begun_carries (a.after s e reply) s.device.image (a.image_blocks s) q entry dir (io_fault (a.image_blocks s) entry) refl well;
+  fails = λ k j st waiting at far lost none known other dir well. absurd (true≢false (sym well ∙ lost));
+  manages = λ entry st dw0 is next free other. absurd (true≢false other);
+  begins = λ q entry is next not0 free other dir well. begun_carries (a.after s e reply) s.device.image (a.image_blocks s) q entry dir (io_fault (a.image_blocks s) entry) refl well;
   walks = λ q cid j act is w u known other dir well.
       let c = known other dir (ap goes_well w.verdict) in
       record {
@@ -196,7 +196,7 @@ all_carried s stood j l dir pages numbers stand st v c =
     whole = course_whole s stood j l
 
     to : MovesTo s.memory (targets (direction_of_entry j.entry) (parts_of l.request.pieces l.command.data_pages)) (course_of s j)
-    to = moves_to s.memory (memory_of s.memory) (direction_of_entry j.entry) (need_of_entry j.entry) l.command.chain_pages l.command.data_pages (parts_of l.request.pieces l.command.data_pages)
+    to = moves_to s.memory (memory_of s.memory) (direction_of_entry j.entry) (need_of_entry j.entry) l.command.chain_pages l.command.data_pages (targets (direction_of_entry j.entry) (parts_of l.request.pieces l.command.data_pages))
         (λ p own. page_found s.memory pages stand p (ap (λ (ns : List ℕ). is_among ns p) numbers ∙ own)) (course_of s j) (taken [] (descriptor_of j.entry.sgl1))
         (list_moves_along (memory_of s.memory) j.entry.sgl1 (direction_of_entry j.entry) (need_of_entry j.entry)) whole.takes (course_in s j l)
 
@@ -209,4 +209,4 @@ all_carried s stood j l dir pages numbers stand st v c =
     all : (i p : ℕ) → slice_get (targets (direction_of_entry j.entry) (parts_of l.request.pieces l.command.data_pages)) i ≡ Some (Place p) → MovesByte i (course_of s j)
     all i p target =
         list_moves_all (memory_of s.memory) j.entry.sgl1 (direction_of_entry j.entry) (need_of_entry j.entry) whole.ends i p
-        (ap (λ (ps : List Part). slice_get (targets (direction_of_entry j.entry) ps) i) whole.takes ∙ target)
+        (ap (λ (ts : List Target). slice_get ts i) whole.takes ∙ target)

@@ -1,11 +1,10 @@
 -- How long a Write's bytes and the image stay: what a walk moves lies within the bytes that its entry asks for.
-use Rattle.std.proofs.Common.{◌≡◌, ℕ, zero, suc, ◌+◌, ◌-◌, ◌*◌, ◌/◌, ◌%◌, ◌<◌, ◌≤◌, Bool, true, false, ◌&&◌, Option, Some, None, List, [], ◌∷◌, ◌++◌, length, map, take, drop, slice_get, if◌then◌else◌, refl, ap, ◌∙◌, arith}
+use Rattle.std.proofs.Common.{◌≡◌, ℕ, zero, suc, ◌+◌, ◌-◌, ◌*◌, ◌/◌, ◌%◌, ◌<◌, ◌≤◌, Option, Some, None, List, [], ◌∷◌, ◌++◌, length, take, drop, slice_get, refl, ◌∙◌, arith}
 use Rattle.std.specs.Option.{option_map_or}
-use Rattle.std.proofs.lemmas.Bool.{true≢false}
 use Rattle.std.proofs.lemmas.Grind.{common_steps}
 use Rattle.std.proofs.lemmas.Option.{slice_get_within}
 use Rattle.page_memory.specs.Memory.{Memory}
-use Rattle.page_memory.specs.Pages.{page_at, with_bytes, with_page_bytes}
+use Rattle.page_memory.specs.Pages.{page_at, with_bytes}
 use Rattle.sgl_descriptor.specs.declared.Descriptor.{Descriptor}
 use Rattle.sgl_descriptor.specs.declared.Descriptor.TheVariants.{DataBlock, BitBucket, Segment, LastSegment}
 use Rattle.sgl_descriptor.specs.declared.Direction.{Direction}
@@ -18,85 +17,13 @@ use Rattle.controller_walk.specs.Along.{MovesAlong, taken, descriptor_at}
 use Rattle.controller_walk.specs.declared.walk.WalkState.TheVariants.{End}
 use Rattle.controller_walk.specs.Units.{Stays, Reads, Moves, Course, Closes, Does, units, verdict}
 use Rattle.controller_walk.proofs.Along.{list_moves_along}
-use Rattle.admin_commands.specs.Entries.{admin_entry}
-use Rattle.admin_commands.specs.declared.AdminKind.TheVariants.{Abort, DeleteSq, DeleteCq}
-use Rattle.admin_commands.specs.declared.AdminKind.{AdminKind}
-use Rattle.entry_codec.specs.declared.submission.SubEntry.{SubEntry}
-use Rattle.entry_codec.specs.declared.status.Status.{Status}
-use Rattle.io_commands.specs.Jobs.{is_success, direction_of_entry, need_of_entry}
+use Rattle.io_commands.specs.Jobs.{direction_of_entry, need_of_entry}
 use Rattle.block_image.specs.Blocks.{with_blocks}
-use Rattle.machine_model.specs.Memory.{with_pages, without_pages, memory_of}
-use Rattle.machine_model.specs.Commands.{Work, Io, Management}
-use Rattle.machine_model.specs.State.{State, Device, HostQueue, Submitted, Job, record_at, pages_of, with_record, without_record}
-use Rattle.machine_model.specs.Refusals.{is_retired, host_queue, seen_entry, slot_page, slot_offset}
-use Rattle.machine_model.specs.Step.{IsController}
+use Rattle.machine_model.specs.Memory.{memory_of}
+use Rattle.machine_model.specs.State.{State, Job}
 use Rattle.machine_model.specs.After as a
 use Rattle.machine_model.specs.After.{course_of}
-use Rattle.machine_model.specs.Events as events
-use Rattle.machine_model.specs.Events.{Event, Reply, Reaped}
-use Rattle.machine_model.proofs.Steps.{Accepts}
-use Rattle.machine_model.proofs.Placing.{device-posted}
-
--- The host leaves the image alone
-
-image-option : {A : Type 0} (f : A → State) (o : Option A) (s t : State) → t.device.image ≡ s.device.image → ((x : A) → (f x).device.image ≡ s.device.image) → (option_map_or f o t).device.image ≡ s.device.image
-image-option f None s t h each = h
-image-option f (Some x) s t h each = each x
-
-image-posted : (q : ℕ) (entry : SubEntry) (s : State) → (a.posted q entry s).device.image ≡ s.device.image
-image-posted q entry s = ap (λ (d : Device). d.image) (device-posted q entry s)
-
-image-admin : (adm : AdminKind) (st : Status) (s : State) → (a.after_admin adm st s).device.image ≡ s.device.image
-image-admin (Abort q cid) st s = refl
-image-admin (DeleteSq q) st s = refl
-image-admin (DeleteCq q) st s = go (is_success st && option_map_or (λ queue. is_retired queue.state) (host_queue s q) false) (host_queue s q)
-  where
-    go : (b : Bool) (o : Option HostQueue) → (if b then option_map_or (λ queue. a.on_host_queue q a.gone (a.given_back queue.cq_pages s)) o s else s).device.image ≡ s.device.image
-    go true None = refl
-    go true (Some queue) = refl
-    go false o = refl
-
-image-work : (w : Work) (q cid : ℕ) (st : Status) (s : State) → (a.after_work w q cid st s).device.image ≡ s.device.image
-image-work (Io r) q cid st s = refl
-image-work (Management adm) q cid st s = image-admin adm st (a.on_records (without_record q cid) s)
-
-image-done : (q cid : ℕ) (st : Status) (s : State) → (option_map_or (λ r. a.after_work r.work q cid st (option_map_or (λ e. a.heard q e s) (seen_entry s q) s)) (record_at s.host q cid) s).device.image ≡ s.device.image
-image-done q cid st s =
-    image-option (λ r. a.after_work r.work q cid st (option_map_or (λ e. a.heard q e s) (seen_entry s q) s)) (record_at s.host q cid) s s refl
-    (λ r. image-work r.work q cid st (option_map_or (λ e. a.heard q e s) (seen_entry s q) s) ∙ image-option (λ e. a.heard q e s) (seen_entry s q) s s refl (λ e. refl))
-
-image-reap : (q : ℕ) (what : Reaped) (s : State) → (a.after_reap q what s).device.image ≡ s.device.image
-image-reap q events.Empty s = refl
-image-reap q (events.Rejected why) s = refl
-image-reap q (events.Done cid st) s = image-done q cid st s
-image-reap q (events.AdminDone cid st dw0) s = image-done q cid st s
-
-pub host_image : (s : State) (e : Event) (reply : Reply) → Accepts s e reply → IsController e ≡ false → (a.after s e reply).device.image ≡ s.device.image
-host_image s e (events.Refused why touched) ok c = refl
-host_image s (events.Reserve q r) (events.Reserved d) ok c = refl
-host_image s (events.Submit d) events.Accepted ok c =
-    image-option (λ entry. a.posted d.q entry (a.on_records (with_record d.q d.cid a.submitted) (a.on_memory (with_pages (d.data_pages ++ d.chain_pages)) s))) d.entry s s refl
-    (λ entry. image-posted d.q entry (a.on_records (with_record d.q d.cid a.submitted) (a.on_memory (with_pages (d.data_pages ++ d.chain_pages)) s)))
-host_image s (events.Cancel d) events.Accepted ok c = refl
-host_image s (events.Ring q) events.Accepted ok c = refl
-host_image s (events.Reap q) (events.Reaps what) ok c = image-reap q what s
-host_image s (events.Collect q cid) (events.Collects f) ok c =
-    image-option (λ r. a.on_records (with_record q cid a.collected) (a.on_memory (without_pages (pages_of r)) s)) (record_at s.host q cid) s s refl (λ r. refl)
-host_image s (events.Release f) events.Accepted ok c = refl
-host_image s (events.Abort q cid) (events.Sent id) ok c =
-    image-posted 0 (admin_entry (Abort q cid) id) (a.on_records (λ records. records ++ record { q = 0; cid = id; phase = Submitted; work = Management (Abort q cid); data_pages = []; chain_pages = []; status = None } ∷ []) s)
-host_image s (events.DeleteSq q) (events.Sent id) ok c =
-    image-posted 0 (admin_entry (DeleteSq q) id) (a.on_records (λ records. records ++ record { q = 0; cid = id; phase = Submitted; work = Management (DeleteSq q); data_pages = []; chain_pages = []; status = None } ∷ []) s)
-host_image s (events.DeleteCq q) (events.Sent id) ok c =
-    image-posted 0 (admin_entry (DeleteCq q) id) (a.on_records (λ records. records ++ record { q = 0; cid = id; phase = Submitted; work = Management (DeleteCq q); data_pages = []; chain_pages = []; status = None } ∷ []) s)
-host_image s (events.Retire q) events.Accepted ok c =
-    image-option (λ queue. a.on_host_queue q a.retired (a.given_back queue.sq_pages (a.on_records (λ records. map (a.lost q) records) s))) (host_queue s q) s (a.on_records (λ records. map (a.lost q) records) s) refl (λ queue. refl)
-host_image s (events.Forge q slot bytes) events.Accepted ok c =
-    image-option (λ queue. record (a.on_memory (λ m. with_page_bytes m (slot_page queue.cq_pages 16 slot) (slot_offset 16 slot) bytes) s) { trusted = false }) (host_queue s q) s s refl (λ queue. refl)
-host_image s (events.Fetch q) reply ok c = absurd (true≢false c)
-host_image s (events.Walk q cid) reply ok c = absurd (true≢false c)
-host_image s (events.Complete q cid) reply ok c = absurd (true≢false c)
-host_image s e reply ok c = absurd ok.1
+pub use Rattle.machine_model.proofs.Frames.{host_image}
 
 -- What is put within a list leaves it as long
 

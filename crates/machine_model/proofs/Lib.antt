@@ -15,6 +15,9 @@ pub mod Parts
 pub mod Steps
 pub mod Owned
 pub mod Refused
+pub mod Moves
+pub mod DeviceMoves
+pub mod Frames
 pub mod Taken
 pub mod Sound
 pub mod Opening
@@ -30,6 +33,7 @@ pub mod Placed
 pub mod Placing
 pub mod Standing
 pub mod Trusted
+pub mod Halves
 pub mod Paired
 pub mod Tying
 pub mod Tied
@@ -38,6 +42,7 @@ pub mod TiedReap
 pub mod TiedAll
 pub mod Backed
 pub mod BackedAll
+pub mod Along
 pub mod Grounds
 pub mod Untouched
 pub mod Entered
@@ -61,6 +66,9 @@ pub mod CausedKept
 pub mod EveryStatus
 pub mod Blind
 pub mod Histories
+pub mod Flag
+pub mod Unforged
+pub mod NeverRestored
 pub mod Carried
 pub mod Gathered
 pub mod RecordsMove

@@ -7,6 +7,7 @@ use Rattle.machine_model.specs.Image.{Made}
 use Rattle.machine_model.specs.Laws.{Steps}
 use Rattle.machine_model.specs.Opening.{opening}
 use Rattle.machine_model.specs.InOrder.{runs_are_made}
+use Rattle.machine_model.proofs.NeverRestored.{ends_unforged}
 
 -- the steps of a run from anywhere
 record MadeAs (s : State) (es : List Event) (replies : List Reply) (end : State) : Type 0 where
@@ -35,5 +36,5 @@ run_is_made pages queues n s image es replies end opens bytes run trusted =
       made = m.made;
       happened = m.happened;
       answered = m.answered;
-      run = record { pages = pages; queues = queues; entries = n; segment = s; opens = opens; is_image = bytes; steps = m.steps; trusted = trusted };
+      run = record { pages = pages; queues = queues; entries = n; segment = s; opens = opens; is_image = bytes; steps = m.steps; unforged = ends_unforged m.made (opening pages queues n s image) end m.steps trusted };
     }

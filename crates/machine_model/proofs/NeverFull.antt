@@ -1,5 +1,5 @@
 -- Where nothing was forged no ring is full and no slot's page is out.
-use Rattle.std.proofs.Common.{◌≡◌, ℕ, ◌-◌, ◌<◌, ◌≤◌, ◌==◌, nat_lt, nat_le, Bool, true, false, not, ◌||◌, Option, Some, None, List, [], ◌∷◌, ◌++◌, length, slice_get, is_some, is_none, All, IsTrue, MatchBool, if◌then◌else◌, refl, ap, sym, ◌∙◌, arith, ltb-true}
+use Rattle.std.proofs.Common.{◌≡◌, ℕ, ◌-◌, ◌<◌, ◌≤◌, ◌==◌, nat_lt, nat_le, Bool, true, false, not, Option, Some, None, List, [], ◌∷◌, ◌++◌, length, slice_get, is_some, is_none, All, IsTrue, if◌then◌else◌, refl, ap, sym, ◌∙◌, arith, ltb-true}
 use Rattle.std.specs.Option.{option_map_or}
 use Rattle.std.specs.List.{AllByRecursion}
 use Rattle.std.proofs.lemmas.Bool.{true≢false, not-false, and_parts, or_parts}
@@ -16,13 +16,12 @@ use Rattle.queue_pair.specs.Slots.{is_full as ring_is_full, distance}
 use Rattle.machine_model.specs.Proper.{IsProper}
 use Rattle.machine_model.specs.Memory.{is_in}
 use Rattle.machine_model.specs.State.{State, HostQueue, DeviceQueue, Job, Answer, is_at, outstanding_on}
-use Rattle.machine_model.specs.Refusals.{causes, is_live, is_drafted, is_of, is_retired, is_gone, record_is, in_state, queue_full, no_identifier, no_io_queue, host_queue, device_queue, next_rung, job_at, conflicts, answers_full, fetch_page, post_page}
+use Rattle.machine_model.specs.Refusals.{causes, is_live, is_drafted, is_of, has_sq, has_cq, record_is, in_state, queue_full, no_identifier, no_io_queue, host_queue, device_queue, next_rung, job_at, conflicts, answers_full, fetch_page, post_page}
 use Rattle.machine_model.specs.Touch.{pages_of_queue}
 use Rattle.machine_model.specs.Step.{Permits, Refuses, IsController}
 use Rattle.machine_model.specs.Image.{Made}
-use Rattle.machine_model.specs.Laws.{Steps, is_full, rings_are_never_full}
+use Rattle.machine_model.specs.Laws.{is_full, rings_are_never_full}
 use Rattle.machine_model.specs.After as a
-use Rattle.machine_model.specs.Opening.{opening}
 use Rattle.machine_model.specs.Events as events
 use Rattle.machine_model.specs.Events.{Event, Reply, Refusal}
 use Rattle.machine_model.proofs.Counting.{one, times-append, held_once}
@@ -37,10 +36,11 @@ use Rattle.machine_model.proofs.Paired.{linked_from_tied}
 use Rattle.machine_model.proofs.Touching.{IsLinked, fetch_stays_in, post_stays_in, rung_there}
 use Rattle.machine_model.proofs.Placed.{is_job, find_sound}
 use Rattle.machine_model.proofs.Tied.{tied_from_fit}
-use Rattle.machine_model.proofs.Members.{in_at, in_found}
+use Rattle.machine_model.proofs.Members.{all_append, in_at, in_found}
 use Rattle.machine_model.proofs.Elsewhere.{owned_once}
-use Rattle.machine_model.proofs.Grounds.{Grounds, each_proper_step, trusted_at_first}
-use Rattle.machine_model.proofs.Untouched.{live_past, live_queue}
+use Rattle.machine_model.proofs.Along.{Keeps, each_proper_step, run_along}
+use Rattle.machine_model.proofs.Grounds.{Grounds}
+use Rattle.machine_model.proofs.Untouched.{live_queue}
 use Rattle.machine_model.proofs.Served.{Stood, job_weight, answers_at}
 use Rattle.machine_model.proofs.PlacesKept.{ids_of, drafted_not}
 use Rattle.machine_model.proofs.Placements.{in_hand}
@@ -48,6 +48,8 @@ use Rattle.machine_model.proofs.WalksKept.{stood_on, stood_at_opening}
 use Rattle.machine_model.proofs.Heads.{sent_count, sent_outstanding, few_outstanding, length_outstanding, total_ones}
 use Rattle.machine_model.proofs.HeadsKept.{HeadsS, drafted_room}
 use Rattle.machine_model.proofs.HeadsAll.{heads_event, heads_at_opening, no_conflict}
+use Rattle.machine_model.proofs.Moves.{queue_known}
+use Rattle.machine_model.proofs.Halves.{live_has_sq}
 
 pub record Roomy (s : State) : Type 0 where
   pub stood : Stood s
@@ -90,7 +92,7 @@ not_full s r q live there room = go (host_queue s q) refl there
     go : (o : Option HostQueue) → host_queue s q ≡ o → is_some o ≡ true → option_map_or (λ queue. ring_is_full s.entries queue.ring.known_head queue.ring.tail) o true ≡ false
     go None e h = absurd (true≢false (sym h))
     go (Some queue) e h =
-        far (distance s.entries queue.ring.known_head queue.ring.tail) (s.entries - 1) (omega (arith, room, (r.heads.behind q queue e (live_past queue.state (live queue e))).known))
+        far (distance s.entries queue.ring.known_head queue.ring.tail) (s.entries - 1) (omega (arith, room, (r.heads.behind q queue e (live_has_sq queue.state (live queue e))).known))
 
 zero_there : {A : Type 0} (xs : List A) (q : ℕ) → is_none (slice_get xs q) ≡ false → is_some (slice_get xs 0) ≡ true
 zero_there [] q h = absurd (true≢false h)
@@ -107,7 +109,7 @@ zero_room s r q there room =
 
 no_io_there : (s : State) (q : ℕ) → no_io_queue s q ≡ false → is_none (host_queue s q) ≡ false
 no_io_there s q h =
-    (or_parts (q == 0) (is_none (host_queue s q)) (or_parts ((q == 0) || is_none (host_queue s q)) (in_state is_retired s q) (or_parts ((q == 0) || is_none (host_queue s q) || in_state is_retired s q) (in_state is_gone s q) h).0).0).1
+    queue_known has_sq s q (or_parts (q == 0) (not (in_state has_sq s q)) h).1
 
 linked : (s : State) → Roomy s → IsLinked s
 linked s r = linked_from_tied s r.stood.grounds.rings (tied_from_fit s r.stood.grounds.fit)
@@ -205,7 +207,7 @@ no_cause s r (events.DeleteCq q) = (
       (λ t. refl),
       λ room. (
         (λ t. absurd (true≢false (sym t ∙ zero_room s r q
-            (or_parts (q == 0) (is_none (host_queue s q)) (or_parts ((q == 0) || is_none (host_queue s q)) (in_state is_gone s q) there).0).1 room))),
+            (queue_known has_cq s q (or_parts (q == 0) (not (in_state has_cq s q)) there).1) room))),
         λ f. tt,
       ),
     ),
@@ -265,11 +267,15 @@ reply_not_full s r t e reply h = refl
 pub roomy_on : (s : State) (e : Event) (reply : Reply) → IsProper e → Accepts s e reply → s.trusted ≡ true → Roomy s → Roomy (a.after s e reply)
 roomy_on s e reply pr ok t r = record { stood = stood_on s e reply pr ok t r.stood; heads = heads_event s e reply pr ok t r.stood r.heads }
 
-each_made : (made : List Made) (s end : State) → Steps s made end → end.trusted ≡ true → Roomy s → AllByRecursion (λ m. IsTrue (not (is_full m.reply))) made
-each_made [] s end steps t r = tt
-each_made (m ∷ made) s end (is, mid, step, rest) t r =
-    let now = trusted_at_first (m ∷ made) s end (is, mid, step, rest) t in
-    (ap not (reply_not_full s r now m.event m.reply step.1), each_made made mid end rest t (each_proper_step Roomy roomy_on s m.event m.reply mid step now (trusted_at_first made mid end rest t) r))
+record SoRoomy (done : List Made) (s : State) : Type 0 where
+  pub replies : AllByRecursion (λ m. IsTrue (not (is_full m.reply))) done
+  pub roomy : Roomy s
+
+keeps_room : Keeps SoRoomy
+keeps_room done m new step t u h = record {
+  replies = all_append (λ m. IsTrue (not (is_full m.reply))) done (m ∷ []) h.replies (ap not (reply_not_full m.before h.roomy t m.event m.reply step.1), tt);
+  roomy = each_proper_step Roomy roomy_on m.before m.event m.reply new step t u h.roomy;
+}
 
 all_of : {A : Type 0} (P : A → Type 0) (xs : List A) → AllByRecursion P xs → All P xs
 all_of P [] h = All-nil P
@@ -278,5 +284,7 @@ all_of P (x ∷ xs) h = All-cons P x xs h.0 (all_of P xs h.1)
 pub runs_have_room : rings_are_never_full
 runs_have_room image made end run =
     all_of (λ m. IsTrue (not (is_full m.reply))) made
-    (each_made made (opening run.pages run.queues run.entries run.segment image) end run.steps run.trusted
-    (record { stood = stood_at_opening run.pages run.queues run.entries run.segment image run.opens; heads = heads_at_opening run.pages run.queues run.entries run.segment image run.opens }))
+    (run_along SoRoomy keeps_room image (λ pages queues n s opens. record {
+      replies = tt;
+      roomy = record { stood = stood_at_opening pages queues n s image opens; heads = heads_at_opening pages queues n s image opens };
+    }) made end run).replies

@@ -72,14 +72,26 @@ pub in_limits : (pages queues n s : ℕ) → Opens pages queues n s → is_confi
 in_limits pages queues n s opens =
     not-false _ (first_fails (not (is_config pages queues n s)) BadConfig ((nat_lt pages (pages_of_queues queues n), NoPages (pages_of_queues queues n) pages) ∷ []) opens)
 
-pub limits_say : (pages queues n s : ℕ) → is_config pages queues n s ≡ true → (0 < n) × (queues < 65536)
-limits_say pages queues n s h =
+pub record Limits (pages queues n s : ℕ) : Type 0 where
+  pub pages_most : pages ≤ 65536
+  pub queues_most : queues ≤ 64
+  pub entries_least : 2 ≤ n
+  pub segment_least : 2 ≤ s
+  pub segment_most : s ≤ 256
+
+pub limits_of : (pages queues n s : ℕ) → is_config pages queues n s ≡ true → Limits pages queues n s
+limits_of pages queues n s h =
     let a = and_parts (nat_le 8 pages && nat_le pages 65536 && nat_le 1 queues && nat_le queues 64 && nat_le 2 n && nat_le n 1024 && nat_le 2 s) (nat_le s 256) h in
     let b = and_parts (nat_le 8 pages && nat_le pages 65536 && nat_le 1 queues && nat_le queues 64 && nat_le 2 n && nat_le n 1024) (nat_le 2 s) a.0 in
     let c = and_parts (nat_le 8 pages && nat_le pages 65536 && nat_le 1 queues && nat_le queues 64 && nat_le 2 n) (nat_le n 1024) b.0 in
     let d = and_parts (nat_le 8 pages && nat_le pages 65536 && nat_le 1 queues && nat_le queues 64) (nat_le 2 n) c.0 in
     let e = and_parts (nat_le 8 pages && nat_le pages 65536 && nat_le 1 queues) (nat_le queues 64) d.0 in
-    (omega (arith, leb-true 2 n d.1), omega (arith, leb-true queues 64 e.1))
+    let f = and_parts (nat_le 8 pages && nat_le pages 65536) (nat_le 1 queues) e.0 in
+    let g = and_parts (nat_le 8 pages) (nat_le pages 65536) f.0 in
+    record { pages_most = leb-true pages 65536 g.1; queues_most = leb-true queues 64 e.1; entries_least = leb-true 2 n d.1; segment_least = leb-true 2 s b.1; segment_most = leb-true s 256 a.1 }
+
+pub limits_say : (pages queues n s : ℕ) → is_config pages queues n s ≡ true → (0 < n) × (queues < 65536)
+limits_say pages queues n s h = let l = limits_of pages queues n s h in (omega (arith, l.entries_least), omega (arith, l.queues_most))
 
 pub holds_at_opening : (pages queues n s : ℕ) (image : List ℕ) → FitsPool pages queues n → HoldsPart (host_part (opening pages queues n s image))
 holds_at_opening pages queues n s image fits =

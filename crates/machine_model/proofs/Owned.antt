@@ -14,9 +14,6 @@ use Rattle.machine_model.proofs.Counting.{one, times-append, times-cons}
 use Rattle.machine_model.proofs.Parts.{length-in_store}
 use Rattle.machine_model.proofs.Totals.{total, total-append, total-map, total_without, total-filter, here, times-outstanding}
 
-abbrev pub halves : HostQueue → List ℕ
-halves queue = queue.sq_pages ++ queue.cq_pages
-
 abbrev pub in_queue : ℕ → HostQueue → ℕ
 in_queue p queue = times p queue.sq_pages + times p queue.cq_pages
 

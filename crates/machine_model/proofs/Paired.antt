@@ -4,8 +4,8 @@ use Rattle.std.specs.Option.{option_map_or}
 use Rattle.std.proofs.lemmas.Bool.{true≢false, and_parts}
 use Rattle.machine_model.proofs.Managed.{absent}
 use Rattle.admin_commands.specs.Verdicts.{is_absent}
-use Rattle.machine_model.specs.State.{State, HostQueue, HostState, Live, Deleting, Retired, Gone, DeviceQueue, Job}
-use Rattle.machine_model.specs.Refusals.{job_at, is_gone}
+use Rattle.machine_model.specs.State.{State, HostQueue, DeviceQueue, Job}
+use Rattle.machine_model.specs.Refusals.{job_at}
 use Rattle.machine_model.specs.After.{change, cq_there}
 use Rattle.machine_model.proofs.Touching.{IsLinked}
 use Rattle.machine_model.proofs.Counting.{one}
@@ -16,7 +16,8 @@ use Rattle.page_memory.specs.declared.page.Half.TheVariants.{Submission, Complet
 use Rattle.machine_model.specs.Step.{host_part}
 use Rattle.machine_model.specs.Positions.{IsInRing}
 use Rattle.machine_model.proofs.Positions.{InRings, all_at}
-pub use Rattle.machine_model.specs.Agreeing.{is_given_back as is_past, is_known_deleted as is_over, QueueFits as PairOk, QueuesFit as Paired, on_queue}
+pub use Rattle.machine_model.specs.Agreeing.{is_known_deleted as is_over, QueueFits as PairOk, QueuesFit as Paired, on_queue}
+use Rattle.machine_model.proofs.Halves.{sq_stays, cq_stays}
 
 pub paired_host : (n k : ℕ) (f : HostQueue → HostQueue) (hs : List HostQueue) (ds : List DeviceQueue)
     → ((h : HostQueue) (d : DeviceQueue) → slice_get hs k ≡ Some h → slice_get ds k ≡ Some d → PairOk n h d → PairOk n (f h) d) → Paired n hs ds → Paired n (change k f hs) ds
@@ -63,18 +64,6 @@ there_queue s q h = go (slice_get s.device.queues q) refl h
     go None e h = absurd (true≢false h)
     go (Some d) e h = (d, e, h)
 
-past_over : (st : HostState) → (is_over st ≡ true → ⊥) → is_past st ≡ false
-past_over Live far = refl
-past_over (Deleting noted) far = refl
-past_over Retired far = absurd (far refl)
-past_over Gone far = absurd (far refl)
-
-gone_case : (st : HostState) → (is_gone st ≡ true → ⊥) → is_gone st ≡ false
-gone_case Live far = refl
-gone_case (Deleting noted) far = refl
-gone_case Retired far = refl
-gone_case Gone far = absurd (far refl)
-
 completion_queue : (s : State) (q : ℕ) → cq_there s q ≡ true → (d : DeviceQueue) × (slice_get s.device.queues q ≡ Some d) × (d.cq_there ≡ true)
 completion_queue s q h = go (slice_get s.device.queues q) refl h
   where
@@ -90,12 +79,12 @@ linked_from_tied s rings tied = record {
       let d = there_queue s q there in
       let p = paired_at s.entries q s.host.queues s.device.queues d.0 d.1 tied.pairs in
       let same : p.0 ≡ queue = cc (p.1, e) in
-      subst (λ (h : HostQueue). length h.sq_pages ≡ half_pages s.entries Submission) same (p.2.sub (past_over p.0.state (λ o. true≢false (sym (p.2.over o) ∙ d.2))));
+      subst (λ (h : HostQueue). length h.sq_pages ≡ half_pages s.entries Submission) same (p.2.sub (sq_stays p.0.state (λ o. true≢false (sym (p.2.over o) ∙ d.2))));
   completion_whole = λ q queue e there.
       let d = completion_queue s q there in
       let p = paired_at s.entries q s.host.queues s.device.queues d.0 d.1 tied.pairs in
       let same : p.0 ≡ queue = cc (p.1, e) in
-      subst (λ (h : HostQueue). length h.cq_pages ≡ half_pages s.entries Completion) same (p.2.comp (gone_case p.0.state (λ o. true≢false (sym d.2 ∙ p.2.gone o))));
+      subst (λ (h : HostQueue). length h.cq_pages ≡ half_pages s.entries Completion) same (p.2.comp (cq_stays p.0.state (λ o. true≢false (sym d.2 ∙ p.2.gone o))));
   known = λ q there.
       let d = there_queue s q there in
       let p = paired_at s.entries q s.host.queues s.device.queues d.0 d.1 tied.pairs in

@@ -23,10 +23,6 @@ all-more : {A : Type 0} (P : A → Type 0) (xs : List A) (x : A) → AllByRecurs
 all-more P [] x all h = (h, tt)
 all-more P (y ∷ xs) x all h = (all.0, all-more P xs x all.1 h)
 
--- records change, and what is known of admin commands stays
-pub Tells : List Record → List Record → Type 0
-Tells rs rs' = (c : ℕ) (adm : AdminKind) → Knows rs c adm → Knows rs' c adm
-
 pub placed_records : (rs rs' : List Record) (un : List SubEntry) (js : List Job) (ans : List Answer) (ds : List DeviceQueue)
     → ((c : ℕ) → total (here 0 c) rs ≤ total (here 0 c) rs') → ((c : ℕ) (adm : AdminKind) → Knows rs c adm → Knows rs' c adm)
     → Placed rs un js ans ds → Placed rs' un js ans ds

@@ -1,31 +1,25 @@
 -- Each event keeps the entries of a queue's commands in as many places as it has submitted commands.
-use Rattle.std.proofs.Common.{◌≡◌, ℕ, zero, ◌+◌, ◌-◌, ◌≤◌, ◌==◌, nat_lt, Bool, true, false, not, ◌&&◌, Option, Some, None, List, [], ◌∷◌, ◌++◌, map, filter, find, take, drop, ◌/◌, ◌%◌, slice_get, is_none, option_and_then, if◌then◌else◌, refl, ap, sym, ◌∙◌, arith, subst, eqb-true}
-use Rattle.std.specs.Option.{option_map_or}
+use Rattle.std.proofs.Common.{◌≡◌, ℕ, zero, ◌+◌, ◌-◌, ◌≤◌, ◌==◌, nat_lt, Bool, true, false, not, ◌&&◌, Option, Some, None, List, [], ◌∷◌, ◌++◌, map, filter, find, drop, slice_get, is_none, option_and_then, if◌then◌else◌, refl, ap, sym, ◌∙◌, arith, subst, eqb-true}
 use Rattle.std.proofs.lemmas.Bool.{true≢false, and_parts}
-use Rattle.controller_walk.specs.Units.{Act, Stays, Reads, Moves}
-use Rattle.sgl_descriptor.specs.declared.Direction.{Direction}
-use Rattle.sgl_descriptor.specs.declared.Direction.TheVariants.{Destination, Source}
 use Rattle.admin_commands.specs.Entries.{named_queue, named_command}
 use Rattle.admin_commands.specs.declared.SqState.TheVariants.{Absent, Stopping}
 use Rattle.admin_commands.specs.Verdicts.{is_live as is_running}
 use Rattle.entry_codec.specs.declared.submission.SubEntry.{SubEntry}
 use Rattle.entry_codec.specs.declared.status.Status.{Status}
 use Rattle.entry_codec.specs.declared.status.TheConstants.Status.{COMMAND_ID_CONFLICT, ABORT_REQUESTED, ABORTED_SQ_DELETION}
-use Rattle.entry_codec.specs.declared.admin_opcode.TheConstants.{DELETE_IO_SQ}
-use Rattle.io_commands.specs.Jobs.{is_success, verdict_of, io_fault, bytes_after_check, direction_of_entry}
-use Rattle.page_memory.specs.Pages.{with_bytes, with_page_bytes}
+use Rattle.io_commands.specs.Jobs.{io_fault, bytes_after_check}
 use Rattle.machine_model.specs.State.{State, Device, HostQueue, DeviceQueue, Record, Job, Answer}
-use Rattle.machine_model.specs.Refusals.{device_queue, next_rung, job_at, fetch_slot, first_answer, conflicts}
+use Rattle.machine_model.specs.Refusals.{device_queue, next_rung, job_at, first_answer}
 use Rattle.machine_model.specs.After as a
 use Rattle.machine_model.specs.After.{change}
 use Rattle.machine_model.specs.Standing.{unfetched_at}
 use Rattle.machine_model.proofs.Totals.{total, total-append, total-map, total-filter}
-use Rattle.machine_model.proofs.Placing.{device-answered}
 use Rattle.machine_model.proofs.Placed.{is_job}
 use Rattle.machine_model.proofs.Managed.{managed_by_case}
 use Rattle.machine_model.proofs.Members.{sent}
 use Rattle.machine_model.proofs.Served.{Places, past_at, answers_at, unfetched_count, job_weight}
 use Rattle.machine_model.proofs.Queues.{list_same, more_at, less_at}
+use Rattle.machine_model.proofs.DeviceMoves.{answers, answer_of, unit_done, finished, cleared, fetch_by, walk_by, complete_by}
 
 -- Weights
 
@@ -205,66 +199,22 @@ fetches_managed hs s e =
     decided t less st dw0 = fetches_decided hs s t 0 e st dw0 refl less
 
 pub lessens_fetch : (hs : List HostQueue) (s : State) (q : ℕ) → ((e : SubEntry) → InHand s q e → past_at hs q ≡ false) → Lessens hs s.device.queues s.device.jobs (a.after_fetch q s).device.queues (a.after_fetch q s).device.jobs
-lessens_fetch hs s q past k w = go (next_rung s q) refl
+lessens_fetch hs s q past k w =
+    fetch_by (λ (t : State). load k w hs t.device.queues t.device.jobs ≤ load k w hs s.device.queues s.device.jobs) s q (omega arith)
+    (λ e n c. omega (arith, off e n, answered_load hs (a.taken_off q s).device.queues s.device.jobs q (answer_of q e.cid COMMAND_ID_CONFLICT 0 (a.taken_off q s)) k w))
+    (λ e n c z. let off' = subst (λ (n : ℕ). load k w hs (change n (λ at. record at { unfetched = drop 1 at.unfetched; rung = at.rung - 1 }) s.device.queues) s.device.jobs + (if n == k then w e.cid else 0) ≤ load k w hs s.device.queues s.device.jobs) z (off e n) in
+    omega (arith, off', fetches_managed hs s e k w))
+    (λ e n c other. let t = a.taken_off q s in
+    omega (arith, off e n, job_load hs t.device.queues t.device.jobs (a.new_job q e (io_fault (a.image_blocks t) e) 0 (bytes_after_check t.device.image e (io_fault (a.image_blocks t) e))) k w))
   where
-    inner : (e : SubEntry) → InHand s q e → (b z : Bool) → (q == 0) ≡ z
-        → load k w hs (if b then a.answered q e.cid COMMAND_ID_CONFLICT 0 (a.taken_off q s) else if z then a.managed e (a.taken_off 0 s) else a.begun q e (a.taken_off q s)).device.queues
-        (if b then a.answered q e.cid COMMAND_ID_CONFLICT 0 (a.taken_off q s) else if z then a.managed e (a.taken_off 0 s) else a.begun q e (a.taken_off q s)).device.jobs ≤ load k w hs s.device.queues s.device.jobs
-    inner e hand true z is0 =
-        let off = taken_off_load hs s q e hand (past e hand) k w in
-        let an : Answer = record { cid = e.cid; status = COMMAND_ID_CONFLICT; dw0 = 0; sq_head = fetch_slot (a.taken_off q s) q } in
-        let more = answered_load hs (a.taken_off q s).device.queues s.device.jobs q an k w in
-        subst (λ (d : Device). load k w hs d.queues d.jobs ≤ load k w hs s.device.queues s.device.jobs) (sym (device-answered q e.cid COMMAND_ID_CONFLICT 0 (a.taken_off q s))) (omega (arith, off, more))
-    inner e hand false true is0 =
-        let zero' : q ≡ 0 = eqb-true q 0 is0 in
-        let off = taken_off_load hs s q e hand (past e hand) k w in
-        let off' = subst (λ (n : ℕ). load k w hs (change n (λ at. record at { unfetched = drop 1 at.unfetched; rung = at.rung - 1 }) s.device.queues) s.device.jobs + (if n == k then w e.cid else 0) ≤ load k w hs s.device.queues s.device.jobs) zero' off in
-        omega (arith, off', fetches_managed hs s e k w)
-    inner e hand false false is0 =
-        let off = taken_off_load hs s q e hand (past e hand) k w in
-        let t = a.taken_off q s in
-        omega (arith, off, job_load hs t.device.queues t.device.jobs (a.new_job q e (io_fault (a.image_blocks t) e) 0 (bytes_after_check t.device.image e (io_fault (a.image_blocks t) e))) k w)
-
-    go : (o : Option SubEntry) → next_rung s q ≡ o
-        → load k w hs (option_map_or (λ e. if conflicts s q then a.answered q e.cid COMMAND_ID_CONFLICT 0 (a.taken_off q s) else if q == 0 then a.managed e (a.taken_off 0 s) else a.begun q e (a.taken_off q s)) o s).device.queues
-        (option_map_or (λ e. if conflicts s q then a.answered q e.cid COMMAND_ID_CONFLICT 0 (a.taken_off q s) else if q == 0 then a.managed e (a.taken_off 0 s) else a.begun q e (a.taken_off q s)) o s).device.jobs ≤ load k w hs s.device.queues s.device.jobs
-    go None n = omega arith
-    go (Some e) n = inner e (in_hand s q e n) (conflicts s q) (q == 0) refl
-
--- Walking
-
-pub lessens_moved : (hs : List HostQueue) (dir : Direction) (act : Act) (q cid : ℕ) (s : State) → Lessens hs s.device.queues s.device.jobs (a.moved dir act q cid s).device.queues (a.moved dir act q cid s).device.jobs
-lessens_moved hs dir Stays q cid s k w = omega arith
-lessens_moved hs dir (Reads place) q cid s k w = omega arith
-lessens_moved hs Destination (Moves place n offset) q cid s k w = go (job_at s q cid)
-  where
-    go : (o : Option Job) → load k w hs (option_map_or (λ j. a.on_memory (λ m. with_page_bytes m (place / 4096) (place % 4096) (take n (drop offset j.bytes))) s) o s).device.queues
-        (option_map_or (λ j. a.on_memory (λ m. with_page_bytes m (place / 4096) (place % 4096) (take n (drop offset j.bytes))) s) o s).device.jobs ≤ load k w hs s.device.queues s.device.jobs
-    go None = omega arith
-    go (Some j) = omega arith
-lessens_moved hs Source (Moves place n offset) q cid s k w =
-    let f : Job → Job = λ j. record j { bytes = with_bytes j.bytes offset (a.page_bytes s.memory place n) } in
-    lessens_jobs hs s.device.queues s.device.jobs (λ j. if (j.q == q) && (j.entry.cid == cid) then f j else j) (on_job_q q cid f (λ j. refl)) (on_job_entry q cid f (λ j. refl)) k w
+    off : (e : SubEntry) → next_rung s q ≡ Some e
+        → load k w hs (change q (λ at. record at { unfetched = drop 1 at.unfetched; rung = at.rung - 1 }) s.device.queues) s.device.jobs + (if q == k then w e.cid else 0) ≤ load k w hs s.device.queues s.device.jobs
+    off e n = taken_off_load hs s q e (in_hand s q e n) (past e (in_hand s q e n)) k w
 
 pub lessens_walk : (hs : List HostQueue) (q cid : ℕ) (s : State) → Lessens hs s.device.queues s.device.jobs (a.after_walk q cid s).device.queues (a.after_walk q cid s).device.jobs
-lessens_walk hs q cid s k w = go (job_at s q cid)
-  where
-    inner : (j : Job) (o : Option Act) → load k w hs (option_map_or (λ act. a.on_job q cid (λ k. record k { units_done = k.units_done + 1; verdict = verdict_of (a.next_answer s j) }) (a.moved (direction_of_entry j.entry) act q cid s)) o s).device.queues
-        (option_map_or (λ act. a.on_job q cid (λ k. record k { units_done = k.units_done + 1; verdict = verdict_of (a.next_answer s j) }) (a.moved (direction_of_entry j.entry) act q cid s)) o s).device.jobs ≤ load k w hs s.device.queues s.device.jobs
-    inner j None = omega arith
-    inner j (Some act) =
-        let t = a.moved (direction_of_entry j.entry) act q cid s in
-        let f : Job → Job = λ k. record k { units_done = k.units_done + 1; verdict = verdict_of (a.next_answer s j) } in
-        omega (
-          arith,
-          lessens_moved hs (direction_of_entry j.entry) act q cid s k w,
-          lessens_jobs hs t.device.queues t.device.jobs (λ j. if (j.q == q) && (j.entry.cid == cid) then f j else j) (on_job_q q cid f (λ j. refl)) (on_job_entry q cid f (λ j. refl)) k w,
-        )
-
-    go : (o : Option Job) → load k w hs (option_map_or (λ j. option_map_or (λ act. a.on_job q cid (λ k. record k { units_done = k.units_done + 1; verdict = verdict_of (a.next_answer s j) }) (a.moved (direction_of_entry j.entry) act q cid s)) (a.next_unit s j) s) o s).device.queues
-        (option_map_or (λ j. option_map_or (λ act. a.on_job q cid (λ k. record k { units_done = k.units_done + 1; verdict = verdict_of (a.next_answer s j) }) (a.moved (direction_of_entry j.entry) act q cid s)) (a.next_unit s j) s) o s).device.jobs ≤ load k w hs s.device.queues s.device.jobs
-    go None = omega arith
-    go (Some j) = inner j (a.next_unit s j)
+lessens_walk hs q cid s =
+    walk_by (λ (t : State). Lessens hs s.device.queues s.device.jobs t.device.queues t.device.jobs) s q cid (λ k w. omega arith)
+    (λ j act at u. lessens_jobs hs s.device.queues s.device.jobs (λ k. if (k.q == q) && (k.entry.cid == cid) then unit_done s j act k else k) (on_job_q q cid (unit_done s j act) (λ k. refl)) (on_job_entry q cid (unit_done s j act) (λ k. refl)))
 
 -- Completing
 
@@ -283,31 +233,15 @@ job_less k w q cid (x ∷ js) j e = go (is_job q cid x) refl e (job_less k w q c
         omega (arith, mine, total-filter (job_weight k w) (λ x. not (is_job q cid x)) js)
     go false t e ih = omega (arith, ih e)
 
-complete_load : (hs : List HostQueue) (s t : State) (q cid : ℕ) (j : Job) (st : Status) (dw0 k : ℕ) (w : ℕ → ℕ) → find (is_job q cid) s.device.jobs ≡ Some j
-    → Lessens hs s.device.queues (filter (λ x. not (is_job q cid x)) s.device.jobs) t.device.queues t.device.jobs
-    → load k w hs (a.answered q cid st dw0 t).device.queues (a.answered q cid st dw0 t).device.jobs ≤ load k w hs s.device.queues s.device.jobs
-complete_load hs s t q cid j st dw0 k w e less =
-    let an : Answer = record { cid = cid; status = st; dw0 = dw0; sq_head = fetch_slot t q } in
-    subst (λ (d : Device). load k w hs d.queues d.jobs ≤ load k w hs s.device.queues s.device.jobs) (sym (device-answered q cid st dw0 t))
-    (omega (arith, answered_load hs t.device.queues t.device.jobs q an k w, less k w, job_less k w q cid s.device.jobs j e))
-
 pub lessens_complete : (hs : List HostQueue) (q cid : ℕ) (s : State) → Lessens hs s.device.queues s.device.jobs (a.after_complete q cid s).device.queues (a.after_complete q cid s).device.jobs
-lessens_complete hs q cid s k w = go (job_at s q cid) refl
+lessens_complete hs q cid s k w =
+    complete_by (λ (t : State). load k w hs t.device.queues t.device.jobs ≤ load k w hs s.device.queues s.device.jobs) s q cid (omega arith)
+    (λ j at c. answered (a.on_device_queue (named_queue j.entry) cleared (finished q cid j s)) j at (lessens_cleared hs s.device.queues (finished q cid j s).device.jobs (named_queue j.entry) k w))
+    (λ j at c. answered (finished q cid j s) j at (omega arith))
   where
-    deleted : (s1 : State) (j : Job) (b : Bool) → Lessens hs s1.device.queues s1.device.jobs
-        (if b then a.on_device_queue (named_queue j.entry) (λ at. record at { state = Absent; unfetched = []; rung = 0 }) s1 else s1).device.queues
-        (if b then a.on_device_queue (named_queue j.entry) (λ at. record at { state = Absent; unfetched = []; rung = 0 }) s1 else s1).device.jobs
-    deleted s1 j true = lessens_cleared hs s1.device.queues s1.device.jobs (named_queue j.entry)
-    deleted s1 j false = λ k w. omega arith
-
-    go : (o : Option Job) → job_at s q cid ≡ o
-        → load k w hs (option_map_or (λ j. let st = a.final_status s j in a.answered q cid st j.dw0 (a.deletion_done j st (a.on_device (λ d. record d { image = a.image_completed j d.image }) (a.without_job q cid s)))) o s).device.queues
-        (option_map_or (λ j. let st = a.final_status s j in a.answered q cid st j.dw0 (a.deletion_done j st (a.on_device (λ d. record d { image = a.image_completed j d.image }) (a.without_job q cid s)))) o s).device.jobs ≤ load k w hs s.device.queues s.device.jobs
-    go None e = omega arith
-    go (Some j) e =
-        let s1 = a.on_device (λ d. record d { image = a.image_completed j d.image }) (a.without_job q cid s) in
-        complete_load hs s (a.deletion_done j (a.final_status s j) s1) q cid j (a.final_status s j) j.dw0 k w e
-        (deleted s1 j ((j.q == 0) && (j.entry.opcode == DELETE_IO_SQ) && is_success (a.final_status s j)))
+    answered : (t : State) (j : Job) → job_at s q cid ≡ Some j → load k w hs t.device.queues t.device.jobs ≤ load k w hs s.device.queues (filter (λ x. not (is_job q cid x)) s.device.jobs)
+        → load k w hs (answers q cid (a.final_status s j) j.dw0 t).device.queues (answers q cid (a.final_status s j) j.dw0 t).device.jobs ≤ load k w hs s.device.queues s.device.jobs
+    answered t j at less = omega (arith, answered_load hs t.device.queues t.device.jobs q (answer_of q cid (a.final_status s j) j.dw0 t) k w, less, job_less k w q cid s.device.jobs j at)
 
 -- What the host does
 

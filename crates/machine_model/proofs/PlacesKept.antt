@@ -1,7 +1,7 @@
 -- Every event keeps an entry of a submitted command in one place at most.
-use Rattle.std.proofs.Common.{◌≡◌, ℕ, zero, suc, ◌+◌, ◌<◌, ◌≤◌, ◌==◌, Bool, true, false, not, ◌&&◌, ◌||◌, Option, Some, None, List, [], ◌∷◌, ◌++◌, length, map, drop, slice_get, is_some, is_none, option_and_then, option_map, if◌then◌else◌, refl, ap, sym, ◌∙◌, arith, subst, eqb-true}
+use Rattle.std.proofs.Common.{◌≡◌, ℕ, zero, suc, ◌+◌, ◌≤◌, ◌==◌, Bool, true, false, ◌&&◌, Option, Some, None, List, [], ◌∷◌, ◌++◌, length, map, drop, slice_get, is_some, option_and_then, option_map, if◌then◌else◌, refl, ap, sym, ◌∙◌, arith, subst, eqb-true, not}
 use Rattle.std.specs.Option.{option_map_or}
-use Rattle.std.proofs.lemmas.Bool.{true≢false, not-false, and_parts, or_parts, eqb-false}
+use Rattle.std.proofs.lemmas.Bool.{true≢false, and_parts, eqb-false}
 use Rattle.admin_commands.specs.Entries.{admin_entry}
 use Rattle.admin_commands.specs.declared.AdminKind.TheVariants.{Abort, DeleteSq, DeleteCq}
 use Rattle.admin_commands.specs.declared.AdminKind.{AdminKind}
@@ -12,43 +12,36 @@ use Rattle.entry_codec.specs.declared.submission.SubEntry.{SubEntry}
 use Rattle.entry_codec.specs.declared.completion.ComEntry.{ComEntry}
 use Rattle.entry_codec.specs.declared.status.Status.{Status}
 use Rattle.entry_codec.specs.declared.status.TheConstants.Status.{ABORTED_SQ_DELETION}
-use Rattle.io_commands.specs.Drafts.{DraftContents}
-use Rattle.io_commands.specs.Values.{numbers_of}
-use Rattle.controller_walk.specs.Units.{first_passing}
 use Rattle.io_commands.specs.Jobs.{is_success}
-use Rattle.io_commands.specs.Asked.{Request}
 use Rattle.io_commands.proofs.Spelled.{carries_entry}
-use Rattle.page_memory.specs.Pages.{with_page_bytes}
 use Rattle.queue_pair.specs.Rings.{HostRing, next_tail, next_head, knowing}
 use Rattle.machine_model.specs.Proper.{IsProper}
-use Rattle.machine_model.specs.Memory.{with_pages, without_pages}
-use Rattle.machine_model.specs.Commands.{Work, Io, Management}
-use Rattle.machine_model.specs.State.{State, Device, Host, HostQueue, HostState, Live, Deleting, Retired, Gone, DeviceQueue, Record, Phase, Drafted, Submitted, Held, Collected, Job, Answer, is_at, record_at, pages_of, with_record, without_record}
-use Rattle.machine_model.specs.Refusals.{is_submitted, is_drafted, is_collected, is_held, is_live, is_asked, is_retired, is_gone, is_deleted, is_deleting, host_queue, device_queue, refusal_of, record_is, is_of, in_state, queue_full, seen_entry, entry_of, first_answer, slot_page, slot_offset, no_io_queue, no_identifier}
-use Rattle.machine_model.specs.Step.{HostPart, IsController, reaped, reaped_entry}
+use Rattle.machine_model.specs.Memory.{with_pages}
+use Rattle.machine_model.specs.State.{State, HostQueue, Live, Deleting, DeviceQueue, Record, Phase, Drafted, Submitted, Held, Collected, Job, Answer, is_at, record_at, with_record, without_record}
+use Rattle.machine_model.specs.Refusals.{is_submitted, is_drafted, is_held, host_queue, device_queue, refusal_of, seen_entry, entry_of, first_answer, has_sq}
+use Rattle.machine_model.specs.Step.{HostPart, IsController, reaped}
 use Rattle.machine_model.specs.After as a
 use Rattle.machine_model.specs.After.{change}
 use Rattle.machine_model.specs.Events as events
 use Rattle.machine_model.specs.Events.{Event, Reply, Refusal, Reaped}
 use Rattle.machine_model.specs.Standing.{unfetched_at}
 use Rattle.machine_model.proofs.Counting.{one}
-use Rattle.machine_model.proofs.Totals.{total, total-append, total-map, total_with, total_without, here}
-use Rattle.machine_model.proofs.Parts.{part-posted}
+use Rattle.machine_model.proofs.Totals.{total, total-append, total-map, total_with, total_without}
 use Rattle.machine_model.proofs.Steps.{Accepts, part_controller}
-use Rattle.machine_model.proofs.Refused.{first_fails, rest_fails, found, pages_match}
-use Rattle.machine_model.proofs.Placing.{device-posted}
 use Rattle.machine_model.proofs.Placed.{find_sound, gone_at}
-use Rattle.machine_model.proofs.Standing.{named_entry, seen_trusted}
-use Rattle.machine_model.proofs.Out.{named, reaped_submitted}
-use Rattle.machine_model.proofs.Asked.{was_asked, ring_at}
-use Rattle.machine_model.proofs.Paired.{is_past, is_over, on_queue}
-use Rattle.machine_model.proofs.Tied.{FitS}
-use Rattle.machine_model.proofs.TiedHost.{fit-heard}
+use Rattle.machine_model.proofs.Standing.{seen_trusted}
+use Rattle.machine_model.proofs.Out.{named}
+use Rattle.machine_model.proofs.Paired.{is_over, on_queue}
 use Rattle.machine_model.proofs.Members.{sent}
 use Rattle.machine_model.proofs.Grounds.{Grounds, pair_at}
 use Rattle.machine_model.proofs.Served.{Places, past_at, answers_at, unfetched_count, job_weight}
 use Rattle.machine_model.proofs.Queues.{past_same, past_other, past_here}
 use Rattle.machine_model.proofs.Placements.{Lessens, InHand, places_less, places_hosts, places_records, lessens_state, lessens_fetch, lessens_walk, lessens_complete, posted_load, reaped_load, heard_load}
+use Rattle.machine_model.proofs.Moves.{Tells, heard_of, answer_heard}
+use Rattle.machine_model.proofs.Moves.{host_moves, posts, sends, sent_record, drafted_record, heard_without, IsHeard}
+use Rattle.machine_model.proofs.Asked.{still_live, asked_note}
+use Rattle.machine_model.proofs.Refused.{unrefused}
+use Rattle.machine_model.proofs.Halves.{asked_has_sq, sq_stays}
 
 abbrev pub PlacesIn : State → Type 0
 PlacesIn s = Places s.host.queues s.host.records s.device.queues s.device.jobs
@@ -79,27 +72,24 @@ posted_past n k q hs = past_same k (λ x. record x { ring = next_tail n x.ring }
 
 -- an entry is posted, and a submitted command comes with it
 places_posted : (q : ℕ) (entry : SubEntry) (s : State) (rs : List Record) → ((k : ℕ) (w : ℕ → ℕ) → total (sent k w) rs + (if q == k then w entry.cid else 0) ≤ total (sent k w) s.host.records)
-    → Places s.host.queues rs s.device.queues s.device.jobs → PlacesIn (a.posted q entry s)
+    → Places s.host.queues rs s.device.queues s.device.jobs → PlacesIn (posts q entry s)
 places_posted q entry s rs more h =
-    subst (λ (host : Host). Places host.queues host.records (a.posted q entry s).device.queues (a.posted q entry s).device.jobs) (sym (ap (λ (part : HostPart). part.host) (part-posted q entry s)))
-    (subst (λ (d : Device). Places (change q (λ x. record x { ring = next_tail s.entries x.ring }) s.host.queues) s.host.records d.queues d.jobs) (sym (device-posted q entry s))
-    (places_hosts s.host.queues (change q (λ x. record x { ring = next_tail s.entries x.ring }) s.host.queues) s.host.records (change q (λ at. record at { unfetched = at.unfetched ++ entry ∷ [] }) s.device.queues) s.device.jobs
+    places_hosts s.host.queues (change q (λ x. record x { ring = next_tail s.entries x.ring }) s.host.queues) s.host.records (change q (λ at. record at { unfetched = at.unfetched ++ entry ∷ [] }) s.device.queues) s.device.jobs
     (λ k p. posted_past s.entries q k s.host.queues ∙ p)
-    (λ k w. omega (arith, posted_load s.host.queues s.device.queues s.device.jobs q entry k w, h k w, more k w))))
+    (λ k w. omega (arith, posted_load s.host.queues s.device.queues s.device.jobs q entry k w, h k w, more k w))
 
 admin_cid : (adm : AdminKind) (id : ℕ) → (admin_entry adm id).cid ≡ id
 admin_cid (Abort q cid) id = refl
 admin_cid (DeleteSq q) id = refl
 admin_cid (DeleteCq q) id = refl
 
-places_sent : (adm : AdminKind) (id : ℕ) (s : State) → PlacesIn s → PlacesIn (a.sent adm id (admin_entry adm id) s)
+places_sent : (adm : AdminKind) (id : ℕ) (s : State) → PlacesIn s → PlacesIn (sends adm id s)
 places_sent adm id s h =
-    let new : Record = record { q = 0; cid = id; phase = Submitted; work = Management adm; data_pages = []; chain_pages = []; status = None } in
-    places_posted 0 (admin_entry adm id) (a.on_records (λ records. records ++ new ∷ []) s) s.host.records
+    places_posted 0 (admin_entry adm id) (a.on_records (λ records. records ++ sent_record adm id ∷ []) s) s.host.records
     (λ k w.
-    let mine : sent k w new ≡ (if 0 == k then w id else 0) = sent_is 0 id k w new refl refl refl in
+    let mine : sent k w (sent_record adm id) ≡ (if 0 == k then w id else 0) = sent_is 0 id k w (sent_record adm id) refl refl refl in
     let same : (if 0 == k then w (admin_entry adm id).cid else 0) ≡ (if 0 == k then w id else 0) = ap (λ (c : ℕ). if 0 == k then w c else 0) (admin_cid adm id) in
-    omega (arith, total-append (sent k w) s.host.records (new ∷ []), mine, same)) h
+    omega (arith, total-append (sent k w) s.host.records (sent_record adm id ∷ []), mine, same)) h
 
 pub drafted_not : (ph : Phase) → is_drafted ph ≡ true → is_submitted ph ≡ false
 drafted_not Drafted e = refl
@@ -107,160 +97,63 @@ drafted_not Submitted e = absurd (true≢false (sym e))
 drafted_not Held e = refl
 drafted_not Collected e = refl
 
-pub collected_not : (ph : Phase) → is_collected ph ≡ true → is_submitted ph ≡ false
-collected_not Drafted e = refl
-collected_not Submitted e = absurd (true≢false (sym e))
-collected_not Held e = refl
-collected_not Collected e = refl
-
-places_submit : (d : DraftContents) (s : State) → IsProper (events.Submit d) → refusal_of s (events.Submit d) ≡ None → Grounds s → PlacesIn s → PlacesIn (a.after_submit d s)
-places_submit d s proper none g h = go d.entry refl
-  where
-    r : (r : Record) × (record_at s.host d.q d.cid ≡ Some r) × (is_of is_drafted d.request (numbers_of d.data_pages) (numbers_of d.chain_pages) r ≡ true)
-    r = found (is_of is_drafted d.request (numbers_of d.data_pages) (numbers_of d.chain_pages)) s d.q d.cid
-        (not-false _ (first_fails (not (record_is (is_of is_drafted d.request (numbers_of d.data_pages) (numbers_of d.chain_pages)) s d.q d.cid)) events.Stranger
-        ((is_none d.entry, events.NotBuilt) ∷ (not (in_state is_live s d.q), events.QueueGone) ∷ (queue_full s d.q, events.QueueFull) ∷ []) none))
-
-    go : (o : Option SubEntry) → d.entry ≡ o → PlacesIn (option_map_or (λ entry. a.posted d.q entry (a.on_records (with_record d.q d.cid a.submitted) (a.on_memory (with_pages (d.data_pages ++ d.chain_pages)) s))) o s)
-    go None e = h
-    go (Some entry) e =
-        let cid : entry.cid ≡ d.cid = ap (λ (x : SubEntry). x.cid) (carries_entry d entry proper.draft e) in
-        places_posted d.q entry (a.on_records (with_record d.q d.cid a.submitted) (a.on_memory (with_pages (d.data_pages ++ d.chain_pages)) s)) s.host.records
-        (λ k w.
-        let ids = ids_of s d.q d.cid r.0 r.1 in
-        let before : sent k w r.0 ≡ 0 = sent_not k w r.0 (drafted_not r.0.phase (pages_match is_drafted d.request d.data_pages d.chain_pages r.0 r.2).1) in
-        let after : sent k w (a.submitted r.0) ≡ (if d.q == k then w d.cid else 0) = sent_is d.q d.cid k w (a.submitted r.0) ids.0 ids.1 refl in
-        let same : (if d.q == k then w entry.cid else 0) ≡ (if d.q == k then w d.cid else 0) = ap (λ (c : ℕ). if d.q == k then w c else 0) cid in
-        omega (arith, total_with (sent k w) d.q d.cid a.submitted s.host.records r.0 r.1 (g.stands.0.once d.q d.cid), before, after, same)) h
-
-places_ended : (phase : Phase → Bool) → ((ph : Phase) → phase ph ≡ true → is_submitted ph ≡ false) → (request : Request) (q cid : ℕ) (bytes chain : List (ℕ × List ℕ)) (s : State)
-    → first_passing ((not (record_is (is_of phase request (numbers_of bytes) (numbers_of chain)) s q cid), events.Stranger) ∷ []) ≡ None
-    → Grounds s → PlacesIn s → PlacesIn (a.after_end q cid (bytes ++ chain) s)
-places_ended phase far request q cid bytes chain s none g h =
-    let r = found (is_of phase request (numbers_of bytes) (numbers_of chain)) s q cid (not-false _ (first_fails _ events.Stranger [] none)) in
-    places_records s.host.queues s.host.records (without_record q cid s.host.records) s.device.queues s.device.jobs
-    (λ k w. omega (arith, total_without (sent k w) q cid s.host.records r.0 r.1 (g.stands.0.once q cid), sent_not k w r.0 (far r.0.phase (pages_match phase request bytes chain r.0 r.2).1))) h
-
-places_collect : (q cid : ℕ) (s : State) → refusal_of s (events.Collect q cid) ≡ None → Grounds s → PlacesIn s → PlacesIn (a.after_collect q cid s)
-places_collect q cid s none g h = go (record_at s.host q cid) refl
-  where
-    far : record_is (λ r. is_submitted r.phase) s q cid ≡ false
-    far = first_fails (record_is (λ r. is_submitted r.phase) s q cid) events.NotYet []
-        (rest_fails (not (record_is (λ r. is_submitted r.phase || is_held r.phase) s q cid)) events.Stranger ((record_is (λ r. is_submitted r.phase) s q cid, events.NotYet) ∷ []) none)
-
-    go : (o : Option Record) → record_at s.host q cid ≡ o → PlacesIn (option_map_or (λ r. a.on_records (with_record q cid a.collected) (a.on_memory (without_pages (pages_of r)) s)) o s)
-    go None e = h
-    go (Some r) e =
-        let far' : is_submitted r.phase ≡ false = sym (ap (λ (o : Option Record). option_map_or (λ r. is_submitted r.phase) o false) e) ∙ far in
-        places_records s.host.queues s.host.records (with_record q cid a.collected s.host.records) s.device.queues s.device.jobs
-        (λ k w. omega (arith, total_with (sent k w) q cid a.collected s.host.records r e (g.stands.0.once q cid), sent_not k w r far', sent_not k w (a.collected r) refl)) h
+pub held_not : (ph : Phase) → is_held ph ≡ true → is_submitted ph ≡ false
+held_not Drafted e = absurd (true≢false (sym e))
+held_not Submitted e = absurd (true≢false (sym e))
+held_not Held e = refl
+held_not Collected e = absurd (true≢false (sym e))
 
 -- Reaping
 
 -- the answer that is reaped
 pub reaped_answer : (s : State) (q cid : ℕ) → s.trusted ≡ true → named (reaped s q) ≡ Some cid
     → (an : Answer) × (option_and_then (λ queue. first_answer queue.answers) (device_queue s q) ≡ Some an) × (an.cid ≡ cid) × (seen_entry s q ≡ Some (entry_of q an))
-reaped_answer s q cid t h = go (option_and_then (λ queue. first_answer queue.answers) (device_queue s q)) refl
+reaped_answer s q cid t h = go (reaped s q) refl h
   where
-    h' : named (option_map_or (reaped_entry s q) (option_map (entry_of q) (option_and_then (λ queue. first_answer queue.answers) (device_queue s q))) events.Empty) ≡ Some cid
-    h' = subst (λ (o : Option ComEntry). named (option_map_or (reaped_entry s q) o events.Empty) ≡ Some cid) (seen_trusted s q t) h
+    of : (st : Status) (what : Reaped) → Tells s q cid st what → (an : Answer) × (option_and_then (λ queue. first_answer queue.answers) (device_queue s q) ≡ Some an) × (an.cid ≡ cid) × (seen_entry s q ≡ Some (entry_of q an))
+    of st what tells = let x = heard_of s q cid st what tells in let an = answer_heard s q cid st x.0 x.1 t x.2 in (an.answer, an.first, an.its_id, x.2.seen ∙ ap Some an.is)
 
-    go : (o : Option Answer) → option_and_then (λ queue. first_answer queue.answers) (device_queue s q) ≡ o
-        → (an : Answer) × (option_and_then (λ queue. first_answer queue.answers) (device_queue s q) ≡ Some an) × (an.cid ≡ cid) × (seen_entry s q ≡ Some (entry_of q an))
-    go None e = let none : named (option_map_or (reaped_entry s q) (option_map (entry_of q) None) events.Empty) ≡ Some cid = rw e at h' in absurd cc
-    go (Some an) e =
-        let some' : named (reaped_entry s q (entry_of q an)) ≡ Some cid = rw e at h' in
-        (an, e, named_entry s q (entry_of q an) cid some', seen_trusted s q t ∙ ap (option_map (entry_of q)) e)
+    go : (what : Reaped) → reaped s q ≡ what → named what ≡ Some cid → (an : Answer) × (option_and_then (λ queue. first_answer queue.answers) (device_queue s q) ≡ Some an) × (an.cid ≡ cid) × (seen_entry s q ≡ Some (entry_of q an))
+    go events.Empty is n = absurd cc
+    go (events.Rejected why) is n = absurd cc
+    go (events.Done c st) is n = of st (events.Done c st) (record { is = sym is; names = n; status = refl })
+    go (events.AdminDone c st dw0) is n = of st (events.AdminDone c st dw0) (record { is = sym is; names = n; status = refl })
 
 consumed_past : (q : ℕ) (g : HostRing → HostRing) (hs : List HostQueue) (k : ℕ) → past_at hs k ≡ true → past_at (change q (λ x. record x { ring = g x.ring }) hs) k ≡ true
 consumed_past q g hs k p = past_same q (λ x. record x { ring = g x.ring }) hs k (λ x e. refl) ∙ p
 
 -- what an admin completion does to the host's queues retires none, and calls none back
-asked_not_past : (st : HostState) → is_asked st ≡ true → is_past st ≡ false
-asked_not_past Live e = refl
-asked_not_past (Deleting noted) e = refl
-asked_not_past Retired e = absurd (true≢false (sym e))
-asked_not_past Gone e = absurd (true≢false (sym e))
+gone_past : (k : ℕ) (hs : List HostQueue) (n : ℕ) → past_at hs n ≡ true → past_at (change k a.gone hs) n ≡ true
+gone_past k [] n p = p
+gone_past zero (x ∷ hs) zero p = refl
+gone_past zero (x ∷ hs) (suc n) p = p
+gone_past (suc k) (x ∷ hs) zero p = p
+gone_past (suc k) (x ∷ hs) (suc n) p = gone_past k hs n p
 
-places_admin : (adm : AdminKind) (st : Status) (q cid : ℕ) (t : State) (r : Record) → record_at t.host q cid ≡ Some r → r.work ≡ Management adm → total (here q cid) t.host.records < 2 → FitS t
-    → PlacesIn (a.on_records (without_record q cid) t) → PlacesIn (a.after_admin adm st (a.on_records (without_record q cid) t))
-places_admin (Abort k c) st q cid t r e w once f h = h
-places_admin (DeleteSq k) st q cid t r e w once f h =
-    places_hosts t.host.queues (change k (λ queue. record queue { state = if is_success st then Deleting true else Live }) t.host.queues) (without_record q cid t.host.records) t.device.queues t.device.jobs
-    (λ n p. past_same k (λ queue. record queue { state = if is_success st then Deleting true else Live }) t.host.queues n
-    (λ x ex. noted (is_success st) ∙ sym (asked_not_past x.state (sym (ap (λ (o : Option HostQueue). option_map_or (λ h. is_asked h.state) o false) ex) ∙ was_asked t.host.records t.host.queues k q cid r e w once f.asked))) ∙ p) h
-  where
-    noted : (b : Bool) → is_past (if b then Deleting true else Live) ≡ false
-    noted true = refl
-    noted false = refl
-places_admin (DeleteCq k) st q cid t r e w once f h = go (is_success st && option_map_or (λ queue. is_retired queue.state) (host_queue t k) false) (host_queue t k)
-  where
-    t1 : State
-    t1 = a.on_records (without_record q cid) t
-
-    go : (b : Bool) (o : Option HostQueue) → PlacesIn (if b then option_map_or (λ queue. a.on_host_queue k a.gone (a.given_back queue.cq_pages (a.on_records (without_record q cid) t))) o (a.on_records (without_record q cid) t) else a.on_records (without_record q cid) t)
-    go true None = h
-    go true (Some queue) = places_hosts t.host.queues (change k a.gone t.host.queues) (without_record q cid t.host.records) t.device.queues t.device.jobs (λ n p. gone_past k t.host.queues n p) h
-      where
-        gone_past : (k : ℕ) (hs : List HostQueue) (n : ℕ) → past_at hs n ≡ true → past_at (change k a.gone hs) n ≡ true
-        gone_past k [] n p = p
-        gone_past zero (x ∷ hs) zero p = refl
-        gone_past zero (x ∷ hs) (suc n) p = p
-        gone_past (suc k) (x ∷ hs) zero p = p
-        gone_past (suc k) (x ∷ hs) (suc n) p = gone_past k hs n p
-    go false o = h
-
-places_done : (q cid : ℕ) (st : Status) (s : State) → s.trusted ≡ true → named (reaped s q) ≡ Some cid → Grounds s → PlacesIn s
-    → PlacesIn (option_map_or (λ r. a.after_work r.work q cid st (option_map_or (λ e. a.heard q e s) (seen_entry s q) s)) (record_at s.host q cid) s)
-places_done q cid st s t n g h = go (record_at s.host q cid) refl
-  where
-    an : (an : Answer) × (option_and_then (λ queue. first_answer queue.answers) (device_queue s q) ≡ Some an) × (an.cid ≡ cid) × (seen_entry s q ≡ Some (entry_of q an))
-    an = reaped_answer s q cid t n
-
-    u : State
-    u = a.heard q (entry_of q an.0) s
-
-    sub : (r : Record) × (record_at s.host q cid ≡ Some r) × (is_submitted r.phase ≡ true)
-    sub = reaped_submitted s q cid n
-
-    hosts : List HostQueue
-    hosts = change q (λ x. record x { ring = knowing (entry_of q an.0).sqhd x.ring }) (change q (λ x. record x { ring = next_head s.entries x.ring }) s.host.queues)
-
-    -- the answer is gone, and so is the submitted command
-    less : (rs : List Record) → ((k : ℕ) (w : ℕ → ℕ) → total (sent k w) s.host.records ≤ total (sent k w) rs + (if q == k then w cid else 0))
-        → Places (change q (λ x. record x { ring = knowing (entry_of q an.0).sqhd x.ring }) (change q (λ x. record x { ring = next_head s.entries x.ring }) s.host.queues)) rs
-        (change q (λ at. record at { answers = drop 1 at.answers }) s.device.queues) s.device.jobs
-    less rs fewer =
-        let hs1 = change q (λ x. record x { ring = next_head s.entries x.ring }) s.host.queues in
-        places_hosts hs1 (change q (λ x. record x { ring = knowing (entry_of q an.0).sqhd x.ring }) hs1) rs (change q (λ at. record at { answers = drop 1 at.answers }) s.device.queues) s.device.jobs (consumed_past q (knowing (entry_of q an.0).sqhd) hs1)
-        (places_hosts s.host.queues hs1 rs (change q (λ at. record at { answers = drop 1 at.answers }) s.device.queues) s.device.jobs (consumed_past q (next_head s.entries) s.host.queues)
-        (λ k w. omega (arith, heard_load s.host.queues s.device.queues s.device.jobs q an.0 an.1 k w, ap (λ (c : ℕ). if q == k then w c else 0) an.2, h k w, fewer k w)))
-
-    work : (r : Record) (w : Work) → record_at s.host q cid ≡ Some r → is_submitted r.phase ≡ true → r.work ≡ w → PlacesIn (a.after_work w q cid st (a.heard q (entry_of q an.0) s))
-    work r (Io request) e is w = less (with_record q cid (a.held st) s.host.records)
-        (λ k v. omega (arith, total_with (sent k v) q cid (a.held st) s.host.records r e (g.stands.0.once q cid), sent_not k v (a.held st r) refl, sent_is q cid k v r (ids_of s q cid r e).0 (ids_of s q cid r e).1 is))
-    work r (Management adm) e is w =
-        places_admin adm st q cid (a.heard q (entry_of q an.0) s) r e w (g.stands.0.once q cid) (fit-heard q (entry_of q an.0) s g.fit)
-        (less (without_record q cid s.host.records)
-        (λ k v. omega (arith, total_without (sent k v) q cid s.host.records r e (g.stands.0.once q cid), sent_is q cid k v r (ids_of s q cid r e).0 (ids_of s q cid r e).1 is)))
-
-    go : (o : Option Record) → record_at s.host q cid ≡ o → PlacesIn (option_map_or (λ r. a.after_work r.work q cid st (option_map_or (λ e. a.heard q e s) (seen_entry s q) s)) o s)
-    go None e = h
-    go (Some r) e =
-        let same : sub.0 ≡ r = cc (sub.1, e) in
-        rw an.3 (work r r.work e (subst (λ (x : Record). is_submitted x.phase ≡ true) same sub.2) refl)
+-- the answer is gone, and so is the submitted command
+places_heard : (q cid : ℕ) (st : Status) (e : ComEntry) (r : Record) (s : State) (rs : List Record) → s.trusted ≡ true → IsHeard s q cid st e r
+    → ((k : ℕ) (w : ℕ → ℕ) → total (sent k w) s.host.records ≤ total (sent k w) rs + sent k w r) → PlacesIn s
+    → Places (a.heard q e s).host.queues rs (change q (λ at. record at { answers = drop 1 at.answers }) s.device.queues) s.device.jobs
+places_heard q cid st e r s rs t heard fewer h =
+    let an = answer_heard s q cid st e r t heard in
+    let ids = ids_of s q cid r heard.found in
+    let hs1 = change q (λ x. record x { ring = next_head s.entries x.ring }) s.host.queues in
+    places_hosts hs1 (change q (λ x. record x { ring = knowing e.sqhd x.ring }) hs1) rs (change q (λ at. record at { answers = drop 1 at.answers }) s.device.queues) s.device.jobs (consumed_past q (knowing e.sqhd) hs1)
+    (places_hosts s.host.queues hs1 rs (change q (λ at. record at { answers = drop 1 at.answers }) s.device.queues) s.device.jobs (consumed_past q (next_head s.entries) s.host.queues)
+    (λ k w. omega (
+      arith,
+      heard_load s.host.queues s.device.queues s.device.jobs q an.answer an.first k w,
+      ap (λ (c : ℕ). if q == k then w c else 0) an.its_id,
+      h k w,
+      fewer k w,
+      sent_is q cid k w r ids.0 ids.1 heard.submitted,
+    )))
 
 places_rejected : (q : ℕ) (s : State) → PlacesIn s → PlacesIn (a.consumed q s)
 places_rejected q s h =
     places_hosts s.host.queues (change q (λ x. record x { ring = next_head s.entries x.ring }) s.host.queues) s.host.records (change q (λ at. record at { answers = drop 1 at.answers }) s.device.queues) s.device.jobs
     (consumed_past q (next_head s.entries) s.host.queues)
     (λ k w. omega (arith, reaped_load s.host.queues s.device.queues s.device.jobs q k w, h k w))
-
-pub places_reap : (q : ℕ) (what : Reaped) (s : State) → s.trusted ≡ true → what ≡ reaped s q → Grounds s → PlacesIn s → PlacesIn (a.after_reap q what s)
-places_reap q events.Empty s t e g h = h
-places_reap q (events.Rejected why) s t e g h = places_rejected q s h
-places_reap q (events.Done cid st) s t e g h = places_done q cid st s t (ap named (sym e)) g h
-places_reap q (events.AdminDone cid st dw0) s t e g h = places_done q cid st s t (ap named (sym e)) g h
 
 -- Retiring
 
@@ -272,17 +165,12 @@ no_jobs q w (j ∷ js) none = go (j.q == q) refl none (no_jobs q w js)
     go true e none ih = absurd (omega (arith, none))
     go false e none ih = omega (arith, ih (omega (arith, none)))
 
-places_retire : (q : ℕ) (s : State) → s.trusted ≡ true → refusal_of s (events.Retire q) ≡ None → Grounds s → PlacesIn s → PlacesIn (a.after_retire q s)
-places_retire q s t none g h = go (host_queue s q) refl
+places_retire : (q : ℕ) (queue : HostQueue) (s : State) → s.trusted ≡ true → refusal_of s (events.Retire q) ≡ None → host_queue s q ≡ Some queue → queue.state ≡ Deleting true → Grounds s → PlacesIn s
+    → Places (change q a.retired s.host.queues) (map (a.lost q) s.host.records) s.device.queues s.device.jobs
+places_retire q queue s t none e deleted g h = λ k w. places k w (q == k) refl
   where
-    deleted : in_state is_deleted s q ≡ true
-    deleted = not-false _ (first_fails (not (in_state is_deleted s q)) events.NotDeleted ((is_some (seen_entry s q), events.NotDrained) ∷ []) none)
-
-    drained : is_some (seen_entry s q) ≡ false
-    drained = first_fails (is_some (seen_entry s q)) events.NotDrained [] (rest_fails (not (in_state is_deleted s q)) events.NotDeleted ((is_some (seen_entry s q), events.NotDrained) ∷ []) none)
-
     no_answers : answers_at s.device.queues q ≡ []
-    no_answers = at (device_queue s q) (subst (λ (o : Option ComEntry). is_some o ≡ false) (seen_trusted s q t) drained)
+    no_answers = at (device_queue s q) (subst (λ (o : Option ComEntry). is_some o ≡ false) (seen_trusted s q t) (unrefused s (events.Retire q) none).1.0)
       where
         empty : (xs : List Answer) → is_some (option_map (entry_of q) (first_answer xs)) ≡ false → xs ≡ []
         empty [] e = refl
@@ -292,19 +180,11 @@ places_retire q s t none g h = go (host_queue s q) refl
         at None e = refl
         at (Some queue) e = empty queue.answers e
 
-    deleted_over : (st : HostState) → is_deleted st ≡ true → is_over st ≡ true
-    deleted_over Live e = absurd (true≢false (sym e))
-    deleted_over (Deleting noted) e = e
-    deleted_over Retired e = absurd (true≢false (sym e))
-    deleted_over Gone e = absurd (true≢false (sym e))
-
     -- no job of the queue is left
-    jobless : (queue : HostQueue) → host_queue s q ≡ Some queue → total (on_queue q) s.device.jobs ≡ 0
-    jobless queue e =
+    jobless : total (on_queue q) s.device.jobs ≡ 0
+    jobless =
         let pair = pair_at s g q queue e in
-        let gone : gone_at s.device.queues q ≡ true = ap (λ (o : Option DeviceQueue). option_map_or (λ at. is_absent at.state) o true) pair.1
-        ∙ pair.2.over (deleted_over queue.state (sym (ap (λ (o : Option HostQueue). option_map_or (λ queue. is_deleted queue.state) o false) e) ∙ deleted)) in
-        count (total (on_queue q) s.device.jobs) refl gone
+        count (total (on_queue q) s.device.jobs) refl (ap (λ (o : Option DeviceQueue). option_map_or (λ at. is_absent at.state) o true) pair.1 ∙ pair.2.over (ap is_over deleted))
       where
         count : (n : ℕ) → total (on_queue q) s.device.jobs ≡ n → gone_at s.device.queues q ≡ true → n ≡ 0
         count zero e gone = refl
@@ -320,23 +200,19 @@ places_retire q s t none g h = go (host_queue s q) refl
             sent_not k w (record r { phase = Held; status = Some ABORTED_SQ_DELETION }) refl ∙ sym (ap (λ (b : Bool). if b && is_submitted r.phase then w r.cid else 0) elsewhere)
         each r false e = refl
 
-    places : (queue : HostQueue) → host_queue s q ≡ Some queue → (k : ℕ) (w : ℕ → ℕ) (b : Bool) → (q == k) ≡ b
+    places : (k : ℕ) (w : ℕ → ℕ) (b : Bool) → (q == k) ≡ b
         → unfetched_count k w (change q a.retired s.host.queues) s.device.queues + (total (job_weight k w) s.device.jobs + total (λ (an : Answer). w an.cid) (answers_at s.device.queues k)) ≤ total (sent k w) (map (a.lost q) s.host.records)
-    places queue e k w true same =
+    places k w true same =
         let here' : q ≡ k = eqb-true q k same in
         let past : past_at (change q a.retired s.host.queues) k ≡ true = subst (λ (n : ℕ). past_at (change q a.retired s.host.queues) n ≡ true) here' (past_here q a.retired s.host.queues (λ x. refl) queue e) in
         let none_un : unfetched_count k w (change q a.retired s.host.queues) s.device.queues ≡ 0 = ap (λ (b : Bool). if b then 0 else total (λ (e : SubEntry). w e.cid) (unfetched_at s.device.queues k)) past in
-        let none_jobs : total (job_weight k w) s.device.jobs ≡ 0 = no_jobs k w s.device.jobs (subst (λ (n : ℕ). total (on_queue n) s.device.jobs ≡ 0) here' (jobless queue e)) in
+        let none_jobs : total (job_weight k w) s.device.jobs ≡ 0 = no_jobs k w s.device.jobs (subst (λ (n : ℕ). total (on_queue n) s.device.jobs ≡ 0) here' jobless) in
         let none_answers : total (λ (an : Answer). w an.cid) (answers_at s.device.queues k) ≡ 0 = ap (total (λ (an : Answer). w an.cid)) (subst (λ (n : ℕ). answers_at s.device.queues n ≡ []) here' no_answers) in
         omega (arith, none_un, none_jobs, none_answers)
-    places queue e k w false far =
+    places k w false far =
         let past : past_at (change q a.retired s.host.queues) k ≡ past_at s.host.queues k = past_other q a.retired s.host.queues k (eqb-false q k far) in
         let un : unfetched_count k w (change q a.retired s.host.queues) s.device.queues ≡ unfetched_count k w s.host.queues s.device.queues = ap (λ (b : Bool). if b then 0 else total (λ (e : SubEntry). w e.cid) (unfetched_at s.device.queues k)) past in
         omega (arith, un, h k w, same_sent k w far)
-
-    go : (o : Option HostQueue) → host_queue s q ≡ o → PlacesIn (option_map_or (λ queue. a.on_host_queue q a.retired (a.given_back queue.sq_pages (a.on_records (λ records. map (a.lost q) records) s))) o (a.on_records (λ records. map (a.lost q) records) s))
-    go None e = absurd (true≢false (sym deleted ∙ ap (λ (o : Option HostQueue). option_map_or (λ queue. is_deleted queue.state) o false) e))
-    go (Some queue) e = λ k w. places queue e k w (q == k) refl
 
 -- Every event
 
@@ -348,82 +224,86 @@ running_not_past s g q e hand = go (slice_get s.host.queues q) refl
     runs_there Running r = refl
     runs_there Stopping r = refl
 
-    past_over : (st : HostState) → (is_over st ≡ true → ⊥) → is_past st ≡ false
-    past_over Live far = refl
-    past_over (Deleting noted) far = refl
-    past_over Retired far = absurd (far refl)
-    past_over Gone far = absurd (far refl)
-
-    go : (o : Option HostQueue) → slice_get s.host.queues q ≡ o → option_map_or (λ h. is_past h.state) o false ≡ false
+    go : (o : Option HostQueue) → slice_get s.host.queues q ≡ o → option_map_or (λ h. not (has_sq h.state)) o false ≡ false
     go None o = refl
     go (Some queue) o =
         let pair = pair_at s g q queue o in
         let same : pair.0 ≡ hand.queue = cc (pair.1, hand.at) in
-        past_over queue.state (λ over. true≢false (sym (pair.2.over over) ∙ ap (λ (d : DeviceQueue). is_absent d.state) same ∙ runs_there hand.queue.state hand.runs))
-
-forge_places : (q slot : ℕ) (bytes : List ℕ) (s : State) → PlacesIn s → PlacesIn (a.after_forge q slot bytes s)
-forge_places q slot bytes s h = go (host_queue s q)
-  where
-    go : (o : Option HostQueue) → PlacesIn (option_map_or (λ queue. record (a.on_memory (λ m. with_page_bytes m (slot_page queue.cq_pages 16 slot) (slot_offset 16 slot) bytes) s) { trusted = false }) o s)
-    go None = h
-    go (Some queue) = h
+        ap not (sq_stays queue.state (λ over. true≢false (sym (pair.2.over over) ∙ ap (λ (d : DeviceQueue). is_absent d.state) same ∙ runs_there hand.queue.state hand.runs)))
 
 by_controller : (s : State) (e : Event) (reply : Reply) → IsController e ≡ true → Lessens s.host.queues s.device.queues s.device.jobs (a.after s e reply).device.queues (a.after s e reply).device.jobs → PlacesIn s → PlacesIn (a.after s e reply)
 by_controller s e reply c less h =
     subst (λ (part : HostPart). Places part.host.queues part.host.records (a.after s e reply).device.queues (a.after s e reply).device.jobs) (sym (part_controller s e reply c))
     (places_less s.host.queues s.host.records s.device.queues (a.after s e reply).device.queues s.device.jobs (a.after s e reply).device.jobs less h)
 
-places_delete : (q id : ℕ) (s : State) → refusal_of s (events.DeleteSq q) ≡ None → PlacesIn s → PlacesIn (a.after_delete_sq q id s)
-places_delete q id s none h =
-    let t = a.sent (DeleteSq q) id (admin_entry (DeleteSq q) id) s in
-    places_hosts t.host.queues (change q a.deleting t.host.queues) t.host.records t.device.queues t.device.jobs
-    (λ k p. past_same q a.deleting t.host.queues k (λ x e. sym (not_past x e)) ∙ p) (places_sent (DeleteSq q) id s h)
+places_host : (s : State) (e : Event) (reply : Reply) → IsProper e → Accepts s e reply → IsController e ≡ false → s.trusted ≡ true → Grounds s → PlacesIn s → PlacesIn (a.after s e reply)
+places_host s e reply pr ok c t g h =
+    host_moves (λ (e : Event) (reply : Reply) (t : State). IsProper e → PlacesIn t) s e reply ok c
+    (record {
+      reserves = λ q request d none is pr. same_places (s.host.records ++ drafted_record d ∷ []) (λ k w. omega (arith, total-append (sent k w) s.host.records (drafted_record d ∷ [])));
+      submits = λ d entry r none built its live pr.
+          let cid : entry.cid ≡ d.cid = ap (λ (x : SubEntry). x.cid) (carries_entry d entry pr.draft built) in
+          let ids = ids_of s d.q d.cid r its.found in
+          places_posted d.q entry (a.on_records (with_record d.q d.cid a.submitted) (a.on_memory (with_pages (d.data_pages ++ d.chain_pages)) s)) s.host.records
+          (λ k w. omega (
+            arith,
+            total_with (sent k w) d.q d.cid a.submitted s.host.records r its.found (g.stands.0.once d.q d.cid),
+            sent_not k w r its.quiet,
+            sent_is d.q d.cid k w (a.submitted r) ids.0 ids.1 refl,
+            ap (λ (c : ℕ). if d.q == k then w c else 0) cid,
+          )) h;
+      cancels = λ d r its pr. ended d.q d.cid r its.found its.quiet;
+      rings = λ q none pr.
+          places_less s.host.queues s.host.records s.device.queues (change q (λ at. record at { rung = length at.unfetched }) s.device.queues) s.device.jobs s.device.jobs
+          (lessens_state s.host.queues s.device.queues s.device.jobs q (λ at. record at { rung = length at.unfetched }) (λ at. refl) (λ at. refl)) h;
+      rests = λ q is pr. h;
+      rejects = λ q why is pr. places_rejected q s h;
+      tells = λ q cid st what e r request told heard w pr.
+          places_heard q cid st e r s (with_record q cid (a.held st) s.host.records) t heard
+          (λ k v. omega (arith, total_with (sent k v) q cid (a.held st) s.host.records r heard.found (g.stands.0.once q cid), sent_not k v (a.held st r) refl)) h;
+      hears = λ q cid st what e r adm told heard w quiet pr. without q cid st e r heard;
+      notes = λ q cid st what e r k told heard w pr.
+          let hs = (a.heard q e s).host.queues in
+          places_hosts hs (change k (λ queue. record queue { state = if is_success st then Deleting true else Live }) hs) (without_record q cid s.host.records) (a.heard q e s).device.queues s.device.jobs
+          (λ n p. past_same k (λ queue. record queue { state = if is_success st then Deleting true else Live }) hs n
+          (λ x ex. noted (is_success st) ∙ sym (asked_has_sq x.state (asked_note s q cid st e r k g.stands.0 g.fit.asked heard w x ex))) ∙ p) (without q cid st e r heard);
+      frees = λ q cid st what e r k queue told heard w at retired good pr.
+          let hs = (a.heard q e s).host.queues in
+          places_hosts hs (change k a.gone hs) (without_record q cid s.host.records) (a.heard q e s).device.queues s.device.jobs (λ n p. gone_past k hs n p) (without q cid st e r heard);
+      collects = λ q cid r f at held is pr.
+          same_places (with_record q cid a.collected s.host.records)
+          (λ k w. omega (arith, total_with (sent k w) q cid a.collected s.host.records r at (g.stands.0.once q cid), sent_not k w r (held_not r.phase held), sent_not k w (a.collected r) refl));
+      releases = λ f r its pr. ended f.q f.cid r its.found its.quiet;
+      aborts = λ q cid id none new pr. places_sent (Abort q cid) id s h;
+      asks = λ q id queue none new live pr.
+          let u = sends (DeleteSq q) id s in
+          places_hosts u.host.queues (change q a.deleting u.host.queues) u.host.records u.device.queues u.device.jobs
+          (λ k p. past_same q a.deleting u.host.queues k (λ x e. sym (ap has_sq (still_live s q 0 (next_tail s.entries) queue x live e))) ∙ p) (places_sent (DeleteSq q) id s h);
+      drops = λ q id none new pr. places_sent (DeleteCq q) id s h;
+      retires = λ q queue none at deleted pr. places_retire q queue s t none at deleted g h;
+      forges = λ q slot bytes queue none at pr. h;
+    }) pr
   where
-    no : no_io_queue s q ≡ false
-    no = first_fails (no_io_queue s q) events.NoQueue ((in_state is_deleting s q, events.WrongState) ∷ (no_identifier s 0, events.NoIdentifier) ∷ (queue_full s 0, events.QueueFull) ∷ []) none
+    same_places : (rs : List Record) → ((k : ℕ) (w : ℕ → ℕ) → total (sent k w) s.host.records ≤ total (sent k w) rs) → Places s.host.queues rs s.device.queues s.device.jobs
+    same_places rs more = places_records s.host.queues s.host.records rs s.device.queues s.device.jobs more h
 
-    gone : (((q == 0) || is_none (host_queue s q) || in_state is_retired s q) ≡ false) × (in_state is_gone s q ≡ false)
-    gone = or_parts ((q == 0) || is_none (host_queue s q) || in_state is_retired s q) (in_state is_gone s q) no
+    ended : (q cid : ℕ) (r : Record) → record_at s.host q cid ≡ Some r → is_submitted r.phase ≡ false → Places s.host.queues (without_record q cid s.host.records) s.device.queues s.device.jobs
+    ended q cid r at quiet = same_places (without_record q cid s.host.records) (λ k w. omega (arith, total_without (sent k w) q cid s.host.records r at (g.stands.0.once q cid), sent_not k w r quiet))
 
-    at : (st : HostState) → is_retired st ≡ false → is_gone st ≡ false → is_past st ≡ false
-    at Live r g = refl
-    at (Deleting noted) r g = refl
-    at Retired r g = absurd (true≢false r)
-    at Gone r g = absurd (true≢false g)
+    without : (q cid : ℕ) (st : Status) (e : ComEntry) (r : Record) → IsHeard s q cid st e r → PlacesIn (heard_without q cid e s)
+    without q cid st e r heard =
+        places_heard q cid st e r s (without_record q cid s.host.records) t heard (λ k v. omega (arith, total_without (sent k v) q cid s.host.records r heard.found (g.stands.0.once q cid))) h
 
-    before : (x : HostQueue) → slice_get s.host.queues q ≡ Some x → is_past x.state ≡ false
-    before x e = at x.state
-        (sym (ap (λ (o : Option HostQueue). option_map_or (λ queue. is_retired queue.state) o false) e) ∙ (or_parts ((q == 0) || is_none (host_queue s q)) (in_state is_retired s q) gone.0).1)
-        (sym (ap (λ (o : Option HostQueue). option_map_or (λ queue. is_gone queue.state) o false) e) ∙ gone.1)
-
-    not_past : (x : HostQueue) → slice_get (a.sent (DeleteSq q) id (admin_entry (DeleteSq q) id) s).host.queues q ≡ Some x → is_past x.state ≡ false
-    not_past x e =
-        let new : Record = record { q = 0; cid = id; phase = Submitted; work = Management (DeleteSq q); data_pages = []; chain_pages = []; status = None } in
-        let s1 = a.on_records (λ records. records ++ new ∷ []) s in
-        let e' : slice_get (change 0 (λ y. record y { ring = next_tail s.entries y.ring }) s.host.queues) q ≡ Some x = sym (ap (λ (part : HostPart). slice_get part.host.queues q) (part-posted 0 (admin_entry (DeleteSq q) id) s1)) ∙ e in
-        let y = ring_at 0 q (next_tail s.entries) s.host.queues x e' in
-        ap is_past y.2 ∙ before y.0 y.1
+    noted : (b : Bool) → has_sq (if b then Deleting true else Live) ≡ true
+    noted true = refl
+    noted false = refl
 
 pub places_event : (s : State) (e : Event) (reply : Reply) → IsProper e → Accepts s e reply → s.trusted ≡ true → Grounds s → PlacesIn s → PlacesIn (a.after s e reply)
-places_event s e (events.Refused why touched) pr ok t g h = h
-places_event s (events.Reserve q r) (events.Reserved d) pr ok t g h =
-    let new : Record = record { q = d.q; cid = d.cid; phase = Drafted; work = Io d.request; data_pages = numbers_of d.data_pages; chain_pages = numbers_of d.chain_pages; status = None } in
-    places_records s.host.queues s.host.records (s.host.records ++ new ∷ []) s.device.queues s.device.jobs (λ k w. omega (arith, total-append (sent k w) s.host.records (new ∷ []))) h
-places_event s (events.Submit d) events.Accepted pr ok t g h = places_submit d s pr ok.0 g h
-places_event s (events.Cancel d) events.Accepted pr ok t g h = places_ended is_drafted drafted_not d.request d.q d.cid d.data_pages d.chain_pages s ok.0 g h
-places_event s (events.Ring q) events.Accepted pr ok t g h =
-    places_less s.host.queues s.host.records s.device.queues (change q (λ at. record at { rung = length at.unfetched }) s.device.queues) s.device.jobs s.device.jobs
-    (lessens_state s.host.queues s.device.queues s.device.jobs q (λ at. record at { rung = length at.unfetched }) (λ at. refl) (λ at. refl)) h
-places_event s (events.Reap q) (events.Reaps what) pr ok t g h = places_reap q what s t ok.1 g h
-places_event s (events.Collect q cid) (events.Collects f) pr ok t g h = places_collect q cid s ok.0 g h
-places_event s (events.Release f) events.Accepted pr ok t g h = places_ended is_collected collected_not f.request f.q f.cid f.data_pages f.chain_pages s ok.0 g h
-places_event s (events.Abort q cid) (events.Sent id) pr ok t g h = places_sent (Abort q cid) id s h
-places_event s (events.DeleteSq q) (events.Sent id) pr ok t g h = places_delete q id s ok.0 h
-places_event s (events.DeleteCq q) (events.Sent id) pr ok t g h = places_sent (DeleteCq q) id s h
-places_event s (events.Retire q) events.Accepted pr ok t g h = places_retire q s t ok.0 g h
-places_event s (events.Forge q slot bytes) events.Accepted pr ok t g h = forge_places q slot bytes s h
 places_event s (events.Fetch q) (events.Fetched c touched) pr ok t g h =
     by_controller s (events.Fetch q) (events.Fetched c touched) refl (lessens_fetch s.host.queues s q (λ e hand. running_not_past s g q e hand)) h
 places_event s (events.Walk q cid) (events.Walked o touched) pr ok t g h = by_controller s (events.Walk q cid) (events.Walked o touched) refl (lessens_walk s.host.queues q cid s) h
 places_event s (events.Complete q cid) (events.Completed touched) pr ok t g h = by_controller s (events.Complete q cid) (events.Completed touched) refl (lessens_complete s.host.queues q cid s) h
-places_event s e reply pr ok t g h = absurd ok.1
+places_event s (events.Fetch q) reply pr ok t g h = absurd ok.1
+places_event s (events.Walk q cid) reply pr ok t g h = absurd ok.1
+places_event s (events.Complete q cid) reply pr ok t g h = absurd ok.1
+places_event s e reply pr ok t g h = places_host s e reply pr ok refl t g h

@@ -1,11 +1,8 @@
 -- Each event keeps where admin commands stand.
-use Rattle.std.proofs.Common.{◌≡◌, ℕ, zero, suc, ◌+◌, ◌-◌, ◌==◌, nat_lt, Bool, true, false, not, ◌&&◌, Option, Some, None, List, [], ◌∷◌, ◌++◌, length, map, drop, slice_get, is_some, is_none, option_and_then, if◌then◌else◌, refl, ap, sym, ◌∙◌, arith, subst, eqb-true, eq-eqb}
+use Rattle.std.proofs.Common.{◌≡◌, ℕ, zero, suc, ◌-◌, ◌==◌, nat_lt, Bool, true, false, not, ◌&&◌, Option, Some, None, List, [], ◌∷◌, ◌++◌, length, map, drop, slice_get, is_some, is_none, option_and_then, if◌then◌else◌, refl, ap, sym, ◌∙◌, arith, subst, eqb-true, eq-eqb}
 use Rattle.std.specs.Option.{option_map_or}
 use Rattle.std.proofs.lemmas.Bool.{true≢false, ne_eqb, and_parts}
-use Rattle.controller_walk.specs.Units.{Act, Stays, Reads, Moves}
 use Rattle.machine_model.proofs.Managed.{managed_by_case}
-use Rattle.sgl_descriptor.specs.declared.Direction.TheVariants.{Destination, Source}
-use Rattle.sgl_descriptor.specs.declared.Direction.{Direction}
 use Rattle.entry_codec.specs.Completion.{completion_bytes}
 use Rattle.entry_codec.specs.Submission.{submission_bytes}
 use Rattle.admin_commands.specs.declared.SqState.TheVariants.{Absent, Live as Running, Stopping}
@@ -15,7 +12,7 @@ use Rattle.admin_commands.specs.Entries.{admin_entry, named_queue, named_command
 use Rattle.entry_codec.specs.declared.submission.SubEntry.{SubEntry}
 use Rattle.admin_commands.specs.declared.AdminKind.TheVariants.{Abort, DeleteSq, DeleteCq}
 use Rattle.admin_commands.specs.declared.AdminKind.{AdminKind}
-use Rattle.page_memory.specs.Pages.{with_page_bytes, with_bytes}
+use Rattle.page_memory.specs.Pages.{with_page_bytes}
 use Rattle.entry_codec.specs.declared.status.TheConstants.Status.{SUCCESS, COMMAND_ID_CONFLICT, ABORT_REQUESTED, ABORTED_SQ_DELETION, INVALID_QUEUE_IDENTIFIER, INVALID_QUEUE_DELETION, INVALID_OPCODE, INVALID_FIELD}
 use Rattle.entry_codec.specs.declared.status.Status.{Status}
 use Rattle.io_commands.specs.Jobs.{is_success}
@@ -31,9 +28,9 @@ use Rattle.machine_model.proofs.Refused.{first_fails, rest_fails}
 use Rattle.machine_model.specs.After.{change}
 use Rattle.machine_model.proofs.Placed.{JobKnown, Knows, find_all, find_sound, Placed, Loses, MildJob, Promised, Settled, gone_at, there_at, is_job, placed_queues, placed_jobs, placed_decided, placed_conflict, placed_completed, placed_job_more, placed_job_less}
 use Rattle.entry_codec.specs.declared.admin_opcode.TheConstants.{ABORT, DELETE_IO_SQ}
-use Rattle.io_commands.specs.Jobs.{direction_of_entry, verdict_of}
 use Rattle.io_commands.specs.Jobs.{io_fault, bytes_after_check}
 pub use Rattle.machine_model.specs.Agreeing.{waiting, answering}
+use Rattle.machine_model.proofs.DeviceMoves.{answer_of, unit_done, finished, fetch_by, walk_by, complete_by}
 
 pub record PlacedIn (rs : List Record) (d : Device) : Type 0 where
   pub placed : Placed rs (waiting d.queues) d.jobs (answering d.queues) d.queues
@@ -137,10 +134,6 @@ taken_entry (at ∷ ds) e h = go (is_running at.state && nat_lt 0 at.rung) at.un
 pub placed-option : {A : Type 0} (rs : List Record) (f : A → State) (o : Option A) (s : State) → PlacedIn rs s.device → ((x : A) → o ≡ Some x → PlacedIn rs (f x).device) → PlacedIn rs (option_map_or f o s).device
 placed-option rs f None s h each = h
 placed-option rs f (Some x) s h each = each x refl
-
-placed-if : (rs : List Record) (b : Bool) (t u : State) → (b ≡ true → PlacedIn rs t.device) → (b ≡ false → PlacedIn rs u.device) → PlacedIn rs (if b then t else u).device
-placed-if rs true t u ht hu = ht refl
-placed-if rs false t u ht hu = hu refl
 
 -- with an entry still in hand
 abbrev Holding : List Record → SubEntry → Device → Type 0
@@ -265,10 +258,8 @@ placed_managed rs e s h =
 pub ne_zero : (k : ℕ) → (suc k == 0) ≡ false
 ne_zero k = ne_eqb (suc k) 0 (λ e. absurd (omega arith))
 
-placed_answered_other : (rs : List Record) (q cid : ℕ) (st : Status) (dw0 : ℕ) (s : State) → (q == 0) ≡ false → PlacedIn rs s.device → PlacedIn rs (a.answered q cid st dw0 s).device
-placed_answered_other rs q cid st dw0 s other h =
-    subst (PlacedIn rs) (sym (device-answered q cid st dw0 s))
-    (placed_other rs s.device q (λ at. record at { answers = at.answers ++ record { cid = cid; status = st; dw0 = dw0; sq_head = fetch_slot s q } ∷ [] }) other ((λ at. refl), (λ at. refl)) h)
+placed_answered_other : (rs : List Record) (q : ℕ) (an : Answer) (d : Device) → (q == 0) ≡ false → PlacedIn rs d → PlacedIn rs (record d { queues = change q (λ at. record at { answers = at.answers ++ an ∷ [] }) d.queues })
+placed_answered_other rs q an d other h = placed_other rs d q (λ at. record at { answers = at.answers ++ an ∷ [] }) other ((λ at. refl), (λ at. refl)) h
 
 -- an answer more of queue 0, which is there
 answering_more : (ds : List DeviceQueue) (an : Answer) → is_some (slice_get ds 0) ≡ true → answering (change 0 (λ at. record at { answers = at.answers ++ an ∷ [] }) ds) ≡ answering ds ++ an ∷ []
@@ -286,37 +277,35 @@ some_still f (suc k) (at ∷ ds) h = refl
 
 pub placed_fetch : (rs : List Record) (q : ℕ) (s : State) → PlacedIn rs s.device → PlacedIn rs (a.after_fetch q s).device
 placed_fetch rs zero s h =
-    placed-option rs
-    (λ e. if conflicts s 0 then a.answered 0 e.cid COMMAND_ID_CONFLICT 0 (a.taken_off 0 s) else if 0 == 0 then a.managed e (a.taken_off 0 s) else a.begun 0 e (a.taken_off 0 s))
-    (next_rung s 0) s h
-    (λ e next.
-    let off : DeviceQueue → DeviceQueue = λ at. record at { unfetched = drop 1 at.unfetched; rung = at.rung - 1 } in
-    let ds1 = change 0 off s.device.queues in
-    let queues = placed_queues rs (waiting s.device.queues) s.device.jobs (answering s.device.queues) s.device.queues ds1 (loses_same off ((λ at. refl), (λ at. refl)) 0 s.device.queues) h.placed in
-    let inhand : Placed rs (e ∷ waiting ds1) s.device.jobs (answering ds1) ds1 =
-    rw (answering_same off (λ at. refl) 0 s.device.queues) (subst (λ un. Placed rs un s.device.jobs (answering s.device.queues) ds1) (taken_entry s.device.queues e next) queues) in
-    placed-if rs (conflicts s 0) (a.answered 0 e.cid COMMAND_ID_CONFLICT 0 (a.taken_off 0 s)) (a.managed e (a.taken_off 0 s))
-    (λ c.
-    let an : Answer = record { cid = e.cid; status = COMMAND_ID_CONFLICT; dw0 = 0; sq_head = fetch_slot (a.taken_off 0 s) 0 } in
+    fetch_by (λ (t : State). PlacedIn rs t.device) s 0 h
+    (λ e next c.
+    let an = answer_of 0 e.cid COMMAND_ID_CONFLICT 0 (a.taken_off 0 s) in
     let more : DeviceQueue → DeviceQueue = λ at. record at { answers = at.answers ++ an ∷ [] } in
-    let there = some_still off 0 s.device.queues (some_zero s.device.queues e next) in
-    let done = placed_queues rs (waiting ds1) s.device.jobs (answering ds1 ++ an ∷ []) ds1 (change 0 more ds1) (loses_same more ((λ at. refl), (λ at. refl)) 0 ds1)
-    (placed_conflict rs e (waiting ds1) s.device.jobs (answering ds1) ds1 an refl refl inhand) in
-    subst (PlacedIn rs) (sym (device-answered 0 e.cid COMMAND_ID_CONFLICT 0 (a.taken_off 0 s)))
-    (record { placed = rw (waiting_same more (λ at. refl) 0 ds1, answering_more ds1 an there) done }))
-    (λ c. placed_managed rs e (a.taken_off 0 s) inhand))
+    let done = placed_queues rs (waiting (ds1 s)) s.device.jobs (answering (ds1 s) ++ an ∷ []) (ds1 s) (change 0 more (ds1 s)) (loses_same more ((λ at. refl), (λ at. refl)) 0 (ds1 s))
+    (placed_conflict rs e (waiting (ds1 s)) s.device.jobs (answering (ds1 s)) (ds1 s) an refl refl (in_hand e next)) in
+    record { placed = rw (waiting_same more (λ at. refl) 0 (ds1 s), answering_more (ds1 s) an (some_still off 0 s.device.queues (some_zero s.device.queues e next))) done })
+    (λ e next c z. placed_managed rs e (a.taken_off 0 s) (in_hand e next))
+    (λ e next c other. absurd (true≢false other))
+  where
+    off : DeviceQueue → DeviceQueue
+    off at = record at { unfetched = drop 1 at.unfetched; rung = at.rung - 1 }
+
+    ds1 : State → List DeviceQueue
+    ds1 s = change 0 (λ at. record at { unfetched = drop 1 at.unfetched; rung = at.rung - 1 }) s.device.queues
+
+    in_hand : (e : SubEntry) → next_rung s 0 ≡ Some e → Placed rs (e ∷ waiting (ds1 s)) s.device.jobs (answering (ds1 s)) (ds1 s)
+    in_hand e next =
+        let queues = placed_queues rs (waiting s.device.queues) s.device.jobs (answering s.device.queues) s.device.queues (ds1 s) (loses_same off ((λ at. refl), (λ at. refl)) 0 s.device.queues) h.placed in
+        rw (answering_same off (λ at. refl) 0 s.device.queues) (subst (λ un. Placed rs un s.device.jobs (answering s.device.queues) (ds1 s)) (taken_entry s.device.queues e next) queues)
 placed_fetch rs (suc k) s h =
-    placed-option rs
-    (λ e. if conflicts s (suc k) then a.answered (suc k) e.cid COMMAND_ID_CONFLICT 0 (a.taken_off (suc k) s) else if suc k == 0 then a.managed e (a.taken_off 0 s) else a.begun (suc k) e (a.taken_off (suc k) s))
-    (next_rung s (suc k)) s h
-    (λ e next.
-    let base : PlacedIn rs (a.taken_off (suc k) s).device = placed_other rs s.device (suc k) (λ at. record at { unfetched = drop 1 at.unfetched; rung = at.rung - 1 }) (ne_zero k) ((λ at. refl), (λ at. refl)) h in
-    placed-if rs (conflicts s (suc k)) (a.answered (suc k) e.cid COMMAND_ID_CONFLICT 0 (a.taken_off (suc k) s)) (if suc k == 0 then a.managed e (a.taken_off 0 s) else a.begun (suc k) e (a.taken_off (suc k) s))
-    (λ c. placed_answered_other rs (suc k) e.cid COMMAND_ID_CONFLICT 0 (a.taken_off (suc k) s) (ne_zero k) base)
-    (λ c. placed-if rs (suc k == 0) (a.managed e (a.taken_off 0 s)) (a.begun (suc k) e (a.taken_off (suc k) s))
-    (λ z. absurd (true≢false (sym z ∙ ne_zero k)))
-    (λ z. let fault = io_fault (a.image_blocks (a.taken_off (suc k) s)) e in
-    record { placed = placed_job_more rs _ (a.taken_off (suc k) s).device.jobs _ (a.taken_off (suc k) s).device.queues (a.new_job (suc k) e fault 0 (bytes_after_check s.device.image e fault)) (ne_zero k) base.placed })))
+    fetch_by (λ (t : State). PlacedIn rs t.device) s (suc k) h
+    (λ e next c. placed_answered_other rs (suc k) (answer_of (suc k) e.cid COMMAND_ID_CONFLICT 0 (a.taken_off (suc k) s)) (a.taken_off (suc k) s).device (ne_zero k) base)
+    (λ e next c z. absurd (omega arith))
+    (λ e next c other. let fault = io_fault (a.image_blocks (a.taken_off (suc k) s)) e in
+    record { placed = placed_job_more rs _ (a.taken_off (suc k) s).device.jobs _ (a.taken_off (suc k) s).device.queues (a.new_job (suc k) e fault 0 (bytes_after_check s.device.image e fault)) (ne_zero k) base.placed })
+  where
+    base : PlacedIn rs (a.taken_off (suc k) s).device
+    base = placed_other rs s.device (suc k) (λ at. record at { unfetched = drop 1 at.unfetched; rung = at.rung - 1 }) (ne_zero k) ((λ at. refl), (λ at. refl)) h
 
 -- Walking
 
@@ -341,27 +330,10 @@ placed_on_job rs q cid f s other fq fe h = record {
   placed = placed_jobs rs (waiting s.device.queues) s.device.jobs (answering s.device.queues) s.device.queues _ (other_mild q cid f other fq fe) h.placed;
 }
 
-placed_moved : (rs : List Record) (dir : Direction) (act : Act) (q cid : ℕ) (s : State) → (q == 0) ≡ false → PlacedIn rs s.device → PlacedIn rs (a.moved dir act q cid s).device
-placed_moved rs dir Stays q cid s other h = h
-placed_moved rs dir (Reads place) q cid s other h = h
-placed_moved rs Destination (Moves place n offset) q cid s other h = placed-option rs _ (job_at s q cid) s h (λ j e. h)
-placed_moved rs Source (Moves place n offset) q cid s other h = placed_on_job rs q cid (λ j. record j { bytes = with_bytes j.bytes offset (a.page_bytes s.memory place n) }) s other (λ j. refl) (λ j. refl) h
-
 pub placed_walk : (rs : List Record) (q cid : ℕ) (s : State) → (q == 0) ≡ false → PlacedIn rs s.device → PlacedIn rs (a.after_walk q cid s).device
-placed_walk rs q cid s other h =
-    placed-option rs
-    (λ j. option_map_or (λ act. a.on_job q cid (λ k. record k { units_done = k.units_done + 1; verdict = verdict_of (a.next_answer s j) }) (a.moved (direction_of_entry j.entry) act q cid s)) (a.next_unit s j) s)
-    (job_at s q cid) s h
-    (λ j e. placed-option rs
-    (λ act. a.on_job q cid (λ k. record k { units_done = k.units_done + 1; verdict = verdict_of (a.next_answer s j) }) (a.moved (direction_of_entry j.entry) act q cid s))
-    (a.next_unit s j) s h
-    (λ act e'. placed_on_job rs q cid (λ k. record k { units_done = k.units_done + 1; verdict = verdict_of (a.next_answer s j) }) (a.moved (direction_of_entry j.entry) act q cid s) other (λ j. refl) (λ j. refl)
-    (placed_moved rs (direction_of_entry j.entry) act q cid s other h)))
+placed_walk rs q cid s other h = walk_by (λ (t : State). PlacedIn rs t.device) s q cid h (λ j act at u. placed_on_job rs q cid (unit_done s j act) s other (λ j. refl) (λ j. refl) h)
 
 -- Completing
-
-kill : DeviceQueue → DeviceQueue
-kill at = record at { state = Absent; unfetched = []; rung = 0 }
 
 gone_killed : (k : ℕ) (ds : List DeviceQueue) → gone_at (change k (λ at. record at { state = Absent; unfetched = []; rung = 0 }) ds) k ≡ true
 gone_killed k [] = refl
@@ -468,16 +440,9 @@ placed_complete rs zero cid s none h =
     subst (λ (st : Status). PlacedIn rs (a.answered 0 cid st j.dw0 (a.deletion_done j st (a.on_device (λ d. record d { image = a.image_completed j d.image }) (a.without_job 0 cid s)))).device) (sym (final_admin s j v.0 jq v.1))
     (complete_admin rs cid s j v.0 e jq v.1 there h (a.image_completed j s.device.image) ((j.q == 0) && (j.entry.opcode == DELETE_IO_SQ) && is_success v.0) refl))
 placed_complete rs (suc k) cid s none h =
-    placed-option rs
-    (λ j. let st = a.final_status s j in a.answered (suc k) cid st j.dw0 (a.deletion_done j st (a.on_device (λ d. record d { image = a.image_completed j d.image }) (a.without_job (suc k) cid s))))
-    (job_at s (suc k) cid) s h
-    (λ j e.
-    let st = a.final_status s j in
-    let s1 = a.on_device (λ d. record d { image = a.image_completed j d.image }) (a.without_job (suc k) cid s) in
-    let at = and_parts (j.q == suc k) (j.entry.cid == cid) (find_sound (is_job (suc k) cid) s.device.jobs j e) in
-    let jq : (j.q == 0) ≡ false = ap (λ (n : ℕ). n == 0) (eqb-true j.q (suc k) at.0) ∙ ne_zero k in
-    placed_answered_other rs (suc k) cid st j.dw0 (a.deletion_done j st s1) (ne_zero k)
-    (undeleted j st s1 jq (record { placed = placed_job_less rs (waiting s.device.queues) s.device.jobs (answering s.device.queues) s.device.queues (λ j'. not (is_job (suc k) cid j')) h.placed })))
+    complete_by (λ (t : State). PlacedIn rs t.device) s (suc k) cid h (λ j e c. absurd (true≢false (sym (and_parts (j.q == 0) (j.entry.opcode == DELETE_IO_SQ) (and_parts ((j.q == 0) && (j.entry.opcode == DELETE_IO_SQ)) (is_success (a.final_status s j)) c).0).0 ∙ its_queue j e)))
+    (λ j e c. placed_answered_other rs (suc k) (answer_of (suc k) cid (a.final_status s j) j.dw0 (finished (suc k) cid j s)) (finished (suc k) cid j s).device (ne_zero k)
+    (record { placed = placed_job_less rs (waiting s.device.queues) s.device.jobs (answering s.device.queues) s.device.queues (λ j'. not (is_job (suc k) cid j')) h.placed }))
   where
-    undeleted : (j : Job) (st : Status) (s1 : State) → (j.q == 0) ≡ false → PlacedIn rs s1.device → PlacedIn rs (a.deletion_done j st s1).device
-    undeleted j st s1 e h = rw e h
+    its_queue : (j : Job) → job_at s (suc k) cid ≡ Some j → (j.q == 0) ≡ false
+    its_queue j e = ap (λ (n : ℕ). n == 0) (eqb-true j.q (suc k) (and_parts (j.q == suc k) (j.entry.cid == cid) (find_sound (is_job (suc k) cid) s.device.jobs j e)).0) ∙ ne_zero k

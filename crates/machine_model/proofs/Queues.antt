@@ -1,13 +1,13 @@
 -- What one change of the controller's queues does to sums over entries and answers.
-use Rattle.std.proofs.Common.{◌≡◌, ℕ, zero, suc, ◌+◌, ◌≤◌, ◌==◌, Bool, true, false, Some, List, [], ◌∷◌, slice_get, if◌then◌else◌, refl, ap, sym, arith, subst}
+use Rattle.std.proofs.Common.{◌≡◌, ℕ, zero, suc, ◌+◌, ◌≤◌, ◌==◌, Bool, true, false, Some, List, [], ◌∷◌, slice_get, if◌then◌else◌, refl, ap, sym, arith, subst, not}
 use Rattle.std.specs.Option.{option_map_or}
 use Rattle.std.specs.List.{AllByRecursion}
 use Rattle.std.proofs.lemmas.Bool.Decides.{nat_tests}
 use Rattle.machine_model.specs.State.{DeviceQueue, HostQueue}
 use Rattle.machine_model.specs.After.{change}
 use Rattle.machine_model.proofs.Totals.{total}
-use Rattle.machine_model.proofs.Paired.{is_past}
 use Rattle.machine_model.proofs.Served.{past_at}
+use Rattle.machine_model.specs.Refusals.{has_sq}
 
 abbrev pub list_at : {B : Type 0} → (DeviceQueue → List B) → List DeviceQueue → ℕ → List B
 list_at get qs q = option_map_or get (slice_get qs q) []
@@ -61,9 +61,9 @@ all_list P get (suc k) f (x ∷ qs) (suc q) step all = all_list P get k f qs q (
 
 -- whether a queue of the host is retired
 
-pub past_same : (k : ℕ) (f : HostQueue → HostQueue) (hs : List HostQueue) (q : ℕ) → ((x : HostQueue) → slice_get hs k ≡ Some x → is_past (f x).state ≡ is_past x.state) → past_at (change k f hs) q ≡ past_at hs q
+pub past_same : (k : ℕ) (f : HostQueue → HostQueue) (hs : List HostQueue) (q : ℕ) → ((x : HostQueue) → slice_get hs k ≡ Some x → has_sq (f x).state ≡ has_sq x.state) → past_at (change k f hs) q ≡ past_at hs q
 past_same k f [] q same = refl
-past_same zero f (x ∷ hs) zero same = same x refl
+past_same zero f (x ∷ hs) zero same = ap not (same x refl)
 past_same zero f (x ∷ hs) (suc q) same = refl
 past_same (suc k) f (x ∷ hs) zero same = refl
 past_same (suc k) f (x ∷ hs) (suc q) same = past_same k f hs q same
@@ -75,7 +75,7 @@ past_other zero f (x ∷ hs) (suc q) far = refl
 past_other (suc k) f (x ∷ hs) zero far = refl
 past_other (suc k) f (x ∷ hs) (suc q) far = past_other k f hs q (λ e. far (ap suc e))
 
-pub past_here : (k : ℕ) (f : HostQueue → HostQueue) (hs : List HostQueue) → ((x : HostQueue) → is_past (f x).state ≡ true) → (x : HostQueue) → slice_get hs k ≡ Some x → past_at (change k f hs) k ≡ true
+pub past_here : (k : ℕ) (f : HostQueue → HostQueue) (hs : List HostQueue) → ((x : HostQueue) → has_sq (f x).state ≡ false) → (x : HostQueue) → slice_get hs k ≡ Some x → past_at (change k f hs) k ≡ true
 past_here k f [] past x e = absurd cc
-past_here zero f (y ∷ hs) past x e = past y
+past_here zero f (y ∷ hs) past x e = ap not (past y)
 past_here (suc k) f (y ∷ hs) past x e = past_here k f hs past x e

@@ -1,5 +1,5 @@
 -- The laws of Reads: one that ended well gives its blocks, and one that was stopped so many of their first bytes.
-use Rattle.std.proofs.Common.{◌≡◌, ℕ, zero, suc, ◌==◌, Bool, true, false, not, ◌||◌, Option, Some, None, List, [], ◌∷◌, ◌++◌, length, replicate, MatchBool, if◌then◌else◌, refl, ap, sym, ◌∙◌, arith, subst, eq-eqb, append-nil}
+use Rattle.std.proofs.Common.{◌≡◌, ℕ, zero, suc, ◌==◌, Bool, true, false, not, ◌||◌, Option, Some, None, List, [], ◌∷◌, ◌++◌, length, replicate, if◌then◌else◌, refl, ap, sym, ◌∙◌, arith, subst, eq-eqb, append_assoc}
 use Rattle.std.specs.Option.{option_map_or, option_map, option_and_then}
 use Rattle.std.specs.List.{AllByRecursion, list_any}
 use Rattle.std.proofs.lemmas.Bool.{true≢false, not-false, or_parts, or_left, or_right}
@@ -21,34 +21,21 @@ use Rattle.machine_model.specs.Commands.{Work, Io, Management}
 use Rattle.machine_model.specs.State.{State, Record, Phase, Drafted, Submitted, Held, Collected, is_at, record_at}
 use Rattle.machine_model.specs.Refusals.{is_submitted, is_held, record_is, refusal_of}
 use Rattle.machine_model.specs.Image.{Made, draft_of, image_after, undiscarded}
-use Rattle.machine_model.specs.Laws.{Steps, TrustedRun, fetches, collected_of, is_read, drafts_of, blocks_of_request, partly, reads_give_their_blocks, stopped_reads_give_a_prefix}
-use Rattle.machine_model.specs.Opening.{opening}
+use Rattle.machine_model.specs.Laws.{TrustedRun, fetches, collected_of, is_read, drafts_of, blocks_of_request, partly, reads_give_their_blocks, stopped_reads_give_a_prefix}
 use Rattle.machine_model.specs.Step.{Step, finished_from, asked_by, pages_with_bytes}
 use Rattle.machine_model.specs.Events as events
 use Rattle.machine_model.specs.Events.{Event, Reply}
 use Rattle.machine_model.proofs.Refused.{first_fails, rest_fails}
-use Rattle.machine_model.proofs.Grounds.{trusted_at_first}
 use Rattle.machine_model.proofs.Members.{all_at_found}
 use Rattle.machine_model.proofs.Entered.{good_is}
 use Rattle.machine_model.proofs.Served.{Stood}
-use Rattle.machine_model.proofs.WalksKept.{stood_at_opening}
-use Rattle.machine_model.proofs.EveryStatus.{Traced}
-use Rattle.machine_model.proofs.Images.{image_along, known_at_opening}
+use Rattle.machine_model.proofs.Along.{Before}
+use Rattle.machine_model.proofs.Images.{imaged_before}
 use Rattle.machine_model.proofs.Gathered.{Gathers, Stands, gathers_pieces, all_stand, some_stand}
 use Rattle.machine_model.proofs.Reading.{Images, fetched_in, read_targets, read_blocks, ReadSoFar, ReadIfIo, ReadRecord, Member, members, sized_of}
 use Rattle.machine_model.proofs.ReadsKept.{targets_length, blocks_length}
-use Rattle.machine_model.proofs.ReadsAlong.{ReadsKnown, images_of, reads_along}
+use Rattle.machine_model.proofs.ReadsAlong.{ReadsSo, images_of, images_append, reads_before}
 use Rattle.machine_model.proofs.Steps.{permitted}
-
--- Steps in two parts
-
-steps_split : (xs ys : List Made) (s end : State) → Steps s (xs ++ ys) end → (mid : State) × Steps s xs mid × Steps mid ys end
-steps_split [] ys s end steps = (s, refl, steps)
-steps_split (x ∷ xs) ys s end (is, mid, step, rest) = let r = steps_split xs ys mid end rest in (r.0, (is, mid, step, r.1), r.2)
-
-images_append : (at : Images) (xs ys : List Made) → images_of at (xs ++ ys) ≡ images_of (images_of at xs) ys
-images_append at [] ys = refl
-images_append at (x ∷ xs) ys = images_append (fetched_in x.before x.event x.reply at) xs ys
 
 images_none : (at : Images) (ys : List Made) (q cid : ℕ) → list_any (fetches q cid) ys ≡ false → images_of at ys q cid ≡ at q cid
 images_none at [] q cid h = refl
@@ -148,7 +135,7 @@ record CollectedRead (image : List ℕ) (before : List Made) (fetched : Made) (b
   s : State
   stood : Stood s
   found : Found s f
-  soFar : ReadSoFar (drafts_of (before ++ fetched ∷ between) ++ []) (images_of (λ q cid. image) (before ++ fetched ∷ between)) s found.command f.request
+  soFar : ReadSoFar (drafts_of (before ++ fetched ∷ between)) (images_of (λ q cid. image) (before ++ fetched ∷ between)) s found.command f.request
   member : Member s found.command
   image_is : images_of (λ q cid. image) (before ++ fetched ∷ between) found.command.q found.command.cid ≡ image_after image before
   image_long : length (images_of (λ q cid. image) (before ++ fetched ∷ between) found.command.q found.command.cid) ≡ length s.device.image
@@ -158,45 +145,26 @@ collected_read : (image : List ℕ) (before : List Made) (fetched : Made) (betwe
     → fetches f.q f.cid fetched ≡ true → list_any (fetches f.q f.cid) between ≡ false → CollectedRead image before fetched between f
 collected_read image before fetched between collected later end f run is reads fetch none =
     record {
-      s = s;
-      stood = known.0.stood;
+      s = collected.before;
+      stood = known.holds.traced.stood;
       found = found;
-      soFar = subst (ReadIfIo (drafts_of (before ++ fetched ∷ between) ++ []) (images_of (λ q cid. image) (before ++ fetched ∷ between)) s found.command) found.work
-          (all_at_found (ReadRecord (drafts_of (before ++ fetched ∷ between) ++ []) (images_of (λ q cid. image) (before ++ fetched ∷ between)) s) (is_at found.at_q found.at_cid) s.host.records found.command found.found known.1.records
+      soFar = subst (ReadIfIo (drafts_of (before ++ fetched ∷ between)) (images_of (λ q cid. image) (before ++ fetched ∷ between)) collected.before found.command) found.work
+          (all_at_found (ReadRecord (drafts_of (before ++ fetched ∷ between)) (images_of (λ q cid. image) (before ++ fetched ∷ between)) collected.before) (is_at found.at_q found.at_cid) collected.before.host.records found.command found.found known.holds.reads.records
           (stays found.command.phase found.held)) (reads_kind f reads);
-      member = all_at_found (Member s) (is_at found.at_q found.at_cid) s.host.records found.command found.found (members s known.0.stood);
+      member = all_at_found (Member collected.before) (is_at found.at_q found.at_cid) collected.before.host.records found.command found.found (members collected.before known.holds.traced.stood);
       image_is =
           image_at_fetch (λ q cid. image) before fetched between found.command.q found.command.cid
           (ap (λ (n : ℕ). fetches n found.command.cid fetched) (sym found.its_queue) ∙ ap (λ (n : ℕ). fetches f.q n fetched) (sym found.its_id) ∙ fetch)
           (ap (λ (n : ℕ). list_any (fetches n found.command.cid) between) (sym found.its_queue) ∙ ap (λ (n : ℕ). list_any (fetches f.q n) between) (sym found.its_id) ∙ none)
-          ∙ ap (λ (x : State). x.device.image) at_fetch.2.0
-          ∙ image_along before s0 at_fetch.0 [] image at_fetch.1 (trusted_at_first (fetched ∷ between) at_fetch.0 s at_fetch.2 trusted) stood0 (known_at_opening run.pages run.queues run.entries run.segment image) refl;
-      image_long = known.1.images found.command.q found.command.cid;
+          ∙ (imaged_before image before (between ++ collected ∷ later) fetched end (subst (λ (made : List Made). TrustedRun image made end) (append_assoc before (fetched ∷ between) (collected ∷ later)) run)).holds.image_is;
+      image_long = known.holds.reads.images found.command.q found.command.cid;
     }
   where
-    s0 : State
-    s0 = opening run.pages run.queues run.entries run.segment image
+    known : Before (ReadsSo image) (before ++ fetched ∷ between) collected
+    known = reads_before image (before ++ fetched ∷ between) later collected end run
 
-    stood0 : Stood (opening run.pages run.queues run.entries run.segment image)
-    stood0 = stood_at_opening run.pages run.queues run.entries run.segment image run.opens
-
-    parts : (mid : State) × Steps (opening run.pages run.queues run.entries run.segment image) (before ++ fetched ∷ between) mid × Steps mid (collected ∷ later) end
-    parts = steps_split (before ++ fetched ∷ between) (collected ∷ later) (opening run.pages run.queues run.entries run.segment image) end run.steps
-
-    s : State
-    s = parts.0
-
-    trusted : s.trusted ≡ true
-    trusted = trusted_at_first (collected ∷ later) parts.0 end parts.2 run.trusted
-
-    at_fetch : (mid : State) × Steps (opening run.pages run.queues run.entries run.segment image) before mid × Steps mid (fetched ∷ between) s
-    at_fetch = steps_split before (fetched ∷ between) (opening run.pages run.queues run.entries run.segment image) parts.0 parts.1
-
-    known : Traced (before ++ fetched ∷ between) s × ReadsKnown (drafts_of (before ++ fetched ∷ between) ++ []) (images_of (λ q cid. image) (before ++ fetched ∷ between)) s
-    known = reads_along [] (before ++ fetched ∷ between) s0 parts.0 [] (λ q cid. image) parts.1 trusted (record { stood = stood0; caused = tt }) (record { records = tt; images = λ q cid. refl })
-
-    found : Found s f
-    found = found_in parts.0 collected.event collected.reply parts.2.1 f parts.2.2 trusted is
+    found : Found collected.before f
+    found = found_in collected.before collected.event collected.reply known.next f known.step known.trusted is
 
     stays : (ph : Phase) → is_held ph ≡ true → (is_submitted ph || is_held ph) ≡ true
     stays Drafted h = h
@@ -250,8 +218,8 @@ stopped_reads image before fetched between collected later end f d run is reads 
 
     same_draft : (x : CollectedRead image before fetched between f) → x.soFar.draft ≡ d
     same_draft x =
-        inside (sym x.soFar.latest ∙ ap (draft_of x.found.command.q x.found.command.cid) (append-nil (drafts_of (before ++ fetched ∷ between)))
-        ∙ ap (λ (n : ℕ). draft_of n x.found.command.cid (drafts_of (before ++ fetched ∷ between))) (sym x.found.its_queue) ∙ ap (λ (n : ℕ). draft_of f.q n (drafts_of (before ++ fetched ∷ between))) (sym x.found.its_id) ∙ latest)
+        inside (sym x.soFar.latest ∙ ap (λ (n : ℕ). draft_of n x.found.command.cid (drafts_of (before ++ fetched ∷ between))) (sym x.found.its_queue)
+        ∙ ap (λ (n : ℕ). draft_of f.q n (drafts_of (before ++ fetched ∷ between))) (sym x.found.its_id) ∙ latest)
       where
         inside : {a b : DraftContents} → Some a ≡ Some b → a ≡ b
         inside e = cc

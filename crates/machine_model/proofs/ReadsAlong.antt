@@ -1,5 +1,5 @@
 -- What is known of Reads, after each step of a run.
-use Rattle.std.proofs.Common.{◌≡◌, ℕ, ◌≤◌, ◌==◌, nat_eq, Bool, true, false, not, ◌&&◌, ◌||◌, Option, Some, None, List, [], ◌∷◌, ◌++◌, length, drop, if◌then◌else◌, refl, ap, sym, ◌∙◌, arith, subst, eq-eqb, MatchBool, append-nil, append_assoc}
+use Rattle.std.proofs.Common.{◌≡◌, ℕ, ◌≤◌, ◌==◌, nat_eq, Bool, true, false, not, ◌&&◌, ◌||◌, Option, Some, None, List, [], ◌∷◌, ◌++◌, length, drop, if◌then◌else◌, refl, ap, sym, ◌∙◌, arith, subst, eq-eqb}
 use Rattle.std.specs.Option.{option_map_or, option_and_then}
 use Rattle.std.specs.List.{AllByRecursion}
 use Rattle.std.specs.Cmp.Lexicographic.{pointwise}
@@ -20,18 +20,16 @@ use Rattle.machine_model.specs.Commands.{Work, Io, Management}
 use Rattle.machine_model.specs.State.{State, DeviceQueue, Record, Phase, Held, Job, Answer, is_at, record_at, with_record}
 use Rattle.machine_model.specs.Refusals.{is_submitted, is_drafted, is_held, is_of, asks_for, entry_of, first_answer, device_queue}
 use Rattle.machine_model.specs.Image.{Made, submitted_by}
-use Rattle.machine_model.specs.Laws.{Steps, fetches_by, drafts_of}
-use Rattle.machine_model.specs.Step.{Step, IsController, HostPart, reaped, reaped_entry, reaped_as, submitted_at, fits_ring}
+use Rattle.machine_model.specs.Laws.{TrustedRun, fetches_by, drafts_of}
+use Rattle.machine_model.specs.Step.{reaped, reaped_entry, reaped_as, submitted_at, fits_ring}
 use Rattle.machine_model.specs.After as a
 use Rattle.machine_model.specs.Events as events
 use Rattle.machine_model.specs.Events.{Event, Reply, Refusal, Reaped}
 use Rattle.machine_model.proofs.Counting.{one}
 use Rattle.machine_model.proofs.Totals.{total}
-use Rattle.machine_model.proofs.Steps.{Accepts, part_left, permitted, exact}
-use Rattle.machine_model.proofs.Trusted.{forged_untrusted}
+use Rattle.machine_model.proofs.Steps.{Accepts}
 use Rattle.machine_model.proofs.Refused.{pages_match, same_lists}
 use Rattle.machine_model.proofs.Out.{named, reaped_submitted}
-use Rattle.machine_model.proofs.Grounds.{trusted_at_first}
 use Rattle.machine_model.proofs.Members.{In, in_found, all_of, all_in_both, sent}
 use Rattle.machine_model.proofs.PlacesKept.{ids_of, drafted_not, reaped_answer}
 use Rattle.machine_model.proofs.CommandsKept.{nobody, no_job}
@@ -41,7 +39,7 @@ use Rattle.machine_model.proofs.Queues.{list_at}
 use Rattle.machine_model.proofs.WalksKept.{host_jobs}
 use Rattle.machine_model.proofs.Caused.{goes_well}
 use Rattle.machine_model.proofs.Gathered.{Stands}
-use Rattle.machine_model.proofs.EveryStatus.{Traced, traced_step, as_made}
+use Rattle.machine_model.proofs.EveryStatus.{Traced, traced_carried}
 use Rattle.machine_model.proofs.CausedKept.{event_keeps}
 use Rattle.machine_model.proofs.Known.{unsent, submitted_stand}
 use Rattle.machine_model.proofs.KnownJobs.{page_found}
@@ -50,6 +48,9 @@ use Rattle.machine_model.proofs.QueuesMove.{QueueMove, queues_event}
 use Rattle.machine_model.proofs.Reading.{Images, fetched_in, read_targets, Full, InImage, Reading, ReadingIf, UnreadEntry, FullAnswer, ReadSoFar, ReadIfIo, ReadRecord, Member, members}
 use Rattle.machine_model.proofs.ReadsKept.{quiet_on}
 use Rattle.machine_model.proofs.ReadsWalk.{walk_on}
+use Rattle.machine_model.proofs.Along.{Carried, Before, keeps, made_of, run_before}
+use Rattle.machine_model.proofs.Images.{drafts_more}
+use Rattle.machine_model.proofs.WalksKept.{stood_at_opening}
 
 -- What an event is taken for
 record Taken (s : State) (e : Event) (reply : Reply) : Type 0 where
@@ -192,7 +193,7 @@ reads_move drafts at s e reply x = record {
   reaps = λ q cid st request r is n status found w p stays.
       subst (ReadIfIo (submitted_by e reply ++ drafts) (fetched_in s e reply at) (a.after s e reply) (a.held st r)) (sym w)
       (λ kind. reap q cid st request r is n status found w p.0 kind (subst (ReadIfIo drafts at s r) w (p.1 (reaped_stays q cid r n found)) kind));
-  loses = λ r within sub far p stays. lose r within sub far p.0 r.work refl (p.1 (stays_sub r.phase sub));
+  loses = λ q r is within same sub far p stays. lose r within sub far p.0 r.work refl (p.1 (stays_sub r.phase sub));
   collects = λ r p stays. absurd (true≢false (sym stays));
 }
   where
@@ -278,37 +279,37 @@ refused_same s drafts at (events.Submit d) why touched h = h
 refused_same s drafts at (events.Fetch q) why touched h = h
 refused_same s drafts at e why touched h = h
 
-reads_step : (done : List Made) (drafts : List DraftContents) (at : Images) (old : State) (e : Event) (reply : Reply) (new : State) → Step old e reply new → old.trusted ≡ true → new.trusted ≡ true → Traced done old → ReadsKnown drafts at old
-    → ReadsKnown (submitted_by e reply ++ drafts) (fetched_in old e reply at) new
-reads_step done drafts at old e (events.Refused why touched) new step t u traced h =
-    subst (ReadsKnown (submitted_by e (events.Refused why touched) ++ drafts) (fetched_in old e (events.Refused why touched) at)) (sym step.2) (refused_same old drafts at e why touched h)
-reads_step done drafts at old (events.Forge q slot bytes) reply new step t u traced h =
-    let ok = permitted _ old.trusted true t step.1 in
-    absurd (true≢false (sym u ∙ (ap (λ (part : HostPart). part.trusted) (part_left old (events.Forge q slot bytes) reply new step.2) ∙ forged_untrusted old q slot bytes ok.0)))
-reads_step done drafts at old e (events.Reserved d) new step t u traced h =
-    let ok = permitted _ old.trusted (not (IsController e)) t step.1 in
-    subst (ReadsKnown (submitted_by e (events.Reserved d) ++ drafts) (fetched_in old e (events.Reserved d) at)) (sym (exact _ old.trusted t step.2))
-    (reads_on drafts at old e (events.Reserved d) (record { proper = step.0; ok = ok; trusted = t; stood = traced.stood; image = (event_keeps done old e (events.Reserved d) ok traced.stood traced.caused).image }) h)
-reads_step done drafts at old e reply new step t u traced h =
-    let ok = permitted _ old.trusted (not (IsController e)) t step.1 in
-    subst (ReadsKnown (submitted_by e reply ++ drafts) (fetched_in old e reply at)) (sym (exact _ old.trusted t step.2))
-    (reads_on drafts at old e reply (record { proper = step.0; ok = ok; trusted = t; stood = traced.stood; image = (event_keeps done old e reply ok traced.stood traced.caused).image }) h)
-
 -- the images at the latest fetches
 abbrev pub images_of : Images → List Made → Images
 images_of at [] = at
 images_of at (m ∷ made) = images_of (fetched_in m.before m.event m.reply at) made
 
-pub reads_along : (done made : List Made) (s end : State) (drafts : List DraftContents) (at : Images) → Steps s made end → end.trusted ≡ true → Traced done s → ReadsKnown drafts at s
-    → Traced (done ++ made) end × ReadsKnown (drafts_of made ++ drafts) (images_of at made) end
-reads_along done [] s end drafts at steps t traced h =
-    subst (λ (ys : List Made). Traced ys end × ReadsKnown drafts at end) (sym (append-nil done)) (subst (Traced done) (sym steps) traced, subst (ReadsKnown drafts at) (sym steps) h)
-reads_along done (m ∷ made) s end drafts at (is, mid, step, rest) t traced h =
-    let now = trusted_at_first (m ∷ made) s end (is, mid, step, rest) t in
-    let then' = trusted_at_first made mid end rest t in
-    let more = subst (λ (y : Made). Traced (done ++ y ∷ []) mid) (sym (as_made m s is)) (traced_step done s m.event m.reply mid step now then' traced) in
-    let k = subst (λ (y : State). ReadsKnown (submitted_by m.event m.reply ++ drafts) (fetched_in y m.event m.reply at) mid) (sym is) (reads_step done drafts at s m.event m.reply mid step now then' traced h) in
-    let r = reads_along (done ++ m ∷ []) made mid end (submitted_by m.event m.reply ++ drafts) (fetched_in m.before m.event m.reply at) rest t more k in (
-      subst (λ (ys : List Made). Traced ys end) (append_assoc done (m ∷ []) made) r.0,
-      subst (λ (ds : List DraftContents). ReadsKnown ds (images_of (fetched_in m.before m.event m.reply at) made) end) (sym (append_assoc (drafts_of made) (submitted_by m.event m.reply) drafts)) r.1,
-    )
+pub images_append : (at : Images) (xs ys : List Made) → images_of at (xs ++ ys) ≡ images_of (images_of at xs) ys
+images_append at [] ys = refl
+images_append at (x ∷ xs) ys = images_append (fetched_in x.before x.event x.reply at) xs ys
+
+pub record ReadsSo (image : List ℕ) (done : List Made) (s : State) : Type 0 where
+  pub traced : Traced done s
+  pub reads : ReadsKnown (drafts_of done) (images_of (λ q cid. image) done) s
+
+reads_more : (image : List ℕ) (done : List Made) (m : Made) (t : State) → Traced (done ++ m ∷ []) t
+    → ReadsKnown (submitted_by m.event m.reply ++ drafts_of done) (fetched_in m.before m.event m.reply (images_of (λ q cid. image) done)) t → ReadsSo image (done ++ m ∷ []) t
+reads_more image done m t traced h = record {
+  traced = traced;
+  reads = subst (λ (ds : List DraftContents). ReadsKnown ds (images_of (λ q cid. image) (done ++ m ∷ [])) t) (sym (drafts_more done m))
+      (subst (λ (at : Images). ReadsKnown (submitted_by m.event m.reply ++ drafts_of done) at t) (sym (images_append (λ q cid. image) done (m ∷ []))) h);
+}
+
+pub reads_carried : (image : List ℕ) → Carried (ReadsSo image)
+reads_carried image = record {
+  refused = λ done s e why touched h. reads_more image done (made_of s e (events.Refused why touched)) s (traced_carried.refused done s e why touched h.traced)
+      (refused_same s (drafts_of done) (images_of (λ q cid. image) done) e why touched h.reads);
+  taken = λ done s e reply proper ok t h. reads_more image done (made_of s e reply) (a.after s e reply) (traced_carried.taken done s e reply proper ok t h.traced)
+      (reads_on (drafts_of done) (images_of (λ q cid. image) done) s e reply
+      (record { proper = proper; ok = ok; trusted = t; stood = h.traced.stood; image = (event_keeps done s e reply ok h.traced.stood h.traced.caused).image }) h.reads);
+}
+
+pub reads_before : (image : List ℕ) (earlier later : List Made) (m : Made) (end : State) → TrustedRun image (earlier ++ m ∷ later) end → Before (ReadsSo image) earlier m
+reads_before image =
+    run_before (ReadsSo image) (keeps (ReadsSo image) (reads_carried image)) image
+    (λ pages queues n s opens. record { traced = record { stood = stood_at_opening pages queues n s image opens; caused = tt }; reads = record { records = tt; images = λ q cid. refl } })

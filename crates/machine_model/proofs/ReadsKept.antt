@@ -9,9 +9,8 @@ use Rattle.std.proofs.lemmas.Grind.{common_steps}
 use Rattle.block_image.specs.Blocks.{blocks_at}
 use Rattle.sgl_descriptor.specs.declared.Direction.{Direction}
 use Rattle.sgl_descriptor.specs.declared.Direction.TheVariants.{Destination}
-use Rattle.sgl_descriptor.specs.declared.Part.{Part}
 use Rattle.sgl_descriptor.specs.Spelling.{spelling}
-use Rattle.sgl_descriptor.specs.Targets.{targets, counted_in}
+use Rattle.sgl_descriptor.specs.Targets.{Target, targets, counted_in}
 use Rattle.sgl_descriptor.proofs.Counts.{length-targets}
 use Rattle.controller_walk.specs.Units.{Course, units, first_passing}
 use Rattle.controller_walk.specs.Along.{MovesByte}
@@ -223,7 +222,7 @@ all_came s stood at r request m w kind k j l sq sc st v reading i p target =
     ap (λ (x : Request). parts_of x.pieces r.data_pages) (sym ids.1) ∙ ap (λ (x : Record). parts_of l.request.pieces x.data_pages) ids.0 in
     let moved : MovesByte i (course_of s j) =
     list_moves_all (memory_of s.memory) j.entry.sgl1 (direction_of_entry j.entry) (need_of_entry j.entry) whole.ends i p
-    (ap (λ (ps : List Part). slice_get (targets (direction_of_entry j.entry) ps) i) (whole.takes ∙ sym parts) ∙ ap (λ (d : Direction). slice_get (targets d (parts_of request.pieces r.data_pages)) i) dir ∙ target) in
+    (ap (λ (ts : List Target). slice_get ts i) (whole.takes ∙ ap (targets (direction_of_entry j.entry)) (sym parts)) ∙ ap (λ (d : Direction). slice_get (targets d (parts_of request.pieces r.data_pages)) i) dir ∙ target) in
     subst (λ (n : ℕ). i < n) (sym reading.came)
     (all_reached 0 i (course_of s j) j.units_done (list_ordered (memory_of s.memory) j.entry.sgl1 (direction_of_entry j.entry) (need_of_entry j.entry)) moved (reading.over st v))
 
@@ -278,9 +277,9 @@ quiet_jobs s e reply r request x drafts at h sub = record {
         came = c.came ∙ ap (λ (y : Course). reach 0 (take j.units_done (units y))) (sym course);
         over = λ st v. subst (λ (y : Course). length (units y) ≤ j.units_done) (sym course) (c.over st v);
       };
-  fails = λ n j st waiting found far lost known sq sc well. absurd (true≢false (sym well ∙ lost));
-  manages = λ j zero sq. absurd (true≢false (sym (eq-eqb r.q 0 (sym sq ∙ zero)) ∙ queue_of s r request x.member x.work));
-  begins = λ q entry is next not0 sq sc well.
+  fails = λ n j st waiting found far lost none known sq sc well. absurd (true≢false (sym well ∙ lost));
+  manages = λ entry st dw0 is next free sq. absurd (true≢false (sym (eq-eqb r.q 0 (sym sq)) ∙ queue_of s r request x.member x.work));
+  begins = λ q entry is next not0 free sq sc well.
       let hand = in_hand s q entry next in
       let its = own_entry s r request x.member x.work sub q entry hand sq sc in
       begun_reading s (a.after s e reply) (fetched_in s e reply at) r request x.member x.work x.kind q entry its.0 its.1

@@ -1,5 +1,5 @@
 -- The walk of a Read brings it further.
-use Rattle.std.proofs.Common.{◌≡◌, ℕ, zero, suc, ◌+◌, ◌/◌, ◌%◌, ◌<◌, ◌≤◌, ◌==◌, Bool, true, false, ◌&&◌, Option, Some, None, List, [], ◌∷◌, length, take, drop, slice_get, slice_set, is_some, if◌then◌else◌, refl, ap, sym, ◌∙◌, arith, subst, eqb-true, eq-eqb}
+use Rattle.std.proofs.Common.{◌≡◌, ℕ, zero, suc, ◌+◌, ◌/◌, ◌%◌, ◌<◌, ◌≤◌, ◌==◌, Bool, true, false, ◌&&◌, Option, Some, None, List, [], ◌∷◌, length, take, drop, slice_get, slice_set, is_some, if◌then◌else◌, refl, ap, sym, ◌∙◌, arith, subst, eqb-true, eq-eqb, not}
 use Rattle.std.specs.Option.{option_map_or, option_and_then}
 use Rattle.std.specs.List.{AllByRecursion}
 use Rattle.std.proofs.lemmas.Bool.{true≢false, and_parts, and_from, eqb-false}
@@ -8,7 +8,6 @@ use Rattle.page_ledger.specs.Owners.{is_among}
 use Rattle.page_memory.specs.Pages.{Pages, page_at, with_bytes, with_page_bytes}
 use Rattle.sgl_descriptor.specs.declared.Direction.{Direction}
 use Rattle.sgl_descriptor.specs.declared.Direction.TheVariants.{Destination}
-use Rattle.sgl_descriptor.specs.declared.Part.{Part}
 use Rattle.sgl_descriptor.specs.Spelling.{spelling, descriptor_of}
 use Rattle.sgl_descriptor.specs.Targets.{Target, Place, targets}
 use Rattle.controller_walk.specs.Units.{Act, Stays, Reads, Moves, Course, Closes, Does, units}
@@ -22,11 +21,11 @@ use Rattle.io_commands.specs.Asked.{Request}
 use Rattle.io_commands.specs.declared.request.Kind.TheVariants.{Read}
 use Rattle.io_commands.specs.Requests.{parts_of, direction_of}
 use Rattle.io_commands.specs.Drafts.{DraftContents}
-use Rattle.io_commands.specs.Jobs.{verdict_of, need_of_entry, direction_of_entry}
+use Rattle.io_commands.specs.Jobs.{need_of_entry, direction_of_entry}
 use Rattle.machine_model.specs.Memory.{memory_of}
 use Rattle.machine_model.specs.Commands.{Io}
-use Rattle.machine_model.specs.State.{State, HostQueue, HostState, Live, Deleting, Retired, Gone, DeviceQueue, Record, Phase, Drafted, Submitted, Held, Collected, Job, is_at}
-use Rattle.machine_model.specs.Refusals.{is_submitted, is_held, refusal_of, job_at}
+use Rattle.machine_model.specs.State.{State, HostQueue, DeviceQueue, Record, Phase, Drafted, Submitted, Held, Collected, Job, is_at}
+use Rattle.machine_model.specs.Refusals.{is_submitted, is_held, refusal_of, job_at, has_sq}
 use Rattle.machine_model.specs.Step.{unit_answered}
 use Rattle.machine_model.specs.Standing.{unfetched_at}
 use Rattle.machine_model.specs.After as a
@@ -38,7 +37,7 @@ use Rattle.machine_model.proofs.Totals.{total, here}
 use Rattle.machine_model.proofs.Steps.{Accepts}
 use Rattle.machine_model.proofs.Owned.{in_record}
 use Rattle.machine_model.proofs.Placed.{is_job, find_sound, gone_at}
-use Rattle.machine_model.proofs.Paired.{is_past, is_over, linked_from_tied}
+use Rattle.machine_model.proofs.Paired.{linked_from_tied}
 use Rattle.machine_model.proofs.Tied.{tied_from_fit}
 use Rattle.machine_model.proofs.Members.{In, in_found, all_in, all_at_found, sent}
 use Rattle.machine_model.proofs.Elsewhere.{owned_once, bytes_elsewhere}
@@ -58,24 +57,16 @@ use Rattle.machine_model.proofs.JobsMove.{JobsMove, jobs_event, walked, walked_b
 use Rattle.machine_model.proofs.QueuesMove.{queues_walk}
 use Rattle.machine_model.proofs.Reading.{Images, read_targets, read_blocks, Reading, ReadingIf, UnreadEntry, FullAnswer, ReadSoFar, Member, sized_of, queue_of}
 use Rattle.machine_model.proofs.ReadsKept.{job_request}
+use Rattle.machine_model.proofs.DeviceMoves.{unit_memory, walk_is}
+use Rattle.machine_model.proofs.Halves.{sq_stays}
 
 -- What a walk writes
 
 abbrev written_by_act : State → Job → Act → Pages
-written_by_act s j Stays = s.memory
-written_by_act s j (Reads place) = s.memory
-written_by_act s j (Moves place n offset) = with_page_bytes s.memory (place / 4096) (place % 4096) (take n (drop offset j.bytes))
+written_by_act s j act = unit_memory s j Destination act
 
 walk_memory : (s : State) (q cid : ℕ) (j : Job) (act : Act) → job_at s q cid ≡ Some j → a.next_unit s j ≡ Some act → direction_of_entry j.entry ≡ Destination → (a.after_walk q cid s).memory ≡ written_by_act s j act
-walk_memory s q cid j act found u dir =
-    ap (λ (o : Option Job). (option_map_or (λ j. option_map_or (λ act. a.on_job q cid (λ k. record k { units_done = k.units_done + 1; verdict = verdict_of (a.next_answer s j) }) (a.moved (direction_of_entry j.entry) act q cid s)) (a.next_unit s j) s) o s).memory) found
-    ∙ ap (λ (o : Option Act). (option_map_or (λ act. a.on_job q cid (λ k. record k { units_done = k.units_done + 1; verdict = verdict_of (a.next_answer s j) }) (a.moved (direction_of_entry j.entry) act q cid s)) o s).memory) u
-    ∙ ap (λ (d : Direction). (a.moved d act q cid s).memory) dir ∙ by act
-  where
-    by : (act : Act) → (a.moved Destination act q cid s).memory ≡ written_by_act s j act
-    by Stays = refl
-    by (Reads place) = refl
-    by (Moves place n offset) = ap (λ (o : Option Job). (option_map_or (λ j. a.on_memory (λ m. with_page_bytes m (place / 4096) (place % 4096) (take n (drop offset j.bytes))) s) o s).memory) found
+walk_memory s q cid j act found u dir = ap (λ (t : State). t.memory) (sym (walk_is s q cid j act found u)) ∙ ap (λ (d : Direction). unit_memory s j d act) dir
 
 move_at : (m : Pages) (ts : List Target) (c : Course) (t place n offset : ℕ) → MovesTo m ts c → slice_get (units c) t ≡ Some (Moves place n offset) → MoveTo m ts place n offset
 move_at m ts (Closes v) t place n offset h e = absurd cc
@@ -132,17 +123,11 @@ job_not_past s g q cid j found = go (slice_get s.host.queues q) refl
     there : gone_at s.device.queues q ≡ false
     there = (linked_from_tied s g.rings (tied_from_fit s g.fit)).jobs_have_queues q cid (ap is_some found)
 
-    past_over : (st : HostState) → (is_over st ≡ true → ⊥) → is_past st ≡ false
-    past_over Live far = refl
-    past_over (Deleting noted) far = refl
-    past_over Retired far = absurd (far refl)
-    past_over Gone far = absurd (far refl)
-
-    go : (o : Option HostQueue) → slice_get s.host.queues q ≡ o → option_map_or (λ h. is_past h.state) o false ≡ false
+    go : (o : Option HostQueue) → slice_get s.host.queues q ≡ o → option_map_or (λ h. not (has_sq h.state)) o false ≡ false
     go None o = refl
     go (Some queue) o =
         let pair = pair_at s g q queue o in
-        past_over queue.state (λ over. true≢false (sym (pair.2.over over) ∙ sym (ap (λ (o : Option DeviceQueue). option_map_or (λ at. is_absent at.state) o true) pair.1) ∙ there))
+        ap not (sq_stays queue.state (λ over. true≢false (sym (pair.2.over over) ∙ sym (ap (λ (o : Option DeviceQueue). option_map_or (λ at. is_absent at.state) o true) pair.1) ∙ there)))
 
 no_entry : (s : State) → Stood s → (q cid : ℕ) (j : Job) → job_at s q cid ≡ Some j → (P : SubEntry → Type 0) → AllByRecursion (λ (e : SubEntry). e.cid ≡ cid → P e) (unfetched_at s.device.queues q)
 no_entry s stood q cid j found P =
@@ -236,9 +221,9 @@ further s q cid r request j act x o touched ok drafts at h = (
     to_all =
         let whole = course_whole s x.stood j x.walking.list in
         subst (λ (d : Direction). MovesTo s.memory (targets d (parts_of request.pieces r.data_pages)) (course_of s j)) dir
-        (moves_to s.memory (memory_of s.memory) (direction_of_entry j.entry) (need_of_entry j.entry) x.walking.list.command.chain_pages x.walking.list.command.data_pages (parts_of request.pieces r.data_pages)
+        (moves_to s.memory (memory_of s.memory) (direction_of_entry j.entry) (need_of_entry j.entry) x.walking.list.command.chain_pages x.walking.list.command.data_pages (targets (direction_of_entry j.entry) (parts_of request.pieces r.data_pages))
         (λ p own. h.whole p (ap (λ (y : Record). is_among y.data_pages p) same.0 ∙ own)) (course_of s j) (taken [] (descriptor_of j.entry.sgl1))
-        (list_moves_along (memory_of s.memory) j.entry.sgl1 (direction_of_entry j.entry) (need_of_entry j.entry)) (whole.takes ∙ parts) (course_in s j x.walking.list))
+        (list_moves_along (memory_of s.memory) j.entry.sgl1 (direction_of_entry j.entry) (need_of_entry j.entry)) (whole.takes ∙ ap (targets (direction_of_entry j.entry)) parts) (course_in s j x.walking.list))
 
     to : (place n offset : ℕ) → act ≡ Moves place n offset → MoveTo s.memory (read_targets r request) place n offset
     to place n offset is = move_at s.memory (read_targets r request) (course_of s j) j.units_done place n offset to_all (x.unit ∙ ap (λ (y : Act). Some y) is)
@@ -253,7 +238,7 @@ further s q cid r request j act x o touched ok drafts at h = (
         let whole = course_whole s x.stood j x.walking.list in
         let moved : MovesByte i (course_of s j) =
         list_moves_all (memory_of s.memory) j.entry.sgl1 (direction_of_entry j.entry) (need_of_entry j.entry) whole.ends i p
-        (ap (λ (ps : List Part). slice_get (targets (direction_of_entry j.entry) ps) i) (whole.takes ∙ parts) ∙ ap (λ (d : Direction). slice_get (targets d (parts_of request.pieces r.data_pages)) i) dir ∙ target) in
+        (ap (λ (ts : List Target). slice_get ts i) (whole.takes ∙ ap (targets (direction_of_entry j.entry)) parts) ∙ ap (λ (d : Direction). slice_get (targets d (parts_of request.pieces r.data_pages)) i) dir ∙ target) in
         subst (λ (m : ℕ). i < m) (sym reading.came)
         (below_reached 0 i (course_of s j) j.units_done place n offset (list_ordered (memory_of s.memory) j.entry.sgl1 (direction_of_entry j.entry) (need_of_entry j.entry)) moved (x.unit ∙ ap (λ (y : Act). Some y) is) lt)
 
@@ -330,8 +315,8 @@ further s q cid r request j act x o touched ok drafts at h = (
     job_moves : JobsMove (ReadingIf at s r request h.k) (ReadingIf at (a.after_walk q cid s) r request (came act h.k)) s (events.Walk q cid)
     job_moves = record {
       stays = λ n y found far known yq yc well. absurd (true≢false (sym (and_from (y.q == q) (y.entry.cid == cid) (eq-eqb y.q q (yq ∙ ids.0)) (eq-eqb y.entry.cid cid (yc ∙ ids.1))) ∙ far));
-      fails = λ n y st waiting found far lost known yq yc well. absurd (true≢false (sym well ∙ lost));
-      manages = λ y zero yq. absurd (true≢false (sym (eq-eqb r.q 0 (sym yq ∙ zero)) ∙ queue_of s r request x.member x.work));
+      fails = λ n y st waiting found far lost none known yq yc well. absurd (true≢false (sym well ∙ lost));
+      manages = λ entry st dw0 is next free yq. absurd (true≢false (sym (eq-eqb r.q 0 (sym yq)) ∙ queue_of s r request x.member x.work));
       begins = λ n entry is. absurd (no_fetch is);
       walks = λ n c y act' is w u known yq yc well.
           let one : y ≡ j = one_job n c y is w.found in

@@ -8,8 +8,9 @@ use Rattle.io_commands.specs.Values.{numbers_of}
 use Rattle.io_commands.specs.Asked.{Request}
 use Rattle.controller_walk.specs.Units.{first_passing}
 use Rattle.machine_model.specs.State.{State, Record, Phase, record_at, pages_of}
-use Rattle.machine_model.specs.Refusals.{record_is, is_of, asks_for}
+use Rattle.machine_model.specs.Refusals.{causes, refusal_of, record_is, is_of, asks_for}
 use Rattle.std.specs.Cmp.Lexicographic.{pointwise, same_text}
+use Rattle.machine_model.specs.Events.{Event}
 
 pub first_fails : {A : Type 0} (c : Bool) (x : A) (rest : List (Bool × A)) → first_passing ((c, x) ∷ rest) ≡ None → c ≡ false
 first_fails true x rest h = absurd cc
@@ -18,6 +19,15 @@ first_fails false x rest h = refl
 pub rest_fails : {A : Type 0} (c : Bool) (x : A) (rest : List (Bool × A)) → first_passing ((c, x) ∷ rest) ≡ None → first_passing rest ≡ None
 rest_fails true x rest h = absurd cc
 rest_fails false x rest h = h
+
+pub all_fail : {A : Type 0} (cs : List (Bool × A)) → first_passing cs ≡ None → AllByRecursion (λ c. c.0 ≡ false) cs
+all_fail [] h = tt
+all_fail ((true, x) ∷ rest) h = absurd cc
+all_fail ((false, x) ∷ rest) h = (refl, all_fail rest h)
+
+-- each cause of an event that is not refused
+pub unrefused : (s : State) (e : Event) → refusal_of s e ≡ None → AllByRecursion (λ c. c.0 ≡ false) (causes s e)
+unrefused s e none = all_fail (causes s e) none
 
 pub same_lists : (xs ys : List ℕ) → pointwise nat_eq xs ys ≡ true → xs ≡ ys
 same_lists xs ys h = same_text xs ys (sym h)

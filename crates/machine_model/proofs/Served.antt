@@ -9,7 +9,7 @@ use Rattle.page_memory.specs.Memory.{Memory, bytes_at, page_of}
 use Rattle.page_memory.specs.Pages.{Pages, page_at, byte_at}
 use Rattle.sgl_descriptor.specs.declared.Part.{Part}
 use Rattle.sgl_descriptor.specs.Spelling.{spelling, descriptor_of}
-use Rattle.sgl_descriptor.specs.Targets.{counted_in}
+use Rattle.sgl_descriptor.specs.Targets.{counted_in, targets}
 use Rattle.sgl_chain.specs.Laws.{HasBytesOf}
 use Rattle.sgl_chain.proofs.Larger.{spells_there}
 use Rattle.controller_walk.specs.declared.walk.WalkState.TheVariants.{End, Fault}
@@ -229,10 +229,10 @@ low_places m few place h =
     inside (x ∷ m) zero h = omega arith
     inside (x ∷ m) (suc p) h = omega (arith, inside m p h)
 
--- it ends well, with each of its parts taken, and they count what is moved
+-- it ends well, the parts that are taken have the targets of its parts, and those count what is moved
 pub record CourseWhole (s : State) (j : Job) (parts : List Part) : Type 0 where
   pub ends : verdict (course_of s j) ≡ End
-  pub takes : parts_taken (memory_of s.memory) (taken_parts [] (descriptor_of j.entry.sgl1)) (course_of s j) ≡ parts
+  pub takes : targets (direction_of_entry j.entry) (parts_taken (memory_of s.memory) (taken_parts [] (descriptor_of j.entry.sgl1)) (course_of s j)) ≡ targets (direction_of_entry j.entry) parts
   pub counts : counted_in (direction_of_entry j.entry) parts ≡ need_of_entry j.entry
 
 pub course_whole : (s : State) → Stood s → (j : Job) (l : JobList s j) → CourseWhole s j (parts_of l.request.pieces l.command.data_pages)

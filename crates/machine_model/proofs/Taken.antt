@@ -1,5 +1,5 @@
 -- A page is out where a drafted or collected command has it: what each host event does to that.
-use Rattle.std.proofs.Common.{◌≡◌, ℕ, zero, suc, ◌+◌, ◌<◌, ◌≤◌, ◌==◌, Bool, true, false, not, ◌&&◌, ◌||◌, Option, Some, None, List, [], ◌∷◌, length, filter, flat_map, slice_get, slice_set, is_some, if◌then◌else◌, refl, ap, sym, ◌∙◌, arith, length-set, eqb-true}
+use Rattle.std.proofs.Common.{◌≡◌, ℕ, zero, suc, ◌+◌, ◌<◌, ◌≤◌, ◌==◌, Bool, true, false, not, ◌&&◌, ◌||◌, Option, Some, None, List, [], ◌∷◌, length, slice_get, slice_set, is_some, if◌then◌else◌, refl, ap, sym, ◌∙◌, arith, length-set, eqb-true}
 use Rattle.std.specs.List.{list_any}
 use Rattle.std.proofs.lemmas.Bool.{true≢false, eqb-false, or_parts}
 use Rattle.page_ledger.specs.Owners.{is_among}
@@ -7,10 +7,9 @@ use Rattle.io_commands.specs.Values.{numbers_of}
 use Rattle.page_memory.specs.Pages.{Pages}
 use Rattle.machine_model.specs.Memory.{is_in, with_pages, without_pages}
 use Rattle.machine_model.specs.State.{State, Record, Phase, Drafted, Submitted, Held, Collected, pages_of}
-use Rattle.machine_model.specs.Step.{times}
 use Rattle.machine_model.specs.Refusals.{is_drafted, is_collected}
 use Rattle.machine_model.specs.Claims.{is_away, IsOutWithItsCommand}
-use Rattle.machine_model.proofs.Counting.{times-append, held_once, not_held}
+use Rattle.machine_model.proofs.Counting.{held_once, not_held}
 use Rattle.machine_model.proofs.Totals.{total}
 use Rattle.machine_model.proofs.Parts.{in_store, length-in_store}
 use Rattle.machine_model.proofs.Owned.{in_record}
@@ -97,15 +96,6 @@ none_here (suc n) e = absurd (omega arith)
 pub some_here : (n : ℕ) → 0 < n → none n ≡ false
 some_here zero e = absurd (omega arith)
 some_here (suc n) e = refl
-
-pub taken_is : (p : ℕ) (records : List Record) → times p (flat_map pages_of (filter (λ r. is_out r.phase) records)) ≡ total (taken p) records
-taken_is p [] = refl
-taken_is p (r ∷ records) = go (is_out r.phase) (taken_is p records)
-  where
-    go : (b : Bool) → times p (flat_map pages_of (filter (λ r. is_out r.phase) records)) ≡ total (taken p) records
-        → times p (flat_map pages_of (if b then r ∷ filter (λ r. is_out r.phase) records else filter (λ r. is_out r.phase) records)) ≡ (if b then in_record p r else 0) + total (taken p) records
-    go true e = omega (arith, times-append p (pages_of r) (flat_map pages_of (filter (λ r. is_out r.phase) records)), e)
-    go false e = omega (arith, e)
 
 pub taken_le : (p : ℕ) (records : List Record) → total (taken p) records ≤ total (in_record p) records
 taken_le p [] = omega arith

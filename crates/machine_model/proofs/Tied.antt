@@ -1,22 +1,18 @@
 -- Every event keeps the controller's queues tied to the host's.
-use Rattle.std.proofs.Common.{◌≡◌, ℕ, zero, suc, ◌+◌, ◌-◌, ◌%◌, ◌<◌, ◌==◌, nat_lt, Bool, true, false, not, ◌&&◌, Option, Some, None, List, [], ◌∷◌, ◌++◌, map, filter, take, drop, ◌/◌, slice_get, is_none, option_and_then, if◌then◌else◌, refl, ap, sym, ◌∙◌, arith, subst, eqb-true}
+use Rattle.std.proofs.Common.{◌≡◌, ℕ, zero, suc, ◌+◌, ◌-◌, ◌<◌, ◌==◌, nat_lt, Bool, true, false, not, ◌&&◌, Option, Some, None, List, [], ◌∷◌, ◌++◌, map, filter, drop, slice_get, is_none, option_and_then, if◌then◌else◌, refl, ap, sym, ◌∙◌, arith, subst, eqb-true}
 use Rattle.std.specs.Option.{option_map_or}
 use Rattle.std.specs.List.{list_any}
 use Rattle.std.proofs.lemmas.Bool.{true≢false, and_parts, or_parts}
-use Rattle.controller_walk.specs.Units.{Act, Stays, Reads, Moves}
 use Rattle.machine_model.proofs.Managed.{managed_by_case, absent_state}
-use Rattle.sgl_descriptor.specs.declared.Direction.TheVariants.{Destination, Source}
-use Rattle.sgl_descriptor.specs.declared.Direction.{Direction}
 use Rattle.admin_commands.specs.declared.SqState.TheVariants.{Absent, Live as Running, Stopping}
 use Rattle.admin_commands.specs.declared.SqState.{SqState}
 use Rattle.admin_commands.specs.Entries.{named_queue, named_command}
 use Rattle.admin_commands.specs.Verdicts.{is_absent, is_live as is_running}
 use Rattle.entry_codec.specs.declared.submission.SubEntry.{SubEntry}
-use Rattle.page_memory.specs.Pages.{with_bytes, with_page_bytes}
-use Rattle.entry_codec.specs.declared.status.TheConstants.Status.{SUCCESS, COMMAND_ID_CONFLICT, ABORT_REQUESTED, ABORTED_SQ_DELETION, INVALID_QUEUE_IDENTIFIER, INVALID_QUEUE_DELETION, INVALID_OPCODE, INVALID_FIELD}
+use Rattle.entry_codec.specs.declared.status.TheConstants.Status.{SUCCESS, ABORT_REQUESTED, ABORTED_SQ_DELETION, INVALID_QUEUE_IDENTIFIER, INVALID_QUEUE_DELETION, INVALID_OPCODE, INVALID_FIELD}
 use Rattle.entry_codec.specs.declared.status.Status.{Status}
 use Rattle.io_commands.specs.Jobs.{is_success}
-use Rattle.machine_model.specs.State.{State, Device, DeviceQueue, Job}
+use Rattle.machine_model.specs.State.{Answer, State, Device, DeviceQueue, Job}
 use Rattle.machine_model.specs.Refusals.{device_queue, next_rung, job_at, conflicts, fetch_slot, waits}
 use Rattle.machine_model.specs.Step.{HostPart, host_part}
 use Rattle.machine_model.specs.After as a
@@ -25,15 +21,15 @@ use Rattle.machine_model.specs.After.{change}
 use Rattle.machine_model.proofs.Counting.{one}
 use Rattle.machine_model.proofs.Totals.{total, total-append, total-map, total-filter}
 use Rattle.machine_model.proofs.Placed.{gone_at, is_job}
-use Rattle.machine_model.proofs.Placing.{device-answered, runs_there, verdict_there, final_admin, full_or_out, waits_or_out}
-use Rattle.machine_model.proofs.Refused.{first_fails, rest_fails}
+use Rattle.machine_model.proofs.Placing.{runs_there, verdict_there, final_admin}
 use Rattle.machine_model.specs.Events as events
 use Rattle.machine_model.specs.Refusals.{refusal_of}
 use Rattle.machine_model.proofs.Paired.{on_queue, Tied}
 use Rattle.machine_model.proofs.Tying.{Fit, fit_jobs, fit_device, fit_stop, fit_drop, fit_kill}
 use Rattle.entry_codec.specs.declared.admin_opcode.TheConstants.{DELETE_IO_SQ}
-use Rattle.io_commands.specs.Jobs.{direction_of_entry, verdict_of}
 use Rattle.io_commands.specs.Jobs.{io_fault, bytes_after_check}
+use Rattle.machine_model.proofs.DeviceMoves.{unit_done, finished, cleared, fetch_by, walk_by, complete_by}
+use Rattle.machine_model.proofs.Refused.{unrefused}
 
 abbrev pub FitP : HostPart → Device → Type 0
 FitP part d = Fit part.entries part.host.records part.host.queues d.queues d.jobs
@@ -46,21 +42,8 @@ tied_from_fit s h = record { some_entries = h.some_entries; pairs = h.pairs; job
 
 -- The controller's events change its device alone
 
-FitD : State → Device → Type 0
-FitD s d = FitP (host_part s) d
-
-fit-answered : (q cid : ℕ) (st : Status) (dw0 : ℕ) (s : State) (part : HostPart) → FitP part s.device → FitP part (a.answered q cid st dw0 s).device
-fit-answered q cid st dw0 s part h =
-    subst (FitP part) (sym (device-answered q cid st dw0 s))
-    (fit_device part.entries part.host.records part.host.queues s.device.queues s.device.jobs q (λ at. record at { answers = at.answers ++ record { cid = cid; status = st; dw0 = dw0; sq_head = fetch_slot s q } ∷ [] }) (λ d. refl) (λ d. refl) h)
-
-fit-option : {A : Type 0} (part : HostPart) (f : A → State) (o : Option A) (s : State) → FitP part s.device → ((x : A) → o ≡ Some x → FitP part (f x).device) → FitP part (option_map_or f o s).device
-fit-option part f None s h each = h
-fit-option part f (Some x) s h each = each x refl
-
-fit-if : (part : HostPart) (b : Bool) (t u : State) → (b ≡ true → FitP part t.device) → (b ≡ false → FitP part u.device) → FitP part (if b then t else u).device
-fit-if part true t u ht hu = ht refl
-fit-if part false t u ht hu = hu refl
+fit-answered : (part : HostPart) (q : ℕ) (an : Answer) (d : Device) → FitP part d → FitP part (record d { queues = change q (λ at. record at { answers = at.answers ++ an ∷ [] }) d.queues })
+fit-answered part q an d h = fit_device part.entries part.host.records part.host.queues d.queues d.jobs q (λ at. record at { answers = at.answers ++ an ∷ [] }) (λ d. refl) (λ d. refl) h
 
 -- a job more, of a queue that is there
 fit-more : (part : HostPart) (d : Device) (j : Job) → gone_at d.queues j.q ≡ false → FitP part d → FitP part (record d { jobs = d.jobs ++ j ∷ [] })
@@ -131,36 +114,18 @@ rung_gone s q e h = go (device_queue s q) h
 
 pub fit-fetch : (part : HostPart) (q : ℕ) (s : State) → FitP part s.device → FitP part (a.after_fetch q s).device
 fit-fetch part q s h =
-    fit-option part
-    (λ e. if conflicts s q then a.answered q e.cid COMMAND_ID_CONFLICT 0 (a.taken_off q s) else if q == 0 then a.managed e (a.taken_off 0 s) else a.begun q e (a.taken_off q s))
-    (next_rung s q) s h
-    (λ e next.
-    let off : (k : ℕ) → FitP part (a.taken_off k s).device = λ k. fit_device part.entries part.host.records part.host.queues s.device.queues s.device.jobs k (λ at. record at { unfetched = drop 1 at.unfetched; rung = at.rung - 1 }) (λ d. refl) (λ d. refl) h in
-    let there : gone_at s.device.queues q ≡ false = rung_gone s q e next in
-    let kept : (k : ℕ) → gone_at (a.taken_off k s).device.queues q ≡ false = λ k. gone_kept (λ at. record at { unfetched = drop 1 at.unfetched; rung = at.rung - 1 }) (λ d z. z) k s.device.queues q there in
-    fit-if part (conflicts s q) (a.answered q e.cid COMMAND_ID_CONFLICT 0 (a.taken_off q s)) (if q == 0 then a.managed e (a.taken_off 0 s) else a.begun q e (a.taken_off q s))
-    (λ c. fit-answered q e.cid COMMAND_ID_CONFLICT 0 (a.taken_off q s) part (off q))
-    (λ c. fit-if part (q == 0) (a.managed e (a.taken_off 0 s)) (a.begun q e (a.taken_off q s))
-    (λ z. fit-managed part e (a.taken_off 0 s) (subst (λ (k : ℕ). gone_at (a.taken_off 0 s).device.queues k ≡ false) (eqb-true q 0 z) (kept 0)) (off 0))
-    (λ z. let fault = io_fault (a.image_blocks (a.taken_off q s)) e in
-    fit-more part (a.taken_off q s).device (a.new_job q e fault 0 (bytes_after_check s.device.image e fault)) (kept q) (off q))))
+    fetch_by (λ (t : State). FitP part t.device) s q h (λ e next c. fit-answered part q _ (a.taken_off q s).device (off q))
+    (λ e next c z. fit-managed part e (a.taken_off 0 s) (subst (λ (k : ℕ). gone_at (a.taken_off 0 s).device.queues k ≡ false) z (kept e next 0)) (off 0))
+    (λ e next c other. let fault = io_fault (a.image_blocks (a.taken_off q s)) e in fit-more part (a.taken_off q s).device (a.new_job q e fault 0 (bytes_after_check s.device.image e fault)) (kept e next q) (off q))
+  where
+    off : (k : ℕ) → FitP part (a.taken_off k s).device
+    off k = fit_device part.entries part.host.records part.host.queues s.device.queues s.device.jobs k (λ at. record at { unfetched = drop 1 at.unfetched; rung = at.rung - 1 }) (λ d. refl) (λ d. refl) h
 
-fit-moved : (part : HostPart) (dir : Direction) (act : Act) (q cid : ℕ) (s : State) → FitP part s.device → FitP part (a.moved dir act q cid s).device
-fit-moved part dir Stays q cid s h = h
-fit-moved part dir (Reads place) q cid s h = h
-fit-moved part Destination (Moves place n offset) q cid s h = fit-option part (λ j. a.on_memory (λ m. with_page_bytes m (place / 4096) (place % 4096) (take n (drop offset j.bytes))) s) (job_at s q cid) s h (λ j e. h)
-fit-moved part Source (Moves place n offset) q cid s h = fit-on_job part q cid (λ j. record j { bytes = with_bytes j.bytes offset (a.page_bytes s.memory place n) }) s (λ j. refl) h
+    kept : (e : SubEntry) → next_rung s q ≡ Some e → (k : ℕ) → gone_at (a.taken_off k s).device.queues q ≡ false
+    kept e next k = gone_kept (λ at. record at { unfetched = drop 1 at.unfetched; rung = at.rung - 1 }) (λ d z. z) k s.device.queues q (rung_gone s q e next)
 
 pub fit-walk : (part : HostPart) (q cid : ℕ) (s : State) → FitP part s.device → FitP part (a.after_walk q cid s).device
-fit-walk part q cid s h =
-    fit-option part
-    (λ j. option_map_or (λ act. a.on_job q cid (λ k. record k { units_done = k.units_done + 1; verdict = verdict_of (a.next_answer s j) }) (a.moved (direction_of_entry j.entry) act q cid s)) (a.next_unit s j) s)
-    (job_at s q cid) s h
-    (λ j e. fit-option part
-    (λ act. a.on_job q cid (λ k. record k { units_done = k.units_done + 1; verdict = verdict_of (a.next_answer s j) }) (a.moved (direction_of_entry j.entry) act q cid s))
-    (a.next_unit s j) s h
-    (λ act e'. fit-on_job part q cid (λ k. record k { units_done = k.units_done + 1; verdict = verdict_of (a.next_answer s j) }) (a.moved (direction_of_entry j.entry) act q cid s) (λ j. refl)
-    (fit-moved part (direction_of_entry j.entry) act q cid s h)))
+fit-walk part q cid s h = walk_by (λ (t : State). FitP part t.device) s q cid h (λ j act at u. fit-on_job part q cid (unit_done s j act) s (λ j. refl) h)
 
 -- no job of a queue is left where none passes the test
 none_left : (n : ℕ) (js : List Job) → list_any (λ k. k.q == n) js ≡ false → total (on_queue n) js ≡ 0
@@ -184,28 +149,19 @@ waited s j st v ok q0 op w = none_left (named_queue j.entry) s.device.jobs (go (
 
 pub fit-complete : (part : HostPart) (q cid : ℕ) (s : State) → refusal_of s (events.Complete q cid) ≡ None → FitP part s.device → FitP part (a.after_complete q cid s).device
 fit-complete part q cid s none h =
-    let walking = rest_fails (is_none (job_at s q cid)) events.NoJob ((refusals.job_is (λ j. is_none j.verdict) s q cid, events.Walking) ∷ waits_or_out s q cid) none in
-    let judged = first_fails (refusals.job_is (λ j. is_none j.verdict) s q cid) events.Walking (waits_or_out s q cid) walking in
-    let waiting' = rest_fails (refusals.job_is (λ j. is_none j.verdict) s q cid) events.Walking (waits_or_out s q cid) walking in
-    let free = first_fails (refusals.job_is (refusals.waits s) s q cid) events.Waits (full_or_out s q) waiting' in
-    fit-option part
-    (λ j. let st = a.final_status s j in a.answered q cid st j.dw0 (a.deletion_done j st (a.on_device (λ d. record d { image = a.image_completed j d.image }) (a.without_job q cid s))))
-    (job_at s q cid) s h
-    (λ j e.
-    let st = a.final_status s j in
-    let s1 = a.on_device (λ d. record d { image = a.image_completed j d.image }) (a.without_job q cid s) in
-    let v = verdict_there j (rw e at judged) in
-    let free' : waits s j ≡ false = rw e at free in
-    let h1 : FitP part s1.device = fit_jobs part.entries part.host.records part.host.queues s.device.queues s.device.jobs (filter (λ k. not (is_job q cid k)) s.device.jobs)
-    (λ z. total-filter (on_queue z) (λ k. not (is_job q cid k)) s.device.jobs) h in
-    fit-answered q cid st j.dw0 (a.deletion_done j st s1) part
-    (fit-if part ((j.q == 0) && (j.entry.opcode == DELETE_IO_SQ) && is_success st) (a.on_device_queue (named_queue j.entry) (λ at. record at { state = Absent; unfetched = []; rung = 0 }) s1) s1
-    (λ c.
-    let c1 = and_parts ((j.q == 0) && (j.entry.opcode == DELETE_IO_SQ)) (is_success st) c in
+    complete_by (λ (t : State). FitP part t.device) s q cid h
+    (λ j e c.
+    let judged : is_none j.verdict ≡ false = rw e at (unrefused s (events.Complete q cid) none).1.0 in
+    let free : waits s j ≡ false = rw e at (unrefused s (events.Complete q cid) none).1.1.0 in
+    let v = verdict_there j judged in
+    let c1 = and_parts ((j.q == 0) && (j.entry.opcode == DELETE_IO_SQ)) (is_success (a.final_status s j)) c in
     let c2 = and_parts (j.q == 0) (j.entry.opcode == DELETE_IO_SQ) c1.0 in
-    let same : st ≡ v.0 = final_admin s j v.0 (eqb-true j.q 0 c2.0) v.1 in
-    let ok : is_success v.0 ≡ true = ap is_success (sym same) ∙ c1.1 in
-    let nobody = waited s j v.0 v.1 ok c2.0 c2.1 free' in
-    fit_kill part.entries part.host.records part.host.queues s.device.queues (filter (λ k. not (is_job q cid k)) s.device.jobs) (named_queue j.entry)
-    (omega (arith, nobody, total-filter (on_queue (named_queue j.entry)) (λ k. not (is_job q cid k)) s.device.jobs)) h1)
-    (λ c. h1)))
+    let ok : is_success v.0 ≡ true = ap is_success (sym (final_admin s j v.0 (eqb-true j.q 0 c2.0) v.1)) ∙ c1.1 in
+    let nobody = waited s j v.0 v.1 ok c2.0 c2.1 free in
+    fit-answered part q _ (a.on_device_queue (named_queue j.entry) cleared (finished q cid j s)).device
+    (fit_kill part.entries part.host.records part.host.queues s.device.queues (filter (λ k. not (is_job q cid k)) s.device.jobs) (named_queue j.entry)
+    (omega (arith, nobody, total-filter (on_queue (named_queue j.entry)) (λ k. not (is_job q cid k)) s.device.jobs)) less))
+    (λ j e c. fit-answered part q _ (finished q cid j s).device less)
+  where
+    less : FitP part (record s.device { jobs = filter (λ k. not (is_job q cid k)) s.device.jobs })
+    less = fit_jobs part.entries part.host.records part.host.queues s.device.queues s.device.jobs (filter (λ k. not (is_job q cid k)) s.device.jobs) (λ z. total-filter (on_queue z) (λ k. not (is_job q cid k)) s.device.jobs) h

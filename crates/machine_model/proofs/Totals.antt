@@ -1,9 +1,9 @@
 -- Sums over the records of a host.
-use Rattle.std.proofs.Common.{◌≡◌, ℕ, zero, suc, ◌+◌, ◌<◌, ◌≤◌, ◌==◌, Bool, true, false, ◌&&◌, Some, List, [], ◌∷◌, ◌++◌, map, filter, find, flat_map, slice_get, if◌then◌else◌, refl, ap, ◌∙◌, arith}
+use Rattle.std.proofs.Common.{◌≡◌, ℕ, zero, suc, ◌+◌, ◌<◌, ◌≤◌, ◌==◌, Bool, true, false, ◌&&◌, Some, List, [], ◌∷◌, ◌++◌, map, filter, find, slice_get, if◌then◌else◌, refl, ap, ◌∙◌, arith}
 use Rattle.machine_model.specs.State.{Record, is_at, without_record, with_record}
 use Rattle.machine_model.specs.Step.{times}
 use Rattle.machine_model.specs.After.{change}
-use Rattle.machine_model.proofs.Counting.{one, times-cons, times-append}
+use Rattle.machine_model.proofs.Counting.{one, times-cons}
 pub use Rattle.machine_model.specs.Weights.{total, here}
 
 pub total-append : {A : Type 0} (w : A → ℕ) (xs ys : List A) → total w (xs ++ ys) ≡ total w xs + total w ys
@@ -13,10 +13,6 @@ total-append w (x ∷ xs) ys = omega (arith, total-append w xs ys)
 pub total-map : {A : Type 0} (w : A → ℕ) (f : A → A) → ((x : A) → w (f x) ≡ w x) → (xs : List A) → total w (map f xs) ≡ total w xs
 total-map w f same [] = refl
 total-map w f same (x ∷ xs) = omega (arith, same x, total-map w f same xs)
-
-pub times-flat_map : {A : Type 0} (p : ℕ) (f : A → List ℕ) (xs : List A) → times p (flat_map f xs) ≡ total (λ x. times p (f x)) xs
-times-flat_map p f [] = refl
-times-flat_map p f (x ∷ xs) = omega (arith, times-append p (f x) (flat_map f xs), times-flat_map p f xs)
 
 pub times-outstanding : (cid q : ℕ) (records : List Record) → times cid (map (λ r. r.cid) (filter (λ r. r.q == q) records)) ≡ total (here q cid) records
 times-outstanding cid q [] = refl

@@ -1,5 +1,5 @@
 -- What a fetch and a completion touch.
-use Rattle.std.proofs.Common.{◌≡◌, ℕ, zero, suc, ◌-◌, ◌*◌, ◌/◌, ◌<◌, ◌==◌, Bool, true, false, not, ◌&&◌, ◌||◌, Option, Some, None, List, [], ◌∷◌, ◌++◌, length, flat_map, slice_get, slice_index, is_some, is_none, MatchBool, if◌then◌else◌, refl, ap, sym, ◌∙◌, arith, subst, nat_lt, option_and_then, IsTrue}
+use Rattle.std.proofs.Common.{◌≡◌, ℕ, zero, suc, ◌-◌, ◌*◌, ◌/◌, ◌<◌, ◌==◌, Bool, true, false, not, ◌&&◌, ◌||◌, Option, Some, None, List, [], ◌∷◌, ◌++◌, length, flat_map, slice_get, slice_index, is_some, is_none, if◌then◌else◌, refl, ap, sym, ◌∙◌, arith, subst, nat_lt, option_and_then}
 use Rattle.std.specs.Option.{option_map_or}
 use Rattle.std.specs.List.{list_all}
 use Rattle.std.proofs.lemmas.Bool.{true≢false, not-false, eq-eqb, or_right}
@@ -17,8 +17,6 @@ use Rattle.machine_model.specs.Events as events
 use Rattle.machine_model.specs.Events.{Event, Reply, Refusal}
 use Rattle.machine_model.specs.Step.{Step, Refuses, IsController, touched_by_refusal, touched_by_fetch}
 use Rattle.machine_model.proofs.Refused.{first_fails}
-use Rattle.machine_model.specs.Laws.{TrustedRun}
-use Rattle.machine_model.specs.Image.{Made}
 use Rattle.queue_pair.specs.Memory.{half_pages}
 use Rattle.page_memory.specs.declared.page.Half.TheVariants.{Submission, Completion}
 use Rattle.queue_pair.specs.Slots.{next_slot, moved}
@@ -30,12 +28,6 @@ use Rattle.machine_model.proofs.Steps.{permitted}
 abbrev pub is_walk : Event → Bool
 is_walk (events.Walk q cid) = true
 is_walk e = false
-
--- fetches and completions, accepted or refused, stay in what is allowed
-abbrev pub others_stay_allowed : Type 0
-others_stay_allowed =
-    (image : List ℕ) (made : List Made) (old new : State) (e : Event) (reply : Reply)
-    → TrustedRun image made old → Step old e reply new → is_walk e ≡ false → IsTrue (stays_allowed old reply && stays_own old e reply)
 
 -- Numbers of lists
 

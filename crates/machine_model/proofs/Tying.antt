@@ -7,15 +7,16 @@ use Rattle.admin_commands.specs.Verdicts.{is_absent}
 use Rattle.admin_commands.specs.declared.AdminKind.TheVariants.{DeleteSq}
 use Rattle.machine_model.specs.Commands.{Management}
 use Rattle.machine_model.specs.State.{HostQueue, HostState, Live, Deleting, Retired, Gone, DeviceQueue, Job, Record, is_at, without_record}
-use Rattle.machine_model.specs.Refusals.{is_gone}
+use Rattle.machine_model.specs.Refusals.{has_sq}
 use Rattle.machine_model.specs.After.{change}
 use Rattle.machine_model.proofs.Counting.{one}
 use Rattle.machine_model.proofs.Totals.{total, here}
 use Rattle.machine_model.specs.Refusals.{is_asked}
 use Rattle.machine_model.proofs.Asked.{asked_at, asks, asked_same, asked_when, asked_ask, was_asked, asked_noted}
 use Rattle.machine_model.proofs.Placed.{gone_at, there_at}
-use Rattle.machine_model.proofs.Paired.{PairOk, Paired, paired_host, paired_device, is_past, is_over, on_queue}
+use Rattle.machine_model.proofs.Paired.{PairOk, Paired, paired_host, paired_device, is_over, on_queue}
 use Rattle.queue_pair.specs.Rings.{HostRing}
+use Rattle.machine_model.proofs.Halves.{asked_has_sq, sq_with_cq}
 
 pub length-change : {A : Type 0} (k : ℕ) (f : A → A) (xs : List A) → length (change k f xs) ≡ length xs
 length-change k f [] = refl
@@ -122,7 +123,7 @@ fit_kill n rs hs ds js k none h = record {
 
 -- asked to be deleted
 pub fit_ask : (n : ℕ) (rs : List Record) (hs : List HostQueue) (ds : List DeviceQueue) (js : List Job) (k : ℕ) (new : Record) → new.work ≡ Management (DeleteSq k) → is_some (slice_get hs k) ≡ true
-    → ((h : HostQueue) → slice_get hs k ≡ Some h → (is_past h.state ≡ false) × (is_asked h.state ≡ false))
+    → ((h : HostQueue) → slice_get hs k ≡ Some h → (has_sq h.state ≡ true) × (is_asked h.state ≡ false))
     → Fit n rs hs ds js → Fit n (rs ++ new ∷ []) (change k (λ h. record h { state = Deleting false }) hs) ds js
 fit_ask n rs hs ds js k new work there before h = record {
   some_entries = h.some_entries;
@@ -130,54 +131,39 @@ fit_ask n rs hs ds js k new work there before h = record {
   asked = asked_ask rs hs k new work there (λ x e. (before x e).1) h.asked;
   pairs = paired_host n k (λ h. record h { state = Deleting false }) hs ds (λ x d ex ed p.
       let b = before x ex in
-      record { sub = λ o. p.sub b.0; comp = λ o. p.comp (past_gone x.state b.0); over = λ o. absurd (true≢false (sym o)); gone = λ o. absurd (true≢false (sym o)); half = p.half }) h.pairs;
+      record { sub = λ o. p.sub b.0; comp = λ o. p.comp (sq_with_cq x.state b.0); over = λ o. absurd (true≢false (sym o)); gone = λ o. absurd (true≢false o); half = p.half }) h.pairs;
   jobs = h.jobs;
 }
-  where
-    past_gone : (st : HostState) → is_past st ≡ false → is_gone st ≡ false
-    past_gone Live e = refl
-    past_gone (Deleting noted) e = refl
-    past_gone Retired e = refl
-    past_gone Gone e = e
 
 asked_of : (hs : List HostQueue) (k : ℕ) (x : HostQueue) → slice_get hs k ≡ Some x → asked_at hs k ≡ is_asked x.state
 asked_of hs k x e = ap (λ o. option_map_or (λ (h : HostQueue). is_asked h.state) o false) e
 
-asked_not_past : (st : HostState) → is_asked st ≡ true → (is_past st ≡ false) × (is_gone st ≡ false)
-asked_not_past Live e = (refl, refl)
-asked_not_past (Deleting noted) e = (refl, refl)
-asked_not_past Retired e = absurd (true≢false (sym e))
-asked_not_past Gone e = absurd (true≢false (sym e))
-
-abbrev noted_as : Bool → HostState
-noted_as b = if b then Deleting true else Live
-
 -- a deletion is heard
-pub fit_noted : (n : ℕ) (rs : List Record) (hs : List HostQueue) (ds : List DeviceQueue) (js : List Job) (k c : ℕ) (r : Record) (b : Bool)
-    → find (is_at 0 c) rs ≡ Some r → r.work ≡ Management (DeleteSq k) → total (here 0 c) rs < 2 → (asked_at hs k ≡ true → b ≡ true → gone_at ds k ≡ true)
-    → Fit n rs hs ds js → Fit n (without_record 0 c rs) (change k (λ h. record h { state = if b then Deleting true else Live }) hs) ds js
-fit_noted n rs hs ds js k c r b found work once settled h = record {
+pub fit_noted : (n : ℕ) (rs : List Record) (hs : List HostQueue) (ds : List DeviceQueue) (js : List Job) (k at c : ℕ) (r : Record) (b : Bool)
+    → find (is_at at c) rs ≡ Some r → r.work ≡ Management (DeleteSq k) → total (here at c) rs < 2 → (asked_at hs k ≡ true → b ≡ true → gone_at ds k ≡ true)
+    → Fit n rs hs ds js → Fit n (without_record at c rs) (change k (λ h. record h { state = if b then Deleting true else Live }) hs) ds js
+fit_noted n rs hs ds js k at c r b found work once settled h = record {
   some_entries = h.some_entries;
   few = subst (λ (m : ℕ). m ≤ 65536) (sym (length-change k (λ h. record h { state = if b then Deleting true else Live }) hs)) h.few;
-  asked = asked_noted rs hs k 0 c r b found work once h.asked;
+  asked = asked_noted rs hs k at c r b found work once h.asked;
   pairs = paired_host n k (λ h. record h { state = if b then Deleting true else Live }) hs ds (λ x d ex ed p. ok x d ex ed p b refl) h.pairs;
   jobs = h.jobs;
 }
   where
     was : asked_at hs k ≡ true
-    was = was_asked rs hs k 0 c r found work once h.asked
+    was = was_asked rs hs k at c r found work once h.asked
 
     ok : (x : HostQueue) (d : DeviceQueue) → slice_get hs k ≡ Some x → slice_get ds k ≡ Some d → PairOk n x d → (v : Bool) → b ≡ v → PairOk n (record x { state = if v then Deleting true else Live }) d
     ok x d ex ed p true e =
-        let np = asked_not_past x.state (sym (asked_of hs k x ex) ∙ was) in
-        record { sub = λ o. p.sub np.0; comp = λ o. p.comp np.1; over = λ o. sym (gone_of ds k d ed) ∙ settled was e; gone = λ o. absurd (true≢false (sym o)); half = p.half }
+        let np = asked_has_sq x.state (sym (asked_of hs k x ex) ∙ was) in
+        record { sub = λ o. p.sub np; comp = λ o. p.comp (sq_with_cq x.state np); over = λ o. sym (gone_of ds k d ed) ∙ settled was e; gone = λ o. absurd (true≢false o); half = p.half }
     ok x d ex ed p false e =
-        let np = asked_not_past x.state (sym (asked_of hs k x ex) ∙ was) in
-        record { sub = λ o. p.sub np.0; comp = λ o. p.comp np.1; over = λ o. absurd (true≢false (sym o)); gone = λ o. absurd (true≢false (sym o)); half = p.half }
+        let np = asked_has_sq x.state (sym (asked_of hs k x ex) ∙ was) in
+        record { sub = λ o. p.sub np; comp = λ o. p.comp (sq_with_cq x.state np); over = λ o. absurd (true≢false (sym o)); gone = λ o. absurd (true≢false o); half = p.half }
 
 -- a queue is retired, and goes
 
-pub fit_retired : (n : ℕ) (rs : List Record) (hs : List HostQueue) (ds : List DeviceQueue) (js : List Job) (k : ℕ) → ((x : HostQueue) → slice_get hs k ≡ Some x → (is_over x.state ≡ true) × (is_past x.state ≡ false))
+pub fit_retired : (n : ℕ) (rs : List Record) (hs : List HostQueue) (ds : List DeviceQueue) (js : List Job) (k : ℕ) → ((x : HostQueue) → slice_get hs k ≡ Some x → (is_over x.state ≡ true) × (has_sq x.state ≡ true))
     → Fit n rs hs ds js → Fit n rs (change k (λ h. record h { state = Retired; sq_pages = [] }) hs) ds js
 fit_retired n rs hs ds js k before h = record {
   some_entries = h.some_entries;
@@ -185,7 +171,7 @@ fit_retired n rs hs ds js k before h = record {
   asked = λ q. h.asked q ∙ ap one (sym (asked_when (λ h. record h { state = Retired; sq_pages = [] }) k hs (λ x e. sym (over_quiet x.state (before x e).0)) q));
   pairs = paired_host n k (λ h. record h { state = Retired; sq_pages = [] }) hs ds (λ x d ex ed p.
       let b = before x ex in
-      record { sub = λ o. absurd (true≢false o); comp = λ o. p.comp (not_past_gone x.state b.1); over = λ o. p.over b.0; gone = λ o. absurd (true≢false (sym o)); half = p.half }) h.pairs;
+      record { sub = λ o. absurd (true≢false (sym o)); comp = λ o. p.comp (sq_with_cq x.state b.1); over = λ o. p.over b.0; gone = λ o. absurd (true≢false o); half = p.half }) h.pairs;
   jobs = h.jobs;
 }
   where
@@ -195,12 +181,6 @@ fit_retired n rs hs ds js k before h = record {
     over_quiet Retired e = refl
     over_quiet Gone e = refl
 
-    not_past_gone : (st : HostState) → is_past st ≡ false → is_gone st ≡ false
-    not_past_gone Live e = refl
-    not_past_gone (Deleting noted) e = refl
-    not_past_gone Retired e = refl
-    not_past_gone Gone e = e
-
 pub fit_gone : (n : ℕ) (rs : List Record) (hs : List HostQueue) (ds : List DeviceQueue) (js : List Job) (k : ℕ) → ((x : HostQueue) → slice_get hs k ≡ Some x → (is_over x.state ≡ true) × (is_asked x.state ≡ false)) → there_at ds k ≡ false
     → Fit n rs hs ds js → Fit n rs (change k (λ h. record h { state = Gone; cq_pages = [] }) hs) ds js
 fit_gone n rs hs ds js k before away h = record {
@@ -209,8 +189,8 @@ fit_gone n rs hs ds js k before away h = record {
   asked = λ q. h.asked q ∙ ap one (sym (asked_when (λ h. record h { state = Gone; cq_pages = [] }) k hs (λ x e. sym (before x e).1) q));
   pairs = paired_host n k (λ h. record h { state = Gone; cq_pages = [] }) hs ds (λ x d ex ed p.
       record {
-        sub = λ o. absurd (true≢false o);
-        comp = λ o. absurd (true≢false o);
+        sub = λ o. absurd (true≢false (sym o));
+        comp = λ o. absurd (true≢false (sym o));
         over = λ o. p.over (before x ex).0;
         gone = λ o. sym (ap (λ z. option_map_or (λ (at : DeviceQueue). at.cq_there) z false) ed) ∙ away;
         half = p.half;

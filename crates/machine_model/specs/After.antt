@@ -1,5 +1,5 @@
 -- What an accepted event leaves: the state is a function of the state before, the event and the reply, which names what was chosen.
-use Rattle.std.specs.Prelude.{ℕ, zero, suc, ◌+◌, ◌-◌, ◌/◌, ◌%◌, ◌==◌, Bool, true, false, ◌&&◌, ◌||◌, not, Option, Some, None, List, [], ◌∷◌, ◌++◌, length, map, filter, take, drop, is_none, slice_get, if◌then◌else◌, unwrap_or}
+use Rattle.std.specs.Prelude.{ℕ, ◌+◌, ◌-◌, ◌/◌, ◌%◌, ◌==◌, Bool, true, false, ◌&&◌, ◌||◌, not, Option, Some, None, List, [], ◌∷◌, ◌++◌, length, map, filter, take, drop, is_none, slice_get, if◌then◌else◌, unwrap_or}
 use Rattle.std.specs.Option.{option_map_or}
 use Rattle.page_ledger.specs.Owners.{is_among, pages_from}
 use Rattle.controller_walk.specs.Laws.{after_units}
@@ -33,6 +33,7 @@ use Rattle.machine_model.specs.Refusals.{host_queue, device_queue, slot_page, sl
 use Rattle.machine_model.specs.Events as events
 use Rattle.io_commands.specs.Drafts.{DraftContents}
 use Rattle.machine_model.specs.Events.{Event, Reply, Reaped}
+pub use Rattle.queue_pair.specs.Members.{change}
 use Rattle.queue_pair.specs.Rings.{HostRing, next_tail, next_head, knowing}
 use Rattle.queue_pair.specs.Lists.{expected_phase}
 use Rattle.io_commands.specs.Jobs as jobs
@@ -40,11 +41,6 @@ use Rattle.io_commands.specs.Jobs.{io_fault, bytes_after_check, need_of_entry, d
 use Rattle.entry_codec.specs.declared.admin_opcode.TheConstants.{DELETE_IO_SQ}
 
 -- Changing one member of a list, one queue, one job
-
-abbrev pub change : {A : Type 0} → ℕ → (A → A) → List A → List A
-change k f [] = []
-change zero f (x ∷ xs) = f x ∷ xs
-change (suc k) f (x ∷ xs) = x ∷ change k f xs
 
 abbrev pub on_host : (Host → Host) → State → State
 on_host f s = record s { host = f s.host }

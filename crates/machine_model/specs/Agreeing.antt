@@ -16,19 +16,12 @@ use Rattle.queue_pair.specs.Slots.{distance}
 use Rattle.machine_model.specs.Claims.{IsSound}
 use Rattle.machine_model.specs.Commands.{Management}
 use Rattle.machine_model.specs.Positions.{StandsInRings}
-use Rattle.machine_model.specs.Refusals.{is_gone}
+use Rattle.machine_model.specs.Refusals.{has_sq, has_cq}
 use Rattle.machine_model.specs.Standing.{CommandStands, HasUnitLeft, unfetched_at}
 use Rattle.machine_model.specs.State.{State, HostQueue, HostState, Live, Deleting, Retired, Gone, DeviceQueue, Record, Job, Answer, is_at}
 use Rattle.machine_model.specs.Weights.{one, total, here, sent}
 
 -- A queue on both sides
-
--- whether the host gave the submission half back
-abbrev pub is_given_back : HostState → Bool
-is_given_back Live = false
-is_given_back (Deleting noted) = false
-is_given_back Retired = true
-is_given_back Gone = true
 
 -- whether the host knows that the submission queue is deleted
 abbrev pub is_known_deleted : HostState → Bool
@@ -40,11 +33,11 @@ is_known_deleted Gone = true
 -- what the host knows of a queue fits what the controller has of it
 pub record QueueFits (n : ℕ) (h : HostQueue) (d : DeviceQueue) : Type 0 where
   -- the halves are whole until they are freed
-  pub sub : is_given_back h.state ≡ false → length h.sq_pages ≡ half_pages n Submission
-  pub comp : is_gone h.state ≡ false → length h.cq_pages ≡ half_pages n Completion
+  pub sub : has_sq h.state ≡ true → length h.sq_pages ≡ half_pages n Submission
+  pub comp : has_cq h.state ≡ true → length h.cq_pages ≡ half_pages n Completion
   -- what the host holds for deleted is deleted
   pub over : is_known_deleted h.state ≡ true → is_absent d.state ≡ true
-  pub gone : is_gone h.state ≡ true → d.cq_there ≡ false
+  pub gone : has_cq h.state ≡ false → d.cq_there ≡ false
   -- a submission queue has its completion queue
   pub half : is_absent d.state ≡ false → d.cq_there ≡ true
 
@@ -149,7 +142,7 @@ DeletionsAreHeard rs hs ds js = (q : ℕ) → is_hoped_at hs q ≡ true → is_a
 
 -- whether the host gave the submission half of a queue back
 abbrev pub is_given_back_at : List HostQueue → ℕ → Bool
-is_given_back_at hs q = option_map_or (λ h. is_given_back h.state) (slice_get hs q) false
+is_given_back_at hs q = option_map_or (λ h. not (has_sq h.state)) (slice_get hs q) false
 
 -- the answers of a queue that were not reaped
 abbrev pub answers_at : List DeviceQueue → ℕ → List Answer
@@ -191,7 +184,7 @@ pub record IsHeadBehind (n k : ℕ) (queue : HostQueue) (ans : List Answer) : Ty
 -- identifiers are in range, and the heads of a queue are behind its tail by no more than its submitted commands
 pub record AreHeadsBehind (n : ℕ) (hs : List HostQueue) (rs : List Record) (qs : List DeviceQueue) : Type 0 where
   pub ids : AllByRecursion (λ r. r.cid < n - 1) rs
-  pub behind : (q : ℕ) (queue : HostQueue) → slice_get hs q ≡ Some queue → is_given_back queue.state ≡ false → IsHeadBehind n (sent_count q rs) queue (answers_at qs q)
+  pub behind : (q : ℕ) (queue : HostQueue) → slice_get hs q ≡ Some queue → has_sq queue.state ≡ true → IsHeadBehind n (sent_count q rs) queue (answers_at qs q)
 
 -- All of it: what each step keeps as long as nothing is forged. It speaks of the state alone, and of no step that led to it.
 pub record SidesAgree (s : State) : Type 0 where

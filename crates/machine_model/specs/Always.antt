@@ -5,20 +5,19 @@ use Rattle.io_commands.specs.Requests.{data_count}
 use Rattle.page_memory.specs.declared.page.Half.TheVariants.{Submission, Completion}
 use Rattle.queue_pair.specs.Memory.{half_pages}
 use Rattle.sgl_chain.specs.Chains.{pages_needed}
-use Rattle.machine_model.specs.Agreeing.{is_given_back}
 use Rattle.machine_model.specs.Claims.{IsSound}
 use Rattle.machine_model.specs.Commands.{Work, Io, Management}
 use Rattle.machine_model.specs.Events.{Event, Reply}
 use Rattle.machine_model.specs.Opening.{opening, Opens}
-use Rattle.machine_model.specs.Refusals.{is_gone}
+use Rattle.machine_model.specs.Refusals.{has_sq, has_cq}
 use Rattle.machine_model.specs.Run.{Run}
 use Rattle.machine_model.specs.State.{State, Host, HostQueue, Record}
 use Rattle.machine_model.specs.Step.{Step}
 
 -- a half is whole until it is given back, and empty from then on
 pub record HasHalves (n : ℕ) (queue : HostQueue) : Type 0 where
-  pub submission : length queue.sq_pages ≡ (if is_given_back queue.state then 0 else half_pages n Submission)
-  pub completion : length queue.cq_pages ≡ (if is_gone queue.state then 0 else half_pages n Completion)
+  pub submission : length queue.sq_pages ≡ (if has_sq queue.state then half_pages n Submission else 0)
+  pub completion : length queue.cq_pages ≡ (if has_cq queue.state then half_pages n Completion else 0)
 
 -- an I/O command has as many data and chain pages as its request wants
 abbrev pub HasPagesFor : ℕ → Work → (data_pages chain_pages : List ℕ) → Type 0

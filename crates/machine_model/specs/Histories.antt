@@ -1,9 +1,10 @@
 -- States with a history: some run from an opening leads there, in which nothing was forged.
-use Rattle.std.specs.Prelude.{ℕ, List, IsTrue}
+use Rattle.std.specs.Prelude.{ℕ, List, IsTrue, not}
+use Rattle.std.specs.List.{list_any}
 use Rattle.machine_model.specs.State.{State}
 use Rattle.machine_model.specs.Events.{Event, Reply}
 use Rattle.machine_model.specs.Image.{Made}
-use Rattle.machine_model.specs.Laws.{TrustedRun}
+use Rattle.machine_model.specs.Laws.{Steps, TrustedRun, is_forgery}
 use Rattle.block_image.specs.Blocks.{IsImage}
 use Rattle.machine_model.specs.Opening.{opening, Opens}
 use Rattle.machine_model.specs.Step.{Step}
@@ -22,3 +23,11 @@ abbrev pub steps_make_histories : Type 0
 steps_make_histories =
     (old : State) (e : Event) (reply : Reply) (new : State) → Step old e reply new → IsTrue new.trusted
     → IsTrue old.trusted × (HasHistory old → HasHistory new)
+
+-- a run in which nothing was forged ends in a trusted state
+abbrev pub unforged_runs_end_trusted : Type 0
+unforged_runs_end_trusted = (image : List ℕ) (made : List Made) (end : State) → TrustedRun image made end → IsTrue end.trusted
+
+-- and steps that lead to a trusted state forged nothing, from wherever they began: no event restores the trust
+abbrev pub trusted_ends_are_unforged : Type 0
+trusted_ends_are_unforged = (made : List Made) (s end : State) → Steps s made end → IsTrue end.trusted → IsTrue (not (list_any is_forgery made))

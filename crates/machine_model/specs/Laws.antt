@@ -42,7 +42,15 @@ abbrev pub Steps : State → List Made → State → Type 0
 Steps s [] end = end ≡ s
 Steps s (m ∷ made) end = (m.before ≡ s) × (mid : State) × Step s m.event m.reply mid × Steps mid made end
 
--- a run from an opening in which nothing was forged
+-- whether a step forged an entry
+abbrev pub forges_by : Event → Reply → Bool
+forges_by (events.Forge q slot bytes) events.Accepted = true
+forges_by e reply = false
+
+abbrev pub is_forgery : Made → Bool
+is_forgery m = forges_by m.event m.reply
+
+-- a run from an opening in which nothing was forged: none of its steps is an accepted forgery
 pub record TrustedRun (image : List ℕ) (made : List Made) (end : State) : Type 0 where
   pub pages : ℕ
   pub queues : ℕ
@@ -51,7 +59,7 @@ pub record TrustedRun (image : List ℕ) (made : List Made) (end : State) : Type
   pub opens : Opens pages queues entries segment
   pub is_image : IsImage image
   pub steps : Steps (opening pages queues entries segment image) made end
-  pub trusted : IsTrue end.trusted
+  pub unforged : IsTrue (not (list_any is_forgery made))
 
 -- What a step is
 

@@ -1,5 +1,5 @@
 -- What the list of a command makes its walk do, where memory spells the command's parts from the list's first descriptor.
-use Rattle.std.specs.Prelude.{◌≡◌, ◌<◌, ◌≤◌, ◌+◌, ◌++◌, [], ◌%◌, ◌^◌, ◌||◌, ℕ, Bool, true, false, Some, None, List, is_some, if◌then◌else◌}
+use Rattle.std.specs.Prelude.{◌≡◌, ◌<◌, ◌≤◌, ◌+◌, [], ◌%◌, ◌^◌, ◌||◌, ℕ, Bool, true, false, Some, None, List, is_some, if◌then◌else◌}
 use Rattle.std.specs.List.{list_all, AllByRecursion}
 use Rattle.page_ledger.specs.Owners.{is_among}
 use Rattle.page_memory.specs.Memory.{Memory, page_of}
@@ -8,10 +8,10 @@ use Rattle.sgl_descriptor.specs.declared.Direction.{Direction}
 use Rattle.sgl_descriptor.specs.declared.Part.{Part}
 use Rattle.sgl_descriptor.specs.declared.Part.TheVariants.{Data, Bucket}
 use Rattle.sgl_descriptor.specs.Spelling.{descriptor_of}
-use Rattle.sgl_descriptor.specs.Targets.{counted_in}
+use Rattle.sgl_descriptor.specs.Targets.{counted_in, targets}
 use Rattle.sgl_chain.specs.Spells.{Spells}
 use Rattle.controller_walk.specs.declared.walk.WalkState.TheVariants.{End}
-use Rattle.controller_walk.specs.Units.{Act, Stays, Reads, Moves, Course, Closes, Does, touched, units, verdict, course_of_list, verdict_of_list}
+use Rattle.controller_walk.specs.Units.{Act, Stays, Reads, Moves, Course, Closes, Does, touched, units, course_of_list, verdict_of_list}
 use Rattle.controller_walk.specs.Along.{taken, parts_taken}
 use Rattle.controller_walk.specs.Laws.{ReadsWithin, MovesOutside}
 
@@ -66,14 +66,11 @@ abbrev pub IsThere : Memory → Part → Type 0
 IsThere m (Data addr len) = (addr + len ≤ 2 ^ 64) × ((k : ℕ) → k < len → is_some (m (addr + k)) ≡ true)
 IsThere m (Bucket len) = len ≤ 2 ^ 64
 
--- the course ends without a fault, and its parts are these
-pub record EndsWith (m : Memory) (parts : List Part) (c : Course) : Type 0 where
-  pub ends : verdict c ≡ End
-  pub takes : (before : List Part) → parts_taken m before c ≡ before ++ parts
-
--- A list whose parts are there and count just the bytes that are moved ends well, with each of its parts taken.
+-- A list whose parts are there and count just the bytes that are moved ends well, and the parts that are taken have the targets of its
+-- parts, byte for byte: how they are cut is the walk's own.
 abbrev pub lists_end_well : Type 0
 lists_end_well =
     (m : Memory) (sgl1 : List ℕ) (first : Descriptor) (parts : List Part) (dir : Direction) (need : ℕ)
     → ((place : ℕ) → is_some (m place) ≡ true → place < 2 ^ 64) → descriptor_of sgl1 ≡ Some first → Spells m first parts → AllByRecursion (IsThere m) parts → counted_in dir parts ≡ need
-    → (verdict_of_list m sgl1 dir need ≡ End) × (parts_taken m (taken [] (descriptor_of sgl1)) (course_of_list m sgl1 dir need) ≡ parts)
+    → (verdict_of_list m sgl1 dir need ≡ End)
+    × (targets dir (parts_taken m (taken [] (descriptor_of sgl1)) (course_of_list m sgl1 dir need)) ≡ targets dir parts)

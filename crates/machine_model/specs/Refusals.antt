@@ -75,6 +75,20 @@ is_gone (Deleting noted) = false
 is_gone Retired = false
 is_gone Gone = true
 
+-- whether the host has its submission half
+abbrev pub has_sq : HostState → Bool
+has_sq Live = true
+has_sq (Deleting noted) = true
+has_sq Retired = false
+has_sq Gone = false
+
+-- whether the host has its completion half
+abbrev pub has_cq : HostState → Bool
+has_cq Live = true
+has_cq (Deleting noted) = true
+has_cq Retired = true
+has_cq Gone = false
+
 -- whether the host's state of a queue passes a test; an unknown queue passes none
 abbrev pub in_state : (HostState → Bool) → State → ℕ → Bool
 in_state test s q = option_map_or (λ queue. test queue.state) (host_queue s q) false
@@ -254,7 +268,7 @@ job_is test s q cid = option_map_or test (job_at s q cid) false
 -- The refusals
 
 abbrev pub no_io_queue : State → ℕ → Bool
-no_io_queue s q = (q == 0) || is_none (host_queue s q) || in_state is_retired s q || in_state is_gone s q
+no_io_queue s q = (q == 0) || not (in_state has_sq s q)
 
 abbrev pub reserve_causes : State → ℕ → Request → Option RequestFault → List (Bool × Refusal)
 reserve_causes s q r bad =
@@ -277,8 +291,8 @@ causes s (events.Submit d) =
 causes s (events.Cancel d) =
     (not (record_is (is_of is_drafted d.request (numbers_of d.data_pages) (numbers_of d.chain_pages)) s d.q d.cid), events.Stranger) ∷ []
 causes s (events.Ring q) =
-    (is_none (host_queue s q) || in_state is_retired s q || in_state is_gone s q, events.NoQueue) ∷ []
-causes s (events.Reap q) = (is_none (host_queue s q) || in_state is_gone s q, events.NoQueue) ∷ []
+    (not (in_state has_sq s q), events.NoQueue) ∷ []
+causes s (events.Reap q) = (not (in_state has_cq s q), events.NoQueue) ∷ []
 causes s (events.Collect q cid) =
     (not (record_is (λ r. is_submitted r.phase || is_held r.phase) s q cid), events.Stranger)
     ∷ (record_is (λ r. is_submitted r.phase) s q cid, events.NotYet)
@@ -299,7 +313,7 @@ causes s (events.DeleteSq q) =
     ∷ (queue_full s 0, events.QueueFull)
     ∷ []
 causes s (events.DeleteCq q) =
-    ((q == 0) || is_none (host_queue s q) || in_state is_gone s q, events.NoQueue)
+    ((q == 0) || not (in_state has_cq s q), events.NoQueue)
     ∷ (in_state is_deleting s q || (in_state is_retired s q && cq_deletion_outstanding s q), events.WrongState)
     ∷ (no_identifier s 0, events.NoIdentifier)
     ∷ (queue_full s 0, events.QueueFull)
@@ -307,7 +321,7 @@ causes s (events.DeleteCq q) =
 causes s (events.Retire q) =
     (not (in_state is_deleted s q), events.NotDeleted) ∷ (is_some (seen_entry s q), events.NotDrained) ∷ []
 causes s (events.Forge q slot bytes) =
-    (is_none (host_queue s q) || in_state is_gone s q, events.NoQueue)
+    (not (in_state has_cq s q), events.NoQueue)
     ∷ (nat_le s.entries slot, events.NoSlot)
     ∷ []
 causes s (events.Fetch q) =

@@ -1,6 +1,6 @@
 -- What stands while nothing is forged: a submitted command's list stands in its chain pages, its entry is in one place at the
 -- controller, and a job's walk is within its list.
-use Rattle.std.specs.Prelude.{◌≡◌, ◌<◌, ◌==◌, nat_lt, IsTrue, ℕ, true, false, Some, None, List, [], length, slice_get}
+use Rattle.std.specs.Prelude.{◌≡◌, ◌<◌, ◌==◌, nat_lt, not, IsTrue, ℕ, true, false, Some, None, List, [], length, slice_get}
 use Rattle.std.specs.List.{AllByRecursion}
 use Rattle.std.specs.Option.{option_map_or}
 use Rattle.sgl_descriptor.specs.declared.Descriptor.{Descriptor}
@@ -22,7 +22,7 @@ use Rattle.machine_model.specs.Reached.{only, on_pages, KeepsToPages}
 use Rattle.machine_model.specs.Image.{Made}
 use Rattle.machine_model.specs.Step.{Step}
 use Rattle.machine_model.specs.Events.{Event, Reply}
-use Rattle.machine_model.specs.Laws.{TrustedRun}
+use Rattle.machine_model.specs.Laws.{TrustedRun, forges_by}
 
 -- a command's request fits its types and passes its check, and the command has a page for each data piece
 pub record IsSized (r : Record) (request : Request) : Type 0 where
@@ -81,5 +81,5 @@ jobs_stand =
 abbrev pub jobs_keep_their_lists : Type 0
 jobs_keep_their_lists =
     (image : List ℕ) (made : List Made) (old new : State) (e : Event) (reply : Reply) (q cid : ℕ) (before after : Job)
-    → TrustedRun image made old → Step old e reply new → IsTrue new.trusted → IsTrue (nat_lt 0 q) → job_at old q cid ≡ Some before → job_at new q cid ≡ Some after
+    → TrustedRun image made old → Step old e reply new → IsTrue (not (forges_by e reply)) → IsTrue (nat_lt 0 q) → job_at old q cid ≡ Some before → job_at new q cid ≡ Some after
     → (after.entry ≡ before.entry) × (course_of new after ≡ course_of old before)

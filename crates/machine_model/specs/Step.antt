@@ -1,4 +1,4 @@
--- One step of the machine, and a run of them.
+-- One step of the machine: which reply it may give, and which state that leads to.
 use Rattle.std.specs.Prelude.{◌≡◌, ℕ, ◌+◌, ◌-◌, ◌<◌, ◌==◌, Bool, true, false, ◌&&◌, ◌||◌, not, Option, Some, None, List, [], ◌∷◌, ◌++◌, length, map, is_some, option_and_then, IsTrue, MatchBool, if◌then◌else◌, All}
 use Rattle.std.specs.Option.{option_map, option_map_or}
 use Rattle.page_ledger.specs.Owners.{is_among}

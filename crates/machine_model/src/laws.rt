@@ -3,7 +3,7 @@
 ghost use Rattle.machine_model.specs.Always.{each_step_provides, every_run_provides};
 ghost use Rattle.machine_model.specs.Built.{built_drafts_spell_in_store};
 ghost use Rattle.machine_model.specs.Claims.{each_step_keeps, every_run_is_sound, every_run_takes_out, counts_add_up};
-ghost use Rattle.machine_model.specs.Histories.{openings_have_histories, steps_make_histories};
+ghost use Rattle.machine_model.specs.Histories.{openings_have_histories, steps_make_histories, unforged_runs_end_trusted, trusted_ends_are_unforged};
 ghost use Rattle.machine_model.specs.InOrder.{openings_are_in_order, steps_keep_order, reserved_drafts_are_proper, collected_commands_are_proper, every_event_is_answered, runs_are_made};
 ghost use Rattle.machine_model.specs.Linked.{trusted_worlds_are_linked, live_queues_are_there};
 ghost use Rattle.machine_model.specs.Reached.{lists_keep_to_their_pages, lists_end_well};
@@ -90,7 +90,8 @@ pub fn law_of_lists()
     ensures { lists_keep_to_their_pages }
 {}
 
-/// A list whose parts are there, and count just the bytes that the command moves, ends without a fault, each part taken.
+/// A list whose parts are there, and count just the bytes that the command moves, ends without a fault. What is taken on the way
+/// has the targets of its parts, byte for byte.
 pub fn law_of_ends()
     ensures { lists_end_well }
 {}
@@ -116,6 +117,13 @@ pub fn law_of_histories()
     ensures openings { openings_have_histories }
     ensures steps { steps_make_histories }
     ensures runs { runs_are_made }
+{}
+
+/// A run from an opening in which no forgery was accepted ends in a trusted state. And steps that lead to a trusted state, from
+/// wherever they began, accepted no forgery: no event restores the trust.
+pub fn law_of_trust()
+    ensures ends { unforged_runs_end_trusted }
+    ensures unforged { trusted_ends_are_unforged }
 {}
 
 /// Each step keeps a state in order, forged entries or not: sound, each page that is in whole, and both sides agreeing unless something

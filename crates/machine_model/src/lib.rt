@@ -12,7 +12,7 @@
 //!   `specs/Image.antt` which image a run leaves.
 //! - `specs/Agreeing.antt` says what both sides agree on as long as nothing is forged, as a predicate of the state, and
 //!   `specs/Always.antt` what the host has whatever was forged.
-//! - `specs/Laws.antt` has the laws of trusted runs, those that are proved and those that are open.
+//! - `specs/Laws.antt` has the laws of trusted runs.
 //!
 //! What an event does is this project's own. Commands, entries, statuses and queues are those of the NVM Express Base
 //! Specification 2.0 and the NVM Command Set Specification 1.0.

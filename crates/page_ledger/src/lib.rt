@@ -13,8 +13,6 @@
 pub mod laws;
 mod ledger;
 mod owner;
-#[cfg(test)]
-mod tests;
 pub mod worked;
 
 pub use ledger::Ledger;

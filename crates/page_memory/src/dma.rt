@@ -12,7 +12,7 @@ use thiserror::Error;
 #[error("a byte of the range is outside the pool or on a page that is out")]
 pub struct Unreadable;
 
-/// Memory as a controller reaches it, by address, with the list of the pages that it touched.
+/// Memory as a controller reaches it, by address.
 ///
 /// A call moves 1 to 4,096 bytes, which lie in one page or in two neighbouring ones, and appends the numbers of these pages to
 /// the touched list, in order; before each call that list has room for two. A refused call moves no byte and
@@ -52,14 +52,19 @@ pub trait Dma {
         ensures missing { OnErr result (bytes_at (memory self.old) addr (length bytes.now) ≡ None) }
         ensures refused { OnErr result ((memory self.new ≡ memory self.old) × (reached self.new ≡ reached self.old)) }
         ensures pool { page_count self.new ≡ page_count self.old };
+}
 
+/// The list of the pages that calls of [`Dma`] touched, for whoever lends the memory.
+///
+/// Only who has this bound, or the memory's own type, empties the list. Code that has [`Dma`] alone can only lengthen it.
+pub trait TouchRecord: Dma {
     /// The pages touched since the last `clear`, in the order touched, each as often as it was.
     fn touched(&self) -> &ArrayVec<PageNo, 4>
-        ensures { result.now.items ≡ reached self.now };
+        ensures { result.now.items ≡ Self.reached self.now };
 
     /// Empties the touched list.
     fn clear(&mut self)
-        ensures touched { reached self.new ≡ [] }
-        ensures memory { memory self.new ≡ memory self.old }
-        ensures pool { page_count self.new ≡ page_count self.old };
+        ensures touched { Self.reached self.new ≡ [] }
+        ensures memory { Self.memory self.new ≡ Self.memory self.old }
+        ensures pool { Self.page_count self.new ≡ Self.page_count self.old };
 }

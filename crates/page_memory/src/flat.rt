@@ -8,7 +8,7 @@ ghost use Rattle.page_memory.specs.Memory.{bytes_at, pages_reached};
 ghost use Rattle.page_memory.specs.Pages.{slot_at};
 ghost use Rattle.page_memory.specs.Flat.{without};
 
-use crate::dma::{Dma, Unreadable};
+use crate::dma::{Dma, TouchRecord, Unreadable};
 use crate::page::{PAGE_BYTES, PageNo};
 use arrayvec::ArrayVec;
 use std::alloc::{AllocError, Allocator, Global};
@@ -156,7 +156,9 @@ impl<A: Allocator> Dma for FlatMemory<A> {
         }
         Ok(())
     }
+}
 
+impl<A: Allocator> TouchRecord for FlatMemory<A> {
     fn touched(&self) -> &ArrayVec<PageNo, 4> {
         &self.touched
     }

@@ -6,7 +6,7 @@ ghost use Rattle.page_memory.specs.Pages.{zero_page, page_at, byte_at, IsWhole, 
 ghost use Rattle.std.specs.Bool.{OnTrue};
 ghost use Rattle.page_memory.specs.Memory.{page_of, written};
 
-use crate::dma::{Dma, Unreadable};
+use crate::dma::{Dma, TouchRecord, Unreadable};
 use crate::page::{PAGE_BYTES, Page, PageNo};
 use arrayvec::ArrayVec;
 use std::alloc::{AllocError, Allocator, Global};
@@ -266,6 +266,11 @@ impl<A: Allocator> Dma for Store<A> {
         self.set(range.page + 1, 0, back);
         Ok(())
     }
+}
+
+impl<A: Allocator> TouchRecord for Store<A> {
+    ghost use Rattle.page_memory.specs.Pages.{byte_at};
+    ghost use Rattle.std.specs.Prelude.{length};
 
     fn touched(&self) -> &ArrayVec<PageNo, 4> {
         &self.touched

@@ -4,3 +4,4 @@ pub mod Memory
 pub mod Lists
 pub mod Views
 pub mod Halves
+pub mod Members

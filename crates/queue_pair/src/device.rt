@@ -112,7 +112,7 @@ impl DevicePair {
     ///
     /// # Errors
     ///
-    /// `SlotOut` exactly where there is one and its slot lies on a page that is out. Then nothing changed.
+    /// `SlotOut` exactly where there is one and a byte of its slot is missing from the memory. Then nothing changed.
     pub fn next_entry<D: Dma>(&self, dma: &mut D) -> Result<Option<SubEntry>, SlotOut>
         requires room { length (D.reached dma.old) ≤ 2 }
         ensures front { IfOk result (λ entry. entry ≡ front (rung (D.memory dma.old) self.now)) }
@@ -165,8 +165,8 @@ impl DevicePair {
     ///
     /// # Errors
     ///
-    /// 1. `Full` exactly where n - 1 slots lie from the known head to the tail. 2. `SlotOut` exactly where the slot lies on a page
-    /// that is out. Then nothing changed.
+    /// 1. `Full` exactly where n - 1 slots lie from the known head to the tail. 2. `SlotOut` exactly where a byte of the slot is
+    /// missing from the memory. Then nothing changed.
     pub fn post<D: Dma>(&mut self, dma: &mut D, completion: ComEntry) -> Result<(), PostFault>
         requires fits { FitsCompletion completion }
         requires room { length (D.reached dma.old) ≤ 2 }

@@ -17,7 +17,7 @@ pub struct BadHead;
 #[error("the doorbell value is outside the queue")]
 pub struct BadBell;
 
-/// The slot lies on a page that is out, or outside the pool.
+/// A byte of the slot is missing from the memory: of a store, its page is out or outside the pool.
 #[derive(Clone, Copy, Debug, PartialEq, Eq, Error)]
 #[error("the slot lies on a page that is out")]
 pub struct SlotOut;
@@ -28,7 +28,7 @@ pub enum PostFault {
     /// The completion ring has n - 1 entries from the head that the controller knows to its tail.
     #[error("the completion queue is full")]
     Full,
-    /// The slot lies on a page that is out, or outside the pool.
+    /// A byte of the slot is missing from the memory: of a store, its page is out or outside the pool.
     #[error("the slot lies on a page that is out")]
     SlotOut,
 }

@@ -19,8 +19,6 @@ mod host;
 mod image;
 pub mod laws;
 mod slots;
-#[cfg(test)]
-mod tests;
 
 pub use device::DevicePair;
 pub use fault::{BadBell, BadHead, PostFault, QueueFull, SlotOut};

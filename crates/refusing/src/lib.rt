@@ -16,6 +16,3 @@ pub mod tally;
 pub use allocator::Refusing;
 pub use refusal::Refusal;
 pub use tally::Tally;
-
-#[cfg(test)]
-mod tests;

@@ -19,7 +19,7 @@ use Rattle.machine_model.specs.declared.words.Phase.{Phase}
 use Rattle.machine_model.specs.declared.words.Phase.TheVariants.{Drafted, Submitted, Held, Collected}
 use Rattle.machine_model.specs.declared.words.Refusal.TheVariants as refusals
 use Rattle.machine_model.specs.State.{State, Record, Job, is_at, record_at, outstanding_on}
-use Rattle.machine_model.specs.Refusals.{refusal_of, host_queue, next_rung, job_at, job_is, post_page, fetch_page, conflicts, answers_full, record_is, is_submitted, is_held, is_deleting, in_state, no_io_queue, no_identifier, queue_full, pages_wanted, is_retired, is_gone, cq_deletion_outstanding}
+use Rattle.machine_model.specs.Refusals.{refusal_of, host_queue, next_rung, job_at, job_is, post_page, fetch_page, conflicts, answers_full, record_is, is_submitted, is_held, is_deleting, in_state, no_io_queue, no_identifier, queue_full, pages_wanted, is_retired, has_cq, cq_deletion_outstanding}
 use Rattle.machine_model.specs.Proper.{IsProper}
 use Rattle.machine_model.specs.Claims.{IsSound}
 use Rattle.machine_model.specs.InOrder.{IsInOrder}
@@ -124,7 +124,7 @@ by_delete_cq s q none =
     by_sending s (events.DeleteCq q) tt refl none (λ id new. new)
     (first_fails (no_identifier s 0) refusals.NoIdentifier ((queue_full s 0, refusals.QueueFull) ∷ [])
     (rest_fails (in_state is_deleting s q || (in_state is_retired s q && cq_deletion_outstanding s q)) refusals.WrongState ((no_identifier s 0, refusals.NoIdentifier) ∷ (queue_full s 0, refusals.QueueFull) ∷ [])
-    (rest_fails ((q == 0) || is_none (host_queue s q) || in_state is_gone s q) refusals.NoQueue
+    (rest_fails ((q == 0) || not (in_state has_cq s q)) refusals.NoQueue
     ((in_state is_deleting s q || (in_state is_retired s q && cq_deletion_outstanding s q), refusals.WrongState) ∷ (no_identifier s 0, refusals.NoIdentifier) ∷ (queue_full s 0, refusals.QueueFull) ∷ []) none)))
 
 -- Reserving

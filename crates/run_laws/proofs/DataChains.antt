@@ -42,7 +42,8 @@ use Rattle.machine_model.proofs.Refused.{first_fails, rest_fails}
 use Rattle.machine_model.proofs.Placed.{is_job, find_sound}
 use Rattle.machine_model.proofs.Placing.{device-posted}
 use Rattle.machine_model.proofs.Members.{In, in_found, all_at_found, all_append, all_drop_one, all_in_both, sent}
-use Rattle.machine_model.proofs.Grounds.{trusted_at_first, pair_at}
+use Rattle.machine_model.proofs.Grounds.{pair_at}
+use Rattle.machine_model.proofs.Unforged.{Unforged, unforged_next, unforged_run}
 use Rattle.machine_model.proofs.Served.{Stood, page_below, data_of, chain_of}
 use Rattle.machine_model.proofs.PlacesKept.{ids_of, drafted_not}
 use Rattle.machine_model.proofs.Commanding.{keeps_fetch, keeps_walk, keeps_complete}
@@ -210,12 +211,6 @@ submitted_first s d g entry built r request its_queue its_cid asked l = go (host
 
 -- Every event
 
-abbrev Wanted : List DraftContents → State → Record → Type 0
-Wanted drafts s r = CommandStands s.memory s.device.queues s.device.jobs r → ChainKnown drafts s r
-
-abbrev Owning : List DraftContents → State → Record → Type 0
-Owning drafts s r = OwnsFit r.q r.work (pages_of r) × ChainKnown drafts s r
-
 chains_move : (drafts : List DraftContents) (s : State) (e : Event) (reply : Reply) → Going s e reply
     → RecordsMove (λ r. OwnsFit r.q r.work (pages_of r) × ChainKnown drafts s r) (λ r. CommandStands (a.after s e reply).memory (a.after s e reply).device.queues (a.after s e reply).device.jobs r → ChainKnown (submitted_by e reply ++ drafts) (a.after s e reply) r) s e
 chains_move drafts s e reply g = record {
@@ -226,7 +221,7 @@ chains_move drafts s e reply g = record {
       subst (λ (x : Event). Going s x reply → CommandStands (a.after s x reply).memory (a.after s x reply).device.queues (a.after s x reply).device.jobs (a.submitted r) → ChainedIfIo (submitted_by x reply ++ drafts) (a.after s x reply) (a.submitted r) r.work) (sym is)
       (λ g' stands'. new d reply g' entry r built at fits r.work refl stands') g stands;
   reaps = λ q cid st request r is n x at w p stands sub. absurd (true≢false (sym sub));
-  loses = λ r within is free p stands sub. absurd (true≢false (sym sub));
+  loses = λ k r at within same is free p stands sub. absurd (true≢false (sym sub));
   collects = λ r p stands sub. absurd (true≢false (sym sub));
 }
   where
@@ -294,14 +289,13 @@ chained_step s e reply new drafts step t u stood h =
     left_step (AllChained (submitted_by e reply ++ drafts)) s e reply new step t u stood
     (λ why touched is. subst (λ (x : Reply). AllChained (submitted_by e x ++ drafts) s) (sym is) (refused_same drafts e why touched s h)) (λ g. chained_on drafts s e reply g h)
 
-chained_along : (made : List Made) (s end : State) (drafts : List DraftContents) → Steps s made end → end.trusted ≡ true → Stood s → AllChained drafts s → AllChained (drafts_of made ++ drafts) end
-chained_along [] s end drafts steps t stood h = subst (AllChained drafts) (sym steps) h
-chained_along (m ∷ made) s end drafts (is, mid, step, rest) t stood h =
-    let now = trusted_at_first (m ∷ made) s end (is, mid, step, rest) t in
-    let then' = trusted_at_first made mid end rest t in
+chained_along : (made : List Made) (s end : State) (drafts : List DraftContents) → Steps s made end → Unforged s made → Stood s → AllChained drafts s → AllChained (drafts_of made ++ drafts) end
+chained_along [] s end drafts steps u stood h = subst (AllChained drafts) (sym steps) h
+chained_along (m ∷ made) s end drafts (is, mid, step, rest) u stood h =
+    let next = unforged_next m made s mid step u in
     subst (λ (ds : List DraftContents). AllChained ds end) (sym (append_assoc (drafts_of made) (submitted_by m.event m.reply) drafts))
-    (chained_along made mid end (submitted_by m.event m.reply ++ drafts) rest t (stood_step s m.event m.reply mid step now then' stood)
-    (chained_step s m.event m.reply mid drafts step now then' stood h))
+    (chained_along made mid end (submitted_by m.event m.reply ++ drafts) rest next (stood_step s m.event m.reply mid step u.trusted next.trusted stood)
+    (chained_step s m.event m.reply mid drafts step u.trusted next.trusted stood h))
 
 -- The law
 
@@ -351,7 +345,7 @@ chains_drafted image made end q cid r request run found sub work = of known
     s0 = opening run.pages run.queues run.entries run.segment image
 
     all : AllChained (drafts_of made ++ []) end
-    all = chained_along made s0 end [] run.steps run.trusted (stood_at_opening run.pages run.queues run.entries run.segment image run.opens) tt
+    all = chained_along made s0 end [] run.steps (unforged_run image made end run) (stood_at_opening run.pages run.queues run.entries run.segment image run.opens) tt
 
     known : Chained (drafts_of made ++ []) end r request
     known = subst (ChainedIfIo (drafts_of made ++ []) end r) work (all_at_found (ChainKnown (drafts_of made ++ []) end) (is_at q cid) end.host.records r found all sub)

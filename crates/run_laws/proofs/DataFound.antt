@@ -23,13 +23,15 @@ use Rattle.machine_model.specs.Events as events
 use Rattle.machine_model.specs.declared.words.Refusal.TheVariants as refusals
 use Rattle.machine_model.specs.Events.{Event, Reply}
 use Rattle.machine_model.proofs.Refused.{first_fails, rest_fails}
-use Rattle.machine_model.proofs.Grounds.{trusted_at_first}
+use Rattle.machine_model.proofs.Unforged.{Unforged, unforged_next, unforged_front, unforged_back, unforged_run, unforged_end}
 use Rattle.machine_model.proofs.Members.{all_at_found}
 use Rattle.machine_model.proofs.Served.{Stood}
 use Rattle.machine_model.proofs.PlacesKept.{ids_of}
 use Rattle.machine_model.proofs.WalksKept.{stood_at_opening}
 use Rattle.run_laws.specs.Submitted.{CollectedCommand, submits}
-use Rattle.run_laws.proofs.DataAlong.{Going, permitted, stood_step, steps_split, stood_along, along_steps}
+use Rattle.run_laws.proofs.DataAlong.{Going, stood_step, stood_along, along_steps}
+use Rattle.machine_model.proofs.Along.{cut}
+use Rattle.machine_model.proofs.Steps.{permitted}
 use Rattle.run_laws.proofs.DataKept.{IsOfDraft, Follows, AllFollow, found_draft, follow_submit, follow_step, held_goes}
 
 pub record Collects (s : State) (f : FinishedContents) : Type 0 where
@@ -104,7 +106,7 @@ pub record Course (c : CollectedCommand) : Type 0 where
   pub stood_second : Stood second
   pub third : State
   pub along : Steps second c.between third
-  pub trusted : third.trusted ≡ true
+  pub unforged : Unforged second c.between
   pub stood_third : Stood third
   pub collects : Collects third c.finished
 
@@ -128,8 +130,8 @@ course c = record {
   stood_second = stood_second;
   third = at_third.0;
   along = at_first.2.3;
-  trusted = trusted_third;
-  stood_third = stood_along c.between at_first.2.1 at_third.0 at_first.2.3 trusted_third stood_second;
+  unforged = unforged_second;
+  stood_third = stood_along c.between at_first.2.1 at_third.0 at_first.2.3 unforged_second stood_second;
   collects = collects_held at_third.0 c.collected.event c.collected.reply at_third.2.1 c.finished at_third.2.2 trusted_third c.is_collection;
 }
   where
@@ -137,22 +139,30 @@ course c = record {
     s0 = opening c.run.pages c.run.queues c.run.entries c.run.segment c.image
 
     at_third : (mid : State) × Steps (opening c.run.pages c.run.queues c.run.entries c.run.segment c.image) (c.before ++ c.submitted ∷ c.between) mid × Steps mid (c.collected ∷ c.later) c.end
-    at_third = steps_split (c.before ++ c.submitted ∷ c.between) (c.collected ∷ c.later) (opening c.run.pages c.run.queues c.run.entries c.run.segment c.image) c.end c.run.steps
+    at_third = cut (c.before ++ c.submitted ∷ c.between) (c.collected ∷ c.later) (opening c.run.pages c.run.queues c.run.entries c.run.segment c.image) c.end c.run.steps
 
     at_first : (mid : State) × Steps (opening c.run.pages c.run.queues c.run.entries c.run.segment c.image) c.before mid × Steps mid (c.submitted ∷ c.between) at_third.0
-    at_first = steps_split c.before (c.submitted ∷ c.between) (opening c.run.pages c.run.queues c.run.entries c.run.segment c.image) at_third.0 at_third.1
+    at_first = cut c.before (c.submitted ∷ c.between) (opening c.run.pages c.run.queues c.run.entries c.run.segment c.image) at_third.0 at_third.1
+
+    unforged_zero : Unforged (opening c.run.pages c.run.queues c.run.entries c.run.segment c.image) (c.before ++ c.submitted ∷ c.between)
+    unforged_zero =
+        unforged_front (c.before ++ c.submitted ∷ c.between) (c.collected ∷ c.later) s0
+        (unforged_run c.image (c.before ++ c.submitted ∷ c.between ++ c.collected ∷ c.later) c.end c.run)
+
+    unforged_first : Unforged at_first.0 (c.submitted ∷ c.between)
+    unforged_first = unforged_back c.before (c.submitted ∷ c.between) s0 at_first.0 at_first.1 unforged_zero
+
+    unforged_second : Unforged at_first.2.1 c.between
+    unforged_second = unforged_next c.submitted c.between at_first.0 at_first.2.1 at_first.2.2 unforged_first
 
     trusted_third : at_third.0.trusted ≡ true
-    trusted_third = trusted_at_first (c.collected ∷ c.later) at_third.0 c.end at_third.2 c.run.trusted
+    trusted_third = unforged_end (c.before ++ c.submitted ∷ c.between) s0 at_third.0 at_third.1 unforged_zero
 
     trusted_first : at_first.0.trusted ≡ true
-    trusted_first = trusted_at_first (c.submitted ∷ c.between) at_first.0 at_third.0 at_first.2 trusted_third
-
-    trusted_second : at_first.2.1.trusted ≡ true
-    trusted_second = trusted_at_first c.between at_first.2.1 at_third.0 at_first.2.3 trusted_third
+    trusted_first = unforged_first.trusted
 
     stood_first : Stood at_first.0
-    stood_first = stood_along c.before s0 at_first.0 at_first.1 trusted_first (stood_at_opening c.run.pages c.run.queues c.run.entries c.run.segment c.image c.run.opens)
+    stood_first = stood_along c.before s0 at_first.0 at_first.1 (unforged_front c.before (c.submitted ∷ c.between) s0 unforged_zero) (stood_at_opening c.run.pages c.run.queues c.run.entries c.run.segment c.image c.run.opens)
 
     is : (c.submitted.event ≡ events.Submit c.draft) × (c.submitted.reply ≡ events.Accepted)
     is = submission c.submitted c.draft c.is_submission
@@ -171,7 +181,7 @@ course c = record {
     is_second = exact _ at_first.0.trusted trusted_first step.2
 
     stood_second : Stood at_first.2.1
-    stood_second = stood_step at_first.0 (events.Submit c.draft) events.Accepted at_first.2.1 step trusted_first trusted_second stood_first
+    stood_second = stood_step at_first.0 (events.Submit c.draft) events.Accepted at_first.2.1 step trusted_first unforged_second.trusted stood_first
 
 -- The laws of kept commands
 
@@ -194,7 +204,7 @@ kept : (c : CollectedCommand) → IsOfDraft c.draft (course c).collects.command
 kept c =
     let x = course c in
     let other = (found_draft x.first c.draft events.Accepted x.going).other in
-    let all = along_steps (AllFollow c.draft) (submits c.draft.q c.draft.cid) (λ s e reply g far h. follow_step c.draft other s e reply g far h) c.between x.second x.third x.along x.trusted x.stood_second (alone_of c)
+    let all = along_steps (AllFollow c.draft) (submits c.draft.q c.draft.cid) (λ s e reply g far h. follow_step c.draft other s e reply g far h) c.between x.second x.third x.along x.unforged x.stood_second (alone_of c)
     (subst (AllFollow c.draft) (sym x.is_second) (follow_submit c.draft x.first events.Accepted x.going)) in
     all_at_found (Follows c.draft) (is_at c.finished.q c.finished.cid) x.third.host.records x.collects.command x.collects.found all.1 (at_draft c x) (held_goes x.collects.command.phase x.collects.held)
 

@@ -21,6 +21,7 @@ use Rattle.machine_model.specs.Events as events
 use Rattle.machine_model.proofs.Members.{all_at_found}
 use Rattle.machine_model.proofs.Gathered.{Stands}
 use Rattle.machine_model.proofs.ReadLaws.{reads_give, stopped_reads}
+use Rattle.machine_model.proofs.Unforged.{Unforged}
 use Rattle.run_laws.specs.Submitted.{CollectedCommand, FetchedCommand, submits, was_fetched, unfetched_commands_keep_their_data, unfetched_commands_keep_the_drafts_bytes, unfetched_commands_were_deleted, successful_commands_were_fetched, AreZeros, drafts_of_reserve_are_zero, unfetched_commands_of_zeros_gather_zeros, fetched_commands_have_their_fetch, commands_are_fetched_once, fetched_reads_give_a_prefix, successful_reads_give_their_blocks}
 use Rattle.run_laws.proofs.DataAlong.{along_steps}
 use Rattle.run_laws.proofs.DataKept.{IsOfDraft, found_draft, held_goes}
@@ -45,7 +46,7 @@ waited : (c : CollectedCommand) → was_fetched c ≡ false → IsOfDraft c.draf
 waited c none =
     let x = course c in
     let other = (found_draft x.first c.draft events.Accepted x.going).other in
-    let all = along_steps (Unread c.draft) (λ m. submits c.draft.q c.draft.cid m || fetches c.draft.q c.draft.cid m) (λ s e reply g far h. unread_step c.draft other s e reply g far h) c.between x.second x.third x.along x.trusted x.stood_second
+    let all = along_steps (Unread c.draft) (λ m. submits c.draft.q c.draft.cid m || fetches c.draft.q c.draft.cid m) (λ s e reply g far h. unread_step c.draft other s e reply g far h) c.between x.second x.third x.along x.unforged x.stood_second
     (neither (submits c.draft.q c.draft.cid) (fetches c.draft.q c.draft.cid) c.between (alone_of c) (fetched_of c c.between ∙ none))
     (subst (Unread c.draft) (sym x.is_second) (unread_submit c.draft x.first x.going)) in
     all_at_found (Waits c.draft x.third) (is_at c.finished.q c.finished.cid) x.third.host.records x.collects.command x.collects.found all.1.records (at_draft c x) (held_goes x.collects.command.phase x.collects.held)
@@ -145,7 +146,8 @@ fetched_once f = ap not (sym (fetched_of f.command (f.before_fetch ++ f.after_fe
 
     once_of : list_any (fetches f.command.draft.q f.command.draft.cid) (f.before_fetch ++ f.after_fetch) ≡ false
     once_of = once f.command.draft (found_draft (course f.command).first f.command.draft events.Accepted (course f.command).going).other f.before_fetch f.after_fetch f.fetched (course f.command).second (course f.command).third
-        (subst (λ (made : List Made). Steps (course f.command).second made (course f.command).third) f.split (course f.command).along) (course f.command).trusted (course f.command).stood_second
+        (subst (λ (made : List Made). Steps (course f.command).second made (course f.command).third) f.split (course f.command).along)
+        (subst (λ (made : List Made). Unforged (course f.command).second made) f.split (course f.command).unforged) (course f.command).stood_second
         (subst (λ (made : List Made). list_any (submits f.command.draft.q f.command.draft.cid) made ≡ false) f.split (alone_of f.command)) at_fetch
 
 right_any : (test : Made → Bool) (xs ys : List Made) → list_any test (xs ++ ys) ≡ false → list_any test ys ≡ false

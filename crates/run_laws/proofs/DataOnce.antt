@@ -21,7 +21,7 @@ use Rattle.machine_model.specs.Events.{Event, Reply}
 use Rattle.machine_model.proofs.Counting.{one}
 use Rattle.machine_model.proofs.Totals.{total, here}
 use Rattle.machine_model.proofs.Members.{all_append, all_drop_one, sent}
-use Rattle.machine_model.proofs.Grounds.{trusted_at_first}
+use Rattle.machine_model.proofs.Unforged.{Unforged, unforged_next}
 use Rattle.machine_model.proofs.Served.{Stood, unfetched_count}
 use Rattle.machine_model.proofs.Queues.{list_at, less_at}
 use Rattle.machine_model.proofs.Placements.{InHand, in_hand, first_is}
@@ -30,7 +30,8 @@ use Rattle.machine_model.proofs.CommandsKept.{nobody}
 use Rattle.machine_model.proofs.CausedKept.{not_conflicting}
 use Rattle.machine_model.proofs.QueuesMove.{QueueMove, queues_event}
 use Rattle.run_laws.specs.Submitted.{submits}
-use Rattle.run_laws.proofs.DataAlong.{Going, permitted, one_step, stood_step}
+use Rattle.run_laws.proofs.DataAlong.{Going, one_step, stood_step}
+use Rattle.machine_model.proofs.Steps.{permitted}
 use Rattle.run_laws.proofs.DataKept.{submits_far}
 
 -- no entry of an identifier is left to fetch
@@ -176,43 +177,38 @@ fetched_clears s new q cid other f = subst (NoEntry q cid) (sym f.left) (go (nex
 
 -- Along the steps
 
-far_of : (d : DraftContents) (s : State) (m : Made) → m.before ≡ s → submits d.q d.cid m ≡ false → submits d.q d.cid (record { before = s; event = m.event; reply = m.reply }) ≡ false
-far_of d s m is h = h
-
-pub no_more : (d : DraftContents) → (d.q == 0) ≡ false → (made : List Made) (s end : State) → Steps s made end → end.trusted ≡ true → Stood s → list_any (submits d.q d.cid) made ≡ false → NoEntry d.q d.cid s
+pub no_more : (d : DraftContents) → (d.q == 0) ≡ false → (made : List Made) (s end : State) → Steps s made end → Unforged s made → Stood s → list_any (submits d.q d.cid) made ≡ false → NoEntry d.q d.cid s
     → list_any (fetches d.q d.cid) made ≡ false
-no_more d other [] s end steps t stood none h = refl
-no_more d other (m ∷ made) s end (is, mid, step, rest) t stood none h =
+no_more d other [] s end steps u stood none h = refl
+no_more d other (m ∷ made) s end (is, mid, step, rest) u stood none h =
     let both = or_parts (submits d.q d.cid m) (list_any (submits d.q d.cid) made) none in
-    let now = trusted_at_first (m ∷ made) s end (is, mid, step, rest) t in
-    let then' = trusted_at_first made mid end rest t in
+    let next = unforged_next m made s mid step u in
     go (fetches d.q d.cid m) refl
-    (no_more d other made mid end rest t (stood_step s m.event m.reply mid step now then' stood) both.1
-    (one_step (NoEntry d.q d.cid) s m.event m.reply mid step now then' stood (λ g. no_entry_step d other s m.event m.reply g both.0) h))
+    (no_more d other made mid end rest next (stood_step s m.event m.reply mid step u.trusted next.trusted stood) both.1
+    (one_step (NoEntry d.q d.cid) s m.event m.reply mid step u.trusted next.trusted stood (λ g. no_entry_step d other s m.event m.reply g both.0) h))
   where
     go : (b : Bool) → fetches d.q d.cid m ≡ b → list_any (fetches d.q d.cid) made ≡ false → (b || list_any (fetches d.q d.cid) made) ≡ false
-    go true f ih = absurd (none_fetched d s mid h (fetch_made s m.event m.reply mid d.q d.cid step (trusted_at_first (m ∷ made) s end (is, mid, step, rest) t) stood f))
+    go true f ih = absurd (none_fetched d s mid h (fetch_made s m.event m.reply mid d.q d.cid step u.trusted stood f))
     go false f ih = ih
 
-pub once : (d : DraftContents) → (d.q == 0) ≡ false → (xs ys : List Made) (m : Made) (s end : State) → Steps s (xs ++ m ∷ ys) end → end.trusted ≡ true → Stood s → list_any (submits d.q d.cid) (xs ++ m ∷ ys) ≡ false
+pub once : (d : DraftContents) → (d.q == 0) ≡ false → (xs ys : List Made) (m : Made) (s end : State) → Steps s (xs ++ m ∷ ys) end → Unforged s (xs ++ m ∷ ys) → Stood s → list_any (submits d.q d.cid) (xs ++ m ∷ ys) ≡ false
     → fetches d.q d.cid m ≡ true → list_any (fetches d.q d.cid) (xs ++ ys) ≡ false
-once d other [] ys m s end (is, mid, step, rest) t stood none f =
+once d other [] ys m s end (is, mid, step, rest) u stood none f =
     let both = or_parts (submits d.q d.cid m) (list_any (submits d.q d.cid) ys) none in
-    let now = trusted_at_first (m ∷ ys) s end (is, mid, step, rest) t in
-    let then' = trusted_at_first ys mid end rest t in
-    no_more d other ys mid end rest t (stood_step s m.event m.reply mid step now then' stood) both.1
-    (fetched_clears s mid d.q d.cid other (fetch_made s m.event m.reply mid d.q d.cid step now stood f))
-once d other (x ∷ xs) ys m s end (is, mid, step, rest) t stood none f =
-    go (fetches d.q d.cid x) refl (once d other xs ys m mid end rest t stood_mid both.1 f)
+    let next = unforged_next m ys s mid step u in
+    no_more d other ys mid end rest next (stood_step s m.event m.reply mid step u.trusted next.trusted stood) both.1
+    (fetched_clears s mid d.q d.cid other (fetch_made s m.event m.reply mid d.q d.cid step u.trusted stood f))
+once d other (x ∷ xs) ys m s end (is, mid, step, rest) u stood none f =
+    go (fetches d.q d.cid x) refl (once d other xs ys m mid end rest next stood_mid both.1 f)
   where
     both : (submits d.q d.cid x ≡ false) × (list_any (submits d.q d.cid) (xs ++ m ∷ ys) ≡ false)
     both = or_parts (submits d.q d.cid x) (list_any (submits d.q d.cid) (xs ++ m ∷ ys)) none
 
-    now : s.trusted ≡ true
-    now = trusted_at_first (x ∷ (xs ++ m ∷ ys)) s end (is, mid, step, rest) t
+    next : Unforged mid (xs ++ m ∷ ys)
+    next = unforged_next x (xs ++ m ∷ ys) s mid step u
 
     stood_mid : Stood mid
-    stood_mid = stood_step s x.event x.reply mid step now (trusted_at_first (xs ++ m ∷ ys) mid end rest t) stood
+    stood_mid = stood_step s x.event x.reply mid step u.trusted next.trusted stood
 
     among : (zs : List Made) → list_any (fetches d.q d.cid) (zs ++ m ∷ ys) ≡ true
     among [] = ap (λ (b : Bool). b || list_any (fetches d.q d.cid) ys) f
@@ -224,6 +220,6 @@ once d other (x ∷ xs) ys m s end (is, mid, step, rest) t stood none f =
 
     go : (b : Bool) → fetches d.q d.cid x ≡ b → list_any (fetches d.q d.cid) (xs ++ ys) ≡ false → (b || list_any (fetches d.q d.cid) (xs ++ ys)) ≡ false
     go true e ih =
-        absurd (true≢false (sym (among xs) ∙ no_more d other (xs ++ m ∷ ys) mid end rest t stood_mid both.1
-        (fetched_clears s mid d.q d.cid other (fetch_made s x.event x.reply mid d.q d.cid step now stood e))))
+        absurd (true≢false (sym (among xs) ∙ no_more d other (xs ++ m ∷ ys) mid end rest next stood_mid both.1
+        (fetched_clears s mid d.q d.cid other (fetch_made s x.event x.reply mid d.q d.cid step u.trusted stood e))))
     go false e ih = ih

@@ -13,14 +13,15 @@ use Rattle.machine_model.specs.Laws.{TrustedRun, Steps, drafts_of}
 use Rattle.machine_model.specs.Step.{Step}
 use Rattle.machine_model.specs.Events as events
 use Rattle.machine_model.specs.Events.{Event, Reply}
-use Rattle.machine_model.proofs.Grounds.{trusted_at_first}
+use Rattle.machine_model.proofs.Unforged.{Unforged, unforged_next, unforged_front, unforged_run, unforged_end}
 use Rattle.machine_model.proofs.Members.{all_at_found}
 use Rattle.machine_model.proofs.PlacesKept.{ids_of}
 use Rattle.machine_model.proofs.Served.{Stood}
 use Rattle.machine_model.proofs.WalksKept.{stood_at_opening}
 use Rattle.machine_model.proofs.RecordsMove.{RecordsMove, records_event}
 use Rattle.run_laws.specs.Submitted.{submits, collected_commands_were_submitted}
-use Rattle.run_laws.proofs.DataAlong.{Going, left_step, stood_step, steps_split, stood_along}
+use Rattle.run_laws.proofs.DataAlong.{Going, left_step, stood_step, stood_along}
+use Rattle.machine_model.proofs.Along.{cut}
 use Rattle.run_laws.proofs.DataKept.{goes_on, reaped_on, sub_goes, held_goes}
 use Rattle.run_laws.proofs.DataFound.{Collects, collects_held}
 use Rattle.run_laws.proofs.DataLaws.{still_latest}
@@ -61,7 +62,7 @@ drafts_move drafts s e reply g = record {
       let its : is_draft r.q r.cid d ≡ true = rw (eq-eqb d.q r.q (sym ids.0), eq-eqb d.cid r.cid (sym ids.1)) refl in
       ap (λ (ds : List DraftContents). is_some (draft_of r.q r.cid (ds ++ drafts))) (submitted_is s e reply g d is) ∙ ap (λ (b : Bool). is_some (if b then Some d else draft_of r.q r.cid drafts)) its;
   reaps = λ q cid st request r is n status found w p on other. more_drafts r.q r.cid (submitted_by e reply) drafts (p (sub_goes r.phase (reaped_on s q cid r n found)) other);
-  loses = λ r within sub free p on other. more_drafts r.q r.cid (submitted_by e reply) drafts (p (sub_goes r.phase sub) other);
+  loses = λ k r is within same sub free p on other. more_drafts r.q r.cid (submitted_by e reply) drafts (p (sub_goes r.phase sub) other);
   collects = λ r p on other. absurd (true≢false (sym on));
 }
 
@@ -75,13 +76,13 @@ drafted_step drafts s e reply new step t u stood h =
     (λ why touched is. subst (λ (x : Reply). AllDrafted (submitted_by e x ++ drafts) s) (sym is) (subst (λ (ds : List DraftContents). AllDrafted (ds ++ drafts) s) (sym (refused_none e why touched)) h))
     (λ g. records_event (HasDraft drafts) (HasDraft (submitted_by e reply ++ drafts)) s e reply (drafts_move drafts s e reply g) g.ok g.stood.grounds h)
 
-drafted_along : (made : List Made) (s end : State) (drafts : List DraftContents) → Steps s made end → end.trusted ≡ true → Stood s → AllDrafted drafts s → AllDrafted (drafts_of made ++ drafts) end
-drafted_along [] s end drafts steps t stood h = subst (AllDrafted drafts) (sym steps) h
-drafted_along (m ∷ made) s end drafts (is, mid, step, rest) t stood h =
-    let now = trusted_at_first (m ∷ made) s end (is, mid, step, rest) t in
-    let then' = trusted_at_first made mid end rest t in
+drafted_along : (made : List Made) (s end : State) (drafts : List DraftContents) → Steps s made end → Unforged s made → Stood s → AllDrafted drafts s → AllDrafted (drafts_of made ++ drafts) end
+drafted_along [] s end drafts steps u stood h = subst (AllDrafted drafts) (sym steps) h
+drafted_along (m ∷ made) s end drafts (is, mid, step, rest) u stood h =
+    let next = unforged_next m made s mid step u in
     subst (λ (ds : List DraftContents). AllDrafted ds end) (sym (append_assoc (drafts_of made) (submitted_by m.event m.reply) drafts))
-    (drafted_along made mid end (submitted_by m.event m.reply ++ drafts) rest t (stood_step s m.event m.reply mid step now then' stood) (drafted_step drafts s m.event m.reply mid step now then' stood h))
+    (drafted_along made mid end (submitted_by m.event m.reply ++ drafts) rest next (stood_step s m.event m.reply mid step u.trusted next.trusted stood)
+    (drafted_step drafts s m.event m.reply mid step u.trusted next.trusted stood h))
 
 -- The last submission of an identifier
 
@@ -162,22 +163,25 @@ were_submitted image earlier later m end f run is =
     s0 = opening run.pages run.queues run.entries run.segment image
 
     parts : (mid : State) × Steps (opening run.pages run.queues run.entries run.segment image) earlier mid × Steps mid (m ∷ later) end
-    parts = steps_split earlier (m ∷ later) (opening run.pages run.queues run.entries run.segment image) end run.steps
+    parts = cut earlier (m ∷ later) (opening run.pages run.queues run.entries run.segment image) end run.steps
+
+    unforged : Unforged (opening run.pages run.queues run.entries run.segment image) earlier
+    unforged = unforged_front earlier (m ∷ later) s0 (unforged_run image (earlier ++ m ∷ later) end run)
 
     trusted : parts.0.trusted ≡ true
-    trusted = trusted_at_first (m ∷ later) parts.0 end parts.2 run.trusted
+    trusted = unforged_end earlier s0 parts.0 parts.1 unforged
 
     stood0 : Stood (opening run.pages run.queues run.entries run.segment image)
     stood0 = stood_at_opening run.pages run.queues run.entries run.segment image run.opens
 
     stood : Stood parts.0
-    stood = stood_along earlier s0 parts.0 parts.1 trusted stood0
+    stood = stood_along earlier s0 parts.0 parts.1 unforged stood0
 
     found : Collects parts.0 f
     found = collects_held parts.0 m.event m.reply parts.2.1 f parts.2.2 trusted is
 
     drafted : AllDrafted (drafts_of earlier ++ []) parts.0
-    drafted = drafted_along earlier s0 parts.0 [] parts.1 trusted stood0 tt
+    drafted = drafted_along earlier s0 parts.0 [] parts.1 unforged stood0 tt
 
     ids : (found.command.q ≡ f.q) × (found.command.cid ≡ f.cid)
     ids = ids_of parts.0 f.q f.cid found.command found.found

@@ -41,12 +41,6 @@ use Rattle.run_laws.proofs.DataKept.{goes_on, IsOfDraft, Found, found_draft, onl
 
 -- What is known
 
-abbrev NotJob : ℕ → ℕ → Job → Type 0
-NotJob q cid j = j.q ≡ q → j.entry.cid ≡ cid → ⊥
-
-abbrev NotAnswer : ℕ → Answer → Type 0
-NotAnswer cid an = an.cid ≡ cid → ⊥
-
 -- its data pages hold the draft's bytes, and where it is held its queue was deleted
 pub record Untouched (d : DraftContents) (s : State) (r : Record) : Type 0 where
   pub stand : AllByRecursion (Stands s.memory) d.data_pages
@@ -86,9 +80,9 @@ jobs_on : (d : DraftContents) → (d.q == 0) ≡ false → (s : State) (e : Even
     → JobsMove (λ j. j.q ≡ d.q → j.entry.cid ≡ d.cid → ⊥) (λ j. j.q ≡ d.q → j.entry.cid ≡ d.cid → ⊥) s e
 jobs_on d other s e reply g far = record {
   stays = λ k j f walked p. p;
-  fails = λ k j st waiting f walked failed p. p;
-  manages = λ j zero same cid. true≢false (sym (eq-eqb d.q 0 (sym same ∙ zero)) ∙ other);
-  begins = λ q entry is rung io same cid. other_fetch s d e reply g far q entry is rung same cid;
+  fails = λ k j st waiting f walked failed none p. p;
+  manages = λ entry st dw0 is rung free same cid. true≢false (sym (eq-eqb d.q 0 (sym same)) ∙ other);
+  begins = λ q entry is rung io free same cid. other_fetch s d e reply g far q entry is rung same cid;
   walks = λ q cid j act is w unit p. p;
 }
 
@@ -175,7 +169,7 @@ records_on d other s e reply g far h = record {
   sends = λ adm id is on. absurd (not_sent d id other is);
   submits = λ x entry r is built found fits p at on. absurd (submit_clash s d e reply g far x r is found at);
   reaps = λ q cid st request r is n status found w p at on. absurd (no_reap s d g.trusted h q cid r n found at);
-  loses = λ r within sub free p at on.
+  loses = λ k r is within same sub free p at on.
       let x = p at (sub_goes r.phase sub) in (
         again (record r { phase = Held; status = Some ABORTED_SQ_DELETION }) r refl refl refl x.0,
         record { stand = untouched_on s d e reply g h r within free at (sub_goes r.phase sub) x.0 x.1.stand; deleted = λ held. refl },
@@ -209,7 +203,7 @@ unread_first d s g x = record {
     record { stand = stand entry (ap (λ (z : DraftContents). z.entry) (drafts_same is) ∙ built); deleted = λ held. absurd (true≢false (sym held)) },
   );
   reaps = λ q cid st request r is n status found w p at on. absurd (none is);
-  loses = λ r within sub free only at on. absurd (only_drafted s d x r only at (sub_goes r.phase sub));
+  loses = λ k r is within same sub free only at on. absurd (only_drafted s d x r only at (sub_goes r.phase sub));
   collects = λ r p at on. absurd (true≢false (sym on));
 }
   where

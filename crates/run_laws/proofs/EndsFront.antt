@@ -1,7 +1,7 @@
 -- Every event keeps the heads that answers tell in order, so a reap answers the oldest answer.
 use Rattle.std.proofs.Common.{◌≡◌, ◌⊎◌, inl, inr, ℕ, ◌+◌, ◌-◌, ◌<◌, ◌≤◌, ◌==◌, nat_lt, nat_le, Bool, true, false, not, ◌&&◌, ◌||◌, Option, Some, None, List, [], ◌∷◌, ◌++◌, length, map, drop, slice_get, is_some, is_none, option_and_then, if◌then◌else◌, refl, ap, sym, ◌∙◌, arith, subst, eq-eqb}
 use Rattle.std.specs.Option.{option_map_or, option_map}
-use Rattle.std.proofs.lemmas.Bool.{true≢false, or_parts}
+use Rattle.std.proofs.lemmas.Bool.{true≢false}
 use Rattle.std.proofs.lemmas.Bool.Decides.{nat_tests}
 use Rattle.queue_pair.specs.Slots.{distance, moved, is_full, is_in_range}
 use Rattle.queue_pair.specs.Rings.{next_tail, next_head, knowing}
@@ -24,7 +24,7 @@ use Rattle.machine_model.specs.Claims.{OwnsFit}
 use Rattle.machine_model.specs.Proper.{IsProper}
 use Rattle.machine_model.specs.Opening.{Opens, opening}
 use Rattle.machine_model.specs.State.{State, Device, HostQueue, DeviceQueue, Record, Job, Answer, is_at, record_at, pages_of, with_record, without_record}
-use Rattle.machine_model.specs.Refusals.{is_submitted, is_retired, is_live, is_gone, is_deleting, host_queue, device_queue, next_rung, job_at, conflicts, seen_entry, first_answer, entry_of, in_state, queue_full, no_identifier, no_io_queue, record_is, is_of, is_drafted, cq_deletion_outstanding, fetch_slot, slot_page, slot_offset}
+use Rattle.machine_model.specs.Refusals.{is_submitted, is_retired, is_live, has_cq, is_deleting, host_queue, device_queue, next_rung, job_at, conflicts, seen_entry, first_answer, entry_of, in_state, queue_full, no_identifier, no_io_queue, record_is, is_of, is_drafted, cq_deletion_outstanding, fetch_slot, slot_page, slot_offset}
 use Rattle.machine_model.specs.Step.{HostPart, reaped, reaped_as, reaped_entry, submitted_at, fits_ring}
 use Rattle.machine_model.specs.After as a
 use Rattle.machine_model.specs.After.{change}
@@ -52,7 +52,8 @@ use Rattle.machine_model.proofs.Placing.{device-posted, device-answered}
 use Rattle.machine_model.proofs.Standing.{seen_trusted}
 use Rattle.machine_model.proofs.Out.{named}
 use Rattle.machine_model.proofs.Members.{sent_found, all_at_found}
-use Rattle.machine_model.proofs.Grounds.{Grounds, along_proper, ring_in}
+use Rattle.machine_model.proofs.Along.{along_proper}
+use Rattle.machine_model.proofs.Grounds.{Grounds, ring_in}
 use Rattle.machine_model.proofs.Served.{Stood, answers_at}
 use Rattle.machine_model.proofs.PlacesKept.{reaped_answer, ids_of}
 use Rattle.machine_model.proofs.Placements.{in_hand}
@@ -60,9 +61,11 @@ use Rattle.machine_model.proofs.QueuesMove.{queues_walk}
 use Rattle.machine_model.proofs.WalksKept.{stood_on, stood_at_opening}
 use Rattle.machine_model.proofs.Heads.{head_at}
 use Rattle.machine_model.proofs.HeadsAll.{no_conflict}
+use Rattle.machine_model.proofs.Unforged.{trusted_end}
 use Rattle.run_laws.specs.Ends.{answers_of, front, reaps_answer_the_front, nothing_conflicts}
-use Rattle.run_laws.proofs.EndsAlong.{permitted}
+use Rattle.machine_model.proofs.Steps.{permitted}
 use Rattle.run_laws.proofs.EndsFalling.{opened_lists, Falls, FallsAt, AllFall, falls_more, falls_less, falls_to, falls_answered, fall_device, fall_both, fall_host, all_posted, change_twice, longer, shorter}
+use Rattle.machine_model.proofs.Moves.{queue_known}
 
 abbrev pub Fall : State → Type 0
 Fall s = AllFall s.entries s.host.queues s.device.queues
@@ -264,7 +267,7 @@ fall_event s (events.DeleteCq q) (events.Sent id) ok t stood h =
     (room_last (queue_full s 0) refusal.QueueFull
     (rest_fails (no_identifier s 0) refusal.NoIdentifier full
     (rest_fails (in_state is_deleting s q || (in_state is_retired s q && cq_deletion_outstanding s q)) refusal.WrongState none
-    (rest_fails ((q == 0) || is_none (host_queue s q) || in_state is_gone s q) refusal.NoQueue wrong ok.0)))) h
+    (rest_fails ((q == 0) || not (in_state has_cq s q)) refusal.NoQueue wrong ok.0)))) h
 fall_event s (events.Retire q) events.Accepted ok t stood h = go (host_queue s q)
   where
     go : (o : Option HostQueue) → Fall (option_map_or (λ queue. a.on_host_queue q a.retired (a.given_back queue.sq_pages (a.on_records (λ records. map (a.lost q) records) s))) o (a.on_records (λ records. map (a.lost q) records) s))
@@ -395,6 +398,6 @@ front_reaped s f t q there =
 
 pub reaps_answer : reaps_answer_the_front
 reaps_answer image made s new q what run step =
-    let ok = permitted _ s.trusted true run.trusted step.1 in
-    let there = (or_parts (is_none (host_queue s q)) (in_state is_gone s q) (room_last (is_none (host_queue s q) || in_state is_gone s q) refusal.NoQueue ok.0)).0 in
-    ok.1 ∙ front_reaped s (runs_are_fronted image made s run) run.trusted q there
+    let ok = permitted _ s.trusted true (trusted_end image made s run) step.1 in
+    let there = queue_known has_cq s q (room_last (not (in_state has_cq s q)) refusal.NoQueue ok.0) in
+    ok.1 ∙ front_reaped s (runs_are_fronted image made s run) (trusted_end image made s run) q there

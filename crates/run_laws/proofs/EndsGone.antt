@@ -22,8 +22,8 @@ use Rattle.machine_model.proofs.Members.{all_at_found}
 use Rattle.machine_model.proofs.Caused.{any_longer, any_last}
 use Rattle.machine_model.proofs.Served.{Stood}
 use Rattle.machine_model.proofs.Heads.{changed_at}
-use Rattle.run_laws.proofs.EndsAlong.{made_of}
-use Rattle.run_laws.proofs.EndsJobs.{JobsTurn}
+use Rattle.machine_model.proofs.Along.{made_of}
+use Rattle.machine_model.proofs.JobsMove.{JobsMove}
 use Rattle.run_laws.proofs.EndsQueues.{QueuesTurn, queues_turn}
 
 abbrev pub GoneTold : List Made → List DeviceQueue → Type 0
@@ -45,10 +45,10 @@ deletes_at : (s : State) (e : Event) (reply : Reply) (entry : SubEntry) → Acce
 deletes_at s e reply entry ok is next is0 =
     subst (λ (x : Event). deletes (named_queue entry) (made_of s x reply) ≡ true) (sym is) (fetch_deletes s reply entry (subst (λ (x : Event). Accepts s x reply) is ok) next is0)
 
-pub deletions_turn : (done : List Made) (s : State) (e : Event) (reply : Reply) → Accepts s e reply → JobsTurn (DeletionFetched done) (DeletionFetched (done ++ made_of s e reply ∷ [])) s e
+pub deletions_turn : (done : List Made) (s : State) (e : Event) (reply : Reply) → Accepts s e reply → JobsMove (DeletionFetched done) (DeletionFetched (done ++ made_of s e reply ∷ [])) s e
 deletions_turn done s e reply ok = record {
   stays = λ k j f far p z is0. any_longer (deletes (named_queue j.entry)) done (made_of s e reply) (p z is0);
-  marks = λ k j st waiting f none p z is0. any_longer (deletes (named_queue j.entry)) done (made_of s e reply) (p z is0);
+  fails = λ k j st waiting f far lost none p z is0. any_longer (deletes (named_queue j.entry)) done (made_of s e reply) (p z is0);
   manages = λ entry st dw0 e' next free z is0. any_last (deletes (named_queue entry)) done (made_of s e reply) (deletes_at s e reply entry ok e' next is0);
   begins = λ k entry e' next other free z is0. absurd (true≢false (sym (eq-eqb k 0 z) ∙ other));
   walks = λ k c j act e' w u p z is0. any_longer (deletes (named_queue j.entry)) done (made_of s e reply) (p z is0);

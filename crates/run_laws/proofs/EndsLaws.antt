@@ -19,7 +19,6 @@ use Rattle.machine_model.specs.declared.words.Phase.TheVariants.{Drafted, Submit
 use Rattle.machine_model.specs.declared.words.Refusal.TheVariants as refusal
 use Rattle.machine_model.specs.declared.words.Reaped.TheVariants.{Empty, Done}
 use Rattle.machine_model.specs.Claims.{OwnsFit}
-use Rattle.machine_model.specs.Opening.{opening}
 use Rattle.machine_model.specs.State.{State, Record, is_at, record_at, pages_of}
 use Rattle.machine_model.specs.Refusals.{is_submitted, is_held, record_is, entry_of}
 use Rattle.machine_model.specs.Step.{Step, reaped_entry, finished_from, asked_by, pages_with_bytes}
@@ -35,12 +34,13 @@ use Rattle.machine_model.proofs.Out.{named, status_in}
 use Rattle.machine_model.proofs.Members.{all_at_found}
 use Rattle.machine_model.proofs.PlacesKept.{reaped_answer, ids_of}
 use Rattle.run_laws.specs.Ends.{retires_by, WasCompleted, WasLost, CauseOfEnd, Succeeded, Aborted, Stopped, Lost, PastImage, Differed, ends_come_from_completions, retired_queues_were_deleted, collects_tell_how_commands_ended, every_collect_has_its_cause}
-use Rattle.run_laws.proofs.EndsAlong.{permitted, positive, Before, before_step}
+use Rattle.machine_model.proofs.Along.{Before, keeps, run_before}
+use Rattle.machine_model.proofs.EveryStatus.{positive}
+use Rattle.machine_model.proofs.Steps.{permitted}
 use Rattle.run_laws.proofs.EndsTold.{CompletedIn, EndedIn, AnswerTold, HeldTold, Told, told_carried, told_at_opening, deleted_before, first_told}
 
 told_before : (image : List ℕ) (earlier later : List Made) (m : Made) (end : State) → TrustedRun image (earlier ++ m ∷ later) end → Before Told earlier m
-told_before image earlier later m end run =
-    before_step Told told_carried [] earlier later m (opening run.pages run.queues run.entries run.segment image) end run.steps run.trusted (told_at_opening run.pages run.queues run.entries run.segment image run.opens)
+told_before image = run_before Told (keeps Told told_carried) image (λ pages queues n s opens. told_at_opening pages queues n s image opens)
 
 with_cause : (image : List ℕ) (earlier later : List Made) (m : Made) (end : State) (q cid : ℕ) (st : Status) → TrustedRun image (earlier ++ m ∷ later) end → nat_lt 0 q ≡ true → CompletedIn earlier q cid st → WasCompleted earlier q cid st
 with_cause image earlier later m end q cid st run io c = record {

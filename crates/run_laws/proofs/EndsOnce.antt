@@ -3,7 +3,7 @@
 use Rattle.std.proofs.Common.{◌≡◌, ◌⊎◌, inl, inr, ℕ, zero, suc, ◌+◌, ◌≤◌, ◌-◌, ◌==◌, Bool, true, false, not, ◌&&◌, ◌||◌, Option, Some, None, List, [], ◌∷◌, ◌++◌, length, drop, slice_get, is_some, is_none, if◌then◌else◌, refl, ap, sym, ◌∙◌, arith, subst, eqb-true, eq-eqb}
 use Rattle.std.specs.Option.{option_map, option_map_or}
 use Rattle.std.specs.List.{AllByRecursion, list_any}
-use Rattle.std.proofs.lemmas.Bool.{true≢false, and_parts, or_parts}
+use Rattle.std.proofs.lemmas.Bool.{true≢false, and_parts}
 use Rattle.admin_commands.specs.Entries.{named_queue}
 use Rattle.admin_commands.specs.declared.SqState.TheVariants.{Absent, Stopping}
 use Rattle.entry_codec.specs.declared.admin_opcode.TheConstants.{DELETE_IO_SQ}
@@ -15,7 +15,7 @@ use Rattle.machine_model.specs.declared.words.Refusal.TheVariants as refusal
 use Rattle.machine_model.specs.declared.words.Reaped.{Reaped}
 use Rattle.machine_model.specs.declared.words.Reaped.TheVariants.{Done, AdminDone}
 use Rattle.machine_model.specs.State.{State, Device, DeviceQueue, Record, Job, Answer, is_at}
-use Rattle.machine_model.specs.Refusals.{is_submitted, is_gone, is_job, in_state, host_queue, device_queue, refusal_of, job_at, job_is, waits, answers_full, post_page, fetch_slot}
+use Rattle.machine_model.specs.Refusals.{is_submitted, has_cq, is_job, in_state, host_queue, device_queue, refusal_of, job_at, job_is, waits, answers_full, post_page, fetch_slot}
 use Rattle.machine_model.specs.After as a
 use Rattle.machine_model.specs.After.{change}
 use Rattle.machine_model.specs.Events as events
@@ -33,13 +33,15 @@ use Rattle.machine_model.proofs.Members.{in_found, sent, sent_found, all_at_foun
 use Rattle.machine_model.proofs.Served.{Stood, job_weight, answers_at}
 use Rattle.machine_model.proofs.Queues.{list_at}
 use Rattle.run_laws.specs.Ends.{front, answers_of, submits_by, submits, commands_complete_once}
-use Rattle.run_laws.proofs.EndsAlong.{positive, made_of, taken_step, Carried, before_step}
+use Rattle.machine_model.proofs.Along.{Carried, trusted_step_by, keeps, made_of, before_step}
+use Rattle.machine_model.proofs.EveryStatus.{positive}
 use Rattle.run_laws.proofs.EndsQueues.{QueuesTurn, queues_turn}
-use Rattle.run_laws.proofs.EndsRecords.{records_turn}
+use Rattle.machine_model.proofs.RecordsMove.{records_event}
 use Rattle.run_laws.proofs.EndsFront.{Fronted, fronted_on, front_reaped}
 use Rattle.run_laws.proofs.EndsPhases.{NotIn, phases_turn, none_parts}
 use Rattle.run_laws.proofs.EndsTwice.{At, at_step, reap_leaves, submitted_later}
 use Rattle.run_laws.proofs.VerdictsCount.{given_job}
+use Rattle.machine_model.proofs.Moves.{queue_known}
 
 -- The answer of a command waits
 
@@ -111,7 +113,7 @@ reap_ends : (s : State) (q cid : ℕ) (reply : Reply) → Accepts s (events.Reap
 reap_ends s q cid (events.Reaps what) ok t f other h = go (answers_of s q) refl h
   where
     there : is_none (host_queue s q) ≡ false
-    there = (or_parts (is_none (host_queue s q)) (in_state is_gone s q) (first_fails (is_none (host_queue s q) || in_state is_gone s q) refusal.NoQueue [] ok.0)).0
+    there = queue_known has_cq s q (first_fails (not (in_state has_cq s q)) refusal.NoQueue [] ok.0)
 
     fronted : what ≡ front q (answers_of s q)
     fronted = ok.1 ∙ front_reaped s f t q there
@@ -150,7 +152,7 @@ answered_on q cid other s e reply ok t f h = inl (queues_turn (Answered q cid) s
 ended_on : (q cid : ℕ) → (q == 0) ≡ false → (s : State) (e : Event) (reply : Reply) → Accepts s e reply → s.trusted ≡ true → Fronted s → submits_by q cid e reply ≡ false → Ended q cid s → Ended q cid (a.after s e reply)
 ended_on q cid other s e reply ok t f far (inl h) = answered_on q cid other s e reply ok t f h
 ended_on q cid other s e reply ok t f far (inr h) =
-    inr (records_turn (NotIn is_submitted q cid) (NotIn is_submitted q cid) s e reply (phases_turn is_submitted submitted_later q cid other s e reply ok far) ok f.stood.grounds h)
+    inr (records_event (NotIn is_submitted q cid) (NotIn is_submitted q cid) s e reply (phases_turn is_submitted submitted_later q cid other s e reply ok far) ok f.stood.grounds h)
 
 record EndedSo (q cid : ℕ) (done : List Made) (s : State) : Type 0 where
   pub fronted : Fronted s
@@ -279,13 +281,13 @@ runs_complete_once image earlier first between second later end q cid st st' run
 
     answered : Answered q cid at.mid.device.queues
     answered =
-        taken_step (λ (s : State) (e : Event) (reply : Reply) (new : State). status_by s e reply q cid ≡ Some st → Answered q cid new.device.queues)
-        (λ s e why touched g. absurd (some_none (sym (refused_gives s e why touched q cid) ∙ g))) (λ s e reply proper ok trusted g. gives_leaves s e reply q cid st ok g)
-        first.before first.event first.reply at.mid at.step at.trusted at.trusted_mid given
+        trusted_step_by (λ (e : Event) (reply : Reply) (new : State). status_by first.before e reply q cid ≡ Some st → Answered q cid new.device.queues) first.before
+        (λ e why touched g. absurd (some_none (sym (refused_gives first.before e why touched q cid) ∙ g))) (λ e reply proper ok g. gives_leaves first.before e reply q cid st ok g)
+        first.event first.reply at.mid at.step at.trusted at.unforged.trusted given
 
     go : (b : Bool) → list_any (submits q cid) between ≡ b → list_any (submits q cid) between ≡ true
     go true e = e
     go false e =
-        let b = before_step (EndedSo q cid) (ended_carried q cid (positive q io)) [] between later second at.mid end at.steps run.trusted (record { fronted = at.fronted_mid; ended = λ none. inl answered }) in
+        let b = before_step (EndedSo q cid) (keeps (EndedSo q cid) (ended_carried q cid (positive q io))) [] between later second at.mid end at.steps at.unforged (record { fronted = at.fronted_mid; ended = λ none. inl answered }) in
         let j = given_job second.before second.event second.reply q cid st' given' in
         absurd (no_job_ended second.before q cid j.0 b.holds.fronted.stood j.1 (b.holds.ended e))

@@ -16,8 +16,8 @@ use Rattle.machine_model.proofs.Served.{Stood}
 use Rattle.machine_model.proofs.PlacesKept.{ids_of}
 use Rattle.machine_model.proofs.WalksKept.{stood_on}
 use Rattle.run_laws.specs.Ends.{submits_by, submits}
-use Rattle.run_laws.proofs.EndsAlong.{made_of, Carried}
-use Rattle.run_laws.proofs.EndsRecords.{RecordsTurn, records_turn}
+use Rattle.machine_model.proofs.Along.{made_of, Carried}
+use Rattle.machine_model.proofs.RecordsMove.{RecordsMove, records_event}
 
 -- what is no phase of a command before it is submitted, or after it was collected, and is one while it is submitted
 pub record IsLater (test : Phase → Bool) : Type 0 where
@@ -57,7 +57,7 @@ some_is : {x y : Record} → Some x ≡ Some y → x ≡ y
 some_is e = cc
 
 pub phases_turn : (test : Phase → Bool) → IsLater test → (q cid : ℕ) → (q == 0) ≡ false → (s : State) (e : Event) (reply : Reply) → Accepts s e reply → submits_by q cid e reply ≡ false
-    → RecordsTurn (NotIn test q cid) (NotIn test q cid) s e
+    → RecordsMove (NotIn test q cid) (NotIn test q cid) s e
 phases_turn test l q cid other s e reply ok far = record {
   stays = λ r within away p is. p is;
   reserves = λ d is. l.drafted;
@@ -69,7 +69,7 @@ phases_turn test l q cid other s e reply ok far = record {
   reaps = λ k c st request r e' n status at w p is.
       let sub = reaped_submitted s k c n in
       absurd (true≢false (sym (sent_in test l r.phase (subst (λ (x : Record). is_submitted x.phase ≡ true) (some_is (sym sub.1 ∙ at)) sub.2)) ∙ p is));
-  loses = λ k r e' within rq sub p is. absurd (true≢false (sym (sent_in test l r.phase sub) ∙ p is));
+  loses = λ k r e' within rq sub far p is. absurd (true≢false (sym (sent_in test l r.phase sub) ∙ p is));
   collects = λ r p is. l.collected;
 }
 
@@ -97,6 +97,6 @@ past_carried test l q cid other = record {
     stood = stood_on s e reply proper ok t h.stood;
     records = λ none.
         let parts = none_parts (submits q cid) done (made_of s e reply) none in
-        records_turn (NotIn test q cid) (NotIn test q cid) s e reply (phases_turn test l q cid other s e reply ok parts.1) ok h.stood.grounds (h.records parts.0);
+        records_event (NotIn test q cid) (NotIn test q cid) s e reply (phases_turn test l q cid other s e reply ok parts.1) ok h.stood.grounds (h.records parts.0);
   };
 }

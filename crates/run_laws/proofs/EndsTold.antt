@@ -48,10 +48,10 @@ use Rattle.machine_model.proofs.PlacesKept.{reaped_answer, ids_of}
 use Rattle.machine_model.proofs.Reading.{Member, members}
 use Rattle.machine_model.proofs.WalksKept.{stood_on, stood_at_opening}
 use Rattle.run_laws.specs.Ends.{submits_by, submits, retires_by, WasLost}
-use Rattle.run_laws.proofs.EndsAlong.{made_of, Carried}
+use Rattle.machine_model.proofs.Along.{made_of, Carried}
 use Rattle.run_laws.proofs.EndsFalling.{opened_lists}
-use Rattle.run_laws.proofs.EndsRecords.{RecordsTurn, records_turn}
-use Rattle.run_laws.proofs.EndsJobs.{jobs_turn}
+use Rattle.machine_model.proofs.RecordsMove.{RecordsMove, records_event}
+use Rattle.machine_model.proofs.JobsMove.{jobs_event}
 use Rattle.run_laws.proofs.EndsGone.{GoneTold, DeletionFetched, deletions_turn, gone_on}
 
 -- a command's completion with a status, its cause left aside
@@ -250,7 +250,7 @@ sent_there s stood r within sub =
     ap (λ (o : Option Record). option_map_or (λ r. is_submitted r.phase) o false) f.1 ∙ f.2
 
 held_turn : (done : List Made) (s : State) (e : Event) (reply : Reply) → Accepts s e reply → s.trusted ≡ true → Stood s → ((q : ℕ) → (q == 0) ≡ false → AnswersTold done q s.device.queues) → GoneTold done s.device.queues
-    → RecordsTurn (Known s done) (HeldTold (done ++ made_of s e reply ∷ [])) s e
+    → RecordsMove (Known s done) (HeldTold (done ++ made_of s e reply ∷ [])) s e
 held_turn done s e reply ok t stood answers gone = record {
   stays = λ r within far k held st is.
       ended_on done (made_of s e reply) r.q r.cid st
@@ -259,7 +259,7 @@ held_turn done s e reply ok t stood answers gone = record {
   sends = λ adm id held. absurd (true≢false (sym held));
   submits = λ d entry r e' built at of k held. absurd (true≢false (sym held));
   reaps = λ q cid st request r e' n is at w k held st' same. inl (subst (CompletedIn (done ++ made_of s e reply ∷ []) r.q r.cid) (some_is same) (reaped_told q cid st request r n is at w k));
-  loses = λ q r e' within rq sub k held st same. inr (subst (WasLost (done ++ made_of s e reply ∷ []) r.q r.cid) (some_is same) (lost_told q r e' within rq sub));
+  loses = λ q r e' within rq sub far k held st same. inr (subst (WasLost (done ++ made_of s e reply ∷ []) r.q r.cid) (some_is same) (lost_told q r e' within rq sub));
   collects = λ r k held. absurd (true≢false (sym held));
 }
   where
@@ -304,9 +304,9 @@ told_on : (done : List Made) (s : State) (e : Event) (reply : Reply) → IsPrope
 told_on done s e reply proper ok t h = record {
   stood = stood_on s e reply proper ok t h.stood;
   answers = λ q other. answers_on done s e reply ok h.stood q (h.answers q other);
-  held = records_turn (Known s done) (HeldTold (done ++ made_of s e reply ∷ [])) s e reply (held_turn done s e reply ok t h.stood h.answers h.gone) ok h.stood.grounds
+  held = records_event (Known s done) (HeldTold (done ++ made_of s e reply ∷ [])) s e reply (held_turn done s e reply ok t h.stood h.answers h.gone) ok h.stood.grounds
       (all_in_both (HeldTold done) (Member s) (Known s done) s.host.records (λ r within m k. (m, k)) (members s h.stood) h.held);
-  deletions = jobs_turn (DeletionFetched done) (DeletionFetched (done ++ made_of s e reply ∷ [])) s e reply (deletions_turn done s e reply ok) ok h.stood h.deletions;
+  deletions = jobs_event (DeletionFetched done) (DeletionFetched (done ++ made_of s e reply ∷ [])) s e reply (deletions_turn done s e reply ok) ok h.stood h.deletions;
   gone = gone_on done s e reply ok h.stood h.deletions h.gone;
 }
 

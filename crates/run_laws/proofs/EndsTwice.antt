@@ -28,11 +28,13 @@ use Rattle.machine_model.proofs.Refused.{first_fails, found}
 use Rattle.machine_model.proofs.Out.{named, reaped_submitted}
 use Rattle.machine_model.proofs.Placed.{find_sound}
 use Rattle.machine_model.proofs.Members.{all_at_found}
-use Rattle.machine_model.proofs.Grounds.{trusted_at_first}
+use Rattle.machine_model.proofs.Unforged.{Unforged, unforged_next, unforged_front, unforged_back, unforged_run}
 use Rattle.machine_model.proofs.Served.{Stood}
 use Rattle.machine_model.proofs.PlacesKept.{ids_of}
 use Rattle.run_laws.specs.Ends.{submits, ends_are_told_once, commands_are_collected_once}
-use Rattle.run_laws.proofs.EndsAlong.{permitted, positive, cut, taken_step, Before, before_step}
+use Rattle.machine_model.proofs.Along.{Before, keeps, cut, each_proper_step, trusted_step_by, before_step}
+use Rattle.machine_model.proofs.EveryStatus.{positive}
+use Rattle.machine_model.proofs.Steps.{permitted}
 use Rattle.run_laws.proofs.EndsFront.{Fronted, fronted_on, runs_are_fronted}
 use Rattle.run_laws.proofs.EndsPhases.{IsLater, NotIn, not_with, Past, past_carried}
 
@@ -47,7 +49,7 @@ pub record At (first : Made) (rest : List Made) (end : State) : Type 0 where
   pub trusted : first.before.trusted ≡ true
   pub mid : State
   pub step : Step first.before first.event first.reply mid
-  pub trusted_mid : mid.trusted ≡ true
+  pub unforged : Unforged mid rest
   pub steps : Steps mid rest end
   pub fronted_mid : Fronted mid
 
@@ -55,37 +57,40 @@ pub at_step : (image : List ℕ) (earlier : List Made) (first : Made) (between l
 at_step image earlier first between later second end run =
     let steps = subst (λ (ms : List Made). Steps (opening run.pages run.queues run.entries run.segment image) ms end) (append_assoc earlier (first ∷ between) (second ∷ later)) run.steps in
     let two = cut earlier (first ∷ between ++ second ∷ later) (opening run.pages run.queues run.entries run.segment image) end steps in
-    let t = trusted_at_first (first ∷ between ++ second ∷ later) two.0 end two.2 run.trusted in
-    let before : TrustedRun image earlier two.0 = record { pages = run.pages; queues = run.queues; entries = run.entries; segment = run.segment; opens = run.opens; is_image = run.is_image; steps = two.1; trusted = t } in
+    let all = subst (λ (ms : List Made). Unforged (opening run.pages run.queues run.entries run.segment image) ms) (append_assoc earlier (first ∷ between) (second ∷ later))
+    (unforged_run image (earlier ++ first ∷ between ++ second ∷ later) end run) in
+    let now = unforged_back earlier (first ∷ between ++ second ∷ later) (opening run.pages run.queues run.entries run.segment image) two.0 two.1 all in
+    let next = unforged_next first (between ++ second ∷ later) two.0 two.2.1 two.2.2 now in
+    let front = unforged_front earlier (first ∷ between ++ second ∷ later) (opening run.pages run.queues run.entries run.segment image) all in
+    let before : TrustedRun image earlier two.0 = record { pages = run.pages; queues = run.queues; entries = run.entries; segment = run.segment; opens = run.opens; is_image = run.is_image; steps = two.1; unforged = ap not front.none } in
     let is = two.2.0 in
     record {
       fronted = subst Fronted (sym is) (runs_are_fronted image earlier two.0 before);
-      trusted = ap (λ (s : State). s.trusted) is ∙ t;
+      trusted = ap (λ (s : State). s.trusted) is ∙ now.trusted;
       mid = two.2.1;
       step = subst (λ (s : State). Step s first.event first.reply two.2.1) (sym is) two.2.2;
-      trusted_mid = trusted_at_first (between ++ second ∷ later) two.2.1 end two.2.3 run.trusted;
+      unforged = next;
       steps = two.2.3;
-      fronted_mid = taken_step (λ (s : State) (e : Event) (reply : Reply) (new : State). Fronted s → Fronted new) (λ s e why touched h. h) (λ s e reply proper ok trusted h. fronted_on s e reply proper ok trusted h)
-          two.0 first.event first.reply two.2.1 two.2.2 t (trusted_at_first (between ++ second ∷ later) two.2.1 end two.2.3 run.trusted) (runs_are_fronted image earlier two.0 before);
+      fronted_mid = each_proper_step Fronted fronted_on two.0 first.event first.reply two.2.1 two.2.2 now.trusted next.trusted (runs_are_fronted image earlier two.0 before);
     }
 
 -- A command that is past a phase, and a second step that finds it in that phase
 
-pub past_before : (test : Phase → Bool) → IsLater test → (q cid : ℕ) → (q == 0) ≡ false → (between later : List Made) (second : Made) (mid end : State) → Steps mid (between ++ second ∷ later) end → end.trusted ≡ true → Stood mid
+pub past_before : (test : Phase → Bool) → IsLater test → (q cid : ℕ) → (q == 0) ≡ false → (between later : List Made) (second : Made) (mid end : State) → Steps mid (between ++ second ∷ later) end → Unforged mid (between ++ second ∷ later) → Stood mid
     → AllByRecursion (NotIn test q cid) mid.host.records → Before (Past test q cid) between second
-past_before test l q cid other between later second mid end steps t stood all =
-    before_step (Past test q cid) (past_carried test l q cid other) [] between later second mid end steps t (record { stood = stood; records = λ none. all })
+past_before test l q cid other between later second mid end steps u stood all =
+    before_step (Past test q cid) (keeps (Past test q cid) (past_carried test l q cid other)) [] between later second mid end steps u (record { stood = stood; records = λ none. all })
 
 -- so it was submitted anew
-submitted_anew : (test : Phase → Bool) → IsLater test → (q cid : ℕ) → (q == 0) ≡ false → (first second : Made) (between later : List Made) (end : State) → (at : At first (between ++ second ∷ later) end) → end.trusted ≡ true
+submitted_anew : (test : Phase → Bool) → IsLater test → (q cid : ℕ) → (q == 0) ≡ false → (first second : Made) (between later : List Made) (end : State) → (at : At first (between ++ second ∷ later) end)
     → AllByRecursion (NotIn test q cid) at.mid.host.records → ((next : State) → Step second.before second.event second.reply next → second.before.trusted ≡ true → (r : Record) × (record_at second.before.host q cid ≡ Some r) × (test r.phase ≡ true))
     → list_any (submits q cid) between ≡ true
-submitted_anew test l q cid other first second between later end at t all finds = go (list_any (submits q cid) between) refl
+submitted_anew test l q cid other first second between later end at all finds = go (list_any (submits q cid) between) refl
   where
     go : (b : Bool) → list_any (submits q cid) between ≡ b → list_any (submits q cid) between ≡ true
     go true e = e
     go false e =
-        let b = past_before test l q cid other between later second at.mid end at.steps t at.fronted_mid.stood all in
+        let b = past_before test l q cid other between later second at.mid end at.steps at.unforged at.fronted_mid.stood all in
         let r = finds b.next b.step b.trusted in
         let none = all_at_found (NotIn test q cid) (is_at q cid) second.before.host.records r.0 r.1 (b.holds.records e) (find_sound (is_at q cid) second.before.host.records r.0 r.1) in
         absurd (true≢false (sym r.2 ∙ none))
@@ -116,13 +121,14 @@ not_refused why touched reply e h = absurd (true≢false (ap refusing e ∙ h))
 reaps_leave : (first : Made) (mid : State) (q cid : ℕ) (st : Status) → Step first.before first.event first.reply mid → first.before.trusted ≡ true → mid.trusted ≡ true → Stood first.before → (q == 0) ≡ false
     → first.event ≡ events.Reap q → first.reply ≡ events.Reaps (Done cid st) → AllByRecursion (NotIn is_submitted q cid) mid.host.records
 reaps_leave first mid q cid st step t t' stood other is_event is_reply =
-    taken_step (λ (s : State) (e : Event) (reply : Reply) (new : State). Stood s → e ≡ events.Reap q → reply ≡ events.Reaps (Done cid st) → AllByRecursion (NotIn is_submitted q cid) new.host.records)
-    (λ s e why touched stood is is'. not_refused why touched (events.Reaps (Done cid st)) is' refl)
-    (λ s e reply proper ok trusted stood is is'.
+    trusted_step_by (λ (e : Event) (reply : Reply) (new : State). Stood first.before → e ≡ events.Reap q → reply ≡ events.Reaps (Done cid st) → AllByRecursion (NotIn is_submitted q cid) new.host.records) first.before
+    (λ e why touched stood is is'. not_refused why touched (events.Reaps (Done cid st)) is' refl)
+    (λ e reply proper ok stood is is'.
+    let s = first.before in
     let ok' : Accepts s (events.Reap q) (events.Reaps (Done cid st)) = subst (Accepts s (events.Reap q)) is' (subst (λ (x : Event). Accepts s x reply) is ok) in
     subst (λ (x : Event). AllByRecursion (NotIn is_submitted q cid) (a.after s x reply).host.records) (sym is)
     (subst (λ (x : Reply). AllByRecursion (NotIn is_submitted q cid) (a.after s (events.Reap q) x).host.records) (sym is') (reap_leaves s q cid st stood other (ap named (sym ok'.1)))))
-    first.before first.event first.reply mid step t t' stood is_event is_reply
+    first.event first.reply mid step t t' stood is_event is_reply
 
 pub submitted_later : IsLater is_submitted
 submitted_later = record { drafted = refl; submitted = refl; collected = refl }
@@ -130,8 +136,8 @@ submitted_later = record { drafted = refl; submitted = refl; collected = refl }
 pub runs_tell_once : ends_are_told_once
 runs_tell_once image earlier first between second later end q cid st st' run io is_event is_reply is_event' is_reply' =
     let at = at_step image earlier first between later second end run in
-    submitted_anew is_submitted submitted_later q cid (positive q io) first second between later end at run.trusted
-    (reaps_leave first at.mid q cid st at.step at.trusted at.trusted_mid at.fronted.stood (positive q io) is_event is_reply)
+    submitted_anew is_submitted submitted_later q cid (positive q io) first second between later end at
+    (reaps_leave first at.mid q cid st at.step at.trusted at.unforged.trusted at.fronted.stood (positive q io) is_event is_reply)
     (λ next step t.
     let step' = subst (λ (r : Reply). Step second.before (events.Reap q) r next) is_reply' (subst (λ (e : Event). Step second.before e second.reply next) is_event' step) in
     let ok = permitted _ second.before.trusted true t step'.1 in
@@ -158,13 +164,14 @@ collect_leaves s q cid f h = go (record_at s.host q cid) h
 collects_leave : (first : Made) (mid : State) (q cid : ℕ) (f : FinishedContents) → Step first.before first.event first.reply mid → first.before.trusted ≡ true → mid.trusted ≡ true
     → first.event ≡ events.Collect q cid → first.reply ≡ events.Collects f → AllByRecursion (NotIn lives q cid) mid.host.records
 collects_leave first mid q cid f step t t' is_event is_reply =
-    taken_step (λ (s : State) (e : Event) (reply : Reply) (new : State). e ≡ events.Collect q cid → reply ≡ events.Collects f → AllByRecursion (NotIn lives q cid) new.host.records)
-    (λ s e why touched is is'. not_refused why touched (events.Collects f) is' refl)
-    (λ s e reply proper ok trusted is is'.
+    trusted_step_by (λ (e : Event) (reply : Reply) (new : State). e ≡ events.Collect q cid → reply ≡ events.Collects f → AllByRecursion (NotIn lives q cid) new.host.records) first.before
+    (λ e why touched is is'. not_refused why touched (events.Collects f) is' refl)
+    (λ e reply proper ok is is'.
+    let s = first.before in
     let ok' : Accepts s (events.Collect q cid) (events.Collects f) = subst (Accepts s (events.Collect q cid)) is' (subst (λ (x : Event). Accepts s x reply) is ok) in
     subst (λ (x : Event). AllByRecursion (NotIn lives q cid) (a.after s x reply).host.records) (sym is)
     (subst (λ (x : Reply). AllByRecursion (NotIn lives q cid) (a.after s (events.Collect q cid) x).host.records) (sym is') (collect_leaves s q cid f ok'.1)))
-    first.before first.event first.reply mid step t t' is_event is_reply
+    first.event first.reply mid step t t' is_event is_reply
 
 -- what a collect finds
 collect_finds : (s next : State) (q cid : ℕ) (f : FinishedContents) → Step s (events.Collect q cid) (events.Collects f) next → s.trusted ≡ true → (r : Record) × (record_at s.host q cid ≡ Some r) × (lives r.phase ≡ true)
@@ -191,6 +198,6 @@ pub runs_collect_once : commands_are_collected_once
 runs_collect_once image earlier first between second later end q cid f f' run is_event is_reply is_event' is_reply' =
     let at = at_step image earlier first between later second end run in
     let step = subst (λ (r : Reply). Step first.before (events.Collect q cid) r at.mid) is_reply (subst (λ (e : Event). Step first.before e first.reply at.mid) is_event at.step) in
-    submitted_anew lives lives_later q cid (collect_io first.before at.mid q cid f at.fronted.stood step at.trusted) first second between later end at run.trusted
-    (collects_leave first at.mid q cid f at.step at.trusted at.trusted_mid is_event is_reply)
+    submitted_anew lives lives_later q cid (collect_io first.before at.mid q cid f at.fronted.stood step at.trusted) first second between later end at
+    (collects_leave first at.mid q cid f at.step at.trusted at.unforged.trusted is_event is_reply)
     (λ next step t. collect_finds second.before next q cid f' (subst (λ (r : Reply). Step second.before (events.Collect q cid) r next) is_reply' (subst (λ (e : Event). Step second.before e second.reply next) is_event' step)) t)

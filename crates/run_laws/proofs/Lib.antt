@@ -1,9 +1,6 @@
 pub mod VerdictsWorked
 pub mod EndsFalling
 pub mod EndsFront
-pub mod EndsRecords
-pub mod EndsJobs
-pub mod EndsAlong
 pub mod EndsQueues
 pub mod EndsGone
 pub mod EndsTold

@@ -26,13 +26,13 @@ use Rattle.machine_model.specs.Laws.{TrustedRun, Steps, status_by, fetches, fetc
 use Rattle.machine_model.proofs.Placed.{is_job, find_sound}
 use Rattle.machine_model.proofs.Steps.{Accepts}
 use Rattle.machine_model.proofs.Members.{all_at_found, all_in, only_found}
-use Rattle.machine_model.proofs.Grounds.{trusted_at_first, along_proper}
+use Rattle.machine_model.proofs.Unforged.{Unforged, unforged_front, unforged_back, unforged_run}
 use Rattle.machine_model.proofs.Served.{Stood}
 use Rattle.machine_model.proofs.WalksKept.{one_job, stood_on, stood_at_opening}
 use Rattle.run_laws.specs.Verdicts.{FoundDifference, first_verdicts_count}
-use Rattle.run_laws.proofs.EndsAlong.{made_of, cut, Carried, before_step}
+use Rattle.machine_model.proofs.Along.{Carried, keeps, made_of, cut, along_proper, before_step}
 use Rattle.run_laws.proofs.EndsPhases.{none_parts}
-use Rattle.run_laws.proofs.EndsJobs.{JobsTurn, jobs_turn}
+use Rattle.machine_model.proofs.JobsMove.{JobsMove, jobs_event}
 
 -- each job of the command has this verdict
 abbrev Has : ℕ → ℕ → Status → Job → Type 0
@@ -58,10 +58,10 @@ fetched_at s e k reply entry ok is next = subst (λ (x : Event). fetches_by k en
 some_none : {x : Status} → Some x ≡ None → ⊥
 some_none e = cc
 
-marked_turn : (q cid : ℕ) (st : Status) (s : State) (e : Event) (reply : Reply) → Accepts s e reply → fetches_by q cid e reply ≡ false → JobsTurn (Has q cid st) (Has q cid st) s e
+marked_turn : (q cid : ℕ) (st : Status) (s : State) (e : Event) (reply : Reply) → Accepts s e reply → fetches_by q cid e reply ≡ false → JobsMove (Has q cid st) (Has q cid st) s e
 marked_turn q cid st s e reply ok far = record {
   stays = λ k j f walked p is. p is;
-  marks = λ k j st' waiting f none p is. absurd (some_none (sym (p is) ∙ none));
+  fails = λ k j st' waiting f far lost none p is. absurd (some_none (sym (p is) ∙ none));
   manages = λ entry st' dw0 e' next free is. absurd (not_new 0 entry e' next (and_parts (0 == q) (entry.cid == cid) is));
   begins = λ k entry e' next other free is. absurd (not_new k entry e' next (and_parts (k == q) (entry.cid == cid) is));
   walks = λ k c j act e' w u p is. absurd (some_none (sym (p is) ∙ w.verdict));
@@ -79,7 +79,7 @@ marked_carried q cid st = record {
     stood = stood_on s e reply proper ok t h.stood;
     jobs = λ none.
         let parts = none_parts (fetches q cid) done (made_of s e reply) none in
-        jobs_turn (Has q cid st) (Has q cid st) s e reply (marked_turn q cid st s e reply ok parts.1) ok h.stood (h.jobs parts.0);
+        jobs_event (Has q cid st) (Has q cid st) s e reply (marked_turn q cid st s e reply ok parts.1) ok h.stood (h.jobs parts.0);
   };
 }
 
@@ -147,15 +147,18 @@ pub runs_count_first_verdicts : first_verdicts_count
 runs_count_first_verdicts image earlier m between completion later end q cid job verdict st run at v far given =
     let steps = subst (λ (ms : List Made). Steps (opening run.pages run.queues run.entries run.segment image) ms end) (append_assoc earlier (m ∷ between) (completion ∷ later)) run.steps in
     let two = cut earlier (m ∷ between ++ completion ∷ later) (opening run.pages run.queues run.entries run.segment image) end steps in
-    let t = trusted_at_first (m ∷ between ++ completion ∷ later) two.0 end two.2 run.trusted in
-    let before : TrustedRun image earlier two.0 = record { pages = run.pages; queues = run.queues; entries = run.entries; segment = run.segment; opens = run.opens; is_image = run.is_image; steps = two.1; trusted = t } in
+    let all = subst (λ (ms : List Made). Unforged (opening run.pages run.queues run.entries run.segment image) ms) (append_assoc earlier (m ∷ between) (completion ∷ later))
+    (unforged_run image (earlier ++ m ∷ between ++ completion ∷ later) end run) in
+    let rest = unforged_back earlier (m ∷ between ++ completion ∷ later) (opening run.pages run.queues run.entries run.segment image) two.0 two.1 all in
+    let first = unforged_front earlier (m ∷ between ++ completion ∷ later) (opening run.pages run.queues run.entries run.segment image) all in
+    let before : TrustedRun image earlier two.0 = record { pages = run.pages; queues = run.queues; entries = run.entries; segment = run.segment; opens = run.opens; is_image = run.is_image; steps = two.1; unforged = ap not first.none } in
     let stood = along_proper Stood stood_on stood_at_opening image earlier two.0 before in
     let here : job_at two.0 q cid ≡ Some job = subst (λ (s : State). job_at s q cid ≡ Some job) two.2.0 at in
     let marked : Marked q cid verdict [] two.0 = record {
       stood = stood;
       jobs = λ none. all_in (λ j. is_job q cid j ≡ true → j ≡ job) (Has q cid verdict) two.0.device.jobs (λ j within only is. ap (λ (x : Job). x.verdict) (only is) ∙ v) (only_found (is_job q cid) two.0.device.jobs job here (one_job two.0 stood q cid));
     } in
-    let b = before_step (Marked q cid verdict) (marked_carried q cid verdict) [] (m ∷ between) later completion two.0 end two.2 run.trusted marked in
+    let b = before_step (Marked q cid verdict) (keeps (Marked q cid verdict) (marked_carried q cid verdict)) [] (m ∷ between) later completion two.0 end two.2 rest marked in
     let j = given_job completion.before completion.event completion.reply q cid st given in
     let its : j.0.verdict ≡ Some verdict =
     all_at_found (Has q cid verdict) (is_job q cid) completion.before.device.jobs j.0 j.1 (b.holds.jobs (not_true (list_any (fetches q cid) (m ∷ between)) far)) (find_sound (is_job q cid) completion.before.device.jobs j.0 j.1) in

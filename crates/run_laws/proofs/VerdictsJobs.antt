@@ -1,7 +1,7 @@
 -- A job stays until it completes.
 use Rattle.std.proofs.Common.{◌≡◌, ℕ, ◌+◌, ◌/◌, ◌%◌, ◌==◌, Bool, true, false, not, ◌&&◌, Option, Some, None, List, [], ◌∷◌, ◌++◌, map, filter, find, take, drop, is_some, is_none, if◌then◌else◌, refl, ap, sym, ◌∙◌, subst, eqb-true, eq-eqb}
 use Rattle.std.specs.Option.{option_map, option_map_or}
-use Rattle.std.proofs.lemmas.Bool.{true≢false, and_parts}
+use Rattle.std.proofs.lemmas.Bool.{true≢false, and_parts, not-true}
 use Rattle.admin_commands.specs.Entries.{named_queue, named_command}
 use Rattle.admin_commands.specs.declared.SqState.TheVariants.{Absent}
 use Rattle.controller_walk.specs.Units.{Act, Stays, Reads, Moves}
@@ -18,14 +18,16 @@ use Rattle.machine_model.specs.Refusals.{job_at, next_rung, conflicts}
 use Rattle.machine_model.specs.After as a
 use Rattle.machine_model.specs.Events as events
 use Rattle.machine_model.specs.Events.{Event, Reply}
-use Rattle.machine_model.specs.Laws.{status_by}
+use Rattle.machine_model.specs.Laws.{status_by, forges_by}
 use Rattle.machine_model.proofs.Managed.{managed_by_case}
 use Rattle.machine_model.proofs.Placing.{device-answered}
 use Rattle.machine_model.proofs.Placed.{is_job}
 use Rattle.machine_model.proofs.Steps.{Accepts}
 use Rattle.machine_model.proofs.WalksKept.{host_jobs}
+use Rattle.machine_model.proofs.Flag.{stays_trusted}
+use Rattle.machine_model.proofs.Unforged.{trusted_end}
 use Rattle.run_laws.specs.Verdicts.{jobs_stay}
-use Rattle.run_laws.proofs.EndsAlong.{taken_step}
+use Rattle.machine_model.proofs.Along.{trusted_step_by}
 
 abbrev There : ℕ → ℕ → List Job → Type 0
 There q cid js = is_some (find (is_job q cid) js) ≡ true
@@ -171,6 +173,10 @@ there_event q cid s (events.Complete k c) reply ok job at none = absurd ok.1
 there_event q cid s e reply ok job at none = subst (There q cid) (sym (host_jobs s e reply ok refl)) (ap is_some at)
 
 pub runs_keep_jobs : jobs_stay
-runs_keep_jobs image made old new e reply q cid job run step trusted at none =
-    taken_step (λ (s : State) (e : Event) (reply : Reply) (t : State). job_at s q cid ≡ Some job → status_by s e reply q cid ≡ None → There q cid t.device.jobs)
-    (λ s e why touched at none. ap is_some at) (λ s e reply proper ok t at none. there_event q cid s e reply ok job at none) old e reply new step run.trusted trusted at none
+runs_keep_jobs image made old new e reply q cid job run step unforged at none =
+    trusted_step_by (λ (e : Event) (reply : Reply) (t : State). job_at old q cid ≡ Some job → status_by old e reply q cid ≡ None → There q cid t.device.jobs) old
+    (λ e why touched at none. ap is_some at) (λ e reply proper ok at none. there_event q cid old e reply ok job at none) e reply new step trusted
+    (stays_trusted old e reply new step (not-true (forges_by e reply) unforged) trusted) at none
+  where
+    trusted : old.trusted ≡ true
+    trusted = trusted_end image made old run

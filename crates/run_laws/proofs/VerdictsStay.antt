@@ -2,7 +2,7 @@
 use Rattle.std.proofs.Common.{◌≡◌, ℕ, ◌==◌, true, false, ◌||◌, Option, Some, None, List, [], ◌∷◌, is_some, is_none, refl, ap, ap₂, sym, ◌∙◌, subst, eqb-true}
 use Rattle.std.specs.Option.{option_map_or}
 use Rattle.std.specs.List.{AllByRecursion}
-use Rattle.std.proofs.lemmas.Bool.{true≢false, and_parts}
+use Rattle.std.proofs.lemmas.Bool.{true≢false, and_parts, not-true}
 use Rattle.entry_codec.specs.declared.status.Status.{Status}
 use Rattle.controller_walk.specs.Units.{first_passing}
 use Rattle.machine_model.specs.State.{State, Job}
@@ -12,16 +12,18 @@ use Rattle.machine_model.specs.Events.{Event, Reply}
 use Rattle.machine_model.specs.declared.words.Refusal.{Refusal}
 use Rattle.machine_model.specs.declared.words.Refusal.TheVariants.{NoJob, Nothing, Memory}
 use Rattle.machine_model.specs.Image.{Made}
-use Rattle.machine_model.specs.Laws.{TrustedRun}
+use Rattle.machine_model.specs.Laws.{TrustedRun, forges_by}
 use Rattle.machine_model.proofs.Placed.{is_job, find_sound}
 use Rattle.machine_model.proofs.Members.{all_at_found, all_in, only_found}
-use Rattle.machine_model.proofs.Grounds.{along_proper}
 use Rattle.machine_model.proofs.Served.{Stood}
 use Rattle.machine_model.proofs.WalksKept.{one_job, stood_on, stood_at_opening}
+use Rattle.machine_model.proofs.Flag.{stays_trusted}
+use Rattle.machine_model.proofs.Unforged.{trusted_end}
 use Rattle.machine_model.specs.Step.{Step, Refuses}
 use Rattle.run_laws.specs.Verdicts.{KeepsVerdict, IsRefusedWalk, verdicts_stay, verdicts_end_walks}
-use Rattle.run_laws.proofs.EndsAlong.{permitted, taken_step}
-use Rattle.run_laws.proofs.EndsJobs.{JobsTurn, jobs_turn}
+use Rattle.machine_model.proofs.Along.{along_proper, trusted_step_by}
+use Rattle.machine_model.proofs.Steps.{permitted}
+use Rattle.machine_model.proofs.JobsMove.{JobsMove, jobs_event}
 
 -- what is so of each job before, and after
 abbrev Is : ℕ → ℕ → Job → Job → Type 0
@@ -30,10 +32,10 @@ Is q cid before j = is_job q cid j ≡ true → j ≡ before
 abbrev Keeps : ℕ → ℕ → Job → Job → Type 0
 Keeps q cid before j = is_job q cid j ≡ true → KeepsVerdict before j
 
-verdicts_kept : (s : State) (e : Event) (q cid : ℕ) (before : Job) (st : Status) → job_at s q cid ≡ Some before → before.verdict ≡ Some st → JobsTurn (Is q cid before) (Keeps q cid before) s e
+verdicts_kept : (s : State) (e : Event) (q cid : ℕ) (before : Job) (st : Status) → job_at s q cid ≡ Some before → before.verdict ≡ Some st → JobsMove (Is q cid before) (Keeps q cid before) s e
 verdicts_kept s e q cid before st at v = record {
   stays = λ k j f far p is. subst (KeepsVerdict before) (sym (p is)) (record { verdict = refl; units_done = refl; bytes = refl });
-  marks = λ k j st' waiting f none p is. absurd (some_none (sym v ∙ ap (λ (x : Job). x.verdict) (sym (p is)) ∙ none));
+  fails = λ k j st' waiting f far lost none p is. absurd (some_none (sym v ∙ ap (λ (x : Job). x.verdict) (sym (p is)) ∙ none));
   manages = λ entry st' dw0 e' next free is.
       let ids = and_parts (0 == q) (entry.cid == cid) is in
       absurd (new_here 0 entry.cid (eqb-true 0 q ids.0) (eqb-true entry.cid cid ids.1) free);
@@ -55,12 +57,13 @@ runs_have_stood : (image : List ℕ) (made : List Made) (s : State) → TrustedR
 runs_have_stood image made s run = along_proper Stood stood_on stood_at_opening image made s run
 
 pub runs_keep_verdicts : verdicts_stay
-runs_keep_verdicts image made old new e reply q cid before after st run step trusted at v here =
+runs_keep_verdicts image made old new e reply q cid before after st run step unforged at v here =
     all_at_found (Keeps q cid before) (is_job q cid) new.device.jobs after here
-    (taken_step (λ (s : State) (e : Event) (reply : Reply) (t : State). Stood s → job_at s q cid ≡ Some before → AllByRecursion (Keeps q cid before) t.device.jobs)
-    (λ s e why touched stood at. all_in (Is q cid before) (Keeps q cid before) s.device.jobs (λ j within p is. subst (KeepsVerdict before) (sym (p is)) (record { verdict = refl; units_done = refl; bytes = refl })) (only s stood at))
-    (λ s e reply proper ok t stood at. jobs_turn (Is q cid before) (Keeps q cid before) s e reply (verdicts_kept s e q cid before st at v) ok stood (only s stood at))
-    old e reply new step run.trusted trusted (runs_have_stood image made old run) at)
+    (trusted_step_by (λ (e : Event) (reply : Reply) (t : State). Stood old → job_at old q cid ≡ Some before → AllByRecursion (Keeps q cid before) t.device.jobs) old
+    (λ e why touched stood at. all_in (Is q cid before) (Keeps q cid before) old.device.jobs (λ j within p is. subst (KeepsVerdict before) (sym (p is)) (record { verdict = refl; units_done = refl; bytes = refl })) (only old stood at))
+    (λ e reply proper ok stood at. jobs_event (Is q cid before) (Keeps q cid before) old e reply (verdicts_kept old e q cid before st at v) ok stood (only old stood at))
+    e reply new step (trusted_end image made old run)
+    (stays_trusted old e reply new step (not-true (forges_by e reply) unforged) (trusted_end image made old run)) (runs_have_stood image made old run) at)
     (find_sound (is_job q cid) new.device.jobs after here)
   where
     only : (s : State) → Stood s → job_at s q cid ≡ Some before → AllByRecursion (Is q cid before) s.device.jobs
@@ -93,5 +96,5 @@ verdict_ends_walks image made s new reply q cid job st run step at v = go reply 
         nothing_none e = cc
 
     go : (reply : Reply) → Step s (events.Walk q cid) reply new → IsRefusedWalk s reply new
-    go (events.Refused why touched) step = record { refused = refused_so s q cid why touched is (permitted _ s.trusted false run.trusted step.1); same = step.2 }
-    go reply step = absurd (none (permitted _ s.trusted false run.trusted step.1).0)
+    go (events.Refused why touched) step = record { refused = refused_so s q cid why touched is (permitted _ s.trusted false (trusted_end image made s run) step.1); same = step.2 }
+    go reply step = absurd (none (permitted _ s.trusted false (trusted_end image made s run) step.1).0)

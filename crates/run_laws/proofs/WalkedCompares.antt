@@ -1,8 +1,7 @@
 -- A Compare is told by its draft.
-use Rattle.std.proofs.Common.{◌≡◌, ℕ, ◌==◌, nat_lt, Bool, true, false, ◌&&◌, Option, Some, None, List, [], ◌∷◌, ◌++◌, if◌then◌else◌, refl, ap, sym, ◌∙◌, subst, arith, eqb-true, append-nil}
+use Rattle.std.proofs.Common.{◌≡◌, ℕ, ◌==◌, Bool, true, false, ◌&&◌, Option, Some, None, List, [], ◌∷◌, if◌then◌else◌, refl, ap, sym, ◌∙◌, subst, eqb-true}
 use Rattle.std.specs.Option.{option_map, option_map_or}
 use Rattle.std.proofs.lemmas.Bool.{and_parts}
-use Rattle.std.proofs.lemmas.Bool.Decides.{nat_tests}
 use Rattle.entry_codec.specs.declared.status.Status.{Status}
 use Rattle.entry_codec.specs.declared.status.TheConstants.Status.{COMPARE_FAILURE}
 use Rattle.entry_codec.specs.declared.io_opcode.TheConstants.{COMPARE, READ, WRITE}
@@ -15,18 +14,16 @@ use Rattle.io_commands.specs.Jobs.{kind_of_opcode}
 use Rattle.machine_model.specs.State.{State, Job}
 use Rattle.machine_model.specs.Refusals.{job_at}
 use Rattle.machine_model.specs.After.{final_status}
-use Rattle.machine_model.specs.Opening.{opening}
 use Rattle.machine_model.specs.Image.{Made, draft_of}
 use Rattle.machine_model.specs.Laws.{status_by, drafts_of, has_cause, is_compare}
 use Rattle.machine_model.specs.Events as events
 use Rattle.machine_model.specs.Events.{Event, Reply}
 use Rattle.machine_model.proofs.Placed.{is_job, find_sound}
 use Rattle.machine_model.proofs.Served.{Stood}
-use Rattle.machine_model.proofs.WalksKept.{stood_at_opening}
 use Rattle.machine_model.proofs.Known.{Known}
-use Rattle.machine_model.proofs.Images.{job_draft, known_at_opening}
-use Rattle.machine_model.proofs.Compares.{before_step, compares_tell}
-use Rattle.machine_model.proofs.EveryStatus.{statuses_have_causes}
+use Rattle.machine_model.proofs.Images.{job_draft, imaged_before}
+use Rattle.machine_model.proofs.Compares.{compares_tell}
+use Rattle.machine_model.proofs.EveryStatus.{positive, statuses_have_causes}
 use Rattle.run_laws.specs.Walked.{compares_by_their_drafts, compare_failures_are_of_compares}
 
 compare_opcode : (opcode : ℕ) → kind_of_opcode opcode ≡ Some Compare → (opcode == COMPARE) ≡ true
@@ -74,10 +71,9 @@ told_by_draft drafts s q cid j d stood known at latest kind = go (j.q == 0) refl
 
 pub compares_told : compares_by_their_drafts
 compares_told image earlier later m end q cid st d run status latest kind fine =
-    let b = before_step [] earlier later m (opening run.pages run.queues run.entries run.segment image) end [] run.steps run.trusted
-    (record { stood = stood_at_opening run.pages run.queues run.entries run.segment image run.opens; caused = tt }) (known_at_opening run.pages run.queues run.entries run.segment image) in
+    let b = (imaged_before image earlier later m end run).holds in
     let x = completed_job m.before m.event m.reply q cid st status in
-    let opcode = told_by_draft (drafts_of earlier ++ []) m.before q cid x.0 d b.traced.stood b.known x.1 (ap (draft_of q cid) (append-nil (drafts_of earlier)) ∙ latest) kind in
+    let opcode = told_by_draft (drafts_of earlier) m.before q cid x.0 d b.stood b.known x.1 latest kind in
     compares_tell image earlier later m end q cid st d run status (ap (λ (o : Option Job). option_map_or (λ j. j.entry.opcode == COMPARE) o false) x.1 ∙ opcode) latest fine
 
 -- No other command fails as a Compare
@@ -88,23 +84,19 @@ compare_kind opcode k is h = let h' : kind_of_opcode COMPARE ≡ Some k = subst 
     some_is : {x y : Kind} → Some x ≡ Some y → x ≡ y
     some_is e = cc
 
-positive : (q : ℕ) → nat_lt 0 q ≡ true → (q == 0) ≡ false
-positive q h = grind (arith, nat_tests, h)
-
 only_compare : (earlier : List Made) (m : Made) (q cid : ℕ) → has_cause earlier m q cid COMPARE_FAILURE ≡ true → is_compare m q cid ≡ true
 only_compare earlier m q cid h = h
 
 pub failures_of_compares : compare_failures_are_of_compares
 failures_of_compares image earlier later m end q cid run io status =
-    let b = before_step [] earlier later m (opening run.pages run.queues run.entries run.segment image) end [] run.steps run.trusted
-    (record { stood = stood_at_opening run.pages run.queues run.entries run.segment image run.opens; caused = tt }) (known_at_opening run.pages run.queues run.entries run.segment image) in
+    let b = (imaged_before image earlier later m end run).holds in
     let x = completed_job m.before m.event m.reply q cid COMPARE_FAILURE status in
     let ids = and_parts (x.0.q == q) (x.0.entry.cid == cid) (find_sound (is_job q cid) m.before.device.jobs x.0 x.1) in
     let other : (x.0.q == 0) ≡ false = ap (λ (n : ℕ). n == 0) (eqb-true x.0.q q ids.0) ∙ positive q io in
-    let k = job_draft (drafts_of earlier ++ []) m.before q cid x.0 b.traced.stood b.known other x.1 in
+    let k = job_draft (drafts_of earlier) m.before q cid x.0 b.stood b.known other x.1 in
     let opcode : (x.0.entry.opcode == COMPARE) ≡ true =
     sym (ap (λ (o : Option Job). option_map_or (λ j. j.entry.opcode == COMPARE) o false) x.1) ∙ only_compare earlier m q cid (statuses_have_causes image earlier later m end q cid COMPARE_FAILURE run io status) in (
       k.of.draft,
-      ap (draft_of q cid) (sym (append-nil (drafts_of earlier))) ∙ k.latest,
+      k.latest,
       ap (λ (r : Request). r.kind) k.of.asked ∙ compare_kind x.0.entry.opcode k.list.request.kind opcode k.kind,
     )

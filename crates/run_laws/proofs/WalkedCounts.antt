@@ -1,5 +1,5 @@
 -- A job has done as many units as there were walk steps of it since its fetch.
-use Rattle.std.proofs.Common.{◌≡◌, ℕ, ◌+◌, ◌==◌, nat_lt, Bool, true, false, ◌&&◌, Some, List, [], ◌∷◌, ◌++◌, length, filter, slice_get, if◌then◌else◌, refl, ap, sym, ◌∙◌, arith, subst, eqb-true, eq-eqb, append-nil, append_assoc}
+use Rattle.std.proofs.Common.{◌≡◌, ℕ, ◌+◌, ◌==◌, Bool, true, false, ◌&&◌, Some, List, [], ◌∷◌, ◌++◌, length, filter, slice_get, if◌then◌else◌, refl, ap, sym, ◌∙◌, arith, eqb-true, eq-eqb}
 use Rattle.std.specs.Option.{option_map}
 use Rattle.std.specs.List.{AllByRecursion, list_any}
 use Rattle.std.proofs.lemmas.Bool.{true≢false, and_parts}
@@ -7,25 +7,23 @@ use Rattle.std.proofs.lemmas.Bool.Decides.{nat_tests}
 use Rattle.entry_codec.specs.declared.submission.SubEntry.{SubEntry}
 use Rattle.machine_model.specs.State.{State, Job}
 use Rattle.machine_model.specs.Refusals.{next_rung}
-use Rattle.machine_model.specs.Opening.{opening}
 use Rattle.machine_model.specs.Image.{Made}
-use Rattle.machine_model.specs.Laws.{Steps, fetches, fetches_by, since_fetch}
-use Rattle.machine_model.specs.Step.{Step}
+use Rattle.machine_model.specs.Laws.{fetches, fetches_by, since_fetch}
 use Rattle.machine_model.specs.Events as events
 use Rattle.machine_model.specs.Events.{Event, Reply}
 use Rattle.machine_model.specs.declared.words.Refusal.{Refusal}
 use Rattle.machine_model.proofs.Placed.{is_job, find_sound}
 use Rattle.machine_model.proofs.Members.{all_at, all_at_found, all_in}
-use Rattle.machine_model.proofs.Grounds.{trusted_at_first}
 use Rattle.machine_model.proofs.Served.{Stood}
-use Rattle.machine_model.proofs.WalksKept.{stood_at_opening}
+use Rattle.machine_model.proofs.WalksKept.{stood_on, stood_at_opening}
 use Rattle.machine_model.proofs.Placements.{in_hand}
 use Rattle.machine_model.proofs.Caused.{since_more, any_longer, any_last}
 use Rattle.machine_model.proofs.CausedKept.{not_conflicting, none_found, refused_no_fetch}
-use Rattle.machine_model.proofs.EveryStatus.{as_made}
+use Rattle.machine_model.proofs.EveryStatus.{positive}
+use Rattle.machine_model.proofs.Along.{Carried, keeps, made_of, run_along}
 use Rattle.machine_model.proofs.JobsMove.{JobsMove, jobs_event, is_walked}
 use Rattle.run_laws.specs.Walked.{walks_by, walks_of, times_walked, units_done_count_the_walks}
-use Rattle.run_laws.proofs.DataAlong.{Going, left_step, stood_step}
+use Rattle.run_laws.proofs.DataAlong.{Going}
 use Rattle.run_laws.proofs.DataOnce.{fetched_entry}
 
 -- What is counted
@@ -131,9 +129,9 @@ walk_counts s e reply g q cid is = absurd (none is)
 counts_move : (earlier : List Made) (s : State) (e : Event) (reply : Reply) → Going s e reply → JobsMove (CountedIfIo earlier) (CountedIfIo (earlier ++ record { before = s; event = e; reply = reply } ∷ [])) s e
 counts_move earlier s e reply g = record {
   stays = λ k j at far p other. counted_same earlier j j m refl refl refl (not_refetched s e reply g k j at) (not_rewalked e reply j far) (p other);
-  fails = λ k j st waiting at far failed p other. counted_same earlier j (record j { verdict = Some st; waiting_abort = waiting }) m refl refl refl (not_refetched s e reply g k j at) (not_rewalked e reply j far) (p other);
-  manages = λ j zero other. absurd (true≢false (sym (eq-eqb j.q 0 zero) ∙ other));
-  begins = λ q entry is rung io other.
+  fails = λ k j st waiting at far failed none p other. counted_same earlier j (record j { verdict = Some st; waiting_abort = waiting }) m refl refl refl (not_refetched s e reply g k j at) (not_rewalked e reply j far) (p other);
+  manages = λ entry st dw0 is rung free other. absurd (true≢false other);
+  begins = λ q entry is rung io free other.
       let f = begun_fetched s e reply g q entry is rung in record {
         fetched = any_last (fetches q entry.cid) earlier m f;
         count = ap (λ (xs : List Made). length (filter (walks_of q entry.cid) xs)) (sym (since_new q entry.cid earlier m f));
@@ -160,29 +158,26 @@ refused_no_walk : (e : Event) (why : Refusal) (touched : List ℕ) (q cid : ℕ)
 refused_no_walk (events.Walk n c) why touched q cid = refl
 refused_no_walk e why touched q cid = refl
 
-counted_step : (earlier : List Made) (s : State) (e : Event) (reply : Reply) (new : State) → Step s e reply new → s.trusted ≡ true → new.trusted ≡ true → Stood s → AllCounted earlier s → AllCounted (earlier ++ record { before = s; event = e; reply = reply } ∷ []) new
-counted_step earlier s e reply new step t u stood h =
-    left_step (AllCounted (earlier ++ record { before = s; event = e; reply = reply } ∷ [])) s e reply new step t u stood
-    (λ why touched is. all_in (CountedIfIo earlier) (CountedIfIo (earlier ++ record { before = s; event = e; reply = reply } ∷ [])) s.device.jobs
-    (λ j within p other. counted_same earlier j j (record { before = s; event = e; reply = reply }) refl refl refl
-    (ap (fetches_by j.q j.entry.cid e) is ∙ refused_no_fetch e why touched j.q j.entry.cid) (ap (walks_by j.q j.entry.cid e) is ∙ refused_no_walk e why touched j.q j.entry.cid) (p other)) h)
-    (λ g. jobs_event (CountedIfIo earlier) (CountedIfIo (earlier ++ record { before = s; event = e; reply = reply } ∷ [])) s e reply (counts_move earlier s e reply g) g.ok g.stood h)
+record CountedSo (done : List Made) (s : State) : Type 0 where
+  pub stood : Stood s
+  pub counted : AllCounted done s
 
-counted_along : (earlier made : List Made) (s end : State) → Steps s made end → end.trusted ≡ true → Stood s → AllCounted earlier s → AllCounted (earlier ++ made) end
-counted_along earlier [] s end steps t stood h = subst (λ (xs : List Made). AllCounted xs end) (sym (append-nil earlier)) (subst (AllCounted earlier) (sym steps) h)
-counted_along earlier (m ∷ made) s end (is, mid, step, rest) t stood h =
-    let now = trusted_at_first (m ∷ made) s end (is, mid, step, rest) t in
-    let then' = trusted_at_first made mid end rest t in
-    subst (λ (xs : List Made). AllCounted xs end) (append_assoc earlier (m ∷ []) made)
-    (counted_along (earlier ++ m ∷ []) made mid end rest t (stood_step s m.event m.reply mid step now then' stood)
-    (subst (λ (x : Made). AllCounted (earlier ++ x ∷ []) mid) (sym (as_made m s is)) (counted_step earlier s m.event m.reply mid step now then' stood h)))
-
-positive : (q : ℕ) → nat_lt 0 q ≡ true → (q == 0) ≡ false
-positive q h = grind (arith, nat_tests, h)
+counts_carried : Carried CountedSo
+counts_carried = record {
+  refused = λ done s e why touched h. record {
+    stood = h.stood;
+    counted = all_in (CountedIfIo done) (CountedIfIo (done ++ made_of s e (events.Refused why touched) ∷ [])) s.device.jobs
+        (λ j within p other. counted_same done j j (made_of s e (events.Refused why touched)) refl refl refl (refused_no_fetch e why touched j.q j.entry.cid) (refused_no_walk e why touched j.q j.entry.cid) (p other)) h.counted;
+  };
+  taken = λ done s e reply proper ok t h. record {
+    stood = stood_on s e reply proper ok t h.stood;
+    counted = jobs_event (CountedIfIo done) (CountedIfIo (done ++ made_of s e reply ∷ [])) s e reply (counts_move done s e reply (record { proper = proper; ok = ok; trusted = t; stood = h.stood })) ok h.stood h.counted;
+  };
+}
 
 pub units_counted : units_done_count_the_walks
 units_counted image made end q cid j run io found =
-    let all = counted_along [] made (opening run.pages run.queues run.entries run.segment image) end run.steps run.trusted (stood_at_opening run.pages run.queues run.entries run.segment image run.opens) tt in
+    let all = (run_along CountedSo (keeps CountedSo counts_carried) image (λ pages queues n s opens. record { stood = stood_at_opening pages queues n s image opens; counted = tt }) made end run).counted in
     let ids = and_parts (j.q == q) (j.entry.cid == cid) (find_sound (is_job q cid) end.device.jobs j found) in
     let jq = eqb-true j.q q ids.0 in
     let c = all_at_found (CountedIfIo made) (is_job q cid) end.device.jobs j found all (ap (λ (n : ℕ). n == 0) jq ∙ positive q io) in

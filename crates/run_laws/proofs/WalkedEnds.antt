@@ -27,7 +27,7 @@ use Rattle.machine_model.specs.Events.{Event, Reply}
 use Rattle.machine_model.proofs.Managed.{managed_by_case}
 use Rattle.machine_model.proofs.Placing.{device-answered}
 use Rattle.machine_model.proofs.Placed.{is_job, find_sound}
-use Rattle.machine_model.proofs.Grounds.{trusted_at_first}
+use Rattle.machine_model.proofs.Unforged.{Unforged, unforged_next, unforged_front, unforged_back, unforged_run, unforged_end, trusted_end}
 use Rattle.machine_model.proofs.Served.{Stood}
 use Rattle.machine_model.proofs.WalksKept.{host_jobs, stood_at_opening}
 use Rattle.machine_model.proofs.Placements.{in_hand}
@@ -35,7 +35,9 @@ use Rattle.machine_model.proofs.CausedKept.{not_conflicting}
 use Rattle.machine_model.proofs.CommandsAll.{walking}
 use Rattle.machine_model.proofs.JobLaws.{stood_after}
 use Rattle.run_laws.specs.Walked.{is_more, HasJobSo, walks_go_on_without_a_verdict, walks_by, completes_by, completes, ends_walk_by, only_the_last_walk_ends}
-use Rattle.run_laws.proofs.DataAlong.{Going, permitted, stood_step, steps_split, stood_along, along_steps}
+use Rattle.run_laws.proofs.DataAlong.{Going, stood_step, stood_along, along_steps}
+use Rattle.machine_model.proofs.Along.{cut}
+use Rattle.machine_model.proofs.Steps.{permitted}
 
 -- Finding a job in changed lists
 
@@ -300,9 +302,10 @@ exact B false e h = absurd (true≢false (sym e))
 
 pub walks_tell : walks_go_on_without_a_verdict
 walks_tell image made s new q cid outcome touched run step =
-    let ok = permitted _ s.trusted false run.trusted step.1 in
-    let x = walk_left s q cid outcome touched (record { proper = tt; ok = ok; trusted = run.trusted; stood = stood_after image made s run }) in
-    subst (λ (t : State). HasJobSo t q cid outcome) (sym (exact _ s.trusted run.trusted step.2))
+    let trusted = trusted_end image made s run in
+    let ok = permitted _ s.trusted false trusted step.1 in
+    let x = walk_left s q cid outcome touched (record { proper = tt; ok = ok; trusted = trusted; stood = stood_after image made s run }) in
+    subst (λ (t : State). HasJobSo t q cid outcome) (sym (exact _ s.trusted trusted step.2))
     (record { job = x.job; found = x.found; undecided = ap is_none x.is ∙ undecided_is outcome })
 
 -- Along the steps
@@ -350,26 +353,33 @@ last_ends image before walked between again later end q cid run ends walks = go 
     s0 = opening run.pages run.queues run.entries run.segment image
 
     at_again : (mid : State) × Steps (opening run.pages run.queues run.entries run.segment image) (before ++ walked ∷ between) mid × Steps mid (again ∷ later) end
-    at_again = steps_split (before ++ walked ∷ between) (again ∷ later) (opening run.pages run.queues run.entries run.segment image) end run.steps
+    at_again = cut (before ++ walked ∷ between) (again ∷ later) (opening run.pages run.queues run.entries run.segment image) end run.steps
 
     at_walked : (mid : State) × Steps (opening run.pages run.queues run.entries run.segment image) before mid × Steps mid (walked ∷ between) at_again.0
-    at_walked = steps_split before (walked ∷ between) (opening run.pages run.queues run.entries run.segment image) at_again.0 at_again.1
+    at_walked = cut before (walked ∷ between) (opening run.pages run.queues run.entries run.segment image) at_again.0 at_again.1
+
+    unforged : Unforged (opening run.pages run.queues run.entries run.segment image) (before ++ walked ∷ between)
+    unforged =
+        unforged_front (before ++ walked ∷ between) (again ∷ later) s0 (unforged_run image (before ++ walked ∷ between ++ again ∷ later) end run)
 
     trusted_again : at_again.0.trusted ≡ true
-    trusted_again = trusted_at_first (again ∷ later) at_again.0 end at_again.2 run.trusted
+    trusted_again = unforged_end (before ++ walked ∷ between) s0 at_again.0 at_again.1 unforged
 
-    trusted_walked : at_walked.0.trusted ≡ true
-    trusted_walked = trusted_at_first (walked ∷ between) at_walked.0 at_again.0 at_walked.2 trusted_again
+    unforged_walked : Unforged at_walked.0 (walked ∷ between)
+    unforged_walked = unforged_back before (walked ∷ between) s0 at_walked.0 at_walked.1 unforged
+
+    unforged_behind : Unforged at_walked.2.1 between
+    unforged_behind = unforged_next walked between at_walked.0 at_walked.2.1 at_walked.2.2 unforged_walked
 
     stood_walked : Stood at_walked.0
-    stood_walked = stood_along before s0 at_walked.0 at_walked.1 trusted_walked (stood_at_opening run.pages run.queues run.entries run.segment image run.opens)
+    stood_walked = stood_along before s0 at_walked.0 at_walked.1 (unforged_front before (walked ∷ between) s0 unforged) (stood_at_opening run.pages run.queues run.entries run.segment image run.opens)
 
     stood_behind : Stood at_walked.2.1
-    stood_behind = stood_step at_walked.0 walked.event walked.reply at_walked.2.1 at_walked.2.2 trusted_walked (trusted_at_first between at_walked.2.1 at_again.0 at_walked.2.3 trusted_again) stood_walked
+    stood_behind = stood_step at_walked.0 walked.event walked.reply at_walked.2.1 at_walked.2.2 unforged_walked.trusted unforged_behind.trusted stood_walked
 
     go : (b : Bool) → list_any (completes q cid) between ≡ b → b ≡ true
     go true e = refl
     go false e =
-        let kept = along_steps (Decided q cid) (completes q cid) (λ s e reply g far h. decided_step q cid s e reply g far h) between at_walked.2.1 at_again.0 at_walked.2.3 trusted_again stood_behind e
-        (ended at_walked.0 at_walked.2.1 walked.event walked.reply q cid at_walked.2.2 trusted_walked stood_walked ends) in
+        let kept = along_steps (Decided q cid) (completes q cid) (λ s e reply g far h. decided_step q cid s e reply g far h) between at_walked.2.1 at_again.0 at_walked.2.3 unforged_behind stood_behind e
+        (ended at_walked.0 at_walked.2.1 walked.event walked.reply q cid at_walked.2.2 unforged_walked.trusted stood_walked ends) in
         absurd (not_again at_again.0 at_again.2.1 again.event again.reply q cid at_again.2.2 trusted_again kept.0 walks kept.1)

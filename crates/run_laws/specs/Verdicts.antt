@@ -7,7 +7,7 @@ use Rattle.machine_model.specs.State.{State, Job}
 use Rattle.machine_model.specs.Refusals.{job_at}
 use Rattle.machine_model.specs.Step.{Step}
 use Rattle.machine_model.specs.Image.{Made}
-use Rattle.machine_model.specs.Laws.{TrustedRun, status_by, status_given, fetches, is_compare}
+use Rattle.machine_model.specs.Laws.{TrustedRun, status_by, status_given, fetches, is_compare, forges_by}
 use Rattle.machine_model.specs.Events as events
 use Rattle.machine_model.specs.Events.{Event, Reply}
 use Rattle.machine_model.specs.declared.words.Refusal.TheVariants.{Nothing}
@@ -16,7 +16,7 @@ use Rattle.machine_model.specs.declared.words.Refusal.TheVariants.{Nothing}
 abbrev pub jobs_stay : Type 0
 jobs_stay =
     (image : List ℕ) (made : List Made) (old new : State) (e : Event) (reply : Reply) (q cid : ℕ) (job : Job)
-    → TrustedRun image made old → Step old e reply new → IsTrue new.trusted
+    → TrustedRun image made old → Step old e reply new → IsTrue (not (forges_by e reply))
     → job_at old q cid ≡ Some job → status_by old e reply q cid ≡ None → IsTrue (is_some (job_at new q cid))
 
 -- One that has a verdict keeps it as long: no Abort, no deletion and no walk gives it another, or moves its data on
@@ -28,7 +28,7 @@ pub record KeepsVerdict (before after : Job) : Type 0 where
 abbrev pub verdicts_stay : Type 0
 verdicts_stay =
     (image : List ℕ) (made : List Made) (old new : State) (e : Event) (reply : Reply) (q cid : ℕ) (before after : Job) (st : Status)
-    → TrustedRun image made old → Step old e reply new → IsTrue new.trusted
+    → TrustedRun image made old → Step old e reply new → IsTrue (not (forges_by e reply))
     → job_at old q cid ≡ Some before → before.verdict ≡ Some st → job_at new q cid ≡ Some after → KeepsVerdict before after
 
 -- A walk of it is refused, and nothing changes

@@ -2,11 +2,8 @@ pub mod Cuts
 pub mod Digits
 pub mod Inputs
 pub mod Limits
-pub mod JobReading
 pub mod Reading
 pub mod Runs
 pub mod FitLines
 pub mod OwnersThere
 pub mod GoingOn
-pub mod JobRuns
-pub mod Submitters

@@ -1,12 +1,7 @@
 -- The faults of a run, and the exit statuses of a program.
 use Rattle.std.specs.Prelude.{ℕ}
-use Rattle.driver_book.specs.declared.log.CloseFault.{CloseFault}
-use Rattle.driver_book.specs.declared.log.CloseFault.TheVariants as closing
-use Rattle.driver_threads.specs.declared.jobs.RunFault as threads_fault
-use Rattle.driver_threads.specs.declared.jobs.RunFault.TheVariants as threads
 use Rattle.machine_model.specs.declared.words.OpenRefusal.{OpenRefusal}
 use Rattle.machine_model.specs.declared.words.OpenRefusal.TheVariants as opening
-use Rattle.script_cli.specs.declared.fault.NotClosed.TheVariants.{Missing, SeatOut, StillOut, GateClosed}
 use Rattle.script_cli.specs.declared.fault.RunFault.{RunFault}
 use Rattle.script_cli.specs.declared.fault.RunFault.TheVariants as run
 use Rattle.script_cli.specs.declared.fault.ScriptFault.{ScriptFault}
@@ -23,19 +18,6 @@ abbrev pub fault_of_opening : OpenRefusal → RunFault
 fault_of_opening opening.BadConfig = run.BadConfig
 fault_of_opening (opening.NoPages need free) = run.NoPages need free
 fault_of_opening opening.Memory = run.Memory
-
-abbrev pub fault_of_closing : CloseFault → RunFault
-fault_of_closing (closing.Missing seat number) = run.Close Missing
-fault_of_closing closing.SeatOut = run.Close SeatOut
-fault_of_closing closing.StillOut = run.Close StillOut
-fault_of_closing closing.Memory = run.Memory
-
-abbrev pub fault_of_threads : threads_fault.RunFault → RunFault
-fault_of_threads (threads.Open why) = fault_of_opening why
-fault_of_threads threads.NoThread = run.NoThread
-fault_of_threads (threads.GateClosed worker) = run.Close GateClosed
-fault_of_threads (threads.Close why) = fault_of_closing why
-fault_of_threads threads.Memory = run.Memory
 
 -- 1 where the script is at fault, 2 where the image or the opening is, 3 where something was wanting meanwhile
 abbrev pub status_of_run : RunFault → ℕ

@@ -1,10 +1,6 @@
 pub mod Faults
 pub mod Grammar
-pub mod Headings
 pub mod Inputs
-pub mod JobLines
-pub mod JobRuns
-pub mod Jobs
 pub mod Lines
 pub mod Numbers
 pub mod Owners

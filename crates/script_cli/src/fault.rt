@@ -1,14 +1,13 @@
 //! The faults of a script, and of its run.
 
 ghost use Rattle.std.specs.Prelude.{◌≡◌};
-ghost use Rattle.script_cli.specs.Faults.{fault_of_script, fault_of_opening, fault_of_closing, fault_of_threads, status_of_run};
+ghost use Rattle.script_cli.specs.Faults.{fault_of_script, fault_of_opening, status_of_run};
 
-use driver_book::CloseFault;
 use std::alloc::AllocError;
 use step_core::OpenRefusal;
 use thiserror::Error;
 
-/// Why a line of a script is at fault, in the order in which faults are looked for.
+/// Why a line of a script is at fault.
 #[derive(Clone, Copy, Debug, PartialEq, Eq, Error)]
 pub enum LineFault {
     /// It is line 65,537.
@@ -148,7 +147,7 @@ impl From<AllocError> for RunFault {
 }
 
 /// The fault of a run whose script is at fault.
-pub(crate) fn script_at_fault(why: ScriptFault) -> RunFault
+pub fn script_at_fault(why: ScriptFault) -> RunFault
     ensures { result ≡ fault_of_script why }
 {
     match why {
@@ -159,37 +158,12 @@ pub(crate) fn script_at_fault(why: ScriptFault) -> RunFault
 }
 
 /// The fault of a run whose world was not opened.
-pub(crate) fn not_opened(why: OpenRefusal) -> RunFault
+pub fn not_opened(why: OpenRefusal) -> RunFault
     ensures { result ≡ fault_of_opening why }
 {
     match why {
         OpenRefusal::BadConfig => RunFault::BadConfig,
         OpenRefusal::NoPages { need, free } => RunFault::NoPages { need, free },
         OpenRefusal::Memory => RunFault::Memory,
-    }
-}
-
-/// The fault of a run whose book was not closed.
-fn not_closed(why: CloseFault) -> RunFault
-    ensures { result ≡ fault_of_closing why }
-{
-    match why {
-        CloseFault::Missing { .. } => RunFault::Close(NotClosed::Missing),
-        CloseFault::SeatOut => RunFault::Close(NotClosed::SeatOut),
-        CloseFault::StillOut => RunFault::Close(NotClosed::StillOut),
-        CloseFault::Memory => RunFault::Memory,
-    }
-}
-
-/// The fault of a run whose threads failed.
-pub(crate) fn not_run(why: driver_threads::RunFault) -> RunFault
-    ensures { result ≡ fault_of_threads why }
-{
-    match why {
-        driver_threads::RunFault::Open(why) => not_opened(why),
-        driver_threads::RunFault::NoThread => RunFault::NoThread,
-        driver_threads::RunFault::GateClosed { .. } => RunFault::Close(NotClosed::GateClosed),
-        driver_threads::RunFault::Close(why) => not_closed(why),
-        driver_threads::RunFault::Memory => RunFault::Memory,
     }
 }

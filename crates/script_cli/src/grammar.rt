@@ -19,10 +19,7 @@ const MAX_LINE: usize = 16_384;
 
 /// The pieces that all words left are. The outer error is that memory was refused.
 #[tactic(auto, unfolding(crate::specs::Grammar::pieces_from))]
-pub(crate) fn pieces(
-    alloc: Global,
-    words: &mut Words<'_>,
-) -> Result<Result<Pieces, LineFault>, AllocError>
+pub fn pieces(alloc: Global, words: &mut Words<'_>) -> Result<Result<Pieces, LineFault>, AllocError>
     ensures { IfOk result (λ r. r ≡ pieces_from [] words.old) }
 {
     let mut pieces = Vec::new(alloc);
@@ -158,7 +155,7 @@ fn verb_line(
 }
 
 /// Whether a word begins a comment.
-pub(crate) fn begins_comment(word: &[u8]) -> bool
+pub fn begins_comment(word: &[u8]) -> bool
     ensures { result ≡ spec_begins_comment word.now }
 {
     match word.split_first() {
@@ -194,7 +191,7 @@ fn has_high(line: &[u8]) -> bool
 }
 
 /// The words of a line, or a fault of the line as a whole.
-pub(crate) fn words_of(line: &[u8]) -> Result<Words<'_>, LineFault>
+pub fn words_of(line: &[u8]) -> Result<Words<'_>, LineFault>
     ensures { result ≡ spec_words_of line.now }
 {
     if line.len() > MAX_LINE {

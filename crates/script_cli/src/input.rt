@@ -44,7 +44,7 @@ impl ImageFault {
 
 /// Why bytes were not read.
 #[derive(Clone, Copy, Debug, PartialEq, Eq)]
-pub(crate) enum ReadFault {
+pub enum ReadFault {
     /// A read failed.
     Unreadable,
     /// Memory was refused.
@@ -76,7 +76,7 @@ fn read_some<R: Read>(reader: &mut R, most: usize, bytes: &mut Vec<u8>) -> Resul
 }
 
 /// Reads to the reader's end, or until it gave one byte more than the limit. It asks at most once more than it is given bytes.
-pub(crate) fn read_first<R: Read>(
+pub fn read_first<R: Read>(
     alloc: Global,
     reader: &mut R,
     limit: usize,

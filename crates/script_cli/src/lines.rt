@@ -30,7 +30,7 @@ fn without_return(line: &[u8]) -> &[u8]
 }
 
 /// The first line, and what stands after its line feed.
-pub(crate) fn split_line(text: &[u8]) -> (&[u8], &[u8])
+pub fn split_line(text: &[u8]) -> (&[u8], &[u8])
     ensures line { result.0.now ≡ first_line text.now }
     ensures rest { result.1.now ≡ after_line text.now }
 {

@@ -9,7 +9,7 @@ use crate::fault::RunFault;
 use std::io::Write;
 
 /// Writes bytes. After a write that fails, or that takes no byte, nothing more is written.
-pub(crate) fn put<W: Write>(writer: &mut W, bytes: &[u8]) -> Result<(), RunFault>
+pub fn put<W: Write>(writer: &mut W, bytes: &[u8]) -> Result<(), RunFault>
     ensures written { OnOk result (Appends (W.contents writer.old) (W.contents writer.new) bytes.now) }
     ensures front { OnErr result (Gains (W.contents writer.old) (W.contents writer.new) (λ front. IsFront front bytes.now)) }
     ensures fault { IfErr result (λ fault. fault ≡ run.OutputFailed) }
@@ -25,7 +25,7 @@ pub(crate) fn put<W: Write>(writer: &mut W, bytes: &[u8]) -> Result<(), RunFault
 }
 
 /// Hands on what a writer may hold back.
-pub(crate) fn flush<W: Write>(writer: &mut W) -> Result<(), RunFault>
+pub fn flush<W: Write>(writer: &mut W) -> Result<(), RunFault>
     ensures kept { Keeps (W.contents writer.old) (W.contents writer.new) }
     ensures fault { IfErr result (λ fault. fault ≡ run.OutputFailed) }
 {

@@ -59,7 +59,7 @@ fn put_run(out: &mut String, byte: u8, count: usize) -> Result<(), AllocError>
 }
 
 /// Puts bytes as their longest runs.
-pub(crate) fn put_gathered(out: &mut String, bytes: &[u8]) -> Result<(), AllocError>
+pub fn put_gathered(out: &mut String, bytes: &[u8]) -> Result<(), AllocError>
     ensures { OnOk result (string_bytes out.new ≡ string_bytes out.old ++ gathered_text bytes.now) }
 {
     let Some((first, mut rest)) = bytes.split_first() else {
@@ -82,7 +82,7 @@ pub(crate) fn put_gathered(out: &mut String, bytes: &[u8]) -> Result<(), AllocEr
 }
 
 /// The name of a request's fault.
-pub(crate) fn request_fault_name(why: RequestFault) -> &'static str
+pub fn request_fault_name(why: RequestFault) -> &'static str
     ensures { result.now ≡ spec_request_fault_name why }
 {
     match why {
@@ -234,7 +234,7 @@ fn put_completed(out: &mut String, touched: &Touched) -> Result<(), AllocError>
 }
 
 /// Puts that a draft was not filled.
-pub(crate) fn put_not_filled(out: &mut String, why: FillFault) -> Result<(), AllocError>
+pub fn put_not_filled(out: &mut String, why: FillFault) -> Result<(), AllocError>
     ensures { OnOk result (string_bytes out.new ≡ string_bytes out.old ++ (codes "refused " ++ spec_fill_fault_name why)) }
 {
     let name = fill_fault_name(why);

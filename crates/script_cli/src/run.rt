@@ -8,7 +8,6 @@ ghost use Rattle.script_cli.specs.Inputs.{Gains};
 ghost use Rattle.script_cli.specs.Owners.{counts_line};
 ghost use Rattle.script_cli.specs.Runs.{AreOwners, PrintsLine, IsRunText, IsFrontOfFirst, HasScript, IsNoScript, IsNoOpening, Writes, EndsWith};
 ghost use Rattle.script_cli.specs.declared.fault.RunFault.TheVariants as run;
-ghost use Rattle.step_core.specs.Bench.{Does};
 ghost use Rattle.world_tables.specs.Opening.{refusal_of_config, opening_of};
 
 use crate::fault::{RunFault, not_opened, script_at_fault};
@@ -23,7 +22,7 @@ use page_ledger::Owner;
 use page_memory::PageNo;
 use std::alloc::{AllocError, Global};
 use std::io::{Read, Write};
-use step_core::{Bench, Config, Reply, Step};
+use step_core::{Bench, Config};
 
 /// Reads a script.
 fn load<R: Read>(alloc: Global, reader: &mut R) -> Result<Script, RunFault>
@@ -55,19 +54,6 @@ fn open(alloc: Global, config: Config, image: Image) -> Result<Bench, RunFault>
     }
 }
 
-/// Does one step.
-fn run_one(alloc: Global, bench: &mut Bench, step: Step) -> Result<Reply, AllocError>
-    ensures { IfOk result (λ reply. Does bench.old step reply bench.new) }
-{
-    let mut steps = Vec::new(alloc);
-    steps.push(step)?;
-    let mut replies = bench.run(steps)?;
-    match replies.pop() {
-        Some(reply) => Ok(reply),
-        None => unreachable!(),
-    }
-}
-
 /// The owners of all pages, in the pages' order.
 fn all_owners(alloc: Global, bench: &Bench) -> Result<Vec<Owner>, AllocError>
     ensures owners { IfOk result (λ owners. AreOwners bench.now.world owners.items) }
@@ -90,7 +76,7 @@ fn play_line(alloc: Global, bench: &mut Bench, numbered: Numbered) -> Result<Str
     match numbered.line {
         Line::Step(step) => {
             let verb = Verb::of(&step);
-            let reply = run_one(alloc, bench, step)?;
+            let reply = bench.step(step)?;
             append_reply(&mut text, number, verb, &reply)?;
         }
         Line::Owners => {

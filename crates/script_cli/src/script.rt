@@ -11,10 +11,10 @@ use std::marker::Model;
 use step_core::Step;
 
 /// The most bytes of a script.
-pub(crate) const MAX_SCRIPT: usize = 1_048_576;
+pub const MAX_SCRIPT: usize = 1_048_576;
 
 /// The most lines of a script.
-pub(crate) const MAX_LINES: u32 = 65_536;
+pub const MAX_LINES: u32 = 65_536;
 
 /// What a line of a script is.
 #[derive(Debug, Drop)]

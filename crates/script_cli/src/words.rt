@@ -16,7 +16,7 @@ use step_core::Bytes;
 
 /// The words of a line that are left. Contracts see it as the list of them.
 #[derive(Drop)]
-pub(crate) struct Words<'a> {
+pub struct Words<'a> {
     rest: &'a [u8],
 }
 
@@ -82,7 +82,7 @@ impl<'a> Words<'a> {
     }
 
     /// Takes the first word.
-    pub(crate) fn take_first(&mut self) -> Option<&'a [u8]>
+    pub fn take_first(&mut self) -> Option<&'a [u8]>
         ensures { MatchOption result ((self.old ≡ []) × (self.new ≡ [])) (λ word. self.old ≡ word.now ∷ self.new) }
     {
         let (word, rest) = split_word(self.rest)?;
@@ -101,7 +101,7 @@ impl<'a> Words<'a> {
 
     /// Takes a number of 16 bits.
     #[tactic(auto, unfolding(crate::specs::Grammar::number_word))]
-    pub(crate) fn number16(&mut self) -> Result<u16, LineFault>
+    pub fn number16(&mut self) -> Result<u16, LineFault>
         ensures { MatchResult result (λ n. number_word (2 ^ 16) self.old ≡ Ok (n, self.new)) (λ fault. number_word (2 ^ 16) self.old ≡ Err fault) }
     {
         let word = self.wanted()?;
@@ -110,7 +110,7 @@ impl<'a> Words<'a> {
 
     /// Takes a number that is below a limit.
     #[tactic(auto, unfolding(crate::specs::Grammar::number_word))]
-    pub(crate) fn number_below(&mut self, limit: u16) -> Result<u16, LineFault>
+    pub fn number_below(&mut self, limit: u16) -> Result<u16, LineFault>
         ensures { MatchResult result (λ n. number_word limit self.old ≡ Ok (n, self.new)) (λ fault. number_word limit self.old ≡ Err fault) }
     {
         let word = self.wanted()?;
@@ -119,7 +119,7 @@ impl<'a> Words<'a> {
 
     /// Takes a number of 32 bits.
     #[tactic(auto, unfolding(crate::specs::Grammar::number_word))]
-    pub(crate) fn number32(&mut self) -> Result<u32, LineFault>
+    pub fn number32(&mut self) -> Result<u32, LineFault>
         ensures { MatchResult result (λ n. number_word (2 ^ 32) self.old ≡ Ok (n, self.new)) (λ fault. number_word (2 ^ 32) self.old ≡ Err fault) }
     {
         let word = self.wanted()?;
@@ -128,7 +128,7 @@ impl<'a> Words<'a> {
 
     /// Takes a number of 64 bits.
     #[tactic(auto, unfolding(crate::specs::Grammar::number_word))]
-    pub(crate) fn number64(&mut self) -> Result<u64, LineFault>
+    pub fn number64(&mut self) -> Result<u64, LineFault>
         ensures { MatchResult result (λ n. number_word (2 ^ 64) self.old ≡ Ok (n, self.new)) (λ fault. number_word (2 ^ 64) self.old ≡ Err fault) }
     {
         let word = self.wanted()?;
@@ -137,7 +137,7 @@ impl<'a> Words<'a> {
 
     /// Takes a kind of command.
     #[tactic(auto, unfolding(crate::specs::Grammar::kind_word))]
-    pub(crate) fn kind(&mut self) -> Result<Kind, LineFault>
+    pub fn kind(&mut self) -> Result<Kind, LineFault>
         ensures { MatchResult result (λ k. kind_word self.old ≡ Ok (k, self.new)) (λ fault. kind_word self.old ≡ Err fault) }
     {
         let word = self.wanted()?;
@@ -146,7 +146,7 @@ impl<'a> Words<'a> {
 
     /// Takes bytes in hexadecimal digits. The outer error is that memory was refused.
     #[tactic(auto, unfolding(crate::specs::Grammar::hex_word))]
-    pub(crate) fn bytes(&mut self, alloc: Global) -> Result<Result<Bytes, LineFault>, AllocError>
+    pub fn bytes(&mut self, alloc: Global) -> Result<Result<Bytes, LineFault>, AllocError>
         ensures { IfOk result (λ r. MatchResult r (λ b. hex_word self.old ≡ Ok (b, self.new)) (λ fault. hex_word self.old ≡ Err fault)) }
     {
         match self.wanted() {

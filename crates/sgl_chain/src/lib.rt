@@ -15,8 +15,6 @@
 mod chain;
 pub mod laws;
 mod segment;
-#[cfg(test)]
-mod tests;
 pub mod worked;
 
 pub use chain::{BuildFault, Chain, MAX_PARTS, pages_needed};

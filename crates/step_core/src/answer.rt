@@ -11,7 +11,7 @@ ghost use Rattle.world_tables.specs.Serving.{post_refusal};
 
 use entry_codec::{ComEntry, Status};
 use machine_model::words::Refusal;
-use page_memory::{Dma, Store};
+use page_memory::Store;
 use queue_pair::DevicePair;
 
 /// A completion; its phase is that of its posting.

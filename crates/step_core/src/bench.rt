@@ -5,7 +5,7 @@ ghost use Rattle.std.specs.List.{Contains};
 ghost use Rattle.machine_model.specs.Claims.{claims_of, counts_of, IsSound};
 ghost use Rattle.machine_model.specs.Script.{table};
 ghost use Rattle.page_ledger.specs.Counting.{total};
-ghost use Rattle.step_core.specs.Bench.{DoesAll};
+ghost use Rattle.step_core.specs.Bench.{Does, DoesAll};
 ghost use Rattle.step_core.specs.Kept.{table_of, HasRoom};
 ghost use Rattle.world_tables.specs.Opening.{refusal_of_config, opening_of, RefusesOpening};
 
@@ -103,6 +103,19 @@ impl Bench {
         self.kept.make_room(steps.len())?;
         self.kept.do_all(steps, &mut replies);
         Ok(replies)
+    }
+
+    /// Does one step, and answers what it answered. A step that is refused changes nothing; want of memory inside the step is its answer.
+    ///
+    /// # Errors
+    ///
+    /// Where memory is refused for what the step may keep. Then it was not done.
+    pub fn step(&mut self, step: Step) -> Result<Reply, AllocError>
+        ensures did { IfOk result (λ reply. Does self.old step reply self.new) }
+        ensures refused { OnErr result (self.new ≡ self.old) }
+    {
+        self.kept.make_room(1)?;
+        Ok(self.kept.step(step))
     }
 
     /// Whose a page of the pool is: the owner of the one claim in which it stands.

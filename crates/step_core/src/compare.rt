@@ -10,7 +10,7 @@ ghost use Rattle.world_tables.specs.Commands.{phase_of_end, Belongs, BelongsToDr
 
 use io_commands::{Draft, Kind, Piece, Request};
 use machine_model::words::{Phase, Work};
-use page_memory::{Page, PageNo};
+use page_memory::{PAGE_BYTES, Page, PageNo};
 use world_tables::Record;
 
 /// Whether two commands are of one kind.
@@ -164,12 +164,11 @@ pub(crate) fn place_of(
     }
 }
 
-/// Reads a page. That it has 4,096 bytes is then known.
+/// A page has 4,096 bytes.
 fn read_page(page: &(PageNo, Page))
     ensures { length page.now.1 ≡ 4096 }
 {
-    let bytes = &page.1;
-    let _read = bytes.bytes();
+    prove!(page.1.bytes().len() == PAGE_BYTES);
 }
 
 /// Reads each page.

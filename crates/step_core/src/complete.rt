@@ -23,7 +23,7 @@ use entry_codec::admin_opcode::DELETE_IO_SQ;
 use entry_codec::{Status, SubEntry};
 use io_commands::finish_job;
 use machine_model::words::Refusal;
-use page_memory::Dma;
+use page_memory::TouchRecord;
 use world_tables::{Queue, Task, TaskWork};
 
 /// Whether an admin command that ends so leaves nothing of a submission queue.

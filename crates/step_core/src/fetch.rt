@@ -24,7 +24,7 @@ use admin_commands::{SqState, decide};
 use entry_codec::{Status, SubEntry};
 use io_commands::{Job, begin_job};
 use machine_model::words::Refusal;
-use page_memory::{Dma, Store};
+use page_memory::{Store, TouchRecord};
 use queue_pair::DevicePair;
 use std::alloc::AllocError;
 use world_tables::{Queue, Task, TaskWork};
@@ -55,7 +55,6 @@ pub(crate) fn head_entry(store: &mut Store, pair: &DevicePair) -> Result<SubEntr
     ensures pages { store.new.pages ≡ store.old.pages }
 {
     let _before = store.pages();
-    let _head = pair.head();
     let answer = match pair.next_entry(store) {
         Ok(Some(entry)) => Ok(entry),
         Ok(None) => Err(Refusal::Idle),

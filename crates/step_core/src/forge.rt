@@ -14,7 +14,7 @@ ghost use Rattle.world_tables.specs.Whole.{IsWhole};
 use crate::parts::Parts;
 use crate::world::World;
 use machine_model::words::{HostState, Refusal};
-use page_memory::Dma;
+use page_memory::{Dma, TouchRecord};
 use world_tables::Queue;
 
 /// Whether no queue of a number has a completion half.

@@ -17,7 +17,7 @@ use crate::parts::Parts;
 use crate::world::World;
 use io_commands::Request;
 use machine_model::words::Refusal;
-use page_memory::Dma;
+use page_memory::TouchRecord;
 use queue_pair::DevicePair;
 use world_tables::Task;
 
@@ -238,6 +238,7 @@ impl World {
     /// The first queue from which [`World::reap`] would take a completion. It makes no step, and looks once at each queue at most.
     pub fn next_completion(&mut self) -> Option<u16>
         ensures some { IfSome result (λ q. spec_has_completion self.old q ≡ true) }
+        ensures first { IfSome result (λ q. (p : ℕ) → p < q → spec_has_completion self.old p ≡ false) }
         ensures none { IfNone result ((q : ℕ) → spec_has_completion self.old q ≡ false) }
         ensures same { self.new ≡ self.old }
     {
@@ -250,9 +251,9 @@ impl World {
         None
     }
 
-    /// What the controller can do: fetch from the first queue with an entry to fetch, else go on with the command that was fetched first
-    /// and does not wait. It makes no step. Where nothing was forged, the answer is exact: what is answered is not refused, but for want
-    /// of memory, and `None` says that each step of the controller is.
+    /// A step that the controller can do, if there is one. It makes no step. Where nothing was forged, the answer is exact: what is answered
+    /// is not refused, but for want of memory, and `None` says that each step of the controller is. Today a fetch comes before the others,
+    /// from the first queue that can, and then the command that was fetched first and does not wait; no clause says so.
     pub fn next_step(&mut self) -> Option<ControllerStep>
         ensures possible { IfSome result (λ step. IsTrue self.old.trusted → refusal_of self.old (event_of step) ≡ None) }
         ensures rest { IfNone result (IsTrue self.old.trusted → IsAtRest self.old) }

@@ -12,7 +12,7 @@ ghost use Rattle.world_tables.specs.Whole.{IsWhole};
 
 use crate::parts::Parts;
 use entry_codec::SubEntry;
-use page_memory::Dma;
+use page_memory::TouchRecord;
 use queue_pair::HostPair;
 
 /// Reads the first descriptor of an entry. That its bytes are bytes is then known.

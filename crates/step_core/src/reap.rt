@@ -26,7 +26,7 @@ use crate::world::World;
 use admin_commands::AdminKind;
 use entry_codec::{ComEntry, Status};
 use machine_model::words::{HostState, Phase, Reaped, Refusal, RejectedFor, Work};
-use page_memory::{Dma, Half};
+use page_memory::{Half, TouchRecord};
 use world_tables::{Queue, Record};
 
 /// The command of queue 0 that a command is.

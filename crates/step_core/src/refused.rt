@@ -5,7 +5,7 @@ ghost use Rattle.std.specs.Prelude.{◌≡◌, ◌≤◌, [], length};
 use arrayvec::ArrayVec;
 use controller_walk::WalkState;
 use machine_model::words::Refusal;
-use page_memory::{Dma, PageNo, Store};
+use page_memory::{PageNo, Store, TouchRecord};
 use std::marker::Model;
 
 /// A call that was refused: why, and the value that was handed in. Nothing changed.

@@ -290,8 +290,8 @@ impl Parts {
 }
 
 impl World {
-    /// Reserves for a request an identifier of the queue, the lowest that is free, and pages, the lowest that are free: one
-    /// for each data piece, and those of its chain. They are out of the store, and hold zeros.
+    /// Reserves for a request an identifier of the queue that no outstanding command has, and free pages: one for each data piece, and
+    /// those of its chain. They are out of the store, and hold zeros. Today both are the lowest that are free, which no clause says.
     ///
     /// # Errors
     ///

@@ -55,6 +55,6 @@ impl World {
     pub fn check(&self)
         ensures { IsSound self.now }
     {
-        let _entries = self.parts.entries;
+        prove!(self.parts.entries >= 2);
     }
 }

@@ -18,7 +18,7 @@ use crate::world::World;
 use controller_walk::WalkState;
 use io_commands::Job;
 use machine_model::words::Refusal;
-use page_memory::{Dma, Store};
+use page_memory::{Store, TouchRecord};
 use world_tables::{Task, TaskWork};
 
 /// Does the next unit of a job's walk.

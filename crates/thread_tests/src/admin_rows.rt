@@ -4,9 +4,10 @@ ghost use Rattle.std.specs.Prelude.{◌≡◌};
 ghost use Rattle.world_tables.specs.Opening.{opening_of};
 
 use crate::calls::{
-    USUAL, cancelled, collected, completed, counts, done, fetched, managed, opened, receipt,
-    released, reserved, seated, served, submitted, walked,
+    USUAL, cancelled, collected, counts, done, managed, opened, receipt, released, reserved,
+    seated, served, submitted,
 };
+use crate::row::{Row, play};
 use block_image::Image;
 use controller_walk::WalkState;
 use driver_book::{Driver, Seat};
@@ -69,38 +70,47 @@ fn settled<L: Driver, R: Abort + Wait>(
 
 /// The controller fetches command 0 and walks one step; then it is aborted.
 fn abort_in_the_walk<L: Driver, R: Abort + Wait>(rt: &R, shared: &Shared<L>) {
-    assert_eq!(rt; shared.ring(rt, 1), Ok(()));
-    assert_eq!(rt; fetched(rt, shared, 1), Ok((0, Some(PageNo(2)))));
-    assert_eq!(rt; walked(rt, shared, 1, 0), Ok(WalkState::More));
-    assert_eq!(rt; shared.abort(rt, 1, 0), Ok(0));
-    assert_eq!(rt; shared.ring(rt, 0), Ok(()));
-    assert_eq!(rt; fetched(rt, shared, 0), Ok((0, Some(PageNo(0)))));
-    assert_eq!(rt; completed(rt, shared, 0, 0), Err(Refusal::Waits));
-    assert_eq!(rt; walked(rt, shared, 1, 0), Err(Refusal::Nothing));
-    assert_eq!(rt; completed(rt, shared, 1, 0), Ok(Some(PageNo(3))));
-    assert_eq!(rt; completed(rt, shared, 0, 0), Ok(Some(PageNo(1))));
-    assert_eq!(rt; shared.reap(rt, 1), Ok(done(0, Status::ABORT_REQUESTED)));
-    assert_eq!(rt; shared.reap(rt, 0), Ok(managed_with(Status::SUCCESS)));
-    assert_eq!(rt; shared.abort(rt, 1, 0), Err(Refusal::NoSuchCommand));
+    let rows = [
+        Row::Ring(1),
+        Row::Fetch(1, Ok((0, Some(PageNo(2))))),
+        Row::Walk(1, 0, Ok(WalkState::More)),
+        Row::Abort(1, 0, Ok(0)),
+        Row::Ring(0),
+        Row::Fetch(0, Ok((0, Some(PageNo(0))))),
+        Row::Complete(0, 0, Err(Refusal::Waits)),
+        Row::Walk(1, 0, Err(Refusal::Nothing)),
+        Row::Complete(1, 0, Ok(Some(PageNo(3)))),
+        Row::Complete(0, 0, Ok(Some(PageNo(1)))),
+        Row::Reap(1, done(0, Status::ABORT_REQUESTED)),
+        Row::Reap(0, managed_with(Status::SUCCESS)),
+        Row::Abort(1, 0, Err(Refusal::NoSuchCommand)),
+    ];
+    play(rt, shared, &rows);
 }
 
 /// The controller walks command 1 to its end; its abort comes too late.
 fn abort_after_the_walk<L: Driver, R: Abort + Wait>(rt: &R, shared: &Shared<L>) {
-    assert_eq!(rt; shared.ring(rt, 1), Ok(()));
-    assert_eq!(rt; fetched(rt, shared, 1), Ok((1, Some(PageNo(2)))));
-    assert_eq!(rt; walked(rt, shared, 1, 1), Ok(WalkState::More));
-    assert_eq!(rt; walked(rt, shared, 1, 1), Ok(WalkState::End));
-    assert_eq!(rt; shared.abort(rt, 1, 1), Ok(0));
+    let rows = [
+        Row::Ring(1),
+        Row::Fetch(1, Ok((1, Some(PageNo(2))))),
+        Row::Walk(1, 1, Ok(WalkState::More)),
+        Row::Walk(1, 1, Ok(WalkState::End)),
+        Row::Abort(1, 1, Ok(0)),
+    ];
+    play(rt, shared, &rows);
     managed(rt, shared, 0, 1);
-    assert_eq!(rt; completed(rt, shared, 1, 1), Ok(Some(PageNo(3))));
-    assert_eq!(rt; shared.reap(rt, 1), Ok(done(1, Status::SUCCESS)));
+    let rows = [
+        Row::Complete(1, 1, Ok(Some(PageNo(3)))),
+        Row::Reap(1, done(1, Status::SUCCESS)),
+    ];
+    play(rt, shared, &rows);
 }
 
 /// Command 2 is aborted before the controller fetches it, which changes nothing.
 fn abort_before_the_fetch<L: Driver, R: Abort + Wait>(rt: &R, shared: &Shared<L>) {
-    assert_eq!(rt; shared.abort(rt, 1, 2), Ok(0));
+    play(rt, shared, &[Row::Abort(1, 2, Ok(0))]);
     managed(rt, shared, 0, 1);
-    assert_eq!(rt; shared.ring(rt, 1), Ok(()));
+    play(rt, shared, &[Row::Ring(1)]);
     served(rt, shared, 2);
 }
 
@@ -204,47 +214,53 @@ fn too_late<L: Driver, R: Abort + Wait>(
 
 /// The deletion of completion queue 1 is refused, as its submission queue is about.
 fn delete_too_early<L: Driver, R: Abort + Wait>(rt: &R, shared: &Shared<L>) {
-    assert_eq!(rt; shared.delete_cq(rt, 1), Ok(0));
-    assert_eq!(rt; shared.ring(rt, 0), Ok(()));
-    assert_eq!(rt; fetched(rt, shared, 0), Ok((0, Some(PageNo(0)))));
-    assert_eq!(rt; completed(rt, shared, 0, 0), Ok(Some(PageNo(1))));
-    assert_eq!(rt;
-        shared.reap(rt, 0),
-        Ok(managed_with(Status::INVALID_QUEUE_DELETION))
-    );
+    let rows = [
+        Row::DeleteCq(1),
+        Row::Ring(0),
+        Row::Fetch(0, Ok((0, Some(PageNo(0))))),
+        Row::Complete(0, 0, Ok(Some(PageNo(1)))),
+        Row::Reap(0, managed_with(Status::INVALID_QUEUE_DELETION)),
+    ];
+    play(rt, shared, &rows);
 }
 
 /// Submission queue 1 is deleted: its deletion is answered behind the command that was fetched.
 fn delete_in_the_walk<L: Driver, R: Abort + Wait>(rt: &R, shared: &Shared<L>) {
-    assert_eq!(rt; shared.delete_sq(rt, 1), Ok(0));
-    assert_eq!(rt; shared.ring(rt, 0), Ok(()));
-    assert_eq!(rt; fetched(rt, shared, 0), Ok((0, Some(PageNo(0)))));
-    assert_eq!(rt; completed(rt, shared, 0, 0), Err(Refusal::Waits));
-    assert_eq!(rt; completed(rt, shared, 1, 0), Ok(Some(PageNo(3))));
-    assert_eq!(rt; completed(rt, shared, 0, 0), Ok(Some(PageNo(1))));
+    let rows = [
+        Row::DeleteSq(1),
+        Row::Ring(0),
+        Row::Fetch(0, Ok((0, Some(PageNo(0))))),
+        Row::Complete(0, 0, Err(Refusal::Waits)),
+        Row::Complete(1, 0, Ok(Some(PageNo(3)))),
+        Row::Complete(0, 0, Ok(Some(PageNo(1)))),
+    ];
+    play(rt, shared, &rows);
 }
 
 /// Queue 1 is retired once its deletion is known, and its completions are reaped.
 fn retire_in_order<L: Driver, R: Abort + Wait>(rt: &R, shared: &Shared<L>, alloc: Global) {
-    assert_eq!(rt; shared.retire(rt, 1), Err(Refusal::NotDeleted));
+    play(rt, shared, &[Row::Retire(1, Err(Refusal::NotDeleted))]);
     assert_eq!(rt;
         refusal_of_a_reservation(rt, shared, alloc),
         Some(Refusal::Deleting)
     );
-    assert_eq!(rt; shared.reap(rt, 0), Ok(managed_with(Status::SUCCESS)));
-    assert_eq!(rt; shared.retire(rt, 1), Err(Refusal::NotDrained));
-    assert_eq!(rt;
-        shared.reap(rt, 1),
-        Ok(done(0, Status::ABORTED_SQ_DELETION))
-    );
-    assert_eq!(rt; shared.retire(rt, 1), Ok(()));
+    let rows = [
+        Row::Reap(0, managed_with(Status::SUCCESS)),
+        Row::Retire(1, Err(Refusal::NotDrained)),
+        Row::Reap(1, done(0, Status::ABORTED_SQ_DELETION)),
+        Row::Retire(1, Ok(())),
+    ];
+    play(rt, shared, &rows);
 }
 
 /// The controller fetches the first of two commands, and walks one step.
 fn begin_a_walk<L: Driver, R: Abort + Wait>(rt: &R, shared: &Shared<L>) {
-    assert_eq!(rt; shared.ring(rt, 1), Ok(()));
-    assert_eq!(rt; fetched(rt, shared, 1), Ok((0, Some(PageNo(2)))));
-    assert_eq!(rt; walked(rt, shared, 1, 0), Ok(WalkState::More));
+    let rows = [
+        Row::Ring(1),
+        Row::Fetch(1, Ok((0, Some(PageNo(2))))),
+        Row::Walk(1, 0, Ok(WalkState::More)),
+    ];
+    play(rt, shared, &rows);
 }
 
 /// A queue that is deleted while one command is walked, one waits to be fetched, and one is a draft.
@@ -276,7 +292,7 @@ fn delete_a_queue<L: Driver, R: Abort + Wait>(
     cancelled(rt, &shared, third);
     settled(rt, &shared, &mut seat, first, Status::ABORTED_SQ_DELETION);
     released(rt, &shared, &mut seat, second);
-    assert_eq!(rt; shared.delete_cq(rt, 1), Ok(0));
+    play(rt, &shared, &[Row::DeleteCq(1)]);
     managed(rt, &shared, 0, 0);
     let receipts = [
         receipt(0, 0, Some(Status::ABORTED_SQ_DELETION)),

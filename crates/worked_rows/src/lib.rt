@@ -13,3 +13,7 @@ mod first;
 mod forged;
 #[cfg(test)]
 mod playing;
+#[cfg(test)]
+mod runs;
+#[cfg(test)]
+mod texts;

@@ -12,11 +12,11 @@ use Rattle.io_commands.specs.Jobs.{is_success}
 use Rattle.machine_model.specs.After as a
 use Rattle.machine_model.specs.After.{after_admin, after_reap, change, half_freed, gone}
 use Rattle.machine_model.specs.Events as events
-use Rattle.machine_model.specs.Refusals.{deletes_sq_of, host_queue, is_asked, is_retired, seen_entry}
+use Rattle.machine_model.specs.Refusals.{deletes_sq_of, host_queue, is_asked, is_retired, seen_entry, has_sq}
 use Rattle.machine_model.specs.State.{State, Device, HostQueue, DeviceQueue, Record, is_at, record_at, without_record}
 use Rattle.machine_model.specs.Step.{KeepsDevice, reaped_entry}
 use Rattle.machine_model.specs.declared.words.HostState.{HostState}
-use Rattle.machine_model.specs.declared.words.HostState.TheVariants.{Live, Deleting, Retired, Gone}
+use Rattle.machine_model.specs.declared.words.HostState.TheVariants.{Live, Deleting, Gone}
 use Rattle.machine_model.specs.declared.words.Reaped.TheVariants as found
 use Rattle.machine_model.specs.Work.{Work}
 use Rattle.machine_model.specs.declared.words.Work.TheVariants.{Management}
@@ -39,30 +39,31 @@ use Rattle.world_tables.proofs.Owners.{given-free}
 use Rattle.world_tables.proofs.Queues.{each-change, map-change, map-same}
 use Rattle.world_tables.proofs.Reaped.{settled-heard}
 use Rattle.world_tables.proofs.Reapings.{Sees, heard-device, heard-host, knowing_head, on_head, one_fewer, reap-none, reaped-told, seen-entry, with_all, with_lists}
-use Rattle.world_tables.proofs.Settled.{HasBoth, Settled, cq-kept, rings-of, settled-gone, settled-state, settled-with, sq-kept, whole-of}
+use Rattle.world_tables.proofs.Settled.{Settled, cq-kept, rings-of, settled-gone, settled-state, settled-with, sq-kept, whole-of}
 use Rattle.world_tables.proofs.Spared.{claims_keep_queue, claims_keep_rings, claims_keep_tells, each_claimed}
 use Rattle.world_tables.proofs.Steps.{open_step, sound_after, agree_after, length-change}
+use Rattle.machine_model.proofs.Halves.{asked_has_sq, retired_has_no_sq}
 
 -- What the end of an admin command leans on: a queue whose deletion it ends has both halves, and one of which it gives back a half owns that half's pages
 abbrev pub Means : AdminKind → Tables → Type 0
 Means (Abort k cid) u = Unit {0}
-Means (DeleteSq k) u = (x : Queue) → slice_get u.queues k ≡ Some x → HasBoth x.state
+Means (DeleteSq k) u = (x : Queue) → slice_get u.queues k ≡ Some x → has_sq x.state ≡ true
 Means (DeleteCq k) u = (x : Queue) → slice_get u.queues k ≡ Some x → OwnsHalf u.owners (length u.pages) k Completion x
 
 -- The machine's state
 
-has-deleted : (status : Status) → HasBoth (state_deleted status)
+has-deleted : (status : Status) → has_sq (state_deleted status) ≡ true
 has-deleted status = go (is_success status)
   where
-    go : (b : Bool) → HasBoth (if b then Deleting true else Live)
-    go true = record { retired = refl; gone = refl }
-    go false = record { retired = refl; gone = refl }
+    go : (b : Bool) → has_sq (if b then Deleting true else Live) ≡ true
+    go true = refl
+    go false = refl
 
 abbrev pub with_state_of : HostState → HostQueue → HostQueue
 with_state_of state queue = record queue { state = state }
 
 -- a queue that has both its halves, in another state in which it has them
-pub state-set : (u : Tables) (k : ℕ) (st : HostState) → HasBoth st → ((x : Queue) → slice_get u.queues k ≡ Some x → HasBoth x.state)
+pub state-set : (u : Tables) (k : ℕ) (st : HostState) → has_sq st ≡ true → ((x : Queue) → slice_get u.queues k ≡ Some x → has_sq x.state ≡ true)
     → state_of (record u { queues = change k (with_state st) u.queues }) ≡ a.on_host_queue k (with_state_of st) (state_of u)
 state-set u k st new old =
     ap (λ (hs : List HostQueue). with_lists (state_of u) hs (map (device_queue_of (byte_at u.pages)) (change k (with_state st) u.queues)))
@@ -73,7 +74,7 @@ state-set u k st new old =
     with_pages : Queue → List ℕ → List ℕ → HostQueue
     with_pages x sq cq = record { state = st; ring = x.host.ring; sq_pages = sq; cq_pages = cq }
 
-    host-kept : (x : Queue) → HasBoth x.state → host_queue_of (with_state st x) ≡ with_state_of st (host_queue_of x)
+    host-kept : (x : Queue) → has_sq x.state ≡ true → host_queue_of (with_state st x) ≡ with_state_of st (host_queue_of x)
     host-kept x old =
         ap (λ (ps : List ℕ). with_pages x ps (cq_pages_of (with_state st x))) (sq-kept st x new old)
         ∙ ap (λ (ps : List ℕ). with_pages x (sq_pages_of x) ps) (cq-kept st x new old)
@@ -127,7 +128,7 @@ gone-state u k size m is =
     with_free free hs ds = record (state_of u) { host = record (state_of u).host { free = free; queues = hs }; device = record (state_of u).device { queues = ds } }
 
     host-gone : (x : Queue) → is_retired x.state ≡ true → host_queue_of (with_state Gone x) ≡ gone (host_queue_of x)
-    host-gone x h = rw h refl
+    host-gone x h = rw (retired_has_no_sq x.state h) refl
 
 pub meant-state : (u : Tables) (kind : AdminKind) (status : Status) → length u.owners ≡ length u.pages → Means kind u → state_of (meant kind status u) ≡ after_admin kind status (state_of u)
 meant-state u (Abort k cid) status size m = refl
@@ -224,12 +225,6 @@ found-counts {A = A} test p (y ∷ xs) x h is = go (test y) h (λ g. found-count
     go true g ih = here (p y) (subst (λ (z : A). p z ≡ true) (sym (some_is g)) is)
     go false g ih = there (p y) (ih g)
 
-asked-both : (state : HostState) → is_asked state ≡ true → HasBoth state
-asked-both Live h = cc
-asked-both (Deleting noted) h = record { retired = refl; gone = refl }
-asked-both Retired h = cc
-asked-both Gone h = cc
-
 asked-at : (t : Tables) → IsWhole t → (q cid k : ℕ) (r : Record) → find (is_at q cid) t.records ≡ Some r → r.work ≡ Management (DeleteSq k) → (x : Queue) → slice_get t.queues k ≡ Some x → is_asked x.state ≡ true
 asked-at t w q cid k r was work x at = go (is_asked x.state) refl
   where
@@ -246,8 +241,8 @@ asked-at t w q cid k r was work x at = go (is_asked x.state) refl
 pub over-means : (t : Tables) → IsWhole t → (q : ℕ) (e : ComEntry) (kind : AdminKind) → EndsAdmin t q kind e → Means kind (over q e.sqhd e.cid t)
 over-means t w q e (Abort k cid) ends = tt
 over-means t w q e (DeleteSq k) ends =
-    λ x at. each-over (λ (j : ℕ) (y : Queue). k ≡ j → HasBoth y.state) q e.sqhd e.cid t.queues (λ j y h. h) (λ j y h. h)
-    (λ j y at' same. asked-both y.state (asked-at t w q e.cid k ends.entry ends.was ends.work y (subst (λ (i : ℕ). slice_get t.queues i ≡ Some y) (sym same) at'))) k x at refl
+    λ x at. each-over (λ (j : ℕ) (y : Queue). k ≡ j → has_sq y.state ≡ true) q e.sqhd e.cid t.queues (λ j y h. h) (λ j y h. h)
+    (λ j y at' same. asked_has_sq y.state (asked-at t w q e.cid k ends.entry ends.was ends.work y (subst (λ (i : ℕ). slice_get t.queues i ≡ Some y) (sym same) at'))) k x at refl
 over-means t w q e (DeleteCq k) ends =
     λ x at. each-over (λ (j : ℕ) (y : Queue). OwnsHalf t.owners (length t.pages) j Completion y) q e.sqhd e.cid t.queues (λ j y h. h) (λ j y h. h)
     (λ j y at'. half-owned t w j Completion y at') k x at

@@ -1,9 +1,9 @@
 -- What a posted completion makes of the tables, where nothing was forged.
-use Rattle.std.proofs.Common.{◌≡◌, ◌≢◌, ℕ, ◌+◌, ◌*◌, ◌/◌, ◌%◌, ◌<◌, ◌≤◌, Bool, false, Option, Some, None, IsSome, IfSome, List, [], length, slice_get, if◌then◌else◌, refl, ap, ap₂, sym, ◌∙◌, arith, subst}
+use Rattle.std.proofs.Common.{◌≡◌, ◌≢◌, ℕ, ◌+◌, ◌*◌, ◌/◌, ◌%◌, ◌<◌, ◌≤◌, Bool, false, Option, Some, None, IsSome, IfSome, List, [], length, slice_get, if◌then◌else◌, refl, ap, ap₂, sym, ◌∙◌, arith, subst, true}
 use Rattle.admin_commands.specs.Verdicts.{is_absent}
 use Rattle.entry_codec.specs.Completion.{IsComEntry, FitsCompletion}
 use Rattle.entry_codec.specs.declared.completion.ComEntry.{ComEntry}
-use Rattle.machine_model.specs.Refusals.{is_gone, slot_offset}
+use Rattle.machine_model.specs.Refusals.{slot_offset, has_cq}
 use Rattle.page_ledger.specs.Owners.{pages_from}
 use Rattle.page_ledger.specs.declared.owner.Owner.TheVariants as owner
 use Rattle.page_memory.specs.Memory.{written}
@@ -48,12 +48,12 @@ answer_written pages cq slot bytes whole there count = go (page_at pages (comple
 
 -- The halves of a queue, by their owners
 
-pub own_completion : (t : Tables) (q : ℕ) (queue : Queue) → AreRinged t → slice_get t.queues q ≡ Some queue → is_gone queue.state ≡ false
+pub own_completion : (t : Tables) (q : ℕ) (queue : Queue) → AreRinged t → slice_get t.queues q ≡ Some queue → has_cq queue.state ≡ true
     → HaveOwner t.owners (owner.Queue q Completion) (pages_from queue.device.cq (half_pages queue.device.entries Completion))
 own_completion t q queue r here lives =
     let is = r.queues.each q queue here in
     let pages : cq_pages_of queue ≡ pages_from queue.device.cq (half_pages queue.device.entries Completion) =
-    ap (λ (b : Bool). if b then [] else pages_from queue.host.cq (half_pages queue.host.entries Completion)) lives
+    ap (λ (b : Bool). if b then pages_from queue.host.cq (half_pages queue.host.entries Completion) else []) lives
     ∙ ap₂ (λ (p : ℕ) (n : ℕ). pages_from p (half_pages n Completion)) is.pair.cq is.pair.entries in
     subst (λ (pages : List ℕ). HaveOwner t.owners (owner.Queue q Completion) pages) pages (r.owners.queues_told q queue here).completion
 
@@ -62,7 +62,7 @@ pub own_submission : (t : Tables) (q : ℕ) (queue : Queue) → AreRinged t → 
 own_submission t q queue r here there =
     let is = r.queues.each q queue here in
     let pages : sq_pages_of queue ≡ pages_from queue.device.sq (half_pages queue.device.entries Submission) =
-    ap (λ (b : Bool). if b then [] else pages_from queue.host.sq (half_pages queue.host.entries Submission)) (r.halves q queue here there)
+    ap (λ (b : Bool). if b then pages_from queue.host.sq (half_pages queue.host.entries Submission) else []) (r.halves q queue here there)
     ∙ ap₂ (λ (p : ℕ) (n : ℕ). pages_from p (half_pages n Submission)) is.pair.sq is.pair.entries in
     subst (λ (pages : List ℕ). HaveOwner t.owners (owner.Queue q Submission) pages) pages (r.owners.queues_told q queue here).submission
 
@@ -73,7 +73,7 @@ some_pages' : (n : ℕ) → 2 ≤ n → 0 < half_pages n Submission
 some_pages' n l = omega arith
 
 -- a completion written for a queue stands outside the other halves
-pub agree_submission : (t : Tables) (q k : ℕ) (queue x : Queue) (bytes : List ℕ) → AreRinged t → slice_get t.queues q ≡ Some queue → is_gone queue.state ≡ false → slice_get t.queues k ≡ Some x → is_absent x.sq ≡ false → length bytes ≡ 16
+pub agree_submission : (t : Tables) (q k : ℕ) (queue x : Queue) (bytes : List ℕ) → AreRinged t → slice_get t.queues q ≡ Some queue → has_cq queue.state ≡ true → slice_get t.queues k ≡ Some x → is_absent x.sq ≡ false → length bytes ≡ 16
     → Agree (byte_at t.pages) (written (byte_at t.pages) (completion_place queue.device.cq queue.device.ring.tail) bytes) x.device.sq (half_pages x.device.entries Submission)
 agree_submission t q k queue x bytes r here lives at there count =
     let side = (r.queues.each q queue here).device_side in
@@ -87,7 +87,7 @@ agree_submission t q k queue x bytes r here lives at there count =
 other_owner : (q k : ℕ) → k ≢ q → owner.Queue q Completion ≢ owner.Queue k Completion
 other_owner q k far e = far (let same : q ≡ k = cc in sym same)
 
-pub agree_completion : (t : Tables) (q k : ℕ) (queue x : Queue) (bytes : List ℕ) → AreRinged t → slice_get t.queues q ≡ Some queue → is_gone queue.state ≡ false → slice_get t.queues k ≡ Some x → is_gone x.state ≡ false → k ≢ q → length bytes ≡ 16
+pub agree_completion : (t : Tables) (q k : ℕ) (queue x : Queue) (bytes : List ℕ) → AreRinged t → slice_get t.queues q ≡ Some queue → has_cq queue.state ≡ true → slice_get t.queues k ≡ Some x → has_cq x.state ≡ true → k ≢ q → length bytes ≡ 16
     → Agree (byte_at t.pages) (written (byte_at t.pages) (completion_place queue.device.cq queue.device.ring.tail) bytes) x.device.cq (half_pages x.device.entries Completion)
 agree_completion t q k queue x bytes r here lives at there far count =
     let side = (r.queues.each q queue here).device_side in
@@ -98,7 +98,7 @@ agree_completion t q k queue x bytes r here lives at there far count =
     (subst (λ (many : ℕ). IsOutside (completion_place queue.device.cq queue.device.ring.tail) many x.device.cq (half_pages x.device.entries Completion)) (sym count)
     (completion_outside queue.device.cq queue.device.entries queue.device.ring.tail x.device.cq (half_pages x.device.entries Completion) side.tail apart))
 
-pub agree_elsewhere : (t : Tables) (q k : ℕ) (queue x : Queue) (bytes : List ℕ) → AreRinged t → slice_get t.queues q ≡ Some queue → is_gone queue.state ≡ false → slice_get t.queues k ≡ Some x → k ≢ q → length bytes ≡ 16
+pub agree_elsewhere : (t : Tables) (q k : ℕ) (queue x : Queue) (bytes : List ℕ) → AreRinged t → slice_get t.queues q ≡ Some queue → has_cq queue.state ≡ true → slice_get t.queues k ≡ Some x → k ≢ q → length bytes ≡ 16
     → AgreeAt (byte_at t.pages) (written (byte_at t.pages) (completion_place queue.device.cq queue.device.ring.tail) bytes) x
 agree_elsewhere t q k queue x bytes r here lives at far count = record {
   submission = λ there. agree_submission t q k queue x bytes r here lives at there count;

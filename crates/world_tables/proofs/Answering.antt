@@ -8,7 +8,7 @@ use Rattle.entry_codec.specs.declared.status.Status.{Status}
 use Rattle.entry_codec.proofs.CompletionLemmas.{round_trip}
 use Rattle.machine_model.specs.After as after
 use Rattle.machine_model.specs.After.{change, post_phase}
-use Rattle.machine_model.specs.Refusals.{is_retired, is_gone, fetch_slot, post_slot, slot_page, slot_offset, host_queue}
+use Rattle.machine_model.specs.Refusals.{fetch_slot, post_slot, slot_page, slot_offset, host_queue, has_cq}
 use Rattle.machine_model.specs.State.{State, HostQueue, DeviceQueue}
 use Rattle.page_ledger.specs.Owners.{pages_from}
 use Rattle.page_memory.specs.Memory.{Memory, written}
@@ -26,8 +26,9 @@ use Rattle.world_tables.specs.Whole.{RingsStand, IsHonest, HeadsFollow}
 use Rattle.world_tables.specs.Rows.{Queue}
 use Rattle.world_tables.proofs.Lists.{map-change, map-agree, changed_at, Changed}
 use Rattle.world_tables.proofs.AnswerPlaces.{CanAnswer, answer_written, agree_elsewhere, agree_submission}
-use Rattle.world_tables.proofs.Ringing.{AreRinged, not_gone, slice_get-map, fetch_slot-is, post_slot-is, completion_slot_page}
+use Rattle.world_tables.proofs.Ringing.{AreRinged, slice_get-map, fetch_slot-is, post_slot-is, completion_slot_page}
 use Rattle.world_tables.proofs.Showing.{seen_alike, stands_alike, unfetched_alike}
+use Rattle.machine_model.proofs.Halves.{sq_with_cq}
 
 pub length-completion_bytes : (e : ComEntry) → length (completion_bytes e) ≡ 16
 unfolding completion_bytes
@@ -70,7 +71,7 @@ seen_own : (t : Tables) (q : ℕ) (queue : Queue) (e : ComEntry) → AreRinged t
     ≡ record (device_queue_of (byte_at t.pages) queue) { answers = answers_of (byte_at t.pages) queue ++ answer_of e ∷ [] }
 seen_own t q queue e r can =
     let is = r.queues.each q queue can.here in
-    let lives = not_gone (is_retired queue.state) (is_gone queue.state) (r.halves q queue can.here can.there) in
+    let lives = sq_with_cq queue.state (r.halves q queue can.here can.there) in
     let m' : Memory = written (byte_at t.pages) (completion_place queue.device.cq queue.device.ring.tail) (completion_bytes e) in
     let entries = unfetched_alike (byte_at t.pages) m' queue is.device_side (λ there. agree_submission t q q queue queue (completion_bytes e) r can.here lives can.here there (length-completion_bytes e)) in
     let grown : map answer_of (present (answers m' queue.host (with_answer queue).device)) ≡ answers_of (byte_at t.pages) queue ++ answer_of e ∷ [] =
@@ -82,14 +83,14 @@ seen_own t q queue e r can =
 abbrev page_of_answer : Queue → ℕ
 page_of_answer queue = completion_page queue.device.cq queue.device.ring.tail
 
-page_there : (t : Tables) (q : ℕ) (queue : Queue) → AreRinged t → slice_get t.queues q ≡ Some queue → is_gone queue.state ≡ false → IsSome (page_at t.pages (page_of_answer queue))
+page_there : (t : Tables) (q : ℕ) (queue : Queue) → AreRinged t → slice_get t.queues q ≡ Some queue → has_cq queue.state ≡ true → IsSome (page_at t.pages (page_of_answer queue))
 page_there t q queue r here lives =
     r.completion_in q queue here lives (queue.device.ring.tail / 256) (let l = (r.queues.each q queue here).device_side.tail in omega arith)
 
 pub seen_written : (t : Tables) (q : ℕ) (queue : Queue) (e : ComEntry) → AreRinged t → CanAnswer t q queue e
     → byte_at (answered q e queue t).pages ≡ written (byte_at t.pages) (completion_place queue.device.cq queue.device.ring.tail) (completion_bytes e)
 seen_written t q queue e r can =
-    let lives = not_gone (is_retired queue.state) (is_gone queue.state) (r.halves q queue can.here can.there) in
+    let lives = sq_with_cq queue.state (r.halves q queue can.here can.there) in
     answer_written t.pages queue.device.cq queue.device.ring.tail (completion_bytes e) r.pool.whole (page_there t q queue r can.here lives) (length-completion_bytes e)
 
 pub same_queue : {A : Type 0} (xs : List A) (k : ℕ) (x y : A) → slice_get xs k ≡ Some x → slice_get xs k ≡ Some y → x ≡ y
@@ -100,7 +101,7 @@ pub seen_queues : (t : Tables) (q : ℕ) (queue : Queue) (e : ComEntry) → AreR
     → map (device_queue_of (byte_at (answered q e queue t).pages)) (change q with_answer t.queues)
     ≡ change q (λ at. record at { answers = at.answers ++ answer_of e ∷ [] }) (map (device_queue_of (byte_at t.pages)) t.queues)
 seen_queues t q queue e r can =
-    let lives = not_gone (is_retired queue.state) (is_gone queue.state) (r.halves q queue can.here can.there) in
+    let lives = sq_with_cq queue.state (r.halves q queue can.here can.there) in
     let m' : Memory = written (byte_at t.pages) (completion_place queue.device.cq queue.device.ring.tail) (completion_bytes e) in
     ap (λ (m : Memory). map (device_queue_of m) (change q with_answer t.queues)) (seen_written t q queue e r can)
     ∙ map-changed (device_queue_of (byte_at t.pages)) (device_queue_of m') with_answer (λ (at : DeviceQueue). record at { answers = at.answers ++ answer_of e ∷ [] }) q t.queues
@@ -123,11 +124,11 @@ answered_state t q cid st dw0 queue r can =
     let e = completion_by q cid st dw0 queue in
     let s = state_of t in
     let is = r.queues.each q queue can.here in
-    let lives = not_gone (is_retired queue.state) (is_gone queue.state) (r.halves q queue can.here can.there) in
+    let lives = sq_with_cq queue.state (r.halves q queue can.here can.there) in
     let tied : expected_phase queue.host.ring.head queue.device.ring.tail queue.host.ring.phase ≡ queue.device.ring.phase =
     ap (expected_phase queue.host.ring.head queue.device.ring.tail) (r.rings.rings q queue can.here).tied ∙ sym (told_alike queue.host.ring.head queue.device.ring.tail queue.device.ring.phase) in
     let pages : cq_pages_of queue ≡ pages_from queue.device.cq (half_pages queue.device.entries Completion) =
-    ap (λ (b : Bool). if b then [] else pages_from queue.host.cq (half_pages queue.host.entries Completion)) lives
+    ap (λ (b : Bool). if b then pages_from queue.host.cq (half_pages queue.host.entries Completion) else []) lives
     ∙ ap₂ (λ (p : ℕ) (n : ℕ). pages_from p (half_pages n Completion)) is.pair.cq is.pair.entries in
     let page : slot_page (cq_pages_of queue) 16 queue.device.ring.tail ≡ page_of_answer queue =
     ap (λ (ps : List ℕ). slot_page ps 16 queue.device.ring.tail) pages ∙ completion_slot_page queue.device.cq queue.device.entries queue.device.ring.tail is.device_side.tail in
@@ -156,7 +157,7 @@ stands_own t q cid st dw0 queue r can =
     let e = completion_by q cid st dw0 queue in
     let is = r.queues.each q queue can.here in
     let old = r.rings.rings q queue can.here in
-    let lives = not_gone (is_retired queue.state) (is_gone queue.state) (r.halves q queue can.here can.there) in
+    let lives = sq_with_cq queue.state (r.halves q queue can.here can.there) in
     let head : queue.host.ring.head < queue.device.entries = subst (λ (k : ℕ). queue.host.ring.head < k) is.pair.entries is.host_side.head in
     let free = subst (λ (k : ℕ). is_full queue.device.entries k queue.device.ring.tail ≡ false) old.heard can.room in
     let grown = ap (λ (xs : List (Option ComEntry)). present xs) (answers_grow t q queue e r can) ∙ present-append (answers (byte_at t.pages) queue.host queue.device) e in
@@ -170,7 +171,7 @@ stands_own t q cid st dw0 queue r can =
       owned = λ x. subst (AllByRecursion (λ (y : ComEntry). y.sqid ≡ q)) (sym grown) (all_one_more (λ (y : ComEntry). y.sqid ≡ q) _ e (old.owned lives) refl);
       follow = λ x. subst (HeadsFollow queue.host.entries queue.host.ring.known_head queue.device.ring.head) (sym grown)
           (heads_grow queue.host.entries queue.host.ring.known_head queue.device.ring.head e _ (subst (λ (k : ℕ). queue.device.ring.head < k) (sym is.pair.entries) is.device_side.head) refl (old.follow lives));
-      drained = λ x. absurd (true≢false (sym x ∙ r.halves q queue can.here can.there));
+      drained = λ x. absurd (true≢false (sym (r.halves q queue can.here can.there) ∙ x));
     }
 
 pub answered_stands : (t : Tables) (q cid : ℕ) (st : Status) (dw0 : ℕ) (queue : Queue) → AreRinged t → CanAnswer t q queue (completion_by q cid st dw0 queue)
@@ -183,8 +184,8 @@ answered_stands t q cid st dw0 queue r can = record { rings = λ k y at. subst (
     m' : Memory
     m' = written (byte_at t.pages) (completion_place queue.device.cq queue.device.ring.tail) (completion_bytes e)
 
-    lives : is_gone queue.state ≡ false
-    lives = not_gone (is_retired queue.state) (is_gone queue.state) (r.halves q queue can.here can.there)
+    lives : has_cq queue.state ≡ true
+    lives = sq_with_cq queue.state (r.halves q queue can.here can.there)
 
     go : (k : ℕ) (y : Queue) → Changed Queue q with_answer t.queues k y → RingsStand m' k y
     go k y c = elim c.is [

@@ -12,7 +12,7 @@ use Rattle.machine_model.specs.After as after
 use Rattle.machine_model.specs.After.{change, final_status, image_completed, after_complete}
 use Rattle.machine_model.specs.Events as events
 use Rattle.machine_model.specs.Memory.{is_in}
-use Rattle.machine_model.specs.Refusals.{is_retired, is_gone, job_at, waits, answers_full, post_page, post_slot, refusal_of, slot_page, host_queue}
+use Rattle.machine_model.specs.Refusals.{job_at, waits, answers_full, post_page, post_slot, refusal_of, slot_page, host_queue, has_cq}
 use Rattle.machine_model.specs.State.{State, HostQueue, DeviceQueue, Job}
 use Rattle.machine_model.specs.declared.words.Refusal.TheVariants as refusal
 use Rattle.page_ledger.specs.Owners.{pages_from}
@@ -32,9 +32,10 @@ use Rattle.world_tables.proofs.Answering.{answered_state}
 use Rattle.world_tables.proofs.Changing.{change-other, get-at}
 use Rattle.world_tables.proofs.Completing.{ringed_ended, status_seen, image_seen, deletion_seen}
 use Rattle.world_tables.proofs.AnswerPlaces.{CanAnswer}
-use Rattle.world_tables.proofs.Ringing.{AreRinged, slice_get-map, post_slot-is, completion_slot_page, not_gone, length-answers, length-map, half_in}
+use Rattle.world_tables.proofs.Ringing.{AreRinged, slice_get-map, post_slot-is, completion_slot_page, length-answers, length-map, half_in}
 use Rattle.world_tables.proofs.Tasks.{job-at, job-found, jobs-without, waits-seen, task-is}
 use Rattle.world_tables.proofs.Trusted.{ringed, linked_of, absent_of}
+use Rattle.machine_model.proofs.Halves.{sq_with_cq}
 
 -- a task's own queue isn't the one that it deletes
 pub queue_stays : (k : Task) (blocks steps : ℕ) (queues : List Queue) → FitsTask blocks k.q steps k.work → slice_get (queues_of_end k.work queues) k.q ≡ slice_get queues k.q
@@ -85,7 +86,7 @@ refusal_by s q cid j a b c d ej ea eb ec ed = rw (← ea, ← eb, ← ec, ← ed
 refusal_none : (s : State) (q cid : ℕ) → job_at s q cid ≡ None → refusal_of s (events.Complete q cid) ≡ Some refusal.NoJob
 refusal_none s q cid e = rw e refl
 
-pub full_seen : (t : Tables) (q : ℕ) (queue : Queue) → AreRinged t → slice_get t.queues q ≡ Some queue → is_gone queue.state ≡ false → answers_full (state_of t) q ≡ is_full_for queue.device
+pub full_seen : (t : Tables) (q : ℕ) (queue : Queue) → AreRinged t → slice_get t.queues q ≡ Some queue → has_cq queue.state ≡ true → answers_full (state_of t) q ≡ is_full_for queue.device
 full_seen t q queue r here lives =
     let is = r.queues.each q queue here in
     let n : queue.device.entries ≡ t.entries = sym is.pair.entries ∙ is.entries in
@@ -100,11 +101,11 @@ full_seen t q queue r here lives =
 post_page-by : (s : State) (q : ℕ) (hq : HostQueue) (tail page : ℕ) → host_queue s q ≡ Some hq → post_slot s q ≡ tail → slot_page hq.cq_pages 16 tail ≡ page → post_page s q ≡ page
 post_page-by s q hq tail page eh et ep = rw (et, eh) ep
 
-pub post_page-is : (t : Tables) (q : ℕ) (queue : Queue) → AreRinged t → slice_get t.queues q ≡ Some queue → is_gone queue.state ≡ false → post_page (state_of t) q ≡ completion_page queue.device.cq queue.device.ring.tail
+pub post_page-is : (t : Tables) (q : ℕ) (queue : Queue) → AreRinged t → slice_get t.queues q ≡ Some queue → has_cq queue.state ≡ true → post_page (state_of t) q ≡ completion_page queue.device.cq queue.device.ring.tail
 post_page-is t q queue r here lives =
     let is = r.queues.each q queue here in
     let pages : cq_pages_of queue ≡ pages_from queue.device.cq (half_pages queue.device.entries Completion) =
-    ap (λ (b : Bool). if b then [] else pages_from queue.host.cq (half_pages queue.host.entries Completion)) lives
+    ap (λ (b : Bool). if b then pages_from queue.host.cq (half_pages queue.host.entries Completion) else []) lives
     ∙ ap₂ (λ (p : ℕ) (n : ℕ). pages_from p (half_pages n Completion)) is.pair.cq is.pair.entries in
     post_page-by (state_of t) q (host_queue_of queue) queue.device.ring.tail (completion_page queue.device.cq queue.device.ring.tail)
     (slice_get-map host_queue_of t.queues q queue here) (post_slot-is t q queue r here lives)
@@ -135,8 +136,8 @@ pub task_queue_there : (t : Tables) (q cid : ℕ) (k : Task) (queue : Queue) →
 task_queue_there t q cid k queue w e found here =
     sym (absent_of t q queue here) ∙ (linked_of t w e).jobs_have_queues q cid (ap is_some (job-found t q cid k found))
 
-pub queue_lives : (t : Tables) (q : ℕ) (queue : Queue) → AreRinged t → slice_get t.queues q ≡ Some queue → is_absent queue.sq ≡ false → is_gone queue.state ≡ false
-queue_lives t q queue r here there = not_gone (is_retired queue.state) (is_gone queue.state) (r.halves q queue here there)
+pub queue_lives : (t : Tables) (q : ℕ) (queue : Queue) → AreRinged t → slice_get t.queues q ≡ Some queue → is_absent queue.sq ≡ false → has_cq queue.state ≡ true
+queue_lives t q queue r here there = sq_with_cq queue.state (r.halves q queue here there)
 
 pub queue_there : {A : Type 0} (xs : List A) (k : ℕ) → k < length xs → (x : A) × (slice_get xs k ≡ Some x)
 queue_there [] k l = absurd (omega arith)

@@ -1,12 +1,12 @@
 -- The completion of a task is the machine's.
-use Rattle.std.proofs.Common.{◌≡◌, inl, inr, ℕ, ◌+◌, ◌<◌, ◌||◌, Bool, true, false, Option, IsSome, List, [], if◌then◌else◌, refl, ap₂, sym, subst}
+use Rattle.std.proofs.Common.{◌≡◌, inl, inr, ℕ, ◌+◌, ◌<◌, Bool, true, false, Option, IsSome, List, [], if◌then◌else◌, refl, ap₂, sym, subst}
 use Rattle.std.proofs.lemmas.Bool.{true≢false}
 use Rattle.admin_commands.specs.Entries.{named_queue}
 use Rattle.admin_commands.specs.Verdicts.{is_absent}
 use Rattle.admin_commands.specs.declared.SqState.TheVariants.{Absent}
 use Rattle.machine_model.specs.After as after
 use Rattle.machine_model.specs.After.{change, final_status, image_completed, deletion_done, on_device, without_job, after_complete}
-use Rattle.machine_model.specs.Refusals.{is_retired, is_gone}
+use Rattle.machine_model.specs.Refusals.{has_sq, has_cq}
 use Rattle.machine_model.specs.State.{HostQueue, DeviceQueue}
 use Rattle.page_memory.specs.Pages.{byte_at, page_at}
 use Rattle.page_memory.specs.declared.page.Half.TheVariants.{Submission, Completion}
@@ -81,15 +81,15 @@ ringed_without t k tasks image r = record {
   };
   halves = λ q y at there. let c = changed_at k without_submission t.queues q y at in elim c.is [
     | inl h ↦ absurd (none_there y c.was h.1 there)
-    | inr h ↦ subst (λ (x : Queue). (is_retired x.state || is_gone x.state) ≡ false) (sym h.1) (r.halves q c.was c.at (subst (λ (x : Queue). is_absent x.sq ≡ false) h.1 there))
+    | inr h ↦ subst (λ (x : Queue). has_sq x.state ≡ true) (sym h.1) (r.halves q c.was c.at (subst (λ (x : Queue). is_absent x.sq ≡ false) h.1 there))
   ];
   submission_in = λ q y at there. let c = changed_at k without_submission t.queues q y at in elim c.is [
     | inl h ↦ absurd (none_there y c.was h.1 there)
     | inr h ↦ subst (λ (x : Queue). IsIn (byte_at t.pages) x.device.sq (half_pages x.device.entries Submission)) (sym h.1) (r.submission_in q c.was c.at (subst (λ (x : Queue). is_absent x.sq ≡ false) h.1 there))
   ];
   completion_in = λ q y at lives. let c = changed_at k without_submission t.queues q y at in elim c.is [
-    | inl h ↦ subst (λ (x : Queue). (p : ℕ) → p < half_pages x.device.entries Completion → IsSome (page_at t.pages (x.device.cq + p))) (sym h.1) (r.completion_in q c.was c.at (subst (λ (x : Queue). is_gone x.state ≡ false) h.1 lives))
-    | inr h ↦ subst (λ (x : Queue). (p : ℕ) → p < half_pages x.device.entries Completion → IsSome (page_at t.pages (x.device.cq + p))) (sym h.1) (r.completion_in q c.was c.at (subst (λ (x : Queue). is_gone x.state ≡ false) h.1 lives))
+    | inl h ↦ subst (λ (x : Queue). (p : ℕ) → p < half_pages x.device.entries Completion → IsSome (page_at t.pages (x.device.cq + p))) (sym h.1) (r.completion_in q c.was c.at (subst (λ (x : Queue). has_cq x.state ≡ true) h.1 lives))
+    | inr h ↦ subst (λ (x : Queue). (p : ℕ) → p < half_pages x.device.entries Completion → IsSome (page_at t.pages (x.device.cq + p))) (sym h.1) (r.completion_in q c.was c.at (subst (λ (x : Queue). has_cq x.state ≡ true) h.1 lives))
   ];
 }
   where

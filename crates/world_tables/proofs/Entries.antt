@@ -1,5 +1,5 @@
 -- The host posts an entry: it is the machine's, and the rings stand behind it.
-use Rattle.std.proofs.Common.{◌≡◌, ◌≢◌, ℕ, ◌+◌, ◌*◌, ◌/◌, ◌%◌, ◌<◌, ◌≤◌, ◌||◌, ◌++◌, ◌∷◌, [], Bool, true, false, Option, Some, IsSome, List, length, map, slice_get, slice_set, get_or, if◌then◌else◌, refl, ap, sym, ◌∙◌, subst, arith, length-append}
+use Rattle.std.proofs.Common.{◌≡◌, ◌≢◌, ℕ, ◌+◌, ◌*◌, ◌/◌, ◌%◌, ◌<◌, ◌≤◌, ◌++◌, ◌∷◌, [], Bool, true, false, Option, Some, IsSome, List, length, map, slice_get, slice_set, get_or, if◌then◌else◌, refl, ap, sym, ◌∙◌, subst, arith, length-append}
 use Rattle.std.specs.List.{AllByRecursion}
 use Rattle.std.specs.Option.{option_map, option_map_or}
 use Rattle.std.proofs.lemmas.Bool.Decides.{nat_tests}
@@ -11,7 +11,7 @@ use Rattle.entry_codec.specs.declared.completion.ComEntry.{ComEntry}
 use Rattle.entry_codec.specs.declared.submission.SubEntry.{SubEntry}
 use Rattle.machine_model.specs.After as a
 use Rattle.machine_model.specs.After.{change}
-use Rattle.machine_model.specs.Refusals.{host_queue, is_retired, is_gone, slot_page, slot_offset}
+use Rattle.machine_model.specs.Refusals.{host_queue, slot_page, slot_offset, has_cq, has_sq}
 use Rattle.machine_model.specs.State.{State, Device, HostQueue, DeviceQueue}
 use Rattle.page_ledger.specs.Owners.{pages_from}
 use Rattle.page_ledger.specs.declared.owner.Owner.{Owner}
@@ -35,6 +35,7 @@ use Rattle.world_tables.specs.Rows.{Queue}
 use Rattle.world_tables.proofs.Forging.{index-from, page-written, place-written, place-parts}
 use Rattle.world_tables.proofs.Queues.{change-at, each-change, map-change, map-moved, present-append}
 use Rattle.world_tables.proofs.Showing.{AgreeAt, halves_apart, seen_alike, stands_alike}
+use Rattle.machine_model.proofs.Halves.{sq_with_cq}
 
 -- Where the slot lies
 
@@ -116,21 +117,21 @@ posted-part t q x entry c =
 -- The controller's queues
 
 -- an entry stands outside the other halves
-sq-owned : (t : Tables) (q k : ℕ) (x y : Queue) (entry : SubEntry) → CanPost t q x entry → slice_get t.queues k ≡ Some y → (is_retired y.state || is_gone y.state) ≡ false
+sq-owned : (t : Tables) (q k : ℕ) (x y : Queue) (entry : SubEntry) → CanPost t q x entry → slice_get t.queues k ≡ Some y → has_sq y.state ≡ true
     → HaveOwner t.owners (owner.Queue k Submission) (pages_from y.device.sq (half_pages y.device.entries Submission))
 sq-owned t q k x y entry c at kept =
     let is = c.queues.each k y at in
     let pages : sq_pages_of y ≡ pages_from y.device.sq (half_pages y.device.entries Submission) =
-    ap (λ (b : Bool). if b then [] else pages_from y.host.sq (half_pages y.host.entries Submission)) kept
+    ap (λ (b : Bool). if b then pages_from y.host.sq (half_pages y.host.entries Submission) else []) kept
     ∙ (ap (λ (p : ℕ). pages_from p (half_pages y.host.entries Submission)) is.pair.sq ∙ ap (λ (n : ℕ). pages_from y.device.sq (half_pages n Submission)) is.pair.entries) in
     subst (λ (ps : List ℕ). HaveOwner t.owners (owner.Queue k Submission) ps) pages (c.owners k y at).submission
 
-cq-owned : (t : Tables) (q k : ℕ) (x y : Queue) (entry : SubEntry) → CanPost t q x entry → slice_get t.queues k ≡ Some y → is_gone y.state ≡ false
+cq-owned : (t : Tables) (q k : ℕ) (x y : Queue) (entry : SubEntry) → CanPost t q x entry → slice_get t.queues k ≡ Some y → has_cq y.state ≡ true
     → HaveOwner t.owners (owner.Queue k Completion) (pages_from y.device.cq (half_pages y.device.entries Completion))
 cq-owned t q k x y entry c at kept =
     let is = c.queues.each k y at in
     let pages : cq_pages_of y ≡ pages_from y.device.cq (half_pages y.device.entries Completion) =
-    ap (λ (b : Bool). if b then [] else pages_from y.host.cq (half_pages y.host.entries Completion)) kept
+    ap (λ (b : Bool). if b then pages_from y.host.cq (half_pages y.host.entries Completion) else []) kept
     ∙ (ap (λ (p : ℕ). pages_from p (half_pages y.host.entries Completion)) is.pair.cq ∙ ap (λ (n : ℕ). pages_from y.device.cq (half_pages n Completion)) is.pair.entries) in
     subst (λ (ps : List ℕ). HaveOwner t.owners (owner.Queue k Completion) ps) pages (c.owners k y at).completion
 
@@ -159,7 +160,7 @@ apart-agrees t q x entry c count o differ page pages some owned =
     subst (λ (m : Memory). Agree (byte_at t.pages) m page pages) (sym (memory-posted t q x entry c count))
     (outside_agrees (byte_at t.pages) (tail_place x) page pages (submission_bytes entry) outside)
 
-pub agree-completion : (t : Tables) (q k : ℕ) (x y : Queue) (entry : SubEntry) → CanPost t q x entry → length (submission_bytes entry) ≡ 64 → slice_get t.queues k ≡ Some y → is_gone y.state ≡ false
+pub agree-completion : (t : Tables) (q k : ℕ) (x y : Queue) (entry : SubEntry) → CanPost t q x entry → length (submission_bytes entry) ≡ 64 → slice_get t.queues k ≡ Some y → has_cq y.state ≡ true
     → Agree (byte_at t.pages) (byte_at (posted q x entry t).pages) y.device.cq (half_pages y.device.entries Completion)
 agree-completion t q k x y entry c count at kept =
     apart-agrees t q x entry c count (owner.Queue k Completion) (λ e. cc) y.device.cq (half_pages y.device.entries Completion)
@@ -168,7 +169,7 @@ agree-completion t q k x y entry c count at kept =
 other-owner : (q k : ℕ) → k ≢ q → owner.Queue q Submission ≢ owner.Queue k Submission
 other-owner q k far e = far (let same : q ≡ k = cc in sym same)
 
-pub agree-submission : (t : Tables) (q k : ℕ) (x y : Queue) (entry : SubEntry) → CanPost t q x entry → length (submission_bytes entry) ≡ 64 → slice_get t.queues k ≡ Some y → k ≢ q → (is_retired y.state || is_gone y.state) ≡ false
+pub agree-submission : (t : Tables) (q k : ℕ) (x y : Queue) (entry : SubEntry) → CanPost t q x entry → length (submission_bytes entry) ≡ 64 → slice_get t.queues k ≡ Some y → k ≢ q → has_sq y.state ≡ true
     → Agree (byte_at t.pages) (byte_at (posted q x entry t).pages) y.device.sq (half_pages y.device.entries Submission)
 agree-submission t q k x y entry c count at far kept =
     apart-agrees t q x entry c count (owner.Queue k Submission) (other-owner q k far) y.device.sq (half_pages y.device.entries Submission)
@@ -177,7 +178,7 @@ agree-submission t q k x y entry c count at far kept =
 -- What is known of the rings where nothing was forged.
 pub record AreRinged (t : Tables) : Type 0 where
   pub rings : (k : ℕ) (y : Queue) → slice_get t.queues k ≡ Some y → RingsStand (byte_at t.pages) k y
-  pub halves : (k : ℕ) (y : Queue) → slice_get t.queues k ≡ Some y → is_absent y.sq ≡ false → (is_retired y.state || is_gone y.state) ≡ false
+  pub halves : (k : ℕ) (y : Queue) → slice_get t.queues k ≡ Some y → is_absent y.sq ≡ false → has_sq y.state ≡ true
 
 pub agree-elsewhere : (t : Tables) (q k : ℕ) (x y : Queue) (entry : SubEntry) → CanPost t q x entry → AreRinged t → length (submission_bytes entry) ≡ 64 → slice_get t.queues k ≡ Some y → k ≢ q
     → AgreeAt (byte_at t.pages) (byte_at (posted q x entry t).pages) y
@@ -186,10 +187,6 @@ agree-elsewhere t q k x y entry c r count at far =
       submission = λ there. agree-submission t q k x y entry c count at far (r.halves k y at there);
       completion = λ kept. agree-completion t q k x y entry c count at kept;
     }
-
-not-gone : (a b : Bool) → (a || b) ≡ false → b ≡ false
-not-gone true b e = cc
-not-gone false b e = e
 
 -- there is room behind the controller's head too
 room-behind : (t : Tables) (q : ℕ) (x : Queue) (entry : SubEntry) → CanPost t q x entry → RingsStand (byte_at t.pages) q x → is_full x.host.entries x.device.ring.head x.host.ring.tail ≡ false
@@ -216,7 +213,7 @@ answers-posted : (t : Tables) (q : ℕ) (x : Queue) (entry : SubEntry) → CanPo
 answers-posted t q x entry c =
     let is = c.queues.each q x c.at in
     sym (answers_agree (byte_at t.pages) (byte_at (posted q x entry t).pages) x.device.cq x.device.entries x.host.ring.head x.device.ring.tail
-    (agree-completion t q q x x entry c (submission_length entry c.typed) c.at (not-gone (is_retired x.state) (is_gone x.state) c.kept))
+    (agree-completion t q q x x entry c (submission_length entry c.typed) c.at (sq_with_cq x.state c.kept))
     (subst (λ (k : ℕ). x.host.ring.head < k) is.pair.entries is.host_side.head))
 
 seen-posted : (t : Tables) (q : ℕ) (x : Queue) (entry : SubEntry) → CanPost t q x entry → RingsStand (byte_at t.pages) q x → is_absent x.sq ≡ false

@@ -1,5 +1,5 @@
 -- An entry is taken from a submission ring, where nothing was forged: it is the machine's, and the rings stand behind it.
-use Rattle.std.proofs.Common.{◌≡◌, ◌≢◌, inl, inr, ℕ, suc, ◌+◌, ◌-◌, ◌<◌, ◌≤◌, ◌||◌, Bool, true, false, Option, Some, None, IsSome, List, [], ◌∷◌, drop, slice_get, if◌then◌else◌, refl, ap, ap₂, sym, ◌∙◌, arith, subst, lt-ltb, le-leb}
+use Rattle.std.proofs.Common.{◌≡◌, ◌≢◌, inl, inr, ℕ, suc, ◌+◌, ◌-◌, ◌<◌, ◌≤◌, Bool, true, false, Option, Some, None, IsSome, List, [], ◌∷◌, drop, slice_get, if◌then◌else◌, refl, ap, ap₂, sym, ◌∙◌, arith, subst, lt-ltb, le-leb}
 use Rattle.std.specs.Option.{option_map}
 use Rattle.admin_commands.specs.Verdicts.{is_absent}
 use Rattle.entry_codec.specs.Submission.{submission_of}
@@ -7,7 +7,7 @@ use Rattle.entry_codec.specs.declared.completion.ComEntry.{ComEntry}
 use Rattle.entry_codec.specs.declared.submission.SubEntry.{SubEntry}
 use Rattle.machine_model.specs.After as after
 use Rattle.machine_model.specs.After.{change}
-use Rattle.machine_model.specs.Refusals.{is_retired, is_gone}
+use Rattle.machine_model.specs.Refusals.{has_sq, has_cq}
 use Rattle.machine_model.specs.State.{HostQueue, DeviceQueue}
 use Rattle.machine_model.specs.declared.words.HostState.{HostState}
 use Rattle.page_memory.specs.Pages.{byte_at, page_at}
@@ -195,13 +195,13 @@ ringed_taken t q queue r can = record {
     ];
   };
   halves = λ k y at there. let f = (take_follows q t.queues).each k y at in
-      subst (λ (s : HostState). (is_retired s || is_gone s) ≡ false) (sym f.follows.state) (r.halves k f.was f.at (same_sq k y at f.was f.at ∙ there));
+      subst (λ (s : HostState). has_sq s ≡ true) (sym f.follows.state) (r.halves k f.was f.at (same_sq k y at f.was f.at ∙ there));
   submission_in = λ k y at there. let f = (take_follows q t.queues).each k y at in
       subst (λ (p : ℕ). IsIn (byte_at t.pages) p (half_pages y.device.entries Submission)) (sym f.follows.sq)
       (subst (λ (n : ℕ). IsIn (byte_at t.pages) f.was.device.sq (half_pages n Submission)) (sym f.follows.entries) (r.submission_in k f.was f.at (same_sq k y at f.was f.at ∙ there)));
   completion_in = λ k y at lives p l. let f = (take_follows q t.queues).each k y at in
       subst (λ (c : ℕ). IsSome (page_at t.pages (c + p))) (sym f.follows.cq)
-      (r.completion_in k f.was f.at (subst (λ (s : HostState). is_gone s ≡ false) f.follows.state lives) p (subst (λ (n : ℕ). p < half_pages n Completion) f.follows.entries l));
+      (r.completion_in k f.was f.at (subst (λ (s : HostState). has_cq s ≡ true) f.follows.state lives) p (subst (λ (n : ℕ). p < half_pages n Completion) f.follows.entries l));
 }
   where
     same_sq : (k : ℕ) (y : Queue) → slice_get (change q with_taken t.queues) k ≡ Some y → (x : Queue) → slice_get t.queues k ≡ Some x → is_absent x.sq ≡ is_absent y.sq

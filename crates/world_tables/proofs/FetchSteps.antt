@@ -105,7 +105,7 @@ pub fetch_page-is : (t : Tables) (q : ℕ) (queue : Queue) → AreRinged t → C
 fetch_page-is t q queue r can =
     let is = r.queues.each q queue can.here in
     let pages : sq_pages_of queue ≡ pages_from queue.device.sq (half_pages queue.device.entries Submission) =
-    ap (λ (b : Bool). if b then [] else pages_from queue.host.sq (half_pages queue.host.entries Submission)) (r.halves q queue can.here can.there)
+    ap (λ (b : Bool). if b then pages_from queue.host.sq (half_pages queue.host.entries Submission) else []) (r.halves q queue can.here can.there)
     ∙ ap₂ (λ (p : ℕ) (n : ℕ). pages_from p (half_pages n Submission)) is.pair.sq is.pair.entries in
     fetch_page-by (state_of t) q (host_queue_of queue) queue.device.ring.head (submission_page queue.device.sq queue.device.ring.head)
     (slice_get-map host_queue_of t.queues q queue can.here) (fetch_slot-is t q queue r can.here can.there)

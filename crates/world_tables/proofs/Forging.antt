@@ -1,5 +1,5 @@
 -- A completion slot is forged.
-use Rattle.std.proofs.Common.{◌≡◌, ℕ, zero, suc, ◌+◌, ◌*◌, ◌/◌, ◌%◌, ◌<◌, ◌≤◌, ◌++◌, false, Option, Some, None, IsSome, IfSome, List, [], ◌∷◌, length, take, drop, slice_get, slice_set, refl, ap, sym, ◌∙◌, subst, arith, length-set, length-append}
+use Rattle.std.proofs.Common.{◌≡◌, ℕ, zero, suc, ◌+◌, ◌*◌, ◌/◌, ◌%◌, ◌<◌, ◌≤◌, ◌++◌, false, Option, Some, None, IsSome, IfSome, List, [], ◌∷◌, length, take, drop, slice_get, slice_set, refl, ap, sym, ◌∙◌, subst, arith, length-set, length-append, true}
 use Rattle.std.specs.Option.{option_map, option_map_or, option_and_then}
 use Rattle.std.specs.Prelude.{nat_le, slice_index}
 use Rattle.std.proofs.lemmas.Bool.Decides.{nat_tests}
@@ -7,7 +7,7 @@ use Rattle.std.proofs.lemmas.List.{length-take-le, length-drop, length-map}
 use Rattle.std.proofs.lemmas.Option.{slice_get-map}
 use Rattle.machine_model.specs.After.{after_forge}
 use Rattle.machine_model.specs.Events as events
-use Rattle.machine_model.specs.Refusals.{refusal_of, host_queue, is_gone, slot_page, slot_offset}
+use Rattle.machine_model.specs.Refusals.{refusal_of, host_queue, slot_page, slot_offset, has_cq}
 use Rattle.machine_model.specs.State.{State, HostQueue}
 use Rattle.page_ledger.specs.Owners.{pages_from}
 use Rattle.page_memory.specs.Memory.{Memory, written, bytes_at}
@@ -102,7 +102,7 @@ slot-fits t q slot place s = subst (λ (x : ℕ). x % 4096 + 16 ≤ 4096) (sym s
 
 -- What the machine says of it
 
-pub forge-refusal : (t : Tables) (q slot : ℕ) (bytes : List ℕ) (x : Queue) → slice_get t.queues q ≡ Some x → is_gone x.state ≡ false → slot < t.entries → refusal_of (state_of t) (events.Forge q slot bytes) ≡ None
+pub forge-refusal : (t : Tables) (q slot : ℕ) (bytes : List ℕ) (x : Queue) → slice_get t.queues q ≡ Some x → has_cq x.state ≡ true → slot < t.entries → refusal_of (state_of t) (events.Forge q slot bytes) ≡ None
 forge-refusal t q slot bytes x at live l = rw (slice_get-map host_queue_of t.queues q, at, live, below t.entries slot l) refl
   where
     below : (n slot : ℕ) → slot < n → nat_le n slot ≡ false

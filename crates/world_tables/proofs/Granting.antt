@@ -1,5 +1,5 @@
 -- What a request is refused for, and what it gets.
-use Rattle.std.proofs.Common.{◌≡◌, ℕ, zero, suc, ◌+◌, ◌-◌, ◌<◌, ◌≤◌, ◌==◌, ◌⊎◌, inl, inr, nat_lt, nat_le, Bool, true, false, not, ◌||◌, Option, Some, None, List, [], ◌∷◌, length, position, slice_get, is_none, refl, ap, ap₂, sym, ◌∙◌, arith, subst, lt-ltb, le-ltb, ltb-true, ltb-false, eqb-true, eq-eqb}
+use Rattle.std.proofs.Common.{◌≡◌, ℕ, zero, suc, ◌+◌, ◌-◌, ◌<◌, ◌≤◌, ◌==◌, ◌⊎◌, inl, inr, nat_lt, nat_le, Bool, true, false, not, ◌||◌, Option, Some, None, List, [], ◌∷◌, length, position, slice_get, refl, ap, sym, ◌∙◌, arith, subst, lt-ltb, le-ltb, ltb-true, ltb-false, eqb-true, eq-eqb}
 use Rattle.std.specs.Option.{option_map, option_map_or}
 use Rattle.std.proofs.lemmas.Bool.{true≢false, eqb-false, cases_lt}
 use Rattle.std.proofs.lemmas.Bool.Decides.{nat_tests}
@@ -8,7 +8,7 @@ use Rattle.io_commands.specs.Requests.{fault_of, data_count}
 use Rattle.io_commands.specs.Asked.{Request}
 use Rattle.io_commands.specs.declared.request.RequestFault.{RequestFault}
 use Rattle.machine_model.specs.Events as events
-use Rattle.machine_model.specs.Refusals.{refusal_of, no_io_queue, in_state, is_deleting, is_retired, is_gone, no_identifier, pages_wanted, host_queue}
+use Rattle.machine_model.specs.Refusals.{refusal_of, no_io_queue, in_state, is_deleting, no_identifier, pages_wanted, has_sq}
 use Rattle.machine_model.specs.State.{State, outstanding_on}
 use Rattle.machine_model.specs.Step.{IsNewIdentifier, Refuses, times}
 use Rattle.machine_model.specs.declared.words.HostState.{HostState}
@@ -34,17 +34,8 @@ in_state-is test t q = ap (λ o. option_map_or (λ queue. test queue.state) o fa
     go None = refl
     go (Some queue) = refl
 
-pub queue-none : (t : Tables) (q : ℕ) → is_none (host_queue (state_of t) q) ≡ is_none (state_at t.queues q)
-queue-none t q = ap is_none (slice_get-map host_queue_of t.queues q) ∙ go (slice_get t.queues q)
-  where
-    go : (o : Option Queue) → is_none (option_map host_queue_of o) ≡ is_none (option_map (λ queue. queue.state) o)
-    go None = refl
-    go (Some queue) = refl
-
 pub no_io-is : (t : Tables) (q : ℕ) → no_io_queue (state_of t) q ≡ takes_no_io q (state_at t.queues q)
-no_io-is t q =
-    ap (λ a. (q == 0) || a || in_state is_retired (state_of t) q || in_state is_gone (state_of t) q) (queue-none t q)
-    ∙ ap₂ (λ a b. (q == 0) || is_none (state_at t.queues q) || a || b) (in_state-is is_retired t q) (in_state-is is_gone t q)
+no_io-is t q = ap (λ b. (q == 0) || not b) (in_state-is has_sq t q)
 
 -- Identifiers
 

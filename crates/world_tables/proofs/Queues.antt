@@ -8,7 +8,7 @@ use Rattle.std.proofs.lemmas.Option.{slice_get_within}
 use Rattle.machine_model.specs.After.{change}
 use Rattle.machine_model.specs.Claims.{is_away}
 use Rattle.machine_model.specs.Memory.{is_in}
-use Rattle.machine_model.specs.Refusals.{is_retired, is_gone}
+use Rattle.machine_model.specs.Refusals.{has_cq, has_sq}
 use Rattle.machine_model.specs.State.{Record, pages_of}
 use Rattle.page_ledger.specs.Owners.{is_among, owner_at, pages_from}
 use Rattle.page_ledger.specs.declared.owner.Owner.{Owner}
@@ -141,14 +141,14 @@ queue_page-in t w q half p mine =
     w.sound.out p inside ∙ ap not (none-away t.owners q half p mine t.records w.owners.commands_told)
 
 -- and so the halves of queues
-pub submission-in : (t : Tables) → IsWhole t → (q : ℕ) (queue : Queue) → slice_get t.queues q ≡ Some queue → (is_retired queue.state || is_gone queue.state) ≡ false
+pub submission-in : (t : Tables) → IsWhole t → (q : ℕ) (queue : Queue) → slice_get t.queues q ≡ Some queue → has_sq queue.state ≡ true
     → IsIn (byte_at t.pages) queue.host.sq (half_pages queue.host.entries Submission)
 submission-in t w q queue at live =
     pages_in t.pages queue.host.sq (half_pages queue.host.entries Submission) w.pool.whole
     (λ p l. queue_page-in t w q Submission (queue.host.sq + p)
     ((w.owners.queues_told q queue at).submission (queue.host.sq + p) (rw live (among-from (half_pages queue.host.entries Submission) queue.host.sq p l))))
 
-pub completion-in : (t : Tables) → IsWhole t → (q : ℕ) (queue : Queue) → slice_get t.queues q ≡ Some queue → is_gone queue.state ≡ false
+pub completion-in : (t : Tables) → IsWhole t → (q : ℕ) (queue : Queue) → slice_get t.queues q ≡ Some queue → has_cq queue.state ≡ true
     → IsIn (byte_at t.pages) queue.host.cq (half_pages queue.host.entries Completion)
 completion-in t w q queue at live =
     pages_in t.pages queue.host.cq (half_pages queue.host.entries Completion) w.pool.whole
@@ -187,18 +187,18 @@ pub queue-at : (t : Tables) (q i : ℕ) (x : Queue) → q < length t.queues → 
 queue-at t q i x l e at = get-at q t.queues x l (subst (λ (k : ℕ). x ≡ get_or t.queues k x) e at)
 
 -- a page of a queue's completion half is in
-pub completion_page-in : (t : Tables) → IsWhole t → (q : ℕ) (queue : Queue) → slice_get t.queues q ≡ Some queue → is_gone queue.state ≡ false
+pub completion_page-in : (t : Tables) → IsWhole t → (q : ℕ) (queue : Queue) → slice_get t.queues q ≡ Some queue → has_cq queue.state ≡ true
     → (k : ℕ) → k < half_pages queue.host.entries Completion → IsSome (page_at t.pages (queue.host.cq + k))
 completion_page-in t w q queue at live k l =
     queue_page-in t w q Completion (queue.host.cq + k)
     ((w.owners.queues_told q queue at).completion (queue.host.cq + k) (rw live (among-from (half_pages queue.host.entries Completion) queue.host.cq k l)))
 
-pub submission_page-in : (t : Tables) → IsWhole t → (q : ℕ) (queue : Queue) → slice_get t.queues q ≡ Some queue → (is_retired queue.state || is_gone queue.state) ≡ false
+pub submission_page-in : (t : Tables) → IsWhole t → (q : ℕ) (queue : Queue) → slice_get t.queues q ≡ Some queue → has_sq queue.state ≡ true
     → (k : ℕ) → k < half_pages queue.host.entries Submission → IsSome (page_at t.pages (queue.host.sq + k))
 submission_page-in t w q queue at live k l =
     queue_page-in t w q Submission (queue.host.sq + k)
     ((w.owners.queues_told q queue at).submission (queue.host.sq + k) (rw live (among-from (half_pages queue.host.entries Submission) queue.host.sq k l)))
 
-pub submission-owner : (t : Tables) → IsWhole t → (q : ℕ) (queue : Queue) → slice_get t.queues q ≡ Some queue → (is_retired queue.state || is_gone queue.state) ≡ false
+pub submission-owner : (t : Tables) → IsWhole t → (q : ℕ) (queue : Queue) → slice_get t.queues q ≡ Some queue → has_sq queue.state ≡ true
     → (k : ℕ) → k < half_pages queue.host.entries Submission → owner_at t.owners (queue.host.sq + k) ≡ Some (owner.Queue q Submission)
 submission-owner t w q queue at live k l = (w.owners.queues_told q queue at).submission (queue.host.sq + k) (rw live (among-from (half_pages queue.host.entries Submission) queue.host.sq k l))

@@ -8,7 +8,7 @@ use Rattle.entry_codec.specs.declared.completion.ComEntry.{ComEntry}
 use Rattle.io_commands.specs.Asked.{Request}
 use Rattle.machine_model.specs.After.{change, held}
 use Rattle.machine_model.specs.Events as events
-use Rattle.machine_model.specs.Refusals.{refusal_of, is_gone, is_submitted}
+use Rattle.machine_model.specs.Refusals.{refusal_of, is_submitted, has_cq}
 use Rattle.machine_model.specs.State.{HostQueue, Record, is_at, with_record, without_record}
 use Rattle.machine_model.specs.Step.{Refuses, fits_ring, reaped_as, reaped_entry, submitted_at}
 use Rattle.machine_model.specs.declared.words.Reaped.TheVariants as found
@@ -35,6 +35,7 @@ use Rattle.world_tables.proofs.Reaped.{done-whole}
 use Rattle.world_tables.proofs.Reapings.{EndsIo, Sees, done-leads, reap-none, reaped-empty, reject-leads, reject-whole}
 use Rattle.world_tables.proofs.Seen.{host-at}
 use Rattle.world_tables.proofs.Steps.{host_step, open_step}
+use Rattle.std.proofs.lemmas.Bool.{not-false}
 
 -- The refusal
 
@@ -88,7 +89,7 @@ head-below t q x e place at is = in_range_below x.host.entries x.host.ring.known
 pub record Looks (t : Tables) (q : ℕ) (o : Option ComEntry) : Type 0 where
   pub queue : Queue
   pub at : slice_get t.queues q ≡ Some queue
-  pub live : is_gone queue.state ≡ false
+  pub live : has_cq queue.state ≡ true
   pub seen : seen_at t q ≡ option_map (phased true) o
 
 pub looks : (t : Tables) (q : ℕ) (o : Option ComEntry) → lacks_completion (slice_get t.queues q) ≡ false → seen_at t q ≡ option_map (phased true) o → Looks t q o
@@ -96,7 +97,7 @@ looks t q o there seen = go (slice_get t.queues q) refl there
   where
     go : (p : Option Queue) → slice_get t.queues q ≡ p → lacks_completion p ≡ false → Looks t q o
     go None at h = cc
-    go (Some x) at h = record { queue = x; at = at; live = h; seen = seen }
+    go (Some x) at h = record { queue = x; at = at; live = not-false _ h; seen = seen }
 
 sees : (t : Tables) (q : ℕ) (e : ComEntry) → (l : Looks t q (Some e)) → Sees t q l.queue (phased true e)
 sees t q e l = record { at = l.at; live = l.live; seen = l.seen }

@@ -11,7 +11,7 @@ use Rattle.io_commands.specs.Asked.{Request}
 use Rattle.machine_model.specs.After as a
 use Rattle.machine_model.specs.After.{after_reap, change, held}
 use Rattle.machine_model.specs.Events as events
-use Rattle.machine_model.specs.Refusals.{refusal_of, is_gone, seen_entry}
+use Rattle.machine_model.specs.Refusals.{refusal_of, seen_entry, has_cq}
 use Rattle.machine_model.specs.State.{State, HostQueue, DeviceQueue, Record, record_at, with_record}
 use Rattle.machine_model.specs.Step.{reaped, reaped_entry}
 use Rattle.machine_model.specs.declared.words.Reaped.TheVariants as found
@@ -39,7 +39,7 @@ use Rattle.world_tables.proofs.Walks.{walks_after}
 -- The completion that was seen, as it says of its command
 pub record Sees (t : Tables) (q : ℕ) (x : Queue) (e : ComEntry) : Type 0 where
   pub at : slice_get t.queues q ≡ Some x
-  pub live : is_gone x.state ≡ false
+  pub live : has_cq x.state ≡ true
   pub seen : seen_at t q ≡ Some e
 
 -- What the reap answers
@@ -64,7 +64,7 @@ reaped-told s q e h =
     let f = seen-entry (seen_entry s q) e h in
     ap (λ (o : Option ComEntry). option_map_or (reaped_entry s q) o found.Empty) f.1 ∙ ap (reaped_entry s q) f.2
 
-pub reap-none : (t : Tables) (q : ℕ) (x : Queue) → slice_get t.queues q ≡ Some x → is_gone x.state ≡ false → refusal_of (state_of t) (events.Reap q) ≡ None
+pub reap-none : (t : Tables) (q : ℕ) (x : Queue) → slice_get t.queues q ≡ Some x → has_cq x.state ≡ true → refusal_of (state_of t) (events.Reap q) ≡ None
 reap-none t q x at live = rw (slice_get-map host_queue_of t.queues q, at, live) refl
 
 -- Where nothing was forged, the first answer is the entry that was seen

@@ -1,5 +1,5 @@
 -- A reservation on the tables is the machine's, and leaves them whole.
-use Rattle.std.proofs.Common.{◌≡◌, ℕ, ◌<◌, ◌≤◌, ◌==◌, nat_lt, Bool, true, false, ◌&&◌, ◌||◌, Option, Some, None, List, [], ◌∷◌, ◌++◌, length, map, slice_get, slice_set, is_some, is_none, refl, ap, ap₂, sym, ◌∙◌, arith, subst, length-set, if◌then◌else◌}
+use Rattle.std.proofs.Common.{◌≡◌, ℕ, ◌<◌, ◌≤◌, ◌==◌, nat_lt, Bool, true, false, ◌&&◌, ◌||◌, Option, Some, None, List, [], ◌∷◌, ◌++◌, length, map, slice_get, slice_set, is_some, is_none, refl, ap, ap₂, sym, ◌∙◌, arith, subst, length-set, if◌then◌else◌, not}
 use Rattle.std.specs.List.{AllByRecursion}
 use Rattle.std.specs.Option.{option_map, option_map_or}
 use Rattle.std.proofs.lemmas.Bool.{true≢false, or_parts}
@@ -11,7 +11,7 @@ use Rattle.io_commands.specs.Values.{numbers_of}
 use Rattle.io_commands.specs.Asked.{Request}
 use Rattle.machine_model.specs.After.{after_reserve}
 use Rattle.machine_model.specs.Events as events
-use Rattle.machine_model.specs.Refusals.{refusal_of, no_io_queue, in_state, is_deleting, is_retired, is_gone, no_identifier, pages_wanted, host_queue}
+use Rattle.machine_model.specs.Refusals.{refusal_of, no_io_queue, in_state, is_deleting, no_identifier, pages_wanted, has_sq}
 use Rattle.machine_model.specs.State.{State}
 use Rattle.machine_model.specs.Step.{Step, IsReserved, times}
 use Rattle.machine_model.specs.declared.words.Refusal.{Refusal}
@@ -35,6 +35,7 @@ use Rattle.world_tables.proofs.Moved.{Fits, due, surely, moved_leaves, moved_who
 use Rattle.world_tables.proofs.Owners.{free-owner, granted-free}
 use Rattle.world_tables.proofs.Pages.{among-append, pool-without, without-other}
 use Rattle.world_tables.proofs.Spared.{Spares}
+use Rattle.machine_model.proofs.Moves.{queue_known}
 
 -- What is known where a reservation isn't refused
 
@@ -63,10 +64,7 @@ pub queue_there : (t : Tables) (q : ℕ) → no_io_queue (state_of t) q ≡ fals
 queue_there t q known = go (slice_get t.queues q) refl
   where
     there : is_none (slice_get (map host_queue_of t.queues) q) ≡ false
-    there =
-        (or_parts (q == 0) (is_none (host_queue (state_of t) q))
-        (or_parts ((q == 0) || is_none (host_queue (state_of t) q)) (in_state is_retired (state_of t) q)
-        (or_parts ((q == 0) || is_none (host_queue (state_of t) q) || in_state is_retired (state_of t) q) (in_state is_gone (state_of t) q) known).0).0).1
+    there = queue_known has_sq (state_of t) q (or_parts (q == 0) (not (in_state has_sq (state_of t) q)) known).1
 
     go : (o : Option declared.Queue) → slice_get t.queues q ≡ o → (queue : declared.Queue) × (slice_get t.queues q ≡ Some queue)
     go (Some queue) e = (queue, e)

@@ -11,7 +11,7 @@ use Rattle.machine_model.specs.After as a
 use Rattle.machine_model.specs.After.{after_retire, change, lost}
 use Rattle.machine_model.specs.Claims.{OwnsFit}
 use Rattle.machine_model.specs.Events as events
-use Rattle.machine_model.specs.Refusals.{refusal_of, host_queue, in_state, is_deleted, is_gone, is_live, is_submitted, seen_entry}
+use Rattle.machine_model.specs.Refusals.{refusal_of, host_queue, in_state, is_deleted, is_live, is_submitted, seen_entry, has_cq}
 use Rattle.machine_model.specs.State.{State, HostQueue, DeviceQueue, Record, is_at, pages_of}
 use Rattle.machine_model.specs.declared.words.HostState.{HostState}
 use Rattle.machine_model.specs.declared.words.HostState.TheVariants.{Live, Deleting, Retired, Gone}
@@ -44,6 +44,7 @@ use Rattle.world_tables.proofs.Queues.{each-change, map-change, map-same}
 use Rattle.world_tables.proofs.Seen.{all-answers-there, host-at, trusted-seen}
 use Rattle.world_tables.proofs.Settled.{Settled, rings-of, settled-of, settled-with, whole-of}
 use Rattle.world_tables.proofs.Steps.{host_step, sound_after, agree_after, length-change}
+use Rattle.machine_model.proofs.Halves.{sq_with_cq, deleted_has_sq}
 
 -- A queue whose deletion has ended, and at whose head no completion stands
 pub record Retires (t : Tables) (q : ℕ) (x : Queue) : Type 0 where
@@ -51,27 +52,21 @@ pub record Retires (t : Tables) (q : ℕ) (x : Queue) : Type 0 where
   pub deleted : is_deleted x.state ≡ true
   pub drained : seen_at t q ≡ None
 
-deleted-there : (state : HostState) → is_deleted state ≡ true → is_gone state ≡ false
-deleted-there Live h = refl
-deleted-there (Deleting noted) h = refl
-deleted-there Retired h = refl
-deleted-there Gone h = cc
-
-there : (t : Tables) (q : ℕ) (x : Queue) → Retires t q x → is_gone x.state ≡ false
-there t q x r = deleted-there x.state r.deleted
+there : (t : Tables) (q : ℕ) (x : Queue) → Retires t q x → has_cq x.state ≡ true
+there t q x r = sq_with_cq x.state (deleted_has_sq x.state r.deleted)
 
 same-at : (t : Tables) (q : ℕ) (x y : Queue) → Retires t q x → slice_get t.queues q ≡ Some y → x ≡ y
 same-at t q x y r at = some_is (sym r.at ∙ at)
 
 -- The machine's state
 
-host-retired : (x : Queue) → is_gone x.state ≡ false → host_queue_of (with_state Retired x) ≡ a.retired (host_queue_of x)
+host-retired : (x : Queue) → has_cq x.state ≡ true → host_queue_of (with_state Retired x) ≡ a.retired (host_queue_of x)
 host-retired x h = rw h refl
 
 retired-state : (t : Tables) → IsWhole t → (q : ℕ) (x : Queue) → Retires t q x → state_of (retired q t) ≡ after_retire q (state_of t)
 retired-state t w q x r =
     ap (λ (hs : List HostQueue). with_free (free_pages (given_back (is_half q Submission) t.owners)) hs (map (device_queue_of (byte_at t.pages)) (change q (with_state Retired) t.queues)))
-    (map-change host_queue_of (with_state Retired) a.retired q t.queues (λ y at. host-retired y (subst (λ (z : Queue). is_gone z.state ≡ false) (same-at t q x y r at) (there t q x r))))
+    (map-change host_queue_of (with_state Retired) a.retired q t.queues (λ y at. host-retired y (subst (λ (z : Queue). has_cq z.state ≡ true) (same-at t q x y r at) (there t q x r))))
     ∙ (ap (λ (ds : List DeviceQueue). with_free (free_pages (given_back (is_half q Submission) t.owners)) (change q a.retired (map host_queue_of t.queues)) ds)
     (map-same (device_queue_of (byte_at t.pages)) (with_state Retired) q t.queues (λ y at. refl))
     ∙ (ap (λ (free : List ℕ). with_free free (change q a.retired (map host_queue_of t.queues)) (map (device_queue_of (byte_at t.pages)) t.queues))
@@ -180,7 +175,7 @@ all-taken t w on q x r =
     distance_none x.device.entries x.host.ring.head x.device.ring.tail (subst (λ (k : ℕ). x.host.ring.head < k) is.pair.entries is.host_side.head) is.device_side.tail
     (sym (answers_count (byte_at t.pages) x.device.cq x.device.entries x.host.ring.head x.device.ring.tail) ∙ none)
 
-retired-rings : (m : Memory) (q : ℕ) (x : Queue) → is_gone x.state ≡ false → x.host.ring.head ≡ x.device.ring.tail → RingsStand m q x → RingsStand m q (with_state Retired x)
+retired-rings : (m : Memory) (q : ℕ) (x : Queue) → has_cq x.state ≡ true → x.host.ring.head ≡ x.device.ring.tail → RingsStand m q x → RingsStand m q (with_state Retired x)
 retired-rings m q x live drained stands =
     record {
       fetched = stands.fetched;
@@ -202,7 +197,7 @@ completion-kept q = go (q == q)
     go true = refl
     go false = refl
 
-retired-told : (owners : List Owner) (q : ℕ) (x : Queue) → is_gone x.state ≡ false → TellsQueue owners q x → TellsQueue (given_back (is_half q Submission) owners) q (with_state Retired x)
+retired-told : (owners : List Owner) (q : ℕ) (x : Queue) → has_cq x.state ≡ true → TellsQueue owners q x → TellsQueue (given_back (is_half q Submission) owners) q (with_state Retired x)
 retired-told owners q x live told =
     record {
       submission = λ p h. cc;
@@ -217,7 +212,7 @@ retired-told owners q x live told =
 settled-retired : (t : Tables) → IsWhole t → (q : ℕ) (x : Queue) → Retires t q x → Settled (retired q t)
 settled-retired t w q x r =
     let s : Settled t = settled-of t w in
-    let live : (y : Queue) → slice_get t.queues q ≡ Some y → is_gone y.state ≡ false = λ y at. subst (λ (z : Queue). is_gone z.state ≡ false) (same-at t q x y r at) (there t q x r) in
+    let live : (y : Queue) → slice_get t.queues q ≡ Some y → has_cq y.state ≡ true = λ y at. subst (λ (z : Queue). has_cq z.state ≡ true) (same-at t q x y r at) (there t q x r) in
     let owners : List Owner = given_back (is_half q Submission) t.owners in
     let f : Queue → Queue = with_state Retired in
     settled-with t owners (change q f t.queues) (map (lost q) t.records) s

@@ -1,9 +1,8 @@
 -- Where nothing was forged: the positions of the controller, as the machine tells them from its lists.
-use Rattle.std.proofs.Common.{◌≡◌, ℕ, zero, suc, ◌+◌, ◌*◌, ◌-◌, ◌/◌, ◌<◌, ◌≤◌, Bool, true, false, ◌||◌, Option, Some, None, IsSome, List, [], ◌∷◌, length, map, slice_get, if◌then◌else◌, refl, ap, sym, ◌∙◌, arith, subst, get_or}
+use Rattle.std.proofs.Common.{◌≡◌, ℕ, zero, suc, ◌+◌, ◌*◌, ◌-◌, ◌/◌, ◌<◌, ◌≤◌, Bool, true, false, Option, Some, None, IsSome, List, [], ◌∷◌, length, map, slice_get, if◌then◌else◌, refl, ap, sym, ◌∙◌, arith, subst, get_or}
 use Rattle.std.specs.Option.{option_map}
-use Rattle.std.proofs.lemmas.Bool.{true≢false}
 use Rattle.admin_commands.specs.Verdicts.{is_absent}
-use Rattle.machine_model.specs.Refusals.{is_retired, is_gone, fetch_slot, post_slot, slot_page}
+use Rattle.machine_model.specs.Refusals.{fetch_slot, post_slot, slot_page, has_cq, has_sq}
 use Rattle.machine_model.specs.State.{State, HostQueue, DeviceQueue}
 use Rattle.page_ledger.specs.Owners.{pages_from}
 use Rattle.page_memory.specs.Memory.{Memory}
@@ -28,13 +27,9 @@ pub record AreRinged (t : Tables) : Type 0 where
   pub queues : AreQueues t.entries t.queues
   pub owners : Tells t.owners t.queues t.records
   pub rings : IsHonest t
-  pub halves : (q : ℕ) (queue : Queue) → slice_get t.queues q ≡ Some queue → is_absent queue.sq ≡ false → (is_retired queue.state || is_gone queue.state) ≡ false
+  pub halves : (q : ℕ) (queue : Queue) → slice_get t.queues q ≡ Some queue → is_absent queue.sq ≡ false → has_sq queue.state ≡ true
   pub submission_in : (q : ℕ) (queue : Queue) → slice_get t.queues q ≡ Some queue → is_absent queue.sq ≡ false → IsIn (byte_at t.pages) queue.device.sq (half_pages queue.device.entries Submission)
-  pub completion_in : (q : ℕ) (queue : Queue) → slice_get t.queues q ≡ Some queue → is_gone queue.state ≡ false → (p : ℕ) → p < half_pages queue.device.entries Completion → IsSome (page_at t.pages (queue.device.cq + p))
-
-pub not_gone : (r g : Bool) → (r || g) ≡ false → g ≡ false
-not_gone true g e = absurd (true≢false e)
-not_gone false g e = e
+  pub completion_in : (q : ℕ) (queue : Queue) → slice_get t.queues q ≡ Some queue → has_cq queue.state ≡ true → (p : ℕ) → p < half_pages queue.device.entries Completion → IsSome (page_at t.pages (queue.device.cq + p))
 
 pub slice_get-map : {A B : Type 0} (f : A → B) (xs : List A) (k : ℕ) (x : A) → slice_get xs k ≡ Some x → slice_get (map f xs) k ≡ Some (f x)
 slice_get-map f [] k x e = cc
@@ -95,10 +90,10 @@ fetch_slot-is t q queue r here there =
     ∙ ap (λ (k : ℕ). moved k queue.host.ring.tail (k - distance queue.device.entries queue.device.ring.head queue.host.ring.tail)) (sym n)
     ∙ sym (head_moved queue.device.entries queue.device.ring.head queue.host.ring.tail is.device_side.head tail)
 
-pub half_in : (t : Tables) (q : ℕ) (queue : Queue) → AreRinged t → slice_get t.queues q ≡ Some queue → is_gone queue.state ≡ false → IsIn (byte_at t.pages) queue.device.cq (half_pages queue.device.entries Completion)
+pub half_in : (t : Tables) (q : ℕ) (queue : Queue) → AreRinged t → slice_get t.queues q ≡ Some queue → has_cq queue.state ≡ true → IsIn (byte_at t.pages) queue.device.cq (half_pages queue.device.entries Completion)
 half_in t q queue r here lives = pages_in t.pages queue.device.cq (half_pages queue.device.entries Completion) r.pool.whole (r.completion_in q queue here lives)
 
-pub post_slot-is : (t : Tables) (q : ℕ) (queue : Queue) → AreRinged t → slice_get t.queues q ≡ Some queue → is_gone queue.state ≡ false → post_slot (state_of t) q ≡ queue.device.ring.tail
+pub post_slot-is : (t : Tables) (q : ℕ) (queue : Queue) → AreRinged t → slice_get t.queues q ≡ Some queue → has_cq queue.state ≡ true → post_slot (state_of t) q ≡ queue.device.ring.tail
 post_slot-is t q queue r here lives =
     let is = r.queues.each q queue here in
     let n : queue.device.entries ≡ t.entries = sym is.pair.entries ∙ is.entries in

@@ -5,7 +5,7 @@ use Rattle.std.specs.Option.{option_map, option_and_then}
 use Rattle.std.proofs.lemmas.Option.{slice_get-map}
 use Rattle.entry_codec.specs.Completion.{completion_of}
 use Rattle.entry_codec.specs.declared.completion.ComEntry.{ComEntry}
-use Rattle.machine_model.specs.Refusals.{device_queue, host_queue, entry_of, first_answer, is_gone, seen_entry, slot_bytes, slot_entry, slot_offset, slot_page}
+use Rattle.machine_model.specs.Refusals.{device_queue, host_queue, entry_of, first_answer, seen_entry, slot_bytes, slot_entry, slot_offset, slot_page, has_cq}
 use Rattle.machine_model.specs.State.{HostQueue, DeviceQueue}
 use Rattle.page_ledger.specs.Owners.{pages_from}
 use Rattle.page_memory.specs.Memory.{Memory, bytes_at}
@@ -26,6 +26,7 @@ use Rattle.world_tables.specs.Rows.{Queue}
 use Rattle.world_tables.proofs.Forging.{completion-fits, completion-offset, completion-page, slot-in, place-parts}
 use Rattle.world_tables.proofs.Queues.{answers-there, completion-in, queue-at}
 use Rattle.world_tables.proofs.Spared.{honest_of}
+use Rattle.std.proofs.lemmas.Bool.{not-false}
 
 -- A completion as it says of its command: its phase left aside.
 abbrev told : Option ComEntry → Option ComEntry
@@ -51,7 +52,7 @@ host-at t q x at = slice_get-map host_queue_of t.queues q ∙ ap (option_map hos
 head-inside : (n q : ℕ) (x : Queue) → IsQueue n q x → x.host.ring.head < x.device.entries
 head-inside n q x is = subst (λ (k : ℕ). x.host.ring.head < k) is.pair.entries is.host_side.head
 
-pub all-answers-there : (t : Tables) → IsWhole t → (q : ℕ) (x : Queue) → slice_get t.queues q ≡ Some x → is_gone x.state ≡ false → AllByRecursion IsSome (answers (byte_at t.pages) x.host x.device)
+pub all-answers-there : (t : Tables) → IsWhole t → (q : ℕ) (x : Queue) → slice_get t.queues q ≡ Some x → has_cq x.state ≡ true → AllByRecursion IsSome (answers (byte_at t.pages) x.host x.device)
 all-answers-there t w q x at live =
     let is = w.queues.each q x at in
     answers-there (byte_at t.pages) x.device.cq x.device.entries x.host.ring.head x.device.ring.tail
@@ -59,7 +60,7 @@ all-answers-there t w q x at live =
     (subst (λ (p : ℕ). IsIn (byte_at t.pages) p (half_pages x.host.entries Completion)) is.pair.cq (completion-in t w q x at live)))
     (head-inside t.entries q x is)
 
-pub trusted-seen : (t : Tables) → IsWhole t → t.trusted ≡ true → (q : ℕ) (x : Queue) → slice_get t.queues q ≡ Some x → is_gone x.state ≡ false
+pub trusted-seen : (t : Tables) → IsWhole t → t.trusted ≡ true → (q : ℕ) (x : Queue) → slice_get t.queues q ≡ Some x → has_cq x.state ≡ true
     → told (front (answers (byte_at t.pages) x.host x.device)) ≡ told (seen_entry (state_of t) q)
 trusted-seen t w on q x at live =
     let stands = (honest_of t w on).rings q x at in
@@ -81,7 +82,7 @@ then-map : {X Y Z : Type 0} (f : Y → Option Z) (g : X → Y) (o : Option X) �
 then-map f g None = refl
 then-map f g (Some x) = refl
 
-slot-seen : (t : Tables) → IsWhole t → (q : ℕ) (x : Queue) → slice_get t.queues q ≡ Some x → is_gone x.state ≡ false
+slot-seen : (t : Tables) → IsWhole t → (q : ℕ) (x : Queue) → slice_get t.queues q ≡ Some x → has_cq x.state ≡ true
     → slot_bytes t.pages (cq_pages_of x) 16 x.host.ring.head ≡ completion_slot (byte_at t.pages) x.host.cq x.host.ring.head
 slot-seen t w q x at live =
     let is = w.queues.each q x at in
@@ -96,7 +97,7 @@ slot-seen t w q x at live =
     ∙ (slot-read t.pages (place / 4096) (place % 4096) inside (completion-fits x.host.cq x.host.ring.head) w.pool
     ∙ ap (λ (p : ℕ). bytes_at (byte_at t.pages) p 16) (place-parts place)))
 
-untrusted-seen : (t : Tables) → IsWhole t → t.trusted ≡ false → (q : ℕ) (x : Queue) → slice_get t.queues q ≡ Some x → is_gone x.state ≡ false
+untrusted-seen : (t : Tables) → IsWhole t → t.trusted ≡ false → (q : ℕ) (x : Queue) → slice_get t.queues q ≡ Some x → has_cq x.state ≡ true
     → new_completion_at (byte_at t.pages) x.host.cq x.host.ring.head x.host.ring.phase ≡ seen_entry (state_of t) q
 untrusted-seen t w off q x at live =
     sym (then-map (with_phase x.host.ring.phase) completion_of (completion_slot (byte_at t.pages) x.host.cq x.host.ring.head))
@@ -105,7 +106,7 @@ untrusted-seen t w off q x at live =
     ∙ ap (λ (b : Bool). if b then option_map (entry_of q) (option_and_then (λ queue. first_answer queue.answers) (device_queue (state_of t) q)) else option_and_then (slot_entry t.pages) (host_queue (state_of t) q)) (sym off)))
 
 -- What is read at the head is what the machine sees there.
-pub seen-told : (t : Tables) → IsWhole t → (q : ℕ) (x : Queue) → slice_get t.queues q ≡ Some x → is_gone x.state ≡ false → (r : Option ComEntry)
+pub seen-told : (t : Tables) → IsWhole t → (q : ℕ) (x : Queue) → slice_get t.queues q ≡ Some x → has_cq x.state ≡ true → (r : Option ComEntry)
     → r ≡ new_completion_at (byte_at t.pages) x.host.cq x.host.ring.head x.host.ring.phase
     → ((device : DeviceSide) → IsPair x.host device → IsDeviceSide device → HasPhases (byte_at t.pages) device → AreTied x.host device → r ≡ front (answers (byte_at t.pages) x.host device))
     → option_map (phased true) r ≡ option_map (phased true) (seen_entry (state_of t) q)
@@ -128,8 +129,8 @@ completion-inside (x ∷ xs) (suc q) h = omega (arith, completion-inside xs q h)
 completion-at : (t : Tables) (q i : ℕ) (x : Queue) → lacks_completion (slice_get t.queues q) ≡ false → i ≡ q → x ≡ get_or t.queues i x → slice_get t.queues q ≡ Some x
 completion-at t q i x there e at = queue-at t q i x (completion-inside t.queues q there) e at
 
-completion-live : (t : Tables) (q : ℕ) (x : Queue) → lacks_completion (slice_get t.queues q) ≡ false → slice_get t.queues q ≡ Some x → is_gone x.state ≡ false
-completion-live t q x there at = subst (λ (o : Option Queue). lacks_completion o ≡ false) at there
+completion-live : (t : Tables) (q : ℕ) (x : Queue) → lacks_completion (slice_get t.queues q) ≡ false → slice_get t.queues q ≡ Some x → has_cq x.state ≡ true
+completion-live t q x there at = not-false _ (subst (λ (o : Option Queue). lacks_completion o ≡ false) at there)
 
 pub see-there : (t : Tables) → IsWhole t → (seen : Pages) (q i : ℕ) (x : Queue) → lacks_completion (slice_get t.queues q) ≡ false → i ≡ q → x ≡ get_or t.queues i x → byte_at seen ≡ byte_at t.pages
     → IsSome (completion_slot (byte_at seen) x.host.cq x.host.ring.head)

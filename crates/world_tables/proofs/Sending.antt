@@ -1,9 +1,9 @@
 -- An admin command that is sent on the tables is the machine's, and leaves them whole.
-use Rattle.std.proofs.Common.{◌≡◌, ℕ, ◌+◌, ◌<◌, ◌≤◌, ◌/◌, ◌%◌, ◌==◌, ◌||◌, ◌&&◌, ◌++◌, ◌∷◌, [], Bool, true, false, not, Option, Some, None, is_none, List, length, map, slice_get, slice_set, refl, ap, sym, ◌∙◌, subst, arith, length-set}
+use Rattle.std.proofs.Common.{◌≡◌, ℕ, ◌+◌, ◌<◌, ◌≤◌, ◌/◌, ◌%◌, ◌==◌, ◌&&◌, ◌++◌, ◌∷◌, [], Bool, true, false, not, Option, Some, None, List, length, map, slice_get, slice_set, refl, ap, sym, ◌∙◌, subst, arith, length-set}
 use Rattle.std.specs.Bool.{OnTrue}
 use Rattle.std.specs.List.{AllByRecursion}
 use Rattle.std.specs.Option.{option_map, option_map_or}
-use Rattle.std.proofs.lemmas.Bool.{or_parts}
+use Rattle.std.proofs.lemmas.Bool.{or_parts, not-false}
 use Rattle.std.proofs.lemmas.List.{length-map}
 use Rattle.std.proofs.lemmas.Option.{slice_get-map}
 use Rattle.admin_commands.specs.Entries.{admin_entry}
@@ -18,10 +18,9 @@ use Rattle.machine_model.specs.After.{change}
 use Rattle.machine_model.specs.Events as events
 use Rattle.machine_model.specs.Memory.{memory_of}
 use Rattle.machine_model.specs.Proper.{IsProper}
-use Rattle.machine_model.specs.Refusals.{host_queue, in_state, is_deleting, is_gone, is_retired, no_identifier, no_io_queue, queue_full, refusal_of}
+use Rattle.machine_model.specs.Refusals.{in_state, is_deleting, no_identifier, no_io_queue, queue_full, refusal_of, has_sq}
 use Rattle.machine_model.specs.State.{Device, DeviceQueue, HostQueue, State}
 use Rattle.machine_model.specs.Step.{Answers, IsController, IsNewIdentifier, KeepsDevice, Step, forges}
-use Rattle.machine_model.specs.declared.words.HostState.{HostState}
 use Rattle.machine_model.specs.declared.words.HostState.TheVariants.{Deleting}
 use Rattle.machine_model.specs.declared.words.Refusal.TheVariants as refusal
 use Rattle.machine_model.proofs.Refused.{first_fails}
@@ -42,11 +41,11 @@ use Rattle.world_tables.proofs.Identifiers.{claim-more}
 use Rattle.world_tables.proofs.Lists.{all-append, map-change}
 use Rattle.world_tables.proofs.Living.{admin_live, admin_there}
 use Rattle.world_tables.proofs.Queues.{each-change, submission_page-in}
-use Rattle.world_tables.proofs.Settled.{HasBoth, Settled, rings-of, settled-of, settled-state, settled-with, whole-of}
+use Rattle.world_tables.proofs.Settled.{Settled, rings-of, settled-of, settled-state, settled-with, whole-of}
 use Rattle.world_tables.proofs.Spared.{claims_keep_queue, claims_keep_rings, claims_keep_tells, each_claimed, linked_of, present_kept}
 use Rattle.world_tables.proofs.Steps.{agree_after, length-change, on_true, open_step, sound_after}
-use Rattle.world_tables.proofs.Submitted.{live-kept}
 use Rattle.world_tables.proofs.Walks.{walks_after}
+use Rattle.machine_model.proofs.Halves.{live_has_sq}
 
 -- The first of a list, and a change of it
 
@@ -107,7 +106,7 @@ pub can-send : (t : Tables) (kind : AdminKind) (cid : ℕ) → IsWhole t → (ca
     → CanPost (noted kind cid t) 0 (with_claim cid can.queue) (admin_entry kind cid)
 can-send t kind cid w can is =
     let s = settled-noted t kind cid w can in
-    let kept = live-kept can.queue.state (admin_live t w can.queue can.at) in
+    let kept = live_has_sq can.queue.state (admin_live t w can.queue can.at) in
     record {
       at = first-changed (with_claim cid) t.queues can.queue can.at;
       kept = kept;
@@ -124,7 +123,7 @@ ringed : (t : Tables) (kind : AdminKind) (cid : ℕ) → IsWhole t → t.trusted
 ringed t kind cid w on can =
     record {
       rings = rings-of (noted kind cid t) (settled-noted t kind cid w can) on;
-      halves = each_claimed (λ (k : ℕ) (y : Queue). is_absent y.sq ≡ false → (is_retired y.state || is_gone y.state) ≡ false) (more cid) (λ k y h. h) 0 t.queues
+      halves = each_claimed (λ (k : ℕ) (y : Queue). is_absent y.sq ≡ false → has_sq y.state ≡ true) (more cid) (λ k y h. h) 0 t.queues
           (λ k y at there. present_kept t w (linked_of t w on) k y at there);
     }
 
@@ -178,36 +177,30 @@ sent-exact t kind cid w can is on =
 
 -- The queue that it names
 
--- what a command leans on: a queue that it deletes has both halves
+-- what a command leans on: a queue that it deletes has its submission half
 abbrev AsksOf : AdminKind → Tables → Type 0
 AsksOf (Abort q cid) u = Unit {0}
-AsksOf (DeleteSq q) u = (x : Queue) → slice_get u.queues q ≡ Some x → HasBoth x.state
+AsksOf (DeleteSq q) u = (x : Queue) → slice_get u.queues q ≡ Some x → has_sq x.state ≡ true
 AsksOf (DeleteCq q) u = Unit {0}
 
-has-both : (t : Tables) (q : ℕ) → refusal_of (state_of t) (events.DeleteSq q) ≡ None → (x : Queue) → slice_get t.queues q ≡ Some x → HasBoth x.state
-has-both t q none x at = record { retired = at_state is_retired (or_parts ((q == 0) || is_none (host_queue s q)) (in_state is_retired s q) both.0).1; gone = at_state is_gone both.1 }
+has-half : (t : Tables) (q : ℕ) → refusal_of (state_of t) (events.DeleteSq q) ≡ None → (x : Queue) → slice_get t.queues q ≡ Some x → has_sq x.state ≡ true
+has-half t q none x at =
+    sym (ap (λ (o : Option HostQueue). option_map_or (λ (queue : HostQueue). has_sq queue.state) o false) (slice_get-map host_queue_of t.queues q ∙ ap (option_map host_queue_of) at))
+    ∙ not-false _ (or_parts (q == 0) (not (in_state has_sq s q))
+    (first_fails (no_io_queue s q) refusal.NoQueue ((in_state is_deleting s q, refusal.WrongState) ∷ (no_identifier s 0, refusal.NoIdentifier) ∷ (queue_full s 0, refusal.QueueFull) ∷ []) none)).1
   where
     s : State
     s = state_of t
-
-    both : (((q == 0) || is_none (host_queue s q) || in_state is_retired s q) ≡ false) × (in_state is_gone s q ≡ false)
-    both =
-        or_parts ((q == 0) || is_none (host_queue s q) || in_state is_retired s q) (in_state is_gone s q)
-        (first_fails (no_io_queue s q) refusal.NoQueue ((in_state is_deleting s q, refusal.WrongState) ∷ (no_identifier s 0, refusal.NoIdentifier) ∷ (queue_full s 0, refusal.QueueFull) ∷ []) none)
-
-    at_state : (test : HostState → Bool) → in_state test s q ≡ false → test x.state ≡ false
-    at_state test h =
-        sym (ap (λ (o : Option HostQueue). option_map_or (λ (queue : HostQueue). test queue.state) o false) (slice_get-map host_queue_of t.queues q ∙ ap (option_map host_queue_of) at)) ∙ h
 
 -- the state of a queue stays with other claims, and with another tail
 asks-sent : (t : Tables) (kind : AdminKind) (cid : ℕ) (x : Queue) → refusal_of (state_of t) (sending kind) ≡ None → AsksOf kind (sent kind cid x t)
 asks-sent t (Abort q c) cid x none = tt
 asks-sent t (DeleteSq q) cid x none =
-    λ y at. each-change (λ (k : ℕ) (z : Queue). q ≡ k → HasBoth z.state) 0 with_tail_moved (change 0 (with_claim cid) t.queues) (λ k z _ at'. claimed k z at') (λ z at'. claimed 0 z at') q y at refl
+    λ y at. each-change (λ (k : ℕ) (z : Queue). q ≡ k → has_sq z.state ≡ true) 0 with_tail_moved (change 0 (with_claim cid) t.queues) (λ k z _ at'. claimed k z at') (λ z at'. claimed 0 z at') q y at refl
   where
-    claimed : (k : ℕ) (z : Queue) → slice_get (change 0 (with_claim cid) t.queues) k ≡ Some z → q ≡ k → HasBoth z.state
-    claimed = each_claimed (λ (k : ℕ) (z : Queue). q ≡ k → HasBoth z.state) (more cid) (λ k z h. h) 0 t.queues
-        (λ k z at same. has-both t q none z (subst (λ (i : ℕ). slice_get t.queues i ≡ Some z) (sym same) at))
+    claimed : (k : ℕ) (z : Queue) → slice_get (change 0 (with_claim cid) t.queues) k ≡ Some z → q ≡ k → has_sq z.state ≡ true
+    claimed = each_claimed (λ (k : ℕ) (z : Queue). q ≡ k → has_sq z.state ≡ true) (more cid) (λ k z h. h) 0 t.queues
+        (λ k z at same. has-half t q none z (subst (λ (i : ℕ). slice_get t.queues i ≡ Some z) (sym same) at))
 asks-sent t (DeleteCq q) cid x none = tt
 
 asked_in : AdminKind → State → State
@@ -218,7 +211,7 @@ asked_in (DeleteCq q) s = s
 asked-state : (u : Tables) (kind : AdminKind) → AsksOf kind u → state_of (asked kind u) ≡ asked_in kind (state_of u)
 unfolding asked_in
 asked-state u (Abort q cid) h = refl
-asked-state u (DeleteSq q) h = state-set u q (Deleting false) (record { retired = refl; gone = refl }) h
+asked-state u (DeleteSq q) h = state-set u q (Deleting false) (refl) h
 asked-state u (DeleteCq q) h = refl
 
 asked-device : (kind : AdminKind) (d : Device) (s : State) → asked_in kind (with_device d s) ≡ with_device d (asked_in kind s)
@@ -229,7 +222,7 @@ asked-device (DeleteCq q) d s = refl
 
 settled-asked : (u : Tables) (kind : AdminKind) → Settled u → AsksOf kind u → Settled (asked kind u)
 settled-asked u (Abort q cid) s h = s
-settled-asked u (DeleteSq q) s h = settled-state u q (Deleting false) s (record { retired = refl; gone = refl }) h
+settled-asked u (DeleteSq q) s h = settled-state u q (Deleting false) s (refl) h
 settled-asked u (DeleteCq q) s h = s
 
 -- The machine's step

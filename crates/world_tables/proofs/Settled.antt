@@ -1,5 +1,5 @@
 -- What holds of the tables by themselves: what the machine's laws say of their state is left aside.
-use Rattle.std.proofs.Common.{◌≡◌, ◌≢◌, ℕ, ◌≤◌, ◌||◌, Bool, true, false, Some, List, [], length, slice_get, refl, sym, ◌∙◌, subst}
+use Rattle.std.proofs.Common.{◌≡◌, ◌≢◌, ℕ, ◌≤◌, true, false, Some, List, [], length, slice_get, refl, sym, ◌∙◌, subst}
 use Rattle.std.specs.Bool.{OnTrue}
 use Rattle.std.specs.List.{AllByRecursion}
 use Rattle.std.proofs.lemmas.Bool.{OnTrue_at}
@@ -8,7 +8,7 @@ use Rattle.machine_model.specs.After.{change}
 use Rattle.machine_model.specs.Claims.{IsSound}
 use Rattle.machine_model.specs.Agreeing.{SidesAgree}
 use Rattle.machine_model.specs.Memory.{memory_of}
-use Rattle.machine_model.specs.Refusals.{is_retired, is_gone}
+use Rattle.machine_model.specs.Refusals.{is_retired, has_sq}
 use Rattle.machine_model.specs.State.{Record}
 use Rattle.machine_model.specs.declared.words.HostState.{HostState}
 use Rattle.machine_model.specs.declared.words.HostState.TheVariants.{Gone}
@@ -23,6 +23,7 @@ use Rattle.world_tables.specs.Whole.{IsWhole, IsHonest, IsQueue, IsRecord, AreQu
 use Rattle.world_tables.specs.Rows.{Queue}
 use Rattle.world_tables.proofs.Queues.{each-change}
 use Rattle.world_tables.proofs.Steps.{length-change, on_true}
+use Rattle.machine_model.proofs.Halves.{retired_has_no_sq, sq_with_cq}
 
 pub record Settled (t : Tables) : Type 0 where
   pub pool : IsPool t.pages
@@ -122,48 +123,36 @@ rings-of t s on = let h : IsHonest t = OnTrue_at on s.honest in h.rings
 
 -- A queue whose halves stay as they are given
 
-is-true : (a b : Bool) → a ≡ true → (a || b) ≡ true
-is-true true b h = refl
-is-true false b h = cc
+pub sq-kept : (state : HostState) (x : Queue) → has_sq state ≡ true → has_sq x.state ≡ true → sq_pages_of (with_state state x) ≡ sq_pages_of x
+sq-kept state x new old = rw (new, old) refl
 
-neither : (a b : Bool) → a ≡ false → b ≡ false → (a || b) ≡ false
-neither true b h g = h
-neither false b h g = g
+pub cq-kept : (state : HostState) (x : Queue) → has_sq state ≡ true → has_sq x.state ≡ true → cq_pages_of (with_state state x) ≡ cq_pages_of x
+cq-kept state x new old = rw (sq_with_cq state new, sq_with_cq x.state old) refl
 
-pub record HasBoth (state : HostState) : Type 0 where
-  pub retired : is_retired state ≡ false
-  pub gone : is_gone state ≡ false
-
-pub sq-kept : (state : HostState) (x : Queue) → HasBoth state → HasBoth x.state → sq_pages_of (with_state state x) ≡ sq_pages_of x
-sq-kept state x new old = rw (new.retired, new.gone, old.retired, old.gone) refl
-
-pub cq-kept : (state : HostState) (x : Queue) → HasBoth state → HasBoth x.state → cq_pages_of (with_state state x) ≡ cq_pages_of x
-cq-kept state x new old = rw (new.gone, old.gone) refl
-
-told-kept : (owners : List Owner) (k : ℕ) (state : HostState) (x : Queue) → HasBoth state → HasBoth x.state → TellsQueue owners k x → TellsQueue owners k (with_state state x)
+told-kept : (owners : List Owner) (k : ℕ) (state : HostState) (x : Queue) → has_sq state ≡ true → has_sq x.state ≡ true → TellsQueue owners k x → TellsQueue owners k (with_state state x)
 told-kept owners k state x new old told =
     record {
       submission = subst (λ (ps : List ℕ). HaveOwner owners (owner.Queue k Submission) ps) (sym (sq-kept state x new old)) told.submission;
       completion = subst (λ (ps : List ℕ). HaveOwner owners (owner.Queue k Completion) ps) (sym (cq-kept state x new old)) told.completion;
     }
 
-rings-kept : (m : Memory) (k : ℕ) (state : HostState) (x : Queue) → HasBoth state → HasBoth x.state → RingsStand m k x → RingsStand m k (with_state state x)
+rings-kept : (m : Memory) (k : ℕ) (state : HostState) (x : Queue) → has_sq state ≡ true → has_sq x.state ≡ true → RingsStand m k x → RingsStand m k (with_state state x)
 rings-kept m k state x new old stands =
     record {
       fetched = stands.fetched;
       rung = stands.rung;
       heard = stands.heard;
       tied = stands.tied;
-      phases = λ h. stands.phases old.gone;
-      owned = λ h. stands.owned old.gone;
-      follow = λ h. stands.follow old.gone;
-      drained = λ h. let no : false ≡ true = sym (neither (is_retired state) (is_gone state) new.retired new.gone) ∙ h in cc;
+      phases = λ h. stands.phases (sq_with_cq x.state old);
+      owned = λ h. stands.owned (sq_with_cq x.state old);
+      follow = λ h. stands.follow (sq_with_cq x.state old);
+      drained = λ h. let no : true ≡ false = sym new ∙ h in cc;
     }
 
 is-queue : (n k : ℕ) (state : HostState) (x : Queue) → IsQueue n k x → IsQueue n k (with_state state x)
 is-queue n k state x is = record { number = is.number; entries = is.entries; pair = is.pair; host_side = is.host_side; device_side = is.device_side }
 
-pub settled-state : (t : Tables) (k : ℕ) (state : HostState) → Settled t → HasBoth state → ((x : Queue) → slice_get t.queues k ≡ Some x → HasBoth x.state)
+pub settled-state : (t : Tables) (k : ℕ) (state : HostState) → Settled t → has_sq state ≡ true → ((x : Queue) → slice_get t.queues k ≡ Some x → has_sq x.state ≡ true)
     → Settled (record t { queues = change k (with_state state) t.queues })
 settled-state t k state s new old =
     settled-with t t.owners (change k (with_state state) t.queues) t.records s
@@ -198,7 +187,7 @@ gone-rings m k x retired stands =
       phases = λ h. cc;
       owned = λ h. cc;
       follow = λ h. cc;
-      drained = λ h. stands.drained (is-true (is_retired x.state) (is_gone x.state) retired);
+      drained = λ h. stands.drained (retired_has_no_sq x.state retired);
     }
 
 pub settled-gone : (t : Tables) (k : ℕ) (owners : List Owner) → Settled t → length owners ≡ length t.owners → ((x : Queue) → slice_get t.queues k ≡ Some x → is_retired x.state ≡ true)

@@ -4,7 +4,7 @@ use Rattle.std.specs.List.{AllByRecursion}
 use Rattle.std.proofs.lemmas.Bool.{cases_lt}
 use Rattle.admin_commands.specs.Verdicts.{is_absent}
 use Rattle.entry_codec.specs.declared.completion.ComEntry.{ComEntry}
-use Rattle.machine_model.specs.Refusals.{is_retired, is_gone}
+use Rattle.machine_model.specs.Refusals.{has_cq}
 use Rattle.page_ledger.specs.Owners.{is_among, pages_from}
 use Rattle.page_ledger.specs.declared.owner.Owner.{Owner}
 use Rattle.page_memory.specs.Memory.{Memory}
@@ -18,11 +18,12 @@ use Rattle.queue_pair.proofs.Lists.{answers_none}
 use Rattle.world_tables.specs.Tables.{present, unfetched_of, device_queue_of}
 use Rattle.world_tables.specs.Whole.{IsQueue, RingsStand, HaveOwner, HeadsFollow}
 use Rattle.world_tables.specs.Rows.{Queue}
+use Rattle.machine_model.proofs.Halves.{no_cq_no_sq}
 
 -- the memories agree on the halves that a queue is seen by
 pub record AgreeAt (m m' : Memory) (queue : Queue) : Type 0 where
   pub submission : is_absent queue.sq ≡ false → Agree m m' queue.device.sq (half_pages queue.device.entries Submission)
-  pub completion : is_gone queue.state ≡ false → Agree m m' queue.device.cq (half_pages queue.device.entries Completion)
+  pub completion : has_cq queue.state ≡ true → Agree m m' queue.device.cq (half_pages queue.device.entries Completion)
 
 pub unfetched_alike : (m m' : Memory) (queue : Queue) → IsDeviceSide queue.device → (is_absent queue.sq ≡ false → Agree m m' queue.device.sq (half_pages queue.device.entries Submission)) → unfetched_of m' queue ≡ unfetched_of m queue
 unfetched_alike m m' queue side agree = go (is_absent queue.sq) refl
@@ -35,18 +36,14 @@ no_answers : (m : Memory) (queue : Queue) → queue.host.ring.head ≡ queue.dev
 no_answers m queue e =
     ap (λ (x : ℕ). answers_between m queue.device.cq queue.device.entries x queue.device.ring.tail) e ∙ answers_none m queue.device.cq queue.device.entries queue.device.ring.tail
 
-gone_is_over : (r g : Bool) → g ≡ true → (r || g) ≡ true
-gone_is_over true g e = refl
-gone_is_over false g e = e
-
 pub answers_alike : (m m' : Memory) (n q : ℕ) (queue : Queue) → IsQueue n q queue → RingsStand m q queue → AgreeAt m m' queue → answers m' queue.host queue.device ≡ answers m queue.host queue.device
-answers_alike m m' n q queue is stand agree = go (is_gone queue.state) refl
+answers_alike m m' n q queue is stand agree = go (has_cq queue.state) refl
   where
-    go : (b : Bool) → is_gone queue.state ≡ b → answers m' queue.host queue.device ≡ answers m queue.host queue.device
-    go true e =
-        let drained = stand.drained (gone_is_over (is_retired queue.state) (is_gone queue.state) e) in
-        no_answers m' queue drained ∙ sym (no_answers m queue drained)
+    go : (b : Bool) → has_cq queue.state ≡ b → answers m' queue.host queue.device ≡ answers m queue.host queue.device
     go false e =
+        let drained = stand.drained (no_cq_no_sq queue.state e) in
+        no_answers m' queue drained ∙ sym (no_answers m queue drained)
+    go true e =
         let inside : queue.host.ring.head < queue.device.entries = subst (λ (k : ℕ). queue.host.ring.head < k) is.pair.entries is.host_side.head in
         sym (answers_agree m m' queue.device.cq queue.device.entries queue.host.ring.head queue.device.ring.tail (agree.completion e) inside)
 

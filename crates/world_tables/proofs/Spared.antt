@@ -1,5 +1,5 @@
 -- Calls that leave the queues' halves alone: neither the machine's queues nor what holds of the rings changes.
-use Rattle.std.proofs.Common.{◌≡◌, ℕ, ◌+◌, ◌<◌, inl, inr, Bool, true, false, ◌||◌, Some, List, [], length, map, slice_get, refl, ap, ap₂, sym, ◌∙◌, arith, subst, if◌then◌else◌}
+use Rattle.std.proofs.Common.{◌≡◌, ℕ, ◌+◌, ◌<◌, inl, inr, Bool, true, false, Some, List, [], length, map, slice_get, refl, ap, ap₂, sym, ◌∙◌, arith, subst, if◌then◌else◌}
 use Rattle.std.specs.List.{AllByRecursion}
 use Rattle.std.specs.Option.{option_map, option_map_or}
 use Rattle.std.proofs.lemmas.Bool.{OnTrue_at}
@@ -8,7 +8,7 @@ use Rattle.admin_commands.specs.Verdicts.{is_absent}
 use Rattle.entry_codec.specs.declared.completion.ComEntry.{ComEntry}
 use Rattle.machine_model.specs.After.{change}
 use Rattle.machine_model.specs.Linked.{IsLinked, absent}
-use Rattle.machine_model.specs.Refusals.{is_retired, is_gone}
+use Rattle.machine_model.specs.Refusals.{has_cq, has_sq}
 use Rattle.machine_model.proofs.Agreed.{agreed_linked}
 use Rattle.page_ledger.specs.Owners.{is_among, owner_at, pages_from}
 use Rattle.page_ledger.specs.declared.owner.Owner.{Owner}
@@ -29,6 +29,7 @@ use Rattle.world_tables.specs.Whole.{IsQueue, TellsQueue, RingsStand, IsHonest, 
 use Rattle.world_tables.specs.Rows.{Queue}
 use Rattle.world_tables.proofs.Lists.{map-agree, changed_at, Changed}
 use Rattle.world_tables.proofs.Pages.{among-from}
+use Rattle.machine_model.proofs.Halves.{no_cq_no_sq}
 
 -- The pages of the queues' halves are the same in another pool.
 pub record Spares (t : Tables) (pages : Pages) : Type 0 where
@@ -44,23 +45,23 @@ linked_of t whole e = agreed_linked (state_of t) (OnTrue_at e whole.agree)
 
 -- Halves
 
-given : (queue : Queue) → is_gone queue.state ≡ false → cq_pages_of queue ≡ pages_from queue.host.cq (half_pages queue.host.entries Completion)
+given : (queue : Queue) → has_cq queue.state ≡ true → cq_pages_of queue ≡ pages_from queue.host.cq (half_pages queue.host.entries Completion)
 given queue e = rw e refl
 
-kept : (queue : Queue) → (is_retired queue.state || is_gone queue.state) ≡ false → sq_pages_of queue ≡ pages_from queue.host.sq (half_pages queue.host.entries Submission)
+kept : (queue : Queue) → has_sq queue.state ≡ true → sq_pages_of queue ≡ pages_from queue.host.sq (half_pages queue.host.entries Submission)
 kept queue e = rw e refl
 
-no_pages : (queue : Queue) → (is_retired queue.state || is_gone queue.state) ≡ true → sq_pages_of queue ≡ []
+no_pages : (queue : Queue) → has_sq queue.state ≡ false → sq_pages_of queue ≡ []
 no_pages queue e = rw e refl
 
-pub sq_agrees : (t : Tables) (pages : Pages) → Spares t pages → (q : ℕ) (queue : Queue) → TellsQueue t.owners q queue → (is_retired queue.state || is_gone queue.state) ≡ false
+pub sq_agrees : (t : Tables) (pages : Pages) → Spares t pages → (q : ℕ) (queue : Queue) → TellsQueue t.owners q queue → has_sq queue.state ≡ true
     → Agree (byte_at pages) (byte_at t.pages) queue.host.sq (half_pages queue.host.entries Submission)
 sq_agrees t pages spares q queue tells e =
     pages_agree pages t.pages queue.host.sq (half_pages queue.host.entries Submission)
     (λ p l. spares.same q Submission (queue.host.sq + p)
     (tells.submission (queue.host.sq + p) (ap (λ (ps : List ℕ). is_among ps (queue.host.sq + p)) (kept queue e) ∙ among-from queue.host.sq (half_pages queue.host.entries Submission) p l)))
 
-pub cq_agrees : (t : Tables) (pages : Pages) → Spares t pages → (q : ℕ) (queue : Queue) → TellsQueue t.owners q queue → is_gone queue.state ≡ false
+pub cq_agrees : (t : Tables) (pages : Pages) → Spares t pages → (q : ℕ) (queue : Queue) → TellsQueue t.owners q queue → has_cq queue.state ≡ true
     → Agree (byte_at pages) (byte_at t.pages) queue.host.cq (half_pages queue.host.entries Completion)
 cq_agrees t pages spares q queue tells e =
     pages_agree pages t.pages queue.host.cq (half_pages queue.host.entries Completion)
@@ -95,25 +96,21 @@ no_answers : (m : Memory) (queue : Queue) → queue.host.ring.head ≡ queue.dev
 no_answers m queue e =
     subst (λ (k : ℕ). answers_between m queue.device.cq queue.device.entries queue.host.ring.head k ≡ []) e (answers_none m queue.device.cq queue.device.entries queue.host.ring.head)
 
-or_right : (a b : Bool) → b ≡ true → (a || b) ≡ true
-or_right true b e = refl
-or_right false b e = e
-
 -- the answers of each queue are the same
 pub answers_stay : (t : Tables) (pages : Pages) → Spares t pages → (q : ℕ) (queue : Queue) → IsQueue t.entries q queue → TellsQueue t.owners q queue → RingsStand (byte_at t.pages) q queue
     → answers (byte_at pages) queue.host queue.device ≡ answers (byte_at t.pages) queue.host queue.device
-answers_stay t pages spares q queue is tells stands = go (is_gone queue.state) refl
+answers_stay t pages spares q queue is tells stands = go (has_cq queue.state) refl
   where
-    go : (b : Bool) → is_gone queue.state ≡ b → answers (byte_at pages) queue.host queue.device ≡ answers (byte_at t.pages) queue.host queue.device
-    go true e =
-        let empty = stands.drained (or_right (is_retired queue.state) (is_gone queue.state) e) in
+    go : (b : Bool) → has_cq queue.state ≡ b → answers (byte_at pages) queue.host queue.device ≡ answers (byte_at t.pages) queue.host queue.device
+    go false e =
+        let empty = stands.drained (no_cq_no_sq queue.state e) in
         no_answers (byte_at pages) queue empty ∙ sym (no_answers (byte_at t.pages) queue empty)
-    go false e = answers_same (byte_at pages) (byte_at t.pages) t.entries q queue is (cq_agrees t pages spares q queue tells e)
+    go true e = answers_same (byte_at pages) (byte_at t.pages) t.entries q queue is (cq_agrees t pages spares q queue tells e)
 
--- a queue of which the controller has the submission side is neither retired nor gone
+-- a queue of which the controller has the submission side has its submission half
 pub present_kept : (t : Tables) → IsWhole t → IsLinked (state_of t) → (q : ℕ) (queue : Queue) → slice_get t.queues q ≡ Some queue → is_absent queue.sq ≡ false
-    → (is_retired queue.state || is_gone queue.state) ≡ false
-present_kept t whole linked q queue at there = go (is_retired queue.state || is_gone queue.state) refl
+    → has_sq queue.state ≡ true
+present_kept t whole linked q queue at there = go (has_sq queue.state) refl
   where
     host_at : slice_get (map host_queue_of t.queues) q ≡ Some (host_queue_of queue)
     host_at = slice_get-map host_queue_of t.queues q ∙ ap (option_map host_queue_of) at
@@ -127,9 +124,9 @@ present_kept t whole linked q queue at there = go (is_retired queue.state || is_
     size : length (sq_pages_of queue) ≡ half_pages t.entries Submission
     size = linked.submission_whole q (host_queue_of queue) host_at has
 
-    go : (b : Bool) → (is_retired queue.state || is_gone queue.state) ≡ b → b ≡ false
-    go false e = refl
-    go true e = absurd (let none = ap length (no_pages queue e) in let least = whole.least_entries in omega (arith, size))
+    go : (b : Bool) → has_sq queue.state ≡ b → b ≡ true
+    go true e = refl
+    go false e = absurd (let none = ap length (no_pages queue e) in let least = whole.least_entries in omega (arith, size))
 
 unfetched_stay : (t : Tables) (pages : Pages) → IsWhole t → IsLinked (state_of t) → Spares t pages → (q : ℕ) (queue : Queue) → slice_get t.queues q ≡ Some queue
     → unfetched_of (byte_at pages) queue ≡ unfetched_of (byte_at t.pages) queue

@@ -1,5 +1,5 @@
 -- A submitted draft on the tables is the machine's, and leaves them whole.
-use Rattle.std.proofs.Common.{◌≡◌, ℕ, ◌+◌, ◌/◌, ◌%◌, ◌<◌, ◌≤◌, ◌||◌, ◌++◌, ◌∷◌, [], Bool, true, false, not, Option, Some, None, IsSome, is_none, List, length, refl, ap, sym, ◌∙◌, subst, length-set}
+use Rattle.std.proofs.Common.{◌≡◌, ℕ, ◌+◌, ◌/◌, ◌%◌, ◌<◌, ◌≤◌, ◌++◌, ◌∷◌, [], Bool, true, false, not, Option, Some, None, IsSome, is_none, List, length, refl, ap, sym, ◌∙◌, subst, length-set}
 use Rattle.std.specs.List.{AllByRecursion}
 use Rattle.std.specs.Option.{option_map_or}
 use Rattle.std.proofs.lemmas.Bool.{true≢false}
@@ -15,10 +15,8 @@ use Rattle.machine_model.specs.After.{change, after_submit}
 use Rattle.machine_model.specs.Events as events
 use Rattle.machine_model.specs.Memory.{with_pages}
 use Rattle.machine_model.specs.Proper.{IsProperDraft}
-use Rattle.machine_model.specs.Refusals.{refusal_of, host_queue, is_drafted, is_of, is_retired, is_gone, is_live, in_state, queue_full, record_is, slot_page, slot_offset}
+use Rattle.machine_model.specs.Refusals.{refusal_of, host_queue, is_drafted, is_of, is_live, in_state, queue_full, record_is, slot_page, slot_offset}
 use Rattle.machine_model.specs.State.{State, Device, HostQueue, DeviceQueue, Record, is_at, pages_of, with_record}
-use Rattle.machine_model.specs.declared.words.HostState.{HostState}
-use Rattle.machine_model.specs.declared.words.HostState.TheVariants.{Live, Deleting, Retired, Gone}
 use Rattle.machine_model.specs.Work.{Work}
 use Rattle.machine_model.specs.declared.words.Work.TheVariants.{Io, Management}
 use Rattle.machine_model.specs.declared.words.Refusal.TheVariants as refusal
@@ -50,12 +48,7 @@ use Rattle.world_tables.proofs.Records.{Marks, marked-claims, marked-records, ma
 use Rattle.world_tables.proofs.Spared.{Spares, device_queues_stay, honest_of, linked_of, present_kept, rings_stay}
 use Rattle.world_tables.proofs.Steps.{open_step, sound_after, agree_after, length-change, on_true}
 use Rattle.world_tables.proofs.Walks.{walks_after}
-
-pub live-kept : (s : HostState) → is_live s ≡ true → (is_retired s || is_gone s) ≡ false
-live-kept Live h = refl
-live-kept (Deleting noted) h = refl
-live-kept Retired h = cc
-live-kept Gone h = cc
+use Rattle.machine_model.proofs.Halves.{live_has_sq}
 
 brings : (t : Tables) (d : DraftContents) (x : Queue) (entry : SubEntry) → CanSubmit t d x entry → Brings t d.q d.cid (d.data_pages ++ d.chain_pages)
 brings t d x entry c = cancel_brings t d (cancel (not (record_is (is_of is_drafted d.request (numbers_of d.data_pages) (numbers_of d.chain_pages)) (state_of t) d.q d.cid)) refl)
@@ -88,7 +81,7 @@ are-pages d proper =
 -- the entry can be posted behind the pages
 pub can-post : (t : Tables) (d : DraftContents) (x : Queue) (entry : SubEntry) → IsWhole t → CanSubmit t d x entry → CanPost (brought_in d t) d.q x entry
 can-post t d x entry whole c =
-    let kept = live-kept x.state c.live in
+    let kept = live_has_sq x.state c.live in
     let spared = spares t d x entry whole c in
     record {
       at = c.at;
@@ -103,7 +96,7 @@ can-post t d x entry whole c =
     }
   where
     own : (k : ℕ) → k < half_pages x.host.entries Submission → owner_at t.owners (x.host.sq + k) ≡ Some (OfQueue d.q Submission)
-    own k l = submission-owner t whole d.q x c.at (live-kept x.state c.live) k l
+    own k l = submission-owner t whole d.q x c.at (live_has_sq x.state c.live) k l
 
 ringed : (t : Tables) (d : DraftContents) (x : Queue) (entry : SubEntry) → IsWhole t → t.trusted ≡ true → CanSubmit t d x entry → AreRinged (brought_in d t)
 ringed t d x entry whole on c =

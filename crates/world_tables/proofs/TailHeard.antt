@@ -1,5 +1,5 @@
 -- The controller hears a queue's tail.
-use Rattle.std.proofs.Common.{◌≡◌, ℕ, zero, suc, ◌<◌, ◌≤◌, ◌||◌, Bool, true, false, Option, Some, None, List, [], ◌∷◌, length, map, slice_get, is_none, refl, ap, sym, ◌∙◌, subst, arith, if◌then◌else◌}
+use Rattle.std.proofs.Common.{◌≡◌, ℕ, zero, suc, ◌<◌, ◌≤◌, Bool, true, false, Option, Some, None, List, [], ◌∷◌, length, map, slice_get, refl, ap, sym, ◌∙◌, subst, arith, if◌then◌else◌, not}
 use Rattle.std.specs.List.{AllByRecursion}
 use Rattle.std.specs.Option.{option_map, option_map_or}
 use Rattle.std.proofs.lemmas.Option.{slice_get-map}
@@ -9,7 +9,7 @@ use Rattle.controller_walk.specs.Units.{first_passing}
 use Rattle.machine_model.specs.After.{change, after_ring}
 use Rattle.machine_model.specs.Events as events
 use Rattle.machine_model.specs.declared.words.Refusal.TheVariants.{NoQueue}
-use Rattle.machine_model.specs.Refusals.{refusal_of, host_queue, is_retired, is_gone}
+use Rattle.machine_model.specs.Refusals.{refusal_of, host_queue, has_sq}
 use Rattle.machine_model.specs.State.{State, HostQueue, DeviceQueue}
 use Rattle.page_memory.specs.Memory.{Memory}
 use Rattle.page_memory.specs.Pages.{byte_at}
@@ -27,12 +27,13 @@ use Rattle.world_tables.specs.Rows.{Queue}
 use Rattle.world_tables.proofs.Queues.{each-change, map-same, map-change, submission-in, entries-there, length-present, range-ends}
 use Rattle.world_tables.proofs.Steps.{host_step, length-change, sound_after, agree_after, when_true}
 use Rattle.world_tables.proofs.Walks.{walks_after}
+use Rattle.std.proofs.lemmas.Bool.{not-false}
 
 -- The refusal
 
 -- what the machine tests, by the queue that it sees
 lacks_seen : Option HostQueue → Bool
-lacks_seen o = is_none o || option_map_or (λ queue. is_retired queue.state) o false || option_map_or (λ queue. is_gone queue.state) o false
+lacks_seen o = not (option_map_or (λ queue. has_sq queue.state) o false)
 
 seen-alike : (o : Option Queue) → lacks_seen (option_map host_queue_of o) ≡ lacks_submission o
 unfolding lacks_seen
@@ -52,12 +53,12 @@ ring-none t q h = ring-refusal t q ∙ ap (λ (b : Bool). first_passing ((b, NoQ
 pub ring-no_queue : (t : Tables) (q : ℕ) → lacks_submission (slice_get t.queues q) ≡ true → refusal_of (state_of t) (events.Ring q) ≡ Some NoQueue
 ring-no_queue t q h = ring-refusal t q ∙ ap (λ (b : Bool). first_passing ((b, NoQueue) ∷ [])) h
 
-live-submission : (x : Queue) → lacks_submission (Some x) ≡ false → (is_retired x.state || is_gone x.state) ≡ false
-live-submission x h = h
+live-submission : (x : Queue) → lacks_submission (Some x) ≡ false → has_sq x.state ≡ true
+live-submission x h = not-false _ h
 
 -- The state
 
-rung-told : (t : Tables) → IsWhole t → (q : ℕ) (x : Queue) → slice_get t.queues q ≡ Some x → (is_retired x.state || is_gone x.state) ≡ false
+rung-told : (t : Tables) → IsWhole t → (q : ℕ) (x : Queue) → slice_get t.queues q ≡ Some x → has_sq x.state ≡ true
     → rung_of (with_tail_heard x) ≡ length (unfetched_of (byte_at t.pages) x)
 rung-told t w q x at live = go (is_absent x.sq)
   where
@@ -77,7 +78,7 @@ rung-told t w q x at live = go (is_absent x.sq)
     go true = refl
     go false = sym count
 
-heard-seen : (t : Tables) → IsWhole t → (q : ℕ) (x : Queue) → slice_get t.queues q ≡ Some x → (is_retired x.state || is_gone x.state) ≡ false
+heard-seen : (t : Tables) → IsWhole t → (q : ℕ) (x : Queue) → slice_get t.queues q ≡ Some x → has_sq x.state ≡ true
     → device_queue_of (byte_at t.pages) (with_tail_heard x) ≡ record (device_queue_of (byte_at t.pages) x) { rung = length (unfetched_of (byte_at t.pages) x) }
 heard-seen t w q x at live = ap (λ (n : ℕ). seen n) (rung-told t w q x at live)
   where
@@ -94,7 +95,7 @@ rung-state t q w live =
     ap (λ (hs : List HostQueue). with_lists (state_of t) hs (map (device_queue_of (byte_at t.pages)) (change q with_tail_heard t.queues))) (map-same host_queue_of with_tail_heard q t.queues (λ x at. refl))
     ∙ ap (λ (ds : List DeviceQueue). with_lists (state_of t) (map host_queue_of t.queues) ds)
     (map-change (device_queue_of (byte_at t.pages)) with_tail_heard (λ at. record at { rung = length at.unfetched }) q t.queues
-    (λ x at. heard-seen t w q x at (subst (λ (o : Option Queue). lacks_submission o ≡ false) at live)))
+    (λ x at. heard-seen t w q x at (not-false _ (subst (λ (o : Option Queue). lacks_submission o ≡ false) at live))))
 
 ring-exactly : (t : Tables) (q : ℕ) → IsWhole t → lacks_submission (slice_get t.queues q) ≡ false → Exactly (state_of t) (events.Ring q) events.Accepted (state_of (rung q t))
 ring-exactly t q w live = (ring-none t q live, tt, rung-state t q w live)

@@ -2,7 +2,7 @@
 use Rattle.std.proofs.Common.{◌≡◌, ◌≢◌, inl, inr, ℕ, suc, ◌+◌, ◌<◌, ◌≤◌, ◌∷◌, [], Bool, true, false, Option, Some, None, IsSome, List, map, drop, if◌then◌else◌, ap, sym, ◌∙◌, subst, arith}
 use Rattle.std.specs.List.{AllByRecursion}
 use Rattle.entry_codec.specs.declared.completion.ComEntry.{ComEntry}
-use Rattle.machine_model.specs.Refusals.{is_gone}
+use Rattle.machine_model.specs.Refusals.{has_cq}
 use Rattle.machine_model.specs.State.{Answer, DeviceQueue}
 use Rattle.page_memory.specs.Memory.{Memory}
 use Rattle.queue_pair.specs.Lists.{answers, answers_between, expected_phase, AreTied}
@@ -135,7 +135,7 @@ taken-queue n q k x l is =
     known false = is.device_side.known_head
 
 -- Where nothing was forged the rings stand behind it.
-pub taken-stands : (m : Memory) (n q k : ℕ) (x : Queue) (e : ComEntry) (es : List ComEntry) → IsQueue n q x → RingsStand m q x → is_gone x.state ≡ false → HasFront m x e es
+pub taken-stands : (m : Memory) (n q k : ℕ) (x : Queue) (e : ComEntry) (es : List ComEntry) → IsQueue n q x → RingsStand m q x → has_cq x.state ≡ true → HasFront m x e es
     → is_in_range x.host.entries k x.host.ring.tail x.device.ring.head ≡ true → HeadsFollow x.host.entries k x.device.ring.head es → RingsStand m q (with_answer_heard k x)
 taken-stands m n q k x e es is stands live f fetched follow =
     record {

@@ -9,7 +9,7 @@ use Rattle.admin_commands.specs.Verdicts.{is_absent}
 use Rattle.machine_model.specs.Claims.{is_away}
 use Rattle.machine_model.specs.Agreeing.{SidesAgree}
 use Rattle.machine_model.specs.Linked.{IsLinked, absent}
-use Rattle.machine_model.specs.Refusals.{is_retired, is_gone}
+use Rattle.machine_model.specs.Refusals.{has_sq}
 use Rattle.machine_model.specs.State.{Record, pages_of, DeviceQueue}
 use Rattle.machine_model.proofs.Agreed.{agreed_linked}
 use Rattle.page_ledger.specs.Owners.{is_among, owner_at, pages_from}
@@ -69,17 +69,17 @@ linked_of t w e = agreed_linked (state_of t) (honest_of t.trusted (SidesAgree (s
 pub absent_of : (t : Tables) (q : ℕ) (queue : Queue) → slice_get t.queues q ≡ Some queue → absent (state_of t) q ≡ is_absent queue.sq
 absent_of t q queue here = ap (λ (o : Option DeviceQueue). option_map_or (λ at. is_absent at.state) o true) (slice_get-map (device_queue_of (byte_at t.pages)) t.queues q queue here)
 
-halves_there : (t : Tables) → IsWhole t → IsLinked (state_of t) → (q : ℕ) (queue : Queue) → slice_get t.queues q ≡ Some queue → is_absent queue.sq ≡ false → (is_retired queue.state || is_gone queue.state) ≡ false
-halves_there t w links q queue here there = go (is_retired queue.state || is_gone queue.state) refl
+halves_there : (t : Tables) → IsWhole t → IsLinked (state_of t) → (q : ℕ) (queue : Queue) → slice_get t.queues q ≡ Some queue → is_absent queue.sq ≡ false → has_sq queue.state ≡ true
+halves_there t w links q queue here there = go (has_sq queue.state) refl
   where
     whole : length (sq_pages_of queue) ≡ half_pages t.entries Submission
     whole = links.submission_whole q (host_queue_of queue) (slice_get-map host_queue_of t.queues q queue here) (absent_of t q queue here ∙ there)
 
-    go : (b : Bool) → (is_retired queue.state || is_gone queue.state) ≡ b → b ≡ false
-    go true e =
-        let none : length (sq_pages_of queue) ≡ 0 = ap (λ (b : Bool). length (if b then [] else pages_from queue.host.sq (half_pages queue.host.entries Submission))) e in
+    go : (b : Bool) → has_sq queue.state ≡ b → b ≡ true
+    go false e =
+        let none : length (sq_pages_of queue) ≡ 0 = ap (λ (b : Bool). length (if b then pages_from queue.host.sq (half_pages queue.host.entries Submission) else [])) e in
         absurd (omega (arith, some_half t.entries w.least_entries, whole, none))
-    go false e = refl
+    go true e = refl
 
 pub ringed : (t : Tables) → IsWhole t → t.trusted ≡ true → AreRinged t
 ringed t w e =
@@ -94,14 +94,14 @@ ringed t w e =
       submission_in = λ q queue here there.
           let is = w.queues.each q queue here in
           let pages : sq_pages_of queue ≡ pages_from queue.device.sq (half_pages queue.device.entries Submission) =
-          ap (λ (b : Bool). if b then [] else pages_from queue.host.sq (half_pages queue.host.entries Submission)) (halves_there t w links q queue here there)
+          ap (λ (b : Bool). if b then pages_from queue.host.sq (half_pages queue.host.entries Submission) else []) (halves_there t w links q queue here there)
           ∙ ap₂ (λ (p : ℕ) (n : ℕ). pages_from p (half_pages n Submission)) is.pair.sq is.pair.entries in
           let told = subst (λ (pages : List ℕ). HaveOwner t.owners (owner.Queue q Submission) pages) pages (w.owners.queues_told q queue here).submission in
           pages_in t.pages queue.device.sq (half_pages queue.device.entries Submission) w.pool.whole (λ p l. page_in t (queue.device.sq + p) q Submission w (told (queue.device.sq + p) (among_from _ queue.device.sq p l)));
       completion_in = λ q queue here lives p l.
           let is = w.queues.each q queue here in
           let pages : cq_pages_of queue ≡ pages_from queue.device.cq (half_pages queue.device.entries Completion) =
-          ap (λ (b : Bool). if b then [] else pages_from queue.host.cq (half_pages queue.host.entries Completion)) lives
+          ap (λ (b : Bool). if b then pages_from queue.host.cq (half_pages queue.host.entries Completion) else []) lives
           ∙ ap₂ (λ (p : ℕ) (n : ℕ). pages_from p (half_pages n Completion)) is.pair.cq is.pair.entries in
           let told = subst (λ (pages : List ℕ). HaveOwner t.owners (owner.Queue q Completion) pages) pages (w.owners.queues_told q queue here).completion in
           page_in t (queue.device.cq + p) q Completion w (told (queue.device.cq + p) (among_from _ queue.device.cq p l));

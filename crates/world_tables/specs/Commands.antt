@@ -1,5 +1,5 @@
 -- What the calls about a command leave of the tables.
-use Rattle.std.specs.Prelude.{◌≡◌, ℕ, ◌+◌, ◌<◌, ◌≤◌, ◌==◌, ◌||◌, not, Bool, true, false, Option, Some, None, IsSome, is_none, position, find, length, List, [], ◌∷◌, ◌++◌, slice_get, slice_set}
+use Rattle.std.specs.Prelude.{◌≡◌, ℕ, ◌+◌, ◌<◌, ◌≤◌, ◌==◌, ◌||◌, not, Bool, true, false, Option, Some, None, IsSome, position, find, length, List, [], ◌∷◌, ◌++◌, slice_get, slice_set}
 use Rattle.std.specs.Option.{option_map, option_map_or}
 use Rattle.io_commands.specs.DataBytes.{PagesOut}
 use Rattle.io_commands.specs.Drafts.{DraftContents}
@@ -10,7 +10,7 @@ use Rattle.machine_model.specs.After.{change, collected}
 use Rattle.machine_model.specs.Events as events
 use Rattle.machine_model.specs.Memory.{without_pages, with_pages, zeroed_pages}
 use Rattle.machine_model.specs.State.{Record, is_at, pages_of, with_record, without_record}
-use Rattle.machine_model.specs.Refusals.{refusal_of, is_retired, is_gone, is_drafted, is_collected, is_of}
+use Rattle.machine_model.specs.Refusals.{refusal_of, is_drafted, is_collected, is_of, has_sq}
 use Rattle.machine_model.specs.Claims.{is_away}
 use Rattle.machine_model.specs.Step.{IsNewIdentifier}
 use Rattle.machine_model.specs.declared.words.HostState.{HostState}
@@ -92,7 +92,7 @@ passes test state = option_map_or test state false
 
 -- whether a queue of this number, in this state, takes no I/O commands
 abbrev pub takes_no_io : ℕ → Option HostState → Bool
-takes_no_io q state = (q == 0) || is_none state || passes is_retired state || passes is_gone state
+takes_no_io q state = (q == 0) || not (passes has_sq state)
 
 -- The identifier that a queue would claim next
 abbrev pub ClaimsNext : List Queue → ℕ → ℕ → Type 0

@@ -1,9 +1,9 @@
 -- The host posts an entry.
-use Rattle.std.specs.Prelude.{◌≡◌, ℕ, ◌<◌, ◌||◌, ◌+◌, false, Some, IsSome, slice_get}
+use Rattle.std.specs.Prelude.{◌≡◌, ℕ, ◌<◌, ◌+◌, false, Some, IsSome, slice_get, true}
 use Rattle.entry_codec.specs.Submission.{submission_bytes, FitsSubmission, IsSubEntry}
 use Rattle.entry_codec.specs.declared.submission.SubEntry.{SubEntry}
 use Rattle.machine_model.specs.After.{change}
-use Rattle.machine_model.specs.Refusals.{is_retired, is_gone}
+use Rattle.machine_model.specs.Refusals.{has_sq}
 use Rattle.page_memory.specs.Pages.{IsPool, page_at}
 use Rattle.page_memory.specs.declared.page.Half.TheVariants.{Submission}
 use Rattle.queue_pair.specs.Memory.{half_pages, submission_place}
@@ -29,7 +29,7 @@ posted q queue entry t = record (overwritten (tail_place queue) (submission_byte
 -- An entry can be posted: the queue has its submission half, which is in, and there is room.
 pub record CanPost (t : Tables) (q : ℕ) (queue : Queue) (entry : SubEntry) : Type 0 where
   pub at : slice_get t.queues q ≡ Some queue
-  pub kept : (is_retired queue.state || is_gone queue.state) ≡ false
+  pub kept : has_sq queue.state ≡ true
   pub room : is_full queue.host.entries queue.host.ring.known_head queue.host.ring.tail ≡ false
   pub typed : IsSubEntry entry
   pub fits : FitsSubmission entry

@@ -1,8 +1,8 @@
 -- The host rings: the controller hears a queue's tail.
-use Rattle.std.specs.Prelude.{ℕ, Bool, ◌||◌, Option, false, is_none}
+use Rattle.std.specs.Prelude.{ℕ, Bool, Option, false, not}
 use Rattle.std.specs.Option.{option_map_or}
 use Rattle.machine_model.specs.After.{change}
-use Rattle.machine_model.specs.Refusals.{is_retired, is_gone}
+use Rattle.machine_model.specs.Refusals.{has_sq}
 use Rattle.queue_pair.specs.Rings.{hearing_tail}
 use Rattle.world_tables.specs.Tables.{Tables}
 use Rattle.world_tables.specs.Rows.{Queue}
@@ -17,4 +17,4 @@ rung q t = record t { queues = change q with_tail_heard t.queues }
 
 -- no queue of a number has a submission half
 abbrev pub lacks_submission : Option Queue → Bool
-lacks_submission o = is_none o || option_map_or (λ queue. is_retired queue.state) o false || option_map_or (λ queue. is_gone queue.state) o false
+lacks_submission o = not (option_map_or (λ queue. has_sq queue.state) o false)

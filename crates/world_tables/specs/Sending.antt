@@ -1,12 +1,12 @@
 -- The host sends an admin command.
-use Rattle.std.specs.Prelude.{◌≡◌, ◌++◌, ◌∷◌, ◌==◌, ◌||◌, ◌&&◌, [], ℕ, Bool, List, Option, None, Some, false, is_none, not, position, slice_get}
+use Rattle.std.specs.Prelude.{◌≡◌, ◌++◌, ◌∷◌, ◌==◌, ◌||◌, ◌&&◌, [], ℕ, Bool, List, Option, None, Some, false, not, position, slice_get}
 use Rattle.admin_commands.specs.Entries.{admin_entry}
 use Rattle.admin_commands.specs.declared.AdminKind.{AdminKind}
 use Rattle.admin_commands.specs.declared.AdminKind.TheVariants.{Abort, DeleteSq, DeleteCq}
 use Rattle.machine_model.specs.After.{change}
 use Rattle.machine_model.specs.Events as events
 use Rattle.machine_model.specs.Events.{Event}
-use Rattle.machine_model.specs.Refusals.{cq_deletion_outstanding, host_queue, in_state, is_deleting, is_gone, is_retired, is_submitted, no_io_queue, record_is, refusal_of}
+use Rattle.machine_model.specs.Refusals.{cq_deletion_outstanding, in_state, is_deleting, is_retired, is_submitted, no_io_queue, record_is, refusal_of, has_cq}
 use Rattle.machine_model.specs.State.{Record, State}
 use Rattle.machine_model.specs.declared.words.HostState.{HostState}
 use Rattle.machine_model.specs.declared.words.HostState.TheVariants.{Deleting}
@@ -59,7 +59,7 @@ named_causes s (Abort q cid) =
     ∷ []
 named_causes s (DeleteSq q) = (no_io_queue s q, refusal.NoQueue) ∷ (in_state is_deleting s q, refusal.WrongState) ∷ []
 named_causes s (DeleteCq q) =
-    ((q == 0) || is_none (host_queue s q) || in_state is_gone s q, refusal.NoQueue)
+    ((q == 0) || not (in_state has_cq s q), refusal.NoQueue)
     ∷ (in_state is_deleting s q || (in_state is_retired s q && cq_deletion_outstanding s q), refusal.WrongState)
     ∷ []
 
@@ -73,4 +73,4 @@ pub record CanSend (t : Tables) (kind : AdminKind) (cid : ℕ) : Type 0 where
 
 -- whether no queue of this number, in this state, has a completion half that can be deleted
 abbrev pub lacks_queue : ℕ → Option HostState → Bool
-lacks_queue q state = (q == 0) || is_none state || passes is_gone state
+lacks_queue q state = (q == 0) || not (passes has_cq state)

@@ -1,11 +1,11 @@
 -- What a world keeps, as plain lists, and the state of the machine that it stands for. The lists of the machine's queues are computed
 -- from the memory and from the positions of both sides; nothing is kept twice.
-use Rattle.std.specs.Prelude.{ℕ, Bool, ◌||◌, Option, Some, None, List, [], ◌∷◌, map, if◌then◌else◌}
+use Rattle.std.specs.Prelude.{ℕ, Bool, Option, Some, None, List, [], ◌∷◌, map, if◌then◌else◌}
 use Rattle.admin_commands.specs.Verdicts.{is_absent}
 use Rattle.entry_codec.specs.declared.completion.ComEntry.{ComEntry}
 use Rattle.entry_codec.specs.declared.status.Status.{Status}
 use Rattle.entry_codec.specs.declared.submission.SubEntry.{SubEntry}
-use Rattle.machine_model.specs.Refusals.{is_retired, is_gone}
+use Rattle.machine_model.specs.Refusals.{has_cq, has_sq}
 use Rattle.machine_model.specs.State as machine
 use Rattle.machine_model.specs.State.{State, Record, Answer, HostQueue, DeviceQueue}
 use Rattle.page_ledger.specs.Owners.{free_pages, pages_from}
@@ -42,10 +42,10 @@ present (Some x ∷ xs) = x ∷ present xs
 -- the pages of a queue's halves, from the first page of each on, until they are given back
 abbrev pub sq_pages_of : Queue → List ℕ
 sq_pages_of queue =
-    if is_retired queue.state || is_gone queue.state then [] else pages_from queue.host.sq (half_pages queue.host.entries Submission)
+    if has_sq queue.state then pages_from queue.host.sq (half_pages queue.host.entries Submission) else []
 
 abbrev pub cq_pages_of : Queue → List ℕ
-cq_pages_of queue = if is_gone queue.state then [] else pages_from queue.host.cq (half_pages queue.host.entries Completion)
+cq_pages_of queue = if has_cq queue.state then pages_from queue.host.cq (half_pages queue.host.entries Completion) else []
 
 abbrev pub host_queue_of : Queue → HostQueue
 host_queue_of queue =

@@ -1,17 +1,16 @@
 -- What holds of a world's tables between its calls.
-use Rattle.std.specs.Prelude.{◌≡◌, ℕ, ◌+◌, ◌<◌, ◌≤◌, ◌==◌, ◌&&◌, ◌||◌, Bool, true, false, Option, Some, None, List, [], ◌∷◌, length, slice_get, IsTrue, IfSome}
+use Rattle.std.specs.Prelude.{◌≡◌, ℕ, ◌+◌, ◌<◌, ◌≤◌, ◌==◌, ◌&&◌, Bool, true, false, Option, Some, None, List, [], ◌∷◌, length, slice_get, IsTrue}
 use Rattle.std.specs.Bool.{OnTrue}
 use Rattle.std.specs.List.{AllByRecursion, list_any, count_by}
 use Rattle.block_image.specs.Blocks.{IsImage, block_count}
 use Rattle.admin_commands.specs.Entries.{named_queue}
-use Rattle.entry_codec.specs.declared.admin_opcode.TheConstants.{DELETE_IO_SQ}
 use Rattle.entry_codec.specs.declared.completion.ComEntry.{ComEntry}
 use Rattle.entry_codec.specs.declared.status.Status.{Status}
-use Rattle.entry_codec.specs.declared.submission.SubEntry.{SubEntry}
 use Rattle.controller_walk.specs.Laws.{after_units}
 use Rattle.controller_walk.specs.Units.{course_of_list}
-use Rattle.io_commands.specs.Jobs.{is_success, left_of_walk, job_course, direction_of_entry, need_of_entry}
+use Rattle.io_commands.specs.Jobs.{left_of_walk, job_course, direction_of_entry, need_of_entry}
 use Rattle.io_commands.specs.Requests.{data_count}
+pub use Rattle.io_commands.specs.Ends.{FitsVerdict, is_deletion}
 use Rattle.io_commands.specs.Values.{IsGood}
 use Rattle.machine_model.specs.Agreeing.{SidesAgree}
 use Rattle.machine_model.specs.Claims.{IsSound}
@@ -21,7 +20,7 @@ use Rattle.machine_model.specs.declared.words.Phase.TheVariants.{Drafted, Submit
 use Rattle.machine_model.specs.Work.{Work}
 use Rattle.machine_model.specs.declared.words.Work.TheVariants.{Io, Management}
 use Rattle.machine_model.specs.Memory.{memory_of}
-use Rattle.machine_model.specs.Refusals.{is_retired, is_gone}
+use Rattle.machine_model.specs.Refusals.{has_cq, has_sq}
 use Rattle.machine_model.specs.State.{Record, is_at}
 use Rattle.page_ledger.specs.Owners.{is_among, owner_at}
 use Rattle.page_ledger.specs.declared.owner.Owner.{Owner}
@@ -102,14 +101,6 @@ pub record IsRecord (queues : ℕ) (r : Record) : Type 0 where
 abbrev pub is_task : ℕ → ℕ → Task → Bool
 is_task q cid t = (t.q == q) && ((entry_of_work t.work).cid == cid)
 
--- a status that a completion can carry
-abbrev pub FitsVerdict : Option Status → Type 0
-FitsVerdict verdict = IfSome verdict (λ st. st.sct < 8)
-
--- whether an admin command that ends so leaves nothing of a submission queue
-abbrev pub is_deletion : SubEntry → Status → Bool
-is_deletion entry status = (entry.opcode == DELETE_IO_SQ) && is_success status
-
 -- Only I/O queues are deleted.
 abbrev pub FitsTask : ℕ → ℕ → ℕ → TaskWork → Type 0
 FitsTask blocks q steps (task.Io job) =
@@ -142,11 +133,11 @@ pub record RingsStand (m : Memory) (q : ℕ) (queue : Queue) : Type 0 where
   pub rung : is_in_range queue.host.entries queue.device.ring.head queue.host.ring.tail queue.device.ring.bell ≡ true
   pub heard : queue.device.ring.known_head ≡ queue.host.ring.head
   pub tied : AreTied queue.host queue.device
-  pub phases : is_gone queue.state ≡ false → HasPhases m queue.device
-  pub owned : is_gone queue.state ≡ false → AllByRecursion (λ e. e.sqid ≡ q) (present (answers m queue.host queue.device))
-  pub follow : is_gone queue.state ≡ false → HeadsFollow queue.host.entries queue.host.ring.known_head queue.device.ring.head (present (answers m queue.host queue.device))
+  pub phases : has_cq queue.state ≡ true → HasPhases m queue.device
+  pub owned : has_cq queue.state ≡ true → AllByRecursion (λ e. e.sqid ≡ q) (present (answers m queue.host queue.device))
+  pub follow : has_cq queue.state ≡ true → HeadsFollow queue.host.entries queue.host.ring.known_head queue.device.ring.head (present (answers m queue.host queue.device))
   -- nothing waits in a completion ring once the submission half is given back
-  pub drained : (is_retired queue.state || is_gone queue.state) ≡ true → queue.host.ring.head ≡ queue.device.ring.tail
+  pub drained : has_sq queue.state ≡ false → queue.host.ring.head ≡ queue.device.ring.tail
 
 pub record IsHonest (t : Tables) : Type 0 where
   pub rings : (q : ℕ) (queue : Queue) → slice_get t.queues q ≡ Some queue → RingsStand (byte_at t.pages) q queue

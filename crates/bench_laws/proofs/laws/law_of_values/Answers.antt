@@ -1,4 +1,4 @@
-use Rattle.bench_laws.proofs.RunsMade.{have_tables, makes_run}
+use Rattle.bench_laws.proofs.RunsMade.{have_tables, makes_run, unforged_where_trusted}
 use Rattle.bench_laws.proofs.laws.law_of_values.Goals as goal
 
 pub returns-clause-tables : goal.returns-clause-tables
@@ -6,3 +6,6 @@ returns-clause-tables c = have_tables
 
 pub returns-clause-runs : goal.returns-clause-runs
 returns-clause-runs c = makes_run
+
+pub returns-clause-unforged : goal.returns-clause-unforged
+returns-clause-unforged c = unforged_where_trusted

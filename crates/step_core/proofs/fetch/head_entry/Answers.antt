@@ -1,11 +1,8 @@
-use Rattle.std.proofs.Common.{◌≡◌, ◌≢◌, ◌∙◌, ap, sym, subst, IfOk, IsSome, Some, Result, refl}
+use Rattle.std.proofs.Common.{◌≡◌, sym, subst, IfOk, IfSome, Option, Some, Result}
 use Rattle.entry_codec.specs.declared.submission.SubEntry.{SubEntry}
 use Rattle.machine_model.specs.declared.words.Refusal.{Refusal}
-use Rattle.page_memory.specs.Memory.{Memory}
 use Rattle.page_memory.specs.Pages.{byte_at}
-use Rattle.queue_pair.specs.Lists.{front, rung}
 use Rattle.queue_pair.specs.Memory.{entry_at}
-use Rattle.world_tables.proofs.FetchSteps.{front_entry}
 use Rattle.world_tables.proofs.Slots.{same_pages}
 use Rattle.step_core.proofs.fetch.head_entry.Goals as goal
 use Rattle.step_core.proofs.fetch.head_entry.Goals.{in-Ok-Some, in-Ok-None, in-Err}
@@ -16,9 +13,9 @@ returns-clause-entry c =
     let device = c.args.pair.now in
     elim c.match-next_entry.branch [
       | in-Ok-Some w ↦
-          let some : device.ring.head ≢ device.ring.bell = w.in-Ok-Some.ensures.rung.0 (subst IsSome (sym w.in-Ok-Some.field-0-is) refl) in
-          let is : Some w.in-Ok-Some.entry ≡ front (rung m device) = sym w.in-Ok-Some.field-0-is ∙ w.in-Ok-Some.ensures.front in
-          subst (λ (r : Result SubEntry Refusal). IfOk r (λ e. entry_at m device.sq device.ring.head ≡ Some e)) (sym w.answer-is) (front_entry m device w.in-Ok-Some.entry c.head-head.ensures.proper some is)
+          let read : entry_at m device.sq device.ring.head ≡ Some w.in-Ok-Some.entry =
+          subst (λ (found : Option SubEntry). IfSome found (λ e. entry_at m device.sq device.ring.head ≡ Some e)) w.in-Ok-Some.field-0-is w.in-Ok-Some.ensures.entry in
+          subst (λ (r : Result SubEntry Refusal). IfOk r (λ e. entry_at m device.sq device.ring.head ≡ Some e)) (sym w.answer-is) read
       | in-Ok-None w ↦ subst (λ (r : Result SubEntry Refusal). IfOk r (λ e. entry_at m device.sq device.ring.head ≡ Some e)) (sym w.answer-is) tt
       | in-Err w ↦ subst (λ (r : Result SubEntry Refusal). IfOk r (λ e. entry_at m device.sq device.ring.head ≡ Some e)) (sym w.answer-is) tt
     ]

@@ -1,0 +1,226 @@
+-- What a request is refused for, and what it gets.
+use Rattle.std.proofs.Common.{◌≡◌, ℕ, zero, suc, ◌+◌, ◌-◌, ◌<◌, ◌≤◌, ◌==◌, ◌⊎◌, inl, inr, nat_lt, nat_le, Bool, true, false, not, ◌||◌, Option, Some, None, List, [], ◌∷◌, length, position, slice_get, refl, ap, sym, ◌∙◌, arith, subst, lt-ltb, le-ltb, ltb-true, ltb-false, eqb-true, eq-eqb}
+use Rattle.std.specs.Option.{option_map, option_map_or}
+use Rattle.std.proofs.lemmas.Bool.{true≢false, eqb-false, cases_lt}
+use Rattle.std.proofs.lemmas.Bool.Decides.{nat_tests}
+use Rattle.std.proofs.lemmas.Option.{slice_get-map, slice_get_within}
+use Rattle.io_commands.specs.Requests.{fault_of, data_count}
+use Rattle.io_commands.specs.Asked.{Request}
+use Rattle.io_commands.specs.declared.request.RequestFault.{RequestFault}
+use Rattle.machine_model.specs.Events as events
+use Rattle.machine_model.specs.Refusals.{refusal_of, no_io_queue, in_state, is_deleting, no_identifier, pages_wanted, has_sq}
+use Rattle.machine_model.specs.State.{State, outstanding_on}
+use Rattle.machine_model.specs.Step.{IsNewIdentifier, Refuses, times}
+use Rattle.machine_model.specs.declared.words.HostState.{HostState}
+use Rattle.machine_model.specs.declared.words.Refusal.TheVariants as refusal
+use Rattle.machine_model.proofs.Counting.{one, times-cons, held_once, not_held}
+use Rattle.page_ledger.specs.Owners.{is_among, free_pages}
+use Rattle.queue_pair.proofs.Identifiers.{found_within, found_free, all_claimed, lower_claimed}
+use Rattle.sgl_chain.specs.Chains.{pages_needed}
+use Rattle.host_core.specs.Commands.{state_at, passes, takes_no_io, Grants}
+use Rattle.host_core.specs.Alone.{IsLowest}
+use Rattle.host_core.specs.Tables.{Tables, state_of, view_of, host_queue_of}
+use Rattle.host_core.specs.Whole.{IsWhole, is_outstanding}
+use Rattle.host_core.specs.Rows.{Queue}
+use Rattle.host_core.proofs.Identifiers.{outstanding-among}
+use Rattle.host_core.proofs.Lists.{some_is}
+use Rattle.host_core.proofs.Pages.{one-le}
+
+-- The host's state of a queue
+
+pub in_state-is : (test : HostState → Bool) (t : Tables) (q : ℕ) → in_state test (state_of t) q ≡ passes test (state_at t.queues q)
+in_state-is test t q = ap (λ o. option_map_or (λ queue. test queue.state) o false) (slice_get-map host_queue_of t.queues q) ∙ go (slice_get t.queues q)
+  where
+    go : (o : Option Queue) → option_map_or (λ queue. test queue.state) (option_map host_queue_of o) false ≡ option_map_or test (option_map (λ queue. queue.state) o) false
+    go None = refl
+    go (Some queue) = refl
+
+pub no_io-is : (t : Tables) (q : ℕ) → no_io_queue (state_of t) q ≡ takes_no_io q (state_at t.queues q)
+no_io-is t q = ap (λ b. (q == 0) || not b) (in_state-is has_sq t q)
+
+-- Identifiers
+
+-- a list with every number below a bound is that long
+below : ℕ → List ℕ → ℕ
+below zero xs = 0
+below (suc n) xs = below n xs + times n xs
+
+below-nil : (n : ℕ) → below n [] ≡ 0
+unfolding below
+below-nil zero = refl
+below-nil (suc n) = omega (arith, below-nil n)
+
+lt-next : (x n : ℕ) → one (nat_lt x (suc n)) ≡ one (nat_lt x n) + one (x == n)
+lt-next x n = go (x == n) (nat_lt x n) refl refl
+  where
+    go : (b l : Bool) → (x == n) ≡ b → nat_lt x n ≡ l → one (nat_lt x (suc n)) ≡ one (nat_lt x n) + one (x == n)
+    go true l e f = let h = eqb-true x n e in omega (arith, ap one e, ap one (lt-ltb x (suc n) (omega arith)), ap one (le-ltb x n (omega arith)))
+    go false true e f = let h = ltb-true x n f in omega (arith, ap one e, ap one f, ap one (lt-ltb x (suc n) (omega arith)))
+    go false false e f = let h = ltb-false x n f in let g = eqb-false x n e in omega (arith, ap one e, ap one f, ap one (le-ltb x (suc n) (omega arith)))
+
+below-cons : (n x : ℕ) (xs : List ℕ) → below n (x ∷ xs) ≡ one (nat_lt x n) + below n xs
+unfolding below
+below-cons zero x xs = omega (arith, ap one (le-ltb x 0 (omega arith)))
+below-cons (suc n) x xs = omega (arith, below-cons n x xs, times-cons n x xs, lt-next x n)
+
+below-le : (n : ℕ) (xs : List ℕ) → below n xs ≤ length xs
+below-le n [] = omega (arith, below-nil n)
+below-le n (x ∷ xs) = omega (arith, below-cons n x xs, below-le n xs, one-le (nat_lt x n))
+
+-- where each is below the bound, they are counted all
+below-all : (n : ℕ) (xs : List ℕ) → ((k : ℕ) → 0 < times k xs → k < n) → length xs ≡ below n xs
+below-all n [] h = omega (arith, below-nil n)
+below-all n (x ∷ xs) h =
+    let here : x < n = h x (omega (arith, times-cons x x xs, ap one (eq-eqb x x refl))) in
+    omega (arith, below-cons n x xs, ap one (lt-ltb x n here), below-all n xs (λ k l. h k (omega (arith, times-cons k x xs))))
+
+all-below : (n : ℕ) (xs : List ℕ) → ((k : ℕ) → k < n → 0 < times k xs) → n ≤ below n xs
+unfolding below
+all-below zero xs h = omega arith
+all-below (suc n) xs h = omega (arith, all-below n xs (λ k l. h k (omega arith)), h n (omega arith))
+
+few-below : (n : ℕ) (xs : List ℕ) → ((k : ℕ) → times k xs < 2) → below n xs ≤ n
+unfolding below
+few-below zero xs h = omega arith
+few-below (suc n) xs h = omega (arith, few-below n xs h, h n)
+
+one-missing : (n c : ℕ) (xs : List ℕ) → ((k : ℕ) → times k xs < 2) → c < n → times c xs ≡ 0 → below n xs < n
+unfolding below
+one-missing zero c xs h l z = absurd (omega arith)
+one-missing (suc n) c xs h l z = go (cases_lt c n) (one-missing n c xs h)
+  where
+    go : (c < n) ⊎ (n ≤ c) → (c < n → times c xs ≡ 0 → below n xs < n) → below n xs + times n xs < suc n
+    go (inl m) ih = omega (arith, ih m z, h n)
+    go (inr m) ih = let e : c ≡ n = omega arith in omega (arith, few-below n xs h, ap (λ (k : ℕ). times k xs) e, z)
+
+pub all-used : (n : ℕ) (xs : List ℕ) → ((k : ℕ) → k < n → 0 < times k xs) → n ≤ length xs
+all-used n xs h = omega (arith, all-below n xs h, below-le n xs)
+
+pub one-unused : (n c : ℕ) (xs : List ℕ) → ((k : ℕ) → 0 < times k xs → k < n) → ((k : ℕ) → times k xs < 2) → c < n → times c xs ≡ 0 → length xs < n
+one-unused n c xs inside few l z = omega (arith, below-all n xs inside, one-missing n c xs few l z)
+
+-- the claimed identifiers of a queue that there is
+size-of-claims : (t : Tables) → IsWhole t → (q : ℕ) (queue : Queue) → slice_get t.queues q ≡ Some queue → length queue.host.claimed ≡ t.entries - 1
+size-of-claims t whole q queue at = let is = whole.queues.each q queue at in omega (arith, is.host_side.identifiers, is.entries)
+
+outstanding-inside : (t : Tables) → IsWhole t → (q : ℕ) (queue : Queue) → slice_get t.queues q ≡ Some queue → (k : ℕ) → 0 < times k (outstanding_on (state_of t).host q) → k < length queue.host.claimed
+outstanding-inside t whole q queue at k some = (whole.identifiers.each q queue at).inside k (outstanding-among (state_of t).host q k ∙ go (is_among (outstanding_on (state_of t).host q) k) refl)
+  where
+    go : (b : Bool) → is_among (outstanding_on (state_of t).host q) k ≡ b → b ≡ true
+    go true e = refl
+    go false e = absurd (omega (arith, some, not_held k (outstanding_on (state_of t).host q) e))
+
+pub next-fresh : (t : Tables) → IsWhole t → (q cid : ℕ) (queue : Queue) → slice_get t.queues q ≡ Some queue → position not queue.host.claimed ≡ Some cid → IsNewIdentifier (state_of t) q cid
+next-fresh t whole q cid queue at next = record {
+  in_range = omega (arith, found_within queue.host.claimed cid next, size-of-claims t whole q queue at);
+  unused = ap not (sym (outstanding-among (state_of t).host q cid) ∙ unused);
+}
+  where
+    unused : is_outstanding t.records q cid ≡ false
+    unused = some_is (sym ((whole.identifiers.each q queue at).told cid (found_within queue.host.claimed cid next)) ∙ found_free queue.host.claimed cid next)
+
+pub next-left : (t : Tables) → IsWhole t → (q cid : ℕ) (queue : Queue) → slice_get t.queues q ≡ Some queue → position not queue.host.claimed ≡ Some cid → no_identifier (state_of t) q ≡ false
+next-left t whole q cid queue at next = le_no (t.entries - 1) (length (outstanding_on (state_of t).host q)) few
+  where
+    le_no : (a b : ℕ) → b < a → nat_le a b ≡ false
+    le_no a b l = grind (arith, nat_tests, l)
+
+    none : times cid (outstanding_on (state_of t).host q) ≡ 0
+    none = go (is_among (outstanding_on (state_of t).host q) cid) refl
+      where
+        go : (b : Bool) → is_among (outstanding_on (state_of t).host q) cid ≡ b → times cid (outstanding_on (state_of t).host q) ≡ 0
+        go false e = not_held cid (outstanding_on (state_of t).host q) e
+        go true e = let fresh = next-fresh t whole q cid queue at next in absurd (true≢false (sym (sym (ap not e) ∙ fresh.unused)))
+
+    few : length (outstanding_on (state_of t).host q) < t.entries - 1
+    few =
+        let size = size-of-claims t whole q queue at in
+        one-unused (t.entries - 1) cid (outstanding_on (state_of t).host q)
+        (λ k some. omega (arith, outstanding-inside t whole q queue at k some, size))
+        (whole.sound.identifiers q) (omega (arith, found_within queue.host.claimed cid next, size)) none
+
+pub none-left : (t : Tables) → IsWhole t → (q : ℕ) (queue : Queue) → slice_get t.queues q ≡ Some queue → position not queue.host.claimed ≡ None → no_identifier (state_of t) q ≡ true
+none-left t whole q queue at next = le_yes (t.entries - 1) (length (outstanding_on (state_of t).host q)) (all-used (t.entries - 1) (outstanding_on (state_of t).host q) used)
+  where
+    le_yes : (a b : ℕ) → a ≤ b → nat_le a b ≡ true
+    le_yes a b l = grind (arith, nat_tests, l)
+
+    used : (k : ℕ) → k < t.entries - 1 → 0 < times k (outstanding_on (state_of t).host q)
+    used k l =
+        let size = size-of-claims t whole q queue at in
+        let within : k < length queue.host.claimed = omega arith in
+        let yes : is_outstanding t.records q k ≡ true = some_is (sym ((whole.identifiers.each q queue at).told k within) ∙ all_claimed queue.host.claimed k next within) in
+        held_once k (outstanding_on (state_of t).host q) (sym (outstanding-among (state_of t).host q k) ∙ yes)
+
+-- The refusals
+
+pub refuses-no_queue : (s : State) (q : ℕ) (r : Request) → no_io_queue s q ≡ true → Refuses s (events.Reserve q r) refusal.NoQueue []
+refuses-no_queue s q r a = (rw a refl, refl)
+
+pub refuses-deleting : (s : State) (q : ℕ) (r : Request) → no_io_queue s q ≡ false → in_state is_deleting s q ≡ true → Refuses s (events.Reserve q r) refusal.Deleting []
+refuses-deleting s q r a b = (rw (a, b) refl, refl)
+
+pub refuses-bad : (s : State) (q : ℕ) (r : Request) (fault : RequestFault) → no_io_queue s q ≡ false → in_state is_deleting s q ≡ false → fault_of r.kind r.blocks r.pieces ≡ Some fault
+    → Refuses s (events.Reserve q r) (refusal.Bad fault) []
+refuses-bad s q r fault a b c = (rw (a, b, c) refl, refl)
+
+pub refuses-no_identifier : (s : State) (q : ℕ) (r : Request) → no_io_queue s q ≡ false → in_state is_deleting s q ≡ false → fault_of r.kind r.blocks r.pieces ≡ None → no_identifier s q ≡ true
+    → Refuses s (events.Reserve q r) refusal.NoIdentifier []
+refuses-no_identifier s q r a b c d = (rw (a, b, c, d) refl, refl)
+
+pub refuses-no_pages : (s : State) (q : ℕ) (r : Request) → no_io_queue s q ≡ false → in_state is_deleting s q ≡ false → fault_of r.kind r.blocks r.pieces ≡ None → no_identifier s q ≡ false
+    → length s.host.free < pages_wanted s r → Refuses s (events.Reserve q r) (refusal.NoPages (pages_wanted s r) (length s.host.free)) []
+refuses-no_pages s q r a b c d l = (rw (a, b, c, d, lt-ltb (length s.host.free) (pages_wanted s r) l) refl, refl)
+
+pub refuses-nothing : (s : State) (q : ℕ) (r : Request) → no_io_queue s q ≡ false → in_state is_deleting s q ≡ false → fault_of r.kind r.blocks r.pieces ≡ None → no_identifier s q ≡ false
+    → pages_wanted s r ≤ length s.host.free → refusal_of s (events.Reserve q r) ≡ None
+refuses-nothing s q r a b c d l = rw (a, b, c, d, le-ltb (length s.host.free) (pages_wanted s r) l) refl
+
+pub refuses-memory : (s : State) (q : ℕ) (r : Request) → refusal_of s (events.Reserve q r) ≡ None → Refuses s (events.Reserve q r) refusal.Memory []
+refuses-memory s q r none = (refl, none, refl)
+
+pub refuses-too_few : (s : State) (q : ℕ) (r : Request) (need free : ℕ) → no_io_queue s q ≡ false → in_state is_deleting s q ≡ false → fault_of r.kind r.blocks r.pieces ≡ None → no_identifier s q ≡ false
+    → need ≡ pages_wanted s r → free ≡ length s.host.free → free < need → Refuses s (events.Reserve q r) (refusal.NoPages need free) []
+refuses-too_few s q r need free a b c d en ef l =
+    subst (λ (n : ℕ). Refuses s (events.Reserve q r) (refusal.NoPages n free) []) (sym en)
+    (subst (λ (f : ℕ). Refuses s (events.Reserve q r) (refusal.NoPages (pages_wanted s r) f) []) (sym ef)
+    (refuses-no_pages s q r a b c d (omega (arith, l, en, ef))))
+
+-- What a queue tells of a request
+
+pub record Asked (t : Tables) (q : ℕ) (r : Request) : Type 0 where
+  pub queue : Queue
+  pub at : slice_get t.queues q ≡ Some queue
+  pub takes : no_io_queue (state_of t) q ≡ false
+  pub stays : in_state is_deleting (state_of t) q ≡ false
+  pub good : fault_of r.kind r.blocks r.pieces ≡ None
+
+pub granted : (t : Tables) (q : ℕ) (r : Request) (cid front back : ℕ) → IsWhole t → (asked : Asked t q r) → position not asked.queue.host.claimed ≡ Some cid
+    → front ≡ data_count r.pieces → back ≡ pages_needed (length r.pieces) t.segment → front + back ≤ length (free_pages t.owners) → Grants t q r cid front back
+granted t q r cid front back whole asked next ef eb enough = record {
+  none = refuses-nothing (state_of t) q r asked.takes asked.stays asked.good (next-left t whole q cid asked.queue asked.at next) (omega (arith, ef, eb, enough));
+  good = asked.good;
+  there = slice_get_within t.queues q asked.queue asked.at;
+  next = λ queue e. ap (λ (x : Queue). position not x.host.claimed) (some_is (sym e ∙ asked.at)) ∙ next;
+  fresh = next-fresh t whole q cid asked.queue asked.at next;
+  for_data = ef;
+  for_chain = eb;
+  enough = enough;
+}
+
+-- The next identifier of a queue is the lowest that is not outstanding.
+pub next-lowest : (t : Tables) → IsWhole t → (q cid : ℕ) (queue : Queue) → slice_get t.queues q ≡ Some queue → position not queue.host.claimed ≡ Some cid → IsLowest (view_of t).host q cid
+next-lowest t w q cid queue at next lower l =
+    let claims = w.identifiers.each q queue at in
+    let within : lower < length queue.host.claimed = omega (arith, l, found_within queue.host.claimed cid next) in
+    sym (outstanding-among (view_of t).host q lower) ∙ some_is (sym (claims.told lower within) ∙ lower_claimed queue.host.claimed cid lower next l)
+
+pub grant-lowest : (t : Tables) → IsWhole t → (q cid : ℕ) (r : Request) (front back : ℕ) → Grants t q r cid front back → IsLowest (view_of t).host q cid
+grant-lowest t w q cid r front back grants =
+    let there = queue_within t.queues q grants.there in
+    next-lowest t w q cid there.0 there.1 (grants.next there.0 there.1)
+  where
+    queue_within : (xs : List Queue) (k : ℕ) → k < length xs → (x : Queue) × (slice_get xs k ≡ Some x)
+    queue_within [] k l = absurd (omega arith)
+    queue_within (x ∷ xs) zero l = (x, refl)
+    queue_within (x ∷ xs) (suc k) l = queue_within xs k (omega arith)

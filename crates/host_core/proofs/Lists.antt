@@ -1,0 +1,145 @@
+-- Lists of which one member is changed, and lists that agree member by member.
+use Rattle.std.proofs.Common.{Option, IfSome, IfNone, ◌≡◌, ◌≢◌, ℕ, zero, suc, ◌<◌, ◌⊎◌, inl, inr, Bool, true, false, cond, ◌||◌, Some, None, List, [], ◌∷◌, ◌++◌, length, map, filter, find, All, get_or, slice_get, slice_set, refl, ap, ap₂, sym, ◌∙◌, arith, subst}
+use Rattle.std.specs.List.{AllByRecursion, list_any}
+use Rattle.machine_model.specs.After.{change}
+
+pub some_is : {A : Type 0} {x y : A} → Some x ≡ Some y → x ≡ y
+some_is e = cc
+
+pub none_is_not : {A : Type 0} {x : A} → None ≡ Some x → ⊥
+none_is_not e = cc
+
+pub length-change : {A : Type 0} (k : ℕ) (f : A → A) (xs : List A) → length (change k f xs) ≡ length xs
+length-change k f [] = refl
+length-change zero f (x ∷ xs) = refl
+length-change (suc k) f (x ∷ xs) = ap suc (length-change k f xs)
+
+pub map-change : {A B : Type 0} (g : A → B) (f : A → A) → ((x : A) → g (f x) ≡ g x) → (k : ℕ) (xs : List A) → map g (change k f xs) ≡ map g xs
+map-change g f same k [] = refl
+map-change g f same zero (x ∷ xs) = ap (λ y. y ∷ map g xs) (same x)
+map-change g f same (suc k) (x ∷ xs) = ap (λ ys. g x ∷ ys) (map-change g f same k xs)
+
+-- where a member of the changed list was, and what it was
+pub record Changed (A : Type 0) (k : ℕ) (f : A → A) (xs : List A) (i : ℕ) (y : A) : Type 0 where
+  pub was : A
+  pub at : slice_get xs i ≡ Some was
+  pub is : ((i ≡ k) × (y ≡ f was)) ⊎ ((i ≢ k) × (y ≡ was))
+
+pub changed_at : {A : Type 0} (k : ℕ) (f : A → A) (xs : List A) (i : ℕ) (y : A) → slice_get (change k f xs) i ≡ Some y → Changed A k f xs i y
+changed_at k f [] i y e = absurd (none_is_not e)
+changed_at zero f (x ∷ xs) zero y e = record { was = x; at = refl; is = inl (refl, sym (some_is e)) }
+changed_at zero f (x ∷ xs) (suc i) y e = record { was = y; at = e; is = inr (λ h. absurd (omega arith), refl) }
+changed_at (suc k) f (x ∷ xs) zero y e = record { was = x; at = refl; is = inr (λ h. absurd (omega arith), sym (some_is e)) }
+changed_at (suc k) f (x ∷ xs) (suc i) y e =
+    let c = changed_at k f xs i y e in
+    record { was = c.was; at = c.at; is = elim c.is [ inl h ↦ inl (ap suc h.0, h.1) | inr h ↦ inr (λ g. h.0 (omega arith), h.1) ] }
+
+pub map-agree : {A B : Type 0} (f g : A → B) (xs : List A) → ((i : ℕ) (x : A) → slice_get xs i ≡ Some x → f x ≡ g x) → map f xs ≡ map g xs
+map-agree f g [] same = refl
+map-agree f g (x ∷ xs) same = ap₂ (λ y ys. y ∷ ys) (same 0 x refl) (map-agree f g xs (λ i y e. same (suc i) y e))
+
+pub all-append : {A : Type 0} (P : A → Type 0) (xs : List A) (y : A) → AllByRecursion P xs → P y → AllByRecursion P (xs ++ y ∷ [])
+all-append P [] y all here = (here, tt)
+all-append P (x ∷ xs) y all here = (all.0, all-append P xs y all.1 here)
+
+pub all-filter : {A : Type 0} (P : A → Type 0) (f : A → Bool) (xs : List A) → AllByRecursion P xs → AllByRecursion P (filter f xs)
+all-filter P f [] all = tt
+all-filter P f (x ∷ xs) all = go (f x) (all-filter P f xs all.1)
+  where
+    go : (b : Bool) → AllByRecursion P (filter f xs) → AllByRecursion P (cond b (x ∷ filter f xs) (filter f xs))
+    go true rest = (all.0, rest)
+    go false rest = rest
+
+pub all-map : {A : Type 0} (P : A → Type 0) (f : A → A) → ((x : A) → P x → P (f x)) → (xs : List A) → AllByRecursion P xs → AllByRecursion P (map f xs)
+all-map P f keeps [] all = tt
+all-map P f keeps (x ∷ xs) all = (keeps x all.0, all-map P f keeps xs all.1)
+
+pub all-all : {A : Type 0} (P Q : A → Type 0) → ((x : A) → P x → Q x) → (xs : List A) → AllByRecursion P xs → AllByRecursion Q xs
+all-all P Q more [] all = tt
+all-all P Q more (x ∷ xs) all = (more x all.0, all-all P Q more xs all.1)
+
+pub all-at : {A : Type 0} (P : A → Type 0) (xs : List A) (i : ℕ) (x : A) → slice_get xs i ≡ Some x → AllByRecursion P xs → P x
+all-at P [] i x e all = absurd (none_is_not e)
+all-at P (y ∷ xs) zero x e all = subst P (some_is e) all.0
+all-at P (y ∷ xs) (suc i) x e all = all-at P xs i x e all.1
+
+pub all-filter_by : {A : Type 0} (P Q : A → Type 0) (f : A → Bool) → ((x : A) → f x ≡ true → P x → Q x) → (xs : List A) → AllByRecursion P xs → AllByRecursion Q (filter f xs)
+all-filter_by P Q f more [] all = tt
+all-filter_by P Q f more (x ∷ xs) all = go (f x) refl (all-filter_by P Q f more xs all.1)
+  where
+    go : (b : Bool) → f x ≡ b → AllByRecursion Q (filter f xs) → AllByRecursion Q (cond b (x ∷ filter f xs) (filter f xs))
+    go true e rest = (more x e all.0, rest)
+    go false e rest = rest
+
+-- by its members, and by recursion
+pub all-from : {A : Type 0} (P : A → Type 0) (xs : List A) → All P xs → AllByRecursion P xs
+all-from P [] all = tt
+all-from P (x ∷ xs) all = (all 0 x (omega arith), all-from P xs (λ k d l. all (suc k) d (omega arith)))
+
+-- what is found, and where
+pub found_is : {A : Type 0} (test : A → Bool) (xs : List A) (x : A) → find test xs ≡ Some x → test x ≡ true
+found_is test [] x e = absurd (none_is_not e)
+found_is {A = A} test (y ∷ xs) x e = go (test y) refl e (found_is test xs x)
+  where
+    go : (b : Bool) → test y ≡ b → cond b (Some y) (find test xs) ≡ Some x → (find test xs ≡ Some x → test x ≡ true) → test x ≡ true
+    go true f g ih = subst (λ (z : A). test z ≡ true) (some_is g) f
+    go false f g ih = ih g
+
+pub found_at : {A : Type 0} (test : A → Bool) (xs : List A) (x : A) → find test xs ≡ Some x → (i : ℕ) × (slice_get xs i ≡ Some x)
+found_at test [] x e = absurd (none_is_not e)
+found_at test (y ∷ xs) x e = go (test y) e (found_at test xs x)
+  where
+    go : (b : Bool) → cond b (Some y) (find test xs) ≡ Some x → (find test xs ≡ Some x → (i : ℕ) × (slice_get xs i ≡ Some x)) → (i : ℕ) × (slice_get (y ∷ xs) i ≡ Some x)
+    go true g ih = (0, g)
+    go false g ih = let h = ih g in (suc h.0, h.1)
+
+pub found_any : {A : Type 0} (test : A → Bool) (xs : List A) (x : A) → find test xs ≡ Some x → list_any test xs ≡ true
+found_any test [] x e = absurd (none_is_not e)
+found_any test (y ∷ xs) x e = go (test y) e (found_any test xs x)
+  where
+    go : (b : Bool) → cond b (Some y) (find test xs) ≡ Some x → (find test xs ≡ Some x → list_any test xs ≡ true) → (b || list_any test xs) ≡ true
+    go true g ih = refl
+    go false g ih = ih g
+
+pub any-map : {A : Type 0} (test : A → Bool) (f : A → A) → ((x : A) → test (f x) ≡ test x) → (xs : List A) → list_any test (map f xs) ≡ list_any test xs
+any-map test f same [] = refl
+any-map test f same (x ∷ xs) = ap₂ (λ a b. a || b) (same x) (any-map test f same xs)
+
+pub change-same : {A : Type 0} (f : A → A) → ((x : A) → f x ≡ x) → (k : ℕ) (xs : List A) → change k f xs ≡ xs
+change-same f same k [] = refl
+change-same f same zero (x ∷ xs) = ap (λ y. y ∷ xs) (same x)
+change-same f same (suc k) (x ∷ xs) = ap (λ ys. x ∷ ys) (change-same f same k xs)
+
+-- a member written where it stands
+pub change-at : {A : Type 0} (q : ℕ) (f : A → A) (xs : List A) (x y : A) → q < length xs → x ≡ get_or xs q x → y ≡ f x → slice_set xs q y ≡ change q f xs
+change-at q f [] x y l e h = absurd (omega arith)
+change-at {A = A} zero f (z ∷ xs) x y l e h = ap (λ (w : A). w ∷ xs) (h ∙ ap f e)
+change-at {A = A} (suc q) f (z ∷ xs) x y l e h = ap (λ (w : List A). z ∷ w) (change-at q f xs x y (omega arith) e h)
+
+pub get-at : {A : Type 0} (q : ℕ) (xs : List A) (x : A) → q < length xs → x ≡ get_or xs q x → slice_get xs q ≡ Some x
+get-at q [] x l e = absurd (omega arith)
+get-at {A = A} zero (z ∷ xs) x l e = ap (λ (w : A). Some w) (sym e)
+get-at (suc q) (z ∷ xs) x l e = get-at q xs x (omega arith) e
+
+pub all-to : {A : Type 0} (P : A → Type 0) (xs : List A) → AllByRecursion P xs → All P xs
+all-to P [] all k d l = absurd (omega arith)
+all-to P (x ∷ xs) all zero d l = all.0
+all-to P (x ∷ xs) all (suc k) d l = all-to P xs all.1 k d (omega arith)
+
+pub all-front : {A : Type 0} (P : A → Type 0) (xs ys : List A) → AllByRecursion P (xs ++ ys) → AllByRecursion P xs
+all-front P [] ys all = tt
+all-front P (x ∷ xs) ys all = (all.0, all-front P xs ys all.1)
+
+pub all-back : {A : Type 0} (P : A → Type 0) (xs ys : List A) → AllByRecursion P (xs ++ ys) → AllByRecursion P ys
+all-back P [] ys all = all
+all-back P (x ∷ xs) ys all = all-back P xs ys all.1
+
+-- what holds of a value that is there, and of none
+
+pub if_some-then : {A : Type 0} {P Q : A → Type 0} (o : Option A) → ((x : A) → P x → Q x) → IfSome o P → IfSome o Q
+if_some-then None more h = tt
+if_some-then (Some x) more h = more x h
+
+pub if_none-then : {A P Q : Type 0} (o : Option A) → (P → Q) → IfNone o P → IfNone o Q
+if_none-then None more h = more h
+if_none-then (Some x) more h = tt

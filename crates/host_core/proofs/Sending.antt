@@ -1,0 +1,261 @@
+-- An admin command that is sent on the tables is the machine's, and leaves them whole.
+use Rattle.std.proofs.Common.{◌≡◌, ℕ, ◌+◌, ◌<◌, ◌≤◌, ◌/◌, ◌%◌, ◌==◌, ◌++◌, ◌∷◌, [], Bool, true, false, Option, Some, None, List, length, slice_get, slice_set, refl, ap, sym, ◌∙◌, subst, arith, length-set, not}
+use Rattle.std.specs.List.{AllByRecursion}
+use Rattle.std.specs.Option.{option_map, option_map_or}
+use Rattle.std.proofs.lemmas.Bool.{or_parts, not-false}
+use Rattle.std.proofs.lemmas.Option.{slice_get-map}
+use Rattle.admin_commands.specs.Entries.{admin_entry}
+use Rattle.admin_commands.specs.declared.AdminKind.{AdminKind}
+use Rattle.admin_commands.specs.declared.AdminKind.TheVariants.{Abort, DeleteSq, DeleteCq}
+use Rattle.entry_codec.specs.Submission.{submission_bytes, FitsSubmission}
+use Rattle.entry_codec.specs.declared.submission.SubEntry.{SubEntry}
+use Rattle.machine_model.specs.After as a
+use Rattle.machine_model.specs.After.{change}
+use Rattle.machine_model.specs.Events as events
+use Rattle.machine_model.specs.Proper.{IsProper}
+use Rattle.machine_model.specs.Refusals.{in_state, is_deleting, no_identifier, no_io_queue, queue_full, refusal_of, has_sq}
+use Rattle.machine_model.specs.State.{HostQueue, State}
+use Rattle.machine_model.specs.Step.{Answers, IsController, IsNewIdentifier, Refuses, Step, allocates, touched_by_refusal}
+use Rattle.machine_model.specs.declared.words.Refusal.{Refusal}
+use Rattle.machine_model.specs.declared.words.HostState.TheVariants.{Deleting}
+use Rattle.machine_model.specs.declared.words.Refusal.TheVariants as refusal
+use Rattle.machine_model.proofs.Refused.{first_fails}
+use Rattle.host_core.specs.Commands.{with_claim}
+use Rattle.host_core.specs.Exact.{Exactly}
+use Rattle.host_core.specs.Posting.{CanPost, posted, tail_place, with_tail_moved}
+use Rattle.host_core.specs.Sending.{CanSend, Sends, asked, noted, record_of_admin, sending, sent}
+use Rattle.host_core.specs.Tables.{Tables, state_of, host_queue_of}
+use Rattle.host_core.specs.Whole.{ClaimsIdentifiers, IsQueue, IsRecord, IsWhole, TellsCommand, TellsQueue}
+use Rattle.host_core.specs.Rows.{Queue}
+use Rattle.host_core.proofs.AdminReaped.{state-set}
+use Rattle.host_core.proofs.Entries.{posted-exact, posted-queue, submission_length, tail-fits, tail-in}
+use Rattle.host_core.proofs.Slots.{pool-with_bytes}
+use Rattle.host_core.proofs.Granting.{next-fresh}
+use Rattle.host_core.proofs.Identifiers.{claim-more}
+use Rattle.host_core.proofs.Lists.{all-append, map-change}
+use Rattle.host_core.proofs.Submitting.{admin_live}
+use Rattle.host_core.proofs.QueueLists.{each-change, submission_page-in}
+use Rattle.host_core.proofs.Settled.{Settled, settled-of, settled-state, settled-with, whole-of}
+use Rattle.host_core.proofs.Spared.{claims_keep_queue, claims_keep_tells, each_claimed}
+use Rattle.host_core.proofs.Steps.{host_step, length-change, sound_after}
+use Rattle.machine_model.proofs.Halves.{live_has_sq}
+
+-- The first of a list, and a change of it
+
+pub first-changed : {A : Type 0} (f : A → A) (xs : List A) (x : A) → slice_get xs 0 ≡ Some x → slice_get (change 0 f xs) 0 ≡ Some (f x)
+first-changed f [] x h = cc
+first-changed f (y ∷ xs) x h = ap (option_map f) h
+
+pub some-first : {A : Type 0} (xs : List A) (x : A) → slice_get xs 0 ≡ Some x → 0 < length xs
+some-first [] x h = cc
+some-first (y ∷ xs) x h = omega arith
+
+-- An identifier of queue 0 is claimed, and the command is outstanding
+
+abbrev more : ℕ → List Bool → List Bool
+more cid claimed = slice_set claimed cid true
+
+none-told : (t : Tables) (kind : AdminKind) (cid : ℕ) → TellsCommand t.owners (record_of_admin kind cid)
+none-told t kind cid = record { data_pages = λ p h. cc; chain_pages = λ p h. cc }
+
+settled-noted : (t : Tables) (kind : AdminKind) (cid : ℕ) → IsWhole t → (can : CanSend t kind cid) → Settled (noted kind cid t)
+settled-noted t kind cid w can =
+    settled-with t t.owners (change 0 (with_claim cid) t.queues) (t.records ++ record_of_admin kind cid ∷ []) (settled-of t w)
+    (record {
+      table = refl;
+      many = length-change 0 (with_claim cid) t.queues;
+      queues = record { each = each_claimed (IsQueue t.entries) (more cid) (claims_keep_queue (more cid) (λ bits. length-set bits cid true) t.entries) 0 t.queues w.queues.each };
+      identifiers = claim-more t.records t.queues (record_of_admin kind cid) w.identifiers (λ queue e.
+          let side = w.queues.each 0 queue e in
+          omega (arith, (next-fresh t w 0 cid can.queue can.at can.next).in_range, side.host_side.identifiers, side.entries));
+      owners = record {
+        queues_told = each_claimed (TellsQueue t.owners) (more cid) (claims_keep_tells (more cid) t.owners) 0 t.queues w.owners.queues_told;
+        commands_told = all-append (TellsCommand t.owners) t.records (record_of_admin kind cid) w.owners.commands_told (none-told t kind cid);
+      };
+      records = all-append (IsRecord (length t.queues)) t.records (record_of_admin kind cid) w.records (record { queue = some-first t.queues can.queue can.at; work = tt; phase = tt });
+    })
+
+-- the machine shows no claims
+noted-state : (t : Tables) (kind : AdminKind) (cid : ℕ) → state_of (noted kind cid t) ≡ a.on_records (λ records. records ++ record_of_admin kind cid ∷ []) (state_of t)
+noted-state t kind cid =
+    ap (λ (hs : List HostQueue). shown hs) (map-change host_queue_of (with_claim cid) (λ x. refl) 0 t.queues)
+  where
+    shown : List HostQueue → State
+    shown hs = record (state_of t) { host = record (state_of t).host { queues = hs; records = t.records ++ record_of_admin kind cid ∷ [] } }
+
+-- An entry is posted
+
+-- what the entry of an admin command is
+pub record IsTyped (entry : SubEntry) : Type 0 where
+  pub sgl1 : length entry.sgl1 ≡ 16
+  pub fits : FitsSubmission entry
+
+pub can-send : (t : Tables) (kind : AdminKind) (cid : ℕ) → IsWhole t → (can : CanSend t kind cid) → IsTyped (admin_entry kind cid)
+    → CanPost (noted kind cid t) 0 (with_claim cid can.queue) (admin_entry kind cid)
+can-send t kind cid w can is =
+    let s = settled-noted t kind cid w can in
+    let kept = live_has_sq can.queue.state (admin_live t w can.queue can.at) in
+    record {
+      at = first-changed (with_claim cid) t.queues can.queue can.at;
+      kept = kept;
+      room = can.room;
+      sgl1 = is.sgl1;
+      fits = is.fits;
+      pool = w.pool;
+      inside = λ k l. submission_page-in t w 0 can.queue can.at kept k l;
+      queues = s.queues;
+    }
+
+settled-posted : (u : Tables) (q : ℕ) (x : Queue) (entry : SubEntry) → Settled u → CanPost u q x entry → Settled (posted q x entry u)
+settled-posted u q x entry s post =
+    let count : length (submission_bytes entry) ≡ 64 = submission_length entry post.sgl1 in
+    let size : length (change q with_tail_moved u.queues) ≡ length u.queues = length-change q with_tail_moved u.queues in
+    record {
+      pool = pool-with_bytes u.pages (tail_place x / 4096) (tail_place x % 4096) (submission_bytes entry) (tail-in u q x entry post)
+          (subst (λ (k : ℕ). tail_place x % 4096 + k ≤ 4096) (sym count) (tail-fits x)) post.pool;
+      table = s.table ∙ sym (length-set u.pages (tail_place x / 4096) _);
+      least_entries = s.least_entries;
+      most_entries = s.most_entries;
+      least_segment = s.least_segment;
+      most_segment = s.most_segment;
+      some_queues = subst (λ (n : ℕ). 2 ≤ n) (sym size) s.some_queues;
+      few_queues = subst (λ (n : ℕ). n ≤ 65) (sym size) s.few_queues;
+      queues = record { each = each-change (IsQueue u.entries) q with_tail_moved u.queues (λ k y _ at. s.queues.each k y at) (λ y at. posted-queue u.entries q y (s.queues.each q y at)) };
+      identifiers = record { each = each-change (λ (k : ℕ) (y : Queue). ClaimsIdentifiers u.records k y.host.claimed) q with_tail_moved u.queues (λ k y _ at. s.identifiers.each k y at) (λ y at. s.identifiers.each q y at) };
+      owners = record {
+        queues_told = each-change (TellsQueue u.owners) q with_tail_moved u.queues (λ k y _ at. s.owners.queues_told k y at)
+            (λ y at. let told = s.owners.queues_told q y at in record { submission = told.submission; completion = told.completion });
+        commands_told = s.owners.commands_told;
+      };
+      records = subst (λ (n : ℕ). AllByRecursion (IsRecord n) u.records) (sym size) s.records;
+    }
+
+settled-sent : (t : Tables) (kind : AdminKind) (cid : ℕ) → IsWhole t → (can : CanSend t kind cid) → IsTyped (admin_entry kind cid) → Settled (sent kind cid can.queue t)
+settled-sent t kind cid w can is =
+    settled-posted (noted kind cid t) 0 (with_claim cid can.queue) (admin_entry kind cid) (settled-noted t kind cid w can) (can-send t kind cid w can is)
+
+-- the machine's state
+
+abbrev sent_in : AdminKind → ℕ → State → State
+sent_in kind cid s = a.sent kind cid (admin_entry kind cid) s
+
+sent-exact : (t : Tables) (kind : AdminKind) (cid : ℕ) → IsWhole t → (can : CanSend t kind cid) → IsTyped (admin_entry kind cid)
+    → state_of (sent kind cid can.queue t) ≡ sent_in kind cid (state_of t)
+sent-exact t kind cid w can is =
+    posted-exact (noted kind cid t) 0 (with_claim cid can.queue) (admin_entry kind cid) (can-send t kind cid w can is)
+    ∙ ap (a.posted 0 (admin_entry kind cid)) (noted-state t kind cid)
+
+-- The queue that it names
+
+-- what a command leans on: a queue that it deletes has its submission half
+abbrev AsksOf : AdminKind → Tables → Type 0
+AsksOf (Abort q cid) u = Unit {0}
+AsksOf (DeleteSq q) u = (x : Queue) → slice_get u.queues q ≡ Some x → has_sq x.state ≡ true
+AsksOf (DeleteCq q) u = Unit {0}
+
+has-half : (t : Tables) (q : ℕ) → refusal_of (state_of t) (events.DeleteSq q) ≡ None → (x : Queue) → slice_get t.queues q ≡ Some x → has_sq x.state ≡ true
+has-half t q none x at =
+    sym (ap (λ (o : Option HostQueue). option_map_or (λ (queue : HostQueue). has_sq queue.state) o false) (slice_get-map host_queue_of t.queues q ∙ ap (option_map host_queue_of) at))
+    ∙ not-false _ (or_parts (q == 0) (not (in_state has_sq s q))
+    (first_fails (no_io_queue s q) refusal.NoQueue ((in_state is_deleting s q, refusal.WrongState) ∷ (no_identifier s 0, refusal.NoIdentifier) ∷ (queue_full s 0, refusal.QueueFull) ∷ []) none)).1
+  where
+    s : State
+    s = state_of t
+
+-- the state of a queue stays with other claims, and with another tail
+asks-sent : (t : Tables) (kind : AdminKind) (cid : ℕ) (x : Queue) → refusal_of (state_of t) (sending kind) ≡ None → AsksOf kind (sent kind cid x t)
+asks-sent t (Abort q c) cid x none = tt
+asks-sent t (DeleteSq q) cid x none =
+    λ y at. each-change (λ (k : ℕ) (z : Queue). q ≡ k → has_sq z.state ≡ true) 0 with_tail_moved (change 0 (with_claim cid) t.queues) (λ k z _ at'. claimed k z at') (λ z at'. claimed 0 z at') q y at refl
+  where
+    claimed : (k : ℕ) (z : Queue) → slice_get (change 0 (with_claim cid) t.queues) k ≡ Some z → q ≡ k → has_sq z.state ≡ true
+    claimed = each_claimed (λ (k : ℕ) (z : Queue). q ≡ k → has_sq z.state ≡ true) (more cid) (λ k z h. h) 0 t.queues
+        (λ k z at same. has-half t q none z (subst (λ (i : ℕ). slice_get t.queues i ≡ Some z) (sym same) at))
+asks-sent t (DeleteCq q) cid x none = tt
+
+asked_in : AdminKind → State → State
+asked_in (Abort q cid) s = s
+asked_in (DeleteSq q) s = a.on_host_queue q a.deleting s
+asked_in (DeleteCq q) s = s
+
+asked-state : (u : Tables) (kind : AdminKind) → AsksOf kind u → state_of (asked kind u) ≡ asked_in kind (state_of u)
+unfolding asked_in
+asked-state u (Abort q cid) h = refl
+asked-state u (DeleteSq q) h = state-set u q (Deleting false) (refl) h
+asked-state u (DeleteCq q) h = refl
+
+settled-asked : (u : Tables) (kind : AdminKind) → Settled u → AsksOf kind u → Settled (asked kind u)
+settled-asked u (Abort q cid) s h = s
+settled-asked u (DeleteSq q) s h = settled-state u q (Deleting false) s (refl) h
+settled-asked u (DeleteCq q) s h = s
+
+-- The machine's step
+
+send-after : (s : State) (kind : AdminKind) (cid : ℕ) → a.after s (sending kind) (events.Sent cid) ≡ asked_in kind (sent_in kind cid s)
+unfolding asked_in
+send-after s (Abort q c) cid = refl
+send-after s (DeleteSq q) cid = refl
+send-after s (DeleteCq q) cid = refl
+
+send-answers : (s : State) (kind : AdminKind) (cid : ℕ) → IsNewIdentifier s 0 cid → Answers s (sending kind) (events.Sent cid)
+send-answers s (Abort q c) cid h = h
+send-answers s (DeleteSq q) cid h = h
+send-answers s (DeleteCq q) cid h = h
+
+is-hosts : (kind : AdminKind) → IsController (sending kind) ≡ false
+is-hosts (Abort q cid) = refl
+is-hosts (DeleteSq q) = refl
+is-hosts (DeleteCq q) = refl
+
+is-proper : (kind : AdminKind) → IsProper (sending kind)
+is-proper (Abort q cid) = tt
+is-proper (DeleteSq q) = tt
+is-proper (DeleteCq q) = tt
+
+pub send-exact : (t : Tables) (kind : AdminKind) (cid : ℕ) → IsWhole t → (can : CanSend t kind cid) → IsTyped (admin_entry kind cid)
+    → Exactly (state_of t) (sending kind) (events.Sent cid) (state_of (asked kind (sent kind cid can.queue t)))
+send-exact t kind cid w can is = (
+  can.none,
+  send-answers (state_of t) kind cid (next-fresh t w 0 cid can.queue can.at can.next),
+  asked-state (sent kind cid can.queue t) kind (asks-sent t kind cid can.queue can.none)
+      ∙ (ap (asked_in kind) (sent-exact t kind cid w can is) ∙ sym (send-after (state_of t) kind cid)),
+)
+
+-- What a sending makes of whole tables: a step of the machine, and whole tables.
+pub record SendsTo (t : Tables) (kind : AdminKind) (cid : ℕ) (new : Tables) : Type 0 where
+  pub step : Step (state_of t) (sending kind) (events.Sent cid) (state_of new)
+  pub whole : IsWhole new
+
+send-made : (t : Tables) (kind : AdminKind) (cid : ℕ) → IsWhole t → (can : CanSend t kind cid) → IsTyped (admin_entry kind cid) → SendsTo t kind cid (asked kind (sent kind cid can.queue t))
+send-made t kind cid w can is =
+    let u : Tables = sent kind cid can.queue t in
+    let step : Step (state_of t) (sending kind) (events.Sent cid) (state_of (asked kind u)) =
+    host_step t (asked kind u) (sending kind) (events.Sent cid) (is-hosts kind) (is-proper kind) (send-exact t kind cid w can is) in
+    record {
+      step = step;
+      whole = whole-of (asked kind u) (settled-asked u kind (settled-sent t kind cid w can is) (asks-sent t kind cid can.queue can.none))
+          (sound_after (state_of t) (sending kind) (events.Sent cid) (state_of (asked kind u)) step w.sound);
+    }
+
+pub send_made : (t mid new : Tables) (kind : AdminKind) (cid : ℕ) → IsWhole t → CanSend t kind cid → IsTyped (admin_entry kind cid) → mid ≡ t → Sends mid kind cid new → SendsTo t kind cid new
+send_made t mid new kind cid w can is same sends =
+    let left : new ≡ asked kind (sent kind cid can.queue t) = subst (λ (m : Tables). Sends m kind cid new) same sends can.queue can.at in
+    subst (λ (y : Tables). SendsTo t kind cid y) (sym left) (send-made t kind cid w can is)
+
+-- What a refusal makes of it
+
+send-allocates : (kind : AdminKind) → allocates (sending kind) ≡ true
+send-allocates (Abort q cid) = refl
+send-allocates (DeleteSq q) = refl
+send-allocates (DeleteCq q) = refl
+
+untouched-memory : (s : State) (kind : AdminKind) → [] ≡ touched_by_refusal s (sending kind) refusal.Memory
+untouched-memory s (Abort q cid) = refl
+untouched-memory s (DeleteSq q) = refl
+untouched-memory s (DeleteCq q) = refl
+
+pub send-refused : (t : Tables) (kind : AdminKind) (why : Refusal) → Refuses (state_of t) (sending kind) why [] → Step (state_of t) (sending kind) (events.Refused why []) (state_of t)
+send-refused t kind why h = host_step t t (sending kind) (events.Refused why []) (is-hosts kind) (is-proper kind) (h, refl)
+
+pub send-memory : (t : Tables) (kind : AdminKind) → refusal_of (state_of t) (sending kind) ≡ None → Step (state_of t) (sending kind) (events.Refused refusal.Memory []) (state_of t)
+send-memory t kind none = send-refused t kind refusal.Memory (send-allocates kind, none, untouched-memory (state_of t) kind)

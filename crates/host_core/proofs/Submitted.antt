@@ -1,0 +1,159 @@
+-- A submitted draft on the tables is the machine's, and leaves them whole.
+use Rattle.std.proofs.Common.{◌≡◌, ℕ, ◌+◌, ◌/◌, ◌%◌, ◌<◌, ◌≤◌, ◌++◌, ◌∷◌, [], Bool, true, false, not, Option, Some, None, IsSome, is_none, List, length, refl, ap, sym, ◌∙◌, subst, length-set}
+use Rattle.std.specs.List.{AllByRecursion}
+use Rattle.std.specs.Option.{option_map_or}
+use Rattle.std.proofs.lemmas.Bool.{true≢false}
+use Rattle.entry_codec.specs.Submission.{submission_bytes}
+use Rattle.entry_codec.specs.declared.submission.SubEntry.{SubEntry}
+use Rattle.io_commands.specs.Drafts.{DraftContents, draft_first}
+use Rattle.io_commands.proofs.Spelled.{carries_entry}
+use Rattle.sgl_chain.proofs.Laying.{length-spelling}
+use Rattle.io_commands.specs.Values.{numbers_of}
+use Rattle.machine_model.specs.After as a
+use Rattle.machine_model.specs.After.{change, after_submit}
+use Rattle.machine_model.specs.Events as events
+use Rattle.machine_model.specs.Memory.{with_pages}
+use Rattle.machine_model.specs.Proper.{IsProperDraft}
+use Rattle.machine_model.specs.Refusals.{refusal_of, is_drafted, is_of, is_live, in_state, queue_full, record_is}
+use Rattle.machine_model.specs.State.{State, Record, is_at, pages_of, with_record}
+use Rattle.machine_model.specs.Work.{Work}
+use Rattle.machine_model.specs.declared.words.Work.TheVariants.{Io, Management}
+use Rattle.machine_model.specs.declared.words.Refusal.TheVariants as refusal
+use Rattle.machine_model.proofs.Counting.{held_once}
+use Rattle.machine_model.proofs.Parts.{length-with_pages}
+use Rattle.machine_model.proofs.Refused.{first_fails, found_all}
+use Rattle.page_ledger.specs.Owners.{is_among, owner_at}
+use Rattle.page_ledger.specs.declared.owner.Owner.TheVariants.{Queue as OfQueue, Command}
+use Rattle.page_memory.specs.declared.page.Half.{Half}
+use Rattle.page_memory.specs.declared.page.Half.TheVariants.{Submission}
+use Rattle.queue_pair.specs.Memory.{half_pages}
+use Rattle.host_core.specs.Posting.{with_tail_moved, tail_place, CanPost}
+use Rattle.host_core.specs.Exact.{Exactly}
+use Rattle.host_core.specs.Submitting.{brought_in, submitted, CanSubmit}
+use Rattle.host_core.specs.Tables.{Tables, state_of}
+use Rattle.host_core.specs.Whole.{IsWhole, IsQueue, IsRecord, ClaimsIdentifiers, TellsCommand, TellsQueue, FitsWork}
+use Rattle.host_core.specs.Rows.{Queue}
+use Rattle.host_core.specs.Commands.{Brings}
+use Rattle.host_core.proofs.Ending.{cancel_brings, joined-pages}
+use Rattle.host_core.proofs.Entries.{posted-exact, posted-queue, tail-in, tail-fits, submission_length}
+use Rattle.host_core.proofs.Slots.{pool-with_bytes}
+use Rattle.host_core.proofs.Lists.{all-from, some_is}
+use Rattle.host_core.proofs.Owners.{command-owner}
+use Rattle.host_core.proofs.Pages.{pool-with, with-other}
+use Rattle.host_core.proofs.QueueLists.{each-change, submission-owner, submission_page-in}
+use Rattle.host_core.proofs.Records.{Marks, marked-claims, marked-records, marked-tells}
+use Rattle.host_core.proofs.Spared.{Spares}
+use Rattle.host_core.proofs.Steps.{host_step, sound_after, length-change}
+use Rattle.machine_model.proofs.Halves.{live_has_sq}
+
+brings : (t : Tables) (d : DraftContents) (x : Queue) (entry : SubEntry) → CanSubmit t d x entry → Brings t d.q d.cid (d.data_pages ++ d.chain_pages)
+brings t d x entry c = cancel_brings t d (cancel (not (record_is (is_of is_drafted d.request (numbers_of d.data_pages) (numbers_of d.chain_pages)) (state_of t) d.q d.cid)) refl)
+  where
+    cancel : (b : Bool) → not (record_is (is_of is_drafted d.request (numbers_of d.data_pages) (numbers_of d.chain_pages)) (state_of t) d.q d.cid) ≡ b → refusal_of (state_of t) (events.Cancel d) ≡ None
+    cancel false e = rw e refl
+    cancel true e = absurd (true≢false (sym e ∙ first_fails _ refusal.Stranger
+        ((is_none d.entry, refusal.NotBuilt) ∷ (not (in_state is_live (state_of t) d.q), refusal.QueueGone) ∷ (queue_full (state_of t) d.q, refusal.QueueFull) ∷ []) c.none))
+
+-- and its pages are none of a queue's halves
+spares : (t : Tables) (d : DraftContents) (x : Queue) (entry : SubEntry) → IsWhole t → CanSubmit t d x entry → Spares t (brought_in d t).pages
+spares t d x entry whole c = record { same = λ k half p at. with-other (d.data_pages ++ d.chain_pages) t.pages p (other k half p at (is_among (numbers_of (d.data_pages ++ d.chain_pages)) p) refl) }
+  where
+    b : Brings t d.q d.cid (d.data_pages ++ d.chain_pages)
+    b = brings t d x entry c
+
+    mine : TellsCommand t.owners b.entry
+    mine = found_all (TellsCommand t.owners) (is_at d.q d.cid) t.records b.entry b.was whole.owners.commands_told
+
+    other : (k : ℕ) (half : Half) (p : ℕ) → owner_at t.owners p ≡ Some (OfQueue k half) → (f : Bool) → is_among (numbers_of (d.data_pages ++ d.chain_pages)) p ≡ f → f ≡ false
+    other k half p at false e = refl
+    other k half p at true e =
+        let o = command-owner t.owners b.entry mine p (held_once p (pages_of b.entry) (ap (λ (ps : List ℕ). is_among ps p) (sym b.numbers) ∙ e)) in
+        let same : OfQueue k half ≡ Command b.entry.q b.entry.cid o.0 = some_is (sym at ∙ o.1) in
+        absurd cc
+
+are-pages : (d : DraftContents) → IsProperDraft d → AllByRecursion (λ (page : ℕ × List ℕ). length page.1 ≡ 4096) (d.data_pages ++ d.chain_pages)
+are-pages d proper =
+    all-from (λ (page : ℕ × List ℕ). length page.1 ≡ 4096) (d.data_pages ++ d.chain_pages) (joined-pages d.data_pages d.chain_pages proper.data_pages proper.chain_pages)
+
+-- its first descriptor has sixteen bytes
+draft-sgl1 : (d : DraftContents) (entry : SubEntry) → IsProperDraft d → d.entry ≡ Some entry → length entry.sgl1 ≡ 16
+draft-sgl1 d entry proper built = ap (λ (e : SubEntry). length e.sgl1) (carries_entry d entry proper.draft built) ∙ length-spelling (draft_first d)
+
+-- the entry can be posted behind the pages
+pub can-post : (t : Tables) (d : DraftContents) (x : Queue) (entry : SubEntry) → IsWhole t → CanSubmit t d x entry → CanPost (brought_in d t) d.q x entry
+can-post t d x entry whole c =
+    let kept = live_has_sq x.state c.live in
+    let spared = spares t d x entry whole c in
+    record {
+      at = c.at;
+      kept = kept;
+      room = c.room;
+      sgl1 = draft-sgl1 d entry c.proper c.built;
+      fits = c.fits;
+      pool = pool-with (d.data_pages ++ d.chain_pages) t.pages (are-pages d c.proper) whole.pool;
+      inside = λ k l. subst (λ (o : Option (List ℕ)). IsSome o) (sym (spared.same d.q Submission (x.host.sq + k) (own k l))) (submission_page-in t whole d.q x c.at kept k l);
+      queues = whole.queues;
+    }
+  where
+    own : (k : ℕ) → k < half_pages x.host.entries Submission → owner_at t.owners (x.host.sq + k) ≡ Some (OfQueue d.q Submission)
+    own k l = submission-owner t whole d.q x c.at (live_has_sq x.state c.live) k l
+
+-- The state
+
+-- the machine's state with the pages in and the record marked
+abbrev in_state_of : DraftContents → State → State
+in_state_of d s = a.on_records (with_record d.q d.cid a.submitted) (a.on_memory (with_pages (d.data_pages ++ d.chain_pages)) s)
+
+submit-after : (t : Tables) (d : DraftContents) (x : Queue) (entry : SubEntry) → CanSubmit t d x entry → after_submit d (state_of t) ≡ a.posted d.q entry (in_state_of d (state_of t))
+submit-after t d x entry c = ap (λ (o : Option SubEntry). option_map_or (λ e. a.posted d.q e (in_state_of d (state_of t))) o (state_of t)) c.built
+
+-- A submission on the tables is the machine's.
+pub submit-exact : (t : Tables) (d : DraftContents) (x : Queue) (entry : SubEntry) → IsWhole t → CanSubmit t d x entry
+    → Exactly (state_of t) (events.Submit d) events.Accepted (state_of (submitted d x entry t))
+submit-exact t d x entry whole c =
+    (c.none, tt, posted-exact (brought_in d t) d.q x entry (can-post t d x entry whole c) ∙ sym (submit-after t d x entry c))
+
+-- What holds between calls
+
+marks-submitted : Marks a.submitted
+marks-submitted =
+    record {
+      at = λ q cid r. refl;
+      tells = λ owners r h. record { data_pages = h.data_pages; chain_pages = h.chain_pages };
+    }
+
+submitted-fits : (n : ℕ) (r : Record) → IsRecord n r → IsRecord n (a.submitted r)
+submitted-fits n r h = record { queue = h.queue; work = still r.work r h.work; phase = tt }
+  where
+    still : (w : Work) (r : Record) → FitsWork w r → FitsWork w (a.submitted r)
+    still (Io request) r h = h
+    still (Management kind) r h = tt
+
+pub submit-whole : (t : Tables) (d : DraftContents) (x : Queue) (entry : SubEntry) → IsWhole t → CanSubmit t d x entry → IsWhole (submitted d x entry t)
+submit-whole t d x entry w c =
+    let new : Tables = submitted d x entry t in
+    let step = host_step t new (events.Submit d) events.Accepted refl c.proper (submit-exact t d x entry w c) in
+    let post = can-post t d x entry w c in
+    let count : length (submission_bytes entry) ≡ 64 = submission_length entry (draft-sgl1 d entry c.proper c.built) in
+    let size : length (change d.q with_tail_moved t.queues) ≡ length t.queues = length-change d.q with_tail_moved t.queues in
+    let claims = marked-claims a.submitted marks-submitted t.records t.queues d.q d.cid w.identifiers in
+    record {
+      sound = sound_after (state_of t) (events.Submit d) events.Accepted (state_of new) step w.sound;
+      pool = pool-with_bytes (brought_in d t).pages (tail_place x / 4096) (tail_place x % 4096) (submission_bytes entry) (tail-in (brought_in d t) d.q x entry post)
+          (subst (λ (k : ℕ). tail_place x % 4096 + k ≤ 4096) (sym count) (tail-fits x)) post.pool;
+      table = w.table ∙ sym (length-set (brought_in d t).pages (tail_place x / 4096) _ ∙ length-with_pages (d.data_pages ++ d.chain_pages) t.pages);
+      least_entries = w.least_entries;
+      most_entries = w.most_entries;
+      least_segment = w.least_segment;
+      most_segment = w.most_segment;
+      some_queues = subst (λ (n : ℕ). 2 ≤ n) (sym size) w.some_queues;
+      few_queues = subst (λ (n : ℕ). n ≤ 65) (sym size) w.few_queues;
+      queues = record { each = each-change (IsQueue t.entries) d.q with_tail_moved t.queues (λ k y _ at. w.queues.each k y at) (λ y at. posted-queue t.entries d.q y (w.queues.each d.q y at)) };
+      identifiers = record { each = each-change (λ (k : ℕ) (y : Queue). ClaimsIdentifiers (with_record d.q d.cid a.submitted t.records) k y.host.claimed) d.q with_tail_moved t.queues (λ k y _ at. claims.each k y at) (λ y at. claims.each d.q y at) };
+      owners = record {
+        queues_told = each-change (TellsQueue t.owners) d.q with_tail_moved t.queues (λ k y _ at. w.owners.queues_told k y at)
+            (λ y at. let told = w.owners.queues_told d.q y at in record { submission = told.submission; completion = told.completion });
+        commands_told = marked-tells a.submitted marks-submitted t.owners t.records d.q d.cid w.owners.commands_told;
+      };
+      records = subst (λ (n : ℕ). AllByRecursion (IsRecord n) (with_record d.q d.cid a.submitted t.records)) (sym size) (marked-records a.submitted (length t.queues) t.records d.q d.cid (λ r _ fits. submitted-fits (length t.queues) r fits) w.records);
+    }

@@ -1,0 +1,19 @@
+use Rattle.std.proofs.Common.{◌≡◌, [], false, slice_get, sym, ◌∙◌, subst}
+use Rattle.host_core.specs.Alone.{HostView, alone}
+use Rattle.host_core.specs.Looks.{completion_waits}
+use Rattle.host_core.specs.Parts.{tables_of}
+use Rattle.host_core.specs.Reaping.{lacks_completion}
+use Rattle.host_core.specs.Tables.{Tables}
+use Rattle.host_core.proofs.Calls.{whole_at}
+use Rattle.host_core.proofs.ReapSteps.{looks, waits-told}
+use Rattle.host_core.proofs.host.Host.completion_waits.Goals as goal
+
+pub see-requires-clause-whole : goal.see-requires-clause-whole
+see-requires-clause-whole g c = whole_at (tables_of c.self.inside.parts []) c.args.self.now c.args.store.now.pages c.self.view_is c.self.invariant c.requires
+
+pub returns-clause-answer : goal.returns-clause-answer
+returns-clause-answer g c =
+    let t : Tables = tables_of c.self.inside.parts c.args.store.now.pages in
+    let there : lacks_completion (slice_get t.queues c.args.q) ≡ false = sym (rw c.deref.ensures.value at c.has_no_completion.ensures) ∙ c.if-has_no_completion.false in
+    subst (λ (v : HostView). c.is_some.result ≡ completion_waits (alone v c.args.store.now.pages) c.args.q) c.self.view_is
+    (c.is_some.ensures ∙ sym (waits-told t c.args.q c.see.result (looks t c.args.q c.see.result there c.see.ensures.seen)))

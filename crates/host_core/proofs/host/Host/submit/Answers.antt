@@ -1,0 +1,51 @@
+use Rattle.std.proofs.Common.{[], refl}
+use Rattle.machine_model.specs.Events as events
+use Rattle.host_core.specs.Parts.{tables_of}
+use Rattle.host_core.specs.Tables.{Tables}
+use Rattle.host_core.specs.Whole.{IsWhole}
+use Rattle.host_core.proofs.Calls.{whole_at, step_at, stays_at}
+use Rattle.host_core.proofs.Keeping.{host_of, over_of}
+use Rattle.host_core.proofs.Steps.{host_step}
+use Rattle.host_core.proofs.Submitting.{submit_made}
+use Rattle.host_core.proofs.host.Host.submit.Goals as goal
+
+pub returns-in-Err-clause-step : goal.returns-in-Err-clause-step
+returns-in-Err-clause-step g c =
+    let t : Tables = tables_of c.self.inside.parts c.args.store.now.pages in
+    let w : IsWhole t = whole_at (tables_of c.self.inside.parts []) c.args.self.now c.args.store.now.pages c.self.view_is c.self.invariant c.requires in
+    stays_at t c.args.self.now (events.Submit c.args.draft) (events.Refused c.in-Err.why []) c.self.view_is
+    (host_step t t (events.Submit c.args.draft) (events.Refused c.in-Err.why []) refl c.check_submit.ensures.proper (c.in-Err.ensures.refused c.args.store.now.pages w, refl))
+
+pub commit_submit-requires-clause-whole : goal.commit_submit-requires-clause-whole
+commit_submit-requires-clause-whole g c =
+    whole_at (tables_of c.self.inside.parts []) c.args.self.now c.args.store.now.pages c.self.view_is c.self.invariant c.requires
+
+pub commit_submit-requires-clause-ready : goal.commit_submit-requires-clause-ready
+commit_submit-requires-clause-ready g c =
+    let t : Tables = tables_of c.self.inside.parts c.args.store.now.pages in
+    let w : IsWhole t = whole_at (tables_of c.self.inside.parts []) c.args.self.now c.args.store.now.pages c.self.view_is c.self.invariant c.requires in
+    c.in-Ok.ensures.ready c.args.store.now.pages w
+
+pub invariant_of-self : goal.invariant_of-self
+invariant_of-self g c =
+    let t : Tables = tables_of c.self.inside.parts c.args.store.now.pages in
+    let w : IsWhole t = whole_at (tables_of c.self.inside.parts []) c.args.self.now c.args.store.now.pages c.self.view_is c.self.invariant c.requires in
+    let new : Tables = tables_of c.commit_submit.new.self c.commit_submit.new.store.pages in
+    let made = submit_made t new c.args.draft c.in-Ok.found.0 c.in-Ok.found.1 w (c.in-Ok.ensures.ready c.args.store.now.pages w) c.commit_submit.ensures.submits in
+    host_of (tables_of c.commit_submit.new.self []) c.commit_submit.new.store.pages made.whole
+
+pub returns-clause-step : goal.returns-clause-step
+returns-clause-step g c =
+    let t : Tables = tables_of c.self.inside.parts c.args.store.now.pages in
+    let w : IsWhole t = whole_at (tables_of c.self.inside.parts []) c.args.self.now c.args.store.now.pages c.self.view_is c.self.invariant c.requires in
+    let new : Tables = tables_of c.commit_submit.new.self c.commit_submit.new.store.pages in
+    let made = submit_made t new c.args.draft c.in-Ok.found.0 c.in-Ok.found.1 w (c.in-Ok.ensures.ready c.args.store.now.pages w) c.commit_submit.ensures.submits in
+    step_at t new c.args.self.now (events.Submit c.args.draft) events.Accepted c.self.view_is made.step
+
+pub returns-clause-over : goal.returns-clause-over
+returns-clause-over g c =
+    let t : Tables = tables_of c.self.inside.parts c.args.store.now.pages in
+    let w : IsWhole t = whole_at (tables_of c.self.inside.parts []) c.args.self.now c.args.store.now.pages c.self.view_is c.self.invariant c.requires in
+    let new : Tables = tables_of c.commit_submit.new.self c.commit_submit.new.store.pages in
+    let made = submit_made t new c.args.draft c.in-Ok.found.0 c.in-Ok.found.1 w (c.in-Ok.ensures.ready c.args.store.now.pages w) c.commit_submit.ensures.submits in
+    over_of new made.whole

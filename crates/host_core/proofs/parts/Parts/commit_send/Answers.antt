@@ -1,0 +1,20 @@
+use Rattle.host_core.specs.Parts.{tables_of}
+use Rattle.host_core.specs.Tables.{Tables}
+use Rattle.host_core.proofs.SendChecks.{noted-there, send_can_post, sends_apart}
+use Rattle.host_core.proofs.parts.Parts.commit_send.Goals as goal
+
+pub post-requires-clause-there : goal.post-requires-clause-there
+post-requires-clause-there g c =
+    let t : Tables = tables_of c.args.self.now c.args.store.now.pages in
+    noted-there t (tables_of c.note_sent.new.self c.args.store.now.pages) c.args.kind c.args.cid c.requires.ready (c.note_sent.ensures c.args.store.now.pages)
+
+pub post-requires-clause-can : goal.post-requires-clause-can
+post-requires-clause-can g c =
+    let t : Tables = tables_of c.args.self.now c.args.store.now.pages in
+    send_can_post t (tables_of c.note_sent.new.self c.args.store.now.pages) c.args.kind c.args.cid c.entry.result c.requires.whole c.requires.ready (c.note_sent.ensures c.args.store.now.pages) c.entry.ensures.entry
+
+pub returns : goal.returns
+returns g c =
+    let t : Tables = tables_of c.args.self.now c.args.store.now.pages in
+    sends_apart t (tables_of c.note_sent.new.self c.args.store.now.pages) (tables_of c.post.new.self c.post.new.store.pages) (tables_of c.await_deletion.new.self c.post.new.store.pages) c.args.kind c.args.cid c.entry.result
+    (c.note_sent.ensures c.args.store.now.pages) c.entry.ensures.entry c.post.ensures (c.await_deletion.ensures c.post.new.store.pages)

@@ -1,0 +1,16 @@
+use Rattle.std.proofs.Common.{[], ◌∙◌}
+use Rattle.host_core.specs.Parts.{tables_of}
+use Rattle.host_core.specs.Tables.{Tables}
+use Rattle.host_core.proofs.QueueLists.{queue-at}
+use Rattle.host_core.proofs.Submitting.{full_is}
+use Rattle.host_core.proofs.parts.Parts.is_queue_full.Goals as goal
+
+pub is_full-requires : goal.is_full-requires
+is_full-requires g c =
+    let t : Tables = tables_of c.args.self.now [] in
+    (c.requires.queues.each c.args.q c.index.result.now (queue-at t c.args.q c.from.result c.index.result.now c.requires.there c.from.ensures c.index.ensures)).entries
+
+pub returns : goal.returns
+returns g c = λ pages.
+    let t : Tables = tables_of c.args.self.now pages in
+    c.is_full.ensures ∙ full_is t c.requires.queues c.args.q c.index.result.now (queue-at t c.args.q c.from.result c.index.result.now c.requires.there c.from.ensures c.index.ensures)

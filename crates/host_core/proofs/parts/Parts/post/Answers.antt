@@ -1,0 +1,36 @@
+use Rattle.std.proofs.Common.{◌≡◌, ◌∙◌, refl, slice_set, sym, subst}
+use Rattle.host_core.specs.Parts.{tables_of}
+use Rattle.host_core.specs.Posting.{posted}
+use Rattle.host_core.specs.Tables.{Tables}
+use Rattle.host_core.specs.Rows.{Queue}
+use Rattle.host_core.proofs.Entries.{post-room, post-there, post-told}
+use Rattle.host_core.proofs.Lists.{some_is}
+use Rattle.host_core.proofs.QueueLists.{queue-at}
+use Rattle.host_core.proofs.parts.Parts.post.Goals as goal
+
+pub post-requires-clause-fits : goal.post-requires-clause-fits
+post-requires-clause-fits g c =
+    let t : Tables = tables_of c.args.self.now c.args.store.now.pages in
+    let x : Queue = c.index_mut.result.now in
+    (c.requires.can x (queue-at t c.args.q c.from.result x c.requires.there c.from.ensures c.index_mut.ensures.value)).fits
+
+pub post-requires-clause-there : goal.post-requires-clause-there
+post-requires-clause-there g c =
+    let t : Tables = tables_of c.args.self.now c.args.store.now.pages in
+    let x : Queue = c.index_mut.result.now in
+    post-there t c.clear.new.self.pages c.args.q x c.args.entry (c.requires.can x (queue-at t c.args.q c.from.result x c.requires.there c.from.ensures c.index_mut.ensures.value)) c.clear.ensures.memory
+
+pub unreachable-requires : goal.unreachable-requires
+unreachable-requires g c =
+    let t : Tables = tables_of c.args.self.now c.args.store.now.pages in
+    let x : Queue = c.index_mut.result.now in
+    post-room t c.args.q x c.args.entry (c.requires.can x (queue-at t c.args.q c.from.result x c.requires.there c.from.ensures c.index_mut.ensures.value)) (c.in-Err.ensures.full.0 refl)
+
+pub returns : goal.returns
+returns g c = λ queue at.
+    let t : Tables = tables_of c.args.self.now c.args.store.now.pages in
+    let x : Queue = c.index_mut.result.now in
+    let here = queue-at t c.args.q c.from.result x c.requires.there c.from.ensures c.index_mut.ensures.value in
+    subst (λ (y : Queue). record t { pages = c.post.new.dma.pages; queues = slice_set t.queues c.from.result (record x { host = c.post.new.self }) } ≡ posted c.args.q y c.args.entry t) (some_is (sym here ∙ at))
+    (post-told t c.post.new.dma.pages c.clear.new.self.pages c.args.q c.from.result x c.post.new.self c.args.entry c.requires.there c.from.ensures c.index_mut.ensures.value (c.requires.can x here)
+    c.in-Ok.ensures.tail c.clear.ensures.memory c.clear.ensures.pool c.in-Ok.ensures.written c.in-Ok.ensures.pool c.pages-count.ensures.whole)

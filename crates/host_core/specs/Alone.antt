@@ -1,0 +1,52 @@
+-- The host alone: the machine with no controller, in which nothing is trusted. What a call of the host answers and leaves is decided by
+-- the host and by the bytes in memory.
+use Rattle.std.specs.Prelude.{◌≡◌, ◌+◌, ◌<◌, ◌++◌, take, true, ℕ, false, [], length}
+use Rattle.page_ledger.specs.Counting.{total}
+use Rattle.page_memory.specs.Pages.{Pages, IsPool}
+use Rattle.machine_model.specs.Claims.{HasOneOwner, IdentifiersDiffer, IsOutWithItsCommand, counts_of}
+use Rattle.machine_model.specs.Events.{Event, Reply}
+use Rattle.machine_model.specs.Positions.{IsInRing}
+use Rattle.io_commands.specs.Drafts.{DraftContents}
+use Rattle.io_commands.specs.Values.{numbers_of}
+use Rattle.page_ledger.specs.Owners.{is_among}
+use Rattle.machine_model.specs.State.{State, Host, Device, outstanding_on}
+use Rattle.machine_model.specs.Step.{Step}
+use Rattle.std.specs.List.{AllByRecursion}
+
+-- what contracts see of a host: the entries of each ring, the descriptors of a full segment, and the machine's host
+pub record HostView : Type 0 where
+  pub entries : ℕ
+  pub segment : ℕ
+  pub host : Host
+
+-- no controller
+abbrev pub nothing : Device
+nothing = record { queues = []; jobs = []; image = [] }
+
+-- the machine that is this host over these pages
+abbrev pub alone : HostView → Pages → State
+alone v pages = record { entries = v.entries; segment = v.segment; memory = pages; host = v.host; device = nothing; trusted = false }
+
+-- a step of the host: its refusal, its answer, and the host and the memory that it leaves
+abbrev pub HostStep : HostView → Pages → Event → Reply → HostView → Pages → Type 0
+HostStep v pages e reply v' pages' = Step (alone v pages) e reply (alone v' pages')
+
+-- The pages are those of the host: as many as it has owners for, in whole, and out exactly while their command is drafted or collected.
+pub record IsOver (v : HostView) (pages : Pages) : Type 0 where
+  pub pool : IsPool pages
+  pub size : length pages ≡ total (counts_of v.host)
+  pub out : IsOutWithItsCommand (alone v pages)
+
+-- What holds of each host, against any controller at all: each page has one owner, and no identifier of a queue is outstanding twice.
+pub record IsSoundHost (v : HostView) : Type 0 where
+  pub owners : HasOneOwner (total (counts_of v.host)) v.host
+  pub identifiers : IdentifiersDiffer v.host
+  pub positions : AllByRecursion (λ queue. IsInRing v.entries queue.ring) v.host.queues
+
+-- What the machine leaves to its host, and this host chooses: the lowest identifier of a queue that is not outstanding, and the free pages
+-- that come first.
+abbrev pub IsLowest : Host → ℕ → ℕ → Type 0
+IsLowest h q cid = (lower : ℕ) → lower < cid → is_among (outstanding_on h q) lower ≡ true
+
+abbrev pub HasFirstPages : Host → DraftContents → Type 0
+HasFirstPages h d = numbers_of d.data_pages ++ numbers_of d.chain_pages ≡ take (length d.data_pages + length d.chain_pages) h.free

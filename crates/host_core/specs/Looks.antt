@@ -1,0 +1,16 @@
+-- What looks at a host tell: what would be answered, want of memory left aside.
+use Rattle.std.specs.Prelude.{ℕ, Bool, ◌&&◌, is_none, is_some, Option, Some, None}
+use Rattle.machine_model.specs.Events as events
+use Rattle.machine_model.specs.Refusals.{refusal_of, seen_entry}
+use Rattle.machine_model.specs.State.{State}
+use Rattle.machine_model.specs.declared.words.Refusal.{Refusal}
+use Rattle.machine_model.specs.declared.words.Refusal.TheVariants as refusal
+
+-- whether a reap would take a completion
+abbrev pub completion_waits : State → ℕ → Bool
+completion_waits s q = is_none (refusal_of s (events.Reap q)) && is_some (seen_entry s q)
+
+-- a cause against an event; want of memory is none
+abbrev pub cause_of : Refusal → Option Refusal
+cause_of refusal.Memory = None
+cause_of why = Some why

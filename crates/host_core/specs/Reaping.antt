@@ -1,0 +1,111 @@
+-- The host reaps a completion.
+use Rattle.std.specs.Prelude.{◌≡◌, ℕ, ◌<◌, ◌&&◌, Bool, true, false, Option, Some, None, find, slice_get, if◌then◌else◌, not}
+use Rattle.std.specs.Option.{option_map_or}
+use Rattle.admin_commands.specs.declared.AdminKind.{AdminKind}
+use Rattle.admin_commands.specs.declared.AdminKind.TheVariants.{Abort, DeleteSq, DeleteCq}
+use Rattle.entry_codec.specs.declared.completion.ComEntry.{ComEntry}
+use Rattle.entry_codec.specs.declared.status.Status.{Status}
+use Rattle.io_commands.specs.Jobs.{is_success}
+use Rattle.machine_model.specs.After.{change, held}
+use Rattle.machine_model.specs.Events as events
+use Rattle.machine_model.specs.Refusals.{is_retired, seen_entry, has_cq}
+use Rattle.machine_model.specs.State.{Record, is_at, with_record, without_record}
+use Rattle.machine_model.specs.Step.{Step}
+use Rattle.machine_model.specs.declared.words.HostState.{HostState}
+use Rattle.machine_model.specs.declared.words.HostState.TheVariants.{Live, Deleting, Gone}
+use Rattle.machine_model.specs.declared.words.Phase.TheVariants.{Submitted}
+use Rattle.machine_model.specs.declared.words.Reaped.{Reaped}
+use Rattle.machine_model.specs.Work.{Work}
+use Rattle.machine_model.specs.declared.words.Work.TheVariants.{Io, Management}
+use Rattle.page_ledger.specs.Owners.{given_back, is_half}
+use Rattle.page_memory.specs.declared.page.Half.TheVariants.{Completion}
+use Rattle.queue_pair.specs.Memory.{completion_place}
+use Rattle.queue_pair.specs.Rings.{knowing, next_head}
+use Rattle.queue_pair.specs.Slots.{is_in_range}
+use Rattle.host_core.specs.Commands.{passes, state_at, without_claim}
+use Rattle.host_core.specs.Tables.{Tables, state_of}
+use Rattle.host_core.specs.Whole.{IsWhole}
+use Rattle.host_core.specs.Rows.{Queue}
+
+-- no queue of a number has a completion half
+abbrev pub lacks_completion : Option Queue → Bool
+lacks_completion o = not (option_map_or (λ queue. has_cq queue.state) o false)
+
+-- the place of a completion slot of a queue that has its completion half
+pub record IsCompletionSlot (t : Tables) (q slot place : ℕ) : Type 0 where
+  pub queue : Queue
+  pub at : slice_get t.queues q ≡ Some queue
+  pub live : has_cq queue.state ≡ true
+  pub below : slot < t.entries
+  pub there : place ≡ completion_place queue.host.cq slot
+
+-- a queue of which the completion at the head was taken
+abbrev pub with_answer_taken : Queue → Queue
+with_answer_taken queue = record queue { host = record queue.host { ring = next_head queue.host.entries queue.host.ring } }
+
+abbrev pub with_head_known : ℕ → Queue → Queue
+with_head_known sqhd queue = record queue { host = record queue.host { ring = knowing sqhd queue.host.ring } }
+
+-- the tables once a completion was consumed
+abbrev pub consumed : ℕ → Tables → Tables
+consumed q t = record t { queues = change q with_answer_taken t.queues }
+
+-- a queue of which a completion was taken that tells the controller's submission head
+abbrev pub with_answer_heard : ℕ → Queue → Queue
+with_answer_heard sqhd queue = with_head_known sqhd (with_answer_taken queue)
+
+-- the tables once a completion was taken that tells the controller's submission head
+abbrev pub heard : ℕ → ℕ → Tables → Tables
+heard q sqhd t = record t { queues = change q (with_answer_heard sqhd) t.queues }
+
+-- and once how an I/O command ended is held
+abbrev pub ended_with : ℕ → ℕ → ℕ → Status → Tables → Tables
+ended_with q sqhd cid status t = record (heard q sqhd t) { records = with_record q cid (held status) t.records }
+
+-- and once an admin command is over
+abbrev pub over : ℕ → ℕ → ℕ → Tables → Tables
+over q sqhd cid t = record t { queues = change q (without_claim cid) (heard q sqhd t).queues; records = without_record q cid t.records }
+
+abbrev pub with_state : HostState → Queue → Queue
+with_state state queue = record queue { state = state }
+
+-- what the host knows of a queue once the deletion of its submission side has ended
+abbrev pub state_deleted : Status → HostState
+state_deleted status = if is_success status then Deleting true else Live
+
+-- a queue's completion half is given back
+abbrev pub without_completion : ℕ → Tables → Tables
+without_completion q t = record t { owners = given_back (is_half q Completion) t.owners; queues = change q (with_state Gone) t.queues }
+
+-- whether the end of the deletion of a completion queue gives the half back
+abbrev pub gives_back : ℕ → Status → Tables → Bool
+gives_back q status t = is_success status && passes is_retired (state_at t.queues q)
+
+-- what the end of an admin command means for the queue that it names
+abbrev pub meant : AdminKind → Status → Tables → Tables
+meant (Abort q cid) status t = t
+meant (DeleteSq q) status t = record t { queues = change q (with_state (state_deleted status)) t.queues }
+meant (DeleteCq q) status t = if gives_back q status t then without_completion q t else t
+
+-- the command of queue 0 that a command is
+abbrev pub kind_of : Work → Option AdminKind
+kind_of (Io request) = None
+kind_of (Management kind) = Some kind
+
+-- the completion that the host sees at a queue's head
+abbrev pub seen_at : Tables → ℕ → Option ComEntry
+seen_at t q = seen_entry (state_of t) q
+
+-- what a reap finds, and leaves
+pub record ReapsTo (t : Tables) (q : ℕ) (what : Reaped) (new : Tables) : Type 0 where
+  pub step : Step (state_of t) (events.Reap q) (events.Reaps what) (state_of new)
+  pub whole : IsWhole new
+
+-- The submitted command that a completion is for, by its place.
+pub record Answered (t : Tables) (q : ℕ) (e : ComEntry) (place : ℕ) : Type 0 where
+  pub entry : Record
+  pub at : slice_get t.records place ≡ Some entry
+  pub was : find (is_at q e.cid) t.records ≡ Some entry
+  pub submitted : entry.phase ≡ Submitted
+  pub sqid : e.sqid ≡ q
+  pub head : (queue : Queue) → slice_get t.queues q ≡ Some queue → is_in_range queue.host.entries queue.host.ring.known_head queue.host.ring.tail e.sqhd ≡ true

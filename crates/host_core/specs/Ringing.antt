@@ -1,0 +1,26 @@
+-- The values that a host hands to the doorbells.
+use Rattle.std.specs.Prelude.{ℕ, Bool, Option, None, false, slice_get, option_map, not}
+use Rattle.std.specs.Option.{option_map_or}
+use Rattle.machine_model.specs.Refusals.{has_sq}
+use Rattle.machine_model.specs.declared.words.Reaped.{Reaped}
+use Rattle.machine_model.specs.declared.words.Reaped.TheVariants.{Empty, Done, AdminDone, Rejected}
+use Rattle.host_core.specs.Alone.{HostView}
+use Rattle.host_core.specs.Rows.{Queue}
+
+-- no queue of a number has a submission half
+abbrev pub lacks_submission : Option Queue → Bool
+lacks_submission o = not (option_map_or (λ queue. has_sq queue.state) o false)
+
+-- the tail of a queue's submission ring, and the head of its completion ring
+abbrev pub tail_of : HostView → ℕ → Option ℕ
+tail_of v q = option_map (λ queue. queue.ring.tail) (slice_get v.host.queues q)
+
+abbrev pub head_of : HostView → ℕ → Option ℕ
+head_of v q = option_map (λ queue. queue.ring.head) (slice_get v.host.queues q)
+
+-- the head that is to be rung after a reap: none where no completion was taken
+abbrev pub head_rung : HostView → ℕ → Reaped → Option ℕ
+head_rung v q Empty = None
+head_rung v q (Done cid status) = head_of v q
+head_rung v q (AdminDone cid status dw0) = head_of v q
+head_rung v q (Rejected why) = head_of v q

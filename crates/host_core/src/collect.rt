@@ -1,0 +1,169 @@
+//! A command that has ended is collected.
+
+ghost use Rattle.std.specs.Prelude.{◌≡◌, ◌+◌, ◌<◌, ◌≤◌, ◌++◌, [], length, slice_get, slice_set, vec_len, vec_capacity, IfOk, IfErr, Some};
+ghost use Rattle.machine_model.specs.After.{collected};
+ghost use Rattle.machine_model.specs.Events as events;
+ghost use Rattle.machine_model.specs.Memory.{without_pages};
+ghost use Rattle.machine_model.specs.State.{Record as RecordValue, pages_of};
+ghost use Rattle.machine_model.specs.Step.{Step, Refuses};
+ghost use Rattle.host_core.specs.Alone.{HostStep, IsOver};
+ghost use Rattle.host_core.specs.Collecting.{taken_pages, StandsAt, Tells};
+ghost use Rattle.host_core.specs.Commands.{CanTake};
+ghost use Rattle.host_core.specs.Parts.{tables_of, Over};
+ghost use Rattle.host_core.specs.Replies.{collect_reply};
+ghost use Rattle.host_core.specs.Tables.{state_of};
+ghost use Rattle.host_core.specs.Whole.{IsWhole, FitsPhase};
+
+use crate::compare::find_record;
+use crate::host::Host;
+use crate::moving::move_out;
+use crate::parts::Parts;
+use crate::record::Record;
+use crate::refused::Refused;
+use entry_codec::Status;
+use io_commands::{Finished, Request, Ticket};
+use machine_model::words::{Phase, Refusal, Work};
+use page_memory::{Page, PageNo, Store};
+use std::alloc::{AllocError, Allocator};
+
+/// What a finished command is made of, before its pages are taken out.
+#[derive(Drop)]
+struct Room<A: Allocator> {
+    request: Request<A>,
+    status: Status,
+    pages: Vec<(PageNo, Page<A>), A>,
+}
+
+/// Room for what a held command hands over.
+fn room_for<A: Allocator + Copy>(alloc: A, entry: &Record<A>) -> Result<Room<A>, AllocError>
+    requires { FitsPhase Phase.Held entry.now.work entry.now.status }
+    ensures request { IfOk result (λ room. entry.now.work ≡ Work.Io room.request) }
+    ensures status { IfOk result (λ room. entry.now.status ≡ Some room.status) }
+    ensures room { IfOk result (λ room. (room.pages.items ≡ []) × (vec_len room.pages ≡ 0) × (length entry.now.data_pages + length entry.now.chain_pages ≤ vec_capacity room.pages)) }
+{
+    let many = entry.data_pages.len() + entry.chain_pages.len();
+    let pages = Vec::with_capacity(alloc, many)?;
+    let Some(status) = entry.status else {
+        unreachable!();
+    };
+    match &entry.work {
+        Work::Io(request) => Ok(Room {
+            request: request.copied(alloc)?,
+            status,
+            pages,
+        }),
+        Work::Management(_) => unreachable!(),
+    }
+}
+
+/// Takes a command's pages out.
+fn take_pages<A: Allocator>(
+    store: &mut Store<A>,
+    entry: &Record<A>,
+    into: &mut Vec<(PageNo, Page<A>), A>,
+)
+    requires room { (into.old.items ≡ []) × (vec_len into.old ≡ 0) × (length entry.now.data_pages + length entry.now.chain_pages ≤ vec_capacity into.old) }
+    requires front { CanTake entry.now.data_pages store.old.pages }
+    requires back { CanTake entry.now.chain_pages (without_pages entry.now.data_pages store.old.pages) }
+    ensures pages { store.new.pages ≡ without_pages entry.now.chain_pages (without_pages entry.now.data_pages store.old.pages) }
+    ensures items { into.new.items ≡ taken_pages entry.now.data_pages store.old.pages ++ taken_pages entry.now.chain_pages (without_pages entry.now.data_pages store.old.pages) }
+{
+    move_out(store, &entry.data_pages, into);
+    move_out(store, &entry.chain_pages, into);
+}
+
+/// Marks a command collected.
+fn mark<A: Allocator>(entry: &mut Record<A>)
+    ensures { entry.new ≡ collected entry.old }
+{
+    entry.phase = Phase::Collected;
+}
+
+/// Marks the command at a place collected.
+fn mark_collected<A: Allocator>(records: &mut Vec<Record<A>, A>, place: usize)
+    requires { place < length records.old.items }
+    ensures { (entry : RecordValue) → slice_get records.old.items place ≡ Some entry → records.new.items ≡ slice_set records.old.items place (collected entry) }
+{
+    mark(&mut records[place]);
+}
+
+impl<A: Allocator> Parts<A> {
+    /// The place of a command that is held.
+    pub(crate) fn check_collect(&self, q: u16, cid: u16) -> Result<usize, Refusal>
+        ensures place { IfOk result (λ place. Over self.now (λ t. StandsAt t q cid place)) }
+        ensures within { IfOk result (λ place. place < length self.now.records.items) }
+        ensures refused { IfErr result (λ why. Over self.now (λ t. Refuses (state_of t) (events.Collect q cid) why [])) }
+    {
+        let Some(place) = find_record(&self.records, q, cid) else {
+            return Err(Refusal::Stranger);
+        };
+        match self.records[place].phase {
+            Phase::Held => Ok(place),
+            Phase::Submitted => Err(Refusal::NotYet),
+            Phase::Drafted | Phase::Collected => Err(Refusal::Stranger),
+        }
+    }
+
+    /// Takes a held command's pages out.
+    fn commit_collect(
+        &mut self,
+        store: &mut Store<A>,
+        q: u16,
+        cid: u16,
+        place: usize,
+        room: Room<A>,
+    ) -> Finished<A>
+        requires whole { IsWhole (tables_of self.old store.old.pages) }
+        requires there { place < length self.old.records.items }
+        requires stands { StandsAt (tables_of self.old store.old.pages) q cid place }
+        requires tells { Tells (tables_of self.old store.old.pages) place room.request room.status }
+        requires empty { (room.pages.items ≡ []) × (vec_len room.pages ≡ 0) }
+        requires space { (entry : RecordValue) → slice_get self.old.records.items place ≡ Some entry → length entry.data_pages + length entry.chain_pages ≤ vec_capacity room.pages }
+        ensures step { Step (state_of (tables_of self.old store.old.pages)) (events.Collect q cid) (events.Collects result) (state_of (tables_of self.new store.new.pages)) }
+        ensures whole { IsWhole (tables_of self.new store.new.pages) }
+    {
+        let Room {
+            request,
+            status,
+            mut pages,
+        } = room;
+        take_pages(store, &self.records[place], &mut pages);
+        mark_collected(&mut self.records, place);
+        Finished::make(q, cid, request, status, pages)
+    }
+}
+
+impl<A: Allocator + Copy> Host<A> {
+    /// Collects a command that has ended: its pages are taken out, with their bytes.
+    ///
+    /// # Errors
+    ///
+    /// The ticket is handed back, and nothing changed. 1. `Stranger` where no submitted or held command has its queue and
+    /// identifier. 2. `NotYet` where it has not ended. 3. `Memory` where memory is refused.
+    pub fn collect(
+        &mut self,
+        store: &mut Store<A>,
+        ticket: Ticket,
+    ) -> Result<Finished<A>, Refused<Ticket>>
+        requires { IsOver self.old store.old.pages }
+        ensures step { HostStep self.old store.old.pages (events.Collect ticket.q ticket.cid) (collect_reply result) self.new store.new.pages }
+        ensures over { IsOver self.new store.new.pages }
+        ensures back { IfErr result (λ r. r.value ≡ ticket) }
+    {
+        let place = match self.parts.check_collect(ticket.q(), ticket.cid()) {
+            Ok(place) => place,
+            Err(why) => return Err(Refused { value: ticket, why }),
+        };
+        let room = match room_for(self.parts.alloc, &self.parts.records[place]) {
+            Ok(room) => room,
+            Err(_) => {
+                return Err(Refused {
+                    value: ticket,
+                    why: Refusal::Memory,
+                });
+            }
+        };
+        let (q, cid) = ticket.apart();
+        Ok(self.parts.commit_collect(store, q, cid, place, room))
+    }
+}

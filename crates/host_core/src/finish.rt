@@ -1,0 +1,121 @@
+//! A command ends: a draft is cancelled, or a finished command released.
+
+ghost use Rattle.std.specs.Prelude.{◌≡◌, ◌<◌, length, slice_get, find, IfErr, Some, true};
+ghost use Rattle.machine_model.specs.After.{change};
+ghost use Rattle.machine_model.specs.Events as events;
+ghost use Rattle.machine_model.specs.State.{is_at};
+ghost use Rattle.host_core.specs.Alone.{HostStep, IsOver};
+ghost use Rattle.host_core.specs.Commands.{ended as spec_ended, without_claim, Claims, Brings};
+ghost use Rattle.host_core.specs.Parts.{tables_of};
+ghost use Rattle.host_core.specs.Replies.{accept_reply};
+ghost use Rattle.host_core.specs.Whole.{IsWhole};
+
+use crate::compare::{place_of, place_of_draft, read_pages};
+use crate::host::Host;
+use crate::moving::move_in;
+use crate::parts::Parts;
+use crate::queue::Queue;
+use crate::refused::Refused;
+use io_commands::{Draft, Finished};
+use machine_model::words::Refusal;
+use page_memory::{Page, PageNo, Store};
+use queue_pair::HostPair;
+use std::alloc::Allocator;
+
+/// Frees an identifier that is claimed.
+fn free_claimed<A: Allocator>(queue: &mut Queue<HostPair<A>>, cid: u16)
+    requires { slice_get queue.old.host.claimed cid ≡ Some true }
+    ensures { queue.new ≡ without_claim cid queue.old }
+{
+    queue.host.free(cid);
+}
+
+/// Frees an identifier of a queue that is claimed.
+pub(crate) fn unclaim<A: Allocator>(queues: &mut Vec<Queue<HostPair<A>>, A>, q: u16, cid: u16)
+    requires there { q < length queues.old.items }
+    requires claimed { Claims queues.old.items q cid }
+    ensures { queues.new.items ≡ change q (without_claim cid) queues.old.items }
+{
+    free_claimed(&mut queues[usize::from(q)], cid);
+}
+
+impl<A: Allocator> Parts<A> {
+    /// Ends a command whose record stands at a place: its pages come in, and are free, and so is its identifier.
+    fn commit_end(
+        &mut self,
+        store: &mut Store<A>,
+        place: usize,
+        q: u16,
+        cid: u16,
+        pages: Vec<(PageNo, Page<A>), A>,
+    )
+        requires whole { IsWhole (tables_of self.old store.old.pages) }
+        requires there { place < length self.old.records.items }
+        requires brings { Brings (tables_of self.old store.old.pages) q cid pages.items }
+        requires at { slice_get self.old.records.items place ≡ find (is_at q cid) self.old.records.items }
+        ensures { tables_of self.new store.new.pages ≡ spec_ended q cid pages.items (tables_of self.old store.old.pages) }
+    {
+        let _gone = self.records.remove(place);
+        self.ledger.give_back(q, cid);
+        unclaim(&mut self.queues, q, cid);
+        move_in(store, pages);
+    }
+}
+
+impl<A: Allocator> Host<A> {
+    /// Cancels a draft: its pages come in with their bytes, and are free, and so is its identifier.
+    ///
+    /// # Errors
+    ///
+    /// `Stranger` exactly where no drafted command of this host has its queue, identifier, request and pages. Then the
+    /// draft is handed back, and nothing changed.
+    pub fn cancel(&mut self, store: &mut Store<A>, draft: Draft<A>) -> Result<(), Refused<Draft<A>>>
+        requires { IsOver self.old store.old.pages }
+        ensures step { HostStep self.old store.old.pages (events.Cancel draft) (accept_reply result) self.new store.new.pages }
+        ensures over { IsOver self.new store.new.pages }
+        ensures back { IfErr result (λ r. r.value ≡ draft) }
+    {
+        let Some(place) = place_of_draft(&self.parts.records, &draft) else {
+            return Err(Refused {
+                value: draft,
+                why: Refusal::Stranger,
+            });
+        };
+        let parts = draft.apart();
+        self.parts
+            .commit_end(store, place, parts.q, parts.cid, parts.pages);
+        Ok(())
+    }
+
+    /// Releases a finished command: its pages come in with their bytes, and are free, and so is its identifier.
+    ///
+    /// # Errors
+    ///
+    /// `Stranger` exactly where no collected command of this host has its queue, identifier, request and pages. Then the
+    /// finished command is handed back, and nothing changed.
+    pub fn release(
+        &mut self,
+        store: &mut Store<A>,
+        finished: Finished<A>,
+    ) -> Result<(), Refused<Finished<A>>>
+        requires { IsOver self.old store.old.pages }
+        ensures step { HostStep self.old store.old.pages (events.Release finished) (accept_reply result) self.new store.new.pages }
+        ensures over { IsOver self.new store.new.pages }
+        ensures back { IfErr result (λ r. r.value ≡ finished) }
+    {
+        read_pages(finished.pages());
+        let request = finished.request();
+        let (front, back) = finished.pages().split_at(finished.data_pages());
+        let command = (finished.q(), finished.cid());
+        let Some(place) = place_of(&self.parts.records, true, command, request, front, back) else {
+            return Err(Refused {
+                value: finished,
+                why: Refusal::Stranger,
+            });
+        };
+        let parts = finished.apart();
+        self.parts
+            .commit_end(store, place, parts.q, parts.cid, parts.pages);
+        Ok(())
+    }
+}

@@ -1,0 +1,25 @@
+//! The host: one call is one step of the machine with no controller.
+
+use crate::parts::Parts;
+use std::alloc::{Allocator, Global};
+use std::marker::Model;
+
+/// A host. Contracts see it as the machine's host, with the entries of its rings and the descriptors of a full segment.
+#[derive(Drop)]
+pub struct Host<A: Allocator = Global> {
+    pub(crate) parts: Parts<A>,
+}
+
+impl<A: Allocator> Model for Host<A> {
+    ghost use Rattle.std.specs.Prelude.{[]};
+    ghost use Rattle.host_core.specs.Alone.{HostView};
+    ghost use Rattle.host_core.specs.Parts.{tables_of};
+    ghost use Rattle.host_core.specs.Tables.{view_of};
+    ghost use Rattle.host_core.specs.Whole.{IsHost};
+
+    ghost Value = { HostView };
+
+    ghost view = { λ h. view_of (tables_of h.parts []) };
+
+    ghost invariant = { λ h. IsHost (tables_of h.parts []) };
+}

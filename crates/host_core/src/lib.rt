@@ -1,0 +1,42 @@
+//! The host alone: its queues, its outstanding commands, and who owns which page.
+//!
+//! A [`Host`] is a library for a driver: each call is lent the pages, as [`page_memory::Store`], in which the controller reads and writes
+//! too. Nothing of a controller is known here, and nothing that it wrote is trusted: a completion is what stands in its slot, and one of no
+//! submitted command is rejected. What crosses is memory, and the values that are to be written to the two doorbells of a queue, which
+//! [`Host::ring`] and [`Host::reap`] answer (NVM Express Base Specification 2.0, "Memory-based transport queue model", section 3.3.1).
+//!
+//! The contract of each call holds against any controller, whatever bytes stand in the pages: the call is a step of the machine that
+//! `machine_model` defines, with no controller in it. A refusal is the first cause that holds, and then nothing changed and every moved
+//! value is handed back; else the answer, the host and the pages are the machine's. Between calls each page has one owner, the counts add
+//! up, and identifiers are distinct ([`Host::pages`]).
+#![tactic(auto)]
+
+mod collect;
+mod compare;
+mod config;
+mod finish;
+mod host;
+pub mod laws;
+mod look;
+mod moving;
+mod open;
+mod parts;
+mod post;
+mod queue;
+mod queues;
+mod reap;
+mod record;
+mod refused;
+mod reserve;
+mod retire;
+mod ring;
+mod send;
+mod submit;
+mod view;
+pub mod worked;
+
+pub use config::Config;
+pub use host::Host;
+pub use open::Opened;
+pub use reap::Reap;
+pub use refused::Refused;

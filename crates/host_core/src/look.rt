@@ -1,0 +1,79 @@
+//! What would be answered: looks that change nothing, for those who wait until the answer is another.
+
+ghost use Rattle.std.specs.Prelude.{◌≡◌, ℕ, true, false, Some, IfSome, IfNone, option_and_then};
+ghost use Rattle.machine_model.specs.Events as events;
+ghost use Rattle.machine_model.specs.Refusals.{refusal_of};
+ghost use Rattle.machine_model.specs.State.{record_at};
+ghost use Rattle.page_memory.specs.Pages.{Pages};
+ghost use Rattle.host_core.specs.Alone.{alone, IsOver};
+ghost use Rattle.host_core.specs.Looks.{cause_of, completion_waits as spec_completion_waits};
+
+use crate::compare::find_record;
+use crate::host::Host;
+use crate::queues::has_no_completion;
+use entry_codec::Status;
+use io_commands::Request;
+use machine_model::words::Refusal;
+use page_memory::Store;
+use std::alloc::Allocator;
+
+/// A cause against an event; want of memory is none.
+fn cause(why: Refusal) -> Option<Refusal>
+    ensures { result ≡ cause_of why }
+{
+    match why {
+        Refusal::Memory => None,
+        why => Some(why),
+    }
+}
+
+impl<A: Allocator + Copy> Host<A> {
+    /// What [`Host::reserve`] would be refused for, want of memory left aside, over any pages that are the host's.
+    pub fn reserve_refusal(&self, q: u16, request: &Request<A>) -> Option<Refusal>
+        ensures { (pages : Pages) → IsOver self.now pages → result ≡ refusal_of (alone self.now pages) (events.Reserve q request.now) }
+    {
+        match self.parts.check_reserve(q, request) {
+            Ok(_) => None,
+            Err(why) => cause(why),
+        }
+    }
+}
+
+impl<A: Allocator> Host<A> {
+    /// What [`Host::collect`] of this command's ticket would be refused for, want of memory left aside, over any pages that are the
+    /// host's.
+    pub fn collect_refusal(&self, q: u16, cid: u16) -> Option<Refusal>
+        ensures { (pages : Pages) → IsOver self.now pages → result ≡ refusal_of (alone self.now pages) (events.Collect q cid) }
+    {
+        match self.parts.check_collect(q, cid) {
+            Ok(_) => None,
+            Err(why) => cause(why),
+        }
+    }
+
+    /// How an outstanding command ended: the status that a completion brought, or that it got as its queue was retired. The host keeps it
+    /// until the command is released. None where the command has not ended, or none is outstanding under this identifier.
+    pub fn status_of(&self, q: u16, cid: u16) -> Option<Status>
+        ensures { result ≡ option_and_then (λ r. r.status) (record_at self.now.host q cid) }
+    {
+        match find_record(&self.parts.records, q, cid) {
+            Some(place) => {
+                let entry = &self.parts.records[place];
+                entry.status
+            }
+            None => None,
+        }
+    }
+
+    /// Whether [`Host::reap`] would take a completion from the queue. Nothing changes.
+    pub fn completion_waits(&self, store: &mut Store<A>, q: u16) -> bool
+        requires { IsOver self.now store.old.pages }
+        ensures answer { result ≡ spec_completion_waits (alone self.now store.old.pages) q }
+        ensures same { store.new.pages ≡ store.old.pages }
+    {
+        if has_no_completion(&self.parts.queues, q) {
+            return false;
+        }
+        self.parts.see(store, q).is_some()
+    }
+}

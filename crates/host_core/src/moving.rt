@@ -1,0 +1,84 @@
+//! Pages moved out of the store, and into it.
+
+ghost use Rattle.std.specs.Prelude.{◌≡◌, ◌+◌, ◌≤◌, ◌++◌, length, slice_set, vec_len, vec_capacity, IsSome, None, []};
+ghost use Rattle.std.specs.Option.{option_map_or};
+ghost use Rattle.host_core.specs.Collecting.{taken_pages};
+ghost use Rattle.page_memory.specs.Pages.{page_at, zero_page};
+ghost use Rattle.machine_model.specs.Memory.{without_pages, with_pages, zeroed_pages};
+ghost use Rattle.host_core.specs.Commands.{CanTake, CanPut};
+
+use page_memory::{Page, PageNo, Store};
+use std::alloc::Allocator;
+
+/// Takes a page that is in, and makes it one of zeros.
+#[tactic(auto, using(crate::proofs::Pages::zeroed_rules))]
+fn take_zeroed<A: Allocator>(store: &mut Store<A>, number: PageNo) -> Page<A>
+    requires { IsSome (page_at store.old.pages number) }
+    ensures page { result ≡ zero_page }
+    ensures out { store.new.pages ≡ slice_set store.old.pages number None }
+{
+    store.zero(number);
+    let Some(page) = store.take(number) else {
+        unreachable!();
+    };
+    page
+}
+
+/// Moves pages of zeros out, to the end of a list that has room for them.
+pub(crate) fn move_out_zeroed<A: Allocator>(
+    store: &mut Store<A>,
+    numbers: &[PageNo],
+    into: &mut Vec<(PageNo, Page<A>), A>,
+)
+    requires room { vec_len into.old + length numbers.now ≤ vec_capacity into.old }
+    requires can { CanTake numbers.now store.old.pages }
+    ensures pages { store.new.pages ≡ without_pages numbers.now store.old.pages }
+    ensures items { into.new.items ≡ into.old.items ++ zeroed_pages numbers.now }
+    ensures capacity { vec_capacity into.new ≡ vec_capacity into.old }
+{
+    for number in numbers {
+        let page = take_zeroed(store, *number);
+        into.push_reserved((*number, page));
+    }
+}
+
+/// Moves pages in, with their bytes.
+pub(crate) fn move_in<A: Allocator>(store: &mut Store<A>, pages: Vec<(PageNo, Page<A>), A>)
+    requires { CanPut pages.items store.old.pages }
+    ensures { store.new.pages ≡ with_pages pages.items store.old.pages }
+{
+    for (number, page) in pages {
+        store.put(number, page);
+    }
+}
+
+/// Takes a page that is in, with its bytes.
+fn take_page<A: Allocator>(store: &mut Store<A>, number: PageNo) -> Page<A>
+    requires { IsSome (page_at store.old.pages number) }
+    ensures page { result ≡ option_map_or (λ bytes. bytes) (page_at store.old.pages number) [] }
+    ensures out { store.new.pages ≡ slice_set store.old.pages number None }
+{
+    let Some(page) = store.take(number) else {
+        unreachable!();
+    };
+    page
+}
+
+/// Moves pages out with their bytes, to the end of a list that has room for them.
+pub(crate) fn move_out<A: Allocator>(
+    store: &mut Store<A>,
+    numbers: &[PageNo],
+    into: &mut Vec<(PageNo, Page<A>), A>,
+)
+    requires room { vec_len into.old + length numbers.now ≤ vec_capacity into.old }
+    requires can { CanTake numbers.now store.old.pages }
+    ensures pages { store.new.pages ≡ without_pages numbers.now store.old.pages }
+    ensures items { into.new.items ≡ into.old.items ++ taken_pages numbers.now store.old.pages }
+    ensures capacity { vec_capacity into.new ≡ vec_capacity into.old }
+    ensures len { vec_len into.new ≡ vec_len into.old + length numbers.now }
+{
+    for number in numbers {
+        let page = take_page(store, *number);
+        into.push_reserved((*number, page));
+    }
+}

@@ -1,0 +1,24 @@
+//! What a host holds.
+
+use crate::queue::Queue;
+use crate::record::Record;
+use page_ledger::Ledger;
+use queue_pair::HostPair;
+use std::alloc::Allocator;
+
+/// The tables of a host.
+#[derive(Drop)]
+pub(crate) struct Parts<A: Allocator> {
+    /// Where its lists are made.
+    pub(crate) alloc: A,
+    /// How many entries each ring has.
+    pub(crate) entries: u16,
+    /// The most descriptors of a segment.
+    pub(crate) segment: u16,
+    /// Who owns which page.
+    pub(crate) ledger: Ledger<A>,
+    /// The outstanding commands.
+    pub(crate) records: Vec<Record<A>, A>,
+    /// The queues, by their numbers.
+    pub(crate) queues: Vec<Queue<HostPair<A>>, A>,
+}

@@ -1,0 +1,143 @@
+//! The queues of a host, by their numbers.
+
+ghost use Rattle.std.specs.Prelude.{◌≡◌, ◌<◌, not, position, length, slice_get, Some};
+ghost use Rattle.machine_model.specs.After.{change};
+ghost use Rattle.machine_model.specs.Refusals.{is_deleted as spec_is_deleted, is_deleting as spec_is_deleting, is_live as spec_is_live, is_retired as spec_is_retired};
+ghost use Rattle.host_core.specs.Commands.{ClaimsNext, passes, state_at, takes_no_io as spec_takes_no_io, with_claim};
+ghost use Rattle.host_core.specs.Reaping.{lacks_completion, with_state};
+ghost use Rattle.host_core.specs.Ringing.{lacks_submission};
+ghost use Rattle.host_core.specs.Rows.{Queue as QueueValue};
+
+use crate::queue::Queue;
+use machine_model::words::HostState;
+use queue_pair::HostPair;
+use std::alloc::Allocator;
+
+/// The host's state of a queue.
+pub(crate) fn host_state<A: Allocator>(queues: &[Queue<HostPair<A>>], q: u16) -> Option<HostState>
+    ensures { result ≡ state_at queues.now q }
+{
+    match queues.get(usize::from(q)) {
+        Some(queue) => Some(queue.state),
+        None => None,
+    }
+}
+
+/// Whether a queue of this number, in this state, takes no I/O commands.
+pub(crate) fn takes_no_io(q: u16, state: Option<HostState>) -> bool
+    ensures { result ≡ spec_takes_no_io q state }
+{
+    if q == 0 {
+        return true;
+    }
+    match state {
+        None | Some(HostState::Retired | HostState::Gone) => true,
+        Some(HostState::Live | HostState::Deleting { .. }) => false,
+    }
+}
+
+/// Whether a queue in this state is being deleted.
+pub(crate) fn is_deleting(state: Option<HostState>) -> bool
+    ensures { result ≡ passes spec_is_deleting state }
+{
+    match state {
+        Some(HostState::Deleting { .. }) => true,
+        None | Some(HostState::Live | HostState::Retired | HostState::Gone) => false,
+    }
+}
+
+/// Whether the deletion of a queue's submission side was reaped with success, and the queue was not retired since.
+pub(crate) fn is_deleted(state: Option<HostState>) -> bool
+    ensures { result ≡ passes spec_is_deleted state }
+{
+    match state {
+        Some(HostState::Deleting { noted }) => noted,
+        None | Some(HostState::Live | HostState::Retired | HostState::Gone) => false,
+    }
+}
+
+/// Whether a queue of this number is live.
+pub(crate) fn is_live<A: Allocator>(queues: &[Queue<HostPair<A>>], q: u16) -> bool
+    ensures { result ≡ passes spec_is_live (state_at queues.now q) }
+{
+    match queues.get(usize::from(q)) {
+        Some(queue) => match queue.state {
+            HostState::Live => true,
+            HostState::Deleting { .. } | HostState::Retired | HostState::Gone => false,
+        },
+        None => false,
+    }
+}
+
+/// Whether the submission half of a queue in this state was given back, and the other was not.
+pub(crate) fn is_retired(state: Option<HostState>) -> bool
+    ensures { result ≡ passes spec_is_retired state }
+{
+    match state {
+        Some(HostState::Retired) => true,
+        None | Some(HostState::Live | HostState::Deleting { .. } | HostState::Gone) => false,
+    }
+}
+
+/// Whether no queue of a number has a submission half.
+pub(crate) fn has_no_submission<A: Allocator>(queues: &[Queue<HostPair<A>>], q: u16) -> bool
+    ensures { result ≡ lacks_submission (slice_get queues.now q) }
+{
+    match queues.get(usize::from(q)) {
+        Some(queue) => match queue.state {
+            HostState::Retired | HostState::Gone => true,
+            HostState::Live | HostState::Deleting { noted: _ } => false,
+        },
+        None => true,
+    }
+}
+
+/// Whether no queue of a number has a completion half.
+pub(crate) fn has_no_completion<A: Allocator>(queues: &[Queue<HostPair<A>>], q: u16) -> bool
+    ensures { result ≡ lacks_completion (slice_get queues.now q) }
+{
+    match queues.get(usize::from(q)) {
+        Some(queue) => match queue.state {
+            HostState::Gone => true,
+            HostState::Live | HostState::Deleting { noted: _ } | HostState::Retired => false,
+        },
+        None => true,
+    }
+}
+
+/// The identifier that a queue would claim next.
+pub(crate) fn next_identifier<A: Allocator>(queues: &[Queue<HostPair<A>>], q: u16) -> Option<u16>
+    requires { q < length queues.now }
+    ensures { (queue : QueueValue) → slice_get queues.now q ≡ Some queue → result ≡ position not queue.host.claimed }
+{
+    queues[usize::from(q)].host.unclaimed()
+}
+
+/// Claims the identifier that is next.
+fn claim_next<A: Allocator>(queue: &mut Queue<HostPair<A>>, cid: u16)
+    requires { position not queue.old.host.claimed ≡ Some cid }
+    ensures { queue.new ≡ with_claim cid queue.old }
+{
+    match queue.host.claim() {
+        Some(_) => {}
+        None => unreachable!(),
+    }
+}
+
+/// Claims the next identifier of a queue.
+pub(crate) fn claim<A: Allocator>(queues: &mut Vec<Queue<HostPair<A>>, A>, q: u16, cid: u16)
+    requires there { q < length queues.old.items }
+    requires next { ClaimsNext queues.old.items q cid }
+    ensures { queues.new.items ≡ change q (with_claim cid) queues.old.items }
+{
+    claim_next(&mut queues[usize::from(q)], cid);
+}
+
+/// Notes the state of a queue, where there is such a queue.
+pub(crate) fn note<A: Allocator>(queues: &mut [Queue<HostPair<A>>], q: u16, state: HostState)
+    ensures { queues.new ≡ change q (with_state state) queues.old }
+{
+    if usize::from(q) < queues.len() {
+        queues[usize::from(q)].state = state;
+    }
+}

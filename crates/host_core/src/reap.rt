@@ -1,0 +1,268 @@
+//! The host reaps a completion.
+
+ghost use Rattle.std.specs.Prelude.{◌≡◌, ◌<◌, [], true, false, Some, IfOk, IfErr, length, slice_get, slice_set};
+ghost use Rattle.io_commands.specs.Jobs.{is_success as succeeds};
+ghost use Rattle.machine_model.specs.After.{held};
+ghost use Rattle.machine_model.specs.Events as events;
+ghost use Rattle.machine_model.specs.State.{Record as RecordValue};
+ghost use Rattle.machine_model.specs.Step.{reaped_entry};
+ghost use Rattle.page_memory.specs.Pages.{Pages};
+ghost use Rattle.queue_pair.specs.Slots.{is_in_range};
+ghost use Rattle.host_core.specs.Alone.{HostStep, HostView, IsOver};
+ghost use Rattle.host_core.specs.Parts.{tables_of, Becomes, Over};
+ghost use Rattle.host_core.specs.Reaping.{consumed, ended_with, heard, kind_of as spec_kind_of, lacks_completion, meant, over, seen_at, state_deleted, with_answer_heard, with_answer_taken, without_completion, Answered, ReapsTo};
+ghost use Rattle.host_core.specs.Replies.{reap_reply};
+ghost use Rattle.host_core.specs.Ringing.{head_of, head_rung};
+ghost use Rattle.host_core.specs.Tables.{state_of};
+ghost use Rattle.host_core.specs.Whole.{IsHost, IsWhole};
+
+use crate::compare::find_record;
+use crate::finish::unclaim;
+use crate::host::Host;
+use crate::parts::Parts;
+use crate::queue::Queue;
+use crate::queues::{has_no_completion, host_state, is_retired, note};
+use crate::record::Record;
+use crate::retire::{hold, is_submitted};
+use admin_commands::AdminKind;
+use entry_codec::{ComEntry, Status};
+use io_commands::Request;
+use machine_model::words::{HostState, Reaped, Refusal, RejectedFor, Work};
+use page_memory::{Half, Store};
+use queue_pair::HostPair;
+use std::alloc::Allocator;
+
+/// What a reap answers.
+#[derive(Clone, Copy, Debug, PartialEq, Eq)]
+pub struct Reap {
+    /// What was found.
+    pub found: Reaped,
+    /// Where a completion was taken, the value to ring for the completion queue's head doorbell.
+    pub head: Option<u16>,
+}
+
+/// The command of queue 0 that a command is.
+fn kind_of<A: Allocator>(work: &Work<Request<A>>) -> Option<AdminKind>
+    ensures { result ≡ spec_kind_of work.now }
+{
+    match work {
+        Work::Io(_) => None,
+        Work::Management(kind) => Some(*kind),
+    }
+}
+
+/// Takes the completion at a queue's head.
+fn take_answer<A: Allocator>(queue: &mut Queue<HostPair<A>>)
+    ensures { queue.new ≡ with_answer_taken queue.old }
+{
+    queue.host.advance();
+}
+
+/// Takes the completion at a queue's head, and learns the controller's submission head from it.
+fn hear_answer<A: Allocator>(queue: &mut Queue<HostPair<A>>, sqhd: u16)
+    requires { is_in_range queue.old.host.entries queue.old.host.ring.known_head queue.old.host.ring.tail sqhd ≡ true }
+    ensures { queue.new ≡ with_answer_heard sqhd queue.old }
+{
+    queue.host.advance();
+    match queue.host.accept_head(sqhd) {
+        Ok(()) => {}
+        Err(_) => unreachable!(),
+    }
+}
+
+/// Notes how the command at a place ended.
+fn hold_at<A: Allocator>(records: &mut Vec<Record<A>, A>, place: usize, status: Status)
+    requires { place < length records.old.items }
+    ensures { (entry : RecordValue) → slice_get records.old.items place ≡ Some entry → records.new.items ≡ slice_set records.old.items place (held status entry) }
+{
+    hold(&mut records[place], status);
+}
+
+/// Whether a status is Successful Completion.
+fn is_success(status: Status) -> bool
+    ensures { result ≡ succeeds status }
+{
+    status.sct == 0 && status.sc == 0
+}
+
+/// What the host knows of a queue once the deletion of its submission side has ended.
+fn deleted(status: Status) -> HostState
+    ensures { result ≡ state_deleted status }
+{
+    if is_success(status) {
+        HostState::Deleting { noted: true }
+    } else {
+        HostState::Live
+    }
+}
+
+impl<A: Allocator> Parts<A> {
+    /// The place of the command that a completion is for, or why it is for none.
+    fn find_answered(&self, q: u16, entry: ComEntry) -> Result<usize, RejectedFor>
+        requires there { lacks_completion (slice_get self.now.queues.items q) ≡ false }
+        ensures place { IfOk result (λ place. (pages : Pages) → Answered (tables_of self.now pages) q entry place) }
+        ensures within { IfOk result (λ place. place < length self.now.records.items) }
+        ensures rejected { IfErr result (λ why. Over self.now (λ t. reaped_entry (state_of t) q entry ≡ Reaped.Rejected why)) }
+    {
+        if entry.sqid != q {
+            return Err(RejectedFor::WrongQueue);
+        }
+        if !self.queues[usize::from(q)].host.head_fits(entry.sqhd) {
+            return Err(RejectedFor::BadHead);
+        }
+        let Some(place) = find_record(&self.records, q, entry.cid) else {
+            return Err(RejectedFor::UnknownId);
+        };
+        if is_submitted(self.records[place].phase) {
+            Ok(place)
+        } else {
+            Err(RejectedFor::UnknownId)
+        }
+    }
+
+    /// Takes the completion at a queue's head.
+    fn consume(&mut self, q: u16)
+        requires { q < length self.old.queues.items }
+        ensures { Becomes self.old (consumed q) self.new }
+    {
+        take_answer(&mut self.queues[usize::from(q)]);
+    }
+
+    /// Takes the completion of a command at a queue's head.
+    fn hear(&mut self, q: u16, entry: ComEntry, place: usize)
+        requires there { q < length self.old.queues.items }
+        requires answered { Answered (tables_of self.old []) q entry place }
+        ensures { Becomes self.old (heard q entry.sqhd) self.new }
+    {
+        hear_answer(&mut self.queues[usize::from(q)], entry.sqhd);
+    }
+
+    /// Takes the completion of a command, and notes how the command ended.
+    fn hold_command(&mut self, q: u16, entry: ComEntry, place: usize)
+        requires host { IsHost (tables_of self.old []) }
+        requires there { q < length self.old.queues.items }
+        requires within { place < length self.old.records.items }
+        requires answered { (pages : Pages) → Answered (tables_of self.old pages) q entry place }
+        ensures { Becomes self.old (ended_with q entry.sqhd entry.cid entry.status) self.new }
+    {
+        self.hear(q, entry, place);
+        hold_at(&mut self.records, place, entry.status);
+    }
+
+    /// Takes the completion of an admin command, and forgets the command.
+    fn end_command(&mut self, q: u16, entry: ComEntry, place: usize)
+        requires host { IsHost (tables_of self.old []) }
+        requires there { q < length self.old.queues.items }
+        requires within { place < length self.old.records.items }
+        requires answered { (pages : Pages) → Answered (tables_of self.old pages) q entry place }
+        ensures { Becomes self.old (over q entry.sqhd entry.cid) self.new }
+    {
+        self.hear(q, entry, place);
+        let _over = self.records.remove(place);
+        unclaim(&mut self.queues, q, entry.cid);
+    }
+
+    /// Gives a queue's completion half back.
+    fn give_back_completion(&mut self, q: u16)
+        ensures { Becomes self.old (without_completion q) self.new }
+    {
+        let _pages = self.ledger.give_back_half(q, Half::Completion);
+        note(&mut self.queues, q, HostState::Gone);
+    }
+
+    /// Does what the end of an admin command means for the queue that it names.
+    fn apply(&mut self, kind: AdminKind, status: Status)
+        ensures { Becomes self.old (meant kind status) self.new }
+    {
+        match kind {
+            AdminKind::Abort { q: _, cid: _ } => {}
+            AdminKind::DeleteSq { q } => note(&mut self.queues, q, deleted(status)),
+            AdminKind::DeleteCq { q } => {
+                if is_success(status) && is_retired(host_state(&self.queues, q)) {
+                    self.give_back_completion(q);
+                }
+            }
+        }
+    }
+
+    /// Ends the command that a completion is for.
+    fn end(&mut self, q: u16, entry: ComEntry, place: usize) -> Reaped
+        requires host { IsHost (tables_of self.old []) }
+        requires there { lacks_completion (slice_get self.old.queues.items q) ≡ false }
+        requires within { place < length self.old.records.items }
+        requires answered { (pages : Pages) → Answered (tables_of self.old pages) q entry place }
+        ensures reaps { (pages : Pages) → IsWhole (tables_of self.old pages) → seen_at (tables_of self.old pages) q ≡ Some entry → ReapsTo (tables_of self.old pages) q result (tables_of self.new pages) }
+        ensures taken { (view : HostView) → head_rung view q result ≡ head_of view q }
+        ensures many { length self.new.queues.items ≡ length self.old.queues.items }
+    {
+        let ComEntry {
+            cid,
+            status,
+            dw0,
+            ..
+        } = entry;
+        match kind_of(&self.records[place].work) {
+            None => {
+                self.hold_command(q, entry, place);
+                Reaped::Done { cid, status }
+            }
+            Some(kind) => {
+                self.end_command(q, entry, place);
+                self.apply(kind, status);
+                Reaped::AdminDone { cid, status, dw0 }
+            }
+        }
+    }
+
+    /// Takes the completion at a queue's head, and ends the command that it is for.
+    fn take(&mut self, q: u16, entry: ComEntry) -> Reaped
+        requires host { IsHost (tables_of self.old []) }
+        requires there { lacks_completion (slice_get self.old.queues.items q) ≡ false }
+        ensures reaps { (pages : Pages) → IsWhole (tables_of self.old pages) → seen_at (tables_of self.old pages) q ≡ Some entry → ReapsTo (tables_of self.old pages) q result (tables_of self.new pages) }
+        ensures taken { (view : HostView) → head_rung view q result ≡ head_of view q }
+        ensures many { length self.new.queues.items ≡ length self.old.queues.items }
+    {
+        match self.find_answered(q, entry) {
+            Ok(place) => self.end(q, entry, place),
+            Err(why) => {
+                self.consume(q);
+                Reaped::Rejected(why)
+            }
+        }
+    }
+}
+
+impl<A: Allocator> Host<A> {
+    /// Looks at the head of a queue's completion ring, and takes the completion there, if there is a new one.
+    ///
+    /// What is found is `Empty` where there is none. A completion of a submitted command ends it: `Done` tells the identifier of an I/O
+    /// command and how it ended, and its pages stay its own; `AdminDone` tells that of a command of queue 0, which is over. A
+    /// completion of no submitted command is `Rejected`: it is taken, and nothing else changes. Where a completion was taken, the head
+    /// is to be rung.
+    ///
+    /// # Errors
+    ///
+    /// `NoQueue` where there is no such queue, or its completion half was given back. Then nothing changed.
+    pub fn reap(&mut self, store: &mut Store<A>, q: u16) -> Result<Reap, Refusal>
+        requires { IsOver self.old store.old.pages }
+        ensures step { HostStep self.old store.old.pages (events.Reap q) (reap_reply result) self.new store.new.pages }
+        ensures head { IfOk result (λ reap. reap.head ≡ head_rung self.new q reap.found) }
+        ensures over { IsOver self.new store.new.pages }
+    {
+        if has_no_completion(&self.parts.queues, q) {
+            return Err(Refusal::NoQueue);
+        }
+        let Some(entry) = self.parts.see(store, q) else {
+            return Ok(Reap {
+                found: Reaped::Empty,
+                head: None,
+            });
+        };
+        let found = self.parts.take(q, entry);
+        let head = self.parts.queues[usize::from(q)].host.head_value();
+        Ok(Reap {
+            found,
+            head: Some(head),
+        })
+    }
+}

@@ -1,0 +1,251 @@
+//! A request gets an identifier and pages.
+
+ghost use Rattle.std.specs.Prelude.{◌≡◌, ◌+◌, ◌<◌, ◌≤◌, ◌++◌, [], length, take, drop, vec_len, vec_capacity, IfOk, IfErr, OnOk, OnErr};
+ghost use Rattle.io_commands.specs.Requests.{data_count};
+ghost use Rattle.io_commands.specs.Values.{IsGood};
+ghost use Rattle.machine_model.specs.Events as events;
+ghost use Rattle.machine_model.specs.Step.{Refuses};
+ghost use Rattle.page_ledger.specs.Owners.{free_pages, with_owner};
+ghost use Rattle.sgl_chain.specs.Chains.{pages_needed as spec_pages_needed};
+ghost use Rattle.host_core.specs.Alone.{HasFirstPages, HostStep, IsLowest, IsOver};
+ghost use Rattle.host_core.specs.Commands.{reserved, Grants, new_draft};
+ghost use Rattle.host_core.specs.Parts.{tables_of, Becomes, Over};
+ghost use Rattle.host_core.specs.Replies.{reserve_reply};
+ghost use Rattle.host_core.specs.Tables.{state_of};
+ghost use Rattle.host_core.specs.Whole.{IsHost, IsWhole};
+
+use crate::host::Host;
+use crate::moving::move_out_zeroed;
+use crate::parts::Parts;
+use crate::queues::{claim, host_state, is_deleting, next_identifier, takes_no_io};
+use crate::record::Record;
+use crate::refused::Refused;
+use io_commands::{Draft, Request};
+use machine_model::words::{Phase, Refusal, Work};
+use page_ledger::{Ledger, Owner, Role};
+use page_memory::{Page, PageNo, Store};
+use sgl_chain::pages_needed;
+use std::alloc::{AllocError, Allocator};
+
+/// What a request gets: an identifier, and so many pages for its data and for its chain.
+#[derive(Clone, Copy)]
+pub(crate) struct Grant {
+    cid: u16,
+    front: u32,
+    back: u32,
+}
+
+/// The lists that a command fills, made before anything changes.
+#[derive(Drop)]
+struct Room<A: Allocator> {
+    front: Vec<PageNo, A>,
+    back: Vec<PageNo, A>,
+    pages: Vec<(PageNo, Page<A>), A>,
+    request: Request<A>,
+}
+
+/// Gives the lowest free pages to a command, first those for its data, then those for its chain.
+fn grant_pages<A: Allocator>(
+    ledger: &mut Ledger<A>,
+    q: u16,
+    grant: Grant,
+    front: &mut Vec<PageNo, A>,
+    back: &mut Vec<PageNo, A>,
+)
+    requires enough { grant.front + grant.back ≤ length (free_pages ledger.old) }
+    requires front_room { (front.old.items ≡ []) × (vec_len front.old + grant.front ≤ vec_capacity front.old) }
+    requires back_room { (back.old.items ≡ []) × (vec_len back.old + grant.back ≤ vec_capacity back.old) }
+    ensures front { front.new.items ≡ take grant.front (free_pages ledger.old) }
+    ensures back { back.new.items ≡ take grant.back (drop grant.front (free_pages ledger.old)) }
+    ensures owners { ledger.new ≡ with_owner (with_owner ledger.old front.new.items (Owner.Command q grant.cid Role.Data)) back.new.items (Owner.Command q grant.cid Role.Chain) }
+{
+    let cid = grant.cid;
+    let for_data = Owner::Command {
+        q,
+        cid,
+        role: Role::Data,
+    };
+    match ledger.grant(for_data, grant.front, front) {
+        Ok(()) => {}
+        Err(_) => unreachable!(),
+    }
+    let for_chain = Owner::Command {
+        q,
+        cid,
+        role: Role::Chain,
+    };
+    match ledger.grant(for_chain, grant.back, back) {
+        Ok(()) => {}
+        Err(_) => unreachable!(),
+    }
+}
+
+/// How many pages a good request takes for its data and for its chain.
+fn pages_of_request<A: Allocator>(request: &Request<A>, segment: u16) -> (u32, u32)
+    requires good { IsGood request.now }
+    requires least { 2 ≤ segment }
+    ensures front { result.0 ≡ data_count request.now.pieces }
+    ensures back { result.1 ≡ spec_pages_needed (length request.now.pieces) segment }
+    ensures few { (result.0 ≤ 1024) × (result.1 ≤ 1024) }
+{
+    let parts = request.pieces.as_slice().len();
+    let front = request.pieces.data_pages();
+    let back = pages_needed(parts, usize::from(segment));
+    (front as u32, back as u32)
+}
+
+/// Lists for a command with so many pages, and a copy of its request.
+fn make_room<A: Allocator + Copy>(
+    alloc: A,
+    request: &Request<A>,
+    front: u32,
+    back: u32,
+) -> Result<Room<A>, AllocError>
+    requires { front + back ≤ 65536 }
+    ensures front { IfOk result (λ room. (room.front.items ≡ []) × (vec_len room.front + front ≤ vec_capacity room.front)) }
+    ensures back { IfOk result (λ room. (room.back.items ≡ []) × (vec_len room.back + back ≤ vec_capacity room.back)) }
+    ensures pages { IfOk result (λ room. (room.pages.items ≡ []) × (vec_len room.pages + (front + back) ≤ vec_capacity room.pages)) }
+    ensures request { IfOk result (λ room. room.request ≡ request.now) }
+{
+    let pages = Vec::with_capacity(alloc, (front + back) as usize)?;
+    let request = request.copied(alloc)?;
+    Ok(Room {
+        front: Vec::with_capacity(alloc, front as usize)?,
+        back: Vec::with_capacity(alloc, back as usize)?,
+        pages,
+        request,
+    })
+}
+
+impl<A: Allocator + Copy> Parts<A> {
+    /// What a request gets, or the first cause against it.
+    pub(crate) fn check_reserve(&self, q: u16, request: &Request<A>) -> Result<Grant, Refusal>
+        requires { IsHost (tables_of self.now []) }
+        ensures granted { IfOk result (λ g. Over self.now (λ t. Grants t q request.now g.cid g.front g.back)) }
+        ensures refused { IfErr result (λ why. Over self.now (λ t. Refuses (state_of t) (events.Reserve q request.now) why [])) }
+    {
+        let state = host_state(&self.queues, q);
+        if takes_no_io(q, state) {
+            return Err(Refusal::NoQueue);
+        }
+        if is_deleting(state) {
+            return Err(Refusal::Deleting);
+        }
+        match request.check() {
+            Ok(()) => {}
+            Err(fault) => return Err(Refusal::Bad(fault)),
+        }
+        let Some(cid) = next_identifier(&self.queues, q) else {
+            return Err(Refusal::NoIdentifier);
+        };
+        let (front, back) = pages_of_request(request, self.segment);
+        let free = self.ledger.counts().free_pages;
+        let need = front + back;
+        if free < need {
+            return Err(Refusal::NoPages { need, free });
+        }
+        Ok(Grant { cid, front, back })
+    }
+
+    /// Room for one record more, and for what a command fills.
+    fn reserve_room(&mut self, request: &Request<A>, grant: Grant) -> Result<Room<A>, AllocError>
+        requires { grant.front + grant.back ≤ 65536 }
+        ensures same { Becomes self.old (λ t. t) self.new }
+        ensures space { OnOk result (vec_len self.new.records < vec_capacity self.new.records) }
+        ensures front { IfOk result (λ room. (room.front.items ≡ []) × (vec_len room.front + grant.front ≤ vec_capacity room.front)) }
+        ensures back { IfOk result (λ room. (room.back.items ≡ []) × (vec_len room.back + grant.back ≤ vec_capacity room.back)) }
+        ensures pages { IfOk result (λ room. (room.pages.items ≡ []) × (vec_len room.pages + (grant.front + grant.back) ≤ vec_capacity room.pages)) }
+        ensures request { IfOk result (λ room. room.request ≡ request.now) }
+    {
+        let room = make_room(self.alloc, request, grant.front, grant.back)?;
+        self.records.reserve(1)?;
+        Ok(room)
+    }
+
+    /// Gives a command what it gets.
+    fn commit_reserve(
+        &mut self,
+        store: &mut Store<A>,
+        q: u16,
+        grant: Grant,
+        request: Request<A>,
+        room: Room<A>,
+    ) -> Draft<A>
+        requires whole { IsWhole (tables_of self.old store.old.pages) }
+        requires granted { Grants (tables_of self.old store.old.pages) q request grant.cid grant.front grant.back }
+        requires space { vec_len self.old.records < vec_capacity self.old.records }
+        requires front { (room.front.items ≡ []) × (vec_len room.front + grant.front ≤ vec_capacity room.front) }
+        requires back { (room.back.items ≡ []) × (vec_len room.back + grant.back ≤ vec_capacity room.back) }
+        requires pages { (room.pages.items ≡ []) × (vec_len room.pages + (grant.front + grant.back) ≤ vec_capacity room.pages) }
+        requires request { room.request ≡ request }
+        ensures draft { result ≡ new_draft q grant.cid request (take grant.front (free_pages self.old.ledger)) (take grant.back (drop grant.front (free_pages self.old.ledger))) self.old.segment }
+        ensures new { tables_of self.new store.new.pages ≡ reserved result (tables_of self.old store.old.pages) }
+    {
+        let Room {
+            mut front,
+            mut back,
+            mut pages,
+            request: kept,
+        } = room;
+        grant_pages(&mut self.ledger, q, grant, &mut front, &mut back);
+        move_out_zeroed(store, &front, &mut pages);
+        move_out_zeroed(store, &back, &mut pages);
+        claim(&mut self.queues, q, grant.cid);
+        self.records.push_reserved(Record {
+            q,
+            cid: grant.cid,
+            phase: Phase::Drafted,
+            work: Work::Io(kept),
+            data_pages: front,
+            chain_pages: back,
+            status: None,
+        });
+        Draft::make(q, grant.cid, request, pages, usize::from(self.segment))
+    }
+}
+
+impl<A: Allocator + Copy> Host<A> {
+    /// Reserves for a request an identifier of the queue, the lowest that is free, and pages, the lowest that are free: one
+    /// for each data piece, and those of its chain. They are out of the store, and hold zeros.
+    ///
+    /// # Errors
+    ///
+    /// The request is handed back, and nothing changed. 1. `NoQueue` for queue 0, an unknown queue, and one whose
+    /// submission half was given back. 2. `Deleting` where it is being deleted. 3. `Bad` for the first fault of the request.
+    /// 4. `NoIdentifier` where each identifier of the queue is outstanding. 5. `NoPages` where too few pages are free.
+    /// 6. `Memory` where memory is refused.
+    pub fn reserve(
+        &mut self,
+        store: &mut Store<A>,
+        q: u16,
+        request: Request<A>,
+    ) -> Result<Draft<A>, Refused<Request<A>>>
+        requires { IsOver self.old store.old.pages }
+        ensures step { HostStep self.old store.old.pages (events.Reserve q request) (reserve_reply result) self.new store.new.pages }
+        ensures identifier { IfOk result (λ draft. IsLowest self.old.host q draft.cid) }
+        ensures pages { IfOk result (λ draft. HasFirstPages self.old.host draft) }
+        ensures over { IsOver self.new store.new.pages }
+        ensures back { IfErr result (λ r. r.value ≡ request) }
+    {
+        request.read();
+        let grant = match self.parts.check_reserve(q, &request) {
+            Ok(grant) => grant,
+            Err(why) => {
+                return Err(Refused {
+                    value: request,
+                    why,
+                });
+            }
+        };
+        let room = match self.parts.reserve_room(&request, grant) {
+            Ok(room) => room,
+            Err(_) => {
+                return Err(Refused {
+                    value: request,
+                    why: Refusal::Memory,
+                });
+            }
+        };
+        Ok(self.parts.commit_reserve(store, q, grant, request, room))
+    }
+}

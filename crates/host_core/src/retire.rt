@@ -1,0 +1,123 @@
+//! The host gives the submission half of a deleted queue back.
+
+ghost use Rattle.std.specs.Prelude.{◌≡◌, false, map, slice_get};
+ghost use Rattle.machine_model.specs.After.{held, lost};
+ghost use Rattle.machine_model.specs.Events as events;
+ghost use Rattle.machine_model.specs.Refusals.{is_submitted as spec_is_submitted};
+ghost use Rattle.host_core.specs.Alone.{HostStep, IsOver};
+ghost use Rattle.host_core.specs.Parts.{tables_of, Becomes};
+ghost use Rattle.host_core.specs.Reaping.{lacks_completion, seen_at};
+ghost use Rattle.host_core.specs.Replies.{ring_reply};
+ghost use Rattle.host_core.specs.Retiring.{retired, with_lost, without_submission};
+ghost use Rattle.host_core.specs.Whole.{IsWhole};
+
+use crate::host::Host;
+use crate::parts::Parts;
+use crate::queues::{host_state, is_deleted, note};
+use crate::record::Record;
+use entry_codec::{ComEntry, Status};
+use machine_model::words::{HostState, Phase, Refusal};
+use page_memory::{Half, Store, TouchRecord};
+use std::alloc::Allocator;
+
+/// Whether a command waits for its completion.
+pub(crate) fn is_submitted(phase: Phase) -> bool
+    ensures { result ≡ spec_is_submitted phase }
+{
+    match phase {
+        Phase::Submitted => true,
+        Phase::Drafted | Phase::Held | Phase::Collected => false,
+    }
+}
+
+/// Notes how a command ended.
+pub(crate) fn hold<A: Allocator>(entry: &mut Record<A>, status: Status)
+    ensures { entry.new ≡ held status entry.old }
+{
+    entry.phase = Phase::Held;
+    entry.status = Some(status);
+}
+
+/// Ends a command of a queue that was never answered.
+fn lose<A: Allocator>(entry: &mut Record<A>, q: u16)
+    ensures { entry.new ≡ lost q entry.old }
+{
+    if entry.q == q && is_submitted(entry.phase) {
+        hold(entry, Status::ABORTED_SQ_DELETION);
+    }
+}
+
+/// Ends the commands of a queue that were never answered.
+fn lose_all<A: Allocator>(records: &mut [Record<A>], q: u16)
+    ensures { records.new ≡ map (lost q) records.old }
+{
+    for entry in records.iter_mut() {
+        lose(entry, q);
+    }
+}
+
+impl<A: Allocator> Parts<A> {
+    /// The completion at the head of a queue, where it is new. Nothing changes.
+    pub(crate) fn see(&self, store: &mut Store<A>, q: u16) -> Option<ComEntry>
+        requires whole { IsWhole (tables_of self.now store.old.pages) }
+        requires there { lacks_completion (slice_get self.now.queues.items q) ≡ false }
+        ensures seen { seen_at (tables_of self.now store.old.pages) q ≡ result }
+        ensures same { store.new.pages ≡ store.old.pages }
+    {
+        store.clear();
+        let seen = self.queues[usize::from(q)].host.peek(store);
+        let _pages = store.pages();
+        seen
+    }
+
+    /// Ends the commands of a queue that were never answered.
+    fn lose_commands(&mut self, q: u16)
+        ensures { Becomes self.old (with_lost q) self.new }
+    {
+        lose_all(&mut self.records, q);
+    }
+
+    /// Gives a queue's submission half back.
+    fn give_back_submission(&mut self, q: u16)
+        ensures { Becomes self.old (without_submission q) self.new }
+    {
+        let _pages = self.ledger.give_back_half(q, Half::Submission);
+        note(&mut self.queues, q, HostState::Retired);
+    }
+
+    /// Retires a queue whose deletion has ended and whose completions are all reaped.
+    fn commit_retire(&mut self, q: u16)
+        ensures { Becomes self.old (retired q) self.new }
+    {
+        self.lose_commands(q);
+        self.give_back_submission(q);
+    }
+}
+
+impl<A: Allocator> Host<A> {
+    /// Gives the submission half of a deleted queue back, and ends its commands that were never answered.
+    ///
+    /// Each of those is held with the status "Command Aborted due to SQ Deletion", as if its completion had been reaped; its pages
+    /// stay its own until it is collected and released. The pages of the submission half are free, and the queue is retired.
+    ///
+    /// # Errors
+    ///
+    /// 1. `NotDeleted` where there is no such queue, or the success of its deletion was not reaped, or it was retired before.
+    /// 2. `NotDrained` where a new completion stands at the head of its completion ring. Then nothing changed.
+    pub fn retire(&mut self, store: &mut Store<A>, q: u16) -> Result<(), Refusal>
+        requires { IsOver self.old store.old.pages }
+        ensures step { HostStep self.old store.old.pages (events.Retire q) (ring_reply result) self.new store.new.pages }
+        ensures over { IsOver self.new store.new.pages }
+    {
+        if !is_deleted(host_state(&self.parts.queues, q)) {
+            return Err(Refusal::NotDeleted);
+        }
+        match self.parts.see(store, q) {
+            Some(_) => Err(Refusal::NotDrained),
+            None => {
+                self.parts.commit_retire(q);
+                Ok(())
+            }
+        }
+    }
+}

@@ -1,0 +1,271 @@
+//! Each call of a host on its good path, with what the standard's rules say that it answers. The controller is played by hand: its
+//! completions are bytes that stand in this file.
+
+use crate::driver::Driver;
+use crate::hostile_memory::SMALL;
+use crate::requests::of_blocks;
+use admin_commands::AdminKind;
+use entry_codec::Status;
+use host_core::Reap;
+use io_commands::Kind;
+use machine_model::words::{Reaped, Refusal};
+use page_ledger::{Counts, Owner, Role};
+use page_memory::Half;
+use std::alloc::{Allocator, Global};
+use std::process::Abort;
+use std::test::Fail;
+
+/// A Read of block 0 into the 512 bytes at address 4000h (NVM Express Base Specification 2.0, "Submission Queue Entry", and NVM Command Set
+/// Specification 1.0, "Read command").
+const READ: [u8; 64] = [
+    0x02, 0x40, 0, 0, // the opcode of Read; its data by a scatter-gather list; identifier 0
+    1, 0, 0, 0, // namespace 1
+    0, 0, 0, 0, 0, 0, 0, 0, // reserved
+    0, 0, 0, 0, 0, 0, 0, 0, // no metadata
+    0x00, 0x40, 0, 0, 0, 0, 0, 0, // one Data Block: its address
+    0x00, 0x02, 0, 0, // its length, 512 bytes
+    0, 0, 0, 0x00, // its type
+    0, 0, 0, 0, 0, 0, 0, 0, // from block 0 on
+    0, 0, 0, 0, // one block, which is written as 0
+    0, 0, 0, 0, 0, 0, 0, 0, 0, 0, 0, 0,
+];
+
+/// A completion of a command of a queue, with the submission head and the last halfword: the status, and the phase in its lowest bit
+/// ("Common Completion Queue Entry").
+pub(crate) fn completion(q: u8, head: u8, cid: u8, last: [u8; 2]) -> [u8; 16] {
+    [
+        0, 0, 0, 0, 0, 0, 0, 0, head, 0, q, 0, cid, 0, last[0], last[1],
+    ]
+}
+
+/// Successful Completion, in the first pass of a ring.
+pub(crate) const SUCCESS: [u8; 2] = [0x01, 0x00];
+
+/// Command Abort Requested, in the first pass of a ring.
+const ABORT_REQUESTED: [u8; 2] = [0x0F, 0x00];
+
+/// What is done, and what must be answered.
+#[derive(Clone, Copy)]
+enum Row {
+    /// A Read of one block is reserved on queue 1, built and submitted: its identifier.
+    Submit(u16),
+    /// An admin command is sent: its identifier, and the slot of queue 0 in which its entry stands, with the first bytes and the doubleword
+    /// 10 of the entry.
+    Send(AdminKind, u16, usize, [u8; 4], [u8; 4]),
+    /// A queue's tail.
+    Ring(u16, Result<u16, Refusal>),
+    /// The controller writes a completion into a slot.
+    Post(u16, usize, [u8; 16]),
+    /// A queue is reaped: what is found, and the head to ring.
+    Reap(u16, Reaped, u16),
+    /// A queue is retired.
+    Retire(u16),
+    /// A command of queue 1 is collected and released: how it ended.
+    End(u16, Status),
+    /// How many pages are free, and how many are of queues.
+    Pages(u32, u32),
+}
+
+/// Submits a Read of one block.
+pub(crate) fn submit<A: Allocator + Copy>(
+    rt: &impl Abort,
+    driver: &mut Driver<A>,
+    alloc: A,
+    cid: u16,
+) -> Result<(), Fail> {
+    let request = of_blocks(alloc, Kind::Read, 1)?;
+    assert_eq!(rt; driver.host().reserve_refusal(1, &request), None);
+    let Ok(mut held) = driver.reserve(rt, 1, request) else {
+        panic!(rt; "{cid} is reserved");
+    };
+    held.draft.build(alloc)?;
+    assert_eq!(rt; driver.submit(rt, held).ok(), Some((1, cid)));
+    Ok(())
+}
+
+/// Collects a command and releases it.
+fn end(rt: &impl Abort, driver: &mut Driver, cid: u16, status: Status) {
+    assert_eq!(rt; driver.host().status_of(1, cid), Some(status));
+    assert_eq!(rt; driver.host().collect_refusal(1, cid), None);
+    let Ok(held) = driver.collect(rt, 1, cid) else {
+        panic!(rt; "{cid} is collected");
+    };
+    assert_eq!(rt; held.finished.status(), status);
+    assert!(rt; driver.release(rt, held).is_ok());
+}
+
+/// Sends an admin command, and looks at its entry.
+fn send(
+    rt: &impl Abort,
+    driver: &mut Driver,
+    kind: AdminKind,
+    cid: u16,
+    slot: usize,
+) -> ([u8; 4], [u8; 4]) {
+    assert_eq!(rt; driver.send(rt, kind), Ok(cid));
+    assert!(rt; slot < 4);
+    let entry = driver.entry_at(0, slot).unwrap_or([0; 64]);
+    (
+        [entry[0], entry[1], entry[2], entry[3]],
+        [entry[40], entry[41], entry[42], entry[43]],
+    )
+}
+
+/// Does what a row says.
+fn play(rt: &impl Abort, driver: &mut Driver, alloc: Global, row: Row) -> Result<(), Fail> {
+    match row {
+        Row::Submit(cid) => submit(rt, driver, alloc, cid)?,
+        Row::Send(kind, cid, slot, first, word) => {
+            assert_eq!(rt; send(rt, driver, kind, cid, slot), (first, word));
+        }
+        Row::Ring(q, answer) => assert_eq!(rt; driver.host().ring(q), answer),
+        Row::Post(q, slot, entry) => {
+            assert!(rt; slot < 4);
+            driver.scribble(
+                u32::from(q).wrapping_mul(2).wrapping_add(1),
+                16 * slot,
+                &entry,
+            );
+        }
+        Row::Reap(q, found, head) => {
+            let head = Some(head);
+            assert_eq!(rt; driver.reap(rt, q), Ok(Reap { found, head }));
+        }
+        Row::Retire(q) => assert_eq!(rt; driver.retire(rt, q), Ok(())),
+        Row::End(cid, status) => end(rt, driver, cid, status),
+        Row::Pages(free_pages, queue_pages) => {
+            let counts = driver.host().counts();
+            assert_eq!(rt;
+                (counts.free_pages, counts.queue_pages),
+                (free_pages, queue_pages)
+            );
+        }
+    }
+    Ok(())
+}
+
+/// A Read waits; it is aborted, and ends with that status.
+#[test]
+fn a_command_is_aborted(rt: HostRuntime) -> Result<(), Fail> {
+    let abort = AdminKind::Abort { q: 1, cid: 0 };
+    let status = Status::ABORT_REQUESTED;
+    let over = Reaped::AdminDone {
+        cid: 0,
+        status: Status::SUCCESS,
+        dw0: 0,
+    };
+    let mut driver = Driver::open(rt.alloc(), SMALL)?;
+    for row in [
+        Row::Submit(0),
+        Row::Send(abort, 0, 0, [0x08, 0, 0, 0], [1, 0, 0, 0]),
+        Row::Ring(0, Ok(1)),
+        Row::Post(0, 0, completion(0, 1, 0, SUCCESS)),
+        Row::Reap(0, over, 1),
+        Row::Post(1, 0, completion(1, 1, 0, ABORT_REQUESTED)),
+        Row::Reap(1, Reaped::Done { cid: 0, status }, 1),
+        Row::End(0, status),
+        Row::Pages(12, 4),
+    ] {
+        play(&rt, &mut driver, rt.alloc(), row)?;
+    }
+    assert!(rt; driver.host().is_idle());
+    Ok(())
+}
+
+/// A queue is deleted while a Read waits in it: the Read ends with the status of such a command, and each half of the queue is given back.
+#[test]
+fn a_queue_ends(rt: HostRuntime) -> Result<(), Fail> {
+    let over = Reaped::AdminDone {
+        cid: 0,
+        status: Status::SUCCESS,
+        dw0: 0,
+    };
+    let mut driver = Driver::open(rt.alloc(), SMALL)?;
+    for row in [
+        Row::Submit(0),
+        Row::Send(
+            AdminKind::DeleteSq { q: 1 },
+            0,
+            0,
+            [0x00, 0, 0, 0],
+            [1, 0, 0, 0],
+        ),
+        Row::Post(0, 0, completion(0, 1, 0, SUCCESS)),
+        Row::Reap(0, over, 1),
+        Row::Pages(11, 4),
+        Row::Retire(1),
+        Row::Pages(12, 3),
+        Row::Ring(1, Err(Refusal::NoQueue)),
+        Row::End(0, Status::ABORTED_SQ_DELETION),
+        Row::Send(
+            AdminKind::DeleteCq { q: 1 },
+            0,
+            1,
+            [0x04, 0, 0, 0],
+            [1, 0, 0, 0],
+        ),
+        Row::Ring(0, Ok(2)),
+        Row::Post(0, 1, completion(0, 2, 0, SUCCESS)),
+        Row::Reap(0, over, 2),
+        Row::Pages(14, 2),
+    ] {
+        play(&rt, &mut driver, rt.alloc(), row)?;
+    }
+    assert_eq!(rt; driver.reap(&rt, 1), Err(Refusal::NoQueue));
+    Ok(())
+}
+
+/// A Read from its request to its bytes.
+#[test]
+fn a_read(rt: HostRuntime) -> Result<(), Fail> {
+    let mut driver = Driver::open(rt.alloc(), SMALL)?;
+    play(&rt, &mut driver, rt.alloc(), Row::Submit(0))?;
+    assert_eq!(rt; driver.entry_at(2, 0), Some(READ));
+    assert_eq!(rt; driver.host().ring(1), Ok(1));
+    assert_eq!(rt; driver.host().collect_refusal(1, 0), Some(Refusal::NotYet));
+    let (found, head) = (Reaped::Empty, None);
+    assert_eq!(rt; driver.reap(&rt, 1), Ok(Reap { found, head }));
+    // The controller writes the block, and its completion.
+    driver.scribble(4, 0, &[0x11; 512]);
+    driver.scribble(3, 0, &completion(1, 1, 0, SUCCESS));
+    let status = Status::SUCCESS;
+    let (found, head) = (Reaped::Done { cid: 0, status }, Some(1));
+    assert_eq!(rt; driver.reap(&rt, 1), Ok(Reap { found, head }));
+    let Ok(held) = driver.collect(&rt, 1, 0) else {
+        panic!(rt; "it is collected");
+    };
+    assert_eq!(rt;
+        held.finished.gather(rt.alloc())?.as_slice(),
+        [0x11; 512].as_slice()
+    );
+    assert!(rt; driver.release(&rt, held).is_ok());
+    assert!(rt; driver.host().is_idle());
+    Ok(())
+}
+
+/// A Write with a chain gets four data pages and what its chain takes, and is cancelled. What the host shows, before and behind it.
+#[test]
+fn a_write_is_cancelled(rt: HostRuntime) -> Result<(), Fail> {
+    let mut driver = Driver::open(rt.alloc(), SMALL)?;
+    assert_eq!(rt; driver.host().pages(), 16);
+    let half = Half::Completion;
+    assert_eq!(rt; driver.owner(3), Some(Owner::Queue { q: 1, half }));
+    let Ok(mut held) = driver.reserve(&rt, 1, of_blocks(rt.alloc(), Kind::Write, 3)?) else {
+        panic!(rt; "it is reserved");
+    };
+    assert_eq!(rt; held.draft.fill(&[0x22; 1536]), Ok(()));
+    let role = Role::Chain;
+    let owner = Owner::Command { q: 1, cid: 0, role };
+    assert_eq!(rt; driver.owner(7), Some(owner));
+    let counts = Counts {
+        free_pages: 7,
+        queue_pages: 4,
+        chain_pages: 2,
+        data_pages: 3,
+    };
+    assert_eq!(rt; driver.host().counts(), counts);
+    assert!(rt; !driver.host().is_idle());
+    assert!(rt; driver.cancel(&rt, held).is_ok());
+    assert_eq!(rt; driver.owner(7), Some(Owner::Free));
+    Ok(())
+}

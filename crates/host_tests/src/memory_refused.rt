@@ -1,0 +1,137 @@
+//! The calls that want memory, each with every one of its growths refused in turn: the answer is want of memory, nothing changed, no byte
+//! leaked, and the same call then succeeds.
+
+use crate::calls::{SUCCESS, completion, submit};
+use crate::driver::Driver;
+use crate::hostile_memory::SMALL;
+use crate::requests::of_blocks;
+use admin_commands::AdminKind;
+use io_commands::Kind;
+use machine_model::words::{OpenRefusal, Refusal};
+use refusing::Refusing;
+use std::alloc::Global;
+use std::process::Abort;
+use std::test::Fail;
+
+type Heap = Refusing<Global>;
+
+/// More growths than any call has.
+const MANY: u64 = 100;
+
+/// A call that wants memory.
+#[derive(Clone, Copy)]
+enum Call {
+    /// A Read of two blocks is reserved on queue 1.
+    Reserve,
+    /// A command of queue 1 is collected.
+    Collect(u16),
+    /// An admin command is sent.
+    Send(AdminKind),
+}
+
+/// Does a call with one growth refused: why it was refused.
+fn attempt<'a>(
+    rt: &impl Abort,
+    heap: &'a Heap,
+    driver: &mut Driver<&'a Heap>,
+    call: Call,
+    growth: u64,
+) -> Result<Option<Refusal>, Fail> {
+    heap.refuse(refusing::Refusal::Never);
+    let request = of_blocks(heap, Kind::Read, 2)?;
+    heap.refuse(refusing::Refusal::Nth(growth));
+    match call {
+        Call::Reserve => match driver.reserve(rt, 1, request) {
+            Ok(_) => Ok(None),
+            Err(refused) => {
+                assert_eq!(rt; refused.value.pieces().len(), 2);
+                Ok(Some(refused.why))
+            }
+        },
+        Call::Collect(cid) => Ok(driver.collect(rt, 1, cid).err()),
+        Call::Send(kind) => Ok(driver.send(rt, kind).err()),
+    }
+}
+
+/// Does a call with each growth refused in turn, until none is: how many there are.
+fn refused_in_turn<'a>(
+    rt: &impl Abort,
+    heap: &'a Heap,
+    driver: &mut Driver<&'a Heap>,
+    call: Call,
+) -> Result<u64, Fail> {
+    let before = driver.host().counts();
+    for growth in 1..MANY {
+        let bytes = heap.tally().bytes;
+        let refusal = attempt(rt, heap, driver, call, growth)?;
+        if heap.tally().refused == 0 {
+            assert_eq!(rt; refusal, None);
+            return Ok(growth - 1);
+        }
+        assert_eq!(rt; refusal, Some(Refusal::Memory), "growth {growth}");
+        assert_eq!(rt; heap.tally().bytes, bytes, "growth {growth}");
+        assert_eq!(rt; driver.host().counts(), before, "growth {growth}");
+    }
+    Ok(0)
+}
+
+#[test]
+fn an_opening(rt: HostRuntime) {
+    let heap = Refusing::new(rt.alloc());
+    let mut refused = 0;
+    for growth in 1..MANY {
+        heap.refuse(refusing::Refusal::Nth(growth));
+        let why = Driver::open(&heap, SMALL).err();
+        assert_eq!(rt; heap.tally().blocks, 0, "growth {growth}");
+        if heap.tally().refused == 0 {
+            assert_eq!(rt; why, None);
+            break;
+        }
+        assert_eq!(rt; why, Some(OpenRefusal::Memory), "growth {growth}");
+        refused = growth;
+    }
+    assert!(rt; refused > 16);
+}
+
+#[test]
+fn first_commands(rt: HostRuntime) -> Result<(), Fail> {
+    for call in [
+        Call::Reserve,
+        Call::Send(AdminKind::DeleteSq { q: 1 }),
+        Call::Send(AdminKind::DeleteCq { q: 1 }),
+    ] {
+        let heap = Refusing::new(rt.alloc());
+        let mut driver = Driver::open(&heap, SMALL)?;
+        assert!(rt; refused_in_turn(&rt, &heap, &mut driver, call)? > 0);
+    }
+    Ok(())
+}
+
+/// Three Reads wait. Of the three Aborts one needs a longer list of commands.
+#[test]
+fn aborts(rt: HostRuntime) -> Result<(), Fail> {
+    let heap = Refusing::new(rt.alloc());
+    let mut driver = Driver::open(&heap, SMALL)?;
+    for cid in 0..3 {
+        submit(&rt, &mut driver, &heap, cid)?;
+    }
+    let mut refused = 0u64;
+    for cid in 0..3 {
+        let call = Call::Send(AdminKind::Abort { q: 1, cid });
+        let growths = refused_in_turn(&rt, &heap, &mut driver, call)?;
+        refused = refused.wrapping_add(growths);
+    }
+    assert!(rt; refused > 0);
+    Ok(())
+}
+
+#[test]
+fn a_collecting(rt: HostRuntime) -> Result<(), Fail> {
+    let heap = Refusing::new(rt.alloc());
+    let mut driver = Driver::open(&heap, SMALL)?;
+    submit(&rt, &mut driver, &heap, 0)?;
+    driver.scribble(3, 0, &completion(1, 1, 0, SUCCESS));
+    assert!(rt; driver.reap(&rt, 1).is_ok());
+    assert!(rt; refused_in_turn(&rt, &heap, &mut driver, Call::Collect(0))? > 0);
+    Ok(())
+}

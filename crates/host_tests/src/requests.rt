@@ -1,0 +1,25 @@
+//! Requests.
+
+use io_commands::{Kind, Piece, Pieces, Request};
+use std::alloc::{AllocError, Allocator};
+
+/// A request of so many blocks from block 0 on, each in a page of its own.
+pub(crate) fn of_blocks<A: Allocator>(
+    alloc: A,
+    kind: Kind,
+    blocks: u32,
+) -> Result<Request<A>, AllocError> {
+    let mut pieces = Vec::new(alloc);
+    for _ in 0..blocks {
+        pieces.push(Piece::Data {
+            offset: 0,
+            len: 512,
+        })?;
+    }
+    Ok(Request {
+        kind,
+        slba: 0,
+        blocks,
+        pieces: Pieces::from_vec(pieces),
+    })
+}

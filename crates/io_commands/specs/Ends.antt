@@ -1,0 +1,14 @@
+-- How commands may end.
+use Rattle.std.specs.Prelude.{ℕ, ◌<◌, ◌==◌, ◌&&◌, Bool, Option, IfSome}
+use Rattle.entry_codec.specs.declared.admin_opcode.TheConstants.{DELETE_IO_SQ}
+use Rattle.entry_codec.specs.declared.status.Status.{Status}
+use Rattle.entry_codec.specs.declared.submission.SubEntry.{SubEntry}
+use Rattle.io_commands.specs.Jobs.{is_success}
+
+-- a status that a completion can carry
+abbrev pub FitsVerdict : Option Status → Type 0
+FitsVerdict verdict = IfSome verdict (λ st. st.sct < 8)
+
+-- whether an admin command that ends so leaves nothing of a submission queue
+abbrev pub is_deletion : SubEntry → Status → Bool
+is_deletion entry status = (entry.opcode == DELETE_IO_SQ) && is_success status

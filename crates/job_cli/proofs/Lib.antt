@@ -1,0 +1,3 @@
+mod JobReading
+mod JobRuns
+mod Submitters

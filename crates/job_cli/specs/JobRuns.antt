@@ -1,0 +1,138 @@
+-- What a run of a script of jobs prints, and how it may end.
+use Rattle.std.specs.Prelude.{◌≡◌, ◌<◌, ◌⊎◌, ◌==◌, ◌&&◌, ℕ, Bool, true, Option, Some, None, is_some, option_and_then, Ok, Err, List, [], ◌∷◌, ◌++◌, length, slice_get, if◌then◌else◌}
+use Rattle.std.specs.Io.KnownBytes.{Keeps}
+use Rattle.driver_book.specs.State.{BookContents}
+use Rattle.driver_book.specs.declared.log.Report.{Report}
+use Rattle.driver_threads.specs.Runs.{RanFrom}
+use Rattle.driver_threads.specs.declared.jobs.Job.{Job}
+use Rattle.driver_threads.specs.declared.jobs.JobEnd.{JobEnd}
+use Rattle.machine_model.specs.Claims.{counts_of}
+use Rattle.machine_model.specs.State.{State}
+use Rattle.machine_model.specs.declared.words.OpenRefusal.{OpenRefusal}
+use Rattle.machine_model.specs.declared.words.OpenRefusal.TheVariants as opening
+use Rattle.page_ledger.specs.declared.owner.Counts.{Counts}
+use Rattle.page_ledger.specs.declared.owner.Owner.{Owner}
+use Rattle.script_cli.specs.Inputs.{IsTold, Gains, IsFront}
+use Rattle.job_cli.specs.JobLines.{job_text}
+use Rattle.job_cli.specs.Jobs.{jobs_of}
+use Rattle.script_cli.specs.Owners.{owners_text, counts_line}
+use Rattle.script_cli.specs.Runs.{AreOwners}
+use Rattle.script_cli.specs.declared.fault.RunFault.{RunFault}
+use Rattle.script_cli.specs.declared.fault.RunFault.TheVariants as run
+use Rattle.script_cli.specs.declared.fault.ScriptFault.{ScriptFault}
+use Rattle.script_cli.specs.declared.fault.ScriptFault.TheVariants as fault
+use Rattle.job_cli.specs.declared.jobs.JobLine.{JobLine}
+use Rattle.world_tables.specs.Opening.{refusal_of_config, opening_of}
+use Rattle.world_tables.specs.declared.config.Config.{Config}
+
+-- Who does which job
+
+-- a line is of this submitter
+abbrev pub is_of : ℕ → JobLine → Bool
+is_of submitter line = line.submitter == submitter
+
+-- the jobs of a submitter, in the order of their lines
+abbrev pub jobs_for : ℕ → List JobLine → List Job
+jobs_for submitter [] = []
+jobs_for submitter (line ∷ rest) = if is_of submitter line then line.job ∷ jobs_for submitter rest else jobs_for submitter rest
+
+-- each of so many submitters has its jobs
+pub record AreListsOf (submitters : ℕ) (lines : List JobLine) (lists : List (List Job)) : Type 0 where
+  pub count : length lists ≡ submitters
+  pub each : (s : ℕ) → s < submitters → slice_get lists s ≡ Some (jobs_for s lines)
+
+-- What is printed
+
+-- how the job of a line ended: the n-th job of a submitter, counted over the lines before it, ended as the n-th end of that submitter says
+abbrev pub end_of : List (List JobEnd) → List JobLine → JobLine → Option JobEnd
+end_of ends before line = option_and_then (λ list. slice_get list (length (jobs_for line.submitter before))) (slice_get ends line.submitter)
+
+-- the line of a job that ended
+abbrev pub ended_text : JobLine → Option JobEnd → List ℕ
+ended_text line None = []
+ended_text line (Some what) = job_text line.number line.submitter line.job.request.kind what
+
+-- the lines of jobs in their order, behind those before them
+abbrev pub job_lines : List (List JobEnd) → List JobLine → List JobLine → List ℕ
+job_lines ends before [] = []
+job_lines ends before (line ∷ rest) = ended_text line (end_of ends before line) ++ job_lines ends (before ++ line ∷ []) rest
+
+-- each job has its end
+abbrev pub all_ended : List (List JobEnd) → List JobLine → List JobLine → Bool
+all_ended ends before [] = true
+all_ended ends before (line ∷ rest) = is_some (end_of ends before line) && all_ended ends (before ++ line ∷ []) rest
+
+-- what stands behind the lines of the jobs
+abbrev pub closing_text : List Owner → Counts → List ℕ
+closing_text owners counts = owners_text owners ++ counts_line counts
+
+-- some run of threads from an opening left a book with these owners and counts
+pub record IsLeftFrom (opening : State) (owners : List Owner) (counts : Counts) : Type 0 where
+  pub report : Report
+  pub book : BookContents
+  pub ran : RanFrom opening report book
+  pub owned : AreOwners book.world owners
+  pub counted : counts ≡ counts_of book.world.host
+
+-- The text of a run of jobs over a world that opens so: the line of each job, in the order of the script's lines, by its end; then the owners of the world that
+-- some run of threads left, and then its counts.
+pub record IsJobsText (opening : State) (lines : List JobLine) (text : List ℕ) : Type 0 where
+  pub ends : List (List JobEnd)
+  pub owners : List Owner
+  pub counts : Counts
+  pub left : IsLeftFrom opening owners counts
+  pub ended : all_ended ends [] lines ≡ true
+  pub said : text ≡ job_lines ends [] lines ++ closing_text owners counts
+
+-- what was written of a run that was cut off: the front of such a text
+abbrev pub IsCutJobsText : State → List JobLine → List ℕ → Type 0
+IsCutJobsText opening lines text = (whole : List ℕ) × IsJobsText opening lines whole × IsFront text whole
+
+-- How a run ends
+
+-- a reader has a script for so many submitters without faults, of which these are the jobs
+abbrev pub HasJobs : Option (List ℕ) → ℕ → List JobLine → Type 0
+HasJobs told submitters lines = (text : List ℕ) × IsTold told text × (jobs_of submitters text ≡ Ok lines)
+
+-- a reader has a script whose first fault this is
+abbrev pub HasJobFault : Option (List ℕ) → ℕ → ScriptFault → Type 0
+HasJobFault told submitters why = (text : List ℕ) × IsTold told text × (jobs_of submitters text ≡ Err why)
+
+-- why no jobs were read
+abbrev pub IsNoJobs : Option (List ℕ) → ℕ → RunFault → Type 0
+IsNoJobs told submitters (run.Line number why) = HasJobFault told submitters (fault.Line number why)
+IsNoJobs told submitters run.TooLong = HasJobFault told submitters fault.TooLong
+IsNoJobs told submitters run.Unreadable = Unit {0}
+IsNoJobs told submitters run.Memory = Unit {0}
+IsNoJobs told submitters other = ⊥
+
+-- why no threads ran to their end: the opening is refused, or else something was wanting
+abbrev pub IsNoRun : Config → RunFault → Type 0
+IsNoRun config run.BadConfig = refusal_of_config config ≡ Some opening.BadConfig
+IsNoRun config (run.NoPages need free) = refusal_of_config config ≡ Some (opening.NoPages need free)
+IsNoRun config run.NoThread = refusal_of_config config ≡ None
+IsNoRun config (run.Close why) = refusal_of_config config ≡ None
+IsNoRun config run.Memory = Unit {0}
+IsNoRun config other = ⊥
+
+-- a reader has a script without faults, and a text of which something holds is written
+abbrev pub WritesJobs : Option (List ℕ) → ℕ → Config → List ℕ → Option (List ℕ) → Option (List ℕ) → (State → List JobLine → List ℕ → Type 0) → Type 0
+WritesJobs told submitters config image before after Holds =
+    (lines : List JobLine) × HasJobs told submitters lines × Gains before after (Holds (opening_of config image) lines)
+
+-- a reader has a script without faults, whose run ended so before anything was written
+abbrev pub EndsUnwritten : Option (List ℕ) → ℕ → Config → Option OpenRefusal → Option (List ℕ) → Option (List ℕ) → Type 0
+EndsUnwritten told submitters config refusal before after =
+    (lines : List JobLine) × HasJobs told submitters lines × (refusal_of_config config ≡ refusal) × Keeps before after
+
+-- what a fault of a run says, and what was then written
+abbrev pub EndsJobsWith : Option (List ℕ) → ℕ → Config → List ℕ → Option (List ℕ) → Option (List ℕ) → RunFault → Type 0
+EndsJobsWith told submitters config image before after (run.Line number why) = HasJobFault told submitters (fault.Line number why) × Keeps before after
+EndsJobsWith told submitters config image before after run.TooLong = HasJobFault told submitters fault.TooLong × Keeps before after
+EndsJobsWith told submitters config image before after run.Unreadable = Keeps before after
+EndsJobsWith told submitters config image before after run.BadConfig = EndsUnwritten told submitters config (Some opening.BadConfig) before after
+EndsJobsWith told submitters config image before after (run.NoPages need free) = EndsUnwritten told submitters config (Some (opening.NoPages need free)) before after
+EndsJobsWith told submitters config image before after run.NoThread = EndsUnwritten told submitters config None before after
+EndsJobsWith told submitters config image before after (run.Close why) = EndsUnwritten told submitters config None before after
+EndsJobsWith told submitters config image before after run.Memory = Keeps before after ⊎ WritesJobs told submitters config image before after IsCutJobsText
+EndsJobsWith told submitters config image before after run.OutputFailed = WritesJobs told submitters config image before after IsCutJobsText

@@ -1,0 +1,5 @@
+pub mod Faults
+pub mod Headings
+pub mod JobLines
+pub mod JobRuns
+pub mod Jobs

@@ -1,0 +1,90 @@
+//! How jobs ended, as text.
+
+ghost use Rattle.std.specs.Prelude.{◌≡◌, ◌++◌, OnOk, string_bytes, codes};
+ghost use Rattle.entry_codec.specs.Status.{status_text};
+ghost use Rattle.job_cli.specs.JobLines.{kind_text, too_few_text, job_refusal_text, job_end_text, job_text};
+ghost use Rattle.script_cli.specs.Replies.{gathered_text, request_fault_name as spec_request_fault_name};
+
+use driver_threads::{JobEnd, JobRefusal};
+use entry_codec::Status;
+use io_commands::{FillFault, Kind, RequestFault};
+use script_cli::{put_gathered, put_not_filled, request_fault_name};
+use std::alloc::AllocError;
+use step_core::Bytes;
+
+/// The word of a kind of command.
+fn kind_name(kind: Kind) -> &'static str
+    ensures { result.now ≡ kind_text kind }
+{
+    match kind {
+        Kind::Read => "read",
+        Kind::Write => "write",
+        Kind::Compare => "compare",
+    }
+}
+
+/// Puts how a command ended, and what it gathered.
+fn put_done(out: &mut String, status: Status, bytes: &Bytes) -> Result<(), AllocError>
+    ensures { OnOk result (string_bytes out.new ≡ string_bytes out.old ++ (codes "status " ++ (status_text status ++ (codes " " ++ gathered_text bytes.now)))) }
+{
+    write!(out, "status {status} ")?;
+    put_gathered(out, bytes.as_slice())
+}
+
+/// Puts that a request has a fault.
+fn put_bad(out: &mut String, why: RequestFault) -> Result<(), AllocError>
+    ensures { OnOk result (string_bytes out.new ≡ string_bytes out.old ++ (codes "refused Bad " ++ spec_request_fault_name why)) }
+{
+    let name = request_fault_name(why);
+    write!(out, "refused Bad {name}")
+}
+
+/// Puts that the pool has too few pages.
+fn put_too_few(out: &mut String, need: u32, pool: u32) -> Result<(), AllocError>
+    ensures { OnOk result (string_bytes out.new ≡ string_bytes out.old ++ too_few_text need pool) }
+{
+    write!(out, "refused NoPages need {need} pool {pool}")
+}
+
+/// Puts why a job was refused.
+fn put_job_refusal(out: &mut String, why: JobRefusal) -> Result<(), AllocError>
+    ensures { OnOk result (string_bytes out.new ≡ string_bytes out.old ++ job_refusal_text why) }
+{
+    match why {
+        JobRefusal::NoQueue => out.push_str("refused NoQueue"),
+        JobRefusal::QueueGone => out.push_str("refused QueueGone"),
+        JobRefusal::Bad(fault) => put_bad(out, fault),
+        JobRefusal::NoPages { need, pool } => put_too_few(out, need, pool),
+        JobRefusal::WrongLength => put_not_filled(out, FillFault::WrongLength),
+    }
+}
+
+/// Puts how a job ended.
+fn put_job_end(out: &mut String, end: &JobEnd) -> Result<(), AllocError>
+    ensures { OnOk result (string_bytes out.new ≡ string_bytes out.old ++ job_end_text end.now) }
+{
+    match end {
+        JobEnd::Done { status, bytes } => put_done(out, *status, bytes),
+        JobEnd::Refused(why) => put_job_refusal(out, *why),
+    }
+}
+
+/// Puts the line of a job behind what stands in a text: the number of its line, its submitter, its kind and how it ended.
+///
+/// # Errors
+///
+/// Where memory is refused. A part of the line may then stand in the text.
+pub fn append_job_line(
+    out: &mut String,
+    number: u32,
+    seat: u16,
+    kind: Kind,
+    end: &JobEnd,
+) -> Result<(), AllocError>
+    ensures { OnOk result (string_bytes out.new ≡ string_bytes out.old ++ job_text number seat kind end.now) }
+{
+    let name = kind_name(kind);
+    write!(out, "{number} seat {seat} {name} ")?;
+    put_job_end(out, end)?;
+    out.push_str("\n")
+}

@@ -1,0 +1,268 @@
+//! A script of jobs, done by threads over a book that they share.
+
+ghost use Rattle.std.specs.Prelude.{◌≡◌, ◌≤◌, ◌<◌, ◌⊎◌, ◌++◌, [], ◌∷◌, All, IfOk, IfErr, OnOk, OnErr, None, Some, MatchOption, length, map, slice_index_or, slice_set, string_bytes, vec_len};
+ghost use Rattle.std.specs.Io.KnownBytes.{Appends};
+ghost use Rattle.job_cli.specs.Headings.{headings_of, end_at, headed_text, headed_lines};
+ghost use Rattle.script_cli.specs.Inputs.{Gains, IsFront};
+ghost use Rattle.job_cli.specs.JobRuns.{AreListsOf, closing_text, IsLeftFrom, IsJobsText, HasJobs, IsNoJobs, IsNoRun, WritesJobs, EndsJobsWith};
+ghost use Rattle.script_cli.specs.Runs.{AreOwners};
+ghost use Rattle.script_cli.specs.declared.fault.RunFault.TheVariants as run;
+ghost use Rattle.world_tables.specs.Opening.{opening_of};
+
+use crate::fault::not_run;
+use crate::job_lines::append_job_line;
+use crate::jobs::{JobLine, JobScript, read_jobs};
+use block_image::Image;
+use driver_book::{Book, Driver};
+use driver_threads::{Job, JobEnd, JobEnds, Open, Ran, run_threads};
+use io_commands::Kind;
+use page_ledger::{Counts, Owner};
+use page_memory::PageNo;
+use script_cli::{
+    MAX_SCRIPT, ReadFault, RunFault, append_counts, append_owners, flush, put, read_first,
+    script_at_fault,
+};
+use std::alloc::{AllocError, Global};
+use std::io::{Read, Write};
+use std::marker::Brand;
+use std::sync::Wait;
+use std::sync::ledger::Blank;
+use std::thread::Threads;
+use step_core::Config;
+
+/// What the line of a job begins with, and which of its submitter's jobs it is.
+#[derive(Clone, Copy, Debug)]
+struct Heading {
+    number: u32,
+    submitter: u16,
+    kind: Kind,
+    /// How many jobs the submitter does before it.
+    place: usize,
+}
+
+/// The jobs of a script, as they are handed out.
+#[derive(Drop)]
+struct Orders {
+    /// One for each job, in the order of the lines.
+    headings: Vec<Heading>,
+    /// One list for each submitter, in the order of the lines.
+    lists: Vec<Vec<Job>>,
+}
+
+/// What a run of threads left.
+#[derive(Drop)]
+struct Left {
+    ends: JobEnds,
+    /// Whose each page is.
+    owners: Vec<Owner>,
+    counts: Counts,
+}
+
+/// Reads a script of jobs.
+fn load_jobs<I: Read>(alloc: Global, submitters: u16, reader: &mut I) -> Result<JobScript, RunFault>
+    ensures script { IfOk result (λ script. HasJobs (I.remaining reader.old) submitters script) }
+    ensures below { IfOk result (λ script. All (λ line. line.submitter < submitters) script) }
+    ensures fault { IfErr result (λ fault. IsNoJobs (I.remaining reader.old) submitters fault) }
+{
+    let text = match read_first(alloc, reader, MAX_SCRIPT) {
+        Ok(text) => text,
+        Err(ReadFault::Unreadable) => return Err(RunFault::Unreadable),
+        Err(ReadFault::Memory) => return Err(RunFault::Memory),
+    };
+    match read_jobs(alloc, &text, submitters) {
+        Ok(script) => Ok(script),
+        Err(why) => Err(script_at_fault(why)),
+    }
+}
+
+/// An empty list for each submitter.
+#[tactic(auto, using(crate::proofs::JobRuns::lists_of_none))]
+fn no_jobs(alloc: Global, submitters: u16) -> Result<Vec<Vec<Job>>, AllocError>
+    ensures count { IfOk result (λ lists. vec_len lists ≡ submitters) }
+    ensures empty { IfOk result (λ lists. AreListsOf submitters [] (map (λ list. list.items) lists.items)) }
+{
+    let count = usize::from(submitters);
+    let mut lists = Vec::with_capacity(alloc, count)?;
+    while lists.len() < count {
+        lists.push_reserved(Vec::new(alloc));
+    }
+    Ok(lists)
+}
+
+/// Hands a job to its submitter, and answers how many the submitter had before.
+fn give(lists: &mut Vec<Vec<Job>>, submitter: u16, job: Job) -> Result<usize, AllocError>
+    requires { submitter < vec_len lists.old }
+    ensures count { vec_len lists.new ≡ vec_len lists.old }
+    ensures given { OnOk result (map (λ list. list.items) lists.new.items ≡ slice_set (map (λ list. list.items) lists.old.items) submitter (slice_index_or (map (λ list. list.items) lists.old.items) submitter [] ++ job ∷ [])) }
+    ensures place { IfOk result (λ place. place ≡ length (slice_index_or (map (λ list. list.items) lists.old.items) submitter [])) }
+{
+    let list = &mut lists[usize::from(submitter)];
+    let place = list.len();
+    list.push(job)?;
+    Ok(place)
+}
+
+/// Hands each job to its submitter.
+fn hand_out(alloc: Global, submitters: u16, lines: Vec<JobLine>) -> Result<Orders, AllocError>
+    requires { All (λ line. line.submitter < submitters) lines.items }
+    ensures headings { IfOk result (λ orders. orders.headings.items ≡ headings_of lines.items) }
+    ensures lists { IfOk result (λ orders. AreListsOf submitters lines.items (map (λ list. list.items) orders.lists.items)) }
+    ensures count { IfOk result (λ orders. vec_len orders.lists ≡ submitters) }
+{
+    let mut headings = Vec::new(alloc);
+    let mut lists = no_jobs(alloc, submitters)?;
+    for line in lines {
+        let JobLine {
+            number,
+            submitter,
+            job,
+        } = line;
+        let kind = job.request.kind;
+        let place = give(&mut lists, submitter, job)?;
+        headings.push(Heading {
+            number,
+            submitter,
+            kind,
+            place,
+        })?;
+    }
+    Ok(Orders { headings, lists })
+}
+
+/// The owners of all pages of a book, in the pages' order.
+fn owners_of<L: Driver>(alloc: Global, book: &Book<L>) -> Result<Vec<Owner>, AllocError>
+    ensures owners { IfOk result (λ owners. AreOwners book.now.world owners.items) }
+    ensures few { IfOk result (λ owners. length owners.items ≤ 65536) }
+{
+    let pages = book.pages();
+    let mut owners = Vec::with_capacity(alloc, pages as usize)?;
+    for p in 0..pages {
+        owners.push_reserved(book.owner(PageNo(p)));
+    }
+    Ok(owners)
+}
+
+/// Runs jobs over a new book.
+fn run_book<L: Driver + Send + Sync, R: Threads + Wait + Sync>(
+    rt: &R,
+    alloc: Global,
+    config: Config,
+    image: Image,
+    lists: Vec<Vec<Job>>,
+    blank: Blank,
+) -> Result<Left, RunFault>
+    requires name { blank.name ≡ L.name }
+    requires parts { blank.parts ≡ L.parts }
+    requires number { blank.parts ≡ 65536 }
+    requires opening { L.opening ≡ opening_of config image }
+    requires some { 1 ≤ vec_len lists }
+    requires few { vec_len lists ≤ 16 }
+    ensures ran { IfOk result (λ left. IsLeftFrom (opening_of config image) left.owners.items left.counts) }
+    ensures ended { IfOk result (λ left. map length left.ends ≡ map (λ list. length list.items) lists.items) }
+    ensures owners { IfOk result (λ left. length left.owners.items ≤ 65536) }
+    ensures fault { IfErr result (IsNoRun config) }
+{
+    let ran: Ran<L> = match run_threads(rt, alloc, config, image, lists, &Open, blank) {
+        Ok(ran) => ran,
+        Err(why) => return Err(not_run(why)),
+    };
+    let owners = owners_of(alloc, &ran.book)?;
+    let counts = ran.book.counts();
+    let Ran {
+        report: _,
+        jobs,
+        book: _,
+    } = ran;
+    Ok(Left {
+        ends: jobs,
+        owners,
+        counts,
+    })
+}
+
+/// How the job of a heading ended.
+fn end_of<'a>(ends: &'a JobEnds, heading: Heading) -> Option<&'a JobEnd>
+    ensures { MatchOption result (end_at ends.now heading ≡ None) (λ end. end_at ends.now heading ≡ Some end.now) }
+{
+    let list = ends.as_slice().get(usize::from(heading.submitter))?;
+    list.get(heading.place)
+}
+
+/// The line of a job; nothing where it has no end.
+fn line_of(alloc: Global, heading: Heading, ends: &JobEnds) -> Result<String, AllocError>
+    ensures { IfOk result (λ text. string_bytes text ≡ headed_text heading (end_at ends.now heading)) }
+{
+    let mut text = String::new(alloc);
+    if let Some(end) = end_of(ends, heading) {
+        append_job_line(
+            &mut text,
+            heading.number,
+            heading.submitter,
+            heading.kind,
+            end,
+        )?;
+    }
+    Ok(text)
+}
+
+/// What is written behind the lines of the jobs.
+fn closing_lines(alloc: Global, owners: &[Owner], counts: Counts) -> Result<String, AllocError>
+    requires { length owners.now ≤ 65536 }
+    ensures { IfOk result (λ text. string_bytes text ≡ closing_text owners.now counts) }
+{
+    let mut text = String::new(alloc);
+    append_owners(&mut text, owners)?;
+    append_counts(&mut text, counts)?;
+    Ok(text)
+}
+
+/// Writes what a run left.
+fn write_run<W: Write>(
+    alloc: Global,
+    headings: Vec<Heading>,
+    left: &Left,
+    writer: &mut W,
+) -> Result<(), RunFault>
+    requires { length left.now.owners.items ≤ 65536 }
+    ensures ran { OnOk result (Appends (W.contents writer.old) (W.contents writer.new) (headed_lines left.now.ends headings.items ++ closing_text left.now.owners.items left.now.counts)) }
+    ensures cut { OnErr result (Gains (W.contents writer.old) (W.contents writer.new) (λ front. IsFront front (headed_lines left.now.ends headings.items ++ closing_text left.now.owners.items left.now.counts))) }
+    ensures fault { IfErr result (λ fault. (fault ≡ run.Memory) ⊎ (fault ≡ run.OutputFailed)) }
+{
+    for heading in headings {
+        let text = line_of(alloc, heading, &left.ends)?;
+        put(writer, text.as_bytes())?;
+    }
+    let text = closing_lines(alloc, &left.owners, left.counts)?;
+    put(writer, text.as_bytes())?;
+    flush(writer)
+}
+
+/// Runs a script of jobs: each submitter does its jobs in a thread of its own, one after the other in the order of their lines, over a
+/// world that is opened for them. When all have ended, it writes the line of each job, in the order of the script's lines, then the
+/// owners of all pages and the counts: the command `threads`. There are 1 to 16 submitters.
+///
+/// # Errors
+///
+/// A fault of the script, and then one of the opening; nothing is written then. [`RunFault::NoThread`] where a thread cannot be made and
+/// [`RunFault::Close`] where the book is not closed; nothing is written then either. [`RunFault::Memory`] where memory is refused, to a
+/// submitter too; [`RunFault::OutputFailed`] where a write fails. What was written by then is the front of a run's text.
+pub fn run_jobs<R: Threads + Wait + Sync, I: Read, W: Write>(
+    rt: &R,
+    alloc: Global,
+    config: Config,
+    image: Image,
+    submitters: u16,
+    reader: &mut I,
+    writer: &mut W,
+) -> Result<(), RunFault>
+    requires some { 1 ≤ submitters }
+    requires few { submitters ≤ 16 }
+    ensures ran { OnOk result (WritesJobs (I.remaining reader.old) submitters config image (W.contents writer.old) (W.contents writer.new) IsJobsText) }
+    ensures failed { IfErr result (λ fault. EndsJobsWith (I.remaining reader.old) submitters config image (W.contents writer.old) (W.contents writer.new) fault) }
+{
+    let script = load_jobs(alloc, submitters, reader)?;
+    let orders = hand_out(alloc, submitters, script.into_jobs())?;
+    let blank = Blank::new(65536);
+    let left = run_book::<Brand, R>(rt, alloc, config, image, orders.lists, blank)?;
+    write_run(alloc, orders.headings, &left, writer)
+}

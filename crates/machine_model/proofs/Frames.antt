@@ -1,0 +1,65 @@
+-- What no event of the host changes: the limits, the image, the jobs, how many pages there are; and that something was forged.
+use Rattle.std.proofs.Common.{◌≡◌, ℕ, false, [], ◌∷◌, ◌++◌, length, length-set, refl, ap, sym, ◌∙◌}
+use Rattle.io_commands.specs.Values.{numbers_of}
+use Rattle.admin_commands.specs.Entries.{admin_entry}
+use Rattle.admin_commands.specs.declared.AdminKind.TheVariants.{Abort, DeleteSq, DeleteCq}
+use Rattle.admin_commands.specs.declared.AdminKind.{AdminKind}
+use Rattle.entry_codec.specs.declared.submission.SubEntry.{SubEntry}
+use Rattle.machine_model.specs.Memory.{with_pages}
+use Rattle.machine_model.specs.State.{State, pages_of, with_record}
+use Rattle.machine_model.specs.Refusals.{slot_page}
+use Rattle.machine_model.specs.Step.{IsController}
+use Rattle.machine_model.specs.After as a
+use Rattle.machine_model.specs.Events.{Event, Reply}
+use Rattle.machine_model.proofs.Parts.{length-in_store, length-with_pages, length-without_pages}
+use Rattle.machine_model.proofs.Steps.{Accepts}
+use Rattle.machine_model.proofs.Moves.{host_moves, posted_bytes, posted_bits, sent_record, sends}
+
+pub record HostLeaves (s t : State) : Type 0 where
+  pub entries : t.entries ≡ s.entries
+  pub segment : t.segment ≡ s.segment
+  pub image : t.device.image ≡ s.device.image
+  pub jobs : t.device.jobs ≡ s.device.jobs
+  pub size : length t.memory ≡ length s.memory
+  pub distrusts : s.trusted ≡ false → t.trusted ≡ false
+
+-- where the memory alone changes of these
+left : (s t : State) → t.entries ≡ s.entries → t.segment ≡ s.segment → t.device.image ≡ s.device.image → t.device.jobs ≡ s.device.jobs → (s.trusted ≡ false → t.trusted ≡ false) → length t.memory ≡ length s.memory → HostLeaves s t
+left s t n g i j d m = record { entries = n; segment = g; image = i; jobs = j; size = m; distrusts = d }
+
+posted_size : (q : ℕ) (entry : SubEntry) (s : State) → length (posted_bytes q entry s) ≡ length s.memory
+posted_size q entry s = sym (length-in_store (posted_bytes q entry s)) ∙ ap length (posted_bits q entry s) ∙ length-in_store s.memory
+
+pub host_leaves : (s : State) (e : Event) (reply : Reply) → Accepts s e reply → IsController e ≡ false → HostLeaves s (a.after s e reply)
+host_leaves s e reply ok c =
+    host_moves (λ (e : Event) (reply : Reply) (t : State). HostLeaves s t) s e reply ok c
+    (record {
+      reserves = λ q request d none is. left s _ refl refl refl refl (λ d. d) (length-without_pages (numbers_of d.data_pages ++ numbers_of d.chain_pages) s.memory);
+      submits = λ d entry r none built its live.
+          left s _ refl refl refl refl (λ d. d)
+          (posted_size d.q entry (a.on_records (with_record d.q d.cid a.submitted) (a.on_memory (with_pages (d.data_pages ++ d.chain_pages)) s)) ∙ length-with_pages (d.data_pages ++ d.chain_pages) s.memory);
+      cancels = λ d r its. left s _ refl refl refl refl (λ d. d) (length-with_pages (d.data_pages ++ d.chain_pages) s.memory);
+      rings = λ q none. left s _ refl refl refl refl (λ d. d) refl;
+      rests = λ q is. left s s refl refl refl refl (λ d. d) refl;
+      rejects = λ q why is. left s _ refl refl refl refl (λ d. d) refl;
+      tells = λ q cid st what e r request t heard w. left s _ refl refl refl refl (λ d. d) refl;
+      hears = λ q cid st what e r adm t heard w quiet. left s _ refl refl refl refl (λ d. d) refl;
+      notes = λ q cid st what e r k t heard w. left s _ refl refl refl refl (λ d. d) refl;
+      frees = λ q cid st what e r k queue t heard w at retired good. left s _ refl refl refl refl (λ d. d) refl;
+      collects = λ q cid r f at held is. left s _ refl refl refl refl (λ d. d) (length-without_pages (pages_of r) s.memory);
+      releases = λ f r its. left s _ refl refl refl refl (λ d. d) (length-with_pages (f.data_pages ++ f.chain_pages) s.memory);
+      aborts = λ q cid id none new. sent (Abort q cid) id;
+      asks = λ q id queue none new live. left s _ refl refl refl refl (λ d. d) (sent (DeleteSq q) id).size;
+      drops = λ q id none new. sent (DeleteCq q) id;
+      retires = λ q queue none at deleted. left s _ refl refl refl refl (λ d. d) refl;
+      forges = λ q slot bytes queue none at. left s _ refl refl refl refl (λ d. refl) (length-set s.memory (slot_page queue.cq_pages 16 slot) _);
+    })
+  where
+    sent : (adm : AdminKind) (id : ℕ) → HostLeaves s (sends adm id s)
+    sent adm id = left s _ refl refl refl refl (λ d. d) (posted_size 0 (admin_entry adm id) (a.on_records (λ records. records ++ sent_record adm id ∷ []) s))
+
+pub host_image : (s : State) (e : Event) (reply : Reply) → Accepts s e reply → IsController e ≡ false → (a.after s e reply).device.image ≡ s.device.image
+host_image s e reply ok c = (host_leaves s e reply ok c).image
+
+pub host_jobs : (s : State) (e : Event) (reply : Reply) → Accepts s e reply → IsController e ≡ false → (a.after s e reply).device.jobs ≡ s.device.jobs
+host_jobs s e reply ok c = (host_leaves s e reply ok c).jobs

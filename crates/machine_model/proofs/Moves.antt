@@ -1,0 +1,367 @@
+-- What an accepted event of the host finds and leaves, case by case: a statement that holds of what each case leaves holds after the event. An
+-- event more is a case more here, and in each proof that is made by these cases.
+use Rattle.std.proofs.Common.{◌≡◌, ℕ, ◌==◌, Bool, true, false, not, ◌&&◌, ◌||◌, Option, Some, None, List, [], ◌∷◌, ◌++◌, map, is_none, if◌then◌else◌, refl, ap, ap₂, sym, ◌∙◌, subst, nat_eq}
+use Rattle.std.specs.Option.{option_map, option_map_or, option_and_then}
+use Rattle.std.specs.Cmp.Lexicographic.{pointwise}
+use Rattle.std.proofs.lemmas.Bool.{true≢false, not-false, and_parts, or_parts}
+use Rattle.std.proofs.lemmas.List.{map-append}
+use Rattle.admin_commands.specs.Entries.{admin_entry}
+use Rattle.admin_commands.specs.declared.AdminKind.TheVariants.{Abort, DeleteSq, DeleteCq}
+use Rattle.admin_commands.specs.declared.AdminKind.{AdminKind}
+use Rattle.entry_codec.specs.Submission.{submission_bytes}
+use Rattle.entry_codec.specs.declared.completion.ComEntry.{ComEntry}
+use Rattle.entry_codec.specs.declared.submission.SubEntry.{SubEntry}
+use Rattle.entry_codec.specs.declared.status.Status.{Status}
+use Rattle.io_commands.specs.Asked.{Request}
+use Rattle.io_commands.specs.Drafts.{DraftContents}
+use Rattle.io_commands.specs.Jobs.{is_success}
+use Rattle.io_commands.specs.Values.{FinishedContents, numbers_of}
+use Rattle.page_memory.specs.Pages.{Pages, with_page_bytes}
+use Rattle.queue_pair.specs.Rings.{next_tail}
+use Rattle.machine_model.specs.Claims.{is_away}
+use Rattle.machine_model.specs.Memory.{with_pages, without_pages}
+use Rattle.machine_model.specs.Commands.{Work, Io, Management}
+use Rattle.machine_model.specs.State.{State, Answer, HostQueue, HostState, Live, Deleting, Retired, Gone, Record, Phase, Drafted, Submitted, Held, Collected, record_at, with_record, without_record, pages_of}
+use Rattle.machine_model.specs.Refusals.{device_queue, first_answer, entry_of, refusal_of, host_queue, seen_entry, is_of, asks_for, is_drafted, is_submitted, is_held, is_collected, is_live, is_deleting, is_deleted, is_retired, has_sq, has_cq, in_state, record_is, no_io_queue, deletes_sq_of, slot_page, slot_offset}
+use Rattle.machine_model.specs.Step.{IsController, IsReserved, IsNewIdentifier, Answers, finished_from, reaped, reaped_entry, reaped_as, fits_ring}
+use Rattle.machine_model.specs.After as a
+use Rattle.machine_model.specs.Events as events
+use Rattle.machine_model.specs.Events.{Event, Reply, Reaped}
+use Rattle.machine_model.proofs.Steps.{Accepts}
+use Rattle.machine_model.proofs.Refused.{unrefused, first_fails, found, same_lists}
+use Rattle.machine_model.proofs.Parts.{in_store, in_store-with_bytes}
+
+-- What a posted entry leaves: the memory alone hangs on whether the queue is there
+
+abbrev pub posted_bytes : ℕ → SubEntry → State → Pages
+posted_bytes q entry s =
+    option_map_or (λ queue. with_page_bytes s.memory (slot_page queue.sq_pages 64 queue.ring.tail) (slot_offset 64 queue.ring.tail) (submission_bytes entry)) (host_queue s q) s.memory
+
+abbrev pub posts : ℕ → SubEntry → State → State
+posts q entry s = a.on_ring q (next_tail s.entries) (a.on_device_queue q (λ at. record at { unfetched = at.unfetched ++ entry ∷ [] }) (record s { memory = posted_bytes q entry s }))
+
+pub posted_is : (q : ℕ) (entry : SubEntry) (s : State) → posts q entry s ≡ a.posted q entry s
+posted_is q entry s = go (host_queue s q)
+  where
+    go : (o : Option HostQueue)
+        → a.on_ring q (next_tail s.entries) (a.on_device_queue q (λ at. record at { unfetched = at.unfetched ++ entry ∷ [] })
+        (record s { memory = option_map_or (λ queue. with_page_bytes s.memory (slot_page queue.sq_pages 64 queue.ring.tail) (slot_offset 64 queue.ring.tail) (submission_bytes entry)) o s.memory }))
+        ≡ a.on_ring q (next_tail s.entries) (a.on_device_queue q (λ at. record at { unfetched = at.unfetched ++ entry ∷ [] })
+        (option_map_or (λ queue. a.on_memory (λ m. with_page_bytes m (slot_page queue.sq_pages 64 queue.ring.tail) (slot_offset 64 queue.ring.tail) (submission_bytes entry)) s) o s))
+    go None = refl
+    go (Some queue) = refl
+
+pub posted_bits : (q : ℕ) (entry : SubEntry) (s : State) → in_store (posted_bytes q entry s) ≡ in_store s.memory
+posted_bits q entry s = go (host_queue s q)
+  where
+    go : (o : Option HostQueue)
+        → in_store (option_map_or (λ queue. with_page_bytes s.memory (slot_page queue.sq_pages 64 queue.ring.tail) (slot_offset 64 queue.ring.tail) (submission_bytes entry)) o s.memory) ≡ in_store s.memory
+    go None = refl
+    go (Some queue) = in_store-with_bytes s.memory (slot_page queue.sq_pages 64 queue.ring.tail) (slot_offset 64 queue.ring.tail) (submission_bytes entry)
+
+-- Records that begin
+
+abbrev pub drafted_record : DraftContents → Record
+drafted_record d = record { q = d.q; cid = d.cid; phase = Drafted; work = Io d.request; data_pages = numbers_of d.data_pages; chain_pages = numbers_of d.chain_pages; status = None }
+
+abbrev pub sent_record : AdminKind → ℕ → Record
+sent_record adm id = record { q = 0; cid = id; phase = Submitted; work = Management adm; data_pages = []; chain_pages = []; status = None }
+
+abbrev pub sends : AdminKind → ℕ → State → State
+sends adm id s = posts 0 (admin_entry adm id) (a.on_records (λ records. records ++ sent_record adm id ∷ []) s)
+
+-- What is found
+
+-- the record of a draft or of a finished command
+pub record IsOf (s : State) (test : Phase → Bool) (request : Request) (q cid : ℕ) (bytes chain : List (ℕ × List ℕ)) (r : Record) : Type 0 where
+  pub found : record_at s.host q cid ≡ Some r
+  pub is : is_of test request (numbers_of bytes) (numbers_of chain) r ≡ true
+  pub phase : test r.phase ≡ true
+  pub away : is_away r ≡ true
+  pub quiet : is_submitted r.phase ≡ false
+  pub asked : (asked : Request) × (r.work ≡ Io asked)
+  pub asks : asks_for request r.work ≡ true
+  pub data_list : numbers_of bytes ≡ r.data_pages
+  pub chain_list : numbers_of chain ≡ r.chain_pages
+  pub pages : numbers_of (bytes ++ chain) ≡ pages_of r
+
+-- a queue that is live
+pub record IsLiveQueue (s : State) (q : ℕ) (queue : HostQueue) : Type 0 where
+  pub there : host_queue s q ≡ Some queue
+  pub live : queue.state ≡ Live
+  pub other : (q == 0) ≡ false
+
+-- the entry that a reap sees, and the command that it answers
+pub record IsHeard (s : State) (q cid : ℕ) (st : Status) (e : ComEntry) (r : Record) : Type 0 where
+  pub seen : seen_entry s q ≡ Some e
+  pub its_id : e.cid ≡ cid
+  pub its_status : e.status ≡ st
+  pub fits : fits_ring s q e ≡ true
+  pub found : record_at s.host q cid ≡ Some r
+  pub submitted : is_submitted r.phase ≡ true
+
+-- how a command is told: by an I/O reply or an admin one
+abbrev pub named : Reaped → Option ℕ
+named events.Empty = None
+named (events.Rejected why) = None
+named (events.Done cid st) = Some cid
+named (events.AdminDone cid st dw0) = Some cid
+
+abbrev pub status_in : Reaped → Option Status
+status_in events.Empty = None
+status_in (events.Rejected why) = None
+status_in (events.Done cid st) = Some st
+status_in (events.AdminDone cid st dw0) = Some st
+
+pub record Tells (s : State) (q cid : ℕ) (st : Status) (what : Reaped) : Type 0 where
+  pub is : what ≡ reaped s q
+  pub names : named what ≡ Some cid
+  pub status : status_in what ≡ Some st
+
+abbrev pub heard_without : ℕ → ℕ → ComEntry → State → State
+heard_without q cid e s = a.on_records (without_record q cid) (a.heard q e s)
+
+-- The cases
+
+pub record HostMoves (P : Event → Reply → State → Type 0) (s : State) : Type 0 where
+  pub reserves : (q : ℕ) (request : Request) (d : DraftContents) → refusal_of s (events.Reserve q request) ≡ None → IsReserved s q request d → P (events.Reserve q request) (events.Reserved d) (a.after_reserve d s)
+  pub submits : (d : DraftContents) (entry : SubEntry) (r : Record) → refusal_of s (events.Submit d) ≡ None → d.entry ≡ Some entry → IsOf s is_drafted d.request d.q d.cid d.data_pages d.chain_pages r → in_state is_live s d.q ≡ true
+      → P (events.Submit d) events.Accepted (posts d.q entry (a.on_records (with_record d.q d.cid a.submitted) (a.on_memory (with_pages (d.data_pages ++ d.chain_pages)) s)))
+  pub cancels : (d : DraftContents) (r : Record) → IsOf s is_drafted d.request d.q d.cid d.data_pages d.chain_pages r → P (events.Cancel d) events.Accepted (a.after_end d.q d.cid (d.data_pages ++ d.chain_pages) s)
+  pub rings : (q : ℕ) → refusal_of s (events.Ring q) ≡ None → P (events.Ring q) events.Accepted (a.after_ring q s)
+  pub rests : (q : ℕ) → events.Empty ≡ reaped s q → P (events.Reap q) (events.Reaps events.Empty) s
+  pub rejects : (q : ℕ) (why : events.RejectedFor) → events.Rejected why ≡ reaped s q → P (events.Reap q) (events.Reaps (events.Rejected why)) (a.consumed q s)
+  pub tells : (q cid : ℕ) (st : Status) (what : Reaped) (e : ComEntry) (r : Record) (request : Request) → Tells s q cid st what → IsHeard s q cid st e r → r.work ≡ Io request
+      → P (events.Reap q) (events.Reaps what) (a.on_records (with_record q cid (a.held st)) (a.heard q e s))
+  pub hears : (q cid : ℕ) (st : Status) (what : Reaped) (e : ComEntry) (r : Record) (adm : AdminKind) → Tells s q cid st what → IsHeard s q cid st e r → r.work ≡ Management adm
+      → ((k : ℕ) → deletes_sq_of k (Management adm) ≡ false) → P (events.Reap q) (events.Reaps what) (heard_without q cid e s)
+  pub notes : (q cid : ℕ) (st : Status) (what : Reaped) (e : ComEntry) (r : Record) (k : ℕ) → Tells s q cid st what → IsHeard s q cid st e r → r.work ≡ Management (DeleteSq k)
+      → P (events.Reap q) (events.Reaps what) (a.on_host_queue k (λ queue. record queue { state = if is_success st then Deleting true else Live }) (heard_without q cid e s))
+  pub frees : (q cid : ℕ) (st : Status) (what : Reaped) (e : ComEntry) (r : Record) (k : ℕ) (queue : HostQueue) → Tells s q cid st what → IsHeard s q cid st e r → r.work ≡ Management (DeleteCq k)
+      → host_queue (a.heard q e s) k ≡ Some queue → is_retired queue.state ≡ true → is_success st ≡ true → P (events.Reap q) (events.Reaps what) (a.on_host_queue k a.gone (a.given_back queue.cq_pages (heard_without q cid e s)))
+  pub collects : (q cid : ℕ) (r : Record) (f : FinishedContents) → record_at s.host q cid ≡ Some r → is_held r.phase ≡ true → finished_from s r ≡ Some f
+      → P (events.Collect q cid) (events.Collects f) (a.on_records (with_record q cid a.collected) (a.on_memory (without_pages (pages_of r)) s))
+  pub releases : (f : FinishedContents) (r : Record) → IsOf s is_collected f.request f.q f.cid f.data_pages f.chain_pages r → P (events.Release f) events.Accepted (a.after_end f.q f.cid (f.data_pages ++ f.chain_pages) s)
+  pub aborts : (q cid id : ℕ) → refusal_of s (events.Abort q cid) ≡ None → IsNewIdentifier s 0 id → P (events.Abort q cid) (events.Sent id) (sends (Abort q cid) id s)
+  pub asks : (q id : ℕ) (queue : HostQueue) → refusal_of s (events.DeleteSq q) ≡ None → IsNewIdentifier s 0 id → IsLiveQueue s q queue → P (events.DeleteSq q) (events.Sent id) (a.on_host_queue q a.deleting (sends (DeleteSq q) id s))
+  pub drops : (q id : ℕ) → refusal_of s (events.DeleteCq q) ≡ None → IsNewIdentifier s 0 id → P (events.DeleteCq q) (events.Sent id) (sends (DeleteCq q) id s)
+  pub retires : (q : ℕ) (queue : HostQueue) → refusal_of s (events.Retire q) ≡ None → host_queue s q ≡ Some queue → queue.state ≡ Deleting true
+      → P (events.Retire q) events.Accepted (a.on_host_queue q a.retired (a.given_back queue.sq_pages (a.on_records (λ records. map (a.lost q) records) s)))
+  pub forges : (q slot : ℕ) (bytes : List ℕ) (queue : HostQueue) → refusal_of s (events.Forge q slot bytes) ≡ None → host_queue s q ≡ Some queue
+      → P (events.Forge q slot bytes) events.Accepted (record (a.on_memory (λ m. with_page_bytes m (slot_page queue.cq_pages 16 slot) (slot_offset 16 slot) bytes) s) { trusted = false })
+
+-- Finding it
+
+pub is_of_found : (s : State) (phase : Phase → Bool) (request : Request) (q cid : ℕ) (bytes chain : List (ℕ × List ℕ)) → ((ph : Phase) → phase ph ≡ true → ((is_drafted ph || is_collected ph) ≡ true) × (is_submitted ph ≡ false))
+    → not (record_is (is_of phase request (numbers_of bytes) (numbers_of chain)) s q cid) ≡ false → (r : Record) × IsOf s phase request q cid bytes chain r
+is_of_found s phase request q cid bytes chain away fits =
+    let x = found (is_of phase request (numbers_of bytes) (numbers_of chain)) s q cid (not-false _ fits) in
+    let r = x.0 in
+    let abc_d = and_parts (phase r.phase && asks_for request r.work && pointwise nat_eq (numbers_of bytes) r.data_pages) (pointwise nat_eq (numbers_of chain) r.chain_pages) x.2 in
+    let ab_c = and_parts (phase r.phase && asks_for request r.work) (pointwise nat_eq (numbers_of bytes) r.data_pages) abc_d.0 in
+    let a_b = and_parts (phase r.phase) (asks_for request r.work) ab_c.0 in (
+      r,
+      record {
+        found = x.1;
+        is = x.2;
+        phase = a_b.0;
+        away = (away r.phase a_b.0).0;
+        quiet = (away r.phase a_b.0).1;
+        asked = asked r.work refl a_b.1;
+        asks = a_b.1;
+        data_list = same_lists (numbers_of bytes) r.data_pages ab_c.1;
+        chain_list = same_lists (numbers_of chain) r.chain_pages abc_d.1;
+        pages = map-append (λ (page : ℕ × List ℕ). page.0) bytes chain ∙ ap₂ ◌++◌ (same_lists (numbers_of bytes) r.data_pages ab_c.1) (same_lists (numbers_of chain) r.chain_pages abc_d.1);
+      },
+    )
+  where
+    asked : {v : Work} (w : Work) → v ≡ w → asks_for request w ≡ true → (asked : Request) × (v ≡ Io asked)
+    asked (Io r) is h = (r, is)
+    asked (Management adm) is h = absurd (true≢false (sym h))
+
+pub drafted_away : (ph : Phase) → is_drafted ph ≡ true → ((is_drafted ph || is_collected ph) ≡ true) × (is_submitted ph ≡ false)
+drafted_away Drafted h = (refl, refl)
+drafted_away Submitted h = absurd (true≢false (sym h))
+drafted_away Held h = absurd (true≢false (sym h))
+drafted_away Collected h = absurd (true≢false (sym h))
+
+pub collected_away : (ph : Phase) → is_collected ph ≡ true → ((is_drafted ph || is_collected ph) ≡ true) × (is_submitted ph ≡ false)
+collected_away Drafted h = absurd (true≢false (sym h))
+collected_away Submitted h = absurd (true≢false (sym h))
+collected_away Held h = absurd (true≢false (sym h))
+collected_away Collected h = (refl, refl)
+
+-- the record of a draft that is submitted, and its queue
+pub draft_found : (s : State) (d : DraftContents) → refusal_of s (events.Submit d) ≡ None → (r : Record) × IsOf s is_drafted d.request d.q d.cid d.data_pages d.chain_pages r
+draft_found s d none = is_of_found s is_drafted d.request d.q d.cid d.data_pages d.chain_pages drafted_away (unrefused s (events.Submit d) none).0
+
+pub draft_lives : (s : State) (d : DraftContents) → refusal_of s (events.Submit d) ≡ None → in_state is_live s d.q ≡ true
+draft_lives s d none = not-false _ (unrefused s (events.Submit d) none).1.1.0
+
+-- a queue whose state passes a test
+pub queue_found : (test : HostState → Bool) (s : State) (q : ℕ) → in_state test s q ≡ true → (queue : HostQueue) × (host_queue s q ≡ Some queue) × (test queue.state ≡ true)
+queue_found test s q h = go (host_queue s q) refl h
+  where
+    go : (o : Option HostQueue) → host_queue s q ≡ o → option_map_or (λ queue. test queue.state) o false ≡ true → (queue : HostQueue) × (host_queue s q ≡ Some queue) × (test queue.state ≡ true)
+    go None e h = absurd (true≢false (sym h))
+    go (Some queue) e h = (queue, e, h)
+
+-- then it is known
+pub queue_known : (test : HostState → Bool) (s : State) (q : ℕ) → not (in_state test s q) ≡ false → is_none (host_queue s q) ≡ false
+queue_known test s q h = ap is_none (queue_found test s q (not-false _ h)).1
+
+pub live_queue : (s : State) (q : ℕ) → no_io_queue s q ≡ false → in_state is_deleting s q ≡ false → (queue : HostQueue) × IsLiveQueue s q queue
+live_queue s q known deleting =
+    let known = or_parts (q == 0) (not (in_state has_sq s q)) known in
+    let x = queue_found has_sq s q (not-false _ known.1) in
+    (x.0, record { there = x.1; live = live x.0.state x.2 (sym (ap (λ (o : Option HostQueue). option_map_or (λ queue. is_deleting queue.state) o false) x.1) ∙ deleting); other = known.0 })
+  where
+    live : (st : HostState) → has_sq st ≡ true → is_deleting st ≡ false → st ≡ Live
+    live Live h d = refl
+    live (Deleting noted) h d = absurd (true≢false d)
+    live Retired h d = absurd (true≢false (sym h))
+    live Gone h d = absurd (true≢false (sym h))
+
+pub deleted_is : (st : HostState) → is_deleted st ≡ true → st ≡ Deleting true
+deleted_is Live e = absurd (true≢false (sym e))
+deleted_is (Deleting noted) e = ap Deleting e
+deleted_is Retired e = absurd (true≢false (sym e))
+deleted_is Gone e = absurd (true≢false (sym e))
+
+pub heard_of : (s : State) (q cid : ℕ) (st : Status) (what : Reaped) → Tells s q cid st what → (e : ComEntry) × (r : Record) × IsHeard s q cid st e r
+heard_of s q cid st what t = go (seen_entry s q) refl (ap named (sym t.is) ∙ t.names) (ap status_in (sym t.is) ∙ t.status)
+  where
+    named_as : (e : ComEntry) (w : Work) → (named (reaped_as q e w) ≡ Some e.cid) × (status_in (reaped_as q e w) ≡ Some e.status)
+    named_as e (Io r) = (refl, refl)
+    named_as e (Management adm) = (refl, refl)
+
+    go : (o : Option ComEntry) → seen_entry s q ≡ o → named (option_map_or (reaped_entry s q) o events.Empty) ≡ Some cid → status_in (option_map_or (reaped_entry s q) o events.Empty) ≡ Some st → (e : ComEntry) × (r : Record) × IsHeard s q cid st e r
+    go None seen n d = absurd cc
+    go (Some e) seen n d = by (not (e.sqid == q)) (fits_ring s q e) (record_at s.host q e.cid) refl refl n d
+      where
+        by : (b f : Bool) (o : Option Record) → fits_ring s q e ≡ f → record_at s.host q e.cid ≡ o
+            → named (if b then events.Rejected events.WrongQueue else if not f then events.Rejected events.BadHead else option_map_or (λ r. reaped_as q e r.work) (option_map_or (λ r. if is_submitted r.phase then Some r else None) o None) (events.Rejected events.UnknownId)) ≡ Some cid
+            → status_in (if b then events.Rejected events.WrongQueue else if not f then events.Rejected events.BadHead else option_map_or (λ r. reaped_as q e r.work) (option_map_or (λ r. if is_submitted r.phase then Some r else None) o None) (events.Rejected events.UnknownId)) ≡ Some st
+            → (e : ComEntry) × (r : Record) × IsHeard s q cid st e r
+        by true f o fits at n d = absurd cc
+        by false false o fits at n d = absurd cc
+        by false true None fits at n d = absurd cc
+        by false true (Some r) fits at n d = on (is_submitted r.phase) refl n d
+          where
+            on : (b : Bool) → is_submitted r.phase ≡ b → named (option_map_or (λ r. reaped_as q e r.work) (if b then Some r else None) (events.Rejected events.UnknownId)) ≡ Some cid
+                → status_in (option_map_or (λ r. reaped_as q e r.work) (if b then Some r else None) (events.Rejected events.UnknownId)) ≡ Some st → (e : ComEntry) × (r : Record) × IsHeard s q cid st e r
+            on false sub n d = absurd cc
+            on true sub n d =
+                let id : e.cid ≡ cid = cc ((named_as e r.work).0, n) in
+                let status : e.status ≡ st = cc ((named_as e r.work).1, d) in
+                (e, r, record { seen = seen; its_id = id; its_status = status; fits = fits; found = subst (λ (k : ℕ). record_at s.host q k ≡ Some r) id at; submitted = sub })
+
+-- Where nothing was forged, an entry that is heard is the oldest answer
+
+pub record HeardAnswer (s : State) (q cid : ℕ) (st : Status) (e : ComEntry) : Type 0 where
+  pub answer : Answer
+  pub first : option_and_then (λ queue. first_answer queue.answers) (device_queue s q) ≡ Some answer
+  pub its_id : answer.cid ≡ cid
+  pub its_status : answer.status ≡ st
+  pub is : e ≡ entry_of q answer
+
+pub seen_trusted : (s : State) (q : ℕ) → s.trusted ≡ true → seen_entry s q ≡ option_map (entry_of q) (option_and_then (λ queue. first_answer queue.answers) (device_queue s q))
+seen_trusted s q t = rw t refl
+
+pub answer_heard : (s : State) (q cid : ℕ) (st : Status) (e : ComEntry) (r : Record) → s.trusted ≡ true → IsHeard s q cid st e r → HeardAnswer s q cid st e
+answer_heard s q cid st e r t heard = go (option_and_then (λ queue. first_answer queue.answers) (device_queue s q)) refl (sym (seen_trusted s q t) ∙ heard.seen)
+  where
+    go : (o : Option Answer) → option_and_then (λ queue. first_answer queue.answers) (device_queue s q) ≡ o → option_map (entry_of q) o ≡ Some e → HeardAnswer s q cid st e
+    go None first is = absurd cc
+    go (Some an) first is =
+        let same : entry_of q an ≡ e = cc in
+        record {
+          answer = an;
+          first = first;
+          its_id = ap (λ (x : ComEntry). x.cid) same ∙ heard.its_id;
+          its_status = ap (λ (x : ComEntry). x.status) same ∙ heard.its_status;
+          is = sym same;
+        }
+
+-- Each event of the host is one of the cases
+
+no_refused : (s : State) (e : Event) (why : events.Refusal) (touched : List ℕ) → Answers s e (events.Refused why touched) → ⊥
+no_refused s (events.Collect q cid) why touched h = h
+no_refused s e why touched h = h
+
+told : (P : Event → Reply → State → Type 0) (s : State) (q cid : ℕ) (st : Status) (what : Reaped) → HostMoves P s → Tells s q cid st what
+    → P (events.Reap q) (events.Reaps what) (option_map_or (λ r. a.after_work r.work q cid st (option_map_or (λ e. a.heard q e s) (seen_entry s q) s)) (record_at s.host q cid) s)
+told P s q cid st what move t =
+    let x = heard_of s q cid st what t in
+    subst (λ (o : Option Record). P (events.Reap q) (events.Reaps what) (option_map_or (λ r. a.after_work r.work q cid st (option_map_or (λ e. a.heard q e s) (seen_entry s q) s)) o s)) (sym x.2.found)
+    (subst (λ (o : Option ComEntry). P (events.Reap q) (events.Reaps what) (a.after_work x.1.work q cid st (option_map_or (λ e. a.heard q e s) o s))) (sym x.2.seen) (by x.0 x.1 x.2 x.1.work refl))
+  where
+    by : (e : ComEntry) (r : Record) → IsHeard s q cid st e r → (w : Work) → r.work ≡ w → P (events.Reap q) (events.Reaps what) (a.after_work w q cid st (a.heard q e s))
+    by e r heard (Io request) w = move.tells q cid st what e r request t heard w
+    by e r heard (Management (Abort k c)) w = move.hears q cid st what e r (Abort k c) t heard w (λ k. refl)
+    by e r heard (Management (DeleteSq k)) w = move.notes q cid st what e r k t heard w
+    by e r heard (Management (DeleteCq k)) w = free (is_success st) refl (host_queue (a.heard q e s) k) refl
+      where
+        kept : P (events.Reap q) (events.Reaps what) (heard_without q cid e s)
+        kept = move.hears q cid st what e r (DeleteCq k) t heard w (λ k. refl)
+
+        free : (b : Bool) → is_success st ≡ b → (o : Option HostQueue) → host_queue (a.heard q e s) k ≡ o
+            → P (events.Reap q) (events.Reaps what) (if b && option_map_or (λ queue. is_retired queue.state) o false then option_map_or (λ queue. a.on_host_queue k a.gone (a.given_back queue.cq_pages (heard_without q cid e s))) o (heard_without q cid e s) else heard_without q cid e s)
+        free false good o at = kept
+        free true good None at = kept
+        free true good (Some queue) at = on (is_retired queue.state) refl
+          where
+            on : (b : Bool) → is_retired queue.state ≡ b → P (events.Reap q) (events.Reaps what) (if b then a.on_host_queue k a.gone (a.given_back queue.cq_pages (heard_without q cid e s)) else heard_without q cid e s)
+            on true is = move.frees q cid st what e r k queue t heard w at is good
+            on false is = kept
+
+pub host_moves : (P : Event → Reply → State → Type 0) (s : State) (e : Event) (reply : Reply) → Accepts s e reply → IsController e ≡ false → HostMoves P s → P e reply (a.after s e reply)
+host_moves P s e (events.Refused why touched) ok c move = absurd (no_refused s e why touched ok.1)
+host_moves P s (events.Reserve q request) (events.Reserved d) ok c move = move.reserves q request d ok.0 ok.1
+host_moves P s (events.Submit d) events.Accepted ok c move = go d.entry refl
+  where
+    go : (o : Option SubEntry) → d.entry ≡ o
+        → P (events.Submit d) events.Accepted (option_map_or (λ entry. a.posted d.q entry (a.on_records (with_record d.q d.cid a.submitted) (a.on_memory (with_pages (d.data_pages ++ d.chain_pages)) s))) o s)
+    go None e = absurd (true≢false (sym (ap is_none e) ∙ (unrefused s (events.Submit d) ok.0).1.0))
+    go (Some entry) e =
+        let r = draft_found s d ok.0 in
+        subst (P (events.Submit d) events.Accepted) (posted_is d.q entry (a.on_records (with_record d.q d.cid a.submitted) (a.on_memory (with_pages (d.data_pages ++ d.chain_pages)) s))) (move.submits d entry r.0 ok.0 e r.1 (draft_lives s d ok.0))
+host_moves P s (events.Cancel d) events.Accepted ok c move =
+    let r = is_of_found s is_drafted d.request d.q d.cid d.data_pages d.chain_pages drafted_away (first_fails _ events.Stranger [] ok.0) in move.cancels d r.0 r.1
+host_moves P s (events.Ring q) events.Accepted ok c move = move.rings q ok.0
+host_moves P s (events.Reap q) (events.Reaps events.Empty) ok c move = move.rests q ok.1
+host_moves P s (events.Reap q) (events.Reaps (events.Rejected why)) ok c move = move.rejects q why ok.1
+host_moves P s (events.Reap q) (events.Reaps (events.Done cid st)) ok c move = told P s q cid st (events.Done cid st) move (record { is = ok.1; names = refl; status = refl })
+host_moves P s (events.Reap q) (events.Reaps (events.AdminDone cid st dw0)) ok c move = told P s q cid st (events.AdminDone cid st dw0) move (record { is = ok.1; names = refl; status = refl })
+host_moves P s (events.Collect q cid) (events.Collects f) ok c move = let fails = unrefused s (events.Collect q cid) ok.0 in go (record_at s.host q cid) refl fails.0 fails.1.0 ok.1
+  where
+    held : (x y : Bool) → not (x || y) ≡ false → x ≡ false → y ≡ true
+    held true y h z = absurd (true≢false z)
+    held false y h z = not-false y h
+
+    go : (o : Option Record) → record_at s.host q cid ≡ o → not (option_map_or (λ r. is_submitted r.phase || is_held r.phase) o false) ≡ false → option_map_or (λ r. is_submitted r.phase) o false ≡ false → option_and_then (finished_from s) o ≡ Some f
+        → P (events.Collect q cid) (events.Collects f) (option_map_or (λ r. a.on_records (with_record q cid a.collected) (a.on_memory (without_pages (pages_of r)) s)) o s)
+    go None e known later is = absurd (true≢false known)
+    go (Some r) e known later is = move.collects q cid r f e (held (is_submitted r.phase) (is_held r.phase) known later) is
+host_moves P s (events.Release f) events.Accepted ok c move =
+    let r = is_of_found s is_collected f.request f.q f.cid f.data_pages f.chain_pages collected_away (first_fails _ events.Stranger [] ok.0) in move.releases f r.0 r.1
+host_moves P s (events.Abort q cid) (events.Sent id) ok c move = subst (P (events.Abort q cid) (events.Sent id)) (posted_is 0 (admin_entry (Abort q cid) id) (a.on_records (λ records. records ++ sent_record (Abort q cid) id ∷ []) s)) (move.aborts q cid id ok.0 ok.1)
+host_moves P s (events.DeleteSq q) (events.Sent id) ok c move =
+    subst (λ (t : State). P (events.DeleteSq q) (events.Sent id) (a.on_host_queue q a.deleting t)) (posted_is 0 (admin_entry (DeleteSq q) id) (a.on_records (λ records. records ++ sent_record (DeleteSq q) id ∷ []) s))
+    (move.asks q id live.0 ok.0 ok.1 live.1)
+  where
+    live : (queue : HostQueue) × IsLiveQueue s q queue
+    live = let fails = unrefused s (events.DeleteSq q) ok.0 in live_queue s q fails.0 fails.1.0
+host_moves P s (events.DeleteCq q) (events.Sent id) ok c move = subst (P (events.DeleteCq q) (events.Sent id)) (posted_is 0 (admin_entry (DeleteCq q) id) (a.on_records (λ records. records ++ sent_record (DeleteCq q) id ∷ []) s)) (move.drops q id ok.0 ok.1)
+host_moves P s (events.Retire q) events.Accepted ok c move =
+    let x = queue_found is_deleted s q (not-false _ (unrefused s (events.Retire q) ok.0).0) in
+    subst (λ (o : Option HostQueue). P (events.Retire q) events.Accepted (option_map_or (λ queue. a.on_host_queue q a.retired (a.given_back queue.sq_pages (a.on_records (λ records. map (a.lost q) records) s))) o (a.on_records (λ records. map (a.lost q) records) s)))
+    (sym x.1) (move.retires q x.0 ok.0 x.1 (deleted_is x.0.state x.2))
+host_moves P s (events.Forge q slot bytes) events.Accepted ok c move =
+    let x = queue_found has_cq s q (not-false _ (unrefused s (events.Forge q slot bytes) ok.0).0) in
+    subst (λ (o : Option HostQueue). P (events.Forge q slot bytes) events.Accepted (option_map_or (λ queue. record (a.on_memory (λ m. with_page_bytes m (slot_page queue.cq_pages 16 slot) (slot_offset 16 slot) bytes) s) { trusted = false }) o s)) (sym x.1)
+    (move.forges q slot bytes x.0 ok.0 x.1)
+host_moves P s (events.Fetch q) reply ok c move = absurd (true≢false c)
+host_moves P s (events.Walk q cid) reply ok c move = absurd (true≢false c)
+host_moves P s (events.Complete q cid) reply ok c move = absurd (true≢false c)
+host_moves P s e reply ok c move = absurd ok.1

@@ -1,0 +1,6 @@
+pub mod Orders
+pub mod Threads
+pub mod Rows
+pub mod Whole
+pub mod Opened
+pub mod Written

@@ -1,0 +1,185 @@
+//! The table.
+
+ghost use Rattle.std.specs.Prelude.{◌≡◌, ℕ, ◌+◌, ◌-◌, ◌*◌, ◌<◌, ◌≤◌, ◌==◌, [], ◌∷◌, ◌++◌, length, None, Some, IsSome, IfNone, IfOk, MatchOption};
+ghost use Rattle.std.specs.Option.{option_copied, option_copied_mut};
+ghost use Rattle.std.specs.Borrow.{sem};
+ghost use Rattle.slot_table.specs.Table.{AreInside, IsDistinct, IsPlace, value_at, with_row, without, NoneAt};
+ghost use Rattle.slot_table.specs.Lends.{lends_content};
+
+use crate::link::Link;
+use std::alloc::{AllocError, Allocator, Global};
+use std::marker::Model;
+use std::mem;
+
+/// Records by queue and identifier, in the order in which they were put.
+#[derive(Drop)]
+pub struct SlotTable<R, A: Allocator = Global> {
+    queues: u32,
+    places: u32,
+    len: usize,
+    records: Vec<Option<R>, A>,
+    links: Vec<Link, A>,
+}
+
+impl<R, A: Allocator> Model for SlotTable<R, A> {
+    ghost use Rattle.slot_table.specs.Table.{TableOf, table_code};
+
+    ghost Value = { TableOf R };
+
+    ghost coded = { table_code R.code };
+
+    ghost use Rattle.slot_table.specs.Links.{rows_of, walk, after_of, IsThreaded};
+    ghost use Rattle.std.specs.Prelude.{length};
+
+    ghost view = { λ t. record {
+      queues = t.queues;
+      places = t.places;
+      rows = rows_of t.places t.records.items
+          (walk t.links.items (length t.records.items) (after_of t.links.items (length t.records.items)) (length t.records.items));
+    } };
+
+    ghost invariant = { λ t. IsThreaded t.queues t.places t.len t.records.items t.links.items };
+}
+
+impl<R, A: Allocator + Clone> SlotTable<R, A> {
+    /// A table with no record: so many queues, from 0 on, of `entries - 1` places each, as a ring of so many entries holds.
+    ///
+    /// # Errors
+    ///
+    /// Where memory is refused. No other call takes memory.
+    pub fn open(alloc: A, queues: u32, entries: u32) -> Result<Self, AllocError>
+        requires queues { queues ≤ 65536 }
+        requires least { 1 ≤ entries }
+        requires most { entries ≤ 65536 }
+        ensures { IfOk result (λ table. table ≡ record { queues = queues; places = entries - 1; rows = [] }) }
+    {
+        let places = entries - 1;
+        let end = queues * places;
+        let at_end = Link {
+            before: end,
+            after: end,
+        };
+        let links = Vec::from_elem(alloc.clone()?, at_end, end as usize + 1)?;
+        let mut records = Vec::with_capacity(alloc, end as usize)?;
+        for _ in 0..end {
+            records.push_reserved(None);
+        }
+        Ok(SlotTable {
+            queues,
+            places,
+            len: 0,
+            records,
+            links,
+        })
+    }
+}
+
+impl<R, A: Allocator> SlotTable<R, A> {
+    ghost use Rattle.slot_table.specs.Lends.{lends_get, lends_record};
+
+    /// How many records stand in the table.
+    pub fn len(&self) -> usize
+        ensures count { result ≡ length self.now.rows }
+
+        // At most one record stands in a place, and each in a place that the table has.
+        ensures distinct { IsDistinct self.now.rows }
+        ensures inside { AreInside self.now.queues self.now.places self.now.rows }
+    {
+        self.len
+    }
+
+    /// Whether no record stands in the table.
+    pub fn is_empty(&self) -> bool
+        ensures { result ≡ (length self.now.rows == 0) }
+    {
+        self.len == 0
+    }
+
+    /// The index of a place, if the table has it.
+    fn index(&self, q: u16, cid: u16) -> Option<usize>
+        ensures { MatchOption result (NoneAt self.now.rows q cid) (λ i. IsPlace self.now q cid × (i ≡ q * self.now.places + cid)) }
+    {
+        if u32::from(q) >= self.queues {
+            return None;
+        }
+        if u32::from(cid) >= self.places {
+            return None;
+        }
+        Some((u32::from(q) * self.places + u32::from(cid)) as usize)
+    }
+
+    /// The record in a place.
+    pub fn get(&self, q: u16, cid: u16) -> Option<&R>
+        ensures { option_copied result ≡ value_at self.now.rows q cid }
+    {
+        let place = self.index(q, cid)?;
+        self.records[place].as_ref()
+    }
+
+    /// The record in a place, to be changed there.
+    pub fn get_mut(&mut self, q: u16, cid: u16) -> Option<&mut R>
+        ensures* writes_back { sem 𝓛 (lends_get R.row A.row A.Allocator self.entry q cid result) }
+        ensures value { option_copied_mut result ≡ value_at self.old.rows q cid }
+    {
+        if self.get(q, cid).is_some() {
+            Some(self.record_mut(q, cid))
+        } else {
+            None
+        }
+    }
+
+    fn record_mut(&mut self, q: u16, cid: u16) -> &mut R
+        requires { IsSome (value_at self.old.rows q cid) }
+        ensures* writes_back { sem 𝓛 (lends_record R.row A.row A.Allocator self.entry q cid result) }
+        ensures value { value_at self.old.rows q cid ≡ Some result.now }
+    {
+        match self.index(q, cid) {
+            Some(place) => content_mut(&mut self.records[place]),
+            None => unreachable!(),
+        }
+    }
+
+    /// Puts a record into an empty place, behind all others.
+    pub fn put(&mut self, q: u16, cid: u16, value: R)
+        requires place { IsPlace self.old q cid }
+        requires empty { value_at self.old.rows q cid ≡ None }
+        ensures { self.new ≡ with_row self.old q cid value }
+    {
+        let place = u32::from(q) * self.places + u32::from(cid);
+        let end = self.queues * self.places;
+        let last = self.links[end as usize].before;
+        Link::join(&mut self.links, last, place);
+        Link::join(&mut self.links, place, end);
+        self.len += 1;
+        match mem::replace(&mut self.records[place as usize], Some(value)) {
+            None => {}
+            Some(_) => unreachable!(),
+        }
+    }
+
+    /// Takes the record out of a place. The others keep their order.
+    pub fn take(&mut self, q: u16, cid: u16) -> Option<R>
+        ensures value { result ≡ value_at self.old.rows q cid }
+        ensures rest { self.new ≡ record self.old { rows = without self.old.rows q cid } }
+        ensures none { IfNone result (self.new ≡ self.old) }
+    {
+        let place = self.index(q, cid)?;
+        let value = self.records[place].take()?;
+        let link = self.links[place];
+        Link::join(&mut self.links, link.before, link.after);
+        self.len -= 1;
+        Some(value)
+    }
+}
+
+/// The record in an occupied place, to be changed there.
+fn content_mut<R>(place: &mut Option<R>) -> &mut R
+    requires { IsSome place.old }
+    ensures* writes_back { sem 𝓛 (lends_content R.row place.entry result) }
+    ensures value { place.old ≡ Some result.now }
+{
+    match place {
+        Some(record) => record,
+        None => unreachable!(),
+    }
+}

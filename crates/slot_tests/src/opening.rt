@@ -1,0 +1,32 @@
+//! Tables that are opened.
+
+use refusing::{Refusal, Refusing};
+use slot_table::SlotTable;
+use std::alloc::AllocError;
+
+#[test]
+fn opens_within_its_limits(rt: HostRuntime) {
+    for entries in [1, 2, 4_096] {
+        let table: Result<SlotTable<u64>, AllocError> = SlotTable::open(rt.alloc(), 64, entries);
+        assert!(rt; table.is_ok(), "with {entries} entries");
+    }
+    let none: Result<SlotTable<u64>, AllocError> = SlotTable::open(rt.alloc(), 0, 65_536);
+    assert!(rt; none.is_ok());
+}
+
+#[test]
+fn a_table_takes_two_lists(rt: HostRuntime) {
+    let heap = Refusing::new(rt.alloc());
+    for growth in [1, 2] {
+        heap.refuse(Refusal::Nth(growth));
+        let refused: Result<SlotTable<u64, &Refusing<_>>, AllocError> = SlotTable::open(
+            &heap, 2, 4,
+        );
+        assert_eq!(rt; refused.err(), Some(AllocError), "growth {growth}");
+        assert_eq!(rt; (heap.tally().refused, heap.tally().blocks), (1, 0));
+    }
+    heap.refuse(Refusal::Nth(3));
+    let opened: Result<SlotTable<u64, &Refusing<_>>, AllocError> = SlotTable::open(&heap, 2, 4);
+    assert!(rt; opened.is_ok());
+    assert_eq!(rt; heap.tally().calls, 2);
+}

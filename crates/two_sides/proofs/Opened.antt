@@ -1,0 +1,127 @@
+-- Both sides as they open are the machine's opening.
+use Rattle.std.proofs.Common.{◌≡◌, inr, ℕ, zero, suc, ◌+◌, ◌*◌, ◌<◌, ◌≤◌, nat_lt, ◌&&◌, lt-ltb, true, Option, Some, IfSome, List, [], ◌∷◌, length, replicate, slice_get, refl, ap, sym, arith, subst}
+use Rattle.std.specs.Option.{option_and_then}
+use Rattle.std.proofs.lemmas.List.{length-replicate}
+use Rattle.controller_core.specs.Opening.{fresh_queue, queues_from}
+use Rattle.host_core.proofs.Fresh.{limits}
+use Rattle.machine_model.specs.Agreeing.{SidesAgree}
+use Rattle.machine_model.specs.Claims.{HasOneOwner, IsSound}
+use Rattle.machine_model.specs.Opening as machine
+use Rattle.machine_model.specs.Opening.{opening, device_queue}
+use Rattle.machine_model.specs.State.{State, HostQueue, DeviceQueue}
+use Rattle.machine_model.specs.declared.words.HostState.TheVariants.{Live}
+use Rattle.page_ledger.specs.Owners.{pages_from}
+use Rattle.queue_pair.specs.Rings.{fresh_host_ring}
+use Rattle.machine_model.proofs.Agreeing.{opening_agrees}
+use Rattle.machine_model.proofs.Headline.{runs_are_sound}
+use Rattle.machine_model.proofs.Opening.{fits_pool}
+use Rattle.machine_model.proofs.Positions.{rings_at_opening}
+use Rattle.page_memory.specs.Memory.{Memory}
+use Rattle.page_memory.specs.Pages.{byte_at, page_at, zero_page}
+use Rattle.page_memory.specs.declared.page.Half.TheVariants.{Submission, Completion}
+use Rattle.page_memory.proofs.Whole.{length-zero_page}
+use Rattle.queue_pair.specs.Halves.{IsZero}
+use Rattle.queue_pair.specs.Memory.{half_pages}
+use Rattle.queue_pair.proofs.Halves.{zeros_stand}
+use Rattle.queue_pair.proofs.Pools.{pages_zero}
+use Rattle.two_sides.specs.Opening.{halves_from, opened_sides, openings_are_worlds}
+use Rattle.two_sides.specs.Sides.{state_of, device_queues_of}
+use Rattle.two_sides.specs.Ties.{ShareQueues, RingsStand, AllRingsStand}
+
+device_queues : (m : Memory) (page n q count : ℕ) → device_queues_of m (machine.queues_from page n count) (queues_from n q (halves_from page n count)) ≡ replicate count device_queue
+device_queues m page n q zero = refl
+device_queues m page n q (suc count) = ap (λ (l : List DeviceQueue). device_queue ∷ l) (device_queues m (page + half_pages n Submission + half_pages n Completion) n (suc q) count)
+
+shared : (page n q count : ℕ) → 2 ≤ n → n ≤ 1024 → ShareQueues n q (machine.queues_from page n count) (queues_from n q (halves_from page n count))
+shared page n q zero least most = tt
+shared page n q (suc count) least most = (
+  record {
+    number = refl;
+    entries = refl;
+    side = record { least = least; most = most; head = omega arith; bell = omega arith; tail = omega arith; known_head = omega arith };
+    submission = inr refl;
+    completion = inr refl;
+  },
+  shared (page + half_pages n Submission + half_pages n Completion) n (suc q) count least most,
+)
+
+abbrev fresh_host : ℕ → ℕ → HostQueue
+fresh_host page n =
+    record { state = Live; ring = fresh_host_ring; sq_pages = pages_from page (half_pages n Submission); cq_pages = pages_from (page + half_pages n Submission) (half_pages n Completion) }
+
+fresh_rings : (m : Memory) (page n q : ℕ) → 0 < n → IsZero m (page + half_pages n Submission) (half_pages n Completion)
+    → RingsStand m q (fresh_host page n) (fresh_queue n q (record { sq = page; cq = page + half_pages n Submission }))
+fresh_rings m page n q some zeros =
+    record {
+      fetched = inside;
+      rung = inside;
+      heard = refl;
+      expected = refl;
+      phases = λ e. zeros_stand m (page + half_pages n Submission) n zeros;
+      owned = λ e. tt;
+      follow = λ e. inside;
+      drained = λ e. refl;
+    }
+  where
+    inside : (nat_lt 0 n && true) ≡ true
+    inside = rw (lt-ltb 0 n some) refl
+
+all_at : {X : Type 0} (n k : ℕ) (x : X) → k < n → slice_get (replicate n x) k ≡ Some x
+all_at zero k x l = absurd (omega arith)
+all_at (suc n) zero x l = refl
+all_at (suc n) (suc k) x l = all_at n k x (omega arith)
+
+zero_at : (n p : ℕ) → p < n → page_at (replicate n (Some zero_page)) p ≡ Some zero_page
+zero_at n p l = ap (λ (o : Option (Option (List ℕ))). option_and_then (λ slot. slot) o) (all_at n p (Some zero_page) l)
+
+next_fits : (page a b count all : ℕ) → page + suc count * (a + b) ≤ all → page + a + b + count * (a + b) ≤ all
+next_fits page a b count all l = omega (arith, l)
+
+here_fits : (page a b count all p : ℕ) → page + suc count * (a + b) ≤ all → p < b → page + a + p < all
+here_fits page a b count all p l h = omega (arith, l, h)
+
+all_rings : (all page n q count : ℕ) → 0 < n → page + count * (half_pages n Submission + half_pages n Completion) ≤ all
+    → AllRingsStand (byte_at (replicate all (Some zero_page))) q (machine.queues_from page n count) (queues_from n q (halves_from page n count))
+all_rings all page n q zero some fits = tt
+all_rings all page n q (suc count) some fits = (
+  fresh_rings (byte_at (replicate all (Some zero_page))) page n q some
+      (pages_zero (replicate all (Some zero_page)) (page + half_pages n Submission) (half_pages n Completion)
+      (λ p h. zero_at all (page + half_pages n Submission + p) (here_fits page (half_pages n Submission) (half_pages n Completion) count all p fits h))),
+  all_rings all (page + half_pages n Submission + half_pages n Completion) n (suc q) count some (next_fits page (half_pages n Submission) (half_pages n Completion) count all fits),
+)
+
+blank_pool : (n p : ℕ) → IfSome (page_at (replicate n (Some zero_page)) p) (λ page. length page ≡ 4096)
+blank_pool zero p = tt
+blank_pool (suc n) zero = length-zero_page
+blank_pool (suc n) (suc p) = blank_pool n p
+
+from_zero : (k all : ℕ) → k ≤ all → 0 + k ≤ all
+from_zero k all l = omega arith
+
+pub opened_are_worlds : openings_are_worlds
+opened_are_worlds c image opens =
+    let l = limits c opens in
+    let start = opening c.pages c.queues c.entries c.segment image in
+    let sound : IsSound start = runs_are_sound c.pages c.queues c.entries c.segment image [] [] start opens refl in
+    let same : state_of (opened_sides c image) ≡ start =
+    ap (λ (queues : List DeviceQueue). record start { device = record start.device { queues = queues } }) (device_queues (byte_at (replicate c.pages (Some zero_page))) 0 c.entries 0 (c.queues + 1)) in
+    let count : length (replicate c.pages (Some zero_page)) ≡ c.pages = length-replicate c.pages (Some zero_page) in (
+      same,
+      record {
+        sides = record {
+          over = record { pool = record { few = omega (arith, count, l.most_pages); whole = blank_pool c.pages }; size = sym sound.counted; out = sound.out };
+          sound = record {
+            owners = subst (λ (n : ℕ). HasOneOwner n start.host) (sym sound.counted) sound.owners;
+            identifiers = sound.identifiers;
+            positions = rings_at_opening c.pages c.queues c.entries c.segment image opens;
+          };
+          controller = record { commands = record { each = tt; differ = λ q cid. omega arith } };
+          queues = shared 0 c.entries 0 (c.queues + 1) l.least_entries l.most_entries;
+        };
+        tied = record {
+          rings = all_rings c.pages 0 c.entries 0 (c.queues + 1) (omega (arith, l.least_entries)) (from_zero _ c.pages (fits_pool c.pages c.queues c.entries c.segment opens));
+          walks = tt;
+          agree = subst (λ (s : State). SidesAgree s) (sym same) (opening_agrees c.pages c.queues c.entries c.segment image opens);
+        };
+      },
+    )

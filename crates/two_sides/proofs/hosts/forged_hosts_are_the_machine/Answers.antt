@@ -1,0 +1,5 @@
+use Rattle.two_sides.proofs.Forged.{forged_step}
+use Rattle.two_sides.proofs.hosts.forged_hosts_are_the_machine.Goals as goal
+
+pub returns : goal.returns
+returns c = forged_step

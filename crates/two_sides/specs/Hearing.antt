@@ -1,0 +1,15 @@
+-- What the controller hears of a call of the host.
+use Rattle.std.specs.Option.{option_map_or}
+use Rattle.controller_core.specs.Contents.{Contents}
+use Rattle.controller_core.specs.Doorbells as controller
+use Rattle.host_core.specs.Alone.{HostView}
+use Rattle.host_core.specs.Ringing.{tail_of, head_rung}
+use Rattle.machine_model.specs.Events as events
+use Rattle.machine_model.specs.Events.{Event, Reply}
+
+-- A tail is rung by its call, and a head by a reap that took a completion; nothing else is heard.
+abbrev pub heard : Event → Reply → HostView → Contents → Contents
+heard e (events.Refused why touched) v c = c
+heard (events.Ring q) events.Accepted v c = option_map_or (λ tail. controller.tail_rung q tail c) (tail_of v q) c
+heard (events.Reap q) (events.Reaps what) v c = option_map_or (λ head. controller.head_rung q head c) (head_rung v q what) c
+heard e reply v c = c

@@ -1,0 +1,5 @@
+pub mod Sides
+pub mod Ties
+pub mod Hearing
+pub mod Opening
+pub mod Laws

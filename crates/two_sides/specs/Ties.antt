@@ -1,0 +1,93 @@
+-- What holds of a host and a controller over one pool of pages: always, and as long as nothing was forged.
+use Rattle.std.specs.Prelude.{◌≡◌, ◌⊎◌, ℕ, suc, true, false, None, List, [], ◌∷◌, IsTrue}
+use Rattle.std.specs.Bool.{OnTrue}
+use Rattle.std.specs.List.{AllByRecursion}
+use Rattle.controller_core.specs.Contents.{FetchedCommand, IsController, Work}
+use Rattle.controller_core.specs.declared.command.Work.TheVariants.{Io, Admin}
+use Rattle.controller_core.specs.declared.queue.ControllerQueue.{ControllerQueue}
+use Rattle.controller_walk.specs.Laws.{after_units}
+use Rattle.controller_walk.specs.Units.{course_of_list}
+use Rattle.entry_codec.specs.declared.completion.ComEntry.{ComEntry}
+use Rattle.host_core.specs.Alone.{IsOver, IsSoundHost}
+use Rattle.io_commands.specs.Jobs.{job_course, direction_of_entry, need_of_entry}
+use Rattle.machine_model.specs.Agreeing.{SidesAgree}
+use Rattle.machine_model.specs.Memory.{memory_of}
+use Rattle.machine_model.specs.Refusals.{has_sq, has_cq}
+use Rattle.machine_model.specs.State.{HostQueue}
+use Rattle.page_ledger.specs.Owners.{pages_from}
+use Rattle.page_memory.specs.Memory.{Memory}
+use Rattle.page_memory.specs.Pages.{byte_at}
+use Rattle.page_memory.specs.declared.page.Half.TheVariants.{Submission, Completion}
+use Rattle.queue_pair.specs.Lists.{HasPhases, expected_phase}
+use Rattle.queue_pair.specs.Memory.{half_pages}
+use Rattle.queue_pair.specs.Rings.{IsDeviceSide}
+use Rattle.queue_pair.specs.Slots.{is_in_range}
+use Rattle.two_sides.specs.Sides.{Sides, state_of, completions_between}
+
+-- The pages of a half that the host still has, where the controller has it, or none once they are given back.
+abbrev pub IsHalfAt : ℕ → ℕ → List ℕ → Type 0
+IsHalfAt first many pages = (pages ≡ []) ⊎ (pages ≡ pages_from first many)
+
+-- Both sides of queue q have n entries in each ring, and the halves that the host still has lie where the controller has them.
+pub record ShareQueue (n q : ℕ) (h : HostQueue) (c : ControllerQueue) : Type 0 where
+  pub number : c.device.q ≡ q
+  pub entries : c.device.entries ≡ n
+  pub side : IsDeviceSide c.device
+  pub submission : IsHalfAt c.device.sq (half_pages n Submission) h.sq_pages
+  pub completion : IsHalfAt c.device.cq (half_pages n Completion) h.cq_pages
+
+-- one after the other, from queue q on, and as many on either side
+abbrev pub ShareQueues : ℕ → ℕ → List HostQueue → List ControllerQueue → Type 0
+ShareQueues n q [] [] = Unit {0}
+ShareQueues n q [] (c ∷ cs) = ⊥
+ShareQueues n q (h ∷ hs) [] = ⊥
+ShareQueues n q (h ∷ hs) (c ∷ cs) = ShareQueue n q h c × ShareQueues n (suc q) hs cs
+
+-- What holds whatever was forged.
+pub record AreSides (s : Sides) : Type 0 where
+  pub over : IsOver s.host s.pages
+  pub sound : IsSoundHost s.host
+  pub controller : IsController s.controller
+  pub queues : ShareQueues s.host.entries 0 s.host.host.queues s.controller.queues
+
+-- The submission heads of the answers in a completion ring follow each other from the head that the host knows to the controller's.
+abbrev pub HeadsFollow : ℕ → ℕ → ℕ → List ComEntry → Type 0
+HeadsFollow n from to [] = IsTrue (is_in_range n from to to)
+HeadsFollow n from to (e ∷ es) = IsTrue (is_in_range n from to e.sqhd) × HeadsFollow n e.sqhd to es
+
+-- The rings of queue q stand: what was posted, rung and taken on either side fits.
+pub record RingsStand (m : Memory) (q : ℕ) (h : HostQueue) (c : ControllerQueue) : Type 0 where
+  pub fetched : is_in_range c.device.entries h.ring.known_head h.ring.tail c.device.ring.head ≡ true
+  pub rung : is_in_range c.device.entries c.device.ring.head h.ring.tail c.device.ring.bell ≡ true
+  pub heard : c.device.ring.known_head ≡ h.ring.head
+  pub expected : h.ring.phase ≡ expected_phase h.ring.head c.device.ring.tail c.device.ring.phase
+  pub phases : has_cq h.state ≡ true → HasPhases m c.device
+  pub owned : has_cq h.state ≡ true → AllByRecursion (λ e. e.sqid ≡ q) (completions_between m h.ring c.device)
+  pub follow : has_cq h.state ≡ true → HeadsFollow c.device.entries h.ring.known_head c.device.ring.head (completions_between m h.ring c.device)
+  -- nothing waits in a completion ring once the submission half is given back
+  pub drained : has_sq h.state ≡ false → h.ring.head ≡ c.device.ring.tail
+
+abbrev pub AllRingsStand : Memory → ℕ → List HostQueue → List ControllerQueue → Type 0
+AllRingsStand m q [] cs = Unit {0}
+AllRingsStand m q (h ∷ hs) [] = Unit {0}
+AllRingsStand m q (h ∷ hs) (c ∷ cs) = RingsStand m q h c × AllRingsStand m (suc q) hs cs
+
+-- As long as a command has no verdict, its walk has to do what is left of its list behind the units that it did, in the memory as it is now.
+abbrev pub WalkStands : Memory → ℕ → Work → Type 0
+WalkStands m done (Io job) =
+    job.verdict ≡ None → job_course m job ≡ after_units done (course_of_list m job.entry.sgl1 (direction_of_entry job.entry) (need_of_entry job.entry))
+WalkStands m done (Admin entry status dw0) = Unit {0}
+
+abbrev pub WalksStand : Memory → List FetchedCommand → Type 0
+WalksStand m commands = AllByRecursion (λ k. WalkStands m k.units_done k.work) commands
+
+-- What holds where nothing was forged.
+pub record AreTied (s : Sides) : Type 0 where
+  pub rings : AllRingsStand (byte_at s.pages) 0 s.host.host.queues s.controller.queues
+  pub walks : WalksStand (memory_of s.pages) s.controller.commands
+  pub agree : SidesAgree (state_of s)
+
+-- both together
+pub record IsWorld (s : Sides) : Type 0 where
+  pub sides : AreSides s
+  pub tied : OnTrue s.trusted (AreTied s)

@@ -1,0 +1,23 @@
+//! The host's steps, whatever was forged.
+
+ghost use Rattle.two_sides.specs.Laws.{hosts_share_queues, forged_hosts_step, hosts_answer, hosts_refuse};
+
+/// Whatever was forged, a step of the host leaves the queues where both sides have them.
+pub fn hosts_keep_their_queues()
+    ensures { hosts_share_queues }
+{}
+
+/// After a forged entry a step of the host is one of the machine.
+pub fn forged_hosts_are_the_machine()
+    ensures { forged_hosts_step }
+{}
+
+/// What the host answers to a call that looks at no completion ring is what the machine may answer, whatever was forged.
+pub fn hosts_answer_as_the_machine()
+    ensures { hosts_answer }
+{}
+
+/// A refusal of such a call changes neither side, and is a step of the machine.
+pub fn hosts_refuse_as_the_machine()
+    ensures { hosts_refuse }
+{}

@@ -1,0 +1,208 @@
+//! The printed names, and a whole script through the public calls.
+
+use entry_codec::Status;
+use io_commands::{FillFault, Kind, Piece};
+use page_ledger::{Counts, Owner, Role};
+use page_memory::Half;
+use script_cli::*;
+use std::alloc::Global;
+use std::test::Fail;
+use step_core::{Bytes, Reaped, Reply, Step};
+
+/// Thirteen lines that read a block.
+const SCRIPT: &str =
+    "reserve 1 read 0 1 0+512\nbuild 1 0\nsubmit 1 0\nring 1\nfetch 1\nwalk 1 0\nwalk 1 0\ncomplete 1 0\nreap 1\ncollect 1 0\ngather 1 0\nowners\nrelease 1 0\n";
+
+/// The first fault of a text, as it is printed.
+fn fault_of(alloc: Global, text: &str) -> Result<String, Fail> {
+    match read_script(alloc, text.as_bytes()) {
+        Ok(_) => Ok(String::from_str(alloc, "none")?),
+        Err(fault) => Ok(format!(in alloc; "{fault}")?),
+    }
+}
+
+#[test]
+fn faults_have_names(rt: HostRuntime) -> Result<(), Fail> {
+    for (text, name) in [
+        ("raed 1", "line 1: UnknownVerb"),
+        ("ring", "line 1: MissingWord"),
+        ("ring 70000", "line 1: BadNumber"),
+        ("ring 1\nring 1 2", "line 2: ExtraWord"),
+        ("reserve 1 rea", "line 1: BadKind"),
+        ("reserve 1 read 0 1 0+", "line 1: BadPiece"),
+        ("fill 1 0 ABC", "line 1: BadHex"),
+        ("forge 1 0 00", "line 1: BadHex"),
+        ("# \u{e9}", "line 1: NotAscii"),
+        ("reserve 1 read 0 1", "none"),
+    ] {
+        assert_eq!(rt; fault_of(rt.alloc(), text)?.as_str(), name);
+    }
+    Ok(())
+}
+
+#[test]
+fn long_texts(rt: HostRuntime) -> Result<(), Fail> {
+    for (byte, len, name) in [
+        (b'#', 16_384, "none"),
+        (b' ', 16_385, "line 1: LongLine"),
+        (b'\n', 65_536, "none"),
+        (b'\n', 65_537, "line 65537: TooManyLines"),
+        (b'\n', 1_048_577, "script: too long"),
+    ] {
+        let text = vec![in rt.alloc(); byte; len]?;
+        let said = match read_script(rt.alloc(), &text) {
+            Ok(_) => String::from_str(rt.alloc(), "none")?,
+            Err(fault) => format!(in rt.alloc(); "{fault}")?,
+        };
+        assert_eq!(rt; said.as_str(), name);
+    }
+    Ok(())
+}
+
+#[test]
+fn thirteen_lines(rt: HostRuntime) -> Result<(), Fail> {
+    let Ok(script) = read_script(rt.alloc(), SCRIPT.as_bytes()) else {
+        panic!(rt; "a script without faults");
+    };
+    assert_eq!(rt; script.lines().len(), 13);
+    let mut text = String::new(rt.alloc());
+    for numbered in script.into_lines() {
+        let number = numbered.number;
+        match numbered.line {
+            Line::Step(step) => {
+                let name = Verb::of(&step).name();
+                write!(text, "{number} {name},")?;
+            }
+            Line::Owners => write!(text, "{number} owners,")?,
+            Line::Nothing => write!(text, "{number},")?,
+        }
+    }
+    assert_eq!(rt;
+        text.as_str(),
+        "1 reserve,2 build,3 submit,4 ring,5 fetch,6 walk,7 walk,8 complete,9 reap,10 collect,11 gather,12 owners,13 release,"
+    );
+    Ok(())
+}
+
+#[test]
+fn a_reserve(rt: HostRuntime) -> Result<(), Fail> {
+    let Ok(script) = read_script(rt.alloc(), b"\treserve 01 write 5 2  0+512 x512\r\n") else {
+        panic!(rt; "a script without faults");
+    };
+    let mut seen = false;
+    for numbered in script.lines() {
+        if let Line::Step(Step::Reserve { q, request }) = &numbered.line {
+            assert_eq!(rt; (*q, request.slba, request.blocks), (1, 5, 2));
+            assert_eq!(rt; request.kind, Kind::Write);
+            let pieces = [
+                Piece::Data {
+                    offset: 0,
+                    len: 512,
+                },
+                Piece::Bucket { len: 512 },
+            ];
+            assert_eq!(rt; request.pieces.as_slice(), pieces.as_slice());
+            seen = true;
+        }
+    }
+    assert!(rt; seen);
+    Ok(())
+}
+
+#[test]
+fn replies_and_counts(rt: HostRuntime) -> Result<(), Fail> {
+    let mut out = String::new(rt.alloc());
+    let reserve = Verb::Reserve;
+    let reap = Verb::OnQueue(QueueVerb::Reap);
+    let status = Status::COMPARE_FAILURE;
+    let zeros = Bytes::from_vec(vec![in rt.alloc(); 0; 512]?);
+    append_reply(
+        &mut out,
+        1,
+        reserve,
+        &Reply::Reserved {
+            q: 1,
+            cid: 0,
+            data: 1,
+            chain: 0,
+        },
+    )?;
+    append_reply(
+        &mut out,
+        2,
+        Verb::OnCommand(CommandVerb::Build),
+        &Reply::Accepted,
+    )?;
+    append_reply(
+        &mut out,
+        3,
+        reap,
+        &Reply::Reaps(Reaped::Done { cid: 7, status }),
+    )?;
+    append_reply(
+        &mut out,
+        4,
+        Verb::OnCommand(CommandVerb::Gather),
+        &Reply::Gathered(zeros),
+    )?;
+    append_reply(
+        &mut out,
+        5,
+        Verb::Fill,
+        &Reply::NotFilled(FillFault::WrongLength),
+    )?;
+    append_counts(
+        &mut out,
+        Counts {
+            free_pages: 12,
+            queue_pages: 4,
+            chain_pages: 0,
+            data_pages: 0,
+        },
+    )?;
+    assert_eq!(rt;
+        out.as_str(),
+        "1 reserve q 1 cid 0 data 1 chain 0\n2 build ok\n3 reap done cid 7 status 2:85\n4 gather 00*512\n5 fill refused WrongLength\ncounts free 12 queue 4 chain 0 data 0\n"
+    );
+    Ok(())
+}
+
+#[test]
+fn owners(rt: HostRuntime) -> Result<(), Fail> {
+    let mut out = String::new(rt.alloc());
+    let queue = Owner::Queue {
+        q: 1,
+        half: Half::Completion,
+    };
+    let command = Owner::Command {
+        q: 1,
+        cid: 2,
+        role: Role::Chain,
+    };
+    append_owners(&mut out, &[queue, queue, command, Owner::Free, Owner::Free])?;
+    assert_eq!(rt;
+        out.as_str(),
+        "0-1 queue 1 cq\n2-2 command 1 2 chain\n3-4 free\n"
+    );
+    Ok(())
+}
+
+#[test]
+fn verbs_by_name(rt: HostRuntime) -> Result<(), Fail> {
+    assert_eq!(rt;
+        Verb::named(b"delete_cq"),
+        Some(Verb::OnQueue(QueueVerb::DeleteCq))
+    );
+    assert_eq!(rt; Verb::named(b"job"), None);
+    assert_eq!(rt; QueueVerb::Retire.name(), "retire");
+    assert_eq!(rt; CommandVerb::Collect.name(), "collect");
+    assert_eq!(rt;
+        Verb::of(&QueueVerb::Ring.step(1)),
+        Verb::OnQueue(QueueVerb::Ring)
+    );
+    assert_eq!(rt;
+        Verb::of(&CommandVerb::Abort.step(1, 0)),
+        Verb::OnCommand(CommandVerb::Abort)
+    );
+    Ok(())
+}
