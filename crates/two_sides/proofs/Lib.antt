@@ -6,3 +6,10 @@ pub mod Bells
 pub mod Known
 pub mod Frames
 pub mod Assembling
+pub mod Units
+pub mod Jobs
+pub mod Walks
+pub mod ServeSteps
+pub mod WalkSteps
+pub mod Places
+pub mod Answering
