@@ -67,7 +67,7 @@ verdict_at v c place k e at known =
 
 -- What it leaves
 
-end-posted : (work : Work) (q : ℕ) (queues : List ControllerQueue) → queues_of_end work (change q with_answer queues) ≡ change q with_answer (queues_of_end work queues)
+pub end-posted : (work : Work) (q : ℕ) (queues : List ControllerQueue) → queues_of_end work (change q with_answer queues) ≡ change q with_answer (queues_of_end work queues)
 end-posted (Io job) q queues = refl
 end-posted (Admin entry status dw0) q queues = by (is_deletion entry status)
   where

@@ -88,11 +88,13 @@ seen k job = job_of (with_work k (Io job))
 pub seen_is : (k : FetchedCommand) (job : JobContents) → k.work ≡ Io job → job_of k ≡ seen k job
 seen_is k job e = ap (λ (work : Work). job_of (with_work k work)) e
 
--- what is known of a command that is found: it is its queue's, and fits
+-- what is known of a command that is found: it fits, and its queue is there
 pub record IsFound (s : Sides) (q cid : ℕ) (k : FetchedCommand) : Type 0 where
   pub named : is_command q cid k ≡ true
   pub its_queue : k.q ≡ q
   pub fits : FitsCommand (block_count s.controller.image) (length s.controller.queues) k
+  pub queue : ControllerQueue
+  pub queue_here : slice_get s.controller.queues q ≡ Some queue
   pub host : HostQueue
   pub host_here : slice_get s.host.host.queues q ≡ Some host
 
@@ -108,4 +110,4 @@ is_found s world q cid k e =
     let fits = all_at_found (FitsCommand (block_count s.controller.image) (length s.controller.queues)) (is_command q cid) s.controller.commands k e world.sides.controller.commands.each in
     let (c, here) = there s.controller.queues q (subst (λ (n : ℕ). n < length s.controller.queues) same fits.0) in
     let (h, at) = host_at s world q c here in
-    record { named = named; its_queue = same; fits = fits; host = h; host_here = at }
+    record { named = named; its_queue = same; fits = fits; queue = c; queue_here = here; host = h; host_here = at }

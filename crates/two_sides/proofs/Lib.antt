@@ -13,3 +13,6 @@ pub mod ServeSteps
 pub mod WalkSteps
 pub mod Places
 pub mod Answering
+pub mod Changed
+pub mod Ending
+pub mod CompleteSteps

@@ -46,7 +46,7 @@ use Rattle.two_sides.specs.Ties.{IsWorld, ShareQueues, AllRingsStand, WalkStands
 use Rattle.two_sides.proofs.Assembling.{ServesOver, serve_refused, served_stepped}
 use Rattle.two_sides.proofs.Frames.{Spares, SparesQueue, all_rings_stay, apart_from_queues, queues_stay}
 use Rattle.two_sides.proofs.Jobs.{IsFound, find_place, is_found, job-at, job-found, map_one, seen, seen_is, with_work}
-use Rattle.two_sides.proofs.ServeSteps.{either_by, same_pages}
+use Rattle.two_sides.proofs.ServeSteps.{either_by, same_pages, with_served}
 use Rattle.two_sides.proofs.Units.{FirstUnit, HeadInPage, effect_told, few_touched, first_unit, head_in_page, next_done, unit_stays}
 use Rattle.two_sides.proofs.Walks.{job_served, stands_again, still_stands, stood, tied_of, whole_course}
 
@@ -104,10 +104,6 @@ more_verdict : (outcome : WalkState) → verdict_of outcome ≡ None → (P : Ty
 more_verdict More e P h = h
 more_verdict End e P h = cc
 more_verdict (Fault status) e P h = cc
-
--- the machine, with what a call of the controller that leaves the queues makes of it
-abbrev with_served : State → Pages → List DeviceQueue → List Job → List ℕ → State
-with_served s pages queues jobs image = record s { memory = pages; device = record { queues = queues; jobs = jobs; image = image } }
 
 module _ (s : Sides) (q cid : ℕ) (outcome : WalkState) (c : Contents) (pages : Pages) (touched : List ℕ) (world : IsWorld s) (leaves : LeavesPages s.pages pages) (free : walk_refusal s.controller q cid ≡ None) (w : WalksTo s.controller q cid (byte_at s.pages) [] outcome c (byte_at pages) touched) where
   abbrev k : FetchedCommand

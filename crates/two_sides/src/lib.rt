@@ -1,11 +1,13 @@
 //! A host and a controller over one pool of pages are the machine, step by step. Each function does nothing.
 #![tactic(auto)]
 
+mod completing;
 mod doorbells;
 mod hosts;
 mod opening;
 mod walking;
 
+pub use completing::{completes_are_the_machines, completes_refuse_as_the_machine};
 pub use doorbells::doorbells_are_heard;
 pub use hosts::{
     forged_hosts_are_the_machine, hosts_answer_as_the_machine, hosts_keep_their_queues,
