@@ -6,4 +6,6 @@ pub mod Bells
 pub mod Owning
 pub mod Known
 pub mod Frames
+pub mod Seeing
+pub mod Alike
 pub mod Assembling

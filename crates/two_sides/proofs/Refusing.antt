@@ -50,7 +50,7 @@ answers s (events.Walk q cid) reply c l h = absurd (true≢false c)
 answers s (events.Complete q cid) reply c l h = absurd (true≢false c)
 answers s e reply c l h = absurd h
 
-out_of : {A : Type 0} (B : Type 0) (c : Bool) → c ≡ false → MatchBool (false || not c) A B → A
+pub out_of : {A : Type 0} (B : Type 0) (c : Bool) → c ≡ false → MatchBool (false || not c) A B → A
 out_of B true e h = absurd (true≢false e)
 out_of B false e h = h
 
