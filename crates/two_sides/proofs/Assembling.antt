@@ -118,7 +118,7 @@ heads_alike None (Some e) same = absurd cc
 heads_alike (Some e) None same = absurd cc
 heads_alike (Some e) (Some e') same = sym (ap (option_map head_of_entry) same)
 
-sees_alike : (s : Sides) (e : Event) → IsWorld s → refusal_of (alone s.host s.pages) e ≡ None → SeesAlike (state_of s) (alone s.host s.pages) e
+pub sees_alike : (s : Sides) (e : Event) → IsWorld s → refusal_of (alone s.host s.pages) e ≡ None → SeesAlike (state_of s) (alone s.host s.pages) e
 sees_alike s (events.Reap q) world none = go (slice_get s.host.host.queues q) refl (unrefused (option_map_or (λ queue. has_cq queue.state) (host_queue (alone s.host s.pages) q) false) none)
   where
     unrefused : (b : Bool) → first_passing ((not b, refusal.NoQueue) ∷ []) ≡ None → b ≡ true

@@ -51,7 +51,7 @@ use Rattle.queue_pair.proofs.Pools.{pages_agree}
 use Rattle.two_sides.specs.Sides.{Sides, state_of, present, answer_of, job_of, unfetched_between, completions_between, device_queue_of, device_queues_of}
 use Rattle.two_sides.specs.Ties.{IsWorld, HeadsFollow, RingsStand, AllRingsStand, WalkStands, WalksStand}
 use Rattle.two_sides.proofs.Known.{IsPlaced, IsKnown, known, from_zero, ring_of, tied_of}
-use Rattle.two_sides.proofs.Owning.{owned_once, both_count}
+use Rattle.two_sides.proofs.Owning.{owned_once, both_count, commands_apart}
 
 no_more : (n : ℕ) → n + 0 ≡ n
 no_more n = omega arith
@@ -295,10 +295,7 @@ walks_stay s pages world t spares = walks_stand s pages world t (record {
 -- the pages of a command are none of a queue's halves
 pub apart_from_queues : (s : Sides) → IsWorld s → (q i : ℕ) (h : HostQueue) (r : Record) (p : ℕ) → slice_get s.host.host.queues q ≡ Some h → slice_get s.host.host.records i ≡ Some r
     → is_among (pages_of r) p ≡ true → (is_among h.sq_pages p ≡ false) × (is_among h.cq_pages p ≡ false)
-apart_from_queues s world q i h r p e f among =
-    let own = held_once p (pages_of r) among in
-    let none : in_queue p h ≡ 0 = omega (arith, own, owned_once s world.sides p, in_at s.host.host.records i r f (in_record p), in_at s.host.host.queues q h e (in_queue p)) in
-    (among_counts p h.sq_pages (omega (arith, none)), among_counts p h.cq_pages (omega (arith, none)))
+apart_from_queues s world q i h r p e f among = commands_apart s world.sides q h r p e (in_at s.host.host.records i r f) among
 
 -- and none of another command's
 pub apart_from_commands : (s : Sides) → IsWorld s → (i j : ℕ) (r k : Record) (p : ℕ) → slice_get s.host.host.records i ≡ Some r → slice_get s.host.host.records j ≡ Some k → i ≢ j

@@ -7,5 +7,7 @@ pub mod Owning
 pub mod Known
 pub mod Frames
 pub mod Seeing
+pub mod Places
 pub mod Alike
 pub mod Assembling
+pub mod Quiet

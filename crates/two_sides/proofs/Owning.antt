@@ -6,7 +6,7 @@ use Rattle.machine_model.specs.State.{HostQueue, Record, pages_of}
 use Rattle.machine_model.specs.Step.{times}
 use Rattle.machine_model.proofs.Counting.{one, held_once, times-append}
 use Rattle.machine_model.proofs.Elsewhere.{at_most_one, among_counts}
-use Rattle.machine_model.proofs.Members.{in_at}
+use Rattle.machine_model.proofs.Members.{In, in_at}
 use Rattle.machine_model.proofs.Owned.{in_queue, in_record, owned, owned_is}
 use Rattle.machine_model.proofs.Parts.{in_store, length-in_store}
 use Rattle.machine_model.proofs.Taken.{none, none_here, in_is, taken, taken_le, taken_from_out}
@@ -29,6 +29,14 @@ both_count w (z ∷ xs) zero zero x y e f apart = absurd (apart refl)
 both_count w (z ∷ xs) zero (suc j) x y e f apart = let same : z ≡ x = cc in omega (arith, ap w same, in_at xs j y f w)
 both_count w (z ∷ xs) (suc i) zero x y e f apart = let same : z ≡ y = cc in omega (arith, ap w same, in_at xs i x e w)
 both_count w (z ∷ xs) (suc i) (suc j) x y e f apart = omega (arith, both_count w xs i j x y e f (λ h. apart (ap suc h)))
+
+-- the pages of a command are none of a queue's halves
+pub commands_apart : (s : Sides) → AreSides s → (q : ℕ) (h : HostQueue) (r : Record) (p : ℕ) → slice_get s.host.host.queues q ≡ Some h → In r s.host.host.records → is_among (pages_of r) p ≡ true
+    → (is_among h.sq_pages p ≡ false) × (is_among h.cq_pages p ≡ false)
+commands_apart s sides q h r p e within among =
+    let own = held_once p (pages_of r) among in
+    let none' : in_queue p h ≡ 0 = omega (arith, own, owned_once s sides p, within (in_record p), in_at s.host.host.queues q h e (in_queue p)) in
+    (among_counts p h.sq_pages (omega (arith, none')), among_counts p h.cq_pages (omega (arith, none')))
 
 -- a page of a queue's half is in
 pub queue_page_in : (s : Sides) → AreSides s → (q : ℕ) (h : HostQueue) (p : ℕ) → slice_get s.host.host.queues q ≡ Some h → 0 < in_queue p h → is_in s.pages p ≡ true

@@ -31,7 +31,7 @@ refuses s e why touched c l h = (sym (same_refusal s e c l) ∙ h.0, h.1 ∙ sam
 new_same : (s : Sides) (q cid : ℕ) → IsNewIdentifier (alone s.host s.pages) q cid → IsNewIdentifier (state_of s) q cid
 new_same s q cid h = record { in_range = h.in_range; unused = h.unused }
 
-answers : (s : Sides) (e : Event) (reply : Reply) → IsController e ≡ false → looks_at_completions e ≡ false → Answers (alone s.host s.pages) e reply → Answers (state_of s) e reply
+pub answers : (s : Sides) (e : Event) (reply : Reply) → IsController e ≡ false → looks_at_completions e ≡ false → Answers (alone s.host s.pages) e reply → Answers (state_of s) e reply
 answers s (events.Reserve q r) (events.Reserved d) c l h =
     record { queue = h.queue; request = h.request; segment = h.segment; identifier = new_same s q d.cid h.identifier; data_pages = h.data_pages; chain_pages = h.chain_pages; free = h.free; zero = h.zero; not_built = h.not_built }
 answers s (events.Submit d) events.Accepted c l h = h
