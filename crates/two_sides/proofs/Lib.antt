@@ -11,3 +11,4 @@ pub mod Places
 pub mod Alike
 pub mod Assembling
 pub mod Quiet
+pub mod Forgery

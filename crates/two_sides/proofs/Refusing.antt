@@ -54,7 +54,7 @@ pub out_of : {A : Type 0} (B : Type 0) (c : Bool) → c ≡ false → MatchBool 
 out_of B true e h = absurd (true≢false e)
 out_of B false e h = h
 
-into : {A : Type 0} (B : Type 0) (t c : Bool) → c ≡ false → A → MatchBool (t || not c) A B
+pub into : {A : Type 0} (B : Type 0) (t c : Bool) → c ≡ false → A → MatchBool (t || not c) A B
 into B true c e h = h
 into B false true e h = absurd (true≢false e)
 into B false false e h = h
