@@ -42,7 +42,7 @@ use Rattle.two_sides.proofs.Alike.{SeesAlike, bare, head_of_entry, left_alike}
 use Rattle.two_sides.proofs.Refusing.{out_of}
 use Rattle.two_sides.proofs.Forged.{refused_leaves, length-device, forged_step, commands-heard, image-heard, length-heard}
 use Rattle.two_sides.proofs.Known.{tied_of}
-use Rattle.two_sides.proofs.Seeing.{seen_alike, told}
+use Rattle.two_sides.proofs.Seen.{seen_alike, told}
 use Rattle.two_sides.proofs.Shared.{share_queues}
 
 -- A controller that hears a doorbell
