@@ -1,5 +1,5 @@
 -- What each event has to show, so that it is a step of the machine and leaves both sides tied.
-use Rattle.std.proofs.Common.{◌≡◌, ◌≢◌, ℕ, zero, suc, ◌≤◌, Bool, true, false, not, ◌&&◌, ◌||◌, MatchBool, Option, Some, None, List, [], ◌∷◌, length, map, is_some, slice_get, refl, ap, ap₂, sym, ◌∙◌, subst}
+use Rattle.std.proofs.Common.{◌≡◌, ℕ, zero, suc, ◌≤◌, Bool, true, false, not, ◌&&◌, MatchBool, Option, Some, None, List, [], ◌∷◌, length, map, is_some, slice_get, refl, ap, ap₂, sym, ◌∙◌, subst}
 use Rattle.std.specs.Option.{option_map, option_map_or}
 use Rattle.std.proofs.lemmas.Bool.{OnTrue_from, true≢false}
 use Rattle.block_image.specs.Blocks.{block_count}
@@ -7,10 +7,9 @@ use Rattle.controller_core.specs.Contents.{AreCommands, Contents, FetchedCommand
 use Rattle.controller_walk.specs.Units.{first_passing}
 use Rattle.controller_core.specs.declared.queue.ControllerQueue.{ControllerQueue}
 use Rattle.entry_codec.specs.declared.completion.ComEntry.{ComEntry}
-use Rattle.host_core.specs.Alone.{HostView, HostStep, IsOver, alone, nothing}
+use Rattle.host_core.specs.Alone.{HostView, HostStep, IsOver, alone}
 use Rattle.host_core.proofs.Exact.{leaves_just}
 use Rattle.machine_model.specs.After.{after}
-use Rattle.machine_model.specs.Agreeing.{SidesAgree}
 use Rattle.machine_model.specs.Claims.{AdminLives, HasOneOwner, IsSound}
 use Rattle.machine_model.specs.Events as events
 use Rattle.machine_model.specs.Events.{Event, Reply}
@@ -31,14 +30,13 @@ use Rattle.machine_model.proofs.Positions.{steps_stay_in_rings}
 use Rattle.machine_model.proofs.Provided.{steps_provide}
 use Rattle.machine_model.proofs.Steps.{Accepts, part_controller}
 use Rattle.machine_model.proofs.Taken.{taken_from_out}
-use Rattle.page_ledger.specs.Counting.{total}
 use Rattle.page_memory.specs.Pages.{AreWhole, Pages, byte_at}
 use Rattle.two_sides.specs.Hearing.{heard}
 use Rattle.two_sides.specs.Laws.{behind}
 use Rattle.two_sides.specs.Sides.{Sides, state_of, device_of}
 use Rattle.two_sides.specs.Stepping.{StepsTo, LeavesPages, served}
-use Rattle.two_sides.specs.Ties.{AreSides, AreTied, IsWorld, AllRingsStand, ShareQueues, WalksStand}
-use Rattle.two_sides.proofs.Alike.{SeesAlike, bare, head_of_entry, left_alike}
+use Rattle.two_sides.specs.Ties.{AreSides, IsWorld, AllRingsStand, ShareQueues, WalksStand}
+use Rattle.two_sides.proofs.Alike.{SeesAlike, head_of_entry, left_alike}
 use Rattle.two_sides.proofs.Refusing.{out_of}
 use Rattle.two_sides.proofs.Forged.{refused_leaves, length-device, forged_step, commands-heard, image-heard, length-heard}
 use Rattle.two_sides.proofs.Known.{tied_of}

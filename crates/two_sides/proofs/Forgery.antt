@@ -1,5 +1,5 @@
 -- An entry is forged in a completion slot that the host still has.
-use Rattle.std.proofs.Common.{◌≡◌, ◌≢◌, ℕ, zero, ◌+◌, ◌*◌, ◌/◌, ◌%◌, ◌<◌, ◌≤◌, nat_le, Bool, true, false, Option, Some, None, IsSome, List, length, map, is_some, slice_get, refl, ap, sym, ◌∙◌, arith, subst}
+use Rattle.std.proofs.Common.{◌≡◌, ℕ, ◌+◌, ◌*◌, ◌/◌, ◌<◌, nat_le, true, false, Option, Some, None, IsSome, List, length, map, is_some, slice_get, refl, ap, sym, ◌∙◌, arith}
 use Rattle.std.proofs.lemmas.Bool.{not-false}
 use Rattle.std.proofs.lemmas.Bool.Decides.{nat_tests}
 use Rattle.controller_core.specs.declared.queue.ControllerQueue.{ControllerQueue}
@@ -25,7 +25,7 @@ use Rattle.two_sides.specs.Stepping.{LeavesPages, completion_slots_are_in, forge
 use Rattle.two_sides.specs.Ties.{AreSides, IsWorld}
 use Rattle.two_sides.proofs.Assembling.{sides_served}
 use Rattle.two_sides.proofs.Forged.{length-device}
-use Rattle.two_sides.proofs.Known.{IsPlaced, host_at, placed}
+use Rattle.two_sides.proofs.Known.{IsPlaced, placed}
 use Rattle.two_sides.proofs.Owning.{queue_page_in}
 use Rattle.two_sides.proofs.Places.{completion_slot_page}
 use Rattle.two_sides.proofs.Refusing.{into}

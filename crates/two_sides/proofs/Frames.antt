@@ -1,5 +1,5 @@
 -- What a change of one queue, or of the memory outside the halves, leaves of the machine's queues and of the rings.
-use Rattle.std.proofs.Common.{◌≡◌, ◌≢◌, ℕ, zero, suc, ◌+◌, ◌<◌, ◌==◌, Bool, true, false, Option, Some, None, List, [], ◌∷◌, length, map, slice_get, is_some, if◌then◌else◌, refl, ap, ap₂, sym, ◌∙◌, arith, subst}
+use Rattle.std.proofs.Common.{◌≡◌, ◌≢◌, ℕ, zero, suc, ◌+◌, ◌<◌, ◌==◌, Bool, true, false, Option, Some, None, List, [], ◌∷◌, map, slice_get, is_some, if◌then◌else◌, refl, ap, ap₂, sym, ◌∙◌, arith, subst}
 use Rattle.std.specs.List.{AllByRecursion}
 use Rattle.std.proofs.lemmas.Bool.{true≢false}
 use Rattle.std.specs.Option.{option_map}
@@ -16,7 +16,6 @@ use Rattle.controller_walk.specs.declared.walk.Walk.{Walk}
 use Rattle.controller_walk.proofs.Serving.{list_served, walk_served}
 use Rattle.entry_codec.specs.declared.completion.ComEntry.{ComEntry}
 use Rattle.entry_codec.specs.declared.submission.SubEntry.{SubEntry}
-use Rattle.host_core.specs.Alone.{HostView}
 use Rattle.host_core.proofs.Pages.{among-from}
 use Rattle.io_commands.specs.Jobs.{course_of_walk, direction_of_entry, need_of_entry}
 use Rattle.machine_model.specs.After.{after, course_of}
@@ -38,7 +37,7 @@ use Rattle.machine_model.proofs.Members.{all_at, all_indexed, in_at}
 use Rattle.machine_model.proofs.Owned.{in_queue, in_record}
 use Rattle.page_ledger.specs.Owners.{is_among}
 use Rattle.page_memory.specs.Memory.{Memory}
-use Rattle.page_memory.specs.Pages.{Pages, byte_at, page_at, AreWhole}
+use Rattle.page_memory.specs.Pages.{Pages, byte_at, page_at}
 use Rattle.page_memory.specs.declared.page.Half.TheVariants.{Submission, Completion}
 use Rattle.queue_pair.specs.Halves.{Agree}
 use Rattle.queue_pair.specs.Lists.{answers_between}

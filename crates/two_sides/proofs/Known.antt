@@ -1,8 +1,6 @@
 -- What is known of a queue on both sides, where nothing was forged.
-use Rattle.std.proofs.Common.{◌≡◌, ◌⊎◌, inl, inr, ℕ, zero, suc, ◌+◌, ◌<◌, ◌≤◌, Bool, true, false, Some, IsSome, List, [], ◌∷◌, length, slice_get, if◌then◌else◌, refl, ap, sym, ◌∙◌, arith, subst}
-use Rattle.std.specs.List.{AllByRecursion}
+use Rattle.std.proofs.Common.{◌≡◌, inl, inr, ℕ, zero, suc, ◌+◌, ◌<◌, ◌≤◌, Bool, true, Some, List, [], ◌∷◌, length, slice_get, if◌then◌else◌, refl, ap, ◌∙◌, arith, subst}
 use Rattle.std.proofs.lemmas.Bool.{OnTrue_at}
-use Rattle.admin_commands.specs.Verdicts.{is_absent}
 use Rattle.controller_core.specs.declared.queue.ControllerQueue.{ControllerQueue}
 use Rattle.host_core.proofs.Pages.{among-from}
 use Rattle.machine_model.specs.Agreeing.{QueueFits, QueuesFit}
@@ -80,7 +78,7 @@ device_at s q h c e f = device_of (byte_at s.pages) q s.host.host.queues s.contr
 pub from_zero : (q : ℕ) → 0 + q ≡ q
 from_zero q = omega arith
 
-share_of : (n i q : ℕ) (hs : List HostQueue) (cs : List ControllerQueue) (h : HostQueue) (c : ControllerQueue) → ShareQueues n i hs cs → slice_get hs q ≡ Some h → slice_get cs q ≡ Some c → ShareQueue n (i + q) h c
+pub share_of : (n i q : ℕ) (hs : List HostQueue) (cs : List ControllerQueue) (h : HostQueue) (c : ControllerQueue) → ShareQueues n i hs cs → slice_get hs q ≡ Some h → slice_get cs q ≡ Some c → ShareQueue n (i + q) h c
 share_of n i q [] cs h c share e f = absurd cc
 share_of n i q (x ∷ hs) [] h c share e f = absurd cc
 share_of n i zero (x ∷ hs) (y ∷ cs) h c share e f =

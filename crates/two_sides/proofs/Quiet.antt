@@ -1,5 +1,5 @@
 -- The host's calls that move the pages of commands alone, where nothing was forged, and its rings of a tail: no queue of the host changes.
-use Rattle.std.proofs.Common.{◌≡◌, ℕ, zero, suc, ◌<◌, Bool, true, false, ◌&&◌, ◌||◌, Option, Some, None, List, [], ◌∷◌, ◌++◌, length, slice_get, if◌then◌else◌, refl, ap, sym, ◌∙◌, arith, subst}
+use Rattle.std.proofs.Common.{◌≡◌, ℕ, zero, suc, ◌<◌, Bool, true, false, ◌&&◌, ◌||◌, Option, Some, List, [], ◌∷◌, ◌++◌, length, slice_get, if◌then◌else◌, refl, ap, sym, ◌∙◌, arith, subst}
 use Rattle.std.specs.Option.{option_map, option_map_or}
 use Rattle.std.proofs.lemmas.Bool.{not-false, true≢false}
 use Rattle.std.proofs.lemmas.Bool.Decides.{nat_tests}
@@ -15,7 +15,7 @@ use Rattle.io_commands.specs.Values.{FinishedContents, numbers_of}
 use Rattle.machine_model.specs.After.{after, collected, on_memory, on_records}
 use Rattle.machine_model.specs.Events as events
 use Rattle.machine_model.specs.Events.{Event, Reply}
-use Rattle.machine_model.specs.Memory.{memory_of, with_pages, without_pages}
+use Rattle.machine_model.specs.Memory.{memory_of, without_pages}
 use Rattle.machine_model.specs.Refusals.{has_sq, is_collected, is_drafted, is_held, is_submitted}
 use Rattle.machine_model.specs.State.{State, HostQueue, DeviceQueue, Record, is_at, pages_of, record_at, with_record}
 use Rattle.machine_model.specs.Step.{IsController, forges, times}
