@@ -6,3 +6,6 @@ pub mod Bells
 pub mod Known
 pub mod Frames
 pub mod Assembling
+pub mod PostedEntries
+pub mod Posted
+pub mod Posting
