@@ -11,17 +11,17 @@ use Rattle.entry_codec.specs.declared.submission.SubEntry.{SubEntry}
 use Rattle.entry_codec.proofs.SubmissionLemmas.{round_trip}
 use Rattle.host_core.proofs.Pages.{among-from}
 use Rattle.machine_model.specs.Memory.{memory_of}
-use Rattle.machine_model.specs.Refusals.{has_sq, has_cq, slot_page, slot_offset}
+use Rattle.machine_model.specs.Refusals.{has_sq, slot_page, slot_offset}
 use Rattle.machine_model.specs.State.{HostQueue, DeviceQueue}
 use Rattle.machine_model.proofs.Elsewhere.{bytes_elsewhere}
 use Rattle.machine_model.proofs.Halves.{sq_with_cq}
 use Rattle.machine_model.proofs.Slots.{entry_pages, entries_written}
-use Rattle.page_ledger.specs.Owners.{is_among, pages_from}
-use Rattle.page_memory.specs.Memory.{Memory, written}
+use Rattle.page_ledger.specs.Owners.{is_among}
+use Rattle.page_memory.specs.Memory.{written}
 use Rattle.page_memory.specs.Pages.{AreWhole, Pages, byte_at, page_at, with_page_bytes}
 use Rattle.page_memory.specs.declared.page.Half.TheVariants.{Submission, Completion}
 use Rattle.queue_pair.specs.Halves.{Agree}
-use Rattle.queue_pair.specs.Lists.{answers_between, entries_between}
+use Rattle.queue_pair.specs.Lists.{entries_between}
 use Rattle.queue_pair.specs.Members.{change}
 use Rattle.queue_pair.specs.Memory.{half_pages, submission_page, submission_place}
 use Rattle.queue_pair.specs.Rings.{next_tail}
@@ -31,7 +31,7 @@ use Rattle.queue_pair.proofs.Lists.{entries_posted, room}
 use Rattle.queue_pair.proofs.Order.{distance_grows, in_range_below, in_range_near, room_ahead}
 use Rattle.queue_pair.proofs.Pools.{pages_agree}
 use Rattle.two_sides.specs.Sides.{Sides, answer_of, completions_between, device_queue_of, device_queues_of, present, unfetched_between}
-use Rattle.two_sides.specs.Ties.{AllRingsStand, AreTied, HeadsFollow, IsWorld, RingsStand, WalksStand}
+use Rattle.two_sides.specs.Ties.{AllRingsStand, HeadsFollow, IsWorld, RingsStand, WalksStand}
 use Rattle.two_sides.proofs.Frames.{Spares, SparesQueue, SparesSubmitted, apart_from_queues, halves_apart, one_queue, one_ring, own_halves_apart, queue_stays, rings_stay, walks_stay}
 use Rattle.two_sides.proofs.Known.{IsKnown, known}
 use Rattle.two_sides.proofs.PostedEntries.{IsTyped}
@@ -230,10 +230,10 @@ module _ (s : Sides) (mid : Pages) (q : ℕ) (h : HostQueue) (c : ControllerQueu
   post_queues =
       ap (device_queues_of (byte_at new) (change q (tail_moved s.host.entries) s.host.host.queues)) (sym (unchanged q s.controller.queues))
       ∙ one_queue (byte_at s.pages) (byte_at new) q (tail_moved s.host.entries) (λ y. y) (with_entry entry) s.host.host.queues s.controller.queues
-          (λ x y e f. let same = this x y e f in
-          subst (λ (y : ControllerQueue). device_queue_of (byte_at new) (next_tail s.host.entries x.ring) y ≡ with_entry entry (device_queue_of (byte_at s.pages) x.ring y)) same.1
-          (subst (λ (x : HostQueue). device_queue_of (byte_at new) (next_tail s.host.entries x.ring) c ≡ with_entry entry (device_queue_of (byte_at s.pages) x.ring c)) same.0 queue_posted))
-          (λ k x y far e f. queue_stays s new k x y (known s can.world can.trusted k x y e f) (spares_other k x far e))
+      (λ x y e f. let same = this x y e f in
+      subst (λ (y : ControllerQueue). device_queue_of (byte_at new) (next_tail s.host.entries x.ring) y ≡ with_entry entry (device_queue_of (byte_at s.pages) x.ring y)) same.1
+      (subst (λ (x : HostQueue). device_queue_of (byte_at new) (next_tail s.host.entries x.ring) c ≡ with_entry entry (device_queue_of (byte_at s.pages) x.ring c)) same.0 queue_posted))
+      (λ k x y far e f. queue_stays s new k x y (known s can.world can.trusted k x y e f) (spares_other k x far e))
 
   pub post_rings : AllRingsStand (byte_at new) zero (change q (tail_moved s.host.entries) s.host.host.queues) s.controller.queues
   post_rings =

@@ -1,5 +1,5 @@
 -- The numbers of an entry that the host posts are those of its type: a built draft's entry, and an admin command's.
-use Rattle.std.proofs.Common.{◌≡◌, ℕ, zero, suc, ◌+◌, ◌^◌, ◌<◌, ◌%◌, List, [], ◌∷◌, ◌++◌, length, replicate, Some, refl, sym, arith, subst}
+use Rattle.std.proofs.Common.{◌≡◌, ℕ, zero, suc, ◌^◌, ◌<◌, ◌%◌, List, [], ◌∷◌, replicate, Some, refl, sym, arith, subst}
 use Rattle.std.specs.List.{AllByRecursion}
 use Rattle.std.specs.Prelude.{slice_index}
 use Rattle.admin_commands.specs.Entries.{admin_entry, named_by}
@@ -8,7 +8,7 @@ use Rattle.admin_commands.specs.declared.AdminKind.{AdminKind}
 use Rattle.entry_codec.specs.Bytes.{IsBytes}
 use Rattle.entry_codec.specs.Submission.{FitsSubmission, IsSubEntry}
 use Rattle.entry_codec.specs.declared.submission.SubEntry.{SubEntry}
-use Rattle.io_commands.specs.Drafts.{DraftContents, draft_entry, draft_first}
+use Rattle.io_commands.specs.Drafts.{DraftContents, draft_first}
 use Rattle.io_commands.specs.Requests.{opcode_of}
 use Rattle.io_commands.specs.declared.request.Kind.{Kind}
 use Rattle.io_commands.specs.declared.request.Kind.TheVariants.{Read, Write, Compare}
