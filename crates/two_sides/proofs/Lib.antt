@@ -6,3 +6,8 @@ pub mod Bells
 pub mod Known
 pub mod Frames
 pub mod Assembling
+pub mod Seen
+pub mod Taking
+pub mod Looking
+pub mod Reaps
+pub mod Retires

@@ -4,6 +4,7 @@
 mod doorbells;
 mod hosts;
 mod opening;
+mod seeing;
 
 pub use doorbells::doorbells_are_heard;
 pub use hosts::{
@@ -11,3 +12,4 @@ pub use hosts::{
     hosts_refuse_as_the_machine,
 };
 pub use opening::opened_sides_are_the_machine;
+pub use seeing::completions_are_seen_alike;
