@@ -7,6 +7,7 @@ mod forging;
 mod hosts;
 mod opening;
 mod walking;
+mod seeing;
 
 pub use completing::{completes_are_the_machines, completes_refuse_as_the_machine};
 pub use doorbells::doorbells_are_heard;
@@ -17,3 +18,4 @@ pub use hosts::{
 };
 pub use opening::opened_sides_are_the_machine;
 pub use walking::{walks_are_the_machines, walks_refuse_as_the_machine};
+pub use seeing::completions_are_seen_alike;
