@@ -6,3 +6,5 @@ pub mod Bells
 pub mod Known
 pub mod Frames
 pub mod Assembling
+pub mod Places
+pub mod Answering
