@@ -1,10 +1,11 @@
 -- Where the controller stands in its rings: the machine tells it from its lists, where nothing was forged.
-use Rattle.std.proofs.Common.{◌≡◌, ℕ, zero, suc, ◌+◌, ◌*◌, ◌-◌, ◌/◌, ◌<◌, ◌==◌, Bool, true, false, Option, Some, None, IsSome, List, [], ◌∷◌, length, map, slice_get, get_or, if◌then◌else◌, refl, ap, ap₂, sym, ◌∙◌, arith, subst}
+use Rattle.std.proofs.Common.{◌≡◌, ℕ, zero, suc, ◌+◌, ◌*◌, ◌-◌, ◌/◌, ◌<◌, ◌==◌, Bool, true, false, Option, Some, None, IsSome, List, [], ◌∷◌, length, map, slice_get, if◌then◌else◌, refl, ap, ap₂, sym, ◌∙◌, arith, subst}
+use Rattle.std.specs.Prelude.{slice_index}
 use Rattle.std.specs.Option.{option_map, option_map_or}
 use Rattle.std.proofs.lemmas.Bool.{true≢false}
 use Rattle.admin_commands.specs.Verdicts.{is_absent}
 use Rattle.controller_core.specs.declared.queue.ControllerQueue.{ControllerQueue}
-use Rattle.machine_model.specs.Agreeing.{QueueFits}
+use Rattle.host_core.proofs.Slots.{index-from}
 use Rattle.machine_model.specs.Refusals.{answers_full, device_queue, fetch_page, fetch_slot, has_cq, has_sq, host_queue, post_page, post_slot, slot_page}
 use Rattle.machine_model.specs.State.{State, HostQueue, DeviceQueue}
 use Rattle.machine_model.proofs.Halves.{sq_stays, sq_with_cq}
@@ -115,20 +116,15 @@ answers_full_is u s q h c shown known lives =
 
 -- The pages of the slots
 
-page_in_run : (first many k d : ℕ) → k < many → get_or (pages_from first many) k d ≡ first + k
-page_in_run first zero k d l = absurd (omega arith)
-page_in_run first (suc many) zero d l = omega arith
-page_in_run first (suc many) (suc k) d l = page_in_run (first + 1) many k d (omega arith) ∙ omega arith
-
 pub completion_slot_page : (first n slot : ℕ) → slot < n → slot_page (pages_from first (half_pages n Completion)) 16 slot ≡ completion_page first slot
 completion_slot_page first n slot l =
     let k : slot * 16 / 4096 ≡ slot / 256 = omega arith in
-    ap (λ (i : ℕ). get_or (pages_from first (half_pages n Completion)) i 0) k ∙ page_in_run first (half_pages n Completion) (slot / 256) 0 (omega arith)
+    ap (slice_index (pages_from first (half_pages n Completion))) k ∙ index-from (half_pages n Completion) first (slot / 256) (omega arith)
 
 pub submission_slot_page : (first n slot : ℕ) → slot < n → slot_page (pages_from first (half_pages n Submission)) 64 slot ≡ submission_page first slot
 submission_slot_page first n slot l =
     let k : slot * 64 / 4096 ≡ slot / 64 = omega arith in
-    ap (λ (i : ℕ). get_or (pages_from first (half_pages n Submission)) i 0) k ∙ page_in_run first (half_pages n Submission) (slot / 64) 0 (omega arith)
+    ap (slice_index (pages_from first (half_pages n Submission))) k ∙ index-from (half_pages n Submission) first (slot / 64) (omega arith)
 
 fetch_page-by : (u : State) (q : ℕ) (h : HostQueue) (head : ℕ) → host_queue u q ≡ Some h → fetch_slot u q ≡ head → fetch_page u q ≡ slot_page h.sq_pages 64 head
 fetch_page-by u q h head eh ef = rw (ef, eh) refl
