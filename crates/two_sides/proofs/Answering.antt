@@ -37,7 +37,7 @@ use Rattle.two_sides.specs.Stepping.{LeavesPages}
 use Rattle.two_sides.specs.Ties.{HeadsFollow, IsWorld, RingsStand}
 use Rattle.two_sides.proofs.Frames.{SparesQueue, SparesSubmitted, apart_from_queues, halves_apart, own_halves_apart}
 use Rattle.two_sides.proofs.Known.{IsKnown}
-use Rattle.two_sides.proofs.Places.{Shows, fetch_slot_is, post_slot_is, own_page, in_ring, has_submission, has_completion}
+use Rattle.two_sides.proofs.Places.{Shows, map-append, fetch_slot_is, post_slot_is, own_page, in_ring, has_submission, has_completion}
 
 pub length-completion_bytes : (e : ComEntry) → length (completion_bytes e) ≡ 16
 unfolding completion_bytes
@@ -133,10 +133,6 @@ present-append [] x = refl
 present-append (None ∷ xs) x = present-append xs x
 present-append (Some y ∷ xs) x = ap (λ ys. y ∷ ys) (present-append xs x)
 
-map-append-one : {A B : Type 0} (f : A → B) (xs : List A) (x : A) → map f (xs ++ x ∷ []) ≡ map f xs ++ f x ∷ []
-map-append-one f [] x = refl
-map-append-one f (y ∷ xs) x = ap (λ ys. f y ∷ ys) (map-append-one f xs x)
-
 -- the entries that wait stay, and the completions are one more
 entries_stay : (s : Sides) (q : ℕ) (h : HostQueue) (c : ControllerQueue) (e : ComEntry) → IsWorld s → slice_get s.host.host.queues q ≡ Some h → CanAnswer s q h c e
     → unfetched_between (byte_at (with_completion s c e)) h.ring c.device ≡ unfetched_between (byte_at s.pages) h.ring c.device
@@ -168,7 +164,7 @@ pub answer_seen : (s : Sides) (q : ℕ) (h : HostQueue) (c : ControllerQueue) (e
 answer_seen s q h c e world at can =
     ap₂ (λ (entries : List SubEntry) (answers : List Answer). record (device_queue_of (byte_at s.pages) h.ring c) { unfetched = if is_absent c.state then [] else entries; answers = answers })
     (entries_stay s q h c e world at can)
-    (ap (map answer_of) (completions_grow s q h c e world can) ∙ map-append-one answer_of (completions_between (byte_at s.pages) h.ring c.device) e)
+    (ap (map answer_of) (completions_grow s q h c e world can) ∙ map-append answer_of (completions_between (byte_at s.pages) h.ring c.device) e)
 
 -- its rings stand
 ends_inside : (n from to : ℕ) → to < n → is_in_range n from to to ≡ true

@@ -8,3 +8,8 @@ pub mod Frames
 pub mod Assembling
 pub mod Places
 pub mod Answering
+pub mod EntryTaking
+pub mod Jobs
+pub mod ServeSteps
+pub mod Changed
+pub mod Managing

@@ -1,5 +1,5 @@
 -- Where the controller stands in its rings: the machine tells it from its lists, where nothing was forged.
-use Rattle.std.proofs.Common.{◌≡◌, ℕ, zero, suc, ◌+◌, ◌*◌, ◌-◌, ◌/◌, ◌<◌, ◌==◌, Bool, true, false, Option, Some, None, IsSome, List, [], ◌∷◌, length, map, slice_get, if◌then◌else◌, refl, ap, ap₂, sym, ◌∙◌, arith, subst}
+use Rattle.std.proofs.Common.{◌≡◌, ℕ, zero, suc, ◌+◌, ◌*◌, ◌-◌, ◌/◌, ◌<◌, ◌==◌, Bool, true, false, Option, Some, None, IsSome, List, [], ◌∷◌, ◌++◌, length, map, slice_get, if◌then◌else◌, refl, ap, ap₂, sym, ◌∙◌, arith, subst}
 use Rattle.std.specs.Prelude.{slice_index}
 use Rattle.std.specs.Option.{option_map, option_map_or}
 use Rattle.std.proofs.lemmas.Bool.{true≢false}
@@ -38,6 +38,10 @@ some_mapped f (Some x) e = refl
 length-map : {A B : Type 0} (f : A → B) (xs : List A) → length (map f xs) ≡ length xs
 length-map f [] = refl
 length-map f (x ∷ xs) = ap suc (length-map f xs)
+
+pub map-append : {A B : Type 0} (f : A → B) (xs : List A) (x : A) → map f (xs ++ x ∷ []) ≡ map f xs ++ f x ∷ []
+map-append f [] x = refl
+map-append f (y ∷ xs) x = ap (λ ys. f y ∷ ys) (map-append f xs x)
 
 -- a queue that the controller has is one that the host has, with both halves
 pub has_submission : (s : Sides) (q : ℕ) (h : HostQueue) (c : ControllerQueue) → IsKnown s q h c → is_absent c.state ≡ false → has_sq h.state ≡ true
