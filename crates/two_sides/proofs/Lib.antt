@@ -13,3 +13,4 @@ pub mod Jobs
 pub mod ServeSteps
 pub mod Changed
 pub mod Managing
+pub mod FetchLooks

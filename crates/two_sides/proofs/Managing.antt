@@ -2,7 +2,7 @@
 use Rattle.std.proofs.Common.{◌≡◌, ℕ, zero, suc, ◌+◌, ◌<◌, ◌==◌, ◌&&◌, ◌||◌, not, Bool, true, false, cond, Option, Some, None, is_none, List, [], ◌∷◌, ◌++◌, find, map, slice_get, if◌then◌else◌, refl, ap, ap₂, sym, ◌∙◌, arith, subst}
 use Rattle.std.specs.List.{AllByRecursion, count_by}
 use Rattle.std.specs.Option.{option_map, option_map_or}
-use Rattle.std.proofs.lemmas.Bool.{true≢false, or_parts, not-false}
+use Rattle.std.proofs.lemmas.Bool.{true≢false, cond_both, or_parts, not-false}
 use Rattle.admin_commands.specs.Entries.{named_queue, named_command}
 use Rattle.admin_commands.specs.Verdicts.{decision, is_absent, is_live}
 use Rattle.admin_commands.specs.declared.AdminVerdict.{AdminVerdict}
@@ -11,7 +11,7 @@ use Rattle.admin_commands.specs.declared.DeviceView.{DeviceView}
 use Rattle.admin_commands.specs.declared.SqState.{SqState}
 use Rattle.admin_commands.specs.declared.SqState.TheVariants.{Absent, Stopping}
 use Rattle.controller_core.specs.Contents.{Contents, FetchedCommand, Work, is_command, verdict_of_work}
-use Rattle.controller_core.specs.Managing.{aborted, admin_work, command_of, commands_after, queues_after, stopped_with_queue, stopped_work, stopping, view_for, without_completion}
+use Rattle.controller_core.specs.Managing.{aborted, admin_work, command_of, commands_after, queues_after, stopped_with_queue, stopped_work, stopping, view_for, with_taken, without_completion}
 use Rattle.controller_core.specs.declared.command.Work.TheVariants.{Io, Admin}
 use Rattle.controller_core.specs.declared.queue.ControllerQueue.{ControllerQueue}
 use Rattle.controller_core.proofs.Lists.{all-map, count-cons, here_counted, one}
@@ -174,27 +174,23 @@ drops t e q =
     (devices_changed (byte_at t.pages) (byte_at t.pages) q without_completion (λ (at : DeviceQueue). record at { cq_there = false }) t.host.host.queues t.controller.queues (λ h c i j. refl) (λ k h c far i j. refl))
     (map-append job_of t.controller.commands (command_of zero (Admin e SUCCESS zero)))
 
-by_if : {X : Type 0} (P : X → Type 0) (b : Bool) (x y : X) → (b ≡ true → P x) → (b ≡ false → P y) → P (if b then x else y)
-by_if P true x y f g = f refl
-by_if P false x y f g = g refl
-
 both : (a b : Bool) → (a && b) ≡ true → a ≡ true
 both true b e = refl
 both false b e = e
 
 decided : (t : Sides) (e : SubEntry) → ((q cid : ℕ) → count_by (is_command q cid) t.controller.commands < 2) → IsActed t e (decision e (view_for t.controller.queues t.controller.commands e))
 decided t e differ =
-    by_if Q (not ((e.opcode == ABORT) || (e.opcode == DELETE_IO_SQ) || (e.opcode == DELETE_IO_CQ))) _ _ (λ c. plainly t e INVALID_OPCODE zero)
-    (λ c. by_if Q (not (e.fuse == 0)) _ _ (λ d. plainly t e INVALID_FIELD zero)
-    (λ d. by_if Q (e.opcode == ABORT) _ _
-    (λ f. by_if Q (view.target_walks && not (named_queue e == 0)) _ _
+    cond_both (not ((e.opcode == ABORT) || (e.opcode == DELETE_IO_SQ) || (e.opcode == DELETE_IO_CQ))) _ _ Q (λ c. plainly t e INVALID_OPCODE zero)
+    (λ c. cond_both (not (e.fuse == 0)) _ _ Q (λ d. plainly t e INVALID_FIELD zero)
+    (λ d. cond_both (e.opcode == ABORT) _ _ Q
+    (λ f. cond_both (view.target_walks && not (named_queue e == 0)) _ _ Q
     (λ w. aborts t e (named_queue e) (named_command e) (abort_open t.controller.commands (named_queue e) (named_command e) (differ (named_queue e) (named_command e)) (both view.target_walks (not (named_queue e == 0)) w)))
     (λ w. plainly t e SUCCESS 1))
-    (λ f. by_if Q (e.opcode == DELETE_IO_SQ) _ _
-    (λ g. by_if Q ((named_queue e == 0) || not (is_live view.sq)) _ _ (λ w. plainly t e INVALID_QUEUE_IDENTIFIER zero)
+    (λ f. cond_both (e.opcode == DELETE_IO_SQ) _ _ Q
+    (λ g. cond_both ((named_queue e == 0) || not (is_live view.sq)) _ _ Q (λ w. plainly t e INVALID_QUEUE_IDENTIFIER zero)
     (λ w. stops t e (named_queue e) (not-false (is_live view.sq) (or_parts (named_queue e == 0) (not (is_live view.sq)) w).1)))
-    (λ g. by_if Q ((named_queue e == 0) || not view.cq_there) _ _ (λ w. plainly t e INVALID_QUEUE_IDENTIFIER zero)
-    (λ w. by_if Q (not (is_absent view.sq)) _ _ (λ x. plainly t e INVALID_QUEUE_DELETION zero) (λ x. drops t e (named_queue e)))))))
+    (λ g. cond_both ((named_queue e == 0) || not view.cq_there) _ _ Q (λ w. plainly t e INVALID_QUEUE_IDENTIFIER zero)
+    (λ w. cond_both (not (is_absent view.sq)) _ _ Q (λ x. plainly t e INVALID_QUEUE_DELETION zero) (λ x. drops t e (named_queue e)))))))
   where
     view : DeviceView
     view = view_for t.controller.queues t.controller.commands e
@@ -228,7 +224,7 @@ verdict_rings (DropCompletion q) m hs cs rings =
 
 -- a walk that is stopped has nothing to stand for
 stopped_stands : (m : Memory) (done : ℕ) (st : Status) (work : Work) → WalkStands m done work → WalkStands m done (stopped_work st work)
-stopped_stands m done st (Io job) h = by_if (λ job. WalkStands m done (Io job)) (is_none job.verdict) (record job { verdict = Some st }) job (λ e none. absurd (some_not none)) (λ e. h)
+stopped_stands m done st (Io job) h = cond_both (is_none job.verdict) (record job { verdict = Some st }) job (λ job. WalkStands m done (Io job)) (λ e none. absurd (some_not none)) (λ e. h)
   where
     some_not : Some st ≡ None → ⊥
     some_not e = cc
@@ -241,8 +237,21 @@ pub verdict_walks : (v : AdminVerdict) (m : Memory) (abort : ℕ) (commands : Li
 verdict_walks (Answer st dw0) m abort commands h = h
 verdict_walks (AbortJob q cid) m abort commands h =
     all-map (Stands m) (aborted q cid abort)
-    (λ k s. by_if (Stands m) (is_command q cid k) (record k { work = stopped_work ABORT_REQUESTED k.work; waiting_abort = Some abort }) k (λ e. stopped_stands m k.units_done ABORT_REQUESTED k.work s) (λ e. s)) commands h
+    (λ k s. cond_both (is_command q cid k) (record k { work = stopped_work ABORT_REQUESTED k.work; waiting_abort = Some abort }) k (Stands m) (λ e. stopped_stands m k.units_done ABORT_REQUESTED k.work s) (λ e. s)) commands h
 verdict_walks (StopQueue q) m abort commands h =
     all-map (Stands m) (stopped_with_queue q)
-    (λ k s. by_if (Stands m) (k.q == q) (record k { work = stopped_work ABORTED_SQ_DELETION k.work }) k (λ e. stopped_stands m k.units_done ABORTED_SQ_DELETION k.work s) (λ e. s)) commands h
+    (λ k s. cond_both (k.q == q) (record k { work = stopped_work ABORTED_SQ_DELETION k.work }) k (Stands m) (λ e. stopped_stands m k.units_done ABORTED_SQ_DELETION k.work s) (λ e. s)) commands h
 verdict_walks (DropCompletion q) m abort commands h = h
+
+-- Taking the entry changes nothing that the rule of an admin entry looks at.
+taken_at : (cs : List ControllerQueue) (q k : ℕ)
+    → (option_map_or (λ queue. queue.state) (slice_get (change q with_taken cs) k) Absent ≡ option_map_or (λ queue. queue.state) (slice_get cs k) Absent)
+    × (option_map_or (λ queue. queue.cq_there) (slice_get (change q with_taken cs) k) false ≡ option_map_or (λ queue. queue.cq_there) (slice_get cs k) false)
+taken_at [] q k = (refl, refl)
+taken_at (c ∷ cs) zero zero = (refl, refl)
+taken_at (c ∷ cs) zero (suc k) = (refl, refl)
+taken_at (c ∷ cs) (suc q) zero = (refl, refl)
+taken_at (c ∷ cs) (suc q) (suc k) = taken_at cs q k
+
+pub taken_view : (cs : List ControllerQueue) (commands : List FetchedCommand) (q : ℕ) (e : SubEntry) → view_for (change q with_taken cs) commands e ≡ view_for cs commands e
+taken_view cs commands q e = let at = taken_at cs q (named_queue e) in λ i. record (view_for cs commands e) { sq = at.0 i; cq_there = at.1 i }
