@@ -14,4 +14,4 @@ pub mod ServeSteps
 pub mod Changed
 pub mod Managing
 pub mod FetchLooks
-pub mod Fetching
+pub mod FetchSteps

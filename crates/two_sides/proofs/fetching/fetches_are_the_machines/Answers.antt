@@ -1,4 +1,4 @@
-use Rattle.two_sides.proofs.Fetching.{fetches}
+use Rattle.two_sides.proofs.FetchSteps.{fetches}
 use Rattle.two_sides.proofs.fetching.fetches_are_the_machines.Goals as goal
 
 pub returns : goal.returns
