@@ -1,5 +1,5 @@
 -- A completion that the controller posts is the machine's answer, and leaves rings that stand.
-use Rattle.std.proofs.Common.{◌≡◌, ◌≢◌, ℕ, ◌+◌, ◌*◌, ◌/◌, ◌%◌, ◌<◌, ◌≤◌, Bool, true, false, Option, Some, None, IsSome, List, [], ◌∷◌, ◌++◌, length, map, is_none, is_some, slice_get, if◌then◌else◌, refl, ap, ap₂, sym, ◌∙◌, arith, subst, lt-ltb, le-leb}
+use Rattle.std.proofs.Common.{◌≡◌, ◌≢◌, ℕ, ◌+◌, ◌*◌, ◌/◌, ◌%◌, ◌<◌, Bool, true, false, Option, Some, None, IsSome, List, [], ◌∷◌, ◌++◌, length, map, is_none, is_some, slice_get, if◌then◌else◌, refl, ap, ap₂, sym, ◌∙◌, arith, subst, lt-ltb, le-leb}
 use Rattle.std.specs.List.{AllByRecursion}
 use Rattle.std.specs.Option.{option_and_then}
 use Rattle.std.proofs.lemmas.Bool.{true≢false}
@@ -18,7 +18,7 @@ use Rattle.machine_model.specs.Refusals.{fetch_slot, has_cq, host_queue, post_sl
 use Rattle.machine_model.specs.State.{State, HostQueue, Answer}
 use Rattle.machine_model.proofs.Elsewhere.{bytes_elsewhere}
 use Rattle.machine_model.proofs.Members.{all_append}
-use Rattle.page_ledger.specs.Owners.{is_among, pages_from}
+use Rattle.page_ledger.specs.Owners.{is_among}
 use Rattle.page_memory.specs.Memory.{Memory, written, bytes_at}
 use Rattle.page_memory.specs.Pages.{Pages, IsPool, byte_at, page_at, with_page_bytes}
 use Rattle.page_memory.proofs.Reading.{bytes_missing}

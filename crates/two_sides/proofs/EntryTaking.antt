@@ -1,5 +1,5 @@
 -- The controller takes the entry at its head: the machine's list is shorter by that entry, and the rings stand.
-use Rattle.std.proofs.Common.{◌≡◌, ◌≢◌, ℕ, suc, ◌+◌, ◌-◌, ◌<◌, ◌≤◌, ◌==◌, Bool, true, false, Option, Some, None, IsSome, List, [], ◌∷◌, drop, if◌then◌else◌, refl, ap, ap₂, sym, ◌∙◌, arith, subst, lt-ltb, le-leb}
+use Rattle.std.proofs.Common.{◌≡◌, ◌≢◌, ℕ, ◌+◌, ◌-◌, ◌<◌, ◌≤◌, Bool, true, false, Option, Some, None, IsSome, List, [], ◌∷◌, drop, if◌then◌else◌, refl, ap, ap₂, sym, ◌∙◌, arith, lt-ltb, le-leb}
 use Rattle.std.specs.Option.{option_map}
 use Rattle.std.proofs.lemmas.Bool.{true≢false}
 use Rattle.admin_commands.specs.Verdicts.{is_absent, is_live}
@@ -10,7 +10,7 @@ use Rattle.controller_core.specs.declared.queue.ControllerQueue.{ControllerQueue
 use Rattle.entry_codec.specs.Submission.{submission_of}
 use Rattle.entry_codec.specs.declared.completion.ComEntry.{ComEntry}
 use Rattle.entry_codec.specs.declared.submission.SubEntry.{SubEntry}
-use Rattle.machine_model.specs.State.{HostQueue, DeviceQueue}
+use Rattle.machine_model.specs.State.{HostQueue}
 use Rattle.page_memory.specs.Pages.{byte_at}
 use Rattle.queue_pair.specs.Lists.{entries_between}
 use Rattle.queue_pair.specs.Memory.{entry_at, submission_slot}

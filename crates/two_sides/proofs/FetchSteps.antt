@@ -1,5 +1,5 @@
 -- A fetch is a step of the machine, and leaves both sides tied.
-use Rattle.std.proofs.Common.{◌≡◌, inl, inr, ℕ, zero, ◌-◌, ◌<◌, ◌==◌, Bool, true, false, Option, Some, None, Result, Ok, Err, is_none, is_some, List, [], ◌∷◌, ◌++◌, length, map, drop, slice_get, if◌then◌else◌, refl, ap, ap₂, sym, ◌∙◌, arith, subst, eqb-true}
+use Rattle.std.proofs.Common.{◌≡◌, inl, inr, ℕ, zero, ◌-◌, ◌<◌, ◌==◌, Bool, true, false, Option, Some, None, Ok, Err, is_none, is_some, List, [], ◌∷◌, ◌++◌, length, map, drop, slice_get, if◌then◌else◌, refl, ap, sym, ◌∙◌, arith, subst, eqb-true}
 use Rattle.std.specs.Option.{option_map, option_map_or}
 use Rattle.std.proofs.lemmas.Bool.{true≢false, OnTrue_at}
 use Rattle.admin_commands.specs.Verdicts.{decision, is_live}
@@ -13,7 +13,7 @@ use Rattle.controller_core.specs.declared.command.Work.TheVariants.{Io}
 use Rattle.controller_core.specs.declared.queue.ControllerQueue.{ControllerQueue}
 use Rattle.controller_core.specs.declared.refusal.Refusal as controller
 use Rattle.controller_core.specs.declared.refusal.Refusal.TheVariants as because
-use Rattle.controller_core.proofs.Lists.{all-append}
+use Rattle.controller_core.proofs.Lists.{all-append, some_is}
 use Rattle.controller_walk.specs.Units.{course_of_list}
 use Rattle.controller_walk.specs.declared.walk.Walk.{Walk}
 use Rattle.entry_codec.specs.Completion.{completion_bytes}
@@ -21,7 +21,7 @@ use Rattle.entry_codec.specs.declared.completion.ComEntry.{ComEntry}
 use Rattle.entry_codec.specs.declared.status.Status.{Status}
 use Rattle.entry_codec.specs.declared.status.TheConstants.Status.{COMMAND_ID_CONFLICT}
 use Rattle.entry_codec.specs.declared.submission.SubEntry.{SubEntry}
-use Rattle.io_commands.specs.Jobs.{JobContents, BeginsWalk, bytes_after_check, course_of_walk, direction_of_entry, io_fault, job_course, need_of_entry}
+use Rattle.io_commands.specs.Jobs.{JobContents, BeginsWalk, course_of_walk, direction_of_entry, io_fault, job_course, need_of_entry}
 use Rattle.machine_model.specs.After as after
 use Rattle.machine_model.specs.After.{after_fetch}
 use Rattle.machine_model.specs.Events as events
@@ -145,13 +145,10 @@ fetch_stepped s q c e new pages touched world l serves few exact =
 abbrev taken : ℕ → Sides → Sides
 taken q s = record s { controller = record s.controller { queues = change q with_taken s.controller.queues } }
 
-same_queues : {A : Type 0} (xs : List A) (q : ℕ) (x y : A) → slice_get xs q ≡ Some x → slice_get xs q ≡ Some y → x ≡ y
-same_queues xs q x y e f = let same : Some x ≡ Some y = sym e ∙ f in cc
-
 can_take : (s : Sides) (q : ℕ) (c : ControllerQueue) (e : SubEntry) → IsLooked s q c e → IsSeen s q c e → (h : HostQueue) (x : ControllerQueue) → slice_get s.host.host.queues q ≡ Some h → slice_get s.controller.queues q ≡ Some x → CanTake s q h x
 can_take s q c e l is h x at here =
-    subst (λ (h : HostQueue). CanTake s q h x) (same_queues s.host.host.queues q is.host h is.found at)
-    (subst (λ (x : ControllerQueue). CanTake s q is.host x) (same_queues s.controller.queues q c x l.here here) is.can)
+    subst (λ (h : HostQueue). CanTake s q h x) (some_is (sym is.found ∙ at))
+    (subst (λ (x : ControllerQueue). CanTake s q is.host x) (some_is (sym l.here ∙ here)) is.can)
 
 taken_state : (s : Sides) (q : ℕ) (c : ControllerQueue) (e : SubEntry) → IsLooked s q c e → IsSeen s q c e → state_of (taken q s) ≡ after.taken_off q (state_of s)
 taken_state s q c e l is =

@@ -2,32 +2,31 @@
 use Rattle.std.proofs.Common.{◌≡◌, ℕ, zero, suc, ◌+◌, ◌<◌, ◌==◌, ◌&&◌, ◌||◌, not, Bool, true, false, cond, Option, Some, None, is_none, List, [], ◌∷◌, ◌++◌, find, map, slice_get, if◌then◌else◌, refl, ap, ap₂, sym, ◌∙◌, arith, subst}
 use Rattle.std.specs.List.{AllByRecursion, count_by}
 use Rattle.std.specs.Option.{option_map, option_map_or}
-use Rattle.std.proofs.lemmas.Bool.{true≢false, cond_both, or_parts, not-false}
+use Rattle.std.proofs.lemmas.Bool.{true≢false, and_parts, cond_both, or_parts, not-false}
 use Rattle.admin_commands.specs.Entries.{named_queue, named_command}
 use Rattle.admin_commands.specs.Verdicts.{decision, is_absent, is_live}
 use Rattle.admin_commands.specs.declared.AdminVerdict.{AdminVerdict}
 use Rattle.admin_commands.specs.declared.AdminVerdict.TheVariants.{Answer, AbortJob, StopQueue, DropCompletion}
 use Rattle.admin_commands.specs.declared.DeviceView.{DeviceView}
-use Rattle.admin_commands.specs.declared.SqState.{SqState}
 use Rattle.admin_commands.specs.declared.SqState.TheVariants.{Absent, Stopping}
-use Rattle.controller_core.specs.Contents.{Contents, FetchedCommand, Work, is_command, verdict_of_work}
+use Rattle.controller_core.specs.Contents.{FetchedCommand, Work, is_command, verdict_of_work}
 use Rattle.controller_core.specs.Managing.{aborted, admin_work, command_of, commands_after, queues_after, stopped_with_queue, stopped_work, stopping, view_for, with_taken, without_completion}
 use Rattle.controller_core.specs.declared.command.Work.TheVariants.{Io, Admin}
 use Rattle.controller_core.specs.declared.queue.ControllerQueue.{ControllerQueue}
-use Rattle.controller_core.proofs.Lists.{all-map, count-cons, here_counted, one}
+use Rattle.controller_core.proofs.Lists.{all-map, count-cons, one}
 use Rattle.entry_codec.specs.declared.admin_opcode.TheConstants.{ABORT, DELETE_IO_SQ, DELETE_IO_CQ}
 use Rattle.entry_codec.specs.declared.status.Status.{Status}
 use Rattle.entry_codec.specs.declared.status.TheConstants.Status.{SUCCESS, INVALID_OPCODE, INVALID_FIELD, INVALID_QUEUE_IDENTIFIER, INVALID_QUEUE_DELETION, ABORT_REQUESTED, ABORTED_SQ_DELETION}
 use Rattle.entry_codec.specs.declared.submission.SubEntry.{SubEntry}
 use Rattle.machine_model.specs.After as after
 use Rattle.machine_model.specs.After.{change}
-use Rattle.machine_model.specs.Refusals.{device_queue, job_at}
 use Rattle.machine_model.specs.State.{State, HostQueue, DeviceQueue, Job}
+use Rattle.machine_model.proofs.Members.{all_in, all_of}
 use Rattle.page_memory.specs.Memory.{Memory}
 use Rattle.page_memory.specs.Pages.{byte_at}
 use Rattle.queue_pair.specs.Slots.{distance}
 use Rattle.two_sides.specs.Sides.{Sides, state_of, device_queue_of, device_queues_of, job_of, unfetched_between}
-use Rattle.two_sides.specs.Ties.{AllRingsStand, RingsStand, ShareQueue, ShareQueues, WalkStands, WalksStand}
+use Rattle.two_sides.specs.Ties.{AllRingsStand, ShareQueues, WalkStands, WalksStand}
 use Rattle.two_sides.proofs.Changed.{devices_changed, rings_changed}
 use Rattle.two_sides.proofs.EntryTaking.{not_absent}
 use Rattle.two_sides.proofs.Jobs.{job-at}
@@ -117,14 +116,6 @@ jobs_by : (commands : List FetchedCommand) (f : FetchedCommand → FetchedComman
 jobs_by [] f g same = refl
 jobs_by (k ∷ commands) f g same = ap₂ (λ j js. j ∷ js) same.0 (jobs_by commands f g same.1)
 
-all_same : {A : Type 0} (P Q : A → Type 0) → ((x : A) → P x → Q x) → (xs : List A) → AllByRecursion P xs → AllByRecursion Q xs
-all_same P Q more [] all = tt
-all_same P Q more (x ∷ xs) all = (more x all.0, all_same P Q more xs all.1)
-
-each_one : {A : Type 0} (P : A → Type 0) → ((x : A) → P x) → (xs : List A) → AllByRecursion P xs
-each_one P each [] = tt
-each_one P each (x ∷ xs) = (each x, each_one P each xs)
-
 -- What a verdict does, behind the entry that was taken
 
 abbrev pub acted : SubEntry → AdminVerdict → Sides → Sides
@@ -150,7 +141,7 @@ plainly t e st dw0 = ap (with_device (state_of t) (state_of t).device.queues) (m
 aborts : (t : Sides) (e : SubEntry) (q cid : ℕ) → AllByRecursion (λ k. is_command q cid k ≡ true → is_none (verdict_of_work k.work) ≡ true) t.controller.commands → IsActed t e (AbortJob q cid)
 aborts t e q cid walks =
     let commands = t.controller.commands in
-    let jobs = jobs_by commands (aborted q cid e.cid) (λ (j : Job). if (j.q == q) && (j.entry.cid == cid) then marked e.cid j else j) (all_same _ _ (λ k w. aborted_seen q cid e.cid k w) commands walks) in
+    let jobs = jobs_by commands (aborted q cid e.cid) (λ (j : Job). if (j.q == q) && (j.entry.cid == cid) then marked e.cid j else j) (all_in _ _ commands (λ k among w. aborted_seen q cid e.cid k w) walks) in
     ap (with_device (state_of t) (state_of t).device.queues) (map-append job_of (map (aborted q cid e.cid) commands) (command_of zero (Admin e SUCCESS zero)) ∙ ap (λ js. js ++ job_of (command_of zero (Admin e SUCCESS zero)) ∷ []) jobs)
 
 stopping_seen : (m : Memory) (h : HostQueue) (c : ControllerQueue) → is_live c.state ≡ true → device_queue_of m h.ring (stopping c) ≡ record (device_queue_of m h.ring c) { state = Stopping }
@@ -164,7 +155,7 @@ stops t e q live =
     let m = byte_at t.pages in
     let queues = devices_changed m m q stopping (λ (at : DeviceQueue). record at { state = Stopping }) t.host.host.queues t.controller.queues
     (λ h c i j. stopping_seen m h c (subst (λ (o : Option ControllerQueue). is_live (option_map_or (λ queue. queue.state) o Absent) ≡ true) j live)) (λ k h c far i j. refl) in
-    let jobs = jobs_by commands (stopped_with_queue q) (after.stopped q) (each_one _ (λ k. stopped_seen q k) commands) in
+    let jobs = jobs_by commands (stopped_with_queue q) (after.stopped q) (all_of _ commands (λ k among. stopped_seen q k)) in
     ap₂ (with_device (state_of t)) queues
     (map-append job_of (map (stopped_with_queue q) commands) (command_of zero (Admin e SUCCESS zero)) ∙ ap (λ js. js ++ job_of (command_of zero (Admin e SUCCESS zero)) ∷ []) jobs)
 
@@ -174,17 +165,13 @@ drops t e q =
     (devices_changed (byte_at t.pages) (byte_at t.pages) q without_completion (λ (at : DeviceQueue). record at { cq_there = false }) t.host.host.queues t.controller.queues (λ h c i j. refl) (λ k h c far i j. refl))
     (map-append job_of t.controller.commands (command_of zero (Admin e SUCCESS zero)))
 
-both : (a b : Bool) → (a && b) ≡ true → a ≡ true
-both true b e = refl
-both false b e = e
-
 decided : (t : Sides) (e : SubEntry) → ((q cid : ℕ) → count_by (is_command q cid) t.controller.commands < 2) → IsActed t e (decision e (view_for t.controller.queues t.controller.commands e))
 decided t e differ =
     cond_both (not ((e.opcode == ABORT) || (e.opcode == DELETE_IO_SQ) || (e.opcode == DELETE_IO_CQ))) _ _ Q (λ c. plainly t e INVALID_OPCODE zero)
     (λ c. cond_both (not (e.fuse == 0)) _ _ Q (λ d. plainly t e INVALID_FIELD zero)
     (λ d. cond_both (e.opcode == ABORT) _ _ Q
     (λ f. cond_both (view.target_walks && not (named_queue e == 0)) _ _ Q
-    (λ w. aborts t e (named_queue e) (named_command e) (abort_open t.controller.commands (named_queue e) (named_command e) (differ (named_queue e) (named_command e)) (both view.target_walks (not (named_queue e == 0)) w)))
+    (λ w. aborts t e (named_queue e) (named_command e) (abort_open t.controller.commands (named_queue e) (named_command e) (differ (named_queue e) (named_command e)) (and_parts view.target_walks (not (named_queue e == 0)) w).0))
     (λ w. plainly t e SUCCESS 1))
     (λ f. cond_both (e.opcode == DELETE_IO_SQ) _ _ Q
     (λ g. cond_both ((named_queue e == 0) || not (is_live view.sq)) _ _ Q (λ w. plainly t e INVALID_QUEUE_IDENTIFIER zero)
