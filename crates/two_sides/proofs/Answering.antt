@@ -1,11 +1,12 @@
 -- A completion that the controller posts is the machine's answer, and leaves rings that stand.
-use Rattle.std.proofs.Common.{◌≡◌, ◌≢◌, ℕ, ◌+◌, ◌*◌, ◌/◌, ◌%◌, ◌<◌, ◌≤◌, Bool, true, false, Option, Some, None, IsSome, List, [], ◌∷◌, ◌++◌, length, map, is_some, slice_get, if◌then◌else◌, refl, ap, ap₂, sym, ◌∙◌, arith, subst, lt-ltb, le-leb}
+use Rattle.std.proofs.Common.{◌≡◌, ◌≢◌, ℕ, ◌+◌, ◌*◌, ◌/◌, ◌%◌, ◌<◌, Bool, true, false, Option, Some, None, IsSome, List, [], ◌∷◌, ◌++◌, length, map, is_none, is_some, slice_get, if◌then◌else◌, refl, ap, ap₂, sym, ◌∙◌, arith, subst, lt-ltb, le-leb}
 use Rattle.std.specs.List.{AllByRecursion}
 use Rattle.std.specs.Option.{option_and_then}
 use Rattle.std.proofs.lemmas.Bool.{true≢false}
 use Rattle.admin_commands.specs.Verdicts.{is_absent}
-use Rattle.controller_core.specs.Answering.{completion_by, memory_posted, page_posted, with_answer}
+use Rattle.controller_core.specs.Answering.{completion_by, memory_posted, page_posted, post_refusal, with_answer}
 use Rattle.controller_core.specs.declared.queue.ControllerQueue.{ControllerQueue}
+use Rattle.controller_core.specs.declared.refusal.Refusal.TheVariants as refusal
 use Rattle.entry_codec.specs.Completion.{completion_bytes, FitsCompletion, IsComEntry}
 use Rattle.entry_codec.specs.declared.completion.ComEntry.{ComEntry}
 use Rattle.entry_codec.specs.declared.status.Status.{Status}
@@ -17,7 +18,7 @@ use Rattle.machine_model.specs.Refusals.{fetch_slot, has_cq, host_queue, post_sl
 use Rattle.machine_model.specs.State.{State, HostQueue, Answer}
 use Rattle.machine_model.proofs.Elsewhere.{bytes_elsewhere}
 use Rattle.machine_model.proofs.Members.{all_append}
-use Rattle.page_ledger.specs.Owners.{is_among, pages_from}
+use Rattle.page_ledger.specs.Owners.{is_among}
 use Rattle.page_memory.specs.Memory.{Memory, written, bytes_at}
 use Rattle.page_memory.specs.Pages.{Pages, IsPool, byte_at, page_at, with_page_bytes}
 use Rattle.page_memory.proofs.Reading.{bytes_missing}
@@ -26,15 +27,17 @@ use Rattle.host_core.proofs.Slots.{page-written, place-written}
 use Rattle.page_memory.specs.declared.page.Half.TheVariants.{Submission, Completion}
 use Rattle.queue_pair.specs.Lists.{HasPhases, answers_between, expected_phase}
 use Rattle.queue_pair.specs.Memory.{half_pages, completion_page, completion_place, completion_slot}
+use Rattle.queue_pair.specs.Rings.{DeviceSide}
 use Rattle.queue_pair.specs.Slots.{distance, is_full, is_in_range}
 use Rattle.queue_pair.proofs.Halves.{entries_agree}
 use Rattle.queue_pair.proofs.Lists.{answers_append}
+use Rattle.queue_pair.proofs.Order.{next_below}
 use Rattle.queue_pair.proofs.Phases.{phases_kept, tie_kept_by_post}
 use Rattle.queue_pair.proofs.Pools.{pages_agree}
 use Rattle.queue_pair.proofs.Round.{told_alike}
 use Rattle.two_sides.specs.Sides.{Sides, answer_of, completions_between, device_queue_of, present, unfetched_between}
 use Rattle.two_sides.specs.Stepping.{LeavesPages}
-use Rattle.two_sides.specs.Ties.{HeadsFollow, IsWorld, RingsStand}
+use Rattle.two_sides.specs.Ties.{HeadsFollow, IsWorld, RingsStand, ShareQueue}
 use Rattle.two_sides.proofs.Frames.{SparesQueue, SparesSubmitted, apart_from_queues, halves_apart, own_halves_apart}
 use Rattle.two_sides.proofs.Known.{IsKnown}
 use Rattle.two_sides.proofs.Places.{Shows, map-append, fetch_slot_is, post_slot_is, own_page, in_ring, has_submission, has_completion}
@@ -70,6 +73,33 @@ slot_shown pages cq slot bytes pool there count =
     ap₂ (λ (p at : ℕ). byte_at (with_page_bytes pages p at bytes)) (sym page) (sym offset)
     ∙ place-written pages (completion_place cq slot) bytes (subst (λ (p : ℕ). is_in pages p ≡ true) (sym page) there) (omega (arith, offset, count)) pool
 
+-- what a completion that was not refused tells
+pub post_room : (m : Memory) (device : DeviceSide) → post_refusal m device ≡ None → (is_full device.entries device.ring.known_head device.ring.tail ≡ false) × (completion_slot m device.cq device.ring.tail ≢ None)
+post_room m device none = go (is_full device.entries device.ring.known_head device.ring.tail) (completion_slot m device.cq device.ring.tail) none
+  where
+    go : (full : Bool) (slot : Option (List ℕ)) → (if full then Some refusal.Full else if is_none slot then Some refusal.SlotOut else None) ≡ None → (full ≡ false) × (slot ≢ None)
+    go true slot e = cc
+    go false None e = cc
+    go false (Some bytes) e = (refl, λ none. cc)
+
+-- and the halves lie where they lay
+pub answer_shares : (n i : ℕ) (h : HostQueue) (c : ControllerQueue) → ShareQueue n i h c → ShareQueue n i h (with_answer c)
+answer_shares n i h c share =
+    record {
+      number = share.number;
+      entries = share.entries;
+      side = record {
+        least = share.side.least;
+        most = share.side.most;
+        head = share.side.head;
+        bell = share.side.bell;
+        tail = next_below c.device.entries c.device.ring.tail share.side.tail;
+        known_head = share.side.known_head;
+      };
+      submission = share.submission;
+      completion = share.completion;
+    }
+
 -- Where nothing was forged
 
 -- A completion can be posted in a queue: the controller has the queue, and there is room.
@@ -90,7 +120,7 @@ page_is_own s q h c known lives =
     subst (λ (pages : List ℕ). is_among pages (page_posted c.device) ≡ true) (sym (known.placed.completion lives))
     (among-from c.device.cq (half_pages s.host.entries Completion) (c.device.ring.tail / 256) (omega (arith, known.placed.share.entries, known.placed.share.side.tail)))
 
-byte_in_page : (pages : Pages) (place : ℕ) → IsSome (byte_at pages place) → is_in pages (place / 4096) ≡ true
+pub byte_in_page : (pages : Pages) (place : ℕ) → IsSome (byte_at pages place) → is_in pages (place / 4096) ≡ true
 byte_in_page pages place some = go (page_at pages (place / 4096)) some
   where
     go : (o : Option (List ℕ)) → IsSome (option_and_then (λ bytes. slice_get bytes (place % 4096)) o) → is_some o ≡ true

@@ -29,3 +29,7 @@ pub mod CompleteSteps
 pub mod Quiet
 pub mod Forgery
 pub mod HostSteps
+pub mod EntryTaking
+pub mod Managing
+pub mod FetchLooks
+pub mod FetchSteps

@@ -4,6 +4,7 @@
 mod completing;
 mod doorbells;
 mod forging;
+mod fetching;
 mod hosts;
 mod opening;
 mod walking;
@@ -12,6 +13,7 @@ mod seeing;
 pub use completing::{completes_are_the_machines, completes_refuse_as_the_machine};
 pub use doorbells::doorbells_are_heard;
 pub use forging::forged_entries_are_the_machines;
+pub use fetching::{fetches_are_the_machines, fetches_refuse_as_the_machine};
 pub use hosts::{
     forged_hosts_are_the_machine, hosts_answer_as_the_machine, hosts_are_the_machine,
     hosts_keep_their_queues, hosts_refuse_as_the_machine,
