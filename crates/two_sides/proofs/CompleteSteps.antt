@@ -1,10 +1,10 @@
 -- The completion of a command is a step of the machine, and leaves both sides tied.
-use Rattle.std.proofs.Common.{◌≡◌, ◌≢◌, ℕ, zero, ◌+◌, ◌<◌, ◌==◌, ◌&&◌, ◌||◌, ◌++◌, Bool, true, false, not, Option, Some, None, Ok, Err, IfSome, IsSome, is_none, is_some, List, [], ◌∷◌, length, find, map, slice_get, if◌then◌else◌, refl, ap, ap₂, sym, ◌∙◌, subst}
+use Rattle.std.proofs.Common.{◌≡◌, ℕ, ◌<◌, ◌==◌, ◌&&◌, ◌||◌, ◌++◌, Bool, true, false, not, Option, Some, None, Ok, Err, IfSome, IsSome, is_none, is_some, List, [], ◌∷◌, length, find, map, slice_get, if◌then◌else◌, refl, ap, ap₂, sym, ◌∙◌, subst}
 use Rattle.std.specs.Option.{option_map, option_map_or}
 use Rattle.std.proofs.lemmas.Bool.{true≢false}
 use Rattle.admin_commands.specs.Verdicts.{is_absent}
 use Rattle.block_image.specs.Blocks.{block_count}
-use Rattle.controller_core.specs.Answering.{answer_refusal, completion_by, page_posted, post_refusal, with_answer}
+use Rattle.controller_core.specs.Answering.{completion_by, page_posted, post_refusal, with_answer}
 use Rattle.controller_core.specs.Completing.{CompletesTo, command_refusal, complete_refusal, has_success, image_of_end, queues_of_end, status_of_end, waits_among, without_command}
 use Rattle.controller_core.specs.Contents.{Contents, FetchedCommand, IsController, dw0_of_work, entry_of_work, is_command, verdict_of_work}
 use Rattle.controller_core.specs.declared.queue.ControllerQueue.{ControllerQueue}
@@ -22,18 +22,16 @@ use Rattle.machine_model.specs.Memory.{is_in, memory_of}
 use Rattle.machine_model.specs.Refusals.{answers_full, has_cq, is_abort_of, job_at, post_page, refusal_of, slot_offset, waits}
 use Rattle.machine_model.specs.State.{State, DeviceQueue, HostQueue, Job}
 use Rattle.machine_model.specs.Step.{Permits}
-use Rattle.machine_model.specs.declared.words.Refusal.{Refusal}
 use Rattle.machine_model.specs.declared.words.Refusal.TheVariants as refusal
 use Rattle.machine_model.proofs.Agreed.{agreed_linked}
 use Rattle.machine_model.proofs.Members.{all_filter}
 use Rattle.machine_model.proofs.Parts.{in_store, in_store-with_bytes}
-use Rattle.page_memory.specs.Memory.{Memory}
 use Rattle.page_memory.specs.Pages.{Pages, byte_at}
 use Rattle.queue_pair.specs.Memory.{completion_slot}
 use Rattle.queue_pair.specs.Slots.{is_full}
 use Rattle.queue_pair.proofs.Halves.{completion_there}
 use Rattle.queue_pair.proofs.Order.{next_below}
-use Rattle.two_sides.specs.Serving.{Completes, why_of}
+use Rattle.two_sides.specs.Serving.{why_of}
 use Rattle.two_sides.specs.Sides.{Sides, state_of, answer_of, device_of, device_queue_of, device_queues_of, job_of}
 use Rattle.two_sides.specs.Stepping.{LeavesPages, StepsTo, served, completes_step, completes_refuse_alike}
 use Rattle.two_sides.specs.Ties.{IsWorld, ShareQueue, ShareQueues, AllRingsStand, RingsStand, WalkStands, WalksStand}
@@ -43,11 +41,10 @@ use Rattle.two_sides.proofs.Changed.{devices_changed, rings_changed}
 use Rattle.two_sides.proofs.Ending.{devices_end_behind, devices_end_elsewhere, devices_ended, devices_of_end, end_fits, ended, rings_ended, share_ended, status_seen}
 use Rattle.two_sides.proofs.Frames.{queue_stays, rings_stay, walks_stay}
 use Rattle.two_sides.proofs.Jobs.{IsFound, any-map, is_found, job-at, job-found}
-use Rattle.two_sides.proofs.Known.{IsKnown, device_at, known}
+use Rattle.two_sides.proofs.Known.{IsKnown, device_at, known, tied_of}
 use Rattle.two_sides.proofs.Places.{Shows, answers_full_is, has_completion, post_page_is, shows}
 use Rattle.two_sides.proofs.ServeSteps.{either_by, same_pages, with_served}
 use Rattle.two_sides.proofs.Shared.{belled}
-use Rattle.two_sides.proofs.Walks.{tied_of}
 
 -- What is known of the queue of a command, where nothing was forged
 

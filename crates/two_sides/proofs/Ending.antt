@@ -1,9 +1,9 @@
 -- How a command ends: on both sides, and at the machine.
-use Rattle.std.proofs.Common.{◌≡◌, ◌≢◌, ℕ, zero, suc, ◌<◌, ◌==◌, ◌&&◌, Bool, true, false, not, Option, Some, None, List, [], ◌∷◌, map, filter, slice_get, if◌then◌else◌, refl, ap, ap₂, sym, ◌∙◌, arith, subst}
+use Rattle.std.proofs.Common.{◌≡◌, ℕ, zero, ◌<◌, Bool, true, false, not, Option, Some, None, List, map, filter, slice_get, if◌then◌else◌, refl, ap₂, sym, ◌∙◌, arith}
 use Rattle.std.proofs.lemmas.Bool.{eqb-false}
 use Rattle.admin_commands.specs.Entries.{named_queue}
 use Rattle.controller_core.specs.Completing.{image_of_end, queues_of_end, status_of_end, without_command, without_submission}
-use Rattle.controller_core.specs.Contents.{Contents, FetchedCommand, FitsVerdict, FitsWork, Work, is_command, is_deletion}
+use Rattle.controller_core.specs.Contents.{FetchedCommand, FitsVerdict, FitsWork, Work, is_deletion}
 use Rattle.controller_core.specs.declared.command.Work.TheVariants.{Io, Admin}
 use Rattle.controller_core.specs.declared.queue.ControllerQueue.{ControllerQueue}
 use Rattle.controller_core.proofs.Lists.{change-change}
@@ -19,7 +19,6 @@ use Rattle.machine_model.specs.State.{State, DeviceQueue, HostQueue, Job}
 use Rattle.machine_model.proofs.DeviceMoves.{cleared}
 use Rattle.machine_model.proofs.Placed.{is_job}
 use Rattle.page_memory.specs.Memory.{Memory}
-use Rattle.page_memory.specs.Pages.{Pages}
 use Rattle.two_sides.specs.Sides.{Sides, state_of, device_of, device_queues_of, job_of}
 use Rattle.two_sides.specs.Ties.{AllRingsStand, RingsStand, ShareQueue, ShareQueues}
 use Rattle.two_sides.proofs.Changed.{devices_changed, rings_changed}

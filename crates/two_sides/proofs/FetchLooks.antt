@@ -1,5 +1,5 @@
 -- What the controller finds at the head of a queue is what the machine has there, where nothing was forged; so both refuse a fetch alike.
-use Rattle.std.proofs.Common.{◌≡◌, ◌≢◌, ◌⊎◌, inl, inr, ℕ, zero, suc, ◌+◌, ◌*◌, ◌/◌, ◌-◌, ◌==◌, ◌&&◌, nat_lt, not, Bool, true, false, Option, Some, None, is_none, is_some, List, [], ◌∷◌, find, slice_get, if◌then◌else◌, refl, ap, sym, ◌∙◌, arith, subst, lt-ltb, eqb-true}
+use Rattle.std.proofs.Common.{◌≡◌, ◌≢◌, ◌⊎◌, inl, inr, ℕ, zero, suc, ◌+◌, ◌*◌, ◌/◌, ◌==◌, ◌&&◌, nat_lt, not, Bool, true, false, Option, Some, None, is_none, is_some, List, [], ◌∷◌, find, slice_get, if◌then◌else◌, refl, ap, sym, ◌∙◌, arith, subst, lt-ltb, eqb-true}
 use Rattle.std.specs.Option.{option_map, option_map_or}
 use Rattle.std.proofs.lemmas.Bool.{true≢false, eqb-false, OnTrue_at}
 use Rattle.admin_commands.specs.Verdicts.{is_absent, is_live}

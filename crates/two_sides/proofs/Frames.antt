@@ -1,39 +1,26 @@
 -- What a change of one queue, or of the memory outside the halves, leaves of the machine's queues and of the rings.
-use Rattle.std.proofs.Common.{◌≡◌, ◌≢◌, ℕ, zero, suc, ◌+◌, ◌<◌, ◌==◌, Bool, true, false, Option, Some, None, List, [], ◌∷◌, map, slice_get, is_some, if◌then◌else◌, refl, ap, ap₂, sym, ◌∙◌, arith, subst}
+use Rattle.std.proofs.Common.{◌≡◌, ◌≢◌, ℕ, zero, suc, ◌+◌, ◌<◌, Bool, true, false, Option, Some, List, [], ◌∷◌, map, slice_get, is_some, if◌then◌else◌, refl, ap, ap₂, sym, ◌∙◌, arith, subst}
 use Rattle.std.specs.List.{AllByRecursion}
 use Rattle.std.proofs.lemmas.Bool.{true≢false}
-use Rattle.std.specs.Option.{option_map}
-use Rattle.std.proofs.lemmas.Option.{slice_get-map}
 use Rattle.admin_commands.specs.Verdicts.{is_absent}
-use Rattle.block_image.specs.Blocks.{block_count}
-use Rattle.controller_core.specs.Contents.{FetchedCommand, FitsWork, Work}
-use Rattle.controller_core.specs.declared.command.Work.TheVariants.{Io, Admin}
 use Rattle.controller_core.specs.declared.queue.ControllerQueue.{ControllerQueue}
-use Rattle.controller_walk.specs.Laws.{after_units}
-use Rattle.controller_walk.specs.Serving.{Serves}
-use Rattle.controller_walk.specs.Units.{Stays, Reads, Moves, Course, Closes, Does, course_of_list}
-use Rattle.controller_walk.specs.declared.walk.Walk.{Walk}
-use Rattle.controller_walk.proofs.Serving.{list_served, walk_served}
 use Rattle.entry_codec.specs.declared.completion.ComEntry.{ComEntry}
 use Rattle.entry_codec.specs.declared.submission.SubEntry.{SubEntry}
 use Rattle.host_core.proofs.Pages.{among-from}
-use Rattle.io_commands.specs.Jobs.{course_of_walk, direction_of_entry, need_of_entry}
-use Rattle.machine_model.specs.After.{after, course_of}
+use Rattle.machine_model.specs.After.{after}
 use Rattle.machine_model.specs.Events.{Event, Reply}
 use Rattle.machine_model.specs.Memory.{memory_of}
-use Rattle.machine_model.specs.State.{HostQueue, DeviceQueue, Job, Record, pages_of}
+use Rattle.machine_model.specs.State.{HostQueue, DeviceQueue, Record, pages_of}
 use Rattle.machine_model.specs.Refusals.{has_sq, has_cq, is_submitted}
-use Rattle.machine_model.proofs.Agreeing.{stood_of}
 use Rattle.machine_model.proofs.Halves.{sq_stays, no_cq_no_sq}
 use Rattle.machine_model.proofs.JobLaws.{stay_after}
-use Rattle.machine_model.proofs.Served.{Stood, job_list, serves_in, course_in, course_ends, counts_sent, page_there, among_left, among_right}
+use Rattle.machine_model.proofs.Served.{counts_sent, page_there, among_left, among_right}
 use Rattle.machine_model.proofs.Steps.{Accepts}
 use Rattle.machine_model.proofs.Totals.{total}
-use Rattle.machine_model.proofs.WalksKept.{ListsStay}
 use Rattle.machine_model.specs.Step.{times}
 use Rattle.machine_model.proofs.Counting.{held_once, not_held}
 use Rattle.machine_model.proofs.Elsewhere.{among_counts, sent_page}
-use Rattle.machine_model.proofs.Members.{all_at, all_indexed, in_at}
+use Rattle.machine_model.proofs.Members.{in_at}
 use Rattle.machine_model.proofs.Owned.{in_queue, in_record}
 use Rattle.page_ledger.specs.Owners.{is_among}
 use Rattle.page_memory.specs.Memory.{Memory}
@@ -47,9 +34,10 @@ use Rattle.queue_pair.specs.Rings.{HostRing, DeviceSide}
 use Rattle.queue_pair.proofs.Halves.{entries_agree, answers_agree, phases_agree}
 use Rattle.queue_pair.proofs.Lists.{answers_none}
 use Rattle.queue_pair.proofs.Pools.{pages_agree}
-use Rattle.two_sides.specs.Sides.{Sides, state_of, present, answer_of, job_of, unfetched_between, completions_between, device_queue_of, device_queues_of}
-use Rattle.two_sides.specs.Ties.{IsWorld, HeadsFollow, RingsStand, AllRingsStand, WalkStands, WalksStand}
+use Rattle.two_sides.specs.Sides.{Sides, state_of, present, answer_of, unfetched_between, completions_between, device_queue_of, device_queues_of}
+use Rattle.two_sides.specs.Ties.{IsWorld, HeadsFollow, RingsStand, AllRingsStand, WalksStand}
 use Rattle.two_sides.proofs.Known.{IsPlaced, IsKnown, known, from_zero, ring_of, tied_of}
+use Rattle.two_sides.proofs.Walks.{still_stands, stood}
 use Rattle.two_sides.proofs.Owning.{owned_once, both_count, commands_apart}
 
 no_more : (n : ℕ) → n + 0 ≡ n
@@ -210,52 +198,9 @@ all_rings_stay s pages world t spares =
 
 -- Walks
 
-stood_at : (s : Sides) → IsWorld s → s.trusted ≡ true → Stood (state_of s)
-stood_at s world t = stood_of (state_of s) (tied_of s world t).agree
-
--- what serves a list serves what is left of it
-serves_after : (m other : Memory) (n : ℕ) (c : Course) → Serves m other c → Serves m other (after_units n c)
-serves_after m other zero c serves = serves
-serves_after m other (suc n) (Closes v) serves = serves
-serves_after m other (suc n) (Does Stays rest) serves = serves_after m other n rest serves
-serves_after m other (suc n) (Does (Reads place) rest) serves = serves_after m other n rest serves.1
-serves_after m other (suc n) (Does (Moves place count offset) rest) serves = serves_after m other n rest serves.1
-
-walk_again : (m other : Memory) (o : Option Walk) → Serves m other (course_of_walk m o) → course_of_walk other o ≡ course_of_walk m o
-walk_again m other None serves = refl
-walk_again m other (Some w) serves = walk_served m other w serves
-
--- Where the pages that walks read stay, each walk stands.
-pub walks_stand : (s : Sides) (pages : Pages) → IsWorld s → s.trusted ≡ true → ListsStay (state_of s) pages → WalksStand (memory_of pages) s.controller.commands
-walks_stand s pages world t stay =
-    all_indexed (λ (k : FetchedCommand). WalkStands m k.units_done k.work) (λ (k : FetchedCommand). WalkStands m' k.units_done k.work) s.controller.commands
-    (λ i k at. one k.q k.waiting_abort k.work k.units_done (all_at _ s.controller.commands i k at world.sides.controller.commands.each).1 (served i (job_of k) (slice_get-map job_of s.controller.commands i ∙ ap (option_map job_of) at)))
-    (tied_of s world t).walks
-  where
-    m : Memory
-    m = memory_of s.pages
-
-    m' : Memory
-    m' = memory_of pages
-
-    served : (i : ℕ) (j : Job) → slice_get (map job_of s.controller.commands) i ≡ Some j → (j.q == 0) ≡ false → Serves (memory_of s.pages) (memory_of pages) (course_of (state_of s) j)
-    served i j at other =
-        let stood = stood_at s world t in
-        let l = job_list (state_of s) stood j (in_at (map job_of s.controller.commands) i j at) other (λ P all. all_at P (map job_of s.controller.commands) i j at all) in
-        serves_in s.pages pages l.command.chain_pages l.command.data_pages (stay.chains l.command l.within l.phase) (stay.own l.command l.within l.phase) (course_of (state_of s) j) (course_in (state_of s) j l) (course_ends (state_of s) stood j l)
-
-    one : (q : ℕ) (waiting : Option ℕ) (work : Work) (done : ℕ) → FitsWork (block_count s.controller.image) q done work
-        → (let j : Job = job_of (record { q = q; units_done = done; waiting_abort = waiting; work = work }) in (j.q == 0) ≡ false → Serves (memory_of s.pages) (memory_of pages) (course_of (state_of s) j))
-        → WalkStands (memory_of s.pages) done work → WalkStands (memory_of pages) done work
-    one q waiting (Io job) done fits serves stands = λ none.
-        let list : Course = course_of_list (memory_of s.pages) job.entry.sgl1 (direction_of_entry job.entry) (need_of_entry job.entry) in
-        walk_again (memory_of s.pages) (memory_of pages) job.walk (subst (Serves (memory_of s.pages) (memory_of pages)) (sym (stands none)) (serves_after (memory_of s.pages) (memory_of pages) done list (serves fits.0)))
-        ∙ stands none ∙ sym (ap (after_units done) (list_served (memory_of s.pages) (memory_of pages) job.entry.sgl1 (direction_of_entry job.entry) (need_of_entry job.entry) (serves fits.0)))
-    one q waiting (Admin entry status dw0) done fits serves stands = tt
-
 -- so it is behind each accepted event that leaves the commands alone
 pub walks_after : (s : Sides) (e : Event) (reply : Reply) → IsWorld s → s.trusted ≡ true → Accepts (state_of s) e reply → WalksStand (memory_of (after (state_of s) e reply).memory) s.controller.commands
-walks_after s e reply world t ok = walks_stand s (after (state_of s) e reply).memory world t (stay_after (state_of s) e reply ok (stood_at s world t))
+walks_after s e reply world t ok = still_stands s (after (state_of s) e reply).memory world t (stay_after (state_of s) e reply ok (stood s world t))
 
 -- whose page a submitted command's is
 submitted_owner : (p : ℕ) (rs : List Record) → 0 < total (sent_page p) rs
@@ -279,11 +224,11 @@ abbrev pub SparesSubmitted : Sides → Pages → Type 0
 SparesSubmitted s pages = (i : ℕ) (r : Record) → slice_get s.host.host.records i ≡ Some r → is_submitted r.phase ≡ true → (p : ℕ) → is_among (pages_of r) p ≡ true → page_at pages p ≡ page_at s.pages p
 
 pub walks_stay : (s : Sides) (pages : Pages) → IsWorld s → s.trusted ≡ true → SparesSubmitted s pages → WalksStand (memory_of pages) s.controller.commands
-walks_stay s pages world t spares = walks_stand s pages world t (record {
+walks_stay s pages world t spares = still_stands s pages world t (record {
   chains = λ r within sub p among. same p (counts_sent (state_of s) r within sub p (among_right p r.data_pages r.chain_pages among));
   own = λ r within sub p among.
       let here = among_left p r.data_pages r.chain_pages among in
-      ap (λ (page : Option (List ℕ)). is_some page) (same p (counts_sent (state_of s) r within sub p here)) ∙ page_there (state_of s) (stood_at s world t).grounds r within sub p here;
+      ap (λ (page : Option (List ℕ)). is_some page) (same p (counts_sent (state_of s) r within sub p here)) ∙ page_there (state_of s) (stood s world t).grounds r within sub p here;
 })
   where
     same : (p : ℕ) → 0 < total (sent_page p) s.host.host.records → page_at pages p ≡ page_at s.pages p

@@ -1,5 +1,5 @@
 -- The controller's commands as the machine's jobs.
-use Rattle.std.proofs.Common.{◌≡◌, ℕ, zero, suc, ◌+◌, ◌<◌, ◌==◌, ◌&&◌, ◌||◌, not, Bool, true, false, cond, Option, Some, List, [], ◌∷◌, length, map, filter, find, slice_get, slice_set, refl, ap, ap₂, sym, ◌∙◌, arith, subst, eqb-true}
+use Rattle.std.proofs.Common.{◌≡◌, ℕ, zero, suc, ◌<◌, ◌==◌, ◌||◌, Bool, true, false, cond, Some, List, [], ◌∷◌, length, map, filter, find, slice_get, slice_set, refl, ap, ap₂, sym, ◌∙◌, arith, subst, eqb-true}
 use Rattle.std.specs.List.{list_any, count_by}
 use Rattle.std.specs.Option.{option_map}
 use Rattle.std.proofs.lemmas.Bool.{and_parts}
@@ -14,7 +14,7 @@ use Rattle.machine_model.specs.State.{HostQueue, Job}
 use Rattle.machine_model.proofs.Members.{all_at_found}
 use Rattle.machine_model.proofs.Placed.{find_sound, is_job}
 use Rattle.two_sides.specs.Sides.{Sides, state_of, job_of}
-use Rattle.two_sides.specs.Ties.{AreSides, IsWorld}
+use Rattle.two_sides.specs.Ties.{IsWorld}
 use Rattle.two_sides.proofs.Known.{host_at}
 
 -- Lists that are seen member by member

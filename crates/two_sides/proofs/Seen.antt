@@ -22,7 +22,7 @@ use Rattle.queue_pair.proofs.Phases.{new_is_front}
 use Rattle.two_sides.specs.Sides.{Sides, state_of, answer_of, completions_between, present}
 use Rattle.two_sides.specs.Stepping.{completions_are_seen}
 use Rattle.two_sides.specs.Ties.{IsWorld}
-use Rattle.two_sides.proofs.Known.{IsKnown, IsPlaced, controller_at, device_at, known, placed}
+use Rattle.two_sides.proofs.Known.{IsKnown, IsPlaced, controller_at, device_at, known}
 
 -- A completion as it says of its command: its phase left aside.
 abbrev pub told : Option ComEntry → Option ComEntry

@@ -1,5 +1,5 @@
 -- What the first unit of a walk does to a pool and to the command's bytes, as the machine writes it.
-use Rattle.std.proofs.Common.{◌≡◌, ℕ, zero, suc, ◌+◌, ◌-◌, ◌*◌, ◌/◌, ◌%◌, ◌<◌, ◌≤◌, ◌++◌, Bool, true, false, cond, Option, Some, None, IfSome, IsSome, is_some, List, [], ◌∷◌, length, map, take, drop, slice_get, slice_range, nat_le, nat_eq, leb-true, append_assoc, refl, ap, ap₂, sym, ◌∙◌, arith, subst}
+use Rattle.std.proofs.Common.{◌≡◌, ℕ, zero, suc, ◌+◌, ◌-◌, ◌*◌, ◌/◌, ◌%◌, ◌<◌, ◌≤◌, ◌++◌, Bool, true, false, cond, Option, Some, None, IfSome, IsSome, is_some, List, [], ◌∷◌, length, take, drop, slice_get, slice_range, nat_le, nat_eq, leb-true, append_assoc, refl, ap, ap₂, sym, ◌∙◌, arith, subst}
 use Rattle.std.specs.Option.{option_map_or}
 use Rattle.std.proofs.lemmas.List.{length-take-le, length-drop}
 use Rattle.controller_walk.specs.Laws.{after_units}

@@ -1,7 +1,6 @@
 -- The walks stay where they stand in their lists, in a memory that keeps the lists.
 use Rattle.std.proofs.Common.{◌≡◌, ℕ, zero, suc, ◌==◌, true, false, Option, Some, None, length, slice_get, refl, ap, sym, ◌∙◌, subst}
 use Rattle.std.specs.Option.{option_map}
-use Rattle.std.proofs.lemmas.Bool.{OnTrue_at}
 use Rattle.std.proofs.lemmas.Option.{slice_get-map}
 use Rattle.block_image.specs.Blocks.{block_count}
 use Rattle.controller_core.specs.Contents.{FetchedCommand, FitsCommand, FitsWork, Work}
@@ -22,10 +21,8 @@ use Rattle.machine_model.proofs.WalksKept.{ListsStay}
 use Rattle.page_memory.specs.Memory.{Memory}
 use Rattle.page_memory.specs.Pages.{Pages}
 use Rattle.two_sides.specs.Sides.{Sides, state_of, job_of}
-use Rattle.two_sides.specs.Ties.{AreTied, IsWorld, WalkStands, WalksStand}
-
-pub tied_of : (s : Sides) → IsWorld s → s.trusted ≡ true → AreTied s
-tied_of s world t = OnTrue_at t world.tied
+use Rattle.two_sides.specs.Ties.{IsWorld, WalkStands, WalksStand}
+use Rattle.two_sides.proofs.Known.{tied_of}
 
 pub stood : (s : Sides) → IsWorld s → s.trusted ≡ true → Stood (state_of s)
 stood s world t = stood_of (state_of s) (tied_of s world t).agree
