@@ -26,6 +26,7 @@ use Rattle.machine_model.specs.declared.words.Refusal.TheVariants as refusal
 use Rattle.machine_model.proofs.Agreed.{agreed_linked}
 use Rattle.machine_model.proofs.Members.{all_filter}
 use Rattle.machine_model.proofs.Parts.{in_store, in_store-with_bytes}
+use Rattle.page_memory.specs.Memory.{Memory}
 use Rattle.page_memory.specs.Pages.{Pages, byte_at}
 use Rattle.queue_pair.specs.Memory.{completion_slot}
 use Rattle.queue_pair.specs.Slots.{is_full}
@@ -35,7 +36,7 @@ use Rattle.two_sides.specs.Serving.{why_of}
 use Rattle.two_sides.specs.Sides.{Sides, state_of, answer_of, device_of, device_queue_of, device_queues_of, job_of}
 use Rattle.two_sides.specs.Stepping.{LeavesPages, StepsTo, served, completes_step, completes_refuse_alike}
 use Rattle.two_sides.specs.Ties.{IsWorld, ShareQueue, ShareQueues, AllRingsStand, RingsStand, WalkStands, WalksStand}
-use Rattle.two_sides.proofs.Answering.{CanAnswer, answer_is, answer_seen, answer_spares_commands, answer_spares_queues, answer_stands, length-completion_bytes, page_is_in, slot_is_in, slot_written, with_completion}
+use Rattle.two_sides.proofs.Answering.{CanAnswer, answer_is, answer_seen, answer_shares, answer_spares_commands, answer_spares_queues, answer_stands, length-completion_bytes, page_is_in, slot_is_in, slot_written, with_completion}
 use Rattle.two_sides.proofs.Assembling.{ServesOver, serve_refused, served_stepped}
 use Rattle.two_sides.proofs.Changed.{devices_changed, rings_changed}
 use Rattle.two_sides.proofs.Ending.{devices_end_behind, devices_end_elsewhere, devices_ended, devices_of_end, end_fits, ended, rings_ended, share_ended, status_seen}
@@ -132,22 +133,6 @@ refused_not : (b : Bool) (why : controller.Refusal) (o : Option controller.Refus
 refused_not true why o e = cc
 refused_not false why o e = (refl, e)
 
-follows_answer : (n i : ℕ) (h : HostQueue) (c : ControllerQueue) → ShareQueue n i h c → ShareQueue n i h (with_answer c)
-follows_answer n i h c s = record {
-  number = s.number;
-  entries = s.entries;
-  side = record {
-    least = s.side.least;
-    most = s.side.most;
-    head = s.side.head;
-    bell = s.side.bell;
-    tail = next_below c.device.entries c.device.ring.tail s.side.tail;
-    known_head = s.side.known_head;
-  };
-  submission = s.submission;
-  completion = s.completion;
-}
-
 after_complete_is : (s : State) (q cid : ℕ) (j : Job) (st : Status) → job_at s q cid ≡ Some j → final_status s j ≡ st
     → after_complete q cid s ≡ answered q cid st j.dw0 (deletion_done j st (on_device (λ d. record d { image = image_completed j d.image }) (without_job q cid s)))
 after_complete_is s q cid j st ej est = rw (← est, ej) refl
@@ -165,6 +150,16 @@ module _ (s : Sides) (q cid : ℕ) (c : Contents) (pages : Pages) (touched : Lis
   abbrev e : ComEntry
   e = completion_by q cid st (dw0_of_work k.work) x.device
 
+  -- the pages with it, and what they show
+  abbrev posted : Pages
+  posted = with_completion s x e
+
+  abbrev m : Memory
+  m = byte_at posted
+
+  abbrev hs : List HostQueue
+  hs = s.host.host.queues
+
   found : IsFound s q cid k
   found = is_found s world q cid k w.found
 
@@ -180,7 +175,7 @@ module _ (s : Sides) (q cid : ℕ) (c : Contents) (pages : Pages) (touched : Lis
       let full = refused_not (is_full x.device.entries x.device.ring.known_head x.device.ring.tail) because.Full _ post_free in
       (full.0, (refused_not (is_none (completion_slot (byte_at s.pages) x.device.cq x.device.ring.tail)) because.SlotOut None full.1).0)
 
-  pages_are : pages ≡ with_completion s x e
+  pages_are : pages ≡ posted
   pages_are =
       slot_written s.pages pages x.device.cq x.device.ring.tail (completion_bytes e) world.sides.over.pool leaves
       (slot_is_in s.pages x.device.cq x.device.ring.tail (λ none. true≢false (sym (ap is_none none) ∙ room.1))) (length-completion_bytes e) w.memory
@@ -192,8 +187,8 @@ module _ (s : Sides) (q cid : ℕ) (c : Contents) (pages : Pages) (touched : Lis
     in_store = ap in_store pages_are ∙ in_store-with_bytes s.pages (page_posted x.device) (slot_offset 16 x.device.ring.tail) (completion_bytes e);
     controller = is;
     queues =
-        subst (λ (c : Contents). ShareQueues s.host.entries 0 s.host.host.queues c.queues) (sym w.leaves)
-        (belled s.host.entries 0 q with_answer s.host.host.queues (queues_of_end k.work s.controller.queues) (follows_answer s.host.entries) (share_ended s.host.entries k.work s.host.host.queues s.controller.queues world.sides.queues));
+        subst (λ (c : Contents). ShareQueues s.host.entries 0 hs c.queues) (sym w.leaves)
+        (belled s.host.entries 0 q with_answer hs (queues_of_end k.work s.controller.queues) (answer_shares s.host.entries) (share_ended s.host.entries k.work hs s.controller.queues world.sides.queues));
     image = w.as_long;
   }
 
@@ -214,27 +209,27 @@ module _ (s : Sides) (q cid : ℕ) (c : Contents) (pages : Pages) (touched : Lis
     abbrev grown : DeviceQueue → DeviceQueue
     grown at = record at { answers = at.answers ++ answer_of e ∷ [] }
 
-    queues_posted : device_queues_of (byte_at (with_completion s x e)) s.host.host.queues (change q with_answer s.controller.queues) ≡ change q grown (device_of s).queues
+    queues_posted : device_queues_of m hs (change q with_answer s.controller.queues) ≡ change q grown (device_of s).queues
     queues_posted =
-        devices_changed (byte_at s.pages) (byte_at (with_completion s x e)) q with_answer grown s.host.host.queues s.controller.queues
-        (λ h y at here. subst (λ (h : HostQueue). device_queue_of (byte_at (with_completion s x e)) h.ring (with_answer y) ≡ grown (device_queue_of (byte_at s.pages) h.ring y)) (some_is (sym found.host_here ∙ at))
-        (subst (λ (y : ControllerQueue). device_queue_of (byte_at (with_completion s x e)) found.host.ring (with_answer y) ≡ grown (device_queue_of (byte_at s.pages) found.host.ring y)) (some_is (sym w.here ∙ here))
+        devices_changed (byte_at s.pages) m q with_answer grown hs s.controller.queues
+        (λ h y at here. subst (λ (h : HostQueue). device_queue_of m h.ring (with_answer y) ≡ grown (device_queue_of (byte_at s.pages) h.ring y)) (some_is (sym found.host_here ∙ at))
+        (subst (λ (y : ControllerQueue). device_queue_of m found.host.ring (with_answer y) ≡ grown (device_queue_of (byte_at s.pages) found.host.ring y)) (some_is (sym w.here ∙ here))
         (answer_seen s q found.host x e world found.host_here can)))
-        (λ i h y other at here. queue_stays s (with_completion s x e) i h y (known s world t i h y at here) (answer_spares_queues s q i found.host h x e world queue_known lives found.host_here at other))
+        (λ i h y other at here. queue_stays s posted i h y (known s world t i h y at here) (answer_spares_queues s q i found.host h x e world queue_known lives found.host_here at other))
 
-    rings_posted : AllRingsStand (byte_at (with_completion s x e)) 0 s.host.host.queues (change q with_answer s.controller.queues)
+    rings_posted : AllRingsStand m 0 hs (change q with_answer s.controller.queues)
     rings_posted =
-        rings_changed (byte_at s.pages) (byte_at (with_completion s x e)) q with_answer s.host.host.queues s.controller.queues
-        (λ h y at here rings. subst (λ (h : HostQueue). RingsStand (byte_at (with_completion s x e)) q h (with_answer y)) (some_is (sym found.host_here ∙ at))
-        (subst (λ (y : ControllerQueue). RingsStand (byte_at (with_completion s x e)) q found.host (with_answer y)) (some_is (sym w.here ∙ here)) (answer_stands s q cid st (dw0_of_work k.work) found.host x world can)))
-        (λ i h y other at here rings. rings_stay s (with_completion s x e) i h y (known s world t i h y at here) (answer_spares_queues s q i found.host h x e world queue_known lives found.host_here at other))
+        rings_changed (byte_at s.pages) m q with_answer hs s.controller.queues
+        (λ h y at here rings. subst (λ (h : HostQueue). RingsStand m q h (with_answer y)) (some_is (sym found.host_here ∙ at))
+        (subst (λ (y : ControllerQueue). RingsStand m q found.host (with_answer y)) (some_is (sym w.here ∙ here)) (answer_stands s q cid st (dw0_of_work k.work) found.host x world can)))
+        (λ i h y other at here rings. rings_stay s posted i h y (known s world t i h y at here) (answer_spares_queues s q i found.host h x e world queue_known lives found.host_here at other))
         (tied_of s world t).rings
 
-    queues_completed : device_queues_of (byte_at (with_completion s x e)) s.host.host.queues c.queues ≡ change q grown (devices_of_end k.work (device_of s).queues)
+    queues_completed : device_queues_of m hs c.queues ≡ change q grown (devices_of_end k.work (device_of s).queues)
     queues_completed =
-        ap (λ (c : Contents). device_queues_of (byte_at (with_completion s x e)) s.host.host.queues c.queues) w.leaves
-        ∙ ap (device_queues_of (byte_at (with_completion s x e)) s.host.host.queues) (sym (end-posted k.work q s.controller.queues))
-        ∙ devices_ended (byte_at (with_completion s x e)) k.work s.host.host.queues (change q with_answer s.controller.queues)
+        ap (λ (c : Contents). device_queues_of m hs c.queues) w.leaves
+        ∙ ap (device_queues_of m hs) (sym (end-posted k.work q s.controller.queues))
+        ∙ devices_ended m k.work hs (change q with_answer s.controller.queues)
         ∙ ap (devices_of_end k.work) queues_posted
         ∙ devices_end_behind k.work q grown (device_of s).queues (λ at. refl)
 
@@ -254,25 +249,25 @@ module _ (s : Sides) (q cid : ℕ) (c : Contents) (pages : Pages) (touched : Lis
     state_completed : state_of (served s c pages) ≡ after_complete q cid (state_of s)
     state_completed =
         ap (λ (pages : Pages). state_of (served s c pages)) pages_are
-        ∙ ap (λ (queues : List DeviceQueue). with_served (state_of s) (with_completion s x e) queues (map job_of c.commands) c.image) queues_completed
-        ∙ ap (λ (c : Contents). with_served (state_of s) (with_completion s x e) (change q grown (devices_of_end k.work (device_of s).queues)) (map job_of c.commands) c.image) w.leaves
+        ∙ ap (λ (queues : List DeviceQueue). with_served (state_of s) posted queues (map job_of c.commands) c.image) queues_completed
+        ∙ ap (λ (c : Contents). with_served (state_of s) posted (change q grown (devices_of_end k.work (device_of s).queues)) (map job_of c.commands) c.image) w.leaves
         ∙ answer_is behind_end s q cid st (dw0_of_work k.work) found.host x shown refl can
         ∙ ap (answered q cid st (dw0_of_work k.work)) (ended s q cid k (block_count s.controller.image) found.fits.1)
         ∙ sym (after_complete_is (state_of s) q cid (job_of k) st (job-found s q cid k w.found) (status_seen (state_of s) k (block_count s.controller.image) found.fits.1))
 
-    rings_completed : AllRingsStand (byte_at pages) 0 s.host.host.queues c.queues
+    rings_completed : AllRingsStand (byte_at pages) 0 hs c.queues
     rings_completed =
-        subst (λ (pages : Pages). AllRingsStand (byte_at pages) 0 s.host.host.queues c.queues) (sym pages_are)
-        (subst (λ (c : Contents). AllRingsStand (byte_at (with_completion s x e)) 0 s.host.host.queues c.queues) (sym w.leaves)
-        (subst (AllRingsStand (byte_at (with_completion s x e)) 0 s.host.host.queues) (end-posted k.work q s.controller.queues)
-        (rings_ended (byte_at (with_completion s x e)) k.work s.host.host.queues (change q with_answer s.controller.queues) rings_posted)))
+        subst (λ (pages : Pages). AllRingsStand (byte_at pages) 0 hs c.queues) (sym pages_are)
+        (subst (λ (c : Contents). AllRingsStand m 0 hs c.queues) (sym w.leaves)
+        (subst (AllRingsStand m 0 hs) (end-posted k.work q s.controller.queues)
+        (rings_ended m k.work hs (change q with_answer s.controller.queues) rings_posted)))
 
     walks_completed : WalksStand (memory_of pages) c.commands
     walks_completed =
         subst (λ (pages : Pages). WalksStand (memory_of pages) c.commands) (sym pages_are)
-        (subst (λ (c : Contents). WalksStand (memory_of (with_completion s x e)) c.commands) (sym w.leaves)
-        (all_filter (λ (k : FetchedCommand). WalkStands (memory_of (with_completion s x e)) k.units_done k.work) (λ (k : FetchedCommand). not (is_command q cid k)) s.controller.commands
-        (walks_stay s (with_completion s x e) world t (answer_spares_commands s q found.host x e world queue_known lives found.host_here))))
+        (subst (λ (c : Contents). WalksStand (memory_of posted) c.commands) (sym w.leaves)
+        (all_filter (λ (k : FetchedCommand). WalkStands (memory_of posted) k.units_done k.work) (λ (k : FetchedCommand). not (is_command q cid k)) s.controller.commands
+        (walks_stay s posted world t (answer_spares_commands s q found.host x e world queue_known lives found.host_here))))
 
   permits : Permits (state_of s) (events.Complete q cid) (events.Completed touched)
   permits =
