@@ -36,7 +36,7 @@ use Rattle.two_sides.specs.Laws.{behind}
 use Rattle.two_sides.specs.Sides.{Sides, state_of, device_of}
 use Rattle.two_sides.specs.Stepping.{StepsTo, LeavesPages, served}
 use Rattle.two_sides.specs.Ties.{AreSides, IsWorld, AllRingsStand, ShareQueues, WalksStand}
-use Rattle.two_sides.proofs.Alike.{SeesAlike, head_of_entry, left_alike}
+use Rattle.two_sides.proofs.Alike.{SeesAlike, bare, head_of_entry, left_alike}
 use Rattle.two_sides.proofs.Refusing.{out_of}
 use Rattle.two_sides.proofs.Forged.{refused_leaves, length-device, forged_step, commands-heard, image-heard, length-heard}
 use Rattle.two_sides.proofs.Known.{tied_of}
@@ -131,17 +131,20 @@ sees_alike s (events.Reap q) world none = go (slice_get s.host.host.queues q) re
         (seen_alike s world q h at (sym (ap (λ (o : Option HostQueue). option_map_or (λ queue. has_cq queue.state) o false) at) ∙ has))
 sees_alike s e world none = tt
 
+-- the host and the memory that an accepted call leaves are those that the machine leaves, whatever was forged
+pub left_bare : (s : Sides) (e : Event) (reply : Reply) (host : HostView) (pages : Pages) → IsWorld s → machine.IsController e ≡ false → forges e ≡ false
+    → HostStep s.host s.pages e reply host pages → Accepts (alone s.host s.pages) e reply → alone host pages ≡ bare (after (state_of s) e reply)
+left_bare s e reply host pages world c f step ok =
+    let just = leaves_just s.host host s.pages pages e reply c step in
+    ap₂ alone just.0 just.1 ∙ sym (ap bare (left_alike (state_of s) e reply c f (sees_alike s e world ok.0) ok.1))
+
 accepted_due : (s : Sides) (e : Event) (reply : Reply) (host : HostView) (pages : Pages) → IsWorld s → machine.IsController e ≡ false → forges e ≡ false
     → HostStep s.host s.pages e reply host pages → device_of (behind s e reply host pages) ≡ (after (state_of s) e reply).device → Accepts (alone s.host s.pages) e reply
     → state_of (behind s e reply host pages) ≡ after (state_of s) e reply
 accepted_due s e reply host pages world c f step device ok =
-    let just = leaves_just s.host host s.pages pages e reply c step in
-    ap₂ (λ (v : HostView) (m : Pages). with_rest (alone v m) (device_of (behind s e reply host pages))) just.0 just.1
-    ∙ ap (λ (d : Device). with_rest (after (alone s.host s.pages) e reply) d) device
-    ∙ sym (left_alike (state_of s) e reply c f (sees_alike s e world ok.0) ok.1)
-  where
-    with_rest : State → Device → State
-    with_rest x d = record x { device = d; trusted = s.trusted }
+    ap (λ (x : State). record x { device = device_of (behind s e reply host pages); trusted = s.trusted }) (left_bare s e reply host pages world c f step ok)
+    ∙ ap₂ (λ (d : Device) (b : Bool). record (after (state_of s) e reply) { device = d; trusted = b }) device
+    (sym (ap (λ (x : State). x.trusted) (left_alike (state_of s) e reply c f (sees_alike s e world ok.0) ok.1)))
 
 left_due : (s : Sides) (e : Event) (reply : Reply) (host : HostView) (pages : Pages) → IsWorld s → machine.IsController e ≡ false → forges e ≡ false
     → HostStep s.host s.pages e reply host pages → device_of (behind s e reply host pages) ≡ (after (state_of s) e reply).device → state_of (behind s e reply host pages) ≡ after (state_of s) e reply
