@@ -1,5 +1,5 @@
 -- What an admin entry does at its fetch is the machine's.
-use Rattle.std.proofs.Common.{◌≡◌, ℕ, zero, suc, ◌<◌, ◌==◌, ◌&&◌, ◌||◌, not, Bool, true, false, cond, Option, Some, None, is_none, List, [], ◌∷◌, ◌++◌, find, map, slice_get, if◌then◌else◌, refl, ap, ap₂, sym, ◌∙◌, arith, subst}
+use Rattle.std.proofs.Common.{◌≡◌, ℕ, zero, suc, ◌+◌, ◌<◌, ◌==◌, ◌&&◌, ◌||◌, not, Bool, true, false, Option, Some, None, is_none, List, [], ◌∷◌, ◌++◌, find, map, slice_get, if◌then◌else◌, refl, ap, ap₂, sym, ◌∙◌, arith, subst}
 use Rattle.std.specs.List.{AllByRecursion, count_by}
 use Rattle.std.specs.Option.{option_map, option_map_or}
 use Rattle.std.proofs.lemmas.Bool.{true≢false, and_parts, cond_both, or_parts, not-false}
@@ -20,8 +20,9 @@ use Rattle.entry_codec.specs.declared.status.TheConstants.Status.{SUCCESS, INVAL
 use Rattle.entry_codec.specs.declared.submission.SubEntry.{SubEntry}
 use Rattle.machine_model.specs.After as after
 use Rattle.machine_model.specs.After.{change}
+use Rattle.machine_model.specs.Weights.{total}
 use Rattle.machine_model.specs.State.{State, HostQueue, DeviceQueue, Job}
-use Rattle.machine_model.proofs.Members.{all_in, all_of}
+use Rattle.machine_model.proofs.Members.{all_in, all_of, only_found}
 use Rattle.page_memory.specs.Memory.{Memory}
 use Rattle.page_memory.specs.Pages.{byte_at}
 use Rattle.queue_pair.specs.Slots.{distance}
@@ -86,22 +87,10 @@ stopped_seen q k = go (k.q == q) k.work
     go true (Admin entry status dw0) = refl
     go false work = refl
 
--- where at most one passes a test, what holds of the one that is found holds of each that passes
-all_found : {A : Type 0} (p : A → Bool) (P : A → Type 0) (xs : List A) (x : A) → find p xs ≡ Some x → P x → count_by p xs < 2 → AllByRecursion (λ y. p y ≡ true → P y) xs
-all_found p P [] x found holds few = tt
-all_found {A = A} p P (z ∷ xs) x found holds few = go (p z) refl (all_found p P xs x)
-  where
-    none : (ys : List A) → count_by p ys ≡ 0 → AllByRecursion (λ y. p y ≡ true → P y) ys
-    none [] e = tt
-    none (y ∷ ys) e = (λ t. absurd (omega (arith, e, count-cons p y ys, ap one t)), none ys (omega (arith, e, count-cons p y ys)))
-
-    go : (b : Bool) → p z ≡ b → (find p xs ≡ Some x → P x → count_by p xs < 2 → AllByRecursion (λ y. p y ≡ true → P y) xs) → AllByRecursion (λ y. p y ≡ true → P y) (z ∷ xs)
-    go true h rest =
-        let is : Some z ≡ Some x = sym (ap (λ (b : Bool). cond b (Some z) (find p xs)) h) ∙ found in
-        let same : z ≡ x = cc in
-        (λ t. subst P (sym same) holds, none xs (omega (arith, few, count-cons p z xs, ap one h)))
-    go false h rest =
-        (λ t. absurd (true≢false (sym t ∙ h)), rest (sym (ap (λ (b : Bool). cond b (Some z) (find p xs)) h) ∙ found) holds (omega (arith, few, count-cons p z xs, ap one h)))
+-- where at most one command is named, what holds of the one that is found holds of each that is
+counted : {A : Type 0} (p : A → Bool) (xs : List A) → total (λ x. one (p x)) xs ≡ count_by p xs
+counted p [] = refl
+counted p (x ∷ xs) = ap (λ (n : ℕ). one (p x) + n) (counted p xs) ∙ sym (count-cons p x xs)
 
 abort_open : (commands : List FetchedCommand) (q cid : ℕ) → count_by (is_command q cid) commands < 2
     → option_map_or (λ k. is_none (verdict_of_work k.work)) (find (is_command q cid) commands) false ≡ true → AllByRecursion (λ k. is_command q cid k ≡ true → is_none (verdict_of_work k.work) ≡ true) commands
@@ -110,7 +99,9 @@ abort_open commands q cid few h = go (find (is_command q cid) commands) refl h
     go : (o : Option FetchedCommand) → find (is_command q cid) commands ≡ o → option_map_or (λ k. is_none (verdict_of_work k.work)) o false ≡ true
         → AllByRecursion (λ k. is_command q cid k ≡ true → is_none (verdict_of_work k.work) ≡ true) commands
     go None e h = absurd (true≢false (sym h))
-    go (Some k) e h = all_found (is_command q cid) (λ k. is_none (verdict_of_work k.work) ≡ true) commands k e h few
+    go (Some k) e h =
+        all_in _ _ commands (λ x among same t. subst (λ (y : FetchedCommand). is_none (verdict_of_work y.work) ≡ true) (sym (same t)) h)
+        (only_found (is_command q cid) commands k e (omega (arith, few, counted (is_command q cid) commands)))
 
 jobs_by : (commands : List FetchedCommand) (f : FetchedCommand → FetchedCommand) (g : Job → Job) → AllByRecursion (λ k. job_of (f k) ≡ g (job_of k)) commands → map job_of (map f commands) ≡ map g (map job_of commands)
 jobs_by [] f g same = refl
