@@ -1,5 +1,5 @@
 -- The completion of a command is a step of the machine, and leaves both sides tied.
-use Rattle.std.proofs.Common.{◌≡◌, ℕ, ◌<◌, ◌==◌, ◌&&◌, ◌||◌, ◌++◌, Bool, true, false, not, Option, Some, None, Ok, Err, IfSome, IsSome, is_none, is_some, List, [], ◌∷◌, length, find, map, slice_get, if◌then◌else◌, refl, ap, ap₂, sym, ◌∙◌, subst}
+use Rattle.std.proofs.Common.{◌≡◌, ◌≢◌, ℕ, ◌<◌, ◌==◌, ◌&&◌, ◌||◌, ◌++◌, Bool, true, false, not, Option, Some, None, Ok, Err, IfSome, IsSome, is_none, is_some, List, [], ◌∷◌, length, find, map, slice_get, if◌then◌else◌, refl, ap, ap₂, sym, ◌∙◌, subst}
 use Rattle.std.specs.Option.{option_map, option_map_or}
 use Rattle.std.proofs.lemmas.Bool.{true≢false}
 use Rattle.admin_commands.specs.Verdicts.{is_absent}
@@ -31,12 +31,11 @@ use Rattle.page_memory.specs.Pages.{Pages, byte_at}
 use Rattle.queue_pair.specs.Memory.{completion_slot}
 use Rattle.queue_pair.specs.Slots.{is_full}
 use Rattle.queue_pair.proofs.Halves.{completion_there}
-use Rattle.queue_pair.proofs.Order.{next_below}
 use Rattle.two_sides.specs.Serving.{why_of}
 use Rattle.two_sides.specs.Sides.{Sides, state_of, answer_of, device_of, device_queue_of, device_queues_of, job_of}
 use Rattle.two_sides.specs.Stepping.{LeavesPages, StepsTo, served, completes_step, completes_refuse_alike}
-use Rattle.two_sides.specs.Ties.{IsWorld, ShareQueue, ShareQueues, AllRingsStand, RingsStand, WalkStands, WalksStand}
-use Rattle.two_sides.proofs.Answering.{CanAnswer, answer_is, answer_seen, answer_shares, answer_spares_commands, answer_spares_queues, answer_stands, length-completion_bytes, page_is_in, slot_is_in, slot_written, with_completion}
+use Rattle.two_sides.specs.Ties.{IsWorld, ShareQueues, AllRingsStand, RingsStand, WalkStands, WalksStand}
+use Rattle.two_sides.proofs.Answering.{CanAnswer, answer_is, answer_seen, answer_shares, answer_spares_commands, answer_spares_queues, answer_stands, length-completion_bytes, page_is_in, post_room, slot_is_in, slot_written, with_completion}
 use Rattle.two_sides.proofs.Assembling.{ServesOver, serve_refused, served_stepped}
 use Rattle.two_sides.proofs.Changed.{devices_changed, rings_changed}
 use Rattle.two_sides.proofs.Ending.{devices_end_behind, devices_end_elsewhere, devices_ended, devices_of_end, end_fits, ended, rings_ended, share_ended, status_seen}
@@ -170,15 +169,13 @@ module _ (s : Sides) (q cid : ℕ) (c : Contents) (pages : Pages) (touched : Lis
       sym (ap (λ (o : Option ControllerQueue). option_map_or (λ queue. post_refusal (byte_at s.pages) queue.device) o None) w.here)
       ∙ (refused_not (waits_among s.controller.commands k) because.Waits _ (refused_not (is_none (verdict_of_work k.work)) because.Walking _ all).1).1
 
-  room : (is_full x.device.entries x.device.ring.known_head x.device.ring.tail ≡ false) × (is_none (completion_slot (byte_at s.pages) x.device.cq x.device.ring.tail) ≡ false)
-  room =
-      let full = refused_not (is_full x.device.entries x.device.ring.known_head x.device.ring.tail) because.Full _ post_free in
-      (full.0, (refused_not (is_none (completion_slot (byte_at s.pages) x.device.cq x.device.ring.tail)) because.SlotOut None full.1).0)
+  room : (is_full x.device.entries x.device.ring.known_head x.device.ring.tail ≡ false) × (completion_slot (byte_at s.pages) x.device.cq x.device.ring.tail ≢ None)
+  room = post_room (byte_at s.pages) x.device post_free
 
   pages_are : pages ≡ posted
   pages_are =
       slot_written s.pages pages x.device.cq x.device.ring.tail (completion_bytes e) world.sides.over.pool leaves
-      (slot_is_in s.pages x.device.cq x.device.ring.tail (λ none. true≢false (sym (ap is_none none) ∙ room.1))) (length-completion_bytes e) w.memory
+      (slot_is_in s.pages x.device.cq x.device.ring.tail room.1) (length-completion_bytes e) w.memory
 
   -- whatever was forged
   serves : IsController c → ServesOver s c pages
