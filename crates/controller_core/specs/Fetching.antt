@@ -37,6 +37,14 @@ is_known c q e = is_some (find (is_command q e.cid) c.commands)
 abbrev pub entry_refusal : Contents → Memory → ℕ → SubEntry → Option Refusal
 entry_refusal c m q e = if is_known c q e then answer_refusal c.queues m q else None
 
+-- what a fetch is refused for where memory is not wanted: the first that holds
+abbrev pub rung_entry : Contents → Memory → ℕ → Option SubEntry
+rung_entry c m q = option_and_then (λ device. entry_at m device.sq device.ring.head) (live_side (slice_get c.queues q))
+
+abbrev pub fetch_refusal : Contents → Memory → ℕ → Option Refusal
+fetch_refusal c m q =
+    if is_some (look_refusal c m q) then look_refusal c m q else option_and_then (entry_refusal c m q) (rung_entry c m q)
+
 -- An entry that was looked at: its page is touched, behind those that were touched before.
 pub record LooksAt (c : Contents) (m : Memory) (reached : List ℕ) (q : ℕ) (e : SubEntry) (reached' : List ℕ) : Type 0 where
   pub device : DeviceSide

@@ -3,3 +3,5 @@ pub mod Ties
 pub mod Hearing
 pub mod Opening
 pub mod Laws
+pub mod Serving
+pub mod Stepping

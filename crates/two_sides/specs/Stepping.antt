@@ -1,0 +1,101 @@
+-- Each call of one side, with what the other hears of it, is a step of the machine, and leaves both tied as they were.
+use Rattle.std.specs.Prelude.{◌≡◌, ◌≢◌, ℕ, Some, None, true, false, List, [], Result, length, is_some, slice_get}
+use Rattle.std.specs.Option.{option_map}
+use Rattle.controller_core.specs.Completing.{complete_refusal}
+use Rattle.controller_core.specs.Contents.{Contents, IsController}
+use Rattle.controller_core.specs.Fetching.{Fetches, fetch_refusal}
+use Rattle.controller_core.specs.Walking.{walk_refusal}
+use Rattle.controller_core.specs.declared.queue.ControllerQueue.{ControllerQueue}
+use Rattle.controller_core.specs.declared.refusal.Refusal as controller
+use Rattle.controller_walk.specs.declared.walk.WalkState.{WalkState}
+use Rattle.host_core.specs.Alone.{HostView, HostStep, IsOver, alone}
+use Rattle.machine_model.specs.Events as events
+use Rattle.machine_model.specs.Events.{Event, Reply}
+use Rattle.machine_model.specs.Refusals.{refusal_of, seen_entry, has_cq}
+use Rattle.machine_model.specs.State.{HostQueue}
+use Rattle.machine_model.specs.Step as machine
+use Rattle.machine_model.specs.Step.{Step, forges}
+use Rattle.page_memory.specs.Memory.{written}
+use Rattle.page_memory.specs.Pages.{Pages, byte_at, AreWhole}
+use Rattle.queue_pair.specs.Memory.{completion_place, completion_slot}
+use Rattle.two_sides.specs.Laws.{behind}
+use Rattle.two_sides.specs.Serving.{Walks, Completes, why_of, fetch_reply, walk_reply, complete_reply}
+use Rattle.two_sides.specs.Sides.{Sides, state_of}
+use Rattle.two_sides.specs.Ties.{IsWorld}
+
+-- A step of the machine, behind which both sides are tied as a world's are.
+abbrev pub StepsTo : Sides → Event → Reply → Sides → Type 0
+StepsTo s e reply new = Step (state_of s) e reply (state_of new) × IsWorld new
+
+-- The host's calls
+abbrev pub hosts_step : Type 0
+hosts_step =
+    (s : Sides) (e : Event) (reply : Reply) (host : HostView) (pages : Pages)
+    → IsWorld s → machine.IsController e ≡ false → forges e ≡ false → HostStep s.host s.pages e reply host pages → IsOver host pages
+    → StepsTo s e reply (behind s e reply host pages)
+
+-- whether the host finds a completion at a head, the machine has one there
+abbrev pub completions_are_seen : Type 0
+completions_are_seen =
+    (s : Sides) (q : ℕ) (h : HostQueue) → IsWorld s → slice_get s.host.host.queues q ≡ Some h → has_cq h.state ≡ true
+    → is_some (seen_entry (alone s.host s.pages) q) ≡ is_some (seen_entry (state_of s) q)
+
+-- The pages that a call of the controller leaves are as many, and in whole.
+pub record LeavesPages (old new : Pages) : Type 0 where
+  pub whole : AreWhole new
+  pub count : length new ≡ length old
+
+-- both sides behind a call of the controller
+abbrev pub served : Sides → Contents → Pages → Sides
+served s c pages = record s { controller = c; pages = pages }
+
+abbrev pub fetches_step : Type 0
+fetches_step =
+    (s : Sides) (q : ℕ) (result : Result ℕ controller.Refusal) (c : Contents) (pages : Pages) (touched : List ℕ)
+    → IsWorld s → IsController c → LeavesPages s.pages pages → Fetches s.controller (byte_at s.pages) [] q result c (byte_at pages) touched
+    → StepsTo s (events.Fetch q) (fetch_reply result touched) (served s c pages)
+
+abbrev pub walks_step : Type 0
+walks_step =
+    (s : Sides) (q cid : ℕ) (result : Result WalkState controller.Refusal) (c : Contents) (pages : Pages) (touched : List ℕ)
+    → IsWorld s → IsController c → LeavesPages s.pages pages → Walks s.controller (byte_at s.pages) [] q cid result c (byte_at pages) touched
+    → StepsTo s (events.Walk q cid) (walk_reply result touched) (served s c pages)
+
+abbrev pub completes_step : Type 0
+completes_step =
+    (s : Sides) (q cid : ℕ) (result : Result (Unit {0}) controller.Refusal) (c : Contents) (pages : Pages) (touched : List ℕ)
+    → IsWorld s → IsController c → LeavesPages s.pages pages → Completes s.controller (byte_at s.pages) [] q cid result c (byte_at pages) touched
+    → StepsTo s (events.Complete q cid) (complete_reply result touched) (served s c pages)
+
+-- Where nothing was forged, the controller refuses what the machine does.
+abbrev pub fetches_refuse_alike : Type 0
+fetches_refuse_alike =
+    (s : Sides) (q : ℕ) → IsWorld s → s.trusted ≡ true
+    → refusal_of (state_of s) (events.Fetch q) ≡ option_map why_of (fetch_refusal s.controller (byte_at s.pages) q)
+
+abbrev pub walks_refuse_alike : Type 0
+walks_refuse_alike =
+    (s : Sides) (q cid : ℕ) → IsWorld s → s.trusted ≡ true
+    → refusal_of (state_of s) (events.Walk q cid) ≡ option_map why_of (walk_refusal s.controller q cid)
+
+abbrev pub completes_refuse_alike : Type 0
+completes_refuse_alike =
+    (s : Sides) (q cid : ℕ) → IsWorld s → s.trusted ≡ true
+    → refusal_of (state_of s) (events.Complete q cid) ≡ option_map why_of (complete_refusal s.controller (byte_at s.pages) q cid)
+
+-- A forged entry: any bytes in a completion slot. Nothing is trusted from then on.
+abbrev pub forged : Sides → Pages → Sides
+forged s pages = record s { pages = pages; trusted = false }
+
+-- a slot of a completion ring that the host still has is in
+abbrev pub completion_slots_are_in : Type 0
+completion_slots_are_in =
+    (s : Sides) (q slot : ℕ) (bytes : List ℕ) (c : ControllerQueue) → IsWorld s → refusal_of (state_of s) (events.Forge q slot bytes) ≡ None
+    → slice_get s.controller.queues q ≡ Some c → completion_slot (byte_at s.pages) c.device.cq slot ≢ None
+
+abbrev pub forged_entries_step : Type 0
+forged_entries_step =
+    (s : Sides) (q slot : ℕ) (bytes : List ℕ) (c : ControllerQueue) (pages : Pages)
+    → IsWorld s → length bytes ≡ 16 → refusal_of (state_of s) (events.Forge q slot bytes) ≡ None → slice_get s.controller.queues q ≡ Some c
+    → LeavesPages s.pages pages → byte_at pages ≡ written (byte_at s.pages) (completion_place c.device.cq slot) bytes
+    → StepsTo s (events.Forge q slot bytes) events.Accepted (forged s pages)
