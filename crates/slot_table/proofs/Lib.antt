@@ -2,5 +2,6 @@ pub mod Orders
 pub mod Threads
 pub mod Rows
 pub mod Whole
+pub mod Steps
 pub mod Opened
 pub mod Written

@@ -3,7 +3,7 @@
 ghost use Rattle.std.specs.Prelude.{◌≡◌, ℕ, ◌+◌, ◌-◌, ◌*◌, ◌<◌, ◌≤◌, ◌==◌, [], ◌∷◌, ◌++◌, length, None, Some, IsSome, IfNone, IfOk, MatchOption};
 ghost use Rattle.std.specs.Option.{option_copied, option_copied_mut};
 ghost use Rattle.std.specs.Borrow.{sem};
-ghost use Rattle.slot_table.specs.Table.{AreInside, IsDistinct, IsPlace, value_at, with_row, without, NoneAt};
+ghost use Rattle.slot_table.specs.Table.{AreInside, IsDistinct, IsPlace, first_place, place_behind, value_at, with_row, without, NoneAt};
 ghost use Rattle.slot_table.specs.Lends.{lends_content};
 
 use crate::link::Link;
@@ -76,6 +76,7 @@ impl<R, A: Allocator + Clone> SlotTable<R, A> {
 
 impl<R, A: Allocator> SlotTable<R, A> {
     ghost use Rattle.slot_table.specs.Lends.{lends_get, lends_record};
+    ghost use Rattle.slot_table.specs.Links.{place_of};
 
     /// How many records stand in the table.
     pub fn len(&self) -> usize
@@ -137,6 +138,37 @@ impl<R, A: Allocator> SlotTable<R, A> {
             Some(place) => content_mut(&mut self.records[place]),
             None => unreachable!(),
         }
+    }
+
+    /// The place of the first row, as its queue and its identifier.
+    pub fn first(&self) -> Option<(u16, u16)>
+        ensures { result ≡ first_place self.now.rows }
+    {
+        let end = self.queues * self.places;
+        self.place_of(self.links[end as usize].after)
+    }
+
+    /// The place of the row behind the one in a place. `None` where that row is the last, and where none stands there.
+    pub fn next(&self, q: u16, cid: u16) -> Option<(u16, u16)>
+        ensures { result ≡ place_behind self.now.rows q cid }
+    {
+        let place = self.index(q, cid)?;
+        if self.records[place].is_none() {
+            return None;
+        }
+        self.place_of(self.links[place].after)
+    }
+
+    /// The queue and the identifier of the place at an index, but for the end of the list.
+    fn place_of(&self, index: u32) -> Option<(u16, u16)>
+        requires { index ≤ self.now.queues * self.now.places }
+        ensures { result ≡ place_of self.now.places (self.now.queues * self.now.places) index }
+    {
+        let end = self.queues * self.places;
+        if index == end {
+            return None;
+        }
+        Some(((index / self.places) as u16, (index % self.places) as u16))
     }
 
     /// Puts a record into an empty place, behind all others.
