@@ -3,5 +3,6 @@ pub mod Threads
 pub mod Rows
 pub mod Whole
 pub mod Steps
+pub mod Walks
 pub mod Opened
 pub mod Written

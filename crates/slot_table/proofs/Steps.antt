@@ -1,5 +1,5 @@
 -- The first row of a table, and the row behind another.
-use Rattle.std.proofs.Common.{◌≡◌, ℕ, zero, suc, ◌+◌, ◌*◌, ◌/◌, ◌%◌, ◌<◌, ◌≤◌, true, false, List, [], ◌∷◌, ◌++◌, length, get_or, Option, Some, None, is_some, IsSome, refl, sym, ap, subst, ◌∙◌, arith, true≢false}
+use Rattle.std.proofs.Common.{◌≡◌, ℕ, ◌+◌, ◌*◌, ◌<◌, ◌≤◌, false, List, [], ◌∷◌, ◌++◌, length, get_or, Option, Some, None, is_some, IsSome, refl, sym, ap, subst, ◌∙◌, arith, true≢false}
 use Rattle.std.proofs.lemmas.Bool.{eq-eqb, ne_eqb}
 use Rattle.std.proofs.lemmas.List.{get_or_read}
 use Rattle.slot_table.specs.declared.link.Link.{Link}
@@ -26,7 +26,7 @@ module _ {R : Type 0} where
   first_place-rows_of places end records (x ∷ xs) below held =
       first_place-row_before places end x (get_or records x None) (rows_of places records xs) below.0 held.0
 
-  place_behind-behind : (rows more : List (Row R)) (q cid : ℕ) → NoneAt rows q cid → place_behind (rows ++ more) q cid ≡ place_behind more q cid
+  pub place_behind-behind : (rows more : List (Row R)) (q cid : ℕ) → NoneAt rows q cid → place_behind (rows ++ more) q cid ≡ place_behind more q cid
   place_behind-behind [] more q cid none = refl
   place_behind-behind (row ∷ rows) more q cid none = rw none.0 (place_behind-behind rows more q cid none.1)
 

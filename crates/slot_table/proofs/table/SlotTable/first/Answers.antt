@@ -1,4 +1,4 @@
-use Rattle.std.proofs.Common.{sym, ◌∙◌}
+use Rattle.std.proofs.Common.{◌∙◌}
 use Rattle.slot_table.proofs.Steps.{first_after}
 use Rattle.slot_table.proofs.table.SlotTable.first.Goals as goal
 
