@@ -1,6 +1,6 @@
 //! The table.
 
-ghost use Rattle.std.specs.Prelude.{◌≡◌, ℕ, ◌+◌, ◌-◌, ◌*◌, ◌<◌, ◌≤◌, ◌==◌, [], ◌∷◌, ◌++◌, length, None, Some, IsSome, IfNone, IfOk, MatchOption};
+ghost use Rattle.std.specs.Prelude.{◌≡◌, ℕ, ◌+◌, ◌-◌, ◌*◌, ◌<◌, ◌≤◌, ◌==◌, [], ◌∷◌, ◌++◌, length, None, Some, IsSome, IfNone, IfOk, IfErr, MatchOption};
 ghost use Rattle.std.specs.Option.{option_copied, option_copied_mut};
 ghost use Rattle.std.specs.Borrow.{sem};
 ghost use Rattle.slot_table.specs.Table.{AreInside, IsDistinct, IsPlace, first_place, place_behind, value_at, with_row, without, NoneAt};
@@ -187,6 +187,26 @@ impl<R, A: Allocator> SlotTable<R, A> {
             None => {}
             Some(_) => unreachable!(),
         }
+    }
+
+    /// Puts a record into a place that may be taken or not be there: then the record is handed back, and nothing changed.
+    ///
+    /// # Errors
+    ///
+    /// The record, where the table has no such place, or a record stands there.
+    pub fn try_put(&mut self, q: u16, cid: u16, value: R) -> Result<(), R>
+        ensures put { IfOk result (λ _. IsPlace self.old q cid × (value_at self.old.rows q cid ≡ None) × (self.new ≡ with_row self.old q cid value)) }
+        ensures handed_back { IfErr result (λ back. (back ≡ value) × (self.new ≡ self.old)) }
+        ensures refused { IfErr result (λ _. IsPlace self.old q cid → IsSome (value_at self.old.rows q cid)) }
+    {
+        if u32::from(q) >= self.queues || u32::from(cid) >= self.places {
+            return Err(value);
+        }
+        if self.get(q, cid).is_some() {
+            return Err(value);
+        }
+        self.put(q, cid, value);
+        Ok(())
     }
 
     /// Takes the record out of a place. The others keep their order.
