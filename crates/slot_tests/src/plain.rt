@@ -50,7 +50,6 @@ fn answers_as_a_plain_list(rt: HostRuntime) -> Result<(), Fail> {
         };
         assert_eq!(rt; table.get(q, cid).copied(), expected, "call {call}");
         if let Some(i) = at {
-            assert_eq!(rt; table.try_put(q, cid, call), Err(call), "call {call}");
             if seed >> 31 == 0 {
                 if let Some(row) = rows.get_mut(i) {
                     row.2 = call;
@@ -66,13 +65,8 @@ fn answers_as_a_plain_list(rt: HostRuntime) -> Result<(), Fail> {
         } else if q < QUEUES && cid < ENTRIES - 1 {
             assert!(rt; table.get(q, cid).is_none(), "call {call}");
             rows.push((q, cid, call))?;
-            if seed >> 31 == 0 {
-                table.put(q, cid, call);
-            } else {
-                assert_eq!(rt; table.try_put(q, cid, call), Ok(()), "call {call}");
-            }
+            table.put(q, cid, call);
         } else {
-            assert_eq!(rt; table.try_put(q, cid, call), Err(call), "call {call}");
             assert_eq!(rt; table.take(q, cid), None, "call {call}");
         }
         assert_eq!(rt; table.len(), rows.len(), "call {call}");

@@ -23,3 +23,14 @@ fn records_come_back_or_go_with_the_table(rt: HostRuntime) -> Result<(), Fail> {
     assert_eq!(rt; heap.tally().blocks, 0);
     Ok(())
 }
+
+#[test]
+fn a_place_that_is_taken_hands_the_record_back(rt: HostRuntime) -> Result<(), Fail> {
+    let mut table: SlotTable<u32> = SlotTable::open(rt.alloc(), 1, 3)?;
+    assert_eq!(rt; table.try_put(0, 1, 70), Ok(()));
+    assert_eq!(rt; table.try_put(0, 1, 71), Err(71));
+    assert_eq!(rt; table.try_put(0, 2, 72), Err(72));
+    assert_eq!(rt; table.try_put(1, 0, 73), Err(73));
+    assert_eq!(rt; (table.len(), table.get(0, 1).copied()), (1, Some(70)));
+    Ok(())
+}
