@@ -1,9 +1,9 @@
 -- Rows one behind the other: what a walk meets, and what a put and a take leave.
-use Rattle.std.proofs.Common.{◌≡◌, ℕ, zero, suc, ◌≤◌, ◌==◌, true, false, List, [], ◌∷◌, ◌++◌, length, Some, None, refl, sym, ap, subst, ◌∙◌, inl, inr, arith, append_assoc}
+use Rattle.std.proofs.Common.{◌≡◌, ℕ, zero, suc, ◌≤◌, ◌==◌, true, false, List, [], ◌∷◌, ◌++◌, length, Some, None, take, drop, ◌+◌, refl, sym, ap, subst, ◌∙◌, inl, inr, arith, append_assoc}
 use Rattle.std.proofs.lemmas.Bool.{eq-eqb, ne_eqb, cases_Bool}
 use Rattle.std.proofs.lemmas.Bool.Decides.{eqb_tells}
 use Rattle.std.proofs.lemmas.Option.{none-some}
-use Rattle.std.proofs.lemmas.List.{append-nil}
+use Rattle.std.proofs.lemmas.List.{append-nil, take-append-drop, drop-drop}
 use Rattle.slot_table.specs.Table.{Row, TableOf, is_at, first_place, place_behind, value_at, with_row, without, NoneAt, IsDistinct}
 use Rattle.slot_table.specs.Walks.{places_of, walk_from}
 use Rattle.slot_table.proofs.Rows.{value_at-behind, without-behind}
@@ -78,3 +78,17 @@ module _ {R : Type 0} where
 
   pub walk_all : (rows : List (Row R)) (most : ℕ) → IsDistinct rows → length rows ≤ most → walk_from rows (first_place rows) most ≡ places_of rows
   walk_all rows most d fits = walk_on rows [] rows most d refl fits
+
+  -- the place behind that of the first of these rows
+  step_over : (rows front back : List (Row R)) (q cid : ℕ) → IsDistinct rows → rows ≡ front ++ back → first_place back ≡ Some (q, cid) → place_behind rows q cid ≡ first_place (drop 1 back)
+  step_over rows front [] q cid d is at = absurd (none-some (q, cid) at)
+  step_over rows front (row ∷ back) q cid d is at =
+      let place : (row.q, row.cid) ≡ (q, cid) = cc in
+      ap (λ (p : ℕ × ℕ). place_behind rows p.0 p.1) (sym place)
+      ∙ ap (λ rs. place_behind rs row.q row.cid) is
+      ∙ place_behind-row front back row (subst IsDistinct is d)
+
+  pub step_behind : (rows : List (Row R)) (n q cid : ℕ) → IsDistinct rows → first_place (drop n rows) ≡ Some (q, cid) → place_behind rows q cid ≡ first_place (drop (n + 1) rows)
+  step_behind rows n q cid d at =
+      step_over rows (take n rows) (drop n rows) q cid d (sym (take-append-drop n rows)) at
+      ∙ ap first_place (drop-drop 1 n rows)

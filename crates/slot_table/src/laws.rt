@@ -1,7 +1,7 @@
 //! What the definitions of a table give, and a small table that is computed from them. Each function does nothing, and its clauses are
 //! the laws.
 
-ghost use Rattle.std.specs.Prelude.{◌≡◌, ℕ, ◌≤◌, List, [], ◌∷◌, ◌++◌, length, Some, None};
+ghost use Rattle.std.specs.Prelude.{◌≡◌, ℕ, ◌+◌, ◌≤◌, List, [], ◌∷◌, ◌++◌, length, drop, Some, None};
 ghost use Rattle.slot_table.specs.Table.{Row, TableOf, IsDistinct, first_place, place_behind, value_at, with_row, without};
 ghost use Rattle.slot_table.specs.Walks.{places_of, walk_from};
 ghost use Rattle.slot_table.specs.Worked.{row_of, opened, two_put, one_taken, put_again};
@@ -17,13 +17,15 @@ pub fn taken_comes_back<R>()
         → (with_row (record table { rows = without table.rows row.q row.cid }) row.q row.cid row.value).rows ≡ front ++ back ++ row ∷ [] }
 {}
 
-/// A walk meets each row once, in the order of the rows, and then ends. Where it stands at a row, the rows behind are those that it
+/// A walk meets each row once, in the order of the rows, and then ends: it stands at each row in turn. Where it stands at a row, the rows behind are those that it
 /// has not met, also after that row was taken.
 pub fn walk_meets_each_row<R>()
     ensures walk { (rows : List (Row R)) (most : ℕ) → IsDistinct rows → length rows ≤ most
         → walk_from rows (first_place rows) most ≡ places_of rows }
     ensures behind { (front back : List (Row R)) (row : Row R) → IsDistinct (front ++ row ∷ back)
         → place_behind (front ++ row ∷ back) row.q row.cid ≡ first_place back }
+    ensures step { (rows : List (Row R)) (n q cid : ℕ) → IsDistinct rows → first_place (drop n rows) ≡ Some (q, cid)
+        → place_behind rows q cid ≡ first_place (drop (n + 1) rows) }
     ensures value { (front back : List (Row R)) (row : Row R) → IsDistinct (front ++ row ∷ back)
         → value_at (front ++ row ∷ back) row.q row.cid ≡ Some row.value }
     ensures taken { (front back : List (Row R)) (row : Row R) → IsDistinct (front ++ row ∷ back)

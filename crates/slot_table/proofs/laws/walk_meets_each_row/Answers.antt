@@ -1,4 +1,4 @@
-use Rattle.slot_table.proofs.Walks.{walk_all, place_behind-row, value_at-row, without-row}
+use Rattle.slot_table.proofs.Walks.{walk_all, place_behind-row, step_behind, value_at-row, without-row}
 use Rattle.slot_table.proofs.laws.walk_meets_each_row.Goals as goal
 
 pub returns-clause-walk : goal.returns-clause-walk
@@ -12,3 +12,6 @@ returns-clause-value g c = value_at-row
 
 pub returns-clause-taken : goal.returns-clause-taken
 returns-clause-taken g c = without-row
+
+pub returns-clause-step : goal.returns-clause-step
+returns-clause-step g c = step_behind
