@@ -8,3 +8,5 @@ mod opening;
 mod plain;
 #[cfg(test)]
 mod records;
+#[cfg(test)]
+mod walking;
