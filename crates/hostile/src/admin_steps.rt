@@ -5,7 +5,7 @@ use crate::fault::Halt;
 use crate::random::SplitMix64;
 use crate::session::{Course, Session};
 use admin_commands::AdminKind;
-use machine_model::words::Refusal;
+use machine_model::words::{HostState, Refusal};
 
 impl Session {
     /// Notes an admin command that was sent.
@@ -31,6 +31,14 @@ impl Session {
         }
     }
 
+    /// The first queue of this state, or any I/O queue.
+    fn queue_in(&self, random: &mut SplitMix64, state: HostState) -> u16 {
+        match self.recount.queue_in(state) {
+            Some(q) if random.in_sixteen(8) => q,
+            _ => self.io_queue(random),
+        }
+    }
+
     /// Sends an Abort.
     pub fn abort(&mut self, course: &mut Course) -> Result<Answer, Halt> {
         let (q, cid) = self.command(&mut course.random);
@@ -47,14 +55,15 @@ impl Session {
 
     /// Sends the deletion of a completion queue.
     pub fn delete_cq(&mut self, course: &mut Course) -> Result<Answer, Halt> {
-        let q = self.io_queue(&mut course.random);
+        let q = self.queue_in(&mut course.random, HostState::Retired);
         let sent = self.world.delete_cq(q);
         self.note_sent(sent, AdminKind::DeleteCq { q })
     }
 
     /// Retires a queue.
     pub fn retire(&mut self, course: &mut Course) -> Result<Answer, Halt> {
-        let q = self.io_queue(&mut course.random);
+        let deleted = HostState::Deleting { noted: true };
+        let q = self.queue_in(&mut course.random, deleted);
         match self.world.retire(q) {
             Ok(()) => {
                 self.recount.retired(q)?;

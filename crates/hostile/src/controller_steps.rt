@@ -4,19 +4,37 @@ use crate::answer::Answer;
 use crate::fault::{Difference, Halt};
 use crate::random::SplitMix64;
 use crate::session::{Course, Session};
+use controller_walk::WalkState;
 use entry_codec::{ComEntry, Status};
-use step_core::StepRefused;
+use machine_model::words::Refusal;
+use step_core::{ControllerStep, StepRefused};
 
 impl Session {
     /// A command that the controller fetched, or rarely any other.
-    fn fetched(&self, random: &mut SplitMix64) -> (u16, u16) {
-        let fetched = match random.place(self.recount.fetched.len()) {
-            Some(place) => self.recount.fetched.get(place).copied(),
+    fn any_fetched(&self, random: &mut SplitMix64) -> (u16, u16) {
+        let job = match random.place(self.recount.jobs.len()) {
+            Some(place) => self.recount.jobs.get(place).copied(),
             None => None,
         };
-        match fetched {
-            Some(command) if !random.in_sixteen(1) => command,
+        match job {
+            Some(job) if !random.in_sixteen(2) => (job.q, job.cid),
             _ => (self.queue(random), random.up_to(self.recount.entries)),
+        }
+    }
+
+    /// A command that the controller fetched, mostly one that was walked to the end or was not, as is wanted.
+    fn fetched(&self, random: &mut SplitMix64, walked: bool) -> (u16, u16) {
+        match self.recount.job(walked) {
+            Some(command) if random.in_sixteen(12) => command,
+            _ => self.any_fetched(random),
+        }
+    }
+
+    /// A queue from which the controller can fetch, or any queue.
+    fn queue_to_fetch(&mut self, random: &mut SplitMix64) -> u16 {
+        match self.world.next_step() {
+            Some(ControllerStep::Fetch { q }) if random.in_sixteen(8) => q,
+            _ => self.queue(random),
         }
     }
 
@@ -37,7 +55,7 @@ impl Session {
 
     /// The controller fetches an entry.
     pub fn fetch(&mut self, course: &mut Course) -> Result<Answer, Halt> {
-        let q = self.queue(&mut course.random);
+        let q = self.queue_to_fetch(&mut course.random);
         let possible = self.world.next_step().is_some();
         match self.world.fetch(q) {
             Ok(done) => {
@@ -53,21 +71,29 @@ impl Session {
 
     /// The controller does a unit of a command's list.
     pub fn walk(&mut self, course: &mut Course) -> Result<Answer, Halt> {
-        let (q, cid) = self.fetched(&mut course.random);
+        let (q, cid) = self.fetched(&mut course.random, false);
         let possible = self.world.next_step().is_some();
         match self.world.walk(q, cid) {
             Ok(done) => {
                 course.digest.put_pages(done.touched.pages());
                 self.was_possible(possible)?;
+                if done.state != WalkState::More {
+                    self.recount.walked(q, cid);
+                }
                 Ok(Answer::Walked(done.state))
             }
-            Err(refused) => Ok(Session::refused(course, refused)),
+            Err(refused) => {
+                if refused.why == Refusal::Nothing {
+                    self.recount.walked(q, cid);
+                }
+                Ok(Session::refused(course, refused))
+            }
         }
     }
 
     /// The controller completes a command.
     pub fn complete(&mut self, course: &mut Course) -> Result<Answer, Halt> {
-        let (q, cid) = self.fetched(&mut course.random);
+        let (q, cid) = self.fetched(&mut course.random, true);
         let possible = self.world.next_step().is_some();
         match self.world.complete(q, cid) {
             Ok(done) => {

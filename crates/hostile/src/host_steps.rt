@@ -3,6 +3,7 @@
 use crate::answer::Answer;
 use crate::chance::{filling, request};
 use crate::fault::Halt;
+use crate::random::SplitMix64;
 use crate::session::{Course, Session, agree};
 use io_commands::Ticket;
 use machine_model::words::Reaped;
@@ -105,9 +106,17 @@ impl Session {
 }
 
 impl Session {
+    /// A queue with a completion, or any queue.
+    fn queue_to_reap(&mut self, random: &mut SplitMix64) -> u16 {
+        match self.world.next_completion() {
+            Some(q) if random.in_sixteen(8) => q,
+            _ => self.queue(random),
+        }
+    }
+
     /// Looks for a completion.
     pub fn reap(&mut self, course: &mut Course) -> Result<Answer, Halt> {
-        let q = self.queue(&mut course.random);
+        let q = self.queue_to_reap(&mut course.random);
         let is_forged = self.recount.is_forged_next(q);
         let looked = self.world.has_completion(q);
         match self.world.reap(q) {

@@ -92,18 +92,17 @@ impl StepKind {
     /// How many of a thousand steps that forge nothing are of this kind.
     fn weight(self) -> u16 {
         match self {
-            StepKind::Reap => 120,
-            StepKind::Walk => 110,
-            StepKind::Reserve | StepKind::Build | StepKind::Submit => 95,
-            StepKind::Ring | StepKind::Fetch | StepKind::Complete => 90,
-            StepKind::Collect => 80,
-            StepKind::Release => 60,
+            StepKind::Walk => 170,
+            StepKind::Reap => 100,
+            StepKind::Ring | StepKind::Fetch => 85,
+            StepKind::Reserve | StepKind::Collect => 80,
+            StepKind::Build | StepKind::Submit | StepKind::Complete => 75,
+            StepKind::Release => 70,
             StepKind::Fill => 40,
+            StepKind::Retire => 30,
             StepKind::Cancel => 17,
-            StepKind::Retire => 8,
-            StepKind::Abort => 7,
-            StepKind::DeleteCq => 2,
-            StepKind::DeleteSq => 1,
+            StepKind::Abort | StepKind::DeleteCq => 7,
+            StepKind::DeleteSq => 4,
             StepKind::Forge => 0,
         }
     }

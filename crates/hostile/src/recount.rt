@@ -35,6 +35,17 @@ pub struct Sent {
     pub kind: AdminKind,
 }
 
+/// A command that the controller fetched and did not complete.
+#[derive(Clone, Copy)]
+pub struct Job {
+    /// Its queue.
+    pub q: u16,
+    /// Its identifier.
+    pub cid: u16,
+    /// Whether its list was walked to the end.
+    pub walked: bool,
+}
+
 /// What the answers of a world tell.
 #[derive(Drop)]
 pub struct Recount {
@@ -46,8 +57,8 @@ pub struct Recount {
     pub commands: Vec<Command>,
     /// The outstanding commands of queue 0.
     pub sent: Vec<Sent>,
-    /// What the controller fetched and did not complete, by queue and identifier.
-    pub fetched: Vec<(u16, u16)>,
+    /// What the controller fetched and did not complete.
+    pub jobs: Vec<Job>,
     /// The queues, by their numbers.
     pub queues: Vec<Rings>,
     /// The forged slots that wait to be reaped, by queue and slot.
@@ -83,7 +94,7 @@ impl Recount {
             owners,
             commands: Vec::new(alloc),
             sent: Vec::new(alloc),
-            fetched: Vec::new(alloc),
+            jobs: Vec::new(alloc),
             queues,
             forged: Vec::new(alloc),
             trusted: true,
@@ -126,6 +137,18 @@ impl Recount {
             return self.sent.last().map(|sent| sent.cid);
         }
         awaited
+    }
+
+    /// The first queue of this state.
+    pub fn queue_in(&self, state: HostState) -> Option<u16> {
+        let place = self.queues.iter().position(|rings| rings.state == state)?;
+        u16::try_from(place).ok()
+    }
+
+    /// The command that the controller fetched first and that was walked to the end, or was not, as is wanted.
+    pub fn job(&self, walked: bool) -> Option<(u16, u16)> {
+        let job = self.jobs.iter().find(|job| job.walked == walked)?;
+        Some((job.q, job.cid))
     }
 
     /// Moves a command on, which has come to a phase, to the next.
@@ -254,14 +277,24 @@ impl Recount {
         if touched > 1 {
             self.posted(q);
         } else {
-            self.fetched.push((q, cid))?;
+            let walked = q == 0;
+            self.jobs.push(Job { q, cid, walked })?;
         }
         Ok(())
     }
 
+    /// A command has its verdict.
+    pub fn walked(&mut self, q: u16, cid: u16) {
+        for job in self.jobs.iter_mut() {
+            if job.q == q && job.cid == cid {
+                job.walked = true;
+            }
+        }
+    }
+
     /// A command was completed.
     pub fn completed(&mut self, q: u16, cid: u16) {
-        self.fetched.retain(|of| *of != (q, cid));
+        self.jobs.retain(|job| job.q != q || job.cid != cid);
         self.posted(q);
     }
 
