@@ -99,10 +99,10 @@ impl StepKind {
             StepKind::Build | StepKind::Submit | StepKind::Complete => 75,
             StepKind::Release => 70,
             StepKind::Fill => 40,
-            StepKind::Retire => 30,
+            StepKind::Retire => 32,
             StepKind::Cancel => 17,
             StepKind::Abort | StepKind::DeleteCq => 7,
-            StepKind::DeleteSq => 4,
+            StepKind::DeleteSq => 2,
             StepKind::Forge => 0,
         }
     }
