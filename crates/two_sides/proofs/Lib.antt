@@ -3,6 +3,3 @@ pub mod Forged
 pub mod Opened
 pub mod Refusing
 pub mod Bells
-pub mod Known
-pub mod Frames
-pub mod Assembling
