@@ -1,0 +1,38 @@
+//! The controller forges a completion.
+
+ghost use Rattle.std.specs.Prelude.{◌≡◌};
+ghost use Rattle.machine_model.specs.Events as events;
+ghost use Rattle.machine_model.specs.Step.{Step};
+ghost use Rattle.step_core.specs.Replies.{ring_reply};
+
+use crate::world::World;
+use machine_model::words::Refusal;
+use page_memory::{Dma, TouchRecord};
+use std::alloc::Allocator;
+
+impl<A: Allocator + Copy> World<A> {
+    /// Puts any 16 bytes into a completion slot, as a controller at fault might. From then on the world is not trusted: the
+    /// controller may do anything with its own part, and what the host keeps stands all the same.
+    ///
+    /// # Errors
+    ///
+    /// 1. `NoQueue` where there is no such queue, or its completion half was given back. 2. `NoSlot` where the ring has no such slot.
+    pub fn forge(&mut self, q: u16, slot: u16, bytes: [u8; 16]) -> Result<(), Refusal>
+        ensures { Step self.old (events.Forge q slot bytes) (ring_reply result) self.new }
+    {
+        let Some(base) = self.host.completion_base(q) else {
+            return Err(Refusal::NoQueue);
+        };
+        if slot >= self.host.entries() {
+            return Err(Refusal::NoSlot);
+        }
+        self.store.clear();
+        match self.store.write(base + 16 * u64::from(slot), &bytes) {
+            Ok(()) => {}
+            Err(_) => unreachable!(),
+        }
+        let _pages = self.store.pages();
+        self.trusted = false;
+        Ok(())
+    }
+}

@@ -1,0 +1,83 @@
+//! What would be answered: looks that change nothing, for those who wait until the answer is another.
+
+ghost use Rattle.std.specs.Prelude.{◌≡◌, ◌<◌, ℕ, true, false, None, IfSome, IfNone, IsTrue, length, option_and_then};
+ghost use Rattle.machine_model.specs.Events as events;
+ghost use Rattle.machine_model.specs.Refusals.{refusal_of};
+ghost use Rattle.machine_model.specs.State.{record_at};
+
+use crate::world::World;
+use controller_core::ControllerStep;
+use entry_codec::Status;
+use io_commands::Request;
+use machine_model::words::Refusal;
+use std::alloc::Allocator;
+
+impl<A: Allocator + Copy> World<A> {
+    ghost use Rattle.step_core.specs.Looks.{has_completion as spec_has_completion, event_of, IsAtRest};
+
+    /// What [`World::reserve`] would be refused for, want of memory left aside. It makes no step.
+    pub fn reserve_refusal(&self, q: u16, request: &Request<A>) -> Option<Refusal>
+        ensures { result ≡ refusal_of self.now (events.Reserve q request.now) }
+    {
+        self.host.reserve_refusal(q, request)
+    }
+
+    /// What [`World::collect`] of this command's ticket would be refused for, want of memory left aside. It makes no step.
+    pub fn collect_refusal(&self, q: u16, cid: u16) -> Option<Refusal>
+        ensures { result ≡ refusal_of self.now (events.Collect q cid) }
+    {
+        self.host.collect_refusal(q, cid)
+    }
+
+    /// How an outstanding command ended: the status that a completion brought, or that it got as its queue was retired. The world keeps it
+    /// until the command is released. None where the command has not ended, or none is outstanding under this identifier.
+    pub fn status_of(&self, q: u16, cid: u16) -> Option<Status>
+        ensures { result ≡ option_and_then (λ r. r.status) (record_at self.now.host q cid) }
+    {
+        self.host.status_of(q, cid)
+    }
+
+    /// How many queues there are, queue 0 among them.
+    fn queue_count(&self) -> u16
+        ensures { result ≡ length self.now.host.queues }
+    {
+        self.host.queue_count()
+    }
+
+    /// Whether [`World::reap`] would take a completion from the queue. It makes no step.
+    pub fn has_completion(&mut self, q: u16) -> bool
+        ensures answer { result ≡ spec_has_completion self.old q }
+        ensures same { self.new ≡ self.old }
+    {
+        self.host.completion_waits(&mut self.store, q)
+    }
+
+    /// The first queue from which [`World::reap`] would take a completion. It makes no step, and looks once at each queue at most.
+    pub fn next_completion(&mut self) -> Option<u16>
+        ensures some { IfSome result (λ q. spec_has_completion self.old q ≡ true) }
+        ensures first { IfSome result (λ q. (p : ℕ) → p < q → spec_has_completion self.old p ≡ false) }
+        ensures none { IfNone result ((q : ℕ) → spec_has_completion self.old q ≡ false) }
+        ensures same { self.new ≡ self.old }
+    {
+        let count = self.queue_count();
+        for q in 0..count {
+            if self.has_completion(q) {
+                return Some(q);
+            }
+        }
+        None
+    }
+
+    /// A step that the controller can do, if there is one. It makes no step. Where nothing was forged, the answer is exact: what is answered
+    /// is not refused, but for want of memory, and `None` says that each step of the controller is. Today a fetch comes before the others,
+    /// from the first queue that can, and then the command that was fetched first and does not wait; no clause says so.
+    pub fn next_step(&mut self) -> Option<ControllerStep>
+        ensures possible { IfSome result (λ step. IsTrue self.old.trusted → refusal_of self.old (event_of step) ≡ None) }
+        ensures rest { IfNone result (IsTrue self.old.trusted → IsAtRest self.old) }
+        ensures same { self.new ≡ self.old }
+    {
+        let step = self.controller.next_step(&mut self.store);
+        let _pages = self.store.pages();
+        step
+    }
+}
