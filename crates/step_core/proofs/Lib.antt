@@ -6,4 +6,4 @@ pub mod Lawful
 pub mod KeptDrafts
 pub mod InTableOrder
 pub mod GoingOn
-pub mod LookLemmas
+pub mod Steps

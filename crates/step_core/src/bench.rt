@@ -7,7 +7,7 @@ ghost use Rattle.machine_model.specs.Script.{table};
 ghost use Rattle.page_ledger.specs.Counting.{total};
 ghost use Rattle.step_core.specs.Bench.{Does, DoesAll};
 ghost use Rattle.step_core.specs.Kept.{table_of, HasRoom};
-ghost use Rattle.world_tables.specs.Opening.{refusal_of_config, opening_of, RefusesOpening};
+ghost use Rattle.step_core.specs.Opening.{refusal_of_config, opening_of, RefusesOpening};
 
 use crate::ended::{Ended, Leftover};
 use crate::kept::Kept;
@@ -19,7 +19,7 @@ use page_ledger::{Counts, Owner};
 use page_memory::PageNo;
 use std::alloc::{AllocError, Global};
 use std::marker::Model;
-use world_tables::Config;
+use host_core::Config;
 
 /// A world, with the drafts, tickets and finished commands that are about. Contracts see the world's state and these lists; a
 /// ticket is seen as its queue and identifier.
