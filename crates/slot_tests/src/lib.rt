@@ -6,3 +6,7 @@
 mod opening;
 #[cfg(test)]
 mod plain;
+#[cfg(test)]
+mod records;
+#[cfg(test)]
+mod walking;

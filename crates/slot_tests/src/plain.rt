@@ -1,4 +1,4 @@
-//! Calls beside a plain list of rows.
+//! Calls beside a plain list of rows, which a walk meets after each of them.
 
 use slot_table::SlotTable;
 use std::test::Fail;
@@ -15,6 +15,18 @@ fn next(seed: u32) -> u32 {
 /// The index of the row in a place.
 fn position(rows: &[(u16, u16, u32)], q: u16, cid: u16) -> Option<usize> {
     rows.iter().position(|row| (row.0, row.1) == (q, cid))
+}
+
+/// Whether a walk meets these rows, in their order, and then ends.
+fn walk_meets(table: &SlotTable<u32>, rows: &[(u16, u16, u32)]) -> bool {
+    let mut at = table.first();
+    for row in rows {
+        if at != Some((row.0, row.1)) {
+            return false;
+        }
+        at = table.next(row.0, row.1);
+    }
+    at.is_none()
 }
 
 #[test]
@@ -58,6 +70,11 @@ fn answers_as_a_plain_list(rt: HostRuntime) -> Result<(), Fail> {
             assert_eq!(rt; table.take(q, cid), None, "call {call}");
         }
         assert_eq!(rt; table.len(), rows.len(), "call {call}");
+        assert_eq!(rt; table.is_empty(), rows.is_empty(), "call {call}");
+        assert!(rt; walk_meets(&table, &rows), "call {call}");
+        if position(&rows, q, cid).is_none() {
+            assert_eq!(rt; table.next(q, cid), None, "call {call}");
+        }
     }
     Ok(())
 }
