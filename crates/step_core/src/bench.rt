@@ -15,11 +15,11 @@ use crate::open::OpenRefused;
 use crate::step::{Reply, Step};
 use crate::world::World;
 use block_image::Image;
+use host_core::Config;
 use page_ledger::{Counts, Owner};
 use page_memory::PageNo;
 use std::alloc::{AllocError, Global};
 use std::marker::Model;
-use host_core::Config;
 
 /// A world, with the drafts, tickets and finished commands that are about. Contracts see the world's state and these lists; a
 /// ticket is seen as its queue and identifier.
