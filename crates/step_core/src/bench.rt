@@ -7,7 +7,8 @@ ghost use Rattle.machine_model.specs.Script.{table};
 ghost use Rattle.page_ledger.specs.Counting.{total};
 ghost use Rattle.step_core.specs.Bench.{Does, DoesAll};
 ghost use Rattle.step_core.specs.Kept.{table_of, HasRoom};
-ghost use Rattle.step_core.specs.Opening.{refusal_of_config, opening_of, RefusesOpening};
+ghost use Rattle.host_core.specs.Opening.{refusal_of_config, RefusesOpening};
+ghost use Rattle.step_core.specs.Opening.{opening_of};
 
 use crate::ended::{Ended, Leftover};
 use crate::kept::Kept;
