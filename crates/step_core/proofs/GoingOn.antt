@@ -16,7 +16,7 @@ use Rattle.machine_model.specs.Step as machine
 use Rattle.machine_model.specs.Step.{allocates, IsController}
 use Rattle.machine_model.specs.declared.words.Refusal.{Refusal}
 use Rattle.machine_model.specs.declared.words.Refusal.TheVariants as refusal
-use Rattle.world_tables.proofs.Lists.{found_at, all-at}
+use Rattle.host_core.proofs.Lists.{found_at, all-at}
 use Rattle.machine_model.proofs.Answered.{IsRefused, refusable, fetch_refusable, acceptable, reap_answered, walk_answered, complete_answered}
 use Rattle.step_core.specs.Bench.{without_first, Does}
 use Rattle.step_core.specs.Going.{IsTableInOrder, GoesOn, benches_go_on}

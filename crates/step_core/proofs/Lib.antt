@@ -7,3 +7,7 @@ pub mod KeptDrafts
 pub mod InTableOrder
 pub mod GoingOn
 pub mod Steps
+pub mod Looking
+pub mod Forging
+pub mod Pending
+pub mod Opening

@@ -11,6 +11,10 @@ use Rattle.controller_core.specs.Walking.{WalksTo, walk_refusal}
 use Rattle.controller_core.specs.declared.refusal.Refusal as refusing
 use Rattle.controller_walk.specs.declared.walk.WalkState.{WalkState}
 use Rattle.host_core.specs.Alone.{HostView, HostStep, IsOver}
+use Rattle.host_core.specs.Ringing as ringing
+use Rattle.host_core.specs.Ringing.{tail_of}
+use Rattle.machine_model.specs.declared.words.Reaped.{Reaped}
+use Rattle.machine_model.specs.declared.words.Refusal.{Refusal}
 use Rattle.machine_model.specs.Events as events
 use Rattle.machine_model.specs.Events.{Event, Reply}
 use Rattle.machine_model.specs.State.{State}
@@ -26,6 +30,7 @@ use Rattle.two_sides.specs.Laws.{behind}
 use Rattle.two_sides.specs.Serving.{Walks, Completes, fetch_reply, walk_reply, complete_reply}
 use Rattle.two_sides.specs.Sides.{Sides, state_of}
 use Rattle.two_sides.specs.Stepping.{StepsTo, LeavesPages}
+use Rattle.step_core.specs.Replies.{ring_reply}
 use Rattle.step_core.specs.Touching.{StaysAllowed}
 use Rattle.step_core.specs.World.{sides_of, IsLawful}
 
@@ -69,6 +74,27 @@ unheard e reply v c h = refl
 pub silent_goes : (s : Sides) (e : Event) (reply : Reply) (host : HostView) (pages : Pages) → IsLawful s → machine.IsController e ≡ false → forges e ≡ false → rings e ≡ false
     → HostStep s.host s.pages e reply host pages → IsOver host pages → Goes s e reply (sides_of host s.controller pages s.trusted)
 silent_goes s e reply host pages l h f quiet step over = host_goes s e reply host pages s.controller l h f step over (unheard e reply host s.controller quiet)
+
+-- the tail that is rung, and the head that is rung where a completion was taken
+
+pub ring_goes : (s : Sides) (q tail : ℕ) (c : Contents) → IsLawful s → ((pages : Pages) → HostStep s.host pages (events.Ring q) events.Accepted s.host pages) → tail_of s.host q ≡ Some tail
+    → c ≡ tail_rung q tail s.controller → Goes s (events.Ring q) events.Accepted (sides_of s.host c s.pages s.trusted)
+ring_goes s q tail c l step at is =
+    host_goes s (events.Ring q) events.Accepted s.host s.pages c l refl refl (step s.pages) l.world.sides.over
+    (is ∙ sym (ap (λ (o : Option ℕ). option_map_or (λ tail. tail_rung q tail s.controller) o s.controller) at))
+
+pub ring_refused : (s : Sides) (old : State) (q : ℕ) (why : Refusal) (result : Result (Unit {0}) Refusal) → state_of s ≡ old → IsLawful s → ((pages : Pages) → HostStep s.host pages (events.Ring q) (events.Refused why []) s.host pages)
+    → result ≡ Err why → Step old (events.Ring q) (ring_reply result) old
+ring_refused s old q why result is l step refused =
+    subst (λ (result : Result (Unit {0}) Refusal). Step old (events.Ring q) (ring_reply result) old) (sym refused)
+    (subst (λ (old : State). Step old (events.Ring q) (events.Refused why []) old) is (host_goes s (events.Ring q) (events.Refused why []) s.host s.pages s.controller l refl refl (step s.pages) l.world.sides.over refl).step)
+
+pub reap_goes : (s : Sides) (q : ℕ) (what : Reaped) (head : Option ℕ) (host : HostView) (pages : Pages) (c : Contents) → IsLawful s → HostStep s.host s.pages (events.Reap q) (events.Reaps what) host pages
+    → head ≡ ringing.head_rung host q what → IsOver host pages → c ≡ option_map_or (λ head. head_rung q head s.controller) head s.controller
+    → Goes s (events.Reap q) (events.Reaps what) (sides_of host c pages s.trusted)
+reap_goes s q what head host pages c l step at over is =
+    host_goes s (events.Reap q) (events.Reaps what) host pages c l refl refl step over
+    (is ∙ ap (λ (o : Option ℕ). option_map_or (λ head. head_rung q head s.controller) o s.controller) at)
 
 -- The controller's calls. Each begins with no page touched.
 

@@ -3,7 +3,6 @@ use Rattle.std.specs.Prelude.{ℕ, List}
 use Rattle.host_core.specs.declared.config.Config.{Config}
 use Rattle.machine_model.specs.Opening.{opening}
 use Rattle.machine_model.specs.State.{State}
-pub use Rattle.host_core.specs.Opening.{refusal_of_config, RefusesOpening}
 
 abbrev pub opening_of : Config → List ℕ → State
 opening_of c image = opening c.pages c.queues c.entries c.segment image

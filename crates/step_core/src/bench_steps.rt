@@ -10,8 +10,8 @@ use crate::kept_values::{
     draft_place, finished_place, put_back, take_draft, take_finished, take_ticket,
 };
 use crate::refused::{StepRefused, none_touched};
-use host_core::Refused;
 use crate::step::{Bytes, Reply, Step};
+use host_core::Refused;
 use io_commands::Request;
 use machine_model::words::Refusal;
 

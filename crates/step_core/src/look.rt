@@ -76,6 +76,7 @@ impl<A: Allocator + Copy> World<A> {
         ensures rest { IfNone result (IsTrue self.old.trusted → IsAtRest self.old) }
         ensures same { self.new ≡ self.old }
     {
+        let _count = self.host.queue_count();
         let step = self.controller.next_step(&mut self.store);
         let _pages = self.store.pages();
         step

@@ -1,7 +1,8 @@
 //! The opening of a world.
 
 ghost use Rattle.std.specs.Prelude.{◌≡◌, ◌≤◌, None, IfOk, IfErr};
-ghost use Rattle.step_core.specs.Opening.{refusal_of_config, opening_of, RefusesOpening};
+ghost use Rattle.host_core.specs.Opening.{refusal_of_config, RefusesOpening};
+ghost use Rattle.step_core.specs.Opening.{opening_of};
 ghost use Rattle.two_sides.specs.Opening.{halves_from};
 
 use crate::world::World;
