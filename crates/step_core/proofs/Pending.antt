@@ -1,5 +1,0 @@
--- The laws of both sides on which a world's calls stand: open until two_sides proves them.
-use Rattle.step_core.specs.Pending.{Laws}
-
-pub laws : Laws
-laws = ?
