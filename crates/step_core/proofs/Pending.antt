@@ -2,4 +2,16 @@
 use Rattle.step_core.specs.Pending.{Laws}
 
 pub laws : Laws
-laws = ?
+laws =
+    record {
+      hosts = ?;
+      fetches = ?;
+      walks = ?;
+      completes = ?;
+      fetch_refusals = ?;
+      walk_refusals = ?;
+      complete_refusals = ?;
+      completions = ?;
+      slots = ?;
+      forged = ?;
+    }
