@@ -1,4 +1,4 @@
-use Rattle.std.proofs.Common.{◌∙◌, ap, refl, sym, ℕ, Option}
+use Rattle.std.proofs.Common.{◌∙◌, ap, sym, ℕ, Option}
 use Rattle.std.specs.Option.{option_map_or}
 use Rattle.controller_core.specs.Doorbells.{head_rung}
 use Rattle.step_core.specs.World.{sides_of}
