@@ -10,6 +10,8 @@
 //! runs them on small pools.
 #![tactic(auto)]
 
+mod bits;
+mod free;
 pub mod laws;
 mod ledger;
 mod owner;
