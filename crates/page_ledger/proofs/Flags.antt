@@ -1,14 +1,13 @@
 -- The free pages of a pool as a list of Bools, and as words with a summary.
-use Rattle.std.proofs.Common.{◌≡◌, ◌≢◌, ℕ, zero, suc, ◌+◌, ◌-◌, ◌*◌, ◌/◌, ◌%◌, ◌^◌, ◌<◌, ◌≤◌, ◌⊎◌, ◌==◌, inl, inr, Bool, true, false, not, Option, Some, None, List, length, map, replicate, slice_index, slice_set, refl, ap, sym, ◌∙◌, arith, subst, nat_lt, length-set, w64}
+use Rattle.std.proofs.Common.{◌≡◌, ◌≢◌, ℕ, ◌+◌, ◌-◌, ◌*◌, ◌/◌, ◌%◌, ◌^◌, ◌<◌, ◌≤◌, ◌⊎◌, ◌==◌, inl, inr, Bool, true, false, not, List, length, replicate, slice_index, slice_set, ap, sym, ◌∙◌, arith, subst, nat_lt, length-set, w64}
 use Rattle.std.specs.Int.{trailing_zeros}
-use Rattle.std.specs.List.{range_with_len}
 use Rattle.std.proofs.lemmas.Bool.{true≢false, cases_lt, cases_eq, lt-ltb, le-ltb, ne_eqb, eqb-true, eqb-false, not-true, not-false}
 use Rattle.std.proofs.lemmas.List.{get_or-set_same, get_or-set_other, get_or_past, get_or-replicate, length-replicate, ext_get_or}
 use Rattle.std.proofs.lemmas.List.FromFn.{length-map-range_with_len, get_or-map-range_with_len}
 use Rattle.std.proofs.lemmas.Nat.Bits.{bit_at-zero}
 use Rattle.page_ledger.specs.Bits.{is_one, is_set, IsPut}
 use Rattle.page_ledger.specs.Free.{is_true_at, flags_of, IsSummed}
-use Rattle.page_ledger.specs.Searches.{IsFirstFrom, IsNoneFrom, FindsFrom, IsRunEnd, is_run}
+use Rattle.page_ledger.specs.Searches.{IsFirstFrom, IsNoneFrom, IsRunEnd}
 use Rattle.page_ledger.proofs.Words.{zero-from, one-inside, lowest-of}
 use Rattle.page_ledger.proofs.Sets.{set-in, set-past}
 

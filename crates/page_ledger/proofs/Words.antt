@@ -1,9 +1,9 @@
 -- The bits of one word: the lowest 1 from a place on, a bit that is set or cleared, and the word of so many ones.
-use Rattle.std.proofs.Common.{◌≡◌, ◌≢◌, ℕ, ◌+◌, ◌-◌, ◌*◌, ◌/◌, ◌%◌, ◌^◌, ◌<◌, ◌≤◌, ◌⊎◌, ◌==◌, inl, inr, Bool, true, false, cond, not, refl, ap, sym, ◌∙◌, arith, subst, w64, bit_and, bit_or, nat_lt}
+use Rattle.std.proofs.Common.{◌≡◌, ◌≢◌, ℕ, ◌+◌, ◌-◌, ◌*◌, ◌/◌, ◌%◌, ◌^◌, ◌<◌, ◌≤◌, ◌⊎◌, ◌==◌, inl, inr, true, false, not, refl, ap, sym, ◌∙◌, arith, subst, w64, bit_and, bit_or, nat_lt}
 use Rattle.std.specs.Int.{bit_at, bit_not, trailing_zeros}
-use Rattle.std.proofs.lemmas.Bool.{true≢false, cases_lt, cases_eq, lt-ltb, le-ltb, eqb-true, ne_eqb}
+use Rattle.std.proofs.lemmas.Bool.{true≢false, cases_lt, cases_eq, lt-ltb, le-ltb}
 use Rattle.std.proofs.lemmas.Nat.{shr-shr, shr_le}
-use Rattle.std.proofs.lemmas.Nat.Bits.{bit_at-zero, bit_at-trailing_zeros, bit_at_above, bit_at_ones, bit_at_ones_above, bit_at_set_same, bit_at_set_other, bit_at_clear_same, bit_at_clear_other, bit_at_not, bit_at-lt, same_from_bits_below}
+use Rattle.std.proofs.lemmas.Nat.Bits.{bit_at-zero, bit_at-trailing_zeros, bit_at_above, bit_at_ones, bit_at_ones_above, bit_at_set_same, bit_at_set_other, bit_at_clear_same, bit_at_clear_other, bit_at_not, bit_at-lt}
 use Rattle.page_ledger.specs.Bits.{is_one}
 use Rattle.page_ledger.specs.Searches.{IsFirstFrom, IsNoneFrom}
 
@@ -87,15 +87,4 @@ flipped word i fits inside = ap (λ b. b == 1) (bit_at_not w64 word i fits insid
     go b l = elim (cases_eq b 0) [
       | inl e ↦ subst (λ (b : ℕ). ((1 - b) == 1) ≡ not (b == 1)) (sym e) refl
       | inr e ↦ let same : 1 ≡ b = omega arith in subst (λ (b : ℕ). ((1 - b) == 1) ≡ not (b == 1)) same refl
-    ]
-
--- a word with no 1 is 0
-
-pub zero-word : (word : ℕ) → word < 2 ^ 64 → ((i : ℕ) → i < 64 → is_one word i ≡ false) → word ≡ 0
-zero-word word fits none = same_from_bits_below 64 word 0 fits (omega arith) (λ i l. bit i l ∙ sym (bit_at-zero i))
-  where
-    bit : (i : ℕ) → i < 64 → bit_at word i ≡ 0
-    bit i l = elim (cases_eq (bit_at word i) 1) [
-      | inl e ↦ absurd (true≢false (sym (one-from word i e) ∙ none i l))
-      | inr other ↦ omega (arith, bit_at-lt word i)
     ]

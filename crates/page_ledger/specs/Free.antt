@@ -1,5 +1,5 @@
 -- Which pages of a pool are free, as a list of a Bool for each page, and as words of bits.
-use Rattle.std.specs.Prelude.{◌≡◌, ◌+◌, ◌≤◌, ◌/◌, ◌==◌, Bool, true, false, List, ℕ, filter, length, map, not, slice_index, slice_index_or}
+use Rattle.std.specs.Prelude.{◌≡◌, ◌+◌, ◌≤◌, ◌/◌, ◌==◌, Bool, false, List, ℕ, filter, length, map, not, slice_index, slice_index_or}
 use Rattle.std.specs.List.{range_with_len}
 use Rattle.page_ledger.specs.Bits.{is_set}
 use Rattle.page_ledger.specs.Owners.{pages_from}

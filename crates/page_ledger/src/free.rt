@@ -1,6 +1,6 @@
 //! Which pages of a pool are free: a bit for each page in words of 64, and a summary of them with a bit for each word.
 
-ghost use Rattle.std.specs.Prelude.{◌≡◌, ◌+◌, ◌<◌, ◌≤◌, Bool, true, length, replicate, slice_set, IfOk};
+ghost use Rattle.std.specs.Prelude.{◌≡◌, ◌+◌, ◌<◌, ◌≤◌, Bool, true, length, replicate, slice_set, IfOk, IfSome};
 ghost use Rattle.page_ledger.specs.Free.{is_true_at};
 ghost use Rattle.page_ledger.specs.Searches.{FindsFrom, IsRunEnd, is_run};
 
@@ -57,7 +57,8 @@ impl<A: Allocator> FreePages<A> {
 
     /// The lowest free page, from one on.
     pub(crate) fn lowest_from(&self, from: u32) -> Option<u32>
-        ensures { FindsFrom (is_true_at self.now) from result }
+        ensures lowest { FindsFrom (is_true_at self.now) from result }
+        ensures inside { IfSome result (λ p. p < 65536) }
     {
         let word = from / 64;
         if word as usize >= self.words.len() {

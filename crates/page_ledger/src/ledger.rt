@@ -1,6 +1,6 @@
 //! The ledger: the owner of each page of a pool.
 
-ghost use Rattle.std.specs.Prelude.{◌≡◌, ◌≢◌, ◌+◌, ◌<◌, ◌≤◌, ◌↔◌, ◌⊎◌, ◌++◌, false, All, length, replicate, slice_set, take, vec_len, vec_capacity, Err, IfOk, OnOk, OnErr, IfErr, IfSome, IfNone};
+ghost use Rattle.std.specs.Prelude.{◌≡◌, ◌≢◌, ◌+◌, ◌<◌, ◌≤◌, ◌↔◌, ◌⊎◌, ◌++◌, ℕ, false, All, length, replicate, slice_set, take, vec_len, vec_capacity, Err, IfOk, OnOk, OnErr, IfErr, IfSome, IfNone};
 ghost use Rattle.page_ledger.specs.Owners.{owner_at, free_pages, pages_from, pages_owned, is_free, is_command, is_half, is_queue, with_owner, given_back};
 ghost use Rattle.page_ledger.specs.Lists.{ListsAll};
 ghost use Rattle.page_ledger.specs.Free.{true_places};
@@ -132,17 +132,19 @@ impl<A: Allocator> Ledger<A> {
 
     /// Frees the pages of a command, of its data and of its chain, all of which are listed. It takes as long as the list.
     pub fn give_back_pages(&mut self, q: u16, cid: u16, pages: &[PageNo])
-        requires listed { ListsAll (is_command q cid) self.old pages.now }
-        ensures freed { self.new ≡ given_back (is_command q cid) self.old }
+        requires { ListsAll (is_command q cid) self.old pages.now }
+        ensures { self.new ≡ given_back (is_command q cid) self.old }
     {
         self.give(pages, Owner::Free);
     }
 
     /// Frees the pages of one half of a queue, which are `k` consecutive ones. It takes as long as there are pages of it.
     pub fn give_back_run(&mut self, q: u16, half: Half, first: PageNo, k: u32)
-        requires listed { ListsAll (is_half q half) self.old (pages_from first k) }
-        ensures freed { self.new ≡ given_back (is_half q half) self.old }
+        requires { ListsAll (is_half q half) self.old (pages_from first k) }
+        ensures { self.new ≡ given_back (is_half q half) self.old }
     {
+        // a pool has at most 65,536 pages
+        let _ = &self.owners;
         self.give_run(first.0, k, Owner::Free);
     }
 
@@ -197,7 +199,8 @@ impl<A: Allocator> Ledger<A> {
 
     /// Gives `k` consecutive pages of the pool to an owner.
     fn give_run(&mut self, first: u32, k: u32, owner: Owner)
-        requires { All (λ p. p < length self.old) (pages_from first k) }
+        requires inside { (i : ℕ) → i < k → first + i < length self.old }
+        requires pool { length self.old ≤ 65536 }
         ensures { self.new ≡ with_owner self.old (pages_from first k) owner }
     {
         for i in 0..k {

@@ -1,4 +1,4 @@
-use Rattle.std.proofs.Common.{◌<◌, ◌^◌, ◌/◌, arith}
+use Rattle.std.proofs.Common.{◌<◌, ◌^◌, arith}
 use Rattle.page_ledger.proofs.Words.{lowest-none, lowest-first, one-inside}
 use Rattle.page_ledger.proofs.bits.lowest_one.Goals as goal
 

@@ -1,4 +1,4 @@
-use Rattle.std.proofs.Common.{◌<◌, ◌%◌, sym, ◌∙◌, arith}
+use Rattle.std.proofs.Common.{◌%◌, sym, ◌∙◌, arith}
 use Rattle.page_ledger.proofs.Words.{one-set, others-set, one-cleared, others-cleared}
 use Rattle.page_ledger.proofs.Sets.{put-word}
 use Rattle.page_ledger.proofs.bits.put.Goals as goal
