@@ -54,7 +54,11 @@ fn a_ledger_takes_three_blocks(rt: HostRuntime) {
     let heap = Refusing::new(rt.alloc());
     for growth in 1..=3 {
         heap.refuse(Refusal::Nth(growth));
-        assert_eq!(rt; Ledger::open(&heap, 64).err(), Some(OpenFault::Memory), "growth {growth}");
+        assert_eq!(rt;
+            Ledger::open(&heap, 64).err(),
+            Some(OpenFault::Memory),
+            "growth {growth}"
+        );
         is_empty_after_refusal(&rt, &heap);
     }
     heap.refuse(Refusal::Nth(4));
