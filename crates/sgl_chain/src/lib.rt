@@ -13,10 +13,12 @@
 #![tactic(auto)]
 
 mod chain;
+mod joining;
 pub mod laws;
 mod segment;
 pub mod worked;
 
 pub use chain::{BuildFault, Chain, MAX_PARTS, pages_needed};
+pub use joining::join_parts;
 pub use segment::{Descs, Segment};
 pub use sgl_descriptor::Part;
