@@ -1,9 +1,9 @@
 -- Joined parts: how a list of them grows from its front, and what they keep.
-use Rattle.std.proofs.Common.{arith, ◌∙◌, sym, ap, refl, ◌≡◌, ◌≤◌, ◌<◌, ◌+◌, ◌++◌, ◌^◌, ℕ, zero, suc, Bool, true, false, if◌then◌else◌, Option, Some, None, List, [], ◌∷◌, length, drop, get_or, append_assoc}
+use Rattle.std.proofs.Common.{arith, ◌∙◌, sym, ap, refl, ◌≡◌, ◌≤◌, ◌<◌, ◌+◌, ◌++◌, ℕ, zero, suc, Bool, true, false, if◌then◌else◌, Some, None, List, [], ◌∷◌, length, drop, get_or, append_assoc}
 use Rattle.std.proofs.lemmas.List.{drop_more}
 use Rattle.std.proofs.Math.ListN.{drop_of_length-le}
 use Rattle.sgl_descriptor.specs.declared.Part.{Part}
-use Rattle.sgl_descriptor.specs.declared.Part.TheVariants.{Data, Bucket}
+use Rattle.sgl_descriptor.specs.declared.Part.TheVariants.{Data}
 use Rattle.sgl_chain.specs.Joining.{joins, both, first_joined, left_behind, joined_within, joined}
 
 -- what is left is shorter than the list

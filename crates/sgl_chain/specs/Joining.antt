@@ -1,5 +1,5 @@
 -- Neighbouring parts as one: which parts join, and what a list of parts becomes.
-use Rattle.std.specs.Prelude.{◌+◌, ◌^◌, ◌==◌, ◌&&◌, ◌∷◌, [], ℕ, zero, suc, Bool, false, List, if◌then◌else◌, nat_lt, length}
+use Rattle.std.specs.Prelude.{◌≡◌, ◌+◌, ◌^◌, ◌==◌, ◌&&◌, ◌++◌, ◌∷◌, [], ℕ, zero, suc, Bool, false, List, if◌then◌else◌, nat_lt, length}
 use Rattle.sgl_descriptor.specs.declared.Part.{Part}
 use Rattle.sgl_descriptor.specs.declared.Part.TheVariants.{Data, Bucket}
 
@@ -35,3 +35,7 @@ joined_within (suc bound) (part ∷ parts) = first_joined part parts ∷ joined_
 -- The joined parts of a list: the first one, and then those of what is left. There are never more of them than parts.
 abbrev pub joined : List Part → List Part
 joined parts = joined_within (length parts) parts
+
+-- No part joins the one behind it.
+abbrev pub NoneJoin : List Part → Type 0
+NoneJoin parts = (front behind : List Part) (part next : Part) → parts ≡ front ++ part ∷ next ∷ behind → joins part next ≡ false

@@ -10,21 +10,22 @@ use std::alloc::{AllocError, Allocator};
 fn join(first: Part, second: Part) -> Option<Part>
     ensures { result ≡ (if joins first second then Some (both first second) else None) }
 {
-    let Part::Data { addr, len } = first else {
-        return None;
-    };
-    let Part::Data {
-        addr: next,
-        len: more,
-    } = second
-    else {
-        return None;
-    };
-    if u128::from(addr) + u128::from(len) != u128::from(next) {
-        return None;
+    match (first, second) {
+        (
+            Part::Data { addr, len },
+            Part::Data {
+                addr: next,
+                len: more,
+            },
+        ) => {
+            if u128::from(addr) + u128::from(len) != u128::from(next) {
+                return None;
+            }
+            let len = len.checked_add(more)?;
+            Some(Part::Data { addr, len })
+        }
+        (_, Part::Bucket { .. }) | (Part::Bucket { .. }, _) => None,
     }
-    let len = len.checked_add(more)?;
-    Some(Part::Data { addr, len })
 }
 
 /// The parts with neighbours joined: two data parts become one where the first ends at the place where the second

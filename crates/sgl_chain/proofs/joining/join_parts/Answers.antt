@@ -1,7 +1,6 @@
-use Rattle.std.proofs.Common.{rules, ◌≡◌, ◌≤◌, ◌∷◌, List, length, sym, ap, refl, ◌∙◌, arith}
-use Rattle.sgl_descriptor.specs.declared.Part.{Part}
+use Rattle.std.proofs.Common.{sym, ap, ◌∙◌, arith}
 use Rattle.sgl_chain.specs.Joining.{joined}
-use Rattle.sgl_chain.proofs.Joins.{from_list, joined_on, joined_apart, joined_all}
+use Rattle.sgl_chain.proofs.Joins.{from_list, joined_on, joined_apart}
 use Rattle.sgl_chain.proofs.joining.join_parts.Goals.{in-Some-join, in-None}
 use Rattle.sgl_chain.proofs.joining.join_parts.Goals as goal
 
