@@ -3,3 +3,4 @@ pub mod Laying
 pub mod Building
 pub mod Spelled
 pub mod Runs
+pub mod Fewest

@@ -41,7 +41,7 @@ inside (Data offset len ∷ pieces) h =
     (grind (arith, nat_tests), inside pieces (none_left (ltb 4096 (offset + len)) (list_any crosses_page pieces) h))
 
 -- a data piece takes one page more
-data_first : (offset len : ℕ) (pieces : List Piece) → data_count (Data offset len ∷ pieces) ≡ suc (data_count pieces)
+pub data_first : (offset len : ℕ) (pieces : List Piece) → data_count (Data offset len ∷ pieces) ≡ suc (data_count pieces)
 data_first offset len pieces =
     let one : data_count (Data offset len ∷ pieces) ≡ 1 + data_count pieces = sum_by-cons (λ (x : Piece). if is_data x then 1 else 0) (Data offset len) pieces in
     omega arith
