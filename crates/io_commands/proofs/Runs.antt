@@ -1,7 +1,6 @@
 -- How many parts pieces are in consecutive pages, counted piece by piece.
-use Rattle.std.proofs.Common.{arith, rules, ◌∙◌, sym, ap, subst, refl, ◌≡◌, ◌≤◌, ◌<◌, ◌+◌, ◌*◌, ◌^◌, ◌&&◌, ◌||◌, ℕ, zero, suc, Bool, true, false, not, if◌then◌else◌, List, [], ◌∷◌, length, eqb, ltb, drop, get_or}
+use Rattle.std.proofs.Common.{arith, ◌∙◌, sym, ap, refl, ◌≡◌, ◌≤◌, ◌<◌, ◌+◌, ◌*◌, ◌&&◌, ◌||◌, ℕ, suc, Bool, true, false, if◌then◌else◌, List, [], ◌∷◌, length, eqb, ltb}
 use Rattle.std.specs.List.{list_any, range_with_len}
-use Rattle.std.proofs.lemmas.Grind.{common_steps}
 use Rattle.std.proofs.lemmas.Bool.Decides.{nat_tests}
 use Rattle.std.proofs.lemmas.List.Sums.{sum_by-cons}
 use Rattle.sgl_descriptor.specs.declared.Part.{Part}
@@ -25,11 +24,11 @@ Inside [] = Unit {0}
 Inside (Bucket len ∷ pieces) = Inside pieces
 Inside (Data offset len ∷ pieces) = (offset + len ≤ 4096) × Inside pieces
 
-none_left : (b c : Bool) → (b || c) ≡ false → c ≡ false
+pub none_left : (b c : Bool) → (b || c) ≡ false → c ≡ false
 none_left true c h = absurd cc
 none_left false c h = h
 
-none_here : (b c : Bool) → (b || c) ≡ false → b ≡ false
+pub none_here : (b c : Bool) → (b || c) ≡ false → b ≡ false
 none_here true c h = absurd cc
 none_here false c h = refl
 
@@ -85,7 +84,7 @@ either_count : (b : Bool) (last : Part) (xs ys : List Part) (e : ℕ) → (b ≡
 either_count true last xs ys e p q = let one : length xs ≡ 1 + e = p refl in omega arith
 either_count false last xs ys e p q = omega arith
 
-no_bucket : (last : Part) (len : ℕ) → joins last (part.Bucket len) ≡ false
+pub no_bucket : (last : Part) (len : ℕ) → joins last (part.Bucket len) ≡ false
 no_bucket (part.Data addr size) len = refl
 no_bucket (part.Bucket size) len = refl
 

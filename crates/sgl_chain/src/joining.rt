@@ -31,7 +31,7 @@ fn join(first: Part, second: Part) -> Option<Part>
 /// The parts with neighbours joined: two data parts become one where the first ends at the place where the second
 /// begins and their lengths together fit 32 bits.
 ///
-/// It takes memory once, for as many parts as there are.
+/// It takes memory once at most, for as many parts as there are.
 ///
 /// # Errors
 ///

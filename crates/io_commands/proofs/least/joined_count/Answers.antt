@@ -1,6 +1,5 @@
-use Rattle.std.proofs.Common.{arith, ◌≡◌, ◌+◌, ℕ, List, [], length, drop, sym, ap, ◌∙◌}
+use Rattle.std.proofs.Common.{arith, ◌≡◌, drop, ap}
 use Rattle.std.proofs.Math.ListN.{drop_of_length-le}
-use Rattle.io_commands.specs.declared.request.Piece.{Piece}
 use Rattle.io_commands.proofs.Runs.{begun, counted}
 use Rattle.io_commands.proofs.least.joined_count.Goals as goal
 
