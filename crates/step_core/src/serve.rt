@@ -98,7 +98,6 @@ impl<A: Allocator + Copy> World<A> {
     {
         self.store.clear();
         let answer = self.controller.fetch(q, &mut self.store);
-        self.controller.check();
         let _pages = self.store.pages();
         fetched(answer, touched_by(&self.store))
     }
@@ -116,7 +115,6 @@ impl<A: Allocator + Copy> World<A> {
     {
         self.store.clear();
         let answer = self.controller.walk(q, cid, &mut self.store);
-        self.controller.check();
         let _pages = self.store.pages();
         walked(answer, touched_by(&self.store))
     }
@@ -135,7 +133,6 @@ impl<A: Allocator + Copy> World<A> {
     {
         self.store.clear();
         let answer = self.controller.complete(q, cid, &mut self.store);
-        self.controller.check();
         let _pages = self.store.pages();
         completed(answer, touched_by(&self.store))
     }
