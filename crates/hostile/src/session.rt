@@ -1,0 +1,127 @@
+//! A world, its recount, and the values that are about.
+
+use crate::answer::Answer;
+use crate::chance::{IMAGE_BLOCKS, config};
+use crate::compare::compare;
+use crate::digest::Digest;
+use crate::fault::{Difference, Fault, Halt};
+use crate::kind::StepKind;
+use crate::random::SplitMix64;
+use crate::recount::Recount;
+use crate::tally::Tally;
+use crate::values::Values;
+use block_image::Image;
+use std::alloc::Global;
+use std::fmt::Write;
+use step_core::World;
+
+/// What goes on from world to world.
+pub struct Course {
+    /// Where lists are made.
+    pub alloc: Global,
+    /// What chance decides.
+    pub random: SplitMix64,
+    /// The values that are about.
+    pub values: Values,
+    /// What is counted.
+    pub tally: Tally,
+    /// The digest of all answers.
+    pub digest: Digest,
+}
+
+/// A world and its recount.
+#[derive(Drop)]
+pub struct Session {
+    /// The world.
+    pub world: World,
+    /// What its answers tell.
+    pub recount: Recount,
+    /// How many I/O queues it has.
+    pub queues: u16,
+}
+
+impl Session {
+    /// Opens a world of numbers by chance.
+    pub fn open(course: &mut Course) -> Result<Session, Fault> {
+        let config = config(&mut course.random);
+        let Ok(image) = Image::zeroed(course.alloc, IMAGE_BLOCKS) else {
+            return Err(Fault::Memory);
+        };
+        let Ok(world) = World::open(course.alloc, config, image) else {
+            return Err(Fault::NotOpened);
+        };
+        let recount = Recount::opened(course.alloc, config)?;
+        let queues = config.queues as u16;
+        match compare(&world, &recount) {
+            Ok(()) => Ok(Session {
+                world,
+                recount,
+                queues,
+            }),
+            Err(difference) => Err(Fault::Differs {
+                step: 0,
+                difference,
+            }),
+        }
+    }
+
+    /// An I/O queue by chance, and rarely queue 0 or one that is not there.
+    pub fn io_queue(&self, random: &mut SplitMix64) -> u16 {
+        if random.up_to(31) == 0 {
+            return random.up_to(self.queues.saturating_add(2));
+        }
+        random
+            .up_to(self.queues.saturating_sub(1))
+            .saturating_add(1)
+    }
+
+    /// A queue by chance, and rarely one that is not there.
+    pub fn queue(&self, random: &mut SplitMix64) -> u16 {
+        if random.up_to(31) == 0 {
+            return random.up_to(self.queues.saturating_add(2));
+        }
+        random.up_to(self.queues)
+    }
+
+    /// Does a step, and compares the world with the recount.
+    pub fn step(&mut self, course: &mut Course, kind: StepKind) -> Result<(), Halt> {
+        let answer = self.answer(course, kind)?;
+        course.tally.count(kind, answer);
+        // Writing to a digest does not fail.
+        let _ = write!(course.digest, "{answer:?}");
+        compare(&self.world, &self.recount)?;
+        Ok(())
+    }
+
+    /// Does a step, and notes what it answers.
+    fn answer(&mut self, course: &mut Course, kind: StepKind) -> Result<Answer, Halt> {
+        match kind {
+            StepKind::Reserve => self.reserve(course),
+            StepKind::Fill => self.fill(course),
+            StepKind::Build => self.build(course),
+            StepKind::Submit => self.submit(course),
+            StepKind::Cancel => self.cancel(course),
+            StepKind::Ring => Ok(self.ring(course)),
+            StepKind::Fetch => self.fetch(course),
+            StepKind::Walk => self.walk(course),
+            StepKind::Complete => self.complete(course),
+            StepKind::Reap => self.reap(course),
+            StepKind::Collect => self.collect(course),
+            StepKind::Release => self.release(course),
+            StepKind::Abort => self.abort(course),
+            StepKind::DeleteSq => self.delete_sq(course),
+            StepKind::DeleteCq => self.delete_cq(course),
+            StepKind::Retire => self.retire(course),
+            StepKind::Forge => self.forge(course),
+        }
+    }
+}
+
+/// A look before a step said what the step answered.
+pub fn agree(looked: bool, answered: bool) -> Result<(), Difference> {
+    if looked == answered {
+        Ok(())
+    } else {
+        Err(Difference::Look)
+    }
+}
