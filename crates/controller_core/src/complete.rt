@@ -79,7 +79,7 @@ fn settle<A: Allocator>(
 
 impl<A: Allocator> Controller<A> {
     /// The place of the command that completes, or the first cause against it that lies in the command.
-    fn check_complete(&self, q: u16, cid: u16) -> Result<usize, Refusal>
+    pub(crate) fn check_complete(&self, q: u16, cid: u16) -> Result<usize, Refusal>
         ensures refused { IfErr result (λ why. (m : Memory) → complete_refusal self.now m q cid ≡ Some why) }
         ensures ready { IfOk result (λ place. (m : Memory) → complete_refusal self.now m q cid ≡ answer_refusal self.now.queues m q) }
         ensures place { IfOk result (λ place. find (is_command q cid) self.now.commands ≡ slice_get self.now.commands place) }

@@ -119,7 +119,7 @@ fn fetched<A: Allocator>(q: u16, work: Work<Job<A>>) -> FetchedCommand<Job<A>>
 
 impl<A: Allocator + Copy> Controller<A> {
     /// The entry at the head of a queue, or the first cause against it.
-    fn look<D: Dma>(&self, q: u16, dma: &mut D) -> Result<SubEntry, Refusal>
+    pub(crate) fn look<D: Dma>(&self, q: u16, dma: &mut D) -> Result<SubEntry, Refusal>
         requires room { length (D.reached dma.old) ≤ 2 }
         ensures refusal { result_err result ≡ look_refusal self.now (D.memory dma.old) q }
         ensures looks { IfOk result (λ e. LooksAt self.now (D.memory dma.old) (D.reached dma.old) q e (D.reached dma.new)) }

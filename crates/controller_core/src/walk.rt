@@ -15,7 +15,7 @@ use page_memory::Dma;
 use std::alloc::Allocator;
 
 /// The place of the command whose walk goes on, or the first cause against it.
-fn check_walk<A: Allocator>(
+pub(crate) fn check_walk<A: Allocator>(
     commands: &[FetchedCommand<Job<A>>],
     q: u16,
     cid: u16,
