@@ -1,3 +1,5 @@
 pub mod Table
 pub mod Links
 pub mod Lends
+pub mod Walks
+pub mod Worked

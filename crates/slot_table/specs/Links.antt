@@ -34,6 +34,10 @@ walk links end at zero = []
 walk links end at (suc most) =
     if at == end then [] else at ∷ walk links end (after_of links at) most
 
+-- the queue and the identifier of a place, but for the end
+abbrev pub place_of : ℕ → ℕ → ℕ → Option (ℕ × ℕ)
+place_of places end i = if i == end then None else Some (i / places, i % places)
+
 -- the place is not among these
 abbrev pub Lacks : ℕ → List ℕ → Type 0
 Lacks i [] = Unit {0}

@@ -80,3 +80,14 @@ module _ {R : Type 0} where
   AreInside queues places [] = Unit {0}
   AreInside queues places (row ∷ rows) =
       (row.q < queues) × (row.cid < places) × AreInside queues places rows
+
+  -- the place of the first row
+  abbrev pub first_place : List (Row R) → Option (ℕ × ℕ)
+  first_place [] = None
+  first_place (row ∷ rows) = Some (row.q, row.cid)
+
+  -- the place of the row behind the one in this place
+  abbrev pub place_behind : List (Row R) → ℕ → ℕ → Option (ℕ × ℕ)
+  place_behind [] q cid = None
+  place_behind (row ∷ rows) q cid =
+      if is_at row q cid then first_place rows else place_behind rows q cid

@@ -7,6 +7,7 @@
 //! threaded through the places is hidden.
 #![tactic(auto)]
 
+pub mod laws;
 mod link;
 mod table;
 

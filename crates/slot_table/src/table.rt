@@ -1,9 +1,9 @@
 //! The table.
 
-ghost use Rattle.std.specs.Prelude.{◌≡◌, ℕ, ◌+◌, ◌-◌, ◌*◌, ◌<◌, ◌≤◌, ◌==◌, [], ◌∷◌, ◌++◌, length, None, Some, IsSome, IfNone, IfOk, MatchOption};
+ghost use Rattle.std.specs.Prelude.{◌≡◌, ℕ, ◌+◌, ◌-◌, ◌*◌, ◌<◌, ◌≤◌, ◌==◌, [], ◌∷◌, ◌++◌, length, None, Some, IsSome, IfNone, IfOk, IfErr, MatchOption};
 ghost use Rattle.std.specs.Option.{option_copied, option_copied_mut};
 ghost use Rattle.std.specs.Borrow.{sem};
-ghost use Rattle.slot_table.specs.Table.{AreInside, IsDistinct, IsPlace, value_at, with_row, without, NoneAt};
+ghost use Rattle.slot_table.specs.Table.{AreInside, IsDistinct, IsPlace, first_place, place_behind, value_at, with_row, without, NoneAt};
 ghost use Rattle.slot_table.specs.Lends.{lends_content};
 
 use crate::link::Link;
@@ -76,6 +76,7 @@ impl<R, A: Allocator + Clone> SlotTable<R, A> {
 
 impl<R, A: Allocator> SlotTable<R, A> {
     ghost use Rattle.slot_table.specs.Lends.{lends_get, lends_record};
+    ghost use Rattle.slot_table.specs.Links.{place_of};
 
     /// How many records stand in the table.
     pub fn len(&self) -> usize
@@ -139,6 +140,37 @@ impl<R, A: Allocator> SlotTable<R, A> {
         }
     }
 
+    /// The place of the first row, as its queue and its identifier.
+    pub fn first(&self) -> Option<(u16, u16)>
+        ensures { result ≡ first_place self.now.rows }
+    {
+        let end = self.queues * self.places;
+        self.place_of(self.links[end as usize].after)
+    }
+
+    /// The place of the row behind the one in a place. `None` where that row is the last, and where none stands there.
+    pub fn next(&self, q: u16, cid: u16) -> Option<(u16, u16)>
+        ensures { result ≡ place_behind self.now.rows q cid }
+    {
+        let place = self.index(q, cid)?;
+        if self.records[place].is_none() {
+            return None;
+        }
+        self.place_of(self.links[place].after)
+    }
+
+    /// The queue and the identifier of the place at an index, but for the end of the list.
+    fn place_of(&self, index: u32) -> Option<(u16, u16)>
+        requires { index ≤ self.now.queues * self.now.places }
+        ensures { result ≡ place_of self.now.places (self.now.queues * self.now.places) index }
+    {
+        let end = self.queues * self.places;
+        if index == end {
+            return None;
+        }
+        Some(((index / self.places) as u16, (index % self.places) as u16))
+    }
+
     /// Puts a record into an empty place, behind all others.
     pub fn put(&mut self, q: u16, cid: u16, value: R)
         requires place { IsPlace self.old q cid }
@@ -155,6 +187,26 @@ impl<R, A: Allocator> SlotTable<R, A> {
             None => {}
             Some(_) => unreachable!(),
         }
+    }
+
+    /// Puts a record into a place that may be taken or not be there: then the record is handed back, and nothing changed.
+    ///
+    /// # Errors
+    ///
+    /// The record, where the table has no such place, or a record stands there.
+    pub fn try_put(&mut self, q: u16, cid: u16, value: R) -> Result<(), R>
+        ensures put { IfOk result (λ _. IsPlace self.old q cid × (value_at self.old.rows q cid ≡ None) × (self.new ≡ with_row self.old q cid value)) }
+        ensures handed_back { IfErr result (λ back. (back ≡ value) × (self.new ≡ self.old)) }
+        ensures refused { IfErr result (λ _. IsPlace self.old q cid → IsSome (value_at self.old.rows q cid)) }
+    {
+        if u32::from(q) >= self.queues || u32::from(cid) >= self.places {
+            return Err(value);
+        }
+        if self.get(q, cid).is_some() {
+            return Err(value);
+        }
+        self.put(q, cid, value);
+        Ok(())
     }
 
     /// Takes the record out of a place. The others keep their order.

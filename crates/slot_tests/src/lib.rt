@@ -6,3 +6,5 @@
 mod opening;
 #[cfg(test)]
 mod plain;
+#[cfg(test)]
+mod records;

@@ -30,3 +30,15 @@ fn a_table_takes_two_lists(rt: HostRuntime) {
     assert!(rt; opened.is_ok());
     assert_eq!(rt; heap.tally().calls, 2);
 }
+
+/// What 64 queues of 1,023 identifiers cost: a link of 8 bytes and a record for each of 65,472 places, and a link for the list's end.
+#[test]
+fn a_large_table_takes_so_many_bytes(rt: HostRuntime) {
+    let heap = Refusing::new(rt.alloc());
+    let table: Result<SlotTable<u64, &Refusing<_>>, AllocError> = SlotTable::open(&heap, 64, 1_024);
+    assert!(rt; table.is_ok());
+    let places = 64 * 1_023;
+    assert_eq!(rt; heap.tally().bytes, places * 16 + (places + 1) * 8);
+    drop(table);
+    assert_eq!(rt; (heap.tally().bytes, heap.tally().blocks), (0, 0));
+}

@@ -1,4 +1,4 @@
-//! Calls beside a plain list of rows.
+//! Calls beside a plain list of rows, which a walk meets after each of them.
 
 use slot_table::SlotTable;
 use std::test::Fail;
@@ -15,6 +15,18 @@ fn next(seed: u32) -> u32 {
 /// The index of the row in a place.
 fn position(rows: &[(u16, u16, u32)], q: u16, cid: u16) -> Option<usize> {
     rows.iter().position(|row| (row.0, row.1) == (q, cid))
+}
+
+/// Whether a walk meets these rows, in their order, and then ends.
+fn walk_meets(table: &SlotTable<u32>, rows: &[(u16, u16, u32)]) -> bool {
+    let mut at = table.first();
+    for row in rows {
+        if at != Some((row.0, row.1)) {
+            return false;
+        }
+        at = table.next(row.0, row.1);
+    }
+    at.is_none()
 }
 
 #[test]
@@ -38,6 +50,7 @@ fn answers_as_a_plain_list(rt: HostRuntime) -> Result<(), Fail> {
         };
         assert_eq!(rt; table.get(q, cid).copied(), expected, "call {call}");
         if let Some(i) = at {
+            assert_eq!(rt; table.try_put(q, cid, call), Err(call), "call {call}");
             if seed >> 31 == 0 {
                 if let Some(row) = rows.get_mut(i) {
                     row.2 = call;
@@ -53,11 +66,21 @@ fn answers_as_a_plain_list(rt: HostRuntime) -> Result<(), Fail> {
         } else if q < QUEUES && cid < ENTRIES - 1 {
             assert!(rt; table.get(q, cid).is_none(), "call {call}");
             rows.push((q, cid, call))?;
-            table.put(q, cid, call);
+            if seed >> 31 == 0 {
+                table.put(q, cid, call);
+            } else {
+                assert_eq!(rt; table.try_put(q, cid, call), Ok(()), "call {call}");
+            }
         } else {
+            assert_eq!(rt; table.try_put(q, cid, call), Err(call), "call {call}");
             assert_eq!(rt; table.take(q, cid), None, "call {call}");
         }
         assert_eq!(rt; table.len(), rows.len(), "call {call}");
+        assert_eq!(rt; table.is_empty(), rows.is_empty(), "call {call}");
+        assert!(rt; walk_meets(&table, &rows), "call {call}");
+        if position(&rows, q, cid).is_none() {
+            assert_eq!(rt; table.next(q, cid), None, "call {call}");
+        }
     }
     Ok(())
 }
