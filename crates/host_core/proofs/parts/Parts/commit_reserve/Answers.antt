@@ -15,6 +15,7 @@ use Rattle.sgl_chain.specs.Chains.{pages_needed}
 use Rattle.host_core.specs.Commands.{reserved, CanTake}
 use Rattle.host_core.specs.Parts.{tables_of}
 use Rattle.host_core.specs.Tables.{Tables}
+use Rattle.host_core.proofs.Places.{new-place, new-empty}
 use Rattle.host_core.proofs.Granted.{granted_can_take, made_draft, made_size, reserved_tables}
 use Rattle.host_core.proofs.parts.Parts.commit_reserve.Goals as goal
 
@@ -71,8 +72,14 @@ returns-clause-new g c =
     let kept : Request → List ℕ → List ℕ → List Record =
     λ r x y. t.records ++ record { q = c.args.q; cid = c.args.grant.cid; phase = Drafted; work = Io r; data_pages = x; chain_pages = y; status = None } ∷ [] in
     let records =
-    c.push_reserved.ensures.items
-    ∙ (ap (λ (r : Request). kept r c.grant_pages.new.front.items c.grant_pages.new.back.items) c.requires.request
-    ∙ ap₂ (kept c.args.request) c.grant_pages.ensures.front c.grant_pages.ensures.back) in
-    reserved_tables t c.args.q c.args.grant.cid c.args.request a b c.move_out_zeroed-2.new.store.pages c.grant_pages.new.ledger c.push_reserved.new.self.items c.claim.new.queues.items pages owners records c.claim.ensures
+    ap (λ (r : Request). kept r c.grant_pages.new.front.items c.grant_pages.new.back.items) c.requires.request
+    ∙ ap₂ (kept c.args.request) c.grant_pages.ensures.front c.grant_pages.ensures.back in
+    c.add_record.ensures c.move_out_zeroed-2.new.store.pages
+    ∙ reserved_tables t c.args.q c.args.grant.cid c.args.request a b c.move_out_zeroed-2.new.store.pages c.grant_pages.new.ledger (kept c.room.request c.grant_pages.new.front.items c.grant_pages.new.back.items) c.claim.new.queues.items pages owners records c.claim.ensures
     ∙ ap (λ (d : DraftContents). reserved d t) (sym draft)
+
+pub add_record-requires-clause-place : goal.add_record-requires-clause-place
+add_record-requires-clause-place g c = new-place c.args.self.now c.args.store.now.pages c.args.q c.args.grant.cid c.requires.whole c.requires.granted.there c.requires.granted.fresh
+
+pub add_record-requires-clause-empty : goal.add_record-requires-clause-empty
+add_record-requires-clause-empty g c = new-empty c.args.self.now c.args.store.now.pages c.args.q c.args.grant.cid c.requires.granted.fresh
