@@ -27,7 +27,6 @@ use Rattle.host_core.specs.Collecting.{taken_pages, StandsAt}
 use Rattle.host_core.specs.Commands.{taken_out, CanTake}
 use Rattle.host_core.specs.Tables.{Tables, state_of}
 use Rattle.host_core.specs.Whole.{IsWhole, IsRecord, FitsWork, FitsPhase}
-use Rattle.host_core.proofs.Ending.{at_most_once}
 use Rattle.host_core.proofs.Lists.{found_is}
 use Rattle.host_core.proofs.Pages.{set-other, without-append}
 use Rattle.host_core.proofs.TakenOut.{collect_can_take, collected_step, collected_whole}
@@ -121,7 +120,7 @@ pub collect_made : (t new : Tables) (q cid : ℕ) (r : Request) (st : Status) (p
     → pages ≡ taken_pages is.entry.data_pages t.pages ++ taken_pages is.entry.chain_pages (without_pages is.entry.data_pages t.pages)
     → f ≡ record { q = q; cid = cid; request = r; status = st; data_pages = data_part r pages; chain_pages = chain_part r pages }
     → new ≡ taken_out q cid (pages_of is.entry) t → Collects t new q cid f
-collect_made t new q cid place r st pages f whole is ew es ep ef en =
+collect_made t new q cid r st pages f whole is ew es ep ef en =
     let a = pages_with_bytes t.pages is.entry.data_pages in
     let b = pages_with_bytes t.pages is.entry.chain_pages in
     let can = collect_can_take t q cid is.entry whole is.was (in_store is.entry is.held) in

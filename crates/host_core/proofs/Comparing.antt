@@ -1,13 +1,7 @@
 -- Lists that are compared.
-use Rattle.std.proofs.Common.{◌≡◌, ◌≢◌, ℕ, zero, suc, ◌+◌, ◌<◌, Bool, true, false, cond, ◌&&◌, Some, List, [], ◌∷◌, length, find, drop, get_or, slice_get, slice_set, refl, ap, sym, ◌∙◌, subst, arith}
-use Rattle.std.specs.List.{remove}
-use Rattle.std.proofs.lemmas.List.{drop_more}
-use Rattle.std.proofs.lemmas.Option.{slice_get-get_or}
+use Rattle.std.proofs.Common.{◌≡◌, ◌≢◌, suc, Bool, true, false, ◌&&◌, List, [], ◌∷◌, length, refl, ap, ◌∙◌}
 use Rattle.io_commands.specs.declared.request.Piece.{Piece}
 use Rattle.machine_model.specs.Refusals.{same_piece, same_pieces}
-use Rattle.machine_model.specs.State.{Record, is_at, without_record, with_record}
-use Rattle.machine_model.proofs.Totals.{total, here}
-use Rattle.host_core.proofs.Lists.{some_is, none_is_not}
 
 and_false : (b : Bool) → (b && false) ≡ false
 and_false true = refl

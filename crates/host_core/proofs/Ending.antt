@@ -1,6 +1,6 @@
 -- The end of a command on the tables is the machine's, and leaves them whole.
-use Rattle.std.proofs.Common.{◌≡◌, ℕ, ◌<◌, ◌==◌, Bool, true, false, not, ◌||◌, Option, Some, None, List, [], ◌∷◌, ◌++◌, length, take, drop, find, slice_get, slice_set, refl, ap, sym, ◌∙◌, subst, length-set, eqb-true, if◌then◌else◌}
-use Rattle.std.specs.List.{remove, AllByRecursion}
+use Rattle.std.proofs.Common.{◌≡◌, ℕ, ◌<◌, ◌==◌, Bool, true, false, not, ◌||◌, Option, Some, None, List, [], ◌∷◌, ◌++◌, length, take, drop, find, slice_set, refl, ap, sym, ◌∙◌, subst, length-set, eqb-true, if◌then◌else◌}
+use Rattle.std.specs.List.{AllByRecursion}
 use Rattle.std.specs.Option.{option_map, option_map_or}
 use Rattle.std.proofs.lemmas.Bool.{true≢false, not-true, not-false, and_parts}
 use Rattle.std.proofs.lemmas.List.{length-map, take_at, drop_at}

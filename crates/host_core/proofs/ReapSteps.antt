@@ -1,6 +1,5 @@
 -- A reap as it is made: what it decides, and what is written.
-use Rattle.std.proofs.Common.{is_some, is_none, ◌&&◌, ◌≡◌, ℕ, ◌<◌, ◌==◌, Bool, true, false, length, if◌then◌else◌, Option, Some, None, List, [], find, slice_get, slice_set, refl, ap, sym, ◌∙◌, subst, eq-eqb}
-use Rattle.std.specs.List.{remove}
+use Rattle.std.proofs.Common.{is_some, is_none, ◌&&◌, ◌≡◌, ℕ, ◌<◌, ◌==◌, Bool, true, false, length, if◌then◌else◌, Option, Some, None, List, [], find, slice_get, refl, ap, sym, ◌∙◌, subst, eq-eqb}
 use Rattle.std.specs.Option.{option_map_or}
 use Rattle.std.proofs.lemmas.Option.{slice_get-map}
 use Rattle.admin_commands.specs.declared.AdminKind.{AdminKind}
@@ -34,8 +33,7 @@ use Rattle.host_core.specs.Tables.{Tables, state_of, host_queue_of}
 use Rattle.host_core.specs.Whole.{ClaimIdentifiers, IsWhole, is_outstanding}
 use Rattle.host_core.specs.Rows.{Queue}
 use Rattle.host_core.proofs.AdminReaped.{EndsAdmin, admin-exact, admin-whole, ended_admin}
-use Rattle.machine_model.proofs.Totals.{total, here}
-use Rattle.host_core.proofs.Lists.{found_any, found_is}
+use Rattle.host_core.proofs.Lists.{found_any}
 use Rattle.host_core.proofs.QueueLists.{each-change}
 use Rattle.host_core.proofs.Reaped.{done-whole}
 use Rattle.host_core.proofs.Reapings.{EndsIo, Sees, done-exact, reap-none, reaped-empty, reject-exact, reject-whole}

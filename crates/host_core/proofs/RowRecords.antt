@@ -1,5 +1,5 @@
 -- The rows of the table of records, as records.
-use Rattle.std.proofs.Common.{◌≡◌, ℕ, ◌+◌, ◌==◌, Bool, true, false, not, ◌&&◌, cond, Option, Some, None, IfSome, List, [], ◌∷◌, ◌++◌, find, map, if◌then◌else◌, refl, ap, ap₂, sym, ◌∙◌, subst, eqb-true, option_map}
+use Rattle.std.proofs.Common.{◌≡◌, ℕ, ◌==◌, Bool, true, false, not, cond, Option, Some, None, IfSome, List, [], ◌∷◌, ◌++◌, find, if◌then◌else◌, refl, ap, ap₂, sym, ◌∙◌, subst, eqb-true, option_map}
 use Rattle.std.proofs.lemmas.Bool.{and_parts}
 use Rattle.std.proofs.lemmas.List.{map-append}
 use Rattle.machine_model.specs.State.{Record, is_at, with_record, without_record}

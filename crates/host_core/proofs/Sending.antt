@@ -15,7 +15,7 @@ use Rattle.machine_model.specs.Events as events
 use Rattle.machine_model.specs.Proper.{IsProper}
 use Rattle.machine_model.specs.Refusals.{in_state, is_deleting, no_identifier, no_io_queue, queue_full, refusal_of, has_sq}
 use Rattle.machine_model.specs.State.{HostQueue, State}
-use Rattle.machine_model.specs.Step.{Answers, IsController, IsNewIdentifier, Refuses, Step, allocates, touched_by_refusal}
+use Rattle.machine_model.specs.Step.{Answers, IsController, IsNewIdentifier, Refuses, Step}
 use Rattle.machine_model.specs.declared.words.Refusal.{Refusal}
 use Rattle.machine_model.specs.declared.words.HostState.TheVariants.{Deleting}
 use Rattle.machine_model.specs.declared.words.Refusal.TheVariants as refusal

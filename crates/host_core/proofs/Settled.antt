@@ -1,5 +1,5 @@
 -- What holds of the tables by themselves: what the machine's laws say of their state is left aside.
-use Rattle.std.proofs.Common.{◌≡◌, ◌≢◌, ℕ, ◌≤◌, true, Some, List, [], length, slice_get, refl, sym, ◌∙◌, subst}
+use Rattle.std.proofs.Common.{◌≡◌, ◌≢◌, ℕ, ◌+◌, ◌≤◌, true, Some, List, [], length, slice_get, refl, sym, ◌∙◌, subst}
 use Rattle.std.specs.List.{AllByRecursion}
 use Rattle.machine_model.specs.After.{change}
 use Rattle.machine_model.specs.Claims.{IsSound}

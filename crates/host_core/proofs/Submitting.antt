@@ -1,5 +1,5 @@
 -- The calls of a submission: what is found before it, and what it leaves.
-use Rattle.std.proofs.Common.{◌≡◌, ℕ, ◌<◌, ◌++◌, Bool, true, false, Option, Some, None, is_none, List, [], length, slice_get, slice_set, arith, refl, ap, sym, ◌∙◌, subst}
+use Rattle.std.proofs.Common.{◌≡◌, ℕ, ◌<◌, ◌++◌, Bool, true, false, Option, Some, None, is_none, List, [], length, slice_get, arith, refl, ap, sym, ◌∙◌, subst}
 use Rattle.std.specs.Option.{option_map, option_map_or}
 use Rattle.std.proofs.lemmas.Bool.{true≢false}
 use Rattle.std.proofs.lemmas.Option.{slice_get-map, slice_get_within}
@@ -14,7 +14,7 @@ use Rattle.machine_model.specs.Events as events
 use Rattle.machine_model.specs.Memory.{with_pages}
 use Rattle.machine_model.specs.Proper.{IsProperDraft}
 use Rattle.machine_model.specs.Refusals.{refusal_of, host_queue, in_state, is_live, queue_full, record_is, is_drafted, is_of}
-use Rattle.machine_model.specs.State.{HostQueue, Record, is_at, with_record}
+use Rattle.machine_model.specs.State.{HostQueue, with_record}
 use Rattle.machine_model.specs.Step.{Step, Refuses}
 use Rattle.machine_model.specs.declared.words.Refusal.TheVariants as refusal
 use Rattle.page_memory.specs.Pages.{Pages}
@@ -25,9 +25,9 @@ use Rattle.host_core.specs.Submitting.{brought_in, submitted, IsReady, Submits}
 use Rattle.host_core.specs.Tables.{Tables, state_of, host_queue_of}
 use Rattle.host_core.specs.Whole.{AreQueues, IsWhole}
 use Rattle.host_core.specs.Rows.{Queue}
-use Rattle.host_core.proofs.Ending.{Finishes, at_most_once, belongs-passes, belongs_brings, ended_can_put}
+use Rattle.host_core.proofs.Ending.{Finishes, belongs-passes, belongs_brings, ended_can_put}
 use Rattle.host_core.proofs.Granting.{in_state-is}
-use Rattle.host_core.proofs.Lists.{found_is, some_is}
+use Rattle.host_core.proofs.Lists.{some_is}
 use Rattle.host_core.proofs.Steps.{host_step}
 use Rattle.host_core.proofs.Submitted.{can-post, submit-exact, submit-whole}
 

@@ -1,5 +1,5 @@
 -- The host submits a draft.
-use Rattle.std.specs.Prelude.{◌≡◌, ◌++◌, ℕ, true, false, None, Some, slice_get}
+use Rattle.std.specs.Prelude.{◌≡◌, ◌++◌, true, false, None, Some, slice_get}
 use Rattle.entry_codec.specs.Submission.{FitsSubmission}
 use Rattle.entry_codec.specs.declared.submission.SubEntry.{SubEntry}
 use Rattle.io_commands.specs.Drafts.{DraftContents}

@@ -1,4 +1,4 @@
-use Rattle.std.proofs.Common.{◌≡◌, ◌++◌, [], sym, ◌∙◌}
+use Rattle.std.proofs.Common.{◌++◌, [], false, sym, ◌∙◌}
 use Rattle.io_commands.specs.Drafts.{DraftContents}
 use Rattle.machine_model.specs.Events as events
 use Rattle.machine_model.specs.declared.words.Refusal.TheVariants as refusal

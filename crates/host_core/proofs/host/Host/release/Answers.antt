@@ -1,4 +1,4 @@
-use Rattle.std.proofs.Common.{◌≡◌, ◌++◌, [], sym, ◌∙◌, subst, true}
+use Rattle.std.proofs.Common.{◌++◌, [], sym, ◌∙◌, subst, true}
 use Rattle.io_commands.specs.DataBytes.{PagesOut}
 use Rattle.io_commands.specs.Values.{FinishedContents, numbers_of}
 use Rattle.machine_model.specs.Proper.{ArePages}

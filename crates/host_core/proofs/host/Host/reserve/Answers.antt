@@ -2,11 +2,11 @@ use Rattle.std.proofs.Common.{ap, ℕ, [], refl, sym, subst, arith}
 use Rattle.machine_model.specs.Events as events
 use Rattle.machine_model.specs.declared.words.Refusal.TheVariants as refusal
 use Rattle.io_commands.specs.Drafts.{DraftContents}
-use Rattle.host_core.specs.Alone.{HasFirstPages, HostStep, HostView, IsLowest, IsOver}
+use Rattle.host_core.specs.Alone.{HasFirstPages, HostView, IsLowest}
 use Rattle.host_core.specs.Commands.{Grants}
 use Rattle.host_core.specs.Parts.{tables_of}
 use Rattle.host_core.specs.Tables.{Tables, state_of, view_of}
-use Rattle.host_core.specs.Whole.{IsHost, IsWhole}
+use Rattle.host_core.specs.Whole.{IsWhole}
 use Rattle.host_core.proofs.Calls.{whole_at, step_at, stays_at}
 use Rattle.host_core.proofs.Granted.{first_pages, reserve_made}
 use Rattle.host_core.proofs.Granting.{grant-lowest, refuses-memory}

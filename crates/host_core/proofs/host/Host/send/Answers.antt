@@ -1,11 +1,11 @@
-use Rattle.std.proofs.Common.{[], sym, subst}
+use Rattle.std.proofs.Common.{[], subst}
 use Rattle.machine_model.specs.Events as events
-use Rattle.host_core.specs.Alone.{HostStep, HostView, IsLowest, IsOver}
+use Rattle.host_core.specs.Alone.{HostView, IsLowest}
 use Rattle.host_core.proofs.Granting.{next-lowest}
 use Rattle.host_core.specs.Parts.{tables_of}
-use Rattle.host_core.specs.Sending.{CanSend, sending}
-use Rattle.host_core.specs.Tables.{Tables, view_of}
-use Rattle.host_core.specs.Whole.{IsHost, IsWhole}
+use Rattle.host_core.specs.Sending.{sending}
+use Rattle.host_core.specs.Tables.{Tables}
+use Rattle.host_core.specs.Whole.{IsWhole}
 use Rattle.host_core.proofs.Calls.{whole_at, step_at, stays_at}
 use Rattle.host_core.proofs.Keeping.{host_of, over_of}
 use Rattle.host_core.proofs.SendChecks.{send-typed}

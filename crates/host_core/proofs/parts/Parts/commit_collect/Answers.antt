@@ -6,8 +6,8 @@ use Rattle.host_core.specs.Commands.{CanTake}
 use Rattle.host_core.specs.Parts.{record_of, tables_of}
 use Rattle.host_core.specs.Tables.{Tables}
 use Rattle.host_core.proofs.Collecting.{held_can_take, held_work, collect_enough, collect_made, collected_tables}
-use Rattle.host_core.proofs.Lists.{some_is}
-use Rattle.host_core.proofs.RowRecords.{found-row}
+use Rattle.host_core.proofs.Lists.{none_is_not, some_is}
+use Rattle.host_core.proofs.RowRecords.{found-row, no-row}
 use Rattle.host_core.proofs.parts.Parts.commit_collect.Goals as goal
 
 pub take_pages-requires-clause-front : goal.take_pages-requires-clause-front
@@ -61,3 +61,7 @@ pub take_pages-requires-clause-room : goal.take_pages-requires-clause-room
 take_pages-requires-clause-room g c =
     let room = c.requires.space (record_of c.args.q c.args.cid c.in-Some.entry.now) (found-row c.args.self.now.records.rows c.args.q c.args.cid c.in-Some.entry.now (sym c.in-Some.ensures.value)) in
     (c.requires.empty.0, c.requires.empty.1, room)
+
+pub unreachable-requires : goal.unreachable-requires
+unreachable-requires g c =
+    none_is_not (sym (no-row c.args.self.now.records.rows c.args.q c.args.cid (sym c.in-None.ensures.value)) ∙ c.requires.stands.was)

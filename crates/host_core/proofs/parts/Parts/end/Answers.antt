@@ -1,8 +1,9 @@
-use Rattle.std.proofs.Common.{[], None, Some, length, ap, subst, ◌∙◌}
+use Rattle.std.proofs.Common.{[], Some, length, ap, subst, ◌∙◌}
 use Rattle.host_core.specs.Parts.{tables_of}
 use Rattle.host_core.specs.Reaping.{meant, over, Answered}
 use Rattle.host_core.specs.Tables.{Tables}
 use Rattle.host_core.proofs.ReapSteps.{answered-claims, heard-many, looks, meant-many, over-many, reaps-admin, reaps-done}
+use Rattle.host_core.proofs.Seen.{completion-inside}
 use Rattle.host_core.proofs.parts.Parts.end.Goals as goal
 
 pub returns-in-None-clause-reaps : goal.returns-in-None-clause-reaps
@@ -30,3 +31,15 @@ returns-in-Some-clause-many g c =
     let t : Tables = tables_of c.args.self.now [] in
     ap (λ (u : Tables). length u.queues) (c.apply.ensures [] ∙ ap (meant c.in-Some.kind c.args.entry.status) (c.end_command.ensures []))
     ∙ (meant-many (over c.args.q c.args.entry.sqhd c.args.entry.cid t) c.in-Some.kind c.args.entry.status ∙ over-many t c.args.q c.args.entry.sqhd c.args.entry.cid)
+
+pub hold_command-requires-clause-head : goal.hold_command-requires-clause-head
+hold_command-requires-clause-head g c = (c.requires.answered []).head
+
+pub hold_command-requires-clause-there : goal.hold_command-requires-clause-there
+hold_command-requires-clause-there g c = completion-inside c.args.self.now.queues.items c.args.q c.requires.there
+
+pub end_command-requires-clause-there : goal.end_command-requires-clause-there
+end_command-requires-clause-there g c = completion-inside c.args.self.now.queues.items c.args.q c.requires.there
+
+pub end_command-requires-clause-head : goal.end_command-requires-clause-head
+end_command-requires-clause-head g c = (c.requires.answered []).head

@@ -1,4 +1,4 @@
-use Rattle.std.proofs.Common.{◌≡◌, [], length, arith, ap, ◌∙◌}
+use Rattle.std.proofs.Common.{[], length, arith, ap, ◌∙◌}
 use Rattle.host_core.specs.Parts.{tables_of}
 use Rattle.host_core.specs.Reaping.{with_answer_heard}
 use Rattle.host_core.specs.Tables.{Tables}

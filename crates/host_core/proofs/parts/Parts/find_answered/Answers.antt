@@ -1,4 +1,4 @@
-use Rattle.std.proofs.Common.{◌≡◌, true, ap, sym, ◌∙◌, subst, eq-eqb}
+use Rattle.std.proofs.Common.{◌≡◌, true, sym, ◌∙◌, subst, eq-eqb}
 use Rattle.queue_pair.specs.Slots.{is_in_range}
 use Rattle.host_core.specs.Parts.{record_of, tables_of}
 use Rattle.host_core.specs.Rows.{Queue}

@@ -1,4 +1,4 @@
-use Rattle.std.proofs.Common.{sym, ◌∙◌, ap}
+use Rattle.std.proofs.Common.{sym}
 use Rattle.machine_model.specs.After.{submitted}
 use Rattle.machine_model.specs.State.{with_record}
 use Rattle.slot_table.specs.Table.{with_value}
