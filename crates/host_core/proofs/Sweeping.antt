@@ -76,6 +76,6 @@ one-lost q n (r ∷ rs) = ap₂ (λ (x : Record) (xs : List Record). x ∷ xs) (
 pub all-lost : (t : Tables) → IsHost t → (q n : ℕ) → n + 1 ≡ t.entries → map (lost_below n q) t.records ≡ map (lost q) t.records
 all-lost t h q n size =
     map-agree (lost_below n q) (lost q) t.records (λ i r at.
-        let inside = record-inside t h i r at in
-        let yes : nat_lt r.cid n ≡ true = grind (arith, nat_tests) in
-        ap (λ b. if b then lost q r else r) yes)
+    let inside = record-inside t h i r at in
+    let yes : nat_lt r.cid n ≡ true = grind (arith, nat_tests) in
+    ap (λ b. if b then lost q r else r) yes)

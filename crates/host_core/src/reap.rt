@@ -139,7 +139,7 @@ impl<A: Allocator> Parts<A> {
     fn give_back_completion(&mut self, q: u16)
         ensures { Becomes self.old (without_completion q) self.new }
     {
-        let _pages = self.ledger.give_back_half(q, Half::Completion);
+        self.ledger.give_back_half(q, Half::Completion);
         note(&mut self.queues, q, HostState::Gone);
     }
 

@@ -1,13 +1,12 @@
 //! The records of the outstanding commands, by queue and identifier.
 
-ghost use Rattle.std.specs.Prelude.{◌≡◌, ◌++◌, ◌∷◌, [], None, false};
+ghost use Rattle.std.specs.Prelude.{◌≡◌, ◌++◌, ◌∷◌, [], None, false, find};
 ghost use Rattle.std.specs.Option.{option_map_or};
 ghost use Rattle.machine_model.specs.After.{collected, held, lost, submitted};
 ghost use Rattle.machine_model.specs.Refusals.{is_submitted};
 ghost use Rattle.machine_model.specs.State.{is_at, with_record, without_record};
 ghost use Rattle.slot_table.specs.Table.{IsPlace, value_at};
 ghost use Rattle.host_core.specs.Parts.{record_of, records_of, Becomes};
-ghost use Rattle.std.specs.Prelude.{find};
 
 use crate::parts::Parts;
 use crate::record::Record;

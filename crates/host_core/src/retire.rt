@@ -27,7 +27,7 @@ impl<A: Allocator> Parts<A> {
     {
         store.clear();
         let seen = self.queues[usize::from(q)].host.peek(store);
-        let _pages = store.pages();
+        prove!(store.pages() <= 65_536);
         seen
     }
 
@@ -45,7 +45,7 @@ impl<A: Allocator> Parts<A> {
     fn give_back_submission(&mut self, q: u16)
         ensures { Becomes self.old (without_submission q) self.new }
     {
-        let _pages = self.ledger.give_back_half(q, Half::Submission);
+        self.ledger.give_back_half(q, Half::Submission);
         note(&mut self.queues, q, HostState::Retired);
     }
 

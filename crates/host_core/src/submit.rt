@@ -46,12 +46,7 @@ impl<A: Allocator> Parts<A> {
     }
 
     /// Submits a draft: its pages come in, its command is submitted, and its entry is posted.
-    fn commit_submit(
-        &mut self,
-        store: &mut Store<A>,
-        draft: Draft<A>,
-        entry: SubEntry,
-    ) -> Ticket
+    fn commit_submit(&mut self, store: &mut Store<A>, draft: Draft<A>, entry: SubEntry) -> Ticket
         requires whole { IsWhole (tables_of self.old store.old.pages) }
         requires ready { IsReady (tables_of self.old store.old.pages) draft entry }
         ensures submits { Submits (tables_of self.old store.old.pages) draft entry (tables_of self.new store.new.pages) }
