@@ -8,7 +8,6 @@ ghost use Rattle.page_memory.specs.Pages.{Pages};
 ghost use Rattle.host_core.specs.Alone.{alone, IsOver};
 ghost use Rattle.host_core.specs.Looks.{cause_of, completion_base as spec_completion_base, completion_waits as spec_completion_waits};
 
-use crate::compare::find_record;
 use crate::host::Host;
 use crate::queues::{has_no_completion, host_state};
 use entry_codec::Status;
@@ -56,11 +55,8 @@ impl<A: Allocator> Host<A> {
     pub fn status_of(&self, q: u16, cid: u16) -> Option<Status>
         ensures { result ≡ option_and_then (λ r. r.status) (record_at self.now.host q cid) }
     {
-        match find_record(&self.parts.records, q, cid) {
-            Some(place) => {
-                let entry = &self.parts.records[place];
-                entry.status
-            }
+        match self.parts.records.get(q, cid) {
+            Some(entry) => entry.status,
             None => None,
         }
     }
