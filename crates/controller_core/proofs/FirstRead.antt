@@ -69,4 +69,4 @@ second_unit = record {
 }
 
 pub first_completion : CompletesTo with_read_walked 1 0 memory_with_data (2 ∷ 4 ∷ []) with_read_completed memory_with_completion (2 ∷ 4 ∷ 3 ∷ [])
-first_completion = record { command = _; queue = _; found = refl; here = refl; leaves = refl; memory = refl; touches = refl }
+first_completion = record { command = _; queue = _; found = refl; here = refl; leaves = refl; as_long = refl; typed = record { dw0 = omega arith; sqhd = omega arith; sqid = omega arith; cid = omega arith; sc = omega arith }; memory = refl; touches = refl }

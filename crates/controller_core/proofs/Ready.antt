@@ -4,6 +4,7 @@ use Rattle.std.specs.List.{remove}
 use Rattle.std.specs.Result.{OnOk}
 use Rattle.admin_commands.specs.Entries.{named_queue}
 use Rattle.block_image.specs.Blocks.{block_count}
+use Rattle.entry_codec.specs.Completion.{IsComEntry}
 use Rattle.entry_codec.specs.declared.status.Status.{Status}
 use Rattle.controller_core.specs.Contents.{change, Contents, IsController, AreCommands, FitsCommand, FitsWork, is_command, is_deletion, entry_of_work, verdict_of_work, dw0_of_work, FetchedCommand, Work}
 use Rattle.controller_core.specs.declared.refusal.Refusal.{Refusal}
@@ -66,7 +67,7 @@ verdict_at v c place k e at known =
 
 -- What it leaves
 
-end-posted : (work : Work) (q : ℕ) (queues : List ControllerQueue) → queues_of_end work (change q with_answer queues) ≡ change q with_answer (queues_of_end work queues)
+pub end-posted : (work : Work) (q : ℕ) (queues : List ControllerQueue) → queues_of_end work (change q with_answer queues) ≡ change q with_answer (queues_of_end work queues)
 end-posted (Io job) q queues = refl
 end-posted (Admin entry status dw0) q queues = by (is_deletion entry status)
   where
@@ -78,8 +79,8 @@ end-posted (Admin entry status dw0) q queues = by (is_deletion entry status)
 -- what was posted for a command at a place, and what was done for the same command behind that
 pub finishes : (c : Contents) (m m' : Memory) (q cid place : ℕ) (k k' : FetchedCommand) (queues queues' : List ControllerQueue) (commands : List FetchedCommand) (image : List ℕ) (st : Status) (dw0 : ℕ) (reached reached' : List ℕ)
     → IsFound c q cid place k → IsFound c q cid place k' → st ≡ status_of_end c.image k.work → dw0 ≡ dw0_of_work k.work → Posts c.queues q cid st dw0 m reached queues m' reached'
-    → commands ≡ remove c.commands place → queues' ≡ queues_of_end k'.work queues → image ≡ image_of_end c.image k'.work → CompletesTo c q cid m reached (record { queues = queues'; commands = commands; image = image }) m' reached'
-finishes c m m' q cid place k k' queues queues' commands image st dw0 reached reached' f f' es ed posts ec eq ei =
+    → commands ≡ remove c.commands place → queues' ≡ queues_of_end k'.work queues → image ≡ image_of_end c.image k'.work → length image ≡ length c.image → CompletesTo c q cid m reached (record { queues = queues'; commands = commands; image = image }) m' reached'
+finishes c m m' q cid place k k' queues queues' commands image st dw0 reached reached' f f' es ed posts ec eq ei el =
     let same : k ≡ k' = some_is (sym f.at ∙ f'.at) in
     let by_status : st ≡ status_of_end c.image k'.work = es ∙ ap (λ (x : FetchedCommand). status_of_end c.image x.work) same in
     let by_dw0 : dw0 ≡ dw0_of_work k'.work = ed ∙ ap (λ (x : FetchedCommand). dw0_of_work x.work) same in
@@ -90,6 +91,8 @@ finishes c m m' q cid place k k' queues queues' commands image st dw0 reached re
       found = f'.found;
       here = posts.here;
       leaves = rw (left, ec, ei, ← f'.alone) refl;
+      as_long = el;
+      typed = subst IsComEntry (ap₂ (λ (st : Status) (dw0 : ℕ). completion_by q cid st dw0 posts.queue.device) by_status by_dw0) posts.typed;
       memory = posts.memory ∙ ap₂ (λ (st : Status) (dw0 : ℕ). memory_posted m posts.queue.device (completion_by q cid st dw0 posts.queue.device)) by_status by_dw0;
       touches = posts.touches;
     }
@@ -115,14 +118,15 @@ finished_kept c m m' q cid place k queues queues' commands image st dw0 reached 
 -- A completion is posted in a queue that is there.
 pub posts_by : (result : Result (Unit {0}) Refusal) (queues : List ControllerQueue) (q i cid : ℕ) (st : Status) (dw0 : ℕ) (m m' : Memory) (reached reached' : List ℕ) (queue : ControllerQueue) (device : DeviceSide)
     → i ≡ q → q < length queues → queue ≡ get_or queues i queue → OnOk result (device ≡ record queue.device { ring = answer_posted queue.device.entries queue.device.ring })
-    → OnOk result (m' ≡ memory_posted m queue.device (completion_by q cid st dw0 queue.device)) → OnOk result (reached' ≡ reached ++ page_posted queue.device ∷ [])
+    → OnOk result (IsComEntry (completion_by q cid st dw0 queue.device)) → OnOk result (m' ≡ memory_posted m queue.device (completion_by q cid st dw0 queue.device)) → OnOk result (reached' ≡ reached ++ page_posted queue.device ∷ [])
     → OnOk result (Posts queues q cid st dw0 m reached (slice_set queues i (with_side device queue)) m' reached')
-posts_by (Err why) queues q i cid st dw0 m m' reached reached' queue device same there at a b d = tt
-posts_by (Ok x) queues q i cid st dw0 m m' reached reached' queue device same there at a b d =
+posts_by (Err why) queues q i cid st dw0 m m' reached reached' queue device same there at a t b d = tt
+posts_by (Ok x) queues q i cid st dw0 m m' reached reached' queue device same there at a t b d =
     record {
       queue = queue;
       here = get-at q queues queue there (subst (λ (k : ℕ). queue ≡ get_or queues k queue) same at);
       queues_posted = change-at q i with_answer queues queue (with_side device queue) same (omega (arith, same, there)) at (ap (λ (side : DeviceSide). with_side side queue) a);
+      typed = t;
       memory = b;
       touches = d;
     }
@@ -136,7 +140,7 @@ is_found_in v c q cid place k e is found inside at =
 
 pub finishes_in : (v c c' : Contents) (m m' : Memory) (q cid place : ℕ) (k k' : FetchedCommand) (queues queues' : List ControllerQueue) (commands : List FetchedCommand) (image : List ℕ) (st : Status) (dw0 : ℕ) (reached reached' : List ℕ)
     → v ≡ c → IsFound v q cid place k → IsFound v q cid place k' → st ≡ status_of_end v.image k.work → dw0 ≡ dw0_of_work k.work → Posts v.queues q cid st dw0 m reached queues m' reached'
-    → commands ≡ remove v.commands place → queues' ≡ queues_of_end k'.work queues → image ≡ image_of_end v.image k'.work → c' ≡ record { queues = queues'; commands = commands; image = image } → CompletesTo c q cid m reached c' m' reached'
-finishes_in v c c' m m' q cid place k k' queues queues' commands image st dw0 reached reached' e f f' es ed posts ec eq ei is =
+    → commands ≡ remove v.commands place → queues' ≡ queues_of_end k'.work queues → image ≡ image_of_end v.image k'.work → length image ≡ length v.image → c' ≡ record { queues = queues'; commands = commands; image = image } → CompletesTo c q cid m reached c' m' reached'
+finishes_in v c c' m m' q cid place k k' queues queues' commands image st dw0 reached reached' e f f' es ed posts ec eq ei el is =
     subst (λ (x : Contents). CompletesTo x q cid m reached c' m' reached') e
-    (subst (λ (x : Contents). CompletesTo v q cid m reached x m' reached') (sym is) (finishes v m m' q cid place k k' queues queues' commands image st dw0 reached reached' f f' es ed posts ec eq ei))
+    (subst (λ (x : Contents). CompletesTo v q cid m reached x m' reached') (sym is) (finishes v m m' q cid place k k' queues queues' commands image st dw0 reached reached' f f' es ed posts ec eq ei el))

@@ -1,7 +1,7 @@
 -- A completion is posted.
 use Rattle.std.specs.Prelude.{◌≡◌, ℕ, ◌++◌, ◌∷◌, [], Option, Some, None, List, slice_get, is_none, if◌then◌else◌}
 use Rattle.std.specs.Option.{option_map_or}
-use Rattle.entry_codec.specs.Completion.{completion_bytes}
+use Rattle.entry_codec.specs.Completion.{completion_bytes, IsComEntry}
 use Rattle.entry_codec.specs.declared.completion.ComEntry.{ComEntry}
 use Rattle.entry_codec.specs.declared.status.Status.{Status}
 use Rattle.page_memory.specs.Memory.{Memory, written}
@@ -39,11 +39,13 @@ page_posted device = completion_page device.cq device.ring.tail
 abbrev pub with_answer : ControllerQueue → ControllerQueue
 with_answer queue = with_side (record queue.device { ring = answer_posted queue.device.entries queue.device.ring }) queue
 
--- A completion is posted for a command of a queue: what is left of the queues and of the memory, with the one page that is touched.
+-- A completion is posted for a command of a queue: what is left of the queues and of the memory, with the one page that is touched. The
+-- completion's numbers are those of a value of its type, so its bytes tell it.
 pub record Posts (queues : List ControllerQueue) (q cid : ℕ) (st : Status) (dw0 : ℕ) (m : Memory) (reached : List ℕ)
     (queues' : List ControllerQueue) (m' : Memory) (reached' : List ℕ) : Type 0 where
   pub queue : ControllerQueue
   pub here : slice_get queues q ≡ Some queue
   pub queues_posted : queues' ≡ change q with_answer queues
+  pub typed : IsComEntry (completion_by q cid st dw0 queue.device)
   pub memory : m' ≡ memory_posted m queue.device (completion_by q cid st dw0 queue.device)
   pub touches : reached' ≡ reached ++ page_posted queue.device ∷ []

@@ -1,9 +1,10 @@
 -- A fetched command ends, and its completion is posted.
-use Rattle.std.specs.Prelude.{◌≡◌, ℕ, ◌==◌, ◌&&◌, ◌||◌, ◌++◌, Bool, false, not, Option, Some, None, List, [], ◌∷◌, filter, find, is_none, slice_get, if◌then◌else◌}
+use Rattle.std.specs.Prelude.{◌≡◌, ℕ, ◌==◌, ◌&&◌, ◌||◌, ◌++◌, Bool, false, not, Option, Some, None, List, [], ◌∷◌, filter, find, length, is_none, slice_get, if◌then◌else◌}
 use Rattle.std.specs.List.{list_any}
 use Rattle.std.specs.Option.{option_map_or}
 use Rattle.admin_commands.specs.Entries.{named_queue}
 use Rattle.admin_commands.specs.declared.SqState.TheVariants.{Absent}
+use Rattle.entry_codec.specs.Completion.{IsComEntry}
 use Rattle.entry_codec.specs.declared.admin_opcode.TheConstants.{DELETE_IO_SQ}
 use Rattle.entry_codec.specs.declared.status.Status.{Status}
 use Rattle.io_commands.specs.Jobs.{finished_status, finished_image, is_success}
@@ -77,12 +78,14 @@ completed q cid work c =
     }
 
 -- What the completion of a command leaves of the controller and of the memory, with the page that it touches behind those that were
--- touched before.
+-- touched before. The completion's numbers are those of a value of its type, so its bytes tell it.
 pub record CompletesTo (c : Contents) (q cid : ℕ) (m : Memory) (reached : List ℕ) (c' : Contents) (m' : Memory) (reached' : List ℕ) : Type 0 where
   pub command : FetchedCommand
   pub queue : ControllerQueue
   pub found : find (is_command q cid) c.commands ≡ Some command
   pub here : slice_get c.queues q ≡ Some queue
   pub leaves : c' ≡ completed q cid command.work c
+  pub as_long : length c'.image ≡ length c.image
+  pub typed : IsComEntry (completion_by q cid (status_of_end c.image command.work) (dw0_of_work command.work) queue.device)
   pub memory : m' ≡ memory_posted m queue.device (completion_by q cid (status_of_end c.image command.work) (dw0_of_work command.work) queue.device)
   pub touches : reached' ≡ reached ++ page_posted queue.device ∷ []

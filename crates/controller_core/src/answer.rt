@@ -2,6 +2,7 @@
 
 ghost use Rattle.std.specs.Prelude.{◌≡◌, ◌<◌, ◌≤◌, ◌++◌, ◌∷◌, [], OnOk, OnErr, length};
 ghost use Rattle.std.specs.Result.{result_err};
+ghost use Rattle.entry_codec.specs.Completion.{IsComEntry};
 ghost use Rattle.queue_pair.specs.Rings.{answer_posted};
 ghost use Rattle.controller_core.specs.Answering.{answer_refusal, post_refusal, completion_by, memory_posted, page_posted, Posts};
 
@@ -29,6 +30,7 @@ pub(crate) fn post_completion<D: Dma>(
     requires room { length (D.reached dma.old) ≤ 2 }
     ensures refusal { result_err result ≡ post_refusal (D.memory dma.old) pair.old }
     ensures pair { OnOk result (pair.new ≡ record pair.old { ring = answer_posted pair.old.entries pair.old.ring }) }
+    ensures typed { OnOk result (IsComEntry (completion_by q cid status dw0 pair.old)) }
     ensures written { OnOk result (D.memory dma.new ≡ memory_posted (D.memory dma.old) pair.old (completion_by q cid status dw0 pair.old)) }
     ensures touched { OnOk result (D.reached dma.new ≡ D.reached dma.old ++ page_posted pair.old ∷ []) }
     ensures refused { OnErr result ((pair.new ≡ pair.old) × (D.memory dma.new ≡ D.memory dma.old) × (D.reached dma.new ≡ D.reached dma.old)) }

@@ -29,7 +29,7 @@ length-change k f [] = refl
 length-change zero f (x ∷ xs) = refl
 length-change (suc k) f (x ∷ xs) = ap suc (length-change k f xs)
 
-length-heard : (e : Event) (reply : Reply) (v : HostView) (c : Contents) → length (heard e reply v c).queues ≡ length c.queues
+pub length-heard : (e : Event) (reply : Reply) (v : HostView) (c : Contents) → length (heard e reply v c).queues ≡ length c.queues
 length-heard e (events.Refused why touched) v c = refl
 length-heard (events.Ring q) events.Accepted v c = go (tail_of v q)
   where
@@ -57,7 +57,21 @@ image-heard (events.Reap q) (events.Reaps what) v c = go (head_rung v q what)
     go (Some head) = refl
 image-heard e reply v c = refl
 
-length-device : (m : Memory) (n q : ℕ) (hs : List HostQueue) (cs : List ControllerQueue) → ShareQueues n q hs cs → length (device_queues_of m hs cs) ≡ length cs
+pub commands-heard : (e : Event) (reply : Reply) (v : HostView) (c : Contents) → (heard e reply v c).commands ≡ c.commands
+commands-heard e (events.Refused why touched) v c = refl
+commands-heard (events.Ring q) events.Accepted v c = go (tail_of v q)
+  where
+    go : (o : Option ℕ) → (option_map_or (λ tail. record c { queues = controller.change q (with_tail tail) c.queues }) o c).commands ≡ c.commands
+    go None = refl
+    go (Some tail) = refl
+commands-heard (events.Reap q) (events.Reaps what) v c = go (head_rung v q what)
+  where
+    go : (o : Option ℕ) → (option_map_or (λ head. record c { queues = controller.change q (with_head head) c.queues }) o c).commands ≡ c.commands
+    go None = refl
+    go (Some head) = refl
+commands-heard e reply v c = refl
+
+pub length-device : (m : Memory) (n q : ℕ) (hs : List HostQueue) (cs : List ControllerQueue) → ShareQueues n q hs cs → length (device_queues_of m hs cs) ≡ length cs
 length-device m n q [] [] h = refl
 length-device m n q [] (c ∷ cs) h = absurd h
 length-device m n q (x ∷ hs) [] h = absurd h
@@ -86,7 +100,7 @@ to_host f false true s next new e g h = absurd (true≢false g)
 to_host true false false s next new e g h = h
 to_host false false false s next new e g h = h
 
-refused_leaves : (s : Sides) (host : HostView) (pages : Pages) → alone host pages ≡ alone s.host s.pages → state_of (record s { host = host; pages = pages }) ≡ state_of s
+pub refused_leaves : (s : Sides) (host : HostView) (pages : Pages) → alone host pages ≡ alone s.host s.pages → state_of (record s { host = host; pages = pages }) ≡ state_of s
 refused_leaves s host pages same =
     ap (λ (x : State). state_of (record s { host = record { entries = x.entries; segment = x.segment; host = x.host }; pages = x.memory })) same
 

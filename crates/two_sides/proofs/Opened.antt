@@ -16,6 +16,7 @@ use Rattle.machine_model.proofs.Agreeing.{opening_agrees}
 use Rattle.machine_model.proofs.Headline.{runs_are_sound}
 use Rattle.machine_model.proofs.Opening.{fits_pool}
 use Rattle.machine_model.proofs.Positions.{rings_at_opening}
+use Rattle.machine_model.proofs.Provided.{runs_provide}
 use Rattle.page_memory.specs.Memory.{Memory}
 use Rattle.page_memory.specs.Pages.{byte_at, page_at, zero_page}
 use Rattle.page_memory.specs.declared.page.Half.TheVariants.{Submission, Completion}
@@ -115,6 +116,16 @@ opened_are_worlds c image opens =
             identifiers = sound.identifiers;
             positions = rings_at_opening c.pages c.queues c.entries c.segment image opens;
           };
+          kept = record {
+            owners = sound.owners;
+            counted = sound.counted;
+            identifiers = sound.identifiers;
+            out = sound.out;
+            works_fit = sound.works_fit;
+            deletions = sound.deletions;
+            admin = sound.admin;
+          };
+          provided = runs_provide c.pages c.queues c.entries c.segment image [] [] start opens refl;
           controller = record { commands = record { each = tt; differ = λ q cid. omega arith } };
           queues = shared 0 c.entries 0 (c.queues + 1) l.least_entries l.most_entries;
         };

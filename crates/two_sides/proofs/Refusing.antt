@@ -24,14 +24,15 @@ same_touch : (s : Sides) (e : Event) (why : Refusal) → IsController e ≡ fals
 same_touch s (events.Fetch q) why c = absurd (true≢false c)
 same_touch s e why c = refl
 
-refuses : (s : Sides) (e : Event) (why : Refusal) (touched : List ℕ) → IsController e ≡ false → looks_at_completions e ≡ false → Refuses (alone s.host s.pages) e why touched → Refuses (state_of s) e why touched
-refuses s e refusal.Memory touched c l h = (h.0, sym (same_refusal s e c l) ∙ h.1, h.2 ∙ same_touch s e refusal.Memory c)
-refuses s e why touched c l h = (sym (same_refusal s e c l) ∙ h.0, h.1 ∙ same_touch s e why c)
+pub refuses : (s : Sides) (e : Event) (why : Refusal) (touched : List ℕ) → IsController e ≡ false → refusal_of (alone s.host s.pages) e ≡ refusal_of (state_of s) e
+    → Refuses (alone s.host s.pages) e why touched → Refuses (state_of s) e why touched
+refuses s e refusal.Memory touched c same h = (h.0, sym same ∙ h.1, h.2 ∙ same_touch s e refusal.Memory c)
+refuses s e why touched c same h = (sym same ∙ h.0, h.1 ∙ same_touch s e why c)
 
 new_same : (s : Sides) (q cid : ℕ) → IsNewIdentifier (alone s.host s.pages) q cid → IsNewIdentifier (state_of s) q cid
 new_same s q cid h = record { in_range = h.in_range; unused = h.unused }
 
-answers : (s : Sides) (e : Event) (reply : Reply) → IsController e ≡ false → looks_at_completions e ≡ false → Answers (alone s.host s.pages) e reply → Answers (state_of s) e reply
+pub answers : (s : Sides) (e : Event) (reply : Reply) → IsController e ≡ false → looks_at_completions e ≡ false → Answers (alone s.host s.pages) e reply → Answers (state_of s) e reply
 answers s (events.Reserve q r) (events.Reserved d) c l h =
     record { queue = h.queue; request = h.request; segment = h.segment; identifier = new_same s q d.cid h.identifier; data_pages = h.data_pages; chain_pages = h.chain_pages; free = h.free; zero = h.zero; not_built = h.not_built }
 answers s (events.Submit d) events.Accepted c l h = h
@@ -50,17 +51,17 @@ answers s (events.Walk q cid) reply c l h = absurd (true≢false c)
 answers s (events.Complete q cid) reply c l h = absurd (true≢false c)
 answers s e reply c l h = absurd h
 
-out_of : {A : Type 0} (B : Type 0) (c : Bool) → c ≡ false → MatchBool (false || not c) A B → A
+pub out_of : {A : Type 0} (B : Type 0) (c : Bool) → c ≡ false → MatchBool (false || not c) A B → A
 out_of B true e h = absurd (true≢false e)
 out_of B false e h = h
 
-into : {A : Type 0} (B : Type 0) (t c : Bool) → c ≡ false → A → MatchBool (t || not c) A B
+pub into : {A : Type 0} (B : Type 0) (t c : Bool) → c ≡ false → A → MatchBool (t || not c) A B
 into B true c e h = h
 into B false true e h = absurd (true≢false e)
 into B false false e h = h
 
 permits : (s : Sides) (e : Event) (reply : Reply) → IsController e ≡ false → looks_at_completions e ≡ false → Permits (alone s.host s.pages) e reply → Permits (state_of s) e reply
-permits s e (events.Refused why touched) c l h = into _ s.trusted (IsController e) c (refuses s e why touched c l (out_of _ (IsController e) c h))
+permits s e (events.Refused why touched) c l h = into _ s.trusted (IsController e) c (refuses s e why touched c (same_refusal s e c l) (out_of _ (IsController e) c h))
 permits s e (events.Reserved d) c l h =
     let ok = out_of _ (IsController e) c h in
     into _ s.trusted (IsController e) c (sym (same_refusal s e c l) ∙ ok.0, answers s e (events.Reserved d) c l ok.1)

@@ -150,7 +150,7 @@ event cs s e reply ok c h = absurd ok.1
 
 -- The controller's queues, as it hears a doorbell
 
-belled : (n q k : ℕ) (f : ControllerQueue → ControllerQueue) (hs : List HostQueue) (cs : List ControllerQueue) → ((i : ℕ) (h : HostQueue) (c : ControllerQueue) → ShareQueue n i h c → ShareQueue n i h (f c)) → ShareQueues n q hs cs → ShareQueues n q hs (controller.change k f cs)
+pub belled : (n q k : ℕ) (f : ControllerQueue → ControllerQueue) (hs : List HostQueue) (cs : List ControllerQueue) → ((i : ℕ) (h : HostQueue) (c : ControllerQueue) → ShareQueue n i h c → ShareQueue n i h (f c)) → ShareQueues n q hs cs → ShareQueues n q hs (controller.change k f cs)
 belled n q k f hs [] keeps h = h
 belled n q k f [] (c ∷ cs) keeps h = absurd h
 belled n q zero f (x ∷ hs) (c ∷ cs) keeps h = (keeps q x c h.0, h.1)

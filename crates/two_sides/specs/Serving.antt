@@ -1,5 +1,5 @@
 -- What the controller answers, in the machine's words.
-use Rattle.std.specs.Prelude.{◌≡◌, ℕ, Option, Some, None, List, Result, Ok, Err, option_and_then, slice_get}
+use Rattle.std.specs.Prelude.{◌≡◌, ℕ, Some, None, List, Result, Ok, Err}
 use Rattle.controller_core.specs.Completing.{CompletesTo, complete_refusal}
 use Rattle.controller_core.specs.Contents.{Contents}
 use Rattle.controller_core.specs.Walking.{WalksTo, walk_refusal}

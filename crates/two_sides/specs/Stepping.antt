@@ -1,5 +1,5 @@
 -- Each call of one side, with what the other hears of it, is a step of the machine, and leaves both tied as they were.
-use Rattle.std.specs.Prelude.{◌≡◌, ◌≢◌, ℕ, Option, Some, None, true, false, List, [], Result, length, is_some, slice_get}
+use Rattle.std.specs.Prelude.{◌≡◌, ◌≢◌, ℕ, Some, None, true, false, List, [], Result, length, is_some, slice_get}
 use Rattle.std.specs.Option.{option_map}
 use Rattle.controller_core.specs.Completing.{complete_refusal}
 use Rattle.controller_core.specs.Contents.{Contents, IsController}

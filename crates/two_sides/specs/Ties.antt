@@ -8,9 +8,11 @@ use Rattle.controller_core.specs.declared.queue.ControllerQueue.{ControllerQueue
 use Rattle.controller_walk.specs.Laws.{after_units}
 use Rattle.controller_walk.specs.Units.{course_of_list}
 use Rattle.entry_codec.specs.declared.completion.ComEntry.{ComEntry}
-use Rattle.host_core.specs.Alone.{IsOver, IsSoundHost}
+use Rattle.host_core.specs.Alone.{IsOver, IsSoundHost, alone}
 use Rattle.io_commands.specs.Jobs.{job_course, direction_of_entry, need_of_entry}
 use Rattle.machine_model.specs.Agreeing.{SidesAgree}
+use Rattle.machine_model.specs.Always.{IsHostProvided}
+use Rattle.machine_model.specs.Claims.{IsSound}
 use Rattle.machine_model.specs.Memory.{memory_of}
 use Rattle.machine_model.specs.Refusals.{has_sq, has_cq}
 use Rattle.machine_model.specs.State.{HostQueue}
@@ -47,6 +49,8 @@ ShareQueues n q (h ∷ hs) (c ∷ cs) = ShareQueue n q h c × ShareQueues n (suc
 pub record AreSides (s : Sides) : Type 0 where
   pub over : IsOver s.host s.pages
   pub sound : IsSoundHost s.host
+  pub kept : IsSound (alone s.host s.pages)
+  pub provided : IsHostProvided s.host.entries s.host.segment s.host.host
   pub controller : IsController s.controller
   pub queues : ShareQueues s.host.entries 0 s.host.host.queues s.controller.queues
 

@@ -1,6 +1,7 @@
-//! The host's steps, whatever was forged.
+//! The host's steps.
 
 ghost use Rattle.two_sides.specs.Laws.{hosts_share_queues, forged_hosts_step, hosts_answer, hosts_refuse};
+ghost use Rattle.two_sides.specs.Stepping.{hosts_step};
 
 /// Whatever was forged, a step of the host leaves the queues where both sides have them.
 pub fn hosts_keep_their_queues()
@@ -20,4 +21,9 @@ pub fn hosts_answer_as_the_machine()
 /// A refusal of such a call changes neither side, and is a step of the machine.
 pub fn hosts_refuse_as_the_machine()
     ensures { hosts_refuse }
+{}
+
+/// Each call of the host, with what the controller hears of it, is a step of the machine, and leaves both sides tied as a world's are.
+pub fn hosts_are_the_machine()
+    ensures { hosts_step }
 {}

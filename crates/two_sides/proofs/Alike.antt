@@ -1,0 +1,163 @@
+-- What an event of the host leaves at the host is told by the host's part and the memory, where the same stands at the head of the
+-- completion ring that is reaped.
+use Rattle.std.proofs.Common.{◌≡◌, ℕ, Bool, true, false, ◌&&◌, Option, Some, None, [], ◌∷◌, ◌++◌, map, if◌then◌else◌, refl, ap, subst}
+use Rattle.std.specs.Option.{option_map, option_map_or}
+use Rattle.std.proofs.lemmas.Bool.{true≢false}
+use Rattle.admin_commands.specs.Entries.{admin_entry}
+use Rattle.admin_commands.specs.declared.AdminKind.TheVariants.{Abort, DeleteSq, DeleteCq}
+use Rattle.admin_commands.specs.declared.AdminKind.{AdminKind}
+use Rattle.entry_codec.specs.Submission.{submission_bytes}
+use Rattle.entry_codec.specs.declared.completion.ComEntry.{ComEntry}
+use Rattle.entry_codec.specs.declared.status.Status.{Status}
+use Rattle.entry_codec.specs.declared.submission.SubEntry.{SubEntry}
+use Rattle.host_core.specs.Alone.{nothing}
+use Rattle.io_commands.specs.Drafts.{DraftContents}
+use Rattle.io_commands.specs.Jobs.{is_success}
+use Rattle.machine_model.specs.After as a
+use Rattle.machine_model.specs.After.{change}
+use Rattle.machine_model.specs.Work.{Work}
+use Rattle.machine_model.specs.declared.words.Work.TheVariants.{Io, Management}
+use Rattle.machine_model.specs.declared.words.Phase.TheVariants.{Submitted}
+use Rattle.machine_model.specs.declared.words.Reaped.{Reaped}
+use Rattle.machine_model.specs.declared.words.Reaped.TheVariants as reaped
+use Rattle.machine_model.specs.Events as events
+use Rattle.machine_model.specs.Events.{Event, Reply}
+use Rattle.machine_model.specs.Memory.{with_pages, without_pages}
+use Rattle.machine_model.specs.Refusals.{host_queue, is_retired, seen_entry, slot_page, slot_offset}
+use Rattle.machine_model.specs.State.{State, Device, HostQueue, record_at, with_record, without_record, pages_of}
+use Rattle.machine_model.specs.Step.{Answers, IsController, forges}
+use Rattle.page_memory.specs.Pages.{Pages, with_page_bytes}
+use Rattle.queue_pair.specs.Rings.{next_tail, knowing}
+
+-- a state with any part of the controller's, trusted or not
+abbrev over : State → Device → Bool → State
+over s d b = record s { device = d; trusted = b }
+
+abbrev pub bare : State → State
+bare s = over s nothing false
+
+-- what is compared: all but the controller's part, and whether a state is trusted
+abbrev Seen : Type 0
+Seen = State × Bool
+
+abbrev seen : State → Seen
+seen s = (bare s, s.trusted)
+
+-- one state leaves what the other does, and is trusted as before
+abbrev Alike : Bool → State → State → Type 0
+Alike b t u = seen t ≡ (bare u, b)
+
+alike-option : {A : Type 0} (b : Bool) (f g : A → State) (o : Option A) (t u : State) → Alike b t u → ((x : A) → Alike b (f x) (g x)) → Alike b (option_map_or f o t) (option_map_or g o u)
+alike-option b f g None t u e each = e
+alike-option b f g (Some x) t u e each = each x
+
+alike-if : (b c : Bool) (t t' u u' : State) → Alike b t t' → Alike b u u' → Alike b (if c then t else u) (if c then t' else u')
+alike-if b true t t' u u' e e' = e
+alike-if b false t t' u u' e e' = e'
+
+-- a queue of the host that is changed afterwards
+abbrev with_queue : ℕ → (HostQueue → HostQueue) → Seen → Seen
+with_queue q f x = (a.on_host_queue q f x.0, x.1)
+
+alike-posted : (q : ℕ) (entry : SubEntry) (s : State) (d d' : Device) (b b' : Bool) → Alike b (a.posted q entry (over s d b)) (a.posted q entry (over s d' b'))
+alike-posted q entry s d d' b b' =
+    ap (with_queue q (λ queue. record queue { ring = next_tail s.entries queue.ring }))
+    (alike-option b (λ queue. a.on_memory (write queue) (over s d b)) (λ queue. a.on_memory (write queue) (over s d' b')) (host_queue s q) (over s d b) (over s d' b') refl (λ queue. refl))
+  where
+    write : HostQueue → Pages → Pages
+    write queue m = with_page_bytes m (slot_page queue.sq_pages 64 queue.ring.tail) (slot_offset 64 queue.ring.tail) (submission_bytes entry)
+
+alike-admin : (adm : AdminKind) (st : Status) (s : State) (d d' : Device) (b b' : Bool) → Alike b (a.after_admin adm st (over s d b)) (a.after_admin adm st (over s d' b'))
+alike-admin (Abort q cid) st s d d' b b' = refl
+alike-admin (DeleteSq q) st s d d' b b' = refl
+alike-admin (DeleteCq q) st s d d' b b' =
+    alike-if b (is_success st && option_map_or (λ queue. is_retired queue.state) (host_queue s q) false)
+    (a.half_freed (λ queue. queue.cq_pages) a.gone q (over s d b))
+    (a.half_freed (λ queue. queue.cq_pages) a.gone q (over s d' b'))
+    (over s d b) (over s d' b')
+    (alike-option b (λ queue. a.on_host_queue q a.gone (a.given_back queue.cq_pages (over s d b)))
+    (λ queue. a.on_host_queue q a.gone (a.given_back queue.cq_pages (over s d' b')))
+    (host_queue s q) (over s d b) (over s d' b') refl (λ queue. refl))
+    refl
+
+alike-work : (w : Work) (q cid : ℕ) (st : Status) (s : State) (d d' : Device) (b b' : Bool) → Alike b (a.after_work w q cid st (over s d b)) (a.after_work w q cid st (over s d' b'))
+alike-work (Io r) q cid st s d d' b b' = refl
+alike-work (Management adm) q cid st s d d' b b' = alike-admin adm st (a.on_records (without_record q cid) s) d d' b b'
+
+abbrev pub head_of_entry : ComEntry → ℕ
+head_of_entry e = e.sqhd
+
+-- of the completion that is reaped only its head tells
+alike-heard : (w : Work) (q cid : ℕ) (st : Status) (s : State) (d d' : Device) (b b' : Bool) (o o' : Option ComEntry) → option_map head_of_entry o ≡ option_map head_of_entry o'
+    → Alike b (a.after_work w q cid st (option_map_or (λ e. a.heard q e (over s d b)) o (over s d b))) (a.after_work w q cid st (option_map_or (λ e. a.heard q e (over s d' b')) o' (over s d' b')))
+alike-heard w q cid st s d d' b b' None None same = alike-work w q cid st s d d' b b'
+alike-heard w q cid st s d d' b b' None (Some e) same = absurd cc
+alike-heard w q cid st s d d' b b' (Some e) None same = absurd cc
+alike-heard w q cid st s d d' b b' (Some e) (Some e') same =
+    let head : e.sqhd ≡ e'.sqhd = cc in
+    let hears : ℕ → State → State = λ n t. a.on_ring q (knowing n) (a.consumed q t) in
+    subst (λ (n : ℕ). Alike b (a.after_work w q cid st (hears e.sqhd (over s d b))) (a.after_work w q cid st (hears n (over s d' b')))) head
+    (alike-work w q cid st (hears e.sqhd s) (hears e.sqhd (over s d b)).device (hears e.sqhd (over s d' b')).device b b')
+
+alike-done : (q cid : ℕ) (st : Status) (s : State) (d d' : Device) (b b' : Bool) (o o' : Option ComEntry) → option_map head_of_entry o ≡ option_map head_of_entry o'
+    → Alike b (option_map_or (λ r. a.after_work r.work q cid st (option_map_or (λ e. a.heard q e (over s d b)) o (over s d b))) (record_at s.host q cid) (over s d b))
+    (option_map_or (λ r. a.after_work r.work q cid st (option_map_or (λ e. a.heard q e (over s d' b')) o' (over s d' b'))) (record_at s.host q cid) (over s d' b'))
+alike-done q cid st s d d' b b' o o' same =
+    alike-option b (λ r. a.after_work r.work q cid st (option_map_or (λ e. a.heard q e (over s d b)) o (over s d b)))
+    (λ r. a.after_work r.work q cid st (option_map_or (λ e. a.heard q e (over s d' b')) o' (over s d' b'))) (record_at s.host q cid) (over s d b) (over s d' b') refl
+    (λ r. alike-heard r.work q cid st s d d' b b' o o' same)
+
+alike-reap : (q : ℕ) (what : Reaped) (s : State) (d d' : Device) (b b' : Bool) → option_map head_of_entry (seen_entry (over s d b) q) ≡ option_map head_of_entry (seen_entry (over s d' b') q)
+    → Alike b (a.after_reap q what (over s d b)) (a.after_reap q what (over s d' b'))
+alike-reap q reaped.Empty s d d' b b' same = refl
+alike-reap q (reaped.Rejected why) s d d' b b' same = refl
+alike-reap q (reaped.Done cid st) s d d' b b' same = alike-done q cid st s d d' b b' (seen_entry (over s d b) q) (seen_entry (over s d' b') q) same
+alike-reap q (reaped.AdminDone cid st dw0) s d d' b b' same = alike-done q cid st s d d' b b' (seen_entry (over s d b) q) (seen_entry (over s d' b') q) same
+
+alike-submit : (dr : DraftContents) (s : State) (d d' : Device) (b b' : Bool) → Alike b (a.after_submit dr (over s d b)) (a.after_submit dr (over s d' b'))
+alike-submit dr s d d' b b' =
+    let with : State → State = λ t. a.on_records (with_record dr.q dr.cid a.submitted) (a.on_memory (with_pages (dr.data_pages ++ dr.chain_pages)) t) in
+    alike-option b (λ entry. a.posted dr.q entry (with (over s d b))) (λ entry. a.posted dr.q entry (with (over s d' b'))) dr.entry (over s d b) (over s d' b') refl
+    (λ entry. alike-posted dr.q entry (with s) d d' b b')
+
+alike-sent : (adm : AdminKind) (id : ℕ) (entry : SubEntry) (s : State) (d d' : Device) (b b' : Bool) → Alike b (a.sent adm id entry (over s d b)) (a.sent adm id entry (over s d' b'))
+alike-sent adm id entry s d d' b b' =
+    alike-posted 0 entry (a.on_records (λ records. records ++ record { q = 0; cid = id; phase = Submitted; work = Management adm; data_pages = []; chain_pages = []; status = None } ∷ []) s) d d' b b'
+
+-- the same stands at the head of the ring that an event reaps
+abbrev pub SeesAlike : State → State → Event → Type 0
+SeesAlike t u (events.Reap q) = option_map head_of_entry (seen_entry t q) ≡ option_map head_of_entry (seen_entry u q)
+SeesAlike t u e = Unit {0}
+
+alike_after : (s : State) (d d' : Device) (b b' : Bool) (e : Event) (reply : Reply) → IsController e ≡ false → forges e ≡ false → SeesAlike (over s d b) (over s d' b') e → Answers (over s d' b') e reply
+    → Alike b (a.after (over s d b) e reply) (a.after (over s d' b') e reply)
+alike_after s d d' b b' e (events.Refused why touched) c f sees ok = refl
+alike_after s d d' b b' (events.Reserve q r) (events.Reserved dr) c f sees ok = refl
+alike_after s d d' b b' (events.Submit dr) events.Accepted c f sees ok = alike-submit dr s d d' b b'
+alike_after s d d' b b' (events.Cancel dr) events.Accepted c f sees ok = refl
+alike_after s d d' b b' (events.Ring q) events.Accepted c f sees ok = refl
+alike_after s d d' b b' (events.Reap q) (events.Reaps what) c f sees ok = alike-reap q what s d d' b b' sees
+alike_after s d d' b b' (events.Collect q cid) (events.Collects fin) c f sees ok =
+    alike-option b (λ r. a.on_records (with_record q cid a.collected) (a.on_memory (without_pages (pages_of r)) (over s d b)))
+    (λ r. a.on_records (with_record q cid a.collected) (a.on_memory (without_pages (pages_of r)) (over s d' b')))
+    (record_at s.host q cid) (over s d b) (over s d' b') refl (λ r. refl)
+alike_after s d d' b b' (events.Release fin) events.Accepted c f sees ok = refl
+alike_after s d d' b b' (events.Abort q cid) (events.Sent id) c f sees ok = alike-sent (Abort q cid) id (admin_entry (Abort q cid) id) s d d' b b'
+alike_after s d d' b b' (events.DeleteSq q) (events.Sent id) c f sees ok = ap (with_queue q a.deleting) (alike-sent (DeleteSq q) id (admin_entry (DeleteSq q) id) s d d' b b')
+alike_after s d d' b b' (events.DeleteCq q) (events.Sent id) c f sees ok = alike-sent (DeleteCq q) id (admin_entry (DeleteCq q) id) s d d' b b'
+alike_after s d d' b b' (events.Retire q) events.Accepted c f sees ok =
+    let lost : State → State = λ t. a.on_records (λ records. map (a.lost q) records) t in
+    alike-option b (λ queue. a.on_host_queue q a.retired (a.given_back queue.sq_pages (lost (over s d b))))
+    (λ queue. a.on_host_queue q a.retired (a.given_back queue.sq_pages (lost (over s d' b'))))
+    (host_queue s q) (lost (over s d b)) (lost (over s d' b')) refl (λ queue. refl)
+alike_after s d d' b b' (events.Forge q slot bytes) reply c f sees ok = absurd (true≢false f)
+alike_after s d d' b b' (events.Fetch q) reply c f sees ok = absurd (true≢false c)
+alike_after s d d' b b' (events.Walk q cid) reply c f sees ok = absurd (true≢false c)
+alike_after s d d' b b' (events.Complete q cid) reply c f sees ok = absurd (true≢false c)
+alike_after s d d' b b' e reply c f sees ok = absurd ok
+
+-- So a state is known behind an event by what the host alone leaves, and by the controller's part.
+pub left_alike : (s : State) (e : Event) (reply : Reply) → IsController e ≡ false → forges e ≡ false → SeesAlike s (bare s) e → Answers (bare s) e reply
+    → a.after s e reply ≡ record (a.after (bare s) e reply) { device = (a.after s e reply).device; trusted = s.trusted }
+left_alike s e reply c f sees ok =
+    ap (λ (x : Seen). record x.0 { device = (a.after s e reply).device; trusted = x.1 }) (alike_after s s.device nothing s.trusted false e reply c f sees ok)

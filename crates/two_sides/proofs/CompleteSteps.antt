@@ -1,0 +1,286 @@
+-- The completion of a command is a step of the machine, and leaves both sides tied.
+use Rattle.std.proofs.Common.{◌≡◌, ◌≢◌, ℕ, ◌<◌, ◌==◌, ◌&&◌, ◌||◌, ◌++◌, Bool, true, false, not, Option, Some, None, Ok, Err, IfSome, IsSome, is_none, is_some, List, [], ◌∷◌, length, find, map, slice_get, if◌then◌else◌, refl, ap, ap₂, sym, ◌∙◌, subst}
+use Rattle.std.specs.Option.{option_map, option_map_or}
+use Rattle.std.proofs.lemmas.Bool.{true≢false}
+use Rattle.admin_commands.specs.Verdicts.{is_absent}
+use Rattle.block_image.specs.Blocks.{block_count}
+use Rattle.controller_core.specs.Answering.{completion_by, page_posted, post_refusal, with_answer}
+use Rattle.controller_core.specs.Completing.{CompletesTo, command_refusal, complete_refusal, has_success, image_of_end, queues_of_end, status_of_end, waits_among, without_command}
+use Rattle.controller_core.specs.Contents.{Contents, FetchedCommand, IsController, dw0_of_work, entry_of_work, is_command, verdict_of_work}
+use Rattle.controller_core.specs.declared.queue.ControllerQueue.{ControllerQueue}
+use Rattle.controller_core.specs.declared.refusal.Refusal as controller
+use Rattle.controller_core.specs.declared.refusal.Refusal.TheVariants as because
+use Rattle.controller_core.proofs.Lists.{some_is}
+use Rattle.controller_core.proofs.Ready.{end-posted}
+use Rattle.entry_codec.specs.Completion.{completion_bytes}
+use Rattle.entry_codec.specs.declared.admin_opcode.TheConstants.{DELETE_IO_SQ}
+use Rattle.entry_codec.specs.declared.completion.ComEntry.{ComEntry}
+use Rattle.entry_codec.specs.declared.status.Status.{Status}
+use Rattle.machine_model.specs.After.{after_complete, answered, change, deletion_done, final_status, image_completed, on_device, without_job}
+use Rattle.machine_model.specs.Events as events
+use Rattle.machine_model.specs.Memory.{is_in, memory_of}
+use Rattle.machine_model.specs.Refusals.{answers_full, has_cq, is_abort_of, job_at, post_page, refusal_of, slot_offset, waits}
+use Rattle.machine_model.specs.State.{State, DeviceQueue, HostQueue, Job}
+use Rattle.machine_model.specs.Step.{Permits}
+use Rattle.machine_model.specs.declared.words.Refusal.TheVariants as refusal
+use Rattle.machine_model.proofs.Agreed.{agreed_linked}
+use Rattle.machine_model.proofs.Members.{all_filter}
+use Rattle.machine_model.proofs.Parts.{in_store, in_store-with_bytes}
+use Rattle.page_memory.specs.Memory.{Memory}
+use Rattle.page_memory.specs.Pages.{Pages, byte_at}
+use Rattle.queue_pair.specs.Memory.{completion_slot}
+use Rattle.queue_pair.specs.Slots.{is_full}
+use Rattle.queue_pair.proofs.Halves.{completion_there}
+use Rattle.two_sides.specs.Serving.{why_of}
+use Rattle.two_sides.specs.Sides.{Sides, state_of, answer_of, device_of, device_queue_of, device_queues_of, job_of}
+use Rattle.two_sides.specs.Stepping.{LeavesPages, StepsTo, served, completes_step, completes_refuse_alike}
+use Rattle.two_sides.specs.Ties.{IsWorld, ShareQueues, AllRingsStand, RingsStand, WalkStands, WalksStand}
+use Rattle.two_sides.proofs.Answering.{CanAnswer, answer_is, answer_seen, answer_shares, answer_spares_commands, answer_spares_queues, answer_stands, length-completion_bytes, page_is_in, post_room, slot_is_in, slot_written, with_completion}
+use Rattle.two_sides.proofs.Assembling.{ServesOver, serve_refused, served_stepped}
+use Rattle.two_sides.proofs.Changed.{devices_changed, rings_changed}
+use Rattle.two_sides.proofs.Ending.{devices_end_behind, devices_end_elsewhere, devices_ended, devices_of_end, end_fits, ended, rings_ended, share_ended, status_seen}
+use Rattle.two_sides.proofs.Frames.{queue_stays, rings_stay, walks_stay}
+use Rattle.two_sides.proofs.Jobs.{IsFound, any-map, is_found, job-at, job-found}
+use Rattle.two_sides.proofs.Known.{IsKnown, device_at, known, tied_of}
+use Rattle.two_sides.proofs.Places.{Shows, answers_full_is, has_completion, post_page_is, shows}
+use Rattle.two_sides.proofs.ServeSteps.{either_by, same_pages, with_served}
+use Rattle.two_sides.proofs.Shared.{belled}
+
+-- What is known of the queue of a command, where nothing was forged
+
+there : (s : Sides) → IsWorld s → s.trusted ≡ true → (q cid : ℕ) (k : FetchedCommand) (h : HostQueue) (c : ControllerQueue) → find (is_command q cid) s.controller.commands ≡ Some k
+    → slice_get s.host.host.queues q ≡ Some h → slice_get s.controller.queues q ≡ Some c → is_absent c.state ≡ false
+there s world t q cid k h c found at here =
+    ap (λ (o : Option DeviceQueue). option_map_or (λ at. is_absent at.state) o true) (sym (device_at s q h c at here))
+    ∙ (agreed_linked (state_of s) (tied_of s world t).agree).jobs_have_queues q cid (ap is_some (job-found s q cid k found))
+
+-- The refusals
+
+refused_by : (s : State) (q cid : ℕ) (j : Job) (waiting full : Bool) → job_at s q cid ≡ Some j → waits s j ≡ waiting → answers_full s q ≡ full → is_in s.memory (post_page s q) ≡ true
+    → refusal_of s (events.Complete q cid) ≡ (if is_none j.verdict then Some refusal.Walking else if waiting then Some refusal.Waits else if full then Some refusal.Full else None)
+refused_by s q cid j waiting full ej ew ef ei = rw (← ew, ← ef, ej, ei) refl
+
+refused_none : (s : State) (q cid : ℕ) → job_at s q cid ≡ None → refusal_of s (events.Complete q cid) ≡ Some refusal.NoJob
+refused_none s q cid e = rw e refl
+
+waits_seen : (s : Sides) (k : FetchedCommand) → waits (state_of s) (job_of k) ≡ waits_among s.controller.commands k
+waits_seen s k =
+    ap₂ (λ (a b : Bool). (k.q == 0) && (a || (((entry_of_work k.work).opcode == DELETE_IO_SQ) && has_success k.work && b)))
+    (any-map job_of (λ (j : Job). is_abort_of (entry_of_work k.work).cid j.waiting_abort) s.controller.commands)
+    (any-map job_of (λ (j : Job). j.q == _) s.controller.commands)
+
+same_causes : (none waiting full out : Bool) → out ≡ false
+    → (if none then Some refusal.Walking else if waiting then Some refusal.Waits else if full then Some refusal.Full else None)
+    ≡ option_map why_of (if none then Some because.Walking else if waiting then Some because.Waits else if full then Some because.Full else if out then Some because.SlotOut else None)
+same_causes true waiting full out e = refl
+same_causes false true full out e = refl
+same_causes false false true out e = refl
+same_causes false false false true e = absurd (true≢false e)
+same_causes false false false false e = refl
+
+pub complete_refused_alike : completes_refuse_alike
+complete_refused_alike s q cid world t = go (find (is_command q cid) s.controller.commands) refl
+  where
+    none_some : {X : Type 0} (o : Option X) → IsSome o → is_none o ≡ false
+    none_some None e = cc
+    none_some (Some x) e = refl
+
+    go : (o : Option FetchedCommand) → find (is_command q cid) s.controller.commands ≡ o
+        → refusal_of (state_of s) (events.Complete q cid) ≡ option_map why_of (option_map_or (command_refusal s.controller (byte_at s.pages) q) o (Some because.NoJob))
+    go None e = refused_none (state_of s) q cid (job-at s q cid ∙ ap (option_map job_of) e)
+    go (Some k) e =
+        let found = is_found s world q cid k e in
+        let h = found.host in
+        let c = found.queue in
+        let known = known s world t q h c found.host_here found.queue_here in
+        let lives = has_completion s q h c known (there s world t q cid k h c e found.host_here found.queue_here) in
+        let shown = shows s q h c found.host_here found.queue_here in
+        let full = is_full c.device.entries c.device.ring.known_head c.device.ring.tail in
+        let out = is_none (completion_slot (byte_at s.pages) c.device.cq c.device.ring.tail) in
+        refused_by (state_of s) q cid (job_of k) (waits_among s.controller.commands k) full (job-found s q cid k e) (waits_seen s k) (answers_full_is (state_of s) s q h c shown known lives)
+        (ap (is_in s.pages) (post_page_is (state_of s) s q h c shown known lives) ∙ page_is_in s q h c known lives)
+        ∙ same_causes (is_none (verdict_of_work k.work)) (waits_among s.controller.commands k) full out
+        (none_some _ (completion_there (byte_at s.pages) c.device.cq s.host.entries c.device.ring.tail (known.placed.completion_in lives) (subst (λ (n : ℕ). c.device.ring.tail < n) known.placed.share.entries known.placed.share.side.tail)))
+        ∙ ap (λ (o : Option ControllerQueue). option_map why_of (if is_none (verdict_of_work k.work) then Some because.Walking else if waits_among s.controller.commands k then Some because.Waits else option_map_or (λ queue. post_refusal (byte_at s.pages) queue.device) o None)) (sym found.queue_here)
+
+may_refuse : (s : Sides) (q cid : ℕ) (why : controller.Refusal) → IsWorld s → complete_refusal s.controller (byte_at s.pages) q cid ≡ Some why → Permits (state_of s) (events.Complete q cid) (events.Refused (why_of why) [])
+may_refuse s q cid why world e =
+    subst (λ (o : Option controller.Refusal). IfSome o Allowed) e (causes (find (is_command q cid) s.controller.commands)) (λ t. complete_refused_alike s q cid world t ∙ ap (option_map why_of) e)
+  where
+    Allowed : controller.Refusal → Type 0
+    Allowed why = (s.trusted ≡ true → refusal_of (state_of s) (events.Complete q cid) ≡ Some (why_of why)) → Permits (state_of s) (events.Complete q cid) (events.Refused (why_of why) [])
+
+    first : (b : Bool) (why : controller.Refusal) (o : Option controller.Refusal) → Allowed why → IfSome o Allowed → IfSome (if b then Some why else o) Allowed
+    first true why o here rest = here
+    first false why o here rest = rest
+
+    posts : (o : Option ControllerQueue) → IfSome (option_map_or (λ queue. post_refusal (byte_at s.pages) queue.device) o None) Allowed
+    posts None = tt
+    posts (Some c) =
+        first (is_full c.device.entries c.device.ring.known_head c.device.ring.tail) because.Full _ (λ h. either_by s.trusted _ _ (λ t. (h t, refl)) (λ f. refl))
+        (first (is_none (completion_slot (byte_at s.pages) c.device.cq c.device.ring.tail)) because.SlotOut None (λ h. either_by s.trusted _ _ (λ t. (h t, refl)) (λ f. refl)) tt)
+
+    causes : (o : Option FetchedCommand) → IfSome (option_map_or (command_refusal s.controller (byte_at s.pages) q) o (Some because.NoJob)) Allowed
+    causes None = λ h. either_by s.trusted _ _ (λ t. (h t, refl)) (λ f. refl)
+    causes (Some k) =
+        first (is_none (verdict_of_work k.work)) because.Walking _ (λ h. either_by s.trusted _ _ (λ t. (h t, refl)) (λ f. refl))
+        (first (waits_among s.controller.commands k) because.Waits _ (λ h. either_by s.trusted _ _ (λ t. (h t, refl)) (λ f. refl)) (posts (slice_get s.controller.queues q)))
+
+-- An accepted completion
+
+refused_not : (b : Bool) (why : controller.Refusal) (o : Option controller.Refusal) → (if b then Some why else o) ≡ None → (b ≡ false) × (o ≡ None)
+refused_not true why o e = cc
+refused_not false why o e = (refl, e)
+
+after_complete_is : (s : State) (q cid : ℕ) (j : Job) (st : Status) → job_at s q cid ≡ Some j → final_status s j ≡ st
+    → after_complete q cid s ≡ answered q cid st j.dw0 (deletion_done j st (on_device (λ d. record d { image = image_completed j d.image }) (without_job q cid s)))
+after_complete_is s q cid j st ej est = rw (← est, ej) refl
+
+module _ (s : Sides) (q cid : ℕ) (c : Contents) (pages : Pages) (touched : List ℕ) (world : IsWorld s) (leaves : LeavesPages s.pages pages) (free : complete_refusal s.controller (byte_at s.pages) q cid ≡ None) (w : CompletesTo s.controller q cid (byte_at s.pages) [] c (byte_at pages) touched) where
+  abbrev k : FetchedCommand
+  k = w.command
+
+  abbrev x : ControllerQueue
+  x = w.queue
+
+  abbrev st : Status
+  st = status_of_end s.controller.image k.work
+
+  abbrev e : ComEntry
+  e = completion_by q cid st (dw0_of_work k.work) x.device
+
+  -- the pages with it, and what they show
+  abbrev posted : Pages
+  posted = with_completion s x e
+
+  abbrev m : Memory
+  m = byte_at posted
+
+  abbrev hs : List HostQueue
+  hs = s.host.host.queues
+
+  found : IsFound s q cid k
+  found = is_found s world q cid k w.found
+
+  -- there is room for it, and its slot is in
+  post_free : post_refusal (byte_at s.pages) x.device ≡ None
+  post_free =
+      let all : command_refusal s.controller (byte_at s.pages) q k ≡ None = sym (ap (λ (o : Option FetchedCommand). option_map_or (command_refusal s.controller (byte_at s.pages) q) o (Some because.NoJob)) w.found) ∙ free in
+      sym (ap (λ (o : Option ControllerQueue). option_map_or (λ queue. post_refusal (byte_at s.pages) queue.device) o None) w.here)
+      ∙ (refused_not (waits_among s.controller.commands k) because.Waits _ (refused_not (is_none (verdict_of_work k.work)) because.Walking _ all).1).1
+
+  room : (is_full x.device.entries x.device.ring.known_head x.device.ring.tail ≡ false) × (completion_slot (byte_at s.pages) x.device.cq x.device.ring.tail ≢ None)
+  room = post_room (byte_at s.pages) x.device post_free
+
+  pages_are : pages ≡ posted
+  pages_are =
+      slot_written s.pages pages x.device.cq x.device.ring.tail (completion_bytes e) world.sides.over.pool leaves
+      (slot_is_in s.pages x.device.cq x.device.ring.tail room.1) (length-completion_bytes e) w.memory
+
+  -- whatever was forged
+  serves : IsController c → ServesOver s c pages
+  serves is = record {
+    leaves = leaves;
+    in_store = ap in_store pages_are ∙ in_store-with_bytes s.pages (page_posted x.device) (slot_offset 16 x.device.ring.tail) (completion_bytes e);
+    controller = is;
+    queues =
+        subst (λ (c : Contents). ShareQueues s.host.entries 0 hs c.queues) (sym w.leaves)
+        (belled s.host.entries 0 q with_answer hs (queues_of_end k.work s.controller.queues) (answer_shares s.host.entries) (share_ended s.host.entries k.work hs s.controller.queues world.sides.queues));
+    image = w.as_long;
+  }
+
+  module _ (t : s.trusted ≡ true) where
+    queue_known : IsKnown s q found.host x
+    queue_known = known s world t q found.host x found.host_here w.here
+
+    queue_there : is_absent x.state ≡ false
+    queue_there = there s world t q cid k found.host x w.found found.host_here w.here
+
+    lives : has_cq found.host.state ≡ true
+    lives = has_completion s q found.host x queue_known queue_there
+
+    can : CanAnswer s q found.host x e
+    can = record { known = queue_known; there = queue_there; room = room.0; typed = w.typed; fits = record { sct = end_fits (block_count s.controller.image) k.q k.units_done s.controller.image k.work found.fits.1 } }
+
+    -- what changes of the machine's queue
+    abbrev grown : DeviceQueue → DeviceQueue
+    grown at = record at { answers = at.answers ++ answer_of e ∷ [] }
+
+    queues_posted : device_queues_of m hs (change q with_answer s.controller.queues) ≡ change q grown (device_of s).queues
+    queues_posted =
+        devices_changed (byte_at s.pages) m q with_answer grown hs s.controller.queues
+        (λ h y at here. subst (λ (h : HostQueue). device_queue_of m h.ring (with_answer y) ≡ grown (device_queue_of (byte_at s.pages) h.ring y)) (some_is (sym found.host_here ∙ at))
+        (subst (λ (y : ControllerQueue). device_queue_of m found.host.ring (with_answer y) ≡ grown (device_queue_of (byte_at s.pages) found.host.ring y)) (some_is (sym w.here ∙ here))
+        (answer_seen s q found.host x e world found.host_here can)))
+        (λ i h y other at here. queue_stays s posted i h y (known s world t i h y at here) (answer_spares_queues s q i found.host h x e world queue_known lives found.host_here at other))
+
+    rings_posted : AllRingsStand m 0 hs (change q with_answer s.controller.queues)
+    rings_posted =
+        rings_changed (byte_at s.pages) m q with_answer hs s.controller.queues
+        (λ h y at here rings. subst (λ (h : HostQueue). RingsStand m q h (with_answer y)) (some_is (sym found.host_here ∙ at))
+        (subst (λ (y : ControllerQueue). RingsStand m q found.host (with_answer y)) (some_is (sym w.here ∙ here)) (answer_stands s q cid st (dw0_of_work k.work) found.host x world can)))
+        (λ i h y other at here rings. rings_stay s posted i h y (known s world t i h y at here) (answer_spares_queues s q i found.host h x e world queue_known lives found.host_here at other))
+        (tied_of s world t).rings
+
+    queues_completed : device_queues_of m hs c.queues ≡ change q grown (devices_of_end k.work (device_of s).queues)
+    queues_completed =
+        ap (λ (c : Contents). device_queues_of m hs c.queues) w.leaves
+        ∙ ap (device_queues_of m hs) (sym (end-posted k.work q s.controller.queues))
+        ∙ devices_ended m k.work hs (change q with_answer s.controller.queues)
+        ∙ ap (devices_of_end k.work) queues_posted
+        ∙ devices_end_behind k.work q grown (device_of s).queues (λ at. refl)
+
+    -- the machine's state behind the end of the command, in which its queue is as before
+    abbrev behind_end : State
+    behind_end = with_served (state_of s) s.pages (devices_of_end k.work (device_of s).queues) (map job_of (without_command q cid s.controller.commands)) (image_of_end s.controller.image k.work)
+
+    shown : Shows behind_end s q found.host x
+    shown = record {
+      entries = refl;
+      host = found.host_here;
+      device = subst (λ (p : ℕ). slice_get (devices_of_end k.work (device_of s).queues) p ≡ slice_get (device_of s).queues p) found.its_queue
+          (devices_end_elsewhere (block_count s.controller.image) k.q k.units_done k.work (device_of s).queues found.fits.1)
+          ∙ device_at s q found.host x found.host_here w.here;
+    }
+
+    state_completed : state_of (served s c pages) ≡ after_complete q cid (state_of s)
+    state_completed =
+        ap (λ (pages : Pages). state_of (served s c pages)) pages_are
+        ∙ ap (λ (queues : List DeviceQueue). with_served (state_of s) posted queues (map job_of c.commands) c.image) queues_completed
+        ∙ ap (λ (c : Contents). with_served (state_of s) posted (change q grown (devices_of_end k.work (device_of s).queues)) (map job_of c.commands) c.image) w.leaves
+        ∙ answer_is behind_end s q cid st (dw0_of_work k.work) found.host x shown refl can
+        ∙ ap (answered q cid st (dw0_of_work k.work)) (ended s q cid k (block_count s.controller.image) found.fits.1)
+        ∙ sym (after_complete_is (state_of s) q cid (job_of k) st (job-found s q cid k w.found) (status_seen (state_of s) k (block_count s.controller.image) found.fits.1))
+
+    rings_completed : AllRingsStand (byte_at pages) 0 hs c.queues
+    rings_completed =
+        subst (λ (pages : Pages). AllRingsStand (byte_at pages) 0 hs c.queues) (sym pages_are)
+        (subst (λ (c : Contents). AllRingsStand m 0 hs c.queues) (sym w.leaves)
+        (subst (AllRingsStand m 0 hs) (end-posted k.work q s.controller.queues)
+        (rings_ended m k.work hs (change q with_answer s.controller.queues) rings_posted)))
+
+    walks_completed : WalksStand (memory_of pages) c.commands
+    walks_completed =
+        subst (λ (pages : Pages). WalksStand (memory_of pages) c.commands) (sym pages_are)
+        (subst (λ (c : Contents). WalksStand (memory_of posted) c.commands) (sym w.leaves)
+        (all_filter (λ (k : FetchedCommand). WalkStands (memory_of posted) k.units_done k.work) (λ (k : FetchedCommand). not (is_command q cid k)) s.controller.commands
+        (walks_stay s posted world t (answer_spares_commands s q found.host x e world queue_known lives found.host_here))))
+
+  permits : Permits (state_of s) (events.Complete q cid) (events.Completed touched)
+  permits =
+      either_by s.trusted _ _
+      (λ t. (
+        complete_refused_alike s q cid world t ∙ ap (option_map why_of) free,
+        w.touches ∙ ap (λ (p : ℕ). p ∷ []) (sym (post_page_is (state_of s) s q found.host x (shows s q found.host x found.host_here w.here) (queue_known t) (lives t))),
+      ))
+      (λ f. (ap is_some found.host_here, ap length w.touches))
+
+  complete_done : IsController c → StepsTo s (events.Complete q cid) (events.Completed touched) (served s c pages)
+  complete_done is =
+      served_stepped s (events.Complete q cid) (events.Completed touched) c pages world refl (serves is) (λ new. refl) permits (λ t. (state_completed t, rings_completed t, walks_completed t))
+
+pub complete_steps : completes_step
+complete_steps s q cid (Ok done) c pages touched world is leaves w = complete_done s q cid c pages touched world leaves w.0 w.1 is
+complete_steps s q cid (Err why) c pages touched world is leaves (e, same_controller, same_memory, untouched) =
+    subst (λ (touched : List ℕ). StepsTo s (events.Complete q cid) (events.Refused (why_of why) touched) (served s c pages)) (sym untouched)
+    (serve_refused s (events.Complete q cid) (why_of why) [] c pages world refl same_controller (same_pages s pages world leaves same_memory) (may_refuse s q cid why world e))

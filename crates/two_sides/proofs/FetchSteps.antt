@@ -1,0 +1,279 @@
+-- A fetch is a step of the machine, and leaves both sides tied.
+use Rattle.std.proofs.Common.{◌≡◌, inl, inr, ℕ, zero, ◌-◌, ◌<◌, ◌==◌, Bool, true, false, Option, Some, None, Ok, Err, is_none, is_some, List, [], ◌∷◌, ◌++◌, length, map, drop, slice_get, if◌then◌else◌, refl, ap, sym, ◌∙◌, arith, subst, eqb-true}
+use Rattle.std.specs.Option.{option_map, option_map_or}
+use Rattle.std.proofs.lemmas.Bool.{true≢false, OnTrue_at}
+use Rattle.admin_commands.specs.Verdicts.{decision, is_live}
+use Rattle.admin_commands.specs.declared.DeviceView.{DeviceView}
+use Rattle.block_image.specs.Blocks.{block_count}
+use Rattle.controller_core.specs.Answering.{answer_refusal, completion_by, page_posted, post_refusal, with_answer}
+use Rattle.controller_core.specs.Contents.{Contents, FetchedCommand, IsController, change}
+use Rattle.controller_core.specs.Fetching.{AnswersKnown, IsBegun, RefusedBy, RefusedEntry, Takes, TakesIn, begun, entry_refusal, is_known, look_refusal, side_refusal, live_side}
+use Rattle.controller_core.specs.Managing.{admin_work, command_of, commands_after, managed, verdict_for, with_taken}
+use Rattle.controller_core.specs.declared.command.Work.TheVariants.{Io}
+use Rattle.controller_core.specs.declared.queue.ControllerQueue.{ControllerQueue}
+use Rattle.controller_core.specs.declared.refusal.Refusal as controller
+use Rattle.controller_core.specs.declared.refusal.Refusal.TheVariants as because
+use Rattle.controller_core.proofs.Lists.{all-append, some_is}
+use Rattle.controller_walk.specs.Units.{course_of_list}
+use Rattle.controller_walk.specs.declared.walk.Walk.{Walk}
+use Rattle.entry_codec.specs.Completion.{completion_bytes}
+use Rattle.entry_codec.specs.declared.completion.ComEntry.{ComEntry}
+use Rattle.entry_codec.specs.declared.status.Status.{Status}
+use Rattle.entry_codec.specs.declared.status.TheConstants.Status.{COMMAND_ID_CONFLICT}
+use Rattle.entry_codec.specs.declared.submission.SubEntry.{SubEntry}
+use Rattle.io_commands.specs.Jobs.{JobContents, BeginsWalk, course_of_walk, direction_of_entry, io_fault, job_course, need_of_entry}
+use Rattle.machine_model.specs.After as after
+use Rattle.machine_model.specs.After.{after_fetch}
+use Rattle.machine_model.specs.Events as events
+use Rattle.machine_model.specs.Memory.{memory_of}
+use Rattle.machine_model.specs.Refusals.{conflicts, fetch_page, next_rung, post_page}
+use Rattle.machine_model.specs.State.{State, HostQueue, DeviceQueue, Job}
+use Rattle.machine_model.specs.Step.{MayRefuse, Permits, Refuses, touched_by_fetch}
+use Rattle.machine_model.proofs.Parts.{in_store-with_bytes}
+use Rattle.page_memory.specs.Memory.{Memory}
+use Rattle.page_memory.specs.Pages.{Pages, byte_at}
+use Rattle.queue_pair.specs.Memory.{completion_slot, entry_at}
+use Rattle.queue_pair.specs.Slots.{is_full}
+use Rattle.two_sides.specs.Serving.{why_of}
+use Rattle.two_sides.specs.Sides.{Sides, state_of, job_of}
+use Rattle.two_sides.specs.Stepping.{LeavesPages, StepsTo, fetches_step, served}
+use Rattle.two_sides.specs.Ties.{AllRingsStand, IsWorld, ShareQueues, WalkStands, WalksStand}
+use Rattle.two_sides.proofs.Answering.{answer_shares, length-completion_bytes, post_room, slot_is_in, slot_written}
+use Rattle.two_sides.proofs.Assembling.{ServesOver, serve_refused, served_stepped}
+use Rattle.two_sides.proofs.Changed.{devices_changed, rings_changed}
+use Rattle.two_sides.proofs.EntryTaking.{CanTake, taken_seen, taken_shares, taken_stands}
+use Rattle.two_sides.proofs.FetchLooks.{IsLooked, IsSeen, accepts, looked, looks, page_of_head, refuse_alike, seen}
+use Rattle.two_sides.proofs.Known.{host_at}
+use Rattle.two_sides.proofs.Managing.{acted, managed_is, taken_view, verdict_rings, verdict_shares, verdict_walks}
+use Rattle.two_sides.proofs.Places.{map-append}
+use Rattle.two_sides.proofs.ServeSteps.{either_by, same_pages}
+use Rattle.two_sides.proofs.Shared.{belled}
+
+-- What is refused
+
+-- a look finds nothing, or no bytes
+look_is : (P : controller.Refusal → Type 0) → P because.Idle → P because.SlotOut → (s : Sides) (q : ℕ) (why : controller.Refusal) → look_refusal s.controller (byte_at s.pages) q ≡ Some why → P why
+look_is P idle out s q why e = go (slice_get s.controller.queues q) e
+  where
+    is : (cause : controller.Refusal) → P cause → Some cause ≡ Some why → P why
+    is cause p e = let same : cause ≡ why = cc in subst P same p
+
+    side : (b : Bool) (o : Option SubEntry) → (if b then Some because.Idle else option_map_or (λ e. None) o (Some because.SlotOut)) ≡ Some why → P why
+    side true o e = is because.Idle idle e
+    side false None e = is because.SlotOut out e
+    side false (Some x) e = absurd cc
+
+    live : (c : ControllerQueue) (b : Bool) → option_map_or (side_refusal (byte_at s.pages)) (if b then Some c.device else None) (Some because.Idle) ≡ Some why → P why
+    live c true e = side (c.device.ring.head == c.device.ring.bell) (entry_at (byte_at s.pages) c.device.sq c.device.ring.head) e
+    live c false e = is because.Idle idle e
+
+    go : (o : Option ControllerQueue) → option_map_or (side_refusal (byte_at s.pages)) (live_side o) (Some because.Idle) ≡ Some why → P why
+    go None e = is because.Idle idle e
+    go (Some c) e = live c (is_live c.state) e
+
+look_permits : (s : Sides) (q : ℕ) (why : controller.Refusal) → IsWorld s → look_refusal s.controller (byte_at s.pages) q ≡ Some why → Permits (state_of s) (events.Fetch q) (events.Refused (why_of why) [])
+look_permits s q why world e =
+    either_by s.trusted _ _
+    (λ t. elim (looks s q world t) [
+      | inl (look, none, idle) ↦
+          let is : Some because.Idle ≡ Some why = sym look ∙ e in
+          let same : because.Idle ≡ why = cc in
+          subst (λ (w : controller.Refusal). Refuses (state_of s) (events.Fetch q) (why_of w) []) same (refuse_alike s q world t ∙ ap (option_map why_of) none, refl)
+      | inr (look, none, found) ↦ absurd (let bad : None ≡ Some why = sym look ∙ e in cc)
+    ])
+    (λ f. look_is (λ (w : controller.Refusal). MayRefuse (events.Fetch q) (why_of w) []) refl (omega arith) s q why e)
+
+-- no room for an answer at once, or no memory for the command
+cause_is : (P : controller.Refusal → Type 0) → P because.Full → P because.SlotOut → P because.Memory → (m : Memory) (why : controller.Refusal) (known : Bool) (o : Option ControllerQueue)
+    → (if known then (if known then option_map_or (λ queue. post_refusal m queue.device) o None else None) else Some because.Memory) ≡ Some why → P why
+cause_is P full out memory m why known o e = go known o e
+  where
+    is : (cause : controller.Refusal) → P cause → Some cause ≡ Some why → P why
+    is cause p e = let same : cause ≡ why = cc in subst P same p
+
+    post : (a b : Bool) → (if a then Some because.Full else if b then Some because.SlotOut else None) ≡ Some why → P why
+    post true b e = is because.Full full e
+    post false true e = is because.SlotOut out e
+    post false false e = absurd cc
+
+    go : (known : Bool) (o : Option ControllerQueue) → (if known then (if known then option_map_or (λ queue. post_refusal m queue.device) o None else None) else Some because.Memory) ≡ Some why → P why
+    go true None e = absurd cc
+    go true (Some c) e = post (is_full c.device.entries c.device.ring.known_head c.device.ring.tail) (is_none (completion_slot m c.device.cq c.device.ring.tail)) e
+    go false o e = is because.Memory memory e
+
+entry_permits : (s : Sides) (q : ℕ) (why : controller.Refusal) (touched : List ℕ) → IsWorld s → RefusedEntry s.controller (byte_at s.pages) [] q why touched → Permits (state_of s) (events.Fetch q) (events.Refused (why_of why) touched)
+entry_permits s q why touched world r =
+    let (c, l, one) = looked s q r.entry touched r.looks in
+    either_by s.trusted _ _
+    (λ t. let is = seen s q c r.entry world t l in
+    let cause : Some because.Memory ≡ Some why = ap (λ (b : Bool). if b then entry_refusal s.controller (byte_at s.pages) q r.entry else Some because.Memory) (sym is.unknown) ∙ r.cause in
+    let same : because.Memory ≡ why = cc in
+    subst (λ (w : controller.Refusal). Refuses (state_of s) (events.Fetch q) (why_of w) touched) same (refl, accepts s q c r.entry is, one ∙ ap (λ (p : ℕ). p ∷ []) (sym is.page)))
+    (λ f. subst (λ (pages : List ℕ). MayRefuse (events.Fetch q) (why_of why) pages) (sym one)
+    (cause_is (λ (w : controller.Refusal). MayRefuse (events.Fetch q) (why_of w) (page_of_head c ∷ [])) refl (omega arith) refl (byte_at s.pages) why (is_known s.controller q r.entry) (slice_get s.controller.queues q) r.cause))
+
+refused : (s : Sides) (q : ℕ) (why : controller.Refusal) (touched : List ℕ) → IsWorld s → (o : Option controller.Refusal) → look_refusal s.controller (byte_at s.pages) q ≡ o → RefusedBy o s.controller (byte_at s.pages) [] q why touched
+    → Permits (state_of s) (events.Fetch q) (events.Refused (why_of why) touched)
+refused s q why touched world None e r = entry_permits s q why touched world r
+refused s q why touched world (Some cause) e r =
+    subst (λ (pages : List ℕ). Permits (state_of s) (events.Fetch q) (events.Refused (why_of why) pages)) (sym r.1)
+    (look_permits s q why world (e ∙ ap Some (sym r.0)))
+
+-- What is accepted
+
+touched_by : (u : State) (q : ℕ) → conflicts u q ≡ false → fetch_page u q ∷ [] ≡ touched_by_fetch u q
+touched_by u q alone = ap (λ (c : Bool). if c then fetch_page u q ∷ post_page u q ∷ [] else fetch_page u q ∷ []) (sym alone)
+
+after_by : (u : State) (q : ℕ) (e : SubEntry) → next_rung u q ≡ Some e → conflicts u q ≡ false → after_fetch q u ≡ (if q == 0 then after.managed e (after.taken_off 0 u) else after.begun q e (after.taken_off q u))
+after_by u q e next alone = rw (alone, next) refl
+
+-- An entry was taken: where nothing was forged, the queue had it, and its identifier was new.
+fetch_stepped : (s : Sides) (q : ℕ) (c : ControllerQueue) (e : SubEntry) (new : Contents) (pages : Pages) (touched : List ℕ) → IsWorld s → IsLooked s q c e → ServesOver s new pages → length touched < 3
+    → (s.trusted ≡ true → IsSeen s q c e → (touched ≡ page_of_head c ∷ []) × (state_of (served s new pages) ≡ after_fetch q (state_of s)) × AllRingsStand (byte_at pages) zero s.host.host.queues new.queues × WalksStand (memory_of pages) new.commands)
+    → StepsTo s (events.Fetch q) (events.Fetched e.cid touched) (served s new pages)
+fetch_stepped s q c e new pages touched world l serves few exact =
+    let (h, found) = host_at s world q c l.here in
+    served_stepped s (events.Fetch q) (events.Fetched e.cid touched) new pages world refl serves (λ u. refl)
+    (either_by s.trusted _ _
+    (λ t. let is = seen s q c e world t l in
+    (accepts s q c e is, (ap (option_map (λ (e : SubEntry). e.cid)) is.next, (exact t is).0 ∙ ap (λ (p : ℕ). p ∷ []) (sym is.page) ∙ touched_by (state_of s) q is.alone)))
+    (λ f. (ap is_some found, few)))
+    (λ t. let done = exact t (seen s q c e world t l) in (done.1, done.2, done.3))
+
+-- The sides behind the entry that was taken
+
+abbrev taken : ℕ → Sides → Sides
+taken q s = record s { controller = record s.controller { queues = change q with_taken s.controller.queues } }
+
+can_take : (s : Sides) (q : ℕ) (c : ControllerQueue) (e : SubEntry) → IsLooked s q c e → IsSeen s q c e → (h : HostQueue) (x : ControllerQueue) → slice_get s.host.host.queues q ≡ Some h → slice_get s.controller.queues q ≡ Some x → CanTake s q h x
+can_take s q c e l is h x at here =
+    subst (λ (h : HostQueue). CanTake s q h x) (some_is (sym is.found ∙ at))
+    (subst (λ (x : ControllerQueue). CanTake s q is.host x) (some_is (sym l.here ∙ here)) is.can)
+
+taken_state : (s : Sides) (q : ℕ) (c : ControllerQueue) (e : SubEntry) → IsLooked s q c e → IsSeen s q c e → state_of (taken q s) ≡ after.taken_off q (state_of s)
+taken_state s q c e l is =
+    ap (λ (queues : List DeviceQueue). record (state_of s) { device = record (state_of s).device { queues = queues } })
+    (devices_changed (byte_at s.pages) (byte_at s.pages) q with_taken (λ (at : DeviceQueue). record at { unfetched = drop 1 at.unfetched; rung = at.rung - 1 }) s.host.host.queues s.controller.queues
+    (λ h x at here. taken_seen s q h x (can_take s q c e l is h x at here)) (λ i h x far at here. refl))
+
+taken_rings : (s : Sides) (q : ℕ) (c : ControllerQueue) (e : SubEntry) → IsLooked s q c e → IsSeen s q c e → AllRingsStand (byte_at s.pages) zero s.host.host.queues s.controller.queues
+    → AllRingsStand (byte_at s.pages) zero s.host.host.queues (change q with_taken s.controller.queues)
+taken_rings s q c e l is rings =
+    rings_changed (byte_at s.pages) (byte_at s.pages) q with_taken s.host.host.queues s.controller.queues (λ h x at here r. taken_stands s q h x (can_take s q c e l is h x at here)) (λ i h x far at here r. r) rings
+
+-- An entry of an I/O queue
+
+begun_stands : (m : Memory) (e : SubEntry) (job : JobContents) (fault : Option Status) → fault ≡ None → BeginsWalk e fault job.walk → job_course m job ≡ course_of_list m e.sgl1 (direction_of_entry e) (need_of_entry e)
+begun_stands m e job (Some st) none begins = cc
+begun_stands m e job None none begins = go job.walk begins
+  where
+    go : (w : Option Walk) → BeginsWalk e None w → course_of_walk m w ≡ course_of_list m e.sgl1 (direction_of_entry e) (need_of_entry e)
+    go None begins = absurd begins
+    go (Some w) begins = begins m
+
+begins_walk : (m : Memory) (q : ℕ) (image : List ℕ) (e : SubEntry) (job : JobContents) (commands : List FetchedCommand) → IsBegun image e job → WalksStand m commands → WalksStand m (commands ++ command_of q (Io job) ∷ [])
+begins_walk m q image e job commands b walks =
+    all-append (λ (k : FetchedCommand). WalkStands m k.units_done k.work) commands (command_of q (Io job)) walks
+    (λ none. begun_stands m e job (io_fault (block_count image) e) (sym b.verdict ∙ none) b.walk
+    ∙ ap (λ (x : SubEntry). course_of_list m x.sgl1 (direction_of_entry x) (need_of_entry x)) (sym b.entry))
+
+begun_is : (s : Sides) (q : ℕ) (e : SubEntry) (job : JobContents) → IsBegun s.controller.image e job → state_of (served s (begun q job s.controller) s.pages) ≡ after.begun q e (state_of (taken q s))
+begun_is s q e job b =
+    ap (λ (jobs : List Job). record (state_of (taken q s)) { device = record (state_of (taken q s)).device { jobs = jobs } }) (map-append job_of s.controller.commands (command_of q (Io job)))
+    ∙ ap (λ (j : Job). after.with_job j (state_of (taken q s))) (λ i. record { q = q; entry = b.entry i; bytes = b.bytes i; units_done = 0; verdict = b.verdict i; dw0 = 0; waiting_abort = None })
+
+-- where no page is written
+serves_there : (s : Sides) (new : Contents) → IsWorld s → IsController new → ShareQueues s.host.entries zero s.host.host.queues new.queues → length new.image ≡ length s.controller.image → ServesOver s new s.pages
+serves_there s new world is share image = record { leaves = record { whole = world.sides.over.pool.whole; count = refl }; in_store = refl; controller = is; queues = share; image = image }
+
+taken_share : (s : Sides) (q : ℕ) → IsWorld s → ShareQueues s.host.entries zero s.host.host.queues (change q with_taken s.controller.queues)
+taken_share s q world = belled s.host.entries zero q with_taken s.host.host.queues s.controller.queues (taken_shares s.host.entries) world.sides.queues
+
+begins : (s : Sides) (q : ℕ) (c : ControllerQueue) (e : SubEntry) (job : JobContents) → IsWorld s → IsLooked s q c e → IsController (begun q job s.controller) → (q == 0) ≡ false → IsBegun s.controller.image e job
+    → StepsTo s (events.Fetch q) (events.Fetched e.cid (page_of_head c ∷ [])) (served s (begun q job s.controller) s.pages)
+begins s q c e job world l is io b =
+    fetch_stepped s q c e (begun q job s.controller) s.pages (page_of_head c ∷ []) world l (serves_there s (begun q job s.controller) world is (taken_share s q world) refl) (omega arith)
+    (λ t seen. let tied = OnTrue_at t world.tied in (
+      refl,
+      begun_is s q e job b ∙ ap (after.begun q e) (taken_state s q c e l seen)
+          ∙ ap (λ (z : Bool). if z then after.managed e (after.taken_off 0 (state_of s)) else after.begun q e (after.taken_off q (state_of s))) (sym io)
+          ∙ sym (after_by (state_of s) q e seen.next seen.alone),
+      taken_rings s q c e l seen tied.rings,
+      begins_walk (memory_of s.pages) q s.controller.image e job s.controller.commands b tied.walks,
+    ))
+
+-- An entry of queue 0
+
+manages : (s : Sides) (c : ControllerQueue) (e : SubEntry) → IsWorld s → IsLooked s zero c e → IsController (managed e s.controller)
+    → StepsTo s (events.Fetch zero) (events.Fetched e.cid (page_of_head c ∷ [])) (served s (managed e s.controller) s.pages)
+manages s c e world l is =
+    let v = verdict_for s.controller e in
+    let hosts = s.host.host.queues in
+    let m = memory_of s.pages in
+    let queues = change zero with_taken s.controller.queues in
+    let share = taken_share s zero world in
+    fetch_stepped s zero c e (managed e s.controller) s.pages (page_of_head c ∷ []) world l (serves_there s (managed e s.controller) world is (verdict_shares v s.host.entries hosts queues share) refl) (omega arith)
+    (λ t seen. let tied = OnTrue_at t world.tied in (
+      refl,
+      ap (λ (view : DeviceView). state_of (acted e (decision e view) (taken zero s))) (sym (taken_view s.controller.queues s.controller.commands zero e))
+          ∙ managed_is (taken zero s) e share world.sides.controller.commands.differ ∙ ap (after.managed e) (taken_state s zero c e l seen) ∙ sym (after_by (state_of s) zero e seen.next seen.alone),
+      verdict_rings v (byte_at s.pages) hosts queues (taken_rings s zero c e l seen tied.rings),
+      all-append (λ (k : FetchedCommand). WalkStands m k.units_done k.work) (commands_after e.cid v s.controller.commands) (command_of zero (admin_work e v)) (verdict_walks v m e.cid s.controller.commands tied.walks) tt,
+    ))
+
+-- An identifier that was fetched already: only behind a forged entry
+
+answers : (s : Sides) (q : ℕ) (c : ControllerQueue) (e : SubEntry) (new : Contents) (pages : Pages) (looked touched : List ℕ) → IsWorld s → IsLooked s q c e → IsController new → LeavesPages s.pages pages
+    → is_known s.controller q e ≡ true → entry_refusal s.controller (byte_at s.pages) q e ≡ None → looked ≡ page_of_head c ∷ []
+    → AnswersKnown s.controller.queues q e.cid (byte_at s.pages) looked new.queues (byte_at pages) touched → new.image ≡ s.controller.image
+    → StepsTo s (events.Fetch q) (events.Fetched e.cid touched) (served s new pages)
+answers s q c e new pages looked touched world l is leaves knows room one a image =
+    let m = byte_at s.pages in
+    let n = s.host.entries in
+    let device = a.queue.device in
+    let entry : ComEntry = completion_by q e.cid COMMAND_ID_CONFLICT 0 (with_taken a.queue).device in
+    let none : post_refusal m device ≡ None =
+    ap (λ (o : Option ControllerQueue). option_map_or (λ queue. post_refusal m queue.device) o None) (sym a.here)
+    ∙ ap (λ (b : Bool). if b then answer_refusal s.controller.queues m q else None) (sym knows) ∙ room in
+    let inside = slot_is_in s.pages device.cq device.ring.tail (post_room m device none).1 in
+    let wrote = slot_written s.pages pages device.cq device.ring.tail (completion_bytes entry) world.sides.over.pool leaves inside (length-completion_bytes entry) a.memory in
+    let serves : ServesOver s new pages =
+    record {
+      leaves = leaves;
+      in_store = ap (map is_some) wrote ∙ in_store-with_bytes s.pages _ _ (completion_bytes entry);
+      controller = is;
+      queues = subst (ShareQueues n zero s.host.host.queues) (sym a.leaves)
+          (belled n zero q (λ queue. with_answer (with_taken queue)) s.host.host.queues s.controller.queues (λ i h x share. answer_shares n i h (with_taken x) (taken_shares n i h x share)) world.sides.queues);
+      image = ap length image;
+    } in
+    fetch_stepped s q c e new pages touched world l serves
+    (subst (λ (xs : List ℕ). length xs < 3) (sym (a.touches ∙ ap (λ (xs : List ℕ). xs ++ page_posted device ∷ []) one)) (omega arith))
+    (λ t seen. absurd (true≢false (sym knows ∙ seen.unknown)))
+
+-- All of them
+
+takes_in : (s : Sides) (q : ℕ) (c : ControllerQueue) (e : SubEntry) (new : Contents) → IsWorld s → IsLooked s q c e → IsController new → (b : Bool) → (q == 0) ≡ b → TakesIn b s.controller q e new
+    → StepsTo s (events.Fetch q) (events.Fetched e.cid (page_of_head c ∷ [])) (served s new s.pages)
+takes_in s q c e new world l is false io begin =
+    subst (λ (x : Contents). StepsTo s (events.Fetch q) (events.Fetched e.cid (page_of_head c ∷ [])) (served s x s.pages)) (sym begin.leaves)
+    (begins s q c e begin.job world l (subst IsController begin.leaves is) io begin.is)
+takes_in s q c e new world l is true z done =
+    subst (λ (x : Contents). StepsTo s (events.Fetch q) (events.Fetched e.cid (page_of_head c ∷ [])) (served s x s.pages)) (sym done)
+    (subst (λ (k : ℕ). IsLooked s k c e → StepsTo s (events.Fetch k) (events.Fetched e.cid (page_of_head c ∷ [])) (served s (managed e s.controller) s.pages)) (sym (eqb-true q 0 z))
+    (λ l. manages s c e world l (subst IsController done is)) l)
+
+taken_up : (s : Sides) (q : ℕ) (c : ControllerQueue) (e : SubEntry) (new : Contents) (pages : Pages) (looked touched : List ℕ) → IsWorld s → IsLooked s q c e → IsController new → LeavesPages s.pages pages
+    → looked ≡ page_of_head c ∷ [] → entry_refusal s.controller (byte_at s.pages) q e ≡ None → (b : Bool) → is_known s.controller q e ≡ b → Takes b s.controller q e (byte_at s.pages) looked new (byte_at pages) touched
+    → StepsTo s (events.Fetch q) (events.Fetched e.cid touched) (served s new pages)
+taken_up s q c e new pages looked touched world l is leaves one room true knows took = answers s q c e new pages looked touched world l is leaves knows room one took.0 took.2
+taken_up s q c e new pages looked touched world l is leaves one room false unknown took =
+    subst (λ (x : Pages). StepsTo s (events.Fetch q) (events.Fetched e.cid touched) (served s new x)) (sym (same_pages s pages world leaves took.1))
+    (subst (λ (xs : List ℕ). StepsTo s (events.Fetch q) (events.Fetched e.cid xs) (served s new s.pages)) (sym (took.2 ∙ one)) (takes_in s q c e new world l is (q == 0) refl took.0))
+
+pub fetches : fetches_step
+fetches s q (Err why) c pages touched world is leaves f =
+    serve_refused s (events.Fetch q) (why_of why) touched c pages world refl f.1 (same_pages s pages world leaves f.2) (refused s q why touched world (look_refusal s.controller (byte_at s.pages) q) refl f.0)
+fetches s q (Ok cid) c pages touched world is leaves f =
+    let (queue, l, one) = looked s q f.entry f.looked f.looks in
+    subst (λ (id : ℕ). StepsTo s (events.Fetch q) (events.Fetched id touched) (served s c pages)) (sym f.named)
+    (taken_up s q queue f.entry c pages f.looked touched world l is leaves one f.room (is_known s.controller q f.entry) refl f.takes)

@@ -1,0 +1,337 @@
+-- The host's calls that post an entry, where nothing was forged: the machine's lists follow, and the rings and the walks stand.
+use Rattle.std.proofs.Common.{◌≡◌, ℕ, zero, suc, ◌+◌, ◌*◌, ◌-◌, ◌^◌, ◌<◌, ◌≤◌, ◌==◌, ◌++◌, ◌∷◌, [], Bool, true, false, not, Option, Some, None, is_none, List, length, map, slice_get, refl, ap, ap₂, sym, ◌∙◌, subst, arith, eqb-true}
+use Rattle.std.specs.List.{position_or_len}
+use Rattle.std.specs.Option.{option_map_or}
+use Rattle.std.proofs.lemmas.Bool.{true≢false, not-false, and_parts, or_parts, OnTrue_at}
+use Rattle.std.proofs.lemmas.List.Folds.{find_at}
+use Rattle.std.proofs.lemmas.Option.{slice_get_within}
+use Rattle.admin_commands.specs.Entries.{admin_entry, named_by}
+use Rattle.admin_commands.specs.Verdicts.{is_absent}
+use Rattle.admin_commands.specs.declared.AdminKind.TheVariants.{Abort, DeleteSq, DeleteCq}
+use Rattle.admin_commands.specs.declared.AdminKind.{AdminKind}
+use Rattle.controller_core.specs.Contents.{Contents}
+use Rattle.controller_core.specs.declared.queue.ControllerQueue.{ControllerQueue}
+use Rattle.entry_codec.specs.declared.submission.SubEntry.{SubEntry}
+use Rattle.host_core.specs.Alone.{HostView, HostStep, alone}
+use Rattle.host_core.proofs.Ending.{joined-pages}
+use Rattle.host_core.proofs.Lists.{all-from}
+use Rattle.host_core.proofs.Pages.{pool-with}
+use Rattle.io_commands.specs.Drafts.{DraftContents}
+use Rattle.machine_model.specs.After as a
+use Rattle.machine_model.specs.After.{after}
+use Rattle.machine_model.specs.Always.{IsProvided}
+use Rattle.machine_model.specs.Events as events
+use Rattle.machine_model.specs.Events.{Event, Reply}
+use Rattle.machine_model.specs.Memory.{memory_of, with_pages}
+use Rattle.machine_model.specs.Refusals.{has_cq, has_sq, host_queue, in_state, is_drafted, is_live, is_submitted, queue_full, refusal_of}
+use Rattle.machine_model.specs.Proper.{IsProperDraft}
+use Rattle.machine_model.specs.declared.words.HostState.{HostState}
+use Rattle.machine_model.specs.State.{Device, DeviceQueue, HostQueue, Record, State, is_at, pages_of, record_at, with_record}
+use Rattle.machine_model.specs.Step.{HostPart, LeavesByHost, Permits}
+use Rattle.machine_model.proofs.Agreed.{agreed_there}
+use Rattle.machine_model.proofs.Elsewhere.{with_elsewhere}
+use Rattle.machine_model.proofs.Halves.{live_has_sq, sq_with_cq}
+use Rattle.machine_model.proofs.Members.{all_at_found}
+use Rattle.machine_model.proofs.Moves.{IsOf, draft_found, draft_lives, queue_found, sent_record}
+use Rattle.machine_model.proofs.Placed.{find_sound}
+use Rattle.machine_model.proofs.Refused.{found, unrefused}
+use Rattle.page_ledger.specs.Owners.{is_among}
+use Rattle.page_memory.specs.Memory.{Memory}
+use Rattle.page_memory.specs.Pages.{IsWhole, Pages, byte_at, page_at}
+use Rattle.queue_pair.specs.Members.{change}
+use Rattle.queue_pair.specs.Rings.{next_tail}
+use Rattle.queue_pair.specs.Slots.{is_full}
+use Rattle.two_sides.specs.Hearing.{heard}
+use Rattle.two_sides.specs.Sides.{Sides, state_of, device_of, device_queue_of, device_queues_of, job_of}
+use Rattle.two_sides.specs.Ties.{AllRingsStand, IsWorld, WalksStand}
+use Rattle.two_sides.proofs.Assembling.{Ties}
+use Rattle.two_sides.proofs.Frames.{Spares, SparesSubmitted, apart_from_commands, apart_from_queues}
+use Rattle.two_sides.proofs.Known.{controller_at, device_at, placed}
+use Rattle.two_sides.proofs.Posted.{CanPost, post_queues, post_rings, post_walks, slot_written, tail_moved, with_entry}
+use Rattle.two_sides.proofs.PostedEntries.{IsTyped, admin_typed, draft_typed}
+use Rattle.two_sides.proofs.Refusing.{answer_as_machine}
+
+-- A live queue with room can be posted to
+
+can_post : (s : Sides) (mid : Pages) (q : ℕ) (h : HostQueue) (entry : SubEntry) → IsWorld s → s.trusted ≡ true → slice_get s.host.host.queues q ≡ Some h → is_live h.state ≡ true
+    → is_full s.host.entries h.ring.known_head h.ring.tail ≡ false → IsTyped entry → ((p : ℕ) → IsWhole mid p) → Spares s mid → (c : ControllerQueue) × CanPost s mid q h c entry
+can_post s mid q h entry world t at live room is whole spares =
+    let c = controller_at s world q h at in (
+      c.0,
+      record {
+        world = world;
+        trusted = t;
+        at = at;
+        beside = c.1;
+        kept = live_has_sq h.state live;
+        there = sym (ap (λ (o : Option DeviceQueue). option_map_or (λ x. is_absent x.state) o true) (device_at s q h c.0 at c.1)) ∙ agreed_there (state_of s) q h (OnTrue_at t world.tied).agree at live;
+        room = room;
+        is = is;
+        whole = whole;
+        spares = spares;
+      },
+    )
+
+-- a queue that is not full is there
+room_found : (s : State) (q : ℕ) → queue_full s q ≡ false → (h : HostQueue) × (host_queue s q ≡ Some h) × (is_full s.entries h.ring.known_head h.ring.tail ≡ false)
+room_found s q free = go (host_queue s q) refl free
+  where
+    go : (o : Option HostQueue) → host_queue s q ≡ o → option_map_or (λ h. is_full s.entries h.ring.known_head h.ring.tail) o true ≡ false
+        → (h : HostQueue) × (host_queue s q ≡ Some h) × (is_full s.entries h.ring.known_head h.ring.tail ≡ false)
+    go None e free = absurd (true≢false free)
+    go (Some h) e free = (h, e, free)
+
+-- What a posted entry leaves
+
+-- of any state
+after_posts : (q : ℕ) (entry : SubEntry) (h : HostQueue) (x : State) → host_queue x q ≡ Some h
+    → a.posted q entry x ≡ a.on_ring q (next_tail x.entries) (a.on_device_queue q (with_entry entry) (a.on_memory (slot_written h entry) x))
+after_posts q entry h x at =
+    ap (λ (o : Option HostQueue). a.on_ring q (next_tail x.entries) (a.on_device_queue q (with_entry entry) (option_map_or (λ queue. a.on_memory (slot_written queue entry) x) o x))) at
+
+-- A call leaves these queues of the host, and the entry posted over a memory.
+record Posts (s : Sides) (e : Event) (reply : Reply) (q : ℕ) (h : HostQueue) (entry : SubEntry) (mid : Pages) (hs : List HostQueue) : Type 0 where
+  queues : (after (alone s.host s.pages) e reply).host.queues ≡ hs
+  memory : (after (alone s.host s.pages) e reply).memory ≡ slot_written h entry mid
+  device : (after (state_of s) e reply).device ≡ record (device_of s) { queues = change q (with_entry entry) (device_of s).queues }
+
+-- Other queues of the host with the same rings and halves.
+record StaysAlike (cs : List ControllerQueue) (hs hs' : List HostQueue) : Type 0 where
+  lists : (m : Memory) → device_queues_of m hs' cs ≡ device_queues_of m hs cs
+  rings : (m : Memory) → AllRingsStand m zero hs cs → AllRingsStand m zero hs' cs
+
+-- a call that posts an entry, of which the controller hears nothing
+ties : (s : Sides) (e : Event) (reply : Reply) (host : HostView) (pages mid : Pages) (q : ℕ) (h : HostQueue) (c : ControllerQueue) (entry : SubEntry) (hs : List HostQueue)
+    → CanPost s mid q h c entry → SparesSubmitted s mid → Permits (state_of s) e reply → heard e reply host s.controller ≡ s.controller
+    → LeavesByHost (alone s.host s.pages) (after (alone s.host s.pages) e reply) (alone host pages)
+    → Posts s e reply q h entry mid hs → StaysAlike s.controller.queues (change q (tail_moved s.host.entries) s.host.host.queues) hs
+    → Ties s e reply host pages
+ties s e reply host pages mid q h c entry hs can spares permits unheard leaves posts stays =
+    let new : Pages = slot_written h entry mid in
+    let queues : host.host.queues ≡ hs = ap (λ (part : HostPart). part.host.queues) leaves.part ∙ posts.queues in
+    let memory : pages ≡ new = leaves.memory ∙ posts.memory in
+    record {
+      permits = permits;
+      device = ap (shown pages host.host.queues) unheard
+          ∙ (ap₂ (λ (ps : Pages) (xs : List HostQueue). shown ps xs s.controller) memory queues
+          ∙ (ap with_queues (stays.lists (byte_at new) ∙ post_queues s mid q h c entry can) ∙ sym posts.device));
+      rings = subst (λ (k : Contents). AllRingsStand (byte_at pages) zero host.host.queues k.queues) (sym unheard)
+          (subst (λ (xs : List HostQueue). AllRingsStand (byte_at pages) zero xs s.controller.queues) (sym queues)
+          (subst (λ (ps : Pages). AllRingsStand (byte_at ps) zero hs s.controller.queues) (sym memory) (stays.rings (byte_at new) (post_rings s mid q h c entry can))));
+      walks = subst (λ (ps : Pages). WalksStand (memory_of ps) s.controller.commands) (sym memory) (post_walks s mid q h c entry can spares);
+    }
+  where
+    with_queues : List DeviceQueue → Device
+    with_queues qs = record (device_of s) { queues = qs }
+
+    shown : Pages → List HostQueue → Contents → Device
+    shown ps xs k = record { queues = device_queues_of (byte_at ps) xs k.queues; jobs = map job_of k.commands; image = k.image }
+
+same_queues : (cs : List ControllerQueue) (hs : List HostQueue) → StaysAlike cs hs hs
+same_queues cs hs = record { lists = λ m. refl; rings = λ m rings. rings }
+
+-- Identifiers are small
+
+few_entries : (s : Sides) → IsWorld s → (q : ℕ) (h : HostQueue) → slice_get s.host.host.queues q ≡ Some h → s.host.entries ≤ 1024
+few_entries s world q h at =
+    let c = controller_at s world q h at in
+    let share = (placed s world q h c.0 at c.1).share in
+    omega (arith, share.entries, share.side.most)
+
+small_identifier : (s : Sides) → IsWorld s → (q cid : ℕ) (r : Record) → record_at s.host.host q cid ≡ Some r → cid < s.host.entries - 1
+small_identifier s world q cid r found =
+    let at = and_parts (r.q == q) (r.cid == cid) (find_sound (is_at q cid) s.host.host.records r found) in
+    let given = all_at_found (IsProvided s.host.entries s.host.segment) (is_at q cid) s.host.host.records r found world.sides.provided.commands in
+    omega (arith, given.identifier, eqb-true r.cid cid at.1)
+
+-- A draft is submitted
+
+-- the memory with its pages
+abbrev brought : Sides → DraftContents → Pages
+brought s d = with_pages (d.data_pages ++ d.chain_pages) s.pages
+
+brought_whole : (s : Sides) (d : DraftContents) → IsWorld s → IsProperDraft d → (p : ℕ) → IsWhole (brought s d) p
+brought_whole s d world proper =
+    (pool-with (d.data_pages ++ d.chain_pages) s.pages (all-from (λ (page : ℕ × List ℕ). length page.1 ≡ 4096) (d.data_pages ++ d.chain_pages)
+    (joined-pages d.data_pages d.chain_pages proper.data_pages proper.chain_pages)) world.sides.over.pool).whole
+
+module _ (s : Sides) (d : DraftContents) (r : Record) (world : IsWorld s) (is : IsOf (state_of s) is_drafted d.request d.q d.cid d.data_pages d.chain_pages r) where
+  -- where its record stands
+  abbrev place : ℕ
+  place = position_or_len (is_at d.q d.cid) s.host.host.records
+
+  stands : slice_get s.host.host.records place ≡ Some r
+  stands = sym (find_at (is_at d.q d.cid) s.host.host.records) ∙ is.found
+
+  -- other pages stay, so those of the halves and of submitted commands do
+  other : (p : ℕ) → (is_among (pages_of r) p ≡ true → ⊥) → page_at (brought s d) p ≡ page_at s.pages p
+  other p not_mine = with_elsewhere (d.data_pages ++ d.chain_pages) s.pages p (ap (λ (ps : List ℕ). is_among ps p) is.pages ∙ go (is_among (pages_of r) p) not_mine)
+    where
+      go : (b : Bool) → (b ≡ true → ⊥) → b ≡ false
+      go true h = absurd (h refl)
+      go false h = refl
+
+  spares_halves : Spares s (brought s d)
+  spares_halves q h at =
+      record {
+        submission = λ p among. other p (λ mine. true≢false (sym among ∙ (apart_from_queues s world q place h r p at stands mine).0));
+        completion = λ p among. other p (λ mine. true≢false (sym among ∙ (apart_from_queues s world q place h r p at stands mine).1));
+      }
+
+  spares_walks : SparesSubmitted s (brought s d)
+  spares_walks i k at submitted p among =
+      other p (λ mine. true≢false (sym among ∙ apart_from_commands s world place i r k p stands at
+      (λ same. let this : Some r ≡ Some k = sym stands ∙ ap (slice_get s.host.host.records) same ∙ at in
+      let one : r ≡ k = cc in
+      true≢false (sym submitted ∙ ap (λ (x : Record). is_submitted x.phase) (sym one) ∙ is.quiet)) mine))
+
+-- what the call leaves
+submitted_posts : (s : Sides) (d : DraftContents) (entry : SubEntry) (h : HostQueue) → d.entry ≡ Some entry → slice_get s.host.host.queues d.q ≡ Some h
+    → Posts s (events.Submit d) events.Accepted d.q h entry (brought s d) (change d.q (tail_moved s.host.entries) s.host.host.queues)
+submitted_posts s d entry h built at =
+    record {
+      queues = ap (λ (x : State). x.host.queues) (leaves (alone s.host s.pages) at);
+      memory = ap (λ (x : State). x.memory) (leaves (alone s.host s.pages) at);
+      device = ap (λ (x : State). x.device) (leaves (state_of s) at);
+    }
+  where
+    marked : State → State
+    marked x = a.on_records (with_record d.q d.cid a.submitted) (a.on_memory (with_pages (d.data_pages ++ d.chain_pages)) x)
+
+    leaves : (x : State) → host_queue x d.q ≡ Some h → a.after_submit d x ≡ a.on_ring d.q (next_tail x.entries) (a.on_device_queue d.q (with_entry entry) (a.on_memory (slot_written h entry) (marked x)))
+    leaves x at = ap (λ (o : Option SubEntry). option_map_or (λ e. a.posted d.q e (marked x)) o x) built ∙ after_posts d.q entry h (marked x) at
+
+pub submit_ties : (s : Sides) (d : DraftContents) (host : HostView) (pages : Pages) → IsWorld s → s.trusted ≡ true → HostStep s.host s.pages (events.Submit d) events.Accepted host pages
+    → Ties s (events.Submit d) events.Accepted host pages
+submit_ties s d host pages world t step = go d.entry refl
+  where
+    none : refusal_of (state_of s) (events.Submit d) ≡ None
+    none = step.1.0
+
+    go : (o : Option SubEntry) → d.entry ≡ o → Ties s (events.Submit d) events.Accepted host pages
+    go None e = absurd (true≢false (ap is_none (sym e) ∙ (unrefused (state_of s) (events.Submit d) none).1.0))
+    go (Some entry) e =
+        let r = draft_found (state_of s) d none in
+        let live = queue_found is_live (state_of s) d.q (draft_lives (state_of s) d none) in
+        let h : HostQueue = live.0 in
+        let small : d.cid < 2 ^ 16 = omega (arith, small_identifier s world d.q d.cid r.0 r.1.found, few_entries s world d.q h live.1) in
+        let room : is_full s.host.entries h.ring.known_head h.ring.tail ≡ false =
+        sym (ap (λ (o : Option HostQueue). option_map_or (λ x. is_full s.host.entries x.ring.known_head x.ring.tail) o true) live.1) ∙ (unrefused (state_of s) (events.Submit d) none).1.1.1.0 in
+        let can = can_post s (brought s d) d.q h entry world t live.1 live.2 room (draft_typed d entry step.0 small e) (brought_whole s d world step.0) (spares_halves s d r.0 world r.1) in
+        ties s (events.Submit d) events.Accepted host pages (brought s d) d.q h can.0 entry (change d.q (tail_moved s.host.entries) s.host.host.queues) can.1 (spares_walks s d r.0 world r.1)
+        (answer_as_machine s (events.Submit d) events.Accepted host pages refl refl step) refl step.2 (submitted_posts s d entry h e live.1)
+        (same_queues s.controller.queues (change d.q (tail_moved s.host.entries) s.host.host.queues))
+
+-- An admin command is sent
+
+-- queue 0 is live
+admin_live : (s : Sides) → IsWorld s → s.trusted ≡ true → (h : HostQueue) → slice_get s.host.host.queues 0 ≡ Some h → is_live h.state ≡ true
+admin_live s world t h at = ap (λ (o : Option HostQueue). option_map_or (λ x. is_live x.state) o true) (sym at) ∙ (OnTrue_at t world.tied).agree.sound.admin
+
+-- the call leaves what a sending does, and the queues of the host that it makes of those
+sent_ties : (s : Sides) (e : Event) (kind : AdminKind) (id : ℕ) (host : HostView) (pages : Pages) (g : List HostQueue → List HostQueue) → IsWorld s → s.trusted ≡ true
+    → queue_full (state_of s) 0 ≡ false → id < s.host.entries - 1 → named_by kind < 2 ^ 32
+    → ((x : State) → after x e (events.Sent id) ≡ a.on_host (λ h. record h { queues = g h.queues }) (a.sent kind id (admin_entry kind id) x))
+    → Permits (state_of s) e (events.Sent id) → heard e (events.Sent id) host s.controller ≡ s.controller
+    → LeavesByHost (alone s.host s.pages) (after (alone s.host s.pages) e (events.Sent id)) (alone host pages)
+    → StaysAlike s.controller.queues (change 0 (tail_moved s.host.entries) s.host.host.queues) (g (change 0 (tail_moved s.host.entries) s.host.host.queues))
+    → Ties s e (events.Sent id) host pages
+sent_ties s e kind id host pages g world t free new named is permits unheard leaves stays =
+    let room = room_found (state_of s) 0 free in
+    let h : HostQueue = room.0 in
+    let small : id < 2 ^ 16 = omega (arith, new, few_entries s world 0 h room.1) in
+    let can = can_post s s.pages 0 h (admin_entry kind id) world t room.1 (admin_live s world t h room.1) room.2 (admin_typed kind id small named) world.sides.over.pool.whole
+    (λ q x at. record { submission = λ p among. refl; completion = λ p among. refl }) in
+    ties s e (events.Sent id) host pages s.pages 0 h can.0 (admin_entry kind id) (g (change 0 (tail_moved s.host.entries) s.host.host.queues)) can.1 (λ i r at submitted p among. refl)
+    permits unheard leaves
+    (record {
+      queues = ap (λ (x : State). x.host.queues) (is (alone s.host s.pages)) ∙ ap (λ (x : State). g x.host.queues) (posts h (alone s.host s.pages) room.1);
+      memory = ap (λ (x : State). x.memory) (is (alone s.host s.pages)) ∙ ap (λ (x : State). x.memory) (posts h (alone s.host s.pages) room.1);
+      device = ap (λ (x : State). x.device) (is (state_of s)) ∙ ap (λ (x : State). x.device) (posts h (state_of s) room.1);
+    })
+    stays
+  where
+    noted : State → State
+    noted x = a.on_records (λ records. records ++ sent_record kind id ∷ []) x
+
+    posts : (h : HostQueue) (x : State) → host_queue x 0 ≡ Some h
+        → a.sent kind id (admin_entry kind id) x ≡ a.on_ring 0 (next_tail x.entries) (a.on_device_queue 0 (with_entry (admin_entry kind id)) (a.on_memory (slot_written h (admin_entry kind id)) (noted x)))
+    posts h x at = after_posts 0 (admin_entry kind id) h (noted x) at
+
+-- queues are few
+queue_below : (s : Sides) → IsWorld s → s.trusted ≡ true → (test : HostState → Bool) (q : ℕ) → in_state test (state_of s) q ≡ true → q < 65536
+queue_below s world t test q there =
+    let found = queue_found test (state_of s) q there in
+    omega (arith, slice_get_within s.host.host.queues q found.0 found.1, (OnTrue_at t world.tied).agree.few_queues)
+
+pub abort_ties : (s : Sides) (q cid id : ℕ) (host : HostView) (pages : Pages) → IsWorld s → s.trusted ≡ true → HostStep s.host s.pages (events.Abort q cid) (events.Sent id) host pages
+    → Ties s (events.Abort q cid) (events.Sent id) host pages
+abort_ties s q cid id host pages world t step =
+    let causes = unrefused (state_of s) (events.Abort q cid) step.1.0 in
+    let queue = queue_below s world t has_sq q (not-false _ (or_parts (q == 0) (not (in_state has_sq (state_of s) q)) causes.0).1) in
+    let r = found (λ r. is_submitted r.phase) (state_of s) q cid (not-false _ causes.1.1.0) in
+    let room = room_found (state_of s) 0 causes.1.1.1.1.0 in
+    let named : q + 65536 * cid < 2 ^ 32 = omega (arith, queue, small_identifier s world q cid r.0 r.1, few_entries s world 0 room.0 room.1) in
+    sent_ties s (events.Abort q cid) (Abort q cid) id host pages (λ hs. hs) world t causes.1.1.1.1.0 step.1.1.in_range named (λ x. refl)
+    (answer_as_machine s (events.Abort q cid) (events.Sent id) host pages refl refl step) refl step.2
+    (same_queues s.controller.queues (change 0 (tail_moved s.host.entries) s.host.host.queues))
+
+pub delete_cq_ties : (s : Sides) (q id : ℕ) (host : HostView) (pages : Pages) → IsWorld s → s.trusted ≡ true → HostStep s.host s.pages (events.DeleteCq q) (events.Sent id) host pages
+    → Ties s (events.DeleteCq q) (events.Sent id) host pages
+delete_cq_ties s q id host pages world t step =
+    let causes = unrefused (state_of s) (events.DeleteCq q) step.1.0 in
+    let queue = queue_below s world t has_cq q (not-false _ (or_parts (q == 0) (not (in_state has_cq (state_of s) q)) causes.0).1) in
+    sent_ties s (events.DeleteCq q) (DeleteCq q) id host pages (λ hs. hs) world t causes.1.1.1.0 step.1.1.in_range (omega (arith, queue)) (λ x. refl)
+    (answer_as_machine s (events.DeleteCq q) (events.Sent id) host pages refl refl step) refl step.2
+    (same_queues s.controller.queues (change 0 (tail_moved s.host.entries) s.host.host.queues))
+
+-- the deletion of a submission queue is asked for: only the host's state of it changes
+
+deleting_lists : (m : Memory) (q : ℕ) (hs : List HostQueue) (cs : List ControllerQueue) → device_queues_of m (change q a.deleting hs) cs ≡ device_queues_of m hs cs
+deleting_lists m q [] cs = refl
+deleting_lists m zero (h ∷ hs) [] = refl
+deleting_lists m zero (h ∷ hs) (c ∷ cs) = refl
+deleting_lists m (suc q) (h ∷ hs) [] = refl
+deleting_lists m (suc q) (h ∷ hs) (c ∷ cs) = ap (λ (ds : List DeviceQueue). device_queue_of m h.ring c ∷ ds) (deleting_lists m q hs cs)
+
+deleting_rings : (m : Memory) (k q : ℕ) (hs : List HostQueue) (cs : List ControllerQueue) → ((h : HostQueue) → slice_get hs q ≡ Some h → has_cq h.state ≡ true)
+    → AllRingsStand m k hs cs → AllRingsStand m k (change q a.deleting hs) cs
+deleting_rings m k q [] cs has rings = tt
+deleting_rings m k zero (h ∷ hs) [] has rings = tt
+deleting_rings m k zero (h ∷ hs) (c ∷ cs) has rings =
+    let stands = rings.0 in
+    let there = has h refl in (
+      record {
+        fetched = stands.fetched;
+        rung = stands.rung;
+        heard = stands.heard;
+        expected = stands.expected;
+        phases = λ e. stands.phases there;
+        owned = λ e. stands.owned there;
+        follow = λ e. stands.follow there;
+        drained = λ e. absurd (true≢false e);
+      },
+      rings.1,
+    )
+deleting_rings m k (suc q) (h ∷ hs) [] has rings = tt
+deleting_rings m k (suc q) (h ∷ hs) (c ∷ cs) has rings = (rings.0, deleting_rings m (suc k) q hs cs has rings.1)
+
+-- a queue of an I/O number is as it was
+past_first : (f : HostQueue → HostQueue) (q : ℕ) (hs : List HostQueue) → (q == 0) ≡ false → slice_get (change 0 f hs) q ≡ slice_get hs q
+past_first f zero hs io = absurd (true≢false io)
+past_first f (suc q) [] io = refl
+past_first f (suc q) (h ∷ hs) io = refl
+
+pub delete_sq_ties : (s : Sides) (q id : ℕ) (host : HostView) (pages : Pages) → IsWorld s → s.trusted ≡ true → HostStep s.host s.pages (events.DeleteSq q) (events.Sent id) host pages
+    → Ties s (events.DeleteSq q) (events.Sent id) host pages
+delete_sq_ties s q id host pages world t step =
+    let causes = unrefused (state_of s) (events.DeleteSq q) step.1.0 in
+    let io = or_parts (q == 0) (not (in_state has_sq (state_of s) q)) causes.0 in
+    let queue = queue_found has_sq (state_of s) q (not-false _ io.1) in
+    let sent : List HostQueue = change 0 (tail_moved s.host.entries) s.host.host.queues in
+    let has : (h : HostQueue) → slice_get sent q ≡ Some h → has_cq h.state ≡ true =
+    λ h at. let same : Some queue.0 ≡ Some h = sym queue.1 ∙ sym (past_first (tail_moved s.host.entries) q s.host.host.queues io.0) ∙ at in
+    subst (λ (x : HostQueue). has_cq x.state ≡ true) (let one : queue.0 ≡ h = cc in one) (sq_with_cq queue.0.state queue.2) in
+    sent_ties s (events.DeleteSq q) (DeleteSq q) id host pages (change q a.deleting) world t causes.1.1.1.0 step.1.1.in_range (omega (arith, queue_below s world t has_sq q (not-false _ io.1))) (λ x. refl)
+    (answer_as_machine s (events.DeleteSq q) (events.Sent id) host pages refl refl step) refl step.2
+    (record { lists = λ m. deleting_lists m q sent s.controller.queues; rings = λ m rings. deleting_rings m zero q sent s.controller.queues has rings })

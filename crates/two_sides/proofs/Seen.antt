@@ -1,0 +1,151 @@
+-- What the host sees at the head of a completion ring is the machine's first answer.
+use Rattle.std.proofs.Common.{◌≡◌, ◌≢◌, inl, inr, ℕ, ◌*◌, ◌<◌, Bool, true, false, Option, Some, None, is_some, List, [], ◌∷◌, map, slice_get, refl, ap, sym, ◌∙◌, subst, arith}
+use Rattle.std.specs.List.{AllByRecursion}
+use Rattle.std.specs.Option.{option_map, option_and_then}
+use Rattle.std.proofs.lemmas.Bool.{cases_eq}
+use Rattle.entry_codec.specs.Completion.{completion_of}
+use Rattle.entry_codec.specs.declared.completion.ComEntry.{ComEntry}
+use Rattle.controller_core.specs.declared.queue.ControllerQueue.{ControllerQueue}
+use Rattle.host_core.specs.Alone.{alone}
+use Rattle.machine_model.specs.Refusals.{entry_of, first_answer, has_cq, seen_entry, slot_bytes, slot_entry}
+use Rattle.machine_model.specs.State.{HostQueue, DeviceQueue}
+use Rattle.machine_model.proofs.Moves.{seen_trusted}
+use Rattle.machine_model.proofs.Slots.{answers_stand}
+use Rattle.page_memory.specs.Memory.{Memory}
+use Rattle.page_memory.specs.Pages.{byte_at}
+use Rattle.page_memory.specs.declared.page.Half.TheVariants.{Completion}
+use Rattle.queue_pair.specs.Lists.{answers_between, expected_phase, front, phase_of_slot}
+use Rattle.queue_pair.specs.Memory.{completion_at, completion_slot, half_pages, new_completion_at, phased, with_phase}
+use Rattle.queue_pair.specs.Slots.{next_slot}
+use Rattle.queue_pair.proofs.Lists.{answers_none, answers_pop}
+use Rattle.queue_pair.proofs.Phases.{new_is_front}
+use Rattle.two_sides.specs.Sides.{Sides, state_of, answer_of, completions_between, present}
+use Rattle.two_sides.specs.Stepping.{completions_are_seen}
+use Rattle.two_sides.specs.Ties.{IsWorld}
+use Rattle.two_sides.proofs.Known.{IsKnown, IsPlaced, controller_at, device_at, known}
+
+-- A completion as it says of its command: its phase left aside.
+abbrev pub told : Option ComEntry → Option ComEntry
+told o = option_map (phased true) o
+
+-- What the slot at the head holds, whatever was forged
+
+then_map : {X Y Z : Type 0} (f : Y → Option Z) (g : X → Y) (o : Option X) → option_and_then (λ x. f (g x)) o ≡ option_and_then f (option_map g o)
+then_map f g None = refl
+then_map f g (Some x) = refl
+
+slot_below : (n slot : ℕ) → slot < n → slot < 256 * half_pages n Completion
+slot_below n slot l = omega arith
+
+seen_alone : (s : Sides) → IsWorld s → (q : ℕ) (h : HostQueue) (c : ControllerQueue) → slice_get s.host.host.queues q ≡ Some h → IsPlaced s q h c → has_cq h.state ≡ true
+    → seen_entry (alone s.host s.pages) q ≡ new_completion_at (byte_at s.pages) c.device.cq h.ring.head h.ring.phase
+seen_alone s world q h c e p live =
+    ap (option_and_then (slot_entry s.pages)) e
+    ∙ ap (λ (pages : List ℕ). at_head (slot_bytes s.pages pages 16 h.ring.head)) (p.completion live)
+    ∙ ap at_head (answers_stand s.pages c.device.cq (half_pages s.host.entries Completion) h.ring.head world.sides.over.pool.whole (slot_below s.host.entries h.ring.head p.ring.head))
+    ∙ then_map (with_phase h.ring.phase) completion_of (completion_slot (byte_at s.pages) c.device.cq h.ring.head)
+  where
+    at_head : Option (List ℕ) → Option ComEntry
+    at_head o = option_and_then (λ bytes. with_phase h.ring.phase (completion_of bytes)) o
+
+-- Where nothing was forged, the answers in the ring
+
+no_answer : (m : Memory) (h : HostQueue) (c : ControllerQueue) → h.ring.head ≡ c.device.ring.tail → completions_between m h.ring c.device ≡ []
+no_answer m h c same =
+    ap (λ (head : ℕ). present (answers_between m c.device.cq c.device.entries head c.device.ring.tail)) same
+    ∙ ap present (answers_none m c.device.cq c.device.entries c.device.ring.tail)
+
+-- the answer at the head, and those behind it
+pub record HasAnswer (m : Memory) (h : HostQueue) (c : ControllerQueue) : Type 0 where
+  pub entry : ComEntry
+  pub front : front (answers_between m c.device.cq c.device.entries h.ring.head c.device.ring.tail) ≡ Some entry
+  pub list : completions_between m h.ring c.device ≡ entry ∷ present (answers_between m c.device.cq c.device.entries (next_slot c.device.entries h.ring.head) c.device.ring.tail)
+
+pub head_below : (s : Sides) (q : ℕ) (h : HostQueue) (c : ControllerQueue) → IsPlaced s q h c → h.ring.head < c.device.entries
+head_below s q h c p = subst (λ (n : ℕ). h.ring.head < n) (sym p.share.entries) p.ring.head
+
+pub has_answer : (s : Sides) (q : ℕ) (h : HostQueue) (c : ControllerQueue) → IsKnown s q h c → has_cq h.state ≡ true → h.ring.head ≢ c.device.ring.tail → HasAnswer (byte_at s.pages) h c
+has_answer s q h c k live apart = go (completion_at m c.device.cq h.ring.head) refl ((k.rings.phases live).stands h.ring.head below)
+  where
+    m : Memory
+    m = byte_at s.pages
+
+    below : h.ring.head < c.device.entries
+    below = head_below s q h c k.placed
+
+    behind : List (Option ComEntry)
+    behind = answers_between m c.device.cq c.device.entries (next_slot c.device.entries h.ring.head) c.device.ring.tail
+
+    popped : answers_between m c.device.cq c.device.entries h.ring.head c.device.ring.tail ≡ completion_at m c.device.cq h.ring.head ∷ behind
+    popped = answers_pop m c.device.cq c.device.entries h.ring.head c.device.ring.tail below k.placed.share.side.tail apart
+
+    go : (o : Option ComEntry) → completion_at m c.device.cq h.ring.head ≡ o
+        → option_map (λ entry. entry.phase) o ≡ Some (phase_of_slot c.device.ring.tail c.device.ring.phase h.ring.head) → HasAnswer m h c
+    go None is phase = absurd cc
+    go (Some entry) is phase =
+        let all = popped ∙ ap (λ (o : Option ComEntry). o ∷ behind) is in
+        record { entry = entry; front = ap front all; list = ap present all }
+
+-- which is what the machine sees
+pub seen_none : (s : Sides) (q : ℕ) (h : HostQueue) (c : ControllerQueue) → s.trusted ≡ true → slice_get s.host.host.queues q ≡ Some h → slice_get s.controller.queues q ≡ Some c
+    → h.ring.head ≡ c.device.ring.tail → seen_entry (state_of s) q ≡ None
+seen_none s q h c t e f same =
+    seen_trusted (state_of s) q t
+    ∙ ap (λ (o : Option DeviceQueue). option_map (entry_of q) (option_and_then (λ queue. first_answer queue.answers) o)) (device_at s q h c e f)
+    ∙ ap (λ (xs : List ComEntry). option_map (entry_of q) (first_answer (map answer_of xs))) (no_answer (byte_at s.pages) h c same)
+
+pub seen_first : (s : Sides) (q : ℕ) (h : HostQueue) (c : ControllerQueue) → s.trusted ≡ true → slice_get s.host.host.queues q ≡ Some h → slice_get s.controller.queues q ≡ Some c
+    → (a : HasAnswer (byte_at s.pages) h c) → seen_entry (state_of s) q ≡ Some (entry_of q (answer_of a.entry))
+seen_first s q h c t e f a =
+    seen_trusted (state_of s) q t
+    ∙ ap (λ (o : Option DeviceQueue). option_map (entry_of q) (option_and_then (λ queue. first_answer queue.answers) o)) (device_at s q h c e f)
+    ∙ ap (λ (xs : List ComEntry). option_map (entry_of q) (first_answer (map answer_of xs))) a.list
+
+owned_first : (q : ℕ) (e : ComEntry) → e.sqid ≡ q → told (Some e) ≡ told (Some (entry_of q (answer_of e)))
+owned_first q e own = ap (λ (i : ℕ). Some (of_queue i)) own
+  where
+    of_queue : ℕ → ComEntry
+    of_queue i = record { dw0 = e.dw0; sqhd = e.sqhd; sqid = i; cid = e.cid; phase = true; status = e.status }
+
+-- Both see the same
+
+trusted_alike : (s : Sides) → IsWorld s → s.trusted ≡ true → (q : ℕ) (h : HostQueue) (c : ControllerQueue) → slice_get s.host.host.queues q ≡ Some h → slice_get s.controller.queues q ≡ Some c → has_cq h.state ≡ true
+    → told (seen_entry (alone s.host s.pages) q) ≡ told (seen_entry (state_of s) q)
+trusted_alike s world t q h c e f live =
+    ap told (seen_alone s world q h c e k.placed live ∙ ap (new_completion_at m c.device.cq h.ring.head) k.rings.expected ∙ newest)
+    ∙ elim (cases_eq h.ring.head c.device.ring.tail) [
+      | inl same ↦ ap (λ (head : ℕ). told (front (answers_between m c.device.cq c.device.entries head c.device.ring.tail))) same
+          ∙ ap (λ (xs : List (Option ComEntry)). told (front xs)) (answers_none m c.device.cq c.device.entries c.device.ring.tail)
+          ∙ sym (ap told (seen_none s q h c t e f same))
+      | inr apart ↦ there (has_answer s q h c k live apart)
+    ]
+  where
+    m : Memory
+    m = byte_at s.pages
+
+    k : IsKnown s q h c
+    k = known s world t q h c e f
+
+    newest : new_completion_at m c.device.cq h.ring.head (expected_phase h.ring.head c.device.ring.tail c.device.ring.phase) ≡ front (answers_between m c.device.cq c.device.entries h.ring.head c.device.ring.tail)
+    newest = new_is_front m c.device.cq c.device.entries h.ring.head c.device.ring.tail c.device.ring.phase (head_below s q h c k.placed) k.placed.share.side.tail (k.rings.phases live)
+
+    there : HasAnswer m h c → told (front (answers_between m c.device.cq c.device.entries h.ring.head c.device.ring.tail)) ≡ told (seen_entry (state_of s) q)
+    there a =
+        let own = subst (λ (xs : List ComEntry). AllByRecursion (λ e. e.sqid ≡ q) xs) a.list (k.rings.owned live) in
+        ap told a.front ∙ owned_first q a.entry own.0 ∙ sym (ap told (seen_first s q h c t e f a))
+
+pub seen_alike : (s : Sides) → IsWorld s → (q : ℕ) (h : HostQueue) → slice_get s.host.host.queues q ≡ Some h → has_cq h.state ≡ true
+    → told (seen_entry (alone s.host s.pages) q) ≡ told (seen_entry (state_of s) q)
+seen_alike s world q h e live = go s.trusted refl
+  where
+    go : (b : Bool) → s.trusted ≡ b → told (seen_entry (alone s.host s.pages) q) ≡ told (seen_entry (state_of s) q)
+    go true t = let c = controller_at s world q h e in trusted_alike s world t q h c.0 e c.1 live
+    go false t = rw t refl
+
+some_told : (o : Option ComEntry) → is_some (told o) ≡ is_some o
+some_told None = refl
+some_told (Some e) = refl
+
+pub completions_seen : completions_are_seen
+completions_seen s q h world e live =
+    sym (some_told (seen_entry (alone s.host s.pages) q)) ∙ ap is_some (seen_alike s world q h e live) ∙ some_told (seen_entry (state_of s) q)

@@ -1,0 +1,189 @@
+-- What the first unit of a walk does to a pool and to the command's bytes, as the machine writes it.
+use Rattle.std.proofs.Common.{◌≡◌, ℕ, zero, suc, ◌+◌, ◌-◌, ◌*◌, ◌/◌, ◌%◌, ◌<◌, ◌≤◌, ◌++◌, Bool, true, false, cond, Option, Some, None, IfSome, IsSome, is_some, List, [], ◌∷◌, length, take, drop, slice_get, slice_range, nat_le, nat_eq, leb-true, append_assoc, refl, ap, ap₂, sym, ◌∙◌, arith, subst}
+use Rattle.std.specs.Option.{option_map_or}
+use Rattle.std.proofs.lemmas.List.{length-take-le, length-drop}
+use Rattle.controller_walk.specs.Laws.{after_units}
+use Rattle.controller_walk.specs.Units.{Act, Stays, Reads, Moves, Course, Closes, Does, units, touched, read_at, from_place, behind, moving, first_part, pages_spanned}
+use Rattle.controller_walk.specs.Walks.{Effect, DoesFirst, LeavesRest, IfMore, answer, course_in}
+use Rattle.controller_walk.specs.declared.cursor.Cursor.{Cursor}
+use Rattle.controller_walk.specs.declared.progress.Progress.{Progress}
+use Rattle.controller_walk.specs.declared.progress.State as progress
+use Rattle.controller_walk.specs.declared.progress.State.TheVariants.{First, Next, Data, Over}
+use Rattle.controller_walk.specs.declared.walk.Walk.{Walk}
+use Rattle.controller_walk.specs.declared.walk.WalkState.{WalkState}
+use Rattle.controller_walk.specs.declared.walk.WalkState.TheVariants.{Fault}
+use Rattle.entry_codec.specs.declared.status.TheConstants.Status.{DATA_TRANSFER_ERROR}
+use Rattle.host_core.proofs.Slots.{page-written}
+use Rattle.io_commands.specs.Jobs.{course_of_walk}
+use Rattle.machine_model.specs.After.{page_bytes}
+use Rattle.machine_model.specs.State.{State, Job}
+use Rattle.machine_model.proofs.DeviceMoves.{unit_bytes, unit_memory}
+use Rattle.machine_model.proofs.Parts.{in_store, in_store-with_bytes}
+use Rattle.page_memory.specs.Memory.{Memory, bytes_at, pages_reached, page_of, written}
+use Rattle.page_memory.specs.Pages.{Pages, page_at, byte_at, AreWhole, IsPool}
+use Rattle.page_memory.proofs.Reading.{bytes_within, bytes_missing}
+use Rattle.page_memory.proofs.Whole.{told}
+use Rattle.sgl_descriptor.specs.declared.Direction.{Direction}
+use Rattle.sgl_descriptor.specs.declared.Direction.TheVariants.{Destination, Source}
+
+-- The first unit
+
+pub record FirstUnit (c : Course) (dir : Direction) (m m' : Memory) (bytes bytes' : List ℕ) (outcome : WalkState) (left : Course) (pages : List ℕ) : Type 0 where
+  pub act : Act
+  pub rest : Course
+  pub is : c ≡ Does act rest
+  pub effect : Effect dir act m m' bytes bytes'
+  pub touches : pages ≡ touched act
+  pub answers : outcome ≡ answer rest
+  pub goes_on : IfMore outcome (left ≡ rest)
+
+pub first_unit : (c : Course) (dir : Direction) (m m' : Memory) (bytes bytes' : List ℕ) (outcome : WalkState) (left : Course) (pages : List ℕ)
+    → DoesFirst c dir m m' bytes bytes' [] pages → LeavesRest c outcome left → FirstUnit c dir m m' bytes bytes' outcome left pages
+first_unit (Closes v) dir m m' bytes bytes' outcome left pages does leaves = absurd does
+first_unit (Does act rest) dir m m' bytes bytes' outcome left pages does leaves =
+    record { act = act; rest = rest; is = refl; effect = does.0; touches = does.1; answers = leaves.0; goes_on = leaves.1 }
+
+-- it is the next one of the list, where so many are done
+pub next_done : (n : ℕ) (c : Course) (act : Act) (rest : Course) → after_units n c ≡ Does act rest → (slice_get (units c) n ≡ Some act) × (after_units (n + 1) c ≡ rest)
+next_done n c act rest e =
+    let both = go n c e in
+    let next : n + 1 ≡ suc n = omega arith in
+    (both.0, ap (λ (k : ℕ). after_units k c) next ∙ both.1)
+  where
+    go : (n : ℕ) (c : Course) → after_units n c ≡ Does act rest → (slice_get (units c) n ≡ Some act) × (after_units (suc n) c ≡ rest)
+    go zero (Closes v) e = absurd cc
+    go zero (Does x r) e = let same : x ≡ act = cc in let behind_it : r ≡ rest = cc in (ap Some same, behind_it)
+    go (suc n) (Closes v) e = absurd cc
+    go (suc n) (Does x r) e = go n r e
+
+-- Each move lies in one page.
+
+abbrev pub InPage : Act → Type 0
+InPage Stays = Unit {0}
+InPage (Reads place) = Unit {0}
+InPage (Moves place n offset) = (0 < n) × (place % 4096 + n ≤ 4096)
+
+abbrev pub HeadInPage : Course → Type 0
+HeadInPage (Closes v) = Unit {0}
+HeadInPage (Does act rest) = InPage act
+
+first_part_fits : (place len : ℕ) → 0 < len → (0 < first_part place len) × (place % 4096 + first_part place len ≤ 4096)
+first_part_fits place len some = go (nat_le len (4096 - place % 4096)) refl
+  where
+    go : (b : Bool) → nat_le len (4096 - place % 4096) ≡ b
+        → (0 < cond b len (4096 - place % 4096)) × (place % 4096 + cond b len (4096 - place % 4096) ≤ 4096)
+    go true e = (some, omega (arith, leb-true len (4096 - place % 4096) e))
+    go false e = (omega arith, omega arith)
+
+some_spanned : (place len : ℕ) → 0 < pages_spanned place len → 0 < len
+some_spanned place zero h = h
+some_spanned place (suc len) h = omega arith
+
+head_moving : (m : Memory) (n place len offset : ℕ) (rest : Course) → (0 < n → 0 < len) → HeadInPage rest → HeadInPage (moving m n place len offset rest)
+unfolding moving
+head_moving m zero place len offset rest some h = h
+head_moving m (suc n) place len offset rest some h = go (is_some (bytes_at m place (first_part place len)))
+  where
+    go : (b : Bool) → HeadInPage (cond b (Does (Moves place (first_part place len) offset) (moving m n (place + first_part place len) (len - first_part place len) (offset + first_part place len) rest)) (Does Stays (Closes (Fault DATA_TRANSFER_ERROR))))
+    go true = first_part_fits place len (some (omega arith))
+    go false = tt
+
+head_from : (k : ℕ) (m : Memory) (dir : Direction) (need : ℕ) (c : Cursor) (wanted : ℕ) → HeadInPage (from_place k m dir need c wanted)
+unfolding from_place
+head_from zero m dir need c wanted = tt
+head_from (suc k) m dir need c wanted = go (bytes_at m c.place 16)
+  where
+    go : (o : Option (List ℕ)) → HeadInPage (read_at m dir need c wanted (behind (from_place k m dir need)) o)
+    go None = tt
+    go (Some bytes) = tt
+
+head_behind : (k : ℕ) (m : Memory) (dir : Direction) (need : ℕ) (o : Option Cursor) (wanted : ℕ) → HeadInPage (behind (from_place k m dir need) o wanted)
+head_behind k m dir need None wanted = tt
+head_behind k m dir need (Some c) wanted = head_from k m dir need c wanted
+
+head_in : (m : Memory) (w : Progress) (s : progress.State) → HeadInPage (course_in m w s)
+head_in m w (First sgl1) = tt
+head_in m w (Next c) = head_from w.allowed m w.direction w.need c w.wanted
+head_in m w (Data block after) =
+    head_moving m (pages_spanned block.place block.len) block.place block.len block.offset _ (some_spanned block.place block.len) (head_behind w.allowed m w.direction w.need after w.wanted)
+head_in m w Over = tt
+
+pub head_in_page : (m : Memory) (o : Option Walk) → HeadInPage (course_of_walk m o)
+head_in_page m None = tt
+head_in_page m (Some w) = head_in m w w.state
+
+-- The pool and the bytes behind it
+
+-- the page of a move is in
+page_of_move : (pages : Pages) (place n : ℕ) (found : List ℕ) → 0 < n → bytes_at (byte_at pages) place n ≡ Some found → (page : List ℕ) × (page_at pages (place / 4096) ≡ Some page)
+page_of_move pages place n found some e = go (page_at pages (place / 4096)) refl
+  where
+    parts : 4096 * (place / 4096) + place % 4096 ≡ place
+    parts = omega arith
+
+    go : (o : Option (List ℕ)) → page_at pages (place / 4096) ≡ o → (page : List ℕ) × (page_at pages (place / 4096) ≡ Some page)
+    go None f =
+        let missing : bytes_at (byte_at pages) place n ≡ None = subst (λ (x : ℕ). bytes_at (byte_at pages) x n ≡ None) parts (bytes_missing pages (place / 4096) n (place % 4096) f (omega arith) some) in
+        absurd (let no : None ≡ Some found = sym missing ∙ e in cc)
+    go (Some page) f = (page, f)
+
+short_take : {A : Type 0} (n : ℕ) (xs : List A) → length (take n xs) ≤ n
+short_take zero xs = omega arith
+short_take (suc n) [] = omega arith
+short_take (suc n) (x ∷ xs) = omega (arith, short_take n xs)
+
+range_is : (bytes : List ℕ) (offset n : ℕ) → slice_range bytes offset (offset + n) ≡ take n (drop offset bytes)
+range_is bytes offset n = let k : offset + n - offset ≡ n = omega arith in ap (λ (x : ℕ). take x (drop offset bytes)) k
+
+same_pool : (old new : Pages) → AreWhole old → AreWhole new → length new ≡ length old → byte_at new ≡ byte_at old → new ≡ old
+same_pool old new whole whole' size e = told new old whole' whole size (λ place. ap (λ (m : Memory). m place) e)
+
+pub effect_told : (s : State) (j : Job) (new : Pages) (dir : Direction) (act : Act) (bytes' : List ℕ) → IsPool s.memory → AreWhole new → length new ≡ length s.memory → InPage act
+    → Effect dir act (byte_at s.memory) (byte_at new) j.bytes bytes' → (new ≡ unit_memory s j dir act) × (bytes' ≡ unit_bytes s dir act j.bytes)
+effect_told s j new dir Stays bytes' pool whole size fits e = (same_pool s.memory new pool.whole whole size e.0, e.1)
+effect_told s j new dir (Reads place) bytes' pool whole size fits e = (same_pool s.memory new pool.whole whole size e.0, e.1)
+effect_told s j new Destination (Moves place n offset) bytes' pool whole size fits e =
+    let (found, there, wrote) = e.0 in
+    let (page, at) = page_of_move s.memory place n found fits.0 there in
+    let parts : 4096 * (place / 4096) + place % 4096 ≡ place = omega arith in
+    let is : IsSome (page_at s.memory (place / 4096)) = subst IsSome (sym at) refl in
+    let short : length (take n (drop offset j.bytes)) ≤ n = short_take n (drop offset j.bytes) in (
+      page-written s.memory new (place / 4096) (place % 4096) (take n (drop offset j.bytes)) is (omega (arith, short, fits.1)) pool whole size
+          (wrote ∙ ap₂ (λ (p : ℕ) (xs : List ℕ). written (byte_at s.memory) p xs) (sym parts) (range_is j.bytes offset n)),
+      e.1,
+    )
+effect_told s j new Source (Moves place n offset) bytes' pool whole size fits e =
+    let (found, there, got) = e.0 in
+    let (page, at) = page_of_move s.memory place n found fits.0 there in
+    let parts : 4096 * (place / 4096) + place % 4096 ≡ place = omega arith in
+    let long : length page ≡ 4096 = subst (λ o. IfSome o (λ page. length page ≡ 4096)) at (pool.whole (place / 4096)) in
+    let read : bytes_at (byte_at s.memory) place n ≡ Some (take n (drop (place % 4096) page)) =
+    subst (λ (p : ℕ). bytes_at (byte_at s.memory) p n ≡ Some (take n (drop (place % 4096) page))) parts (bytes_within s.memory (place / 4096) n (place % 4096) page at long fits.1) in
+    let same : found ≡ take n (drop (place % 4096) page) = cc (there, read) in
+    let is : page_bytes s.memory place n ≡ take n (drop (place % 4096) page) = ap (λ o. option_map_or (λ bytes. take n (drop (place % 4096) bytes)) o []) at in
+    let many : length (page_bytes s.memory place n) ≡ n = ap length is ∙ (length-take-le n (drop (place % 4096) page) (omega (arith, length-drop (place % 4096) page, long, fits.1))) in (
+      same_pool s.memory new pool.whole whole size e.1,
+      got
+          ∙ (ap₂ (λ (xs : List ℕ) (k : ℕ). take offset j.bytes ++ (xs ++ drop (offset + k) j.bytes)) (same ∙ sym is) (sym many)
+          ∙ sym (append_assoc (take offset j.bytes) (page_bytes s.memory place n) (drop (offset + length (page_bytes s.memory place n)) j.bytes))),
+    )
+
+-- which pages are in stays
+pub unit_stays : (s : State) (j : Job) (dir : Direction) (act : Act) → in_store (unit_memory s j dir act) ≡ in_store s.memory
+unit_stays s j dir Stays = refl
+unit_stays s j dir (Reads place) = refl
+unit_stays s j Destination (Moves place n offset) = in_store-with_bytes s.memory (place / 4096) (place % 4096) (take n (drop offset j.bytes))
+unit_stays s j Source (Moves place n offset) = refl
+
+-- a unit touches two pages at most
+few_reached : (place n : ℕ) → length (pages_reached place n) < 3
+few_reached place n = go (nat_eq (page_of place) (page_of (place + n - 1)))
+  where
+    go : (b : Bool) → length (cond b (page_of place ∷ []) (page_of place ∷ page_of (place + n - 1) ∷ [])) < 3
+    go true = omega arith
+    go false = omega arith
+
+pub few_touched : (act : Act) → length (touched act) < 3
+few_touched Stays = omega arith
+few_touched (Reads place) = few_reached place 16
+few_touched (Moves place n offset) = few_reached place n
