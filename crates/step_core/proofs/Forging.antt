@@ -19,10 +19,10 @@ use Rattle.page_memory.specs.Pages.{Pages, byte_at, page_at, AreWhole, IsPool}
 use Rattle.page_memory.proofs.Reading.{none_at}
 use Rattle.queue_pair.specs.Memory.{completion_place, completion_slot}
 use Rattle.two_sides.specs.Sides.{Sides, state_of}
-use Rattle.two_sides.specs.Ties.{ShareQueue, ShareQueues}
-use Rattle.two_sides.specs.Stepping.{forged}
-use Rattle.step_core.specs.World.{sides_of, IsLawful}
+use Rattle.two_sides.specs.Ties.{IsWorld, ShareQueue, ShareQueues}
+use Rattle.two_sides.proofs.Forgery.{slots_are_in, forged_stepped}
 use Rattle.step_core.proofs.Steps.{Goes, goes}
+use Rattle.step_core.specs.World.{sides_of}
 
 -- a place whose byte is there is in the pool
 in_pool : (pages : Pages) (place : ℕ) → IsPool pages → byte_at pages place ≢ None → place < 268435456
@@ -58,26 +58,26 @@ first_is cq many base pages (inr is) at = go many (subst (λ (pages : List ℕ).
 pub forges_none : (s : Sides) (q slot : ℕ) (bytes : List ℕ) → in_state has_cq (alone s.host []) q ≡ true → slot < s.host.entries → refusal_of (state_of s) (events.Forge q slot bytes) ≡ None
 forges_none s q slot bytes live below = rw (live, lt-leb s.host.entries slot below) refl
 
-pub slot_is : (s : Sides) (q slot base : ℕ) (bytes : List ℕ) → IsLawful s → Some base ≡ completion_base s.host q → in_state has_cq (alone s.host []) q ≡ true → slot < s.host.entries → IsSlot s q slot (base + 16 * slot)
+pub slot_is : (s : Sides) (q slot base : ℕ) (bytes : List ℕ) → IsWorld s → Some base ≡ completion_base s.host q → in_state has_cq (alone s.host []) q ≡ true → slot < s.host.entries → IsSlot s q slot (base + 16 * slot)
 slot_is s q slot base bytes l at live below = go (slice_get s.host.host.queues q) refl (sym at)
   where
     go : (o : Option HostQueue) → slice_get s.host.host.queues q ≡ o → option_and_then (λ queue. option_map (λ page. 4096 * page) (slice_get queue.cq_pages 0)) o ≡ Some base → IsSlot s q slot (base + 16 * slot)
     go None here is = absurd cc
     go (Some h) here is =
-        let (c, found, (k, share)) = share_from s.host.entries 0 s.host.host.queues s.controller.queues q h l.world.sides.queues here in
+        let (c, found, (k, share)) = share_from s.host.entries 0 s.host.host.queues s.controller.queues q h l.sides.queues here in
         let place : base + 16 * slot ≡ completion_place c.device.cq slot = ap (λ (n : ℕ). n + 16 * slot) (first_is c.device.cq _ base h.cq_pages share.completion is) in
-        let there = l.laws.slots s q slot bytes c l.world (forges_none s q slot bytes live below) found in
+        let there = slots_are_in s q slot bytes c l (forges_none s q slot bytes live below) found in
         record {
           queue = c;
           here = found;
           is = place;
           there = there;
-          fits = subst (λ (n : ℕ). n < 268435456) (sym place) (in_pool s.pages (completion_place c.device.cq slot) l.world.sides.over.pool (λ none. there (none_at (byte_at s.pages) (completion_place c.device.cq slot) 16 none (omega arith))));
+          fits = subst (λ (n : ℕ). n < 268435456) (sym place) (in_pool s.pages (completion_place c.device.cq slot) l.sides.over.pool (λ none. there (none_at (byte_at s.pages) (completion_place c.device.cq slot) 16 none (omega arith))));
         }
 
 -- The call: its place, counted from where the ring begins, and what it leaves
 
-pub slot_at : (s : Sides) (q slot base from count : ℕ) → IsLawful s → Some base ≡ completion_base s.host q → true ≡ in_state has_cq (alone s.host []) q → slot < count → count ≡ s.host.entries → from ≡ slot
+pub slot_at : (s : Sides) (q slot base from count : ℕ) → IsWorld s → Some base ≡ completion_base s.host q → true ≡ in_state has_cq (alone s.host []) q → slot < count → count ≡ s.host.entries → from ≡ slot
     → IsSlot s q slot (base + 16 * from)
 slot_at s q slot base from count l at live below entries same =
     subst (λ (from : ℕ). IsSlot s q slot (base + 16 * from)) (sym same) (slot_is s q slot base [] l at (sym live) (subst (λ (n : ℕ). slot < n) entries below))
@@ -86,12 +86,12 @@ pub never_out : (s : Sides) (q slot place : ℕ) (cleared : Pages) (bytes : List
 never_out s q slot place cleared bytes at same many out =
     at.there (sym (ap (λ (place : ℕ). bytes_at (byte_at s.pages) place 16) at.is) ∙ (sym (ap₂ (λ (m : Memory) (n : ℕ). bytes_at m place n) same many) ∙ out))
 
-pub forge_goes : (s : Sides) (q slot place count : ℕ) (bytes : List ℕ) (cleared new : Pages) → IsLawful s → true ≡ in_state has_cq (alone s.host []) q → slot < count → count ≡ s.host.entries → IsSlot s q slot place
+pub forge_goes : (s : Sides) (q slot place count : ℕ) (bytes : List ℕ) (cleared new : Pages) → IsWorld s → true ≡ in_state has_cq (alone s.host []) q → slot < count → count ≡ s.host.entries → IsSlot s q slot place
     → length bytes ≡ 16 → byte_at cleared ≡ byte_at s.pages → length cleared ≡ length s.pages → AreWhole new → length new ≡ length cleared → byte_at new ≡ written (byte_at cleared) place bytes
     → Goes s (events.Forge q slot bytes) events.Accepted (sides_of s.host s.controller new false)
 forge_goes s q slot place count bytes cleared new l live below entries at many same size whole size' is =
-    goes s (events.Forge q slot bytes) events.Accepted (forged s new) l
-    (l.laws.forged s q slot bytes at.queue new l.world many (forges_none s q slot bytes (sym live) (subst (λ (n : ℕ). slot < n) entries below)) at.here
+    goes s (events.Forge q slot bytes) events.Accepted _
+    (forged_stepped s q slot bytes at.queue new l many (forges_none s q slot bytes (sym live) (subst (λ (n : ℕ). slot < n) entries below)) at.here
     (record { whole = whole; count = size' ∙ size })
     (is ∙ ap₂ (λ (m : Memory) (place : ℕ). written m place bytes) same at.is))
 

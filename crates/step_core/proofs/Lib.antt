@@ -9,5 +9,4 @@ pub mod GoingOn
 pub mod Steps
 pub mod Looking
 pub mod Forging
-pub mod Pending
 pub mod Opening

@@ -20,14 +20,17 @@ use Rattle.page_memory.specs.Memory.{Memory}
 use Rattle.page_memory.specs.Pages.{byte_at}
 use Rattle.two_sides.specs.Serving.{why_of}
 use Rattle.two_sides.specs.Sides.{Sides, state_of}
-use Rattle.two_sides.specs.Ties.{ShareQueues}
+use Rattle.two_sides.specs.Ties.{IsWorld, ShareQueues}
+use Rattle.two_sides.proofs.CompleteSteps.{complete_refused_alike}
+use Rattle.two_sides.proofs.FetchLooks.{refuse_alike}
+use Rattle.two_sides.proofs.Seen.{completions_seen}
+use Rattle.two_sides.proofs.WalkSteps.{walk_refused_alike}
 use Rattle.step_core.specs.Looks.{event_of, has_completion, IsAtRest}
-use Rattle.step_core.specs.World.{IsLawful}
 
 -- Completions
 
 -- the host alone finds a completion where the world has one
-pub waits_alike : (s : Sides) (q : ℕ) → IsLawful s → completion_waits (alone s.host s.pages) q ≡ has_completion (state_of s) q
+pub waits_alike : (s : Sides) (q : ℕ) → IsWorld s → completion_waits (alone s.host s.pages) q ≡ has_completion (state_of s) q
 waits_alike s q l = go (slice_get s.host.host.queues q) refl
   where
     go : (o : Option HostQueue) → slice_get s.host.host.queues q ≡ o → completion_waits (alone s.host s.pages) q ≡ has_completion (state_of s) q
@@ -36,7 +39,7 @@ waits_alike s q l = go (slice_get s.host.host.queues q) refl
       where
         inner : (b : Bool) → has_cq h.state ≡ b → completion_waits (alone s.host s.pages) q ≡ has_completion (state_of s) q
         inner false live = rw (at, live) refl
-        inner true live = ap (λ (b : Bool). is_none (refusal_of (state_of s) (events.Reap q)) && b) (l.laws.completions s q h l.world at live)
+        inner true live = ap (λ (b : Bool). is_none (refusal_of (state_of s) (events.Reap q)) && b) (completions_seen s q h l at live)
 
 -- a test that fails at a queue more
 pub fails-more : {S : Type 0} (test : S → ℕ → Bool) (first now new : S) (n : ℕ) (b : Bool) → (now ≡ first) × ((k : ℕ) → k < n → test first k ≡ false) → new ≡ now → b ≡ test now n → b ≡ false
@@ -54,18 +57,18 @@ no-completions s n past below q = go (slice_get_cases s.host.queues q).1
 
 -- The controller's steps
 
-refusal_alike : (s : Sides) (step : ControllerStep) → IsLawful s → s.trusted ≡ true → refusal_of (state_of s) (event_of step) ≡ option_map why_of (refusal_by s.controller (byte_at s.pages) step)
-refusal_alike s (Fetch q) l trust = l.laws.fetch_refusals s q l.world trust
-refusal_alike s (Walk q cid) l trust = l.laws.walk_refusals s q cid l.world trust
-refusal_alike s (Complete q cid) l trust = l.laws.complete_refusals s q cid l.world trust
+refusal_alike : (s : Sides) (step : ControllerStep) → IsWorld s → s.trusted ≡ true → refusal_of (state_of s) (event_of step) ≡ option_map why_of (refusal_by s.controller (byte_at s.pages) step)
+refusal_alike s (Fetch q) l trust = refuse_alike s q l trust
+refusal_alike s (Walk q cid) l trust = walk_refused_alike s q cid l trust
+refusal_alike s (Complete q cid) l trust = complete_refused_alike s q cid l trust
 
-pub possible : (s : Sides) (old : State) (o : Option ControllerStep) → state_of s ≡ old → IsLawful s → IfSome o (λ step. refusal_by s.controller (byte_at s.pages) step ≡ None)
+pub possible : (s : Sides) (old : State) (o : Option ControllerStep) → state_of s ≡ old → IsWorld s → IfSome o (λ step. refusal_by s.controller (byte_at s.pages) step ≡ None)
     → IfSome o (λ step. IsTrue old.trusted → refusal_of old (event_of step) ≡ None)
 possible s old None is l none = none
 possible s old (Some step) is l none =
     subst (λ (old : State). IsTrue old.trusted → refusal_of old (event_of step) ≡ None) is (λ trust. refusal_alike s step l trust ∙ ap (option_map why_of) none)
 
-refused_alike : (s : Sides) (step : ControllerStep) → IsLawful s → s.trusted ≡ true → is_none (refusal_by s.controller (byte_at s.pages) step) ≡ false → is_none (refusal_of (state_of s) (event_of step)) ≡ false
+refused_alike : (s : Sides) (step : ControllerStep) → IsWorld s → s.trusted ≡ true → is_none (refusal_by s.controller (byte_at s.pages) step) ≡ false → is_none (refusal_of (state_of s) (event_of step)) ≡ false
 refused_alike s step l trust some = ap is_none (refusal_alike s step l trust) ∙ (same (refusal_by s.controller (byte_at s.pages) step) ∙ some)
   where
     same : (o : Option Refusal) → is_none (option_map why_of o) ≡ is_none o
@@ -86,7 +89,7 @@ past_last c m q past = go (slice_get_cases c.queues q).1
     go (inl (x, within, at, same)) = absurd (omega arith)
     go (inr (beyond, none)) = rw none refl
 
-at_rest : (s : Sides) → IsLawful s → length s.host.host.queues < 65536 → controller.IsAtRest s.controller (byte_at s.pages) → s.trusted ≡ true → IsAtRest (state_of s)
+at_rest : (s : Sides) → IsWorld s → length s.host.host.queues < 65536 → controller.IsAtRest s.controller (byte_at s.pages) → s.trusted ≡ true → IsAtRest (state_of s)
 at_rest s l few rest trust =
     record {
       fetches = λ q. refused_alike s (Fetch q) l trust (fetch q);
@@ -95,7 +98,7 @@ at_rest s l few rest trust =
     }
   where
     many : length s.controller.queues ≡ length s.host.host.queues
-    many = as_many s.host.entries 0 s.host.host.queues s.controller.queues l.world.sides.queues
+    many = as_many s.host.entries 0 s.host.host.queues s.controller.queues l.sides.queues
 
     fetch : (q : ℕ) → is_none (fetch_refusal s.controller (byte_at s.pages) q) ≡ false
     fetch q = go (slice_get_cases s.controller.queues q).1
@@ -104,7 +107,7 @@ at_rest s l few rest trust =
         go (inl (x, within, at, same)) = rest.fetches q (omega (arith, many, few, within))
         go (inr (beyond, none)) = past_last s.controller (byte_at s.pages) q beyond
 
-pub rests : (s : Sides) (old : State) (o : Option ControllerStep) → state_of s ≡ old → IsLawful s → length s.host.host.queues < 65536 → IfNone o (controller.IsAtRest s.controller (byte_at s.pages))
+pub rests : (s : Sides) (old : State) (o : Option ControllerStep) → state_of s ≡ old → IsWorld s → length s.host.host.queues < 65536 → IfNone o (controller.IsAtRest s.controller (byte_at s.pages))
     → IfNone o (IsTrue old.trusted → IsAtRest old)
 rests s old None is l few rest = subst (λ (old : State). IsTrue old.trusted → IsAtRest old) is (λ trust. at_rest s l few rest trust)
 rests s old (Some step) is l few rest = rest

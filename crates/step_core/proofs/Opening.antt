@@ -6,18 +6,15 @@ use Rattle.controller_core.specs.declared.queue.QueuePages.{QueuePages}
 use Rattle.host_core.specs.Alone.{HostView}
 use Rattle.host_core.specs.Opening.{refusal_of_config, opened_view, opened_pages}
 use Rattle.host_core.specs.declared.config.Config.{Config}
-use Rattle.machine_model.specs.Claims.{IsSound}
-use Rattle.machine_model.specs.State.{State}
-use Rattle.machine_model.proofs.Headline.{runs_are_sound}
 use Rattle.page_memory.specs.Pages.{Pages}
 use Rattle.page_memory.specs.declared.page.Half.TheVariants.{Submission, Completion}
 use Rattle.queue_pair.specs.Memory.{half_pages}
 use Rattle.two_sides.specs.Opening.{halves_from, opened_sides}
 use Rattle.two_sides.specs.Sides.{Sides, state_of}
+use Rattle.two_sides.specs.Ties.{IsWorld}
 use Rattle.two_sides.proofs.Opened.{opened_are_worlds}
 use Rattle.step_core.specs.Opening.{opening_of}
-use Rattle.step_core.specs.World.{sides_of, IsLawful}
-use Rattle.step_core.proofs.Pending.{laws}
+use Rattle.step_core.specs.World.{sides_of}
 
 -- Where halves begin, a queue more
 
@@ -46,18 +43,12 @@ next_halves n k first a b old new is_a is_b is_first is_old is_new =
 
 -- Both sides as they open
 
-lawful : (c : Config) (image : List ℕ) → refusal_of_config c ≡ None → IsLawful (opened_sides c image) × (state_of (opened_sides c image) ≡ opening_of c image)
-lawful c image fits =
-    let world = opened_are_worlds c image fits in
-    let sound : IsSound (opening_of c image) = runs_are_sound c.pages c.queues c.entries c.segment image [] [] (opening_of c image) fits refl in
-    (record { world = world.1; sound = subst (λ (s : State). IsSound s) (sym world.0) sound; laws = laws }, world.0)
-
-pub opened_lawful : (c : Config) (image : List ℕ) (host : HostView) (pages : Pages) (halves : List QueuePages) (contents : Contents) → refusal_of_config c ≡ None → host ≡ opened_view c → pages ≡ opened_pages c
+pub opened_tied : (c : Config) (image : List ℕ) (host : HostView) (pages : Pages) (halves : List QueuePages) (contents : Contents) → refusal_of_config c ≡ None → host ≡ opened_view c → pages ≡ opened_pages c
     → halves ≡ halves_from 0 c.entries (c.queues + 1) → contents ≡ controller.opened c.entries halves image
-    → IsLawful (sides_of host contents pages true) × (state_of (sides_of host contents pages true) ≡ opening_of c image)
-opened_lawful c image host pages halves contents fits is_host is_pages is_halves is_contents =
-    subst (λ (s : Sides). IsLawful s × (state_of s ≡ opening_of c image))
+    → IsWorld (sides_of host contents pages true) × (state_of (sides_of host contents pages true) ≡ opening_of c image)
+opened_tied c image host pages halves contents fits is_host is_pages is_halves is_contents =
+    subst (λ (s : Sides). IsWorld s × (state_of s ≡ opening_of c image))
     (sym (ap (λ (host : HostView). sides_of host contents pages true) is_host
     ∙ (ap (λ (pages : Pages). sides_of (opened_view c) contents pages true) is_pages
     ∙ ap (λ (contents : Contents). sides_of (opened_view c) contents (opened_pages c) true) (is_contents ∙ ap (λ (halves : List QueuePages). controller.opened c.entries halves image) is_halves))))
-    (lawful c image fits)
+    (let world = opened_are_worlds c image fits in (world.1, world.0))

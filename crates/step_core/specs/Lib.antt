@@ -1,4 +1,3 @@
-pub mod Pending
 pub mod World
 pub mod Opening
 pub mod Touching

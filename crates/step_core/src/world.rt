@@ -21,12 +21,13 @@ pub struct World<A: Allocator = Global> {
 
 impl<A: Allocator> Model for World<A> {
     ghost use Rattle.machine_model.specs.State.{State};
-    ghost use Rattle.step_core.specs.World.{sides_of, IsLawful};
+    ghost use Rattle.step_core.specs.World.{sides_of};
     ghost use Rattle.two_sides.specs.Sides.{state_of};
+    ghost use Rattle.two_sides.specs.Ties.{IsWorld};
 
     ghost Value = { State };
 
     ghost view = { λ w. state_of (sides_of w.host w.controller w.store.pages w.trusted) };
 
-    ghost invariant = { λ w. IsLawful (sides_of w.host w.controller w.store.pages w.trusted) };
+    ghost invariant = { λ w. IsWorld (sides_of w.host w.controller w.store.pages w.trusted) };
 }

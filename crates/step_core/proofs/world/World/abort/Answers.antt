@@ -13,4 +13,4 @@ returns g c =
 pub invariant_of-self : goal.invariant_of-self
 invariant_of-self g c =
     let old = sides_of c.self.inside.host c.self.inside.controller c.self.inside.store.pages c.self.inside.trusted in
-    (silent_goes old (events.Abort c.args.q c.args.cid) (send_reply c.abort.result) c.abort.new.self c.abort.new.store.pages c.self.invariant refl refl refl c.abort.ensures.step c.abort.ensures.over).lawful
+    (silent_goes old (events.Abort c.args.q c.args.cid) (send_reply c.abort.result) c.abort.new.self c.abort.new.store.pages c.self.invariant refl refl refl c.abort.ensures.step c.abort.ensures.over).world

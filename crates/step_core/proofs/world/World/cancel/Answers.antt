@@ -13,4 +13,4 @@ returns-clause-step g c =
 pub invariant_of-self : goal.invariant_of-self
 invariant_of-self g c =
     let old = sides_of c.self.inside.host c.self.inside.controller c.self.inside.store.pages c.self.inside.trusted in
-    (silent_goes old (events.Cancel c.args.draft) (accept_reply c.cancel.result) c.cancel.new.self c.cancel.new.store.pages c.self.invariant refl refl refl c.cancel.ensures.step c.cancel.ensures.over).lawful
+    (silent_goes old (events.Cancel c.args.draft) (accept_reply c.cancel.result) c.cancel.new.self c.cancel.new.store.pages c.self.invariant refl refl refl c.cancel.ensures.step c.cancel.ensures.over).world

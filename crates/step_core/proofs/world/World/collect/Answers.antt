@@ -13,4 +13,4 @@ returns-clause-step g c =
 pub invariant_of-self : goal.invariant_of-self
 invariant_of-self g c =
     let old = sides_of c.self.inside.host c.self.inside.controller c.self.inside.store.pages c.self.inside.trusted in
-    (silent_goes old (events.Collect c.args.ticket.q c.args.ticket.cid) (collect_reply c.collect.result) c.collect.new.self c.collect.new.store.pages c.self.invariant refl refl refl c.collect.ensures.step c.collect.ensures.over).lawful
+    (silent_goes old (events.Collect c.args.ticket.q c.args.ticket.cid) (collect_reply c.collect.result) c.collect.new.self c.collect.new.store.pages c.self.invariant refl refl refl c.collect.ensures.step c.collect.ensures.over).world

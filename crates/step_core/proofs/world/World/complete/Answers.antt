@@ -15,4 +15,4 @@ returns-clause-touches g c =
 pub invariant_of-self : goal.invariant_of-self
 invariant_of-self g c =
     (complete_goes c.self.inside.host c.self.inside.controller c.complete-answer.new.self c.self.inside.store c.clear.new.self c.complete-answer.new.dma c.self.inside.trusted c.args.q c.args.cid c.complete-answer.result
-    c.self.invariant c.clear.ensures.cleared c.check.ensures c.pages-pages.ensures.whole c.complete-answer.ensures.pool c.complete-answer.ensures.refusal c.complete-answer.ensures.refused c.complete-answer.ensures.completes c.touched_by.result (complete_reply c.completed.result) c.touched_by.ensures c.completed.ensures).lawful
+    c.self.invariant c.clear.ensures.cleared c.check.ensures c.pages-pages.ensures.whole c.complete-answer.ensures.pool c.complete-answer.ensures.refusal c.complete-answer.ensures.refused c.complete-answer.ensures.completes c.touched_by.result (complete_reply c.completed.result) c.touched_by.ensures c.completed.ensures).world

@@ -13,4 +13,4 @@ returns g c =
 pub invariant_of-self : goal.invariant_of-self
 invariant_of-self g c =
     let old = sides_of c.self.inside.host c.self.inside.controller c.self.inside.store.pages c.self.inside.trusted in
-    (silent_goes old (events.DeleteSq c.args.q) (send_reply c.delete_sq.result) c.delete_sq.new.self c.delete_sq.new.store.pages c.self.invariant refl refl refl c.delete_sq.ensures.step c.delete_sq.ensures.over).lawful
+    (silent_goes old (events.DeleteSq c.args.q) (send_reply c.delete_sq.result) c.delete_sq.new.self c.delete_sq.new.store.pages c.self.invariant refl refl refl c.delete_sq.ensures.step c.delete_sq.ensures.over).world

@@ -15,4 +15,4 @@ returns-clause-touches g c =
 pub invariant_of-self : goal.invariant_of-self
 invariant_of-self g c =
     (fetch_goes c.self.inside.host c.self.inside.controller c.fetch-answer.new.self c.self.inside.store c.clear.new.self c.fetch-answer.new.dma c.self.inside.trusted c.args.q c.fetch-answer.result
-    c.self.invariant c.clear.ensures.cleared c.check.ensures c.pages-pages.ensures.whole c.fetch-answer.ensures.pool c.fetch-answer.ensures.fetches c.touched_by.result (fetch_reply c.fetched.result) c.touched_by.ensures c.fetched.ensures).lawful
+    c.self.invariant c.clear.ensures.cleared c.check.ensures c.pages-pages.ensures.whole c.fetch-answer.ensures.pool c.fetch-answer.ensures.fetches c.touched_by.result (fetch_reply c.fetched.result) c.touched_by.ensures c.fetched.ensures).world

@@ -3,14 +3,15 @@ use Rattle.page_memory.specs.Memory.{Memory}
 use Rattle.page_memory.specs.Pages.{Pages}
 use Rattle.page_memory.proofs.Whole.{told}
 use Rattle.two_sides.specs.Sides.{state_of}
-use Rattle.step_core.specs.World.{sides_of, IsLawful}
+use Rattle.two_sides.specs.Ties.{IsWorld}
+use Rattle.step_core.specs.World.{sides_of}
 use Rattle.step_core.proofs.Looking.{possible, rests}
 use Rattle.step_core.proofs.world.World.next_step.Goals as goal
 
 pub invariant_of-self : goal.invariant_of-self
 invariant_of-self g c =
-    subst (λ (pages : Pages). IsLawful (sides_of c.self.inside.host c.self.inside.controller pages c.self.inside.trusted))
-    (sym (told c.next_step-step.new.dma.pages c.self.inside.store.pages c.pages-pages.ensures.whole c.self.invariant.world.sides.over.pool.whole c.next_step-step.ensures.pool (λ place. ap (λ (m : Memory). m place) c.next_step-step.ensures.memory)))
+    subst (λ (pages : Pages). IsWorld (sides_of c.self.inside.host c.self.inside.controller pages c.self.inside.trusted))
+    (sym (told c.next_step-step.new.dma.pages c.self.inside.store.pages c.pages-pages.ensures.whole c.self.invariant.sides.over.pool.whole c.next_step-step.ensures.pool (λ place. ap (λ (m : Memory). m place) c.next_step-step.ensures.memory)))
     c.self.invariant
 
 pub returns-clause-possible : goal.returns-clause-possible
@@ -25,5 +26,5 @@ returns-clause-rest g c =
 pub returns-clause-same : goal.returns-clause-same
 returns-clause-same g c =
     ap (λ (pages : Pages). state_of (sides_of c.self.inside.host c.self.inside.controller pages c.self.inside.trusted))
-    (told c.next_step-step.new.dma.pages c.self.inside.store.pages c.pages-pages.ensures.whole c.self.invariant.world.sides.over.pool.whole c.next_step-step.ensures.pool (λ place. ap (λ (m : Memory). m place) c.next_step-step.ensures.memory))
+    (told c.next_step-step.new.dma.pages c.self.inside.store.pages c.pages-pages.ensures.whole c.self.invariant.sides.over.pool.whole c.next_step-step.ensures.pool (λ place. ap (λ (m : Memory). m place) c.next_step-step.ensures.memory))
     ∙ c.self.view_is

@@ -2,7 +2,7 @@ use Rattle.std.proofs.Common.{arith, ◌∙◌, ap, List}
 use Rattle.controller_core.specs.Opening.{opened}
 use Rattle.controller_core.specs.declared.queue.QueuePages.{QueuePages}
 use Rattle.host_core.proofs.Fresh.{limits}
-use Rattle.step_core.proofs.Opening.{opened_lawful}
+use Rattle.step_core.proofs.Opening.{opened_tied}
 use Rattle.step_core.proofs.world.World.open.Goals as goal
 
 pub overflow_cast-config : goal.overflow_cast-config
@@ -16,10 +16,10 @@ halves-halves-requires-clause-few g c = let most = (limits c.args.config c.in-Ok
 
 pub invariant_of-result : goal.invariant_of-result
 invariant_of-result g c =
-    (opened_lawful c.args.config c.args.image c.in-Ok.opened.host c.in-Ok.opened.store.pages c.halves-halves.result.items c.in-Ok-open.controller c.in-Ok.ensures.fits c.in-Ok.ensures.host c.in-Ok.ensures.pages c.halves-halves.ensures
+    (opened_tied c.args.config c.args.image c.in-Ok.opened.host c.in-Ok.opened.store.pages c.halves-halves.result.items c.in-Ok-open.controller c.in-Ok.ensures.fits c.in-Ok.ensures.host c.in-Ok.ensures.pages c.halves-halves.ensures
     (c.in-Ok-open.ensures.opened ∙ ap (λ (halves : List QueuePages). opened c.args.config.entries halves c.args.image) c.deref.ensures.0)).0
 
 pub returns-in-Ok-open-clause-opened : goal.returns-in-Ok-open-clause-opened
 returns-in-Ok-open-clause-opened g c =
-    (opened_lawful c.args.config c.args.image c.in-Ok.opened.host c.in-Ok.opened.store.pages c.halves-halves.result.items c.in-Ok-open.controller c.in-Ok.ensures.fits c.in-Ok.ensures.host c.in-Ok.ensures.pages c.halves-halves.ensures
+    (opened_tied c.args.config c.args.image c.in-Ok.opened.host c.in-Ok.opened.store.pages c.halves-halves.result.items c.in-Ok-open.controller c.in-Ok.ensures.fits c.in-Ok.ensures.host c.in-Ok.ensures.pages c.halves-halves.ensures
     (c.in-Ok-open.ensures.opened ∙ ap (λ (halves : List QueuePages). opened c.args.config.entries halves c.args.image) c.deref.ensures.0)).1

@@ -4,4 +4,4 @@ use Rattle.step_core.proofs.world.World.pages.Goals as goal
 
 pub returns-clause-least : goal.returns-clause-least
 returns-clause-least g c =
-    subst (λ (n : ℕ). 8 ≤ n) (c.pages.ensures.pages ∙ (c.self.invariant.sound.counted ∙ ap (λ (s : State). length s.memory) c.self.view_is)) c.pages.ensures.least
+    subst (λ (n : ℕ). 8 ≤ n) (c.pages.ensures.pages ∙ (c.self.invariant.sides.kept.counted ∙ ap (λ (s : State). length s.memory) c.self.view_is)) c.pages.ensures.least

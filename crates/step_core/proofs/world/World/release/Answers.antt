@@ -13,4 +13,4 @@ returns-clause-step g c =
 pub invariant_of-self : goal.invariant_of-self
 invariant_of-self g c =
     let old = sides_of c.self.inside.host c.self.inside.controller c.self.inside.store.pages c.self.inside.trusted in
-    (silent_goes old (events.Release c.args.finished) (accept_reply c.release.result) c.release.new.self c.release.new.store.pages c.self.invariant refl refl refl c.release.ensures.step c.release.ensures.over).lawful
+    (silent_goes old (events.Release c.args.finished) (accept_reply c.release.result) c.release.new.self c.release.new.store.pages c.self.invariant refl refl refl c.release.ensures.step c.release.ensures.over).world

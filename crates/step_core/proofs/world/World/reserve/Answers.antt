@@ -13,4 +13,4 @@ returns-clause-step g c =
 pub invariant_of-self : goal.invariant_of-self
 invariant_of-self g c =
     let old = sides_of c.self.inside.host c.self.inside.controller c.self.inside.store.pages c.self.inside.trusted in
-    (silent_goes old (events.Reserve c.args.q c.args.request) (reserve_reply c.reserve.result) c.reserve.new.self c.reserve.new.store.pages c.self.invariant refl refl refl c.reserve.ensures.step c.reserve.ensures.over).lawful
+    (silent_goes old (events.Reserve c.args.q c.args.request) (reserve_reply c.reserve.result) c.reserve.new.self c.reserve.new.store.pages c.self.invariant refl refl refl c.reserve.ensures.step c.reserve.ensures.over).world

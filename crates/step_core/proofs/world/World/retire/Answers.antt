@@ -13,4 +13,4 @@ returns g c =
 pub invariant_of-self : goal.invariant_of-self
 invariant_of-self g c =
     let old = sides_of c.self.inside.host c.self.inside.controller c.self.inside.store.pages c.self.inside.trusted in
-    (silent_goes old (events.Retire c.args.q) (ring_reply c.retire.result) c.retire.new.self c.retire.new.store.pages c.self.invariant refl refl refl c.retire.ensures.step c.retire.ensures.over).lawful
+    (silent_goes old (events.Retire c.args.q) (ring_reply c.retire.result) c.retire.new.self c.retire.new.store.pages c.self.invariant refl refl refl c.retire.ensures.step c.retire.ensures.over).world

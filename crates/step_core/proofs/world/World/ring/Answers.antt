@@ -14,7 +14,7 @@ returns-in_err-tail g c =
 pub invariant_of-self : goal.invariant_of-self
 invariant_of-self g c =
     (ring_goes (sides_of c.self.inside.host c.self.inside.controller c.self.inside.store.pages c.self.inside.trusted) c.args.q c.in_ok-tail.tail c.tail_doorbell.new.self
-    c.self.invariant c.in_ok-tail.ensures.step c.in_ok-tail.ensures.tail c.tail_doorbell.ensures).lawful
+    c.self.invariant c.in_ok-tail.ensures.step c.in_ok-tail.ensures.tail c.tail_doorbell.ensures).world
 
 pub returns : goal.returns
 returns g c =

@@ -13,4 +13,4 @@ returns-clause-step g c =
 pub invariant_of-self : goal.invariant_of-self
 invariant_of-self g c =
     let old = sides_of c.self.inside.host c.self.inside.controller c.self.inside.store.pages c.self.inside.trusted in
-    (silent_goes old (events.Submit c.args.draft) (accept_reply c.submit.result) c.submit.new.self c.submit.new.store.pages c.self.invariant refl refl refl c.submit.ensures.step c.submit.ensures.over).lawful
+    (silent_goes old (events.Submit c.args.draft) (accept_reply c.submit.result) c.submit.new.self c.submit.new.store.pages c.self.invariant refl refl refl c.submit.ensures.step c.submit.ensures.over).world

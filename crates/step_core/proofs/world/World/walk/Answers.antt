@@ -15,4 +15,4 @@ returns-clause-touches g c =
 pub invariant_of-self : goal.invariant_of-self
 invariant_of-self g c =
     (walk_goes c.self.inside.host c.self.inside.controller c.walk-answer.new.self c.self.inside.store c.clear.new.self c.walk-answer.new.dma c.self.inside.trusted c.args.q c.args.cid c.walk-answer.result
-    c.self.invariant c.clear.ensures.cleared c.check.ensures c.pages-pages.ensures.whole c.walk-answer.ensures.pool c.walk-answer.ensures.refusal c.walk-answer.ensures.refused c.walk-answer.ensures.walks c.touched_by.result (walk_reply c.walked.result) c.touched_by.ensures c.walked.ensures).lawful
+    c.self.invariant c.clear.ensures.cleared c.check.ensures c.pages-pages.ensures.whole c.walk-answer.ensures.pool c.walk-answer.ensures.refusal c.walk-answer.ensures.refused c.walk-answer.ensures.walks c.touched_by.result (walk_reply c.walked.result) c.touched_by.ensures c.walked.ensures).world
