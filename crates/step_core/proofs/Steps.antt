@@ -1,5 +1,5 @@
 -- Each call of a world is a step of the machine, behind which both sides are tied.
-use Rattle.std.proofs.Common.{◌≡◌, ◌≢◌, ℕ, Bool, true, false, Option, Some, None, List, [], Result, Ok, Err, OnErr, IfOk, length, refl, ap, sym, ◌∙◌, subst}
+use Rattle.std.proofs.Common.{◌≡◌, ℕ, Bool, true, false, Option, Some, List, [], Result, Ok, Err, OnErr, IfOk, length, refl, ap, sym, ◌∙◌, subst}
 use Rattle.std.specs.Result.{result_err}
 use Rattle.std.specs.Option.{option_map_or}
 use Rattle.std.proofs.lemmas.Bool.{true≢false, OnTrue_at, OnTrue_from}
