@@ -1,15 +1,10 @@
 -- What looks at a controller tell of all its commands.
-use Rattle.std.proofs.Common.{◌≡◌, ℕ, zero, suc, ◌+◌, ◌<◌, ◌≤◌, Bool, true, false, Option, Some, None, List, [], ◌∷◌, length, find, is_none, if◌then◌else◌, refl, ap, sym, ◌∙◌, subst, arith, ◌⊎◌, inl, inr, get_or, below_more}
+use Rattle.std.proofs.Common.{◌≡◌, ℕ, zero, suc, ◌+◌, ◌<◌, ◌≤◌, Bool, true, false, Option, Some, None, List, [], ◌∷◌, length, find, if◌then◌else◌, refl, ◌∙◌, subst, arith, get_or, below_more}
 use Rattle.std.specs.Prelude.{slice_get}
-use Rattle.std.specs.Option.{option_map_or}
-use Rattle.std.proofs.lemmas.Option.{slice_get_cases, get_or_from_slice_get}
+use Rattle.std.proofs.lemmas.Option.{get_or_from_slice_get}
 use Rattle.page_memory.specs.Memory.{Memory}
 use Rattle.controller_core.specs.Contents.{Contents, FetchedCommand, entry_of_work, is_command}
-use Rattle.controller_core.specs.Completing.{complete_refusal}
-use Rattle.controller_core.specs.Fetching.{fetch_refusal}
 use Rattle.controller_core.specs.Looks.{IsStuck}
-use Rattle.controller_core.specs.Walking.{walk_refusal}
-use Rattle.controller_core.specs.declared.queue.ControllerQueue.{ControllerQueue}
 use Rattle.controller_core.proofs.Ready.{named}
 
 found-place : {A : Type 0} (p : A → Bool) (xs : List A) (x : A) → find p xs ≡ Some x → (k : ℕ) × (k < length xs) × (slice_get xs k ≡ Some x)

@@ -16,7 +16,7 @@ use Rattle.host_core.specs.Reaping.{lacks_completion}
 use Rattle.std.specs.Prelude.{slice_range}
 use Rattle.queue_pair.specs.Memory.{completion_place, completion_slot, half_pages, new_completion_at, with_phase}
 use Rattle.queue_pair.proofs.Halves.{completion_there}
-use Rattle.host_core.specs.Alone.{HostView, alone}
+use Rattle.host_core.specs.Alone.{alone}
 use Rattle.host_core.specs.Looks.{completion_base}
 use Rattle.host_core.specs.Tables.{Tables, state_of, view_of, host_queue_of, cq_pages_of}
 use Rattle.host_core.specs.Whole.{AreQueues, IsWhole}

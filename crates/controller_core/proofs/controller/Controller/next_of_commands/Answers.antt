@@ -1,4 +1,4 @@
-use Rattle.std.proofs.Common.{◌≡◌, ◌≤◌, arith, ◌∙◌, List, Some, length, get_or, subst}
+use Rattle.std.proofs.Common.{◌≡◌, ◌≤◌, ◌∙◌, List, length, get_or, subst}
 use Rattle.page_memory.specs.Memory.{Memory}
 use Rattle.controller_core.specs.Contents.{FetchedCommand}
 use Rattle.controller_core.specs.Looks.{IsStuck}
