@@ -300,19 +300,32 @@ new_identifier s q some =
     let fresh = not_among (s.entries - 1) (outstanding_on s.host q) (grind (arith, nat_tests)) in
     (fresh.0, record { in_range = fresh.1; unused = ap not fresh.2 })
 
-answer_sent : (s : State) (e : Event) → IsProper e → IsController e ≡ false → (refusal_of s e ≡ None → no_identifier s 0 ≡ false) → ((id : ℕ) → IsNewIdentifier s 0 id → Answers s e (events.Sent id)) → IsAnswered s e
-answer_sent s e proper host some answers = go (refusal_of s e) refl
+-- a command of queue 0 is refused, or sent under an identifier
+abbrev pub IsSent : State → Event → Type 0
+IsSent s e = (id : ℕ) × (left : State) × Step s e (events.Sent id) left
+
+sends : (s : State) (e : Event) → IsProper e → IsController e ≡ false → (refusal_of s e ≡ None → no_identifier s 0 ≡ false) → ((id : ℕ) → IsNewIdentifier s 0 id → Answers s e (events.Sent id)) → IsRefused s e ⊎ IsSent s e
+sends s e proper host some answers = go (refusal_of s e) refl
   where
-    go : (o : Option Refusal) → refusal_of s e ≡ o → IsAnswered s e
-    go (Some why) h = answer_refused s e (refused_for s e proper (host_judged s e host) why h)
+    go : (o : Option Refusal) → refusal_of s e ≡ o → IsRefused s e ⊎ IsSent s e
+    go (Some why) h = inl (refused_for s e proper (host_judged s e host) why h)
     go None h =
         let id = new_identifier s 0 (some h) in
         let left = left_by_host s (after s e (events.Sent id.0)) (not (forges e) && s.trusted) (IsController e) host in
-        record {
-          reply = events.Sent id.0;
-          left = left.0;
-          step = (proper, permits_judged (AnswersAnything s e (events.Sent id.0)) (s.trusted || not (IsController e)) (host_judged s e host) (h, answers id.0 id.1), left.1);
-        }
+        inr (id.0, left.0, (proper, permits_judged (AnswersAnything s e (events.Sent id.0)) (s.trusted || not (IsController e)) (host_judged s e host) (h, answers id.0 id.1), left.1))
+
+pub abort_answered : (s : State) (q cid : ℕ) → IsRefused s (events.Abort q cid) ⊎ IsSent s (events.Abort q cid)
+abort_answered s q cid = sends s (events.Abort q cid) tt refl (λ none. (unrefused s (events.Abort q cid) none).1.1.1.0) (λ id is. is)
+
+pub delete_sq_answered : (s : State) (q : ℕ) → IsRefused s (events.DeleteSq q) ⊎ IsSent s (events.DeleteSq q)
+delete_sq_answered s q = sends s (events.DeleteSq q) tt refl (λ none. (unrefused s (events.DeleteSq q) none).1.1.0) (λ id is. is)
+
+pub delete_cq_answered : (s : State) (q : ℕ) → IsRefused s (events.DeleteCq q) ⊎ IsSent s (events.DeleteCq q)
+delete_cq_answered s q = sends s (events.DeleteCq q) tt refl (λ none. (unrefused s (events.DeleteCq q) none).1.1.0) (λ id is. is)
+
+answer_sent : (s : State) (e : Event) → IsRefused s e ⊎ IsSent s e → IsAnswered s e
+answer_sent s e (inl h) = answer_refused s e h
+answer_sent s e (inr h) = record { reply = events.Sent h.0; left = h.1; step = h.2 }
 
 -- Every event
 
@@ -346,9 +359,6 @@ answers_every_event s (events.Forge q slot bytes) order proper =
     answer_plain s (events.Forge q slot bytes) (acceptable s (events.Forge q slot bytes) proper refl)
 answers_every_event s (events.Reserve q r) order proper = answer_refused s (events.Reserve q r) (refusable s (events.Reserve q r) proper refl refl)
 answers_every_event s (events.Collect q cid) order proper = answer_refused s (events.Collect q cid) (refusable s (events.Collect q cid) proper refl refl)
-answers_every_event s (events.Abort q cid) order proper =
-    answer_sent s (events.Abort q cid) proper refl (λ none. (unrefused s (events.Abort q cid) none).1.1.1.0) (λ id is. is)
-answers_every_event s (events.DeleteSq q) order proper =
-    answer_sent s (events.DeleteSq q) proper refl (λ none. (unrefused s (events.DeleteSq q) none).1.1.0) (λ id is. is)
-answers_every_event s (events.DeleteCq q) order proper =
-    answer_sent s (events.DeleteCq q) proper refl (λ none. (unrefused s (events.DeleteCq q) none).1.1.0) (λ id is. is)
+answers_every_event s (events.Abort q cid) order proper = answer_sent s (events.Abort q cid) (abort_answered s q cid)
+answers_every_event s (events.DeleteSq q) order proper = answer_sent s (events.DeleteSq q) (delete_sq_answered s q)
+answers_every_event s (events.DeleteCq q) order proper = answer_sent s (events.DeleteCq q) (delete_cq_answered s q)

@@ -1,5 +1,5 @@
 -- What looks at a world tell, from those at its sides.
-use Rattle.std.proofs.Common.{◌≡◌, ℕ, suc, ◌+◌, ◌<◌, ◌≤◌, Bool, true, false, ◌&&◌, Option, Some, None, List, [], ◌∷◌, length, is_none, IfSome, IfNone, IsTrue, refl, ap, sym, ◌∙◌, subst, arith, ◌⊎◌, inl, inr, get_or, below_more}
+use Rattle.std.proofs.Common.{◌≡◌, ℕ, zero, suc, ◌+◌, ◌<◌, ◌≤◌, Bool, true, false, ◌&&◌, Option, Some, None, List, [], ◌∷◌, length, is_none, is_some, IfSome, IfNone, IsTrue, refl, ap, sym, ◌∙◌, subst, arith, ◌⊎◌, inl, inr, get_or, below_more}
 use Rattle.std.specs.Prelude.{slice_get}
 use Rattle.std.specs.Option.{option_map}
 use Rattle.std.proofs.lemmas.Option.{slice_get_cases}
@@ -20,11 +20,7 @@ use Rattle.page_memory.specs.Memory.{Memory}
 use Rattle.page_memory.specs.Pages.{byte_at}
 use Rattle.two_sides.specs.Serving.{why_of}
 use Rattle.two_sides.specs.Sides.{Sides, state_of}
-use Rattle.two_sides.specs.Ties.{IsWorld, ShareQueues}
-use Rattle.two_sides.proofs.CompleteSteps.{complete_refused_alike}
-use Rattle.two_sides.proofs.FetchLooks.{refuse_alike}
-use Rattle.two_sides.proofs.Seen.{completions_seen}
-use Rattle.two_sides.proofs.WalkSteps.{walk_refused_alike}
+use Rattle.two_sides.specs.Ties.{ShareQueues}
 use Rattle.step_core.specs.Looks.{event_of, has_completion, IsAtRest}
 use Rattle.two_sides.specs.Ties.{IsWorld}
 use Rattle.two_sides.proofs.CompleteSteps.{complete_refused_alike}

@@ -22,18 +22,15 @@ use Rattle.machine_model.specs.State.{State}
 use Rattle.machine_model.specs.Step as machine
 use Rattle.machine_model.specs.Step.{Step, forges}
 use Rattle.machine_model.proofs.Agreed.{agreed_stays}
+use Rattle.machine_model.proofs.Headline.{steps_keep}
 use Rattle.page_memory.specs.Memory.{Memory}
 use Rattle.page_memory.specs.Pages as store
 use Rattle.page_memory.specs.Pages.{Pages, byte_at, AreWhole}
 use Rattle.two_sides.specs.Hearing.{heard}
+use Rattle.two_sides.specs.Laws.{behind}
 use Rattle.two_sides.specs.Serving.{Walks, Completes, fetch_reply, walk_reply, complete_reply}
 use Rattle.two_sides.specs.Sides.{Sides, state_of}
 use Rattle.two_sides.specs.Stepping.{StepsTo, LeavesPages}
-use Rattle.two_sides.specs.Ties.{IsWorld}
-use Rattle.two_sides.proofs.CompleteSteps.{complete_steps}
-use Rattle.two_sides.proofs.FetchSteps.{fetches}
-use Rattle.two_sides.proofs.HostSteps.{hosts_stepped}
-use Rattle.two_sides.proofs.WalkSteps.{walk_steps}
 use Rattle.step_core.specs.Replies.{ring_reply}
 use Rattle.step_core.specs.Touching.{StaysAllowed}
 use Rattle.two_sides.specs.Ties.{IsWorld}

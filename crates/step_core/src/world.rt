@@ -24,7 +24,6 @@ impl<A: Allocator> Model for World<A> {
     ghost use Rattle.two_sides.specs.Ties.{IsWorld};
     ghost use Rattle.step_core.specs.World.{sides_of};
     ghost use Rattle.two_sides.specs.Sides.{state_of};
-    ghost use Rattle.two_sides.specs.Ties.{IsWorld};
 
     ghost Value = { State };
 
