@@ -50,7 +50,6 @@ impl<A: Allocator + Copy> World<A> {
     /// Nothing changed. 1. `NoQueue` for queue 0, an unknown queue, and one whose submission half was given back. 2. `WrongState`
     /// where it is being deleted. 3. `NoSuchCommand` where the queue has no submitted command of this identifier.
     /// 4. `NoIdentifier` where each identifier of queue 0 is outstanding. 5. `QueueFull` where the submission ring of queue 0 is full.
-    /// 6. `Memory` where memory is refused.
     pub fn abort(&mut self, q: u16, cid: u16) -> Result<u16, Refusal>
         ensures { Step self.old (events.Abort q cid) (send_reply result) self.new }
     {
@@ -64,7 +63,7 @@ impl<A: Allocator + Copy> World<A> {
     ///
     /// Nothing changed. 1. `NoQueue` for queue 0, an unknown queue, and one whose submission half was given back. 2. `WrongState`
     /// where it is being deleted. 3. `NoIdentifier` where each identifier of queue 0 is outstanding. 4. `QueueFull` where the submission
-    /// ring of queue 0 is full. 5. `Memory` where memory is refused.
+    /// ring of queue 0 is full.
     pub fn delete_sq(&mut self, q: u16) -> Result<u16, Refusal>
         ensures { Step self.old (events.DeleteSq q) (send_reply result) self.new }
     {
@@ -78,7 +77,6 @@ impl<A: Allocator + Copy> World<A> {
     /// Nothing changed. 1. `NoQueue` for queue 0, an unknown queue, and one whose completion half was given back. 2. `WrongState`
     /// where its submission side is being deleted, or was given back with a deletion of its completion side outstanding.
     /// 3. `NoIdentifier` where each identifier of queue 0 is outstanding. 4. `QueueFull` where the submission ring of queue 0 is full.
-    /// 5. `Memory` where memory is refused.
     pub fn delete_cq(&mut self, q: u16) -> Result<u16, Refusal>
         ensures { Step self.old (events.DeleteCq q) (send_reply result) self.new }
     {
