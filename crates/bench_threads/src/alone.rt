@@ -12,8 +12,7 @@ use driver_book::{Book, Driver, Seat};
 use io_commands::{Draft, Finished, Request, Ticket};
 use std::alloc::{AllocError, Global};
 use std::sync::ledger::Blank;
-use step_core::ControllerStep;
-use step_core::Config;
+use step_core::{Config, ControllerStep};
 
 /// The work that threads do outside of the lock for a Read: its request is made, its list is built, and its bytes are gathered.
 #[derive(Clone, Copy)]

@@ -13,8 +13,7 @@ use std::alloc::{AllocError, Global};
 use std::sync::Wait;
 use std::sync::ledger::Blank;
 use std::thread::Threads;
-use step_core::Bytes;
-use step_core::Config;
+use step_core::{Bytes, Config};
 
 /// A submitter's jobs.
 fn jobs_of(alloc: Global, worker: u16, shape: Shape) -> Result<Vec<Job>, AllocError> {

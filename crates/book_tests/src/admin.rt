@@ -19,8 +19,7 @@ use std::marker::Brand;
 use std::process::Abort;
 use std::sync::ledger::Blank;
 use std::test::Fail;
-use step_core::{Reaped, Refusal};
-use step_core::Config;
+use step_core::{Config, Reaped, Refusal};
 
 /// How a command of queue 1 ended.
 fn done(cid: u16, status: Status) -> Reaped {

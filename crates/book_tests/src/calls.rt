@@ -15,8 +15,7 @@ use std::marker::Brand;
 use std::process::Abort;
 use std::sync::ledger::Blank;
 use std::test::Fail;
-use step_core::{Leftover, OpenRefusal, Reaped, Refusal};
-use step_core::Config;
+use step_core::{Config, Leftover, OpenRefusal, Reaped, Refusal};
 
 /// 16 pages and one I/O queue of 4 entries: pages 4 to 15 are free.
 pub(crate) const USUAL: Config = Config {

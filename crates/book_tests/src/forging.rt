@@ -18,8 +18,7 @@ use std::marker::Brand;
 use std::process::Abort;
 use std::sync::ledger::Blank;
 use std::test::Fail;
-use step_core::{Reaped, Refusal, RejectedFor};
-use step_core::Config;
+use step_core::{Config, Reaped, Refusal, RejectedFor};
 
 /// 16 pages and two I/O queues of 4 entries: pages 6 to 15 are free.
 const TWO_QUEUES: Config = Config {

@@ -18,8 +18,7 @@ use std::alloc::Global;
 use std::marker::{Brand, Model};
 use std::sync::ledger;
 use std::sync::ledger::{Blank, Ledger, Share};
-use step_core::{Ended, OpenRefusal, World};
-use step_core::Config;
+use step_core::{Config, Ended, OpenRefusal, World};
 
 /// The ledger of one book, and the state with which that book opens, which contracts alone know.
 pub trait Driver: Ledger {

@@ -21,8 +21,7 @@ use std::process::Abort;
 use std::sync::Wait;
 use std::sync::ledger::Blank;
 use std::test::Fail;
-use step_core::{Reaped, Refusal};
-use step_core::Config;
+use step_core::{Config, Reaped, Refusal};
 
 /// How the command 0 of queue 0 ended, with a first word of 0.
 fn managed_with(status: Status) -> Reaped {

@@ -15,8 +15,7 @@ use std::alloc::Global;
 use std::process::Abort;
 use std::sync::Wait;
 use std::sync::ledger::Blank;
-use step_core::{Reaped, Refusal, Touched};
-use step_core::Config;
+use step_core::{Config, Reaped, Refusal, Touched};
 
 /// 16 pages and one I/O queue of 4 entries: pages 4 to 15 are free.
 pub(crate) const USUAL: Config = Config {

@@ -20,8 +20,7 @@ use std::process::Abort;
 use std::sync::Wait;
 use std::sync::ledger::Blank;
 use std::test::Fail;
-use step_core::{Reaped, Refusal, RejectedFor};
-use step_core::Config;
+use step_core::{Config, Reaped, Refusal, RejectedFor};
 
 /// A completion with phase 1: its submission head, its queue and its identifier.
 fn forged(sq_head: u8, q: u8, cid: u8) -> [u8; 16] {

@@ -15,8 +15,7 @@ use std::marker::Brand;
 use std::sync::Wait;
 use std::sync::ledger::Blank;
 use std::thread::Threads;
-use step_core::{Bytes, Reply};
-use step_core::Config;
+use step_core::{Bytes, Config, Reply};
 
 /// What a run leaves.
 #[derive(Drop)]
