@@ -1,7 +1,6 @@
 //! The controller's value, and its opening.
 
 ghost use Rattle.std.specs.Prelude.{◌≡◌, ◌≤◌, ◌+◌, ◌++◌, IfOk, IfErr, length};
-ghost use Rattle.controller_core.specs.Contents.{IsController};
 ghost use Rattle.controller_core.specs.Opening.{fresh_queue, queues_from, opened};
 
 use crate::command::FetchedCommand;
@@ -109,13 +108,6 @@ impl<A: Allocator> Controller<A> {
         ensures { result.now ≡ self.now.queues }
     {
         &self.queues
-    }
-
-    /// Shows what always holds of a controller. It does nothing.
-    pub fn check(&self)
-        ensures { IsController self.now }
-    {
-        prove!(self.queues.len() == self.queues().len());
     }
 
     /// The commands that were fetched and not completed, in the order of the fetches.
