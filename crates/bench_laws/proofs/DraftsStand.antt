@@ -16,7 +16,7 @@ use Rattle.machine_model.specs.Step as machine
 use Rattle.machine_model.specs.Step.{IsReserved, IsNewIdentifier, HostPart}
 use Rattle.machine_model.specs.declared.words.Work.TheVariants.{Io}
 use Rattle.machine_model.proofs.Steps.{part_left}
-use Rattle.world_tables.proofs.Identifiers.{outstanding-among}
+use Rattle.host_core.proofs.Identifiers.{outstanding-among}
 use Rattle.step_core.specs.declared.step.Reply.{Reply}
 use Rattle.step_core.specs.declared.step.Step.{Step}
 use Rattle.step_core.specs.Bench.{with_first, without_first}

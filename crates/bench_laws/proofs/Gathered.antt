@@ -10,8 +10,8 @@ use Rattle.machine_model.specs.Image.{Made, draft_of}
 use Rattle.machine_model.specs.Laws.{TrustedRun, fetches, is_read}
 use Rattle.machine_model.specs.Script.{Table, table, finished_at, is_finished}
 use Rattle.machine_model.proofs.Members.{all_at_found}
-use Rattle.world_tables.proofs.Lists.{found_is}
-use Rattle.world_tables.specs.Opening.{opening_of}
+use Rattle.host_core.proofs.Lists.{found_is}
+use Rattle.step_core.specs.Opening.{opening_of}
 use Rattle.run_laws.specs.Submitted.{CollectedCommand, FetchedCommand, was_fetched, bytes_collected}
 use Rattle.run_laws.proofs.DataLaws.{bytes_kept, successes_fetched, prefix_given, blocks_given}
 use Rattle.step_core.specs.Bench.{Gathers}

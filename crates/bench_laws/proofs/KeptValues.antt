@@ -17,7 +17,7 @@ use Rattle.machine_model.specs.Refusals.{refusal_of}
 use Rattle.machine_model.specs.Step as machine
 use Rattle.machine_model.specs.Step.{finished_from, asked_by, pages_with_bytes}
 use Rattle.machine_model.proofs.PlacesKept.{ids_of}
-use Rattle.world_tables.proofs.Lists.{all-append}
+use Rattle.host_core.proofs.Lists.{all-append}
 use Rattle.run_laws.specs.Submitted.{submits}
 use Rattle.step_core.specs.Bench.{without_first}
 use Rattle.bench_laws.specs.Gathering.{collects}

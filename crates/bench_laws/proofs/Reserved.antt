@@ -6,7 +6,7 @@ use Rattle.io_commands.specs.Asked.{Request}
 use Rattle.io_commands.specs.Drafts.{DraftContents, built}
 use Rattle.machine_model.specs.Image.{draft_of, is_draft}
 use Rattle.machine_model.specs.Script.{Table, table, filled_draft}
-use Rattle.world_tables.specs.Opening.{opening_of}
+use Rattle.step_core.specs.Opening.{opening_of}
 use Rattle.step_core.specs.Bench.{Does, without_first}
 use Rattle.step_core.specs.declared.step.Reply.TheVariants as reply
 use Rattle.step_core.specs.declared.step.Step.TheVariants as step

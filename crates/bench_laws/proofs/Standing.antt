@@ -22,7 +22,7 @@ use Rattle.machine_model.specs.declared.words.Refusal.TheVariants as refusals
 use Rattle.machine_model.proofs.Moves.{host_moves, sent_record}
 use Rattle.machine_model.proofs.Steps.{Accepts, part_controller, part_left}
 use Rattle.machine_model.proofs.Refused.{first_fails, found}
-use Rattle.world_tables.proofs.Lists.{found_is}
+use Rattle.host_core.proofs.Lists.{found_is}
 
 -- the record of a name is in a phase that passes a test
 abbrev pub StandsIn : (Phase → Bool) → ℕ → ℕ → List Record → Type 0

@@ -12,7 +12,7 @@ use Rattle.machine_model.specs.Image.{Made, draft_of, is_draft}
 use Rattle.machine_model.specs.Script.{Table, finished_at, is_ticket, is_finished}
 use Rattle.machine_model.specs.Step as machine
 use Rattle.machine_model.specs.declared.words.Refusal.TheVariants as refusal
-use Rattle.world_tables.proofs.Lists.{found_is}
+use Rattle.host_core.proofs.Lists.{found_is}
 use Rattle.step_core.specs.Bench.{Does, Passes, Fills, Builds, Submits, Cancels, Collects, Gathers, Releases, Reserves, Collected}
 use Rattle.step_core.specs.Laws.{Says}
 use Rattle.step_core.specs.declared.step.Reply.{Reply}

@@ -14,7 +14,7 @@ use Rattle.machine_model.specs.Script.{Table, table}
 use Rattle.machine_model.specs.Step.{zeroed, IsReserved}
 use Rattle.machine_model.proofs.Entered.{good_is}
 use Rattle.machine_model.proofs.Members.{all_at_found}
-use Rattle.world_tables.specs.Opening.{opening_of}
+use Rattle.step_core.specs.Opening.{opening_of}
 use Rattle.step_core.specs.Bench.{Does, Reserves}
 use Rattle.step_core.specs.Going.{IsTableInOrder}
 use Rattle.step_core.specs.declared.step.Reply.{Reply}

@@ -16,7 +16,7 @@ use Rattle.machine_model.specs.Proper.{IsProperDraft, IsPage}
 use Rattle.machine_model.specs.Script.{Table, fill_fault, filled_draft, is_source}
 use Rattle.machine_model.proofs.Entered.{good_is}
 use Rattle.machine_model.proofs.Refused.{first_fails, rest_fails}
-use Rattle.world_tables.proofs.Lists.{all-from}
+use Rattle.host_core.proofs.Lists.{all-from}
 use Rattle.step_core.proofs.KeptDrafts.{filled_stays_proper, built_stays_proper}
 use Rattle.step_core.specs.Bench.{with_first}
 use Rattle.step_core.specs.declared.step.Reply.{Reply}

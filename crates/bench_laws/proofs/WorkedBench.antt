@@ -16,8 +16,8 @@ use Rattle.machine_model.specs.State.{State}
 use Rattle.machine_model.specs.Step as machine
 use Rattle.machine_model.specs.Step.{IsReserved, zeroed}
 use Rattle.io_commands.specs.declared.draft.FillFault.TheVariants.{WrongLength}
-use Rattle.world_tables.specs.Opening.{opening_of}
-use Rattle.world_tables.specs.declared.config.Config.{Config}
+use Rattle.step_core.specs.Opening.{opening_of}
+use Rattle.host_core.specs.declared.config.Config.{Config}
 use Rattle.step_core.specs.Bench.{Does}
 use Rattle.step_core.specs.declared.step.Reply.{Reply}
 use Rattle.step_core.specs.declared.step.Reply.TheVariants as reply

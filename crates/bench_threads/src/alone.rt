@@ -3,7 +3,7 @@
 ghost use Rattle.std.specs.Prelude.{◌≡◌, true, IfOk};
 ghost use Rattle.std.specs.List.{list_any};
 ghost use Rattle.driver_book.specs.Calls.{is_open_for};
-ghost use Rattle.world_tables.specs.Opening.{opening_of};
+ghost use Rattle.step_core.specs.Opening.{opening_of};
 
 use crate::fault::Fault;
 use crate::shape::{Done, Shape, request};
@@ -12,8 +12,7 @@ use driver_book::{Book, Driver, Seat};
 use io_commands::{Draft, Finished, Request, Ticket};
 use std::alloc::{AllocError, Global};
 use std::sync::ledger::Blank;
-use step_core::ControllerStep;
-use world_tables::Config;
+use step_core::{Config, ControllerStep};
 
 /// The work that threads do outside of the lock for a Read: its request is made, its list is built, and its bytes are gathered.
 #[derive(Clone, Copy)]

@@ -2,7 +2,7 @@
 
 use io_commands::{Kind, Piece, Pieces, Request};
 use std::alloc::{AllocError, Global};
-use world_tables::Config;
+use step_core::Config;
 
 /// The most Reads of a submitter.
 pub const MOST_JOBS: u32 = 1_000_000;

@@ -1,7 +1,7 @@
 //! Reads that threads carry through.
 
 ghost use Rattle.std.specs.Prelude.{◌≡◌, ◌≤◌, vec_len, IfOk};
-ghost use Rattle.world_tables.specs.Opening.{opening_of};
+ghost use Rattle.step_core.specs.Opening.{opening_of};
 
 use crate::fault::Fault;
 use crate::shape::{Done, Shape, request};
@@ -13,8 +13,7 @@ use std::alloc::{AllocError, Global};
 use std::sync::Wait;
 use std::sync::ledger::Blank;
 use std::thread::Threads;
-use step_core::Bytes;
-use world_tables::Config;
+use step_core::{Bytes, Config};
 
 /// A submitter's jobs.
 fn jobs_of(alloc: Global, worker: u16, shape: Shape) -> Result<Vec<Job>, AllocError> {

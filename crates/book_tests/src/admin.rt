@@ -1,7 +1,7 @@
 //! Two worked rows of steps through a book: commands that are aborted, and a queue that is deleted while its commands are about.
 
 ghost use Rattle.std.specs.Prelude.{◌≡◌};
-ghost use Rattle.world_tables.specs.Opening.{opening_of};
+ghost use Rattle.step_core.specs.Opening.{opening_of};
 
 use crate::calls::{
     USUAL, begun, cancelled, collected, counts, drafted, has_left, has_receipts, managed, opened,
@@ -19,8 +19,7 @@ use std::marker::Brand;
 use std::process::Abort;
 use std::sync::ledger::Blank;
 use std::test::Fail;
-use step_core::{Reaped, Refusal};
-use world_tables::Config;
+use step_core::{Config, Reaped, Refusal};
 
 /// How a command of queue 1 ended.
 fn done(cid: u16, status: Status) -> Reaped {

@@ -1,7 +1,7 @@
 //! A run through a book on two seats, and each other call of a book on its good path.
 
 ghost use Rattle.std.specs.Prelude.{◌≡◌};
-ghost use Rattle.world_tables.specs.Opening.{opening_of};
+ghost use Rattle.step_core.specs.Opening.{opening_of};
 
 use crate::row::{Row, play};
 use block_image::Image;
@@ -15,8 +15,7 @@ use std::marker::Brand;
 use std::process::Abort;
 use std::sync::ledger::Blank;
 use std::test::Fail;
-use step_core::{Leftover, OpenRefusal, Reaped, Refusal};
-use world_tables::Config;
+use step_core::{Config, Leftover, OpenRefusal, Reaped, Refusal};
 
 /// 16 pages and one I/O queue of 4 entries: pages 4 to 15 are free.
 pub(crate) const USUAL: Config = Config {

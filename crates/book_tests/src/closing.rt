@@ -1,7 +1,7 @@
 //! What closing a book answers: a report, or why it was not closed.
 
 ghost use Rattle.std.specs.Prelude.{◌≡◌};
-ghost use Rattle.world_tables.specs.Opening.{opening_of};
+ghost use Rattle.step_core.specs.Opening.{opening_of};
 
 use crate::calls::{USUAL, begun, collected, counts, opened, receipt, released, seated, served};
 use block_image::Image;
@@ -13,7 +13,7 @@ use std::marker::Brand;
 use std::process::Abort;
 use std::sync::ledger::Blank;
 use std::test::Fail;
-use world_tables::Config;
+use step_core::Config;
 
 /// Submits a Read of one block for a seat, and gives up its ticket.
 fn left_behind<L: Driver, R: Abort>(rt: &R, book: &mut Book<L>, seat: &mut Seat<L>, alloc: Global) {

@@ -1,7 +1,7 @@
 //! Runs through a book in which completion entries are forged: what the host believes, what it rejects, and what the controller does.
 
 ghost use Rattle.std.specs.Prelude.{◌≡◌};
-ghost use Rattle.world_tables.specs.Opening.{opening_of};
+ghost use Rattle.step_core.specs.Opening.{opening_of};
 
 use crate::calls::{
     USUAL, begun, cancelled, collected, counts, drafted, opened, receipt, released, reserved_on,
@@ -18,8 +18,7 @@ use std::marker::Brand;
 use std::process::Abort;
 use std::sync::ledger::Blank;
 use std::test::Fail;
-use step_core::{Reaped, Refusal, RejectedFor};
-use world_tables::Config;
+use step_core::{Config, Reaped, Refusal, RejectedFor};
 
 /// 16 pages and two I/O queues of 4 entries: pages 6 to 15 are free.
 const TWO_QUEUES: Config = Config {

@@ -1,10 +1,10 @@
-//! Chains through their calls: known bytes, round trips of known sizes, and a heap that is too small.
+//! Chains through their calls: known bytes, round trips of known sizes, a heap that is too small, and parts that join.
 
 ghost use Rattle.std.specs.Prelude.{◌≡◌, ◌<◌, ◌≤◌, IfOk, length};
 
 use linked_list_allocator::LocalHeap;
 use page_memory::{PageNo, Store};
-use sgl_chain::{BuildFault, Chain, Part, pages_needed};
+use sgl_chain::{BuildFault, Chain, Part, join_parts, pages_needed};
 use std::alloc::{AllocError, AllocGlobal, Global};
 use std::process::Abort;
 use std::test::Fail;
@@ -216,5 +216,107 @@ fn a_refused_chain_leaves_its_heap_empty(rt: HostRuntime) -> Result<(), Fail> {
 fn a_dropped_chain_leaves_its_heap_empty(rt: HostRuntime) -> Result<(), Fail> {
     assert_eq!(rt; in_heap(&rt, 65_536, 100, 256)?, None);
     assert_eq!(rt; in_heap(&rt, 65_536, 100, 2)?, None);
+    Ok(())
+}
+
+fn data(addr: u64, len: u32) -> Part {
+    Part::Data { addr, len }
+}
+
+fn bucket(len: u32) -> Part {
+    Part::Bucket { len }
+}
+
+/// The last part of a list and the one behind it as one, where they join.
+fn joined_last(list: &[Part], part: Part) -> Option<Part> {
+    let Some(Part::Data { addr, len }) = list.last() else {
+        return None;
+    };
+    let Part::Data {
+        addr: next,
+        len: more,
+    } = part
+    else {
+        return None;
+    };
+    if addr.checked_add(u64::from(*len)) != Some(next) {
+        return None;
+    }
+    Some(data(*addr, len.checked_add(more)?))
+}
+
+/// The joined parts by a plain loop.
+fn joined_plainly(alloc: Global, parts: &[Part]) -> Result<Vec<Part>, AllocError> {
+    let mut list = Vec::new(alloc);
+    for part in parts {
+        match joined_last(list.as_slice(), *part) {
+            Some(one) => {
+                let _ = list.pop();
+                list.push(one)?;
+            }
+            None => list.push(*part)?,
+        }
+    }
+    Ok(list)
+}
+
+#[test]
+fn parts_join_as_a_plain_loop_joins_them(rt: HostRuntime) -> Result<(), Fail> {
+    let mut run = vec![in rt.alloc(); data(0, 4_096); 1_024]?;
+    for (i, part) in run.iter_mut().enumerate() {
+        *part = data(i as u64 * 4_096, 4_096);
+    }
+    let joined = join_parts(rt.alloc(), run.as_slice())?;
+    assert_eq!(rt; joined.as_slice(), [data(0, 4_194_304)].as_slice());
+    assert_eq!(rt;
+        joined.as_slice(),
+        joined_plainly(rt.alloc(), run.as_slice())?.as_slice()
+    );
+    let apart = numbered_parts(rt.alloc(), 1_024)?;
+    let joined = join_parts(rt.alloc(), apart.as_slice())?;
+    assert_eq!(rt; joined.as_slice(), apart.as_slice());
+    assert_eq!(rt;
+        joined.as_slice(),
+        joined_plainly(rt.alloc(), apart.as_slice())?.as_slice()
+    );
+    Ok(())
+}
+
+#[test]
+fn parts_join_at_their_borders_alone(rt: HostRuntime) -> Result<(), Fail> {
+    for (parts, want) in [
+        ([].as_slice(), [].as_slice()),
+        (
+            [data(0, 512), data(512, 512), bucket(512), data(1_024, 512)].as_slice(),
+            [data(0, 1_024), bucket(512), data(1_024, 512)].as_slice(),
+        ),
+        (
+            [bucket(512), bucket(512)].as_slice(),
+            [bucket(512), bucket(512)].as_slice(),
+        ),
+        (
+            [data(0, 512), data(513, 512), data(1_025, 1)].as_slice(),
+            [data(0, 512), data(513, 513)].as_slice(),
+        ),
+        (
+            [data(0, u32::MAX - 1), data(0xFFFF_FFFE, 1)].as_slice(),
+            [data(0, u32::MAX)].as_slice(),
+        ),
+        (
+            [
+                data(0, u32::MAX),
+                data(0xFFFF_FFFF, 1),
+                data(0x1_0000_0000, 1),
+            ]
+            .as_slice(),
+            [data(0, u32::MAX), data(0xFFFF_FFFF, 2)].as_slice(),
+        ),
+        (
+            [data(u64::MAX - 4_095, 4_096), data(0, 4_096)].as_slice(),
+            [data(u64::MAX - 4_095, 4_096), data(0, 4_096)].as_slice(),
+        ),
+    ] {
+        assert_eq!(rt; join_parts(rt.alloc(), parts)?.as_slice(), want);
+    }
     Ok(())
 }

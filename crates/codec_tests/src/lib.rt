@@ -11,6 +11,8 @@ mod completion;
 #[cfg(test)]
 mod descriptors;
 #[cfg(test)]
+mod holes;
+#[cfg(test)]
 mod images;
 #[cfg(test)]
 mod jobs;

@@ -1,9 +1,13 @@
 //! The faults of a request at their borders, and values that are made, used and taken apart.
 
+ghost use Rattle.std.specs.Prelude.{◌≤◌};
+
 use entry_codec::Status;
 use io_commands::*;
 use page_memory::{PageNo, Store};
-use std::alloc::{AllocError, Global};
+use sgl_chain::pages_needed;
+use std::alloc::{AllocError, AllocGlobal, Global};
+use std::process::Abort;
 use std::test::Fail;
 
 fn request(
@@ -150,7 +154,7 @@ fn a_built_draft_names_its_chain(rt: HostRuntime) -> Result<(), Fail> {
     assert!(rt; asked.check().is_ok());
     let pages = taken(rt.alloc(), 4, 5)?;
     assert_eq!(rt;
-        asked.pieces.data_pages() + sgl_chain::pages_needed(asked.pieces.as_slice().len(), 2),
+        asked.pieces.data_pages() + pages_needed(asked.pieces.as_slice().len(), 2),
         pages.len()
     );
     let mut draft = Draft::make(1, 0, asked, pages, 2);
@@ -184,5 +188,65 @@ fn a_built_draft_names_its_chain(rt: HostRuntime) -> Result<(), Fail> {
         bytes[16..32],
         *[0, 0x80, 0, 0, 0, 0, 0, 0, 0x20, 0, 0, 0, 0, 0, 0, 0x30].as_slice()
     );
+    Ok(())
+}
+
+/// How many joined parts pieces are, by the places at which they begin and end in consecutive pages.
+fn parts_plainly(pieces: &[Piece]) -> usize {
+    let mut parts = 0usize;
+    let mut page = 0u64;
+    let mut end = None;
+    for piece in pieces {
+        match *piece {
+            Piece::Data { offset, len } => {
+                let begin = page.saturating_add(u64::from(offset));
+                if end != Some(begin) {
+                    parts = parts.saturating_add(1);
+                }
+                end = Some(begin.saturating_add(u64::from(len)));
+                page = page.saturating_add(4_096);
+            }
+            Piece::Bucket { .. } => {
+                parts = parts.saturating_add(1);
+                end = None;
+            }
+        }
+    }
+    parts
+}
+
+/// The fewest pages of a Read of these pieces, which must be those of a plain loop.
+fn fewest(
+    rt: &(impl Abort + AllocGlobal),
+    blocks: u32,
+    pieces: &[Piece],
+    segment: u16,
+) -> Result<u32, Fail>
+    requires low { 2 ≤ segment }
+    requires high { segment ≤ 256 }
+{
+    let asked = request(rt.alloc(), Kind::Read, blocks, pieces)?;
+    assert!(rt; asked.check().is_ok());
+    let least = asked.least_pages(segment);
+    let chain = pages_needed(parts_plainly(pieces), usize::from(segment));
+    assert_eq!(rt; least as usize, asked.data_pages().saturating_add(chain));
+    Ok(least)
+}
+
+#[test]
+fn the_fewest_pages_are_those_of_joined_parts(rt: HostRuntime) -> Result<(), Fail> {
+    let whole = vec![in rt.alloc(); data(0, 4_096); 256]?;
+    assert_eq!(rt; fewest(&rt, 2_048, whole.as_slice(), 2)?, 256);
+    let gaps = vec![in rt.alloc(); data(0, 512); 1_024]?;
+    assert_eq!(rt; fewest(&rt, 1_024, gaps.as_slice(), 2)?, 2_047);
+    assert_eq!(rt; fewest(&rt, 1_024, gaps.as_slice(), 256)?, 1_029);
+    let four = [data(0, 4_096); 4];
+    assert_eq!(rt; fewest(&rt, 32, &four, 256)?, 4);
+    let ends = [data(3_584, 512), data(0, 4_096), data(0, 512)];
+    assert_eq!(rt; fewest(&rt, 10, &ends, 2)?, 3);
+    let split = [data(0, 4_096), bucket(512), data(0, 4_096)];
+    assert_eq!(rt; fewest(&rt, 17, &split, 256)?, 3);
+    let buckets = vec![in rt.alloc(); bucket(512); 1_024]?;
+    assert_eq!(rt; fewest(&rt, 1_024, buckets.as_slice(), 256)?, 5);
     Ok(())
 }

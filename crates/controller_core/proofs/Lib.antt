@@ -7,3 +7,4 @@ pub mod Managed
 pub mod Opened
 pub mod OneWay
 pub mod FirstRead
+pub mod Looks

@@ -6,5 +6,6 @@ pub mod Completing
 pub mod Managing
 pub mod Fetching
 pub mod Opening
+pub mod Looks
 pub mod Laws
 pub mod Worked

@@ -6,7 +6,7 @@ ghost use Rattle.block_image.specs.Blocks.{block_count};
 ghost use Rattle.page_memory.specs.Memory.{Memory};
 ghost use Rattle.controller_core.specs.Answering.{answer_refusal};
 ghost use Rattle.controller_core.specs.Completing.{complete_refusal, status_of_end, image_of_end, queues_of_end, without_submission, IsOver, CompletesTo};
-ghost use Rattle.controller_core.specs.Contents.{change, dw0_of_work, verdict_of_work, is_command, is_deletion};
+ghost use Rattle.controller_core.specs.Contents.{change, dw0_of_work, verdict_of_work, is_command, is_deletion, IsController};
 
 use crate::answer::answer;
 use crate::command::Work;
@@ -79,7 +79,7 @@ fn settle<A: Allocator>(
 
 impl<A: Allocator> Controller<A> {
     /// The place of the command that completes, or the first cause against it that lies in the command.
-    fn check_complete(&self, q: u16, cid: u16) -> Result<usize, Refusal>
+    pub(crate) fn check_complete(&self, q: u16, cid: u16) -> Result<usize, Refusal>
         ensures refused { IfErr result (λ why. (m : Memory) → complete_refusal self.now m q cid ≡ Some why) }
         ensures ready { IfOk result (λ place. (m : Memory) → complete_refusal self.now m q cid ≡ answer_refusal self.now.queues m q) }
         ensures place { IfOk result (λ place. find (is_command q cid) self.now.commands ≡ slice_get self.now.commands place) }
@@ -113,6 +113,7 @@ impl<A: Allocator> Controller<A> {
         ensures refusal { result_err result ≡ complete_refusal self.old (D.memory dma.old) q cid }
         ensures refused { OnErr result ((self.new ≡ self.old) × (D.memory dma.new ≡ D.memory dma.old) × (D.reached dma.new ≡ D.reached dma.old)) }
         ensures completes { OnOk result (CompletesTo self.old q cid (D.memory dma.old) (D.reached dma.old) self.new (D.memory dma.new) (D.reached dma.new)) }
+        ensures sound { IsController self.new }
         ensures pool { D.page_count dma.new ≡ D.page_count dma.old }
     {
         let place = self.check_complete(q, cid)?;

@@ -5,7 +5,7 @@ ghost use Rattle.std.specs.Result.{result_err};
 ghost use Rattle.entry_codec.specs.declared.status.TheConstants.Status.{COMMAND_ID_CONFLICT};
 ghost use Rattle.queue_pair.specs.Memory.{entry_at, submission_page};
 ghost use Rattle.controller_core.specs.Answering.{answer_refusal, post_refusal, completion_by, memory_posted, page_posted, with_answer};
-ghost use Rattle.controller_core.specs.Contents.{change, is_command};
+ghost use Rattle.controller_core.specs.Contents.{change, is_command, IsController};
 ghost use Rattle.controller_core.specs.Fetching.{live_side, side_refusal, look_refusal, LooksAt, Begins, AnswersKnown, Fetches};
 ghost use Rattle.controller_core.specs.Managing.{with_taken, command_of, managed};
 ghost use Rattle.controller_core.specs.declared.command.Work.TheVariants.{Io};
@@ -119,7 +119,7 @@ fn fetched<A: Allocator>(q: u16, work: Work<Job<A>>) -> FetchedCommand<Job<A>>
 
 impl<A: Allocator + Copy> Controller<A> {
     /// The entry at the head of a queue, or the first cause against it.
-    fn look<D: Dma>(&self, q: u16, dma: &mut D) -> Result<SubEntry, Refusal>
+    pub(crate) fn look<D: Dma>(&self, q: u16, dma: &mut D) -> Result<SubEntry, Refusal>
         requires room { length (D.reached dma.old) ≤ 2 }
         ensures refusal { result_err result ≡ look_refusal self.now (D.memory dma.old) q }
         ensures looks { IfOk result (λ e. LooksAt self.now (D.memory dma.old) (D.reached dma.old) q e (D.reached dma.new)) }
@@ -140,6 +140,7 @@ impl<A: Allocator + Copy> Controller<A> {
         requires rung { IfSome (slice_get self.old.queues q) (λ queue. queue.device.ring.head ≢ queue.device.ring.bell) }
         requires unknown { is_some (find (is_command q entry.now.cid) self.old.commands) ≡ false }
         ensures begins { OnOk result (Begins self.old q entry.now self.new) }
+        ensures sound { IsController self.new }
         ensures refused { OnErr result (self.new ≡ self.old) }
     {
         let job = begin_job(self.alloc, entry, &self.image)?;
@@ -155,6 +156,7 @@ impl<A: Allocator + Copy> Controller<A> {
         requires rung { IfSome (slice_get self.old.queues 0) (λ queue. queue.device.ring.head ≢ queue.device.ring.bell) }
         requires unknown { is_some (find (is_command 0 entry.cid) self.old.commands) ≡ false }
         ensures managed { OnOk result (self.new ≡ managed entry self.old) }
+        ensures sound { IsController self.new }
         ensures refused { OnErr result (self.new ≡ self.old) }
     {
         self.commands.reserve(1)?;
@@ -182,6 +184,7 @@ impl<A: Allocator + Copy> Controller<A> {
     pub fn fetch<D: Dma>(&mut self, q: u16, dma: &mut D) -> Result<u16, Refusal>
         requires room { length (D.reached dma.old) ≤ 1 }
         ensures fetches { Fetches self.old (D.memory dma.old) (D.reached dma.old) q result self.new (D.memory dma.new) (D.reached dma.new) }
+        ensures sound { IsController self.new }
         ensures pool { D.page_count dma.new ≡ D.page_count dma.old }
     {
         let entry = self.look(q, dma)?;

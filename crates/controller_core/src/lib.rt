@@ -16,6 +16,7 @@ mod controller;
 mod doorbell;
 mod fetch;
 pub mod laws;
+mod look;
 mod lookup;
 mod manage;
 mod queue;
@@ -25,5 +26,6 @@ pub mod worked;
 
 pub use command::{FetchedCommand, Work};
 pub use controller::{Controller, OpenRefused};
+pub use look::ControllerStep;
 pub use queue::{ControllerQueue, QueuePages};
 pub use refusal::Refusal;

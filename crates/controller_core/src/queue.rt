@@ -8,7 +8,7 @@ use page_memory::PageNo;
 use queue_pair::DevicePair;
 
 /// Where the two halves of a queue begin.
-#[derive(Clone, Copy, Debug, PartialEq, Eq)]
+#[derive(Clone, Copy, Debug, Default, PartialEq, Eq)]
 pub struct QueuePages {
     /// The first page of its submission queue.
     pub sq: PageNo,

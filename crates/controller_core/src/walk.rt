@@ -2,7 +2,7 @@
 
 ghost use Rattle.std.specs.Prelude.{◌≡◌, ◌<◌, ◌≤◌, None, IfOk, IfSome, OnErr, find, length, slice_get};
 ghost use Rattle.std.specs.Result.{result_err};
-ghost use Rattle.controller_core.specs.Contents.{is_command};
+ghost use Rattle.controller_core.specs.Contents.{is_command, IsController};
 ghost use Rattle.controller_core.specs.Walking.{refusal_among, walk_refusal, WalksAmong, WalksTo};
 
 use crate::command::{FetchedCommand, Work};
@@ -15,7 +15,7 @@ use page_memory::Dma;
 use std::alloc::Allocator;
 
 /// The place of the command whose walk goes on, or the first cause against it.
-fn check_walk<A: Allocator>(
+pub(crate) fn check_walk<A: Allocator>(
     commands: &[FetchedCommand<Job<A>>],
     q: u16,
     cid: u16,
@@ -74,6 +74,7 @@ impl<A: Allocator> Controller<A> {
         ensures refusal { result_err result ≡ walk_refusal self.old q cid }
         ensures refused { OnErr result ((self.new ≡ self.old) × (D.memory dma.new ≡ D.memory dma.old) × (D.reached dma.new ≡ D.reached dma.old)) }
         ensures walks { IfOk result (λ state. WalksTo self.old q cid (D.memory dma.old) (D.reached dma.old) state self.new (D.memory dma.new) (D.reached dma.new)) }
+        ensures sound { IsController self.new }
         ensures pool { D.page_count dma.new ≡ D.page_count dma.old }
     {
         let place = check_walk(&self.commands, q, cid)?;

@@ -8,13 +8,18 @@ use Rattle.std.proofs.lemmas.List.Sums.{count_by_more_yes, count_by_more_no, sum
 use Rattle.std.proofs.lemmas.Option.{slice_get-get_or}
 use Rattle.machine_model.specs.Step.{times}
 use Rattle.machine_model.proofs.Counting.{one, times-cons, times-append, times-filter}
-use Rattle.world_tables.proofs.Managing.{both_true}
 use Rattle.entry_codec.specs.declared.status.Status.{Status}
 use Rattle.driver_book.specs.declared.log.Entry.{Entry}
 use Rattle.driver_book.specs.declared.log.Receipt.{Receipt}
 use Rattle.driver_book.specs.History.{accepted, is_accepted}
 use Rattle.driver_book.specs.State.{SeatContents}
 use Rattle.driver_book.specs.Close.{has, is_receipt_of, fits_status, same_seat, accepted_of, held, queue_in, identifier_in, receipts_of, AllStand}
+
+-- both parts of a conjunction
+
+pub both_true : (a b : Bool) → (a && b) ≡ true → (a ≡ true) × (b ≡ true)
+both_true true b e = (refl, e)
+both_true false b e = cc
 
 -- Numbers that hold each number below a bound
 

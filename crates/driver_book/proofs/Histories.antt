@@ -7,7 +7,7 @@ use Rattle.machine_model.specs.State.{State}
 use Rattle.machine_model.proofs.InOrders.{opens_in_order, order_kept}
 use Rattle.machine_model.proofs.Agreed.{agreed_stays}
 use Rattle.machine_model.proofs.NeverRestored.{ends_unforged}
-use Rattle.world_tables.specs.Opening.{opening_of}
+use Rattle.step_core.specs.Opening.{opening_of}
 use Rattle.driver_book.specs.History.{asked, told, TellsOf, LeadsTo}
 use Rattle.driver_book.specs.Laws.{IsEntryOf, entries_name_allowed_pages, logs_are_trusted_runs}
 use Rattle.driver_book.specs.declared.log.Entry.{Entry}

@@ -16,8 +16,8 @@ use Rattle.driver_book.specs.History.{asked, told, entry, is_submission, is_acce
 use Rattle.driver_book.specs.State.{BookContents, IsBook, is_seated, AreSeated}
 use Rattle.driver_book.specs.declared.log.Entry.{Entry}
 use Rattle.step_core.specs.Replies.{accept_reply}
-use Rattle.step_core.specs.declared.refused.Refused.{Refused}
-use Rattle.world_tables.specs.Touching.{StaysAllowed}
+use Rattle.host_core.specs.declared.refused.Refused.{Refused}
+use Rattle.step_core.specs.Touching.{StaysAllowed}
 
 -- Counts
 

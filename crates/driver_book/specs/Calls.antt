@@ -12,7 +12,7 @@ use Rattle.driver_book.specs.History.{asked, told, entry, accepted}
 use Rattle.driver_book.specs.State.{BookContents, SeatContents}
 use Rattle.driver_book.specs.declared.log.Entry.{Entry}
 use Rattle.driver_book.specs.declared.log.Receipt.{Receipt}
-use Rattle.step_core.specs.declared.refused.Refused.{Refused}
+use Rattle.host_core.specs.declared.refused.Refused.{Refused}
 use Rattle.step_core.specs.declared.step.Reply.{Reply}
 use Rattle.step_core.specs.declared.step.Step.{Step}
 

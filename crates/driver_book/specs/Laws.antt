@@ -5,8 +5,9 @@ use Rattle.machine_model.specs.Image.{Made}
 use Rattle.machine_model.specs.Laws.{TrustedRun}
 use Rattle.machine_model.specs.State.{State}
 use Rattle.machine_model.specs.Touch.{stays_allowed, stays_own}
-use Rattle.world_tables.specs.Opening.{refusal_of_config, opening_of}
-use Rattle.world_tables.specs.declared.config.Config.{Config}
+use Rattle.host_core.specs.Opening.{refusal_of_config}
+use Rattle.step_core.specs.Opening.{opening_of}
+use Rattle.host_core.specs.declared.config.Config.{Config}
 use Rattle.driver_book.specs.History.{asked, told, TellsOf, LeadsTo}
 use Rattle.driver_book.specs.declared.log.Entry.{Entry}
 

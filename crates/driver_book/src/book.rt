@@ -4,7 +4,8 @@ ghost use Rattle.std.specs.Prelude.{◌≡◌, ◌+◌, ◌<◌, ◌≤◌, [], 
 ghost use Rattle.std.specs.List.{Contains};
 ghost use Rattle.machine_model.specs.Claims.{claims_of, counts_of, IsSound};
 ghost use Rattle.page_ledger.specs.Counting.{total};
-ghost use Rattle.world_tables.specs.Opening.{refusal_of_config, opening_of, RefusesOpening};
+ghost use Rattle.host_core.specs.Opening.{refusal_of_config, RefusesOpening};
+ghost use Rattle.step_core.specs.Opening.{opening_of};
 ghost use Rattle.driver_book.specs.History.{LeadsTo};
 ghost use Rattle.driver_book.specs.State.{BookContents};
 
@@ -17,8 +18,7 @@ use std::alloc::Global;
 use std::marker::{Brand, Model};
 use std::sync::ledger;
 use std::sync::ledger::{Blank, Ledger, Share};
-use step_core::{Ended, OpenRefusal, World};
-use world_tables::Config;
+use step_core::{Config, Ended, OpenRefusal, World};
 
 /// The ledger of one book, and the state with which that book opens, which contracts alone know.
 pub trait Driver: Ledger {

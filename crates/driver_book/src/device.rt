@@ -3,7 +3,7 @@
 ghost use Rattle.std.specs.Prelude.{◌≡◌, ◌⊎◌, [], None};
 ghost use Rattle.machine_model.specs.Events as events;
 ghost use Rattle.step_core.specs.Replies.{complete_reply, fetch_reply, walk_reply};
-ghost use Rattle.world_tables.specs.Touching.{StaysAllowed};
+ghost use Rattle.step_core.specs.Touching.{StaysAllowed};
 ghost use Rattle.driver_book.specs.Calls.{Does, WantsMemoryFor, IsLogFull, MayWorldWant};
 
 use crate::book::{Book, Driver};

@@ -12,9 +12,9 @@ use Rattle.machine_model.specs.Events as events
 use Rattle.machine_model.specs.State.{State, Record, is_at}
 use Rattle.machine_model.specs.Step.{finished_from, asked_by, pages_with_bytes}
 use Rattle.step_core.specs.Replies.{collect_reply}
-use Rattle.step_core.specs.declared.refused.Refused.{Refused}
-use Rattle.world_tables.proofs.Lists.{found_is}
-use Rattle.world_tables.proofs.Managing.{both_true}
+use Rattle.host_core.specs.declared.refused.Refused.{Refused}
+use Rattle.host_core.proofs.Lists.{found_is}
+use Rattle.driver_book.proofs.EachReceipt.{both_true}
 
 abbrev q_of : Option FinishedContents → ℕ
 q_of f = option_map_or (λ f. f.q) f 0

@@ -4,8 +4,8 @@ use Rattle.driver_book.specs.History.{accepted}
 use Rattle.driver_book.specs.State.{BookContents, SeatContents}
 use Rattle.driver_book.specs.declared.log.Report.{Report}
 use Rattle.machine_model.specs.State.{State}
-use Rattle.world_tables.specs.Opening.{refusal_of_config, RefusesOpening}
-use Rattle.world_tables.specs.declared.config.Config.{Config}
+use Rattle.host_core.specs.Opening.{refusal_of_config, RefusesOpening}
+use Rattle.host_core.specs.declared.config.Config.{Config}
 use Rattle.driver_threads.specs.Sharing.{Closes}
 use Rattle.driver_threads.specs.declared.jobs.RunFault.{RunFault}
 use Rattle.driver_threads.specs.declared.jobs.RunFault.TheVariants.{Open}

@@ -17,7 +17,7 @@ use Rattle.driver_book.specs.State.{BookContents, SeatContents}
 use Rattle.driver_book.specs.declared.log.CloseFault.{CloseFault}
 use Rattle.driver_book.specs.declared.log.Report.{Report}
 use Rattle.step_core.specs.Replies.{accept_reply}
-use Rattle.step_core.specs.declared.refused.Refused.{Refused}
+use Rattle.host_core.specs.declared.refused.Refused.{Refused}
 
 -- A book of this opening: its log is that of a run that leads from there to the world as it is, and the world is sound, so each page has one
 -- owner, the counts add up, and the identifiers of a queue are distinct.

@@ -2,7 +2,7 @@
 
 ghost use Rattle.std.specs.Prelude.{◌≡◌, ◌≤◌, map, length, vec_len, IfOk, IfErr};
 ghost use Rattle.driver_threads.specs.Runs.{IsAfterOpening, RanFrom, RefusesRun};
-ghost use Rattle.world_tables.specs.Opening.{opening_of};
+ghost use Rattle.step_core.specs.Opening.{opening_of};
 
 use crate::gate::Gate;
 use crate::jobs::{Job, JobEnd, JobEnds, Ran, RunFault};

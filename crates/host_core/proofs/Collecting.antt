@@ -27,8 +27,6 @@ use Rattle.host_core.specs.Collecting.{taken_pages, StandsAt}
 use Rattle.host_core.specs.Commands.{taken_out, CanTake}
 use Rattle.host_core.specs.Tables.{Tables, state_of}
 use Rattle.host_core.specs.Whole.{IsWhole, IsRecord, FitsWork, FitsPhase}
-use Rattle.host_core.proofs.Comparing.{with_record-at}
-use Rattle.host_core.proofs.Ending.{at_most_once}
 use Rattle.host_core.proofs.Lists.{found_is}
 use Rattle.host_core.proofs.Pages.{set-other, without-append}
 use Rattle.host_core.proofs.TakenOut.{collect_can_take, collected_step, collected_whole}
@@ -79,19 +77,23 @@ take-parts (x ∷ a) b m h = let r = take-parts a b (slice_set m x None) h.1 in 
 in_store : (r : Record) → r.phase ≡ Held → is_out r.phase ≡ false
 in_store r e = ap is_out e
 
-pub held_can_take : (t : Tables) (q cid place : ℕ) → IsWhole t → (is : StandsAt t q cid place) → CanTake is.entry.data_pages t.pages × CanTake is.entry.chain_pages (without_pages is.entry.data_pages t.pages)
-held_can_take t q cid place whole is =
+pub held_can_take : (t : Tables) (q cid : ℕ) → IsWhole t → (is : StandsAt t q cid) → CanTake is.entry.data_pages t.pages × CanTake is.entry.chain_pages (without_pages is.entry.data_pages t.pages)
+held_can_take t q cid whole is =
     take-parts is.entry.data_pages is.entry.chain_pages t.pages (collect_can_take t q cid is.entry whole is.was (in_store is.entry is.held))
 
-pub held_fits : (t : Tables) (q cid place : ℕ) → IsWhole t → (is : StandsAt t q cid place) → FitsPhase Held is.entry.work is.entry.status
-held_fits t q cid place whole is =
+pub held_fits : (t : Tables) (q cid : ℕ) → IsWhole t → (is : StandsAt t q cid) → FitsPhase Held is.entry.work is.entry.status
+held_fits t q cid whole is =
     let fits = found_all (IsRecord (length t.queues)) (is_at q cid) t.records is.entry is.was whole.records in
     subst (λ (p : Phase). FitsPhase p is.entry.work is.entry.status) is.held fits.phase
 
-pub held_work : (t : Tables) (q cid place : ℕ) (r : Request) → IsWhole t → (is : StandsAt t q cid place) → is.entry.work ≡ Io r → IsGood r × (length is.entry.data_pages ≡ data_count r.pieces)
-held_work t q cid place r whole is e =
+pub held_work : (t : Tables) (q cid : ℕ) (r : Request) → IsWhole t → (is : StandsAt t q cid) → is.entry.work ≡ Io r → IsGood r × (length is.entry.data_pages ≡ data_count r.pieces)
+held_work t q cid r whole is e =
     let fits = found_all (IsRecord (length t.queues)) (is_at q cid) t.records is.entry is.was whole.records in
     subst (λ (w : Work). FitsWork w is.entry) e fits.work
+
+-- by equal numbers
+pub found-at : (t : Tables) (q cid q' cid' : ℕ) (r : Record) → q' ≡ q → cid' ≡ cid → find (is_at q' cid') t.records ≡ Some r → find (is_at q cid) t.records ≡ Some r
+found-at t q cid q' cid' r eq ec h = rw (← eq, ← ec) h
 
 -- The refusals
 
@@ -104,8 +106,8 @@ collect-stranger t q cid r e a b = (rw (e, a, b) refl, refl)
 pub collect-not_yet : (t : Tables) (q cid : ℕ) (r : Record) → find (is_at q cid) t.records ≡ Some r → (is_submitted r.phase ≡ true) → Refuses (state_of t) (events.Collect q cid) refusal.NotYet []
 collect-not_yet t q cid r e a = (rw (e, a) refl, refl)
 
-pub collect-nothing : (t : Tables) (q cid place : ℕ) → StandsAt t q cid place → refusal_of (state_of t) (events.Collect q cid) ≡ None
-collect-nothing t q cid place is = rw (is.was, is.held) refl
+pub collect-nothing : (t : Tables) (q cid : ℕ) → StandsAt t q cid → refusal_of (state_of t) (events.Collect q cid) ≡ None
+collect-nothing t q cid is = rw (is.was, is.held) refl
 
 -- The whole of a collection
 
@@ -113,18 +115,18 @@ pub record Collects (t new : Tables) (q cid : ℕ) (f : FinishedContents) : Type
   pub step : Step (state_of t) (events.Collect q cid) (events.Collects f) (state_of new)
   pub whole : IsWhole new
 
-pub collect_made : (t new : Tables) (q cid place : ℕ) (r : Request) (st : Status) (pages : PagesOut) (f : FinishedContents) → IsWhole t → (is : StandsAt t q cid place)
+pub collect_made : (t new : Tables) (q cid : ℕ) (r : Request) (st : Status) (pages : PagesOut) (f : FinishedContents) → IsWhole t → (is : StandsAt t q cid)
     → is.entry.work ≡ Io r → is.entry.status ≡ Some st
     → pages ≡ taken_pages is.entry.data_pages t.pages ++ taken_pages is.entry.chain_pages (without_pages is.entry.data_pages t.pages)
     → f ≡ record { q = q; cid = cid; request = r; status = st; data_pages = data_part r pages; chain_pages = chain_part r pages }
     → new ≡ taken_out q cid (pages_of is.entry) t → Collects t new q cid f
-collect_made t new q cid place r st pages f whole is ew es ep ef en =
+collect_made t new q cid r st pages f whole is ew es ep ef en =
     let a = pages_with_bytes t.pages is.entry.data_pages in
     let b = pages_with_bytes t.pages is.entry.chain_pages in
     let can = collect_can_take t q cid is.entry whole is.was (in_store is.entry is.held) in
     let all : pages ≡ a ++ b =
     ep ∙ (sym (taken-append is.entry.data_pages is.entry.chain_pages t.pages) ∙ (taken_same (pages_of is.entry) t.pages can ∙ map-append (λ p. (p, option_map_or (λ bytes. bytes) (page_at t.pages p) [])) is.entry.data_pages is.entry.chain_pages)) in
-    let size : length a ≡ data_count r.pieces = length-map is.entry.data_pages (λ p. (p, option_map_or (λ bytes. bytes) (page_at t.pages p) [])) ∙ (held_work t q cid place r whole is ew).1 in
+    let size : length a ≡ data_count r.pieces = length-map is.entry.data_pages (λ p. (p, option_map_or (λ bytes. bytes) (page_at t.pages p) [])) ∙ (held_work t q cid r whole is ew).1 in
     let at = found_is (is_at q cid) t.records is.entry is.was in
     let made : f ≡ record { q = is.entry.q; cid = is.entry.cid; request = r; status = st; data_pages = a; chain_pages = b } =
     ef
@@ -132,7 +134,7 @@ collect_made t new q cid place r st pages f whole is ew es ep ef en =
     (ap (data_part r) all ∙ take_at a b (data_count r.pieces) size) (ap (chain_part r) all ∙ drop_at a b (data_count r.pieces) size)
     ∙ ap₂ (λ (x y : ℕ). record { q = x; cid = y; request = r; status = st; data_pages = a; chain_pages = b }) (sym (named is.entry q cid at).0) (sym (named is.entry q cid at).1)) in
     let finishes : finished_from (state_of t) is.entry ≡ Some f = rw (ew, es) (ap Some (sym made)) in
-    let none = collect-nothing t q cid place is in
+    let none = collect-nothing t q cid is in
     record {
       step = subst (λ (x : Tables). Step (state_of t) (events.Collect q cid) (events.Collects f) (state_of x)) (sym en) (collected_step t q cid is.entry f whole none is.was finishes);
       whole = subst (λ (x : Tables). IsWhole x) (sym en) (collected_whole t q cid is.entry f whole none is.was finishes);
@@ -141,25 +143,21 @@ collect_made t new q cid place r st pages f whole is ew es ep ef en =
     named : (r : Record) (q cid : ℕ) → is_at q cid r ≡ true → (r.q ≡ q) × (r.cid ≡ cid)
     named r q cid h = let both = and_parts (r.q == q) (r.cid == cid) h in (eqb-true r.q q both.0, eqb-true r.cid cid both.1)
 
-pub collected_tables : (t : Tables) (q cid place : ℕ) (pages : Pages) (records : List Record) → IsWhole t → (is : StandsAt t q cid place)
-    → pages ≡ without_pages is.entry.chain_pages (without_pages is.entry.data_pages t.pages) → records ≡ slice_set t.records place (collected is.entry)
-    → record t { pages = pages; records = records } ≡ taken_out q cid (pages_of is.entry) t
-collected_tables t q cid place pages records whole is ep er =
-    let left : records ≡ with_record q cid collected t.records =
-    er ∙ sym (with_record-at q cid collected t.records place is.entry is.at (found_is (is_at q cid) t.records is.entry is.was) (at_most_once t whole q cid)) in
-    rw (ep, left, without-append is.entry.data_pages is.entry.chain_pages t.pages) refl
+pub collected_tables : (t : Tables) (q cid : ℕ) (pages : Pages) → (is : StandsAt t q cid) → pages ≡ without_pages is.entry.chain_pages (without_pages is.entry.data_pages t.pages)
+    → record t { pages = pages; records = with_record q cid collected t.records } ≡ taken_out q cid (pages_of is.entry) t
+collected_tables t q cid pages is ep = rw (ep, without-append is.entry.data_pages is.entry.chain_pages t.pages) refl
 
 length-taken : (ps : List ℕ) (m : Pages) → length (taken_pages ps m) ≡ length ps
 length-taken [] m = refl
 length-taken (p ∷ ps) m = ap suc (length-taken ps (slice_set m p None))
 
-pub collect_enough : (t : Tables) (q cid place : ℕ) (r : Request) (pages : PagesOut) → IsWhole t → (is : StandsAt t q cid place) → is.entry.work ≡ Io r
+pub collect_enough : (t : Tables) (q cid : ℕ) (r : Request) (pages : PagesOut) → IsWhole t → (is : StandsAt t q cid) → is.entry.work ≡ Io r
     → pages ≡ taken_pages is.entry.data_pages t.pages ++ taken_pages is.entry.chain_pages (without_pages is.entry.data_pages t.pages) → data_count r.pieces ≤ length pages
-collect_enough t q cid place r pages whole is ew ep =
+collect_enough t q cid r pages whole is ew ep =
     omega (
       arith,
       ap length ep,
       length-append (taken_pages is.entry.data_pages t.pages) (taken_pages is.entry.chain_pages (without_pages is.entry.data_pages t.pages)),
       length-taken is.entry.data_pages t.pages,
-      (held_work t q cid place r whole is ew).1,
+      (held_work t q cid r whole is ew).1,
     )

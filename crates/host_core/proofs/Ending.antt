@@ -1,6 +1,6 @@
 -- The end of a command on the tables is the machine's, and leaves them whole.
-use Rattle.std.proofs.Common.{◌≡◌, ℕ, ◌<◌, ◌==◌, Bool, true, false, not, ◌||◌, Some, None, List, [], ◌∷◌, ◌++◌, length, take, drop, find, slice_get, slice_set, refl, ap, sym, ◌∙◌, subst, length-set, eqb-true, if◌then◌else◌}
-use Rattle.std.specs.List.{remove, AllByRecursion}
+use Rattle.std.proofs.Common.{◌≡◌, ℕ, ◌<◌, ◌==◌, Bool, true, false, not, ◌||◌, Option, Some, None, List, [], ◌∷◌, ◌++◌, length, take, drop, find, slice_set, refl, ap, sym, ◌∙◌, subst, length-set, eqb-true, if◌then◌else◌}
+use Rattle.std.specs.List.{AllByRecursion}
 use Rattle.std.specs.Option.{option_map, option_map_or}
 use Rattle.std.proofs.lemmas.Bool.{true≢false, not-true, not-false, and_parts}
 use Rattle.std.proofs.lemmas.List.{length-map, take_at, drop_at}
@@ -36,7 +36,6 @@ use Rattle.host_core.specs.Tables.{Tables, state_of}
 use Rattle.host_core.specs.Whole.{IsWhole, TellsCommand, IsRecord}
 use Rattle.page_memory.specs.Pages.{Pages}
 use Rattle.host_core.specs.Rows as declared
-use Rattle.host_core.proofs.Comparing.{without_record-at}
 use Rattle.host_core.proofs.Identifiers.{claim-less}
 use Rattle.host_core.proofs.Lists.{all-filter, all-filter_by, all-from, all-to, all-front, all-back, found_is, found_at, found_any}
 use Rattle.host_core.proofs.Moved.{Fits, due, moved_is, moved_whole}
@@ -170,14 +169,10 @@ ended_claimed t q cid pages whole brings queue at =
     let claims = whole.identifiers.each q queue at in
     claims.told cid (claims.inside cid there) ∙ ap Some there
 
-pub ended_tables : (t : Tables) (q cid : ℕ) (brought' : PagesOut) (place : ℕ) (pages : Pages) (owners : List Owner) (records : List Record) (queues : List declared.Queue) → IsWhole t → Brings t q cid brought'
-    → slice_get t.records place ≡ find (is_at q cid) t.records
-    → pages ≡ with_pages brought' t.pages → owners ≡ given_back (is_command q cid) t.owners → records ≡ remove t.records place → queues ≡ change q (without_claim cid) t.queues
-    → record t { pages = pages; owners = owners; records = records; queues = queues } ≡ ended q cid brought' t
-ended_tables t q cid brought' place pages owners records queues whole brings at ep eo er eq =
-    let left : records ≡ without_record q cid t.records =
-    er ∙ sym (without_record-at q cid t.records place brings.entry (at ∙ brings.was) (found_is (is_at q cid) t.records brings.entry brings.was) (at_most_once t whole q cid)) in
-    rw (ep, eo, left, eq) refl
+pub ended_tables : (t u : Tables) (q cid : ℕ) (brought' : PagesOut) (pages : Pages) (owners : List Owner) (queues : List declared.Queue) → u ≡ record t { records = without_record q cid t.records }
+    → pages ≡ with_pages brought' t.pages → owners ≡ given_back (is_command q cid) u.owners → queues ≡ change q (without_claim cid) u.queues
+    → record u { pages = pages; owners = owners; queues = queues } ≡ ended q cid brought' t
+ended_tables t u q cid brought' pages owners queues eu ep eo eq = rw (ep, eo, eq, eu) refl
 
 -- The whole of both calls
 
@@ -185,8 +180,8 @@ pub record Finishes (t new : Tables) (e : Event) : Type 0 where
   pub step : Step (state_of t) e events.Accepted (state_of new)
   pub whole : IsWhole new
 
-pub belongs_brings : (t : Tables) (ended' : Bool) (q cid : ℕ) (r : Request) (a b : PagesOut) (place : ℕ) → Belongs t.records ended' q cid r (numbers_of a) (numbers_of b) place → Brings t q cid (a ++ b)
-belongs_brings t ended' q cid r a b place belongs =
+pub belongs_brings : (t : Tables) (ended' : Bool) (q cid : ℕ) (r : Request) (a b : PagesOut) → Belongs t.records ended' q cid r (numbers_of a) (numbers_of b) → Brings t q cid (a ++ b)
+belongs_brings t ended' q cid r a b belongs =
     let m = pages_match (phase_of_end ended') r a b belongs.entry belongs.is in
     record { entry = belongs.entry; was = belongs.was; out = away_is belongs.entry ∙ outs ended' belongs.entry.phase m.1; numbers = m.0 }
   where
@@ -194,8 +189,15 @@ belongs_brings t ended' q cid r a b place belongs =
     outs true p h = collected-out p h
     outs false p h = drafted-out p h
 
-pub belongs-passes : (t : Tables) (ended' : Bool) (q cid : ℕ) (r : Request) (a b : List ℕ) (place : ℕ) → Belongs t.records ended' q cid r a b place → record_is (is_of (phase_of_end ended') r a b) (state_of t) q cid ≡ true
-belongs-passes t ended' q cid r a b place belongs = ap (λ o. option_map_or (is_of (phase_of_end ended') r a b) o false) belongs.was ∙ belongs.is
+pub belongs-passes : (t : Tables) (ended' : Bool) (q cid : ℕ) (r : Request) (a b : List ℕ) → Belongs t.records ended' q cid r a b → record_is (is_of (phase_of_end ended') r a b) (state_of t) q cid ≡ true
+belongs-passes t ended' q cid r a b belongs = ap (λ o. option_map_or (is_of (phase_of_end ended') r a b) o false) belongs.was ∙ belongs.is
+
+pub belongs-from : (records : List Record) (ended' : Bool) (q cid : ℕ) (r : Request) (a b : List ℕ) → has_record records ended' q cid r a b ≡ true → Belongs records ended' q cid r a b
+belongs-from records ended' q cid r a b h = go (find (is_at q cid) records) refl h
+  where
+    go : (o : Option Record) → find (is_at q cid) records ≡ o → option_map_or (is_of (phase_of_end ended') r a b) o false ≡ true → Belongs records ended' q cid r a b
+    go None e g = absurd (true≢false (sym g))
+    go (Some entry) e g = record { entry = entry; was = e; is = g }
 
 -- a moved value, as its parts are read
 pub record Reads (q cid : ℕ) (r : Request) (a b : PagesOut) (q' cid' : ℕ) (r' : Request) (a' b' : PagesOut) : Type 0 where
@@ -205,23 +207,18 @@ pub record Reads (q cid : ℕ) (r : Request) (a b : PagesOut) (q' cid' : ℕ) (r
   pub front : a' ≡ a
   pub back : b' ≡ b
 
-pub read_belongs : (records : List Record) (ended' : Bool) (q cid : ℕ) (r : Request) (a b : PagesOut) (q' cid' : ℕ) (r' : Request) (a' b' : PagesOut) (place : ℕ) → Reads q cid r a b q' cid' r' a' b'
-    → Belongs records ended' q' cid' r' (numbers_of a') (numbers_of b') place → Belongs records ended' q cid r (numbers_of a) (numbers_of b) place
-read_belongs records ended' q cid r a b q' cid' r' a' b' place reads belongs =
-    subst (λ (x : PagesOut). Belongs records ended' q cid r (numbers_of a) (numbers_of x) place) reads.back
-    (subst (λ (x : PagesOut). Belongs records ended' q cid r (numbers_of x) (numbers_of b') place) reads.front
-    (subst (λ (x : Request). Belongs records ended' q cid x (numbers_of a') (numbers_of b') place) reads.request
-    (subst (λ (x : ℕ). Belongs records ended' q x r' (numbers_of a') (numbers_of b') place) reads.identifier
-    (subst (λ (x : ℕ). Belongs records ended' x cid' r' (numbers_of a') (numbers_of b') place) reads.queue belongs))))
+pub read_belongs : (records : List Record) (ended' : Bool) (q cid : ℕ) (r : Request) (a b : PagesOut) (q' cid' : ℕ) (r' : Request) (a' b' : PagesOut) → Reads q cid r a b q' cid' r' a' b'
+    → Belongs records ended' q' cid' r' (numbers_of a') (numbers_of b') → Belongs records ended' q cid r (numbers_of a) (numbers_of b)
+read_belongs records ended' q cid r a b q' cid' r' a' b' reads belongs =
+    subst (λ (x : PagesOut). Belongs records ended' q cid r (numbers_of a) (numbers_of x)) reads.back
+    (subst (λ (x : PagesOut). Belongs records ended' q cid r (numbers_of x) (numbers_of b')) reads.front
+    (subst (λ (x : Request). Belongs records ended' q cid x (numbers_of a') (numbers_of b')) reads.request
+    (subst (λ (x : ℕ). Belongs records ended' q x r' (numbers_of a') (numbers_of b')) reads.identifier
+    (subst (λ (x : ℕ). Belongs records ended' x cid' r' (numbers_of a') (numbers_of b')) reads.queue belongs))))
 
-pub read_none : (records : List Record) (ended' : Bool) (q cid : ℕ) (r : Request) (a b : PagesOut) (q' cid' : ℕ) (r' : Request) (a' b' : PagesOut) → Reads q cid r a b q' cid' r' a' b'
-    → has_record records ended' q' cid' r' (numbers_of a') (numbers_of b') ≡ false → has_record records ended' q cid r (numbers_of a) (numbers_of b) ≡ false
-read_none records ended' q cid r a b q' cid' r' a' b' reads none =
-    subst (λ (x : PagesOut). has_record records ended' q cid r (numbers_of a) (numbers_of x) ≡ false) reads.back
-    (subst (λ (x : PagesOut). has_record records ended' q cid r (numbers_of x) (numbers_of b') ≡ false) reads.front
-    (subst (λ (x : Request). has_record records ended' q cid x (numbers_of a') (numbers_of b') ≡ false) reads.request
-    (subst (λ (x : ℕ). has_record records ended' q x r' (numbers_of a') (numbers_of b') ≡ false) reads.identifier
-    (subst (λ (x : ℕ). has_record records ended' x cid' r' (numbers_of a') (numbers_of b') ≡ false) reads.queue none))))
+pub read_has : (records : List Record) (ended' : Bool) (q cid : ℕ) (r : Request) (a b : PagesOut) (q' cid' : ℕ) (r' : Request) (a' b' : PagesOut) → Reads q cid r a b q' cid' r' a' b'
+    → has_record records ended' q' cid' r' (numbers_of a') (numbers_of b') ≡ has_record records ended' q cid r (numbers_of a) (numbers_of b)
+read_has records ended' q cid r a b q' cid' r' a' b' reads = rw (reads.queue, reads.identifier, reads.request, reads.front, reads.back) refl
 
 both-pages : (a b : PagesOut) → ArePages (a ++ b) → ArePages a × ArePages b
 both-pages a b are =
@@ -250,25 +247,25 @@ pub release_refused : (t : Tables) (f : FinishedContents) → ArePages (f.data_p
 release_refused t f are none =
     host_step t t (events.Release f) (events.Refused refusal.Stranger []) refl (both-pages f.data_pages f.chain_pages are) ((ap (λ b. if not b then Some refusal.Stranger else None) none, refl), refl)
 
-pub cancel_made : (t new : Tables) (d : DraftContents) (place : ℕ) → IsWhole t → IsProperDraft d
-    → Belongs t.records false d.q d.cid d.request (numbers_of d.data_pages) (numbers_of d.chain_pages) place
+pub cancel_made : (t new : Tables) (d : DraftContents) → IsWhole t → IsProperDraft d
+    → Belongs t.records false d.q d.cid d.request (numbers_of d.data_pages) (numbers_of d.chain_pages)
     → new ≡ ended d.q d.cid (d.data_pages ++ d.chain_pages) t → Finishes t new (events.Cancel d)
-cancel_made t new d place whole proper belongs is =
+cancel_made t new d whole proper belongs is =
     let are : ArePages (d.data_pages ++ d.chain_pages) = joined-pages d.data_pages d.chain_pages proper.data_pages proper.chain_pages in
     let none : refusal_of (state_of t) (events.Cancel d) ≡ None =
-    ap (λ b. if not b then Some refusal.Stranger else None) (belongs-passes t false d.q d.cid d.request (numbers_of d.data_pages) (numbers_of d.chain_pages) place belongs) in
+    ap (λ b. if not b then Some refusal.Stranger else None) (belongs-passes t false d.q d.cid d.request (numbers_of d.data_pages) (numbers_of d.chain_pages) belongs) in
     let step = cancelled_step t d whole proper none in
     record {
       step = subst (λ (x : Tables). Step (state_of t) (events.Cancel d) events.Accepted (state_of x)) (sym is) step;
       whole = subst (λ (x : Tables). IsWhole x) (sym is) (ended_whole t d.q d.cid (d.data_pages ++ d.chain_pages) (events.Cancel d) whole are (cancel_brings t d none) step);
     }
 
-pub release_made : (t new : Tables) (f : FinishedContents) (place : ℕ) → IsWhole t → ArePages (f.data_pages ++ f.chain_pages)
-    → Belongs t.records true f.q f.cid f.request (numbers_of f.data_pages) (numbers_of f.chain_pages) place
+pub release_made : (t new : Tables) (f : FinishedContents) → IsWhole t → ArePages (f.data_pages ++ f.chain_pages)
+    → Belongs t.records true f.q f.cid f.request (numbers_of f.data_pages) (numbers_of f.chain_pages)
     → new ≡ ended f.q f.cid (f.data_pages ++ f.chain_pages) t → Finishes t new (events.Release f)
-release_made t new f place whole are belongs is =
+release_made t new f whole are belongs is =
     let none : refusal_of (state_of t) (events.Release f) ≡ None =
-    ap (λ b. if not b then Some refusal.Stranger else None) (belongs-passes t true f.q f.cid f.request (numbers_of f.data_pages) (numbers_of f.chain_pages) place belongs) in
+    ap (λ b. if not b then Some refusal.Stranger else None) (belongs-passes t true f.q f.cid f.request (numbers_of f.data_pages) (numbers_of f.chain_pages) belongs) in
     let both = both-pages f.data_pages f.chain_pages are in
     let step = released_step t f whole both.0 both.1 none in
     record {

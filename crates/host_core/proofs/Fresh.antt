@@ -5,7 +5,7 @@ use Rattle.std.proofs.lemmas.Bool.{and_parts, true≢false}
 use Rattle.std.proofs.lemmas.List.{length-replicate, length-map}
 use Rattle.machine_model.specs.Claims.{IsSound}
 use Rattle.machine_model.specs.Opening.{opening, queues_from, is_config}
-use Rattle.machine_model.specs.State.{HostQueue, Record}
+use Rattle.machine_model.specs.State.{HostQueue}
 use Rattle.machine_model.proofs.Headline.{runs_are_sound}
 use Rattle.machine_model.proofs.Opening.{fits_pool, in_limits, length-range}
 use Rattle.page_ledger.specs.Owners.{is_among, is_free, is_owned_at, pages_from, free_pages}
@@ -20,7 +20,9 @@ use Rattle.host_core.specs.Tables.{Tables, view_of, host_queue_of}
 use Rattle.host_core.proofs.Keeping.{alone_sound, host_of, over_of}
 use Rattle.host_core.specs.Whole.{IsQueue, ClaimsIdentifiers, TellsQueue, IsHost, IsWhole}
 use Rattle.host_core.specs.declared.config.Config.{Config}
-use Rattle.host_core.specs.Rows.{Queue}
+use Rattle.host_core.specs.Parts.{records_of}
+use Rattle.host_core.specs.Rows.{Kept, Queue}
+use Rattle.slot_table.specs.Table.{TableOf}
 
 -- The state
 
@@ -174,14 +176,30 @@ opened_whole c owners opens size granted =
       most_segment = l.most_segment;
       some_queues = omega (arith, many, l.least_queues);
       few_queues = omega (arith, many, l.most_queues);
+      record_queues = sym many;
+      record_places = omega (arith, l.least_entries);
       queues = record { each = each_fresh (IsQueue c.entries) c.entries (c.queues + 1) (λ q h. fresh_sides c.entries _ _ q l.least_entries l.most_entries) };
       identifiers = record { each = each_fresh (λ q queue. ClaimsIdentifiers [] q queue.host.claimed) c.entries (c.queues + 1) (λ q h. none_claimed q (c.entries - 1)) };
       owners = record { queues_told = each_fresh (TellsQueue owners) c.entries (c.queues + 1) (fresh_told c.entries (c.queues + 1) owners granted); commands_told = tt };
       records = tt;
     }
 
-abbrev pub made : Config → List Owner → List Record → List Queue → Tables
-made c owners records queues = record { entries = c.entries; segment = c.segment; pages = []; owners = owners; records = records; queues = queues }
+abbrev pub made : Config → List Owner → TableOf Kept → List Queue → Tables
+made c owners table queues =
+    record {
+      entries = c.entries;
+      segment = c.segment;
+      pages = [];
+      owners = owners;
+      record_queues = table.queues;
+      record_places = table.places;
+      records = records_of table.rows;
+      queues = queues;
+    }
+
+-- the places of a host that opens
+abbrev pub no_records : Config → TableOf Kept
+no_records c = record { queues = c.queues + 1; places = c.entries - 1; rows = [] }
 
 -- What is made is the host's own, is as the machine opens, and is over its pages.
 pub record Opens (c : Config) (t : Tables) : Type 0 where
@@ -189,18 +207,18 @@ pub record Opens (c : Config) (t : Tables) : Type 0 where
   pub view : view_of t ≡ opened_view c
   pub over : IsOver (view_of t) (opened_pages c)
 
-pub opens_made : (c : Config) (owners : List Owner) (records : List Record) (queues : List Queue)
+pub opens_made : (c : Config) (owners : List Owner) (table : TableOf Kept) (queues : List Queue)
     → refusal_of_config c ≡ None → length owners ≡ c.pages → HalvesGranted c.entries (c.queues + 1) owners
-    → records ≡ [] → queues ≡ fresh_queues c.entries (c.queues + 1) → Opens c (made c owners records queues)
-opens_made c owners records queues opens size granted er eq =
+    → table ≡ no_records c → queues ≡ fresh_queues c.entries (c.queues + 1) → Opens c (made c owners table queues)
+opens_made c owners table queues opens size granted er eq =
     let w = opened_whole c owners opens size granted in
-    let here : Opens c (made c owners [] (fresh_queues c.entries (c.queues + 1))) =
+    let here : Opens c (made c owners (no_records c) (fresh_queues c.entries (c.queues + 1))) =
     record {
-      host = host_of (made c owners [] (fresh_queues c.entries (c.queues + 1))) (replicate c.pages (Some zero_page)) w;
+      host = host_of (made c owners (no_records c) (fresh_queues c.entries (c.queues + 1))) (replicate c.pages (Some zero_page)) w;
       view = opened_view_is c owners size granted;
       over = over_of (opened c owners) w;
     } in
-    subst (λ (rs : List Record). Opens c (made c owners rs queues)) (sym er) (subst (λ (qs : List Queue). Opens c (made c owners [] qs)) (sym eq) here)
+    subst (λ (rs : TableOf Kept). Opens c (made c owners rs queues)) (sym er) (subst (λ (qs : List Queue). Opens c (made c owners (no_records c) qs)) (sym eq) here)
 
 pub fits_word : (c : Config) → refusal_of_config c ≡ None → Fits w16 c.entries × Fits w16 c.segment
 fits_word c opens = let l = limits c opens in (record { fits = omega (arith, l.most_entries) }, record { fits = omega (arith, l.most_segment) })

@@ -143,23 +143,16 @@ pub record Made (t new : Tables) (q : ℕ) (r : Request) (d : DraftContents) : T
   pub step : Step (state_of t) (events.Reserve q r) (events.Reserved d) (state_of new)
   pub whole : IsWhole new
 
-pub reserve_made : (t mid new : Tables) (q cid : ℕ) (r : Request) (m n : ℕ) (d : DraftContents) → IsWhole t → FitsRequest r → Grants t q r cid m n → mid ≡ t
-    → d ≡ new_draft q cid r (take m (free_pages mid.owners)) (take n (drop m (free_pages mid.owners))) mid.segment → new ≡ reserved d mid → Made t new q r d
-reserve_made t mid new q cid r m n d whole proper grants same is after =
-    let draft = is ∙ ap (λ (x : Tables). new_draft q cid r (take m (free_pages x.owners)) (take n (drop m (free_pages x.owners))) x.segment) same in
-    let fits = subst (λ (x : DraftContents). IsReserved (state_of t) q r x) (sym draft) (new_draft_fits t q r cid m n grants) in
-    let left : new ≡ reserved d t = after ∙ ap (reserved d) same in
+pub reserve_made : (t new : Tables) (q cid : ℕ) (r : Request) (m n : ℕ) (d : DraftContents) → IsWhole t → FitsRequest r → Grants t q r cid m n
+    → d ≡ new_draft q cid r (take m (free_pages t.owners)) (take n (drop m (free_pages t.owners))) t.segment → new ≡ reserved d t → Made t new q r d
+reserve_made t new q cid r m n d whole proper grants is after =
+    let fits = subst (λ (x : DraftContents). IsReserved (state_of t) q r x) (sym is) (new_draft_fits t q r cid m n grants) in
     record {
-      step = subst (λ (x : Tables). Step (state_of t) (events.Reserve q r) (events.Reserved d) (state_of x)) (sym left) (reserved_step t q r d whole proper grants.none fits);
-      whole = subst (λ (x : Tables). IsWhole x) (sym left) (reserved_whole t q r d whole proper grants.none fits);
+      step = subst (λ (x : Tables). Step (state_of t) (events.Reserve q r) (events.Reserved d) (state_of x)) (sym after) (reserved_step t q r d whole proper grants.none fits);
+      whole = subst (λ (x : Tables). IsWhole x) (sym after) (reserved_whole t q r d whole proper grants.none fits);
     }
 
 -- What is chosen
-
-pub draft_is : (t mid : Tables) (q cid : ℕ) (r : Request) (m n : ℕ) (d : DraftContents) → mid ≡ t
-    → d ≡ new_draft q cid r (take m (free_pages mid.owners)) (take n (drop m (free_pages mid.owners))) mid.segment
-    → d ≡ new_draft q cid r (take m (free_pages t.owners)) (take n (drop m (free_pages t.owners))) t.segment
-draft_is t mid q cid r m n d same is = is ∙ ap (λ (x : Tables). new_draft q cid r (take m (free_pages x.owners)) (take n (drop m (free_pages x.owners))) x.segment) same
 
 pub first_pages : (t : Tables) (q cid : ℕ) (r : Request) (m n : ℕ) (d : DraftContents) → Grants t q r cid m n
     → d ≡ new_draft q cid r (take m (free_pages t.owners)) (take n (drop m (free_pages t.owners))) t.segment → HasFirstPages (view_of t).host d

@@ -43,6 +43,8 @@ whole_of t pages h over =
       most_segment = h.limits.most_segment;
       some_queues = h.limits.some_queues;
       few_queues = h.limits.few_queues;
+      record_queues = h.limits.record_queues;
+      record_places = h.limits.record_places;
       queues = h.rings;
       identifiers = h.table.identifiers;
       owners = h.table.owners;
@@ -59,6 +61,8 @@ host_of t pages w =
         most_segment = w.most_segment;
         some_queues = w.some_queues;
         few_queues = w.few_queues;
+        record_queues = w.record_queues;
+        record_places = w.record_places;
       };
       table = record { owners = w.owners; identifiers = w.identifiers; records = w.records };
       sound = record {

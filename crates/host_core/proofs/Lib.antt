@@ -1,3 +1,5 @@
+mod RowRecords
+mod Places
 pub mod Lists
 pub mod Pages
 pub mod Owners
@@ -15,7 +17,7 @@ pub mod Reserved
 pub mod Granting
 pub mod Granted
 pub mod Comparing
-pub mod Records
+pub mod Marked
 pub mod Ending
 pub mod TakenOut
 pub mod Collecting

@@ -55,6 +55,8 @@ moved_whole t q f pages owners records e reply whole fits step =
       most_segment = whole.most_segment;
       some_queues = subst (λ (n : ℕ). 2 ≤ n) as_many whole.some_queues;
       few_queues = subst (λ (n : ℕ). n ≤ 65) as_many whole.few_queues;
+      record_queues = whole.record_queues ∙ as_many;
+      record_places = whole.record_places;
       queues = record { each = each_claimed (IsQueue t.entries) f (claims_keep_queue f fits.size t.entries) q t.queues whole.queues.each };
       identifiers = fits.identifiers;
       owners = record {

@@ -1,6 +1,5 @@
 -- A reap as it is made: what it decides, and what is written.
-use Rattle.std.proofs.Common.{is_some, is_none, ◌&&◌, ◌≡◌, ℕ, ◌<◌, ◌==◌, Bool, true, false, length, if◌then◌else◌, Option, Some, None, List, [], find, slice_get, slice_set, refl, ap, sym, ◌∙◌, subst, eq-eqb}
-use Rattle.std.specs.List.{remove}
+use Rattle.std.proofs.Common.{is_some, is_none, ◌&&◌, ◌≡◌, ℕ, ◌<◌, ◌==◌, Bool, true, false, length, if◌then◌else◌, Option, Some, None, List, [], find, slice_get, refl, ap, sym, ◌∙◌, subst, eq-eqb}
 use Rattle.std.specs.Option.{option_map_or}
 use Rattle.std.proofs.lemmas.Option.{slice_get-map}
 use Rattle.admin_commands.specs.declared.AdminKind.{AdminKind}
@@ -34,9 +33,7 @@ use Rattle.host_core.specs.Tables.{Tables, state_of, host_queue_of}
 use Rattle.host_core.specs.Whole.{ClaimIdentifiers, IsWhole, is_outstanding}
 use Rattle.host_core.specs.Rows.{Queue}
 use Rattle.host_core.proofs.AdminReaped.{EndsAdmin, admin-exact, admin-whole, ended_admin}
-use Rattle.host_core.proofs.Comparing.{with_record-at, without_record-at}
-use Rattle.machine_model.proofs.Totals.{total, here}
-use Rattle.host_core.proofs.Lists.{found_any, found_is}
+use Rattle.host_core.proofs.Lists.{found_any}
 use Rattle.host_core.proofs.QueueLists.{each-change}
 use Rattle.host_core.proofs.Reaped.{done-whole}
 use Rattle.host_core.proofs.Reapings.{EndsIo, Sees, done-exact, reap-none, reaped-empty, reject-exact, reject-whole}
@@ -82,13 +79,13 @@ pub reject-phase : (t : Tables) → IsWhole t → (q : ℕ) (x : Queue) (e : Com
     → reaped_entry (state_of t) q e ≡ found.Rejected rejected.UnknownId
 reject-phase t w q x e r at mine inside was phase = after-tests t w q x e at mine inside ∙ rw (was, phase) refl
 
-pub answered-says : (t : Tables) → IsWhole t → (q : ℕ) (x : Queue) (e : ComEntry) (place : ℕ) → slice_get t.queues q ≡ Some x → (is : Answered t q e place)
+pub answered-says : (t : Tables) → IsWhole t → (q : ℕ) (x : Queue) (e : ComEntry) (kind : Option AdminKind) → slice_get t.queues q ≡ Some x → (is : Answered t q e kind)
     → reaped_entry (state_of t) q e ≡ reaped_as q e is.entry.work
-answered-says t w q x e place at is =
+answered-says t w q x e kind at is =
     after-tests t w q x e at (eq-eqb e.sqid q is.sqid) (is.head x at) ∙ rw (is.was, ap is_submitted is.submitted) refl
 
-head-below : (t : Tables) (q : ℕ) (x : Queue) (e : ComEntry) (place : ℕ) → slice_get t.queues q ≡ Some x → Answered t q e place → e.sqhd < x.host.entries
-head-below t q x e place at is = in_range_below x.host.entries x.host.ring.known_head x.host.ring.tail e.sqhd (is.head x at)
+head-below : (t : Tables) (q : ℕ) (x : Queue) (e : ComEntry) (kind : Option AdminKind) → slice_get t.queues q ≡ Some x → Answered t q e kind → e.sqhd < x.host.entries
+head-below t q x e kind at is = in_range_below x.host.entries x.host.ring.known_head x.host.ring.tail e.sqhd (is.head x at)
 
 -- The outcomes
 
@@ -133,72 +130,65 @@ admin-work : (v : Work) (kind : AdminKind) → kind_of v ≡ Some kind → v ≡
 admin-work (Io request) kind h = cc
 admin-work (Management other) kind h = cc
 
-pub reaps-done : (t new : Tables) → IsWhole t → (q : ℕ) (e : ComEntry) (place : ℕ) → Looks t q (Some e) → (is : Answered t q e place) → kind_of is.entry.work ≡ None
+pub reaps-done : (t new : Tables) → IsWhole t → (q : ℕ) (e : ComEntry) → Looks t q (Some e) → (is : Answered t q e None)
     → new ≡ ended_with q e.sqhd e.cid e.status t → ReapsTo t q (found.Done e.cid e.status) new
-reaps-done t new w q e place l is none left =
-    let io = io-work is.entry.work none in
+reaps-done t new w q e l is left =
+    let io = io-work is.entry.work is.means in
     let ends : EndsIo t q e.cid e.status e = record {
       entry = is.entry;
       request = io.0;
       was = is.was;
       work = io.1;
-      says = answered-says t w q l.queue e place l.at is ∙ ap (reaped_as q e) io.1;
+      says = answered-says t w q l.queue e None l.at is ∙ ap (reaped_as q e) io.1;
     } in
     subst (λ (u : Tables). ReapsTo t q (found.Done e.cid e.status) u) (sym left)
     (record {
       step = host_step t (ended_with q e.sqhd e.cid e.status t) (events.Reap q) (events.Reaps (found.Done e.cid e.status)) refl tt
           (done-exact t w q e.cid e.status l.queue e (sees t q e l) ends);
-      whole = done-whole t w q e.cid e.status l.queue e (sees t q e l) ends (head-below t q l.queue e place l.at is);
+      whole = done-whole t w q e.cid e.status l.queue e (sees t q e l) ends (head-below t q l.queue e None l.at is);
     })
 
-pub reaps-admin : (t new : Tables) → IsWhole t → (q : ℕ) (e : ComEntry) (place : ℕ) (kind : AdminKind) → Looks t q (Some e) → (is : Answered t q e place) → kind_of is.entry.work ≡ Some kind
+pub reaps-admin : (t new : Tables) → IsWhole t → (q : ℕ) (e : ComEntry) (kind : AdminKind) → Looks t q (Some e) → (is : Answered t q e (Some kind))
     → new ≡ meant kind e.status (over q e.sqhd e.cid t) → ReapsTo t q (found.AdminDone e.cid e.status e.dw0) new
-reaps-admin t new w q e place kind l is some left =
-    let work = admin-work is.entry.work kind some in
+reaps-admin t new w q e kind l is left =
+    let work = admin-work is.entry.work kind is.means in
     let ends : EndsAdmin t q kind e = record {
       entry = is.entry;
       was = is.was;
       work = work;
-      says = answered-says t w q l.queue e place l.at is ∙ ap (reaped_as q e) work;
+      says = answered-says t w q l.queue e (Some kind) l.at is ∙ ap (reaped_as q e) work;
     } in
     subst (λ (u : Tables). ReapsTo t q (found.AdminDone e.cid e.status e.dw0) u) (sym left)
     (record {
       step = host_step t (ended_admin q kind e t) (events.Reap q) (events.Reaps (found.AdminDone e.cid e.status e.dw0)) refl tt
           (admin-exact t w q l.queue e kind (sees t q e l) ends);
-      whole = admin-whole t w q l.queue e kind (sees t q e l) ends (head-below t q l.queue e place l.at is);
+      whole = admin-whole t w q l.queue e kind (sees t q e l) ends (head-below t q l.queue e (Some kind) l.at is);
     })
 
 -- What is written
 
-pub held-tables : (t : Tables) (q : ℕ) (e : ComEntry) (place : ℕ) → total (here q e.cid) t.records < 2 → (is : Answered t q e place) → (u : Tables) (records : List Record)
-    → u ≡ heard q e.sqhd t → records ≡ slice_set u.records place (held e.status is.entry) → record u { records = records } ≡ ended_with q e.sqhd e.cid e.status t
-held-tables t q e place once is u records eu er =
-    let left : records ≡ with_record q e.cid (held e.status) t.records =
-    er ∙ (ap (λ (y : Tables). slice_set y.records place (held e.status is.entry)) eu
-    ∙ sym (with_record-at q e.cid (held e.status) t.records place is.entry is.at (found_is (is_at q e.cid) t.records is.entry is.was) once)) in
-    ap (λ (y : Tables). record y { records = records }) eu ∙ ap (λ (rs : List Record). record (heard q e.sqhd t) { records = rs }) left
+pub held-tables : (t u new : Tables) (q : ℕ) (e : ComEntry) → u ≡ heard q e.sqhd t → new ≡ record u { records = with_record q e.cid (held e.status) u.records } → new ≡ ended_with q e.sqhd e.cid e.status t
+held-tables t u new q e eu en = en ∙ ap (λ (y : Tables). record y { records = with_record q e.cid (held e.status) y.records }) eu
 
-pub over-tables : (t : Tables) (q : ℕ) (e : ComEntry) (place : ℕ) → total (here q e.cid) t.records < 2 → Answered t q e place → (u : Tables) (records : List Record) (queues : List Queue)
-    → u ≡ heard q e.sqhd t → records ≡ remove u.records place → queues ≡ change q (without_claim e.cid) u.queues → record u { records = records; queues = queues } ≡ over q e.sqhd e.cid t
-over-tables t q e place once is u records queues eu er eq =
-    let left : records ≡ without_record q e.cid t.records =
-    er ∙ (ap (λ (y : Tables). remove y.records place) eu
-    ∙ sym (without_record-at q e.cid t.records place is.entry is.at (found_is (is_at q e.cid) t.records is.entry is.was) once)) in
-    ap (λ (y : Tables). record y { records = records; queues = queues }) eu
-    ∙ (ap (λ (rs : List Record). record (heard q e.sqhd t) { records = rs; queues = queues }) left
-    ∙ ap (λ (qs : List Queue). record (heard q e.sqhd t) { records = without_record q e.cid t.records; queues = qs }) (eq ∙ ap (λ (y : Tables). change q (without_claim e.cid) y.queues) eu))
+pub over-tables : (t u v : Tables) (q : ℕ) (e : ComEntry) (queues : List Queue) → u ≡ heard q e.sqhd t → v ≡ record u { records = without_record q e.cid u.records } → queues ≡ change q (without_claim e.cid) v.queues
+    → record v { queues = queues } ≡ over q e.sqhd e.cid t
+over-tables t u v q e queues eu ev eq = rw (eq, ev, eu) refl
 
-pub over-claims : (t : Tables) → ClaimIdentifiers t.records t.queues → (q : ℕ) (e : ComEntry) (place : ℕ) → Answered t q e place → (u : Tables) → u ≡ heard q e.sqhd t → Claims u.queues q e.cid
-over-claims t ids q e place is u eu = subst (λ (y : Tables). Claims y.queues q e.cid) (sym eu) (λ y at. go y at)
+-- the claimed identifiers, once the completion was heard
+pub over-claims : (q : ℕ) (e : ComEntry) (queues new : List Queue) → Claims queues q e.cid → new ≡ change q (with_answer_heard e.sqhd) queues → Claims new q e.cid
+over-claims q e queues new claims is = subst (λ (qs : List Queue). Claims qs q e.cid) (sym is) (λ y at. go y at)
   where
-    there : is_outstanding t.records q e.cid ≡ true
-    there = found_any (is_at q e.cid) t.records is.entry is.was
-
-    go : (y : Queue) → slice_get (change q (with_answer_heard e.sqhd) t.queues) q ≡ Some y → slice_get y.host.claimed e.cid ≡ Some true
+    go : (y : Queue) → slice_get (change q (with_answer_heard e.sqhd) queues) q ≡ Some y → slice_get y.host.claimed e.cid ≡ Some true
     go y at =
-        each-change (λ (j : ℕ) (z : Queue). j ≡ q → slice_get z.host.claimed e.cid ≡ Some true) q (with_answer_heard e.sqhd) t.queues
-        (λ k z far at' same. absurd (far same))
-        (λ z at' same. let claims = ids.each q z at' in claims.told e.cid (claims.inside e.cid there) ∙ ap Some there) q y at refl
+        each-change (λ (j : ℕ) (z : Queue). j ≡ q → slice_get z.host.claimed e.cid ≡ Some true) q (with_answer_heard e.sqhd) queues
+        (λ k z far at' same. absurd (far same)) (λ z at' same. claims z at') q y at refl
+
+-- the identifier of an outstanding command is claimed
+pub answered-claims : (t : Tables) → ClaimIdentifiers t.records t.queues → (q : ℕ) (e : ComEntry) (kind : Option AdminKind) → Answered t q e kind → Claims t.queues q e.cid
+answered-claims t ids q e kind is y at =
+    let there : is_outstanding t.records q e.cid ≡ true = found_any (is_at q e.cid) t.records is.entry is.was in
+    let claims = ids.each q y at in
+    claims.told e.cid (claims.inside e.cid there) ∙ ap Some there
 
 pub submitted-is : (p : Phase) → is_submitted p ≡ true → p ≡ Submitted
 submitted-is Drafted h = cc

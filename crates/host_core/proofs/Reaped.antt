@@ -20,7 +20,7 @@ use Rattle.host_core.proofs.Entries.{same-queue}
 use Rattle.host_core.proofs.Lists.{found_is}
 use Rattle.host_core.proofs.QueueLists.{each-change}
 use Rattle.host_core.proofs.Reapings.{EndsIo, Sees, done-exact, taken-queue}
-use Rattle.host_core.proofs.Records.{Marks, marked-claims, marked-tells}
+use Rattle.host_core.proofs.Marked.{Marks, marked-claims, marked-tells}
 use Rattle.host_core.proofs.Settled.{Settled, settled-of, settled-with, whole-of}
 use Rattle.host_core.proofs.Steps.{host_step, sound_after, length-change}
 

@@ -1,10 +1,10 @@
 -- What the host sees at the head of a completion ring.
 use Rattle.std.proofs.Common.{◌≡◌, ℕ, zero, suc, ◌+◌, ◌*◌, ◌-◌, ◌/◌, ◌%◌, ◌<◌, ◌≤◌, ◌∷◌, [], false, Option, Some, None, IsSome, IfSome, List, length, take, drop, slice_get, get_or, refl, ap, sym, ◌∙◌, subst, arith, true}
-use Rattle.std.specs.Option.{option_map, option_and_then}
+use Rattle.std.specs.Option.{option_map, option_map_or, option_and_then}
 use Rattle.std.proofs.lemmas.Option.{slice_get-map}
 use Rattle.entry_codec.specs.Completion.{completion_of}
 use Rattle.entry_codec.specs.declared.completion.ComEntry.{ComEntry}
-use Rattle.machine_model.specs.Refusals.{host_queue, seen_entry, slot_bytes, slot_entry, slot_offset, slot_page, has_cq}
+use Rattle.machine_model.specs.Refusals.{in_state, host_queue, seen_entry, slot_bytes, slot_entry, slot_offset, slot_page, has_cq}
 use Rattle.machine_model.specs.State.{HostQueue}
 use Rattle.page_ledger.specs.Owners.{pages_from}
 use Rattle.page_memory.specs.Memory.{Memory, bytes_at}
@@ -16,8 +16,10 @@ use Rattle.host_core.specs.Reaping.{lacks_completion}
 use Rattle.std.specs.Prelude.{slice_range}
 use Rattle.queue_pair.specs.Memory.{completion_place, completion_slot, half_pages, new_completion_at, with_phase}
 use Rattle.queue_pair.proofs.Halves.{completion_there}
-use Rattle.host_core.specs.Tables.{Tables, state_of, host_queue_of, cq_pages_of}
-use Rattle.host_core.specs.Whole.{IsWhole}
+use Rattle.host_core.specs.Alone.{alone}
+use Rattle.host_core.specs.Looks.{completion_base}
+use Rattle.host_core.specs.Tables.{Tables, state_of, view_of, host_queue_of, cq_pages_of}
+use Rattle.host_core.specs.Whole.{AreQueues, IsWhole}
 use Rattle.host_core.specs.Rows.{Queue}
 use Rattle.host_core.proofs.Slots.{completion-fits, completion-offset, completion-page, slot-in, place-parts}
 use Rattle.host_core.proofs.QueueLists.{completion-in, queue-at}
@@ -89,3 +91,25 @@ see-seen t w seen q i x r there e at same exact =
 
 pub see-same : (old new seen : Pages) → IsPool old → AreWhole new → length new ≡ length seen → length seen ≡ length old → byte_at new ≡ byte_at seen → byte_at seen ≡ byte_at old → new ≡ old
 see-same old new seen pool whole sized size same same' = same_pool new old whole pool.whole (sized ∙ size) (λ place. ap (λ (m : Memory). m place) (same ∙ same'))
+
+-- where a completion ring begins
+
+first-page : (p k : ℕ) → 0 < k → slice_get (pages_from p k) 0 ≡ Some p
+first-page p zero l = absurd (omega arith)
+first-page p (suc k) l = refl
+
+pub base-is : (t : Tables) (q i : ℕ) (x : Queue) → AreQueues t.entries t.queues → lacks_completion (slice_get t.queues q) ≡ false → i ≡ q → x ≡ get_or t.queues i x
+    → Some (completion_place x.host.cq 0) ≡ completion_base (view_of t) q
+base-is t q i x rings there e at =
+    let here = completion-at t q i x there e at in
+    let side = (rings.each q x here).host_side in
+    let many : 0 < half_pages x.host.entries Completion = omega (arith, side.least) in
+    let pages : cq_pages_of x ≡ pages_from x.host.cq (half_pages x.host.entries Completion) = rw (completion-live t q x there here) refl in
+    ap (λ (n : ℕ). Some n) (omega arith)
+    ∙ sym (ap (λ (o : Option HostQueue). option_and_then (λ queue. option_map (λ page. 4096 * page) (slice_get queue.cq_pages 0)) o) (host-at t q x here)
+    ∙ (ap (λ (pages : List ℕ). option_map (λ page. 4096 * page) (slice_get pages 0)) pages ∙ ap (λ (o : Option ℕ). option_map (λ page. 4096 * page) o) (first-page x.host.cq _ many)))
+
+pub base-there : (t : Tables) (q i : ℕ) (x : Queue) → lacks_completion (slice_get t.queues q) ≡ false → i ≡ q → x ≡ get_or t.queues i x → true ≡ in_state has_cq (alone (view_of t) []) q
+base-there t q i x there e at =
+    let here = completion-at t q i x there e at in
+    sym (ap (λ (o : Option HostQueue). option_map_or (λ queue. has_cq queue.state) o false) (host-at t q x here) ∙ completion-live t q x there here)

@@ -15,7 +15,7 @@ use Rattle.machine_model.specs.Events as events
 use Rattle.machine_model.specs.Proper.{IsProper}
 use Rattle.machine_model.specs.Refusals.{in_state, is_deleting, no_identifier, no_io_queue, queue_full, refusal_of, has_sq}
 use Rattle.machine_model.specs.State.{HostQueue, State}
-use Rattle.machine_model.specs.Step.{Answers, IsController, IsNewIdentifier, Refuses, Step, allocates, touched_by_refusal}
+use Rattle.machine_model.specs.Step.{Answers, IsController, IsNewIdentifier, Refuses, Step}
 use Rattle.machine_model.specs.declared.words.Refusal.{Refusal}
 use Rattle.machine_model.specs.declared.words.HostState.TheVariants.{Deleting}
 use Rattle.machine_model.specs.declared.words.Refusal.TheVariants as refusal
@@ -120,6 +120,8 @@ settled-posted u q x entry s post =
       most_segment = s.most_segment;
       some_queues = subst (λ (n : ℕ). 2 ≤ n) (sym size) s.some_queues;
       few_queues = subst (λ (n : ℕ). n ≤ 65) (sym size) s.few_queues;
+      record_queues = s.record_queues ∙ sym size;
+      record_places = s.record_places;
       queues = record { each = each-change (IsQueue u.entries) q with_tail_moved u.queues (λ k y _ at. s.queues.each k y at) (λ y at. posted-queue u.entries q y (s.queues.each q y at)) };
       identifiers = record { each = each-change (λ (k : ℕ) (y : Queue). ClaimsIdentifiers u.records k y.host.claimed) q with_tail_moved u.queues (λ k y _ at. s.identifiers.each k y at) (λ y at. s.identifiers.each q y at) };
       owners = record {
@@ -237,25 +239,10 @@ send-made t kind cid w can is =
           (sound_after (state_of t) (sending kind) (events.Sent cid) (state_of (asked kind u)) step w.sound);
     }
 
-pub send_made : (t mid new : Tables) (kind : AdminKind) (cid : ℕ) → IsWhole t → CanSend t kind cid → IsTyped (admin_entry kind cid) → mid ≡ t → Sends mid kind cid new → SendsTo t kind cid new
-send_made t mid new kind cid w can is same sends =
-    let left : new ≡ asked kind (sent kind cid can.queue t) = subst (λ (m : Tables). Sends m kind cid new) same sends can.queue can.at in
-    subst (λ (y : Tables). SendsTo t kind cid y) (sym left) (send-made t kind cid w can is)
+pub send_made : (t new : Tables) (kind : AdminKind) (cid : ℕ) → IsWhole t → CanSend t kind cid → IsTyped (admin_entry kind cid) → Sends t kind cid new → SendsTo t kind cid new
+send_made t new kind cid w can is sends = subst (λ (y : Tables). SendsTo t kind cid y) (sym (sends can.queue can.at)) (send-made t kind cid w can is)
 
 -- What a refusal makes of it
 
-send-allocates : (kind : AdminKind) → allocates (sending kind) ≡ true
-send-allocates (Abort q cid) = refl
-send-allocates (DeleteSq q) = refl
-send-allocates (DeleteCq q) = refl
-
-untouched-memory : (s : State) (kind : AdminKind) → [] ≡ touched_by_refusal s (sending kind) refusal.Memory
-untouched-memory s (Abort q cid) = refl
-untouched-memory s (DeleteSq q) = refl
-untouched-memory s (DeleteCq q) = refl
-
 pub send-refused : (t : Tables) (kind : AdminKind) (why : Refusal) → Refuses (state_of t) (sending kind) why [] → Step (state_of t) (sending kind) (events.Refused why []) (state_of t)
 send-refused t kind why h = host_step t t (sending kind) (events.Refused why []) (is-hosts kind) (is-proper kind) (h, refl)
-
-pub send-memory : (t : Tables) (kind : AdminKind) → refusal_of (state_of t) (sending kind) ≡ None → Step (state_of t) (sending kind) (events.Refused refusal.Memory []) (state_of t)
-send-memory t kind none = send-refused t kind refusal.Memory (send-allocates kind, none, untouched-memory (state_of t) kind)

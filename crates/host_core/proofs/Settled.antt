@@ -1,5 +1,5 @@
 -- What holds of the tables by themselves: what the machine's laws say of their state is left aside.
-use Rattle.std.proofs.Common.{◌≡◌, ◌≢◌, ℕ, ◌≤◌, true, Some, List, [], length, slice_get, refl, sym, ◌∙◌, subst}
+use Rattle.std.proofs.Common.{◌≡◌, ◌≢◌, ℕ, ◌+◌, ◌≤◌, true, Some, List, [], length, slice_get, refl, sym, ◌∙◌, subst}
 use Rattle.std.specs.List.{AllByRecursion}
 use Rattle.machine_model.specs.After.{change}
 use Rattle.machine_model.specs.Claims.{IsSound}
@@ -28,6 +28,8 @@ pub record Settled (t : Tables) : Type 0 where
   pub most_segment : t.segment ≤ 256
   pub some_queues : 2 ≤ length t.queues
   pub few_queues : length t.queues ≤ 65
+  pub record_queues : t.record_queues ≡ length t.queues
+  pub record_places : t.record_places + 1 ≡ t.entries
   pub queues : AreQueues t.entries t.queues
   pub identifiers : ClaimIdentifiers t.records t.queues
   pub owners : Tells t.owners t.queues t.records
@@ -44,6 +46,8 @@ settled-of t w =
       most_segment = w.most_segment;
       some_queues = w.some_queues;
       few_queues = w.few_queues;
+      record_queues = w.record_queues;
+      record_places = w.record_places;
       queues = w.queues;
       identifiers = w.identifiers;
       owners = w.owners;
@@ -62,6 +66,8 @@ whole-of t s sound =
       most_segment = s.most_segment;
       some_queues = s.some_queues;
       few_queues = s.few_queues;
+      record_queues = s.record_queues;
+      record_places = s.record_places;
       queues = s.queues;
       identifiers = s.identifiers;
       owners = s.owners;
@@ -91,6 +97,8 @@ settled-with t owners queues records s h =
       most_segment = s.most_segment;
       some_queues = subst (λ (n : ℕ). 2 ≤ n) (sym h.many) s.some_queues;
       few_queues = subst (λ (n : ℕ). n ≤ 65) (sym h.many) s.few_queues;
+      record_queues = s.record_queues ∙ sym h.many;
+      record_places = s.record_places;
       queues = h.queues;
       identifiers = h.identifiers;
       owners = h.owners;

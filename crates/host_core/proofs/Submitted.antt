@@ -41,7 +41,7 @@ use Rattle.host_core.proofs.Lists.{all-from, some_is}
 use Rattle.host_core.proofs.Owners.{command-owner}
 use Rattle.host_core.proofs.Pages.{pool-with, with-other}
 use Rattle.host_core.proofs.QueueLists.{each-change, submission-owner, submission_page-in}
-use Rattle.host_core.proofs.Records.{Marks, marked-claims, marked-records, marked-tells}
+use Rattle.host_core.proofs.Marked.{Marks, marked-claims, marked-records, marked-tells}
 use Rattle.host_core.proofs.Spared.{Spares}
 use Rattle.host_core.proofs.Steps.{host_step, sound_after, length-change}
 use Rattle.machine_model.proofs.Halves.{live_has_sq}
@@ -148,6 +148,8 @@ submit-whole t d x entry w c =
       most_segment = w.most_segment;
       some_queues = subst (λ (n : ℕ). 2 ≤ n) (sym size) w.some_queues;
       few_queues = subst (λ (n : ℕ). n ≤ 65) (sym size) w.few_queues;
+      record_queues = w.record_queues ∙ sym size;
+      record_places = w.record_places;
       queues = record { each = each-change (IsQueue t.entries) d.q with_tail_moved t.queues (λ k y _ at. w.queues.each k y at) (λ y at. posted-queue t.entries d.q y (w.queues.each d.q y at)) };
       identifiers = record { each = each-change (λ (k : ℕ) (y : Queue). ClaimsIdentifiers (with_record d.q d.cid a.submitted t.records) k y.host.claimed) d.q with_tail_moved t.queues (λ k y _ at. claims.each k y at) (λ y at. claims.each d.q y at) };
       owners = record {

@@ -1,5 +1,5 @@
 -- The calls of a submission: what is found before it, and what it leaves.
-use Rattle.std.proofs.Common.{◌≡◌, ℕ, ◌<◌, ◌++◌, Bool, true, false, Option, Some, None, is_none, List, [], length, slice_get, slice_set, arith, refl, ap, sym, ◌∙◌, subst}
+use Rattle.std.proofs.Common.{◌≡◌, ℕ, ◌<◌, ◌++◌, Bool, true, false, Option, Some, None, is_none, List, [], length, slice_get, arith, refl, ap, sym, ◌∙◌, subst}
 use Rattle.std.specs.Option.{option_map, option_map_or}
 use Rattle.std.proofs.lemmas.Bool.{true≢false}
 use Rattle.std.proofs.lemmas.Option.{slice_get-map, slice_get_within}
@@ -14,7 +14,7 @@ use Rattle.machine_model.specs.Events as events
 use Rattle.machine_model.specs.Memory.{with_pages}
 use Rattle.machine_model.specs.Proper.{IsProperDraft}
 use Rattle.machine_model.specs.Refusals.{refusal_of, host_queue, in_state, is_live, queue_full, record_is, is_drafted, is_of}
-use Rattle.machine_model.specs.State.{HostQueue, Record, is_at, with_record}
+use Rattle.machine_model.specs.State.{HostQueue, with_record}
 use Rattle.machine_model.specs.Step.{Step, Refuses}
 use Rattle.machine_model.specs.declared.words.Refusal.TheVariants as refusal
 use Rattle.page_memory.specs.Pages.{Pages}
@@ -25,10 +25,9 @@ use Rattle.host_core.specs.Submitting.{brought_in, submitted, IsReady, Submits}
 use Rattle.host_core.specs.Tables.{Tables, state_of, host_queue_of}
 use Rattle.host_core.specs.Whole.{AreQueues, IsWhole}
 use Rattle.host_core.specs.Rows.{Queue}
-use Rattle.host_core.proofs.Comparing.{with_record-at}
-use Rattle.host_core.proofs.Ending.{Finishes, at_most_once, belongs-passes, belongs_brings, ended_can_put}
+use Rattle.host_core.proofs.Ending.{Finishes, belongs-passes, belongs_brings, ended_can_put}
 use Rattle.host_core.proofs.Granting.{in_state-is}
-use Rattle.host_core.proofs.Lists.{found_is, some_is}
+use Rattle.host_core.proofs.Lists.{some_is}
 use Rattle.host_core.proofs.Steps.{host_step}
 use Rattle.host_core.proofs.Submitted.{can-post, submit-exact, submit-whole}
 
@@ -41,8 +40,8 @@ none-against : (t : Tables) (d : DraftContents) → is_drafts t d ≡ true → i
     → refusal_of (state_of t) (events.Submit d) ≡ None
 none-against t d mine built live room = rw (mine, built, live, room) refl
 
-drafted : (t : Tables) (d : DraftContents) (place : ℕ) → BelongsToDraft t.records d place → is_drafts t d ≡ true
-drafted t d place belongs = belongs-passes t false d.q d.cid d.request (numbers_of d.data_pages) (numbers_of d.chain_pages) place belongs
+drafted : (t : Tables) (d : DraftContents) → BelongsToDraft t.records d → is_drafts t d ≡ true
+drafted t d belongs = belongs-passes t false d.q d.cid d.request (numbers_of d.data_pages) (numbers_of d.chain_pages) belongs
 
 live_queue : (queues : List Queue) (q : ℕ) → passes is_live (state_at queues q) ≡ true → (x : Queue) × (slice_get queues q ≡ Some x) × (is_live x.state ≡ true)
 live_queue queues q live = go (slice_get queues q) refl live
@@ -65,14 +64,14 @@ entry-fits : (d : DraftContents) (entry : SubEntry) → IsProperDraft d → d.en
 entry-fits d entry proper built =
     subst (λ (e : SubEntry). FitsSubmission e) (sym (carries_entry d entry proper.draft built)) (record { fuse = omega arith; psdt = omega arith })
 
-pub submit_ready : (t : Tables) (d : DraftContents) (place : ℕ) (entry : SubEntry) → IsWhole t → IsProperDraft d → BelongsToDraft t.records d place → d.entry ≡ Some entry
-    → passes is_live (state_at t.queues d.q) ≡ true → queue_full (state_of t) d.q ≡ false → IsReady t d place entry
-submit_ready t d place entry whole proper belongs built live free =
+pub submit_ready : (t : Tables) (d : DraftContents) (entry : SubEntry) → IsWhole t → IsProperDraft d → BelongsToDraft t.records d → d.entry ≡ Some entry
+    → passes is_live (state_at t.queues d.q) ≡ true → queue_full (state_of t) d.q ≡ false → IsReady t d entry
+submit_ready t d entry whole proper belongs built live free =
     let x = live_queue t.queues d.q live in
     record {
       queue = x.0;
       can = record {
-        none = none-against t d (drafted t d place belongs) (ap is_none built) (in_state-is is_live t d.q ∙ live) free;
+        none = none-against t d (drafted t d belongs) (ap is_none built) (in_state-is is_live t d.q ∙ live) free;
         proper = proper;
         at = x.1;
         live = x.2;
@@ -85,35 +84,31 @@ submit_ready t d place entry whole proper belongs built live free =
 
 -- What refuses it
 
-pub submit_gone : (t : Tables) (d : DraftContents) (place : ℕ) → BelongsToDraft t.records d place → is_none d.entry ≡ false → passes is_live (state_at t.queues d.q) ≡ false
+pub submit_gone : (t : Tables) (d : DraftContents) → BelongsToDraft t.records d → is_none d.entry ≡ false → passes is_live (state_at t.queues d.q) ≡ false
     → Refuses (state_of t) (events.Submit d) refusal.QueueGone []
-submit_gone t d place belongs built gone = (rw (drafted t d place belongs, built, in_state-is is_live t d.q ∙ gone) refl, refl)
+submit_gone t d belongs built gone = (rw (drafted t d belongs, built, in_state-is is_live t d.q ∙ gone) refl, refl)
 
-pub submit_full : (t : Tables) (d : DraftContents) (place : ℕ) → BelongsToDraft t.records d place → is_none d.entry ≡ false → passes is_live (state_at t.queues d.q) ≡ true → queue_full (state_of t) d.q ≡ true
+pub submit_full : (t : Tables) (d : DraftContents) → BelongsToDraft t.records d → is_none d.entry ≡ false → passes is_live (state_at t.queues d.q) ≡ true → queue_full (state_of t) d.q ≡ true
     → Refuses (state_of t) (events.Submit d) refusal.QueueFull []
-submit_full t d place belongs built live full = (rw (drafted t d place belongs, built, in_state-is is_live t d.q ∙ live, full) refl, refl)
+submit_full t d belongs built live full = (rw (drafted t d belongs, built, in_state-is is_live t d.q ∙ live, full) refl, refl)
 
 -- What a submission does
 
-pub submit_can_put : (t : Tables) (d : DraftContents) (place : ℕ) (entry : SubEntry) (pages : PagesOut) → IsWhole t → IsReady t d place entry → pages ≡ d.data_pages ++ d.chain_pages → CanPut pages t.pages
-submit_can_put t d place entry pages whole ready e =
+pub submit_can_put : (t : Tables) (d : DraftContents) (entry : SubEntry) (pages : PagesOut) → IsWhole t → IsReady t d entry → pages ≡ d.data_pages ++ d.chain_pages → CanPut pages t.pages
+submit_can_put t d entry pages whole ready e =
     subst (λ (ps : PagesOut). CanPut ps t.pages) (sym e)
-    (ended_can_put t d.q d.cid (d.data_pages ++ d.chain_pages) whole (belongs_brings t false d.q d.cid d.request d.data_pages d.chain_pages place ready.belongs))
+    (ended_can_put t d.q d.cid (d.data_pages ++ d.chain_pages) whole (belongs_brings t false d.q d.cid d.request d.data_pages d.chain_pages ready.belongs))
 
-pub brought_tables : (t : Tables) (d : DraftContents) (place : ℕ) (entry : SubEntry) (out : PagesOut) (pages : Pages) (records : List Record) → IsWhole t → (ready : IsReady t d place entry)
-    → out ≡ d.data_pages ++ d.chain_pages → pages ≡ with_pages out t.pages → records ≡ slice_set t.records place (a.submitted ready.belongs.entry)
-    → record t { pages = pages; records = records } ≡ brought_in d t
-brought_tables t d place entry out pages records whole ready eo ep er =
-    let b = ready.belongs in
-    let left : records ≡ with_record d.q d.cid a.submitted t.records =
-    er ∙ sym (with_record-at d.q d.cid a.submitted t.records place b.entry b.at (found_is (is_at d.q d.cid) t.records b.entry b.was) (at_most_once t whole d.q d.cid)) in
-    rw (ep ∙ ap (λ (ps : PagesOut). with_pages ps t.pages) eo, left) refl
+pub brought_tables : (t : Tables) (d : DraftContents) (out : PagesOut) (pages : Pages) (q cid : ℕ) → q ≡ d.q → cid ≡ d.cid → out ≡ d.data_pages ++ d.chain_pages → pages ≡ with_pages out t.pages
+    → record t { pages = pages; records = with_record q cid a.submitted t.records } ≡ brought_in d t
+brought_tables t d out pages q cid eq ec eo ep = rw (ep ∙ ap (λ (ps : PagesOut). with_pages ps t.pages) eo, eq, ec) refl
 
-pub submit_there : (t : Tables) (d : DraftContents) (place : ℕ) (entry : SubEntry) (q : ℕ) → IsReady t d place entry → q ≡ d.q → q < length t.queues
-submit_there t d place entry q ready e = subst (λ (k : ℕ). k < length t.queues) (sym e) (slice_get_within t.queues d.q ready.queue ready.can.at)
+pub submit_there : (t u : Tables) (d : DraftContents) (entry : SubEntry) (q : ℕ) → IsReady t d entry → u ≡ brought_in d t → q ≡ d.q → q < length u.queues
+submit_there t u d entry q ready eu e =
+    subst (λ (v : Tables). q < length v.queues) (sym eu) (subst (λ (k : ℕ). k < length t.queues) (sym e) (slice_get_within t.queues d.q ready.queue ready.can.at))
 
-pub submit_can_post : (t u : Tables) (d : DraftContents) (place : ℕ) (entry : SubEntry) (q : ℕ) → IsWhole t → IsReady t d place entry → u ≡ brought_in d t → q ≡ d.q → CanPostTo u q entry
-submit_can_post t u d place entry q whole ready eu eq =
+pub submit_can_post : (t u : Tables) (d : DraftContents) (entry : SubEntry) (q : ℕ) → IsWhole t → IsReady t d entry → u ≡ brought_in d t → q ≡ d.q → CanPostTo u q entry
+submit_can_post t u d entry q whole ready eu eq =
     subst (λ (v : Tables). CanPostTo v q entry) (sym eu)
     (subst (λ (k : ℕ). CanPostTo (brought_in d t) k entry) (sym eq)
     (λ y at. subst (λ (z : Queue). CanPost (brought_in d t) d.q z entry) (some_is (sym ready.can.at ∙ at)) (can-post t d ready.queue entry whole ready.can)))
@@ -124,8 +119,8 @@ submits_apart t u new d entry q eu eq posts =
 
 -- The whole of a submission
 
-pub submit_made : (t new : Tables) (d : DraftContents) (place : ℕ) (entry : SubEntry) → IsWhole t → IsReady t d place entry → Submits t d entry new → Finishes t new (events.Submit d)
-submit_made t new d place entry whole ready left =
+pub submit_made : (t new : Tables) (d : DraftContents) (entry : SubEntry) → IsWhole t → IsReady t d entry → Submits t d entry new → Finishes t new (events.Submit d)
+submit_made t new d entry whole ready left =
     let x = ready.queue in
     let can = ready.can in
     let is : new ≡ submitted d x entry t = left x can.at in

@@ -1,37 +1,81 @@
--- A list of which each member is changed in turn.
-use Rattle.std.proofs.Common.{◌≡◌, ℕ, zero, suc, ◌+◌, ◌<◌, ◌≤◌, List, [], ◌∷◌, length, map, slice_set, get_or, refl, ap, ◌∙◌, arith, subst}
+-- The commands of a queue that were never answered are lost, one identifier after the other.
+use Rattle.std.proofs.Common.{◌≡◌, ℕ, ◌+◌, ◌==◌, nat_lt, Bool, true, false, ◌&&◌, Some, List, [], ◌∷◌, map, if◌then◌else◌, refl, ap, ap₂, ◌∙◌, arith}
+use Rattle.std.proofs.lemmas.Bool.Decides.{nat_tests}
+use Rattle.entry_codec.specs.declared.status.TheConstants.Status.{ABORTED_SQ_DELETION}
+use Rattle.machine_model.specs.After.{lost}
+use Rattle.machine_model.specs.Refusals.{is_submitted}
+use Rattle.machine_model.specs.State.{Record, is_at, with_record}
+use Rattle.machine_model.specs.declared.words.Phase.TheVariants.{Held}
+use Rattle.host_core.specs.Tables.{Tables}
+use Rattle.host_core.specs.Whole.{IsHost}
+use Rattle.host_core.proofs.Lists.{map-agree}
+use Rattle.host_core.proofs.Places.{record-inside}
 
--- the list of which so many members are changed
-abbrev pub swept : {A : Type 0} → (A → A) → ℕ → List A → List A
-swept f zero xs = xs
-swept f (suc i) [] = []
-swept f (suc i) (x ∷ xs) = f x ∷ swept f i xs
+-- a record, lost if its identifier is below this one
+abbrev pub lost_below : ℕ → ℕ → Record → Record
+lost_below n q r = if nat_lt r.cid n then lost q r else r
 
-sweep : {A : Type 0} (f : A → A) (i : ℕ) (xs : List A) (x y : A) → i < length (swept f i xs) → x ≡ get_or (swept f i xs) i x → y ≡ f x → slice_set (swept f i xs) i y ≡ swept f (suc i) xs
-sweep f zero [] x y l at is = absurd (omega arith)
-sweep f zero (z ∷ xs) x y l at is = ap (λ w. w ∷ xs) (is ∙ ap f at)
-sweep f (suc i) [] x y l at is = absurd (omega arith)
-sweep f (suc i) (z ∷ xs) x y l at is = ap (λ ws. f z ∷ ws) (sweep f i xs x y (omega arith) at is)
+pub none-below : (q : ℕ) (rs : List Record) → rs ≡ map (lost_below 0 q) rs
+none-below q [] = refl
+none-below q (r ∷ rs) = ap₂ (λ (x : Record) (xs : List Record). x ∷ xs) (ap (λ b. if b then lost q r else r) below) (none-below q rs)
+  where
+    below : false ≡ nat_lt r.cid 0
+    below = grind (arith, nat_tests)
 
--- one member more
-pub swept-next : {A : Type 0} (f : A → A) (i : ℕ) (xs ys : List A) (x y : A) → ys ≡ swept f i xs → i < length ys → x ≡ get_or ys i x → y ≡ f x → slice_set ys i y ≡ swept f (i + 1) xs
-swept-next f i xs ys x y e l at is =
-    let one : suc i ≡ i + 1 = omega arith in
-    ap (λ zs. slice_set zs i y) e
-    ∙ sweep f i xs x y (subst (λ zs. i < length zs) e l) (subst (λ zs. x ≡ get_or zs i x) e at) is
-    ∙ ap (λ (k : ℕ). swept f k xs) one
+-- what is lost keeps its queue and its identifier
+lost-at : (q k cid : ℕ) (r : Record) → is_at k cid (lost q r) ≡ is_at k cid r
+lost-at q k cid r = go ((r.q == q) && is_submitted r.phase)
+  where
+    go : (b : Bool) → is_at k cid (if b then record r { phase = Held; status = Some ABORTED_SQ_DELETION } else r) ≡ is_at k cid r
+    go true = refl
+    go false = refl
 
-length-swept : {A : Type 0} (f : A → A) (i : ℕ) (xs : List A) → length (swept f i xs) ≡ length xs
-length-swept f zero xs = refl
-length-swept f (suc i) [] = refl
-length-swept f (suc i) (x ∷ xs) = ap suc (length-swept f i xs)
+others-stay : (q : ℕ) (r : Record) → (r.q == q) ≡ false → lost q r ≡ r
+others-stay q r h = rw h refl
 
-past : {A : Type 0} (f : A → A) (i : ℕ) (xs : List A) → length xs ≤ i → swept f i xs ≡ map f xs
-past f zero [] l = refl
-past f zero (x ∷ xs) l = absurd (omega arith)
-past f (suc i) [] l = refl
-past f (suc i) (x ∷ xs) l = ap (λ ys. f x ∷ ys) (past f i xs (omega arith))
+-- one record, as the next identifier comes
+next-lost : (q n : ℕ) (r : Record) → (if is_at q n (lost_below n q r) then lost q (lost_below n q r) else lost_below n q r) ≡ lost_below (n + 1) q r
+next-lost q n r = go (nat_lt r.cid n) (r.q == q) (r.cid == n) refl refl refl
+  where
+    below : nat_lt r.cid n ≡ true → nat_lt r.cid (n + 1) ≡ true
+    below e = grind (arith, nat_tests)
 
--- all members
-pub swept-all : {A : Type 0} (f : A → A) (i : ℕ) (xs ys : List A) → ys ≡ swept f i xs → length ys ≤ i → ys ≡ map f xs
-swept-all f i xs ys e l = e ∙ past f i xs (subst (λ (n : ℕ). n ≤ i) (ap length e ∙ length-swept f i xs) l)
+    apart : nat_lt r.cid n ≡ true → (r.cid == n) ≡ false
+    apart e = grind (arith, nat_tests)
+
+    here : (r.cid == n) ≡ true → nat_lt r.cid (n + 1) ≡ true
+    here e = grind (arith, nat_tests)
+
+    above : nat_lt r.cid n ≡ false → (r.cid == n) ≡ false → nat_lt r.cid (n + 1) ≡ false
+    above e f = grind (arith, nat_tests)
+
+    go : (a b c : Bool) → nat_lt r.cid n ≡ a → (r.q == q) ≡ b → (r.cid == n) ≡ c
+        → (if is_at q n (lost_below n q r) then lost q (lost_below n q r) else lost_below n q r) ≡ lost_below (n + 1) q r
+    go true b c e f g =
+        let no : is_at q n (lost q r) ≡ false = lost-at q q n r ∙ (ap (λ x. (r.q == q) && x) (apart e) ∙ and-no (r.q == q)) in
+        rw (e, below e, no) refl
+      where
+        and-no : (x : Bool) → (x && false) ≡ false
+        and-no true = refl
+        and-no false = refl
+    go false true true e f g = rw (e, f, g, here g) refl
+    go false false true e f g = rw (e, f, here g) refl
+    go false b false e f g =
+        let no : is_at q n r ≡ false = ap (λ x. (r.q == q) && x) g ∙ and-no (r.q == q) in
+        rw (e, above e g, no) refl
+      where
+        and-no : (x : Bool) → (x && false) ≡ false
+        and-no true = refl
+        and-no false = refl
+
+pub one-lost : (q n : ℕ) (rs : List Record) → with_record q n (lost q) (map (lost_below n q) rs) ≡ map (lost_below (n + 1) q) rs
+one-lost q n [] = refl
+one-lost q n (r ∷ rs) = ap₂ (λ (x : Record) (xs : List Record). x ∷ xs) (next-lost q n r) (one-lost q n rs)
+
+-- each identifier lies below the last
+pub all-lost : (t : Tables) → IsHost t → (q n : ℕ) → n + 1 ≡ t.entries → map (lost_below n q) t.records ≡ map (lost q) t.records
+all-lost t h q n size =
+    map-agree (lost_below n q) (lost q) t.records (λ i r at.
+    let inside = record-inside t h i r at in
+    let yes : nat_lt r.cid n ≡ true = grind (arith, nat_tests) in
+    ap (λ b. if b then lost q r else r) yes)

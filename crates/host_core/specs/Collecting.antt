@@ -1,5 +1,5 @@
 -- A held command's pages are taken out.
-use Rattle.std.specs.Prelude.{◌≡◌, ℕ, None, Some, List, [], ◌∷◌, find, slice_get, slice_set}
+use Rattle.std.specs.Prelude.{◌≡◌, ℕ, None, Some, List, [], ◌∷◌, ◌+◌, ◌≤◌, find, length, slice_set}
 use Rattle.std.specs.Option.{option_map_or}
 use Rattle.entry_codec.specs.declared.status.Status.{Status}
 use Rattle.io_commands.specs.DataBytes.{PagesOut}
@@ -15,13 +15,18 @@ abbrev pub taken_pages : List ℕ → Pages → PagesOut
 taken_pages [] m = []
 taken_pages (p ∷ ps) m = (p, option_map_or (λ bytes. bytes) (page_at m p) []) ∷ taken_pages ps (slice_set m p None)
 
--- The record of a command, at a place.
-pub record StandsAt (t : Tables) (q cid place : ℕ) : Type 0 where
+-- A command is held.
+pub record StandsAt (t : Tables) (q cid : ℕ) : Type 0 where
   pub entry : Record
-  pub at : slice_get t.records place ≡ Some entry
   pub was : find (is_at q cid) t.records ≡ Some entry
   pub held : entry.phase ≡ Held
 
 -- What a held command was asked for, and how it ended.
-abbrev pub Tells : Tables → ℕ → Request → Status → Type 0
-Tells t place request status = (entry : Record) → slice_get t.records place ≡ Some entry → (entry.work ≡ Io request) × (entry.status ≡ Some status)
+abbrev pub Tells : Tables → ℕ → ℕ → Request → Status → Type 0
+Tells t q cid request status =
+    (entry : Record) → find (is_at q cid) t.records ≡ Some entry → (entry.work ≡ Io request) × (entry.status ≡ Some status)
+
+-- So many pages are no fewer than a command's.
+abbrev pub HasRoom : Tables → ℕ → ℕ → ℕ → Type 0
+HasRoom t q cid room =
+    (entry : Record) → find (is_at q cid) t.records ≡ Some entry → length entry.data_pages + length entry.chain_pages ≤ room

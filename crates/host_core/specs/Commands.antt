@@ -123,10 +123,9 @@ abbrev pub phase_of_end : Bool → Phase → Bool
 phase_of_end true = is_collected
 phase_of_end false = is_drafted
 
--- The record at a place is that of a moved value with these pages.
-pub record Belongs (records : List Record) (ended : Bool) (q cid : ℕ) (request : Request) (front back : List ℕ) (place : ℕ) : Type 0 where
+-- A command's record is that of a moved value with these pages.
+pub record Belongs (records : List Record) (ended : Bool) (q cid : ℕ) (request : Request) (front back : List ℕ) : Type 0 where
   pub entry : Record
-  pub at : slice_get records place ≡ Some entry
   pub was : find (is_at q cid) records ≡ Some entry
   pub is : is_of (phase_of_end ended) request front back entry ≡ true
 
@@ -135,8 +134,8 @@ abbrev pub has_record : List Record → Bool → ℕ → ℕ → Request → Lis
 has_record records ended q cid request front back = option_map_or (is_of (phase_of_end ended) request front back) (find (is_at q cid) records) false
 
 -- the same of a draft
-abbrev pub BelongsToDraft : List Record → DraftContents → ℕ → Type 0
-BelongsToDraft records d place = Belongs records false d.q d.cid d.request (numbers_of d.data_pages) (numbers_of d.chain_pages) place
+abbrev pub BelongsToDraft : List Record → DraftContents → Type 0
+BelongsToDraft records d = Belongs records false d.q d.cid d.request (numbers_of d.data_pages) (numbers_of d.chain_pages)
 
 abbrev pub has_drafted : List Record → DraftContents → Bool
 has_drafted records d = has_record records false d.q d.cid d.request (numbers_of d.data_pages) (numbers_of d.chain_pages)

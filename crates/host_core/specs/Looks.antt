@@ -1,10 +1,11 @@
 -- What looks at a host tell: what would be answered, want of memory left aside.
-use Rattle.std.specs.Prelude.{ℕ, Bool, ◌&&◌, is_none, is_some, Option, Some, None}
+use Rattle.std.specs.Prelude.{ℕ, ◌*◌, Bool, ◌&&◌, is_none, is_some, Option, Some, None, option_and_then, option_map, slice_get}
 use Rattle.machine_model.specs.Events as events
 use Rattle.machine_model.specs.Refusals.{refusal_of, seen_entry}
 use Rattle.machine_model.specs.State.{State}
 use Rattle.machine_model.specs.declared.words.Refusal.{Refusal}
 use Rattle.machine_model.specs.declared.words.Refusal.TheVariants as refusal
+use Rattle.host_core.specs.Alone.{HostView}
 
 -- whether a reap would take a completion
 abbrev pub completion_waits : State → ℕ → Bool
@@ -14,3 +15,7 @@ completion_waits s q = is_none (refusal_of s (events.Reap q)) && is_some (seen_e
 abbrev pub cause_of : Refusal → Option Refusal
 cause_of refusal.Memory = None
 cause_of why = Some why
+
+-- where the completion ring of a queue begins: at the first of its pages
+abbrev pub completion_base : HostView → ℕ → Option ℕ
+completion_base v q = option_and_then (λ queue. option_map (λ page. 4096 * page) (slice_get queue.cq_pages 0)) (slice_get v.host.queues q)

@@ -75,6 +75,8 @@ opened c owners =
       segment = c.segment;
       pages = replicate c.pages (Some zero_page);
       owners = owners;
+      record_queues = c.queues + 1;
+      record_places = c.entries - 1;
       records = [];
       queues = fresh_queues c.entries (c.queues + 1);
     }

@@ -1,9 +1,29 @@
 -- A host's parts over the pages that it is lent, as tables.
-use Rattle.std.specs.Prelude.{◌≡◌}
+use Rattle.std.specs.Prelude.{◌≡◌, ℕ, List, map}
+use Rattle.machine_model.specs.State.{Record}
 use Rattle.page_memory.specs.Pages.{Pages}
+use Rattle.slot_table.specs.Table.{Row}
+use Rattle.host_core.specs.Rows.{Kept}
 use Rattle.host_core.specs.Tables.{Tables}
 use Rattle.host_core.specs.Whole.{IsWhole}
 use Rattle.host_core.specs.declared.parts.Parts.{Parts}
+
+-- a command's record, by the place where it stands
+abbrev pub record_of : ℕ → ℕ → Kept → Record
+record_of q cid kept =
+    record {
+      q = q;
+      cid = cid;
+      phase = kept.phase;
+      work = kept.work;
+      data_pages = kept.data_pages;
+      chain_pages = kept.chain_pages;
+      status = kept.status;
+    }
+
+-- the records, in the order in which their commands were made
+abbrev pub records_of : List (Row Kept) → List Record
+records_of rows = map (λ row. record_of row.q row.cid row.value) rows
 
 abbrev pub tables_of : {A : Type 0} → Parts A → Pages → Tables
 tables_of parts pages =
@@ -12,7 +32,9 @@ tables_of parts pages =
       segment = parts.segment;
       pages = pages;
       owners = parts.ledger;
-      records = parts.records.items;
+      record_queues = parts.records.queues;
+      record_places = parts.records.places;
+      records = records_of parts.records.rows;
       queues = parts.queues.items;
     }
 

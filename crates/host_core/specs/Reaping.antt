@@ -1,5 +1,5 @@
 -- The host reaps a completion.
-use Rattle.std.specs.Prelude.{◌≡◌, ℕ, ◌<◌, ◌&&◌, Bool, true, false, Option, Some, None, find, slice_get, if◌then◌else◌, not}
+use Rattle.std.specs.Prelude.{◌≡◌, ℕ, ◌<◌, ◌&&◌, Bool, true, false, Option, Some, None, List, find, slice_get, if◌then◌else◌, not}
 use Rattle.std.specs.Option.{option_map_or}
 use Rattle.admin_commands.specs.declared.AdminKind.{AdminKind}
 use Rattle.admin_commands.specs.declared.AdminKind.TheVariants.{Abort, DeleteSq, DeleteCq}
@@ -101,11 +101,16 @@ pub record ReapsTo (t : Tables) (q : ℕ) (what : Reaped) (new : Tables) : Type 
   pub step : Step (state_of t) (events.Reap q) (events.Reaps what) (state_of new)
   pub whole : IsWhole new
 
--- The submitted command that a completion is for, by its place.
-pub record Answered (t : Tables) (q : ℕ) (e : ComEntry) (place : ℕ) : Type 0 where
+-- A queue's head pointer may be this one.
+abbrev pub FitsHead : List Queue → ℕ → ℕ → Type 0
+FitsHead queues q sqhd =
+    (queue : Queue) → slice_get queues q ≡ Some queue → is_in_range queue.host.entries queue.host.ring.known_head queue.host.ring.tail sqhd ≡ true
+
+-- The submitted command that a completion is for, and which command of queue 0 that is, if it is one.
+pub record Answered (t : Tables) (q : ℕ) (e : ComEntry) (kind : Option AdminKind) : Type 0 where
   pub entry : Record
-  pub at : slice_get t.records place ≡ Some entry
   pub was : find (is_at q e.cid) t.records ≡ Some entry
   pub submitted : entry.phase ≡ Submitted
+  pub means : kind_of entry.work ≡ kind
   pub sqid : e.sqid ≡ q
-  pub head : (queue : Queue) → slice_get t.queues q ≡ Some queue → is_in_range queue.host.entries queue.host.ring.known_head queue.host.ring.tail e.sqhd ≡ true
+  pub head : FitsHead t.queues q e.sqhd

@@ -1,6 +1,19 @@
--- A queue of the host's table, as contracts see it: they say nothing of where its lists were made.
+-- A queue and a command of the host's tables, as contracts see them.
+use Rattle.std.specs.Prelude.{ℕ, Option, List}
+use Rattle.entry_codec.specs.declared.status.Status.{Status}
+use Rattle.machine_model.specs.Work.{Work}
+use Rattle.machine_model.specs.declared.words.Phase.{Phase}
 use Rattle.queue_pair.specs.Rings.{HostSide}
 use Rattle.host_core.specs.declared.queue.Queue as queue
 
+-- they say nothing of where a queue's lists were made
 abbrev pub Queue : Type 0
 Queue = queue.Queue HostSide
+
+-- what the host keeps of an outstanding command in its place: all but the queue and the identifier
+pub record Kept : Type 0 where
+  pub phase : Phase
+  pub work : Work
+  pub data_pages : List ℕ
+  pub chain_pages : List ℕ
+  pub status : Option Status

@@ -1,5 +1,5 @@
 -- The host submits a draft.
-use Rattle.std.specs.Prelude.{◌≡◌, ◌++◌, ℕ, true, false, None, Some, slice_get}
+use Rattle.std.specs.Prelude.{◌≡◌, ◌++◌, true, false, None, Some, slice_get}
 use Rattle.entry_codec.specs.Submission.{FitsSubmission}
 use Rattle.entry_codec.specs.declared.submission.SubEntry.{SubEntry}
 use Rattle.io_commands.specs.Drafts.{DraftContents}
@@ -37,8 +37,8 @@ pub record CanSubmit (t : Tables) (d : DraftContents) (x : Queue) (entry : SubEn
   pub built : d.entry ≡ Some entry
   pub fits : FitsSubmission entry
 
--- A draft that can be submitted, with the place of its record.
-pub record IsReady (t : Tables) (d : DraftContents) (place : ℕ) (entry : SubEntry) : Type 0 where
+-- A draft that can be submitted.
+pub record IsReady (t : Tables) (d : DraftContents) (entry : SubEntry) : Type 0 where
   pub queue : Queue
   pub can : CanSubmit t d queue entry
-  pub belongs : BelongsToDraft t.records d place
+  pub belongs : BelongsToDraft t.records d

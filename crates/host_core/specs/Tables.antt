@@ -10,12 +10,15 @@ use Rattle.queue_pair.specs.Memory.{half_pages}
 use Rattle.host_core.specs.Alone.{HostView, alone}
 use Rattle.host_core.specs.Rows.{Queue}
 
--- the tables of a host: who owns each page, the outstanding commands, and the queues; beside them the pages that are in
+-- the tables of a host: who owns each page, the outstanding commands, with how many queues they have places for and how many places of
+-- each, and the queues; beside them the pages that are in
 pub record Tables : Type 0 where
   pub entries : ℕ
   pub segment : ℕ
   pub pages : Pages
   pub owners : List Owner
+  pub record_queues : ℕ
+  pub record_places : ℕ
   pub records : List Record
   pub queues : List Queue
 

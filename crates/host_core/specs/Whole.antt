@@ -1,5 +1,5 @@
 -- What holds of a host's tables between its calls.
-use Rattle.std.specs.Prelude.{◌≡◌, ℕ, ◌<◌, ◌≤◌, Bool, true, Option, Some, None, List, length, slice_get}
+use Rattle.std.specs.Prelude.{◌≡◌, ℕ, ◌+◌, ◌<◌, ◌≤◌, Bool, true, Option, Some, None, List, length, slice_get}
 use Rattle.std.specs.List.{AllByRecursion, list_any}
 use Rattle.entry_codec.specs.declared.status.Status.{Status}
 use Rattle.io_commands.specs.Requests.{data_count}
@@ -88,6 +88,8 @@ pub record IsWhole (t : Tables) : Type 0 where
   pub most_segment : t.segment ≤ 256
   pub some_queues : 2 ≤ length t.queues
   pub few_queues : length t.queues ≤ 65
+  pub record_queues : t.record_queues ≡ length t.queues
+  pub record_places : t.record_places + 1 ≡ t.entries
   pub queues : AreQueues t.entries t.queues
   pub identifiers : ClaimIdentifiers t.records t.queues
   pub owners : Tells t.owners t.queues t.records
@@ -103,6 +105,8 @@ pub record HasLimits (t : Tables) : Type 0 where
   pub most_segment : t.segment ≤ 256
   pub some_queues : 2 ≤ length t.queues
   pub few_queues : length t.queues ≤ 65
+  pub record_queues : t.record_queues ≡ length t.queues
+  pub record_places : t.record_places + 1 ≡ t.entries
 
 -- the ledger tells each claim, the claimed identifiers are those outstanding, and each record fits its work
 pub record IsTable (t : Tables) : Type 0 where

@@ -1,20 +1,18 @@
 //! A command that has ended is collected.
 
-ghost use Rattle.std.specs.Prelude.{◌≡◌, ◌+◌, ◌<◌, ◌≤◌, ◌++◌, [], length, slice_get, slice_set, vec_len, vec_capacity, IfOk, IfErr, Some};
-ghost use Rattle.machine_model.specs.After.{collected};
+ghost use Rattle.std.specs.Prelude.{◌≡◌, ◌+◌, ◌≤◌, ◌++◌, [], find, length, vec_len, vec_capacity, IfOk, IfErr, Some};
 ghost use Rattle.machine_model.specs.Events as events;
 ghost use Rattle.machine_model.specs.Memory.{without_pages};
-ghost use Rattle.machine_model.specs.State.{Record as RecordValue, pages_of};
+ghost use Rattle.machine_model.specs.State.{is_at};
 ghost use Rattle.machine_model.specs.Step.{Step, Refuses};
 ghost use Rattle.host_core.specs.Alone.{HostStep, IsOver};
-ghost use Rattle.host_core.specs.Collecting.{taken_pages, StandsAt, Tells};
+ghost use Rattle.host_core.specs.Collecting.{taken_pages, HasRoom, StandsAt, Tells};
 ghost use Rattle.host_core.specs.Commands.{CanTake};
-ghost use Rattle.host_core.specs.Parts.{tables_of, Over};
+ghost use Rattle.host_core.specs.Parts.{record_of, records_of, tables_of, Over};
 ghost use Rattle.host_core.specs.Replies.{collect_reply};
 ghost use Rattle.host_core.specs.Tables.{state_of};
 ghost use Rattle.host_core.specs.Whole.{IsWhole, FitsPhase};
 
-use crate::compare::find_record;
 use crate::host::Host;
 use crate::moving::move_out;
 use crate::parts::Parts;
@@ -72,33 +70,18 @@ fn take_pages<A: Allocator>(
     move_out(store, &entry.chain_pages, into);
 }
 
-/// Marks a command collected.
-fn mark<A: Allocator>(entry: &mut Record<A>)
-    ensures { entry.new ≡ collected entry.old }
-{
-    entry.phase = Phase::Collected;
-}
-
-/// Marks the command at a place collected.
-fn mark_collected<A: Allocator>(records: &mut Vec<Record<A>, A>, place: usize)
-    requires { place < length records.old.items }
-    ensures { (entry : RecordValue) → slice_get records.old.items place ≡ Some entry → records.new.items ≡ slice_set records.old.items place (collected entry) }
-{
-    mark(&mut records[place]);
-}
-
 impl<A: Allocator> Parts<A> {
-    /// The place of a command that is held.
-    pub(crate) fn check_collect(&self, q: u16, cid: u16) -> Result<usize, Refusal>
-        ensures place { IfOk result (λ place. Over self.now (λ t. StandsAt t q cid place)) }
-        ensures within { IfOk result (λ place. place < length self.now.records.items) }
+    /// The record of a command that is held.
+    pub(crate) fn check_collect(&self, q: u16, cid: u16) -> Result<&Record<A>, Refusal>
+        ensures stands { IfOk result (λ _. Over self.now (λ t. StandsAt t q cid)) }
+        ensures found { IfOk result (λ entry. find (is_at q cid) (records_of self.now.records.rows) ≡ Some (record_of q cid entry.now)) }
         ensures refused { IfErr result (λ why. Over self.now (λ t. Refuses (state_of t) (events.Collect q cid) why [])) }
     {
-        let Some(place) = find_record(&self.records, q, cid) else {
+        let Some(entry) = self.records.get(q, cid) else {
             return Err(Refusal::Stranger);
         };
-        match self.records[place].phase {
-            Phase::Held => Ok(place),
+        match entry.phase {
+            Phase::Held => Ok(entry),
             Phase::Submitted => Err(Refusal::NotYet),
             Phase::Drafted | Phase::Collected => Err(Refusal::Stranger),
         }
@@ -110,15 +93,13 @@ impl<A: Allocator> Parts<A> {
         store: &mut Store<A>,
         q: u16,
         cid: u16,
-        place: usize,
         room: Room<A>,
     ) -> Finished<A>
         requires whole { IsWhole (tables_of self.old store.old.pages) }
-        requires there { place < length self.old.records.items }
-        requires stands { StandsAt (tables_of self.old store.old.pages) q cid place }
-        requires tells { Tells (tables_of self.old store.old.pages) place room.request room.status }
+        requires stands { StandsAt (tables_of self.old store.old.pages) q cid }
+        requires tells { Tells (tables_of self.old store.old.pages) q cid room.request room.status }
         requires empty { (room.pages.items ≡ []) × (vec_len room.pages ≡ 0) }
-        requires space { (entry : RecordValue) → slice_get self.old.records.items place ≡ Some entry → length entry.data_pages + length entry.chain_pages ≤ vec_capacity room.pages }
+        requires space { HasRoom (tables_of self.old store.old.pages) q cid (vec_capacity room.pages) }
         ensures step { Step (state_of (tables_of self.old store.old.pages)) (events.Collect q cid) (events.Collects result) (state_of (tables_of self.new store.new.pages)) }
         ensures whole { IsWhole (tables_of self.new store.new.pages) }
     {
@@ -127,8 +108,11 @@ impl<A: Allocator> Parts<A> {
             status,
             mut pages,
         } = room;
-        take_pages(store, &self.records[place], &mut pages);
-        mark_collected(&mut self.records, place);
+        match self.records.get(q, cid) {
+            Some(entry) => take_pages(store, entry, &mut pages),
+            None => unreachable!(),
+        }
+        self.mark_collected(q, cid);
         Finished::make(q, cid, request, status, pages)
     }
 }
@@ -150,11 +134,11 @@ impl<A: Allocator + Copy> Host<A> {
         ensures over { IsOver self.new store.new.pages }
         ensures back { IfErr result (λ r. r.value ≡ ticket) }
     {
-        let place = match self.parts.check_collect(ticket.q(), ticket.cid()) {
-            Ok(place) => place,
+        let entry = match self.parts.check_collect(ticket.q(), ticket.cid()) {
+            Ok(entry) => entry,
             Err(why) => return Err(Refused { value: ticket, why }),
         };
-        let room = match room_for(self.parts.alloc, &self.parts.records[place]) {
+        let room = match room_for(self.parts.alloc, entry) {
             Ok(room) => room,
             Err(_) => {
                 return Err(Refused {
@@ -164,6 +148,6 @@ impl<A: Allocator + Copy> Host<A> {
             }
         };
         let (q, cid) = ticket.apart();
-        Ok(self.parts.commit_collect(store, q, cid, place, room))
+        Ok(self.parts.commit_collect(store, q, cid, room))
     }
 }

@@ -1,16 +1,17 @@
 //! Whether a moved value is the one that a record was made for.
 
-ghost use Rattle.std.specs.Prelude.{◌≡◌, ◌<◌, ◌≤◌, length, nat_eq, find, slice_get, Some, None, true, false, IfSome, IfNone};
+ghost use Rattle.std.specs.Prelude.{◌≡◌, ℕ, length, nat_eq};
 ghost use Rattle.std.specs.Cmp.Lexicographic.{pointwise};
 ghost use Rattle.io_commands.specs.Values.{numbers_of};
 ghost use Rattle.machine_model.specs.Proper.{ArePages, IsProperDraft};
 ghost use Rattle.machine_model.specs.Refusals.{is_of, asks_for as spec_asks_for, same_kind as spec_same_kind, same_piece as spec_same_piece, same_pieces as spec_same_pieces, same_request as spec_same_request};
-ghost use Rattle.machine_model.specs.State.{is_at};
-ghost use Rattle.host_core.specs.Commands.{phase_of_end, Belongs, BelongsToDraft, has_drafted, has_record};
+ghost use Rattle.host_core.specs.Commands.{phase_of_end, has_drafted, has_record as spec_has_record};
+ghost use Rattle.host_core.specs.Parts.{record_of, records_of};
 
+use crate::parts::Parts;
 use crate::record::Record;
 use io_commands::{Draft, Kind, Piece, Request};
-use machine_model::words::{Phase, Work};
+use machine_model::words::Work;
 use page_memory::{PAGE_BYTES, Page, PageNo};
 use std::alloc::Allocator;
 
@@ -96,72 +97,21 @@ fn same_numbers<A: Allocator>(pages: &[(PageNo, Page<A>)], numbers: &[PageNo]) -
     true
 }
 
-/// Whether a command is drafted, or, where it has ended, collected.
-fn fits_phase(phase: Phase, ended: bool) -> bool
-    ensures { result ≡ phase_of_end ended phase }
-{
-    match phase {
-        Phase::Drafted => !ended,
-        Phase::Collected => ended,
-        Phase::Submitted | Phase::Held => false,
-    }
-}
-
-/// Whether a record is that of a moved value with these pages for its data and for its chain.
-fn belongs<A: Allocator>(
-    entry: &Record<A>,
-    ended: bool,
-    request: &Request<A>,
-    front: &[(PageNo, Page<A>)],
-    back: &[(PageNo, Page<A>)],
-) -> bool
-    ensures { result ≡ is_of (phase_of_end ended) request.now (numbers_of front.now) (numbers_of back.now) entry.now }
-{
-    fits_phase(entry.phase, ended)
-        && asks_for(request, &entry.work)
-        && same_numbers(front, &entry.data_pages)
-        && same_numbers(back, &entry.chain_pages)
-}
-
-/// Whether a record is that of a command.
-fn is_command<A: Allocator>(entry: &Record<A>, q: u16, cid: u16) -> bool
-    ensures { result ≡ is_at q cid entry.now }
-{
-    entry.q == q && entry.cid == cid
-}
-
-/// The place of a command's record.
-pub(crate) fn find_record<A: Allocator>(records: &[Record<A>], q: u16, cid: u16) -> Option<usize>
-    ensures found { IfSome result (λ i. find (is_at q cid) records.now ≡ slice_get records.now i) }
-    ensures within { IfSome result (λ i. i < length records.now) }
-    ensures none { IfNone result (find (is_at q cid) records.now ≡ None) }
-{
-    for (i, entry) in records.iter().enumerate() {
-        if is_command(entry, q, cid) {
-            return Some(i);
-        }
-    }
-    None
-}
-
-/// The place of the record of a moved value, which has these pages for its data and for its chain.
-pub(crate) fn place_of<A: Allocator>(
-    records: &[Record<A>],
-    ended: bool,
-    command: (u16, u16),
-    request: &Request<A>,
-    front: &[(PageNo, Page<A>)],
-    back: &[(PageNo, Page<A>)],
-) -> Option<usize>
-    ensures place { IfSome result (λ i. Belongs records.now ended command.0 command.1 request.now (numbers_of front.now) (numbers_of back.now) i) }
-    ensures within { IfSome result (λ i. i < length records.now) }
-    ensures none { IfNone result (has_record records.now ended command.0 command.1 request.now (numbers_of front.now) (numbers_of back.now) ≡ false) }
-{
-    let place = find_record(records, command.0, command.1)?;
-    if belongs(&records[place], ended, request, front, back) {
-        Some(place)
-    } else {
-        None
+impl<A: Allocator> Record<A> {
+    /// Whether it is that of a moved value with these pages for its data and for its chain.
+    fn belongs(
+        &self,
+        ended: bool,
+        request: &Request<A>,
+        front: &[(PageNo, Page<A>)],
+        back: &[(PageNo, Page<A>)],
+    ) -> bool
+        ensures { (q cid : ℕ) → result ≡ is_of (phase_of_end ended) request.now (numbers_of front.now) (numbers_of back.now) (record_of q cid self.now) }
+    {
+        self.is_handed_out(ended)
+            && asks_for(request, &self.work)
+            && same_numbers(front, &self.data_pages)
+            && same_numbers(back, &self.chain_pages)
     }
 }
 
@@ -181,16 +131,33 @@ pub(crate) fn read_pages<A: Allocator>(pages: &[(PageNo, Page<A>)])
     }
 }
 
-/// The place of the record of a draft.
-pub(crate) fn place_of_draft<A: Allocator>(records: &[Record<A>], draft: &Draft<A>) -> Option<usize>
-    ensures place { IfSome result (λ i. BelongsToDraft records.now draft.now i) }
-    ensures within { IfSome result (λ i. i < length records.now) }
-    ensures none { IfNone result (has_drafted records.now draft.now ≡ false) }
-    ensures proper { IsProperDraft draft.now }
-{
-    read_pages(draft.pages());
-    let request = draft.request();
-    let (front, back) = draft.pages().split_at(request.pieces.data_pages());
-    let command = (draft.q(), draft.cid());
-    place_of(records, false, command, request, front, back)
+impl<A: Allocator> Parts<A> {
+    /// Whether a command has a record, and that is the one of a moved value with these pages for its data and for its chain.
+    pub(crate) fn has_record(
+        &self,
+        ended: bool,
+        command: (u16, u16),
+        request: &Request<A>,
+        front: &[(PageNo, Page<A>)],
+        back: &[(PageNo, Page<A>)],
+    ) -> bool
+        ensures { result ≡ spec_has_record (records_of self.now.records.rows) ended command.0 command.1 request.now (numbers_of front.now) (numbers_of back.now) }
+    {
+        match self.records.get(command.0, command.1) {
+            Some(entry) => entry.belongs(ended, request, front, back),
+            None => false,
+        }
+    }
+
+    /// Whether a draft's command has a record, and that is the draft's.
+    pub(crate) fn has_draft(&self, draft: &Draft<A>) -> bool
+        ensures told { result ≡ has_drafted (records_of self.now.records.rows) draft.now }
+        ensures proper { IsProperDraft draft.now }
+    {
+        read_pages(draft.pages());
+        let request = draft.request();
+        let (front, back) = draft.pages().split_at(request.pieces.data_pages());
+        let command = (draft.q(), draft.cid());
+        self.has_record(false, command, request, front, back)
+    }
 }

@@ -1,16 +1,15 @@
 //! A command ends: a draft is cancelled, or a finished command released.
 
-ghost use Rattle.std.specs.Prelude.{◌≡◌, ◌<◌, length, slice_get, find, IfErr, Some, true};
+ghost use Rattle.std.specs.Prelude.{◌≡◌, ◌<◌, length, slice_get, IfErr, Some, true};
 ghost use Rattle.machine_model.specs.After.{change};
 ghost use Rattle.machine_model.specs.Events as events;
-ghost use Rattle.machine_model.specs.State.{is_at};
 ghost use Rattle.host_core.specs.Alone.{HostStep, IsOver};
 ghost use Rattle.host_core.specs.Commands.{ended as spec_ended, without_claim, Claims, Brings};
 ghost use Rattle.host_core.specs.Parts.{tables_of};
 ghost use Rattle.host_core.specs.Replies.{accept_reply};
 ghost use Rattle.host_core.specs.Whole.{IsWhole};
 
-use crate::compare::{place_of, place_of_draft, read_pages};
+use crate::compare::read_pages;
 use crate::host::Host;
 use crate::moving::move_in;
 use crate::parts::Parts;
@@ -40,22 +39,19 @@ pub(crate) fn unclaim<A: Allocator>(queues: &mut Vec<Queue<HostPair<A>>, A>, q: 
 }
 
 impl<A: Allocator> Parts<A> {
-    /// Ends a command whose record stands at a place: its pages come in, and are free, and so is its identifier.
+    /// Ends a command: its pages come in, and are free, and so is its identifier.
     fn commit_end(
         &mut self,
         store: &mut Store<A>,
-        place: usize,
         q: u16,
         cid: u16,
         pages: Vec<(PageNo, Page<A>), A>,
     )
         requires whole { IsWhole (tables_of self.old store.old.pages) }
-        requires there { place < length self.old.records.items }
         requires brings { Brings (tables_of self.old store.old.pages) q cid pages.items }
-        requires at { slice_get self.old.records.items place ≡ find (is_at q cid) self.old.records.items }
         ensures { tables_of self.new store.new.pages ≡ spec_ended q cid pages.items (tables_of self.old store.old.pages) }
     {
-        let _gone = self.records.remove(place);
+        self.forget(q, cid);
         self.ledger.give_back(q, cid);
         unclaim(&mut self.queues, q, cid);
         move_in(store, pages);
@@ -75,15 +71,15 @@ impl<A: Allocator> Host<A> {
         ensures over { IsOver self.new store.new.pages }
         ensures back { IfErr result (λ r. r.value ≡ draft) }
     {
-        let Some(place) = place_of_draft(&self.parts.records, &draft) else {
+        if !self.parts.has_draft(&draft) {
             return Err(Refused {
                 value: draft,
                 why: Refusal::Stranger,
             });
-        };
+        }
         let parts = draft.apart();
         self.parts
-            .commit_end(store, place, parts.q, parts.cid, parts.pages);
+            .commit_end(store, parts.q, parts.cid, parts.pages);
         Ok(())
     }
 
@@ -107,15 +103,15 @@ impl<A: Allocator> Host<A> {
         let request = finished.request();
         let (front, back) = finished.pages().split_at(finished.data_pages());
         let command = (finished.q(), finished.cid());
-        let Some(place) = place_of(&self.parts.records, true, command, request, front, back) else {
+        if !self.parts.has_record(true, command, request, front, back) {
             return Err(Refused {
                 value: finished,
                 why: Refusal::Stranger,
             });
-        };
+        }
         let parts = finished.apart();
         self.parts
-            .commit_end(store, place, parts.q, parts.cid, parts.pages);
+            .commit_end(store, parts.q, parts.cid, parts.pages);
         Ok(())
     }
 }

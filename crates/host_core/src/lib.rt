@@ -26,6 +26,7 @@ mod queue;
 mod queues;
 mod reap;
 mod record;
+mod records;
 mod refused;
 mod reserve;
 mod retire;

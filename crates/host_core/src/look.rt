@@ -1,19 +1,18 @@
 //! What would be answered: looks that change nothing, for those who wait until the answer is another.
 
-ghost use Rattle.std.specs.Prelude.{◌≡◌, ℕ, true, false, Some, IfSome, IfNone, option_and_then};
+ghost use Rattle.std.specs.Prelude.{◌≡◌, ℕ, true, false, Some, IfSome, IfNone, [], is_some, length, option_and_then, option_map, slice_get};
 ghost use Rattle.machine_model.specs.Events as events;
-ghost use Rattle.machine_model.specs.Refusals.{refusal_of};
+ghost use Rattle.machine_model.specs.Refusals.{has_cq, in_state, refusal_of};
 ghost use Rattle.machine_model.specs.State.{record_at};
 ghost use Rattle.page_memory.specs.Pages.{Pages};
 ghost use Rattle.host_core.specs.Alone.{alone, IsOver};
-ghost use Rattle.host_core.specs.Looks.{cause_of, completion_waits as spec_completion_waits};
+ghost use Rattle.host_core.specs.Looks.{cause_of, completion_base as spec_completion_base, completion_waits as spec_completion_waits};
 
-use crate::compare::find_record;
 use crate::host::Host;
-use crate::queues::has_no_completion;
+use crate::queues::{has_no_completion, host_state};
 use entry_codec::Status;
 use io_commands::Request;
-use machine_model::words::Refusal;
+use machine_model::words::{HostState, Refusal};
 use page_memory::Store;
 use std::alloc::Allocator;
 
@@ -56,13 +55,42 @@ impl<A: Allocator> Host<A> {
     pub fn status_of(&self, q: u16, cid: u16) -> Option<Status>
         ensures { result ≡ option_and_then (λ r. r.status) (record_at self.now.host q cid) }
     {
-        match find_record(&self.parts.records, q, cid) {
-            Some(place) => {
-                let entry = &self.parts.records[place];
-                entry.status
-            }
+        match self.parts.records.get(q, cid) {
+            Some(entry) => entry.status,
             None => None,
         }
+    }
+
+    /// How many queues there are, queue 0 among them.
+    pub fn queue_count(&self) -> u16
+        ensures { result ≡ length self.now.host.queues }
+    {
+        self.parts.queues.len() as u16
+    }
+
+    /// How many entries each ring has.
+    pub fn entries(&self) -> u16
+        ensures { result ≡ self.now.entries }
+    {
+        self.parts.entries
+    }
+
+    /// The address at which a queue's completion ring begins, as long as the host has it.
+    pub fn completion_base(&self, q: u16) -> Option<u64>
+        ensures base { result ≡ spec_completion_base self.now q }
+        ensures there { is_some result ≡ in_state has_cq (alone self.now []) q }
+    {
+        if has_no_completion(&self.parts.queues, q) {
+            return None;
+        }
+        Some(self.parts.queues[usize::from(q)].host.completion_address(0))
+    }
+
+    /// What the host knows of a queue, if there is one of this number.
+    pub fn queue_state(&self, q: u16) -> Option<HostState>
+        ensures { result ≡ option_map (λ queue. queue.state) (slice_get self.now.host.queues q) }
+    {
+        host_state(&self.parts.queues, q)
     }
 
     /// Whether [`Host::reap`] would take a completion from the queue. Nothing changes.

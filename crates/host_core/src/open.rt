@@ -1,6 +1,6 @@
 //! The opening of a host, with its pages.
 
-ghost use Rattle.std.specs.Prelude.{◌≡◌, ◌+◌, ◌*◌, ◌<◌, ◌≤◌, false, length, replicate, Some, None, IfOk, IfErr, IsSome};
+ghost use Rattle.std.specs.Prelude.{◌≡◌, ◌+◌, ◌-◌, ◌*◌, ◌<◌, ◌≤◌, [], false, length, replicate, Some, None, IfOk, IfErr, IsSome};
 ghost use Rattle.machine_model.specs.Opening.{is_config, pages_of_queues};
 ghost use Rattle.page_ledger.specs.Owners.{is_free, pages_from, with_owner};
 ghost use Rattle.page_ledger.specs.Runs.{lowest_run};
@@ -14,10 +14,12 @@ use crate::config::Config;
 use crate::host::Host;
 use crate::parts::Parts;
 use crate::queue::Queue;
+use crate::record::Record;
 use machine_model::words::{HostState, OpenRefusal};
 use page_ledger::{Ledger, Owner};
 use page_memory::{Half, OpenFault, PageNo, Store};
 use queue_pair::{HostPair, half_pages};
+use slot_table::SlotTable;
 use std::alloc::{AllocError, Allocator};
 
 /// A host that opened, and the pages that are its own.
@@ -48,14 +50,14 @@ impl<A: Allocator + Copy> Host<A> {
             None => {}
         }
         match open_tables(alloc, config) {
-            Ok((store, ledger, queues)) => Ok(Opened {
+            Ok((store, ledger, records, queues)) => Ok(Opened {
                 host: Host {
                     parts: Parts {
                         alloc,
                         entries: config.entries as u16,
                         segment: config.segment as u16,
                         ledger,
-                        records: Vec::new(alloc),
+                        records,
                         queues,
                     },
                 },
@@ -108,16 +110,25 @@ fn pages_needed(config: Config) -> u32
         * (half_pages(entries, Half::Submission) + half_pages(entries, Half::Completion))
 }
 
-/// The pages, their owners and the queues of a host that opens.
+/// The pages, their owners, the places for records and the queues of a host that opens.
 fn open_tables<A: Allocator + Copy>(
     alloc: A,
     config: Config,
-) -> Result<(Store<A>, Ledger<A>, Vec<Queue<HostPair<A>>, A>), OpenFault>
+) -> Result<
+    (
+        Store<A>,
+        Ledger<A>,
+        SlotTable<Record<A>, A>,
+        Vec<Queue<HostPair<A>>, A>,
+    ),
+    OpenFault,
+>
     requires { refusal_of_config config ≡ None }
     ensures pages { IfOk result (λ tables. tables.0.pages ≡ replicate config.pages (Some zero_page)) }
     ensures owners { IfOk result (λ tables. length tables.1 ≡ config.pages) }
     ensures granted { IfOk result (λ tables. HalvesGranted config.entries (config.queues + 1) tables.1) }
-    ensures queues { IfOk result (λ tables. tables.2.items ≡ fresh_queues config.entries (config.queues + 1)) }
+    ensures records { IfOk result (λ tables. tables.2 ≡ record { queues = config.queues + 1; places = config.entries - 1; rows = [] }) }
+    ensures queues { IfOk result (λ tables. tables.3.items ≡ fresh_queues config.entries (config.queues + 1)) }
 {
     let store = Store::open(alloc, config.pages)?;
     let mut ledger = Ledger::open(alloc, config.pages)?;
@@ -127,7 +138,8 @@ fn open_tables<A: Allocator + Copy>(
         config.queues as u16 + 1,
         config.entries as u16,
     )?;
-    Ok((store, ledger, queues))
+    let records = SlotTable::open(alloc, config.queues + 1, config.entries)?;
+    Ok((store, ledger, records, queues))
 }
 
 /// The queues of a host that opens, whose halves are the lowest pages.

@@ -4,6 +4,7 @@ use crate::queue::Queue;
 use crate::record::Record;
 use page_ledger::Ledger;
 use queue_pair::HostPair;
+use slot_table::SlotTable;
 use std::alloc::Allocator;
 
 /// The tables of a host.
@@ -17,8 +18,8 @@ pub(crate) struct Parts<A: Allocator> {
     pub(crate) segment: u16,
     /// Who owns which page.
     pub(crate) ledger: Ledger<A>,
-    /// The outstanding commands.
-    pub(crate) records: Vec<Record<A>, A>,
+    /// The outstanding commands, in the order in which they were made.
+    pub(crate) records: SlotTable<Record<A>, A>,
     /// The queues, by their numbers.
     pub(crate) queues: Vec<Queue<HostPair<A>>, A>,
 }

@@ -47,6 +47,6 @@ impl<A: Allocator> Parts<A> {
             Ok(_) => {}
             Err(_) => unreachable!(),
         }
-        let _count = store.pages();
+        prove!(store.pages() <= 65_536);
     }
 }

@@ -1,33 +1,28 @@
 //! The host reaps a completion.
 
-ghost use Rattle.std.specs.Prelude.{◌≡◌, ◌<◌, [], true, false, Some, IfOk, IfErr, length, slice_get, slice_set};
+ghost use Rattle.std.specs.Prelude.{◌≡◌, ◌<◌, [], true, false, Some, IfOk, IfErr, length, slice_get};
 ghost use Rattle.io_commands.specs.Jobs.{is_success as succeeds};
-ghost use Rattle.machine_model.specs.After.{held};
 ghost use Rattle.machine_model.specs.Events as events;
-ghost use Rattle.machine_model.specs.State.{Record as RecordValue};
 ghost use Rattle.machine_model.specs.Step.{reaped_entry};
 ghost use Rattle.page_memory.specs.Pages.{Pages};
 ghost use Rattle.queue_pair.specs.Slots.{is_in_range};
 ghost use Rattle.host_core.specs.Alone.{HostStep, HostView, IsOver};
+ghost use Rattle.host_core.specs.Commands.{Claims};
 ghost use Rattle.host_core.specs.Parts.{tables_of, Becomes, Over};
-ghost use Rattle.host_core.specs.Reaping.{consumed, ended_with, heard, kind_of as spec_kind_of, lacks_completion, meant, over, seen_at, state_deleted, with_answer_heard, with_answer_taken, without_completion, Answered, ReapsTo};
+ghost use Rattle.host_core.specs.Reaping.{consumed, ended_with, heard, lacks_completion, meant, over, seen_at, state_deleted, with_answer_heard, with_answer_taken, without_completion, Answered, FitsHead, ReapsTo};
 ghost use Rattle.host_core.specs.Replies.{reap_reply};
 ghost use Rattle.host_core.specs.Ringing.{head_of, head_rung};
 ghost use Rattle.host_core.specs.Tables.{state_of};
 ghost use Rattle.host_core.specs.Whole.{IsHost, IsWhole};
 
-use crate::compare::find_record;
 use crate::finish::unclaim;
 use crate::host::Host;
 use crate::parts::Parts;
 use crate::queue::Queue;
 use crate::queues::{has_no_completion, host_state, is_retired, note};
-use crate::record::Record;
-use crate::retire::{hold, is_submitted};
 use admin_commands::AdminKind;
 use entry_codec::{ComEntry, Status};
-use io_commands::Request;
-use machine_model::words::{HostState, Reaped, Refusal, RejectedFor, Work};
+use machine_model::words::{HostState, Reaped, Refusal, RejectedFor};
 use page_memory::{Half, Store};
 use queue_pair::HostPair;
 use std::alloc::Allocator;
@@ -39,16 +34,6 @@ pub struct Reap {
     pub found: Reaped,
     /// Where a completion was taken, the value to ring for the completion queue's head doorbell.
     pub head: Option<u16>,
-}
-
-/// The command of queue 0 that a command is.
-fn kind_of<A: Allocator>(work: &Work<Request<A>>) -> Option<AdminKind>
-    ensures { result ≡ spec_kind_of work.now }
-{
-    match work {
-        Work::Io(_) => None,
-        Work::Management(kind) => Some(*kind),
-    }
 }
 
 /// Takes the completion at a queue's head.
@@ -70,14 +55,6 @@ fn hear_answer<A: Allocator>(queue: &mut Queue<HostPair<A>>, sqhd: u16)
     }
 }
 
-/// Notes how the command at a place ended.
-fn hold_at<A: Allocator>(records: &mut Vec<Record<A>, A>, place: usize, status: Status)
-    requires { place < length records.old.items }
-    ensures { (entry : RecordValue) → slice_get records.old.items place ≡ Some entry → records.new.items ≡ slice_set records.old.items place (held status entry) }
-{
-    hold(&mut records[place], status);
-}
-
 /// Whether a status is Successful Completion.
 fn is_success(status: Status) -> bool
     ensures { result ≡ succeeds status }
@@ -97,11 +74,10 @@ fn deleted(status: Status) -> HostState
 }
 
 impl<A: Allocator> Parts<A> {
-    /// The place of the command that a completion is for, or why it is for none.
-    fn find_answered(&self, q: u16, entry: ComEntry) -> Result<usize, RejectedFor>
+    /// The command of queue 0 that a completion is for, if it is one; an error tells why it is for no command at all.
+    fn find_answered(&self, q: u16, entry: ComEntry) -> Result<Option<AdminKind>, RejectedFor>
         requires there { lacks_completion (slice_get self.now.queues.items q) ≡ false }
-        ensures place { IfOk result (λ place. (pages : Pages) → Answered (tables_of self.now pages) q entry place) }
-        ensures within { IfOk result (λ place. place < length self.now.records.items) }
+        ensures answered { IfOk result (λ kind. (pages : Pages) → Answered (tables_of self.now pages) q entry kind) }
         ensures rejected { IfErr result (λ why. Over self.now (λ t. reaped_entry (state_of t) q entry ≡ Reaped.Rejected why)) }
     {
         if entry.sqid != q {
@@ -110,11 +86,11 @@ impl<A: Allocator> Parts<A> {
         if !self.queues[usize::from(q)].host.head_fits(entry.sqhd) {
             return Err(RejectedFor::BadHead);
         }
-        let Some(place) = find_record(&self.records, q, entry.cid) else {
+        let Some(command) = self.records.get(q, entry.cid) else {
             return Err(RejectedFor::UnknownId);
         };
-        if is_submitted(self.records[place].phase) {
-            Ok(place)
+        if command.is_submitted() {
+            Ok(command.kind())
         } else {
             Err(RejectedFor::UnknownId)
         }
@@ -129,36 +105,33 @@ impl<A: Allocator> Parts<A> {
     }
 
     /// Takes the completion of a command at a queue's head.
-    fn hear(&mut self, q: u16, entry: ComEntry, place: usize)
+    fn hear(&mut self, q: u16, entry: ComEntry)
         requires there { q < length self.old.queues.items }
-        requires answered { Answered (tables_of self.old []) q entry place }
+        requires head { FitsHead self.old.queues.items q entry.sqhd }
         ensures { Becomes self.old (heard q entry.sqhd) self.new }
     {
         hear_answer(&mut self.queues[usize::from(q)], entry.sqhd);
     }
 
     /// Takes the completion of a command, and notes how the command ended.
-    fn hold_command(&mut self, q: u16, entry: ComEntry, place: usize)
-        requires host { IsHost (tables_of self.old []) }
+    fn hold_command(&mut self, q: u16, entry: ComEntry)
         requires there { q < length self.old.queues.items }
-        requires within { place < length self.old.records.items }
-        requires answered { (pages : Pages) → Answered (tables_of self.old pages) q entry place }
+        requires head { FitsHead self.old.queues.items q entry.sqhd }
         ensures { Becomes self.old (ended_with q entry.sqhd entry.cid entry.status) self.new }
     {
-        self.hear(q, entry, place);
-        hold_at(&mut self.records, place, entry.status);
+        self.hear(q, entry);
+        self.hold(q, entry.cid, entry.status);
     }
 
     /// Takes the completion of an admin command, and forgets the command.
-    fn end_command(&mut self, q: u16, entry: ComEntry, place: usize)
-        requires host { IsHost (tables_of self.old []) }
+    fn end_command(&mut self, q: u16, entry: ComEntry)
         requires there { q < length self.old.queues.items }
-        requires within { place < length self.old.records.items }
-        requires answered { (pages : Pages) → Answered (tables_of self.old pages) q entry place }
+        requires head { FitsHead self.old.queues.items q entry.sqhd }
+        requires claimed { Claims self.old.queues.items q entry.cid }
         ensures { Becomes self.old (over q entry.sqhd entry.cid) self.new }
     {
-        self.hear(q, entry, place);
-        let _over = self.records.remove(place);
+        self.hear(q, entry);
+        self.forget(q, entry.cid);
         unclaim(&mut self.queues, q, entry.cid);
     }
 
@@ -166,7 +139,7 @@ impl<A: Allocator> Parts<A> {
     fn give_back_completion(&mut self, q: u16)
         ensures { Becomes self.old (without_completion q) self.new }
     {
-        let _pages = self.ledger.give_back_half(q, Half::Completion);
+        self.ledger.give_back_half(q, Half::Completion);
         note(&mut self.queues, q, HostState::Gone);
     }
 
@@ -186,11 +159,10 @@ impl<A: Allocator> Parts<A> {
     }
 
     /// Ends the command that a completion is for.
-    fn end(&mut self, q: u16, entry: ComEntry, place: usize) -> Reaped
+    fn end(&mut self, q: u16, entry: ComEntry, kind: Option<AdminKind>) -> Reaped
         requires host { IsHost (tables_of self.old []) }
         requires there { lacks_completion (slice_get self.old.queues.items q) ≡ false }
-        requires within { place < length self.old.records.items }
-        requires answered { (pages : Pages) → Answered (tables_of self.old pages) q entry place }
+        requires answered { (pages : Pages) → Answered (tables_of self.old pages) q entry kind }
         ensures reaps { (pages : Pages) → IsWhole (tables_of self.old pages) → seen_at (tables_of self.old pages) q ≡ Some entry → ReapsTo (tables_of self.old pages) q result (tables_of self.new pages) }
         ensures taken { (view : HostView) → head_rung view q result ≡ head_of view q }
         ensures many { length self.new.queues.items ≡ length self.old.queues.items }
@@ -201,13 +173,13 @@ impl<A: Allocator> Parts<A> {
             dw0,
             ..
         } = entry;
-        match kind_of(&self.records[place].work) {
+        match kind {
             None => {
-                self.hold_command(q, entry, place);
+                self.hold_command(q, entry);
                 Reaped::Done { cid, status }
             }
             Some(kind) => {
-                self.end_command(q, entry, place);
+                self.end_command(q, entry);
                 self.apply(kind, status);
                 Reaped::AdminDone { cid, status, dw0 }
             }
@@ -223,7 +195,7 @@ impl<A: Allocator> Parts<A> {
         ensures many { length self.new.queues.items ≡ length self.old.queues.items }
     {
         match self.find_answered(q, entry) {
-            Ok(place) => self.end(q, entry, place),
+            Ok(kind) => self.end(q, entry, kind),
             Err(why) => {
                 self.consume(q);
                 Reaped::Rejected(why)

@@ -1,6 +1,6 @@
 //! A request gets an identifier and pages.
 
-ghost use Rattle.std.specs.Prelude.{◌≡◌, ◌+◌, ◌<◌, ◌≤◌, ◌++◌, [], length, take, drop, vec_len, vec_capacity, IfOk, IfErr, OnOk, OnErr};
+ghost use Rattle.std.specs.Prelude.{◌≡◌, ◌+◌, ◌≤◌, [], length, take, drop, vec_len, vec_capacity, IfOk, IfErr};
 ghost use Rattle.io_commands.specs.Requests.{data_count};
 ghost use Rattle.io_commands.specs.Values.{IsGood};
 ghost use Rattle.machine_model.specs.Events as events;
@@ -9,7 +9,7 @@ ghost use Rattle.page_ledger.specs.Owners.{free_pages, with_owner};
 ghost use Rattle.sgl_chain.specs.Chains.{pages_needed as spec_pages_needed};
 ghost use Rattle.host_core.specs.Alone.{HasFirstPages, HostStep, IsLowest, IsOver};
 ghost use Rattle.host_core.specs.Commands.{reserved, Grants, new_draft};
-ghost use Rattle.host_core.specs.Parts.{tables_of, Becomes, Over};
+ghost use Rattle.host_core.specs.Parts.{tables_of, Over};
 ghost use Rattle.host_core.specs.Replies.{reserve_reply};
 ghost use Rattle.host_core.specs.Tables.{state_of};
 ghost use Rattle.host_core.specs.Whole.{IsHost, IsWhole};
@@ -147,21 +147,6 @@ impl<A: Allocator + Copy> Parts<A> {
         Ok(Grant { cid, front, back })
     }
 
-    /// Room for one record more, and for what a command fills.
-    fn reserve_room(&mut self, request: &Request<A>, grant: Grant) -> Result<Room<A>, AllocError>
-        requires { grant.front + grant.back ≤ 65536 }
-        ensures same { Becomes self.old (λ t. t) self.new }
-        ensures space { OnOk result (vec_len self.new.records < vec_capacity self.new.records) }
-        ensures front { IfOk result (λ room. (room.front.items ≡ []) × (vec_len room.front + grant.front ≤ vec_capacity room.front)) }
-        ensures back { IfOk result (λ room. (room.back.items ≡ []) × (vec_len room.back + grant.back ≤ vec_capacity room.back)) }
-        ensures pages { IfOk result (λ room. (room.pages.items ≡ []) × (vec_len room.pages + (grant.front + grant.back) ≤ vec_capacity room.pages)) }
-        ensures request { IfOk result (λ room. room.request ≡ request.now) }
-    {
-        let room = make_room(self.alloc, request, grant.front, grant.back)?;
-        self.records.reserve(1)?;
-        Ok(room)
-    }
-
     /// Gives a command what it gets.
     fn commit_reserve(
         &mut self,
@@ -173,7 +158,6 @@ impl<A: Allocator + Copy> Parts<A> {
     ) -> Draft<A>
         requires whole { IsWhole (tables_of self.old store.old.pages) }
         requires granted { Grants (tables_of self.old store.old.pages) q request grant.cid grant.front grant.back }
-        requires space { vec_len self.old.records < vec_capacity self.old.records }
         requires front { (room.front.items ≡ []) × (vec_len room.front + grant.front ≤ vec_capacity room.front) }
         requires back { (room.back.items ≡ []) × (vec_len room.back + grant.back ≤ vec_capacity room.back) }
         requires pages { (room.pages.items ≡ []) × (vec_len room.pages + (grant.front + grant.back) ≤ vec_capacity room.pages) }
@@ -191,15 +175,14 @@ impl<A: Allocator + Copy> Parts<A> {
         move_out_zeroed(store, &front, &mut pages);
         move_out_zeroed(store, &back, &mut pages);
         claim(&mut self.queues, q, grant.cid);
-        self.records.push_reserved(Record {
-            q,
-            cid: grant.cid,
+        let record = Record {
             phase: Phase::Drafted,
             work: Work::Io(kept),
             data_pages: front,
             chain_pages: back,
             status: None,
-        });
+        };
+        self.add_record(q, grant.cid, record);
         Draft::make(q, grant.cid, request, pages, usize::from(self.segment))
     }
 }
@@ -237,7 +220,7 @@ impl<A: Allocator + Copy> Host<A> {
                 });
             }
         };
-        let room = match self.parts.reserve_room(&request, grant) {
+        let room = match make_room(self.parts.alloc, &request, grant.front, grant.back) {
             Ok(room) => room,
             Err(_) => {
                 return Err(Refused {

@@ -1,60 +1,21 @@
 //! The host gives the submission half of a deleted queue back.
 
-ghost use Rattle.std.specs.Prelude.{◌≡◌, false, map, slice_get};
-ghost use Rattle.machine_model.specs.After.{held, lost};
+ghost use Rattle.std.specs.Prelude.{◌≡◌, [], false, slice_get};
 ghost use Rattle.machine_model.specs.Events as events;
-ghost use Rattle.machine_model.specs.Refusals.{is_submitted as spec_is_submitted};
 ghost use Rattle.host_core.specs.Alone.{HostStep, IsOver};
 ghost use Rattle.host_core.specs.Parts.{tables_of, Becomes};
 ghost use Rattle.host_core.specs.Reaping.{lacks_completion, seen_at};
 ghost use Rattle.host_core.specs.Replies.{ring_reply};
 ghost use Rattle.host_core.specs.Retiring.{retired, with_lost, without_submission};
-ghost use Rattle.host_core.specs.Whole.{IsWhole};
+ghost use Rattle.host_core.specs.Whole.{IsHost, IsWhole};
 
 use crate::host::Host;
 use crate::parts::Parts;
 use crate::queues::{host_state, is_deleted, note};
-use crate::record::Record;
-use entry_codec::{ComEntry, Status};
-use machine_model::words::{HostState, Phase, Refusal};
+use entry_codec::ComEntry;
+use machine_model::words::{HostState, Refusal};
 use page_memory::{Half, Store, TouchRecord};
 use std::alloc::Allocator;
-
-/// Whether a command waits for its completion.
-pub(crate) fn is_submitted(phase: Phase) -> bool
-    ensures { result ≡ spec_is_submitted phase }
-{
-    match phase {
-        Phase::Submitted => true,
-        Phase::Drafted | Phase::Held | Phase::Collected => false,
-    }
-}
-
-/// Notes how a command ended.
-pub(crate) fn hold<A: Allocator>(entry: &mut Record<A>, status: Status)
-    ensures { entry.new ≡ held status entry.old }
-{
-    entry.phase = Phase::Held;
-    entry.status = Some(status);
-}
-
-/// Ends a command of a queue that was never answered.
-fn lose<A: Allocator>(entry: &mut Record<A>, q: u16)
-    ensures { entry.new ≡ lost q entry.old }
-{
-    if entry.q == q && is_submitted(entry.phase) {
-        hold(entry, Status::ABORTED_SQ_DELETION);
-    }
-}
-
-/// Ends the commands of a queue that were never answered.
-fn lose_all<A: Allocator>(records: &mut [Record<A>], q: u16)
-    ensures { records.new ≡ map (lost q) records.old }
-{
-    for entry in records.iter_mut() {
-        lose(entry, q);
-    }
-}
 
 impl<A: Allocator> Parts<A> {
     /// The completion at the head of a queue, where it is new. Nothing changes.
@@ -66,27 +27,31 @@ impl<A: Allocator> Parts<A> {
     {
         store.clear();
         let seen = self.queues[usize::from(q)].host.peek(store);
-        let _pages = store.pages();
+        prove!(store.pages() <= 65_536);
         seen
     }
 
     /// Ends the commands of a queue that were never answered.
     fn lose_commands(&mut self, q: u16)
+        requires { IsHost (tables_of self.old []) }
         ensures { Becomes self.old (with_lost q) self.new }
     {
-        lose_all(&mut self.records, q);
+        for cid in 0..self.entries - 1 {
+            self.lose(q, cid);
+        }
     }
 
     /// Gives a queue's submission half back.
     fn give_back_submission(&mut self, q: u16)
         ensures { Becomes self.old (without_submission q) self.new }
     {
-        let _pages = self.ledger.give_back_half(q, Half::Submission);
+        self.ledger.give_back_half(q, Half::Submission);
         note(&mut self.queues, q, HostState::Retired);
     }
 
     /// Retires a queue whose deletion has ended and whose completions are all reaped.
     fn commit_retire(&mut self, q: u16)
+        requires { IsHost (tables_of self.old []) }
         ensures { Becomes self.old (retired q) self.new }
     {
         self.lose_commands(q);

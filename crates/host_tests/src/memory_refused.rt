@@ -1,5 +1,5 @@
 //! The calls that want memory, each with every one of its growths refused in turn: the answer is want of memory, nothing changed, no byte
-//! leaked, and the same call then succeeds.
+//! leaked, and the same call then succeeds. And those that send an admin command, with every growth refused: they want none.
 
 use crate::calls::{SUCCESS, completion, submit};
 use crate::driver::Driver;
@@ -25,8 +25,6 @@ enum Call {
     Reserve,
     /// A command of queue 1 is collected.
     Collect(u16),
-    /// An admin command is sent.
-    Send(AdminKind),
 }
 
 /// Does a call with one growth refused: why it was refused.
@@ -49,7 +47,6 @@ fn attempt<'a>(
             }
         },
         Call::Collect(cid) => Ok(driver.collect(rt, 1, cid).err()),
-        Call::Send(kind) => Ok(driver.send(rt, kind).err()),
     }
 }
 
@@ -94,20 +91,27 @@ fn an_opening(rt: HostRuntime) {
 }
 
 #[test]
-fn first_commands(rt: HostRuntime) -> Result<(), Fail> {
-    for call in [
-        Call::Reserve,
-        Call::Send(AdminKind::DeleteSq { q: 1 }),
-        Call::Send(AdminKind::DeleteCq { q: 1 }),
-    ] {
-        let heap = Refusing::new(rt.alloc());
-        let mut driver = Driver::open(&heap, SMALL)?;
-        assert!(rt; refused_in_turn(&rt, &heap, &mut driver, call)? > 0);
-    }
+fn a_reservation(rt: HostRuntime) -> Result<(), Fail> {
+    let heap = Refusing::new(rt.alloc());
+    let mut driver = Driver::open(&heap, SMALL)?;
+    assert!(rt; refused_in_turn(&rt, &heap, &mut driver, Call::Reserve)? > 0);
     Ok(())
 }
 
-/// Three Reads wait. Of the three Aborts one needs a longer list of commands.
+/// Sends an admin command where each growth is refused: none is asked for.
+fn send_without_memory<'a>(
+    rt: &impl Abort,
+    heap: &'a Heap,
+    driver: &mut Driver<&'a Heap>,
+    kind: AdminKind,
+) {
+    heap.refuse(refusing::Refusal::NthOn(1));
+    assert!(rt; driver.send(rt, kind).is_ok());
+    assert_eq!(rt; heap.tally().refused, 0);
+    heap.refuse(refusing::Refusal::Never);
+}
+
+/// Three Reads wait, and each is aborted.
 #[test]
 fn aborts(rt: HostRuntime) -> Result<(), Fail> {
     let heap = Refusing::new(rt.alloc());
@@ -115,13 +119,19 @@ fn aborts(rt: HostRuntime) -> Result<(), Fail> {
     for cid in 0..3 {
         submit(&rt, &mut driver, &heap, cid)?;
     }
-    let mut refused = 0u64;
     for cid in 0..3 {
-        let call = Call::Send(AdminKind::Abort { q: 1, cid });
-        let growths = refused_in_turn(&rt, &heap, &mut driver, call)?;
-        refused = refused.wrapping_add(growths);
+        send_without_memory(&rt, &heap, &mut driver, AdminKind::Abort { q: 1, cid });
     }
-    assert!(rt; refused > 0);
+    Ok(())
+}
+
+#[test]
+fn deletions(rt: HostRuntime) -> Result<(), Fail> {
+    for kind in [AdminKind::DeleteSq { q: 1 }, AdminKind::DeleteCq { q: 1 }] {
+        let heap = Refusing::new(rt.alloc());
+        let mut driver = Driver::open(&heap, SMALL)?;
+        send_without_memory(&rt, &heap, &mut driver, kind);
+    }
     Ok(())
 }
 

@@ -5,7 +5,7 @@ ghost use Rattle.std.specs.Prelude.{◌≤◌};
 use crate::random::SplitMix64;
 use io_commands::{Kind, Piece, Pieces, Request};
 use std::alloc::{AllocError, Global};
-use world_tables::Config;
+use step_core::Config;
 
 /// The blocks of each image.
 pub const IMAGE_BLOCKS: u32 = 16;

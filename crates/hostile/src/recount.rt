@@ -11,7 +11,7 @@ use machine_model::words::{HostState, Phase, Reaped};
 use page_ledger::{Owner, Role};
 use page_memory::{Half, PageNo};
 use std::alloc::{AllocError, Global};
-use world_tables::Config;
+use step_core::Config;
 
 /// An outstanding command of an I/O queue.
 #[derive(Clone, Copy)]

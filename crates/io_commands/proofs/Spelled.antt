@@ -39,7 +39,7 @@ segments_few : (s : ℕ) (pages : List ℕ) (parts : List Part) → length (segm
 segments_few s [] parts = omega arith
 segments_few s (page ∷ pages) parts = few_of (nat_le (length parts) s) _ _ _ (length pages) (segments_few s pages (drop (s - 1) parts))
 
-few_pieces : (kind : Kind) (blocks : ℕ) (pieces : List Piece) → fault_of kind blocks pieces ≡ None → length pieces ≤ 1024
+pub few_pieces : (kind : Kind) (blocks : ℕ) (pieces : List Piece) → fault_of kind blocks pieces ≡ None → length pieces ≤ 1024
 few_pieces kind blocks pieces h = grind (arith, nat_tests)
 
 -- the fields of a draft's parts fit their types

@@ -1,5 +1,5 @@
 -- How commands may end.
-use Rattle.std.specs.Prelude.{ℕ, ◌<◌, ◌==◌, ◌&&◌, Bool, Option, IfSome}
+use Rattle.std.specs.Prelude.{◌<◌, ◌==◌, ◌&&◌, Bool, Option, IfSome}
 use Rattle.entry_codec.specs.declared.admin_opcode.TheConstants.{DELETE_IO_SQ}
 use Rattle.entry_codec.specs.declared.status.Status.{Status}
 use Rattle.entry_codec.specs.declared.submission.SubEntry.{SubEntry}

@@ -7,3 +7,4 @@ pub mod Requests
 pub mod Values
 pub mod Asked
 pub mod Ends
+pub mod Least

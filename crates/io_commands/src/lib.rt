@@ -10,6 +10,7 @@ mod finished;
 mod job;
 pub mod laws;
 mod layout;
+mod least;
 mod request;
 mod ticket;
 

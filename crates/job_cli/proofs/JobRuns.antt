@@ -31,8 +31,8 @@ use Rattle.script_cli.specs.declared.fault.ScriptFault.{ScriptFault}
 use Rattle.script_cli.specs.declared.fault.ScriptFault.TheVariants as fault
 use Rattle.job_cli.specs.declared.job_runs.Heading.{Heading}
 use Rattle.job_cli.specs.declared.jobs.JobLine.{JobLine}
-use Rattle.world_tables.specs.Opening.{opening_of}
-use Rattle.world_tables.specs.declared.config.Config.{Config}
+use Rattle.step_core.specs.Opening.{opening_of}
+use Rattle.host_core.specs.declared.config.Config.{Config}
 
 -- One job more
 

@@ -22,8 +22,9 @@ use Rattle.script_cli.specs.declared.fault.RunFault.TheVariants as run
 use Rattle.script_cli.specs.declared.fault.ScriptFault.{ScriptFault}
 use Rattle.script_cli.specs.declared.fault.ScriptFault.TheVariants as fault
 use Rattle.job_cli.specs.declared.jobs.JobLine.{JobLine}
-use Rattle.world_tables.specs.Opening.{refusal_of_config, opening_of}
-use Rattle.world_tables.specs.declared.config.Config.{Config}
+use Rattle.host_core.specs.Opening.{refusal_of_config}
+use Rattle.step_core.specs.Opening.{opening_of}
+use Rattle.host_core.specs.declared.config.Config.{Config}
 
 -- Who does which job
 

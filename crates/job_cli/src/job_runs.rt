@@ -7,7 +7,7 @@ ghost use Rattle.script_cli.specs.Inputs.{Gains, IsFront};
 ghost use Rattle.job_cli.specs.JobRuns.{AreListsOf, closing_text, IsLeftFrom, IsJobsText, HasJobs, IsNoJobs, IsNoRun, WritesJobs, EndsJobsWith};
 ghost use Rattle.script_cli.specs.Runs.{AreOwners};
 ghost use Rattle.script_cli.specs.declared.fault.RunFault.TheVariants as run;
-ghost use Rattle.world_tables.specs.Opening.{opening_of};
+ghost use Rattle.step_core.specs.Opening.{opening_of};
 
 use crate::fault::not_run;
 use crate::job_lines::append_job_line;

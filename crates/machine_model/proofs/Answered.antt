@@ -1,5 +1,5 @@
 -- Each event is answered, whatever was forged.
-use Rattle.std.proofs.Common.{◌≡◌, ◌⊎◌, inl, inr, ℕ, ◌<◌, ◌==◌, nat_lt, Bool, true, false, not, ◌&&◌, ◌||◌, Option, Some, None, List, [], ◌∷◌, length, slice_get, is_some, is_none, get_or, MatchBool, if◌then◌else◌, refl, ap, sym, ◌∙◌, arith, subst, eqb-true}
+use Rattle.std.proofs.Common.{◌≡◌, ◌⊎◌, inl, inr, ℕ, ◌<◌, ◌-◌, ◌==◌, nat_lt, Bool, true, false, not, ◌&&◌, ◌||◌, Option, Some, None, List, [], ◌∷◌, length, slice_get, is_some, is_none, get_or, MatchBool, if◌then◌else◌, refl, ap, sym, ◌∙◌, arith, subst, eqb-true}
 use Rattle.std.specs.List.{list_all}
 use Rattle.std.specs.Option.{option_map_or}
 use Rattle.std.proofs.lemmas.Bool.{true≢false, or_parts, and_parts, not-true}
@@ -11,15 +11,16 @@ use Rattle.entry_codec.specs.declared.status.Status.{Status}
 use Rattle.io_commands.specs.Requests.{fault_of}
 use Rattle.io_commands.specs.Asked.{Request}
 use Rattle.io_commands.specs.declared.request.RequestFault.{RequestFault}
-use Rattle.machine_model.specs.State.{State, Job}
-use Rattle.machine_model.specs.Refusals.{causes, reserve_causes, refusal_of, job_at, job_is, post_page}
+use Rattle.machine_model.specs.State.{State, Job, outstanding_on}
+use Rattle.machine_model.specs.Refusals.{causes, no_identifier, reserve_causes, refusal_of, job_at, job_is, post_page}
 use Rattle.machine_model.specs.Proper.{IsProper}
 use Rattle.machine_model.specs.After.{after, course_of, next_answer, next_unit}
-use Rattle.machine_model.specs.Step.{Step, Refuses, MayRefuse, Answers, AnswersAnything, IsController, LeavesByController, LeavesByHost, allocates, forges, reaped, touched_by_refusal, unit_answered}
+use Rattle.machine_model.specs.Step.{Step, Refuses, MayRefuse, Answers, AnswersAnything, IsController, LeavesByController, LeavesByHost, IsNewIdentifier, allocates, forges, reaped, touched_by_refusal, unit_answered}
 use Rattle.machine_model.specs.Events as events
 use Rattle.machine_model.specs.Events.{Event, Reaped, Refusal}
 use Rattle.machine_model.specs.InOrder.{IsInOrder, IsAnswered, every_event_is_answered}
-use Rattle.machine_model.proofs.Refused.{first_fails, rest_fails}
+use Rattle.machine_model.proofs.Refused.{first_fails, rest_fails, unrefused}
+use Rattle.machine_model.proofs.Fresh.{not_among}
 use Rattle.machine_model.proofs.Placed.{is_job, find_sound}
 use Rattle.machine_model.proofs.Agreeing.{stood_of}
 use Rattle.machine_model.proofs.JobLaws.{stood_has_jobs}
@@ -289,10 +290,44 @@ complete_answered s q cid = on s.trusted refl
     on true t = go t (refusal_of s (events.Complete q cid)) refl
     on false t = inl (events.NoJob, [], (tt, permits_anything (Refuses s (events.Complete q cid) events.NoJob []) (s.trusted || false) (ap (λ (b : Bool). b || false) t) refl, refl))
 
--- Every event
-
 answer_refused : (s : State) (e : Event) → IsRefused s e → IsAnswered s e
 answer_refused s e h = record { reply = events.Refused h.0 h.1; left = s; step = h.2 }
+
+-- Admin commands are sent, where nothing is against them
+
+new_identifier : (s : State) (q : ℕ) → no_identifier s q ≡ false → (id : ℕ) × IsNewIdentifier s q id
+new_identifier s q some =
+    let fresh = not_among (s.entries - 1) (outstanding_on s.host q) (grind (arith, nat_tests)) in
+    (fresh.0, record { in_range = fresh.1; unused = ap not fresh.2 })
+
+-- a command of queue 0 is refused, or sent under an identifier
+abbrev pub IsSent : State → Event → Type 0
+IsSent s e = (id : ℕ) × (left : State) × Step s e (events.Sent id) left
+
+sends : (s : State) (e : Event) → IsProper e → IsController e ≡ false → (refusal_of s e ≡ None → no_identifier s 0 ≡ false) → ((id : ℕ) → IsNewIdentifier s 0 id → Answers s e (events.Sent id)) → IsRefused s e ⊎ IsSent s e
+sends s e proper host some answers = go (refusal_of s e) refl
+  where
+    go : (o : Option Refusal) → refusal_of s e ≡ o → IsRefused s e ⊎ IsSent s e
+    go (Some why) h = inl (refused_for s e proper (host_judged s e host) why h)
+    go None h =
+        let id = new_identifier s 0 (some h) in
+        let left = left_by_host s (after s e (events.Sent id.0)) (not (forges e) && s.trusted) (IsController e) host in
+        inr (id.0, left.0, (proper, permits_judged (AnswersAnything s e (events.Sent id.0)) (s.trusted || not (IsController e)) (host_judged s e host) (h, answers id.0 id.1), left.1))
+
+pub abort_answered : (s : State) (q cid : ℕ) → IsRefused s (events.Abort q cid) ⊎ IsSent s (events.Abort q cid)
+abort_answered s q cid = sends s (events.Abort q cid) tt refl (λ none. (unrefused s (events.Abort q cid) none).1.1.1.0) (λ id is. is)
+
+pub delete_sq_answered : (s : State) (q : ℕ) → IsRefused s (events.DeleteSq q) ⊎ IsSent s (events.DeleteSq q)
+delete_sq_answered s q = sends s (events.DeleteSq q) tt refl (λ none. (unrefused s (events.DeleteSq q) none).1.1.0) (λ id is. is)
+
+pub delete_cq_answered : (s : State) (q : ℕ) → IsRefused s (events.DeleteCq q) ⊎ IsSent s (events.DeleteCq q)
+delete_cq_answered s q = sends s (events.DeleteCq q) tt refl (λ none. (unrefused s (events.DeleteCq q) none).1.1.0) (λ id is. is)
+
+answer_sent : (s : State) (e : Event) → IsRefused s e ⊎ IsSent s e → IsAnswered s e
+answer_sent s e (inl h) = answer_refused s e h
+answer_sent s e (inr h) = record { reply = events.Sent h.0; left = h.1; step = h.2 }
+
+-- Every event
 
 answer_plain : (s : State) (e : Event) → IsRefused s e ⊎ ((left : State) × Step s e events.Accepted left) → IsAnswered s e
 answer_plain s e (inl h) = answer_refused s e h
@@ -322,4 +357,8 @@ answers_every_event s (events.Release f) order proper = answer_plain s (events.R
 answers_every_event s (events.Retire q) order proper = answer_plain s (events.Retire q) (acceptable s (events.Retire q) proper refl)
 answers_every_event s (events.Forge q slot bytes) order proper =
     answer_plain s (events.Forge q slot bytes) (acceptable s (events.Forge q slot bytes) proper refl)
-answers_every_event s e order proper = answer_refused s e (refusable s e proper refl refl)
+answers_every_event s (events.Reserve q r) order proper = answer_refused s (events.Reserve q r) (refusable s (events.Reserve q r) proper refl refl)
+answers_every_event s (events.Collect q cid) order proper = answer_refused s (events.Collect q cid) (refusable s (events.Collect q cid) proper refl refl)
+answers_every_event s (events.Abort q cid) order proper = answer_sent s (events.Abort q cid) (abort_answered s q cid)
+answers_every_event s (events.DeleteSq q) order proper = answer_sent s (events.DeleteSq q) (delete_sq_answered s q)
+answers_every_event s (events.DeleteCq q) order proper = answer_sent s (events.DeleteCq q) (delete_cq_answered s q)

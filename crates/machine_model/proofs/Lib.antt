@@ -18,6 +18,7 @@ pub mod Refused
 pub mod Moves
 pub mod DeviceMoves
 pub mod Frames
+mod Fresh
 pub mod Taken
 pub mod Sound
 pub mod Opening

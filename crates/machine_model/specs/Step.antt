@@ -95,9 +95,6 @@ IsController e = false
 abbrev pub allocates : Event → Bool
 allocates (events.Reserve q r) = true
 allocates (events.Collect q cid) = true
-allocates (events.Abort q cid) = true
-allocates (events.DeleteSq q) = true
-allocates (events.DeleteCq q) = true
 allocates (events.Fetch q) = true
 allocates e = false
 

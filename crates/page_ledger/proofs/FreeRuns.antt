@@ -1,4 +1,4 @@
--- Runs of consecutive free pages, and the walk that finds the lowest.
+-- Runs of consecutive free pages, and the search for the lowest.
 use Rattle.std.proofs.Common.{◌≡◌, ℕ, zero, suc, ◌+◌, ◌-◌, ◌<◌, ◌≤◌, ◌&&◌, ◌⊎◌, ◌↔◌, inl, inr, Bool, true, false, Option, Some, None, List, length, refl, ap, sym, ◌∙◌, arith, subst, add-zero, max}
 use Rattle.std.specs.Option.{option_map_or}
 use Rattle.std.specs.List.{list_all}
@@ -9,6 +9,7 @@ use Rattle.page_ledger.specs.declared.owner.Owner.TheVariants.{Free, Queue, Comm
 use Rattle.page_ledger.specs.Owners.{owner_at, is_free, is_owned_at, pages_from}
 use Rattle.page_ledger.specs.Runs.{is_free_run, lowest_run}
 use Rattle.page_ledger.specs.Laws.{IsFreeRun, IsLowestRun, FindsLowestRun}
+use Rattle.page_ledger.specs.Searches.{IsFirstFrom, IsNoneFrom, IsRunEnd, is_run}
 use Rattle.page_ledger.proofs.Pages.{find-cases}
 
 -- a test of all of k consecutive pages
@@ -132,46 +133,66 @@ finds-lowest_run k owners some = go (find-cases (is_free_run k owners) 0 (length
 pub lowest_run-within : (k p : ℕ) (owners : List Owner) → 0 < k → lowest_run k owners ≡ Some p → p + k ≤ length owners
 lowest_run-within k p owners some e = run-within k p owners some (((finds-lowest_run k owners some).found p).0 e).run
 
--- one page more of the walk
+-- the search from one free page to the next
 
--- behind a page that isn't free no run ends
-pub none-behind : (k p : ℕ) (owners : List Owner) → 0 < k → ((q : ℕ) → q + k ≤ p → is_free_run k owners q ≡ false) → is_owned_at is_free owners p ≡ false
-    → (q : ℕ) → q + k ≤ p + 1 → is_free_run k owners q ≡ false
-none-behind k p owners some none busy q l = go (cases_lt p (q + k))
+-- no run begins before the first page that passes
+pub run-behind : (f : ℕ → Bool) (k from first : ℕ) → 0 < k → ((p : ℕ) → p < from → is_run f k p ≡ false) → ((p : ℕ) → from ≤ p → p < first → f p ≡ false)
+    → (p : ℕ) → p < first → is_run f k p ≡ false
+run-behind f k from first some none gap p below = go (cases_lt p from)
   where
-    go : (p < q + k) ⊎ (q + k ≤ p) → is_free_run k owners q ≡ false
-    go (inr before) = none q before
-    go (inl ends) = run-blocked (is_owned_at is_free owners) q k p (omega arith) ends busy
+    go : (p < from) ⊎ (from ≤ p) → is_run f k p ≡ false
+    go (inl before) = none p before
+    go (inr behind) = run-blocked f p k p (omega arith) (omega arith) (gap p behind below)
 
--- behind fewer than k free pages no run ends
-pub none-short : (k run p : ℕ) (owners : List Owner) → run + 1 < k → ((q : ℕ) → q + k ≤ p → is_free_run k owners q ≡ false)
-    → (run < p → is_owned_at is_free owners (p - run - 1) ≡ false) → (q : ℕ) → q + k ≤ p + 1 → is_free_run k owners q ≡ false
-none-short k run p owners short none before q l = go (cases_lt p (q + k))
+-- where no page passes any more, no run begins
+pub run-none : (f : ℕ → Bool) (k from : ℕ) → 0 < k → ((p : ℕ) → p < from → is_run f k p ≡ false) → IsNoneFrom f from → IsNoneFrom (is_run f k) 0
+run-none f k from some none rest = record { fails = λ p low. run-behind f k from (p + 1) some none (λ q from_q below. rest.fails q from_q) p (omega arith) }
+
+-- too few pages are left
+pub run-stuck : (f : ℕ → Bool) (k first size : ℕ) → ((p : ℕ) → p < first → is_run f k p ≡ false) → IsNoneFrom f size → first ≤ size → size < first + k → IsNoneFrom (is_run f k) 0
+run-stuck f k first size none past inside short = record { fails = λ p low. go p (cases_lt p first) }
   where
-    go : (p < q + k) ⊎ (q + k ≤ p) → is_free_run k owners q ≡ false
-    go (inr earlier) = none q earlier
-    go (inl ends) = run-blocked (is_owned_at is_free owners) q k (p - run - 1) (omega arith) (omega arith) (before (omega arith))
+    go : (p : ℕ) → (p < first) ⊎ (first ≤ p) → is_run f k p ≡ false
+    go p (inl before) = none p before
+    go p (inr behind) = run-blocked f p k (max p size) (omega arith) (omega arith) (past.fails (max p size) (omega arith))
 
-pub free-more : (run p : ℕ) (owners : List Owner) → ((q : ℕ) → p - run ≤ q → q < p → is_owned_at is_free owners q ≡ true) → is_owned_at is_free owners p ≡ true
-    → (q : ℕ) → p + 1 - (run + 1) ≤ q → q < p + 1 → is_owned_at is_free owners q ≡ true
-free-more run p owners free here q low high = go (cases_lt q p)
+-- a run has k pages, or is too short
+pub run-found : (f : ℕ → Bool) (k first end : ℕ) → ((p : ℕ) → p < first → is_run f k p ≡ false) → IsRunEnd f first (first + k) end → end ≡ first + k → IsFirstFrom (is_run f k) 0 first
+run-found f k first end none run whole = record {
+  after = omega arith;
+  passes = pages-list_all f first k (λ i l. run.passes (first + i) (omega arith) (omega arith));
+  before = λ p low below. none p below;
+}
+
+pub run-short : (f : ℕ → Bool) (k first end : ℕ) → ((p : ℕ) → p < first → is_run f k p ≡ false) → IsRunEnd f first (first + k) end → end < first + k
+    → (p : ℕ) → p < end → is_run f k p ≡ false
+run-short f k first end none run short p below = go (cases_lt p first)
   where
-    go : (q < p) ⊎ (p ≤ q) → is_owned_at is_free owners q ≡ true
-    go (inl below) = free q (omega arith) below
-    go (inr from) = subst (λ (i : ℕ). is_owned_at is_free owners i ≡ true) (omega arith) here
+    go : (p < first) ⊎ (first ≤ p) → is_run f k p ≡ false
+    go (inl before) = none p before
+    go (inr behind) = run-blocked f p k end (omega arith) (omega arith) (run.ends short)
 
--- k free pages end at p, and no run of k ends before
-pub found-run : (k run p : ℕ) (owners : List Owner) → run + 1 ≡ k → run ≤ p → ((q : ℕ) → p - run ≤ q → q < p → is_owned_at is_free owners q ≡ true) → is_owned_at is_free owners p ≡ true
-    → ((q : ℕ) → q + k ≤ p → is_free_run k owners q ≡ false) → lowest_run k owners ≡ Some (p + 1 - k)
-found-run k run p owners whole fits free here none =
-    lowest_run-is k (p + 1 - k) owners (omega arith)
-    (pages-list_all (is_owned_at is_free owners) (p + 1 - k) k (λ i l. free-more run p owners free here (p + 1 - k + i) (omega arith) (omega arith)))
-    (λ q l. none q (omega arith))
-
-pub found-none : (k n : ℕ) (owners : List Owner) → 0 < k → n ≡ length owners → ((q : ℕ) → q + k ≤ n → is_free_run k owners q ≡ false) → lowest_run k owners ≡ None
-found-none k n owners some size none = lowest_run-none k owners (λ q l. go q (cases_lt n (q + k)))
+-- a run has its first page
+pub run-some : (f : ℕ → Bool) (k first end : ℕ) → 0 < k → f first ≡ true → IsRunEnd f first (first + k) end → first < end
+run-some f k first end some free run = go (cases_lt first end)
   where
-    go : (q : ℕ) → (n < q + k) ⊎ (q + k ≤ n) → is_free_run k owners q ≡ false
-    go q (inr l) = none q l
-    go q (inl past) =
-        run-blocked (is_owned_at is_free owners) q k (max q n) (omega arith) (omega arith) (ap (λ o. option_map_or is_free o false) (slice_get_past owners (max q n) (omega arith)))
+    go : (first < end) ⊎ (end ≤ first) → first < end
+    go (inl before) = before
+    go (inr behind) =
+        let same : end ≡ first = omega (arith, run.after) in
+        absurd (true≢false (sym free ∙ subst (λ (q : ℕ). f q ≡ false) same (run.ends (omega arith))))
+
+-- what is found is the lowest run of the pool
+
+is_run-agree : (f g : ℕ → Bool) (k p : ℕ) → ((q : ℕ) → f q ≡ g q) → is_run f k p ≡ is_run g k p
+is_run-agree f g zero p same = refl
+is_run-agree f g (suc k) p same = ap (λ c. c && is_run f k (p + 1)) (same p) ∙ ap (λ c. g p && c) (is_run-agree f g k (p + 1) same)
+
+pub lowest_run-found : (f : ℕ → Bool) (k p : ℕ) (owners : List Owner) → 0 < k → ((q : ℕ) → f q ≡ is_owned_at is_free owners q) → IsFirstFrom (is_run f k) 0 p → lowest_run k owners ≡ Some p
+lowest_run-found f k p owners some same first =
+    lowest_run-is k p owners some (sym (is_run-agree f (is_owned_at is_free owners) k p same) ∙ first.passes)
+    (λ q below. sym (is_run-agree f (is_owned_at is_free owners) k q same) ∙ first.before q (omega arith) below)
+
+pub lowest_run-missing : (f : ℕ → Bool) (k : ℕ) (owners : List Owner) → ((q : ℕ) → f q ≡ is_owned_at is_free owners q) → IsNoneFrom (is_run f k) 0 → lowest_run k owners ≡ None
+lowest_run-missing f k owners same none =
+    lowest_run-none k owners (λ q within. sym (is_run-agree f (is_owned_at is_free owners) k q same) ∙ none.fails q (omega arith))

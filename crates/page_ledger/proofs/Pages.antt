@@ -3,7 +3,7 @@ use Rattle.std.proofs.Common.{◌≡◌, ◌≢◌, ℕ, zero, suc, ◌+◌, ◌
 use Rattle.std.specs.List.{Contains}
 use Rattle.std.specs.List.Sorted.{IsStrictlyIncreasing}
 use Rattle.std.proofs.lemmas.Bool.{cases_eq, true≢false}
-use Rattle.std.proofs.lemmas.List.{take_at}
+use Rattle.std.proofs.lemmas.List.{append-nil, take_at}
 use Rattle.std.proofs.lemmas.List.Elements.{filter-append}
 use Rattle.page_ledger.specs.Owners.{pages_from}
 
@@ -131,3 +131,34 @@ find-cases f b (suc n) = go (f b) refl (find-cases f (b + 1) n)
         inl (p, omega arith, omega arith, passes, (λ q l h. elim (cases_eq q b) [ inl e ↦ subst (λ (i : ℕ). f i ≡ false) (sym e) at | inr other ↦ before q (omega arith) h ]), is)
     go false at (inr (all, none)) =
         inr ((λ q l h. elim (cases_eq q b) [ inl e ↦ subst (λ (i : ℕ). f i ≡ false) (sym e) at | inr other ↦ all q (omega arith) (omega arith) ]), none)
+
+-- the walk from one page that passes to the next
+
+filter-stays : (f : ℕ → Bool) (from n : ℕ) → ((q : ℕ) → from ≤ q → q < from + n → f q ≡ false) → filter f (pages_from 0 (from + n)) ≡ filter f (pages_from 0 from)
+filter-stays f from zero none = ap (λ (q : ℕ). filter f (pages_from 0 q)) (add-zero from)
+filter-stays f from (suc n) none =
+    let more : from + suc n ≡ from + n + 1 = omega arith in
+    ap (λ (q : ℕ). filter f (pages_from 0 q)) more
+    ∙ (filter-next f (from + n) ∙ (ap (λ c. filter f (pages_from 0 (from + n)) ++ cond c ((from + n) ∷ []) []) (none (from + n) (omega arith) (omega arith))
+    ∙ (append-nil (filter f (pages_from 0 (from + n))) ∙ filter-stays f from n (λ q low high. none q low (omega arith)))))
+
+pub filter-gap : (f : ℕ → Bool) (from p : ℕ) → from ≤ p → ((q : ℕ) → from ≤ q → q < p → f q ≡ false) → filter f (pages_from 0 p) ≡ filter f (pages_from 0 from)
+filter-gap f from p low none =
+    let whole : from + (p - from) ≡ p = omega arith in
+    subst (λ (q : ℕ). filter f (pages_from 0 q) ≡ filter f (pages_from 0 from)) whole (filter-stays f from (p - from) (λ q a b. none q a (omega arith)))
+
+pub filter-found : (f : ℕ → Bool) (from p : ℕ) → from ≤ p → ((q : ℕ) → from ≤ q → q < p → f q ≡ false) → f p ≡ true
+    → filter f (pages_from 0 (p + 1)) ≡ filter f (pages_from 0 from) ++ p ∷ []
+filter-found f from p low none passes =
+    filter-next f p ∙ (ap (λ c. filter f (pages_from 0 p) ++ cond c (p ∷ []) []) passes ∙ ap (λ l. l ++ p ∷ []) (filter-gap f from p low none))
+
+-- consecutive pages by their places
+
+pub length-pages_from : (p k : ℕ) → length (pages_from p k) ≡ k
+length-pages_from p zero = refl
+length-pages_from p (suc k) = ap suc (length-pages_from (p + 1) k)
+
+pub get_or-pages_from : (p k i d : ℕ) → i < k → get_or (pages_from p k) i d ≡ p + i
+get_or-pages_from p zero i d l = absurd (omega arith)
+get_or-pages_from p (suc k) zero d l = sym (add-zero p)
+get_or-pages_from p (suc k) (suc i) d l = get_or-pages_from (p + 1) k i d (omega arith) ∙ omega arith

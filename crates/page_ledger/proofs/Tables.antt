@@ -1,32 +1,18 @@
 -- Tables of owners: what a write, a grant and a give-back leave at each page.
-use Rattle.std.proofs.Common.{◌≡◌, ◌≢◌, ℕ, zero, suc, ◌+◌, ◌-◌, ◌<◌, ◌≤◌, ◌⊎◌, ◌↔◌, inl, inr, Bool, true, false, cond, ◌||◌, Option, Some, None, List, [], ◌∷◌, ◌++◌, length, filter, take, drop, slice_get, slice_set, refl, ap, sym, ◌∙◌, arith, subst, append_assoc, add-one, length-set, length-append, if◌then◌else◌, All, get_or, ◌&&◌, ◌==◌, not, eqb-true}
+use Rattle.std.proofs.Common.{◌≡◌, ◌≢◌, ℕ, zero, suc, ◌+◌, ◌-◌, ◌<◌, ◌≤◌, ◌⊎◌, ◌↔◌, inl, inr, Bool, true, false, cond, ◌||◌, Option, Some, None, List, [], ◌∷◌, ◌++◌, length, filter, take, drop, slice_get, slice_set, refl, ap, sym, ◌∙◌, arith, subst, append_assoc, add-one, length-set, length-append, if◌then◌else◌, All, get_or, ◌&&◌, ◌==◌, not, eqb-true, map, replicate, unwrap_or}
 use Rattle.std.specs.Option.{option_map_or, option_map}
 use Rattle.std.proofs.lemmas.Bool.{eqb-false, cases_eq, cases_lt, true≢false}
-use Rattle.std.proofs.lemmas.List.{append-nil, drop_at, length-map, take_all}
+use Rattle.std.proofs.lemmas.List.{drop_at, length-map, same_lists, take_all}
 use Rattle.std.proofs.lemmas.List.Elements.{All-take, filter_passes}
 use Rattle.std.proofs.lemmas.List.Sums.{sum_by-cons, count_by_more_yes, count_by_more_no}
-use Rattle.std.proofs.lemmas.Option.{slice_get-map, slice_get-get_or, slice_get_within, slice_get_past}
+use Rattle.std.proofs.lemmas.Option.{slice_get-map, slice_get-get_or, slice_get_within, slice_get_past, unwrap_or-slice_get}
 use Rattle.std.specs.List.{count_by, Contains}
 use Rattle.page_ledger.specs.declared.owner.Owner.{Owner}
 use Rattle.page_ledger.specs.declared.owner.Owner.TheVariants.{Free, Queue, Command}
 use Rattle.page_ledger.specs.Owners.{is_among, owner_at, is_free, is_owned_at, pages_from, pages_owned, free_pages, with_owner, given_back}
-use Rattle.page_ledger.proofs.Pages.{filter-agree, filter-next, filter-within, filter-without_first, filter-contains, pages_from-more}
-
--- the owner of a page, as a walk reads it
-pub owned-here : (test : Owner → Bool) (owners : List Owner) (p : ℕ) (d : Owner) → p < length owners → is_owned_at test owners p ≡ test (get_or owners p d)
-owned-here test owners p d within = ap (λ o. option_map_or test o false) (slice_get-get_or owners p d within)
-
--- one page more of a walk over the table
-pub walk-yes : (test : Owner → Bool) (owners : List Owner) (p : ℕ) (d : Owner) → p < length owners → test (get_or owners p d) ≡ true
-    → filter (is_owned_at test owners) (pages_from 0 (p + 1)) ≡ filter (is_owned_at test owners) (pages_from 0 p) ++ p ∷ []
-walk-yes test owners p d within holds =
-    filter-next (is_owned_at test owners) p ∙ ap (λ c. filter (is_owned_at test owners) (pages_from 0 p) ++ cond c (p ∷ []) []) (owned-here test owners p d within ∙ holds)
-
-pub walk-none : (test : Owner → Bool) (owners : List Owner) (p : ℕ) (d : Owner) → p < length owners → test (get_or owners p d) ≡ false
-    → filter (is_owned_at test owners) (pages_from 0 (p + 1)) ≡ filter (is_owned_at test owners) (pages_from 0 p)
-walk-none test owners p d within fails =
-    filter-next (is_owned_at test owners) p ∙ (ap (λ c. filter (is_owned_at test owners) (pages_from 0 p) ++ cond c (p ∷ []) []) (owned-here test owners p d within ∙ fails)
-    ∙ append-nil (filter (is_owned_at test owners) (pages_from 0 p)))
+use Rattle.page_ledger.specs.Free.{is_true_at, true_places}
+use Rattle.page_ledger.specs.Lists.{ListsAll}
+use Rattle.page_ledger.proofs.Pages.{filter-agree, filter-within, filter-without_first, filter-contains, pages_from-more}
 
 -- the free pages lie in the pool
 pub free-within : (k : ℕ) (owners : List Owner) → All (λ p. p < length owners) (take k (free_pages owners))
@@ -355,3 +341,40 @@ free-others pages owner owners busy =
     go : (p : ℕ) (c : Bool) → option_map_or is_free (if c then Some owner else owner_at owners p) false ≡ (is_owned_at is_free owners p && not c)
     go p true = busy ∙ sym (and_false (is_owned_at is_free owners p))
     go p false = sym (and_true (is_owned_at is_free owners p))
+
+-- the free pages by a Bool for each page
+
+pub flag-free : (owners : List Owner) (p : ℕ) → is_true_at (map is_free owners) p ≡ is_owned_at is_free owners p
+flag-free [] p = refl
+flag-free (owner ∷ owners) zero = refl
+flag-free (owner ∷ owners) (suc p) = flag-free owners p
+
+pub flags-free : (n : ℕ) → map is_free (replicate n Free) ≡ replicate n true
+flags-free zero = refl
+flags-free (suc n) = ap (λ l. true ∷ l) (flags-free n)
+
+pub true_places-free : (owners : List Owner) → true_places (map is_free owners) ≡ free_pages owners
+true_places-free owners =
+    ap (λ (n : ℕ). filter (is_true_at (map is_free owners)) (pages_from 0 n)) (length-map owners is_free)
+    ∙ filter-agree (is_true_at (map is_free owners)) (is_owned_at is_free owners) 0 (length owners) (λ p low high. flag-free owners p)
+
+-- pages that a caller lists
+
+-- to free the listed pages is to give back those of their owners
+pub given_back-listed : (test : Owner → Bool) (owners : List Owner) (pages : List ℕ) → ListsAll test owners pages → with_owner owners pages Free ≡ given_back test owners
+given_back-listed test owners pages listed =
+    same_lists (with_owner owners pages Free) (given_back test owners) (length-with_owner owners pages Free ∙ sym (length-map owners (λ owner. if test owner then Free else owner)))
+    (λ p d l.
+    let within : p < length owners = omega (arith, length-with_owner owners pages Free) in
+    sym (unwrap_or-slice_get (with_owner owners pages Free) p d)
+    ∙ (ap (λ o. unwrap_or o d) (owner-with owners pages Free p within ∙ (ap (λ c. if c then Some Free else owner_at owners p) (listed.lists p within)
+    ∙ (here (owner_at owners p) ∙ sym (slice_get-map (λ owner. if test owner then Free else owner) owners p))))
+    ∙ unwrap_or-slice_get (given_back test owners) p d))
+  where
+    freed : (owner : Owner) (c : Bool) → (if c then Some Free else Some owner) ≡ Some (if c then Free else owner)
+    freed owner true = refl
+    freed owner false = refl
+
+    here : (o : Option Owner) → (if option_map_or test o false then Some Free else o) ≡ option_map (λ owner. if test owner then Free else owner) o
+    here None = refl
+    here (Some owner) = freed owner (test owner)

@@ -1,7 +1,11 @@
+pub mod Bits
 pub mod Counting
+pub mod Free
 pub mod Groups
 pub mod Laws
+pub mod Lists
 pub mod Owners
 pub mod Runs
+pub mod Searches
 pub mod Updates
 pub mod Worked

@@ -1,11 +1,14 @@
 //! The ledger: the owner of each page of a pool.
 
-ghost use Rattle.std.specs.Prelude.{◌≡◌, ◌≢◌, ◌+◌, ◌<◌, ◌≤◌, ◌↔◌, ◌⊎◌, ◌++◌, false, All, length, replicate, slice_set, take, vec_len, vec_capacity, Err, IfOk, OnOk, OnErr, IfErr, IfSome, IfNone};
+ghost use Rattle.std.specs.Prelude.{◌≡◌, ◌≢◌, ◌+◌, ◌<◌, ◌≤◌, ◌↔◌, ◌⊎◌, ◌++◌, ℕ, false, All, length, replicate, slice_set, take, vec_len, vec_capacity, Err, IfOk, OnOk, OnErr, IfErr, IfSome, IfNone};
 ghost use Rattle.page_ledger.specs.Owners.{owner_at, free_pages, pages_from, pages_owned, is_free, is_command, is_half, is_queue, with_owner, given_back};
+ghost use Rattle.page_ledger.specs.Lists.{ListsAll};
+ghost use Rattle.page_ledger.specs.Free.{true_places};
 ghost use Rattle.page_ledger.specs.Groups.{is_member};
 ghost use Rattle.page_ledger.specs.Counting.{counts_of, total};
 ghost use Rattle.page_ledger.specs.Runs.{lowest_run as spec_lowest_run};
 
+use crate::free::FreePages;
 use crate::owner::{Counts, Group, NoPages, Owner};
 use page_memory::{Half, OpenFault, PageNo};
 use std::alloc::{Allocator, Global};
@@ -16,21 +19,23 @@ use std::marker::Model;
 pub struct Ledger<A: Allocator = Global> {
     owners: Vec<Owner, A>,
     counts: Counts,
+    free: FreePages<A>,
 }
 
 impl<A: Allocator> Model for Ledger<A> {
-    ghost use Rattle.std.specs.Prelude.{◌≡◌, ◌≤◌, List, length};
+    ghost use Rattle.std.specs.Prelude.{◌≡◌, ◌≤◌, List, length, map};
     ghost use Rattle.page_ledger.specs.declared.owner.Owner.{Owner};
+    ghost use Rattle.page_ledger.specs.Owners.{is_free};
     ghost use Rattle.page_ledger.specs.Counting.{counts_of};
 
     ghost Value = { List Owner };
 
     ghost view = { λ l. l.owners.items };
 
-    ghost invariant = { λ l. (8 ≤ length l.owners.items) × (length l.owners.items ≤ 65536) × (l.counts ≡ counts_of l.owners.items) };
+    ghost invariant = { λ l. (8 ≤ length l.owners.items) × (length l.owners.items ≤ 65536) × (l.counts ≡ counts_of l.owners.items) × (l.free ≡ map is_free l.owners.items) };
 }
 
-impl<A: Allocator> Ledger<A> {
+impl<A: Allocator + Clone> Ledger<A> {
     /// Opens a pool of so many pages, all of them free.
     ///
     /// # Errors
@@ -43,7 +48,7 @@ impl<A: Allocator> Ledger<A> {
         if !(8..=65_536).contains(&pages) {
             return Err(OpenFault::BadSize);
         }
-        let mut owners = Vec::with_capacity(alloc, pages as usize)?;
+        let mut owners = Vec::with_capacity(alloc.clone()?, pages as usize)?;
         for _ in 0..pages {
             owners.push_reserved(Owner::Free);
         }
@@ -55,9 +60,12 @@ impl<A: Allocator> Ledger<A> {
                 chain_pages: 0,
                 data_pages: 0,
             },
+            free: FreePages::open(alloc, pages)?,
         })
     }
+}
 
+impl<A: Allocator> Ledger<A> {
     /// Gives the `k` lowest free pages to an owner, and appends them in rising order to a list that has room for them.
     ///
     /// # Errors
@@ -79,7 +87,7 @@ impl<A: Allocator> Ledger<A> {
             return Err(NoPages { need: k, free });
         }
         let start = into.len();
-        push_lowest_free(&self.owners, k, into);
+        push_lowest_free(&self.free, k, into);
         self.give(&into[start..], owner);
         Ok(())
     }
@@ -93,7 +101,7 @@ impl<A: Allocator> Ledger<A> {
         ensures owners { IfSome result (λ p. self.new ≡ with_owner self.old (pages_from p k) owner) }
         ensures unchanged { IfNone result (self.new ≡ self.old) }
     {
-        let first = lowest_run(&self.owners, k)?;
+        let first = self.free.lowest_run(k)?;
         self.give_run(first, k, owner);
         Some(PageNo(first))
     }
@@ -120,6 +128,24 @@ impl<A: Allocator> Ledger<A> {
         ensures number { result ≡ length (pages_owned (is_queue q) self.old) }
     {
         self.free_group(Group::Queue { q })
+    }
+
+    /// Frees the pages of a command, of its data and of its chain, all of which are listed. It takes as long as the list.
+    pub fn give_back_pages(&mut self, q: u16, cid: u16, pages: &[PageNo])
+        requires { ListsAll (is_command q cid) self.old pages.now }
+        ensures { self.new ≡ given_back (is_command q cid) self.old }
+    {
+        self.give(pages, Owner::Free);
+    }
+
+    /// Frees the pages of one half of a queue, which are `k` consecutive ones. It takes as long as there are pages of it.
+    pub fn give_back_run(&mut self, q: u16, half: Half, first: PageNo, k: u32)
+        requires { ListsAll (is_half q half) self.old (pages_from first k) }
+        ensures { self.new ≡ given_back (is_half q half) self.old }
+    {
+        // a pool has at most 65,536 pages
+        let _ = &self.owners;
+        self.give_run(first.0, k, Owner::Free);
     }
 
     /// The owner of a page of the pool.
@@ -158,6 +184,7 @@ impl<A: Allocator> Ledger<A> {
         let before = self.owners[at];
         self.counts = self.counts.one_less(before).one_more(owner);
         self.owners[at] = owner;
+        self.free.mark(p.0, owner.is_free());
     }
 
     /// Gives pages of the pool to an owner.
@@ -172,7 +199,7 @@ impl<A: Allocator> Ledger<A> {
 
     /// Gives `k` consecutive pages of the pool to an owner.
     fn give_run(&mut self, first: u32, k: u32, owner: Owner)
-        requires inside { first + k ≤ length self.old }
+        requires inside { (i : ℕ) → i < k → first + i < length self.old }
         requires pool { length self.old ≤ 65536 }
         ensures { self.new ≡ with_owner self.old (pages_from first k) owner }
     {
@@ -199,41 +226,18 @@ impl<A: Allocator> Ledger<A> {
 }
 
 /// Appends the `k` lowest free pages to a list that has room for them.
-fn push_lowest_free<A: Allocator>(owners: &[Owner], k: u32, into: &mut Vec<PageNo, A>)
-    requires pool { length owners.now ≤ 65536 }
-    requires free { k ≤ length (free_pages owners.now) }
+fn push_lowest_free<A: Allocator>(free: &FreePages<A>, k: u32, into: &mut Vec<PageNo, A>)
+    requires enough { k ≤ length (true_places free.now) }
     requires room { vec_len into.old + k ≤ vec_capacity into.old }
-    ensures pages { into.new.items ≡ into.old.items ++ take k (free_pages owners.now) }
+    ensures pages { into.new.items ≡ into.old.items ++ take k (true_places free.now) }
     ensures capacity { vec_capacity into.new ≡ vec_capacity into.old }
 {
-    let mut left = k;
-    for (p, owner) in owners.iter().enumerate() {
-        if left == 0 {
+    let mut from = 0;
+    for _ in 0..k {
+        let Some(p) = free.lowest_from(from) else {
             return;
-        }
-        if owner.is_free() {
-            into.push_reserved(PageNo(p as u32));
-            left -= 1;
-        }
+        };
+        into.push_reserved(PageNo(p));
+        from = p + 1;
     }
-}
-
-/// The first page of the lowest run of `k` consecutive free pages.
-fn lowest_run(owners: &[Owner], k: u32) -> Option<u32>
-    requires some { 0 < k }
-    requires pool { length owners.now ≤ 65536 }
-    ensures { result ≡ spec_lowest_run k owners.now }
-{
-    let mut run = 0;
-    for (p, owner) in owners.iter().enumerate() {
-        if !owner.is_free() {
-            run = 0;
-            continue;
-        }
-        run += 1;
-        if run == k {
-            return Some(p as u32 + 1 - k);
-        }
-    }
-    None
 }

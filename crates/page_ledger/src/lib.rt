@@ -6,10 +6,12 @@
 //! (own). Only [`Ledger::open`] takes memory.
 //!
 //! `specs/Owners.antt` says which pages are free and what a grant and a give-back leave, `specs/Counting.antt` what is
-//! counted, and `specs/Runs.antt` what the lowest run is. The laws in [`laws`] tie these to one another, and [`worked`]
-//! runs them on small pools.
+//! counted, `specs/Runs.antt` what the lowest run is, and `specs/Lists.antt` what a caller owes who names the pages that it gives
+//! back. The laws in [`laws`] tie these to one another, and [`worked`] runs them on small pools.
 #![tactic(auto)]
 
+mod bits;
+mod free;
 pub mod laws;
 mod ledger;
 mod owner;

@@ -1,9 +1,9 @@
-//! Chains that are built and flattened.
+//! Chains that are built and flattened, and parts that are joined.
 
 use crate::heap::{MANY, is_empty_after_refusal};
 use page_memory::PageNo;
 use refusing::{Refusal, Refusing};
-use sgl_chain::{BuildFault, Chain};
+use sgl_chain::{BuildFault, Chain, join_parts};
 use sgl_descriptor::Part;
 
 /// Five parts, on four pages with segments of two descriptors.
@@ -50,5 +50,24 @@ fn a_flattened_chain_takes_a_list(rt: HostRuntime) -> Result<(), BuildFault> {
         refused = growth;
     }
     assert!(rt; refused > 0);
+    Ok(())
+}
+
+#[test]
+fn joined_parts_take_one_list(rt: HostRuntime) -> Result<(), BuildFault> {
+    let heap = Refusing::new(rt.alloc());
+    let mut refused = 0;
+    for growth in 1..MANY {
+        heap.refuse(Refusal::Nth(growth));
+        let parts = join_parts(&heap, &PARTS);
+        if heap.tally().refused == 0 {
+            assert_eq!(rt; parts?.as_slice(), PARTS.as_slice());
+            break;
+        }
+        assert!(rt; parts.is_err(), "growth {growth}");
+        is_empty_after_refusal(&rt, &heap);
+        refused = growth;
+    }
+    assert_eq!(rt; refused, 1);
     Ok(())
 }

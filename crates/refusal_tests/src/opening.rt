@@ -50,14 +50,20 @@ fn an_image_takes_one_block(rt: HostRuntime) {
 }
 
 #[test]
-fn a_ledger_takes_one_block(rt: HostRuntime) {
+fn a_ledger_takes_three_blocks(rt: HostRuntime) {
     let heap = Refusing::new(rt.alloc());
-    heap.refuse(Refusal::Nth(1));
-    assert_eq!(rt; Ledger::open(&heap, 64).err(), Some(OpenFault::Memory));
-    is_empty_after_refusal(&rt, &heap);
-    heap.refuse(Refusal::Nth(2));
+    for growth in 1..=3 {
+        heap.refuse(Refusal::Nth(growth));
+        assert_eq!(rt;
+            Ledger::open(&heap, 64).err(),
+            Some(OpenFault::Memory),
+            "growth {growth}"
+        );
+        is_empty_after_refusal(&rt, &heap);
+    }
+    heap.refuse(Refusal::Nth(4));
     assert!(rt; Ledger::open(&heap, 64).is_ok());
-    assert_eq!(rt; (heap.tally().calls, heap.tally().blocks), (1, 0));
+    assert_eq!(rt; (heap.tally().calls, heap.tally().blocks), (3, 0));
 }
 
 #[test]

@@ -17,8 +17,9 @@ use Rattle.script_cli.specs.declared.script.Numbered.{Numbered}
 use Rattle.step_core.proofs.GoingOn.{goes_on}
 use Rattle.step_core.proofs.InTableOrder.{bench_opens, bench_keeps}
 use Rattle.step_core.specs.Going.{IsTableInOrder}
-use Rattle.world_tables.specs.Opening.{refusal_of_config, opening_of}
-use Rattle.world_tables.specs.declared.config.Config.{Config}
+use Rattle.host_core.specs.Opening.{refusal_of_config}
+use Rattle.step_core.specs.Opening.{opening_of}
+use Rattle.host_core.specs.declared.config.Config.{Config}
 
 -- each line prints something
 pub line_goes_on : (t : Table) (n : ℕ) (what : Line) → IsTableInOrder t → IsFitLine what → (said : List ℕ) × (new : Table) × PrintsLine t n what said new

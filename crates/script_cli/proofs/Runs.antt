@@ -18,8 +18,9 @@ use Rattle.script_cli.specs.declared.fault.RunFault.TheVariants as run
 use Rattle.script_cli.specs.declared.fault.ScriptFault.{ScriptFault}
 use Rattle.script_cli.specs.declared.fault.ScriptFault.TheVariants as fault
 use Rattle.script_cli.specs.declared.script.Numbered.{Numbered}
-use Rattle.world_tables.specs.Opening.{refusal_of_config, opening_of}
-use Rattle.world_tables.specs.declared.config.Config.{Config}
+use Rattle.host_core.specs.Opening.{refusal_of_config}
+use Rattle.step_core.specs.Opening.{opening_of}
+use Rattle.host_core.specs.declared.config.Config.{Config}
 
 -- The script of the first bytes is that of all
 

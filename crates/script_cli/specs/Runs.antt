@@ -24,8 +24,9 @@ use Rattle.script_cli.specs.declared.script.Numbered.{Numbered}
 use Rattle.step_core.specs.Bench.{Does}
 use Rattle.step_core.specs.Going.{IsFitStep}
 use Rattle.step_core.specs.declared.step.Reply.{Reply}
-use Rattle.world_tables.specs.Opening.{refusal_of_config, opening_of}
-use Rattle.world_tables.specs.declared.config.Config.{Config}
+use Rattle.host_core.specs.Opening.{refusal_of_config}
+use Rattle.step_core.specs.Opening.{opening_of}
+use Rattle.host_core.specs.declared.config.Config.{Config}
 
 -- Lines whose numbers fit, as those of each script without faults do
 

@@ -8,7 +8,8 @@ ghost use Rattle.script_cli.specs.Inputs.{Gains};
 ghost use Rattle.script_cli.specs.Owners.{counts_line};
 ghost use Rattle.script_cli.specs.Runs.{AreOwners, PrintsLine, IsRunText, IsFrontOfFirst, HasScript, IsNoScript, IsNoOpening, Writes, EndsWith};
 ghost use Rattle.script_cli.specs.declared.fault.RunFault.TheVariants as run;
-ghost use Rattle.world_tables.specs.Opening.{refusal_of_config, opening_of};
+ghost use Rattle.host_core.specs.Opening.{refusal_of_config};
+ghost use Rattle.step_core.specs.Opening.{opening_of};
 
 use crate::fault::{RunFault, not_opened, script_at_fault};
 use crate::input::{ReadFault, read_first};

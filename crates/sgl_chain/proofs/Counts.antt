@@ -1,8 +1,9 @@
 -- How many segments parts need.
-use Rattle.std.proofs.Common.{arith, ◌≡◌, ◌≤◌, ◌<◌, ◌+◌, ◌-◌, ◌/◌, ℕ, zero, suc, ap, sym, ◌∙◌, inl, inr}
+use Rattle.std.proofs.Common.{arith, ◌≡◌, ◌≤◌, ◌<◌, ◌+◌, ◌-◌, ◌*◌, ◌/◌, ℕ, zero, suc, ap, sym, ◌∙◌, inl, inr}
 use Rattle.std.proofs.lemmas.Bool.Decides.{nat_tests}
 use Rattle.std.proofs.lemmas.Bool.{cases_lt}
-use Rattle.std.proofs.Math.Nat.{add-div_right, div-eq_of_lt}
+use Rattle.std.proofs.lemmas.Nat.{le-div}
+use Rattle.std.proofs.Math.Nat.{add-div_right, div-eq_of_lt, div-mul-le_self}
 use Rattle.sgl_chain.specs.Chains.{segments_within, pages_needed}
 
 -- the bound on the recursion doesn't matter
@@ -63,3 +64,14 @@ within_divided (suc b) k s low two p = elim (cases_lt s k) [
 
 pub needed_divided : (k s : ℕ) → 2 ≤ s → 2 ≤ k → pages_needed k s ≡ (k - 2) / (s - 1) + 1
 needed_divided k s low two = needed_many k s two ∙ within_divided k k s low two (omega arith)
+
+-- more parts need no fewer pages
+pub needed_more : (j k s : ℕ) → 2 ≤ s → j ≤ k → pages_needed j s ≤ pages_needed k s
+needed_more j k s low more = elim (cases_lt 1 j) [
+  | inl two ↦
+      let few : (j - 2) / (s - 1) ≤ (k - 2) / (s - 1) = le-div ((j - 2) / (s - 1)) (k - 2) (s - 1) (omega arith) (let part : (j - 2) / (s - 1) * (s - 1) ≤ j - 2 = div-mul-le_self (j - 2) (s - 1) in omega arith) in
+      let those : pages_needed j s ≡ (j - 2) / (s - 1) + 1 = needed_divided j s low (omega arith) in
+      let these : pages_needed k s ≡ (k - 2) / (s - 1) + 1 = needed_divided k s low (omega arith) in
+      omega arith
+  | inr one ↦ let none : pages_needed j s ≡ 0 = needed_one j s one in omega arith
+]

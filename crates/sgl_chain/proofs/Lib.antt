@@ -2,6 +2,8 @@ pub mod Back
 pub mod Built
 pub mod Counts
 pub mod Cuts
+pub mod JoinedLists
+pub mod Joins
 pub mod Larger
 pub mod Laying
 pub mod Numbered

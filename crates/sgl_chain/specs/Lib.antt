@@ -1,4 +1,5 @@
 pub mod Chains
+pub mod Joining
 pub mod Laws
 pub mod Spells
 pub mod WorkedList

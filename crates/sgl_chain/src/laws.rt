@@ -1,8 +1,12 @@
 //! Laws of the definitions that the contracts cite. Each function does nothing, and its clause is the law.
 
-ghost use Rattle.std.specs.Prelude.{ℕ};
+ghost use Rattle.std.specs.Prelude.{◌≡◌, ◌≤◌, ℕ, List, length};
+ghost use Rattle.sgl_descriptor.specs.declared.Direction.{Direction};
+ghost use Rattle.sgl_descriptor.specs.declared.Part.{Part};
+ghost use Rattle.sgl_descriptor.specs.Targets.{targets, counted_in};
 ghost use Rattle.page_memory.specs.Memory.{Memory};
 ghost use Rattle.page_memory.specs.Pages.{Pages, AreWhole};
+ghost use Rattle.sgl_chain.specs.Joining.{joined, NoneJoin};
 ghost use Rattle.sgl_chain.specs.Laws.{LaidChainsSpell, OneList, SpelledInMore, PartsComeBack, PagesHoldSegments, LaidByNumber};
 
 /// The segments of parts, laid in their pages, spell exactly these parts from the first descriptor.
@@ -33,4 +37,18 @@ pub fn pages_hold_segments()
 /// That segments are laid can be said of each by its number.
 pub fn laid_by_number()
     ensures { (m : Memory) → LaidByNumber m }
+{}
+
+/// Joined parts have the targets of the list that they are made of, in both directions, and so as many bytes. They are
+/// no more than its parts.
+pub fn joined_parts_say_the_same()
+    ensures targets { (dir : Direction) (parts : List Part) → targets dir (joined parts) ≡ targets dir parts }
+    ensures counted { (dir : Direction) (parts : List Part) → counted_in dir (joined parts) ≡ counted_in dir parts }
+    ensures few { (parts : List Part) → length (joined parts) ≤ length parts }
+{}
+
+/// No two neighbours among joined parts join, so that joining them again changes nothing.
+pub fn joined_parts_stand_apart()
+    ensures apart { (parts : List Part) → NoneJoin (joined parts) }
+    ensures twice { (parts : List Part) → joined (joined parts) ≡ joined parts }
 {}

@@ -7,16 +7,20 @@
 //! Last Segment descriptor names. Of more parts, one less than the segment size stand in the first segment, with the
 //! link to the segments of the rest in its last place, and a Segment descriptor names that segment.
 //!
+//! [`join_parts`] makes one part of neighbours that join, before a chain is built of them: `specs/Joining.antt`.
+//!
 //! `specs/Chains.antt` says which descriptors each segment has, and `specs/Spells.antt` what a list of segments says
 //! over a memory. [`Chain::build`] ensures that a chain, wherever its segments are laid, spells exactly the parts that
 //! it was built of. The laws in [`laws`] say the same of the definitions, and [`worked`] runs them on known parts.
 #![tactic(auto)]
 
 mod chain;
+mod joining;
 pub mod laws;
 mod segment;
 pub mod worked;
 
 pub use chain::{BuildFault, Chain, MAX_PARTS, pages_needed};
+pub use joining::join_parts;
 pub use segment::{Descs, Segment};
 pub use sgl_descriptor::Part;

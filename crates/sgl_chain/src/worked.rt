@@ -6,6 +6,7 @@ ghost use Rattle.sgl_descriptor.specs.declared.Part.TheVariants.{Data, Bucket};
 ghost use Rattle.sgl_descriptor.specs.declared.Descriptor.TheVariants.{Segment, LastSegment};
 ghost use Rattle.sgl_descriptor.specs.Spelling.{spelling};
 ghost use Rattle.sgl_chain.specs.Chains.{pages_needed, first_of, segments_on, segment_bytes};
+ghost use Rattle.sgl_chain.specs.Joining.{joined};
 ghost use Rattle.sgl_chain.specs.Spells.{Spells};
 ghost use Rattle.sgl_chain.specs.WorkedList.{linked_pages};
 ghost use Rattle.page_memory.specs.Pages.{byte_at};
@@ -56,4 +57,16 @@ pub fn worked_single_part()
 pub fn worked_list()
     ensures spelled { Spells (byte_at linked_pages) (Segment 4096 32) (Data 0x4000 512 ∷ Bucket 512 ∷ []) }
     ensures not_last { (parts : List Part) → ¬ Spells (byte_at linked_pages) (LastSegment 4096 32) parts }
+{}
+
+/// Parts that join, and parts that do not: behind a gap, beside a Bucket, past what 32 bits count, and at the end of all
+/// places.
+pub fn worked_joins()
+    ensures four { joined (Data 0x4000 4096 ∷ Data 0x5000 4096 ∷ Data 0x6000 4096 ∷ Data 0x7000 4096 ∷ []) ≡ Data 0x4000 16384 ∷ [] }
+    ensures gap { joined (Data 0x4000 512 ∷ Data 0x5000 512 ∷ []) ≡ Data 0x4000 512 ∷ Data 0x5000 512 ∷ [] }
+    ensures bucket { joined (Data 0x4000 4096 ∷ Bucket 512 ∷ Data 0x5000 4096 ∷ []) ≡ Data 0x4000 4096 ∷ Bucket 512 ∷ Data 0x5000 4096 ∷ [] }
+    ensures buckets { joined (Bucket 512 ∷ Bucket 512 ∷ []) ≡ Bucket 512 ∷ Bucket 512 ∷ [] }
+    ensures most { joined (Data 0 0xffff_f000 ∷ Data 0xffff_f000 4095 ∷ []) ≡ Data 0 0xffff_ffff ∷ [] }
+    ensures too_long { joined (Data 0 0xffff_f000 ∷ Data 0xffff_f000 4096 ∷ Data 0x1_0000_0000 512 ∷ []) ≡ Data 0 0xffff_f000 ∷ Data 0xffff_f000 4608 ∷ [] }
+    ensures last_place { joined (Data 0xffff_ffff_ffff_f000 4096 ∷ Data 0 4096 ∷ []) ≡ Data 0xffff_ffff_ffff_f000 4096 ∷ Data 0 4096 ∷ [] }
 {}

@@ -1,5 +1,5 @@
 -- The rows of a list of places.
-use Rattle.std.proofs.Common.{◌≡◌, ◌≢◌, ℕ, zero, suc, ◌+◌, ◌*◌, ◌/◌, ◌%◌, ◌<◌, true, false, List, [], ◌∷◌, ◌++◌, length, get_or, set, Option, Some, None, IsSome, refl, sym, ap, subst, ◌∙◌, inl, inr, arith, true≢false}
+use Rattle.std.proofs.Common.{◌≡◌, ◌≢◌, ℕ, zero, suc, ◌+◌, ◌*◌, ◌/◌, ◌%◌, ◌<◌, true, false, List, [], ◌∷◌, ◌++◌, length, get_or, set, Option, Some, None, IsSome, IfSome, refl, sym, ap, subst, ◌∙◌, inl, inr, arith, true≢false}
 use Rattle.std.proofs.lemmas.Bool.{eq-eqb, ne_eqb}
 use Rattle.std.proofs.lemmas.Bool.Decides.{eqb_tells}
 use Rattle.std.proofs.lemmas.List.{get_or-set_other}
@@ -109,3 +109,8 @@ module _ {R : Type 0} where
   length-rows_of places records [] h = refl
   length-rows_of places records (x ∷ xs) h =
       row_before-length places x (get_or records x None) (rows_of places records xs) h.0 ∙ ap suc (length-rows_of places records xs h.1)
+
+-- what holds whatever a value is
+pub holds : {A : Type 0} (P : Type 0) (o : Option A) → P → IfSome o (λ _. P)
+holds P None h = tt
+holds P (Some x) h = h

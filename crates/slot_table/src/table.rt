@@ -1,6 +1,6 @@
 //! The table.
 
-ghost use Rattle.std.specs.Prelude.{◌≡◌, ℕ, ◌+◌, ◌-◌, ◌*◌, ◌<◌, ◌≤◌, ◌==◌, [], ◌∷◌, ◌++◌, length, None, Some, IsSome, IfNone, IfOk, IfErr, MatchOption};
+ghost use Rattle.std.specs.Prelude.{◌≡◌, ℕ, ◌+◌, ◌-◌, ◌*◌, ◌<◌, ◌≤◌, ◌==◌, [], ◌∷◌, ◌++◌, length, None, Some, IsSome, IfNone, IfSome, IfOk, IfErr, MatchOption};
 ghost use Rattle.std.specs.Option.{option_copied, option_copied_mut};
 ghost use Rattle.std.specs.Borrow.{sem};
 ghost use Rattle.slot_table.specs.Table.{AreInside, IsDistinct, IsPlace, first_place, place_behind, value_at, with_row, without, NoneAt};
@@ -111,7 +111,10 @@ impl<R, A: Allocator> SlotTable<R, A> {
 
     /// The record in a place.
     pub fn get(&self, q: u16, cid: u16) -> Option<&R>
-        ensures { option_copied result ≡ value_at self.now.rows q cid }
+        ensures value { option_copied result ≡ value_at self.now.rows q cid }
+
+        // It's the only one there.
+        ensures distinct { IfSome result (λ _. IsDistinct self.now.rows) }
     {
         let place = self.index(q, cid)?;
         self.records[place].as_ref()
@@ -121,6 +124,9 @@ impl<R, A: Allocator> SlotTable<R, A> {
     pub fn get_mut(&mut self, q: u16, cid: u16) -> Option<&mut R>
         ensures* writes_back { sem 𝓛 (lends_get R.row A.row A.Allocator self.entry q cid result) }
         ensures value { option_copied_mut result ≡ value_at self.old.rows q cid }
+
+        // It's the only one there.
+        ensures distinct { IfSome result (λ _. IsDistinct self.old.rows) }
     {
         if self.get(q, cid).is_some() {
             Some(self.record_mut(q, cid))
@@ -214,6 +220,9 @@ impl<R, A: Allocator> SlotTable<R, A> {
         ensures value { result ≡ value_at self.old.rows q cid }
         ensures rest { self.new ≡ record self.old { rows = without self.old.rows q cid } }
         ensures none { IfNone result (self.new ≡ self.old) }
+
+        // It was the only one there.
+        ensures distinct { IfSome result (λ _. IsDistinct self.old.rows) }
     {
         let place = self.index(q, cid)?;
         let value = self.records[place].take()?;

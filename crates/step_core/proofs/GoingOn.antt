@@ -16,8 +16,8 @@ use Rattle.machine_model.specs.Step as machine
 use Rattle.machine_model.specs.Step.{allocates, IsController}
 use Rattle.machine_model.specs.declared.words.Refusal.{Refusal}
 use Rattle.machine_model.specs.declared.words.Refusal.TheVariants as refusal
-use Rattle.world_tables.proofs.Lists.{found_at, all-at}
-use Rattle.machine_model.proofs.Answered.{IsRefused, refusable, fetch_refusable, acceptable, reap_answered, walk_answered, complete_answered}
+use Rattle.host_core.proofs.Lists.{found_at, all-at}
+use Rattle.machine_model.proofs.Answered.{IsRefused, IsSent, refusable, fetch_refusable, acceptable, reap_answered, walk_answered, complete_answered, abort_answered, delete_sq_answered, delete_cq_answered}
 use Rattle.step_core.specs.Bench.{without_first, Does}
 use Rattle.step_core.specs.Going.{IsTableInOrder, GoesOn, benches_go_on}
 use Rattle.step_core.specs.declared.step.Reply.{Reply}
@@ -42,6 +42,18 @@ leaves t what answer left does = record { answer = answer; left = record t { wor
 rings : (t : Table) (q : ℕ) → MayBeAccepted t.world (events.Ring q) → GoesOn t (step.Ring q)
 rings t q (inl h) = refused t (step.Ring q) h.0 h.1 (h.2, refl)
 rings t q (inr h) = leaves t (step.Ring q) reply.Accepted h.0 (h.1, refl)
+
+aborts : (t : Table) (q cid : ℕ) → IsRefused t.world (events.Abort q cid) ⊎ IsSent t.world (events.Abort q cid) → GoesOn t (step.Abort q cid)
+aborts t q cid (inl h) = refused t (step.Abort q cid) h.0 h.1 (h.2, refl)
+aborts t q cid (inr h) = leaves t (step.Abort q cid) (reply.Sent h.0) h.1 (h.2, refl)
+
+deletes_sq : (t : Table) (q : ℕ) → IsRefused t.world (events.DeleteSq q) ⊎ IsSent t.world (events.DeleteSq q) → GoesOn t (step.DeleteSq q)
+deletes_sq t q (inl h) = refused t (step.DeleteSq q) h.0 h.1 (h.2, refl)
+deletes_sq t q (inr h) = leaves t (step.DeleteSq q) (reply.Sent h.0) h.1 (h.2, refl)
+
+deletes_cq : (t : Table) (q : ℕ) → IsRefused t.world (events.DeleteCq q) ⊎ IsSent t.world (events.DeleteCq q) → GoesOn t (step.DeleteCq q)
+deletes_cq t q (inl h) = refused t (step.DeleteCq q) h.0 h.1 (h.2, refl)
+deletes_cq t q (inr h) = leaves t (step.DeleteCq q) (reply.Sent h.0) h.1 (h.2, refl)
 
 retires : (t : Table) (q : ℕ) → MayBeAccepted t.world (events.Retire q) → GoesOn t (step.Retire q)
 retires t q (inl h) = refused t (step.Retire q) h.0 h.1 (h.2, refl)
@@ -171,14 +183,8 @@ goes_on t (step.Reap q) h fit = reaps t q (reap_answered t.world q)
 goes_on t (step.Collect q cid) h fit = collects t q cid
 goes_on t (step.Gather q cid) h fit = gathers t q cid
 goes_on t (step.Release q cid) h fit = releases t q cid h
-goes_on t (step.Abort q cid) h fit =
-    let may : IsRefused t.world (events.Abort q cid) = refusable t.world (events.Abort q cid) tt refl refl in
-    refused t (step.Abort q cid) may.0 may.1 (may.2, refl)
-goes_on t (step.DeleteSq q) h fit =
-    let may : IsRefused t.world (events.DeleteSq q) = refusable t.world (events.DeleteSq q) tt refl refl in
-    refused t (step.DeleteSq q) may.0 may.1 (may.2, refl)
-goes_on t (step.DeleteCq q) h fit =
-    let may : IsRefused t.world (events.DeleteCq q) = refusable t.world (events.DeleteCq q) tt refl refl in
-    refused t (step.DeleteCq q) may.0 may.1 (may.2, refl)
+goes_on t (step.Abort q cid) h fit = aborts t q cid (abort_answered t.world q cid)
+goes_on t (step.DeleteSq q) h fit = deletes_sq t q (delete_sq_answered t.world q)
+goes_on t (step.DeleteCq q) h fit = deletes_cq t q (delete_cq_answered t.world q)
 goes_on t (step.Retire q) h fit = retires t q (acceptable t.world (events.Retire q) tt refl)
 goes_on t (step.Forge q slot bytes) h fit = forges t q slot bytes (acceptable t.world (events.Forge q slot bytes) fit refl)

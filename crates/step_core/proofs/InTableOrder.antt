@@ -11,7 +11,7 @@ use Rattle.machine_model.specs.InOrder.{IsInOrder, openings_are_in_order, steps_
 use Rattle.machine_model.specs.Proper.{IsProper, IsProperDraft}
 use Rattle.machine_model.specs.Script.{Table, finished_at, is_ticket, filled_draft, is_finished}
 use Rattle.machine_model.specs.declared.words.Refusal.TheVariants as refusal
-use Rattle.world_tables.proofs.Lists.{all-append}
+use Rattle.host_core.proofs.Lists.{all-append}
 use Rattle.machine_model.proofs.InOrders.{order_kept}
 use Rattle.machine_model.proofs.InOrders as orders
 use Rattle.machine_model.proofs.ProperValues.{reserved_is_proper, collected_is_proper}

@@ -24,7 +24,7 @@ use Rattle.machine_model.specs.Proper.{IsPage, IsProperDraft}
 use Rattle.machine_model.specs.Script.{filled_draft}
 use Rattle.machine_model.proofs.Entered.{good_is}
 use Rattle.machine_model.proofs.Lengths.{length_put}
-use Rattle.world_tables.proofs.Lists.{all-from, all-to}
+use Rattle.host_core.proofs.Lists.{all-from, all-to}
 
 abbrev IsPageOut : ℕ × List ℕ → Type 0
 IsPageOut page = IsPage page.1

@@ -10,7 +10,7 @@ use Rattle.machine_model.specs.Script.{Table, table}
 use Rattle.machine_model.specs.State.{State}
 use Rattle.machine_model.specs.Touch.{allowed, stays_allowed, stays_own, own_pages, touched_by}
 use Rattle.machine_model.proofs.Agreed.{agreed_stays}
-use Rattle.world_tables.specs.Opening.{opening_of}
+use Rattle.step_core.specs.Opening.{opening_of}
 use Rattle.step_core.specs.Going.{IsTableInOrder, benches_touch_what_they_may, benches_make_trusted_runs}
 use Rattle.step_core.specs.Laws.{is_outside, Asks, Says, AreOf, BeginsWith, IsRunOf}
 use Rattle.step_core.specs.declared.step.Reply.{Reply}

@@ -6,4 +6,7 @@ pub mod Lawful
 pub mod KeptDrafts
 pub mod InTableOrder
 pub mod GoingOn
-pub mod LookLemmas
+pub mod Steps
+pub mod Looking
+pub mod Forging
+pub mod Opening

@@ -13,7 +13,7 @@ use Rattle.machine_model.specs.Script.{Table, finished_at, is_ticket, is_finishe
 use Rattle.machine_model.specs.State.{State}
 use Rattle.machine_model.specs.Step as machine
 use Rattle.machine_model.specs.declared.words.Refusal.TheVariants as refusal
-use Rattle.world_tables.proofs.Lists.{found_is}
+use Rattle.host_core.proofs.Lists.{found_is}
 use Rattle.step_core.specs.Bench.{Does, Fills, Builds, Submits, Cancels, Collects, Gathers, Releases, Reserves, Collected, HasNoValue}
 use Rattle.step_core.specs.Laws.{is_outside, Asks, Says, IsRunOf, benches_run_the_machine}
 use Rattle.step_core.specs.declared.step.Reply.{Reply}

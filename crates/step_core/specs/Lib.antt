@@ -1,4 +1,6 @@
-pub mod Parts
+pub mod World
+pub mod Opening
+pub mod Touching
 pub mod Replies
 pub mod Bench
 pub mod Kept

@@ -7,7 +7,8 @@ ghost use Rattle.machine_model.specs.Script.{table};
 ghost use Rattle.page_ledger.specs.Counting.{total};
 ghost use Rattle.step_core.specs.Bench.{Does, DoesAll};
 ghost use Rattle.step_core.specs.Kept.{table_of, HasRoom};
-ghost use Rattle.world_tables.specs.Opening.{refusal_of_config, opening_of, RefusesOpening};
+ghost use Rattle.host_core.specs.Opening.{refusal_of_config, RefusesOpening};
+ghost use Rattle.step_core.specs.Opening.{opening_of};
 
 use crate::ended::{Ended, Leftover};
 use crate::kept::Kept;
@@ -15,11 +16,11 @@ use crate::open::OpenRefused;
 use crate::step::{Reply, Step};
 use crate::world::World;
 use block_image::Image;
+use host_core::Config;
 use page_ledger::{Counts, Owner};
 use page_memory::PageNo;
 use std::alloc::{AllocError, Global};
 use std::marker::Model;
-use world_tables::Config;
 
 /// A world, with the drafts, tickets and finished commands that are about. Contracts see the world's state and these lists; a
 /// ticket is seen as its queue and identifier.

@@ -9,8 +9,9 @@ use crate::kept::Kept;
 use crate::kept_values::{
     draft_place, finished_place, put_back, take_draft, take_finished, take_ticket,
 };
-use crate::refused::{Refused, StepRefused, none_touched};
+use crate::refused::{StepRefused, none_touched};
 use crate::step::{Bytes, Reply, Step};
+use host_core::Refused;
 use io_commands::Request;
 use machine_model::words::Refusal;
 

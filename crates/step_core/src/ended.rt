@@ -2,6 +2,7 @@
 
 use crate::world::World;
 use io_commands::{Draft, Finished, Ticket};
+use std::alloc::Allocator;
 
 /// A world that has ended. It is shown to spend the values that are still about; [`World::end`] alone makes one.
 #[derive(Debug, Drop)]
@@ -15,14 +16,14 @@ pub trait Leftover {
     fn after(self, ended: &Ended);
 }
 
-impl World {
+impl<A: Allocator> World<A> {
     /// Ends the world, with all that it holds. It takes no memory.
     pub fn end(self) -> Ended {
         Ended { spent: () }
     }
 }
 
-impl Leftover for Draft {
+impl<A: Allocator> Leftover for Draft<A> {
     fn after(self, _ended: &Ended) {
         let _parts = self.apart();
     }
@@ -34,7 +35,7 @@ impl Leftover for Ticket {
     }
 }
 
-impl Leftover for Finished {
+impl<A: Allocator> Leftover for Finished<A> {
     fn after(self, _ended: &Ended) {
         let _parts = self.apart();
     }

@@ -9,58 +9,42 @@
 //! A [`Bench`] is a world with the drafts, tickets and finished commands that are about; it runs lists of [`Step`]s, and what it does is a
 //! run of the machine ([`laws`]).
 //!
-//! A world keeps tables (`world_tables`), from which contracts compute the state; nothing is kept twice. The lemmas stand there too.
-//! Here are the calls: each looks first (`check_`), and then does what cannot fail (`commit_`).
+//! A world is a [`host_core::Host`] and a [`controller_core::Controller`] over one [`page_memory::Store`]: each call is one of either side,
+//! with the doorbell that the other hears. That both are the machine is what `two_sides` proves; nothing is kept twice.
 #![tactic(auto)]
 
-mod answer;
 mod bench;
 mod bench_steps;
-mod collect;
-mod compare;
-mod complete;
+mod commands;
 mod ended;
-mod fetch;
 mod fill;
-mod finish;
 mod forge;
 mod kept;
 mod kept_values;
 pub mod laws;
 mod look;
-mod lookup;
-mod manage;
-mod moving;
 mod open;
-mod parts;
-mod post;
-mod reap;
+mod queues;
 mod refused;
-mod reserve;
-mod retire;
-mod ring;
-mod send;
-mod status;
+mod serve;
 mod step;
-mod submit;
 mod view;
-mod walk;
 mod world;
 
 pub use bench::Bench;
 pub use block_image::{BadLength, Image, ImageError};
+pub use controller_core::ControllerStep;
 pub use controller_walk::WalkState;
 pub use ended::{Ended, Leftover};
 pub use entry_codec::Status;
+pub use host_core::{Config, Refused};
 pub use io_commands::{
     Draft, FillFault, Finished, Kind, Piece, Pieces, Request, RequestFault, RequestOf, Ticket,
 };
-pub use look::ControllerStep;
 pub use machine_model::words::{HostState, OpenRefusal, Phase, Reaped, Refusal, RejectedFor};
 pub use open::OpenRefused;
 pub use page_ledger::{Counts, Owner, Role};
 pub use page_memory::{Half, Page, PageNo};
-pub use refused::{Completed, Fetched, Refused, StepRefused, Touched, Walked};
+pub use refused::{Completed, Fetched, StepRefused, Touched, Walked};
 pub use step::{Bytes, Reply, Step};
 pub use world::World;
-pub use world_tables::Config;

@@ -1,35 +1,49 @@
 //! The opening of a world.
 
-ghost use Rattle.std.specs.Prelude.{◌≡◌, ◌+◌, ◌*◌, ◌<◌, ◌≤◌, false, length, replicate, Some, None, IfOk, IfErr, IsSome};
-ghost use Rattle.machine_model.specs.Opening.{is_config, pages_of_queues};
-ghost use Rattle.page_ledger.specs.Owners.{is_free, pages_from, with_owner};
-ghost use Rattle.page_ledger.specs.Runs.{lowest_run};
-ghost use Rattle.page_memory.specs.Pages.{zero_page};
-ghost use Rattle.page_memory.specs.declared.page.Half.TheVariants.{Submission, Completion};
-ghost use Rattle.queue_pair.specs.Memory.{half_pages as pages_of_half};
-ghost use Rattle.world_tables.specs.Opening.{refusal_of_config, opening_of, RefusesOpening, HalvesGranted, sq_from, cq_from, fresh_at, fresh_queues};
+ghost use Rattle.std.specs.Prelude.{◌≡◌, ◌≤◌, None, IfOk, IfErr};
+ghost use Rattle.host_core.specs.Opening.{refusal_of_config, RefusesOpening};
+ghost use Rattle.step_core.specs.Opening.{opening_of};
+ghost use Rattle.two_sides.specs.Opening.{halves_from};
 
-use crate::parts::Parts;
 use crate::world::World;
-use admin_commands::SqState;
+use arrayvec::ArrayVec;
 use block_image::Image;
-use machine_model::words::{HostState, OpenRefusal};
-use page_ledger::{Ledger, Owner};
-use page_memory::{Half, OpenFault, PageNo, Store};
-use queue_pair::{DevicePair, HostPair, half_pages};
-use std::alloc::{AllocError, Global};
-use world_tables::{Config, Queue};
+use controller_core::{Controller, QueuePages};
+use host_core::{Config, Host, Opened};
+use machine_model::words::OpenRefusal;
+use page_memory::{Half, PageNo};
+use queue_pair::half_pages;
+use std::alloc::{Allocator, Global};
 
 /// A world that was not opened.
 #[derive(Debug, Drop)]
-pub struct OpenRefused {
+pub struct OpenRefused<A: Allocator = Global> {
     /// The image, as it was handed in.
-    pub image: Image,
+    pub image: Image<A>,
     /// Why.
     pub why: OpenRefusal,
 }
 
-impl World {
+/// Where the halves of so many queues begin: they are the lowest pages, one queue's behind the other's.
+fn halves(entries: u16, count: u16) -> ArrayVec<QueuePages, 65>
+    requires few { count ≤ 65 }
+    requires most { entries ≤ 1024 }
+    ensures { result.items ≡ halves_from 0 entries count }
+{
+    let submission = half_pages(entries, Half::Submission);
+    let completion = half_pages(entries, Half::Completion);
+    let mut halves = ArrayVec::new();
+    for q in 0..count {
+        let first = u32::from(q) * (submission + completion);
+        halves.push(QueuePages {
+            sq: PageNo(first),
+            cq: PageNo(first + submission),
+        });
+    }
+    halves
+}
+
+impl<A: Allocator + Copy> World<A> {
     /// Opens a world over an image. Every page is in and zero, every queue is live with empty rings, no command is outstanding, and
     /// nothing was forged.
     ///
@@ -37,185 +51,29 @@ impl World {
     ///
     /// 1. `BadConfig` where a number lies outside its limits. 2. `NoPages` where the halves of all queues, those of queue 0 among
     /// them, need more pages than the pool has. 3. `Memory` where memory is refused. The image comes back.
-    pub fn open(alloc: Global, config: Config, image: Image) -> Result<World, OpenRefused>
+    pub fn open(alloc: A, config: Config, image: Image<A>) -> Result<World<A>, OpenRefused<A>>
         ensures fits { IfOk result (λ world. refusal_of_config config ≡ None) }
         ensures opened { IfOk result (λ world. world ≡ opening_of config image) }
         ensures refused { IfErr result (λ refused. RefusesOpening config refused.why) }
         ensures handed_back { IfErr result (λ refused. refused.image ≡ image) }
     {
-        match refusal_of(config) {
-            Some(why) => return Err(OpenRefused { image, why }),
-            None => {}
-        }
-        let _blocks = image.blocks();
-        match open_tables(alloc, config) {
-            Ok((store, ledger, queues)) => Ok(World {
-                parts: Parts {
-                    alloc,
-                    entries: config.entries as u16,
-                    segment: config.segment as u16,
-                    store,
-                    ledger,
-                    records: Vec::new(alloc),
-                    queues,
-                    tasks: Vec::new(alloc),
-                    image,
-                    trusted: true,
-                },
+        let Opened { host, store } = match Host::open(alloc, config) {
+            Ok(opened) => opened,
+            Err(why) => return Err(OpenRefused { image, why }),
+        };
+        let entries = config.entries as u16;
+        let halves = halves(entries, config.queues as u16 + 1);
+        match Controller::open(alloc, entries, &halves, image) {
+            Ok(controller) => Ok(World {
+                host,
+                controller,
+                store,
+                trusted: true,
             }),
-            Err(_) => Err(OpenRefused {
-                image,
+            Err(refused) => Err(OpenRefused {
+                image: refused.image,
                 why: OpenRefusal::Memory,
             }),
         }
-    }
-}
-
-/// Why it opens no world, want of memory left aside.
-fn refusal_of(config: Config) -> Option<OpenRefusal>
-    ensures { result ≡ refusal_of_config config }
-{
-    if !is_within_limits(config) {
-        return Some(OpenRefusal::BadConfig);
-    }
-    let need = pages_needed(config);
-    if config.pages < need {
-        return Some(OpenRefusal::NoPages {
-            need,
-            free: config.pages,
-        });
-    }
-    None
-}
-
-/// Whether each number lies within its limits.
-fn is_within_limits(config: Config) -> bool
-    ensures { result ≡ is_config config.pages config.queues config.entries config.segment }
-{
-    8 <= config.pages
-        && config.pages <= 65_536
-        && 1 <= config.queues
-        && config.queues <= 64
-        && 2 <= config.entries
-        && config.entries <= 1024
-        && 2 <= config.segment
-        && config.segment <= 256
-}
-
-/// How many pages the halves of all queues need.
-fn pages_needed(config: Config) -> u32
-    requires queues { config.queues ≤ 64 }
-    requires entries { config.entries ≤ 1024 }
-    ensures { result ≡ pages_of_queues config.queues config.entries }
-{
-    let entries = config.entries as u16;
-    (config.queues + 1)
-        * (half_pages(entries, Half::Submission) + half_pages(entries, Half::Completion))
-}
-
-/// The pages, their owners and the queues of a world that opens.
-fn open_tables(alloc: Global, config: Config) -> Result<(Store, Ledger, Vec<Queue>), OpenFault>
-    requires { refusal_of_config config ≡ None }
-    ensures pages { IfOk result (λ tables. tables.0.pages ≡ replicate config.pages (Some zero_page)) }
-    ensures owners { IfOk result (λ tables. length tables.1 ≡ config.pages) }
-    ensures granted { IfOk result (λ tables. HalvesGranted config.entries (config.queues + 1) tables.1) }
-    ensures queues { IfOk result (λ tables. tables.2.items ≡ fresh_queues config.entries (config.queues + 1)) }
-{
-    let store = Store::open(alloc, config.pages)?;
-    let mut ledger = Ledger::open(alloc, config.pages)?;
-    let queues = open_queues(
-        alloc,
-        &mut ledger,
-        config.queues as u16 + 1,
-        config.entries as u16,
-    )?;
-    Ok((store, ledger, queues))
-}
-
-/// The queues of a world that opens, whose halves are the lowest pages.
-fn open_queues(
-    alloc: Global,
-    ledger: &mut Ledger,
-    count: u16,
-    entries: u16,
-) -> Result<Vec<Queue>, AllocError>
-    requires least { 2 ≤ entries }
-    requires most { entries ≤ 1024 }
-    requires free { HalvesGranted entries 0 ledger.old }
-    requires fits { sq_from (pages_of_half entries Submission) (pages_of_half entries Completion) count ≤ length ledger.old }
-    ensures queues { IfOk result (λ queues. queues.items ≡ fresh_queues entries count) }
-    ensures granted { IfOk result (λ _. HalvesGranted entries count ledger.new) }
-    ensures size { length ledger.new ≡ length ledger.old }
-{
-    let mut queues = Vec::with_capacity(alloc, usize::from(count))?;
-    for q in 0..count {
-        let (sq, cq) = grant_halves(ledger, q, entries);
-        let queue = open_queue(alloc, q, entries, sq, cq)?;
-        queues.push_reserved(queue);
-    }
-    Ok(queues)
-}
-
-/// A queue that opens, with its halves from these pages on.
-fn open_queue(
-    alloc: Global,
-    q: u16,
-    entries: u16,
-    sq: PageNo,
-    cq: PageNo,
-) -> Result<Queue, AllocError>
-    requires least { 2 ≤ entries }
-    requires most { entries ≤ 1024 }
-    ensures { IfOk result (λ queue. queue ≡ fresh_at entries sq cq q) }
-{
-    Ok(Queue {
-        state: HostState::Live,
-        host: HostPair::open(alloc, q, entries, sq, cq)?,
-        sq: SqState::Live,
-        cq_there: true,
-        device: DevicePair::open(q, entries, sq, cq),
-    })
-}
-
-/// Gives the lowest free pages to both halves of a queue, and answers where these begin.
-fn grant_halves(ledger: &mut Ledger, q: u16, entries: u16) -> (PageNo, PageNo)
-    requires least { 2 ≤ entries }
-    requires granted { HalvesGranted entries q ledger.old }
-    requires fits { sq_from (pages_of_half entries Submission) (pages_of_half entries Completion) (q + 1) ≤ length ledger.old }
-    ensures submission { result.0 ≡ sq_from (pages_of_half entries Submission) (pages_of_half entries Completion) q }
-    ensures completion { result.1 ≡ cq_from (pages_of_half entries Submission) (pages_of_half entries Completion) q }
-    ensures granted { HalvesGranted entries (q + 1) ledger.new }
-    ensures size { length ledger.new ≡ length ledger.old }
-{
-    let sq = grant_half(
-        ledger,
-        Owner::Queue {
-            q,
-            half: Half::Submission,
-        },
-        half_pages(entries, Half::Submission),
-    );
-    let cq = grant_half(
-        ledger,
-        Owner::Queue {
-            q,
-            half: Half::Completion,
-        },
-        half_pages(entries, Half::Completion),
-    );
-    (sq, cq)
-}
-
-/// Gives the lowest run of so many free pages to an owner, and answers its first page.
-fn grant_half(ledger: &mut Ledger, owner: Owner, pages: u32) -> PageNo
-    requires some { 0 < pages }
-    requires owned { is_free owner ≡ false }
-    requires run { IsSome (lowest_run pages ledger.old) }
-    ensures first { lowest_run pages ledger.old ≡ Some result }
-    ensures granted { ledger.new ≡ with_owner ledger.old (pages_from result pages) owner }
-{
-    match ledger.grant_run(owner, pages) {
-        Some(first) => first,
-        None => unreachable!(),
     }
 }

@@ -1,4 +1,4 @@
-//! How calls answer that they were refused, and which pages the controller touched.
+//! Which pages a step of the controller touched, and what it answers.
 
 ghost use Rattle.std.specs.Prelude.{◌≡◌, ◌≤◌, [], length};
 
@@ -6,18 +6,8 @@ use arrayvec::ArrayVec;
 use controller_walk::WalkState;
 use machine_model::words::Refusal;
 use page_memory::{PageNo, Store, TouchRecord};
+use std::alloc::Allocator;
 use std::marker::Model;
-
-/// A call that was refused: why, and the value that was handed in. Nothing changed.
-///
-/// It is no `Drop` where the value must be spent.
-#[derive(Drop)]
-pub struct Refused<T> {
-    /// The value, as it was handed in.
-    pub value: T,
-    /// Why.
-    pub why: Refusal,
-}
 
 /// The pages that a step of the controller touched, in the order in which it touched them. Contracts see that list.
 #[derive(Debug, Drop)]
@@ -80,7 +70,7 @@ fn listed(numbers: &[PageNo]) -> Touched
 }
 
 /// The pages that a store noted as touched.
-pub(crate) fn touched_by(store: &Store) -> Touched
+pub(crate) fn touched_by<A: Allocator>(store: &Store<A>) -> Touched
     ensures { result ≡ store.now.touched }
 {
     listed(store.touched().as_slice())

@@ -1,13 +1,16 @@
 //! Steps as values: what a bench is told to do, and what each step answered.
 
-ghost use Rattle.std.specs.Prelude.{◌≡◌, length};
+ghost use Rattle.std.specs.Prelude.{◌≡◌, ◌≤◌, length};
+ghost use Rattle.io_commands.specs.Requests.{data_count};
+ghost use Rattle.io_commands.specs.Values.{IsGood};
+ghost use Rattle.sgl_chain.specs.Chains.{pages_needed as spec_pages_needed};
 
 use crate::refused::Touched;
-use crate::reserve::pages_of_request;
 use controller_walk::WalkState;
 use entry_codec::Status;
 use io_commands::{Draft, FillFault, Request};
 use machine_model::words::{Reaped, Refusal};
+use sgl_chain::pages_needed;
 use std::marker::Model;
 
 /// A list of bytes inside a step or a reply. Contracts see it as that list.
@@ -227,6 +230,19 @@ pub enum Reply {
         /// The pages that a step of the controller touched before it was refused.
         touched: Touched,
     },
+}
+
+/// How many pages a good request takes for its data and for its chain.
+fn pages_of_request(request: &Request, segment: u16) -> (u32, u32)
+    requires good { IsGood request.now }
+    requires least { 2 ≤ segment }
+    ensures front { result.0 ≡ data_count request.now.pieces }
+    ensures back { result.1 ≡ spec_pages_needed (length request.now.pieces) segment }
+{
+    let parts = request.pieces.as_slice().len();
+    let front = request.pieces.data_pages();
+    let back = pages_needed(parts, usize::from(segment));
+    (front as u32, back as u32)
 }
 
 impl Reply {

@@ -8,14 +8,15 @@ ghost use Rattle.page_ledger.specs.Counting.{total};
 use crate::world::World;
 use page_ledger::{Counts, Owner};
 use page_memory::PageNo;
+use std::alloc::Allocator;
 
-impl World {
+impl<A: Allocator> World<A> {
     /// Whose a page of the pool is: the owner of the one claim in which it stands.
     pub fn owner(&self, p: PageNo) -> Owner
         requires { p < length self.now.memory }
         ensures { Contains (claims_of self.now.host) (p, result) }
     {
-        self.parts.ledger.owner(p)
+        self.host.owner(p)
     }
 
     /// How many pages are free, and how many belong to queues, to chains and to data.
@@ -23,7 +24,7 @@ impl World {
         ensures counts { result ≡ counts_of self.now.host }
         ensures all { total result ≡ length self.now.memory }
     {
-        self.parts.ledger.counts()
+        self.host.counts()
     }
 
     /// How many pages the pool has, 8 to 65,536.
@@ -32,21 +33,21 @@ impl World {
         ensures least { 8 ≤ length self.now.memory }
         ensures most { length self.now.memory ≤ 65536 }
     {
-        self.parts.ledger.pages()
+        self.host.pages()
     }
 
     /// Whether no command is outstanding, of an I/O queue or of queue 0.
     pub fn is_idle(&self) -> bool
         ensures { result ≡ (length self.now.host.records == 0) }
     {
-        self.parts.records.is_empty()
+        self.host.is_idle()
     }
 
     /// Whether nothing was forged.
     pub fn trusted(&self) -> bool
         ensures { result ≡ self.now.trusted }
     {
-        self.parts.trusted
+        self.trusted
     }
 
     /// Shows that the world is sound, whatever was forged: each page has one owner, the counts add up to the pool, no identifier
@@ -55,6 +56,6 @@ impl World {
     pub fn check(&self)
         ensures { IsSound self.now }
     {
-        prove!(self.parts.entries >= 2);
+        prove!(self.trusted == self.trusted());
     }
 }

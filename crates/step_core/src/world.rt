@@ -1,23 +1,33 @@
-//! The world: one call is one step of the machine.
+//! The world: a host and a controller over one pool of pages.
 
-use crate::parts::Parts;
+use controller_core::Controller;
+use host_core::Host;
+use page_memory::Store;
+use std::alloc::{Allocator, Global};
 use std::marker::Model;
 
 /// A driver and its controller, over one pool of pages. Contracts see it as the machine's state.
 #[derive(Drop)]
-pub struct World {
-    pub(crate) parts: Parts,
+pub struct World<A: Allocator = Global> {
+    /// The driver's side.
+    pub(crate) host: Host<A>,
+    /// The controller's side.
+    pub(crate) controller: Controller<A>,
+    /// The pages of the pool that are in.
+    pub(crate) store: Store<A>,
+    /// Whether nothing was forged.
+    pub(crate) trusted: bool,
 }
 
-impl Model for World {
+impl<A: Allocator> Model for World<A> {
     ghost use Rattle.machine_model.specs.State.{State};
-    ghost use Rattle.step_core.specs.Parts.{tables_of};
-    ghost use Rattle.world_tables.specs.Tables.{state_of};
-    ghost use Rattle.world_tables.specs.Whole.{IsWhole};
+    ghost use Rattle.two_sides.specs.Ties.{IsWorld};
+    ghost use Rattle.step_core.specs.World.{sides_of};
+    ghost use Rattle.two_sides.specs.Sides.{state_of};
 
     ghost Value = { State };
 
-    ghost view = { λ w. state_of (tables_of w.parts) };
+    ghost view = { λ w. state_of (sides_of w.host w.controller w.store.pages w.trusted) };
 
-    ghost invariant = { λ w. IsWhole (tables_of w.parts) };
+    ghost invariant = { λ w. IsWorld (sides_of w.host w.controller w.store.pages w.trusted) };
 }

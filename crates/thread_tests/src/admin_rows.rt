@@ -1,7 +1,7 @@
 //! Two worked rows of steps through a shared book: commands that are aborted, and a queue that is deleted while its commands are about.
 
 ghost use Rattle.std.specs.Prelude.{◌≡◌};
-ghost use Rattle.world_tables.specs.Opening.{opening_of};
+ghost use Rattle.step_core.specs.Opening.{opening_of};
 
 use crate::calls::{
     USUAL, cancelled, collected, counts, done, managed, opened, receipt, released, reserved,
@@ -21,8 +21,7 @@ use std::process::Abort;
 use std::sync::Wait;
 use std::sync::ledger::Blank;
 use std::test::Fail;
-use step_core::{Reaped, Refusal};
-use world_tables::Config;
+use step_core::{Config, Reaped, Refusal};
 
 /// How the command 0 of queue 0 ended, with a first word of 0.
 fn managed_with(status: Status) -> Reaped {

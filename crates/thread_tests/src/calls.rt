@@ -1,7 +1,7 @@
 //! Calls of a shared book in one thread, which must succeed.
 
 ghost use Rattle.std.specs.Prelude.{◌≡◌};
-ghost use Rattle.world_tables.specs.Opening.{opening_of};
+ghost use Rattle.step_core.specs.Opening.{opening_of};
 
 use block_image::Image;
 use controller_walk::WalkState;
@@ -15,8 +15,7 @@ use std::alloc::Global;
 use std::process::Abort;
 use std::sync::Wait;
 use std::sync::ledger::Blank;
-use step_core::{Reaped, Refusal, Touched};
-use world_tables::Config;
+use step_core::{Config, Reaped, Refusal, Touched};
 
 /// 16 pages and one I/O queue of 4 entries: pages 4 to 15 are free.
 pub(crate) const USUAL: Config = Config {

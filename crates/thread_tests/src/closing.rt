@@ -1,7 +1,7 @@
 //! How a shared book is closed, and what keeps it open.
 
 ghost use Rattle.std.specs.Prelude.{◌≡◌};
-ghost use Rattle.world_tables.specs.Opening.{opening_of};
+ghost use Rattle.step_core.specs.Opening.{opening_of};
 
 use crate::calls::{
     USUAL, collected, opened, receipt, released, reserved, seated, served, submitted,
@@ -19,7 +19,7 @@ use std::process::Abort;
 use std::sync::Wait;
 use std::sync::ledger::Blank;
 use std::test::Fail;
-use world_tables::Config;
+use step_core::Config;
 
 /// One seat, or two, in a list.
 fn listed<L: Driver, R: Abort>(

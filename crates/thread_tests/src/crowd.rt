@@ -8,7 +8,7 @@ use io_commands::Kind;
 use std::alloc::{AllocError, Global};
 use std::process::Abort;
 use std::test::Fail;
-use world_tables::Config;
+use step_core::Config;
 
 /// 8 pages that no queue owns, of which each job takes 4, and 3 identifiers.
 const SMALL: Config = Config {

@@ -1,7 +1,7 @@
 //! Forged completions through a shared book: an unknown identifier, a head out of range, a wrong queue, and a command that is held by one.
 
 ghost use Rattle.std.specs.Prelude.{◌≡◌};
-ghost use Rattle.world_tables.specs.Opening.{opening_of};
+ghost use Rattle.step_core.specs.Opening.{opening_of};
 
 use crate::calls::{
     USUAL, collected, completed, counts, done, fetched, opened, released, reserved, seated,
@@ -20,8 +20,7 @@ use std::process::Abort;
 use std::sync::Wait;
 use std::sync::ledger::Blank;
 use std::test::Fail;
-use step_core::{Reaped, Refusal, RejectedFor};
-use world_tables::Config;
+use step_core::{Config, Reaped, Refusal, RejectedFor};
 
 /// A completion with phase 1: its submission head, its queue and its identifier.
 fn forged(sq_head: u8, q: u8, cid: u8) -> [u8; 16] {

@@ -15,8 +15,7 @@ use std::sync::atomic::{AtomicBool, Ordering};
 use std::test::Fail;
 use std::thread;
 use std::thread::Threads;
-use step_core::OpenRefusal;
-use world_tables::Config;
+use step_core::{Config, OpenRefusal};
 
 /// Holds the first job of each of two submitters at a point until the other is there.
 #[derive(Drop)]

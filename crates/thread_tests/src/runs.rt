@@ -1,7 +1,7 @@
 //! Runs of threads, and what they leave.
 
 ghost use Rattle.std.specs.Prelude.{◌≡◌, ◌≤◌, vec_len};
-ghost use Rattle.world_tables.specs.Opening.{opening_of};
+ghost use Rattle.step_core.specs.Opening.{opening_of};
 
 use block_image::Image;
 use driver_book::{Book, Driver, Report};
@@ -15,8 +15,7 @@ use std::marker::Brand;
 use std::sync::Wait;
 use std::sync::ledger::Blank;
 use std::thread::Threads;
-use step_core::{Bytes, Reply};
-use world_tables::Config;
+use step_core::{Bytes, Config, Reply};
 
 /// What a run leaves.
 #[derive(Drop)]

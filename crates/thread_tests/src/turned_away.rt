@@ -1,7 +1,7 @@
 //! Workers that find nothing to do: the queue of their jobs is being deleted, or they are told to stop.
 
 ghost use Rattle.std.specs.Prelude.{◌≡◌};
-ghost use Rattle.world_tables.specs.Opening.{opening_of};
+ghost use Rattle.step_core.specs.Opening.{opening_of};
 
 use crate::calls::{USUAL, counts, opened};
 use crate::runs::job;
@@ -17,7 +17,7 @@ use std::process::Abort;
 use std::sync::Wait;
 use std::sync::ledger::Blank;
 use std::test::Fail;
-use world_tables::Config;
+use step_core::Config;
 
 /// What a submitter leaves whose only job is a Read of one block on queue 1.
 fn worked<L: Driver, R: Abort + Wait>(rt: &R, shared: &Shared<L>, alloc: Global) -> Worked<L> {

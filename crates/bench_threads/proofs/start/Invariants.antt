@@ -1,4 +1,4 @@
-use Rattle.world_tables.specs.Opening.{opening_of}
+use Rattle.step_core.specs.Opening.{opening_of}
 use Rattle.bench_threads.proofs.start.Given as goal
 
 abbrev pub ghosts-read_in_threads-L-Ledger : goal.ghosts-read_in_threads-L-Ledger

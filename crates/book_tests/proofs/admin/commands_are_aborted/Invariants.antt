@@ -1,4 +1,4 @@
-use Rattle.world_tables.specs.Opening.{opening_of}
+use Rattle.step_core.specs.Opening.{opening_of}
 use Rattle.book_tests.proofs.admin.commands_are_aborted.Given as goal
 
 abbrev pub ghosts-abort_three-L-Ledger : goal.ghosts-abort_three-L-Ledger

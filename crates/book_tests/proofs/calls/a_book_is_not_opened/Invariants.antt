@@ -1,4 +1,4 @@
-use Rattle.world_tables.specs.Opening.{opening_of}
+use Rattle.step_core.specs.Opening.{opening_of}
 use Rattle.book_tests.proofs.calls.a_book_is_not_opened.Given as goal
 
 abbrev pub ghosts-open_again-K-Ledger : goal.ghosts-open_again-K-Ledger

@@ -1,4 +1,4 @@
-use Rattle.world_tables.specs.Opening.{opening_of}
+use Rattle.step_core.specs.Opening.{opening_of}
 use Rattle.book_tests.proofs.calls.a_queue_ends.Given as goal
 
 abbrev pub ghosts-delete_and_retire-L-Ledger : goal.ghosts-delete_and_retire-L-Ledger

@@ -1,4 +1,4 @@
-use Rattle.world_tables.specs.Opening.{opening_of}
+use Rattle.step_core.specs.Opening.{opening_of}
 use Rattle.book_tests.proofs.calls.commands_are_given_up.Given as goal
 
 abbrev pub ghosts-give_up-L-Ledger : goal.ghosts-give_up-L-Ledger

@@ -1,4 +1,4 @@
-use Rattle.world_tables.specs.Opening.{opening_of}
+use Rattle.step_core.specs.Opening.{opening_of}
 use Rattle.book_tests.proofs.calls.two_seats.Given as goal
 
 abbrev pub ghosts-write_and_read-L-Ledger : goal.ghosts-write_and_read-L-Ledger

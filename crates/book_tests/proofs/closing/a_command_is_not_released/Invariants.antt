@@ -1,4 +1,4 @@
-use Rattle.world_tables.specs.Opening.{opening_of}
+use Rattle.step_core.specs.Opening.{opening_of}
 use Rattle.book_tests.proofs.closing.a_command_is_not_released.Given as goal
 
 abbrev pub ghosts-hold_a_command-L-Ledger : goal.ghosts-hold_a_command-L-Ledger

@@ -1,4 +1,4 @@
-use Rattle.world_tables.specs.Opening.{opening_of}
+use Rattle.step_core.specs.Opening.{opening_of}
 use Rattle.book_tests.proofs.closing.a_receipt_is_missing.Given as goal
 
 abbrev pub ghosts-lose_a_receipt-L-Ledger : goal.ghosts-lose_a_receipt-L-Ledger

@@ -1,4 +1,4 @@
-use Rattle.world_tables.specs.Opening.{opening_of}
+use Rattle.step_core.specs.Opening.{opening_of}
 use Rattle.book_tests.proofs.closing.a_report_of_nothing.Given as goal
 
 abbrev pub ghosts-close_none-L-Ledger : goal.ghosts-close_none-L-Ledger

@@ -1,4 +1,4 @@
-use Rattle.world_tables.specs.Opening.{opening_of}
+use Rattle.step_core.specs.Opening.{opening_of}
 use Rattle.book_tests.proofs.closing.a_status_is_kept.Given as goal
 
 abbrev pub ghosts-release_anew-L-Ledger : goal.ghosts-release_anew-L-Ledger

@@ -1,4 +1,4 @@
-use Rattle.world_tables.specs.Opening.{opening_of}
+use Rattle.step_core.specs.Opening.{opening_of}
 use Rattle.book_tests.proofs.closing.an_admin_command_is_outstanding.Given as goal
 
 abbrev pub ghosts-await_an_answer-L-Ledger : goal.ghosts-await_an_answer-L-Ledger

@@ -1,4 +1,4 @@
-use Rattle.world_tables.specs.Opening.{opening_of}
+use Rattle.step_core.specs.Opening.{opening_of}
 use Rattle.book_tests.proofs.closing.many_seats.Given as goal
 
 abbrev pub ghosts-close_many-L-Ledger : goal.ghosts-close_many-L-Ledger

@@ -1,4 +1,4 @@
-use Rattle.world_tables.specs.Opening.{opening_of}
+use Rattle.step_core.specs.Opening.{opening_of}
 use Rattle.book_tests.proofs.forging.a_slot_is_out.Given as goal
 
 abbrev pub ghosts-forge_a_deletion-L-Ledger : goal.ghosts-forge_a_deletion-L-Ledger

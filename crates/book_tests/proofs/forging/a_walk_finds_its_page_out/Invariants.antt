@@ -1,4 +1,4 @@
-use Rattle.world_tables.specs.Opening.{opening_of}
+use Rattle.step_core.specs.Opening.{opening_of}
 use Rattle.book_tests.proofs.forging.a_walk_finds_its_page_out.Given as goal
 
 abbrev pub ghosts-forge_in_the_walk-L-Ledger : goal.ghosts-forge_in_the_walk-L-Ledger

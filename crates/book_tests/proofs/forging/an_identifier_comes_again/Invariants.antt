@@ -1,4 +1,4 @@
-use Rattle.world_tables.specs.Opening.{opening_of}
+use Rattle.step_core.specs.Opening.{opening_of}
 use Rattle.book_tests.proofs.forging.an_identifier_comes_again.Given as goal
 
 abbrev pub ghosts-forge_behind_the_walks-L-Ledger : goal.ghosts-forge_behind_the_walks-L-Ledger

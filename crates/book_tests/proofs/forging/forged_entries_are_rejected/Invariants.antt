@@ -1,4 +1,4 @@
-use Rattle.world_tables.specs.Opening.{opening_of}
+use Rattle.step_core.specs.Opening.{opening_of}
 use Rattle.book_tests.proofs.forging.forged_entries_are_rejected.Given as goal
 
 abbrev pub ghosts-forge_three-L-Ledger : goal.ghosts-forge_three-L-Ledger

@@ -1,4 +1,4 @@
-use Rattle.world_tables.specs.Opening.{opening_of}
+use Rattle.step_core.specs.Opening.{opening_of}
 use Rattle.book_tests.proofs.forging.the_controller_sees_no_entry.Given as goal
 
 abbrev pub ghosts-forge_the_head-L-Ledger : goal.ghosts-forge_the_head-L-Ledger

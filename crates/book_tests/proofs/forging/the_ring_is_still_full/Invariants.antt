@@ -1,4 +1,4 @@
-use Rattle.world_tables.specs.Opening.{opening_of}
+use Rattle.step_core.specs.Opening.{opening_of}
 use Rattle.book_tests.proofs.forging.the_ring_is_still_full.Given as goal
 
 abbrev pub ghosts-forge_before_the_fetch-L-Ledger : goal.ghosts-forge_before_the_fetch-L-Ledger

@@ -1,5 +1,5 @@
 -- the ledger of the run's book, and what that book opens with
-use Rattle.world_tables.specs.Opening.{opening_of}
+use Rattle.step_core.specs.Opening.{opening_of}
 use Rattle.job_cli.proofs.job_runs.run_jobs.Given as goal
 
 abbrev pub ghosts-run_book-L-Ledger : goal.ghosts-run_book-L-Ledger

@@ -1,32 +1,28 @@
-use Rattle.std.proofs.Common.{arith, ◌++◌, ◌∷◌, [], filter, length, append_assoc, length-append, ap, sym, ◌∙◌}
-use Rattle.page_ledger.specs.declared.owner.Owner.TheVariants.{Free}
-use Rattle.page_ledger.specs.Owners.{is_free, is_owned_at, pages_from}
-use Rattle.page_ledger.proofs.Pages.{front_taken}
-use Rattle.page_ledger.proofs.Tables.{walk-yes, walk-none}
+use Rattle.std.proofs.Common.{arith, ◌+◌, ◌++◌, ◌∷◌, [], filter, length, append_assoc, ap, sym, ◌∙◌}
+use Rattle.std.proofs.lemmas.List.{length_push}
+use Rattle.page_ledger.specs.Free.{is_true_at}
+use Rattle.page_ledger.specs.Owners.{pages_from}
+use Rattle.page_ledger.proofs.Flags.{true-inside}
+use Rattle.page_ledger.proofs.Pages.{filter-gap, filter-found, front_taken}
 use Rattle.page_ledger.proofs.ledger.push_lowest_free.Goals as goal
-use Rattle.page_ledger.proofs.ledger.push_lowest_free.Goals.{then-is_free, else-is_free}
 
-pub returns-then-left-eq0-clause-pages : goal.returns-then-left-eq0-clause-pages
-returns-then-left-eq0-clause-pages g c =
-    c.loop-p.invariant.pages ∙ ap (λ l. c.args.into.now.items ++ l)
-    (sym (front_taken (is_owned_at is_free c.args.owners.now) c.loop-p.p (length c.args.owners.now) c.args.k (omega arith) (omega (arith, c.loop-p.invariant.left))))
+pub returns-in_default-clause-pages : goal.returns-in_default-clause-pages
+returns-in_default-clause-pages g c =
+    let all = filter-gap (is_true_at c.args.free.now) c.loop.from (length c.args.free.now) c.loop.invariant.inside (λ q low high. c.in_default.ensures.lowest.fails q low) in
+    absurd (omega (arith, ap length all, c.loop.invariant.count, c.requires.enough))
 
-pub loop-p-preserved : goal.loop-p-preserved
-loop-p-preserved g c =
-    elim c.if-is_free.branch [
-      | then-is_free w ↦
-          let more = walk-yes is_free c.args.owners.now c.loop-p.p Free c.loop-p-test.true (sym c.is_free.ensures ∙ w.if-is_free.true) in
-          rw w.into-is (record {
-            pages = w.push_reserved.ensures.items ∙ (ap (λ l. l ++ c.loop-p.p ∷ []) c.loop-p.invariant.pages
-                ∙ (append_assoc c.args.into.now.items (filter (is_owned_at is_free c.args.owners.now) (pages_from 0 c.loop-p.p)) (c.loop-p.p ∷ []) ∙ ap (λ l. c.args.into.now.items ++ l) (sym more)));
-            left = rw more (omega (arith, length-append (filter (is_owned_at is_free c.args.owners.now) (pages_from 0 c.loop-p.p)) (c.loop-p.p ∷ []), w.left-is, c.loop-p.invariant.left, c.if-left-eq0.false));
-            room = w.push_reserved.ensures.capacity ∙ c.loop-p.invariant.room;
-          })
-      | else-is_free w ↦
-          let more = walk-none is_free c.args.owners.now c.loop-p.p Free c.loop-p-test.true (sym c.is_free.ensures ∙ w.if-is_free.false) in
-          rw w.into-is (record {
-            pages = rw more c.loop-p.invariant.pages;
-            left = rw (more, w.left-is) c.loop-p.invariant.left;
-            room = c.loop-p.invariant.room;
-          })
-    ]
+pub loop-preserved : goal.loop-preserved
+loop-preserved g c =
+    let more = filter-found (is_true_at c.args.free.now) c.loop.from c.in-Some.p c.in-Some.ensures.lowest.after c.in-Some.ensures.lowest.before c.in-Some.ensures.lowest.passes in
+    record {
+      inside = omega (arith, true-inside c.args.free.now c.in-Some.p c.in-Some.ensures.lowest.passes);
+      pages = c.push_reserved.ensures.items ∙ (ap (λ l. l ++ c.in-Some.p ∷ []) c.loop.invariant.pages
+          ∙ (append_assoc c.args.into.now.items (filter (is_true_at c.args.free.now) (pages_from 0 c.loop.from)) (c.in-Some.p ∷ []) ∙ ap (λ l. c.args.into.now.items ++ l) (sym more)));
+      count = rw more (length_push (filter (is_true_at c.args.free.now) (pages_from 0 c.loop.from)) c.in-Some.p ∙ ap (λ n. n + 1) c.loop.invariant.count);
+      room = c.push_reserved.ensures.capacity ∙ c.loop.invariant.room;
+    }
+
+pub returns-clause-pages : goal.returns-clause-pages
+returns-clause-pages g c =
+    c.loop.invariant.pages ∙ ap (λ l. c.args.into.now.items ++ l)
+    (sym (front_taken (is_true_at c.args.free.now) c.loop.from (length c.args.free.now) c.args.k c.loop.invariant.inside (omega (arith, c.loop.invariant.count))))

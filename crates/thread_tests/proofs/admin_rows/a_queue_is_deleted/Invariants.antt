@@ -1,4 +1,4 @@
-use Rattle.world_tables.specs.Opening.{opening_of}
+use Rattle.step_core.specs.Opening.{opening_of}
 use Rattle.thread_tests.proofs.admin_rows.a_queue_is_deleted.Given as goal
 
 abbrev pub ghosts-delete_a_queue-L-Ledger : goal.ghosts-delete_a_queue-L-Ledger

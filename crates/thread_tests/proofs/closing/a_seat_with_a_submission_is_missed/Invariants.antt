@@ -1,4 +1,4 @@
-use Rattle.world_tables.specs.Opening.{opening_of}
+use Rattle.step_core.specs.Opening.{opening_of}
 use Rattle.thread_tests.proofs.closing.a_seat_with_a_submission_is_missed.Given as goal
 
 abbrev pub ghosts-keep_a_seat_back-L-Ledger : goal.ghosts-keep_a_seat_back-L-Ledger

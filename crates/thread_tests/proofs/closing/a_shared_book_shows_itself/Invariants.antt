@@ -1,4 +1,4 @@
-use Rattle.world_tables.specs.Opening.{opening_of}
+use Rattle.step_core.specs.Opening.{opening_of}
 use Rattle.thread_tests.proofs.closing.a_shared_book_shows_itself.Given as goal
 
 abbrev pub ghosts-look-L-Ledger : goal.ghosts-look-L-Ledger

@@ -1,4 +1,4 @@
-use Rattle.world_tables.specs.Opening.{opening_of}
+use Rattle.step_core.specs.Opening.{opening_of}
 use Rattle.thread_tests.proofs.closing.an_idle_seat_is_out.Given as goal
 
 abbrev pub ghosts-keep_an_idle_seat_back-L-Ledger : goal.ghosts-keep_an_idle_seat_back-L-Ledger

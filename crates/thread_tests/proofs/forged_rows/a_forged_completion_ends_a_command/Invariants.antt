@@ -1,4 +1,4 @@
-use Rattle.world_tables.specs.Opening.{opening_of}
+use Rattle.step_core.specs.Opening.{opening_of}
 use Rattle.thread_tests.proofs.forged_rows.a_forged_completion_ends_a_command.Given as goal
 
 abbrev pub ghosts-end_by_forgery-L-Ledger : goal.ghosts-end_by_forgery-L-Ledger

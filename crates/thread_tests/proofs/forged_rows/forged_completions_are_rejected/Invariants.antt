@@ -1,4 +1,4 @@
-use Rattle.world_tables.specs.Opening.{opening_of}
+use Rattle.step_core.specs.Opening.{opening_of}
 use Rattle.thread_tests.proofs.forged_rows.forged_completions_are_rejected.Given as goal
 
 abbrev pub ghosts-reject_three-L-Ledger : goal.ghosts-reject_three-L-Ledger

@@ -1,4 +1,4 @@
-use Rattle.world_tables.specs.Opening.{opening_of}
+use Rattle.step_core.specs.Opening.{opening_of}
 use Rattle.thread_tests.proofs.runs.play.Given as goal
 
 abbrev pub ghosts-outcome_of-L-Ledger : goal.ghosts-outcome_of-L-Ledger

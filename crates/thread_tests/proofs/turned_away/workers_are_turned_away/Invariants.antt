@@ -1,4 +1,4 @@
-use Rattle.world_tables.specs.Opening.{opening_of}
+use Rattle.step_core.specs.Opening.{opening_of}
 use Rattle.thread_tests.proofs.turned_away.workers_are_turned_away.Given as goal
 
 abbrev pub ghosts-turn_away-L-Ledger : goal.ghosts-turn_away-L-Ledger

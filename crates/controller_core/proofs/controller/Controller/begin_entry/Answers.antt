@@ -13,3 +13,6 @@ returns-clause-begins g c =
     let b = c.in_ok-job.ensures in
     begins_in _ _ _ c.args.q c.args.entry.now c.in_ok-job.job c.fetched.result _ c.reserve.new.self.items _ c.self.view_is
     (record { entry = b.entry; blocks = b.blocks; verdict = b.verdict; bytes = b.bytes; walk = b.walk; left = b.left }) c.take_entry.ensures c.reserve.ensures.items c.fetched.ensures c.push_reserved.ensures.items refl
+
+pub returns-clause-sound : goal.returns-clause-sound
+returns-clause-sound g c = invariant_of-self-2 g c

@@ -22,3 +22,6 @@ returns-clause-completes g c =
     let f = is_found_in _ _ c.args.q c.args.cid c.in_ok-place.place _ c.self.view_is c.self.invariant c.in_ok-place.ensures.place c.in_ok-place.ensures.within c.index.ensures in
     let f' = is_found_in _ _ c.args.q c.args.cid c.in_ok-place.place _ c.self.view_is c.self.invariant c.in_ok-place.ensures.place c.in_ok-place.ensures.within c.remove-command.ensures.value in
     finishes_in _ _ _ _ _ c.args.q c.args.cid _ _ _ _ _ _ _ _ _ _ _ c.self.view_is f f' c.end-dw0.ensures.status c.end-dw0.ensures.dw0 c.in_ok-answer.ensures.posts c.remove-command.ensures.items c.settle.ensures.queues c.settle.ensures.image c.settle.ensures.as_long refl
+
+pub returns-clause-sound : goal.returns-clause-sound
+returns-clause-sound g c = invariant_of-self-2 g c

@@ -16,3 +16,6 @@ invariant_of-self-2 g c =
     c.take_entry.ensures c.act-dw0.ensures.queues c.reserve.ensures.items c.act-dw0.ensures.commands
     (c.fetched.ensures ∙ ap₂ (λ (st : Status) (d : ℕ). command_of 0 (Admin c.args.entry st d)) c.act-dw0.ensures.status c.act-dw0.ensures.dw0)
     c.push_reserved.ensures.items
+
+pub returns-clause-sound : goal.returns-clause-sound
+returns-clause-sound g c = invariant_of-self-2 g c

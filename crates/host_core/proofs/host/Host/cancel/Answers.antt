@@ -1,23 +1,22 @@
-use Rattle.std.proofs.Common.{◌≡◌, ◌++◌, [], List, subst, false}
+use Rattle.std.proofs.Common.{◌++◌, [], false, sym, ◌∙◌}
 use Rattle.io_commands.specs.Drafts.{DraftContents}
 use Rattle.machine_model.specs.Events as events
 use Rattle.machine_model.specs.declared.words.Refusal.TheVariants as refusal
-use Rattle.machine_model.specs.State.{Record}
-use Rattle.host_core.specs.Commands.{BelongsToDraft, has_drafted}
+use Rattle.io_commands.specs.Values.{numbers_of}
 use Rattle.host_core.specs.Parts.{tables_of}
 use Rattle.host_core.specs.Tables.{Tables}
 use Rattle.host_core.specs.Whole.{IsWhole}
 use Rattle.host_core.proofs.Calls.{whole_at, step_at, stays_at}
 use Rattle.host_core.proofs.Keeping.{host_of, over_of}
-use Rattle.host_core.proofs.Ending.{cancel_refused, cancel_made, belongs_brings, ended_apart, brings_apart}
+use Rattle.host_core.proofs.Ending.{cancel_refused, cancel_made, belongs-from, belongs_brings, ended_apart, brings_apart}
 use Rattle.host_core.proofs.host.Host.cancel.Goals as goal
 
-pub returns-in_default-clause-step : goal.returns-in_default-clause-step
-returns-in_default-clause-step g c =
+pub returns-then-not-has_draft-clause-step : goal.returns-then-not-has_draft-clause-step
+returns-then-not-has_draft-clause-step g c =
     let t : Tables = tables_of c.self.inside.parts c.args.store.now.pages in
     let d : DraftContents = c.args.draft in
-    let none = subst (λ (rs : List Record). has_drafted rs d ≡ false) c.deref.ensures.value c.in_default.ensures.none in
-    stays_at t c.args.self.now (events.Cancel d) (events.Refused refusal.Stranger []) c.self.view_is (cancel_refused t d c.place_of_draft.ensures.proper none)
+    let none = sym c.has_draft.ensures.told ∙ c.if-not-has_draft.true in
+    stays_at t c.args.self.now (events.Cancel d) (events.Refused refusal.Stranger []) c.self.view_is (cancel_refused t d c.has_draft.ensures.proper none)
 
 pub commit_end-requires-clause-whole : goal.commit_end-requires-clause-whole
 commit_end-requires-clause-whole g c =
@@ -27,20 +26,20 @@ pub commit_end-requires-clause-brings : goal.commit_end-requires-clause-brings
 commit_end-requires-clause-brings g c =
     let t : Tables = tables_of c.self.inside.parts c.args.store.now.pages in
     let d : DraftContents = c.args.draft in
-    let belongs = subst (λ (rs : List Record). BelongsToDraft rs d c.in-Some.place) c.deref.ensures.value c.in-Some.ensures.place in
+    let belongs = belongs-from t.records false d.q d.cid d.request (numbers_of d.data_pages) (numbers_of d.chain_pages) (sym c.has_draft.ensures.told ∙ c.if-not-has_draft.false) in
     brings_apart t d.q d.cid (d.data_pages ++ d.chain_pages) c.apart-parts.result.q c.apart-parts.result.cid c.apart-parts.result.pages.items c.apart-parts.ensures.queue c.apart-parts.ensures.identifier c.apart-parts.ensures.pages
-    (belongs_brings t false d.q d.cid d.request d.data_pages d.chain_pages c.in-Some.place belongs)
+    (belongs_brings t false d.q d.cid d.request d.data_pages d.chain_pages belongs)
 
 pub invariant_of-self : goal.invariant_of-self
 invariant_of-self g c =
     let t : Tables = tables_of c.self.inside.parts c.args.store.now.pages in
     let w : IsWhole t = whole_at (tables_of c.self.inside.parts []) c.args.self.now c.args.store.now.pages c.self.view_is c.self.invariant c.requires in
     let d : DraftContents = c.args.draft in
-    let belongs = subst (λ (rs : List Record). BelongsToDraft rs d c.in-Some.place) c.deref.ensures.value c.in-Some.ensures.place in
+    let belongs = belongs-from t.records false d.q d.cid d.request (numbers_of d.data_pages) (numbers_of d.chain_pages) (sym c.has_draft.ensures.told ∙ c.if-not-has_draft.false) in
     let new : Tables = tables_of c.commit_end.new.self c.commit_end.new.store.pages in
     let left = ended_apart t new d.q d.cid (d.data_pages ++ d.chain_pages) c.apart-parts.result.q c.apart-parts.result.cid c.apart-parts.result.pages.items
     c.apart-parts.ensures.queue c.apart-parts.ensures.identifier c.apart-parts.ensures.pages c.commit_end.ensures in
-    let made = cancel_made t new d c.in-Some.place w c.place_of_draft.ensures.proper belongs left in
+    let made = cancel_made t new d w c.has_draft.ensures.proper belongs left in
     host_of (tables_of c.commit_end.new.self []) c.commit_end.new.store.pages made.whole
 
 pub returns-clause-step : goal.returns-clause-step
@@ -48,11 +47,11 @@ returns-clause-step g c =
     let t : Tables = tables_of c.self.inside.parts c.args.store.now.pages in
     let w : IsWhole t = whole_at (tables_of c.self.inside.parts []) c.args.self.now c.args.store.now.pages c.self.view_is c.self.invariant c.requires in
     let d : DraftContents = c.args.draft in
-    let belongs = subst (λ (rs : List Record). BelongsToDraft rs d c.in-Some.place) c.deref.ensures.value c.in-Some.ensures.place in
+    let belongs = belongs-from t.records false d.q d.cid d.request (numbers_of d.data_pages) (numbers_of d.chain_pages) (sym c.has_draft.ensures.told ∙ c.if-not-has_draft.false) in
     let new : Tables = tables_of c.commit_end.new.self c.commit_end.new.store.pages in
     let left = ended_apart t new d.q d.cid (d.data_pages ++ d.chain_pages) c.apart-parts.result.q c.apart-parts.result.cid c.apart-parts.result.pages.items
     c.apart-parts.ensures.queue c.apart-parts.ensures.identifier c.apart-parts.ensures.pages c.commit_end.ensures in
-    let made = cancel_made t new d c.in-Some.place w c.place_of_draft.ensures.proper belongs left in
+    let made = cancel_made t new d w c.has_draft.ensures.proper belongs left in
     step_at t new c.args.self.now (events.Cancel d) events.Accepted c.self.view_is made.step
 
 pub returns-clause-over : goal.returns-clause-over
@@ -60,9 +59,9 @@ returns-clause-over g c =
     let t : Tables = tables_of c.self.inside.parts c.args.store.now.pages in
     let w : IsWhole t = whole_at (tables_of c.self.inside.parts []) c.args.self.now c.args.store.now.pages c.self.view_is c.self.invariant c.requires in
     let d : DraftContents = c.args.draft in
-    let belongs = subst (λ (rs : List Record). BelongsToDraft rs d c.in-Some.place) c.deref.ensures.value c.in-Some.ensures.place in
+    let belongs = belongs-from t.records false d.q d.cid d.request (numbers_of d.data_pages) (numbers_of d.chain_pages) (sym c.has_draft.ensures.told ∙ c.if-not-has_draft.false) in
     let new : Tables = tables_of c.commit_end.new.self c.commit_end.new.store.pages in
     let left = ended_apart t new d.q d.cid (d.data_pages ++ d.chain_pages) c.apart-parts.result.q c.apart-parts.result.cid c.apart-parts.result.pages.items
     c.apart-parts.ensures.queue c.apart-parts.ensures.identifier c.apart-parts.ensures.pages c.commit_end.ensures in
-    let made = cancel_made t new d c.in-Some.place w c.place_of_draft.ensures.proper belongs left in
+    let made = cancel_made t new d w c.has_draft.ensures.proper belongs left in
     over_of new made.whole

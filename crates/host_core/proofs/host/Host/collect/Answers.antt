@@ -6,13 +6,13 @@ use Rattle.machine_model.specs.declared.words.Phase.TheVariants.{Held}
 use Rattle.machine_model.specs.declared.words.Refusal.TheVariants as refusal
 use Rattle.machine_model.specs.declared.words.Work.TheVariants.{Io}
 use Rattle.host_core.specs.Collecting.{StandsAt}
-use Rattle.host_core.specs.Parts.{tables_of}
+use Rattle.host_core.specs.Parts.{record_of, tables_of}
 use Rattle.host_core.specs.Tables.{Tables, state_of}
 use Rattle.host_core.specs.Whole.{FitsPhase, IsWhole}
 use Rattle.host_core.proofs.Calls.{whole_at, step_at, stays_at}
-use Rattle.host_core.proofs.Collecting.{collect-nothing, held_fits}
+use Rattle.host_core.proofs.Collecting.{collect-nothing, found-at, held_fits}
 use Rattle.host_core.proofs.Keeping.{host_of, over_of}
-use Rattle.host_core.proofs.Lists.{get-at, some_is}
+use Rattle.host_core.proofs.Lists.{some_is}
 use Rattle.host_core.proofs.Steps.{host_step}
 use Rattle.host_core.proofs.host.Host.collect.Goals as goal
 
@@ -29,19 +29,19 @@ pub room_for-requires : goal.room_for-requires
 room_for-requires g c =
     let t : Tables = tables_of c.self.inside.parts c.args.store.now.pages in
     let w : IsWhole t = whole_at (tables_of c.self.inside.parts []) c.args.self.now c.args.store.now.pages c.self.view_is c.self.invariant c.requires in
-    let stands : StandsAt t c.args.ticket.q c.args.ticket.cid c.in-Ok.place =
-    subst (λ (q : ℕ). StandsAt t q c.args.ticket.cid c.in-Ok.place) c.q.ensures (subst (λ (cid : ℕ). StandsAt t c.q.result cid c.in-Ok.place) c.cid.ensures (c.in-Ok.ensures.place c.args.store.now.pages w)) in
-    let here = get-at c.in-Ok.place t.records c.index.result.now c.in-Ok.ensures.within c.index.ensures in
-    subst (λ (r : Record). FitsPhase Held r.work r.status) (some_is (sym stands.at ∙ here)) (held_fits t c.args.ticket.q c.args.ticket.cid c.in-Ok.place w stands)
+    let stands : StandsAt t c.args.ticket.q c.args.ticket.cid =
+    subst (λ (q : ℕ). StandsAt t q c.args.ticket.cid) c.q.ensures (subst (λ (cid : ℕ). StandsAt t c.q.result cid) c.cid.ensures (c.in-Ok.ensures.stands c.args.store.now.pages w)) in
+    let here = found-at t c.args.ticket.q c.args.ticket.cid c.q.result c.cid.result (record_of c.q.result c.cid.result c.in-Ok.entry.now) c.q.ensures c.cid.ensures c.in-Ok.ensures.found in
+    subst (λ (r : Record). FitsPhase Held r.work r.status) (some_is (sym stands.was ∙ here)) (held_fits t c.args.ticket.q c.args.ticket.cid w stands)
 
 pub returns-in-Err-room_for-clause-step : goal.returns-in-Err-room_for-clause-step
 returns-in-Err-room_for-clause-step g c =
     let t : Tables = tables_of c.self.inside.parts c.args.store.now.pages in
     let w : IsWhole t = whole_at (tables_of c.self.inside.parts []) c.args.self.now c.args.store.now.pages c.self.view_is c.self.invariant c.requires in
-    let stands : StandsAt t c.args.ticket.q c.args.ticket.cid c.in-Ok.place =
-    subst (λ (q : ℕ). StandsAt t q c.args.ticket.cid c.in-Ok.place) c.q.ensures (subst (λ (cid : ℕ). StandsAt t c.q.result cid c.in-Ok.place) c.cid.ensures (c.in-Ok.ensures.place c.args.store.now.pages w)) in
+    let stands : StandsAt t c.args.ticket.q c.args.ticket.cid =
+    subst (λ (q : ℕ). StandsAt t q c.args.ticket.cid) c.q.ensures (subst (λ (cid : ℕ). StandsAt t c.q.result cid) c.cid.ensures (c.in-Ok.ensures.stands c.args.store.now.pages w)) in
     stays_at t c.args.self.now (events.Collect c.args.ticket.q c.args.ticket.cid) (events.Refused refusal.Memory []) c.self.view_is
-    (host_step t t (events.Collect c.args.ticket.q c.args.ticket.cid) (events.Refused refusal.Memory []) refl tt ((refl, collect-nothing t c.args.ticket.q c.args.ticket.cid c.in-Ok.place stands, refl), refl))
+    (host_step t t (events.Collect c.args.ticket.q c.args.ticket.cid) (events.Refused refusal.Memory []) refl tt ((refl, collect-nothing t c.args.ticket.q c.args.ticket.cid stands, refl), refl))
 
 pub commit_collect-requires-clause-whole : goal.commit_collect-requires-clause-whole
 commit_collect-requires-clause-whole g c =
@@ -51,22 +51,22 @@ pub commit_collect-requires-clause-stands : goal.commit_collect-requires-clause-
 commit_collect-requires-clause-stands g c =
     let t : Tables = tables_of c.self.inside.parts c.args.store.now.pages in
     let w : IsWhole t = whole_at (tables_of c.self.inside.parts []) c.args.self.now c.args.store.now.pages c.self.view_is c.self.invariant c.requires in
-    let stands : StandsAt t c.args.ticket.q c.args.ticket.cid c.in-Ok.place =
-    subst (λ (q : ℕ). StandsAt t q c.args.ticket.cid c.in-Ok.place) c.q.ensures (subst (λ (cid : ℕ). StandsAt t c.q.result cid c.in-Ok.place) c.cid.ensures (c.in-Ok.ensures.place c.args.store.now.pages w)) in
-    subst (λ (q : ℕ). StandsAt t q c.apart-q.result.1 c.in-Ok.place) (sym c.apart-q.ensures.queue) (subst (λ (cid : ℕ). StandsAt t c.args.ticket.q cid c.in-Ok.place) (sym c.apart-q.ensures.identifier) stands)
+    let stands : StandsAt t c.args.ticket.q c.args.ticket.cid =
+    subst (λ (q : ℕ). StandsAt t q c.args.ticket.cid) c.q.ensures (subst (λ (cid : ℕ). StandsAt t c.q.result cid) c.cid.ensures (c.in-Ok.ensures.stands c.args.store.now.pages w)) in
+    subst (λ (q : ℕ). StandsAt t q c.apart-q.result.1) (sym c.apart-q.ensures.queue) (subst (λ (cid : ℕ). StandsAt t c.args.ticket.q cid) (sym c.apart-q.ensures.identifier) stands)
 
 pub commit_collect-requires-clause-tells : goal.commit_collect-requires-clause-tells
 commit_collect-requires-clause-tells g c = λ entry at.
     let t : Tables = tables_of c.self.inside.parts c.args.store.now.pages in
-    let here = get-at c.in-Ok.place t.records c.index.result.now c.in-Ok.ensures.within c.index.ensures in
-    let same : c.index.result.now ≡ entry = some_is (sym here ∙ at) in
+    let here = found-at t c.apart-q.result.0 c.apart-q.result.1 c.q.result c.cid.result (record_of c.q.result c.cid.result c.in-Ok.entry.now) (c.q.ensures ∙ sym c.apart-q.ensures.queue) (c.cid.ensures ∙ sym c.apart-q.ensures.identifier) c.in-Ok.ensures.found in
+    let same : record_of c.q.result c.cid.result c.in-Ok.entry.now ≡ entry = some_is (sym here ∙ at) in
     (subst (λ (r : Record). r.work ≡ Io c.in-Ok-room_for.room.request) same c.in-Ok-room_for.ensures.request, subst (λ (r : Record). r.status ≡ Some c.in-Ok-room_for.room.status) same c.in-Ok-room_for.ensures.status)
 
 pub commit_collect-requires-clause-space : goal.commit_collect-requires-clause-space
 commit_collect-requires-clause-space g c = λ entry at.
     let t : Tables = tables_of c.self.inside.parts c.args.store.now.pages in
-    let here = get-at c.in-Ok.place t.records c.index.result.now c.in-Ok.ensures.within c.index.ensures in
-    let same : c.index.result.now ≡ entry = some_is (sym here ∙ at) in
+    let here = found-at t c.apart-q.result.0 c.apart-q.result.1 c.q.result c.cid.result (record_of c.q.result c.cid.result c.in-Ok.entry.now) (c.q.ensures ∙ sym c.apart-q.ensures.queue) (c.cid.ensures ∙ sym c.apart-q.ensures.identifier) c.in-Ok.ensures.found in
+    let same : record_of c.q.result c.cid.result c.in-Ok.entry.now ≡ entry = some_is (sym here ∙ at) in
     subst (λ (r : Record). length r.data_pages + length r.chain_pages ≤ vec_capacity c.in-Ok-room_for.room.pages) same c.in-Ok-room_for.ensures.room.2
 
 pub invariant_of-self : goal.invariant_of-self

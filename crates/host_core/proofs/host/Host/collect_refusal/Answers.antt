@@ -15,7 +15,7 @@ returns-in-Ok g c = λ pages over.
     let t : Tables = tables_of c.self.inside.parts pages in
     let w : IsWhole t = whole_at (tables_of c.self.inside.parts []) c.args.self.now pages c.self.view_is c.self.invariant over in
     subst (λ (v : HostView). None ≡ refusal_of (alone v pages) (events.Collect c.args.q c.args.cid)) c.self.view_is
-    (sym (collect-nothing t c.args.q c.args.cid c.in-Ok.field-0 (c.in-Ok.ensures.place pages w)))
+    (sym (collect-nothing t c.args.q c.args.cid (c.in-Ok.ensures.stands pages w)))
 
 pub returns-in-Err : goal.returns-in-Err
 returns-in-Err g c = λ pages over.

@@ -13,13 +13,13 @@ overflow_cast-result-in-Ok g c = (fits_word c.args.config (sym c.in-None.ensures
 
 pub invariant_of-result : goal.invariant_of-result
 invariant_of-result g c =
-    (opens_made c.args.config c.in-Ok.ledger c.new.result.items c.in-Ok.queues.items (sym c.in-None.ensures) c.in-Ok.ensures.owners c.in-Ok.ensures.granted c.new.ensures.items c.in-Ok.ensures.queues).host
+    (opens_made c.args.config c.in-Ok.ledger c.in-Ok.records c.in-Ok.queues.items (sym c.in-None.ensures) c.in-Ok.ensures.owners c.in-Ok.ensures.granted c.in-Ok.ensures.records c.in-Ok.ensures.queues).host
 
 pub returns-in-Ok-clause-host : goal.returns-in-Ok-clause-host
 returns-in-Ok-clause-host g c =
-    (opens_made c.args.config c.in-Ok.ledger c.new.result.items c.in-Ok.queues.items (sym c.in-None.ensures) c.in-Ok.ensures.owners c.in-Ok.ensures.granted c.new.ensures.items c.in-Ok.ensures.queues).view
+    (opens_made c.args.config c.in-Ok.ledger c.in-Ok.records c.in-Ok.queues.items (sym c.in-None.ensures) c.in-Ok.ensures.owners c.in-Ok.ensures.granted c.in-Ok.ensures.records c.in-Ok.ensures.queues).view
 
 pub returns-in-Ok-clause-over : goal.returns-in-Ok-clause-over
 returns-in-Ok-clause-over g c =
-    let made = opens_made c.args.config c.in-Ok.ledger c.new.result.items c.in-Ok.queues.items (sym c.in-None.ensures) c.in-Ok.ensures.owners c.in-Ok.ensures.granted c.new.ensures.items c.in-Ok.ensures.queues in
-    subst (λ (pages : Pages). IsOver (view_of (tables_made c.args.config c.in-Ok.ledger c.new.result.items c.in-Ok.queues.items)) pages) (sym c.in-Ok.ensures.pages) made.over
+    let made = opens_made c.args.config c.in-Ok.ledger c.in-Ok.records c.in-Ok.queues.items (sym c.in-None.ensures) c.in-Ok.ensures.owners c.in-Ok.ensures.granted c.in-Ok.ensures.records c.in-Ok.ensures.queues in
+    subst (λ (pages : Pages). IsOver (view_of (tables_made c.args.config c.in-Ok.ledger c.in-Ok.records c.in-Ok.queues.items)) pages) (sym c.in-Ok.ensures.pages) made.over

@@ -1,29 +1,27 @@
-use Rattle.std.proofs.Common.{◌≡◌, ◌++◌, [], List, subst, true, false}
+use Rattle.std.proofs.Common.{◌++◌, [], sym, ◌∙◌, subst, true}
 use Rattle.io_commands.specs.DataBytes.{PagesOut}
 use Rattle.io_commands.specs.Values.{FinishedContents, numbers_of}
 use Rattle.machine_model.specs.Proper.{ArePages}
 use Rattle.machine_model.specs.Events as events
 use Rattle.machine_model.specs.declared.words.Refusal.TheVariants as refusal
-use Rattle.machine_model.specs.State.{Record}
-use Rattle.host_core.specs.Commands.{Belongs, has_record}
 use Rattle.host_core.specs.Parts.{tables_of}
 use Rattle.host_core.specs.Tables.{Tables}
 use Rattle.host_core.specs.Whole.{IsWhole}
 use Rattle.host_core.proofs.Calls.{whole_at, step_at, stays_at}
 use Rattle.host_core.proofs.Keeping.{host_of, over_of}
-use Rattle.host_core.proofs.Ending.{reads_from, read_none, read_belongs, release_refused, release_made, belongs_brings, ended_apart, brings_apart}
+use Rattle.host_core.proofs.Ending.{reads_from, belongs-from, read_has, read_belongs, release_refused, release_made, belongs_brings, ended_apart, brings_apart}
 use Rattle.host_core.proofs.host.Host.release.Goals as goal
 
-pub returns-in_default-clause-step : goal.returns-in_default-clause-step
-returns-in_default-clause-step g c =
+pub returns-then-not-has_record-clause-step : goal.returns-then-not-has_record-clause-step
+returns-then-not-has_record-clause-step g c =
     let t : Tables = tables_of c.self.inside.parts c.args.store.now.pages in
     let d : FinishedContents = c.args.finished in
     let reads = reads_from d.q d.cid d.request d.data_pages d.chain_pages c.q.result c.cid.result c.request-request.result.now c.pages-2.result.now c.data_pages.result c.split_at.result.0.now c.split_at.result.1.now
     c.q.ensures c.cid.ensures c.request-request.ensures c.pages-2.ensures c.data_pages.ensures c.split_at.ensures.front c.split_at.ensures.back in
     let are = subst (λ (ps : PagesOut). ArePages ps) c.pages.ensures c.read_pages.ensures in
-    let none = subst (λ (rs : List Record). has_record rs true c.q.result c.cid.result c.request-request.result.now (numbers_of c.split_at.result.0.now) (numbers_of c.split_at.result.1.now) ≡ false) c.deref.ensures.value c.in_default.ensures.none in
+    let none = sym c.has_record.ensures ∙ c.if-not-has_record.true in
     stays_at t c.args.self.now (events.Release d) (events.Refused refusal.Stranger []) c.self.view_is
-    (release_refused t d are (read_none t.records true d.q d.cid d.request d.data_pages d.chain_pages c.q.result c.cid.result c.request-request.result.now c.split_at.result.0.now c.split_at.result.1.now reads none))
+    (release_refused t d are (sym (read_has t.records true d.q d.cid d.request d.data_pages d.chain_pages c.q.result c.cid.result c.request-request.result.now c.split_at.result.0.now c.split_at.result.1.now reads) ∙ none))
 
 pub commit_end-requires-clause-whole : goal.commit_end-requires-clause-whole
 commit_end-requires-clause-whole g c =
@@ -35,10 +33,10 @@ commit_end-requires-clause-brings g c =
     let d : FinishedContents = c.args.finished in
     let reads = reads_from d.q d.cid d.request d.data_pages d.chain_pages c.q.result c.cid.result c.request-request.result.now c.pages-2.result.now c.data_pages.result c.split_at.result.0.now c.split_at.result.1.now
     c.q.ensures c.cid.ensures c.request-request.ensures c.pages-2.ensures c.data_pages.ensures c.split_at.ensures.front c.split_at.ensures.back in
-    let found = subst (λ (rs : List Record). Belongs rs true c.q.result c.cid.result c.request-request.result.now (numbers_of c.split_at.result.0.now) (numbers_of c.split_at.result.1.now) c.in-Some.place) c.deref.ensures.value c.in-Some.ensures.place in
-    let belongs = read_belongs t.records true d.q d.cid d.request d.data_pages d.chain_pages c.q.result c.cid.result c.request-request.result.now c.split_at.result.0.now c.split_at.result.1.now c.in-Some.place reads found in
+    let found = belongs-from t.records true c.q.result c.cid.result c.request-request.result.now (numbers_of c.split_at.result.0.now) (numbers_of c.split_at.result.1.now) (sym c.has_record.ensures ∙ c.if-not-has_record.false) in
+    let belongs = read_belongs t.records true d.q d.cid d.request d.data_pages d.chain_pages c.q.result c.cid.result c.request-request.result.now c.split_at.result.0.now c.split_at.result.1.now reads found in
     brings_apart t d.q d.cid (d.data_pages ++ d.chain_pages) c.apart-parts.result.q c.apart-parts.result.cid c.apart-parts.result.pages.items c.apart-parts.ensures.queue c.apart-parts.ensures.identifier c.apart-parts.ensures.pages
-    (belongs_brings t true d.q d.cid d.request d.data_pages d.chain_pages c.in-Some.place belongs)
+    (belongs_brings t true d.q d.cid d.request d.data_pages d.chain_pages belongs)
 
 pub invariant_of-self : goal.invariant_of-self
 invariant_of-self g c =
@@ -48,12 +46,12 @@ invariant_of-self g c =
     let reads = reads_from d.q d.cid d.request d.data_pages d.chain_pages c.q.result c.cid.result c.request-request.result.now c.pages-2.result.now c.data_pages.result c.split_at.result.0.now c.split_at.result.1.now
     c.q.ensures c.cid.ensures c.request-request.ensures c.pages-2.ensures c.data_pages.ensures c.split_at.ensures.front c.split_at.ensures.back in
     let are = subst (λ (ps : PagesOut). ArePages ps) c.pages.ensures c.read_pages.ensures in
-    let found = subst (λ (rs : List Record). Belongs rs true c.q.result c.cid.result c.request-request.result.now (numbers_of c.split_at.result.0.now) (numbers_of c.split_at.result.1.now) c.in-Some.place) c.deref.ensures.value c.in-Some.ensures.place in
-    let belongs = read_belongs t.records true d.q d.cid d.request d.data_pages d.chain_pages c.q.result c.cid.result c.request-request.result.now c.split_at.result.0.now c.split_at.result.1.now c.in-Some.place reads found in
+    let found = belongs-from t.records true c.q.result c.cid.result c.request-request.result.now (numbers_of c.split_at.result.0.now) (numbers_of c.split_at.result.1.now) (sym c.has_record.ensures ∙ c.if-not-has_record.false) in
+    let belongs = read_belongs t.records true d.q d.cid d.request d.data_pages d.chain_pages c.q.result c.cid.result c.request-request.result.now c.split_at.result.0.now c.split_at.result.1.now reads found in
     let new : Tables = tables_of c.commit_end.new.self c.commit_end.new.store.pages in
     let left = ended_apart t new d.q d.cid (d.data_pages ++ d.chain_pages) c.apart-parts.result.q c.apart-parts.result.cid c.apart-parts.result.pages.items
     c.apart-parts.ensures.queue c.apart-parts.ensures.identifier c.apart-parts.ensures.pages c.commit_end.ensures in
-    let made = release_made t new d c.in-Some.place w are belongs left in
+    let made = release_made t new d w are belongs left in
     host_of (tables_of c.commit_end.new.self []) c.commit_end.new.store.pages made.whole
 
 pub returns-clause-step : goal.returns-clause-step
@@ -64,12 +62,12 @@ returns-clause-step g c =
     let reads = reads_from d.q d.cid d.request d.data_pages d.chain_pages c.q.result c.cid.result c.request-request.result.now c.pages-2.result.now c.data_pages.result c.split_at.result.0.now c.split_at.result.1.now
     c.q.ensures c.cid.ensures c.request-request.ensures c.pages-2.ensures c.data_pages.ensures c.split_at.ensures.front c.split_at.ensures.back in
     let are = subst (λ (ps : PagesOut). ArePages ps) c.pages.ensures c.read_pages.ensures in
-    let found = subst (λ (rs : List Record). Belongs rs true c.q.result c.cid.result c.request-request.result.now (numbers_of c.split_at.result.0.now) (numbers_of c.split_at.result.1.now) c.in-Some.place) c.deref.ensures.value c.in-Some.ensures.place in
-    let belongs = read_belongs t.records true d.q d.cid d.request d.data_pages d.chain_pages c.q.result c.cid.result c.request-request.result.now c.split_at.result.0.now c.split_at.result.1.now c.in-Some.place reads found in
+    let found = belongs-from t.records true c.q.result c.cid.result c.request-request.result.now (numbers_of c.split_at.result.0.now) (numbers_of c.split_at.result.1.now) (sym c.has_record.ensures ∙ c.if-not-has_record.false) in
+    let belongs = read_belongs t.records true d.q d.cid d.request d.data_pages d.chain_pages c.q.result c.cid.result c.request-request.result.now c.split_at.result.0.now c.split_at.result.1.now reads found in
     let new : Tables = tables_of c.commit_end.new.self c.commit_end.new.store.pages in
     let left = ended_apart t new d.q d.cid (d.data_pages ++ d.chain_pages) c.apart-parts.result.q c.apart-parts.result.cid c.apart-parts.result.pages.items
     c.apart-parts.ensures.queue c.apart-parts.ensures.identifier c.apart-parts.ensures.pages c.commit_end.ensures in
-    let made = release_made t new d c.in-Some.place w are belongs left in
+    let made = release_made t new d w are belongs left in
     step_at t new c.args.self.now (events.Release d) events.Accepted c.self.view_is made.step
 
 pub returns-clause-over : goal.returns-clause-over
@@ -80,10 +78,10 @@ returns-clause-over g c =
     let reads = reads_from d.q d.cid d.request d.data_pages d.chain_pages c.q.result c.cid.result c.request-request.result.now c.pages-2.result.now c.data_pages.result c.split_at.result.0.now c.split_at.result.1.now
     c.q.ensures c.cid.ensures c.request-request.ensures c.pages-2.ensures c.data_pages.ensures c.split_at.ensures.front c.split_at.ensures.back in
     let are = subst (λ (ps : PagesOut). ArePages ps) c.pages.ensures c.read_pages.ensures in
-    let found = subst (λ (rs : List Record). Belongs rs true c.q.result c.cid.result c.request-request.result.now (numbers_of c.split_at.result.0.now) (numbers_of c.split_at.result.1.now) c.in-Some.place) c.deref.ensures.value c.in-Some.ensures.place in
-    let belongs = read_belongs t.records true d.q d.cid d.request d.data_pages d.chain_pages c.q.result c.cid.result c.request-request.result.now c.split_at.result.0.now c.split_at.result.1.now c.in-Some.place reads found in
+    let found = belongs-from t.records true c.q.result c.cid.result c.request-request.result.now (numbers_of c.split_at.result.0.now) (numbers_of c.split_at.result.1.now) (sym c.has_record.ensures ∙ c.if-not-has_record.false) in
+    let belongs = read_belongs t.records true d.q d.cid d.request d.data_pages d.chain_pages c.q.result c.cid.result c.request-request.result.now c.split_at.result.0.now c.split_at.result.1.now reads found in
     let new : Tables = tables_of c.commit_end.new.self c.commit_end.new.store.pages in
     let left = ended_apart t new d.q d.cid (d.data_pages ++ d.chain_pages) c.apart-parts.result.q c.apart-parts.result.cid c.apart-parts.result.pages.items
     c.apart-parts.ensures.queue c.apart-parts.ensures.identifier c.apart-parts.ensures.pages c.commit_end.ensures in
-    let made = release_made t new d c.in-Some.place w are belongs left in
+    let made = release_made t new d w are belongs left in
     over_of new made.whole

@@ -2,13 +2,13 @@ use Rattle.std.proofs.Common.{ap, ℕ, [], refl, sym, subst, arith}
 use Rattle.machine_model.specs.Events as events
 use Rattle.machine_model.specs.declared.words.Refusal.TheVariants as refusal
 use Rattle.io_commands.specs.Drafts.{DraftContents}
-use Rattle.host_core.specs.Alone.{HasFirstPages, HostStep, HostView, IsLowest, IsOver}
+use Rattle.host_core.specs.Alone.{HasFirstPages, HostView, IsLowest}
 use Rattle.host_core.specs.Commands.{Grants}
 use Rattle.host_core.specs.Parts.{tables_of}
 use Rattle.host_core.specs.Tables.{Tables, state_of, view_of}
-use Rattle.host_core.specs.Whole.{IsHost, IsWhole}
+use Rattle.host_core.specs.Whole.{IsWhole}
 use Rattle.host_core.proofs.Calls.{whole_at, step_at, stays_at}
-use Rattle.host_core.proofs.Granted.{draft_is, first_pages, reserve_made}
+use Rattle.host_core.proofs.Granted.{first_pages, reserve_made}
 use Rattle.host_core.proofs.Granting.{grant-lowest, refuses-memory}
 use Rattle.host_core.proofs.Keeping.{host_of, over_of}
 use Rattle.host_core.proofs.Steps.{host_step}
@@ -21,53 +21,38 @@ returns-in-Err-clause-step g c =
     stays_at t c.args.self.now (events.Reserve c.args.q c.args.request) (events.Refused c.in-Err.why []) c.self.view_is
     (host_step t t (events.Reserve c.args.q c.args.request) (events.Refused c.in-Err.why []) refl c.read.ensures (c.in-Err.ensures.refused c.args.store.now.pages w, refl))
 
-pub reserve_room-requires : goal.reserve_room-requires
-reserve_room-requires g c =
+pub make_room-requires : goal.make_room-requires
+make_room-requires g c =
     let t : Tables = tables_of c.self.inside.parts c.args.store.now.pages in
     let w : IsWhole t = whole_at (tables_of c.self.inside.parts []) c.args.self.now c.args.store.now.pages c.self.view_is c.self.invariant c.requires in
     let grants : Grants t c.args.q c.args.request c.in-Ok.grant.cid c.in-Ok.grant.front c.in-Ok.grant.back = c.in-Ok.ensures.granted c.args.store.now.pages w in
     omega (arith, grants.enough, w.sound.counted, w.pool.few)
 
-pub invariant_of-self : goal.invariant_of-self
-invariant_of-self g c = subst (λ (u : Tables). IsHost u) (sym (c.reserve_room.ensures.same [])) c.self.invariant
-
-pub returns-in-Err-reserve_room-clause-step : goal.returns-in-Err-reserve_room-clause-step
-returns-in-Err-reserve_room-clause-step g c =
+pub returns-in-Err-make_room-clause-step : goal.returns-in-Err-make_room-clause-step
+returns-in-Err-make_room-clause-step g c =
     let t : Tables = tables_of c.self.inside.parts c.args.store.now.pages in
     let w : IsWhole t = whole_at (tables_of c.self.inside.parts []) c.args.self.now c.args.store.now.pages c.self.view_is c.self.invariant c.requires in
     let grants : Grants t c.args.q c.args.request c.in-Ok.grant.cid c.in-Ok.grant.front c.in-Ok.grant.back = c.in-Ok.ensures.granted c.args.store.now.pages w in
-    subst (λ (u : Tables). HostStep c.args.self.now c.args.store.now.pages (events.Reserve c.args.q c.args.request) (events.Refused refusal.Memory []) (view_of u) c.args.store.now.pages) (sym (c.reserve_room.ensures.same []))
-    (step_at t t c.args.self.now (events.Reserve c.args.q c.args.request) (events.Refused refusal.Memory []) c.self.view_is
-    (host_step t t (events.Reserve c.args.q c.args.request) (events.Refused refusal.Memory []) refl c.read.ensures (refuses-memory (state_of t) c.args.q c.args.request grants.none, refl)))
-
-pub returns-in-Err-reserve_room-clause-over : goal.returns-in-Err-reserve_room-clause-over
-returns-in-Err-reserve_room-clause-over g c =
-    let t : Tables = tables_of c.self.inside.parts c.args.store.now.pages in
-    let w : IsWhole t = whole_at (tables_of c.self.inside.parts []) c.args.self.now c.args.store.now.pages c.self.view_is c.self.invariant c.requires in
-    subst (λ (u : Tables). IsOver (view_of u) c.args.store.now.pages) (sym (c.reserve_room.ensures.same [])) (over_of t w)
+    stays_at t c.args.self.now (events.Reserve c.args.q c.args.request) (events.Refused refusal.Memory []) c.self.view_is
+    (host_step t t (events.Reserve c.args.q c.args.request) (events.Refused refusal.Memory []) refl c.read.ensures (refuses-memory (state_of t) c.args.q c.args.request grants.none, refl))
 
 pub commit_reserve-requires-clause-whole : goal.commit_reserve-requires-clause-whole
 commit_reserve-requires-clause-whole g c =
-    let t : Tables = tables_of c.self.inside.parts c.args.store.now.pages in
-    let w : IsWhole t = whole_at (tables_of c.self.inside.parts []) c.args.self.now c.args.store.now.pages c.self.view_is c.self.invariant c.requires in
-    subst (λ (u : Tables). IsWhole u) (sym (c.reserve_room.ensures.same c.args.store.now.pages)) w
+    whole_at (tables_of c.self.inside.parts []) c.args.self.now c.args.store.now.pages c.self.view_is c.self.invariant c.requires
 
 pub commit_reserve-requires-clause-granted : goal.commit_reserve-requires-clause-granted
 commit_reserve-requires-clause-granted g c =
     let t : Tables = tables_of c.self.inside.parts c.args.store.now.pages in
     let w : IsWhole t = whole_at (tables_of c.self.inside.parts []) c.args.self.now c.args.store.now.pages c.self.view_is c.self.invariant c.requires in
-    let grants : Grants t c.args.q c.args.request c.in-Ok.grant.cid c.in-Ok.grant.front c.in-Ok.grant.back = c.in-Ok.ensures.granted c.args.store.now.pages w in
-    subst (λ (u : Tables). Grants u c.args.q c.args.request c.in-Ok.grant.cid c.in-Ok.grant.front c.in-Ok.grant.back) (sym (c.reserve_room.ensures.same c.args.store.now.pages)) grants
+    c.in-Ok.ensures.granted c.args.store.now.pages w
 
-pub invariant_of-self-2 : goal.invariant_of-self-2
-invariant_of-self-2 g c =
+pub invariant_of-self : goal.invariant_of-self
+invariant_of-self g c =
     let t : Tables = tables_of c.self.inside.parts c.args.store.now.pages in
     let w : IsWhole t = whole_at (tables_of c.self.inside.parts []) c.args.self.now c.args.store.now.pages c.self.view_is c.self.invariant c.requires in
     let grants : Grants t c.args.q c.args.request c.in-Ok.grant.cid c.in-Ok.grant.front c.in-Ok.grant.back = c.in-Ok.ensures.granted c.args.store.now.pages w in
-    let mid : Tables = tables_of c.reserve_room.new.self c.args.store.now.pages in
     let new : Tables = tables_of c.commit_reserve.new.self c.commit_reserve.new.store.pages in
-    let made = reserve_made t mid new c.args.q c.in-Ok.grant.cid c.args.request c.in-Ok.grant.front c.in-Ok.grant.back c.commit_reserve.result w c.read.ensures grants
-    (c.reserve_room.ensures.same c.args.store.now.pages) c.commit_reserve.ensures.draft c.commit_reserve.ensures.new in
+    let made = reserve_made t new c.args.q c.in-Ok.grant.cid c.args.request c.in-Ok.grant.front c.in-Ok.grant.back c.commit_reserve.result w c.read.ensures grants c.commit_reserve.ensures.draft c.commit_reserve.ensures.new in
     host_of (tables_of c.commit_reserve.new.self []) c.commit_reserve.new.store.pages made.whole
 
 pub returns-clause-step : goal.returns-clause-step
@@ -75,10 +60,8 @@ returns-clause-step g c =
     let t : Tables = tables_of c.self.inside.parts c.args.store.now.pages in
     let w : IsWhole t = whole_at (tables_of c.self.inside.parts []) c.args.self.now c.args.store.now.pages c.self.view_is c.self.invariant c.requires in
     let grants : Grants t c.args.q c.args.request c.in-Ok.grant.cid c.in-Ok.grant.front c.in-Ok.grant.back = c.in-Ok.ensures.granted c.args.store.now.pages w in
-    let mid : Tables = tables_of c.reserve_room.new.self c.args.store.now.pages in
     let new : Tables = tables_of c.commit_reserve.new.self c.commit_reserve.new.store.pages in
-    let made = reserve_made t mid new c.args.q c.in-Ok.grant.cid c.args.request c.in-Ok.grant.front c.in-Ok.grant.back c.commit_reserve.result w c.read.ensures grants
-    (c.reserve_room.ensures.same c.args.store.now.pages) c.commit_reserve.ensures.draft c.commit_reserve.ensures.new in
+    let made = reserve_made t new c.args.q c.in-Ok.grant.cid c.args.request c.in-Ok.grant.front c.in-Ok.grant.back c.commit_reserve.result w c.read.ensures grants c.commit_reserve.ensures.draft c.commit_reserve.ensures.new in
     step_at t new c.args.self.now (events.Reserve c.args.q c.args.request) (events.Reserved c.commit_reserve.result) c.self.view_is made.step
 
 pub returns-clause-over : goal.returns-clause-over
@@ -86,10 +69,8 @@ returns-clause-over g c =
     let t : Tables = tables_of c.self.inside.parts c.args.store.now.pages in
     let w : IsWhole t = whole_at (tables_of c.self.inside.parts []) c.args.self.now c.args.store.now.pages c.self.view_is c.self.invariant c.requires in
     let grants : Grants t c.args.q c.args.request c.in-Ok.grant.cid c.in-Ok.grant.front c.in-Ok.grant.back = c.in-Ok.ensures.granted c.args.store.now.pages w in
-    let mid : Tables = tables_of c.reserve_room.new.self c.args.store.now.pages in
     let new : Tables = tables_of c.commit_reserve.new.self c.commit_reserve.new.store.pages in
-    let made = reserve_made t mid new c.args.q c.in-Ok.grant.cid c.args.request c.in-Ok.grant.front c.in-Ok.grant.back c.commit_reserve.result w c.read.ensures grants
-    (c.reserve_room.ensures.same c.args.store.now.pages) c.commit_reserve.ensures.draft c.commit_reserve.ensures.new in
+    let made = reserve_made t new c.args.q c.in-Ok.grant.cid c.args.request c.in-Ok.grant.front c.in-Ok.grant.back c.commit_reserve.result w c.read.ensures grants c.commit_reserve.ensures.draft c.commit_reserve.ensures.new in
     over_of new made.whole
 
 pub returns-clause-identifier : goal.returns-clause-identifier
@@ -97,17 +78,13 @@ returns-clause-identifier g c =
     let t : Tables = tables_of c.self.inside.parts c.args.store.now.pages in
     let w : IsWhole t = whole_at (tables_of c.self.inside.parts []) c.args.self.now c.args.store.now.pages c.self.view_is c.self.invariant c.requires in
     let grants : Grants t c.args.q c.args.request c.in-Ok.grant.cid c.in-Ok.grant.front c.in-Ok.grant.back = c.in-Ok.ensures.granted c.args.store.now.pages w in
-    let mid : Tables = tables_of c.reserve_room.new.self c.args.store.now.pages in
-    let is = draft_is t mid c.args.q c.in-Ok.grant.cid c.args.request c.in-Ok.grant.front c.in-Ok.grant.back c.commit_reserve.result (c.reserve_room.ensures.same c.args.store.now.pages) c.commit_reserve.ensures.draft in
     subst (λ (v : HostView). IsLowest v.host c.args.q c.commit_reserve.result.cid) c.self.view_is
-    (subst (λ (k : ℕ). IsLowest (view_of t).host c.args.q k) (sym (ap (λ (d : DraftContents). d.cid) is)) (grant-lowest t w c.args.q c.in-Ok.grant.cid c.args.request c.in-Ok.grant.front c.in-Ok.grant.back grants))
+    (subst (λ (k : ℕ). IsLowest (view_of t).host c.args.q k) (sym (ap (λ (d : DraftContents). d.cid) c.commit_reserve.ensures.draft)) (grant-lowest t w c.args.q c.in-Ok.grant.cid c.args.request c.in-Ok.grant.front c.in-Ok.grant.back grants))
 
 pub returns-clause-pages : goal.returns-clause-pages
 returns-clause-pages g c =
     let t : Tables = tables_of c.self.inside.parts c.args.store.now.pages in
     let w : IsWhole t = whole_at (tables_of c.self.inside.parts []) c.args.self.now c.args.store.now.pages c.self.view_is c.self.invariant c.requires in
     let grants : Grants t c.args.q c.args.request c.in-Ok.grant.cid c.in-Ok.grant.front c.in-Ok.grant.back = c.in-Ok.ensures.granted c.args.store.now.pages w in
-    let mid : Tables = tables_of c.reserve_room.new.self c.args.store.now.pages in
-    let is = draft_is t mid c.args.q c.in-Ok.grant.cid c.args.request c.in-Ok.grant.front c.in-Ok.grant.back c.commit_reserve.result (c.reserve_room.ensures.same c.args.store.now.pages) c.commit_reserve.ensures.draft in
     subst (λ (v : HostView). HasFirstPages v.host c.commit_reserve.result) c.self.view_is
-    (first_pages t c.args.q c.in-Ok.grant.cid c.args.request c.in-Ok.grant.front c.in-Ok.grant.back c.commit_reserve.result grants is)
+    (first_pages t c.args.q c.in-Ok.grant.cid c.args.request c.in-Ok.grant.front c.in-Ok.grant.back c.commit_reserve.result grants c.commit_reserve.ensures.draft)

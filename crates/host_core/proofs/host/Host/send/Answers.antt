@@ -1,16 +1,15 @@
-use Rattle.std.proofs.Common.{[], sym, subst}
+use Rattle.std.proofs.Common.{[], subst}
 use Rattle.machine_model.specs.Events as events
-use Rattle.machine_model.specs.declared.words.Refusal.TheVariants as refusal
-use Rattle.host_core.specs.Alone.{HostStep, HostView, IsLowest, IsOver}
+use Rattle.host_core.specs.Alone.{HostView, IsLowest}
 use Rattle.host_core.proofs.Granting.{next-lowest}
 use Rattle.host_core.specs.Parts.{tables_of}
-use Rattle.host_core.specs.Sending.{CanSend, sending}
-use Rattle.host_core.specs.Tables.{Tables, view_of}
-use Rattle.host_core.specs.Whole.{IsHost, IsWhole}
+use Rattle.host_core.specs.Sending.{sending}
+use Rattle.host_core.specs.Tables.{Tables}
+use Rattle.host_core.specs.Whole.{IsWhole}
 use Rattle.host_core.proofs.Calls.{whole_at, step_at, stays_at}
 use Rattle.host_core.proofs.Keeping.{host_of, over_of}
 use Rattle.host_core.proofs.SendChecks.{send-typed}
-use Rattle.host_core.proofs.Sending.{send_made, send-refused, send-memory}
+use Rattle.host_core.proofs.Sending.{send_made, send-refused}
 use Rattle.host_core.proofs.host.Host.send.Goals as goal
 
 pub returns-in-Err-clause-step : goal.returns-in-Err-clause-step
@@ -19,43 +18,23 @@ returns-in-Err-clause-step g c =
     let w : IsWhole t = whole_at (tables_of c.self.inside.parts []) c.args.self.now c.args.store.now.pages c.self.view_is c.self.invariant c.requires in
     stays_at t c.args.self.now (sending c.args.kind) (events.Refused c.in-Err.why []) c.self.view_is (send-refused t c.args.kind c.in-Err.why (c.in-Err.ensures.refused c.args.store.now.pages w))
 
-pub invariant_of-self : goal.invariant_of-self
-invariant_of-self g c = subst (λ (u : Tables). IsHost u) (sym (c.reserve_record.ensures.same [])) c.self.invariant
-
-pub returns-in-Err-reserve_record-clause-step : goal.returns-in-Err-reserve_record-clause-step
-returns-in-Err-reserve_record-clause-step g c =
-    let t : Tables = tables_of c.self.inside.parts c.args.store.now.pages in
-    let w : IsWhole t = whole_at (tables_of c.self.inside.parts []) c.args.self.now c.args.store.now.pages c.self.view_is c.self.invariant c.requires in
-    let ready = c.in-Ok.ensures.ready c.args.store.now.pages w in
-    subst (λ (u : Tables). HostStep c.args.self.now c.args.store.now.pages (sending c.args.kind) (events.Refused refusal.Memory []) (view_of u) c.args.store.now.pages) (sym (c.reserve_record.ensures.same []))
-    (step_at t t c.args.self.now (sending c.args.kind) (events.Refused refusal.Memory []) c.self.view_is (send-memory t c.args.kind ready.none))
-
-pub returns-in-Err-reserve_record-clause-over : goal.returns-in-Err-reserve_record-clause-over
-returns-in-Err-reserve_record-clause-over g c =
-    let t : Tables = tables_of c.self.inside.parts c.args.store.now.pages in
-    let w : IsWhole t = whole_at (tables_of c.self.inside.parts []) c.args.self.now c.args.store.now.pages c.self.view_is c.self.invariant c.requires in
-    subst (λ (u : Tables). IsOver (view_of u) c.args.store.now.pages) (sym (c.reserve_record.ensures.same [])) (over_of t w)
-
 pub commit_send-requires-clause-whole : goal.commit_send-requires-clause-whole
 commit_send-requires-clause-whole g c =
-    let t : Tables = tables_of c.self.inside.parts c.args.store.now.pages in
-    let w : IsWhole t = whole_at (tables_of c.self.inside.parts []) c.args.self.now c.args.store.now.pages c.self.view_is c.self.invariant c.requires in
-    subst (λ (u : Tables). IsWhole u) (sym (c.reserve_record.ensures.same c.args.store.now.pages)) w
+    whole_at (tables_of c.self.inside.parts []) c.args.self.now c.args.store.now.pages c.self.view_is c.self.invariant c.requires
 
 pub commit_send-requires-clause-ready : goal.commit_send-requires-clause-ready
 commit_send-requires-clause-ready g c =
     let t : Tables = tables_of c.self.inside.parts c.args.store.now.pages in
     let w : IsWhole t = whole_at (tables_of c.self.inside.parts []) c.args.self.now c.args.store.now.pages c.self.view_is c.self.invariant c.requires in
-    subst (λ (u : Tables). CanSend u c.args.kind c.in-Ok.cid) (sym (c.reserve_record.ensures.same c.args.store.now.pages)) (c.in-Ok.ensures.ready c.args.store.now.pages w)
+    c.in-Ok.ensures.ready c.args.store.now.pages w
 
-pub invariant_of-self-2 : goal.invariant_of-self-2
-invariant_of-self-2 g c =
+pub invariant_of-self : goal.invariant_of-self
+invariant_of-self g c =
     let t : Tables = tables_of c.self.inside.parts c.args.store.now.pages in
     let w : IsWhole t = whole_at (tables_of c.self.inside.parts []) c.args.self.now c.args.store.now.pages c.self.view_is c.self.invariant c.requires in
     let ready = c.in-Ok.ensures.ready c.args.store.now.pages w in
-    let mid : Tables = tables_of c.reserve_record.new.self c.args.store.now.pages in
     let new : Tables = tables_of c.commit_send.new.self c.commit_send.new.store.pages in
-    let made = send_made t mid new c.args.kind c.in-Ok.cid w ready (send-typed c.args.kind c.in-Ok.cid) (c.reserve_record.ensures.same c.args.store.now.pages) c.commit_send.ensures in
+    let made = send_made t new c.args.kind c.in-Ok.cid w ready (send-typed c.args.kind c.in-Ok.cid) c.commit_send.ensures in
     host_of (tables_of c.commit_send.new.self []) c.commit_send.new.store.pages made.whole
 
 pub returns-clause-step : goal.returns-clause-step
@@ -63,9 +42,8 @@ returns-clause-step g c =
     let t : Tables = tables_of c.self.inside.parts c.args.store.now.pages in
     let w : IsWhole t = whole_at (tables_of c.self.inside.parts []) c.args.self.now c.args.store.now.pages c.self.view_is c.self.invariant c.requires in
     let ready = c.in-Ok.ensures.ready c.args.store.now.pages w in
-    let mid : Tables = tables_of c.reserve_record.new.self c.args.store.now.pages in
     let new : Tables = tables_of c.commit_send.new.self c.commit_send.new.store.pages in
-    let made = send_made t mid new c.args.kind c.in-Ok.cid w ready (send-typed c.args.kind c.in-Ok.cid) (c.reserve_record.ensures.same c.args.store.now.pages) c.commit_send.ensures in
+    let made = send_made t new c.args.kind c.in-Ok.cid w ready (send-typed c.args.kind c.in-Ok.cid) c.commit_send.ensures in
     step_at t new c.args.self.now (sending c.args.kind) (events.Sent c.in-Ok.cid) c.self.view_is made.step
 
 pub returns-clause-over : goal.returns-clause-over
@@ -73,9 +51,8 @@ returns-clause-over g c =
     let t : Tables = tables_of c.self.inside.parts c.args.store.now.pages in
     let w : IsWhole t = whole_at (tables_of c.self.inside.parts []) c.args.self.now c.args.store.now.pages c.self.view_is c.self.invariant c.requires in
     let ready = c.in-Ok.ensures.ready c.args.store.now.pages w in
-    let mid : Tables = tables_of c.reserve_record.new.self c.args.store.now.pages in
     let new : Tables = tables_of c.commit_send.new.self c.commit_send.new.store.pages in
-    let made = send_made t mid new c.args.kind c.in-Ok.cid w ready (send-typed c.args.kind c.in-Ok.cid) (c.reserve_record.ensures.same c.args.store.now.pages) c.commit_send.ensures in
+    let made = send_made t new c.args.kind c.in-Ok.cid w ready (send-typed c.args.kind c.in-Ok.cid) c.commit_send.ensures in
     over_of new made.whole
 
 pub returns-clause-identifier : goal.returns-clause-identifier

@@ -31,7 +31,7 @@ invariant_of-self g c =
     let t : Tables = tables_of c.self.inside.parts c.args.store.now.pages in
     let w : IsWhole t = whole_at (tables_of c.self.inside.parts []) c.args.self.now c.args.store.now.pages c.self.view_is c.self.invariant c.requires in
     let new : Tables = tables_of c.commit_submit.new.self c.commit_submit.new.store.pages in
-    let made = submit_made t new c.args.draft c.in-Ok.found.0 c.in-Ok.found.1 w (c.in-Ok.ensures.ready c.args.store.now.pages w) c.commit_submit.ensures.submits in
+    let made = submit_made t new c.args.draft c.in-Ok.entry w (c.in-Ok.ensures.ready c.args.store.now.pages w) c.commit_submit.ensures.submits in
     host_of (tables_of c.commit_submit.new.self []) c.commit_submit.new.store.pages made.whole
 
 pub returns-clause-step : goal.returns-clause-step
@@ -39,7 +39,7 @@ returns-clause-step g c =
     let t : Tables = tables_of c.self.inside.parts c.args.store.now.pages in
     let w : IsWhole t = whole_at (tables_of c.self.inside.parts []) c.args.self.now c.args.store.now.pages c.self.view_is c.self.invariant c.requires in
     let new : Tables = tables_of c.commit_submit.new.self c.commit_submit.new.store.pages in
-    let made = submit_made t new c.args.draft c.in-Ok.found.0 c.in-Ok.found.1 w (c.in-Ok.ensures.ready c.args.store.now.pages w) c.commit_submit.ensures.submits in
+    let made = submit_made t new c.args.draft c.in-Ok.entry w (c.in-Ok.ensures.ready c.args.store.now.pages w) c.commit_submit.ensures.submits in
     step_at t new c.args.self.now (events.Submit c.args.draft) events.Accepted c.self.view_is made.step
 
 pub returns-clause-over : goal.returns-clause-over
@@ -47,5 +47,5 @@ returns-clause-over g c =
     let t : Tables = tables_of c.self.inside.parts c.args.store.now.pages in
     let w : IsWhole t = whole_at (tables_of c.self.inside.parts []) c.args.self.now c.args.store.now.pages c.self.view_is c.self.invariant c.requires in
     let new : Tables = tables_of c.commit_submit.new.self c.commit_submit.new.store.pages in
-    let made = submit_made t new c.args.draft c.in-Ok.found.0 c.in-Ok.found.1 w (c.in-Ok.ensures.ready c.args.store.now.pages w) c.commit_submit.ensures.submits in
+    let made = submit_made t new c.args.draft c.in-Ok.entry w (c.in-Ok.ensures.ready c.args.store.now.pages w) c.commit_submit.ensures.submits in
     over_of new made.whole

@@ -3,57 +3,65 @@ use Rattle.machine_model.specs.Memory.{without_pages}
 use Rattle.machine_model.specs.State.{Record}
 use Rattle.host_core.specs.Collecting.{taken_pages}
 use Rattle.host_core.specs.Commands.{CanTake}
-use Rattle.host_core.specs.Parts.{tables_of}
+use Rattle.host_core.specs.Parts.{record_of, tables_of}
 use Rattle.host_core.specs.Tables.{Tables}
 use Rattle.host_core.proofs.Collecting.{held_can_take, held_work, collect_enough, collect_made, collected_tables}
-use Rattle.host_core.proofs.Lists.{get-at, some_is}
+use Rattle.host_core.proofs.Lists.{none_is_not, some_is}
+use Rattle.host_core.proofs.RowRecords.{found-row, no-row}
 use Rattle.host_core.proofs.parts.Parts.commit_collect.Goals as goal
 
 pub take_pages-requires-clause-front : goal.take_pages-requires-clause-front
 take_pages-requires-clause-front g c =
     let t : Tables = tables_of c.args.self.now c.args.store.now.pages in
-    let same : c.index.result.now ≡ c.requires.stands.entry = some_is (sym (get-at c.args.place t.records c.index.result.now c.requires.there c.index.ensures) ∙ c.requires.stands.at) in
-    subst (λ (x : Record). CanTake x.data_pages t.pages) (sym same) (held_can_take t c.args.q c.args.cid c.args.place c.requires.whole c.requires.stands).0
+    let same : record_of c.args.q c.args.cid c.in-Some.entry.now ≡ c.requires.stands.entry = some_is (sym (found-row c.args.self.now.records.rows c.args.q c.args.cid c.in-Some.entry.now (sym c.in-Some.ensures.value)) ∙ c.requires.stands.was) in
+    subst (λ (x : Record). CanTake x.data_pages t.pages) (sym same) (held_can_take t c.args.q c.args.cid c.requires.whole c.requires.stands).0
 
 pub take_pages-requires-clause-back : goal.take_pages-requires-clause-back
 take_pages-requires-clause-back g c =
     let t : Tables = tables_of c.args.self.now c.args.store.now.pages in
-    let same : c.index.result.now ≡ c.requires.stands.entry = some_is (sym (get-at c.args.place t.records c.index.result.now c.requires.there c.index.ensures) ∙ c.requires.stands.at) in
-    subst (λ (x : Record). CanTake x.chain_pages (without_pages x.data_pages t.pages)) (sym same) (held_can_take t c.args.q c.args.cid c.args.place c.requires.whole c.requires.stands).1
+    let same : record_of c.args.q c.args.cid c.in-Some.entry.now ≡ c.requires.stands.entry = some_is (sym (found-row c.args.self.now.records.rows c.args.q c.args.cid c.in-Some.entry.now (sym c.in-Some.ensures.value)) ∙ c.requires.stands.was) in
+    subst (λ (x : Record). CanTake x.chain_pages (without_pages x.data_pages t.pages)) (sym same) (held_can_take t c.args.q c.args.cid c.requires.whole c.requires.stands).1
 
 pub make-requires-clause-good : goal.make-requires-clause-good
 make-requires-clause-good g c =
-    let told = c.requires.tells c.requires.stands.entry c.requires.stands.at in
-    (held_work (tables_of c.args.self.now c.args.store.now.pages) c.args.q c.args.cid c.args.place c.args.room.request c.requires.whole c.requires.stands told.0).0
+    let told = c.requires.tells c.requires.stands.entry c.requires.stands.was in
+    (held_work (tables_of c.args.self.now c.args.store.now.pages) c.args.q c.args.cid c.args.room.request c.requires.whole c.requires.stands told.0).0
 
 pub make-requires-clause-enough : goal.make-requires-clause-enough
 make-requires-clause-enough g c =
     let t : Tables = tables_of c.args.self.now c.args.store.now.pages in
-    let told = c.requires.tells c.requires.stands.entry c.requires.stands.at in
-    let same : c.index.result.now ≡ c.requires.stands.entry = some_is (sym (get-at c.args.place t.records c.index.result.now c.requires.there c.index.ensures) ∙ c.requires.stands.at) in
-    collect_enough t c.args.q c.args.cid c.args.place c.args.room.request c.take_pages.new.into.items c.requires.whole c.requires.stands told.0
+    let told = c.requires.tells c.requires.stands.entry c.requires.stands.was in
+    let same : record_of c.args.q c.args.cid c.in-Some.entry.now ≡ c.requires.stands.entry = some_is (sym (found-row c.args.self.now.records.rows c.args.q c.args.cid c.in-Some.entry.now (sym c.in-Some.ensures.value)) ∙ c.requires.stands.was) in
+    collect_enough t c.args.q c.args.cid c.args.room.request c.take_pages.new.into.items c.requires.whole c.requires.stands told.0
     (c.take_pages.ensures.items ∙ ap (λ (x : Record). taken_pages x.data_pages t.pages ++ taken_pages x.chain_pages (without_pages x.data_pages t.pages)) same)
 
 pub returns-clause-step : goal.returns-clause-step
 returns-clause-step g c =
     let t : Tables = tables_of c.args.self.now c.args.store.now.pages in
-    let told = c.requires.tells c.requires.stands.entry c.requires.stands.at in
-    let same : c.index.result.now ≡ c.requires.stands.entry = some_is (sym (get-at c.args.place t.records c.index.result.now c.requires.there c.index.ensures) ∙ c.requires.stands.at) in
+    let told = c.requires.tells c.requires.stands.entry c.requires.stands.was in
+    let same : record_of c.args.q c.args.cid c.in-Some.entry.now ≡ c.requires.stands.entry = some_is (sym (found-row c.args.self.now.records.rows c.args.q c.args.cid c.in-Some.entry.now (sym c.in-Some.ensures.value)) ∙ c.requires.stands.was) in
     let items = c.take_pages.ensures.items ∙ ap (λ (x : Record). taken_pages x.data_pages t.pages ++ taken_pages x.chain_pages (without_pages x.data_pages t.pages)) same in
     let pages = c.take_pages.ensures.pages ∙ ap (λ (x : Record). without_pages x.chain_pages (without_pages x.data_pages t.pages)) same in
-    let new : Tables = record t { pages = c.take_pages.new.store.pages; records = c.mark_collected.new.records.items } in
-    let left = collected_tables t c.args.q c.args.cid c.args.place c.take_pages.new.store.pages c.mark_collected.new.records.items c.requires.whole c.requires.stands pages
-    (c.mark_collected.ensures c.requires.stands.entry c.requires.stands.at) in
-    (collect_made t new c.args.q c.args.cid c.args.place c.args.room.request c.args.room.status c.take_pages.new.into.items c.make.result c.requires.whole c.requires.stands told.0 told.1 items c.make.ensures left).step
+    let new : Tables = tables_of c.mark_collected.new.self c.take_pages.new.store.pages in
+    let left = c.mark_collected.ensures c.take_pages.new.store.pages ∙ collected_tables t c.args.q c.args.cid c.take_pages.new.store.pages c.requires.stands pages in
+    (collect_made t new c.args.q c.args.cid c.args.room.request c.args.room.status c.take_pages.new.into.items c.make.result c.requires.whole c.requires.stands told.0 told.1 items c.make.ensures left).step
 
 pub returns-clause-whole : goal.returns-clause-whole
 returns-clause-whole g c =
     let t : Tables = tables_of c.args.self.now c.args.store.now.pages in
-    let told = c.requires.tells c.requires.stands.entry c.requires.stands.at in
-    let same : c.index.result.now ≡ c.requires.stands.entry = some_is (sym (get-at c.args.place t.records c.index.result.now c.requires.there c.index.ensures) ∙ c.requires.stands.at) in
+    let told = c.requires.tells c.requires.stands.entry c.requires.stands.was in
+    let same : record_of c.args.q c.args.cid c.in-Some.entry.now ≡ c.requires.stands.entry = some_is (sym (found-row c.args.self.now.records.rows c.args.q c.args.cid c.in-Some.entry.now (sym c.in-Some.ensures.value)) ∙ c.requires.stands.was) in
     let items = c.take_pages.ensures.items ∙ ap (λ (x : Record). taken_pages x.data_pages t.pages ++ taken_pages x.chain_pages (without_pages x.data_pages t.pages)) same in
     let pages = c.take_pages.ensures.pages ∙ ap (λ (x : Record). without_pages x.chain_pages (without_pages x.data_pages t.pages)) same in
-    let new : Tables = record t { pages = c.take_pages.new.store.pages; records = c.mark_collected.new.records.items } in
-    let left = collected_tables t c.args.q c.args.cid c.args.place c.take_pages.new.store.pages c.mark_collected.new.records.items c.requires.whole c.requires.stands pages
-    (c.mark_collected.ensures c.requires.stands.entry c.requires.stands.at) in
-    (collect_made t new c.args.q c.args.cid c.args.place c.args.room.request c.args.room.status c.take_pages.new.into.items c.make.result c.requires.whole c.requires.stands told.0 told.1 items c.make.ensures left).whole
+    let new : Tables = tables_of c.mark_collected.new.self c.take_pages.new.store.pages in
+    let left = c.mark_collected.ensures c.take_pages.new.store.pages ∙ collected_tables t c.args.q c.args.cid c.take_pages.new.store.pages c.requires.stands pages in
+    (collect_made t new c.args.q c.args.cid c.args.room.request c.args.room.status c.take_pages.new.into.items c.make.result c.requires.whole c.requires.stands told.0 told.1 items c.make.ensures left).whole
+
+pub take_pages-requires-clause-room : goal.take_pages-requires-clause-room
+take_pages-requires-clause-room g c =
+    let room = c.requires.space (record_of c.args.q c.args.cid c.in-Some.entry.now) (found-row c.args.self.now.records.rows c.args.q c.args.cid c.in-Some.entry.now (sym c.in-Some.ensures.value)) in
+    (c.requires.empty.0, c.requires.empty.1, room)
+
+pub unreachable-requires : goal.unreachable-requires
+unreachable-requires g c =
+    none_is_not (sym (no-row c.args.self.now.records.rows c.args.q c.args.cid (sym c.in-None.ensures.value)) ∙ c.requires.stands.was)

@@ -15,6 +15,7 @@ use Rattle.sgl_chain.specs.Chains.{pages_needed}
 use Rattle.host_core.specs.Commands.{reserved, CanTake}
 use Rattle.host_core.specs.Parts.{tables_of}
 use Rattle.host_core.specs.Tables.{Tables}
+use Rattle.host_core.proofs.Places.{new-place, new-empty}
 use Rattle.host_core.proofs.Granted.{granted_can_take, made_draft, made_size, reserved_tables}
 use Rattle.host_core.proofs.parts.Parts.commit_reserve.Goals as goal
 
@@ -38,7 +39,8 @@ make-requires-clause-pages g c =
     c.move_out_zeroed.ensures.items ∙ ap₂ (λ (x : PagesOut) (y : List ℕ). x ++ zeroed_pages y) c.requires.pages.0 (c.deref.ensures.value ∙ c.grant_pages.ensures.front) in
     let both = c.move_out_zeroed-2.ensures.items ∙ ap₂ (λ (x : PagesOut) (y : List ℕ). x ++ zeroed_pages y) one (c.deref-2.ensures.value ∙ c.grant_pages.ensures.back) in
     let size = made_size t c.args.q c.args.request c.args.grant.cid c.args.grant.front c.args.grant.back c.requires.granted c.move_out_zeroed-2.new.into.items both in
-    omega (arith, size, c.requires.granted.for_data, c.requires.granted.for_chain, ap (pages_needed (length c.args.request.pieces)) c.from.ensures)
+    let segment = c.from.ensures ∙ ap (λ (u : Tables). u.segment) (c.add_record.ensures []) in
+    omega (arith, size, c.requires.granted.for_data, c.requires.granted.for_chain, ap (pages_needed (length c.args.request.pieces)) segment)
 
 pub returns-clause-draft : goal.returns-clause-draft
 returns-clause-draft g c =
@@ -49,7 +51,8 @@ returns-clause-draft g c =
     let items : PagesOut = c.move_out_zeroed-2.new.into.items in
     let made : ℕ → DraftContents =
     λ k. record { q = c.args.q; cid = c.args.grant.cid; request = c.args.request; data_pages = data_part c.args.request items; chain_pages = chain_part c.args.request items; segment = k; entry = None } in
-    c.make.ensures ∙ (ap made c.from.ensures ∙ made_draft t c.args.q c.args.request c.args.grant.cid c.args.grant.front c.args.grant.back c.requires.granted items both)
+    let segment = c.from.ensures ∙ ap (λ (u : Tables). u.segment) (c.add_record.ensures []) in
+    c.make.ensures ∙ (ap made segment ∙ made_draft t c.args.q c.args.request c.args.grant.cid c.args.grant.front c.args.grant.back c.requires.granted items both)
 
 pub returns-clause-new : goal.returns-clause-new
 returns-clause-new g c =
@@ -62,7 +65,8 @@ returns-clause-new g c =
     let items : PagesOut = c.move_out_zeroed-2.new.into.items in
     let made : ℕ → DraftContents =
     λ k. record { q = c.args.q; cid = c.args.grant.cid; request = c.args.request; data_pages = data_part c.args.request items; chain_pages = chain_part c.args.request items; segment = k; entry = None } in
-    let draft = c.make.ensures ∙ (ap made c.from.ensures ∙ made_draft t c.args.q c.args.request c.args.grant.cid c.args.grant.front c.args.grant.back c.requires.granted items both) in
+    let segment = c.from.ensures ∙ ap (λ (u : Tables). u.segment) (c.add_record.ensures []) in
+    let draft = c.make.ensures ∙ (ap made segment ∙ made_draft t c.args.q c.args.request c.args.grant.cid c.args.grant.front c.args.grant.back c.requires.granted items both) in
     let left : c.move_out_zeroed.new.store.pages ≡ without_pages a t.pages =
     c.move_out_zeroed.ensures.pages ∙ ap (λ (ps : List ℕ). without_pages ps t.pages) (c.deref.ensures.value ∙ c.grant_pages.ensures.front) in
     let pages = c.move_out_zeroed-2.ensures.pages ∙ ap₂ (λ (ps : List ℕ) (m : Pages). without_pages ps m) (c.deref-2.ensures.value ∙ c.grant_pages.ensures.back) left in
@@ -71,8 +75,24 @@ returns-clause-new g c =
     let kept : Request → List ℕ → List ℕ → List Record =
     λ r x y. t.records ++ record { q = c.args.q; cid = c.args.grant.cid; phase = Drafted; work = Io r; data_pages = x; chain_pages = y; status = None } ∷ [] in
     let records =
-    c.push_reserved.ensures.items
-    ∙ (ap (λ (r : Request). kept r c.grant_pages.new.front.items c.grant_pages.new.back.items) c.requires.request
-    ∙ ap₂ (kept c.args.request) c.grant_pages.ensures.front c.grant_pages.ensures.back) in
-    reserved_tables t c.args.q c.args.grant.cid c.args.request a b c.move_out_zeroed-2.new.store.pages c.grant_pages.new.ledger c.push_reserved.new.self.items c.claim.new.queues.items pages owners records c.claim.ensures
+    ap (λ (r : Request). kept r c.grant_pages.new.front.items c.grant_pages.new.back.items) c.requires.request
+    ∙ ap₂ (kept c.args.request) c.grant_pages.ensures.front c.grant_pages.ensures.back in
+    c.add_record.ensures c.move_out_zeroed-2.new.store.pages
+    ∙ reserved_tables t c.args.q c.args.grant.cid c.args.request a b c.move_out_zeroed-2.new.store.pages c.grant_pages.new.ledger (kept c.args.room.request c.grant_pages.new.front.items c.grant_pages.new.back.items) c.claim.new.queues.items pages owners records c.claim.ensures
     ∙ ap (λ (d : DraftContents). reserved d t) (sym draft)
+
+pub add_record-requires-clause-place : goal.add_record-requires-clause-place
+add_record-requires-clause-place g c = new-place c.args.self.now c.args.store.now.pages c.args.q c.args.grant.cid c.requires.whole c.requires.granted.there c.requires.granted.fresh
+
+pub add_record-requires-clause-empty : goal.add_record-requires-clause-empty
+add_record-requires-clause-empty g c = new-empty c.args.self.now c.args.store.now.pages c.args.q c.args.grant.cid c.requires.granted.fresh
+
+pub make-requires-clause-low : goal.make-requires-clause-low
+make-requires-clause-low g c =
+    let segment = c.from.ensures ∙ ap (λ (u : Tables). u.segment) (c.add_record.ensures []) in
+    omega (arith, segment, c.requires.whole.least_segment)
+
+pub make-requires-clause-high : goal.make-requires-clause-high
+make-requires-clause-high g c =
+    let segment = c.from.ensures ∙ ap (λ (u : Tables). u.segment) (c.add_record.ensures []) in
+    omega (arith, segment, c.requires.whole.most_segment)

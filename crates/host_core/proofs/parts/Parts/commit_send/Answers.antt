@@ -1,5 +1,8 @@
 use Rattle.host_core.specs.Parts.{tables_of}
 use Rattle.host_core.specs.Tables.{Tables}
+use Rattle.std.proofs.lemmas.Option.{slice_get_within}
+use Rattle.host_core.proofs.Granting.{next-fresh}
+use Rattle.host_core.proofs.Places.{new-empty, new-place}
 use Rattle.host_core.proofs.SendChecks.{noted-there, send_can_post, sends_apart}
 use Rattle.host_core.proofs.parts.Parts.commit_send.Goals as goal
 
@@ -18,3 +21,13 @@ returns g c =
     let t : Tables = tables_of c.args.self.now c.args.store.now.pages in
     sends_apart t (tables_of c.note_sent.new.self c.args.store.now.pages) (tables_of c.post.new.self c.post.new.store.pages) (tables_of c.await_deletion.new.self c.post.new.store.pages) c.args.kind c.args.cid c.entry.result
     (c.note_sent.ensures c.args.store.now.pages) c.entry.ensures.entry c.post.ensures (c.await_deletion.ensures c.post.new.store.pages)
+
+pub note_sent-requires-clause-place : goal.note_sent-requires-clause-place
+note_sent-requires-clause-place g c =
+    let can = c.requires.ready in
+    new-place c.args.self.now c.args.store.now.pages 0 c.args.cid c.requires.whole (slice_get_within c.args.self.now.queues.items 0 can.queue can.at) (next-fresh (tables_of c.args.self.now c.args.store.now.pages) c.requires.whole 0 c.args.cid can.queue can.at can.next)
+
+pub note_sent-requires-clause-empty : goal.note_sent-requires-clause-empty
+note_sent-requires-clause-empty g c =
+    let can = c.requires.ready in
+    new-empty c.args.self.now c.args.store.now.pages 0 c.args.cid (next-fresh (tables_of c.args.self.now c.args.store.now.pages) c.requires.whole 0 c.args.cid can.queue can.at can.next)

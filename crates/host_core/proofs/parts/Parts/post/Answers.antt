@@ -33,4 +33,4 @@ returns g c = λ queue at.
     let here = queue-at t c.args.q c.from.result x c.requires.there c.from.ensures c.index_mut.ensures.value in
     subst (λ (y : Queue). record t { pages = c.post.new.dma.pages; queues = slice_set t.queues c.from.result (record x { host = c.post.new.self }) } ≡ posted c.args.q y c.args.entry t) (some_is (sym here ∙ at))
     (post-told t c.post.new.dma.pages c.clear.new.self.pages c.args.q c.from.result x c.post.new.self c.args.entry c.requires.there c.from.ensures c.index_mut.ensures.value (c.requires.can x here)
-    c.in-Ok.ensures.tail c.clear.ensures.memory c.clear.ensures.pool c.in-Ok.ensures.written c.in-Ok.ensures.pool c.pages-count.ensures.whole)
+    c.in-Ok.ensures.tail c.clear.ensures.memory c.clear.ensures.pool c.in-Ok.ensures.written c.in-Ok.ensures.pool c.pages.ensures.whole)

@@ -1,4 +1,6 @@
-use Rattle.std.proofs.Common.{◌<◌, arith, length, length-set, sym, ◌∙◌}
+use Rattle.std.proofs.Common.{◌<◌, arith, length, length-set, slice_set, ap, sym, ◌∙◌}
+use Rattle.std.proofs.lemmas.List.{map-set}
+use Rattle.page_ledger.specs.Owners.{is_free}
 use Rattle.page_ledger.proofs.Numbers.{counted-some, counted-few, counts-set}
 use Rattle.page_ledger.proofs.ledger.Ledger.set.Goals as goal
 
@@ -24,4 +26,6 @@ invariant_of-self g c =
       omega (arith, size, c.self.invariant.1),
       c.one_more-self-inside.ensures ∙ (rw (c.one_less.ensures, c.self.invariant.2)
           (sym (counts-set c.self.inside.owners.items c.p.inside.0 c.args.owner c.index-before.result.now within c.index-before.ensures))),
+      c.mark.ensures ∙ (ap (λ b. slice_set c.self.inside.free c.p.inside.0 b) c.is_free.ensures
+          ∙ (ap (λ l. slice_set l c.p.inside.0 (is_free c.args.owner)) c.self.invariant.3 ∙ sym (map-set is_free c.self.inside.owners.items c.p.inside.0 c.args.owner))),
     )

@@ -1,6 +1,6 @@
 use Rattle.std.proofs.Common.{sym, ◌∙◌, ap, arith, set}
 use Rattle.slot_table.proofs.Rows.{value_at-none, without-none}
-use Rattle.slot_table.proofs.Whole.{none_left, found_at, take_left, link_in, rows_in}
+use Rattle.slot_table.proofs.Whole.{none_left, found_at, take_left, link_in, rows_in, rows-distinct}
 use Rattle.slot_table.proofs.table.SlotTable.take.Goals as goal
 
 pub returns-in_err-place-clause-value : goal.returns-in_err-place-clause-value
@@ -57,3 +57,6 @@ returns-clause-rest g c =
     let p = rw (← c.self.view_is) at c.in_ok-place.ensures in
     let left = take_left i.queues i.places i.len i.records.items i.links.items c.self.invariant c.args.q c.args.cid p.0.queue p.0.identifier c.in_ok-place.place c.take.new.self c.index_mut.result.now c.in_ok-value.value c.index-link.result.now c.join.new.links.items (sym p.1) c.take.ensures.after c.index_mut.ensures.value (sym c.take.ensures.value ∙ c.in_ok-value.was) c.index-link.ensures c.join.ensures in
     rw (← c.self.view_is) (ap (λ rows. record { queues = i.queues; places = i.places; rows = rows }) left.rows)
+
+pub returns-clause-distinct : goal.returns-clause-distinct
+returns-clause-distinct g c = rw (← c.self.view_is) (rows-distinct _ _ _ _ _ c.self.invariant)

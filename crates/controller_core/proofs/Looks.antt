@@ -1,0 +1,42 @@
+-- What looks at a controller tell of all its commands.
+use Rattle.std.proofs.Common.{◌≡◌, ℕ, zero, suc, ◌+◌, ◌<◌, ◌≤◌, Bool, true, false, Option, Some, None, List, [], ◌∷◌, length, find, if◌then◌else◌, refl, ◌∙◌, subst, arith, get_or, below_more}
+use Rattle.std.specs.Prelude.{slice_get}
+use Rattle.std.proofs.lemmas.Option.{get_or_from_slice_get}
+use Rattle.page_memory.specs.Memory.{Memory}
+use Rattle.controller_core.specs.Contents.{Contents, FetchedCommand, entry_of_work, is_command}
+use Rattle.controller_core.specs.Looks.{IsStuck}
+use Rattle.controller_core.proofs.Ready.{named}
+
+found-place : {A : Type 0} (p : A → Bool) (xs : List A) (x : A) → find p xs ≡ Some x → (k : ℕ) × (k < length xs) × (slice_get xs k ≡ Some x)
+found-place p [] x h = cc
+found-place p (y ∷ xs) x h = go (p y) h (found-place p xs x)
+  where
+    go : (b : Bool) → (if b then Some y else find p xs) ≡ Some x → (find p xs ≡ Some x → (k : ℕ) × (k < length xs) × (slice_get xs k ≡ Some x)) → (k : ℕ) × (k < length (y ∷ xs)) × (slice_get (y ∷ xs) k ≡ Some x)
+    go true h later = (zero, omega arith, h)
+    go false h later = let found = later h in let within = found.1 in (suc found.0, omega arith, found.2)
+
+-- a command more that is stuck
+pub stuck_more : (c : Contents) (m : Memory) (n : ℕ) (x : FetchedCommand) (q cid : ℕ)
+    → ((k : ℕ) → k < n → (y : FetchedCommand) → slice_get c.commands k ≡ Some y → IsStuck c m y.q (entry_of_work y.work).cid)
+    → x ≡ get_or c.commands n x → q ≡ x.q → cid ≡ (entry_of_work x.work).cid → IsStuck c m q cid
+    → (k : ℕ) → k < n + 1 → (y : FetchedCommand) → slice_get c.commands k ≡ Some y → IsStuck c m y.q (entry_of_work y.work).cid
+stuck_more c m n x q cid kept at is_q is_cid stuck =
+    below_more (λ k. (y : FetchedCommand) → slice_get c.commands k ≡ Some y → IsStuck c m y.q (entry_of_work y.work).cid) n kept here
+  where
+    here : (y : FetchedCommand) → slice_get c.commands n ≡ Some y → IsStuck c m y.q (entry_of_work y.work).cid
+    here y there =
+        subst (λ (y : FetchedCommand). IsStuck c m y.q (entry_of_work y.work).cid) (at ∙ get_or_from_slice_get c.commands n y x there)
+        (subst (λ (cid : ℕ). IsStuck c m x.q cid) is_cid (subst (λ (q : ℕ). IsStuck c m q cid) is_q stuck))
+
+-- where each command is stuck, each name is
+pub all_stuck : (c : Contents) (m : Memory) (n : ℕ) → length c.commands ≤ n
+    → ((k : ℕ) → k < n → (x : FetchedCommand) → slice_get c.commands k ≡ Some x → IsStuck c m x.q (entry_of_work x.work).cid) → (q cid : ℕ) → IsStuck c m q cid
+all_stuck c m n past below q cid = go (find (is_command q cid) c.commands) refl
+  where
+    go : (o : Option FetchedCommand) → find (is_command q cid) c.commands ≡ o → IsStuck c m q cid
+    go None none = (rw none refl, rw none refl)
+    go (Some x) found =
+        let (k, within, at) = found-place (is_command q cid) c.commands x found in
+        let is = named q cid c.commands x found in
+        let stuck : IsStuck c m x.q (entry_of_work x.work).cid = below k (omega arith) x at in
+        subst (λ (cid : ℕ). IsStuck c m q cid) is.1 (subst (λ (q : ℕ). IsStuck c m q (entry_of_work x.work).cid) is.0 stuck)

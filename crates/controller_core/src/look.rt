@@ -1,0 +1,173 @@
+//! What the controller can do: a look that changes nothing, for an emulator that asks before it calls.
+
+ghost use Rattle.std.specs.Prelude.{◌≡◌, ◌<◌, ◌≤◌, ℕ, [], false, is_none, None, IfSome, IfNone, length};
+ghost use Rattle.controller_core.specs.Answering.{answer_refusal, post_refusal};
+ghost use Rattle.controller_core.specs.Contents.{entry_of_work};
+ghost use Rattle.controller_core.specs.Fetching.{fetch_refusal};
+ghost use Rattle.controller_core.specs.Looks.{refusal_by, IsAtRest, IsStuck};
+
+use crate::command::FetchedCommand;
+use crate::controller::Controller;
+use crate::lookup::find_command;
+use crate::queue::ControllerQueue;
+use crate::refusal::Refusal;
+use crate::walk::check_walk;
+use io_commands::Job;
+use page_memory::{Dma, TouchRecord};
+use queue_pair::DevicePair;
+use std::alloc::Allocator;
+
+/// What a controller can do.
+#[derive(Clone, Copy, Debug, PartialEq, Eq)]
+pub enum ControllerStep {
+    /// Fetch the entry at the head of a submission queue.
+    Fetch {
+        /// The queue.
+        q: u16,
+    },
+    /// Do the next unit of a command's list.
+    Walk {
+        /// The command's queue.
+        q: u16,
+        /// Its identifier.
+        cid: u16,
+    },
+    /// Post a command's completion.
+    Complete {
+        /// The command's queue.
+        q: u16,
+        /// Its identifier.
+        cid: u16,
+    },
+}
+
+/// What a completion is refused for: the ring is full, or a byte of the slot at the tail is missing.
+fn post_cause<D: Dma>(pair: &DevicePair, dma: &mut D) -> Option<Refusal>
+    requires room { length (D.reached dma.old) ≤ 2 }
+    ensures cause { result ≡ post_refusal (D.memory dma.old) pair.now }
+    ensures memory { D.memory dma.new ≡ D.memory dma.old }
+    ensures pool { D.page_count dma.new ≡ D.page_count dma.old }
+{
+    if pair.is_full() {
+        return Some(Refusal::Full);
+    }
+    let mut slot = [0; 16];
+    match dma.read(pair.post_address(), &mut slot) {
+        Ok(()) => None,
+        Err(_) => Some(Refusal::SlotOut),
+    }
+}
+
+/// The same of a queue by its number.
+fn answer_cause<D: Dma>(queues: &[ControllerQueue], q: u16, dma: &mut D) -> Option<Refusal>
+    requires room { length (D.reached dma.old) ≤ 2 }
+    ensures cause { result ≡ answer_refusal queues.now (D.memory dma.old) q }
+    ensures memory { D.memory dma.new ≡ D.memory dma.old }
+    ensures pool { D.page_count dma.new ≡ D.page_count dma.old }
+{
+    match queues.get(usize::from(q)) {
+        Some(queue) => post_cause(&queue.device, dma),
+        None => None,
+    }
+}
+
+/// The queue and the identifier of a command.
+fn name_of<A: Allocator>(command: &FetchedCommand<Job<A>>) -> (u16, u16)
+    ensures queue { result.0 ≡ command.now.q }
+    ensures identifier { result.1 ≡ (entry_of_work command.now.work).cid }
+{
+    (command.q, command.work.entry().cid)
+}
+
+impl<A: Allocator + Copy> Controller<A> {
+    /// Whether an entry of a queue can be fetched.
+    fn can_fetch<D: TouchRecord>(&self, q: u16, dma: &mut D) -> bool
+        ensures answer { result ≡ is_none (fetch_refusal self.now (D.memory dma.old) q) }
+        ensures memory { D.memory dma.new ≡ D.memory dma.old }
+        ensures pool { D.page_count dma.new ≡ D.page_count dma.old }
+    {
+        dma.clear();
+        match self.look(q, dma) {
+            Ok(entry) => {
+                if find_command(&self.commands, q, entry.cid).is_some() {
+                    answer_cause(&self.queues, q, dma).is_none()
+                } else {
+                    true
+                }
+            }
+            Err(_) => false,
+        }
+    }
+
+    /// The first queue of which an entry can be fetched.
+    fn next_fetch<D: TouchRecord>(&self, dma: &mut D) -> Option<u16>
+        ensures some { IfSome result (λ q. fetch_refusal self.now (D.memory dma.old) q ≡ None) }
+        ensures none { IfNone result ((q : ℕ) → q < 65536 → is_none (fetch_refusal self.now (D.memory dma.old) q) ≡ false) }
+        ensures memory { D.memory dma.new ≡ D.memory dma.old }
+        ensures pool { D.page_count dma.new ≡ D.page_count dma.old }
+    {
+        let count = self.queues.len().min(65_536);
+        for place in 0..count {
+            if self.can_fetch(place as u16, dma) {
+                return Some(place as u16);
+            }
+        }
+        None
+    }
+
+    /// What can be done of a command.
+    fn step_of<D: TouchRecord>(&self, q: u16, cid: u16, dma: &mut D) -> Option<ControllerStep>
+        ensures some { IfSome result (λ step. refusal_by self.now (D.memory dma.old) step ≡ None) }
+        ensures none { IfNone result (IsStuck self.now (D.memory dma.old) q cid) }
+        ensures memory { D.memory dma.new ≡ D.memory dma.old }
+        ensures pool { D.page_count dma.new ≡ D.page_count dma.old }
+    {
+        dma.clear();
+        if check_walk(&self.commands, q, cid).is_ok() {
+            return Some(ControllerStep::Walk { q, cid });
+        }
+        if self.check_complete(q, cid).is_err() {
+            return None;
+        }
+        match answer_cause(&self.queues, q, dma) {
+            Some(_) => None,
+            None => Some(ControllerStep::Complete { q, cid }),
+        }
+    }
+
+    /// What can be done of the first command that does not wait.
+    fn next_of_commands<D: TouchRecord>(&self, dma: &mut D) -> Option<ControllerStep>
+        ensures some { IfSome result (λ step. refusal_by self.now (D.memory dma.old) step ≡ None) }
+        ensures none { IfNone result ((q cid : ℕ) → IsStuck self.now (D.memory dma.old) q cid) }
+        ensures memory { D.memory dma.new ≡ D.memory dma.old }
+        ensures pool { D.page_count dma.new ≡ D.page_count dma.old }
+    {
+        let commands = self.commands();
+        for place in 0..commands.len() {
+            let (q, cid) = name_of(&commands[place]);
+            match self.step_of(q, cid, dma) {
+                Some(step) => return Some(step),
+                None => {}
+            }
+        }
+        None
+    }
+
+    /// A call that the controller can make, if there is one: it is refused for want of memory at most, and `None` says that each call is
+    /// refused for another cause. It makes none. Today a fetch comes before the others, from the first queue that can, and then the
+    /// command that was fetched first and does not wait; no clause says so. The list of the touched pages is empty then.
+    pub fn next_step<D: TouchRecord>(&self, dma: &mut D) -> Option<ControllerStep>
+        ensures possible { IfSome result (λ step. refusal_by self.now (D.memory dma.old) step ≡ None) }
+        ensures rest { IfNone result (IsAtRest self.now (D.memory dma.old)) }
+        ensures cleared { D.reached dma.new ≡ [] }
+        ensures memory { D.memory dma.new ≡ D.memory dma.old }
+        ensures pool { D.page_count dma.new ≡ D.page_count dma.old }
+    {
+        let step = match self.next_fetch(dma) {
+            Some(q) => Some(ControllerStep::Fetch { q }),
+            None => self.next_of_commands(dma),
+        };
+        dma.clear();
+        step
+    }
+}

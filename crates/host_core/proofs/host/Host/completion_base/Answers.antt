@@ -1,0 +1,20 @@
+use Rattle.std.proofs.Common.{◌≡◌, ◌∙◌, ℕ, true, false, [], List, slice_get, ap, subst, sym, Some}
+use Rattle.machine_model.specs.Refusals.{has_cq, in_state}
+use Rattle.host_core.specs.Alone.{HostView, alone}
+use Rattle.host_core.specs.Looks.{completion_base as spec_completion_base}
+use Rattle.host_core.specs.Parts.{tables_of}
+use Rattle.host_core.specs.Reaping.{lacks_completion}
+use Rattle.host_core.specs.Rows.{Queue}
+use Rattle.host_core.proofs.Seen.{base-is, base-there}
+use Rattle.host_core.proofs.host.Host.completion_base.Goals as goal
+
+pub returns-clause-base : goal.returns-clause-base
+returns-clause-base g c =
+    subst (λ (v : HostView). Some c.completion_address.result ≡ spec_completion_base v c.args.q) c.self.view_is
+    (ap (λ (n : ℕ). Some n) c.completion_address.ensures
+    ∙ base-is (tables_of c.self.inside.parts []) c.args.q c.from.result c.index.result.now c.self.invariant.rings (subst (λ (queues : List Queue). lacks_completion (slice_get queues c.args.q) ≡ false) c.deref.ensures.value (sym c.if-has_no_completion.ensures)) c.from.ensures c.index.ensures)
+
+pub returns-clause-there : goal.returns-clause-there
+returns-clause-there g c =
+    subst (λ (v : HostView). true ≡ in_state has_cq (alone v []) c.args.q) c.self.view_is
+    (base-there (tables_of c.self.inside.parts []) c.args.q c.from.result c.index.result.now (subst (λ (queues : List Queue). lacks_completion (slice_get queues c.args.q) ≡ false) c.deref.ensures.value (sym c.if-has_no_completion.ensures)) c.from.ensures c.index.ensures)

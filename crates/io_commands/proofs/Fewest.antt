@@ -1,0 +1,164 @@
+-- In no pages are there fewer joined parts than in consecutive ones.
+use Rattle.std.proofs.Common.{arith, ◌∙◌, sym, ap, subst, refl, ◌≡◌, ◌≢◌, ◌≤◌, ◌<◌, ◌+◌, ◌*◌, ◌&&◌, ℕ, suc, Bool, true, false, if◌then◌else◌, List, [], ◌∷◌, None, length, eqb}
+use Rattle.std.specs.List.{list_any, range_with_len}
+use Rattle.std.proofs.lemmas.List.FromFn.{length-range_with_len}
+use Rattle.std.proofs.lemmas.Bool.Decides.{nat_tests}
+use Rattle.sgl_descriptor.specs.declared.Part.{Part}
+use Rattle.sgl_descriptor.specs.declared.Part.TheVariants as part
+use Rattle.sgl_chain.specs.Chains.{pages_needed}
+use Rattle.sgl_chain.specs.Joining.{joins, both, joined}
+use Rattle.sgl_chain.proofs.Counts.{needed_more}
+use Rattle.sgl_chain.proofs.Joins.{joined_from, from_list}
+use Rattle.sgl_chain.proofs.JoinedLists.{joined_few}
+use Rattle.io_commands.specs.declared.request.Kind.{Kind}
+use Rattle.io_commands.specs.declared.request.Piece.{Piece}
+use Rattle.io_commands.specs.declared.request.Piece.TheVariants.{Data, Bucket}
+use Rattle.io_commands.specs.Requests.{fault_of, is_empty_piece, crosses_page, data_count, parts_of}
+use Rattle.io_commands.specs.Least.{parts_in_a_run, LeastIsBetween, LeastAnywhere, LeastOfAll, AreDistinct}
+use Rattle.io_commands.proofs.Building.{length-parts_of}
+use Rattle.io_commands.proofs.Runs.{Inside, begun, none_left, none_here, inside, counted, data_first, no_bucket}
+use Rattle.io_commands.proofs.Spelled.{few_pieces}
+
+-- what a good request is
+none_crosses : (kind : Kind) (blocks : ℕ) (pieces : List Piece) → fault_of kind blocks pieces ≡ None → list_any crosses_page pieces ≡ false
+none_crosses kind blocks pieces h = grind (arith, nat_tests)
+
+none_empty : (kind : Kind) (blocks : ℕ) (pieces : List Piece) → fault_of kind blocks pieces ≡ None → list_any is_empty_piece pieces ≡ false
+none_empty kind blocks pieces h = grind (arith, nat_tests)
+
+pub same_anywhere : LeastAnywhere
+same_anywhere request segment first good =
+    let few = few_pieces request.kind request.blocks request.pieces good in
+    let inside = none_crosses request.kind request.blocks request.pieces good in
+    ap (λ (k : ℕ). data_count request.pieces + pages_needed k segment) (counted first request.pieces few inside ∙ sym (counted 0 request.pieces few inside))
+
+plus_more : (d x y : ℕ) → x ≤ y → d + x ≤ d + y
+plus_more d x y more = omega arith
+
+no_more_parts : (pieces : List Piece) → length (joined (parts_in_a_run pieces 0)) ≤ length pieces
+no_more_parts pieces =
+    let all : length (parts_in_a_run pieces 0) ≡ length pieces =
+    length-parts_of pieces (range_with_len 0 (data_count pieces)) (let same : length (range_with_len 0 (data_count pieces)) ≡ data_count pieces = length-range_with_len 0 (data_count pieces) in omega arith) in
+    subst (λ (k : ℕ). length (joined (parts_in_a_run pieces 0)) ≤ k) all (joined_few (parts_in_a_run pieces 0))
+
+pub is_between : (pieces : List Piece) (segment : ℕ) → LeastIsBetween pieces segment
+is_between pieces segment =
+    record {
+      least = omega arith;
+      most = λ low. plus_more (data_count pieces) (pages_needed (length (joined (parts_in_a_run pieces 0))) segment) (pages_needed (length pieces) segment)
+          (needed_more (length (joined (parts_in_a_run pieces 0))) (length pieces) segment low (no_more_parts pieces));
+    }
+
+-- each data piece has bytes, and they lie in its page
+abbrev Proper : List Piece → Type 0
+Proper [] = Unit {0}
+Proper (Bucket len ∷ pieces) = Proper pieces
+Proper (Data offset len ∷ pieces) = (0 < len) × (offset + len ≤ 4096) × Proper pieces
+
+some_bytes : (len : ℕ) → eqb len 0 ≡ false → 0 < len
+some_bytes len h = grind (arith, nat_tests)
+
+proper : (pieces : List Piece) → list_any is_empty_piece pieces ≡ false → Inside pieces → Proper pieces
+proper [] none fit = tt
+proper (Bucket len ∷ pieces) none fit = proper pieces (none_left (eqb len 0) (list_any is_empty_piece pieces) none) fit
+proper (Data offset len ∷ pieces) none fit =
+    (some_bytes len (none_here (eqb len 0) (list_any is_empty_piece pieces) none), fit.0, proper pieces (none_left (eqb len 0) (list_any is_empty_piece pieces) none) fit.1)
+
+-- no page is the one before it
+abbrev Differ : ℕ → List ℕ → Type 0
+Differ page [] = Unit {0}
+Differ page (next ∷ pages) = (page ≢ next) × Differ next pages
+
+abbrev Differing : List ℕ → Type 0
+Differing [] = Unit {0}
+Differing (page ∷ pages) = Differ page pages
+
+differing_behind : (page : ℕ) (pages : List ℕ) → Differ page pages → Differing pages
+differing_behind page [] h = tt
+differing_behind page (next ∷ pages) h = h.1
+
+distinct_behind : (page : ℕ) (pages : List ℕ) → AreDistinct (page ∷ pages) → AreDistinct pages
+distinct_behind page pages h i j lt few = h (suc i) (suc j) (omega arith) (omega arith)
+
+differing : (pages : List ℕ) → AreDistinct pages → Differing pages
+differing [] h = tt
+differing (page ∷ []) h = tt
+differing (page ∷ next ∷ pages) h = (h 0 1 (omega arith) (omega arith), differing (next ∷ pages) (distinct_behind page (next ∷ pages) h))
+
+-- a part whose last byte is in a page, which it fills to the end or not
+abbrev EndsIn : Part → Bool → ℕ → Type 0
+EndsIn (part.Data addr len) fills page = (4096 * page < addr + len) × (addr + len ≤ 4096 * (page + 1)) × (fills ≡ eqb (addr + len) (4096 * (page + 1)))
+EndsIn (part.Bucket len) fills page = fills ≡ false
+
+-- a data piece that joins a part begins its page, and the part fills its own
+meets_end : (addr size page next offset len : ℕ) → 4096 * page < addr + size → addr + size ≤ 4096 * (page + 1) → page ≢ next → 0 < len → offset + len ≤ 4096 →
+    addr + size ≡ 4096 * next + offset → (addr + size ≡ 4096 * (page + 1)) × (offset ≡ 0)
+meets_end addr size page next offset len after before other some fits there = (omega arith, omega arith)
+
+joins_end : (last : Part) (fills : Bool) (page next offset len : ℕ) → EndsIn last fills page → page ≢ next → 0 < len → offset + len ≤ 4096 →
+    joins last (part.Data (4096 * next + offset) len) ≡ true → (fills && eqb offset 0) ≡ true
+joins_end (part.Bucket size) fills page next offset len ends other some fits is = absurd cc
+joins_end (part.Data addr size) fills page next offset len ends other some fits is =
+    let there : addr + size ≡ 4096 * next + offset = grind (arith, nat_tests) in
+    let met : (addr + size ≡ 4096 * (page + 1)) × (offset ≡ 0) = meets_end addr size page next offset len ends.0 ends.1 other some fits there in
+    let filled : eqb (addr + size) (4096 * (page + 1)) ≡ true = grind (arith, nat_tests) in
+    let begins : eqb offset 0 ≡ true = grind (arith, nat_tests) in
+    rw (ends.2, filled, begins) refl
+
+next_ends_in : (page offset len : ℕ) → 0 < len → offset + len ≤ 4096 → EndsIn (part.Data (4096 * page + offset) len) (eqb (offset + len) 4096) page
+next_ends_in page offset len some fits = (omega arith, omega arith, grind (arith, nat_tests))
+
+both_end_in : (last : Part) (page offset len : ℕ) → 0 < len → offset + len ≤ 4096 → joins last (part.Data (4096 * page + offset) len) ≡ true →
+    EndsIn (both last (part.Data (4096 * page + offset) len)) (eqb (offset + len) 4096) page
+both_end_in (part.Bucket size) page offset len some fits is = absurd cc
+both_end_in (part.Data addr size) page offset len some fits is =
+    let there : addr + size ≡ 4096 * page + offset = grind (arith, nat_tests) in
+    (omega arith, omega arith, grind (arith, nat_tests))
+
+-- the joined parts of pieces behind one
+either_least : (b a : Bool) (last : Part) (xs ys : List Part) (e : ℕ) → (b ≡ true → a ≡ true) → (b ≡ true → 1 + e ≤ length xs) → 1 + e ≤ length ys →
+    1 + ((if a then 0 else 1) + e) ≤ length (if b then xs else last ∷ ys)
+either_least true true last xs ys e also p q = let few : 1 + e ≤ length xs = p refl in omega arith
+either_least true false last xs ys e also p q = absurd (let wrong : false ≡ true = also refl in cc)
+either_least false true last xs ys e also p q = omega arith
+either_least false false last xs ys e also p q = omega arith
+
+least_from : (last : Part) (fills : Bool) (page : ℕ) (pages : List ℕ) (pieces : List Piece) → EndsIn last fills page → Differ page pages → data_count pieces ≤ length pages → Proper pieces →
+    1 + begun fills pieces ≤ length (joined_from last (parts_of pieces pages))
+least_from last fills page pages [] ends differ enough fit = omega arith
+least_from last fills page pages (Bucket len ∷ pieces) ends differ enough fit =
+    let behind : 1 + begun false pieces ≤ length (joined_from (part.Bucket len) (parts_of pieces pages)) = least_from (part.Bucket len) false page pages pieces refl differ enough fit in
+    subst (λ (b : Bool). 1 + (1 + begun false pieces) ≤ length (if b then joined_from (both last (part.Bucket len)) (parts_of pieces pages) else last ∷ joined_from (part.Bucket len) (parts_of pieces pages)))
+    (sym (no_bucket last len)) (omega arith)
+least_from last fills page [] (Data offset len ∷ pieces) ends differ enough fit = absurd (omega (arith, data_first offset len pieces))
+least_from last fills page (next ∷ pages) (Data offset len ∷ pieces) ends differ enough fit =
+    let others : data_count pieces ≤ length pages = omega (arith, data_first offset len pieces) in
+    let here : Part = part.Data (4096 * next + offset) len in
+    either_least (joins last here) (fills && eqb offset 0) last (joined_from (both last here) (parts_of pieces pages)) (joined_from here (parts_of pieces pages)) (begun (eqb (offset + len) 4096) pieces)
+    (λ is. joins_end last fills page next offset len ends differ.0 fit.0 fit.1 is)
+    (λ is. least_from (both last here) (eqb (offset + len) 4096) next pages pieces (both_end_in last next offset len fit.0 fit.1 is) differ.1 others fit.2)
+    (least_from here (eqb (offset + len) 4096) next pages pieces (next_ends_in next offset len fit.0 fit.1) differ.1 others fit.2)
+
+least_parts : (pages : List ℕ) (pieces : List Piece) → Differing pages → data_count pieces ≤ length pages → Proper pieces → begun false pieces ≤ length (joined (parts_of pieces pages))
+least_parts pages [] differ enough fit = omega arith
+least_parts [] (Bucket len ∷ pieces) differ enough fit =
+    subst (λ (xs : List Part). 1 + begun false pieces ≤ length xs) (sym (from_list (part.Bucket len) (parts_of pieces [])))
+    (least_from (part.Bucket len) false 0 [] pieces refl tt enough fit)
+least_parts (page ∷ pages) (Bucket len ∷ pieces) differ enough fit =
+    subst (λ (xs : List Part). 1 + begun false pieces ≤ length xs) (sym (from_list (part.Bucket len) (parts_of pieces (page ∷ pages))))
+    (least_from (part.Bucket len) false (suc page) (page ∷ pages) pieces refl (omega arith, differ) enough fit)
+least_parts [] (Data offset len ∷ pieces) differ enough fit = absurd (omega (arith, data_first offset len pieces))
+least_parts (page ∷ pages) (Data offset len ∷ pieces) differ enough fit =
+    subst (λ (xs : List Part). 1 + begun (eqb (offset + len) 4096) pieces ≤ length xs) (sym (from_list (part.Data (4096 * page + offset) len) (parts_of pieces pages)))
+    (least_from (part.Data (4096 * page + offset) len) (eqb (offset + len) 4096) page pages pieces (next_ends_in page offset len fit.0 fit.1) differ (omega (arith, data_first offset len pieces)) fit.2)
+
+pub least_of_all : LeastOfAll
+least_of_all request segment pages good low count distinct =
+    let few = few_pieces request.kind request.blocks request.pieces good in
+    let inside_pages = none_crosses request.kind request.blocks request.pieces good in
+    let fewest : length (joined (parts_in_a_run request.pieces 0)) ≤ length (joined (parts_of request.pieces pages)) =
+    subst (λ (k : ℕ). k ≤ length (joined (parts_of request.pieces pages))) (sym (counted 0 request.pieces few inside_pages))
+    (least_parts pages request.pieces (differing pages distinct) (omega arith)
+    (proper request.pieces (none_empty request.kind request.blocks request.pieces good) (inside request.pieces inside_pages))) in
+    plus_more (data_count request.pieces) (pages_needed (length (joined (parts_in_a_run request.pieces 0))) segment) (pages_needed (length (joined (parts_of request.pieces pages))) segment)
+    (needed_more (length (joined (parts_in_a_run request.pieces 0))) (length (joined (parts_of request.pieces pages))) segment low fewest)

@@ -1,0 +1,115 @@
+-- Where a forged completion goes.
+use Rattle.std.proofs.Common.{◌≡◌, ◌≢◌, ℕ, zero, suc, ◌+◌, ◌*◌, ◌<◌, ◌≤◌, ◌/◌, Bool, true, false, ◌||◌, MatchBool, Option, Some, None, List, [], ◌∷◌, length, if◌then◌else◌, refl, ap, ap₂, sym, ◌∙◌, subst, arith, ◌⊎◌, inl, inr, get_or}
+use Rattle.std.specs.Prelude.{slice_get, option_and_then}
+use Rattle.std.specs.Option.{option_map, option_map_or}
+use Rattle.std.proofs.lemmas.Bool.{lt-leb, le-leb}
+use Rattle.std.proofs.lemmas.Option.{slice_get_cases}
+use Rattle.controller_core.specs.declared.queue.ControllerQueue.{ControllerQueue}
+use Rattle.host_core.specs.Alone.{alone}
+use Rattle.host_core.specs.Looks.{completion_base}
+use Rattle.machine_model.specs.Events as events
+use Rattle.machine_model.specs.Refusals.{refusal_of, in_state, has_cq}
+use Rattle.machine_model.specs.State.{State, HostQueue}
+use Rattle.machine_model.specs.Step.{Step, Refuses}
+use Rattle.machine_model.specs.declared.words.Refusal.{Refusal}
+use Rattle.machine_model.specs.declared.words.Refusal.TheVariants as refusal
+use Rattle.page_ledger.specs.Owners.{pages_from}
+use Rattle.page_memory.specs.Memory.{Memory, bytes_at, page_of, written}
+use Rattle.page_memory.specs.Pages.{Pages, byte_at, page_at, AreWhole, IsPool}
+use Rattle.page_memory.proofs.Reading.{none_at}
+use Rattle.queue_pair.specs.Memory.{completion_place, completion_slot}
+use Rattle.two_sides.specs.Sides.{Sides, state_of}
+use Rattle.two_sides.specs.Ties.{ShareQueue, ShareQueues}
+use Rattle.two_sides.specs.Stepping.{forged}
+use Rattle.two_sides.specs.Ties.{IsWorld}
+use Rattle.step_core.specs.World.{sides_of}
+use Rattle.step_core.proofs.Steps.{Goes, goes}
+use Rattle.two_sides.proofs.Forgery.{forged_stepped, slots_are_in}
+
+-- a place whose byte is there is in the pool
+in_pool : (pages : Pages) (place : ℕ) → IsPool pages → byte_at pages place ≢ None → place < 268435456
+in_pool pages place pool there = go (slice_get_cases pages (page_of place)).1
+  where
+    go : ((x : Option (List ℕ)) × (page_of place < length pages) × (slice_get pages (page_of place) ≡ Some x) × (get_or pages (page_of place) x ≡ x)) ⊎ ((length pages ≤ page_of place) × (slice_get pages (page_of place) ≡ None)) → place < 268435456
+    go (inl (x, within, at, same)) = let few = pool.few in omega (arith, within, few)
+    go (inr (beyond, none)) = absurd (there (rw none refl))
+
+-- what a forged completion's place is
+pub record IsSlot (s : Sides) (q slot place : ℕ) : Type 0 where
+  pub queue : ControllerQueue
+  pub here : slice_get s.controller.queues q ≡ Some queue
+  pub is : place ≡ completion_place queue.device.cq slot
+  pub there : completion_slot (byte_at s.pages) queue.device.cq slot ≢ None
+  pub fits : place < 268435456
+
+share_from : (n k : ℕ) (hs : List HostQueue) (cs : List ControllerQueue) (i : ℕ) (h : HostQueue) → ShareQueues n k hs cs → slice_get hs i ≡ Some h
+    → (c : ControllerQueue) × (slice_get cs i ≡ Some c) × ((q : ℕ) × ShareQueue n q h c)
+share_from n k [] cs i h share at = absurd cc
+share_from n k (x ∷ hs) [] i h share at = absurd share
+share_from n k (x ∷ hs) (c ∷ cs) zero h share at = let same : x ≡ h = cc in (c, refl, (k, subst (λ (h : HostQueue). ShareQueue n k h c) same share.0))
+share_from n k (x ∷ hs) (c ∷ cs) (suc i) h share at = share_from n (suc k) hs cs i h share.1 at
+
+first_is : (cq many base : ℕ) (pages : List ℕ) → (pages ≡ []) ⊎ (pages ≡ pages_from cq many) → option_map (λ page. 4096 * page) (slice_get pages 0) ≡ Some base → base ≡ 4096 * cq
+first_is cq many base pages (inl none) at = let no : option_map (λ page. 4096 * page) (slice_get [] 0) ≡ Some base = subst (λ (pages : List ℕ). option_map (λ page. 4096 * page) (slice_get pages 0) ≡ Some base) none at in absurd cc
+first_is cq many base pages (inr is) at = go many (subst (λ (pages : List ℕ). option_map (λ page. 4096 * page) (slice_get pages 0) ≡ Some base) is at)
+  where
+    go : (many : ℕ) → option_map (λ page. 4096 * page) (slice_get (pages_from cq many) 0) ≡ Some base → base ≡ 4096 * cq
+    go zero h = absurd cc
+    go (suc many) h = cc
+
+pub forges_none : (s : Sides) (q slot : ℕ) (bytes : List ℕ) → in_state has_cq (alone s.host []) q ≡ true → slot < s.host.entries → refusal_of (state_of s) (events.Forge q slot bytes) ≡ None
+forges_none s q slot bytes live below = rw (live, lt-leb s.host.entries slot below) refl
+
+pub slot_is : (s : Sides) (q slot base : ℕ) (bytes : List ℕ) → IsWorld s → Some base ≡ completion_base s.host q → in_state has_cq (alone s.host []) q ≡ true → slot < s.host.entries → IsSlot s q slot (base + 16 * slot)
+slot_is s q slot base bytes l at live below = go (slice_get s.host.host.queues q) refl (sym at)
+  where
+    go : (o : Option HostQueue) → slice_get s.host.host.queues q ≡ o → option_and_then (λ queue. option_map (λ page. 4096 * page) (slice_get queue.cq_pages 0)) o ≡ Some base → IsSlot s q slot (base + 16 * slot)
+    go None here is = absurd cc
+    go (Some h) here is =
+        let (c, found, (k, share)) = share_from s.host.entries 0 s.host.host.queues s.controller.queues q h l.sides.queues here in
+        let place : base + 16 * slot ≡ completion_place c.device.cq slot = ap (λ (n : ℕ). n + 16 * slot) (first_is c.device.cq _ base h.cq_pages share.completion is) in
+        let there = slots_are_in s q slot bytes c l (forges_none s q slot bytes live below) found in
+        record {
+          queue = c;
+          here = found;
+          is = place;
+          there = there;
+          fits = subst (λ (n : ℕ). n < 268435456) (sym place) (in_pool s.pages (completion_place c.device.cq slot) l.sides.over.pool (λ none. there (none_at (byte_at s.pages) (completion_place c.device.cq slot) 16 none (omega arith))));
+        }
+
+-- The call: its place, counted from where the ring begins, and what it leaves
+
+pub slot_at : (s : Sides) (q slot base from count : ℕ) → IsWorld s → Some base ≡ completion_base s.host q → true ≡ in_state has_cq (alone s.host []) q → slot < count → count ≡ s.host.entries → from ≡ slot
+    → IsSlot s q slot (base + 16 * from)
+slot_at s q slot base from count l at live below entries same =
+    subst (λ (from : ℕ). IsSlot s q slot (base + 16 * from)) (sym same) (slot_is s q slot base [] l at (sym live) (subst (λ (n : ℕ). slot < n) entries below))
+
+pub never_out : (s : Sides) (q slot place : ℕ) (cleared : Pages) (bytes : List ℕ) → IsSlot s q slot place → byte_at cleared ≡ byte_at s.pages → length bytes ≡ 16 → bytes_at (byte_at cleared) place (length bytes) ≡ None → ⊥
+never_out s q slot place cleared bytes at same many out =
+    at.there (sym (ap (λ (place : ℕ). bytes_at (byte_at s.pages) place 16) at.is) ∙ (sym (ap₂ (λ (m : Memory) (n : ℕ). bytes_at m place n) same many) ∙ out))
+
+pub forge_goes : (s : Sides) (q slot place count : ℕ) (bytes : List ℕ) (cleared new : Pages) → IsWorld s → true ≡ in_state has_cq (alone s.host []) q → slot < count → count ≡ s.host.entries → IsSlot s q slot place
+    → length bytes ≡ 16 → byte_at cleared ≡ byte_at s.pages → length cleared ≡ length s.pages → AreWhole new → length new ≡ length cleared → byte_at new ≡ written (byte_at cleared) place bytes
+    → Goes s (events.Forge q slot bytes) events.Accepted (sides_of s.host s.controller new false)
+forge_goes s q slot place count bytes cleared new l live below entries at many same size whole size' is =
+    goes s (events.Forge q slot bytes) events.Accepted (forged s new) l
+    (forged_stepped s q slot bytes at.queue new l many (forges_none s q slot bytes (sym live) (subst (λ (n : ℕ). slot < n) entries below)) at.here
+    (record { whole = whole; count = size' ∙ size })
+    (is ∙ ap₂ (λ (m : Memory) (place : ℕ). written m place bytes) same at.is))
+
+-- What it is refused for
+
+refuse : (s : Sides) (old : State) (q slot : ℕ) (bytes : List ℕ) (why : Refusal) → state_of s ≡ old → length bytes ≡ 16 → Refuses (state_of s) (events.Forge q slot bytes) why [] → Step old (events.Forge q slot bytes) (events.Refused why []) old
+refuse s old q slot bytes why is many refuses = subst (λ (old : State). Step old (events.Forge q slot bytes) (events.Refused why []) old) is (many, either _ s.trusted refuses, refl)
+  where
+    either : {A : Type 0} (B : Type 0) (b : Bool) → A → MatchBool (b || true) A B
+    either B true a = a
+    either B false a = a
+
+pub refuses_no_queue : (s : Sides) (old : State) (q slot : ℕ) (bytes : List ℕ) → state_of s ≡ old → length bytes ≡ 16 → false ≡ in_state has_cq (alone s.host []) q → Step old (events.Forge q slot bytes) (events.Refused refusal.NoQueue []) old
+refuses_no_queue s old q slot bytes is many none = refuse s old q slot bytes refusal.NoQueue is many (rw (sym none) refl, refl)
+
+pub refuses_no_slot : (s : Sides) (old : State) (q slot count : ℕ) (bytes : List ℕ) → state_of s ≡ old → length bytes ≡ 16 → true ≡ in_state has_cq (alone s.host []) q → count ≤ slot → count ≡ s.host.entries
+    → Step old (events.Forge q slot bytes) (events.Refused refusal.NoSlot []) old
+refuses_no_slot s old q slot count bytes is many live past entries =
+    refuse s old q slot bytes refusal.NoSlot is many (rw (sym live, le-leb s.host.entries slot (subst (λ (n : ℕ). n ≤ slot) entries past)) refl, refl)

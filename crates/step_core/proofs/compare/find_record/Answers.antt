@@ -1,7 +1,0 @@
-use Rattle.std.proofs.Common.{sym, ◌∙◌}
-use Rattle.world_tables.proofs.Comparing.{find-here}
-use Rattle.step_core.proofs.compare.find_record.Goals as goal
-
-pub returns-then-is_command-clause-found : goal.returns-then-is_command-clause-found
-returns-then-is_command-clause-found c =
-    find-here c.args.q c.args.cid c.args.records.now c.loop-i.i c.index-records-i.result c.loop-i-test.true c.index-records-i.is (sym c.is_command.ensures ∙ c.if-is_command.true) c.loop-i.invariant

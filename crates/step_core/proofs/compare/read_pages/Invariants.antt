@@ -1,6 +1,0 @@
-use Rattle.std.proofs.Common.{take}
-use Rattle.machine_model.specs.Proper.{ArePages}
-use Rattle.step_core.proofs.compare.read_pages.Given as goal
-
-abbrev pub invariant-loop-page : goal.invariant-loop-page
-invariant-loop-page l = ArePages (take l.page-index l.pages)

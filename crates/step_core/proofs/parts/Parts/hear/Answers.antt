@@ -1,9 +1,0 @@
-use Rattle.world_tables.specs.Reaping.{with_answer_heard}
-use Rattle.step_core.specs.Parts.{tables_of}
-use Rattle.world_tables.proofs.Queues.{queue-written}
-use Rattle.step_core.proofs.parts.Parts.hear.Goals as goal
-
-pub returns : goal.returns
-returns c =
-    queue-written (tables_of c.args.self.now) (with_answer_heard c.args.entry.sqhd) c.args.q c.from.result c.index_mut.result.now c.hear_answer.new.queue
-    c.requires.there c.from.ensures c.index_mut.ensures.value c.hear_answer.ensures

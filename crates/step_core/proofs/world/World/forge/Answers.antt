@@ -1,0 +1,29 @@
+use Rattle.std.proofs.Common.{◌≡◌, length, rules, arith}
+use Rattle.step_core.specs.World.{sides_of}
+use Rattle.step_core.proofs.Forging.{slot_at, never_out, forge_goes}
+use Rattle.step_core.proofs.Steps.{step_from}
+use Rattle.step_core.proofs.world.World.forge.Goals as goal
+
+pub overflow_add-base : goal.overflow_add-base
+overflow_add-base g c =
+    let at = (slot_at (sides_of c.self.inside.host c.self.inside.controller c.self.inside.store.pages c.self.inside.trusted) c.args.q c.args.slot c.in-Some.base c.from.result c.entries.result c.self.invariant c.in-Some.ensures.base c.in-Some.ensures.there c.if-slot-entries.false c.entries.ensures c.from.ensures) in
+    let fits = at.fits in
+    omega (arith, fits)
+
+pub unreachable-requires : goal.unreachable-requires
+unreachable-requires g c =
+    let many : length c.args.bytes ≡ 16 = search rules in
+    never_out (sides_of c.self.inside.host c.self.inside.controller c.self.inside.store.pages c.self.inside.trusted) c.args.q c.args.slot _ c.clear.new.self.pages c.args.bytes
+    (slot_at (sides_of c.self.inside.host c.self.inside.controller c.self.inside.store.pages c.self.inside.trusted) c.args.q c.args.slot c.in-Some.base c.from.result c.entries.result c.self.invariant c.in-Some.ensures.base c.in-Some.ensures.there c.if-slot-entries.false c.entries.ensures c.from.ensures) c.clear.ensures.memory many c.in-Err.ensures.missing
+
+pub invariant_of-self : goal.invariant_of-self
+invariant_of-self g c =
+    let many : length c.args.bytes ≡ 16 = search rules in
+    (forge_goes (sides_of c.self.inside.host c.self.inside.controller c.self.inside.store.pages c.self.inside.trusted) c.args.q c.args.slot _ c.entries.result c.args.bytes c.clear.new.self.pages c.write.new.self.pages c.self.invariant c.in-Some.ensures.there c.if-slot-entries.false c.entries.ensures
+    (slot_at (sides_of c.self.inside.host c.self.inside.controller c.self.inside.store.pages c.self.inside.trusted) c.args.q c.args.slot c.in-Some.base c.from.result c.entries.result c.self.invariant c.in-Some.ensures.base c.in-Some.ensures.there c.if-slot-entries.false c.entries.ensures c.from.ensures) many c.clear.ensures.memory c.clear.ensures.pool c.pages-pages.ensures.whole c.write.ensures.pool c.in-Ok.ensures.written).world
+
+pub returns : goal.returns
+returns g c =
+    let many : length c.args.bytes ≡ 16 = search rules in
+    step_from (forge_goes (sides_of c.self.inside.host c.self.inside.controller c.self.inside.store.pages c.self.inside.trusted) c.args.q c.args.slot _ c.entries.result c.args.bytes c.clear.new.self.pages c.write.new.self.pages c.self.invariant c.in-Some.ensures.there c.if-slot-entries.false c.entries.ensures
+    (slot_at (sides_of c.self.inside.host c.self.inside.controller c.self.inside.store.pages c.self.inside.trusted) c.args.q c.args.slot c.in-Some.base c.from.result c.entries.result c.self.invariant c.in-Some.ensures.base c.in-Some.ensures.there c.if-slot-entries.false c.entries.ensures c.from.ensures) many c.clear.ensures.memory c.clear.ensures.pool c.pages-pages.ensures.whole c.write.ensures.pool c.in-Ok.ensures.written) c.self.view_is

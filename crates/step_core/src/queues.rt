@@ -1,0 +1,100 @@
+//! Queues: they are rung, reaped, deleted and retired, and their commands are aborted.
+
+ghost use Rattle.std.specs.Prelude.{◌≡◌};
+ghost use Rattle.machine_model.specs.Events as events;
+ghost use Rattle.machine_model.specs.Step.{Step};
+ghost use Rattle.step_core.specs.Replies.{ring_reply, reap_reply, send_reply};
+
+use crate::world::World;
+use machine_model::words::{Reaped, Refusal};
+use std::alloc::Allocator;
+
+impl<A: Allocator + Copy> World<A> {
+    /// Rings the tail doorbell of a queue: the controller may fetch all that was submitted to it.
+    ///
+    /// # Errors
+    ///
+    /// `NoQueue` where there is no such queue, or its submission half was given back.
+    pub fn ring(&mut self, q: u16) -> Result<(), Refusal>
+        ensures { Step self.old (events.Ring q) (ring_reply result) self.new }
+    {
+        let tail = self.host.ring(q)?;
+        self.controller.tail_doorbell(q, tail);
+        Ok(())
+    }
+
+    /// Looks at the head of a queue's completion ring, and takes the completion there, if there is a new one.
+    ///
+    /// The answer is `Empty` where there is none. A completion of a submitted command ends it: `Done` tells the identifier of an I/O
+    /// command and how it ended, and its pages stay its own; `AdminDone` tells that of a command of queue 0, which is over. A
+    /// completion of no submitted command is `Rejected`: it is taken, the head is rung, and nothing else changes.
+    ///
+    /// # Errors
+    ///
+    /// `NoQueue` where there is no such queue, or its completion half was given back. Then nothing changed.
+    pub fn reap(&mut self, q: u16) -> Result<Reaped, Refusal>
+        ensures { Step self.old (events.Reap q) (reap_reply result) self.new }
+    {
+        let reap = self.host.reap(&mut self.store, q)?;
+        match reap.head {
+            Some(head) => self.controller.head_doorbell(q, head),
+            None => {}
+        }
+        Ok(reap.found)
+    }
+
+    /// Sends an Abort of a submitted command. It stands behind the tail of queue 0 under the identifier that is answered.
+    ///
+    /// # Errors
+    ///
+    /// Nothing changed. 1. `NoQueue` for queue 0, an unknown queue, and one whose submission half was given back. 2. `WrongState`
+    /// where it is being deleted. 3. `NoSuchCommand` where the queue has no submitted command of this identifier.
+    /// 4. `NoIdentifier` where each identifier of queue 0 is outstanding. 5. `QueueFull` where the submission ring of queue 0 is full.
+    pub fn abort(&mut self, q: u16, cid: u16) -> Result<u16, Refusal>
+        ensures { Step self.old (events.Abort q cid) (send_reply result) self.new }
+    {
+        self.host.abort(&mut self.store, q, cid)
+    }
+
+    /// Sends the deletion of a submission queue, which takes no more commands. It stands behind the tail of queue 0 under the
+    /// identifier that is answered.
+    ///
+    /// # Errors
+    ///
+    /// Nothing changed. 1. `NoQueue` for queue 0, an unknown queue, and one whose submission half was given back. 2. `WrongState`
+    /// where it is being deleted. 3. `NoIdentifier` where each identifier of queue 0 is outstanding. 4. `QueueFull` where the submission
+    /// ring of queue 0 is full.
+    pub fn delete_sq(&mut self, q: u16) -> Result<u16, Refusal>
+        ensures { Step self.old (events.DeleteSq q) (send_reply result) self.new }
+    {
+        self.host.delete_sq(&mut self.store, q)
+    }
+
+    /// Sends the deletion of a completion queue. It stands behind the tail of queue 0 under the identifier that is answered.
+    ///
+    /// # Errors
+    ///
+    /// Nothing changed. 1. `NoQueue` for queue 0, an unknown queue, and one whose completion half was given back. 2. `WrongState`
+    /// where its submission side is being deleted, or was given back with a deletion of its completion side outstanding.
+    /// 3. `NoIdentifier` where each identifier of queue 0 is outstanding. 4. `QueueFull` where the submission ring of queue 0 is full.
+    pub fn delete_cq(&mut self, q: u16) -> Result<u16, Refusal>
+        ensures { Step self.old (events.DeleteCq q) (send_reply result) self.new }
+    {
+        self.host.delete_cq(&mut self.store, q)
+    }
+
+    /// Gives the submission half of a deleted queue back, and ends its commands that were never answered.
+    ///
+    /// Each of those is held with the status "Command Aborted due to SQ Deletion", as if its completion had been reaped; its pages
+    /// stay its own until it is collected and released. The pages of the submission half are free, and the queue is retired.
+    ///
+    /// # Errors
+    ///
+    /// 1. `NotDeleted` where there is no such queue, or the success of its deletion was not reaped, or it was retired before.
+    /// 2. `NotDrained` where a new completion stands at the head of its completion ring. Then nothing changed.
+    pub fn retire(&mut self, q: u16) -> Result<(), Refusal>
+        ensures { Step self.old (events.Retire q) (ring_reply result) self.new }
+    {
+        self.host.retire(&mut self.store, q)
+    }
+}

@@ -1,0 +1,139 @@
+//! The controller's steps: it fetches, walks and completes.
+
+ghost use Rattle.std.specs.Prelude.{◌≡◌};
+ghost use Rattle.machine_model.specs.Events as events;
+ghost use Rattle.machine_model.specs.Step.{Step};
+ghost use Rattle.step_core.specs.Replies.{fetch_reply, walk_reply, complete_reply};
+ghost use Rattle.step_core.specs.Touching.{StaysAllowed};
+ghost use Rattle.two_sides.specs.Serving as serving;
+ghost use Rattle.two_sides.specs.Serving.{why_of};
+
+use crate::refused::{Completed, Fetched, StepRefused, Touched, Walked, touched_by};
+use crate::world::World;
+use controller_walk::WalkState;
+use machine_model::words::Refusal;
+use page_memory::TouchRecord;
+use std::alloc::Allocator;
+
+/// The machine's word for a cause that the controller tells.
+fn word_of(why: controller_core::Refusal) -> Refusal
+    ensures { result ≡ why_of why }
+{
+    match why {
+        controller_core::Refusal::Idle => Refusal::Idle,
+        controller_core::Refusal::SlotOut => Refusal::SlotOut,
+        controller_core::Refusal::Full => Refusal::Full,
+        controller_core::Refusal::NoJob => Refusal::NoJob,
+        controller_core::Refusal::Nothing => Refusal::Nothing,
+        controller_core::Refusal::Walking => Refusal::Walking,
+        controller_core::Refusal::Waits => Refusal::Waits,
+        controller_core::Refusal::Memory => Refusal::Memory,
+    }
+}
+
+/// A refusal of the controller, with the pages that it touched before.
+fn refused(why: controller_core::Refusal, touched: Touched) -> StepRefused
+    ensures { result ≡ record { why = why_of why; touched = touched } }
+{
+    StepRefused {
+        why: word_of(why),
+        touched,
+    }
+}
+
+/// What a fetch answers, with the pages that it touched.
+fn fetched(
+    answer: Result<u16, controller_core::Refusal>,
+    touched: Touched,
+) -> Result<Fetched, StepRefused>
+    ensures { fetch_reply result ≡ serving.fetch_reply answer touched }
+{
+    match answer {
+        Ok(cid) => Ok(Fetched { cid, touched }),
+        Err(why) => Err(refused(why, touched)),
+    }
+}
+
+/// What a walk's step answers, with the pages that it touched.
+fn walked(
+    answer: Result<WalkState, controller_core::Refusal>,
+    touched: Touched,
+) -> Result<Walked, StepRefused>
+    ensures { walk_reply result ≡ serving.walk_reply answer touched }
+{
+    match answer {
+        Ok(state) => Ok(Walked { state, touched }),
+        Err(why) => Err(refused(why, touched)),
+    }
+}
+
+/// What a completion answers, with the page that it touched.
+fn completed(
+    answer: Result<(), controller_core::Refusal>,
+    touched: Touched,
+) -> Result<Completed, StepRefused>
+    ensures { complete_reply result ≡ serving.complete_reply answer touched }
+{
+    match answer {
+        Ok(()) => Ok(Completed { touched }),
+        Err(why) => Err(refused(why, touched)),
+    }
+}
+
+impl<A: Allocator + Copy> World<A> {
+    /// The controller fetches the entry at the head of a submission queue. An entry of an I/O queue begins a job: where a field
+    /// check fails, that is its verdict, and a Read takes its blocks from the image as it is now. An entry of queue 0 is decided
+    /// here: an Abort stops its command, the deletion of a submission queue stops that queue and its commands, and the deletion of
+    /// a completion queue drops it. An identifier that is fetched from the queue and not completed is answered at once, with
+    /// Command Identifier Conflict.
+    ///
+    /// # Errors
+    ///
+    /// 1. `Idle`: there is no such queue, nothing is fetched from it any more, or nothing is rung. 2. `SlotOut`: the page of
+    /// the entry's slot is out. Where the identifier is answered at once: 3. `Full`: the completion ring is full. 4. `SlotOut`: the
+    /// page of the completion's slot is out. 5. `Memory` where memory is refused. Then nothing changed.
+    pub fn fetch(&mut self, q: u16) -> Result<Fetched, StepRefused>
+        ensures step { Step self.old (events.Fetch q) (fetch_reply result) self.new }
+        ensures touches { StaysAllowed self.old (events.Fetch q) (fetch_reply result) }
+    {
+        self.store.clear();
+        let answer = self.controller.fetch(q, &mut self.store);
+        let _pages = self.store.pages();
+        fetched(answer, touched_by(&self.store))
+    }
+
+    /// The controller does the next unit of the list of a fetched command: it takes a descriptor, or moves the bytes of one page. With
+    /// the last unit it answers `End` or a fault, which is then the command's verdict. No memory is taken.
+    ///
+    /// # Errors
+    ///
+    /// 1. `NoJob`: the controller has no such command. 2. `Nothing`: it has its verdict already, as each admin command has. Then
+    /// nothing changed, and no page was touched.
+    pub fn walk(&mut self, q: u16, cid: u16) -> Result<Walked, StepRefused>
+        ensures step { Step self.old (events.Walk q cid) (walk_reply result) self.new }
+        ensures touches { StaysAllowed self.old (events.Walk q cid) (walk_reply result) }
+    {
+        self.store.clear();
+        let answer = self.controller.walk(q, cid, &mut self.store);
+        let _pages = self.store.pages();
+        walked(answer, touched_by(&self.store))
+    }
+
+    /// The controller posts the completion of a fetched command, and forgets the command. A Write that ends well changes the image
+    /// here, and a deletion of a submission queue leaves nothing of it.
+    ///
+    /// # Errors
+    ///
+    /// 1. `NoJob`: the controller has no such command. 2. `Walking`: its list isn't walked to the end. 3. `Waits`: an Abort waits
+    /// for the command that it stopped, a deletion for the commands of its queue. 4. `Full`: the completion ring is full.
+    /// 5. `SlotOut`: the page of the slot is out. Then nothing changed.
+    pub fn complete(&mut self, q: u16, cid: u16) -> Result<Completed, StepRefused>
+        ensures step { Step self.old (events.Complete q cid) (complete_reply result) self.new }
+        ensures touches { StaysAllowed self.old (events.Complete q cid) (complete_reply result) }
+    {
+        self.store.clear();
+        let answer = self.controller.complete(q, cid, &mut self.store);
+        let _pages = self.store.pages();
+        completed(answer, touched_by(&self.store))
+    }
+}
