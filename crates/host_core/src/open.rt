@@ -167,7 +167,7 @@ fn open_queues<A: Allocator + Copy>(
 }
 
 /// A queue that opens, with its halves from these pages on.
-fn open_queue<A: Allocator>(
+fn open_queue<A: Allocator + Copy>(
     alloc: A,
     q: u16,
     entries: u16,

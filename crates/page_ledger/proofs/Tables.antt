@@ -10,7 +10,8 @@ use Rattle.std.specs.List.{count_by, Contains}
 use Rattle.page_ledger.specs.declared.owner.Owner.{Owner}
 use Rattle.page_ledger.specs.declared.owner.Owner.TheVariants.{Free, Queue, Command}
 use Rattle.page_ledger.specs.Owners.{is_among, owner_at, is_free, is_owned_at, pages_from, pages_owned, free_pages, with_owner, given_back}
-use Rattle.page_ledger.specs.Free.{is_true_at, true_places}
+use Rattle.bit_list.specs.Places.{is_true_at}
+use Rattle.page_ledger.specs.Free.{true_places}
 use Rattle.page_ledger.specs.Lists.{ListsAll}
 use Rattle.page_ledger.proofs.Pages.{filter-agree, filter-within, filter-without_first, filter-contains, pages_from-more}
 

@@ -1,4 +1,3 @@
-pub mod Bits
 pub mod Counting
 pub mod Free
 pub mod Groups
@@ -6,6 +5,5 @@ pub mod Laws
 pub mod Lists
 pub mod Owners
 pub mod Runs
-pub mod Searches
 pub mod Updates
 pub mod Worked

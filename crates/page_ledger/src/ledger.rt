@@ -8,8 +8,8 @@ ghost use Rattle.page_ledger.specs.Groups.{is_member};
 ghost use Rattle.page_ledger.specs.Counting.{counts_of, total};
 ghost use Rattle.page_ledger.specs.Runs.{lowest_run as spec_lowest_run};
 
-use crate::free::FreePages;
 use crate::owner::{Counts, Group, NoPages, Owner};
+use bit_list::BitList;
 use page_memory::{Half, OpenFault, PageNo};
 use std::alloc::{Allocator, Global};
 use std::marker::Model;
@@ -19,7 +19,7 @@ use std::marker::Model;
 pub struct Ledger<A: Allocator = Global> {
     owners: Vec<Owner, A>,
     counts: Counts,
-    free: FreePages<A>,
+    free: BitList<A>,
 }
 
 impl<A: Allocator> Model for Ledger<A> {
@@ -60,7 +60,7 @@ impl<A: Allocator + Clone> Ledger<A> {
                 chain_pages: 0,
                 data_pages: 0,
             },
-            free: FreePages::open(alloc, pages)?,
+            free: BitList::open(alloc, pages)?,
         })
     }
 }
@@ -184,7 +184,7 @@ impl<A: Allocator> Ledger<A> {
         let before = self.owners[at];
         self.counts = self.counts.one_less(before).one_more(owner);
         self.owners[at] = owner;
-        self.free.mark(p.0, owner.is_free());
+        self.free.set(p.0, owner.is_free());
     }
 
     /// Gives pages of the pool to an owner.
@@ -226,7 +226,7 @@ impl<A: Allocator> Ledger<A> {
 }
 
 /// Appends the `k` lowest free pages to a list that has room for them.
-fn push_lowest_free<A: Allocator>(free: &FreePages<A>, k: u32, into: &mut Vec<PageNo, A>)
+fn push_lowest_free<A: Allocator>(free: &BitList<A>, k: u32, into: &mut Vec<PageNo, A>)
     requires enough { k ≤ length (true_places free.now) }
     requires room { vec_len into.old + k ≤ vec_capacity into.old }
     ensures pages { into.new.items ≡ into.old.items ++ take k (true_places free.now) }

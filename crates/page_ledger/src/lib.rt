@@ -10,8 +10,6 @@
 //! back. The laws in [`laws`] tie these to one another, and [`worked`] runs them on small pools.
 #![tactic(auto)]
 
-mod bits;
-mod free;
 pub mod laws;
 mod ledger;
 mod owner;

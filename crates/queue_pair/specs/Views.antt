@@ -1,4 +1,5 @@
 -- What contracts see of each side.
+use Rattle.std.specs.Prelude.{map, not}
 use Rattle.queue_pair.specs.Rings.{HostSide, DeviceSide}
 use Rattle.queue_pair.specs.declared.host.HostPair.TheInside as host
 use Rattle.queue_pair.specs.declared.device.DevicePair.TheInside as device
@@ -10,7 +11,7 @@ host_side pair = record {
   sq = pair.sq;
   cq = pair.cq;
   ring = record { head = pair.head; phase = pair.phase; known_head = pair.known_head; tail = pair.tail };
-  claimed = pair.claimed.items;
+  claimed = map not pair.free;
 }
 
 abbrev pub device_side : device.Inside → DeviceSide

@@ -11,6 +11,7 @@ ghost use Rattle.queue_pair.specs.Lists.{unfetched, answers, front, IsPair, HasP
 use crate::fault::{BadHead, QueueFull};
 use crate::image::submission_image;
 use crate::slots::{completion_address, lies_between, phase_after, slot_after, submission_address};
+use bit_list::BitList;
 use entry_codec::{ComEntry, SubEntry};
 use page_memory::{Dma, PageNo};
 use std::alloc::{AllocError, Allocator, Global};
@@ -27,7 +28,7 @@ pub struct HostPair<A: Allocator = Global> {
     phase: bool,
     known_head: u16,
     tail: u16,
-    claimed: Vec<bool, A>,
+    free: BitList<A>,
 }
 
 impl<A: Allocator> Model for HostPair<A> {
@@ -43,7 +44,7 @@ impl<A: Allocator> Model for HostPair<A> {
     ghost invariant = { λ pair. IsHostSide (host_side pair) };
 }
 
-impl<A: Allocator> HostPair<A> {
+impl<A: Allocator + Clone> HostPair<A> {
     /// The host's side of queue `q` with so many entries in each ring, whose halves begin at the pages `sq` and `cq`. Nothing is
     /// posted, the first completion is expected with phase 1, and no identifier is claimed.
     ///
@@ -59,7 +60,7 @@ impl<A: Allocator> HostPair<A> {
         ensures unclaimed { IfOk result (λ pair. pair.claimed ≡ none_claimed (entries - 1)) }
         ensures proper { IfOk result (λ pair. IsHostSide pair) }
     {
-        let claimed = vec![in alloc; false; usize::from(entries - 1)]?;
+        let free = BitList::open(alloc, u32::from(entries - 1))?;
         Ok(HostPair {
             q,
             entries,
@@ -69,10 +70,12 @@ impl<A: Allocator> HostPair<A> {
             phase: true,
             known_head: 0,
             tail: 0,
-            claimed,
+            free,
         })
     }
+}
 
+impl<A: Allocator> HostPair<A> {
     /// Puts an entry into the slot at the tail and answers that slot. The controller sees it once the tail is rung.
     ///
     /// # Errors
@@ -194,7 +197,7 @@ impl<A: Allocator> HostPair<A> {
     pub fn unclaimed(&self) -> Option<u16>
         ensures lowest { result ≡ position not self.now.claimed }
     {
-        let cid = lowest_free(&self.claimed)?;
+        let cid = self.free.lowest_from(0)?;
         Some(cid as u16)
     }
 
@@ -208,9 +211,9 @@ impl<A: Allocator> HostPair<A> {
         ensures all_claimed { IfNone result ((cid : ℕ) → cid + 1 < self.old.entries → slice_get self.old.claimed cid ≡ Some true) }
         ensures unchanged { IfNone result (self.new ≡ self.old) }
     {
-        let cid = lowest_free(&self.claimed)?;
-        self.claimed[cid] = true;
-        Some(cid as u16)
+        let cid = self.unclaimed()?;
+        self.free.set(u32::from(cid), false);
+        Some(cid)
     }
 
     /// Frees an identifier that is claimed.
@@ -218,13 +221,6 @@ impl<A: Allocator> HostPair<A> {
         requires { slice_get self.old.claimed cid ≡ Some true }
         ensures { self.new ≡ record self.old { claimed = slice_set self.old.claimed cid false } }
     {
-        self.claimed[usize::from(cid)] = false;
+        self.free.set(u32::from(cid), true);
     }
-}
-
-/// The lowest identifier that is not claimed.
-fn lowest_free(claimed: &[bool]) -> Option<usize>
-    ensures lowest { result ≡ position not claimed.now }
-{
-    claimed.iter().position(|claimed| !*claimed)
 }

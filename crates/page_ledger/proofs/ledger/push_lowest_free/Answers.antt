@@ -1,8 +1,8 @@
 use Rattle.std.proofs.Common.{arith, ◌+◌, ◌++◌, ◌∷◌, [], filter, length, append_assoc, ap, sym, ◌∙◌}
 use Rattle.std.proofs.lemmas.List.{length_push}
-use Rattle.page_ledger.specs.Free.{is_true_at}
+use Rattle.bit_list.specs.Places.{is_true_at}
 use Rattle.page_ledger.specs.Owners.{pages_from}
-use Rattle.page_ledger.proofs.Flags.{true-inside}
+use Rattle.bit_list.proofs.Places.{true-inside}
 use Rattle.page_ledger.proofs.Pages.{filter-gap, filter-found, front_taken}
 use Rattle.page_ledger.proofs.ledger.push_lowest_free.Goals as goal
 

@@ -1,5 +1,5 @@
 use Rattle.std.proofs.Common.{sym, ap, ◌∙◌, arith}
-use Rattle.page_ledger.specs.Free.{is_true_at}
+use Rattle.bit_list.specs.Places.{is_true_at}
 use Rattle.page_ledger.proofs.Tables.{flag-free}
 use Rattle.page_ledger.proofs.FreeRuns.{lowest_run-within, lowest_run-found, lowest_run-missing}
 use Rattle.page_ledger.proofs.ledger.Ledger.grant_run.Goals as goal

@@ -26,6 +26,6 @@ invariant_of-self g c =
       omega (arith, size, c.self.invariant.1),
       c.one_more-self-inside.ensures ∙ (rw (c.one_less.ensures, c.self.invariant.2)
           (sym (counts-set c.self.inside.owners.items c.p.inside.0 c.args.owner c.index-before.result.now within c.index-before.ensures))),
-      c.mark.ensures ∙ (ap (λ b. slice_set c.self.inside.free c.p.inside.0 b) c.is_free.ensures
+      c.set.ensures ∙ (ap (λ b. slice_set c.self.inside.free c.p.inside.0 b) c.is_free.ensures
           ∙ (ap (λ l. slice_set l c.p.inside.0 (is_free c.args.owner)) c.self.invariant.3 ∙ sym (map-set is_free c.self.inside.owners.items c.p.inside.0 c.args.owner))),
     )

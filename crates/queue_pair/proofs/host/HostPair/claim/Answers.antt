@@ -1,20 +1,28 @@
-use Rattle.std.proofs.Common.{◌≡◌, Some, None, not, sym, ap, ◌∙◌, arith}
+use Rattle.std.proofs.Common.{◌≡◌, Bool, Some, false, true, not, List, map, slice_get, sym, ap, ◌∙◌, arith}
 use Rattle.std.specs.List.{position}
-use Rattle.queue_pair.proofs.Identifiers.{found_free, lower_claimed, all_claimed}
+use Rattle.page_memory.proofs.Writing.{slice_get-set_same}
+use Rattle.queue_pair.specs.Views.{host_side}
+use Rattle.queue_pair.proofs.Identifiers.{found_within, found_free, lower_claimed, all_claimed, claims-set}
 use Rattle.queue_pair.proofs.host.HostPair.claim.Goals as goal
 
 pub returns-in_err-cid-clause-all_claimed : goal.returns-in_err-cid-clause-all_claimed
 returns-in_err-cid-clause-all_claimed g c =
-    let none : position not c.self.inside.claimed.items ≡ None = ap (position not) (sym c.deref.ensures.value) ∙ sym c.lowest_free.ensures.lowest ∙ c.in_err-cid.was in
     rw (c.from_residual.ensures, ← c.self.view_is)
-    (λ cid below. all_claimed c.self.inside.claimed.items cid none (omega (arith, c.self.invariant.identifiers)))
+    (λ cid below. all_claimed (map not c.self.inside.free) cid (sym (rw (← c.self.view_is) at c.in_err-cid.ensures.lowest)) (omega (arith, c.self.invariant.identifiers)))
 
 pub returns-clause-free : goal.returns-clause-free
-returns-clause-free g c =
-    let found : position not c.self.inside.claimed.items ≡ Some c.in_ok-cid.cid = ap (position not) (sym c.deref.ensures.value) ∙ sym c.lowest_free.ensures.lowest ∙ c.in_ok-cid.was in
-    rw (← c.self.view_is) (found_free c.self.inside.claimed.items c.in_ok-cid.cid found)
+returns-clause-free g c = found_free c.args.self.now.claimed c.in_ok-cid.cid (sym c.in_ok-cid.ensures.lowest)
 
 pub returns-clause-below : goal.returns-clause-below
-returns-clause-below g c =
-    let found : position not c.self.inside.claimed.items ≡ Some c.in_ok-cid.cid = ap (position not) (sym c.deref.ensures.value) ∙ sym c.lowest_free.ensures.lowest ∙ c.in_ok-cid.was in
-    rw (← c.self.view_is) (λ lower below. lower_claimed c.self.inside.claimed.items c.in_ok-cid.cid lower found below)
+returns-clause-below g c = λ lower below. lower_claimed c.args.self.now.claimed c.in_ok-cid.cid lower (sym c.in_ok-cid.ensures.lowest) below
+
+pub returns-clause-claimed : goal.returns-clause-claimed
+returns-clause-claimed g c =
+    rw (← c.self.view_is)
+    (ap (λ (l : List Bool). record (host_side c.self.inside) { claimed = l }) (claims-set c.self.inside.free c.set.new.self c.in_ok-cid.cid false (rw c.from.ensures at c.set.ensures)))
+
+pub returns-clause-owned : goal.returns-clause-owned
+returns-clause-owned g c =
+    let found : position not (map not c.self.inside.free) ≡ Some c.in_ok-cid.cid = sym (rw (← c.self.view_is) at c.in_ok-cid.ensures.lowest) in
+    ap (λ (l : List Bool). slice_get l c.in_ok-cid.cid) (claims-set c.self.inside.free c.set.new.self c.in_ok-cid.cid false (rw c.from.ensures at c.set.ensures))
+    ∙ slice_get-set_same (map not c.self.inside.free) c.in_ok-cid.cid true (found_within (map not c.self.inside.free) c.in_ok-cid.cid found)
