@@ -9,7 +9,7 @@ use Rattle.std.proofs.lemmas.List.{get_or-map, length-map, map-set}
 use Rattle.std.proofs.lemmas.List.Sums.{fails_before_first, position_or_len_is}
 use Rattle.bit_list.specs.Places.{is_true_at}
 use Rattle.bit_list.specs.Searches.{IsFirstFrom, IsNoneFrom}
-use Rattle.bit_list.proofs.Places.{true-inside}
+use Rattle.bit_list.proofs.Places.{first-inside}
 
 is_true : (b : Bool) → not b ≡ false → b ≡ true
 is_true true e = refl
@@ -51,7 +51,7 @@ free-at free i within = ap not (get_or-map not free i false false within) ∙ tw
 
 pub lowest_free : (free : List Bool) (cid : ℕ) → IsFirstFrom (is_true_at free) 0 cid → position not (map not free) ≡ Some cid
 lowest_free free cid first =
-    let within : cid < length free = true-inside free cid first.passes in
+    let within : cid < length free = first-inside free first in
     let size : length (map not free) ≡ length free = length-map free not in
     let place : position_or_len not (map not free) ≡ cid =
     position_or_len_is not (map not free) cid false (omega arith) (λ k below. free-at free k (omega arith) ∙ first.before k (omega arith) below)

@@ -2,7 +2,7 @@ use Rattle.std.proofs.Common.{arith, ◌+◌, ◌++◌, ◌∷◌, [], filter, l
 use Rattle.std.proofs.lemmas.List.{length_push}
 use Rattle.bit_list.specs.Places.{is_true_at}
 use Rattle.page_ledger.specs.Owners.{pages_from}
-use Rattle.bit_list.proofs.Places.{true-inside}
+use Rattle.bit_list.proofs.Places.{first-inside}
 use Rattle.page_ledger.proofs.Pages.{filter-gap, filter-found, front_taken}
 use Rattle.page_ledger.proofs.ledger.push_lowest_free.Goals as goal
 
@@ -15,7 +15,7 @@ pub loop-preserved : goal.loop-preserved
 loop-preserved g c =
     let more = filter-found (is_true_at c.args.free.now) c.loop.from c.in-Some.p c.in-Some.ensures.lowest.after c.in-Some.ensures.lowest.before c.in-Some.ensures.lowest.passes in
     record {
-      inside = omega (arith, true-inside c.args.free.now c.in-Some.p c.in-Some.ensures.lowest.passes);
+      inside = omega (arith, first-inside c.args.free.now c.in-Some.ensures.lowest);
       pages = c.push_reserved.ensures.items ∙ (ap (λ l. l ++ c.in-Some.p ∷ []) c.loop.invariant.pages
           ∙ (append_assoc c.args.into.now.items (filter (is_true_at c.args.free.now) (pages_from 0 c.loop.from)) (c.in-Some.p ∷ []) ∙ ap (λ l. c.args.into.now.items ++ l) (sym more)));
       count = rw more (length_push (filter (is_true_at c.args.free.now) (pages_from 0 c.loop.from)) c.in-Some.p ∙ ap (λ n. n + 1) c.loop.invariant.count);

@@ -7,22 +7,18 @@ use Rattle.bit_list.proofs.list.BitList.set.Goals as goal
 
 pub put-requires : goal.put-requires
 put-requires g c =
-    let inside : c.args.i < c.self.inside.len = rw (← length-bools c.self.inside.words.items c.self.inside.len, c.self.view_is) c.requires in
-    rw c.deref_mut.ensures.value (omega (arith, c.self.invariant.size))
+    rw c.deref_mut.ensures.value (omega (arith, c.requires, ap length c.self.view_is, length-bools c.self.inside.words.items c.self.inside.len, c.self.invariant.size))
 
 pub index-requires : goal.index-requires
-index-requires g c =
-    let inside : c.args.i < c.self.inside.len = rw (← length-bools c.self.inside.words.items c.self.inside.len, c.self.view_is) c.requires in
-    omega (arith, c.self.invariant.size, c.self.inside.words.ok.0)
+index-requires g c = omega (arith, c.requires, ap length c.self.view_is, length-bools c.self.inside.words.items c.self.inside.len, c.self.invariant.size, c.self.inside.words.ok.0)
 
 pub put-requires-2 : goal.put-requires-2
 put-requires-2 g c =
-    let inside : c.args.i < c.self.inside.len = rw (← length-bools c.self.inside.words.items c.self.inside.len, c.self.view_is) c.requires in
-    rw c.deref_mut-2.ensures.value (omega (arith, c.self.invariant.size, c.self.invariant.above))
+    rw c.deref_mut-2.ensures.value (omega (arith, c.requires, ap length c.self.view_is, length-bools c.self.inside.words.items c.self.inside.len, c.self.invariant.size, c.self.invariant.above))
 
 pub invariant_of-self : goal.invariant_of-self
 invariant_of-self g c =
-    let inside : c.args.i < c.self.inside.len = rw (← length-bools c.self.inside.words.items c.self.inside.len, c.self.view_is) c.requires in
+    let inside : c.args.i < c.self.inside.len = omega (arith, c.requires, ap length c.self.view_is, length-bools c.self.inside.words.items c.self.inside.len) in
     let put : IsPut c.self.inside.words.items c.args.i c.args.value c.put.new.words = rw (← c.deref_mut.ensures.value) c.put.ensures in
     let sum : IsPut c.self.inside.summary.items (c.args.i / 64) (not (c.index.result.now == 0)) c.put-2.new.words = rw (← c.deref_mut-2.ensures.value) c.put-2.ensures in
     let size : length c.put.new.words ≡ c.self.inside.words.len = omega (arith, put.size, c.self.inside.words.ok.0) in
@@ -35,7 +31,7 @@ invariant_of-self g c =
 
 pub returns : goal.returns
 returns g c =
-    let inside : c.args.i < c.self.inside.len = rw (← length-bools c.self.inside.words.items c.self.inside.len, c.self.view_is) c.requires in
+    let inside : c.args.i < c.self.inside.len = omega (arith, c.requires, ap length c.self.view_is, length-bools c.self.inside.words.items c.self.inside.len) in
     let put : IsPut c.self.inside.words.items c.args.i c.args.value c.put.new.words = rw (← c.deref_mut.ensures.value) c.put.ensures in
     let size : length c.put.new.words ≡ c.self.inside.words.len = omega (arith, put.size, c.self.inside.words.ok.0) in
     ap (λ (l : List ℕ). bools_of l c.self.inside.len) (with_items_is c.self.inside.words c.put.new.words size)
