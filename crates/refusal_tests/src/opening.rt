@@ -67,12 +67,17 @@ fn a_ledger_takes_three_blocks(rt: HostRuntime) {
 }
 
 #[test]
-fn a_queue_pair_takes_one_block(rt: HostRuntime) {
+fn a_queue_pair_takes_two_blocks(rt: HostRuntime) {
     let heap = Refusing::new(rt.alloc());
-    heap.refuse(Refusal::Nth(1));
-    assert!(rt; HostPair::open(&heap, 1, 16, PageNo(2), PageNo(3)).is_err());
-    is_empty_after_refusal(&rt, &heap);
-    heap.refuse(Refusal::Nth(2));
+    for growth in 1..=2 {
+        heap.refuse(Refusal::Nth(growth));
+        assert!(rt;
+            HostPair::open(&heap, 1, 16, PageNo(2), PageNo(3)).is_err(),
+            "growth {growth}"
+        );
+        is_empty_after_refusal(&rt, &heap);
+    }
+    heap.refuse(Refusal::Nth(3));
     assert!(rt; HostPair::open(&heap, 1, 16, PageNo(2), PageNo(3)).is_ok());
-    assert_eq!(rt; (heap.tally().calls, heap.tally().blocks), (1, 0));
+    assert_eq!(rt; (heap.tally().calls, heap.tally().blocks), (2, 0));
 }
