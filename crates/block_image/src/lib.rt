@@ -94,6 +94,16 @@ impl<A: Allocator> Image<A> {
         (self.bytes.len() / BLOCK_SIZE) as u32
     }
 
+    /// The bytes of so many blocks, from `slba` on.
+    pub fn blocks_from(&self, slba: u64, count: u32) -> &[u8]
+        requires { slba + count ≤ block_count self.now }
+        ensures { result.now ≡ blocks_at self.now slba count }
+    {
+        let image = self.bytes.as_slice();
+        let start = BLOCK_SIZE * slba as usize;
+        &image[start..start + BLOCK_SIZE * count as usize]
+    }
+
     /// Fills the buffer with blocks, from `slba` on.
     pub fn copy_out(&self, slba: u64, into: &mut [u8])
         requires { IsInRange self.now slba into.old }

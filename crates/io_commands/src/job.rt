@@ -103,11 +103,11 @@ fn first_bytes<A: Allocator, B: Allocator>(
     ensures bytes { IfOk result (λ bytes. bytes.items ≡ spec_first_bytes image.now entry.now (Some kind)) }
     ensures length { IfOk result (λ bytes. length bytes.items ≡ need_of_entry entry.now) }
 {
-    let mut bytes = vec![in alloc; 0; BLOCK_SIZE * block_number(entry) as usize]?;
-    if kind == Kind::Read {
-        image.copy_out(first_block(entry), &mut bytes);
+    let number = block_number(entry);
+    match kind {
+        Kind::Read => Vec::from_slice(alloc, image.blocks_from(first_block(entry), number)),
+        Kind::Write | Kind::Compare => Ok(vec![in alloc; 0; BLOCK_SIZE * number as usize]?),
     }
-    Ok(bytes)
 }
 
 /// Takes in a fetched entry of an I/O queue (NVM Command Set Specification 1.0, Compare, Read and Write).
