@@ -11,9 +11,9 @@ use Rattle.machine_model.specs.Script.{Table, finished_at, is_ticket, fill_fault
 use Rattle.machine_model.specs.Step as machine
 use Rattle.machine_model.specs.declared.words.Refusal.TheVariants as refusal
 use Rattle.step_core.specs.Bench.{Does, Passes, Fills, Builds, Submits, Cancels, Collects, Gathers, Releases, Reserves, Collected, without_first, with_first}
-use Rattle.step_core.specs.declared.step.Reply.{Reply}
+use Rattle.step_core.specs.Values.{Reply}
 use Rattle.step_core.specs.declared.step.Reply.TheVariants as reply
-use Rattle.step_core.specs.declared.step.Step.{Step}
+use Rattle.step_core.specs.Values.{Step}
 use Rattle.step_core.specs.declared.step.Step.TheVariants as step
 use Rattle.bench_laws.specs.Drafts.{fill_by, takes_by}
 use Rattle.bench_laws.proofs.Standing as standing

@@ -17,8 +17,8 @@ use Rattle.machine_model.specs.Step.{IsReserved, IsNewIdentifier, HostPart}
 use Rattle.machine_model.specs.declared.words.Work.TheVariants.{Io}
 use Rattle.machine_model.proofs.Steps.{part_left}
 use Rattle.host_core.proofs.Identifiers.{outstanding-among}
-use Rattle.step_core.specs.declared.step.Reply.{Reply}
-use Rattle.step_core.specs.declared.step.Step.{Step}
+use Rattle.step_core.specs.Values.{Reply}
+use Rattle.step_core.specs.Values.{Step}
 use Rattle.step_core.specs.Bench.{with_first, without_first}
 use Rattle.bench_laws.specs.Values.{Done, Goes}
 use Rattle.bench_laws.proofs.Changed.{any_with, few_with, find_last, found_any}

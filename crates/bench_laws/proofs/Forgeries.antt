@@ -10,9 +10,9 @@ use Rattle.machine_model.specs.Laws as laws
 use Rattle.machine_model.specs.Image.{Made, draft_of}
 use Rattle.machine_model.specs.Script.{Table, finished_at, is_ticket}
 use Rattle.step_core.specs.Laws.{Says}
-use Rattle.step_core.specs.declared.step.Reply.{Reply}
+use Rattle.step_core.specs.Values.{Reply}
 use Rattle.step_core.specs.declared.step.Reply.TheVariants as reply
-use Rattle.step_core.specs.declared.step.Step.{Step}
+use Rattle.step_core.specs.Values.{Step}
 use Rattle.step_core.specs.declared.step.Step.TheVariants as step
 use Rattle.bench_laws.specs.Values.{Done, MadeBy, BeginsWith, event_at, forges_by, is_forgery}
 

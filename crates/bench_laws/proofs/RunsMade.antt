@@ -5,8 +5,8 @@ use Rattle.machine_model.specs.Laws.{Steps, TrustedRun}
 use Rattle.machine_model.specs.Script.{Table, table}
 use Rattle.machine_model.specs.State.{State}
 use Rattle.machine_model.specs.Step as machine
-use Rattle.step_core.specs.declared.step.Reply.{Reply}
-use Rattle.step_core.specs.declared.step.Step.{Step}
+use Rattle.step_core.specs.Values.{Reply}
+use Rattle.step_core.specs.Values.{Step}
 use Rattle.step_core.specs.Opening.{opening_of}
 use Rattle.bench_laws.specs.Values.{Done, Goes, benches_have_tables, TrustedBench, event_at, MadeBy, benches_make_runs_of_their_values, benches_of_trusted_worlds_are_unforged}
 use Rattle.machine_model.proofs.NeverRestored.{ends_unforged}

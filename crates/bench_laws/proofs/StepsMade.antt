@@ -15,9 +15,9 @@ use Rattle.machine_model.specs.declared.words.Refusal.TheVariants as refusal
 use Rattle.host_core.proofs.Lists.{found_is}
 use Rattle.step_core.specs.Bench.{Does, Passes, Fills, Builds, Submits, Cancels, Collects, Gathers, Releases, Reserves, Collected}
 use Rattle.step_core.specs.Laws.{Says}
-use Rattle.step_core.specs.declared.step.Reply.{Reply}
+use Rattle.step_core.specs.Values.{Reply}
 use Rattle.step_core.specs.declared.step.Reply.TheVariants as reply
-use Rattle.step_core.specs.declared.step.Step.{Step}
+use Rattle.step_core.specs.Values.{Step}
 use Rattle.step_core.specs.declared.step.Step.TheVariants as step
 use Rattle.bench_laws.specs.Values.{event_at, Keeps}
 use Rattle.bench_laws.proofs.Lists.{any_without}

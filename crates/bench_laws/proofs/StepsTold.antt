@@ -11,9 +11,9 @@ use Rattle.machine_model.specs.Laws.{drafts_of}
 use Rattle.machine_model.specs.Script.{Table, finished_at, is_ticket}
 use Rattle.machine_model.specs.State.{State}
 use Rattle.step_core.specs.Laws.{Says}
-use Rattle.step_core.specs.declared.step.Reply.{Reply}
+use Rattle.step_core.specs.Values.{Reply}
 use Rattle.step_core.specs.declared.step.Reply.TheVariants as reply
-use Rattle.step_core.specs.declared.step.Step.{Step}
+use Rattle.step_core.specs.Values.{Step}
 use Rattle.step_core.specs.declared.step.Step.TheVariants as step
 use Rattle.bench_laws.specs.Values.{Done, IsOf, MadeBy, BeginsWith, event_at}
 use Rattle.bench_laws.specs.Blocks.{draft_submitted, drafts_submitted, image_by_step, image_from_steps}

@@ -17,9 +17,9 @@ use Rattle.machine_model.proofs.Members.{all_at_found}
 use Rattle.step_core.specs.Opening.{opening_of}
 use Rattle.step_core.specs.Bench.{Does, Reserves}
 use Rattle.step_core.specs.Going.{IsTableInOrder}
-use Rattle.step_core.specs.declared.step.Reply.{Reply}
+use Rattle.step_core.specs.Values.{Reply}
 use Rattle.step_core.specs.declared.step.Reply.TheVariants as reply
-use Rattle.step_core.specs.declared.step.Step.{Step}
+use Rattle.step_core.specs.Values.{Step}
 use Rattle.step_core.specs.declared.step.Step.TheVariants as step
 use Rattle.step_core.proofs.InTableOrder.{bench_opens, bench_keeps}
 use Rattle.bench_laws.specs.Drafts.{ReservedCommand, benches_submit_what_they_reserved_and_filled, takes_draft, fills_of, data_bytes, written_over}

@@ -20,8 +20,8 @@ use Rattle.machine_model.proofs.Images.{images_are_runs}
 use Rattle.machine_model.proofs.Along.{cut}
 use Rattle.run_laws.proofs.WalkedCompares.{compares_told}
 use Rattle.step_core.specs.Laws.{Says}
-use Rattle.step_core.specs.declared.step.Reply.{Reply}
-use Rattle.step_core.specs.declared.step.Step.{Step}
+use Rattle.step_core.specs.Values.{Reply}
+use Rattle.step_core.specs.Values.{Step}
 use Rattle.bench_laws.specs.Values.{Done, IsOf, MadeBy, event_at, BeginsWith}
 use Rattle.bench_laws.specs.Blocks.{CompletesCompare, benches_write_their_blocks, benches_compare_their_blocks}
 use Rattle.bench_laws.proofs.RunsMade.{makes_run}

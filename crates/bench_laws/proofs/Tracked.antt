@@ -19,8 +19,8 @@ use Rattle.machine_model.proofs.Refused.{first_fails, rest_fails}
 use Rattle.host_core.proofs.Lists.{all-from}
 use Rattle.step_core.proofs.KeptDrafts.{filled_stays_proper, built_stays_proper}
 use Rattle.step_core.specs.Bench.{with_first}
-use Rattle.step_core.specs.declared.step.Reply.{Reply}
-use Rattle.step_core.specs.declared.step.Step.{Step}
+use Rattle.step_core.specs.Values.{Reply}
+use Rattle.step_core.specs.Values.{Step}
 use Rattle.bench_laws.specs.Drafts.{takes_by, takes_draft, fill_by, fills_of, data_bytes, written_over}
 use Rattle.bench_laws.specs.Values.{Done, Goes}
 use Rattle.bench_laws.proofs.Changed.{find_with, find_with_other, find_without_other}

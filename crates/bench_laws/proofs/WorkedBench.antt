@@ -19,9 +19,9 @@ use Rattle.io_commands.specs.declared.draft.FillFault.TheVariants.{WrongLength}
 use Rattle.step_core.specs.Opening.{opening_of}
 use Rattle.host_core.specs.declared.config.Config.{Config}
 use Rattle.step_core.specs.Bench.{Does}
-use Rattle.step_core.specs.declared.step.Reply.{Reply}
+use Rattle.step_core.specs.Values.{Reply}
 use Rattle.step_core.specs.declared.step.Reply.TheVariants as reply
-use Rattle.step_core.specs.declared.step.Step.{Step}
+use Rattle.step_core.specs.Values.{Step}
 use Rattle.step_core.specs.declared.step.Step.TheVariants as step
 use Rattle.step_core.proofs.InTableOrder.{bench_opens, bench_keeps}
 use Rattle.step_core.proofs.KeptDrafts.{filled_stays_proper, built_stays_proper}

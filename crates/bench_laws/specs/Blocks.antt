@@ -13,9 +13,9 @@ use Rattle.machine_model.specs.Laws.{blocks_of_request}
 use Rattle.machine_model.specs.Refusals.{job_at}
 use Rattle.machine_model.specs.Script.{Table}
 use Rattle.machine_model.specs.Status.{same_status}
-use Rattle.step_core.specs.declared.step.Reply.{Reply}
+use Rattle.step_core.specs.Values.{Reply}
 use Rattle.step_core.specs.declared.step.Reply.TheVariants as reply
-use Rattle.step_core.specs.declared.step.Step.{Step}
+use Rattle.step_core.specs.Values.{Step}
 use Rattle.step_core.specs.declared.step.Step.TheVariants as step
 use Rattle.bench_laws.specs.Values.{Done, TrustedBench}
 

@@ -10,9 +10,9 @@ use Rattle.machine_model.specs.Events as events
 use Rattle.machine_model.specs.Image.{draft_of}
 use Rattle.machine_model.specs.Script.{Table, table}
 use Rattle.machine_model.specs.Step as machine
-use Rattle.step_core.specs.declared.step.Reply.{Reply}
+use Rattle.step_core.specs.Values.{Reply}
 use Rattle.step_core.specs.declared.step.Reply.TheVariants as reply
-use Rattle.step_core.specs.declared.step.Step.{Step}
+use Rattle.step_core.specs.Values.{Step}
 use Rattle.step_core.specs.declared.step.Step.TheVariants as step
 use Rattle.host_core.specs.Opening.{refusal_of_config}
 use Rattle.step_core.specs.Opening.{opening_of}

@@ -11,9 +11,9 @@ use Rattle.machine_model.specs.Script.{Table, table, is_ticket, finished_at}
 use Rattle.machine_model.specs.State.{State}
 use Rattle.step_core.specs.Bench.{Does, DoesAll}
 use Rattle.step_core.specs.Laws.{Says}
-use Rattle.step_core.specs.declared.step.Reply.{Reply}
+use Rattle.step_core.specs.Values.{Reply}
 use Rattle.step_core.specs.declared.step.Reply.TheVariants as reply
-use Rattle.step_core.specs.declared.step.Step.{Step}
+use Rattle.step_core.specs.Values.{Step}
 use Rattle.step_core.specs.declared.step.Step.TheVariants as step
 use Rattle.host_core.specs.Opening.{refusal_of_config}
 use Rattle.step_core.specs.Opening.{opening_of}

@@ -13,8 +13,8 @@ use Rattle.driver_book.specs.State.{BookContents, SeatContents}
 use Rattle.driver_book.specs.declared.log.Entry.{Entry}
 use Rattle.driver_book.specs.declared.log.Receipt.{Receipt}
 use Rattle.host_core.specs.declared.refused.Refused.{Refused}
-use Rattle.step_core.specs.declared.step.Reply.{Reply}
-use Rattle.step_core.specs.declared.step.Step.{Step}
+use Rattle.step_core.specs.Values.{Reply}
+use Rattle.step_core.specs.Values.{Step}
 
 -- what is written down of a reply: nothing where memory was refused
 abbrev pub noted : events.Reply → Option Reply

@@ -13,9 +13,9 @@ use Rattle.driver_book.specs.declared.log.CloseFault.TheVariants.{Missing, SeatO
 use Rattle.driver_book.specs.declared.log.Entry.{Entry}
 use Rattle.driver_book.specs.declared.log.Receipt.{Receipt}
 use Rattle.driver_book.specs.declared.log.Report.{Report}
-use Rattle.step_core.specs.declared.step.Reply.{Reply}
+use Rattle.step_core.specs.Values.{Reply}
 use Rattle.step_core.specs.declared.step.Reply.TheVariants as reply
-use Rattle.step_core.specs.declared.step.Step.{Step}
+use Rattle.step_core.specs.Values.{Step}
 use Rattle.step_core.specs.declared.step.Step.TheVariants as step
 
 -- How the log says that a command ended

@@ -16,7 +16,7 @@ use Rattle.machine_model.specs.declared.words.RejectedFor.{RejectedFor}
 use Rattle.machine_model.specs.declared.words.RejectedFor.TheVariants.{WrongQueue, BadHead, UnknownId}
 use Rattle.script_cli.specs.Verbs.{verb_text}
 use Rattle.script_cli.specs.declared.verb.Verb.{Verb}
-use Rattle.step_core.specs.declared.step.Reply.{Reply}
+use Rattle.step_core.specs.Values.{Reply}
 use Rattle.step_core.specs.declared.step.Reply.TheVariants as reply
 
 -- Lists

@@ -23,7 +23,7 @@ use Rattle.script_cli.specs.declared.script.Line.TheVariants as line
 use Rattle.script_cli.specs.declared.script.Numbered.{Numbered}
 use Rattle.step_core.specs.Bench.{Does}
 use Rattle.step_core.specs.Going.{IsFitStep}
-use Rattle.step_core.specs.declared.step.Reply.{Reply}
+use Rattle.step_core.specs.Values.{Reply}
 use Rattle.host_core.specs.Opening.{refusal_of_config}
 use Rattle.step_core.specs.Opening.{opening_of}
 use Rattle.host_core.specs.declared.config.Config.{Config}

@@ -10,7 +10,7 @@ use Rattle.script_cli.specs.declared.fault.ScriptFault.TheVariants as fault
 use Rattle.script_cli.specs.declared.script.Line.{Line}
 use Rattle.script_cli.specs.declared.script.Line.TheVariants as line
 use Rattle.script_cli.specs.declared.script.Numbered.{Numbered}
-use Rattle.step_core.specs.declared.step.Step.{Step}
+use Rattle.step_core.specs.Values.{Step}
 
 -- the line of this number
 abbrev pub numbered_line : ℕ → List ℕ → Result Line LineFault

@@ -7,7 +7,7 @@ use Rattle.script_cli.specs.declared.verb.QueueVerb.{QueueVerb}
 use Rattle.script_cli.specs.declared.verb.QueueVerb.TheVariants as queue
 use Rattle.script_cli.specs.declared.verb.Verb.{Verb}
 use Rattle.script_cli.specs.declared.verb.Verb.TheVariants.{Reserve, Fill, Forge, Owners, OnQueue, OnCommand}
-use Rattle.step_core.specs.declared.step.Step.{Step}
+use Rattle.step_core.specs.Values.{Step}
 use Rattle.step_core.specs.declared.step.Step.TheVariants as step
 
 abbrev pub queue_verb_text : QueueVerb → List ℕ

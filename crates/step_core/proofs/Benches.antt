@@ -10,12 +10,13 @@ use Rattle.machine_model.specs.Step as machine
 use Rattle.machine_model.specs.Image.{draft_of, is_draft}
 use Rattle.machine_model.specs.Script.{Table, finished_at, is_ticket, filled_draft, is_finished}
 use Rattle.machine_model.specs.declared.words.Refusal.TheVariants as refusal
-use Rattle.step_core.specs.Bench.{without_first, with_first, Fills, Builds, Gathers, Collects}
+use Rattle.step_core.specs.Bench.{without_first, with_first, Fills, Builds, Submits, Gathers, Collects}
 use Rattle.step_core.specs.Kept.{pair_of, is_ticket_of, FillsDraft, BuildsDraft}
-use Rattle.step_core.specs.declared.step.Reply.{Reply}
+use Rattle.step_core.specs.Values.{Reply}
 use Rattle.step_core.specs.declared.step.Reply.TheVariants as reply
 use Rattle.step_core.proofs.Firsts.{IsFirst, changed, found, first_at, none_found, within_first}
 use Rattle.std.proofs.lemmas.Bool.{and_parts}
+use Rattle.std.proofs.lemmas.List.{map-append}
 use Rattle.std.proofs.lemmas.Option.{slice_get-get_or}
 
 -- Tickets, seen as pairs
@@ -112,6 +113,23 @@ pub gathers_nothing : (t : Table) (q cid i : ℕ) (f : FinishedContents) (answer
 gathers_nothing t q cid i f answer e here is =
     rw (found (is_finished q cid) t.finished i (first_at (is_finished q cid) t.finished i e) ∙ stands (is_finished q cid) t.finished i f e here)
     (rw is refl)
+
+-- A draft is submitted
+
+abbrev with_ticket : Table → State → List DraftContents → List (ℕ × ℕ) → Table
+with_ticket t world drafts tickets = record t { world = world; drafts = drafts; tickets = tickets }
+
+pub submits : (t : Table) (q cid : ℕ) (d : DraftContents) (ticket : TicketContents) (world : State) (drafts : List DraftContents) (before now : List TicketContents)
+    → find (is_draft q cid) t.drafts ≡ Some d → is_draft q cid d ≡ true → drafts ≡ without_first (is_draft q cid) t.drafts
+    → machine.Step t.world (events.Submit d) events.Accepted world → ticket ≡ record { q = d.q; cid = d.cid }
+    → t.tickets ≡ map pair_of before → now ≡ before ++ ticket ∷ []
+    → Submits t q cid (draft_of q cid t.drafts) reply.Accepted (record t { world = world; drafts = drafts; tickets = map pair_of now })
+submits t q cid d ticket world drafts before now found its left step is were more =
+    let parts = and_parts (d.q == q) (d.cid == cid) its in
+    let pair : pair_of ticket ≡ (q, cid) = ap pair_of is ∙ ap₂ (λ (a b : ℕ). (a, b)) (eqb-true d.q q parts.0) (eqb-true d.cid cid parts.1) in
+    let tickets : map pair_of now ≡ t.tickets ++ (q, cid) ∷ [] =
+    ap (map pair_of) more ∙ (map-append pair_of before (ticket ∷ []) ∙ ap₂ (λ (xs : List (ℕ × ℕ)) (x : ℕ × ℕ). xs ++ x ∷ []) (sym were) pair) in
+    rw found (step, ap₂ (λ (ds : List DraftContents) (ts : List (ℕ × ℕ)). with_ticket t world ds ts) left tickets)
 
 -- A ticket is collected
 

@@ -17,7 +17,7 @@ use Rattle.machine_model.proofs.InOrders as orders
 use Rattle.machine_model.proofs.ProperValues.{reserved_is_proper, collected_is_proper}
 use Rattle.step_core.specs.Bench.{without_first, with_first, Passes, Reserves, Fills, Builds, Submits, Cancels, Collected, Collects, Gathers, Releases}
 use Rattle.step_core.specs.Going.{IsTableInOrder, benches_open_in_order, benches_keep_order}
-use Rattle.step_core.specs.declared.step.Reply.{Reply}
+use Rattle.step_core.specs.Values.{Reply}
 use Rattle.step_core.specs.declared.step.Reply.TheVariants as reply
 use Rattle.step_core.specs.declared.step.Step.TheVariants as step
 use Rattle.step_core.proofs.KeptDrafts.{filled_stays_proper, built_stays_proper}

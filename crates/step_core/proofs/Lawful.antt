@@ -13,9 +13,9 @@ use Rattle.machine_model.proofs.Agreed.{agreed_stays}
 use Rattle.step_core.specs.Opening.{opening_of}
 use Rattle.step_core.specs.Going.{IsTableInOrder, benches_touch_what_they_may, benches_make_trusted_runs}
 use Rattle.step_core.specs.Laws.{is_outside, Asks, Says, AreOf, BeginsWith, IsRunOf}
-use Rattle.step_core.specs.declared.step.Reply.{Reply}
+use Rattle.step_core.specs.Values.{Reply}
 use Rattle.step_core.specs.declared.step.Reply.TheVariants as reply
-use Rattle.step_core.specs.declared.step.Step.{Step}
+use Rattle.step_core.specs.Values.{Step}
 use Rattle.step_core.specs.declared.step.Step.TheVariants as step
 use Rattle.step_core.proofs.RunsOf.{runs_of}
 

@@ -2,8 +2,8 @@
 use Rattle.std.proofs.Common.{List, [], ◌∷◌, ◌++◌, refl, subst}
 use Rattle.machine_model.specs.Script.{Table}
 use Rattle.step_core.specs.Bench.{Does, DoesAll}
-use Rattle.step_core.specs.declared.step.Reply.{Reply}
-use Rattle.step_core.specs.declared.step.Step.{Step}
+use Rattle.step_core.specs.Values.{Reply}
+use Rattle.step_core.specs.Values.{Step}
 
 -- one step more
 pub does_more : (t mid new : Table) (steps : List Step) (answers : List Reply) (step : Step) (answer : Reply) → DoesAll t steps answers mid → Does mid step answer new

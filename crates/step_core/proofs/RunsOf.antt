@@ -16,9 +16,9 @@ use Rattle.machine_model.specs.declared.words.Refusal.TheVariants as refusal
 use Rattle.host_core.proofs.Lists.{found_is}
 use Rattle.step_core.specs.Bench.{Does, Fills, Builds, Submits, Cancels, Collects, Gathers, Releases, Reserves, Collected, HasNoValue}
 use Rattle.step_core.specs.Laws.{is_outside, Asks, Says, IsRunOf, benches_run_the_machine}
-use Rattle.step_core.specs.declared.step.Reply.{Reply}
+use Rattle.step_core.specs.Values.{Reply}
 use Rattle.step_core.specs.declared.step.Reply.TheVariants as reply
-use Rattle.step_core.specs.declared.step.Step.{Step}
+use Rattle.step_core.specs.Values.{Step}
 use Rattle.step_core.specs.declared.step.Step.TheVariants as step
 
 -- One step

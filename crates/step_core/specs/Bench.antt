@@ -9,9 +9,9 @@ use Rattle.machine_model.specs.Image.{is_draft, draft_of}
 use Rattle.machine_model.specs.Script.{Table, is_finished, finished_at, is_ticket, fill_fault, filled_draft}
 use Rattle.machine_model.specs.declared.words.Refusal.TheVariants as refusal
 use Rattle.machine_model.specs.Step as machine
-use Rattle.step_core.specs.declared.step.Step.{Step}
+use Rattle.step_core.specs.Values.{Step}
 use Rattle.step_core.specs.declared.step.Step.TheVariants as step
-use Rattle.step_core.specs.declared.step.Reply.{Reply}
+use Rattle.step_core.specs.Values.{Reply}
 use Rattle.step_core.specs.declared.step.Reply.TheVariants as reply
 
 -- Kept values

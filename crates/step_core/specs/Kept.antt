@@ -7,7 +7,7 @@ use Rattle.machine_model.specs.Script.{Table, is_ticket, fill_fault, filled_draf
 use Rattle.machine_model.specs.declared.words.Refusal.TheVariants as refusal
 use Rattle.step_core.specs.Bench.{without_first}
 use Rattle.step_core.specs.declared.kept.Kept.{Kept}
-use Rattle.step_core.specs.declared.step.Reply.{Reply}
+use Rattle.step_core.specs.Values.{Reply}
 use Rattle.step_core.specs.declared.step.Reply.TheVariants as reply
 
 abbrev pub pair_of : TicketContents → ℕ × ℕ
@@ -16,7 +16,7 @@ pair_of ticket = (ticket.q, ticket.cid)
 abbrev pub is_ticket_of : ℕ → ℕ → TicketContents → Bool
 is_ticket_of q cid ticket = is_ticket q cid (pair_of ticket)
 
-abbrev pub table_of : Kept → Table
+abbrev pub table_of : {A : Type 0} → Kept A → Table
 table_of kept =
     record {
       world = kept.world;
@@ -34,13 +34,13 @@ pub record IsTaken {X : Type 0} (p : X → Bool) (old : List X) (place : ℕ) (x
   pub back : insert new place x ≡ old
 
 -- room for so many values more of each kind
-pub record HasRoom (n : ℕ) (kept : Kept) : Type 0 where
+pub record HasRoom {A : Type 0} (n : ℕ) (kept : Kept A) : Type 0 where
   pub drafts : vec_len kept.drafts + n ≤ vec_capacity kept.drafts
   pub tickets : vec_len kept.tickets + n ≤ vec_capacity kept.tickets
   pub finished : vec_len kept.finished + n ≤ vec_capacity kept.finished
 
 -- a value more of each kind at most, and no less room
-pub record TakesOne (old new : Kept) : Type 0 where
+pub record TakesOne {A : Type 0} (old new : Kept A) : Type 0 where
   pub drafts : vec_len new.drafts ≤ vec_len old.drafts + 1
   pub drafts_room : vec_capacity old.drafts ≤ vec_capacity new.drafts
   pub tickets : vec_len new.tickets ≤ vec_len old.tickets + 1

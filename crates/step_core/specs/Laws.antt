@@ -6,9 +6,9 @@ use Rattle.machine_model.specs.Run.{Run}
 use Rattle.machine_model.specs.Script.{Table}
 use Rattle.machine_model.specs.State.{State}
 use Rattle.step_core.specs.Bench.{DoesAll}
-use Rattle.step_core.specs.declared.step.Reply.{Reply}
+use Rattle.step_core.specs.Values.{Reply}
 use Rattle.step_core.specs.declared.step.Reply.TheVariants as reply
-use Rattle.step_core.specs.declared.step.Step.{Step}
+use Rattle.step_core.specs.Values.{Step}
 use Rattle.step_core.specs.declared.step.Step.TheVariants as step
 
 -- a step that is no event of the machine: one of a kept value alone, or one without a fitting value

@@ -1,4 +1,5 @@
 pub mod World
+pub mod Values
 pub mod Opening
 pub mod Touching
 pub mod Replies

@@ -13,22 +13,22 @@ ghost use Rattle.step_core.specs.Opening.{opening_of};
 use crate::ended::{Ended, Leftover};
 use crate::kept::Kept;
 use crate::open::OpenRefused;
-use crate::step::{Reply, Step};
+use crate::step::{ReplyIn, StepIn};
 use crate::world::World;
 use block_image::Image;
 use host_core::Config;
 use page_ledger::{Counts, Owner};
 use page_memory::PageNo;
-use std::alloc::{AllocError, Global};
+use std::alloc::{AllocError, Allocator, Global};
 use std::marker::Model;
 
 /// A world, with the drafts, tickets and finished commands that are about. Contracts see the world's state and these lists; a
 /// ticket is seen as its queue and identifier.
-pub struct Bench {
-    kept: Kept,
+pub struct Bench<A: Allocator = Global> {
+    kept: Kept<A>,
 }
 
-impl Model for Bench {
+impl<A: Allocator> Model for Bench<A> {
     ghost use Rattle.machine_model.specs.Script.{Table};
     ghost use Rattle.step_core.specs.Kept.{table_of};
 
@@ -37,7 +37,7 @@ impl Model for Bench {
     ghost view = { λ b. table_of b.kept };
 }
 
-impl Kept {
+impl<A: Allocator + Copy> Kept<A> {
     /// Makes room for so many values more of each kind.
     fn make_room(&mut self, many: usize) -> Result<(), AllocError>
         ensures same { table_of self.new ≡ table_of self.old }
@@ -51,7 +51,7 @@ impl Kept {
     }
 
     /// Does the steps in order, with room for what they keep and answer.
-    fn do_all(&mut self, steps: Vec<Step>, replies: &mut Vec<Reply>)
+    fn do_all(&mut self, steps: Vec<StepIn<A>, A>, replies: &mut Vec<ReplyIn<A>, A>)
         requires room { HasRoom (length steps.items) self.old }
         requires answers { vec_len replies.old + length steps.items ≤ vec_capacity replies.old }
         requires none { replies.old.items ≡ [] }
@@ -64,13 +64,13 @@ impl Kept {
     }
 }
 
-impl Bench {
+impl<A: Allocator + Copy> Bench<A> {
     /// Opens a world over an image, with no value about.
     ///
     /// # Errors
     ///
     /// As [`World::open`]. The image comes back.
-    pub fn open(alloc: Global, config: Config, image: Image) -> Result<Bench, OpenRefused>
+    pub fn open(alloc: A, config: Config, image: Image<A>) -> Result<Bench<A>, OpenRefused<A>>
         ensures fits { IfOk result (λ bench. refusal_of_config config ≡ None) }
         ensures opened { IfOk result (λ bench. bench ≡ table (opening_of config image)) }
         ensures refused { IfErr result (λ refused. RefusesOpening config refused.why) }
@@ -96,7 +96,7 @@ impl Bench {
     /// # Errors
     ///
     /// Where memory is refused for the answers and the values that steps keep. Then no step was done.
-    pub fn run(&mut self, steps: Vec<Step>) -> Result<Vec<Reply>, AllocError>
+    pub fn run(&mut self, steps: Vec<StepIn<A>, A>) -> Result<Vec<ReplyIn<A>, A>, AllocError>
         ensures ran { IfOk result (λ replies. DoesAll self.old steps.items replies.items self.new) }
         ensures refused { OnErr result (self.new ≡ self.old) }
     {
@@ -111,7 +111,7 @@ impl Bench {
     /// # Errors
     ///
     /// Where memory is refused for what the step may keep. Then it was not done.
-    pub fn step(&mut self, step: Step) -> Result<Reply, AllocError>
+    pub fn step(&mut self, step: StepIn<A>) -> Result<ReplyIn<A>, AllocError>
         ensures did { IfOk result (λ reply. Does self.old step reply self.new) }
         ensures refused { OnErr result (self.new ≡ self.old) }
     {
@@ -177,7 +177,7 @@ impl Bench {
 }
 
 /// Spends each value of a list.
-fn spend<T: Leftover>(mut values: Vec<T>, ended: &Ended) {
+fn spend<T: Leftover, A: Allocator>(mut values: Vec<T, A>, ended: &Ended) {
     while let Some(value) = values.pop() {
         value.after(ended);
     }

@@ -10,13 +10,14 @@ use crate::kept_values::{
     draft_place, finished_place, put_back, take_draft, take_finished, take_ticket,
 };
 use crate::refused::{StepRefused, none_touched};
-use crate::step::{Bytes, Reply, Step};
+use crate::step::{Bytes, Reply, ReplyIn, Step, StepIn};
 use host_core::Refused;
 use io_commands::Request;
 use machine_model::words::Refusal;
+use std::alloc::Allocator;
 
 /// What a refused call of the host answers.
-fn refused(why: Refusal) -> Reply
+fn refused<A: Allocator>(why: Refusal) -> ReplyIn<A>
     ensures { result ≡ Reply.Refused why [] }
 {
     Reply::Refused {
@@ -26,7 +27,7 @@ fn refused(why: Refusal) -> Reply
 }
 
 /// What a refused step of the controller answers.
-fn refused_step(step: StepRefused) -> Reply
+fn refused_step<A: Allocator>(step: StepRefused) -> ReplyIn<A>
     ensures { result ≡ Reply.Refused step.why step.touched }
 {
     Reply::Refused {
@@ -35,9 +36,9 @@ fn refused_step(step: StepRefused) -> Reply
     }
 }
 
-impl Kept {
+impl<A: Allocator + Copy> Kept<A> {
     /// Reserves a command, and keeps its draft.
-    fn reserve(&mut self, q: u16, request: Request) -> Reply
+    fn reserve(&mut self, q: u16, request: Request<A>) -> ReplyIn<A>
         requires { HasRoom 1 self.old }
         ensures does { Does (table_of self.old) (Step.Reserve q request) result (table_of self.new) }
         ensures room { TakesOne self.old self.new }
@@ -53,7 +54,7 @@ impl Kept {
     }
 
     /// Fills a draft.
-    fn fill(&mut self, q: u16, cid: u16, bytes: Bytes) -> Reply
+    fn fill(&mut self, q: u16, cid: u16, bytes: Bytes<A>) -> ReplyIn<A>
         ensures does { Does (table_of self.old) (Step.Fill q cid bytes) result (table_of self.new) }
         ensures room { TakesOne self.old self.new }
     {
@@ -64,7 +65,7 @@ impl Kept {
     }
 
     /// Builds a draft.
-    fn build(&mut self, q: u16, cid: u16) -> Reply
+    fn build(&mut self, q: u16, cid: u16) -> ReplyIn<A>
         ensures does { Does (table_of self.old) (Step.Build q cid) result (table_of self.new) }
         ensures room { TakesOne self.old self.new }
     {
@@ -75,7 +76,7 @@ impl Kept {
     }
 
     /// Submits a draft, and keeps its ticket.
-    fn submit(&mut self, q: u16, cid: u16) -> Reply
+    fn submit(&mut self, q: u16, cid: u16) -> ReplyIn<A>
         requires { HasRoom 1 self.old }
         ensures does { Does (table_of self.old) (Step.Submit q cid) result (table_of self.new) }
         ensures room { TakesOne self.old self.new }
@@ -96,7 +97,7 @@ impl Kept {
     }
 
     /// Cancels a draft.
-    fn cancel(&mut self, q: u16, cid: u16) -> Reply
+    fn cancel(&mut self, q: u16, cid: u16) -> ReplyIn<A>
         requires { HasRoom 1 self.old }
         ensures does { Does (table_of self.old) (Step.Cancel q cid) result (table_of self.new) }
         ensures room { TakesOne self.old self.new }
@@ -114,7 +115,7 @@ impl Kept {
     }
 
     /// Rings a queue.
-    fn ring(&mut self, q: u16) -> Reply
+    fn ring(&mut self, q: u16) -> ReplyIn<A>
         ensures does { Does (table_of self.old) (Step.Ring q) result (table_of self.new) }
         ensures room { TakesOne self.old self.new }
     {
@@ -125,7 +126,7 @@ impl Kept {
     }
 
     /// Lets the controller fetch an entry.
-    fn fetch(&mut self, q: u16) -> Reply
+    fn fetch(&mut self, q: u16) -> ReplyIn<A>
         ensures does { Does (table_of self.old) (Step.Fetch q) result (table_of self.new) }
         ensures room { TakesOne self.old self.new }
     {
@@ -139,7 +140,7 @@ impl Kept {
     }
 
     /// Lets the controller do a unit of a command's list.
-    fn walk(&mut self, q: u16, cid: u16) -> Reply
+    fn walk(&mut self, q: u16, cid: u16) -> ReplyIn<A>
         ensures does { Does (table_of self.old) (Step.Walk q cid) result (table_of self.new) }
         ensures room { TakesOne self.old self.new }
     {
@@ -153,7 +154,7 @@ impl Kept {
     }
 
     /// Lets the controller complete a command.
-    fn complete(&mut self, q: u16, cid: u16) -> Reply
+    fn complete(&mut self, q: u16, cid: u16) -> ReplyIn<A>
         ensures does { Does (table_of self.old) (Step.Complete q cid) result (table_of self.new) }
         ensures room { TakesOne self.old self.new }
     {
@@ -166,7 +167,7 @@ impl Kept {
     }
 
     /// Takes a completion.
-    fn reap(&mut self, q: u16) -> Reply
+    fn reap(&mut self, q: u16) -> ReplyIn<A>
         ensures does { Does (table_of self.old) (Step.Reap q) result (table_of self.new) }
         ensures room { TakesOne self.old self.new }
     {
@@ -177,7 +178,7 @@ impl Kept {
     }
 
     /// Collects a command by its ticket, and keeps the finished command.
-    fn collect(&mut self, q: u16, cid: u16) -> Reply
+    fn collect(&mut self, q: u16, cid: u16) -> ReplyIn<A>
         requires { HasRoom 1 self.old }
         ensures does { Does (table_of self.old) (Step.Collect q cid) result (table_of self.new) }
         ensures room { TakesOne self.old self.new }
@@ -199,7 +200,7 @@ impl Kept {
     }
 
     /// Gathers a Read's bytes.
-    fn gather(&mut self, q: u16, cid: u16) -> Reply
+    fn gather(&mut self, q: u16, cid: u16) -> ReplyIn<A>
         ensures does { Does (table_of self.old) (Step.Gather q cid) result (table_of self.new) }
         ensures room { TakesOne self.old self.new }
     {
@@ -213,7 +214,7 @@ impl Kept {
     }
 
     /// Releases a finished command.
-    fn release(&mut self, q: u16, cid: u16) -> Reply
+    fn release(&mut self, q: u16, cid: u16) -> ReplyIn<A>
         requires { HasRoom 1 self.old }
         ensures does { Does (table_of self.old) (Step.Release q cid) result (table_of self.new) }
         ensures room { TakesOne self.old self.new }
@@ -231,7 +232,7 @@ impl Kept {
     }
 
     /// Sends an Abort.
-    fn abort(&mut self, q: u16, cid: u16) -> Reply
+    fn abort(&mut self, q: u16, cid: u16) -> ReplyIn<A>
         ensures does { Does (table_of self.old) (Step.Abort q cid) result (table_of self.new) }
         ensures room { TakesOne self.old self.new }
     {
@@ -242,7 +243,7 @@ impl Kept {
     }
 
     /// Sends the deletion of a submission queue.
-    fn delete_sq(&mut self, q: u16) -> Reply
+    fn delete_sq(&mut self, q: u16) -> ReplyIn<A>
         ensures does { Does (table_of self.old) (Step.DeleteSq q) result (table_of self.new) }
         ensures room { TakesOne self.old self.new }
     {
@@ -253,7 +254,7 @@ impl Kept {
     }
 
     /// Sends the deletion of a completion queue.
-    fn delete_cq(&mut self, q: u16) -> Reply
+    fn delete_cq(&mut self, q: u16) -> ReplyIn<A>
         ensures does { Does (table_of self.old) (Step.DeleteCq q) result (table_of self.new) }
         ensures room { TakesOne self.old self.new }
     {
@@ -264,7 +265,7 @@ impl Kept {
     }
 
     /// Retires a queue.
-    fn retire(&mut self, q: u16) -> Reply
+    fn retire(&mut self, q: u16) -> ReplyIn<A>
         ensures does { Does (table_of self.old) (Step.Retire q) result (table_of self.new) }
         ensures room { TakesOne self.old self.new }
     {
@@ -275,7 +276,7 @@ impl Kept {
     }
 
     /// Forges a completion.
-    fn forge(&mut self, q: u16, slot: u16, bytes: [u8; 16]) -> Reply
+    fn forge(&mut self, q: u16, slot: u16, bytes: [u8; 16]) -> ReplyIn<A>
         ensures does { Does (table_of self.old) (Step.Forge q slot bytes) result (table_of self.new) }
         ensures room { TakesOne self.old self.new }
     {
@@ -286,7 +287,7 @@ impl Kept {
     }
 
     /// Does a step.
-    pub(crate) fn step(&mut self, step: Step) -> Reply
+    pub(crate) fn step(&mut self, step: StepIn<A>) -> ReplyIn<A>
         requires { HasRoom 1 self.old }
         ensures does { Does (table_of self.old) step result (table_of self.new) }
         ensures room { TakesOne self.old self.new }

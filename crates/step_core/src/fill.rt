@@ -6,13 +6,13 @@ ghost use Rattle.machine_model.specs.Script.{fill_fault};
 ghost use Rattle.step_core.specs.Kept.{BuildsDraft, FillsDraft};
 
 use crate::refused::none_touched;
-use crate::step::{Bytes, Reply};
+use crate::step::{Bytes, Reply, ReplyIn};
 use io_commands::{Draft, FillFault, Kind};
 use machine_model::words::Refusal;
-use std::alloc::{AllocError, Global};
+use std::alloc::{AllocError, Allocator};
 
 /// What is answered where memory is refused.
-pub(crate) fn no_memory() -> Reply
+pub(crate) fn no_memory<A: Allocator>() -> ReplyIn<A>
     ensures { result ≡ Reply.Refused Refusal.Memory [] }
 {
     Reply::Refused {
@@ -22,14 +22,14 @@ pub(crate) fn no_memory() -> Reply
 }
 
 /// How many bytes the data pieces of a draft take.
-fn data_bytes(draft: &Draft) -> usize
+fn data_bytes<A: Allocator>(draft: &Draft<A>) -> usize
     ensures { result ≡ sum_by data_length draft.now.request.pieces }
 {
     draft.request().pieces.data_bytes() as usize
 }
 
 /// Why a draft isn't filled with these bytes, behind which zeros may be put.
-fn fault_of(draft: &Draft, bytes: &[u8]) -> Option<FillFault>
+fn fault_of<A: Allocator>(draft: &Draft<A>, bytes: &[u8]) -> Option<FillFault>
     ensures { result ≡ fill_fault bytes.now draft.now }
 {
     if matches!(draft.request().kind, Kind::Read) {
@@ -42,7 +42,7 @@ fn fault_of(draft: &Draft, bytes: &[u8]) -> Option<FillFault>
 }
 
 /// The bytes, with zeros behind them up to a length.
-fn padded(bytes: Bytes, whole: usize) -> Result<Vec<u8>, AllocError>
+fn padded<A: Allocator>(bytes: Bytes<A>, whole: usize) -> Result<Vec<u8, A>, AllocError>
     requires { length bytes ≤ whole }
     ensures { IfOk result (λ v. v.items ≡ bytes ++ replicate (whole - length bytes) 0) }
 {
@@ -52,7 +52,7 @@ fn padded(bytes: Bytes, whole: usize) -> Result<Vec<u8>, AllocError>
 }
 
 /// Fills a draft with the bytes, and with zeros behind them.
-pub(crate) fn fill_draft(draft: &mut Draft, bytes: Bytes) -> Reply
+pub(crate) fn fill_draft<A: Allocator>(draft: &mut Draft<A>, bytes: Bytes<A>) -> ReplyIn<A>
     ensures { FillsDraft draft.old bytes result draft.new }
 {
     if let Some(fault) = fault_of(draft, bytes.as_slice()) {
@@ -69,7 +69,7 @@ pub(crate) fn fill_draft(draft: &mut Draft, bytes: Bytes) -> Reply
 }
 
 /// Builds a draft.
-pub(crate) fn build_draft(draft: &mut Draft, alloc: Global) -> Reply
+pub(crate) fn build_draft<A: Allocator + Clone>(draft: &mut Draft<A>, alloc: A) -> ReplyIn<A>
     ensures { BuildsDraft draft.old result draft.new }
 {
     match draft.build(alloc) {

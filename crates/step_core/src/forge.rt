@@ -31,7 +31,7 @@ impl<A: Allocator + Copy> World<A> {
             Ok(()) => {}
             Err(_) => unreachable!(),
         }
-        let _pages = self.store.pages();
+        prove!(self.store.pages() <= 65_536);
         self.trusted = false;
         Ok(())
     }

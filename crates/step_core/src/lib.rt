@@ -46,5 +46,5 @@ pub use open::OpenRefused;
 pub use page_ledger::{Counts, Owner, Role};
 pub use page_memory::{Half, Page, PageNo};
 pub use refused::{Completed, Fetched, StepRefused, Touched, Walked};
-pub use step::{Bytes, Reply, Step};
+pub use step::{Bytes, Reply, ReplyIn, Step, StepIn};
 pub use world::World;

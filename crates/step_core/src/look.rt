@@ -76,9 +76,9 @@ impl<A: Allocator + Copy> World<A> {
         ensures rest { IfNone result (IsTrue self.old.trusted → IsAtRest self.old) }
         ensures same { self.new ≡ self.old }
     {
-        let _count = self.host.queue_count();
+        prove!(self.host.queue_count() <= u16::MAX);
         let step = self.controller.next_step(&mut self.store);
-        let _pages = self.store.pages();
+        prove!(self.store.pages() <= 65_536);
         step
     }
 }

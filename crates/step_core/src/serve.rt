@@ -98,7 +98,7 @@ impl<A: Allocator + Copy> World<A> {
     {
         self.store.clear();
         let answer = self.controller.fetch(q, &mut self.store);
-        let _pages = self.store.pages();
+        prove!(self.store.pages() <= 65_536);
         fetched(answer, touched_by(&self.store))
     }
 
@@ -115,7 +115,7 @@ impl<A: Allocator + Copy> World<A> {
     {
         self.store.clear();
         let answer = self.controller.walk(q, cid, &mut self.store);
-        let _pages = self.store.pages();
+        prove!(self.store.pages() <= 65_536);
         walked(answer, touched_by(&self.store))
     }
 
@@ -133,7 +133,7 @@ impl<A: Allocator + Copy> World<A> {
     {
         self.store.clear();
         let answer = self.controller.complete(q, cid, &mut self.store);
-        let _pages = self.store.pages();
+        prove!(self.store.pages() <= 65_536);
         completed(answer, touched_by(&self.store))
     }
 }

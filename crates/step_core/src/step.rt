@@ -11,15 +11,16 @@ use entry_codec::Status;
 use io_commands::{Draft, FillFault, Request};
 use machine_model::words::{Reaped, Refusal};
 use sgl_chain::pages_needed;
+use std::alloc::{Allocator, Global};
 use std::marker::Model;
 
 /// A list of bytes inside a step or a reply. Contracts see it as that list.
 #[derive(Debug, Drop)]
-pub struct Bytes {
-    bytes: Vec<u8>,
+pub struct Bytes<A: Allocator = Global> {
+    bytes: Vec<u8, A>,
 }
 
-impl Model for Bytes {
+impl<A: Allocator> Model for Bytes<A> {
     ghost use Rattle.std.specs.Prelude.{List, ℕ};
 
     ghost Value = { List ℕ };
@@ -27,9 +28,9 @@ impl Model for Bytes {
     ghost view = { λ b. b.bytes.items };
 }
 
-impl Bytes {
+impl<A: Allocator> Bytes<A> {
     /// The bytes of a vector, in order.
-    pub fn from_vec(bytes: Vec<u8>) -> Self
+    pub fn from_vec(bytes: Vec<u8, A>) -> Self
         ensures { result ≡ bytes.items }
     {
         Bytes { bytes }
@@ -43,7 +44,7 @@ impl Bytes {
     }
 
     /// The bytes, as a vector.
-    pub fn into_vec(self) -> Vec<u8>
+    pub fn into_vec(self) -> Vec<u8, A>
         ensures { result.items ≡ self }
     {
         self.bytes
@@ -52,13 +53,13 @@ impl Bytes {
 
 /// A step of a bench. Drafts, tickets and finished commands are named by their queue and identifier.
 #[derive(Debug, Drop)]
-pub enum Step {
+pub enum Step<R = Request, B = Bytes> {
     /// Reserve a command.
     Reserve {
         /// The queue.
         q: u16,
         /// What is asked for.
-        request: Request,
+        request: R,
     },
     /// Fill a draft with the bytes, padded with zeros to its Data length.
     Fill {
@@ -67,7 +68,7 @@ pub enum Step {
         /// Its identifier.
         cid: u16,
         /// The bytes.
-        bytes: Bytes,
+        bytes: B,
     },
     /// Lay a draft's chain.
     Build {
@@ -173,9 +174,12 @@ pub enum Step {
     },
 }
 
+/// A step whose request and bytes stand in the memory of one allocator.
+pub type StepIn<A> = Step<Request<A>, Bytes<A>>;
+
 /// What a step of a bench answered.
 #[derive(Debug, Drop)]
-pub enum Reply {
+pub enum Reply<B = Bytes> {
     /// A command was reserved.
     Reserved {
         /// Its queue.
@@ -213,7 +217,7 @@ pub enum Reply {
     /// A command was collected, which ended so.
     Collected(Status),
     /// A Read's bytes.
-    Gathered(Bytes),
+    Gathered(B),
     /// An admin command was sent, under this identifier of queue 0.
     Sent {
         /// The identifier.
@@ -232,8 +236,11 @@ pub enum Reply {
     },
 }
 
+/// What a step answered, where its bytes stand in the memory of one allocator.
+pub type ReplyIn<A> = Reply<Bytes<A>>;
+
 /// How many pages a good request takes for its data and for its chain.
-fn pages_of_request(request: &Request, segment: u16) -> (u32, u32)
+fn pages_of_request<A: Allocator>(request: &Request<A>, segment: u16) -> (u32, u32)
     requires good { IsGood request.now }
     requires least { 2 ≤ segment }
     ensures front { result.0 ≡ data_count request.now.pieces }
@@ -245,9 +252,9 @@ fn pages_of_request(request: &Request, segment: u16) -> (u32, u32)
     (front as u32, back as u32)
 }
 
-impl Reply {
+impl<B> Reply<B> {
     /// What is answered of a command that was reserved.
-    pub fn reserved(draft: &Draft) -> Reply
+    pub fn reserved<A: Allocator>(draft: &Draft<A>) -> Self
         ensures { result ≡ Reply.Reserved draft.now.q draft.now.cid (length draft.now.data_pages) (length draft.now.chain_pages) }
     {
         let request = draft.request();

@@ -4,12 +4,12 @@ use Rattle.step_core.proofs.Firsts.{none_found, taken, within_first}
 use Rattle.step_core.proofs.kept_values.take_draft.Goals as goal
 
 pub returns-in_err-place-clause-none : goal.returns-in_err-place-clause-none
-returns-in_err-place-clause-none c =
+returns-in_err-place-clause-none g c =
     let e : position (is_draft c.args.q c.args.cid) c.args.drafts.now.items ≡ None = cc (c.in_err-place.was) in
     rw c.from_residual.ensures (none_found (is_draft c.args.q c.args.cid) c.args.drafts.now.items e)
 
 pub returns-clause-taken : goal.returns-clause-taken
-returns-clause-taken c =
+returns-clause-taken g c =
     let e : position (is_draft c.args.q c.args.cid) c.args.drafts.now.items ≡ Some c.in_ok-place.place = cc (c.in_ok-place.was) in
     taken (is_draft c.args.q c.args.cid) c.args.drafts.now.items c.in_ok-place.place c.remove-draft.result c.remove-draft.new.self.items e
     (within_first (is_draft c.args.q c.args.cid) c.args.drafts.now.items c.in_ok-place.place e) c.remove-draft.ensures.value c.remove-draft.ensures.items

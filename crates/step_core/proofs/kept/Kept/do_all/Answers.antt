@@ -4,12 +4,12 @@ use Rattle.std.proofs.lemmas.Iterator.Consumers.{YieldsList-turn}
 use Rattle.std.proofs.lemmas.List.{length_push}
 use Rattle.step_core.specs.Bench.{DoesAll}
 use Rattle.step_core.specs.Kept.{table_of}
-use Rattle.step_core.specs.declared.step.Reply.{Reply}
+use Rattle.step_core.specs.Values.{Reply}
 use Rattle.step_core.proofs.Runs.{does_more}
 use Rattle.step_core.proofs.kept.Kept.do_all.Goals as goal
 
 pub loop-step-preserved : goal.loop-step-preserved
-loop-step-preserved c =
+loop-step-preserved g c =
     let turn = YieldsList-turn (YieldsList-from_vec c.args.steps.items (search rules) (search rules)) c.loop-step.yielded c.loop-step.step-iterator c.loop-step.yielded_by c.next.result c.next.new.self c.in-Some.step c.in-Some.is c.next.ensures.steps in
     let more = length_push c.loop-step.yielded c.in-Some.step in
     record {

@@ -4,7 +4,7 @@ use Rattle.step_core.specs.Kept.{table_of, HasRoom}
 use Rattle.step_core.proofs.kept.Kept.do_all.Given as goal
 
 abbrev pub invariant-loop-step : goal.invariant-loop-step
-invariant-loop-step l = record {
+invariant-loop-step g l = record {
   done : DoesAll (table_of l.initial.self) l.yielded l.replies.items (table_of l.self);
   room : HasRoom (length l.fn.steps.items - length l.yielded) l.self;
   answers : vec_len l.replies + (length l.fn.steps.items - length l.yielded) ≤ vec_capacity l.replies;

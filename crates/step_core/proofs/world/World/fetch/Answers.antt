@@ -5,14 +5,14 @@ use Rattle.step_core.proofs.world.World.fetch.Goals as goal
 pub returns-clause-step : goal.returns-clause-step
 returns-clause-step g c =
     step_from (fetch_goes c.self.inside.host c.self.inside.controller c.fetch-answer.new.self c.self.inside.store c.clear.new.self c.fetch-answer.new.dma c.self.inside.trusted c.args.q c.fetch-answer.result
-    c.self.invariant c.clear.ensures.cleared c.fetch-answer.ensures.sound c.pages-pages.ensures.whole c.fetch-answer.ensures.pool c.fetch-answer.ensures.fetches c.touched_by.result (fetch_reply c.fetched.result) c.touched_by.ensures c.fetched.ensures) c.self.view_is
+    c.self.invariant c.clear.ensures.cleared c.fetch-answer.ensures.sound c.pages.ensures.whole c.fetch-answer.ensures.pool c.fetch-answer.ensures.fetches c.touched_by.result (fetch_reply c.fetched.result) c.touched_by.ensures c.fetched.ensures) c.self.view_is
 
 pub returns-clause-touches : goal.returns-clause-touches
 returns-clause-touches g c =
     allowed (fetch_goes c.self.inside.host c.self.inside.controller c.fetch-answer.new.self c.self.inside.store c.clear.new.self c.fetch-answer.new.dma c.self.inside.trusted c.args.q c.fetch-answer.result
-    c.self.invariant c.clear.ensures.cleared c.fetch-answer.ensures.sound c.pages-pages.ensures.whole c.fetch-answer.ensures.pool c.fetch-answer.ensures.fetches c.touched_by.result (fetch_reply c.fetched.result) c.touched_by.ensures c.fetched.ensures) c.self.view_is c.self.invariant
+    c.self.invariant c.clear.ensures.cleared c.fetch-answer.ensures.sound c.pages.ensures.whole c.fetch-answer.ensures.pool c.fetch-answer.ensures.fetches c.touched_by.result (fetch_reply c.fetched.result) c.touched_by.ensures c.fetched.ensures) c.self.view_is c.self.invariant
 
 pub invariant_of-self : goal.invariant_of-self
 invariant_of-self g c =
     (fetch_goes c.self.inside.host c.self.inside.controller c.fetch-answer.new.self c.self.inside.store c.clear.new.self c.fetch-answer.new.dma c.self.inside.trusted c.args.q c.fetch-answer.result
-    c.self.invariant c.clear.ensures.cleared c.fetch-answer.ensures.sound c.pages-pages.ensures.whole c.fetch-answer.ensures.pool c.fetch-answer.ensures.fetches c.touched_by.result (fetch_reply c.fetched.result) c.touched_by.ensures c.fetched.ensures).world
+    c.self.invariant c.clear.ensures.cleared c.fetch-answer.ensures.sound c.pages.ensures.whole c.fetch-answer.ensures.pool c.fetch-answer.ensures.fetches c.touched_by.result (fetch_reply c.fetched.result) c.touched_by.ensures c.fetched.ensures).world

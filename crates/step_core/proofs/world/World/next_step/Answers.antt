@@ -11,7 +11,7 @@ use Rattle.step_core.proofs.world.World.next_step.Goals as goal
 pub invariant_of-self : goal.invariant_of-self
 invariant_of-self g c =
     subst (λ (pages : Pages). IsWorld (sides_of c.self.inside.host c.self.inside.controller pages c.self.inside.trusted))
-    (sym (told c.next_step-step.new.dma.pages c.self.inside.store.pages c.pages-pages.ensures.whole c.self.invariant.sides.over.pool.whole c.next_step-step.ensures.pool (λ place. ap (λ (m : Memory). m place) c.next_step-step.ensures.memory)))
+    (sym (told c.next_step-step.new.dma.pages c.self.inside.store.pages c.pages.ensures.whole c.self.invariant.sides.over.pool.whole c.next_step-step.ensures.pool (λ place. ap (λ (m : Memory). m place) c.next_step-step.ensures.memory)))
     c.self.invariant
 
 pub returns-clause-possible : goal.returns-clause-possible
@@ -21,10 +21,10 @@ returns-clause-possible g c =
 pub returns-clause-rest : goal.returns-clause-rest
 returns-clause-rest g c =
     rests (sides_of c.self.inside.host c.self.inside.controller c.self.inside.store.pages c.self.inside.trusted) c.args.self.now c.next_step-step.result c.self.view_is c.self.invariant
-    (subst (λ (n : ℕ). n < 65536) c.queue_count-count.ensures c.queue_count-count.type_inv) c.next_step-step.ensures.rest
+    (subst (λ (n : ℕ). n < 65536) c.queue_count.ensures c.queue_count.type_inv) c.next_step-step.ensures.rest
 
 pub returns-clause-same : goal.returns-clause-same
 returns-clause-same g c =
     ap (λ (pages : Pages). state_of (sides_of c.self.inside.host c.self.inside.controller pages c.self.inside.trusted))
-    (told c.next_step-step.new.dma.pages c.self.inside.store.pages c.pages-pages.ensures.whole c.self.invariant.sides.over.pool.whole c.next_step-step.ensures.pool (λ place. ap (λ (m : Memory). m place) c.next_step-step.ensures.memory))
+    (told c.next_step-step.new.dma.pages c.self.inside.store.pages c.pages.ensures.whole c.self.invariant.sides.over.pool.whole c.next_step-step.ensures.pool (λ place. ap (λ (m : Memory). m place) c.next_step-step.ensures.memory))
     ∙ c.self.view_is

@@ -1,0 +1,10 @@
+//! Scripts over a heap that refuses one growth, each in turn: every answer is the script's or want of memory, want of memory changes
+//! nothing, the same step then answers as the script says, and at the end the heap is empty. It has tests alone.
+#![tactic(auto)]
+
+#[cfg(test)]
+mod placed;
+#[cfg(test)]
+mod scripts;
+#[cfg(test)]
+mod sweep;
