@@ -1,6 +1,6 @@
 //! A ledger beside a plain list of owners: pools with holes of every kind, runs of many pages, and the greatest pool with one free page.
 
-ghost use Rattle.std.specs.Prelude.{◌≡◌, ◌<◌};
+ghost use Rattle.std.specs.Prelude.{◌≡◌, ◌<◌, ◌++◌};
 ghost use Rattle.page_ledger.specs.Lists.{ListsAll};
 ghost use Rattle.page_ledger.specs.Owners.{is_among as spec_is_among, is_command as spec_is_command, is_half as spec_is_half, pages_from};
 
@@ -99,15 +99,26 @@ fn is_among(pages: &[PageNo], p: u32) -> bool
 }
 
 /// Sees that the pages are all those of a command.
-fn see_command(rt: &impl Abort, ledger: &Ledger, q: u16, cid: u16, pages: &[PageNo])
-    ensures { ListsAll (spec_is_command q cid) ledger.now pages.now }
+fn see_command(
+    rt: &impl Abort,
+    ledger: &Ledger,
+    q: u16,
+    cid: u16,
+    data_pages: &[PageNo],
+    chain_pages: &[PageNo],
+)
+    ensures { ListsAll (spec_is_command q cid) ledger.now (data_pages.now ++ chain_pages.now) }
 {
-    for page in pages {
-        assert!(rt; page.0 < ledger.pages());
+    for data_page in data_pages {
+        assert!(rt; data_page.0 < ledger.pages());
+    }
+    for chain_page in chain_pages {
+        assert!(rt; chain_page.0 < ledger.pages());
     }
     for p in 0..ledger.pages() {
         let owned = is_command(ledger.owner(PageNo(p)), q, cid);
-        assert!(rt; is_among(pages, p) == owned);
+        let listed = is_among(data_pages, p) || is_among(chain_pages, p);
+        assert!(rt; listed == owned);
     }
 }
 
@@ -160,17 +171,18 @@ fn lowest_run(plain: &[Owner], k: u32) -> Option<u32> {
     None
 }
 
-/// The pages of a command in a plain list.
+/// The pages in a plain list that are for a command's data, or for its chain.
 fn pages_of_command(
     alloc: Global,
     plain: &[Owner],
     q: u16,
     cid: u16,
+    role: Role,
 ) -> Result<Vec<PageNo>, AllocError> {
     let mut pages = Vec::new(alloc);
     let mut p = 0u32;
     for owner in plain {
-        if is_command(*owner, q, cid) {
+        if *owner == (Owner::Command { q, cid, role }) {
             pages.push(PageNo(p))?;
         }
         p = p.wrapping_add(1);
@@ -291,15 +303,17 @@ impl Pool {
 
     /// Gives a command's pages back, as they are listed or as they are found.
     fn give_back(&mut self, rt: &impl Abort, q: u16, cid: u16, listed: bool) -> Result<(), Fail> {
-        let pages = pages_of_command(self.alloc, &self.plain, q, cid)?;
+        let data = pages_of_command(self.alloc, &self.plain, q, cid, Role::Data)?;
+        let chain = pages_of_command(self.alloc, &self.plain, q, cid, Role::Chain)?;
         if listed {
-            see_command(rt, &self.ledger, q, cid, &pages);
-            self.ledger.give_back_pages(q, cid, &pages);
+            see_command(rt, &self.ledger, q, cid, &data, &chain);
+            self.ledger.give_back_pages(q, cid, &data, &chain);
         } else {
             let freed = self.ledger.give_back(q, cid);
-            assert_eq!(rt; freed as usize, pages.len());
+            assert_eq!(rt; freed as usize, data.len() + chain.len());
         }
-        give_all(&mut self.plain, &pages, Owner::Free);
+        give_all(&mut self.plain, &data, Owner::Free);
+        give_all(&mut self.plain, &chain, Owner::Free);
         Ok(())
     }
 

@@ -1,5 +1,5 @@
 -- The end of a command on the tables is the machine's, and leaves them whole.
-use Rattle.std.proofs.Common.{◌≡◌, ℕ, ◌<◌, ◌==◌, Bool, true, false, not, ◌||◌, Option, Some, None, List, [], ◌∷◌, ◌++◌, length, take, drop, find, slice_set, refl, ap, sym, ◌∙◌, subst, length-set, eqb-true, if◌then◌else◌}
+use Rattle.std.proofs.Common.{◌≡◌, ℕ, ◌<◌, ◌==◌, Bool, true, false, not, ◌||◌, Option, Some, None, List, [], ◌∷◌, ◌++◌, length, take, drop, find, get_or, slice_set, refl, ap, sym, ◌∙◌, subst, length-set, eqb-true, if◌then◌else◌}
 use Rattle.std.specs.List.{AllByRecursion}
 use Rattle.std.specs.Option.{option_map, option_map_or}
 use Rattle.std.proofs.lemmas.Bool.{true≢false, not-true, not-false, and_parts}
@@ -17,7 +17,7 @@ use Rattle.machine_model.specs.Events.{Event}
 use Rattle.machine_model.specs.Memory.{with_pages}
 use Rattle.machine_model.specs.Proper.{IsProperDraft, ArePages}
 use Rattle.machine_model.specs.Refusals.{refusal_of, is_drafted, is_collected, is_of, record_is}
-use Rattle.machine_model.specs.State.{Record, is_at, without_record}
+use Rattle.machine_model.specs.State.{Record, is_at, pages_of, without_record}
 use Rattle.machine_model.specs.Step.{Step}
 use Rattle.machine_model.specs.declared.words.Phase.{Phase}
 use Rattle.machine_model.specs.declared.words.Phase.TheVariants.{Drafted, Submitted, Held, Collected}
@@ -28,6 +28,7 @@ use Rattle.machine_model.proofs.Refused.{first_fails, found, found_all, pages_ma
 use Rattle.machine_model.proofs.Taken.{is_out}
 use Rattle.machine_model.proofs.Totals.{total, here}
 use Rattle.page_ledger.specs.Owners.{is_among, is_command, is_owned_at, owner_at, given_back}
+use Rattle.page_ledger.specs.Lists.{ListsAll}
 use Rattle.page_ledger.specs.declared.owner.Owner.{Owner}
 use Rattle.page_ledger.specs.declared.owner.Owner.TheVariants.{Free, Command}
 use Rattle.page_ledger.specs.declared.owner.Role.TheVariants.{Data, Chain}
@@ -40,7 +41,7 @@ use Rattle.host_core.proofs.Identifiers.{claim-less}
 use Rattle.host_core.proofs.Lists.{all-filter, all-filter_by, all-from, all-to, all-front, all-back, found_is, found_at, found_any}
 use Rattle.host_core.proofs.Moved.{Fits, due, moved_is, moved_whole}
 use Rattle.host_core.proofs.Owners.{command-pages, given-free}
-use Rattle.host_core.proofs.Pages.{can-put, pool-with, record-out, record-inside}
+use Rattle.host_core.proofs.Pages.{can-put, pool-with, record-out, record-inside, times-at}
 use Rattle.host_core.proofs.Steps.{host_step}
 
 pub at_most_once : (t : Tables) → IsWhole t → (q cid : ℕ) → total (here q cid) t.records < 2
@@ -69,12 +70,21 @@ owner-stays owners q cid p x other at =
     slice_get-map (λ (o : Owner). if is_command q cid o then Free else o) owners p
     ∙ (ap (option_map (λ (o : Owner). if is_command q cid o then Free else o)) at ∙ ap (λ b. Some (if b then Free else x)) other)
 
+-- a command's pages are those that its record lists
+pub command-listed : (t : Tables) (q cid : ℕ) (r : Record) → IsWhole t → find (is_at q cid) t.records ≡ Some r → ListsAll (is_command q cid) t.owners (pages_of r)
+command-listed t q cid r whole was =
+    let at = found_at (is_at q cid) t.records r was in
+    let both = and_parts (r.q == q) (r.cid == cid) (found_is (is_at q cid) t.records r was) in
+    record {
+      within = λ i d l. rw whole.table (record-inside (state_of t) whole.sound at.0 r at.1 (get_or (pages_of r) i d) (times-at (pages_of r) i d l));
+      lists = λ p l.
+          sym (command-pages t whole.sound whole.owners q cid r was (eqb-true r.q q both.0) (eqb-true r.cid cid both.1) (at_most_once t whole q cid) p (rw (← whole.table) l));
+    }
+
 named : (t : Tables) (q cid : ℕ) (pages : PagesOut) → IsWhole t → Brings t q cid pages → (p : ℕ) → p < length t.pages
     → is_owned_at (is_command q cid) t.owners p ≡ is_among (numbers_of pages) p
 named t q cid pages whole brings p l =
-    let both = and_parts (brings.entry.q == q) (brings.entry.cid == cid) (found_is (is_at q cid) t.records brings.entry brings.was) in
-    command-pages t whole.sound whole.owners q cid brings.entry brings.was (eqb-true brings.entry.q q both.0) (eqb-true brings.entry.cid cid both.1) (at_most_once t whole q cid) p l
-    ∙ ap (λ (ps : List ℕ). is_among ps p) (sym brings.numbers)
+    sym ((command-listed t q cid brings.entry whole brings.was).lists p (rw whole.table l)) ∙ ap (λ (ps : List ℕ). is_among ps p) (sym brings.numbers)
 
 ended-due : (t : Tables) (q cid : ℕ) (pages : PagesOut) → IsWhole t → Brings t q cid pages
     → after_end q cid pages (state_of t) ≡ due (state_of t) (ended q cid pages t).pages (ended q cid pages t).owners (ended q cid pages t).records

@@ -62,7 +62,7 @@ among-from b n k l = go n b k l
         let e : b + 1 + k ≡ b + suc k = omega arith in
         later _ _ (subst (λ (j : ℕ). is_among (pages_from (b + 1) n) j ≡ true) e (go n (b + 1) k (omega arith)))
 
-times-at : (xs : List ℕ) (k d : ℕ) → k < length xs → 0 < times (get_or xs k d) xs
+pub times-at : (xs : List ℕ) (k d : ℕ) → k < length xs → 0 < times (get_or xs k d) xs
 times-at [] k d l = absurd (omega arith)
 times-at (x ∷ xs) zero d l = omega (arith, times-cons x x xs, ap one (eq-eqb x x refl))
 times-at (x ∷ xs) (suc k) d l = omega (arith, times-cons (get_or xs k d) x xs, times-at xs k d (omega arith))

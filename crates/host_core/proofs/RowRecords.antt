@@ -3,7 +3,7 @@ use Rattle.std.proofs.Common.{◌≡◌, ℕ, ◌==◌, Bool, true, false, not, 
 use Rattle.std.proofs.lemmas.Bool.{and_parts}
 use Rattle.std.proofs.lemmas.List.{map-append}
 use Rattle.machine_model.specs.State.{Record, is_at, with_record, without_record}
-use Rattle.slot_table.specs.Table.{Row, value_at, without, with_value, NoneAt, IsDistinct}
+use Rattle.slot_table.specs.Table.{Row, TableOf, value_at, without, with_value, NoneAt, IsDistinct}
 use Rattle.slot_table.specs.Table as table
 use Rattle.host_core.specs.Parts.{record_of, records_of, tables_of, Becomes}
 use Rattle.host_core.specs.declared.parts.Parts.{Parts}
@@ -96,7 +96,7 @@ without-none [] q cid h = refl
 without-none (row ∷ rows) q cid h = ap₂ (λ (b : Bool) (rs : List (Row Kept)). if b then rows else row ∷ rs) h.0 (without-none rows q cid h.1)
 
 -- a row taken out, if one stands there
-pub taken-row : (rows : List (Row Kept)) (q cid : ℕ) (o : Option Kept) → o ≡ value_at rows q cid → IfSome o (λ _. IsDistinct rows) → records_of (without rows q cid) ≡ without_record q cid (records_of rows)
+taken-row : (rows : List (Row Kept)) (q cid : ℕ) (o : Option Kept) → o ≡ value_at rows q cid → IfSome o (λ _. IsDistinct rows) → records_of (without rows q cid) ≡ without_record q cid (records_of rows)
 taken-row rows q cid None at distinct =
     let none = none-at rows q cid (sym at) in
     ap records_of (without-none rows q cid none) ∙ sym (none-without rows q cid none)
@@ -110,3 +110,10 @@ one-more rows q cid value = map-append (λ row. record_of row.q row.cid row.valu
 pub changed-rows : {A : Type 0} (parts : Parts A) (rows : List (Row Kept)) (f : List Record → List Record) → records_of rows ≡ f (records_of parts.records.rows)
     → Becomes parts (λ t. record t { records = f t.records }) (record parts { records = record parts.records { rows = rows } })
 changed-rows parts rows f same = λ pages. ap (λ (rs : List Record). record (tables_of parts pages) { records = rs }) same
+
+-- a row taken out of them
+pub taken-becomes : {A : Type 0} (parts : Parts A) (q cid : ℕ) (o : Option Kept) (left : TableOf Kept) → o ≡ value_at parts.records.rows q cid → IfSome o (λ _. IsDistinct parts.records.rows)
+    → left ≡ record parts.records { rows = without parts.records.rows q cid } → Becomes parts (λ t. record t { records = without_record q cid t.records }) (record parts { records = left })
+taken-becomes parts q cid o left at distinct is = λ pages.
+    ap (λ (table : TableOf Kept). tables_of (record parts { records = table }) pages) is
+    ∙ changed-rows parts (without parts.records.rows q cid) (without_record q cid) (taken-row parts.records.rows q cid o at distinct) pages

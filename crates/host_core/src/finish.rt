@@ -51,8 +51,11 @@ impl<A: Allocator> Parts<A> {
         requires brings { Brings (tables_of self.old store.old.pages) q cid pages.items }
         ensures { tables_of self.new store.new.pages ≡ spec_ended q cid pages.items (tables_of self.old store.old.pages) }
     {
-        self.forget(q, cid);
-        self.ledger.give_back(q, cid);
+        let Some(entry) = self.records.take(q, cid) else {
+            unreachable!();
+        };
+        self.ledger
+            .give_back_pages(q, cid, &entry.data_pages, &entry.chain_pages);
         unclaim(&mut self.queues, q, cid);
         move_in(store, pages);
     }

@@ -130,12 +130,19 @@ impl<A: Allocator> Ledger<A> {
         self.free_group(Group::Queue { q })
     }
 
-    /// Frees the pages of a command, of its data and of its chain, all of which are listed. It takes as long as the list.
-    pub fn give_back_pages(&mut self, q: u16, cid: u16, pages: &[PageNo])
-        requires { ListsAll (is_command q cid) self.old pages.now }
+    /// Frees the pages of a command, which are listed: those of its data, and those of its chain. It takes as long as the lists.
+    pub fn give_back_pages(
+        &mut self,
+        q: u16,
+        cid: u16,
+        data_pages: &[PageNo],
+        chain_pages: &[PageNo],
+    )
+        requires { ListsAll (is_command q cid) self.old (data_pages.now ++ chain_pages.now) }
         ensures { self.new ≡ given_back (is_command q cid) self.old }
     {
-        self.give(pages, Owner::Free);
+        self.give(data_pages, Owner::Free);
+        self.give(chain_pages, Owner::Free);
     }
 
     /// Frees the pages of one half of a queue, which are `k` consecutive ones. It takes as long as there are pages of it.
@@ -143,8 +150,7 @@ impl<A: Allocator> Ledger<A> {
         requires { ListsAll (is_half q half) self.old (pages_from first k) }
         ensures { self.new ≡ given_back (is_half q half) self.old }
     {
-        // a pool has at most 65,536 pages
-        let _ = &self.owners;
+        prove!(self.owners.len() <= 65_536);
         self.give_run(first.0, k, Owner::Free);
     }
 

@@ -1,19 +1,30 @@
-use Rattle.std.proofs.Common.{◌<◌, length, sym, subst}
-use Rattle.host_core.specs.Commands.{Claims}
-use Rattle.host_core.specs.Parts.{tables_of}
+use Rattle.std.proofs.Common.{◌++◌, sym, ◌∙◌, subst}
+use Rattle.page_ledger.specs.Lists.{ListsAll}
+use Rattle.page_ledger.specs.Owners.{is_command}
+use Rattle.host_core.specs.Parts.{record_of, tables_of}
+use Rattle.host_core.specs.Rows.{Kept}
 use Rattle.host_core.specs.Tables.{Tables}
-use Rattle.host_core.proofs.Ending.{ended_there, ended_claimed, ended_can_put, ended_tables}
+use Rattle.host_core.proofs.Ending.{command-listed, ended_there, ended_claimed, ended_can_put, ended_tables}
+use Rattle.host_core.proofs.Lists.{none_is_not}
+use Rattle.host_core.proofs.RowRecords.{found-row, no-row, taken-becomes}
 use Rattle.host_core.proofs.parts.Parts.commit_end.Goals as goal
 
-pub unclaim-requires-clause-there : goal.unclaim-requires-clause-there
-unclaim-requires-clause-there g c =
+pub unreachable-requires : goal.unreachable-requires
+unreachable-requires g c = none_is_not (sym (no-row c.args.self.now.records.rows c.args.q c.args.cid (sym c.take.ensures.value ∙ c.in_default.is)) ∙ c.requires.brings.was)
+
+pub give_back_pages-requires : goal.give_back_pages-requires
+give_back_pages-requires g c =
     let t : Tables = tables_of c.args.self.now c.args.store.now.pages in
-    subst (λ (u : Tables). c.args.q < length u.queues) (sym (c.forget.ensures t.pages)) (ended_there t c.args.q c.args.cid c.args.pages.items c.requires.whole c.requires.brings)
+    let there = found-row c.args.self.now.records.rows c.args.q c.args.cid c.in-Some.entry (sym c.take.ensures.value ∙ c.in-Some.is) in
+    rw (c.deref.ensures.value, c.deref-2.ensures.value)
+    (subst (λ (kept : Kept). ListsAll (is_command c.args.q c.args.cid) t.owners (kept.data_pages ++ kept.chain_pages)) (sym c.entry.view_is)
+    (command-listed t c.args.q c.args.cid (record_of c.args.q c.args.cid c.in-Some.entry) c.requires.whole there))
+
+pub unclaim-requires-clause-there : goal.unclaim-requires-clause-there
+unclaim-requires-clause-there g c = ended_there (tables_of c.args.self.now c.args.store.now.pages) c.args.q c.args.cid c.args.pages.items c.requires.whole c.requires.brings
 
 pub unclaim-requires-clause-claimed : goal.unclaim-requires-clause-claimed
-unclaim-requires-clause-claimed g c =
-    let t : Tables = tables_of c.args.self.now c.args.store.now.pages in
-    subst (λ (u : Tables). Claims u.queues c.args.q c.args.cid) (sym (c.forget.ensures t.pages)) (ended_claimed t c.args.q c.args.cid c.args.pages.items c.requires.whole c.requires.brings)
+unclaim-requires-clause-claimed g c = ended_claimed (tables_of c.args.self.now c.args.store.now.pages) c.args.q c.args.cid c.args.pages.items c.requires.whole c.requires.brings
 
 pub move_in-requires : goal.move_in-requires
 move_in-requires g c = ended_can_put (tables_of c.args.self.now c.args.store.now.pages) c.args.q c.args.cid c.args.pages.items c.requires.whole c.requires.brings
@@ -21,5 +32,6 @@ move_in-requires g c = ended_can_put (tables_of c.args.self.now c.args.store.now
 pub returns : goal.returns
 returns g c =
     let t : Tables = tables_of c.args.self.now c.args.store.now.pages in
-    ended_tables t (tables_of c.forget.new.self t.pages) c.args.q c.args.cid c.args.pages.items c.move_in.new.store.pages c.give_back.new.self c.unclaim.new.queues.items
-    (c.forget.ensures t.pages) c.move_in.ensures c.give_back.ensures.freed c.unclaim.ensures
+    ended_tables t _ c.args.q c.args.cid c.args.pages.items c.move_in.new.store.pages c.give_back_pages.new.self c.unclaim.new.queues.items
+    (taken-becomes c.args.self.now c.args.q c.args.cid c.take.result c.take.new.self c.take.ensures.value c.take.ensures.distinct c.take.ensures.rest t.pages)
+    c.move_in.ensures c.give_back_pages.ensures c.unclaim.ensures
