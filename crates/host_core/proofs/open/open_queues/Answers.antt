@@ -1,4 +1,5 @@
-use Rattle.std.proofs.Common.{subst, ◌≡◌, ℕ, ◌+◌, List, [], ◌∷◌, ◌++◌, length, map, ap, ap₂, sym, ◌∙◌, arith}
+use Rattle.std.proofs.Common.{subst, ◌≡◌, ℕ, ◌+◌, ◌≤◌, List, [], ◌∷◌, ◌++◌, length, map, ap, ap₂, sym, ◌∙◌, arith}
+use Rattle.std.proofs.Math.Nat.{mul-le-mul_right}
 use Rattle.std.proofs.lemmas.List.{length-map, map-append}
 use Rattle.machine_model.proofs.Opening.{length-range}
 use Rattle.page_ledger.specs.Owners.{pages_from}
@@ -38,3 +39,12 @@ loop-q-preserved g c =
 pub returns-clause-granted : goal.returns-clause-granted
 returns-clause-granted g c =
     subst (λ (k : ℕ). HalvesGranted c.args.entries k c.loop-q.ledger) (omega (arith, c.loop-q-test.false, c.loop-q.auto.q-end)) c.loop-q.invariant.granted
+
+pub returns-clause-queues : goal.returns-clause-queues
+returns-clause-queues g c =
+    subst (λ (k : ℕ). c.loop-q.queues.items ≡ fresh_queues c.args.entries k) (omega (arith, c.loop-q-test.false, c.loop-q.auto.q-end)) c.loop-q.invariant.queues
+
+pub grant_halves-sq-requires-clause-fits : goal.grant_halves-sq-requires-clause-fits
+grant_halves-sq-requires-clause-fits g c =
+    let upto : c.loop-q.q + 1 ≤ c.args.count = omega (arith, c.loop-q-test.true) in
+    omega (arith, mul-le-mul_right (half_pages c.args.entries Submission + half_pages c.args.entries Completion) upto, c.requires.fits, c.loop-q.invariant.size)
