@@ -31,7 +31,7 @@ gather 1 0
 release 1 0
 ",
     )?;
-    assert_eq!(rt; growths, 0);
+    assert_eq!(rt; growths, 14);
     Ok(())
 }
 
@@ -69,7 +69,7 @@ release 1 0
 release 2 0
 ",
     )?;
-    assert_eq!(rt; growths, 0);
+    assert_eq!(rt; growths, 21);
     Ok(())
 }
 
@@ -114,7 +114,7 @@ release 1 0
 release 1 1
 ",
     )?;
-    assert_eq!(rt; growths, 0);
+    assert_eq!(rt; growths, 18);
     Ok(())
 }
 
@@ -146,6 +146,6 @@ retire 1
 delete_cq 1
 ",
     )?;
-    assert_eq!(rt; growths, 0);
+    assert_eq!(rt; growths, 21);
     Ok(())
 }

@@ -8,7 +8,7 @@ use script_cli::{Line, Script, read_script};
 use std::alloc::{AllocError, Allocator, Global};
 use std::process::Abort;
 use std::test::Fail;
-use step_core::{Bench, Config, Image, Reply, ReplyIn};
+use step_core::{Bench, Config, Image, Reply, ReplyIn, Step};
 
 /// More growths than any script here has.
 const MANY: u64 = 5_000;
@@ -40,19 +40,30 @@ fn script(alloc: Global, text: &str) -> Result<Script, Fail> {
     }
 }
 
+/// What each step of a script answers on a bench whose heap refuses nothing.
+fn answers_on<'a>(
+    alloc: Global,
+    heap: &'a Heap,
+    bench: &mut Bench<&'a Heap>,
+    script: &Script,
+) -> Result<Vec<String>, Fail> {
+    let mut answers = Vec::new(alloc);
+    for numbered in script.lines() {
+        if let Line::Step(step) = &numbered.line {
+            let reply = bench.step(placed(heap, step)?)?;
+            answers.push(format!(in alloc; "{reply:?}")?)?;
+        }
+    }
+    Ok(answers)
+}
+
 /// What each step of a script answers where nothing is refused.
 fn answers(alloc: Global, script: &Script) -> Result<Vec<String>, Fail> {
     let heap = Refusing::new(alloc);
     let mut bench = opened(&heap)?;
-    let mut answers = Vec::new(alloc);
-    for numbered in script.lines() {
-        if let Line::Step(step) = &numbered.line {
-            let reply = bench.step(placed(&heap, step)?)?;
-            answers.push(format!(in alloc; "{reply:?}")?)?;
-        }
-    }
+    let answers = answers_on(alloc, &heap, &mut bench, script);
     let _ended = bench.end();
-    Ok(answers)
+    answers
 }
 
 /// Whose each page is, and how many pages each class has.
@@ -76,6 +87,56 @@ fn wants_memory<A: Allocator>(answer: &Result<ReplyIn<A>, AllocError>) -> bool {
     }
 }
 
+/// Does a step with one growth refused, and answers how many growths it had until then. Where the step wants memory nothing has
+/// changed, and once more it answers as it must.
+fn step_on<'a>(
+    rt: &impl Abort,
+    alloc: Global,
+    heap: &'a Heap,
+    bench: &mut Bench<&'a Heap>,
+    (step, wanted): (&Step, &str),
+    growth: u64,
+) -> Result<u64, Fail> {
+    let made = placed(heap, step)?;
+    let before = standing(alloc, bench)?;
+    heap.refuse(Refusal::Nth(growth));
+    let mut answer = bench.step(made);
+    let tally = heap.tally();
+    heap.refuse(Refusal::Never);
+    if tally.refused > 0 && wants_memory(&answer) {
+        assert!(rt; standing(alloc, bench)? == before, "{wanted}");
+        answer = bench.step(placed(heap, step)?);
+    }
+    let text = format!(in alloc; "{:?}", answer?)?;
+    assert_eq!(rt; text.as_str(), wanted);
+    Ok(tally.calls)
+}
+
+/// Does the steps of a script with one of their growths refused, and answers how many growths are left to that one.
+fn steps_on<'a>(
+    rt: &impl Abort,
+    alloc: Global,
+    heap: &'a Heap,
+    bench: &mut Bench<&'a Heap>,
+    script: &Script,
+    wanted: &[String],
+    growth: u64,
+) -> Result<u64, Fail> {
+    let mut left = growth;
+    let mut wanted = wanted.iter();
+    for numbered in script.lines() {
+        let Line::Step(step) = &numbered.line else {
+            continue;
+        };
+        let Some(wanted) = wanted.next() else {
+            return Err(Fail::from("an answer is missing"));
+        };
+        let calls = step_on(rt, alloc, heap, bench, (step, wanted.as_str()), left)?;
+        left = left.saturating_sub(calls);
+    }
+    Ok(left)
+}
+
 /// Plays a script with one growth of its steps refused, and answers whether there was such a growth.
 fn play(
     rt: &impl Abort,
@@ -86,32 +147,10 @@ fn play(
 ) -> Result<bool, Fail> {
     let heap = Refusing::new(alloc);
     let mut bench = opened(&heap)?;
-    let mut left = growth;
-    let mut wanted = wanted.iter();
-    for numbered in script.lines() {
-        let Line::Step(step) = &numbered.line else {
-            continue;
-        };
-        let Some(wanted) = wanted.next() else {
-            return Err(Fail::from("an answer is missing"));
-        };
-        let made = placed(&heap, step)?;
-        let before = standing(alloc, &bench)?;
-        heap.refuse(Refusal::Nth(left));
-        let mut answer = bench.step(made);
-        let tally = heap.tally();
-        heap.refuse(Refusal::Never);
-        left = left.saturating_sub(tally.calls);
-        if tally.refused > 0 && wants_memory(&answer) {
-            assert!(rt; standing(alloc, &bench)? == before, "growth {growth}");
-            answer = bench.step(placed(&heap, step)?);
-        }
-        let text = format!(in alloc; "{:?}", answer?)?;
-        assert_eq!(rt; text.as_str(), wanted.as_str(), "growth {growth}");
-    }
+    let left = steps_on(rt, alloc, &heap, &mut bench, script, wanted, growth);
     let _ended = bench.end();
     assert_eq!(rt; heap.tally().blocks, 0, "growth {growth}");
-    Ok(left == 0)
+    Ok(left? == 0)
 }
 
 /// Plays a script once for each growth that it has, and answers how many there are.

@@ -8,13 +8,14 @@ use std::cell::Cell;
 /// An allocator that passes each call on to another, but for the calls for memory that it was told to refuse.
 ///
 /// A growth of a block counts as one call for memory, and as the return of the block that it was.
+#[derive(Debug)]
 pub struct Refusing<A: Allocator> {
     inner: A,
     account: Cell<Account>,
 }
 
 /// What is refused, and what was asked for so far.
-#[derive(Clone, Copy)]
+#[derive(Clone, Copy, Debug)]
 struct Account {
     refusal: Refusal,
     tally: Tally,
