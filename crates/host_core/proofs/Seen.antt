@@ -1,5 +1,5 @@
 -- What the host sees at the head of a completion ring.
-use Rattle.std.proofs.Common.{◌≡◌, ℕ, zero, suc, ◌+◌, ◌*◌, ◌-◌, ◌/◌, ◌%◌, ◌<◌, ◌≤◌, ◌∷◌, [], false, Option, Some, None, IsSome, IfSome, List, length, take, drop, slice_get, get_or, refl, ap, sym, ◌∙◌, subst, arith, true}
+use Rattle.std.proofs.Common.{◌≡◌, ℕ, zero, suc, ◌+◌, ◌*◌, ◌-◌, ◌/◌, ◌%◌, ◌<◌, ◌≤◌, ◌∷◌, [], false, Option, Some, None, IsSome, IfSome, List, length, take, drop, slice_get, get_or, refl, ap, sym, ◌∙◌, subst, arith, true, Bool, not, if◌then◌else◌}
 use Rattle.std.specs.Option.{option_map, option_map_or, option_and_then}
 use Rattle.std.proofs.lemmas.Option.{slice_get-map}
 use Rattle.entry_codec.specs.Completion.{completion_of}
@@ -113,3 +113,16 @@ pub base-there : (t : Tables) (q i : ℕ) (x : Queue) → lacks_completion (slic
 base-there t q i x there e at =
     let here = completion-at t q i x there e at in
     sym (ap (λ (o : Option HostQueue). option_map_or (λ queue. has_cq queue.state) o false) (host-at t q x here) ∙ completion-live t q x there here)
+
+-- a queue without its completion half has no base
+pub base-gone : (t : Tables) (q : ℕ) → lacks_completion (slice_get t.queues q) ≡ true → (None ≡ completion_base (view_of t) q) × (false ≡ in_state has_cq (alone (view_of t) []) q)
+base-gone t q gone = rw (slice_get-map host_queue_of t.queues q) (go (slice_get t.queues q) gone)
+  where
+    at : (x : Queue) (b : Bool) → not b ≡ true → (None ≡ option_map (λ page. 4096 * page) (slice_get (if b then pages_from x.host.cq (half_pages x.host.entries Completion) else []) 0)) × (false ≡ b)
+    at x true h = cc
+    at x false h = (refl, refl)
+
+    go : (o : Option Queue) → lacks_completion o ≡ true
+        → (None ≡ option_and_then (λ queue. option_map (λ page. 4096 * page) (slice_get queue.cq_pages 0)) (option_map host_queue_of o)) × (false ≡ option_map_or (λ queue. has_cq queue.state) (option_map host_queue_of o) false)
+    go None h = (refl, refl)
+    go (Some x) h = at x (has_cq x.state) h

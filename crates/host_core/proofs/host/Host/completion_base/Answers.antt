@@ -1,11 +1,11 @@
-use Rattle.std.proofs.Common.{◌≡◌, ◌∙◌, ℕ, true, false, [], List, slice_get, ap, subst, sym, Some}
+use Rattle.std.proofs.Common.{arith, None, ◌≡◌, ◌∙◌, ℕ, true, false, [], List, slice_get, ap, subst, sym, Some}
 use Rattle.machine_model.specs.Refusals.{has_cq, in_state}
 use Rattle.host_core.specs.Alone.{HostView, alone}
 use Rattle.host_core.specs.Looks.{completion_base as spec_completion_base}
 use Rattle.host_core.specs.Parts.{tables_of}
 use Rattle.host_core.specs.Reaping.{lacks_completion}
 use Rattle.host_core.specs.Rows.{Queue}
-use Rattle.host_core.proofs.Seen.{base-is, base-there}
+use Rattle.host_core.proofs.Seen.{base-is, base-there, base-gone, completion-inside}
 use Rattle.host_core.proofs.host.Host.completion_base.Goals as goal
 
 pub returns-clause-base : goal.returns-clause-base
@@ -18,3 +18,15 @@ pub returns-clause-there : goal.returns-clause-there
 returns-clause-there g c =
     subst (λ (v : HostView). true ≡ in_state has_cq (alone v []) c.args.q) c.self.view_is
     (base-there (tables_of c.self.inside.parts []) c.args.q c.from.result c.index.result.now (subst (λ (queues : List Queue). lacks_completion (slice_get queues c.args.q) ≡ false) c.deref.ensures.value (sym c.if-has_no_completion.ensures)) c.from.ensures c.index.ensures)
+
+pub returns-then-has_no_completion-clause-base : goal.returns-then-has_no_completion-clause-base
+returns-then-has_no_completion-clause-base g c =
+    subst (λ (v : HostView). None ≡ spec_completion_base v c.args.q) c.self.view_is (base-gone (tables_of c.self.inside.parts []) c.args.q (subst (λ (queues : List Queue). lacks_completion (slice_get queues c.args.q) ≡ true) c.deref.ensures.value (sym c.if-has_no_completion.ensures))).0
+
+pub returns-then-has_no_completion-clause-there : goal.returns-then-has_no_completion-clause-there
+returns-then-has_no_completion-clause-there g c =
+    subst (λ (v : HostView). false ≡ in_state has_cq (alone v []) c.args.q) c.self.view_is (base-gone (tables_of c.self.inside.parts []) c.args.q (subst (λ (queues : List Queue). lacks_completion (slice_get queues c.args.q) ≡ true) c.deref.ensures.value (sym c.if-has_no_completion.ensures))).1
+
+pub index-requires : goal.index-requires
+index-requires g c =
+    omega (arith, c.from.ensures, c.self.inside.parts.queues.ok.0, completion-inside c.self.inside.parts.queues.items c.args.q (subst (λ (queues : List Queue). lacks_completion (slice_get queues c.args.q) ≡ false) c.deref.ensures.value (sym c.if-has_no_completion.ensures)))
