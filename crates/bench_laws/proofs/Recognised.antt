@@ -93,7 +93,7 @@ collects_at t q cid (step.Complete k n) e = absurd cc
 collects_at t q cid (step.Reap k) e = absurd cc
 collects_at t q cid (step.Collect k n) e = of_ticket (list_any (is_ticket k n) t.tickets) e
   where
-    of_ticket : (b : Bool) → (if b then Some (events.Collect k n) else None) ≡ Some (events.Collect q cid) → step.Collect k n ≡ step.Collect q cid
+    of_ticket : (b : Bool) → (if b then Some (events.Collect k n) else None) ≡ Some (events.Collect q cid) → ◌≡◌ {A = Step} (step.Collect k n) (step.Collect q cid)
     of_ticket true e = cc
     of_ticket false e = absurd cc
 collects_at t q cid (step.Gather k n) e = absurd cc

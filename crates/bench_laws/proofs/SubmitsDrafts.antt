@@ -45,7 +45,7 @@ front_zeroed : (xs ys : PagesOut) → zeroed (xs ++ ys) → AllByRecursion (λ p
 front_zeroed [] ys h = tt
 front_zeroed (x ∷ xs) ys h = (All-head (λ (p : ℕ × List ℕ). p.1 ≡ zero_page) x (xs ++ ys) h, front_zeroed xs ys (All-tail (λ (p : ℕ × List ℕ). p.1 ≡ zero_page) x (xs ++ ys) h))
 
-same_queue : {q cid front back k n count chain : ℕ} → reply.Reserved q cid front back ≡ reply.Reserved k n count chain → (k ≡ q) × (n ≡ cid)
+same_queue : {q cid front back k n count chain : ℕ} → ◌≡◌ {A = Reply} (reply.Reserved q cid front back) (reply.Reserved k n count chain) → (k ≡ q) × (n ≡ cid)
 same_queue e = (cc, cc)
 
 abbrev does_reserve : (c : ReservedCommand) → Does c.reservation.before c.reservation.what c.reservation.answer c.reservation.after
