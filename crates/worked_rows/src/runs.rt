@@ -18,10 +18,10 @@ const USUAL: Config = Config {
 
 /// Gives one byte at a time, and then ends or fails.
 #[derive(Drop)]
-struct Slow<'a> {
-    rest: &'a [u8],
-    fails: bool,
-    asked: usize,
+pub(crate) struct Slow<'a> {
+    pub(crate) rest: &'a [u8],
+    pub(crate) fails: bool,
+    pub(crate) asked: usize,
 }
 
 impl Read for Slow<'_> {
@@ -44,9 +44,9 @@ impl Read for Slow<'_> {
 
 /// Takes one byte at a time, so many of them, and then fails.
 #[derive(Drop)]
-struct Narrow {
-    room: usize,
-    taken: Vec<u8>,
+pub(crate) struct Narrow {
+    pub(crate) room: usize,
+    pub(crate) taken: Vec<u8>,
 }
 
 impl Write for Narrow {

@@ -1,5 +1,6 @@
 //! The printed names, and a whole script through the public calls.
 
+use crate::playing::READ_SCRIPT;
 use entry_codec::Status;
 use io_commands::{FillFault, Kind, Piece};
 use page_ledger::{Counts, Owner, Role};
@@ -8,10 +9,6 @@ use script_cli::*;
 use std::alloc::Global;
 use std::test::Fail;
 use step_core::{Bytes, Reaped, Reply, Step};
-
-/// Thirteen lines that read a block.
-const SCRIPT: &str =
-    "reserve 1 read 0 1 0+512\nbuild 1 0\nsubmit 1 0\nring 1\nfetch 1\nwalk 1 0\nwalk 1 0\ncomplete 1 0\nreap 1\ncollect 1 0\ngather 1 0\nowners\nrelease 1 0\n";
 
 /// The first fault of a text, as it is printed.
 fn fault_of(alloc: Global, text: &str) -> Result<String, Fail> {
@@ -61,7 +58,7 @@ fn long_texts(rt: HostRuntime) -> Result<(), Fail> {
 
 #[test]
 fn thirteen_lines(rt: HostRuntime) -> Result<(), Fail> {
-    let Ok(script) = read_script(rt.alloc(), SCRIPT.as_bytes()) else {
+    let Ok(script) = read_script(rt.alloc(), READ_SCRIPT.as_bytes()) else {
         panic!(rt; "a script without faults");
     };
     assert_eq!(rt; script.lines().len(), 13);
