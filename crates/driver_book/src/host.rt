@@ -133,7 +133,7 @@ impl<L: Driver> Book<L> {
     /// As there; `Memory` also where the log cannot grow.
     pub fn abort(&mut self, q: u16, cid: u16) -> Result<u16, Refusal>
         ensures step { Does self.old None (events.Abort q cid) (send_reply result) self.new }
-        ensures memory { WantsMemoryFor (IsLogFull self.old ⊎ MayWorldWant self.old (events.Abort q cid)) (send_reply result) }
+        ensures memory { WantsMemoryFor (IsLogFull self.old) (send_reply result) }
     {
         if self.log.reserve(1).is_err() {
             return Err(Refusal::Memory);
@@ -150,7 +150,7 @@ impl<L: Driver> Book<L> {
     /// As there; `Memory` also where the log cannot grow.
     pub fn delete_sq(&mut self, q: u16) -> Result<u16, Refusal>
         ensures step { Does self.old None (events.DeleteSq q) (send_reply result) self.new }
-        ensures memory { WantsMemoryFor (IsLogFull self.old ⊎ MayWorldWant self.old (events.DeleteSq q)) (send_reply result) }
+        ensures memory { WantsMemoryFor (IsLogFull self.old) (send_reply result) }
     {
         if self.log.reserve(1).is_err() {
             return Err(Refusal::Memory);
@@ -167,7 +167,7 @@ impl<L: Driver> Book<L> {
     /// As there; `Memory` also where the log cannot grow.
     pub fn delete_cq(&mut self, q: u16) -> Result<u16, Refusal>
         ensures step { Does self.old None (events.DeleteCq q) (send_reply result) self.new }
-        ensures memory { WantsMemoryFor (IsLogFull self.old ⊎ MayWorldWant self.old (events.DeleteCq q)) (send_reply result) }
+        ensures memory { WantsMemoryFor (IsLogFull self.old) (send_reply result) }
     {
         if self.log.reserve(1).is_err() {
             return Err(Refusal::Memory);

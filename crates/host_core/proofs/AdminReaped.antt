@@ -11,24 +11,27 @@ use Rattle.io_commands.specs.Jobs.{is_success}
 use Rattle.machine_model.specs.After as a
 use Rattle.machine_model.specs.After.{after_admin, after_reap, change, half_freed, gone}
 use Rattle.machine_model.specs.Events as events
-use Rattle.machine_model.specs.Refusals.{deletes_sq_of, host_queue, is_asked, is_retired, seen_entry, has_sq}
+use Rattle.machine_model.specs.Refusals.{deletes_sq_of, host_queue, is_asked, is_retired, seen_entry, has_cq, has_sq}
 use Rattle.machine_model.specs.State.{State, HostQueue, Record, is_at, record_at, without_record}
 use Rattle.machine_model.specs.Step.{reaped_entry}
 use Rattle.machine_model.specs.declared.words.HostState.{HostState}
-use Rattle.machine_model.specs.declared.words.HostState.TheVariants.{Live, Deleting, Gone}
+use Rattle.machine_model.specs.declared.words.HostState.TheVariants.{Live, Deleting, Retired, Gone}
 use Rattle.machine_model.specs.declared.words.Reaped.TheVariants as found
 use Rattle.machine_model.specs.Work.{Work}
 use Rattle.machine_model.specs.declared.words.Work.TheVariants.{Management}
-use Rattle.page_ledger.specs.Owners.{free_pages, given_back, is_half}
+use Rattle.page_ledger.specs.Lists.{ListsAll}
+use Rattle.page_ledger.specs.Owners.{free_pages, given_back, is_half, pages_from}
 use Rattle.page_memory.specs.declared.page.Half.TheVariants.{Completion}
+use Rattle.queue_pair.specs.Memory.{half_pages}
 use Rattle.queue_pair.specs.Rings.{knowing}
 use Rattle.host_core.specs.Commands.{passes, state_at, without_claim}
 use Rattle.host_core.specs.Exact.{Exactly}
+use Rattle.host_core.specs.Halves.{HasMeant}
 use Rattle.host_core.specs.Reaping.{gives_back, heard, meant, over, state_deleted, with_answer_heard, with_state, without_completion}
 use Rattle.host_core.specs.Tables.{Tables, state_of, host_queue_of, sq_pages_of, cq_pages_of}
-use Rattle.host_core.specs.Whole.{IsWhole, IsQueue, IsRecord, TellsCommand, TellsQueue}
+use Rattle.host_core.specs.Whole.{IsHost, IsWhole, IsQueue, IsRecord, TellsCommand, TellsQueue}
 use Rattle.host_core.specs.Rows.{Queue}
-use Rattle.host_core.proofs.HalvesGiven.{OwnsHalf, commands-told, half-owned, others-told}
+use Rattle.host_core.proofs.HalvesGiven.{OwnsHalf, commands-told, half-listed, half-owned, others-told}
 use Rattle.host_core.proofs.Identifiers.{claim-less}
 use Rattle.host_core.proofs.Lists.{all-filter, found_any, none_is_not, some_is}
 use Rattle.host_core.proofs.Lists as lists
@@ -220,7 +223,22 @@ over-means t w q e (DeleteSq k) ends =
     (λ j y at' same. asked_has_sq y.state (asked-at t w q e.cid k ends.entry ends.was ends.work y (subst (λ (i : ℕ). slice_get t.queues i ≡ Some y) (sym same) at'))) k x at refl
 over-means t w q e (DeleteCq k) ends =
     λ x at. each-over (λ (j : ℕ) (y : Queue). OwnsHalf t.owners (length t.pages) j Completion y) q e.sqhd e.cid t.queues (λ j y h. h) (λ j y h. h)
-    (λ j y at'. half-owned t w j Completion y at') k x at
+    (λ j y at'. half-owned t (length t.pages) w.sound.owners w.owners j Completion y at') k x at
+
+retired-has : (st : HostState) → is_retired st ≡ true → has_cq st ≡ true
+retired-has Live e = refl
+retired-has (Deleting noted) e = refl
+retired-has Retired e = refl
+retired-has Gone e = e
+
+pub over-has : (t : Tables) → IsHost t → (q : ℕ) (e : ComEntry) (kind : AdminKind) → HasMeant kind (over q e.sqhd e.cid t)
+over-has t h q e (Abort k cid) = tt
+over-has t h q e (DeleteSq k) = tt
+over-has t h q e (DeleteCq k) = λ retired.
+    let is = passes-at (over q e.sqhd e.cid t) k retired in
+    let lists = each-over (λ (j : ℕ) (y : Queue). is_retired y.state ≡ true → ListsAll (is_half j Completion) t.owners (pages_from y.host.cq (half_pages t.entries Completion))) q e.sqhd e.cid t.queues
+    (λ j y f. f) (λ j y f. f) (λ j y at r. half-listed t h j Completion y at (retired-has y.state r)) in
+    record { queue = is.queue; at = is.at; lists = lists k is.queue is.at is.retired }
 
 -- The machine's state once it is over
 

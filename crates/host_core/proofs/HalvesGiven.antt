@@ -1,26 +1,33 @@
 -- The pages of a queue's half are those that the table of owners says are its.
-use Rattle.std.proofs.Common.{◌≡◌, ℕ, suc, ◌+◌, ◌<◌, ◌≤◌, ◌==◌, ◌⊎◌, inl, inr, Bool, true, false, ◌&&◌, Option, Some, None, List, [], ◌∷◌, length, map, slice_get, refl, ap, sym, ◌∙◌, arith, subst, eqb-true, eq-eqb, lt-ltb, if◌then◌else◌}
+use Rattle.std.proofs.Common.{◌≡◌, ℕ, suc, ◌+◌, ◌<◌, ◌≤◌, ◌==◌, ◌⊎◌, inl, inr, Bool, true, false, ◌&&◌, Option, Some, None, List, [], ◌∷◌, length, map, get_or, slice_get, refl, ap, sym, ◌∙◌, arith, subst, eqb-true, eq-eqb, lt-ltb, if◌then◌else◌}
 use Rattle.std.specs.List.{AllByRecursion}
 use Rattle.std.specs.Option.{option_map, option_map_or}
 use Rattle.std.proofs.lemmas.Bool.{true≢false, cases_lt, ne_eqb}
-use Rattle.std.proofs.lemmas.Option.{slice_get-map}
+use Rattle.std.proofs.lemmas.Option.{slice_get-map, slice_get_within}
+use Rattle.machine_model.specs.Claims.{HasOneOwner}
+use Rattle.machine_model.specs.Refusals.{has_cq, has_sq}
+use Rattle.machine_model.specs.declared.words.HostState.{HostState}
 use Rattle.machine_model.specs.State.{Record}
 use Rattle.machine_model.specs.Step.{times}
 use Rattle.machine_model.proofs.Counting.{one}
-use Rattle.machine_model.proofs.Owned.{in_record, in_queue, owned}
+use Rattle.machine_model.proofs.Owned.{in_record, in_queue, owned, owned_is}
 use Rattle.machine_model.proofs.Totals.{total}
-use Rattle.page_ledger.specs.Owners.{is_among, is_half, is_same_half, is_owned_at, owner_at, given_back}
+use Rattle.page_ledger.specs.Owners.{is_among, is_half, is_same_half, is_owned_at, owner_at, given_back, pages_from}
+use Rattle.page_ledger.specs.Lists.{ListsAll}
+use Rattle.queue_pair.specs.Memory.{half_pages}
 use Rattle.page_ledger.specs.declared.owner.Owner.{Owner}
 use Rattle.page_ledger.specs.declared.owner.Owner.TheVariants.{Free, Queue, Command}
 use Rattle.page_ledger.specs.declared.owner.Role.{Role}
 use Rattle.page_memory.specs.declared.page.Half.{Half}
 use Rattle.page_memory.specs.declared.page.Half.TheVariants.{Submission, Completion}
-use Rattle.host_core.specs.Tables.{Tables, state_of, host_queue_of, sq_pages_of, cq_pages_of}
-use Rattle.host_core.specs.Whole.{IsWhole, TellsCommand, TellsQueue}
+use Rattle.queue_pair.specs.Rings.{first_page_of}
+use Rattle.host_core.specs.Halves.{HasHalf}
+use Rattle.host_core.specs.Tables.{Tables, state_of, view_of, host_queue_of, sq_pages_of, cq_pages_of}
+use Rattle.host_core.specs.Whole.{IsHost, Tells, TellsCommand, TellsQueue}
 use Rattle.host_core.specs.Rows as declared
 use Rattle.host_core.proofs.Lists.{some_is, none_is_not}
 use Rattle.host_core.proofs.Owners.{command-owner, free-owner}
-use Rattle.host_core.proofs.Pages.{times-some, owned-once}
+use Rattle.host_core.proofs.Pages.{times-at, times-some}
 
 abbrev pub half_of : Half → declared.Queue → List ℕ
 half_of Submission x = sq_pages_of x
@@ -81,18 +88,19 @@ self-half : (a : Half) → is_same_half a a ≡ true
 self-half Submission = refl
 self-half Completion = refl
 
-pub half-owned : (t : Tables) → IsWhole t → (q : ℕ) (half : Half) (x : declared.Queue) → slice_get t.queues q ≡ Some x → OwnsHalf t.owners (length t.pages) q half x
-half-owned t w q half x at p l = go (owner_at t.owners p) refl (is_among (half_of half x) p) refl
+half-told : (owners : List Owner) (q : ℕ) (half : Half) (x : declared.Queue) → TellsQueue owners q x → (p : ℕ) → is_among (half_of half x) p ≡ true → owner_at owners p ≡ Some (Queue q half)
+half-told owners q Submission x tells = tells.submission
+half-told owners q Completion x tells = tells.completion
+
+pub half-owned : (t : Tables) (n : ℕ) → HasOneOwner n (view_of t).host → Tells t.owners t.queues t.records → (q : ℕ) (half : Half) (x : declared.Queue) → slice_get t.queues q ≡ Some x
+    → OwnsHalf t.owners n q half x
+half-owned t n owned-by tells q half x at p l = go (owner_at t.owners p) refl (is_among (half_of half x) p) refl
   where
-    mine : TellsQueue t.owners q x
-    mine = w.owners.queues_told q x at
+    told : is_among (half_of half x) p ≡ true → owner_at t.owners p ≡ Some (Queue q half)
+    told = half-told t.owners q half x (tells.queues_told q x at) p
 
-    told : (h : Half) → is_among (half_of h x) p ≡ true → owner_at t.owners p ≡ Some (Queue q h)
-    told Submission e = mine.submission p e
-    told Completion e = mine.completion p e
-
-    once : owned p (state_of t).host ≡ 1
-    once = owned-once (state_of t) w.sound p ∙ ap one (lt-ltb p (length t.pages) l)
+    once : owned p (view_of t).host ≡ 1
+    once = sym (owned_is p (view_of t).host) ∙ (owned-by p ∙ ap one (lt-ltb p n l))
 
     both : (u v : Bool) → u ≡ true → v ≡ true → (u && v) ≡ true
     both true v a b = b
@@ -106,20 +114,20 @@ half-owned t w q half x at p l = go (owner_at t.owners p) refl (is_among (half_o
             → is_among (half_of half x) p ≡ true
         where-it-is (inl f) c = let e : Queue q half ≡ Free = some_is (sym o ∙ free-owner t.owners p f) in absurd cc
         where-it-is (inr f) (inl c) =
-            let s = half-at t.owners t.queues 0 p (λ k queue e. let same : k ≡ 0 + k = omega arith in subst (λ (j : ℕ). TellsQueue t.owners j queue) same (w.owners.queues_told k queue e)) c in
+            let s = half-at t.owners t.queues 0 p (λ k queue e. let same : k ≡ 0 + k = omega arith in subst (λ (j : ℕ). TellsQueue t.owners j queue) same (tells.queues_told k queue e)) c in
             let e : Queue q half ≡ Queue (0 + s.place) s.half = some_is (sym o ∙ s.owner) in
             let eh : s.half ≡ half = cc in
             let eq : s.place ≡ q = let e' : q ≡ 0 + s.place = cc in omega (arith, e') in
             let same : s.queue ≡ x = some_is (sym s.at ∙ (ap (λ (j : ℕ). slice_get t.queues j) eq ∙ at)) in
             subst (λ (h : Half). is_among (half_of h x) p ≡ true) eh (subst (λ (y : declared.Queue). is_among (half_of s.half y) p ≡ true) same s.among)
         where-it-is (inr f) (inr c) =
-            let r = record-owner t.owners t.records w.owners.commands_told p (omega (arith, once)) in
+            let r = record-owner t.owners t.records tells.commands_told p (omega (arith, once)) in
             let e : Queue q half ≡ Command r.0 r.1 r.2 = some_is (sym o ∙ r.3) in absurd cc
 
     go : (o : Option Owner) → owner_at t.owners p ≡ o → (b : Bool) → is_among (half_of half x) p ≡ b → option_map_or (is_half q half) o false ≡ b
-    go None o true e = absurd (none_is_not (sym o ∙ told half e))
+    go None o true e = absurd (none_is_not (sym o ∙ told e))
     go None o false e = refl
-    go (Some y) o true e = let same : y ≡ Queue q half = some_is (sym o ∙ told half e) in ap (is_half q half) same ∙ both (q == q) (is_same_half half half) (eq-eqb q q refl) (self-half half)
+    go (Some y) o true e = let same : y ≡ Queue q half = some_is (sym o ∙ told e) in ap (is_half q half) same ∙ both (q == q) (is_same_half half half) (eq-eqb q q refl) (self-half half)
     go (Some Free) o false e = refl
     go (Some (Command k i role)) o false e = refl
     go (Some (Queue k h)) o false e = no (k == q) (is_same_half h half) refl refl
@@ -130,6 +138,32 @@ half-owned t w q half x at p l = go (owner_at t.owners p) refl (is_among (half_o
         no true true a b =
             let here : owner_at t.owners p ≡ Some (Queue q half) = subst (λ (g : Half). owner_at t.owners p ≡ Some (Queue q g)) (same-half h half b) (subst (λ (j : ℕ). owner_at t.owners p ≡ Some (Queue j h)) (eqb-true k q a) o) in
             absurd (true≢false (sym (among here) ∙ e))
+
+-- A half that is there has the pages from its first on.
+
+abbrev pub has_half : Half → HostState → Bool
+has_half Submission state = has_sq state
+has_half Completion state = has_cq state
+
+half-from : (half : Half) (x : declared.Queue) → has_half half x.state ≡ true → half_of half x ≡ pages_from (first_page_of half x.host) (half_pages x.host.entries half)
+half-from Submission x live = rw live refl
+half-from Completion x live = rw live refl
+
+pub half-listed : (t : Tables) → IsHost t → (q : ℕ) (half : Half) (x : declared.Queue) → slice_get t.queues q ≡ Some x → has_half half x.state ≡ true
+    → ListsAll (is_half q half) t.owners (pages_from (first_page_of half x.host) (half_pages t.entries half))
+half-listed t h q half x at live =
+    let pages = half-from half x live ∙ ap (λ (n : ℕ). pages_from (first_page_of half x.host) (half_pages n half)) (h.rings.each q x at).entries in
+    let told = half-told t.owners q half x (h.table.owners.queues_told q x at) in
+    subst (λ (ps : List ℕ). ListsAll (is_half q half) t.owners ps) pages
+    (record {
+      within = λ i d l.
+          let p : ℕ = get_or (half_of half x) i d in
+          slice_get_within t.owners p (Queue q half) (told p (times-some p (half_of half x) (times-at (half_of half x) i d l)));
+      lists = λ p l. sym (half-owned t (length t.owners) h.sound.owners h.table.owners q half x at p l);
+    })
+
+pub half-there : (t : Tables) → IsHost t → (q : ℕ) (half : Half) (x : declared.Queue) → slice_get t.queues q ≡ Some x → has_half half x.state ≡ true → HasHalf t q half
+half-there t h q half x at live = record { queue = x; at = at; lists = half-listed t h q half x at live }
 
 -- what is not the half's keeps its owner
 pub owner-stays : (owners : List Owner) (named : Owner → Bool) (p : ℕ) (x : Owner) → named x ≡ false → owner_at owners p ≡ Some x → owner_at (given_back named owners) p ≡ Some x

@@ -26,15 +26,16 @@ use Rattle.page_ledger.specs.declared.owner.Owner.TheVariants as owner
 use Rattle.page_memory.specs.declared.page.Half.TheVariants.{Submission, Completion}
 use Rattle.host_core.specs.Commands.{passes, state_at}
 use Rattle.host_core.specs.Exact.{Exactly}
+use Rattle.host_core.specs.Halves.{HasHalf}
 use Rattle.host_core.specs.Reaping.{seen_at, with_state}
 use Rattle.host_core.specs.Retiring.{retired, with_lost}
 use Rattle.host_core.specs.Tables.{Tables, state_of, host_queue_of, sq_pages_of, cq_pages_of}
-use Rattle.host_core.specs.Whole.{IsWhole, IsQueue, IsRecord, ClaimsIdentifiers, FitsWork, TellsCommand, TellsQueue}
+use Rattle.host_core.specs.Whole.{IsHost, IsWhole, IsQueue, IsRecord, ClaimsIdentifiers, FitsWork, TellsCommand, TellsQueue}
 use Rattle.host_core.specs.Rows.{Queue}
 use Rattle.machine_model.specs.Step.{Step}
 use Rattle.host_core.proofs.Ending.{Finishes}
 use Rattle.host_core.proofs.Granting.{in_state-is}
-use Rattle.host_core.proofs.HalvesGiven.{commands-told, half-owned, others-told, owner-stays}
+use Rattle.host_core.proofs.HalvesGiven.{commands-told, half-owned, half-there, others-told, owner-stays}
 use Rattle.host_core.proofs.Lists.{all-map, any-map, some_is}
 use Rattle.host_core.proofs.Owners.{given-free}
 use Rattle.host_core.proofs.QueueLists.{each-change, map-change}
@@ -65,7 +66,7 @@ retired-state t w q x r =
     ap (λ (hs : List HostQueue). with_free (free_pages (given_back (is_half q Submission) t.owners)) hs)
     (map-change host_queue_of (with_state Retired) a.retired q t.queues (λ y at. host-retired y (subst (λ (z : Queue). has_cq z.state ≡ true) (same-at t q x y r at) (there t q x r))))
     ∙ (ap (λ (free : List ℕ). with_free free (change q a.retired (map host_queue_of t.queues)))
-    (given-free t.owners (is_half q Submission) (length t.pages) (sq_pages_of x) (sym w.table) (half-owned t w q Submission x r.at))
+    (given-free t.owners (is_half q Submission) (length t.pages) (sq_pages_of x) (sym w.table) (half-owned t (length t.pages) w.sound.owners w.owners q Submission x r.at))
     ∙ ap (λ (o : Option HostQueue). option_map_or (λ (queue : HostQueue). a.on_host_queue q a.retired (a.given_back queue.sq_pages (state_of (with_lost q t)))) o (state_of (with_lost q t)))
     (sym (host-at t q x r.at)))
   where
@@ -215,6 +216,13 @@ retires t q deleted drained = go (slice_get t.queues q) refl deleted
     go : (o : Option Queue) → slice_get t.queues q ≡ o → passes is_deleted (option_map (λ (queue : Queue). queue.state) o) ≡ true → (x : Queue) × Retires t q x
     go None at h = cc
     go (Some x) at h = (x, record { at = at; deleted = h; drained = drained })
+
+pub retire-half : (t : Tables) → IsHost t → (q : ℕ) → passes is_deleted (state_at t.queues q) ≡ true → HasHalf t q Submission
+retire-half t h q deleted = go (slice_get t.queues q) refl deleted
+  where
+    go : (o : Option Queue) → slice_get t.queues q ≡ o → passes is_deleted (option_map (λ (queue : Queue). queue.state) o) ≡ true → HasHalf t q Submission
+    go None at d = cc
+    go (Some x) at d = half-there t h q Submission x at (deleted_has_sq x.state d)
 
 pub retire-made : (t new : Tables) → IsWhole t → (q : ℕ) → passes is_deleted (state_at t.queues q) ≡ true → seen_at t q ≡ None → new ≡ retired q t → Finishes t new (events.Retire q)
 retire-made t new w q deleted drained is =

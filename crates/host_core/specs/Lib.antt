@@ -13,6 +13,7 @@ pub mod Reaping
 pub mod Retiring
 pub mod Ringing
 pub mod Looks
+pub mod Halves
 pub mod Laws
 pub mod Worked
 pub mod Sending

@@ -8,6 +8,7 @@ ghost use Rattle.page_memory.specs.Pages.{Pages};
 ghost use Rattle.queue_pair.specs.Slots.{is_in_range};
 ghost use Rattle.host_core.specs.Alone.{HostStep, HostView, IsOver};
 ghost use Rattle.host_core.specs.Commands.{Claims};
+ghost use Rattle.host_core.specs.Halves.{HasHalf, HasMeant};
 ghost use Rattle.host_core.specs.Parts.{tables_of, Becomes, Over};
 ghost use Rattle.host_core.specs.Reaping.{consumed, ended_with, heard, lacks_completion, meant, over, seen_at, state_deleted, with_answer_heard, with_answer_taken, without_completion, Answered, FitsHead, ReapsTo};
 ghost use Rattle.host_core.specs.Replies.{reap_reply};
@@ -24,7 +25,7 @@ use admin_commands::AdminKind;
 use entry_codec::{ComEntry, Status};
 use machine_model::words::{HostState, Reaped, Refusal, RejectedFor};
 use page_memory::{Half, Store};
-use queue_pair::HostPair;
+use queue_pair::{HostPair, half_pages};
 use std::alloc::Allocator;
 
 /// What a reap answers.
@@ -137,14 +138,20 @@ impl<A: Allocator> Parts<A> {
 
     /// Gives a queue's completion half back.
     fn give_back_completion(&mut self, q: u16)
+        requires { HasHalf (tables_of self.old []) q Half.Completion }
         ensures { Becomes self.old (without_completion q) self.new }
     {
-        self.ledger.give_back_half(q, Half::Completion);
+        let pages = half_pages(self.entries, Half::Completion);
+        let first = self.queues[usize::from(q)]
+            .host
+            .first_page(Half::Completion);
+        self.ledger.give_back_run(q, Half::Completion, first, pages);
         note(&mut self.queues, q, HostState::Gone);
     }
 
     /// Does what the end of an admin command means for the queue that it names.
     fn apply(&mut self, kind: AdminKind, status: Status)
+        requires { HasMeant kind (tables_of self.old []) }
         ensures { Becomes self.old (meant kind status) self.new }
     {
         match kind {

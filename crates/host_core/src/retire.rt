@@ -3,6 +3,7 @@
 ghost use Rattle.std.specs.Prelude.{◌≡◌, [], false, slice_get};
 ghost use Rattle.machine_model.specs.Events as events;
 ghost use Rattle.host_core.specs.Alone.{HostStep, IsOver};
+ghost use Rattle.host_core.specs.Halves.{HasHalf};
 ghost use Rattle.host_core.specs.Parts.{tables_of, Becomes};
 ghost use Rattle.host_core.specs.Reaping.{lacks_completion, seen_at};
 ghost use Rattle.host_core.specs.Replies.{ring_reply};
@@ -15,6 +16,7 @@ use crate::queues::{host_state, is_deleted, note};
 use entry_codec::ComEntry;
 use machine_model::words::{HostState, Refusal};
 use page_memory::{Half, Store, TouchRecord};
+use queue_pair::half_pages;
 use std::alloc::Allocator;
 
 impl<A: Allocator> Parts<A> {
@@ -43,15 +45,21 @@ impl<A: Allocator> Parts<A> {
 
     /// Gives a queue's submission half back.
     fn give_back_submission(&mut self, q: u16)
+        requires { HasHalf (tables_of self.old []) q Half.Submission }
         ensures { Becomes self.old (without_submission q) self.new }
     {
-        self.ledger.give_back_half(q, Half::Submission);
+        let pages = half_pages(self.entries, Half::Submission);
+        let first = self.queues[usize::from(q)]
+            .host
+            .first_page(Half::Submission);
+        self.ledger.give_back_run(q, Half::Submission, first, pages);
         note(&mut self.queues, q, HostState::Retired);
     }
 
     /// Retires a queue whose deletion has ended and whose completions are all reaped.
     fn commit_retire(&mut self, q: u16)
-        requires { IsHost (tables_of self.old []) }
+        requires host { IsHost (tables_of self.old []) }
+        requires half { HasHalf (tables_of self.old []) q Half.Submission }
         ensures { Becomes self.old (retired q) self.new }
     {
         self.lose_commands(q);

@@ -61,7 +61,7 @@ pub fn law_of_provisions()
     ensures runs { every_run_provides }
 {}
 
-/// Where nothing was forged, each admin command stands at the controller once, and only while it is outstanding.
+/// Where nothing was forged, each admin command stands at the controller at most once, and only while it is outstanding.
 ///
 /// It is then not yet fetched, or a job, or answered.
 pub fn law_of_places()
@@ -176,7 +176,7 @@ pub fn law_of_built_drafts()
     laws_of_built_drafts();
 }
 
-/// Where nothing was forged no ring is full and no page of a queue is out, so no event is refused for want of room in a ring.
+/// Where nothing was forged, no event is refused because a ring is full, or because a page of a queue is out.
 pub fn law_of_room()
     ensures { rings_are_never_full }
 {}

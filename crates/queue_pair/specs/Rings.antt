@@ -1,5 +1,7 @@
 -- What each side of a queue pair knows of its two rings.
 use Rattle.std.specs.Prelude.{◌≡◌, ℕ, ◌+◌, ◌<◌, ◌≤◌, ◌==◌, Bool, true, false, not, List, length, replicate, if◌then◌else◌}
+use Rattle.page_memory.specs.declared.page.Half.{Half}
+use Rattle.page_memory.specs.declared.page.Half.TheVariants.{Submission, Completion}
 use Rattle.queue_pair.specs.Slots.{next_slot}
 
 -- the host: where it reads the completion ring and which phase a new entry has there; the submission head that it was
@@ -28,6 +30,11 @@ pub record HostSide : Type 0 where
   pub cq : ℕ
   pub ring : HostRing
   pub claimed : List Bool
+
+-- the first page of a half
+abbrev pub first_page_of : Half → HostSide → ℕ
+first_page_of Submission side = side.sq
+first_page_of Completion side = side.cq
 
 pub record DeviceSide : Type 0 where
   pub q : ℕ

@@ -4,7 +4,7 @@ ghost use Rattle.std.specs.Prelude.{◌≡◌, ◌≢◌, ◌+◌, ◌-◌, ◌<
 ghost use Rattle.page_memory.specs.Memory.{Memory, written};
 ghost use Rattle.entry_codec.specs.Submission.{submission_bytes, FitsSubmission};
 ghost use Rattle.queue_pair.specs.Slots.{is_full, is_in_range};
-ghost use Rattle.queue_pair.specs.Rings.{DeviceSide, IsHostSide, IsDeviceSide, fresh_host_ring, next_tail, next_head, knowing, none_claimed};
+ghost use Rattle.queue_pair.specs.Rings.{DeviceSide, IsHostSide, IsDeviceSide, first_page_of, fresh_host_ring, next_tail, next_head, knowing, none_claimed};
 ghost use Rattle.queue_pair.specs.Memory.{submission_place, completion_place, submission_page, completion_page, submission_slot, completion_slot, completion_at, new_completion_at};
 ghost use Rattle.queue_pair.specs.Lists.{unfetched, answers, front, IsPair, HasPhases, AreTied};
 
@@ -13,7 +13,7 @@ use crate::image::submission_image;
 use crate::slots::{completion_address, lies_between, phase_after, slot_after, submission_address};
 use bit_list::BitList;
 use entry_codec::{ComEntry, SubEntry};
-use page_memory::{Dma, PageNo};
+use page_memory::{Dma, Half, PageNo};
 use std::alloc::{AllocError, Allocator, Global};
 use std::marker::Model;
 
@@ -123,6 +123,16 @@ impl<A: Allocator> HostPair<A> {
         ensures proper { IsHostSide self.now }
     {
         self.head
+    }
+
+    /// The first page of a half.
+    pub fn first_page(&self, half: Half) -> PageNo
+        ensures { result ≡ first_page_of half self.now }
+    {
+        match half {
+            Half::Submission => self.sq,
+            Half::Completion => self.cq,
+        }
     }
 
     /// The address of a slot of the completion ring.

@@ -1,4 +1,4 @@
-//! A table of records by queue and identifier, in which every call but the opening takes no memory and constant time.
+//! A table of records by queue and identifier, in which every call but the opening takes no memory and has no loop.
 //!
 //! A [`SlotTable`] has so many places for each of its queues, one for each identifier, and each place holds a record or is empty.
 //! The records stand in one list through all queues, in the order in which they were put.

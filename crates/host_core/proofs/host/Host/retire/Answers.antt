@@ -11,7 +11,7 @@ use Rattle.host_core.specs.Tables.{Tables, view_of}
 use Rattle.host_core.specs.Whole.{IsWhole}
 use Rattle.host_core.proofs.Calls.{whole_at, step_at, stays_at}
 use Rattle.host_core.proofs.Keeping.{host_of, over_of}
-use Rattle.host_core.proofs.Retired.{retire-made, retire-drained}
+use Rattle.host_core.proofs.Retired.{retire-half, retire-made, retire-drained}
 use Rattle.host_core.proofs.host.Host.retire.Goals as goal
 
 pub see-requires-clause-whole : goal.see-requires-clause-whole
@@ -26,6 +26,12 @@ returns-in-Some-clause-step g c =
     ap (passes is_deleted) (sym (c.host_state.ensures ∙ ap (λ (qs : List Queue). state_at qs c.args.q) c.deref.ensures.value)) ∙ (sym c.is_deleted.ensures ∙ c.if-not-is_deleted.false) in
     subst (λ (pages : Pages). HostStep c.args.self.now c.args.store.now.pages (events.Retire c.args.q) (events.Refused refusal.NotDrained []) c.args.self.now pages) (sym c.see.ensures.same)
     (stays_at t c.args.self.now (events.Retire c.args.q) (events.Refused refusal.NotDrained []) c.self.view_is (retire-drained t c.args.q c.in-Some.field-0 deleted c.in-Some.ensures.seen))
+
+pub commit_retire-requires-clause-half : goal.commit_retire-requires-clause-half
+commit_retire-requires-clause-half g c =
+    let t : Tables = tables_of c.self.inside.parts [] in
+    retire-half t c.self.invariant c.args.q
+    (ap (passes is_deleted) (sym (c.host_state.ensures ∙ ap (λ (qs : List Queue). state_at qs c.args.q) c.deref.ensures.value)) ∙ (sym c.is_deleted.ensures ∙ c.if-not-is_deleted.false))
 
 pub invariant_of-self : goal.invariant_of-self
 invariant_of-self g c =

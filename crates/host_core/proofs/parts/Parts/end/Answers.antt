@@ -1,7 +1,9 @@
-use Rattle.std.proofs.Common.{[], Some, length, ap, subst, ◌∙◌}
+use Rattle.std.proofs.Common.{[], Some, length, ap, sym, subst, ◌∙◌}
+use Rattle.host_core.specs.Halves.{HasMeant}
 use Rattle.host_core.specs.Parts.{tables_of}
 use Rattle.host_core.specs.Reaping.{meant, over, Answered}
 use Rattle.host_core.specs.Tables.{Tables}
+use Rattle.host_core.proofs.AdminReaped.{over-has}
 use Rattle.host_core.proofs.ReapSteps.{answered-claims, heard-many, looks, meant-many, over-many, reaps-admin, reaps-done}
 use Rattle.host_core.proofs.Seen.{completion-inside}
 use Rattle.host_core.proofs.parts.Parts.end.Goals as goal
@@ -18,6 +20,10 @@ returns-in-None-clause-many g c = ap (λ (u : Tables). length u.queues) (c.hold_
 pub end_command-requires-clause-claimed : goal.end_command-requires-clause-claimed
 end_command-requires-clause-claimed g c =
     answered-claims (tables_of c.args.self.now []) c.requires.host.table.identifiers c.args.q c.args.entry c.args.kind (c.requires.answered [])
+
+pub apply-requires : goal.apply-requires
+apply-requires g c =
+    subst (λ (u : Tables). HasMeant c.in-Some.kind u) (sym (c.end_command.ensures [])) (over-has (tables_of c.args.self.now []) c.requires.host c.args.q c.args.entry c.in-Some.kind)
 
 pub returns-in-Some-clause-reaps : goal.returns-in-Some-clause-reaps
 returns-in-Some-clause-reaps g c = λ pages w seen.

@@ -1,7 +1,7 @@
 use Rattle.std.proofs.Common.{◌<◌, ◌==◌, length, ◌∙◌, arith}
 use Rattle.std.proofs.lemmas.List.Elements.{All-append}
 use Rattle.std.proofs.lemmas.List.Folds.{list_any-append}
-use Rattle.codec_tests.proofs.holes.see_command.Goals as goal
+use Rattle.ledger_tests.proofs.holes.see_command.Goals as goal
 
 pub returns : goal.returns
 returns g c = record {

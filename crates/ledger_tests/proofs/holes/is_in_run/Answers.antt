@@ -3,7 +3,7 @@ use Rattle.std.proofs.lemmas.Bool.{cases_lt, eq-eqb, ne_eqb, lt-leb, lt-ltb, le-
 use Rattle.std.proofs.lemmas.List.Folds.{list_any_at, list_any_none}
 use Rattle.page_ledger.specs.Owners.{is_among, pages_from}
 use Rattle.page_ledger.proofs.Pages.{length-pages_from, get_or-pages_from}
-use Rattle.codec_tests.proofs.holes.is_in_run.Goals as goal
+use Rattle.ledger_tests.proofs.holes.is_in_run.Goals as goal
 
 among : (first k p : ℕ) → first ≤ p → p < first + k → is_among (pages_from first k) p ≡ true
 among first k p low high =

@@ -1,6 +1,6 @@
 use Rattle.std.proofs.Common.{◌≡◌, ◌<◌, ◌||◌, ℕ, length, get_or}
 use Rattle.page_ledger.specs.Owners.{is_among, is_command, is_owned_at}
-use Rattle.codec_tests.proofs.holes.see_command.Given as goal
+use Rattle.ledger_tests.proofs.holes.see_command.Given as goal
 
 abbrev pub invariant-loop-data_page : goal.invariant-loop-data_page
 invariant-loop-data_page g l = (k d : ℕ) → k < l.data_page-index → get_or l.data_pages k d < length l.ledger

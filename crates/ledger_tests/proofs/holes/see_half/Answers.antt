@@ -1,6 +1,6 @@
 use Rattle.std.proofs.Common.{◌<◌, ℕ, length, arith}
 use Rattle.page_ledger.proofs.Pages.{length-pages_from, get_or-pages_from}
-use Rattle.codec_tests.proofs.holes.see_half.Goals as goal
+use Rattle.ledger_tests.proofs.holes.see_half.Goals as goal
 
 pub returns : goal.returns
 returns g c = record {
