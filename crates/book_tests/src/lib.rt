@@ -10,4 +10,6 @@ mod closing;
 #[cfg(test)]
 mod forging;
 #[cfg(test)]
+mod growths;
+#[cfg(test)]
 mod row;

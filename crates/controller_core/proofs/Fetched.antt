@@ -1,15 +1,17 @@
 -- What a fetch keeps, and what it makes of what it looked at.
-use Rattle.std.proofs.Common.{◌≡◌, ◌≢◌, ℕ, zero, suc, ◌+◌, ◌<◌, ◌==◌, ◌||◌, not, nat_lt, Bool, true, false, cond, Option, Some, None, IfNone, IfSome, is_none, is_some, Result, Ok, Err, List, [], ◌∷◌, ◌++◌, length, find, get_or, slice_get, slice_set, if◌then◌else◌, refl, ap, ap₂, sym, ◌∙◌, arith, subst, eqb-true}
+use Rattle.std.proofs.Common.{◌≡◌, ◌≢◌, ℕ, zero, suc, ◌+◌, ◌<◌, ◌==◌, ◌||◌, not, nat_lt, Bool, true, false, cond, Option, Some, None, is_none, is_some, Result, Ok, Err, List, [], ◌∷◌, ◌++◌, length, find, get_or, slice_get, slice_set, if◌then◌else◌, refl, ap, ap₂, sym, ◌∙◌, arith, subst, eqb-true}
 use Rattle.std.specs.List.{count_by}
+use Rattle.std.specs.Option.{option_copied}
+use Rattle.std.specs.Borrow.{Bor}
 use Rattle.std.proofs.lemmas.Bool.{true≢false}
 use Rattle.block_image.specs.Blocks.{block_count}
 use Rattle.entry_codec.specs.declared.status.TheConstants.Status.{INVALID_OPCODE, INVALID_NAMESPACE, INVALID_FIELD, LBA_OUT_OF_RANGE}
 use Rattle.entry_codec.specs.declared.submission.SubEntry.{SubEntry}
 use Rattle.io_commands.specs.Jobs.{JobContents, io_fault, kind_of_opcode, block_number, first_block}
-use Rattle.controller_core.specs.Contents.{change, Contents, IsController, AreCommands, FitsCommand, FitsWork, FitsVerdict, is_command, entry_of_work, FetchedCommand}
+use Rattle.controller_core.specs.Contents.{change, Contents, IsController, AreAwaited, AreCommands, FitsCommand, FitsWork, FitsVerdict, is_command, entry_of_work, FetchedCommand}
 use Rattle.controller_core.specs.declared.refusal.Refusal.{Refusal}
 use Rattle.page_memory.specs.Memory.{Memory}
-use Rattle.std.specs.Result.{OnOk}
+use Rattle.std.specs.Result.{OnOk, OnErr}
 use Rattle.entry_codec.specs.declared.status.TheConstants.Status.{COMMAND_ID_CONFLICT}
 use Rattle.controller_core.specs.Answering.{answer_refusal, completion_by, memory_posted, page_posted, with_answer}
 use Rattle.controller_core.specs.Fetching.{IsBegun, Begins, AnswersKnown, LooksAt, FetchesTo, Takes, TakesIn, is_known, live_side}
@@ -17,12 +19,13 @@ use Rattle.queue_pair.specs.Rings.{DeviceSide}
 use Rattle.controller_core.specs.Managing.{with_taken, command_of, managed}
 use Rattle.controller_core.specs.declared.command.Work.TheVariants.{Io}
 use Rattle.controller_core.specs.declared.queue.ControllerQueue.{ControllerQueue}
+use Rattle.controller_core.proofs.Awaited.{awaited_more}
 use Rattle.controller_core.proofs.Lists.{count-cons, one, all-append, length-change, get-at, change-at}
 use Rattle.controller_core.proofs.Ready.{both_parts}
 
 -- Commands that are counted
 
-count-more : {A : Type 0} (p : A → Bool) (xs : List A) (y : A) → count_by p (xs ++ y ∷ []) ≡ count_by p xs + one (p y)
+pub count-more : {A : Type 0} (p : A → Bool) (xs : List A) (y : A) → count_by p (xs ++ y ∷ []) ≡ count_by p xs + one (p y)
 count-more p [] y = omega (arith, count-cons p y [])
 count-more p (x ∷ xs) y = omega (arith, count-cons p x xs, count-cons p x (xs ++ y ∷ []), count-more p xs y)
 
@@ -77,6 +80,7 @@ begun_kept c q e job queues commands is io there free begun eq ec =
           (commands-with (block_count c.image) (length c.queues) c.commands (command_of q (Io job)) is.commands there
           (io, begun.blocks, subst FitsVerdict (sym begun.verdict) (fault_fits (block_count c.image) e), omega (arith, begun.left))
           (subst (λ (x : SubEntry). count_by (is_command q x.cid) c.commands ≡ 0) (sym begun.entry) (none_found (is_command q e.cid) c.commands (not_some (find (is_command q e.cid) c.commands) free)))));
+      awaited = subst AreAwaited (sym ec) (awaited_more c.commands (command_of q (Io job)) is.awaited refl);
     }
 
 pub begun_in : (v c : Contents) (q : ℕ) (e : SubEntry) (job : JobContents) (k : FetchedCommand) (queues : List ControllerQueue) (before commands : List FetchedCommand) → v ≡ c → IsController v → (q == 0) ≡ false → q < length c.queues → is_some (find (is_command q e.cid) c.commands) ≡ false
@@ -85,8 +89,19 @@ begun_in v c q e job k queues before commands same is io there free begun eq eb 
     begun_kept v q e job queues commands is io (subst (λ (x : Contents). q < length x.queues) (sym same) there) (subst (λ (x : Contents). is_some (find (is_command q e.cid) x.commands) ≡ false) (sym same) free)
     begun eq (ec ∙ ap₂ (λ (xs : List FetchedCommand) (x : FetchedCommand). xs ++ x ∷ []) eb ek)
 
+pub begun_unknown : (commands : List FetchedCommand) (q : ℕ) (e : SubEntry) (job : JobContents) (k : FetchedCommand) → job.entry ≡ e → k ≡ command_of q (Io job) → is_some (find (is_command q e.cid) commands) ≡ false
+    → is_some (find (is_command k.q (entry_of_work k.work).cid) commands) ≡ false
+begun_unknown commands q e job k ee ek free =
+    subst (λ (x : FetchedCommand). is_some (find (is_command x.q (entry_of_work x.work).cid) commands) ≡ false) (sym ek)
+    (subst (λ (x : SubEntry). is_some (find (is_command q x.cid) commands) ≡ false) (sym ee) free)
+
+-- what holds anyhow holds where a call was refused
+pub on_err : {X E : Type 0} {P : Type 0} (r : Result X E) → P → OnErr r P
+on_err (Ok x) p = tt
+on_err (Err e) p = p
+
 pub count_kept : (c : Contents) (queues : List ControllerQueue) → IsController c → length queues ≡ length c.queues → IsController (record { queues = queues; commands = c.commands; image = c.image })
-count_kept c queues is e = record { commands = subst (λ (n : ℕ). AreCommands (block_count c.image) n c.commands) (sym e) is.commands }
+count_kept c queues is e = record { commands = subst (λ (n : ℕ). AreCommands (block_count c.image) n c.commands) (sym e) is.commands; awaited = is.awaited }
 
 pub answers_by : (result : Result (Unit {0}) Refusal) (queues : List ControllerQueue) (q i cid : ℕ) (m m' : Memory) (reached reached' : List ℕ) (queue queue' : ControllerQueue)
     → i ≡ q → q < length queues → queue ≡ get_or queues i queue → OnOk result (queue' ≡ with_answer (with_taken queue))
@@ -114,10 +129,6 @@ begins_in v c c' q e job k queues before commands same begun eq eb ek ec is =
 
 -- An entry whose identifier is unknown
 
-unknown_by : (o : Option ℕ) (xs : List FetchedCommand) (q cid : ℕ) → false ≡ is_some o → IfNone o (find (is_command q cid) xs ≡ None) → is_some (find (is_command q cid) xs) ≡ false
-unknown_by None xs q cid e none = ap is_some none
-unknown_by (Some i) xs q cid e none = absurd (true≢false (sym e))
-
 no_zero : (q : ℕ) → q ≢ 0 → (q == 0) ≡ false
 no_zero q ne = go (q == 0) refl
   where
@@ -133,23 +144,19 @@ queue_there (suc q) (x ∷ xs) device e = omega (arith, queue_there q xs device 
 pub looked_there : (c : Contents) (m : Memory) (reached : List ℕ) (q : ℕ) (e : SubEntry) (reached' : List ℕ) → LooksAt c m reached q e reached' → q < length c.queues
 looked_there c m reached q e reached' looks = queue_there q c.queues looks.device looks.here
 
-known_by : (o : Option ℕ) (xs : List FetchedCommand) (q cid : ℕ) → is_some o ≡ true → IfSome o (λ i. find (is_command q cid) xs ≡ slice_get xs i) → IfSome o (λ i. i < length xs) → is_some (find (is_command q cid) xs) ≡ true
-known_by None xs q cid e found within = absurd (true≢false (sym e))
-known_by (Some i) xs q cid e found within = ap is_some found ∙ inside i xs within
-  where
-    inside : (i : ℕ) (xs : List FetchedCommand) → i < length xs → is_some (slice_get xs i) ≡ true
-    inside i [] l = absurd (omega arith)
-    inside zero (x ∷ xs) l = refl
-    inside (suc i) (x ∷ xs) l = inside i xs (omega arith)
+-- whether a look found a command
+pub found_by : {X : Type 0} (seen : Option (Bor X)) (o : Option X) → option_copied seen ≡ o → is_some seen ≡ is_some o
+found_by None o is = ap is_some is
+found_by (Some x) o is = ap is_some is
 
 -- An entry whose identifier is known
 
-pub answers_fetch : (v c c' : Contents) (xs : List FetchedCommand) (o : Option ℕ) (queues : List ControllerQueue) (m m' m'' : Memory) (q : ℕ) (e : SubEntry) (reached looked reached' : List ℕ) → v ≡ c → xs ≡ v.commands
-    → is_some o ≡ true → IfSome o (λ i. find (is_command q e.cid) xs ≡ slice_get xs i) → IfSome o (λ i. i < length xs) → LooksAt c m reached q e looked → m' ≡ m → None ≡ answer_refusal v.queues m' q
+pub answers_fetch : (v c c' : Contents) (queues : List ControllerQueue) (m m' m'' : Memory) (q : ℕ) (e : SubEntry) (reached looked reached' : List ℕ) → v ≡ c
+    → is_some (find (is_command q e.cid) v.commands) ≡ true → LooksAt c m reached q e looked → m' ≡ m → None ≡ answer_refusal v.queues m' q
     → AnswersKnown v.queues q e.cid m' looked queues m'' reached' → c' ≡ record { queues = queues; commands = v.commands; image = v.image } → FetchesTo c m reached q e.cid c' m'' reached'
-answers_fetch v c c' xs o queues m m' m'' q e reached looked reached' same ex eo found within looks em room answers is =
+answers_fetch v c c' queues m m' m'' q e reached looked reached' same found looks em room answers is =
     let known : is_known c q e ≡ true =
-    subst (λ (ys : List FetchedCommand). is_some (find (is_command q e.cid) ys) ≡ true) (ex ∙ ap (λ (x : Contents). x.commands) same) (known_by o xs q e.cid eo found within) in
+    subst (λ (x : Contents). is_some (find (is_command q e.cid) x.commands) ≡ true) same found in
     record {
       entry = e;
       looked = looked;
@@ -164,11 +171,11 @@ answers_fetch v c c' xs o queues m m' m'' q e reached looked reached' same ex eo
     }
 
 -- and one of queue 0 whose identifier is not
-pub manages_fetch : (v c c' : Contents) (xs : List FetchedCommand) (o : Option ℕ) (m m' : Memory) (reached : List ℕ) (q : ℕ) (e : SubEntry) (reached' : List ℕ) → v ≡ c → xs ≡ v.commands
-    → is_some o ≡ false → IfNone o (find (is_command q e.cid) xs ≡ None) → q ≡ 0 → LooksAt c m reached q e reached' → m' ≡ m → c' ≡ managed e c → FetchesTo c m reached q e.cid c' m' reached'
-manages_fetch v c c' xs o m m' reached q e reached' same ex eo none zeroth looks after managed_by =
+pub manages_fetch : (v c c' : Contents) (m m' : Memory) (reached : List ℕ) (q : ℕ) (e : SubEntry) (reached' : List ℕ) → v ≡ c
+    → is_some (find (is_command q e.cid) v.commands) ≡ false → q ≡ 0 → LooksAt c m reached q e reached' → m' ≡ m → c' ≡ managed e c → FetchesTo c m reached q e.cid c' m' reached'
+manages_fetch v c c' m m' reached q e reached' same none zeroth looks after managed_by =
     let unknown : is_known c q e ≡ false =
-    subst (λ (ys : List FetchedCommand). is_some (find (is_command q e.cid) ys) ≡ false) (ex ∙ ap (λ (x : Contents). x.commands) same) (unknown_by o xs q e.cid (sym eo) none) in
+    subst (λ (x : Contents). is_some (find (is_command q e.cid) x.commands) ≡ false) same none in
     record {
       entry = e;
       looked = reached';
@@ -179,11 +186,11 @@ manages_fetch v c c' xs o m m' reached q e reached' same ex eo none zeroth looks
           (subst (λ (b : Bool). TakesIn b c q e c') (sym (ap (λ (k : ℕ). k == 0) zeroth)) managed_by, after, refl);
     }
 
-pub begins_fetch : (v c c' : Contents) (xs : List FetchedCommand) (o : Option ℕ) (m m' : Memory) (reached : List ℕ) (q : ℕ) (e : SubEntry) (reached' : List ℕ) → v ≡ c → xs ≡ v.commands
-    → false ≡ is_some o → IfNone o (find (is_command q e.cid) xs ≡ None) → q ≢ 0 → LooksAt c m reached q e reached' → m' ≡ m → Begins c q e c' → FetchesTo c m reached q e.cid c' m' reached'
-begins_fetch v c c' xs o m m' reached q e reached' same ex eo none ne looks after begins =
+pub begins_fetch : (v c c' : Contents) (m m' : Memory) (reached : List ℕ) (q : ℕ) (e : SubEntry) (reached' : List ℕ) → v ≡ c
+    → is_some (find (is_command q e.cid) v.commands) ≡ false → q ≢ 0 → LooksAt c m reached q e reached' → m' ≡ m → Begins c q e c' → FetchesTo c m reached q e.cid c' m' reached'
+begins_fetch v c c' m m' reached q e reached' same none ne looks after begins =
     let unknown : is_known c q e ≡ false =
-    subst (λ (ys : List FetchedCommand). is_some (find (is_command q e.cid) ys) ≡ false) (ex ∙ ap (λ (x : Contents). x.commands) same) (unknown_by o xs q e.cid eo none) in
+    subst (λ (x : Contents). is_some (find (is_command q e.cid) x.commands) ≡ false) same none in
     record {
       entry = e;
       looked = reached';

@@ -1,4 +1,9 @@
 pub mod Lists
+pub mod Tables
+pub mod Changed
+pub mod Loops
+pub mod Counts
+pub mod Awaited
 pub mod Faults
 pub mod Kept
 pub mod Ready

@@ -1,11 +1,13 @@
 -- What looks at a controller tell of all its commands.
-use Rattle.std.proofs.Common.{◌≡◌, ℕ, zero, suc, ◌+◌, ◌<◌, ◌≤◌, Bool, true, false, Option, Some, None, List, [], ◌∷◌, length, find, if◌then◌else◌, refl, ◌∙◌, subst, arith, get_or, below_more}
+use Rattle.std.proofs.Common.{◌≡◌, ℕ, zero, suc, ◌+◌, ◌<◌, ◌≤◌, Bool, true, false, Option, Some, None, List, [], ◌∷◌, length, find, if◌then◌else◌, refl, sym, ◌∙◌, subst, arith, below_more}
 use Rattle.std.specs.Prelude.{slice_get}
-use Rattle.std.proofs.lemmas.Option.{get_or_from_slice_get}
 use Rattle.page_memory.specs.Memory.{Memory}
 use Rattle.controller_core.specs.Contents.{Contents, FetchedCommand, entry_of_work, is_command}
-use Rattle.controller_core.specs.Looks.{IsStuck}
+use Rattle.controller_core.specs.Looks.{IsStuck, name_at}
+use Rattle.controller_core.proofs.Lists.{some_is}
+use Rattle.controller_core.proofs.Loops.{named_here}
 use Rattle.controller_core.proofs.Ready.{named}
+use Rattle.controller_core.proofs.Tables.{some_name}
 
 found-place : {A : Type 0} (p : A → Bool) (xs : List A) (x : A) → find p xs ≡ Some x → (k : ℕ) × (k < length xs) × (slice_get xs k ≡ Some x)
 found-place p [] x h = cc
@@ -16,17 +18,22 @@ found-place p (y ∷ xs) x h = go (p y) h (found-place p xs x)
     go false h later = let found = later h in let within = found.1 in (suc found.0, omega arith, found.2)
 
 -- a command more that is stuck
-pub stuck_more : (c : Contents) (m : Memory) (n : ℕ) (x : FetchedCommand) (q cid : ℕ)
+pub stuck_named : (c : Contents) (m : Memory) (n q cid : ℕ)
     → ((k : ℕ) → k < n → (y : FetchedCommand) → slice_get c.commands k ≡ Some y → IsStuck c m y.q (entry_of_work y.work).cid)
-    → x ≡ get_or c.commands n x → q ≡ x.q → cid ≡ (entry_of_work x.work).cid → IsStuck c m q cid
+    → name_at c.commands n ≡ some_name q cid → IsStuck c m q cid
     → (k : ℕ) → k < n + 1 → (y : FetchedCommand) → slice_get c.commands k ≡ Some y → IsStuck c m y.q (entry_of_work y.work).cid
-stuck_more c m n x q cid kept at is_q is_cid stuck =
-    below_more (λ k. (y : FetchedCommand) → slice_get c.commands k ≡ Some y → IsStuck c m y.q (entry_of_work y.work).cid) n kept here
-  where
-    here : (y : FetchedCommand) → slice_get c.commands n ≡ Some y → IsStuck c m y.q (entry_of_work y.work).cid
-    here y there =
-        subst (λ (y : FetchedCommand). IsStuck c m y.q (entry_of_work y.work).cid) (at ∙ get_or_from_slice_get c.commands n y x there)
-        (subst (λ (cid : ℕ). IsStuck c m x.q cid) is_cid (subst (λ (q : ℕ). IsStuck c m q cid) is_q stuck))
+stuck_named c m n q cid kept name stuck =
+    let is = named_here c.commands n q cid name in
+    below_more (λ k. (y : FetchedCommand) → slice_get c.commands k ≡ Some y → IsStuck c m y.q (entry_of_work y.work).cid) n kept (λ y at.
+    let same : is.command ≡ y = some_is (sym is.at ∙ at) in
+    subst (λ (x : FetchedCommand). IsStuck c m x.q (entry_of_work x.work).cid) same
+    (subst (λ (r : ℕ). IsStuck c m r (entry_of_work is.command.work).cid) (sym is.queue) (subst (λ (d : ℕ). IsStuck c m q d) (sym is.identifier) stuck)))
+
+-- no name, no command more
+pub past_names : (xs : List FetchedCommand) (n : ℕ) → name_at xs n ≡ None → length xs ≤ n
+past_names [] n none = omega arith
+past_names (x ∷ xs) zero none = cc
+past_names (x ∷ xs) (suc n) none = omega (arith, past_names xs n none)
 
 -- where each command is stuck, each name is
 pub all_stuck : (c : Contents) (m : Memory) (n : ℕ) → length c.commands ≤ n

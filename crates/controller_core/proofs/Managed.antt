@@ -1,7 +1,7 @@
 -- What an admin entry keeps as it is fetched.
-use Rattle.std.proofs.Common.{◌≡◌, ℕ, ◌+◌, ◌<◌, ◌==◌, ◌&&◌, ◌||◌, not, Bool, true, false, is_none, is_some, Some, List, [], ◌∷◌, ◌++◌, find, length, map, if◌then◌else◌, refl, ap, ap₂, sym, ◌∙◌, arith, subst, eqb-true}
+use Rattle.std.proofs.Common.{◌≡◌, ℕ, zero, suc, ◌+◌, ◌<◌, ◌==◌, ◌&&◌, ◌||◌, not, Bool, true, false, is_none, is_some, Some, None, List, [], ◌∷◌, ◌++◌, find, length, map, if◌then◌else◌, refl, ap, ap₂, sym, ◌∙◌, arith, subst, eqb-true}
 use Rattle.std.specs.List.{count_by}
-use Rattle.std.proofs.lemmas.Bool.{true≢false}
+use Rattle.std.proofs.lemmas.Bool.{eq-eqb, true≢false, ne_eqb}
 use Rattle.admin_commands.specs.Entries.{named_queue, named_command}
 use Rattle.admin_commands.specs.Verdicts.{decision, is_live, is_absent, abort_verdict, delete_sq_verdict, delete_cq_verdict}
 use Rattle.admin_commands.specs.declared.AdminVerdict.{AdminVerdict}
@@ -13,10 +13,11 @@ use Rattle.entry_codec.specs.declared.status.Status.{Status}
 use Rattle.entry_codec.specs.declared.status.TheConstants.Status.{SUCCESS, INVALID_OPCODE, INVALID_FIELD, INVALID_QUEUE_IDENTIFIER, INVALID_QUEUE_DELETION, ABORT_REQUESTED, ABORTED_SQ_DELETION}
 use Rattle.entry_codec.specs.declared.submission.SubEntry.{SubEntry}
 use Rattle.io_commands.specs.Jobs.{JobContents}
-use Rattle.controller_core.specs.Contents.{Contents, IsController, AreCommands, FetchedCommand, Work, FitsWork, FitsCommand, change, entry_of_work, is_command, is_deletion}
+use Rattle.controller_core.specs.Contents.{Contents, IsController, IsNamedBy, AreAwaited, AreCommands, FetchedCommand, Work, FitsWork, FitsCommand, change, entry_of_work, is_command, is_deletion}
 use Rattle.controller_core.specs.Managing.{with_taken, command_of, admin_work, stopped_work, aborted, stopped_with_queue, stopping, without_completion, commands_after, queues_after, verdict_for, view_for, managed}
 use Rattle.controller_core.specs.declared.command.Work.TheVariants.{Io, Admin}
 use Rattle.controller_core.specs.declared.queue.ControllerQueue.{ControllerQueue}
+use Rattle.controller_core.proofs.Awaited.{Awaits, IsAlike, awaited_changed, awaited_more, awaits_alike, named_last, none_mapped}
 use Rattle.controller_core.proofs.Fetched.{commands-with, none_found, not_some}
 use Rattle.controller_core.proofs.Lists.{all-map, count-cons, one, length-change}
 
@@ -97,7 +98,7 @@ record Stays (blocks : ℕ) (k k' : FetchedCommand) : Type 0 where
   pub entry : entry_of_work k'.work ≡ entry_of_work k.work
   pub fits : FitsWork blocks k.q k.units_done k.work → FitsWork blocks k'.q k'.units_done k'.work
 
-stopped_entry : (st : Status) (work : Work) → entry_of_work (stopped_work st work) ≡ entry_of_work work
+pub stopped_entry : (st : Status) (work : Work) → entry_of_work (stopped_work st work) ≡ entry_of_work work
 stopped_entry st (Io job) = if_by (λ (j : JobContents). j.entry ≡ job.entry) (is_none job.verdict) (record job { verdict = Some st }) job (λ h. refl) (λ h. refl)
 stopped_entry st (Admin entry status dw0) = refl
 
@@ -145,11 +146,69 @@ commands_stay blocks queues abort (AbortJob q cid) commands = commands_mapped bl
 commands_stay blocks queues abort (StopQueue q) commands = commands_mapped blocks queues (stopped_with_queue q) (stopped_stays blocks q) commands
 commands_stay blocks queues abort (DropCompletion q) commands = record { are = λ are. are; count = λ r d. refl }
 
-length-after : (v : AdminVerdict) (queues : List ControllerQueue) → length (queues_after v queues) ≡ length queues
+pub length-after : (v : AdminVerdict) (queues : List ControllerQueue) → length (queues_after v queues) ≡ length queues
 length-after (Answer st dw0) queues = refl
 length-after (AbortJob q cid) queues = refl
 length-after (StopQueue q) queues = length-change q stopping queues
 length-after (DropCompletion q) queues = length-change q without_completion queues
+
+-- An Abort that stops a command names it.
+abbrev Aims : SubEntry → AdminVerdict → Type 0
+Aims e (Answer st dw0) = Unit {0}
+Aims e (AbortJob q cid) = (q ≡ named_queue e) × (cid ≡ named_command e)
+Aims e (StopQueue q) = Unit {0}
+Aims e (DropCompletion q) = Unit {0}
+
+either_aims : (e : SubEntry) (b : Bool) (v w : AdminVerdict) → Aims e v → Aims e w → Aims e (if b then v else w)
+either_aims e true v w a b = a
+either_aims e false v w a b = b
+
+decision_aims : (e : SubEntry) (view : DeviceView) → Aims e (decision e view)
+decision_aims e view =
+    either_aims e (not ((e.opcode == ABORT) || (e.opcode == DELETE_IO_SQ) || (e.opcode == DELETE_IO_CQ))) (Answer INVALID_OPCODE 0) _ tt
+    (either_aims e (not (e.fuse == 0)) (Answer INVALID_FIELD 0) _ tt
+    (either_aims e (e.opcode == ABORT) (abort_verdict (named_queue e) (named_command e) view) _
+    (either_aims e (view.target_walks && not (named_queue e == 0)) (AbortJob (named_queue e) (named_command e)) (Answer SUCCESS 1) (refl, refl) tt)
+    (either_aims e (e.opcode == DELETE_IO_SQ) (delete_sq_verdict (named_queue e) view) (delete_cq_verdict (named_queue e) view)
+    (either_aims e ((named_queue e == 0) || not (is_live view.sq)) (Answer INVALID_QUEUE_IDENTIFIER 0) (StopQueue (named_queue e)) tt tt)
+    (either_aims e ((named_queue e == 0) || not view.cq_there) (Answer INVALID_QUEUE_IDENTIFIER 0) _ tt
+    (either_aims e (not (is_absent view.sq)) (Answer INVALID_QUEUE_DELETION 0) (DropCompletion (named_queue e)) tt tt)))))
+
+aborted_same : (q cid abort : ℕ) (k : FetchedCommand) → IsAlike k (aborted q cid abort k)
+aborted_same q cid abort k = let stay = aborted_stays 0 q cid abort k in (stay.q, stay.entry)
+
+stopped_same : (q : ℕ) (k : FetchedCommand) → IsAlike k (stopped_with_queue q k)
+stopped_same q k = let stay = stopped_stays 0 q k in (stay.q, stay.entry)
+
+own_named : (e : SubEntry) (v : AdminVerdict) → is_command 0 e.cid (command_of 0 (admin_work e v)) ≡ true
+own_named e v = eq-eqb e.cid e.cid refl
+
+managed_awaited : (commands : List FetchedCommand) (e : SubEntry) (v : AdminVerdict) → AreAwaited commands → Aims e v → find (is_command 0 e.cid) commands ≡ None → AreAwaited (commands_after e.cid v commands ++ command_of 0 (admin_work e v) ∷ [])
+managed_awaited commands e (Answer st dw0) are aims none = awaited_more commands (command_of 0 (admin_work e (Answer st dw0))) are refl
+managed_awaited commands e (AbortJob q cid) are aims none = awaited_changed f commands own (aborted_same q cid e.cid) changes refl are
+  where
+    f : FetchedCommand → FetchedCommand
+    f = aborted q cid e.cid
+
+    own : FetchedCommand
+    own = command_of 0 (admin_work e (AbortJob q cid))
+
+    after : List FetchedCommand
+    after = map f commands ++ own ∷ []
+
+    aborts : (k : FetchedCommand) → is_command q cid k ≡ true → IsNamedBy after (record k { work = stopped_work ABORT_REQUESTED k.work; waiting_abort = Some e.cid }) e.cid
+    aborts k is =
+        named_last (map f commands) own (record k { work = stopped_work ABORT_REQUESTED k.work; waiting_abort = Some e.cid }) e.cid (none_mapped f (aborted_same q cid e.cid) commands 0 e.cid none) (own_named e (AbortJob q cid))
+        (ap₂ (λ (r d : ℕ). (k.q == r) && ((entry_of_work (stopped_work ABORT_REQUESTED k.work)).cid == d)) (sym aims.0) (sym aims.1)
+        ∙ ap (λ (x : SubEntry). (k.q == q) && (x.cid == cid)) (stopped_entry ABORT_REQUESTED k.work) ∙ is)
+
+    changes : (k : FetchedCommand) → Awaits after k → Awaits after (f k)
+    changes k was =
+        if_by (Awaits after) (is_command q cid k) (record k { work = stopped_work ABORT_REQUESTED k.work; waiting_abort = Some e.cid }) k (aborts k) (λ h. was)
+managed_awaited commands e (StopQueue q) are aims none =
+    awaited_changed (stopped_with_queue q) commands (command_of 0 (admin_work e (StopQueue q))) (stopped_same q)
+    (λ k was. awaits_alike _ _ k (stopped_with_queue q k) (if_by (λ (x : FetchedCommand). x.waiting_abort ≡ k.waiting_abort) (k.q == q) (record k { work = stopped_work ABORTED_SQ_DELETION k.work }) k (λ h. refl) (λ h. refl)) (stopped_same q k) (λ cid e h. h) was) refl are
+managed_awaited commands e (DropCompletion q) are aims none = awaited_more commands (command_of 0 (admin_work e (DropCompletion q))) are refl
 
 pub managed_kept : (c : Contents) (e : SubEntry) → IsController c → 0 < length c.queues → is_some (find (is_command 0 e.cid) c.commands) ≡ false → IsController (managed e c)
 managed_kept c e is there free =
@@ -162,16 +221,70 @@ managed_kept c e is there free =
           (commands-with blocks (length c.queues) (commands_after e.cid v c.commands) (command_of 0 (admin_work e v)) (stay.are is.commands) there
           (admin_fits blocks e v (decision_suits e (view_for c.queues c.commands e)))
           (stay.count 0 e.cid ∙ none_found (is_command 0 e.cid) c.commands (not_some (find (is_command 0 e.cid) c.commands) free)));
+      awaited = managed_awaited c.commands e v is.awaited (decision_aims e (view_for c.queues c.commands e)) (not_some (find (is_command 0 e.cid) c.commands) free);
     }
 
-pub managed_in : (v c : Contents) (e : SubEntry) (w : AdminVerdict) (took queues : List ControllerQueue) (before after commands : List FetchedCommand) (k : FetchedCommand)
-    → v ≡ c → IsController v → 0 < length c.queues → is_some (find (is_command 0 e.cid) c.commands) ≡ false
-    → w ≡ verdict_for v e → took ≡ change 0 with_taken v.queues → queues ≡ queues_after w took → before ≡ v.commands → after ≡ commands_after e.cid w before
-    → k ≡ command_of 0 (admin_work e w) → commands ≡ after ++ k ∷ [] → IsController (record { queues = queues; commands = commands; image = v.image })
-managed_in v c e w took queues before after commands k same is there free ew et eq eb ea ek ec =
-    let queues_are : queues ≡ (managed e v).queues = eq ∙ ap₂ queues_after ew et in
-    let commands_are : commands ≡ (managed e v).commands =
-    ec ∙ ap₂ (λ (xs : List FetchedCommand) (x : FetchedCommand). xs ++ x ∷ []) (ea ∙ ap₂ (commands_after e.cid) ew eb) (ek ∙ ap (λ (x : AdminVerdict). command_of 0 (admin_work e x)) ew) in
-    subst (λ (xs : List ControllerQueue). IsController (record { queues = xs; commands = commands; image = v.image })) (sym queues_are)
-    (subst (λ (xs : List FetchedCommand). IsController (record { queues = (managed e v).queues; commands = xs; image = v.image })) (sym commands_are)
-    (managed_kept v e is (subst (λ (x : Contents). 0 < length x.queues) (sym same) there) (subst (λ (x : Contents). is_some (find (is_command 0 e.cid) x.commands) ≡ false) (sym same) free)))
+-- An Abort that stops a command names one of an I/O queue.
+abbrev Spares : AdminVerdict → Type 0
+Spares (Answer st dw0) = Unit {0}
+Spares (AbortJob q cid) = (q == 0) ≡ false
+Spares (StopQueue q) = Unit {0}
+Spares (DropCompletion q) = Unit {0}
+
+answer_spares : (b : Bool) (v w : AdminVerdict) → Spares v → Spares w → Spares (if b then v else w)
+answer_spares true v w a b = a
+answer_spares false v w a b = b
+
+abort_spares : (q cid : ℕ) (view : DeviceView) → Spares (abort_verdict q cid view)
+abort_spares q cid view =
+    if_by Spares (view.target_walks && not (q == 0)) (AbortJob q cid) (Answer SUCCESS 1) (λ h. was_false (q == 0) (both_true view.target_walks (not (q == 0)) h).1) (λ h. tt)
+
+decision_spares : (e : SubEntry) (view : DeviceView) → Spares (decision e view)
+decision_spares e view =
+    answer_spares (not ((e.opcode == ABORT) || (e.opcode == DELETE_IO_SQ) || (e.opcode == DELETE_IO_CQ))) (Answer INVALID_OPCODE 0) _ tt
+    (answer_spares (not (e.fuse == 0)) (Answer INVALID_FIELD 0) _ tt
+    (answer_spares (e.opcode == ABORT) (abort_verdict (named_queue e) (named_command e) view) _ (abort_spares (named_queue e) (named_command e) view)
+    (answer_spares (e.opcode == DELETE_IO_SQ) (delete_sq_verdict (named_queue e) view) (delete_cq_verdict (named_queue e) view)
+    (answer_spares ((named_queue e == 0) || not (is_live view.sq)) (Answer INVALID_QUEUE_IDENTIFIER 0) (StopQueue (named_queue e)) tt tt)
+    (answer_spares ((named_queue e == 0) || not view.cq_there) (Answer INVALID_QUEUE_IDENTIFIER 0) _ tt
+    (answer_spares (not (is_absent view.sq)) (Answer INVALID_QUEUE_DELETION 0) (DropCompletion (named_queue e)) tt tt)))))
+
+zero_other : (q : ℕ) → (q == 0) ≡ false → (0 == q) ≡ false
+zero_other zero e = cc
+zero_other (suc q) e = ne_eqb 0 (suc q) (λ same. absurd (omega (arith, same)))
+
+map_more : {A B : Type 0} (f : A → B) (xs : List A) (x : A) → map f (xs ++ x ∷ []) ≡ map f xs ++ f x ∷ []
+map_more f [] x = refl
+map_more f (y ∷ ys) x = ap (λ zs. f y ∷ zs) (map_more f ys x)
+
+-- what an admin command does, it does not to itself
+own_spared : (e : SubEntry) (v : AdminVerdict) (commands : List FetchedCommand) (k : FetchedCommand) → Spares v → k ≡ command_of 0 (admin_work e v) → commands_after e.cid v (commands ++ k ∷ []) ≡ commands_after e.cid v commands ++ k ∷ []
+own_spared e (Answer st dw0) commands k s is = refl
+own_spared e (AbortJob q cid) commands k s is =
+    let other : is_command q cid k ≡ false = ap (is_command q cid) is ∙ ap (λ (b : Bool). b && (e.cid == cid)) (zero_other q s) in
+    map_more (aborted q cid e.cid) commands k
+    ∙ ap (λ (x : FetchedCommand). map (aborted q cid e.cid) commands ++ x ∷ []) (ap (λ (b : Bool). if b then record k { work = stopped_work ABORT_REQUESTED k.work; waiting_abort = Some e.cid } else k) other)
+own_spared e (StopQueue q) commands k s is =
+    let own : stopped_with_queue q k ≡ k = ap (stopped_with_queue q) is ∙ by (0 == q) ∙ sym is in
+    map_more (stopped_with_queue q) commands k ∙ ap (λ (x : FetchedCommand). map (stopped_with_queue q) commands ++ x ∷ []) own
+  where
+    by : (b : Bool) → (if b then command_of 0 (admin_work e (StopQueue q)) else command_of 0 (admin_work e (StopQueue q))) ≡ command_of 0 (admin_work e (StopQueue q))
+    by true = refl
+    by false = refl
+own_spared e (DropCompletion q) commands k s is = refl
+
+-- The controller behind an admin entry whose command was put first, and its verdict carried out then.
+pub managed_is : (c : Contents) (e : SubEntry) (w : AdminVerdict) (took queues : List ControllerQueue) (before after : List FetchedCommand) (k : FetchedCommand)
+    → w ≡ verdict_for c e → took ≡ change 0 with_taken c.queues → queues ≡ queues_after w took
+    → k ≡ command_of 0 (admin_work e w) → before ≡ c.commands ++ k ∷ [] → after ≡ commands_after e.cid w before
+    → record { queues = queues; commands = after; image = c.image } ≡ managed e c
+managed_is c e w took queues before after k ew et eq ek eb ea =
+    let queues_are : queues ≡ (managed e c).queues = eq ∙ ap₂ queues_after ew et in
+    let spares : Spares w = subst Spares (sym ew) (decision_spares e (view_for c.queues c.commands e)) in
+    let commands_are : after ≡ (managed e c).commands =
+    ea ∙ ap (commands_after e.cid w) eb ∙ own_spared e w c.commands k spares ek
+    ∙ ap₂ (λ (v : AdminVerdict) (x : FetchedCommand). commands_after e.cid v c.commands ++ x ∷ []) ew (ek ∙ ap (λ (v : AdminVerdict). command_of 0 (admin_work e v)) ew) in
+    ap₂ (λ (xs : List ControllerQueue) (ys : List FetchedCommand). record { queues = xs; commands = ys; image = c.image }) queues_are commands_are
+
+pub managed_sound : (c c' : Contents) (e : SubEntry) → IsController c → 0 < length c.queues → is_some (find (is_command 0 e.cid) c.commands) ≡ false → c' ≡ managed e c → IsController c'
+managed_sound c c' e is there free same = subst IsController (sym same) (managed_kept c e is there free)

@@ -1,7 +1,8 @@
 -- What a controller keeps, and what always holds of it.
-use Rattle.std.specs.Prelude.{◌≡◌, ℕ, ◌+◌, ◌<◌, ◌≤◌, ◌==◌, ◌&&◌, Bool, true, false, Option, Some, List, length}
+use Rattle.std.specs.Prelude.{◌≡◌, ℕ, ◌+◌, ◌<◌, ◌≤◌, ◌==◌, ◌&&◌, Bool, true, false, Option, Some, IfSome, List, find, length}
 use Rattle.std.specs.List.{AllByRecursion, count_by}
-use Rattle.admin_commands.specs.Entries.{named_queue}
+use Rattle.std.specs.Option.{option_map}
+use Rattle.admin_commands.specs.Entries.{named_queue, named_command}
 use Rattle.block_image.specs.Blocks.{block_count}
 use Rattle.entry_codec.specs.declared.status.Status.{Status}
 use Rattle.entry_codec.specs.declared.submission.SubEntry.{SubEntry}
@@ -57,6 +58,21 @@ pub record AreCommands (blocks queues : ℕ) (commands : List FetchedCommand) : 
   pub each : AllByRecursion (FitsCommand blocks queues) commands
   pub differ : (q cid : ℕ) → count_by (is_command q cid) commands < 2
 
+-- the entry of the command of an identifier of a queue
+abbrev pub entry_of : List FetchedCommand → ℕ → ℕ → Option SubEntry
+entry_of commands q cid = option_map (λ k. entry_of_work k.work) (find (is_command q cid) commands)
+
+-- The Abort of this identifier is there, and its entry names the command.
+pub record IsNamedBy (commands : List FetchedCommand) (k : FetchedCommand) (abort : ℕ) : Type 0 where
+  pub entry : SubEntry
+  pub there : entry_of commands 0 abort ≡ Some entry
+  pub names : is_command (named_queue entry) (named_command entry) k ≡ true
+
+-- Where an Abort waits for a command, it is there, and names that command.
+abbrev pub AreAwaited : List FetchedCommand → Type 0
+AreAwaited commands = AllByRecursion (λ k. IfSome k.waiting_abort (IsNamedBy commands k)) commands
+
 -- what always holds of a controller; that the positions in its rings are slots holds of each side of a pair
 pub record IsController (c : Contents) : Type 0 where
   pub commands : AreCommands (block_count c.image) (length c.queues) c.commands
+  pub awaited : AreAwaited c.commands

@@ -7,5 +7,6 @@ pub mod Managing
 pub mod Fetching
 pub mod Opening
 pub mod Looks
+pub mod Tables
 pub mod Laws
 pub mod Worked

@@ -1,13 +1,18 @@
 -- What a look at a controller tells: which of its calls would do something, want of memory left aside.
-use Rattle.std.specs.Prelude.{◌≡◌, ℕ, ◌<◌, false, Option, is_none}
+use Rattle.std.specs.Prelude.{◌≡◌, ℕ, ◌<◌, false, List, Option, is_none, slice_get}
+use Rattle.std.specs.Option.{option_map}
 use Rattle.page_memory.specs.Memory.{Memory}
 use Rattle.controller_core.specs.Completing.{complete_refusal}
-use Rattle.controller_core.specs.Contents.{Contents}
+use Rattle.controller_core.specs.Contents.{Contents, FetchedCommand, entry_of_work}
 use Rattle.controller_core.specs.Fetching.{fetch_refusal}
 use Rattle.controller_core.specs.Walking.{walk_refusal}
 use Rattle.controller_core.specs.declared.look.ControllerStep.{ControllerStep}
 use Rattle.controller_core.specs.declared.look.ControllerStep.TheVariants.{Fetch, Walk, Complete}
 use Rattle.controller_core.specs.declared.refusal.Refusal.{Refusal}
+
+-- the queue and the identifier of the command that was fetched behind so many others
+abbrev pub name_at : List FetchedCommand → ℕ → Option (ℕ × ℕ)
+name_at commands n = option_map (λ k. (k.q, (entry_of_work k.work).cid)) (slice_get commands n)
 
 -- what a call is refused for
 abbrev pub refusal_by : Contents → Memory → ControllerStep → Option Refusal

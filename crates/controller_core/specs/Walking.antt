@@ -34,6 +34,15 @@ pub record DoesUnit (m : Memory) (reached : List ℕ) (job : JobContents) (outco
 abbrev pub stepped : JobContents → FetchedCommand → FetchedCommand
 stepped job k = record k { units_done = k.units_done + 1; work = Io job }
 
+-- So it is with the job of a command.
+pub record WalksOne (command : FetchedCommand) (m : Memory) (reached : List ℕ) (outcome : WalkState) (command' : FetchedCommand) (m' : Memory) (reached' : List ℕ) : Type 0 where
+  pub job : JobContents
+  pub job' : JobContents
+  pub work : command.work ≡ Io job
+  pub going : job.verdict ≡ None
+  pub unit : DoesUnit m reached job outcome job' m' reached'
+  pub leaves : command' ≡ stepped job' command
+
 -- So it is with the job of the command of this name; all other commands stay.
 pub record WalksAmong (commands : List FetchedCommand) (q cid : ℕ) (m : Memory) (reached : List ℕ) (outcome : WalkState) (commands' : List FetchedCommand) (m' : Memory) (reached' : List ℕ) : Type 0 where
   pub place : ℕ

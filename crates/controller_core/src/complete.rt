@@ -1,6 +1,7 @@
 //! The controller completes a command.
 
-ghost use Rattle.std.specs.Prelude.{◌≡◌, ◌<◌, ◌≤◌, IfErr, IfOk, IfSome, IsSome, Some, OnOk, OnErr, length, find, slice_get};
+ghost use Rattle.std.specs.Prelude.{◌≡◌, ◌<◌, ◌≤◌, IfErr, IfOk, IsSome, Some, OnOk, OnErr, length, find};
+ghost use Rattle.std.specs.Option.{option_and_then};
 ghost use Rattle.std.specs.Result.{result_err};
 ghost use Rattle.block_image.specs.Blocks.{block_count};
 ghost use Rattle.page_memory.specs.Memory.{Memory};
@@ -11,7 +12,7 @@ ghost use Rattle.controller_core.specs.Contents.{change, dw0_of_work, verdict_of
 use crate::answer::answer;
 use crate::command::Work;
 use crate::controller::Controller;
-use crate::lookup::{find_command, is_success, is_waiting};
+use crate::lookup::is_success;
 use crate::queue::ControllerQueue;
 use crate::refusal::Refusal;
 use admin_commands::{SqState, queue_of};
@@ -78,25 +79,26 @@ fn settle<A: Allocator>(
 }
 
 impl<A: Allocator> Controller<A> {
-    /// The place of the command that completes, or the first cause against it that lies in the command.
-    pub(crate) fn check_complete(&self, q: u16, cid: u16) -> Result<usize, Refusal>
+    /// Whether a command can complete, as far as that lies in the command.
+    ///
+    /// # Errors
+    ///
+    /// The first cause against it.
+    pub(crate) fn check_complete(&self, q: u16, cid: u16) -> Result<(), Refusal>
         ensures refused { IfErr result (λ why. (m : Memory) → complete_refusal self.now m q cid ≡ Some why) }
-        ensures ready { IfOk result (λ place. (m : Memory) → complete_refusal self.now m q cid ≡ answer_refusal self.now.queues m q) }
-        ensures place { IfOk result (λ place. find (is_command q cid) self.now.commands ≡ slice_get self.now.commands place) }
-        ensures within { IfOk result (λ place. place < length self.now.commands) }
-        ensures verdict { IfOk result (λ place. IfSome (slice_get self.now.commands place) (λ k. IsSome (verdict_of_work k.work))) }
+        ensures ready { IfOk result (λ _. (m : Memory) → complete_refusal self.now m q cid ≡ answer_refusal self.now.queues m q) }
+        ensures ended { IfOk result (λ _. IsSome (option_and_then (λ k. verdict_of_work k.work) (find (is_command q cid) self.now.commands))) }
     {
-        let Some(place) = find_command(&self.commands, q, cid) else {
+        let Some(command) = self.commands.get(q, cid) else {
             return Err(Refusal::NoJob);
         };
-        let command = &self.commands[place];
         if command.work.verdict().is_none() {
             return Err(Refusal::Walking);
         }
-        if is_waiting(&self.commands, command) {
+        if self.commands.is_waiting(command) {
             return Err(Refusal::Waits);
         }
-        Ok(place)
+        Ok(())
     }
 
     /// Posts the completion of a fetched command, and forgets the command. A Write that ends well changes the image here, and a
@@ -116,11 +118,16 @@ impl<A: Allocator> Controller<A> {
         ensures sound { IsController self.new }
         ensures pool { D.page_count dma.new ≡ D.page_count dma.old }
     {
-        let place = self.check_complete(q, cid)?;
-        let (status, dw0) = self.commands[place].work.end(&self.image);
+        self.check_complete(q, cid)?;
+        let (status, dw0) = match self.commands.get(q, cid) {
+            Some(command) => command.work.end(&self.image),
+            None => unreachable!(),
+        };
         answer(&mut self.queues, q, cid, status, dw0, dma)?;
-        let command = self.commands.remove(place);
-        settle(&mut self.queues, &mut self.image, command.work);
+        match self.commands.take(q, cid) {
+            Some(command) => settle(&mut self.queues, &mut self.image, command.work),
+            None => unreachable!(),
+        }
         Ok(())
     }
 }

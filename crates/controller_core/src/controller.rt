@@ -1,9 +1,13 @@
 //! The controller's value, and its opening.
 
-ghost use Rattle.std.specs.Prelude.{◌≡◌, ◌≤◌, ◌+◌, ◌++◌, IfOk, IfErr, length};
+ghost use Rattle.std.specs.Prelude.{◌≡◌, ◌≤◌, ◌+◌, ◌++◌, [], ℕ, Some, IfOk, IfErr, find, length};
+ghost use Rattle.std.specs.Option.{option_copied};
+ghost use Rattle.controller_core.specs.Contents.{is_command};
+ghost use Rattle.controller_core.specs.Looks.{name_at};
 ghost use Rattle.controller_core.specs.Opening.{fresh_queue, queues_from, opened};
 
 use crate::command::FetchedCommand;
+use crate::commands::Commands;
 use crate::queue::{ControllerQueue, QueuePages};
 use admin_commands::SqState;
 use block_image::Image;
@@ -18,18 +22,19 @@ use thiserror::Error;
 pub struct Controller<A: Allocator = Global> {
     pub(crate) alloc: A,
     pub(crate) queues: Vec<ControllerQueue, A>,
-    pub(crate) commands: Vec<FetchedCommand<Job<A>>, A>,
+    pub(crate) commands: Commands<A>,
     pub(crate) image: Image<A>,
 }
 
 impl<A: Allocator> Model for Controller<A> {
+    ghost use Rattle.std.specs.Prelude.{◌≡◌, length};
     ghost use Rattle.controller_core.specs.Contents.{Contents, IsController};
 
     ghost Value = { Contents };
 
-    ghost view = { λ c. record { queues = c.queues.items; commands = c.commands.items; image = c.image } };
+    ghost view = { λ c. record { queues = c.queues.items; commands = c.commands.list; image = c.image } };
 
-    ghost invariant = { λ c. IsController (record { queues = c.queues.items; commands = c.commands.items; image = c.image }) };
+    ghost invariant = { λ c. IsController (record { queues = c.queues.items; commands = c.commands.list; image = c.image }) × (c.commands.queues ≡ length c.queues.items) };
 }
 
 /// Memory was refused to a controller that opens.
@@ -71,6 +76,23 @@ fn open_queues<A: Allocator>(
     Ok(queues)
 }
 
+/// The queues that open, and no commands of them.
+fn open_parts<A: Allocator + Copy>(
+    alloc: A,
+    entries: u16,
+    pages: &[QueuePages],
+) -> Result<(Vec<ControllerQueue, A>, Commands<A>), AllocError>
+    requires least { 2 ≤ entries }
+    requires most { entries ≤ 1024 }
+    requires few { length pages.now ≤ 65536 }
+    ensures queues { IfOk result (λ parts. parts.0.items ≡ queues_from entries 0 pages.now) }
+    ensures commands { IfOk result (λ parts. parts.1 ≡ record { queues = length parts.0.items; list = [] }) }
+{
+    let queues = open_queues(alloc, entries, pages)?;
+    let commands = Commands::open(alloc, queues.len())?;
+    Ok((queues, commands))
+}
+
 impl<A: Allocator + Copy> Controller<A> {
     /// A controller over an image, with so many entries in each ring. Queue i has the i-th of the pages; queue 0 is the admin queue. Each
     /// queue is live with empty rings, and nothing is fetched.
@@ -90,11 +112,11 @@ impl<A: Allocator + Copy> Controller<A> {
         ensures opened { IfOk result (λ controller. controller ≡ opened entries pages.now image) }
         ensures handed_back { IfErr result (λ refused. refused.image ≡ image) }
     {
-        match open_queues(alloc, entries, pages) {
-            Ok(queues) => Ok(Controller {
+        match open_parts(alloc, entries, pages) {
+            Ok((queues, commands)) => Ok(Controller {
                 alloc,
                 queues,
-                commands: Vec::new(alloc),
+                commands,
                 image,
             }),
             Err(_) => Err(OpenRefused { image }),
@@ -110,11 +132,32 @@ impl<A: Allocator> Controller<A> {
         &self.queues
     }
 
-    /// The commands that were fetched and not completed, in the order of the fetches.
-    pub fn commands(&self) -> &[FetchedCommand<Job<A>>]
-        ensures { result.now ≡ self.now.commands }
+    /// The command of this identifier that was fetched from a queue and not completed.
+    pub fn command(&self, q: u16, cid: u16) -> Option<&FetchedCommand<Job<A>>>
+        ensures { option_copied result ≡ find (is_command q cid) self.now.commands }
     {
-        &self.commands
+        self.commands.get(q, cid)
+    }
+
+    /// How many commands were fetched and not completed.
+    pub fn command_count(&self) -> usize
+        ensures { result ≡ length self.now.commands }
+    {
+        self.commands.len()
+    }
+
+    /// The queue and the identifier of the command that was fetched first, of those that are not completed.
+    pub fn first_command(&self) -> Option<(u16, u16)>
+        ensures { result ≡ name_at self.now.commands 0 }
+    {
+        self.commands.first()
+    }
+
+    /// The queue and the identifier of the command that was fetched next after the one of this name.
+    pub fn next_command(&self, q: u16, cid: u16) -> Option<(u16, u16)>
+        ensures { (n : ℕ) → name_at self.now.commands n ≡ Some (q, cid) → result ≡ name_at self.now.commands (n + 1) }
+    {
+        self.commands.next(q, cid)
     }
 
     /// The image.

@@ -13,8 +13,7 @@ ghost use Rattle.controller_core.specs.declared.command.Work.TheVariants.{Io};
 use crate::answer::post_completion;
 use crate::command::{FetchedCommand, Work};
 use crate::controller::Controller;
-use crate::lookup::find_command;
-use crate::manage::{act, view_of};
+use crate::manage::{act, end_of, view_of};
 use crate::queue::ControllerQueue;
 use crate::refusal::Refusal;
 use admin_commands::{SqState, decide};
@@ -144,9 +143,8 @@ impl<A: Allocator + Copy> Controller<A> {
         ensures refused { OnErr result (self.new ≡ self.old) }
     {
         let job = begin_job(self.alloc, entry, &self.image)?;
-        self.commands.reserve(1)?;
+        self.commands.put(fetched(q, Work::Io(job)))?;
         take_entry(&mut self.queues, q);
-        self.commands.push_reserved(fetched(q, Work::Io(job)));
         Ok(())
     }
 
@@ -159,12 +157,13 @@ impl<A: Allocator + Copy> Controller<A> {
         ensures sound { IsController self.new }
         ensures refused { OnErr result (self.new ≡ self.old) }
     {
-        self.commands.reserve(1)?;
         let verdict = decide(&entry, &view_of(&self.queues, &self.commands, &entry));
+        let (status, dw0) = end_of(verdict);
+        let cid = entry.cid;
+        self.commands
+            .put(fetched(0, Work::Admin { entry, status, dw0 }))?;
         take_entry(&mut self.queues, 0);
-        let (status, dw0) = act(&mut self.queues, &mut self.commands, entry.cid, verdict);
-        let work = Work::Admin { entry, status, dw0 };
-        self.commands.push_reserved(fetched(0, work));
+        act(&mut self.queues, &mut self.commands, cid, verdict);
         Ok(())
     }
 
@@ -189,7 +188,7 @@ impl<A: Allocator + Copy> Controller<A> {
     {
         let entry = self.look(q, dma)?;
         let cid = entry.cid;
-        if find_command(&self.commands, q, cid).is_some() {
+        if self.commands.get(q, cid).is_some() {
             answer_in(&mut self.queues, q, cid, dma)?;
             return Ok(cid);
         }

@@ -11,6 +11,7 @@
 
 mod answer;
 mod command;
+mod commands;
 mod complete;
 mod controller;
 mod doorbell;

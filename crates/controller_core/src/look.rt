@@ -2,17 +2,12 @@
 
 ghost use Rattle.std.specs.Prelude.{◌≡◌, ◌<◌, ◌≤◌, ℕ, [], false, is_none, None, IfSome, IfNone, length};
 ghost use Rattle.controller_core.specs.Answering.{answer_refusal, post_refusal};
-ghost use Rattle.controller_core.specs.Contents.{entry_of_work};
 ghost use Rattle.controller_core.specs.Fetching.{fetch_refusal};
 ghost use Rattle.controller_core.specs.Looks.{refusal_by, IsAtRest, IsStuck};
 
-use crate::command::FetchedCommand;
 use crate::controller::Controller;
-use crate::lookup::find_command;
 use crate::queue::ControllerQueue;
 use crate::refusal::Refusal;
-use crate::walk::check_walk;
-use io_commands::Job;
 use page_memory::{Dma, TouchRecord};
 use queue_pair::DevicePair;
 use std::alloc::Allocator;
@@ -71,14 +66,6 @@ fn answer_cause<D: Dma>(queues: &[ControllerQueue], q: u16, dma: &mut D) -> Opti
     }
 }
 
-/// The queue and the identifier of a command.
-fn name_of<A: Allocator>(command: &FetchedCommand<Job<A>>) -> (u16, u16)
-    ensures queue { result.0 ≡ command.now.q }
-    ensures identifier { result.1 ≡ (entry_of_work command.now.work).cid }
-{
-    (command.q, command.work.entry().cid)
-}
-
 impl<A: Allocator + Copy> Controller<A> {
     /// Whether an entry of a queue can be fetched.
     fn can_fetch<D: TouchRecord>(&self, q: u16, dma: &mut D) -> bool
@@ -89,7 +76,7 @@ impl<A: Allocator + Copy> Controller<A> {
         dma.clear();
         match self.look(q, dma) {
             Ok(entry) => {
-                if find_command(&self.commands, q, entry.cid).is_some() {
+                if self.commands.get(q, entry.cid).is_some() {
                     answer_cause(&self.queues, q, dma).is_none()
                 } else {
                     true
@@ -123,7 +110,7 @@ impl<A: Allocator + Copy> Controller<A> {
         ensures pool { D.page_count dma.new ≡ D.page_count dma.old }
     {
         dma.clear();
-        if check_walk(&self.commands, q, cid).is_ok() {
+        if self.commands.check_walk(q, cid).is_ok() {
             return Some(ControllerStep::Walk { q, cid });
         }
         if self.check_complete(q, cid).is_err() {
@@ -142,13 +129,16 @@ impl<A: Allocator + Copy> Controller<A> {
         ensures memory { D.memory dma.new ≡ D.memory dma.old }
         ensures pool { D.page_count dma.new ≡ D.page_count dma.old }
     {
-        let commands = self.commands();
-        for place in 0..commands.len() {
-            let (q, cid) = name_of(&commands[place]);
+        let mut name = self.first_command();
+        for _ in 0..self.command_count() {
+            let Some((q, cid)) = name else {
+                return None;
+            };
             match self.step_of(q, cid, dma) {
                 Some(step) => return Some(step),
                 None => {}
             }
+            name = self.next_command(q, cid);
         }
         None
     }

@@ -1,35 +1,18 @@
-//! The fetched commands, as a list.
+//! What a command waits for.
 
-ghost use Rattle.std.specs.Prelude.{◌≡◌, ◌<◌, ◌==◌, IfSome, IfNone, None, find, length, slice_get};
+ghost use Rattle.std.specs.Prelude.{◌≡◌, Some, find};
 ghost use Rattle.std.specs.List.{list_any};
 ghost use Rattle.io_commands.specs.Jobs.{is_success as succeeds};
 ghost use Rattle.controller_core.specs.Completing.{is_abort_of, waits_among, has_success as work_succeeds};
-ghost use Rattle.controller_core.specs.Contents.{is_command};
+ghost use Rattle.controller_core.specs.Contents.{AreAwaited, entry_of, entry_of_work, is_command};
 
 use crate::command::{FetchedCommand, Work};
-use admin_commands::queue_of;
-use entry_codec::Status;
+use crate::commands::Commands;
+use admin_commands::{command_of, queue_of};
 use entry_codec::admin_opcode::DELETE_IO_SQ;
+use entry_codec::{Status, SubEntry};
 use io_commands::Job;
 use std::alloc::Allocator;
-
-/// The place of a command.
-pub(crate) fn find_command<A: Allocator>(
-    commands: &[FetchedCommand<Job<A>>],
-    q: u16,
-    cid: u16,
-) -> Option<usize>
-    ensures found { IfSome result (λ i. find (is_command q cid) commands.now ≡ slice_get commands.now i) }
-    ensures within { IfSome result (λ i. i < length commands.now) }
-    ensures none { IfNone result (find (is_command q cid) commands.now ≡ None) }
-{
-    for (i, command) in commands.iter().enumerate() {
-        if command.is_named(q, cid) {
-            return Some(i);
-        }
-    }
-    None
-}
 
 /// Whether a command waits for the Abort of this identifier.
 fn is_abort(waiting: Option<u16>, cid: u16) -> bool
@@ -58,41 +41,35 @@ fn has_success<A: Allocator>(work: &Work<Job<A>>) -> bool
     }
 }
 
-/// Whether some command was stopped by the Abort of this identifier.
-fn is_awaited<A: Allocator>(commands: &[FetchedCommand<Job<A>>], cid: u16) -> bool
-    ensures { result ≡ list_any (λ k. is_abort_of cid k.waiting_abort) commands.now }
-{
-    for command in commands {
-        if is_abort(command.waiting_abort, cid) {
-            return true;
+impl<A: Allocator> Commands<A> {
+    /// Whether an Abort stopped a command that is there. Its own entry names that command.
+    fn is_awaited(&self, entry: &SubEntry) -> bool
+        requires there { entry_of self.now.list 0 entry.now.cid ≡ Some entry.now }
+        requires awaited { AreAwaited self.now.list }
+        ensures { result ≡ list_any (λ k. is_abort_of entry.now.cid k.waiting_abort) self.now.list }
+    {
+        match self.get(queue_of(entry), command_of(entry)) {
+            Some(command) => is_abort(command.waiting_abort, entry.cid),
+            None => false,
         }
     }
-    false
-}
 
-/// Whether a queue has a command.
-fn has_commands<A: Allocator>(commands: &[FetchedCommand<Job<A>>], q: u16) -> bool
-    ensures { result ≡ list_any (λ k. k.q == q) commands.now }
-{
-    commands.iter().any(|command| command.q == q)
-}
-
-/// Whether a command waits: an Abort for the command that it stopped, and a successful deletion for the commands of its queue.
-pub(crate) fn is_waiting<A: Allocator>(
-    commands: &[FetchedCommand<Job<A>>],
-    command: &FetchedCommand<Job<A>>,
-) -> bool
-    ensures { result ≡ waits_among commands.now command.now }
-{
-    if command.q != 0 {
-        return false;
+    /// Whether a command waits: an Abort for the command that it stopped, and a successful deletion for the commands of its queue.
+    pub(crate) fn is_waiting(&self, command: &FetchedCommand<Job<A>>) -> bool
+        requires there { find (is_command command.now.q (entry_of_work command.now.work).cid) self.now.list ≡ Some command.now }
+        requires awaited { AreAwaited self.now.list }
+        ensures { result ≡ waits_among self.now.list command.now }
+    {
+        if command.q != 0 {
+            return false;
+        }
+        let entry = command.work.entry();
+        if self.is_awaited(entry) {
+            return true;
+        }
+        if entry.opcode != DELETE_IO_SQ || !has_success(&command.work) {
+            return false;
+        }
+        self.has_commands(queue_of(entry))
     }
-    let entry = command.work.entry();
-    if is_awaited(commands, entry.cid) {
-        return true;
-    }
-    if entry.opcode != DELETE_IO_SQ || !has_success(&command.work) {
-        return false;
-    }
-    has_commands(commands, queue_of(entry))
 }

@@ -51,12 +51,15 @@ fn put_entry(rt: &impl Abort, guest: &mut Guest, numbers: &mut Numbers) {
 
 /// A queue and an identifier, often of a command that there is.
 fn named(guest: &Guest, numbers: &mut Numbers) -> (u16, u16) {
-    match guest
-        .controller
-        .commands()
-        .get(numbers.next() as usize % 10)
-    {
-        Some(command) => (command.q, command.work.entry().cid),
+    let mut name = guest.controller.first_command();
+    for _ in 0..numbers.next() % 10 {
+        name = match name {
+            Some((q, cid)) => guest.controller.next_command(q, cid),
+            None => None,
+        };
+    }
+    match name {
+        Some(name) => name,
         None => ((numbers.next() % 3) as u16, (numbers.next() % 8) as u16),
     }
 }

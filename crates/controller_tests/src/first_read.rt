@@ -79,7 +79,7 @@ fn first_read(rt: HostRuntime) -> Result<(), Fail> {
     memory.clear();
     assert_eq!(rt; controller.complete(1, 7, &mut memory), Ok(()));
     assert_eq!(rt; memory.touched().as_slice(), [PageNo(3)].as_slice());
-    assert!(rt; controller.commands().is_empty());
+    assert_eq!(rt; controller.command_count(), 0);
 
     // The driver finds the completion in the first slot of its ring, and the block at its address. It says that it has read the completion.
     let mut completion = [0; 16];

@@ -9,22 +9,25 @@ use page_memory::{Dma, TouchRecord};
 use refusing::Refusing;
 use std::test::Fail;
 
-/// An opening takes one list, and hands its image back.
+/// An opening takes two lists, of the queues and of the counts of their commands, and hands its image back.
 #[test]
 fn an_opening(rt: HostRuntime) -> Result<(), Fail> {
     let heap = Refusing::new(rt.alloc());
-    let image = Image::zeroed(&heap, 1)?;
-    heap.refuse(refusing::Refusal::Nth(1));
-    let image = match Controller::open(&heap, ENTRIES, &QUEUES, image) {
-        Ok(_) => panic!(rt; "memory was refused"),
-        Err(refused) => refused.image,
-    };
-    heap.refuse(refusing::Refusal::Nth(2));
+    let mut image = Image::zeroed(&heap, 1)?;
+    for growth in 1..3 {
+        heap.refuse(refusing::Refusal::Nth(growth));
+        image = match Controller::open(&heap, ENTRIES, &QUEUES, image) {
+            Ok(_) => panic!(rt; "memory was refused at growth {growth}"),
+            Err(refused) => refused.image,
+        };
+    }
+    heap.refuse(refusing::Refusal::Nth(3));
     assert!(rt; Controller::open(&heap, ENTRIES, &QUEUES, image).is_ok());
     Ok(())
 }
 
-/// The fetch of a Write takes its bytes, and room for one command more.
+/// The fetch of a Write takes its bytes, and room for one command more: the two columns of the map, and its index. Room that was got stays, also where the
+/// rest is refused.
 #[test]
 fn a_fetch(rt: HostRuntime) -> Result<(), Fail> {
     let heap = Refusing::new(rt.alloc());
@@ -35,15 +38,17 @@ fn a_fetch(rt: HostRuntime) -> Result<(), Fail> {
     let mut memory = GuestMemory::zeroed(rt.alloc(), 0x8000)?;
     memory.write(0x2000, &io_entry(WRITE, 7, 0, 1, DATA, 512))?;
     controller.tail_doorbell(1, 1);
-    for growth in 1..3 {
+    for growth in 1..5 {
         heap.refuse(refusing::Refusal::Nth(growth));
         memory.clear();
         let fetched = controller.fetch(1, &mut memory);
         assert_eq!(rt; fetched, Err(Refusal::Memory), "growth {growth}");
-        assert_eq!(rt; heap.tally().blocks, 2, "growth {growth}");
+        assert_eq!(rt; controller.command_count(), 0, "growth {growth}");
     }
-    heap.refuse(refusing::Refusal::Nth(3));
+    heap.refuse(refusing::Refusal::Nth(5));
     memory.clear();
     assert_eq!(rt; controller.fetch(1, &mut memory), Ok(7));
+    drop(controller);
+    assert_eq!(rt; heap.tally().blocks, 0);
     Ok(())
 }

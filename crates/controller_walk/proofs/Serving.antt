@@ -1,5 +1,5 @@
 -- A memory that serves a course gives it again.
-use Rattle.std.proofs.Common.{◌≡◌, ◌+◌, ◌-◌, ℕ, zero, suc, Bool, true, false, List, Option, Some, None, refl, sym, ap, cond, is_some}
+use Rattle.std.proofs.Common.{◌≡◌, ◌+◌, ◌-◌, ℕ, zero, suc, Bool, true, false, List, Option, Some, None, refl, ap, cond, is_some}
 use Rattle.entry_codec.specs.declared.status.Status.{Status}
 use Rattle.entry_codec.specs.declared.status.TheConstants.Status.{DATA_TRANSFER_ERROR}
 use Rattle.page_memory.specs.Memory.{Memory, bytes_at}
@@ -13,7 +13,7 @@ use Rattle.controller_walk.specs.declared.progress.State.TheVariants.{First, Nex
 use Rattle.controller_walk.specs.declared.progress.Progress.{Progress}
 use Rattle.controller_walk.specs.declared.walk.WalkState.TheVariants.{Fault}
 use Rattle.controller_walk.specs.Units.{Stays, Reads, Moves, Course, Closes, Does, after_read, read_at, from_place, behind, goes_on, unless_fault, first_fault, moving, first_part, pages_spanned, entry_cursor}
-use Rattle.controller_walk.specs.Walks.{course, course_in}
+use Rattle.controller_walk.specs.Walks.{course_in}
 use Rattle.controller_walk.specs.Serving.{Serves, SameWhereServed, SameListWhereServed}
 
 -- what follows in one memory is served, and is the same in the other

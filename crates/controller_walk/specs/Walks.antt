@@ -96,6 +96,17 @@ left_in w Over = 0
 abbrev pub left_of : Walk → ℕ
 left_of w = left_in w w.state
 
+-- how many descriptors a walk may still read from memory, whatever becomes of that memory between its steps
+abbrev pub reads_left : Walk → ℕ
+reads_left w = w.allowed
+
+-- how many descriptors the first unit of a course reads
+abbrev pub reads_first : Course → ℕ
+reads_first (Closes v) = 0
+reads_first (Does Stays rest) = 0
+reads_first (Does (Reads place) rest) = 1
+reads_first (Does (Moves place n offset) rest) = 0
+
 -- what no step changes
 abbrev pub Keeps : Walk → Walk → Type 0
 Keeps w w' = (w'.direction ≡ w.direction) × (w'.need ≡ w.need)

@@ -8,7 +8,7 @@ ghost use Rattle.sgl_descriptor.specs.Targets.{counted as spec_counted};
 ghost use Rattle.controller_walk.specs.declared.progress.State.TheVariants.{Over};
 ghost use Rattle.controller_walk.specs.Units.{next as spec_next, after_read, goes_on, rest_of, from_place, moving, first_part as spec_first_part, pages_spanned};
 ghost use Rattle.controller_walk.specs.Progress.{IsProgress, IsBounded, IsClear, IsAfter, IsCursor, IsBlock};
-ghost use Rattle.controller_walk.specs.Walks.{course, is_over, is_more, IfMore, DoesFirst, LeavesRest, Leaves, left_of, Keeps, Moved};
+ghost use Rattle.controller_walk.specs.Walks.{course, is_over, is_more, IfMore, DoesFirst, LeavesRest, Leaves, left_of, reads_first, Keeps, Moved};
 
 use crate::cursor::{Cursor, Named};
 use crate::faults::{counted, first_fault};
@@ -76,6 +76,7 @@ impl Progress {
         ensures over { is_over result.0 ≡ not (is_more result.1) }
         ensures kept { Keeps self result.0 }
         ensures fewer { IfMore result.1 (left_of result.0 < left_of self) }
+        ensures reads { reads_first (course (D.memory dma.old) self) + result.0.allowed ≤ self.allowed }
         ensures pool { D.page_count dma.new ≡ D.page_count dma.old }
     {
         match self.state {
@@ -103,6 +104,7 @@ impl Progress {
         ensures over { is_over result.0 ≡ not (is_more result.1) }
         ensures kept { Keeps self result.0 }
         ensures fewer { IfMore result.1 (left_of result.0 ≤ 1 + 3 * self.allowed + self.wanted / 4096) }
+        ensures allowed { result.0.allowed ≡ self.allowed }
     {
         match after {
             Some(cursor) => {
@@ -127,6 +129,7 @@ impl Progress {
         ensures over { is_over result.0 ≡ not (is_more result.1) }
         ensures kept { Keeps self result.0 }
         ensures fewer { IfMore result.1 (left_of result.0 < 1 + 3 * self.allowed + self.wanted / 4096) }
+        ensures reads { reads_first (from_place self.allowed (D.memory dma.old) self.direction self.need cursor self.wanted) + result.0.allowed ≤ self.allowed }
         ensures pool { D.page_count dma.new ≡ D.page_count dma.old }
     {
         if self.allowed == 0 {
@@ -151,6 +154,7 @@ impl Progress {
         ensures over { is_over result.0 ≡ not (is_more result.1) }
         ensures kept { Keeps self result.0 }
         ensures fewer { IfMore result.1 (left_of result.0 < 4 + 3 * self.allowed + self.wanted / 4096) }
+        ensures allowed { result.0.allowed ≡ self.allowed }
     {
         match Descriptor::read(bytes) {
             Err(_) => self.close(WalkState::Fault(Status::SGL_TYPE_INVALID)),
@@ -171,6 +175,7 @@ impl Progress {
         ensures over { is_over result.0 ≡ not (is_more result.1) }
         ensures kept { Keeps self result.0 }
         ensures fewer { IfMore result.1 (left_of result.0 < 4 + 3 * self.allowed + self.wanted / 4096) }
+        ensures allowed { result.0.allowed ≡ self.allowed }
     {
         match descriptor {
             Descriptor::DataBlock { addr, len } => self.start(addr, len, next(cursor)),
@@ -210,6 +215,7 @@ impl Progress {
         ensures over { is_over result.0 ≡ not (is_more result.1) }
         ensures kept { Keeps self result.0 }
         ensures fewer { IfMore result.1 (left_of result.0 < 4 + 3 * self.allowed + self.wanted / 4096) }
+        ensures allowed { result.0.allowed ≡ self.allowed }
     {
         let offset = self.need - self.wanted;
         let counted = Progress {
@@ -242,6 +248,7 @@ impl Progress {
         ensures over { is_over result.0 ≡ not (is_more result.1) }
         ensures kept { Keeps self result.0 }
         ensures fewer { IfMore result.1 (left_of result.0 < 1 + pages_spanned block.place block.len + 3 * self.allowed + self.wanted / 4096) }
+        ensures reads { reads_first (moving (D.memory dma.old) (pages_spanned block.place block.len) block.place block.len block.offset (rest_of self.allowed (D.memory dma.old) self.direction self.need after self.wanted)) + result.0.allowed ≤ self.allowed }
         ensures pool { D.page_count dma.new ≡ D.page_count dma.old }
     {
         let n = first_part(block.place, block.len);
@@ -270,6 +277,7 @@ impl Progress {
         ensures over { is_over result.0 ≡ not (is_more result.1) }
         ensures kept { Keeps self result.0 }
         ensures fewer { IfMore result.1 (left_of result.0 ≤ 1 + pages_spanned (block.place + n) (block.len - n) + 3 * self.allowed + self.wanted / 4096) }
+        ensures allowed { result.0.allowed ≡ self.allowed }
     {
         if n == block.len {
             return self.go(after);

@@ -3,7 +3,7 @@
 ghost use Rattle.std.specs.Prelude.{◌≡◌, ◌<◌, ◌≤◌, ◌+◌, ◌/◌, length, not, true, false};
 ghost use Rattle.page_memory.specs.Memory.{Memory};
 ghost use Rattle.controller_walk.specs.Units.{course_of_list};
-ghost use Rattle.controller_walk.specs.Walks.{course, is_over as spec_is_over, need_of, direction_of, is_more, IfMore, DoesFirst, LeavesRest, left_of};
+ghost use Rattle.controller_walk.specs.Walks.{course, is_over as spec_is_over, need_of, direction_of, is_more, IfMore, DoesFirst, LeavesRest, left_of, reads_first, reads_left};
 
 use crate::progress::{Progress, State, pages};
 use entry_codec::Status;
@@ -53,6 +53,7 @@ impl Walk {
         ensures direction { direction_of result ≡ direction }
         ensures need { need_of result ≡ need }
         ensures left { left_of result ≡ 12289 + need / 4096 }
+        ensures reads { reads_left result ≡ 4095 }
     {
         Walk {
             progress: Progress {
@@ -81,6 +82,9 @@ impl Walk {
         ensures direction { direction_of self.new ≡ direction_of self.old }
         ensures need { need_of self.new ≡ need_of self.old }
         ensures fewer { IfMore result (left_of self.new < left_of self.old) }
+
+        // So a walk reads at most 4,095 descriptors, whatever becomes of the memory between its steps.
+        ensures reads { reads_first (course (D.memory dma.old) self.old) + reads_left self.new ≤ reads_left self.old }
         ensures touches { length (D.reached dma.new) ≤ length (D.reached dma.old) + 2 }
         ensures pool { D.page_count dma.new ≡ D.page_count dma.old }
     {

@@ -9,7 +9,7 @@ use Rattle.std.proofs.lemmas.Option.{slice_get-get_or}
 use Rattle.machine_model.specs.Step.{times}
 use Rattle.machine_model.proofs.Counting.{one, times-cons, times-append, times-filter}
 use Rattle.entry_codec.specs.declared.status.Status.{Status}
-use Rattle.driver_book.specs.declared.log.Entry.{Entry}
+use Rattle.driver_book.specs.Values.{Entry}
 use Rattle.driver_book.specs.declared.log.Receipt.{Receipt}
 use Rattle.driver_book.specs.History.{accepted, is_accepted}
 use Rattle.driver_book.specs.State.{SeatContents}

@@ -10,7 +10,7 @@ use Rattle.machine_model.proofs.NeverRestored.{ends_unforged}
 use Rattle.step_core.specs.Opening.{opening_of}
 use Rattle.driver_book.specs.History.{asked, told, TellsOf, LeadsTo}
 use Rattle.driver_book.specs.Laws.{IsEntryOf, entries_name_allowed_pages, logs_are_trusted_runs}
-use Rattle.driver_book.specs.declared.log.Entry.{Entry}
+use Rattle.driver_book.specs.Values.{Entry}
 
 -- one step more
 pub leads_further : (old mid new : State) (log : List Entry) (e : Entry) → LeadsTo old log mid → TellsOf mid e new → LeadsTo old (log ++ e ∷ []) new

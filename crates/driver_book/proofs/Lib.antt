@@ -2,3 +2,5 @@ pub mod Histories
 pub mod EachReceipt
 pub mod Standing
 pub mod Runs
+pub mod Seats
+pub mod Closing

@@ -1,5 +1,5 @@
 -- A log that grows by a step.
-use Rattle.std.proofs.Common.{◌≡◌, ◌⊎◌, inr, ℕ, ◌+◌, List, [], ◌∷◌, ◌++◌, Option, Some, None, Bool, true, false, not, ◌||◌, cond, Result, Ok, Err, is_ok, true≢false, refl, sym, ap, ◌∙◌, arith}
+use Rattle.std.proofs.Common.{◌≡◌, ◌⊎◌, inr, ℕ, ◌+◌, ◌-◌, ◌<◌, ◌≤◌, List, [], ◌∷◌, ◌++◌, Option, Some, None, Bool, true, false, not, ◌||◌, cond, Result, Ok, Err, is_ok, is_err, OnOk, OnErr, true≢false, refl, sym, ap, ◌∙◌, arith}
 use Rattle.std.proofs.lemmas.List.{append-nil}
 use Rattle.std.proofs.lemmas.List.Sums.{sum_by_push}
 use Rattle.std.specs.Prelude.{is_some, MatchBool}
@@ -9,14 +9,19 @@ use Rattle.machine_model.specs.Events as events
 use Rattle.machine_model.specs.Events.{Event}
 use Rattle.machine_model.specs.State.{State}
 use Rattle.machine_model.specs.Step as machine
+use Rattle.machine_model.specs.declared.words.Refusal.{Refusal}
 use Rattle.machine_model.specs.declared.words.Refusal.TheVariants as refusal
-use Rattle.driver_book.specs.Calls.{noted, entries, Does, WantsMemoryFor, MayWorldWant}
+use Rattle.driver_book.specs.Calls.{noted, entries, Does, WantsMemoryFor, IsLogFull, MayWorldWant}
+use Rattle.machine_model.proofs.Headline.{steps_keep, runs_are_sound}
 use Rattle.driver_book.proofs.Histories.{leads_further}
 use Rattle.driver_book.specs.History.{asked, told, entry, is_submission, is_accepted, accepted}
 use Rattle.driver_book.specs.State.{BookContents, IsBook, is_seated, AreSeated}
-use Rattle.driver_book.specs.declared.log.Entry.{Entry}
+use Rattle.driver_book.specs.Values.{Entry}
 use Rattle.step_core.specs.Replies.{accept_reply}
+use Rattle.host_core.specs.Opening.{refusal_of_config}
+use Rattle.host_core.specs.declared.config.Config.{Config}
 use Rattle.host_core.specs.declared.refused.Refused.{Refused}
+use Rattle.step_core.specs.Opening.{opening_of}
 use Rattle.step_core.specs.Touching.{StaysAllowed}
 
 -- Counts
@@ -49,6 +54,7 @@ book_step {o = o} {w = w} {v = v} {log = log} seat e r b step other =
     let same : accepted (log ++ written ∷ []) ≡ accepted log = accepted_other log written other in
     record {
       legal = leads_further o w v log written b.legal (record { event = e; answer = r; asks = refl; tells = refl; step = step });
+      sound = steps_keep w e r v step b.sound;
       counted = same ∙ b.counted;
       numbered = b.numbered ∙ sym same;
       seated = seated_push log written b.seated (not_accepted seat (is_submission (asked e) (told r)) other);
@@ -67,6 +73,7 @@ book_accept {o = o} {w = w} {v = v} {log = log} seat d b step counted =
     let one : accepted (log ++ written ∷ []) ≡ accepted log + 1 = accepted_more log written refl in
     record {
       legal = leads_further o w v log written b.legal (record { event = events.Submit d; answer = events.Accepted; asks = refl; tells = refl; step = step });
+      sound = steps_keep w (events.Submit d) events.Accepted v step b.sound;
       counted = one ∙ ap (λ (n : ℕ). n + 1) b.counted ∙ sym counted;
       numbered = ap (λ (n : ℕ). n + 1) b.numbered ∙ sym one;
       seated = seated_push log written b.seated refl;
@@ -98,9 +105,11 @@ refused_submission d (Ok ticket) isnt = absurd (true≢false isnt)
 refused_submission d (Err r) isnt = refl
 
 -- a book as it opens
-pub empty_book : {o w : State} {log : List Entry} {tally parts ledger : ℕ} → o ≡ w → log ≡ [] → tally ≡ 0 → parts ≡ ledger → ledger ≡ 65536 → IsBook o w log tally 0 parts 0 0 ledger
-empty_book is none zero all number = rw (none, zero) (record {
-  legal = sym is;
+pub empty_book : (config : Config) (image : List ℕ) {o w : State} {log : List Entry} {tally parts ledger : ℕ}
+    → refusal_of_config config ≡ None → o ≡ opening_of config image → w ≡ opening_of config image → log ≡ [] → tally ≡ 0 → parts ≡ ledger → ledger ≡ 65536 → IsBook o w log tally 0 parts 0 0 ledger
+empty_book config image fits opens is none zero all number = rw (opens, is, none, zero) (record {
+  legal = refl;
+  sound = runs_are_sound config.pages config.queues config.entries config.segment image [] [] (opening_of config image) fits refl;
   counted = refl;
   numbered = refl;
   seated = tt;
@@ -166,3 +175,21 @@ pub takes_memory : (Cause : Type 0) {at old : BookContents} → at ≡ old → (
 takes_memory Cause same new e (events.Refused refusal.Memory touched) step = inr (rw (← same) (touched, step.1))
 takes_memory Cause same new e (events.Refused why touched) step = tt
 takes_memory Cause same new e r step = tt
+
+-- Room in a list
+
+-- where room was made for one more, there is some
+pub has_room : {A E : Type 0} (len capacity : ℕ) (made : Result A E) → is_err made ≡ false → OnOk made (len + 1 ≤ capacity) → len < capacity
+has_room len capacity (Ok done) is room = omega (arith, room)
+has_room len capacity (Err e) is room = absurd (true≢false is)
+
+-- and where none was made, the log is full
+pub no_room : {A E : Type 0} {at old : BookContents} → at ≡ old → (len capacity : ℕ) (made : Result A E) → is_err made ≡ true → OnErr made (capacity < len + 1)
+    → at.spare ≡ capacity - len → IsLogFull old
+no_room same len capacity (Ok done) is full spare = absurd (true≢false (sym is))
+no_room {at = at} same len capacity (Err e) is full spare =
+    let none : at.spare ≡ 0 = omega (arith, full, spare) in
+    rw (← same) none
+
+pub wants_room : {Cause : Type 0} (why : Refusal) (touched : List ℕ) → why ≡ refusal.Memory → Cause → WantsMemoryFor Cause (events.Refused why touched)
+wants_room why touched is cause = rw is cause

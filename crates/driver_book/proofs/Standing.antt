@@ -6,7 +6,7 @@ use Rattle.std.proofs.lemmas.Option.{get_or_from_slice_get, slice_get-get_or}
 use Rattle.std.proofs.lemmas.List.Sums.{count_by_more_yes, count_by_more_no}
 use Rattle.entry_codec.specs.declared.status.Status.{Status}
 use Rattle.machine_model.proofs.Members.{all_at}
-use Rattle.driver_book.specs.declared.log.Entry.{Entry}
+use Rattle.driver_book.specs.Values.{Entry}
 use Rattle.driver_book.specs.History.{is_accepted, accepted}
 use Rattle.driver_book.specs.State.{SeatContents, is_seated, AreSeated}
 use Rattle.driver_book.specs.Close.{same_seat, has, stands, StandBefore, accepted_of, IsMissing}

@@ -10,7 +10,7 @@ use Rattle.machine_model.specs.Step as machine
 use Rattle.machine_model.specs.declared.words.Refusal.TheVariants as refusal
 use Rattle.driver_book.specs.History.{asked, told, entry, accepted}
 use Rattle.driver_book.specs.State.{BookContents, SeatContents}
-use Rattle.driver_book.specs.declared.log.Entry.{Entry}
+use Rattle.driver_book.specs.Values.{Entry}
 use Rattle.driver_book.specs.declared.log.Receipt.{Receipt}
 use Rattle.host_core.specs.declared.refused.Refused.{Refused}
 use Rattle.step_core.specs.Values.{Reply}

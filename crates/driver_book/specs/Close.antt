@@ -10,9 +10,9 @@ use Rattle.driver_book.specs.History.{is_accepted, accepted}
 use Rattle.driver_book.specs.State.{BookContents, SeatContents}
 use Rattle.driver_book.specs.declared.log.CloseFault.{CloseFault}
 use Rattle.driver_book.specs.declared.log.CloseFault.TheVariants.{Missing, SeatOut, StillOut, Memory}
-use Rattle.driver_book.specs.declared.log.Entry.{Entry}
+use Rattle.driver_book.specs.Values.{Entry}
 use Rattle.driver_book.specs.declared.log.Receipt.{Receipt}
-use Rattle.driver_book.specs.declared.log.Report.{Report}
+use Rattle.driver_book.specs.Values.{Report}
 use Rattle.step_core.specs.Values.{Reply}
 use Rattle.step_core.specs.declared.step.Reply.TheVariants as reply
 use Rattle.step_core.specs.Values.{Step}

@@ -9,7 +9,7 @@ use Rattle.host_core.specs.Opening.{refusal_of_config}
 use Rattle.step_core.specs.Opening.{opening_of}
 use Rattle.host_core.specs.declared.config.Config.{Config}
 use Rattle.driver_book.specs.History.{asked, told, TellsOf, LeadsTo}
-use Rattle.driver_book.specs.declared.log.Entry.{Entry}
+use Rattle.driver_book.specs.Values.{Entry}
 
 -- the states before and behind an entry of a log, and what it tells of: where nothing was forged before it, it names allowed pages alone
 pub record IsEntryOf (opening : State) (before : List Entry) (e : Entry) (after : List Entry) (world : State) : Type 0 where

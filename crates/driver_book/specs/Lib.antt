@@ -4,3 +4,4 @@ pub mod Calls
 pub mod Close
 pub mod Laws
 pub mod Passes
+pub mod Values

@@ -4,7 +4,7 @@ use Rattle.std.specs.List.{list_any}
 use Rattle.driver_book.specs.History.{is_accepted}
 use Rattle.driver_book.specs.State.{SeatContents}
 use Rattle.driver_book.specs.Close.{same_seat, stands}
-use Rattle.driver_book.specs.declared.log.Entry.{Entry}
+use Rattle.driver_book.specs.Values.{Entry}
 
 -- a seat of this number is among these
 abbrev pub is_known : List SeatContents → Option ℕ → Bool

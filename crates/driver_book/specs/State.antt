@@ -1,9 +1,10 @@
 -- What contracts see of a book and of a seat, and what holds of every book.
 use Rattle.std.specs.Prelude.{◌≡◌, ℕ, ◌+◌, ◌≤◌, List, Bool, true, not, ◌||◌, is_some}
 use Rattle.std.specs.List.{AllByRecursion}
+use Rattle.machine_model.specs.Claims.{IsSound}
 use Rattle.machine_model.specs.State.{State}
 use Rattle.driver_book.specs.History.{LeadsTo, is_accepted, accepted}
-use Rattle.driver_book.specs.declared.log.Entry.{Entry}
+use Rattle.driver_book.specs.Values.{Entry}
 use Rattle.driver_book.specs.declared.log.Receipt.{Receipt}
 
 -- A book: the world as it was opened and as it is, the log between, how many seats were made, how many of them no close took, how many
@@ -31,10 +32,11 @@ is_seated e = is_some e.seat || not (is_accepted e)
 abbrev pub AreSeated : List Entry → Type 0
 AreSeated log = AllByRecursion (λ e. is_seated e ≡ true) log
 
--- A book's log leads from the opening to the world as it is; the tally counts its accepted submissions; the parts of the ledger are those of the seats that are out, and the
--- rest.
+-- A book's log leads from the opening to the world as it is, which is sound; the tally counts its accepted submissions; the parts of the ledger
+-- are those of the seats that are out, and the rest.
 pub record IsBook (opening world : State) (log : List Entry) (tally submissions parts out made ledger : ℕ) : Type 0 where
   pub legal : LeadsTo opening log world
+  pub sound : IsSound world
   pub counted : accepted log ≡ tally
   pub numbered : submissions ≡ accepted log
   pub seated : AreSeated log

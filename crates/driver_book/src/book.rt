@@ -9,12 +9,12 @@ ghost use Rattle.step_core.specs.Opening.{opening_of};
 ghost use Rattle.driver_book.specs.History.{LeadsTo};
 ghost use Rattle.driver_book.specs.State.{BookContents};
 
-use crate::log::{Entry, NoSeat};
+use crate::log::{EntryIn, NoSeat};
 use crate::seat::Seat;
 use block_image::Image;
 use page_ledger::{Counts, Owner};
 use page_memory::PageNo;
-use std::alloc::Global;
+use std::alloc::{Allocator, Global};
 use std::marker::{Brand, Model};
 use std::sync::ledger;
 use std::sync::ledger::{Blank, Ledger, Share};
@@ -36,21 +36,21 @@ impl Driver for Brand {
 
 /// A book that was not opened: why, and what was handed in.
 #[derive(Drop)]
-pub struct BookRefused {
+pub struct BookRefused<A: Allocator = Global> {
     /// Why.
     pub why: OpenRefusal,
     /// The image, as it was handed in.
-    pub image: Image,
+    pub image: Image<A>,
     /// The ledger, as it was handed in.
     pub blank: Blank,
 }
 
-/// A world, and the log of all its steps since it opened. Contracts see both, and how many seats were made.
+/// A world, and the log of all its steps since it opened, in the memory of one allocator. Contracts see both, and how many seats were made.
 #[derive(Drop)]
-pub struct Book<L: Driver> {
-    pub(crate) alloc: Global,
-    pub(crate) world: World,
-    pub(crate) log: Vec<Entry>,
+pub struct Book<L: Driver, A: Allocator = Global> {
+    pub(crate) alloc: A,
+    pub(crate) world: World<A>,
+    pub(crate) log: Vec<EntryIn<A>, A>,
     pub(crate) submissions: u64,
     pub(crate) tally: ledger::Book<L>,
     pub(crate) rest: Share<L>,
@@ -59,7 +59,7 @@ pub struct Book<L: Driver> {
     pub(crate) stopping: bool,
 }
 
-impl<L: Driver> Model for Book<L> {
+impl<L: Driver, A: Allocator> Model for Book<L, A> {
     ghost use Rattle.std.specs.Prelude.{◌-◌, vec_len, vec_capacity};
     ghost use Rattle.driver_book.specs.State.{BookContents, IsBook};
 
@@ -70,19 +70,19 @@ impl<L: Driver> Model for Book<L> {
     ghost invariant = { λ b. IsBook L.opening b.world b.log.items b.tally.total b.submissions b.rest.parts b.out b.made L.parts };
 }
 
-impl<L: Driver> Book<L> {
-    /// Opens a world over an image, and a book of it, with an empty log and no seat. The blank ledger has 65,536 parts and opens
-    /// this book alone.
+impl<L: Driver, A: Allocator + Copy> Book<L, A> {
+    /// Opens a world over an image, and a book of it, with an empty log and no seat. The allocator is that of all that the book will hold.
+    /// The blank ledger has 65,536 parts and opens this book alone.
     ///
     /// # Errors
     ///
     /// As [`World::open`]. The image and the ledger come back.
     pub fn open(
-        alloc: Global,
+        alloc: A,
         config: Config,
-        image: Image,
+        image: Image<A>,
         blank: Blank,
-    ) -> Result<Book<L>, BookRefused>
+    ) -> Result<Book<L, A>, BookRefused<A>>
         requires name { blank.name ≡ L.name }
         requires parts { blank.parts ≡ L.parts }
         requires number { blank.parts ≡ 65536 }
@@ -124,12 +124,11 @@ impl<L: Driver> Book<L> {
         ensures legal { LeadsTo self.now.opening self.now.log self.now.world }
         ensures sound { IsSound self.now.world }
     {
-        self.world.check();
-        let _log = &self.log;
+        prove!(self.out <= self.made);
     }
 
     /// The log, the oldest entry first.
-    pub fn log(&self) -> &[Entry]
+    pub fn log(&self) -> &[EntryIn<A>]
         ensures { result.now ≡ self.now.log }
     {
         self.log.as_slice()
@@ -140,7 +139,7 @@ impl<L: Driver> Book<L> {
     /// # Errors
     ///
     /// Where 65,535 seats were made.
-    pub fn seat(&mut self) -> Result<Seat<L>, NoSeat>
+    pub fn seat(&mut self) -> Result<Seat<L, A>, NoSeat>
         ensures seat { IfOk result (λ seat. seat ≡ record { number = self.old.made; receipts = []; spare = 0 }) }
         ensures made { OnOk result (self.new ≡ record self.old { made = self.old.made + 1; out = self.old.out + 1 }) }
         ensures room { OnOk result (self.old.made < 65535) }

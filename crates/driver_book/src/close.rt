@@ -2,32 +2,34 @@
 
 ghost use Rattle.std.specs.Prelude.{◌≡◌, ℕ, ◌+◌, ◌<◌, ◌≤◌, ◌&&◌, length, map, take, Some, is_none, MatchOption, IfSome, IfNone, slice_get, vec_len, vec_capacity, IfOk, IfErr, OnOk, OnErr};
 ghost use Rattle.std.specs.List.{list_any};
+ghost use Rattle.machine_model.specs.Claims.{IsSound};
 ghost use Rattle.machine_model.specs.Status.{same_status as same_statuses};
-ghost use Rattle.driver_book.specs.History.{accepted, is_accepted, is_submission as is_step_of_submission};
+ghost use Rattle.driver_book.specs.History.{LeadsTo, accepted, is_accepted, is_submission as is_step_of_submission};
 ghost use Rattle.driver_book.specs.State.{AreSeated};
 ghost use Rattle.driver_book.specs.Close.{status_by, held, same_seat, accepted_of, fits_status, queue_in, identifier_in, is_receipt_of, has, stands, AllStand, IsMissing, receipts_of, has_open, IsDone, RefusesClose, Reports};
 ghost use Rattle.driver_book.specs.Passes.{is_known, StandOf, AreKnown, IsMissingAt};
 ghost use Rattle.driver_book.specs.declared.log.Receipt.{Receipt as AReceipt};
 
 use crate::book::{Book, Driver};
-use crate::log::{CloseFault, Entry, Receipt, Receipts, Report};
+use crate::log::{CloseFault, EntryIn, Receipt, Receipts, Report, ReportIn};
 use crate::seat::Seat;
 use entry_codec::Status;
 use machine_model::words::Reaped;
+use std::alloc::{Allocator, Global};
 use std::sync::ledger::{Ledger, Share};
-use step_core::{Reply, Step};
+use step_core::{Reply, ReplyIn, Step, StepIn};
 
 /// A book that was not closed: why, and the seats that were handed in. Nothing changed.
 #[derive(Drop)]
-pub struct CloseRefused<L: Ledger> {
+pub struct CloseRefused<L: Ledger, A: Allocator = Global> {
     /// Why.
     pub why: CloseFault,
     /// The seats, as they were handed in.
-    pub seats: Vec<Seat<L>>,
+    pub seats: Vec<Seat<L, A>, A>,
 }
 
 /// Whether a step is a submission that was accepted.
-fn is_accepted_step(step: &Step, answer: &Reply) -> bool
+fn is_accepted_step<A: Allocator>(step: &StepIn<A>, answer: &ReplyIn<A>) -> bool
     ensures { result ≡ is_step_of_submission step.now answer.now }
 {
     match step {
@@ -37,7 +39,7 @@ fn is_accepted_step(step: &Step, answer: &Reply) -> bool
 }
 
 /// Whether an entry is a submission that was accepted.
-fn is_submission(entry: &Entry) -> bool
+fn is_submission<A: Allocator>(entry: &EntryIn<A>) -> bool
     ensures { result ≡ is_accepted entry.now }
 {
     is_accepted_step(&entry.step, &entry.answer)
@@ -55,7 +57,7 @@ fn is_same_seat(a: Option<u16>, b: Option<u16>) -> bool
 }
 
 /// How many submissions a log has that were accepted.
-fn accepted_in(log: &[Entry]) -> u64
+fn accepted_in<A: Allocator>(log: &[EntryIn<A>]) -> u64
     ensures { result ≡ accepted log.now }
 {
     let mut number = 0;
@@ -68,7 +70,12 @@ fn accepted_in(log: &[Entry]) -> u64
 }
 
 /// The status with which a step ended a submitted command.
-fn status_of_step(q: u16, cid: u16, step: &Step, answer: &Reply) -> Option<Status>
+fn status_of_step<A: Allocator>(
+    q: u16,
+    cid: u16,
+    step: &StepIn<A>,
+    answer: &ReplyIn<A>,
+) -> Option<Status>
     ensures { result ≡ status_by q cid step.now answer.now }
 {
     match step {
@@ -87,7 +94,7 @@ fn status_of_step(q: u16, cid: u16, step: &Step, answer: &Reply) -> Option<Statu
 }
 
 /// The first status that a log goes on to give a submitted command.
-fn status_in(q: u16, cid: u16, log: &[Entry]) -> Option<Status>
+fn status_in<A: Allocator>(q: u16, cid: u16, log: &[EntryIn<A>]) -> Option<Status>
     ensures { result ≡ held q cid log.now }
 {
     for i in 0..log.len() {
@@ -119,7 +126,7 @@ fn fits(status: Option<Status>, told: Option<Status>) -> bool
 }
 
 /// The queue of a submission.
-fn queue_of_step(step: &Step) -> u16
+fn queue_of_step<A: Allocator>(step: &StepIn<A>) -> u16
     ensures { result ≡ queue_in step.now }
 {
     match step {
@@ -129,7 +136,7 @@ fn queue_of_step(step: &Step) -> u16
 }
 
 /// The identifier of a submission.
-fn identifier_of_step(step: &Step) -> u16
+fn identifier_of_step<A: Allocator>(step: &StepIn<A>) -> u16
     ensures { result ≡ identifier_in step.now }
 {
     match step {
@@ -154,8 +161,8 @@ fn is_wanted(receipt: Option<Receipt>, wanted: Receipt) -> bool
 }
 
 /// Whether a seat has this number, and at this place the receipt that is wanted.
-fn has_receipt<L: Ledger>(
-    holder: &Seat<L>,
+fn has_receipt<L: Ledger, A: Allocator>(
+    holder: &Seat<L, A>,
     seat: Option<u16>,
     place: usize,
     wanted: Receipt,
@@ -167,7 +174,12 @@ fn has_receipt<L: Ledger>(
 }
 
 /// Whether some seat has this number, and at this place the receipt that is wanted.
-fn any_has<L: Ledger>(seats: &[Seat<L>], seat: Option<u16>, place: usize, wanted: Receipt) -> bool
+fn any_has<L: Ledger, A: Allocator>(
+    seats: &[Seat<L, A>],
+    seat: Option<u16>,
+    place: usize,
+    wanted: Receipt,
+) -> bool
     ensures { result ≡ list_any (has seat place wanted.number wanted.q wanted.cid wanted.status) seats.now }
 {
     seats.iter().any(|s| has_receipt(s, seat, place, wanted))
@@ -175,13 +187,13 @@ fn any_has<L: Ledger>(seats: &[Seat<L>], seat: Option<u16>, place: usize, wanted
 
 /// Whether the submission at `index` of the log, which is the one of this number, and the one at this place of its seat, stands in the
 /// receipts.
-fn does_stand<L: Ledger>(
-    log: &[Entry],
-    seats: &[Seat<L>],
+fn does_stand<L: Ledger, A: Allocator>(
+    log: &[EntryIn<A>],
+    seats: &[Seat<L, A>],
     index: usize,
     number: u64,
     place: usize,
-    entry: &Entry,
+    entry: &EntryIn<A>,
 ) -> bool
     requires within { index < length log.now }
     requires number { number ≡ accepted (take index log.now) }
@@ -201,7 +213,12 @@ fn does_stand<L: Ledger>(
 }
 
 /// Goes through the first entries of a log, with the place of one seat: where its first submission stands that is in no receipt.
-fn missing_of<L: Ledger>(log: &[Entry], seats: &[Seat<L>], seat: u16, end: usize) -> Option<usize>
+fn missing_of<L: Ledger, A: Allocator>(
+    log: &[EntryIn<A>],
+    seats: &[Seat<L, A>],
+    seat: u16,
+    end: usize,
+) -> Option<usize>
     requires { end ≤ length log.now }
     ensures none { IfNone result (StandOf (Some seat) log.now seats.now end) }
     ensures within { IfSome result (λ p. p < end) }
@@ -226,14 +243,14 @@ fn missing_of<L: Ledger>(log: &[Entry], seats: &[Seat<L>], seat: u16, end: usize
 }
 
 /// Whether a seat of this number was handed in.
-fn has_seat<L: Ledger>(seats: &[Seat<L>], seat: Option<u16>) -> bool
+fn has_seat<L: Ledger, A: Allocator>(seats: &[Seat<L, A>], seat: Option<u16>) -> bool
     ensures { result ≡ is_known seats.now seat }
 {
     seats.iter().any(|s| is_same_seat(Some(s.number), seat))
 }
 
 /// How far the accepted submissions of a log are of seats that were handed in.
-fn known_until<L: Ledger>(log: &[Entry], seats: &[Seat<L>]) -> usize
+fn known_until<L: Ledger, A: Allocator>(log: &[EntryIn<A>], seats: &[Seat<L, A>]) -> usize
     ensures within { result ≤ length log.now }
     ensures known { AreKnown log.now seats.now result }
     ensures missing { result < length log.now → IsMissingAt log.now seats.now result }
@@ -251,7 +268,7 @@ fn known_until<L: Ledger>(log: &[Entry], seats: &[Seat<L>]) -> usize
 
 /// The first accepted submission that stands in no receipt: its seat and its number. The log is gone through once for each seat, up to
 /// the first that is missing so far.
-fn missing<L: Ledger>(log: &[Entry], seats: &[Seat<L>]) -> Option<(u16, u64)>
+fn missing<L: Ledger, A: Allocator>(log: &[EntryIn<A>], seats: &[Seat<L, A>]) -> Option<(u16, u64)>
     requires { AreSeated log.now }
     ensures { MatchOption result (AllStand log.now seats.now) (λ m. IsMissing log.now seats.now m.0 m.1) }
 {
@@ -271,21 +288,25 @@ fn missing<L: Ledger>(log: &[Entry], seats: &[Seat<L>]) -> Option<(u16, u64)>
 }
 
 /// Whether a receipt of a seat has no status.
-fn has_open_receipt<L: Ledger>(seat: &Seat<L>) -> bool
+fn has_open_receipt<L: Ledger, A: Allocator>(seat: &Seat<L, A>) -> bool
     ensures { result ≡ list_any (λ (r : AReceipt). is_none r.status) seat.now.receipts }
 {
     seat.receipts.iter().any(|r| r.status.is_none())
 }
 
 /// Whether some receipt has no status.
-fn any_open<L: Ledger>(seats: &[Seat<L>]) -> bool
+fn any_open<L: Ledger, A: Allocator>(seats: &[Seat<L, A>]) -> bool
     ensures { result ≡ has_open seats.now }
 {
     seats.iter().any(|s| has_open_receipt(s))
 }
 
 /// Takes the shares of seats, and their receipts.
-fn take_in<L: Ledger>(rest: &mut Share<L>, seats: Vec<Seat<L>>, lists: &mut Vec<Vec<Receipt>>)
+fn take_in<L: Ledger, A: Allocator>(
+    rest: &mut Share<L>,
+    seats: Vec<Seat<L, A>, A>,
+    lists: &mut Vec<Vec<Receipt, A>, A>,
+)
     requires empty { vec_len lists.old ≡ 0 }
     requires room { vec_len seats ≤ vec_capacity lists.old }
     ensures parts { rest.new.parts ≡ rest.old.parts + vec_len seats }
@@ -304,11 +325,12 @@ fn take_in<L: Ledger>(rest: &mut Share<L>, seats: Vec<Seat<L>>, lists: &mut Vec<
     }
 }
 
-impl<L: Driver> Book<L> {
+impl<L: Driver, A: Allocator + Copy> Book<L, A> {
     /// Compares the log with the receipts of the seats, and takes the seats. `Ok` says that each accepted submission of the log
     /// stands in the receipts, as the j-th of its seat in that seat's j-th receipt, with its number, queue and identifier and the
     /// status that the log gave it; that there is no further receipt; that each seat out was handed in; and that no receipt is
-    /// without a status and no command outstanding.
+    /// without a status and no command outstanding. Whatever is answered, the log tells of a run of the machine that leads from the
+    /// opening to the world, which is sound.
     ///
     /// # Errors
     ///
@@ -320,7 +342,10 @@ impl<L: Driver> Book<L> {
     /// 4. `Memory` where memory is refused.
     ///
     /// The seats are handed back, and the book is as it was.
-    pub fn close(&mut self, seats: Vec<Seat<L>>) -> Result<Report, CloseRefused<L>>
+    pub fn close(&mut self, seats: Vec<Seat<L, A>, A>) -> Result<ReportIn<A>, CloseRefused<L, A>>
+        ensures opening { self.old.opening ≡ L.opening }
+        ensures legal { LeadsTo self.old.opening self.old.log self.old.world }
+        ensures sound { IsSound self.old.world }
         ensures stand { OnOk result (AllStand self.old.log seats.items) }
         ensures no_more { OnOk result (receipts_of seats.items ≡ accepted self.old.log) }
         ensures all_seats { OnOk result (self.old.out ≤ length seats.items) }

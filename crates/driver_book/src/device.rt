@@ -9,6 +9,7 @@ ghost use Rattle.driver_book.specs.Calls.{Does, WantsMemoryFor, IsLogFull, MayWo
 use crate::book::{Book, Driver};
 use crate::note::{completed, fetched, note, walked};
 use machine_model::words::Refusal;
+use std::alloc::Allocator;
 use step_core::{Completed, Fetched, Step, StepRefused, Touched, Walked};
 
 /// A step for which the log did not grow.
@@ -22,7 +23,7 @@ fn unlogged() -> StepRefused
     }
 }
 
-impl<L: Driver> Book<L> {
+impl<L: Driver, A: Allocator + Copy> Book<L, A> {
     /// [`step_core::World::fetch`].
     ///
     /// # Errors

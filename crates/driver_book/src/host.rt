@@ -9,6 +9,7 @@ use crate::book::{Book, Driver};
 use crate::note::{collected, done, ended, note, reaped, reserved, sent};
 use io_commands::{Draft, Finished, Request, Ticket};
 use machine_model::words::{Reaped, Refusal};
+use std::alloc::Allocator;
 use step_core::{Refused, Step};
 
 /// A value that is handed back, as the log did not grow.
@@ -22,13 +23,13 @@ pub(crate) fn unlogged<T>(value: T) -> Refused<T>
     }
 }
 
-impl<L: Driver> Book<L> {
+impl<L: Driver, A: Allocator + Copy> Book<L, A> {
     /// [`step_core::World::reserve`].
     ///
     /// # Errors
     ///
     /// As there; `Memory` also where the log cannot grow. The request is handed back, and the book is as it was.
-    pub fn reserve(&mut self, q: u16, request: Request) -> Result<Draft, Refused<Request>>
+    pub fn reserve(&mut self, q: u16, request: Request<A>) -> Result<Draft<A>, Refused<Request<A>>>
         ensures step { Does self.old None (events.Reserve q request) (reserve_reply result) self.new }
         ensures back { IfErr result (λ r. r.value ≡ request) }
     {
@@ -53,7 +54,7 @@ impl<L: Driver> Book<L> {
     /// # Errors
     ///
     /// As there; `Memory` where the log cannot grow. The draft is handed back.
-    pub fn cancel(&mut self, draft: Draft) -> Result<(), Refused<Draft>>
+    pub fn cancel(&mut self, draft: Draft<A>) -> Result<(), Refused<Draft<A>>>
         ensures step { Does self.old None (events.Cancel draft) (accept_reply result) self.new }
         ensures back { IfErr result (λ r. r.value ≡ draft) }
         ensures memory { WantsMemoryFor (IsLogFull self.old) (accept_reply result) }
@@ -109,7 +110,7 @@ impl<L: Driver> Book<L> {
     /// # Errors
     ///
     /// As there; `Memory` also where the log cannot grow. The ticket is handed back.
-    pub fn collect(&mut self, ticket: Ticket) -> Result<Finished, Refused<Ticket>>
+    pub fn collect(&mut self, ticket: Ticket) -> Result<Finished<A>, Refused<Ticket>>
         ensures step { Does self.old None (events.Collect ticket.q ticket.cid) (collect_reply result) self.new }
         ensures back { IfErr result (λ r. r.value ≡ ticket) }
         ensures memory { WantsMemoryFor (IsLogFull self.old ⊎ MayWorldWant self.old (events.Collect ticket.q ticket.cid)) (collect_reply result) }

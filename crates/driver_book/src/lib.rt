@@ -8,6 +8,9 @@
 //! A ledger of the standard library (`std::sync::ledger`) counts the submissions on either side. It is the type parameter of a book and
 //! of its seats, so a seat is always one of its own book.
 //!
+//! World, log, receipts and report stand in the memory of the allocator with which the book was opened, and so does all that is handed in and
+//! out. It is [`Global`](std::alloc::Global) where none is named.
+//!
 //! `specs/History.antt` says where a log leads, `specs/Calls.antt` what the calls do, `specs/Close.antt` what it is to close a book.
 #![tactic(auto)]
 
@@ -23,5 +26,5 @@ mod seat;
 
 pub use book::{Book, BookRefused, Driver};
 pub use close::CloseRefused;
-pub use log::{CloseFault, Entry, NoSeat, Receipt, Receipts, Report};
+pub use log::{CloseFault, Entry, EntryIn, NoSeat, Receipt, Receipts, Report, ReportIn};
 pub use seat::Seat;

@@ -3,22 +3,27 @@
 ghost use Rattle.std.specs.Prelude.{◌≡◌, map};
 
 use entry_codec::Status;
+use io_commands::Request;
 use page_ledger::Counts;
+use std::alloc::{Allocator, Global};
 use std::marker::Model;
-use step_core::{Reply, Step};
+use step_core::{Bytes, Reply, Step};
 use thiserror::Error;
 
 /// An entry of a book's log: a step of the world, the seat that made it, if one did, and what was answered. The bytes of drafts
 /// and of finished commands are left out.
 #[derive(Debug, Drop)]
-pub struct Entry {
+pub struct Entry<R = Request, B = Bytes> {
     /// The number of the seat.
     pub seat: Option<u16>,
     /// The step.
-    pub step: Step,
+    pub step: Step<R, B>,
     /// What it answered.
-    pub answer: Reply,
+    pub answer: Reply<B>,
 }
+
+/// An entry whose request stands in the memory of one allocator.
+pub type EntryIn<A> = Entry<Request<A>, Bytes<A>>;
 
 /// What a seat knows of a command that it submitted.
 #[derive(Clone, Copy, Debug, PartialEq, Eq)]
@@ -62,11 +67,11 @@ pub enum CloseFault {
 
 /// The receipts of seats, one list for each. Contracts see these lists.
 #[derive(Debug, Drop)]
-pub struct Receipts {
-    lists: Vec<Vec<Receipt>>,
+pub struct Receipts<A: Allocator = Global> {
+    lists: Vec<Vec<Receipt, A>, A>,
 }
 
-impl Model for Receipts {
+impl<A: Allocator> Model for Receipts<A> {
     ghost use Rattle.std.specs.Prelude.{List, map};
     ghost use Rattle.driver_book.specs.declared.log.Receipt.{Receipt};
 
@@ -75,16 +80,16 @@ impl Model for Receipts {
     ghost view = { λ r. map (λ list. list.items) r.lists.items };
 }
 
-impl Receipts {
+impl<A: Allocator> Receipts<A> {
     /// These lists.
-    pub(crate) fn of(lists: Vec<Vec<Receipt>>) -> Self
+    pub(crate) fn of(lists: Vec<Vec<Receipt, A>, A>) -> Self
         ensures { result ≡ map (λ list. list.items) lists.items }
     {
         Receipts { lists }
     }
 
     /// The lists, one for each seat.
-    pub fn as_slice(&self) -> &[Vec<Receipt>]
+    pub fn as_slice(&self) -> &[Vec<Receipt, A>]
         ensures { map (λ list. list.items) result.now ≡ self.now }
     {
         &self.lists
@@ -93,11 +98,14 @@ impl Receipts {
 
 /// What a closed book says.
 #[derive(Debug, Drop)]
-pub struct Report {
+pub struct Report<R = Receipts> {
     /// How many submissions were accepted.
     pub submissions: u64,
     /// How many pages each class has.
     pub counts: Counts,
     /// The receipts of the seats, in the order in which they were handed in.
-    pub receipts: Receipts,
+    pub receipts: R,
 }
+
+/// A report whose receipts stand in the memory of one allocator.
+pub type ReportIn<A> = Report<Receipts<A>>;

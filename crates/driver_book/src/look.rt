@@ -1,21 +1,33 @@
 //! Looks at a book: what would be answered. They make no step, and nothing is written down.
 
-ghost use Rattle.std.specs.Prelude.{◌≡◌, ℕ, ◌<◌, true, false, None, IfSome, IfNone, IsTrue};
+ghost use Rattle.std.specs.Prelude.{◌≡◌, ℕ, ◌<◌, true, false, None, IfOk, IfSome, IfNone, IsTrue};
+ghost use Rattle.std.specs.Result.{result_err};
+ghost use Rattle.io_commands.specs.Least.{least_pages as spec_least_pages};
+ghost use Rattle.io_commands.specs.Requests.{fault_of};
 ghost use Rattle.machine_model.specs.Events as events;
 ghost use Rattle.machine_model.specs.Refusals.{refusal_of};
 ghost use Rattle.step_core.specs.Looks.{has_completion, event_of, IsAtRest};
 
 use crate::book::{Book, Driver};
-use io_commands::Request;
+use io_commands::{Request, RequestFault};
 use machine_model::words::Refusal;
+use std::alloc::Allocator;
 use step_core::ControllerStep;
 
-impl<L: Driver> Book<L> {
+impl<L: Driver, A: Allocator + Copy> Book<L, A> {
     /// [`step_core::World::reserve_refusal`].
-    pub fn reserve_refusal(&self, q: u16, request: &Request) -> Option<Refusal>
+    pub fn reserve_refusal(&self, q: u16, request: &Request<A>) -> Option<Refusal>
         ensures { result ≡ refusal_of self.now.world (events.Reserve q request.now) }
     {
         self.world.reserve_refusal(q, request)
+    }
+
+    /// [`step_core::World::least_pages`].
+    pub fn least_pages<B: Allocator>(&self, request: &Request<B>) -> Result<u32, RequestFault>
+        ensures least { IfOk result (λ pages. pages ≡ spec_least_pages request.now.pieces self.now.world.segment) }
+        ensures fault { result_err result ≡ fault_of request.now.kind request.now.blocks request.now.pieces }
+    {
+        self.world.least_pages(request)
     }
 
     /// [`step_core::World::collect_refusal`].

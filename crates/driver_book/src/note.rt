@@ -5,13 +5,21 @@ ghost use Rattle.machine_model.specs.Events as events;
 ghost use Rattle.step_core.specs.Replies.{reserve_reply, accept_reply, collect_reply, ring_reply, reap_reply, complete_reply, fetch_reply, walk_reply, send_reply};
 ghost use Rattle.driver_book.specs.Calls.{noted, entries};
 
-use crate::log::Entry;
+use crate::log::{Entry, EntryIn};
 use io_commands::{Draft, Finished, Request, Ticket};
 use machine_model::words::{Reaped, Refusal};
-use step_core::{Completed, Fetched, Refused, Reply, Step, StepRefused, Touched, Walked};
+use std::alloc::Allocator;
+use step_core::{
+    Completed, Fetched, Refused, Reply, ReplyIn, StepIn, StepRefused, Touched, Walked,
+};
 
 /// Writes a step down, if there is something to write. The log has room.
-pub(crate) fn note(log: &mut Vec<Entry>, seat: Option<u16>, step: Step, answer: Option<Reply>)
+pub(crate) fn note<A: Allocator>(
+    log: &mut Vec<EntryIn<A>, A>,
+    seat: Option<u16>,
+    step: StepIn<A>,
+    answer: Option<ReplyIn<A>>,
+)
     requires { vec_len log.old < vec_capacity log.old }
     ensures { log.new.items ≡ log.old.items ++ entries seat step answer }
 {
@@ -22,7 +30,7 @@ pub(crate) fn note(log: &mut Vec<Entry>, seat: Option<u16>, step: Step, answer: 
 }
 
 /// Of a refusal after which pages were touched.
-fn touching(why: Refusal, touched: Touched) -> Option<Reply>
+fn touching<A: Allocator>(why: Refusal, touched: Touched) -> Option<ReplyIn<A>>
     ensures { result ≡ noted (events.Refused why touched) }
 {
     match why {
@@ -32,14 +40,16 @@ fn touching(why: Refusal, touched: Touched) -> Option<Reply>
 }
 
 /// Of a refusal.
-fn refused(why: Refusal) -> Option<Reply>
+fn refused<A: Allocator>(why: Refusal) -> Option<ReplyIn<A>>
     ensures { result ≡ noted (events.Refused why []) }
 {
     touching(why, Touched::none())
 }
 
 /// Of a reservation.
-pub(crate) fn reserved(answer: &Result<Draft, Refused<Request>>) -> Option<Reply>
+pub(crate) fn reserved<A: Allocator>(
+    answer: &Result<Draft<A>, Refused<Request<A>>>,
+) -> Option<ReplyIn<A>>
     ensures { result ≡ noted (reserve_reply answer.now) }
 {
     match answer {
@@ -49,7 +59,9 @@ pub(crate) fn reserved(answer: &Result<Draft, Refused<Request>>) -> Option<Reply
 }
 
 /// Of a submission.
-pub(crate) fn submitted(answer: &Result<Ticket, Refused<Draft>>) -> Option<Reply>
+pub(crate) fn submitted<A: Allocator>(
+    answer: &Result<Ticket, Refused<Draft<A>>>,
+) -> Option<ReplyIn<A>>
     ensures { result ≡ noted (accept_reply answer.now) }
 {
     match answer {
@@ -59,7 +71,7 @@ pub(crate) fn submitted(answer: &Result<Ticket, Refused<Draft>>) -> Option<Reply
 }
 
 /// Of the end of a draft or of a finished command.
-pub(crate) fn ended<T>(answer: &Result<(), Refused<T>>) -> Option<Reply>
+pub(crate) fn ended<T, A: Allocator>(answer: &Result<(), Refused<T>>) -> Option<ReplyIn<A>>
     ensures { result ≡ noted (accept_reply answer.now) }
 {
     match answer {
@@ -69,7 +81,7 @@ pub(crate) fn ended<T>(answer: &Result<(), Refused<T>>) -> Option<Reply>
 }
 
 /// Of a call that says no more than that it was done.
-pub(crate) fn done(answer: &Result<(), Refusal>) -> Option<Reply>
+pub(crate) fn done<A: Allocator>(answer: &Result<(), Refusal>) -> Option<ReplyIn<A>>
     ensures { result ≡ noted (ring_reply answer.now) }
 {
     match answer {
@@ -79,7 +91,7 @@ pub(crate) fn done(answer: &Result<(), Refusal>) -> Option<Reply>
 }
 
 /// Of a reap.
-pub(crate) fn reaped(answer: &Result<Reaped, Refusal>) -> Option<Reply>
+pub(crate) fn reaped<A: Allocator>(answer: &Result<Reaped, Refusal>) -> Option<ReplyIn<A>>
     ensures { result ≡ noted (reap_reply answer.now) }
 {
     match answer {
@@ -89,7 +101,9 @@ pub(crate) fn reaped(answer: &Result<Reaped, Refusal>) -> Option<Reply>
 }
 
 /// Of a collection.
-pub(crate) fn collected(answer: &Result<Finished, Refused<Ticket>>) -> Option<Reply>
+pub(crate) fn collected<A: Allocator>(
+    answer: &Result<Finished<A>, Refused<Ticket>>,
+) -> Option<ReplyIn<A>>
     ensures { result ≡ noted (collect_reply answer.now) }
 {
     match answer {
@@ -99,7 +113,7 @@ pub(crate) fn collected(answer: &Result<Finished, Refused<Ticket>>) -> Option<Re
 }
 
 /// Of an admin command that was sent.
-pub(crate) fn sent(answer: &Result<u16, Refusal>) -> Option<Reply>
+pub(crate) fn sent<A: Allocator>(answer: &Result<u16, Refusal>) -> Option<ReplyIn<A>>
     ensures { result ≡ noted (send_reply answer.now) }
 {
     match answer {
@@ -109,14 +123,14 @@ pub(crate) fn sent(answer: &Result<u16, Refusal>) -> Option<Reply>
 }
 
 /// Of a refused step of the controller.
-fn stopped(step: &StepRefused) -> Option<Reply>
+fn stopped<A: Allocator>(step: &StepRefused) -> Option<ReplyIn<A>>
     ensures { result ≡ noted (events.Refused step.now.why step.now.touched) }
 {
     touching(step.why, step.touched.copied())
 }
 
 /// Of a fetch.
-pub(crate) fn fetched(answer: &Result<Fetched, StepRefused>) -> Option<Reply>
+pub(crate) fn fetched<A: Allocator>(answer: &Result<Fetched, StepRefused>) -> Option<ReplyIn<A>>
     ensures { result ≡ noted (fetch_reply answer.now) }
 {
     match answer {
@@ -129,7 +143,7 @@ pub(crate) fn fetched(answer: &Result<Fetched, StepRefused>) -> Option<Reply>
 }
 
 /// Of a unit of a walk.
-pub(crate) fn walked(answer: &Result<Walked, StepRefused>) -> Option<Reply>
+pub(crate) fn walked<A: Allocator>(answer: &Result<Walked, StepRefused>) -> Option<ReplyIn<A>>
     ensures { result ≡ noted (walk_reply answer.now) }
 {
     match answer {
@@ -142,7 +156,7 @@ pub(crate) fn walked(answer: &Result<Walked, StepRefused>) -> Option<Reply>
 }
 
 /// Of a completion.
-pub(crate) fn completed(answer: &Result<Completed, StepRefused>) -> Option<Reply>
+pub(crate) fn completed<A: Allocator>(answer: &Result<Completed, StepRefused>) -> Option<ReplyIn<A>>
     ensures { result ≡ noted (complete_reply answer.now) }
 {
     match answer {

@@ -12,20 +12,20 @@ use crate::log::Receipt;
 use crate::note::{ended, note, submitted};
 use entry_codec::Status;
 use io_commands::{Draft, Finished, Ticket};
-use std::alloc::Global;
+use std::alloc::{Allocator, Global};
 use std::marker::Model;
 use std::sync::ledger::{Ledger, Share};
 use step_core::{Refused, Step};
 
 /// A seat at a book, with its receipts. It may be dropped, which [`Book::close`] finds out.
 #[derive(Drop)]
-pub struct Seat<L: Ledger> {
+pub struct Seat<L: Ledger, A: Allocator = Global> {
     pub(crate) number: u16,
     pub(crate) share: Share<L>,
-    pub(crate) receipts: Vec<Receipt>,
+    pub(crate) receipts: Vec<Receipt, A>,
 }
 
-impl<L: Ledger> Model for Seat<L> {
+impl<L: Ledger, A: Allocator> Model for Seat<L, A> {
     ghost use Rattle.std.specs.Prelude.{◌≡◌, ◌-◌, length, vec_len, vec_capacity};
     ghost use Rattle.driver_book.specs.State.{SeatContents};
 
@@ -36,9 +36,9 @@ impl<L: Ledger> Model for Seat<L> {
     ghost invariant = { λ s. (s.share.parts ≡ 1) × (s.share.amount ≡ length s.receipts.items) };
 }
 
-impl<L: Ledger> Seat<L> {
+impl<L: Ledger, A: Allocator> Seat<L, A> {
     /// A seat without receipts.
-    pub(crate) fn new(alloc: Global, number: u16, share: Share<L>) -> Self
+    pub(crate) fn new(alloc: A, number: u16, share: Share<L>) -> Self
         requires parts { share.parts ≡ 1 }
         requires amount { share.amount ≡ 0 }
         ensures { result ≡ record { number = number; receipts = []; spare = 0 } }
@@ -96,14 +96,18 @@ fn settle(receipts: &mut [Receipt], q: u16, cid: u16, status: Option<Status>)
     }
 }
 
-impl<L: Driver> Book<L> {
+impl<L: Driver, A: Allocator + Copy> Book<L, A> {
     /// [`step_core::World::submit`], for a seat, which gets a receipt where the submission is accepted.
     ///
     /// # Errors
     ///
     /// As there; the draft is handed back. `Memory` where the log or the seat's receipts cannot grow; book and seat are then as they
     /// were.
-    pub fn submit(&mut self, seat: &mut Seat<L>, draft: Draft) -> Result<Ticket, Refused<Draft>>
+    pub fn submit(
+        &mut self,
+        seat: &mut Seat<L, A>,
+        draft: Draft<A>,
+    ) -> Result<Ticket, Refused<Draft<A>>>
         ensures step { Does self.old (Some seat.old.number) (events.Submit draft) (accept_reply result) self.new }
         ensures receipt { Receives self.old.log seat.old draft result seat.new }
         ensures back { IfErr result (λ r. r.value ≡ draft) }
@@ -145,9 +149,9 @@ impl<L: Driver> Book<L> {
     /// As there; the command is handed back. `Memory` where the log cannot grow; book and seat are then as they were.
     pub fn release(
         &mut self,
-        seat: &mut Seat<L>,
-        finished: Finished,
-    ) -> Result<(), Refused<Finished>>
+        seat: &mut Seat<L, A>,
+        finished: Finished<A>,
+    ) -> Result<(), Refused<Finished<A>>>
         requires { list_any (is_open_receipt finished.q finished.cid) seat.old.receipts ≡ true }
         ensures step { Does self.old (Some seat.old.number) (events.Release finished) (accept_reply result) self.new }
         ensures receipt { Settles self.old.world seat.old finished result seat.new }

@@ -2,7 +2,7 @@
 use Rattle.std.specs.Prelude.{◌≡◌, None, List}
 use Rattle.driver_book.specs.History.{accepted}
 use Rattle.driver_book.specs.State.{BookContents, SeatContents}
-use Rattle.driver_book.specs.declared.log.Report.{Report}
+use Rattle.driver_book.specs.Values.{Report}
 use Rattle.machine_model.specs.State.{State}
 use Rattle.host_core.specs.Opening.{refusal_of_config, RefusesOpening}
 use Rattle.host_core.specs.declared.config.Config.{Config}

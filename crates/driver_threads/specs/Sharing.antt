@@ -15,7 +15,7 @@ use Rattle.driver_book.specs.Close.{AllStand, IsDone, RefusesClose, Reports, rec
 use Rattle.driver_book.specs.History.{LeadsTo, accepted}
 use Rattle.driver_book.specs.State.{BookContents, SeatContents}
 use Rattle.driver_book.specs.declared.log.CloseFault.{CloseFault}
-use Rattle.driver_book.specs.declared.log.Report.{Report}
+use Rattle.driver_book.specs.Values.{Report}
 use Rattle.step_core.specs.Replies.{accept_reply}
 use Rattle.host_core.specs.declared.refused.Refused.{Refused}
 

@@ -33,7 +33,8 @@ enum Turn {
     Never(Halt),
 }
 
-/// What a request on a queue is answered now. It waits for pages only where those that no queue owns are enough.
+/// What a request on a queue is answered now. It waits for pages only where those that no queue owns are as many as the fewest that the
+/// request could take.
 fn turn_of<L: Driver>(book: &Book<L>, q: u16, request: &Request) -> Turn {
     if book.stopping() {
         return Turn::Never(Halt::Stopped);
@@ -41,13 +42,16 @@ fn turn_of<L: Driver>(book: &Book<L>, q: u16, request: &Request) -> Turn {
     let refusal = match book.reserve_refusal(q, request) {
         None => return Turn::Free,
         Some(Refusal::NoIdentifier) => return Turn::Later,
-        Some(Refusal::NoPages { need, .. }) => {
-            let pool = book.pages() - book.counts().queue_pages;
-            if need <= pool {
-                return Turn::Later;
+        Some(Refusal::NoPages { .. }) => match book.least_pages(request) {
+            Ok(need) => {
+                let pool = book.pages() - book.counts().queue_pages;
+                if need <= pool {
+                    return Turn::Later;
+                }
+                JobRefusal::NoPages { need, pool }
             }
-            JobRefusal::NoPages { need, pool }
-        }
+            Err(fault) => JobRefusal::Bad(fault),
+        },
         Some(Refusal::NoQueue) => JobRefusal::NoQueue,
         Some(Refusal::Bad(fault)) => JobRefusal::Bad(fault),
         Some(_) => JobRefusal::QueueGone,

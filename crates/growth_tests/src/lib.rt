@@ -3,8 +3,26 @@
 #![tactic(auto)]
 
 #[cfg(test)]
+mod aborts;
+#[cfg(test)]
+mod deletions;
+#[cfg(test)]
+mod drafts;
+#[cfg(test)]
+mod fixed_heap;
+#[cfg(test)]
+mod forgeries;
+#[cfg(test)]
+mod lists;
+#[cfg(test)]
+mod openings;
+#[cfg(test)]
 mod placed;
+#[cfg(test)]
+mod runs;
 #[cfg(test)]
 mod scripts;
 #[cfg(test)]
 mod sweep;
+#[cfg(test)]
+mod transfers;

@@ -1,13 +1,10 @@
 //! Steps whose values stand in another heap.
 
-use refusing::Refusing;
-use std::alloc::{AllocError, Global};
+use std::alloc::{AllocError, Allocator};
 use step_core::{Bytes, Step, StepIn};
 
-pub(crate) type Heap = Refusing<Global>;
-
 /// The step once more, in a heap.
-pub(crate) fn placed<'a>(heap: &'a Heap, step: &Step) -> Result<StepIn<&'a Heap>, AllocError> {
+pub(crate) fn placed<A: Allocator + Copy>(heap: A, step: &Step) -> Result<StepIn<A>, AllocError> {
     Ok(match step {
         Step::Reserve { q, request } => Step::Reserve {
             q: *q,

@@ -1,43 +1,157 @@
 //! A script is played once for each growth that it has.
 
-use crate::placed::{Heap, placed};
+use crate::placed::placed;
 use page_ledger::{Counts, Owner};
 use page_memory::PageNo;
 use refusing::{Refusal, Refusing};
-use script_cli::{Line, Script, read_script};
+use script_cli::{Line, Script, read_script, run_steps};
 use std::alloc::{AllocError, Allocator, Global};
 use std::process::Abort;
 use std::test::Fail;
 use step_core::{Bench, Config, Image, Reply, ReplyIn, Step};
 
-/// More growths than any script here has.
-const MANY: u64 = 5_000;
+/// A heap that refuses on purpose.
+pub(crate) type Heap = Refusing<Global>;
 
-/// Two I/O queues of four entries over 24 pages.
-const TWO_QUEUES: Config = Config {
+/// More growths than any script here has.
+pub(crate) const MANY: u64 = 5_000;
+
+/// One I/O queue of four entries over 16 pages, and whole segments.
+pub(crate) const USUAL: Config = Config {
+    pages: 16,
+    queues: 1,
+    entries: 4,
+    segment: 256,
+};
+
+/// Rings of two entries.
+pub(crate) const TWO_ENTRIES: Config = Config {
+    pages: 16,
+    queues: 1,
+    entries: 2,
+    segment: 256,
+};
+
+/// Rings of eight entries.
+pub(crate) const EIGHT_ENTRIES: Config = Config {
+    pages: 16,
+    queues: 1,
+    entries: 8,
+    segment: 256,
+};
+
+/// Rings of eight entries over nine pages, of which five are free.
+pub(crate) const NINE_PAGES: Config = Config {
+    pages: 9,
+    queues: 1,
+    entries: 8,
+    segment: 256,
+};
+
+/// Segments of two descriptors.
+pub(crate) const SHORT_SEGMENTS: Config = Config {
+    pages: 16,
+    queues: 1,
+    entries: 4,
+    segment: 2,
+};
+
+/// Two I/O queues of four entries over 24 pages, and segments of four descriptors.
+pub(crate) const TWO_QUEUES: Config = Config {
     pages: 24,
     queues: 2,
     entries: 4,
     segment: 4,
 };
 
-/// A bench over an image of 64 zero blocks.
-fn opened<A: Allocator + Copy>(alloc: A) -> Result<Bench<A>, Fail> {
-    let Ok(image) = Image::zeroed(alloc, 64) else {
-        return Err(Fail::from("no image"));
-    };
-    match Bench::open(alloc, TWO_QUEUES, image) {
+/// A script, what it shows, and how many growths its steps have.
+#[derive(Clone, Copy)]
+pub(crate) struct Row {
+    pub(crate) config: Config,
+    pub(crate) script: &'static str,
+    /// Lines that it prints, in this order; others stand between them.
+    pub(crate) shows: &'static str,
+    pub(crate) growths: u64,
+}
+
+/// What the steps of a script answer where nothing is refused, and how the bench stands at the end.
+#[derive(Drop)]
+pub(crate) struct Wanted {
+    pub(crate) answers: Vec<String>,
+    pub(crate) end: Standing,
+}
+
+/// What a bench shows: whose each page is, how many pages each class has, and whether nothing was forged.
+#[derive(Debug, Drop, PartialEq)]
+pub(crate) struct Standing {
+    owners: Vec<Owner>,
+    counts: Counts,
+    trusted: bool,
+}
+
+impl Standing {
+    /// How a bench stands.
+    pub(crate) fn of<A: Allocator + Copy>(
+        alloc: Global,
+        bench: &Bench<A>,
+    ) -> Result<Standing, AllocError> {
+        let mut owners = Vec::new(alloc);
+        for p in 0..bench.pages() {
+            owners.push(bench.owner(PageNo(p)))?;
+        }
+        Ok(Standing {
+            owners,
+            counts: bench.counts(),
+            trusted: bench.trusted(),
+        })
+    }
+}
+
+/// An image of 64 zero blocks.
+pub(crate) fn zeros<A: Allocator>(alloc: A) -> Result<Image<A>, Fail> {
+    match Image::zeroed(alloc, 64) {
+        Ok(image) => Ok(image),
+        Err(_) => Err(Fail::from("no image")),
+    }
+}
+
+/// A bench over an image of zeros.
+pub(crate) fn opened<A: Allocator + Copy>(alloc: A, config: Config) -> Result<Bench<A>, Fail> {
+    match Bench::open(alloc, config, zeros(alloc)?) {
         Ok(bench) => Ok(bench),
         Err(_) => Err(Fail::from("no bench")),
     }
 }
 
-/// The script of a text.
-fn script(alloc: Global, text: &str) -> Result<Script, Fail> {
+/// Reads a script.
+pub(crate) fn read(alloc: Global, text: &str) -> Result<Script, Fail> {
     match read_script(alloc, text.as_bytes()) {
         Ok(script) => Ok(script),
         Err(_) => Err(Fail::from("no script")),
     }
+}
+
+/// Sees that a script prints the lines that it shows, in this order.
+pub(crate) fn look_at(
+    rt: &impl Abort,
+    alloc: Global,
+    config: Config,
+    script: &str,
+    shows: &str,
+) -> Result<(), Fail> {
+    let mut printed = Vec::new(alloc);
+    let mut reader = script.as_bytes();
+    if run_steps(alloc, config, zeros(alloc)?, &mut reader, &mut printed).is_err() {
+        return Err(Fail::from("no run"));
+    }
+    let Ok(printed) = String::from_utf8(printed) else {
+        return Err(Fail::from("no text"));
+    };
+    let mut lines = printed.as_str().lines();
+    for wanted in shows.lines() {
+        assert!(rt; lines.any(|line| line == wanted), "{wanted}");
+    }
+    Ok(())
 }
 
 /// What each step of a script answers on a bench whose heap refuses nothing.
@@ -46,7 +160,7 @@ fn answers_on<'a>(
     heap: &'a Heap,
     bench: &mut Bench<&'a Heap>,
     script: &Script,
-) -> Result<Vec<String>, Fail> {
+) -> Result<Wanted, Fail> {
     let mut answers = Vec::new(alloc);
     for numbered in script.lines() {
         if let Line::Step(step) = &numbered.line {
@@ -54,36 +168,29 @@ fn answers_on<'a>(
             answers.push(format!(in alloc; "{reply:?}")?)?;
         }
     }
-    Ok(answers)
+    let end = Standing::of(alloc, bench)?;
+    Ok(Wanted { answers, end })
 }
 
-/// What each step of a script answers where nothing is refused.
-fn answers(alloc: Global, script: &Script) -> Result<Vec<String>, Fail> {
+/// What a script answers where nothing is refused.
+pub(crate) fn unrefused(alloc: Global, config: Config, script: &Script) -> Result<Wanted, Fail> {
     let heap = Refusing::new(alloc);
-    let mut bench = opened(&heap)?;
-    let answers = answers_on(alloc, &heap, &mut bench, script);
+    let mut bench = opened(&heap, config)?;
+    let wanted = answers_on(alloc, &heap, &mut bench, script);
     let _ended = bench.end();
-    answers
+    wanted
 }
 
-/// Whose each page is, and how many pages each class has.
-fn standing<A: Allocator + Copy>(
-    alloc: Global,
-    bench: &Bench<A>,
-) -> Result<(Vec<Owner>, Counts), Fail> {
-    let mut owners = Vec::new(alloc);
-    for p in 0..bench.pages() {
-        owners.push(bench.owner(PageNo(p)))?;
-    }
-    Ok((owners, bench.counts()))
+/// Whether a reply is want of memory.
+pub(crate) fn is_memory<A: Allocator>(reply: &ReplyIn<A>) -> bool {
+    matches!(reply, Reply::Refused { why, touched: _ } if *why == step_core::Refusal::Memory)
 }
 
 /// Whether a step's answer is want of memory.
-fn wants_memory<A: Allocator>(answer: &Result<ReplyIn<A>, AllocError>) -> bool {
+pub(crate) fn wants_memory<A: Allocator>(answer: &Result<ReplyIn<A>, AllocError>) -> bool {
     match answer {
         Err(AllocError) => true,
-        Ok(Reply::Refused { why, touched: _ }) => *why == step_core::Refusal::Memory,
-        Ok(_) => false,
+        Ok(reply) => is_memory(reply),
     }
 }
 
@@ -98,13 +205,13 @@ fn step_on<'a>(
     growth: u64,
 ) -> Result<u64, Fail> {
     let made = placed(heap, step)?;
-    let before = standing(alloc, bench)?;
+    let before = Standing::of(alloc, bench)?;
     heap.refuse(Refusal::Nth(growth));
     let mut answer = bench.step(made);
     let tally = heap.tally();
     heap.refuse(Refusal::Never);
     if tally.refused > 0 && wants_memory(&answer) {
-        assert!(rt; standing(alloc, bench)? == before, "{wanted}");
+        assert_eq!(rt; Standing::of(alloc, bench)?, before, "{wanted}");
         answer = bench.step(placed(heap, step)?);
     }
     let text = format!(in alloc; "{:?}", answer?)?;
@@ -119,21 +226,22 @@ fn steps_on<'a>(
     heap: &'a Heap,
     bench: &mut Bench<&'a Heap>,
     script: &Script,
-    wanted: &[String],
+    wanted: &Wanted,
     growth: u64,
 ) -> Result<u64, Fail> {
     let mut left = growth;
-    let mut wanted = wanted.iter();
+    let mut answers = wanted.answers.iter();
     for numbered in script.lines() {
         let Line::Step(step) = &numbered.line else {
             continue;
         };
-        let Some(wanted) = wanted.next() else {
+        let Some(answer) = answers.next() else {
             return Err(Fail::from("an answer is missing"));
         };
-        let calls = step_on(rt, alloc, heap, bench, (step, wanted.as_str()), left)?;
+        let calls = step_on(rt, alloc, heap, bench, (step, answer.as_str()), left)?;
         left = left.saturating_sub(calls);
     }
+    assert_eq!(rt; Standing::of(alloc, bench)?, wanted.end);
     Ok(left)
 }
 
@@ -141,26 +249,31 @@ fn steps_on<'a>(
 fn play(
     rt: &impl Abort,
     alloc: Global,
+    config: Config,
     script: &Script,
-    wanted: &[String],
+    wanted: &Wanted,
     growth: u64,
 ) -> Result<bool, Fail> {
     let heap = Refusing::new(alloc);
-    let mut bench = opened(&heap)?;
+    let mut bench = opened(&heap, config)?;
     let left = steps_on(rt, alloc, &heap, &mut bench, script, wanted, growth);
     let _ended = bench.end();
     assert_eq!(rt; heap.tally().blocks, 0, "growth {growth}");
     Ok(left? == 0)
 }
 
-/// Plays a script once for each growth that it has, and answers how many there are.
-pub(crate) fn sweep(rt: &impl Abort, alloc: Global, text: &str) -> Result<u64, Fail> {
-    let script = script(alloc, text)?;
-    let wanted = answers(alloc, &script)?;
+/// Sees what a script shows, and plays it once for each growth that its steps have.
+pub(crate) fn sweep(rt: &impl Abort, alloc: Global, row: Row) -> Result<(), Fail> {
+    look_at(rt, alloc, row.config, row.script, row.shows)?;
+    let script = read(alloc, row.script)?;
+    let wanted = unrefused(alloc, row.config, &script)?;
+    let mut growths: u64 = 0;
     for growth in 1..MANY {
-        if !play(rt, alloc, &script, &wanted, growth)? {
-            return Ok(growth - 1);
+        if !play(rt, alloc, row.config, &script, &wanted, growth)? {
+            break;
         }
+        growths = growth;
     }
-    Err(Fail::from("there is no end of growths"))
+    assert_eq!(rt; growths, row.growths);
+    Ok(())
 }

@@ -1,11 +1,13 @@
 -- What a request is refused for, and what it gets.
-use Rattle.std.proofs.Common.{◌≡◌, ℕ, zero, suc, ◌+◌, ◌-◌, ◌<◌, ◌≤◌, ◌==◌, ◌⊎◌, inl, inr, nat_lt, nat_le, Bool, true, false, not, ◌||◌, Option, Some, None, List, [], ◌∷◌, length, position, slice_get, refl, ap, sym, ◌∙◌, arith, subst, lt-ltb, le-ltb, ltb-true, ltb-false, eqb-true, eq-eqb}
+use Rattle.std.proofs.Common.{◌≡◌, ℕ, zero, suc, ◌+◌, ◌-◌, ◌<◌, ◌≤◌, ◌==◌, ◌⊎◌, inl, inr, nat_lt, nat_le, Bool, true, false, not, ◌||◌, Option, Some, None, List, [], ◌∷◌, length, position, slice_get, refl, ap, sym, ◌∙◌, arith, subst, if◌then◌else◌, lt-ltb, le-ltb, ltb-true, ltb-false, eqb-true, eq-eqb}
 use Rattle.std.specs.Option.{option_map, option_map_or}
 use Rattle.std.proofs.lemmas.Bool.{true≢false, eqb-false, cases_lt}
 use Rattle.std.proofs.lemmas.Bool.Decides.{nat_tests}
 use Rattle.std.proofs.lemmas.Option.{slice_get-map, slice_get_within}
 use Rattle.io_commands.specs.Requests.{fault_of, data_count}
 use Rattle.io_commands.specs.Asked.{Request}
+use Rattle.io_commands.specs.Least.{least_pages}
+use Rattle.io_commands.specs.declared.request.Piece.{Piece}
 use Rattle.io_commands.specs.declared.request.RequestFault.{RequestFault}
 use Rattle.machine_model.specs.Events as events
 use Rattle.machine_model.specs.Refusals.{refusal_of, no_io_queue, in_state, is_deleting, no_identifier, pages_wanted, has_sq}
@@ -16,7 +18,7 @@ use Rattle.machine_model.specs.declared.words.Refusal.TheVariants as refusal
 use Rattle.machine_model.proofs.Counting.{one, times-cons, held_once, not_held}
 use Rattle.page_ledger.specs.Owners.{is_among, free_pages}
 use Rattle.queue_pair.proofs.Identifiers.{found_within, found_free, all_claimed, lower_claimed}
-use Rattle.sgl_chain.specs.Chains.{pages_needed}
+use Rattle.machine_model.specs.Placement.{wanted_of, chain_wanted}
 use Rattle.host_core.specs.Commands.{state_at, passes, takes_no_io, Grants}
 use Rattle.host_core.specs.Alone.{IsLowest}
 use Rattle.host_core.specs.Tables.{Tables, state_of, view_of, host_queue_of}
@@ -195,10 +197,19 @@ pub record Asked (t : Tables) (q : ℕ) (r : Request) : Type 0 where
   pub stays : in_state is_deleting (state_of t) q ≡ false
   pub good : fault_of r.kind r.blocks r.pieces ≡ None
 
+-- where the data has room, the pages of the placement are wanted
+pub wanted-placed : (free : List ℕ) (segment : ℕ) (pieces : List Piece) → data_count pieces ≤ length free → wanted_of free segment pieces ≡ data_count pieces + chain_wanted free segment pieces
+wanted-placed free segment pieces room = ap (λ (b : Bool). if b then least_pages pieces segment else data_count pieces + chain_wanted free segment pieces) (le-ltb (length free) (data_count pieces) room)
+
+-- else the fewest
+pub wanted-least : (free : List ℕ) (segment : ℕ) (pieces : List Piece) → length free < data_count pieces → wanted_of free segment pieces ≡ least_pages pieces segment
+wanted-least free segment pieces few = ap (λ (b : Bool). if b then least_pages pieces segment else data_count pieces + chain_wanted free segment pieces) (lt-ltb (length free) (data_count pieces) few)
+
 pub granted : (t : Tables) (q : ℕ) (r : Request) (cid front back : ℕ) → IsWhole t → (asked : Asked t q r) → position not asked.queue.host.claimed ≡ Some cid
-    → front ≡ data_count r.pieces → back ≡ pages_needed (length r.pieces) t.segment → front + back ≤ length (free_pages t.owners) → Grants t q r cid front back
+    → front ≡ data_count r.pieces → back ≡ chain_wanted (free_pages t.owners) t.segment r.pieces → front + back ≤ length (free_pages t.owners) → Grants t q r cid front back
 granted t q r cid front back whole asked next ef eb enough = record {
-  none = refuses-nothing (state_of t) q r asked.takes asked.stays asked.good (next-left t whole q cid asked.queue asked.at next) (omega (arith, ef, eb, enough));
+  none = refuses-nothing (state_of t) q r asked.takes asked.stays asked.good (next-left t whole q cid asked.queue asked.at next)
+      (omega (arith, wanted-placed (free_pages t.owners) t.segment r.pieces (omega (arith, ef, enough)), ef, eb, enough));
   good = asked.good;
   there = slice_get_within t.queues q asked.queue asked.at;
   next = λ queue e. ap (λ (x : Queue). position not x.host.claimed) (some_is (sym e ∙ asked.at)) ∙ next;

@@ -15,6 +15,7 @@ pub mod Settled
 pub mod Moved
 pub mod Reserved
 pub mod Granting
+pub mod Placing
 pub mod Granted
 pub mod Comparing
 pub mod Marked

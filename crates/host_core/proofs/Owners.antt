@@ -4,7 +4,8 @@ use Rattle.std.specs.List.{AllByRecursion}
 use Rattle.std.specs.Option.{option_map_or}
 use Rattle.std.proofs.lemmas.Bool.{true≢false, cases_lt}
 use Rattle.std.proofs.lemmas.List.Elements.{filter_agree}
-use Rattle.machine_model.specs.After.{without_numbers, joined_in_order}
+use Rattle.machine_model.specs.After.{joined_in_order}
+use Rattle.machine_model.specs.Placement.{without_numbers}
 use Rattle.machine_model.specs.Claims.{IsSound}
 use Rattle.machine_model.specs.State.{Record, is_at, pages_of}
 use Rattle.machine_model.specs.Step.{times}

@@ -1,10 +1,11 @@
 -- The host alone: the machine with no controller, in which nothing is trusted. What a call of the host answers and leaves is decided by
 -- the host and by the bytes in memory.
-use Rattle.std.specs.Prelude.{◌≡◌, ◌+◌, ◌<◌, ◌++◌, take, true, ℕ, false, [], length}
+use Rattle.std.specs.Prelude.{◌≡◌, ◌<◌, true, ℕ, false, [], length}
 use Rattle.page_ledger.specs.Counting.{total}
 use Rattle.page_memory.specs.Pages.{Pages, IsPool}
 use Rattle.machine_model.specs.Claims.{HasOneOwner, IdentifiersDiffer, IsOutWithItsCommand, counts_of}
 use Rattle.machine_model.specs.Events.{Event, Reply}
+use Rattle.machine_model.specs.Placement.{data_placed, chain_placed}
 use Rattle.machine_model.specs.Positions.{IsInRing}
 use Rattle.io_commands.specs.Drafts.{DraftContents}
 use Rattle.io_commands.specs.Values.{numbers_of}
@@ -43,10 +44,11 @@ pub record IsSoundHost (v : HostView) : Type 0 where
   pub identifiers : IdentifiersDiffer v.host
   pub positions : AllByRecursion (λ queue. IsInRing v.entries queue.ring) v.host.queues
 
--- What the machine leaves to its host, and this host chooses: the lowest identifier of a queue that is not outstanding, and the free pages
--- that come first.
+-- What the machine leaves to its host, and this host chooses: the lowest identifier of a queue that is not outstanding, and pages that
+-- are placed, first those of its data and then those of its chain.
 abbrev pub IsLowest : Host → ℕ → ℕ → Type 0
 IsLowest h q cid = (lower : ℕ) → lower < cid → is_among (outstanding_on h q) lower ≡ true
 
-abbrev pub HasFirstPages : Host → DraftContents → Type 0
-HasFirstPages h d = numbers_of d.data_pages ++ numbers_of d.chain_pages ≡ take (length d.data_pages + length d.chain_pages) h.free
+pub record HasPlacedPages (h : Host) (d : DraftContents) : Type 0 where
+  pub data_pages : numbers_of d.data_pages ≡ data_placed h.free d.request.pieces
+  pub chain_pages : numbers_of d.chain_pages ≡ chain_placed h.free d.segment d.request.pieces

@@ -9,6 +9,7 @@ use Rattle.io_commands.specs.Asked.{Request}
 use Rattle.machine_model.specs.After.{change, collected}
 use Rattle.machine_model.specs.Events as events
 use Rattle.machine_model.specs.Memory.{without_pages, with_pages, zeroed_pages}
+use Rattle.machine_model.specs.Placement.{placed, without_numbers, chain_wanted}
 use Rattle.machine_model.specs.State.{Record, is_at, pages_of, with_record, without_record}
 use Rattle.machine_model.specs.Refusals.{refusal_of, is_drafted, is_collected, is_of, has_sq}
 use Rattle.machine_model.specs.Claims.{is_away}
@@ -18,10 +19,10 @@ use Rattle.machine_model.specs.declared.words.Phase.{Phase}
 use Rattle.machine_model.specs.declared.words.Phase.TheVariants.{Drafted}
 use Rattle.machine_model.specs.declared.words.Work.TheVariants.{Io}
 use Rattle.page_ledger.specs.Owners.{with_owner, given_back, is_command, free_pages}
+use Rattle.page_ledger.specs.declared.owner.Owner.{Owner}
 use Rattle.page_ledger.specs.declared.owner.Owner.TheVariants.{Command}
 use Rattle.page_ledger.specs.declared.owner.Role.TheVariants.{Data, Chain}
 use Rattle.page_memory.specs.Pages.{Pages, page_at}
-use Rattle.sgl_chain.specs.Chains.{pages_needed}
 use Rattle.host_core.specs.Tables.{Tables, state_of}
 use Rattle.host_core.specs.Rows.{Queue}
 
@@ -98,6 +99,13 @@ takes_no_io q state = (q == 0) || not (passes has_sq state)
 abbrev pub ClaimsNext : List Queue → ℕ → ℕ → Type 0
 ClaimsNext queues q cid = (queue : Queue) → slice_get queues q ≡ Some queue → position not queue.host.claimed ≡ Some cid
 
+-- so many pages where they are placed first, and so many of those that are left
+abbrev pub first_placed : List Owner → ℕ → List ℕ
+first_placed owners front = placed (free_pages owners) front
+
+abbrev pub then_placed : List Owner → (front back : ℕ) → List ℕ
+then_placed owners front back = placed (without_numbers (first_placed owners front) (free_pages owners)) back
+
 -- What a request gets, where nothing is against it: an identifier and so many pages for its data and for its chain.
 pub record Grants (t : Tables) (q : ℕ) (r : Request) (cid front back : ℕ) : Type 0 where
   pub none : refusal_of (state_of t) (events.Reserve q r) ≡ None
@@ -106,7 +114,7 @@ pub record Grants (t : Tables) (q : ℕ) (r : Request) (cid front back : ℕ) : 
   pub next : ClaimsNext t.queues q cid
   pub fresh : IsNewIdentifier (state_of t) q cid
   pub for_data : front ≡ data_count r.pieces
-  pub for_chain : back ≡ pages_needed (length r.pieces) t.segment
+  pub for_chain : back ≡ chain_wanted (free_pages t.owners) t.segment r.pieces
   pub enough : front + back ≤ length (free_pages t.owners)
 
 -- An identifier of a queue is claimed.

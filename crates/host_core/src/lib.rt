@@ -21,6 +21,7 @@ mod look;
 mod moving;
 mod open;
 mod parts;
+mod place;
 mod post;
 mod queue;
 mod queues;

@@ -1,6 +1,9 @@
 //! What would be answered: looks that change nothing, for those who wait until the answer is another.
 
-ghost use Rattle.std.specs.Prelude.{◌≡◌, ℕ, true, false, Some, IfSome, IfNone, [], is_some, length, option_and_then, option_map, slice_get};
+ghost use Rattle.std.specs.Prelude.{◌≡◌, ℕ, true, false, Some, IfOk, IfSome, IfNone, [], is_some, length, option_and_then, option_map, slice_get};
+ghost use Rattle.std.specs.Result.{result_err};
+ghost use Rattle.io_commands.specs.Least.{least_pages as spec_least_pages};
+ghost use Rattle.io_commands.specs.Requests.{fault_of};
 ghost use Rattle.machine_model.specs.Events as events;
 ghost use Rattle.machine_model.specs.Refusals.{has_cq, in_state, refusal_of};
 ghost use Rattle.machine_model.specs.State.{record_at};
@@ -11,7 +14,7 @@ ghost use Rattle.host_core.specs.Looks.{cause_of, completion_base as spec_comple
 use crate::host::Host;
 use crate::queues::{has_no_completion, host_state};
 use entry_codec::Status;
-use io_commands::Request;
+use io_commands::{Request, RequestFault};
 use machine_model::words::{HostState, Refusal};
 use page_memory::Store;
 use std::alloc::Allocator;
@@ -39,6 +42,20 @@ impl<A: Allocator + Copy> Host<A> {
 }
 
 impl<A: Allocator> Host<A> {
+    /// The fewest pages that a request takes here, wherever it is placed: one for each data piece, and those of its chain where the
+    /// data pages are consecutive ones. It takes no memory.
+    ///
+    /// # Errors
+    ///
+    /// The first fault of the request.
+    pub fn least_pages<B: Allocator>(&self, request: &Request<B>) -> Result<u32, RequestFault>
+        ensures least { IfOk result (λ pages. pages ≡ spec_least_pages request.now.pieces self.now.segment) }
+        ensures fault { result_err result ≡ fault_of request.now.kind request.now.blocks request.now.pieces }
+    {
+        request.check()?;
+        Ok(request.least_pages(self.parts.segment))
+    }
+
     /// What [`Host::collect`] of this command's ticket would be refused for, want of memory left aside, over any pages that are the
     /// host's.
     pub fn collect_refusal(&self, q: u16, cid: u16) -> Option<Refusal>

@@ -1,14 +1,10 @@
 //! A request gets an identifier and pages.
 
-ghost use Rattle.std.specs.Prelude.{◌≡◌, ◌+◌, ◌≤◌, [], length, take, drop, vec_len, vec_capacity, IfOk, IfErr};
-ghost use Rattle.io_commands.specs.Requests.{data_count};
-ghost use Rattle.io_commands.specs.Values.{IsGood};
+ghost use Rattle.std.specs.Prelude.{◌≡◌, ◌+◌, ◌≤◌, [], vec_len, vec_capacity, IfOk, IfErr};
 ghost use Rattle.machine_model.specs.Events as events;
 ghost use Rattle.machine_model.specs.Step.{Refuses};
-ghost use Rattle.page_ledger.specs.Owners.{free_pages, with_owner};
-ghost use Rattle.sgl_chain.specs.Chains.{pages_needed as spec_pages_needed};
-ghost use Rattle.host_core.specs.Alone.{HasFirstPages, HostStep, IsLowest, IsOver};
-ghost use Rattle.host_core.specs.Commands.{reserved, Grants, new_draft};
+ghost use Rattle.host_core.specs.Alone.{HasPlacedPages, HostStep, IsLowest, IsOver};
+ghost use Rattle.host_core.specs.Commands.{first_placed, then_placed, reserved, Grants, new_draft};
 ghost use Rattle.host_core.specs.Parts.{tables_of, Over};
 ghost use Rattle.host_core.specs.Replies.{reserve_reply};
 ghost use Rattle.host_core.specs.Tables.{state_of};
@@ -17,23 +13,15 @@ ghost use Rattle.host_core.specs.Whole.{IsHost, IsWhole};
 use crate::host::Host;
 use crate::moving::move_out_zeroed;
 use crate::parts::Parts;
+use crate::place::{Grant, pages_wanted, place_command};
 use crate::queues::{claim, host_state, is_deleting, next_identifier, takes_no_io};
 use crate::record::Record;
 use crate::refused::Refused;
 use io_commands::{Draft, Request};
 use machine_model::words::{Phase, Refusal, Work};
-use page_ledger::{Ledger, Owner, Role};
+use page_ledger::NoPages;
 use page_memory::{Page, PageNo, Store};
-use sgl_chain::pages_needed;
 use std::alloc::{AllocError, Allocator};
-
-/// What a request gets: an identifier, and so many pages for its data and for its chain.
-#[derive(Clone, Copy)]
-pub(crate) struct Grant {
-    cid: u16,
-    front: u32,
-    back: u32,
-}
 
 /// The lists that a command fills, made before anything changes.
 #[derive(Drop)]
@@ -42,56 +30,6 @@ struct Room<A: Allocator> {
     back: Vec<PageNo, A>,
     pages: Vec<(PageNo, Page<A>), A>,
     request: Request<A>,
-}
-
-/// Gives the lowest free pages to a command, first those for its data, then those for its chain.
-fn grant_pages<A: Allocator>(
-    ledger: &mut Ledger<A>,
-    q: u16,
-    grant: Grant,
-    front: &mut Vec<PageNo, A>,
-    back: &mut Vec<PageNo, A>,
-)
-    requires enough { grant.front + grant.back ≤ length (free_pages ledger.old) }
-    requires front_room { (front.old.items ≡ []) × (vec_len front.old + grant.front ≤ vec_capacity front.old) }
-    requires back_room { (back.old.items ≡ []) × (vec_len back.old + grant.back ≤ vec_capacity back.old) }
-    ensures front { front.new.items ≡ take grant.front (free_pages ledger.old) }
-    ensures back { back.new.items ≡ take grant.back (drop grant.front (free_pages ledger.old)) }
-    ensures owners { ledger.new ≡ with_owner (with_owner ledger.old front.new.items (Owner.Command q grant.cid Role.Data)) back.new.items (Owner.Command q grant.cid Role.Chain) }
-{
-    let cid = grant.cid;
-    let for_data = Owner::Command {
-        q,
-        cid,
-        role: Role::Data,
-    };
-    match ledger.grant(for_data, grant.front, front) {
-        Ok(()) => {}
-        Err(_) => unreachable!(),
-    }
-    let for_chain = Owner::Command {
-        q,
-        cid,
-        role: Role::Chain,
-    };
-    match ledger.grant(for_chain, grant.back, back) {
-        Ok(()) => {}
-        Err(_) => unreachable!(),
-    }
-}
-
-/// How many pages a good request takes for its data and for its chain.
-fn pages_of_request<A: Allocator>(request: &Request<A>, segment: u16) -> (u32, u32)
-    requires good { IsGood request.now }
-    requires least { 2 ≤ segment }
-    ensures front { result.0 ≡ data_count request.now.pieces }
-    ensures back { result.1 ≡ spec_pages_needed (length request.now.pieces) segment }
-    ensures few { (result.0 ≤ 1024) × (result.1 ≤ 1024) }
-{
-    let parts = request.pieces.as_slice().len();
-    let front = request.pieces.data_pages();
-    let back = pages_needed(parts, usize::from(segment));
-    (front as u32, back as u32)
 }
 
 /// Lists for a command with so many pages, and a copy of its request.
@@ -138,13 +76,10 @@ impl<A: Allocator + Copy> Parts<A> {
         let Some(cid) = next_identifier(&self.queues, q) else {
             return Err(Refusal::NoIdentifier);
         };
-        let (front, back) = pages_of_request(request, self.segment);
-        let free = self.ledger.counts().free_pages;
-        let need = front + back;
-        if free < need {
-            return Err(Refusal::NoPages { need, free });
+        match pages_wanted(&self.ledger, request, self.segment) {
+            Ok((front, back)) => Ok(Grant { cid, front, back }),
+            Err(NoPages { need, free }) => Err(Refusal::NoPages { need, free }),
         }
-        Ok(Grant { cid, front, back })
     }
 
     /// Gives a command what it gets.
@@ -162,7 +97,7 @@ impl<A: Allocator + Copy> Parts<A> {
         requires back { (room.back.items ≡ []) × (vec_len room.back + grant.back ≤ vec_capacity room.back) }
         requires pages { (room.pages.items ≡ []) × (vec_len room.pages + (grant.front + grant.back) ≤ vec_capacity room.pages) }
         requires request { room.request ≡ request }
-        ensures draft { result ≡ new_draft q grant.cid request (take grant.front (free_pages self.old.ledger)) (take grant.back (drop grant.front (free_pages self.old.ledger))) self.old.segment }
+        ensures draft { result ≡ new_draft q grant.cid request (first_placed self.old.ledger grant.front) (then_placed self.old.ledger grant.front grant.back) self.old.segment }
         ensures new { tables_of self.new store.new.pages ≡ reserved result (tables_of self.old store.old.pages) }
     {
         let Room {
@@ -171,7 +106,7 @@ impl<A: Allocator + Copy> Parts<A> {
             mut pages,
             request: kept,
         } = room;
-        grant_pages(&mut self.ledger, q, grant, &mut front, &mut back);
+        place_command(&mut self.ledger, q, grant, &mut front, &mut back);
         move_out_zeroed(store, &front, &mut pages);
         move_out_zeroed(store, &back, &mut pages);
         claim(&mut self.queues, q, grant.cid);
@@ -188,14 +123,16 @@ impl<A: Allocator + Copy> Parts<A> {
 }
 
 impl<A: Allocator + Copy> Host<A> {
-    /// Reserves for a request an identifier of the queue, the lowest that is free, and pages, the lowest that are free: one
-    /// for each data piece, and those of its chain. They are out of the store, and hold zeros.
+    /// Reserves for a request an identifier of the queue, the lowest that is free, and pages: one for each data piece, in the
+    /// lowest run of consecutive free pages where there is one, else in the lowest free pages; and, in the same way, those of
+    /// the chain of its parts, where neighbours that join are one. They are out of the store, and hold zeros.
     ///
     /// # Errors
     ///
     /// The request is handed back, and nothing changed. 1. `NoQueue` for queue 0, an unknown queue, and one whose
     /// submission half was given back. 2. `Deleting` where it is being deleted. 3. `Bad` for the first fault of the request.
-    /// 4. `NoIdentifier` where each identifier of the queue is outstanding. 5. `NoPages` where too few pages are free.
+    /// 4. `NoIdentifier` where each identifier of the queue is outstanding. 5. `NoPages` where too few pages are free: `need` is
+    /// what this placement takes, and where even the data has no room the fewest pages that the request could take.
     /// 6. `Memory` where memory is refused.
     pub fn reserve(
         &mut self,
@@ -206,7 +143,7 @@ impl<A: Allocator + Copy> Host<A> {
         requires { IsOver self.old store.old.pages }
         ensures step { HostStep self.old store.old.pages (events.Reserve q request) (reserve_reply result) self.new store.new.pages }
         ensures identifier { IfOk result (λ draft. IsLowest self.old.host q draft.cid) }
-        ensures pages { IfOk result (λ draft. HasFirstPages self.old.host draft) }
+        ensures pages { IfOk result (λ draft. HasPlacedPages self.old.host draft) }
         ensures over { IsOver self.new store.new.pages }
         ensures back { IfErr result (λ r. r.value ≡ request) }
     {

@@ -10,13 +10,16 @@ use Rattle.io_commands.specs.declared.request.Kind.{Kind}
 use Rattle.io_commands.specs.declared.request.Piece.{Piece}
 use Rattle.io_commands.specs.declared.request.Piece.TheVariants.{Data, Bucket}
 use Rattle.io_commands.specs.Asked.{Request}
-use Rattle.sgl_chain.specs.Chains.{Sgl, pages_needed, segment_bytes}
+use Rattle.sgl_descriptor.specs.declared.Part.{Part}
+use Rattle.sgl_chain.specs.Chains.{Sgl, segment_bytes}
+use Rattle.sgl_chain.specs.Joining.{joined}
+use Rattle.sgl_chain.proofs.JoinedLists.{joined_few}
 use Rattle.sgl_chain.specs.Spells.{Holds, IsLaid, SpellsWhereLaid}
 use Rattle.page_memory.specs.Memory.{Memory}
 use Rattle.page_memory.specs.Pages.{with_bytes}
-use Rattle.io_commands.specs.Requests.{fault_of, data_count, parts_of}
+use Rattle.io_commands.specs.Requests.{fault_of, data_count, parts_of, joined_parts}
 use Rattle.io_commands.specs.DataBytes.{PagesOut}
-use Rattle.io_commands.specs.Values.{numbers_of}
+use Rattle.io_commands.specs.Values.{numbers_of, IsGood}
 use Rattle.io_commands.specs.Drafts.{DraftContents, IsDraft, laid, built, draft_segments, draft_parts, draft_first, draft_entry, HoldsPages, SpellsItsParts}
 use Rattle.io_commands.proofs.Laying.{same_numbers, laid-laid, length-laid}
 
@@ -31,16 +34,41 @@ length-parts_of (Bucket len ∷ pieces) numbers few = ap suc (length-parts_of pi
 length-parts_of (Data offset len ∷ pieces) [] few = absurd (grind (arith, common_steps))
 length-parts_of (Data offset len ∷ pieces) (n ∷ numbers) few = ap suc (length-parts_of pieces numbers (grind (arith, common_steps)))
 
--- the parts of a good request in its pages are as many as its pieces
-pub all_parts : (r : Request) (pages front : PagesOut) (s : ℕ) → length pages ≡ data_count r.pieces + pages_needed (length r.pieces) s → front ≡ take (data_count r.pieces) pages →
-    length (parts_of r.pieces (numbers_of front)) ≡ length r.pieces
-all_parts r pages front s count is =
-    length-parts_of r.pieces (numbers_of front) (rw is (grind (arith, common_steps)))
+-- where there are parts there are joined ones, and no more than pieces
+some_joined : (parts : List Part) → 0 < length parts → 0 < length (joined parts)
+some_joined [] some = absurd (omega arith)
+some_joined (part ∷ parts) some = omega arith
+
+parts_few : (pieces : List Piece) (numbers : List ℕ) → length (parts_of pieces numbers) ≤ length pieces
+parts_few [] numbers = omega arith
+parts_few (Bucket len ∷ pieces) numbers = let few : length (parts_of pieces numbers) ≤ length pieces = parts_few pieces numbers in omega arith
+parts_few (Data offset len ∷ pieces) [] = omega arith
+parts_few (Data offset len ∷ pieces) (n ∷ numbers) = let few : length (parts_of pieces numbers) ≤ length pieces = parts_few pieces numbers in omega arith
+
+pub joined_parts_few : (pieces : List Piece) (numbers : List ℕ) → length (joined_parts pieces numbers) ≤ length pieces
+joined_parts_few pieces numbers =
+    let few : length (joined_parts pieces numbers) ≤ length (parts_of pieces numbers) = joined_few (parts_of pieces numbers) in
+    let most : length (parts_of pieces numbers) ≤ length pieces = parts_few pieces numbers in
+    omega arith
+
+-- a good request has parts in its pages
+pub some_parts : (r : Request) (numbers : List ℕ) → IsGood r → data_count r.pieces ≤ length numbers → 0 < length (joined_parts r.pieces numbers)
+some_parts r numbers good enough =
+    let all : length (parts_of r.pieces numbers) ≡ length r.pieces = length-parts_of r.pieces numbers enough in
+    let some : 0 < length r.pieces = some_pieces r.kind r.blocks r.pieces good in
+    some_joined (parts_of r.pieces numbers) (omega arith)
+
+-- the first of its pages are enough for its data pieces
+pub front_pages : (r : Request) (pages front : PagesOut) (n : ℕ) → length pages ≡ data_count r.pieces + n → front ≡ take (data_count r.pieces) pages → data_count r.pieces ≤ length (numbers_of front)
+front_pages r pages front n count is =
+    let same : length (numbers_of front) ≡ length front = length-map front (λ page. page.0) in
+    let taken : length (take (data_count r.pieces) pages) ≡ data_count r.pieces = length-take-le (data_count r.pieces) pages (omega arith) in
+    let whole : length front ≡ data_count r.pieces = ap length is ∙ taken in
+    omega arith
 
 -- the pages behind those of the data pieces are as many as the chain needs
-pub rest_pages : (r : Request) (pages behind : PagesOut) (s : ℕ) → length pages ≡ data_count r.pieces + pages_needed (length r.pieces) s → behind ≡ drop (data_count r.pieces) pages →
-    length (numbers_of behind) ≡ pages_needed (length r.pieces) s
-rest_pages r pages behind s count is = length-map behind (λ page. page.0) ∙ rw is (omega (arith, count, length-drop (data_count r.pieces) pages))
+pub rest_pages : (r : Request) (pages behind : PagesOut) (n : ℕ) → length pages ≡ data_count r.pieces + n → behind ≡ drop (data_count r.pieces) pages → length (numbers_of behind) ≡ n
+rest_pages r pages behind n count is = length-map behind (λ page. page.0) ∙ rw is (omega (arith, count, length-drop (data_count r.pieces) pages))
 
 -- a draft whose chain is laid: it is built, and building it again changes nothing
 pub built_again : (d : DraftContents) → length (draft_segments d) ≡ length d.chain_pages → built (built d) ≡ built d

@@ -1,7 +1,6 @@
 -- In no pages are there fewer joined parts than in consecutive ones.
 use Rattle.std.proofs.Common.{arith, ◌∙◌, sym, ap, subst, refl, ◌≡◌, ◌≢◌, ◌≤◌, ◌<◌, ◌+◌, ◌*◌, ◌&&◌, ℕ, suc, Bool, true, false, if◌then◌else◌, List, [], ◌∷◌, None, length, eqb}
 use Rattle.std.specs.List.{list_any, range_with_len}
-use Rattle.std.proofs.lemmas.List.FromFn.{length-range_with_len}
 use Rattle.std.proofs.lemmas.Bool.Decides.{nat_tests}
 use Rattle.sgl_descriptor.specs.declared.Part.{Part}
 use Rattle.sgl_descriptor.specs.declared.Part.TheVariants as part
@@ -9,13 +8,12 @@ use Rattle.sgl_chain.specs.Chains.{pages_needed}
 use Rattle.sgl_chain.specs.Joining.{joins, both, joined}
 use Rattle.sgl_chain.proofs.Counts.{needed_more}
 use Rattle.sgl_chain.proofs.Joins.{joined_from, from_list}
-use Rattle.sgl_chain.proofs.JoinedLists.{joined_few}
 use Rattle.io_commands.specs.declared.request.Kind.{Kind}
 use Rattle.io_commands.specs.declared.request.Piece.{Piece}
 use Rattle.io_commands.specs.declared.request.Piece.TheVariants.{Data, Bucket}
 use Rattle.io_commands.specs.Requests.{fault_of, is_empty_piece, crosses_page, data_count, parts_of}
 use Rattle.io_commands.specs.Least.{parts_in_a_run, LeastIsBetween, LeastAnywhere, LeastOfAll, AreDistinct}
-use Rattle.io_commands.proofs.Building.{length-parts_of}
+use Rattle.io_commands.proofs.Building.{joined_parts_few}
 use Rattle.io_commands.proofs.Runs.{Inside, begun, none_left, none_here, inside, counted, data_first, no_bucket}
 use Rattle.io_commands.proofs.Spelled.{few_pieces}
 
@@ -35,18 +33,12 @@ same_anywhere request segment first good =
 plus_more : (d x y : ℕ) → x ≤ y → d + x ≤ d + y
 plus_more d x y more = omega arith
 
-no_more_parts : (pieces : List Piece) → length (joined (parts_in_a_run pieces 0)) ≤ length pieces
-no_more_parts pieces =
-    let all : length (parts_in_a_run pieces 0) ≡ length pieces =
-    length-parts_of pieces (range_with_len 0 (data_count pieces)) (let same : length (range_with_len 0 (data_count pieces)) ≡ data_count pieces = length-range_with_len 0 (data_count pieces) in omega arith) in
-    subst (λ (k : ℕ). length (joined (parts_in_a_run pieces 0)) ≤ k) all (joined_few (parts_in_a_run pieces 0))
-
 pub is_between : (pieces : List Piece) (segment : ℕ) → LeastIsBetween pieces segment
 is_between pieces segment =
     record {
       least = omega arith;
       most = λ low. plus_more (data_count pieces) (pages_needed (length (joined (parts_in_a_run pieces 0))) segment) (pages_needed (length pieces) segment)
-          (needed_more (length (joined (parts_in_a_run pieces 0))) (length pieces) segment low (no_more_parts pieces));
+          (needed_more (length (joined (parts_in_a_run pieces 0))) (length pieces) segment low (joined_parts_few pieces (range_with_len 0 (data_count pieces))));
     }
 
 -- each data piece has bytes, and they lie in its page

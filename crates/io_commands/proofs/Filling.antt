@@ -1,5 +1,6 @@
 -- Filling a draft's data pages.
-use Rattle.std.proofs.Common.{◌≡◌, ◌≤◌, ℕ, List, [], ◌∷◌, ◌++◌, Option, Some, None, refl, ap, subst, ◌∙◌, length, take, drop, arith}
+use Rattle.std.proofs.Common.{◌≡◌, ◌≤◌, ℕ, List, [], ◌∷◌, ◌++◌, Option, Some, None, refl, ap, sym, subst, ◌∙◌, length, take, drop, arith}
+use Rattle.sgl_chain.specs.Chains.{pages_needed}
 use Rattle.io_commands.specs.declared.request.Piece.{Piece}
 use Rattle.io_commands.specs.declared.request.Piece.TheVariants.{Data, Bucket}
 use Rattle.io_commands.specs.DataBytes.{PagesOut, filled}
@@ -7,7 +8,7 @@ use Rattle.io_commands.specs.Values.{numbers_of}
 use Rattle.io_commands.specs.Drafts.{DraftContents, IsDraft, IsBuiltIfAny}
 use Rattle.entry_codec.specs.declared.submission.SubEntry.{SubEntry}
 use Rattle.std.proofs.lemmas.List.{length-take-le, length-take}
-use Rattle.io_commands.specs.Requests.{data_count}
+use Rattle.io_commands.specs.Requests.{data_count, joined_parts}
 use Rattle.std.proofs.Math.Seq.{take-append_seam, drop-append_seam}
 
 pub length-filled : (pieces : List Piece) (pages : PagesOut) (bytes : List ℕ) → length (filled pieces pages bytes) ≡ length pages
@@ -47,7 +48,8 @@ fill_keeps d bytes h =
       low = h.low;
       high = h.high;
       pieces_have_pages = length-filled d.request.pieces d.data_pages bytes ∙ h.pieces_have_pages;
-      chain_has_pages = h.chain_has_pages;
+      chain_has_pages = h.chain_has_pages
+          ∙ ap (λ (numbers : List ℕ). pages_needed (length (joined_parts d.request.pieces numbers)) d.segment) (sym (numbers_of-filled d.request.pieces d.data_pages bytes));
       built = built_filled d (filled d.request.pieces d.data_pages bytes) d.entry (numbers_of-filled d.request.pieces d.data_pages bytes) h.built;
     }
 

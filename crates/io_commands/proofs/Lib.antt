@@ -4,3 +4,4 @@ pub mod Building
 pub mod Spelled
 pub mod Runs
 pub mod Fewest
+pub mod Counting

@@ -9,7 +9,7 @@ use Rattle.page_memory.specs.Memory.{Memory}
 use Rattle.page_memory.specs.Pages.{with_bytes}
 use Rattle.entry_codec.specs.declared.submission.SubEntry.{SubEntry}
 use Rattle.io_commands.specs.Asked.{Request}
-use Rattle.io_commands.specs.Requests.{opcode_of, data_count, parts_of, FitsRequest}
+use Rattle.io_commands.specs.Requests.{opcode_of, data_count, joined_parts, FitsRequest}
 use Rattle.io_commands.specs.DataBytes.{PagesOut}
 use Rattle.io_commands.specs.Values.{numbers_of, IsGood}
 
@@ -42,9 +42,9 @@ io_entry cid request sgl1 =
       cdw15 = 0;
     }
 
--- the parts of a draft, in its own pages
+-- the parts of a draft in its own pages, neighbours that join as one
 abbrev pub draft_parts : DraftContents → List Part
-draft_parts d = parts_of d.request.pieces (numbers_of d.data_pages)
+draft_parts d = joined_parts d.request.pieces (numbers_of d.data_pages)
 
 -- the descriptor that its entry holds, and the segments of its chain
 abbrev pub draft_first : DraftContents → Descriptor
@@ -74,13 +74,13 @@ abbrev pub IsBuiltIfAny : DraftContents → Option SubEntry → Type 0
 IsBuiltIfAny d None = Unit {0}
 IsBuiltIfAny d (Some entry) = IsBuilt d
 
--- its request passes its check, it has the pages that its pieces and its chain take, and where it has an entry it is built
+-- its request passes its check, it has the pages that its pieces and the chain of its joined parts take, and where it has an entry it is built
 pub record IsDraft (d : DraftContents) : Type 0 where
   pub good : IsGood d.request
   pub low : 2 ≤ d.segment
   pub high : d.segment ≤ 256
   pub pieces_have_pages : length d.data_pages ≡ data_count d.request.pieces
-  pub chain_has_pages : length d.chain_pages ≡ pages_needed (length d.request.pieces) d.segment
+  pub chain_has_pages : length d.chain_pages ≡ pages_needed (length (draft_parts d)) d.segment
   pub built : IsBuiltIfAny d d.entry
 
 -- A memory holds pages: the bytes of each stand from its first place on.

@@ -6,7 +6,7 @@ use Rattle.sgl_chain.specs.Chains.{pages_needed}
 use Rattle.sgl_chain.specs.Joining.{joined}
 use Rattle.io_commands.specs.declared.request.Piece.{Piece}
 use Rattle.io_commands.specs.Asked.{Request}
-use Rattle.io_commands.specs.Requests.{data_count, parts_of}
+use Rattle.io_commands.specs.Requests.{data_count, parts_of, joined_parts}
 use Rattle.io_commands.specs.Values.{IsGood}
 
 -- the parts of pieces in consecutive pages, from one on
@@ -33,7 +33,7 @@ AreDistinct pages = (i j : ℕ) → i < j → j < length pages → slice_index p
 -- No pages make it fewer, consecutive ones or others.
 abbrev pub LeastOfAll : Type 0
 LeastOfAll = (request : Request) (segment : ℕ) (pages : List ℕ) → IsGood request → 2 ≤ segment → length pages ≡ data_count request.pieces → AreDistinct pages →
-    least_pages request.pieces segment ≤ pages_with request.pieces segment (joined (parts_of request.pieces pages))
+    least_pages request.pieces segment ≤ pages_with request.pieces segment (joined_parts request.pieces pages)
 
 -- They are no more than where nothing is joined, and no fewer than the data pages.
 pub record LeastIsBetween (pieces : List Piece) (segment : ℕ) : Type 0 where

@@ -6,6 +6,7 @@ use Rattle.sgl_descriptor.specs.declared.Direction.{Direction}
 use Rattle.sgl_descriptor.specs.declared.Direction.TheVariants.{Destination, Source}
 use Rattle.sgl_descriptor.specs.declared.Part.{Part}
 use Rattle.sgl_descriptor.specs.declared.Part.TheVariants as part
+use Rattle.sgl_chain.specs.Joining.{joined}
 use Rattle.entry_codec.specs.declared.io_opcode.TheConstants.{READ, WRITE, COMPARE}
 use Rattle.io_commands.specs.declared.request.Kind.{Kind}
 use Rattle.io_commands.specs.declared.request.Kind.TheVariants.{Read, Write, Compare}
@@ -58,6 +59,10 @@ parts_of [] pages = []
 parts_of (Bucket len ∷ pieces) pages = part.Bucket len ∷ parts_of pieces pages
 parts_of (Data offset len ∷ pieces) [] = []
 parts_of (Data offset len ∷ pieces) (page ∷ pages) = part.Data (4096 * page + offset) len ∷ parts_of pieces pages
+
+-- the parts of pieces in their pages, neighbours that join as one
+abbrev pub joined_parts : List Piece → List ℕ → List Part
+joined_parts pieces pages = joined (parts_of pieces pages)
 
 -- the first fault of a request, in the order of the checks
 abbrev pub fault_of : Kind → ℕ → List Piece → Option RequestFault

@@ -2,11 +2,11 @@
 
 ghost use Rattle.std.specs.Prelude.{◌≡◌, ◌≢◌, ◌<◌, ◌≤◌, ◌+◌, ◌++◌, ◌↔◌, length, sum_by, Err, IfOk, OnOk, OnErr, None, Some};
 ghost use Rattle.io_commands.specs.declared.request.Kind.TheVariants.{Read};
-ghost use Rattle.io_commands.specs.Requests.{data_count, FitsRequest};
+ghost use Rattle.io_commands.specs.Requests.{joined_parts, FitsRequest};
 ghost use Rattle.io_commands.specs.DataBytes.{data_length, filled};
-ghost use Rattle.io_commands.specs.Values.{IsGood, data_part, chain_part};
+ghost use Rattle.io_commands.specs.Values.{IsGood, numbers_of, data_part, chain_part};
+ghost use Rattle.io_commands.specs.Least.{pages_with};
 ghost use Rattle.io_commands.specs.Drafts.{built, IsDraft, SpellsItsParts, io_entry as spec_io_entry};
-ghost use Rattle.sgl_chain.specs.Chains.{pages_needed};
 
 use crate::data_bytes::fill_first;
 use crate::layout::{chain_of, lay_all};
@@ -67,8 +67,9 @@ pub enum FillFault {
 }
 
 impl<A: Allocator> Draft<A> {
-    /// A draft, not yet built. The pages are those of the data pieces, in order, and then those of the chain, in order.
-    /// `segment` is the most descriptors of a segment.
+    /// A draft, not yet built. The pages are those of the data pieces, in order, and then those of the chain, in order:
+    /// as many as the chain of its parts takes in these data pages, where neighbours that join are one
+    /// ([`Request::chain_pages`]). `segment` is the most descriptors of a segment.
     pub fn make(
         q: u16,
         cid: u16,
@@ -79,7 +80,7 @@ impl<A: Allocator> Draft<A> {
         requires good { IsGood request }
         requires low { 2 ≤ segment }
         requires high { segment ≤ 256 }
-        requires pages { length pages.items ≡ data_count request.pieces + pages_needed (length request.pieces) segment }
+        requires pages { length pages.items ≡ pages_with request.pieces segment (joined_parts request.pieces (numbers_of (data_part request pages.items))) }
         ensures { result ≡ record {
           q = q;
           cid = cid;

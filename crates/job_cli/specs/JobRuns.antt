@@ -2,7 +2,7 @@
 use Rattle.std.specs.Prelude.{◌≡◌, ◌<◌, ◌⊎◌, ◌==◌, ◌&&◌, ℕ, Bool, true, Option, Some, None, is_some, option_and_then, Ok, Err, List, [], ◌∷◌, ◌++◌, length, slice_get, if◌then◌else◌}
 use Rattle.std.specs.Io.KnownBytes.{Keeps}
 use Rattle.driver_book.specs.State.{BookContents}
-use Rattle.driver_book.specs.declared.log.Report.{Report}
+use Rattle.driver_book.specs.Values.{Report}
 use Rattle.driver_threads.specs.Runs.{RanFrom}
 use Rattle.driver_threads.specs.declared.jobs.Job.{Job}
 use Rattle.driver_threads.specs.declared.jobs.JobEnd.{JobEnd}

@@ -39,7 +39,8 @@ fn put_in(rt: &impl Abort, store: &mut Store, number: PageNo, page: Page) {
     store.put(number, page);
 }
 
-/// Makes a draft in pages of the store, fills it where it has bytes, builds it, and moves its pages in again.
+/// Makes a draft of a request of which no parts join in pages of the store, fills it where it has bytes, builds it, and moves its
+/// pages in again.
 pub(crate) fn drafted(
     rt: &impl Abort,
     alloc: Global,
@@ -48,9 +49,13 @@ pub(crate) fn drafted(
     bytes: Option<&[u8]>,
 ) -> Result<(SubEntry, Request, usize), Fail> {
     assert!(rt; request.check().is_ok());
-    let needed = request.data_pages() + pages_needed(request.pieces().len(), 2);
+    let count = request.data_pages();
+    let needed = count + pages_needed(request.pieces().len(), 2);
     let pages = taken(alloc, store, needed)?;
     assert_eq!(rt; pages.len(), needed);
+    let (front, _) = pages.split_at(count);
+    let parts = request.parts_in(alloc, front)?;
+    assert_eq!(rt; parts.len(), request.pieces().len());
     let mut draft = Draft::make(1, 3, request, pages, 2);
     let filled = match bytes {
         Some(bytes) => draft.fill(bytes),

@@ -269,6 +269,18 @@ impl Pool {
         assert_eq!(rt; self.ledger.counts().free_pages, free);
     }
 
+    /// Looks for pages: the lowest run of so many, and so many of the lowest that are free.
+    fn look(&self, rt: &impl Abort, k: u32) -> Result<(), Fail> {
+        assert!(rt; 0 < k);
+        assert!(rt; k <= 1_024);
+        let first = self.ledger.lowest_run(k).map(|p| p.0);
+        assert_eq!(rt; first, lowest_run(&self.plain, k));
+        let lowest = lowest_free(self.alloc, &self.plain, k)?;
+        let free = self.ledger.lowest_free(k);
+        assert!(rt; free.as_slice() == lowest.as_slice());
+        Ok(())
+    }
+
     /// Grants pages: the lowest that are free, or none where there are too few.
     fn grant(&mut self, rt: &impl Abort, owner: Owner, k: u32) -> Result<(), Fail> {
         assert!(rt; !owner.is_free());
@@ -379,7 +391,7 @@ const SECOND: Owner = Owner::Command {
     role: Role::Chain,
 };
 
-/// Two thousand calls over each of five pools.
+/// Two thousand calls over each of five pools, and looks after each.
 #[test]
 fn ten_thousand_calls_beside_a_plain_list(rt: HostRuntime) -> Result<(), Fail> {
     let mut numbers = Numbers { state: 7 };
@@ -388,6 +400,8 @@ fn ten_thousand_calls_beside_a_plain_list(rt: HostRuntime) -> Result<(), Fail> {
         for _ in 0..2000 {
             pool.call(&rt, &mut numbers)?;
             pool.see(&rt);
+            pool.look(&rt, numbers.next() + 1)?;
+            pool.look(&rt, 16 * numbers.next() + 1)?;
         }
     }
     Ok(())
@@ -413,6 +427,8 @@ fn pools_are_granted_to_their_last_page(rt: HostRuntime) -> Result<(), Fail> {
 #[test]
 fn runs_of_many_pages(rt: HostRuntime) -> Result<(), Fail> {
     let mut pool = Pool::open(rt.alloc(), 400)?;
+    pool.look(&rt, 400)?;
+    pool.look(&rt, 401)?;
     pool.grant(&rt, FIRST, 60)?;
     // pages 60 to 68
     assert_eq!(rt; pool.grant_run(&rt, SECOND, 9), Some(60));
@@ -437,6 +453,8 @@ fn the_greatest_pool_has_one_free_page(rt: HostRuntime) -> Result<(), Fail> {
         pool.grant(&rt, FIRST, 65_535 - page)?;
         pool.grant(&rt, FIRST, 1)?;
         pool.give_back(&rt, 1, 2, false)?;
+        pool.look(&rt, 1)?;
+        pool.look(&rt, 1_024)?;
         assert_eq!(rt; pool.grant_run(&rt, SECOND, 2), None);
         assert_eq!(rt; pool.grant_run(&rt, SECOND, 1), Some(page));
         pool.see(&rt);

@@ -5,7 +5,7 @@ ghost use Rattle.std.specs.Prelude.{◌≤◌};
 use entry_codec::Status;
 use io_commands::*;
 use page_memory::{PageNo, Store};
-use sgl_chain::pages_needed;
+use sgl_chain::{Part, pages_needed};
 use std::alloc::{AllocError, AllocGlobal, Global};
 use std::process::Abort;
 use std::test::Fail;
@@ -153,10 +153,11 @@ fn a_built_draft_names_its_chain(rt: HostRuntime) -> Result<(), Fail> {
     let asked = request(rt.alloc(), Kind::Write, 3, &pieces)?;
     assert!(rt; asked.check().is_ok());
     let pages = taken(rt.alloc(), 4, 5)?;
-    assert_eq!(rt;
-        asked.pieces.data_pages() + pages_needed(asked.pieces.as_slice().len(), 2),
-        pages.len()
-    );
+    let count = asked.data_pages();
+    assert!(rt; count <= pages.len());
+    let (front, _) = pages.split_at(count);
+    let joined = asked.parts_in(rt.alloc(), front)?;
+    assert_eq!(rt; count + pages_needed(joined.len(), 2), pages.len());
     let mut draft = Draft::make(1, 0, asked, pages, 2);
     let unbuilt = draft.entry();
     let short = draft.fill(&[0xAB; 1_535]);
@@ -188,6 +189,60 @@ fn a_built_draft_names_its_chain(rt: HostRuntime) -> Result<(), Fail> {
         bytes[16..32],
         *[0, 0x80, 0, 0, 0, 0, 0, 0, 0x20, 0, 0, 0, 0, 0, 0, 0x30].as_slice()
     );
+    Ok(())
+}
+
+#[test]
+fn whole_pages_that_join_take_no_chain(rt: HostRuntime) -> Result<(), Fail> {
+    let pieces = [data(0, 4_096); 4];
+    let asked = request(rt.alloc(), Kind::Write, 32, &pieces)?;
+    assert!(rt; asked.check().is_ok());
+    let pages = taken(rt.alloc(), 4, 4)?;
+    let count = asked.data_pages();
+    assert_eq!(rt; count, pages.len());
+    let (front, _) = pages.split_at(count);
+    let joined = asked.parts_in(rt.alloc(), front)?;
+    let whole = Part::Data {
+        addr: 0x4000,
+        len: 0x4000,
+    };
+    assert_eq!(rt; joined.as_slice(), [whole].as_slice());
+    assert_eq!(rt; count + pages_needed(joined.len(), 2), pages.len());
+    let mut draft = Draft::make(1, 0, asked, pages, 2);
+    let built = draft.build(rt.alloc());
+    let entry = draft.entry();
+    let parts = draft.apart();
+    built?;
+    assert_eq!(rt; parts.pages.len(), 4);
+    assert_eq!(rt;
+        entry.ok_or("built")?.sgl1,
+        [0, 0x40, 0, 0, 0, 0, 0, 0, 0, 0x40, 0, 0, 0, 0, 0, 0]
+    );
+    Ok(())
+}
+
+#[test]
+fn chain_pages_are_those_of_the_parts_that_join(rt: HostRuntime) -> Result<(), Fail> {
+    let pieces = [
+        data(0, 4_096),
+        data(0, 4_096),
+        data(0, 4_096),
+        data(0, 512),
+        bucket(512),
+    ];
+    let asked = request(rt.alloc(), Kind::Read, 26, &pieces)?;
+    assert!(rt; asked.check().is_ok());
+    for (numbers, want) in [
+        ([4, 5, 6, 7], 1),
+        ([4, 5, 7, 8], 2),
+        ([5, 4, 7, 6], 4),
+        ([7, 6, 5, 4], 4),
+        ([4, 6, 7, 8], 2),
+    ] {
+        let pages = numbers.map(|number| PageNo(number));
+        assert_eq!(rt; asked.data_pages(), pages.len());
+        assert_eq!(rt; asked.chain_pages(&pages, 2), want);
+    }
     Ok(())
 }
 

@@ -15,7 +15,7 @@ use Rattle.entry_codec.specs.declared.submission.SubEntry.{SubEntry}
 use Rattle.entry_codec.specs.declared.status.Status.{Status}
 use Rattle.entry_codec.specs.declared.status.TheConstants.Status.{ABORT_REQUESTED}
 use Rattle.io_commands.specs.Asked.{Request}
-use Rattle.io_commands.specs.Requests.{parts_of}
+use Rattle.io_commands.specs.Requests.{joined_parts}
 use Rattle.io_commands.specs.Drafts.{io_entry}
 use Rattle.io_commands.specs.Jobs.{io_fault, bytes_after_check}
 use Rattle.machine_model.specs.Commands.{Work, Io, Management}
@@ -160,7 +160,7 @@ pub list_still : (m m' : Pages) (qs qs' : List DeviceQueue) (js js' : List Job) 
 list_still m m' qs qs' js js' r request same keeps l = record {
   first = l.first;
   read = l.read;
-  spells = spells_there (only (on_pages r.chain_pages) (byte_at m)) (only (on_pages r.chain_pages) (byte_at m')) (only_same m m' r.chain_pages same) l.first (parts_of request.pieces r.data_pages) l.spells;
+  spells = spells_there (only (on_pages r.chain_pages) (byte_at m)) (only (on_pages r.chain_pages) (byte_at m')) (only_same m m' r.chain_pages same) l.first (joined_parts request.pieces r.data_pages) l.spells;
   entry = keeps (io_entry r.cid request (spelling l.first)) l.entry;
 }
 

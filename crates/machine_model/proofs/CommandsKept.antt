@@ -10,7 +10,7 @@ use Rattle.sgl_chain.specs.Spells.{Spells}
 use Rattle.entry_codec.specs.declared.submission.SubEntry.{SubEntry}
 use Rattle.io_commands.specs.Asked.{Request}
 use Rattle.io_commands.specs.declared.request.RequestFault.{RequestFault}
-use Rattle.io_commands.specs.Requests.{fault_of, parts_of, data_count, FitsRequest}
+use Rattle.io_commands.specs.Requests.{fault_of, joined_parts, data_count, FitsRequest}
 use Rattle.io_commands.specs.Drafts.{DraftContents, io_entry, draft_first, draft_parts, draft_entry}
 use Rattle.io_commands.specs.Values.{numbers_of}
 use Rattle.io_commands.proofs.Spelled.{carries_entry}
@@ -220,9 +220,9 @@ commands_submit d entry r s proper e its live g few places same h =
         record {
           first = draft_first d;
           read = first_read d proper low_data low_chain;
-          spells = subst (λ (chain : List ℕ). Spells (only (on_pages chain) (byte_at (after_entry entry).memory)) (draft_first d) (parts_of request.pieces r.data_pages)) its.chain_list
-              (subst (λ (pages : List ℕ). Spells (only (on_pages (numbers_of d.chain_pages)) (byte_at (after_entry entry).memory)) (draft_first d) (parts_of request.pieces pages)) its.data_list
-              (subst (λ (x : Request). Spells (only (on_pages (numbers_of d.chain_pages)) (byte_at (after_entry entry).memory)) (draft_first d) (parts_of x.pieces (numbers_of d.data_pages))) (sym same) spelled));
+          spells = subst (λ (chain : List ℕ). Spells (only (on_pages chain) (byte_at (after_entry entry).memory)) (draft_first d) (joined_parts request.pieces r.data_pages)) its.chain_list
+              (subst (λ (pages : List ℕ). Spells (only (on_pages (numbers_of d.chain_pages)) (byte_at (after_entry entry).memory)) (draft_first d) (joined_parts request.pieces pages)) its.data_list
+              (subst (λ (x : Request). Spells (only (on_pages (numbers_of d.chain_pages)) (byte_at (after_entry entry).memory)) (draft_first d) (joined_parts x.pieces (numbers_of d.data_pages))) (sym same) spelled));
           entry = subst (λ (x : Request). HasEntry (change d.q (λ at. record at { unfetched = at.unfetched ++ entry ∷ [] }) s.device.queues) s.device.jobs r.q r.cid (io_entry r.cid x (spelling (draft_first d)))) (sym same)
               (subst (λ (c : ℕ). HasEntry (change d.q (λ at. record at { unfetched = at.unfetched ++ entry ∷ [] }) s.device.queues) s.device.jobs r.q c (io_entry c d.request (spelling (draft_first d)))) (sym ids.1)
               (subst (λ (q : ℕ). HasEntry (change d.q (λ at. record at { unfetched = at.unfetched ++ entry ∷ [] }) s.device.queues) s.device.jobs q d.cid (draft_entry d)) (sym ids.0) (new_entry entry is)));

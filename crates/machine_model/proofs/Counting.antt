@@ -3,7 +3,8 @@ use Rattle.std.proofs.Common.{◌≡◌, ℕ, zero, suc, ◌+◌, ◌<◌, ◌�
 use Rattle.std.proofs.lemmas.Bool.{eqb-false, true≢false}
 use Rattle.page_ledger.specs.Owners.{is_among, pages_from}
 use Rattle.machine_model.specs.Step.{times}
-use Rattle.machine_model.specs.After.{without_numbers, joined_in_order}
+use Rattle.machine_model.specs.After.{joined_in_order}
+use Rattle.machine_model.specs.Placement.{without_numbers}
 pub use Rattle.machine_model.specs.Weights.{one}
 
 counted : (b : Bool) (n : ℕ) → (if b then 1 + n else n) ≡ one b + n

@@ -12,7 +12,7 @@ use Rattle.sgl_chain.proofs.Larger.{spells_there}
 use Rattle.controller_walk.specs.declared.walk.WalkState.{WalkState}
 use Rattle.controller_walk.specs.Units.{Act, touched}
 use Rattle.entry_codec.specs.declared.submission.SubEntry.{SubEntry}
-use Rattle.io_commands.specs.Requests.{parts_of}
+use Rattle.io_commands.specs.Requests.{joined_parts}
 use Rattle.io_commands.specs.Drafts.{io_entry}
 use Rattle.machine_model.specs.Memory.{memory_of}
 use Rattle.machine_model.specs.Proper.{IsProper}
@@ -113,7 +113,7 @@ stood_has_chains end stood q cid r found sub =
         let l = c.1 sub in
         record {
           first = l.first;
-          spells = spells_there (only (on_pages r.chain_pages) (byte_at end.memory)) (byte_at end.memory) (more_than_only (on_pages r.chain_pages) (byte_at end.memory)) l.first (parts_of request.pieces r.data_pages) l.spells;
+          spells = spells_there (only (on_pages r.chain_pages) (byte_at end.memory)) (byte_at end.memory) (more_than_only (on_pages r.chain_pages) (byte_at end.memory)) l.first (joined_parts request.pieces r.data_pages) l.spells;
           named = all_of (λ e. e.sgl1 ≡ spelling l.first) (entries_of end r.q r.cid) (entries_named end r.q r.cid (io_entry r.cid request (spelling l.first)) l.entry);
         }
     of (Management adm) c = tt
@@ -156,7 +156,7 @@ stood_has_jobs end stood q cid j some e =
       sized = l.sized;
       list = l.list;
       entry = l.entry;
-      keeps = lists_keep l.command.chain_pages l.command.data_pages (memory_of end.memory) j.entry.sgl1 (parts_of l.request.pieces l.command.data_pages) (direction_of_entry j.entry) (need_of_entry j.entry)
+      keeps = lists_keep l.command.chain_pages l.command.data_pages (memory_of end.memory) j.entry.sgl1 (joined_parts l.request.pieces l.command.data_pages) (direction_of_entry j.entry) (need_of_entry j.entry)
           (apart_in end stood.grounds l.command l.within) (list_of_job end j l);
       ends = course_ends end stood j l;
       unit_left = all_at_found (HasUnitLeft end) (is_job q cid) end.device.jobs j e stood.walks (ap (λ (k : ℕ). k == 0) (eqb-true j.q q ids.0) ∙ not_zero q some);

@@ -31,6 +31,8 @@ pub mod Zero
 pub mod Headline
 pub mod Touching
 pub mod Placed
+pub mod FreePages
+pub mod JoinedParts
 pub mod Placing
 pub mod Standing
 pub mod Trusted

@@ -7,9 +7,9 @@ use Rattle.page_ledger.specs.Owners.{is_among}
 use Rattle.entry_codec.specs.declared.status.Status.{Status}
 use Rattle.io_commands.specs.Asked.{Request}
 use Rattle.io_commands.specs.declared.request.RequestFault.{RequestFault}
-use Rattle.io_commands.specs.Drafts.{DraftContents, IsDraft, IsBuiltIfAny}
-use Rattle.io_commands.specs.Requests.{FitsRequest, fault_of, data_count}
-use Rattle.io_commands.specs.Values.{FinishedContents, IsGood}
+use Rattle.io_commands.specs.Drafts.{DraftContents, IsDraft, IsBuiltIfAny, draft_parts}
+use Rattle.io_commands.specs.Requests.{FitsRequest, fault_of, data_count, joined_parts}
+use Rattle.io_commands.specs.Values.{FinishedContents, IsGood, numbers_of}
 use Rattle.sgl_chain.specs.Chains.{pages_needed}
 use Rattle.page_memory.specs.Pages.{Pages, page_at, zero_page, AreWhole}
 use Rattle.page_memory.proofs.Whole.{length-zero_page}
@@ -81,8 +81,8 @@ reserved_draft s q r d order good reserved = record {
   pieces_have_pages = reserved.data_pages ∙ ap (λ (x : Request). data_count x.pieces) (sym reserved.request);
   chain_has_pages =
       reserved.chain_pages
-      ∙ ap (λ (x : Request). pages_needed (length x.pieces) s.segment) (sym reserved.request)
-      ∙ ap (pages_needed (length d.request.pieces)) (sym reserved.segment);
+      ∙ ap (λ (x : Request). pages_needed (length (joined_parts x.pieces (numbers_of d.data_pages))) s.segment) (sym reserved.request)
+      ∙ ap (pages_needed (length (draft_parts d))) (sym reserved.segment);
   built = subst (IsBuiltIfAny d) (sym reserved.not_built) tt;
 }
 

@@ -8,7 +8,8 @@ use Rattle.entry_codec.specs.declared.completion.ComEntry.{ComEntry}
 use Rattle.entry_codec.specs.declared.status.TheConstants.Status.{ABORTED_SQ_DELETION}
 use Rattle.io_commands.specs.Jobs.{is_success}
 use Rattle.io_commands.specs.Asked.{Request}
-use Rattle.io_commands.specs.Requests.{data_count}
+use Rattle.io_commands.specs.Requests.{data_count, joined_parts}
+use Rattle.io_commands.specs.Values.{numbers_of}
 use Rattle.page_memory.specs.declared.page.Half.TheVariants.{Submission, Completion}
 use Rattle.queue_pair.specs.Memory.{half_pages}
 use Rattle.queue_pair.specs.Rings.{HostRing, next_tail, next_head, knowing}
@@ -75,7 +76,7 @@ provided_host s e reply ok c holds f h =
               identifier = is.identifier.in_range;
               pages = (
                 length-map d.data_pages (λ (page : ℕ × List ℕ). page.0) ∙ is.data_pages ∙ ap (λ (x : Request). data_count x.pieces) (sym is.request),
-                length-map d.chain_pages (λ (page : ℕ × List ℕ). page.0) ∙ is.chain_pages ∙ ap (λ (x : Request). pages_needed (length x.pieces) s.segment) (sym is.request),
+                length-map d.chain_pages (λ (page : ℕ × List ℕ). page.0) ∙ is.chain_pages ∙ ap (λ (x : Request). pages_needed (length (joined_parts x.pieces (numbers_of d.data_pages))) s.segment) (sym is.request),
               );
             }
             );

@@ -11,6 +11,7 @@ use Rattle.sgl_descriptor.specs.declared.Part.{Part}
 use Rattle.sgl_descriptor.specs.Spelling.{spelling, descriptor_of}
 use Rattle.sgl_descriptor.specs.Targets.{counted_in, targets}
 use Rattle.sgl_chain.specs.Laws.{HasBytesOf}
+use Rattle.sgl_chain.proofs.JoinedLists.{same_targets, same_count}
 use Rattle.sgl_chain.proofs.Larger.{spells_there}
 use Rattle.controller_walk.specs.declared.walk.WalkState.TheVariants.{End, Fault}
 use Rattle.controller_walk.specs.Units.{Stays, Reads, Moves, Course, Closes, Does, verdict}
@@ -20,7 +21,7 @@ use Rattle.controller_walk.proofs.Serving.{list_served}
 use Rattle.entry_codec.specs.declared.submission.SubEntry.{SubEntry}
 use Rattle.entry_codec.specs.declared.status.TheConstants.Status.{DATA_TRANSFER_ERROR}
 use Rattle.io_commands.specs.Asked.{Request}
-use Rattle.io_commands.specs.Requests.{parts_of, direction_of}
+use Rattle.io_commands.specs.Requests.{parts_of, joined_parts, direction_of}
 use Rattle.io_commands.specs.Drafts.{io_entry}
 use Rattle.io_commands.specs.Jobs.{direction_of_entry, need_of_entry}
 use Rattle.machine_model.specs.Memory.{memory_of}
@@ -42,6 +43,7 @@ use Rattle.machine_model.proofs.Elsewhere.{sent_page, owned_once}
 use Rattle.machine_model.proofs.Grounds.{Grounds}
 use Rattle.machine_model.proofs.Reaching.{list_in}
 use Rattle.machine_model.proofs.Ending.{lists_end, bytes_there}
+use Rattle.machine_model.proofs.JoinedParts.{joined_lie, joined_there}
 use Rattle.machine_model.proofs.Entered.{good_is, entry_direction, entry_need, parts_count, parts_lie, parts_there}
 pub use Rattle.machine_model.specs.Agreeing.{is_given_back_at as past_at, answers_at, unfetched_count, job_weight, CommandsStandOnce as Places, CommandsStand as Commands}
 
@@ -192,19 +194,20 @@ pool_bytes m at place byte e = go (at place) (page_at m (page_of place)) e
 
 -- What the walk of a job reaches
 
-pub list_of_job : (s : State) (j : Job) (l : JobList s j) → IsListIn l.command.chain_pages l.command.data_pages (memory_of s.memory) j.entry.sgl1 (parts_of l.request.pieces l.command.data_pages)
+pub list_of_job : (s : State) (j : Job) (l : JobList s j) → IsListIn l.command.chain_pages l.command.data_pages (memory_of s.memory) j.entry.sgl1 (joined_parts l.request.pieces l.command.data_pages)
 list_of_job s j l = record {
   first = l.list.first;
   spelled = ap (λ (e : SubEntry). descriptor_of e.sgl1) l.entry ∙ l.list.read;
   spells = spells_there (only (on_pages l.command.chain_pages) (byte_at s.memory)) (only (on_pages l.command.chain_pages) (memory_of s.memory)) (pool_bytes s.memory (on_pages l.command.chain_pages)) l.list.first
-      (parts_of l.request.pieces l.command.data_pages) l.list.spells;
-  parts_lie = parts_lie l.command.data_pages l.request.pieces l.command.data_pages (good_is l.request l.sized.good).crosses (λ p h. h);
+      (joined_parts l.request.pieces l.command.data_pages) l.list.spells;
+  parts_lie = joined_lie (on_pages l.command.data_pages) (parts_of l.request.pieces l.command.data_pages)
+      (parts_lie l.command.data_pages l.request.pieces l.command.data_pages (good_is l.request l.sized.good).crosses (λ p h. h));
 }
 
 pub course_in : (s : State) (j : Job) (l : JobList s j) → CourseIn (on_pages l.command.chain_pages) (on_pages l.command.data_pages) (course_of s j)
 course_in s j l =
     let list = list_of_job s j l in
-    list_in (on_pages l.command.chain_pages) (on_pages l.command.data_pages) (memory_of s.memory) j.entry.sgl1 list.first (parts_of l.request.pieces l.command.data_pages) (direction_of_entry j.entry) (need_of_entry j.entry)
+    list_in (on_pages l.command.chain_pages) (on_pages l.command.data_pages) (memory_of s.memory) j.entry.sgl1 list.first (joined_parts l.request.pieces l.command.data_pages) (direction_of_entry j.entry) (need_of_entry j.entry)
     list.spelled list.spells list.parts_lie
 
 pub more_than_only : (at : ℕ → Bool) (m : Memory) → HasBytesOf m (only at m)
@@ -244,12 +247,13 @@ course_whole s stood j l =
     let same_need : need_of_entry j.entry ≡ 512 * l.request.blocks = ap need_of_entry l.entry ∙ entry_need r.cid l.request (spelling l.list.first) l.sized.good in
     let count : counted_in (direction_of_entry j.entry) (parts_of l.request.pieces r.data_pages) ≡ need_of_entry j.entry =
     ap (λ d. counted_in d (parts_of l.request.pieces r.data_pages)) same_direction ∙ parts_count l.request r.data_pages l.sized.good l.sized.pages ∙ sym same_need in
-    let both = lists_end (memory_of s.memory) j.entry.sgl1 list.first (parts_of l.request.pieces r.data_pages) (direction_of_entry j.entry) (need_of_entry j.entry)
+    let both = lists_end (memory_of s.memory) j.entry.sgl1 list.first (joined_parts l.request.pieces r.data_pages) (direction_of_entry j.entry) (need_of_entry j.entry)
     (low_places s.memory stood.few) list.spelled
-    (spells_there (only (on_pages r.chain_pages) (memory_of s.memory)) (memory_of s.memory) (more_than_only (on_pages r.chain_pages) (memory_of s.memory)) list.first (parts_of l.request.pieces r.data_pages) list.spells)
-    (parts_there s.memory l.request.pieces r.data_pages g.crosses l.sized.fits.pieces
-    (λ p h. (omega (arith, page_below s stood.grounds r l.within p (data_of r p h), stood.few), page_there s stood.grounds r l.within l.phase p (data_of r p h)))) count in
-    record { ends = both.0; takes = both.1; counts = count }
+    (spells_there (only (on_pages r.chain_pages) (memory_of s.memory)) (memory_of s.memory) (more_than_only (on_pages r.chain_pages) (memory_of s.memory)) list.first (joined_parts l.request.pieces r.data_pages) list.spells)
+    (joined_there (memory_of s.memory) (parts_of l.request.pieces r.data_pages) (parts_there s.memory l.request.pieces r.data_pages g.crosses l.sized.fits.pieces
+    (λ p h. (omega (arith, page_below s stood.grounds r l.within p (data_of r p h), stood.few), page_there s stood.grounds r l.within l.phase p (data_of r p h)))))
+    (same_count (direction_of_entry j.entry) (parts_of l.request.pieces r.data_pages) ∙ count) in
+    record { ends = both.0; takes = both.1 ∙ same_targets (direction_of_entry j.entry) (parts_of l.request.pieces r.data_pages); counts = count }
 
 pub course_ends : (s : State) → Stood s → (j : Job) (l : JobList s j) → verdict (course_of s j) ≡ End
 course_ends s stood j l = (course_whole s stood j l).ends

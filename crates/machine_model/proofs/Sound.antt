@@ -17,6 +17,7 @@ use Rattle.io_commands.specs.Jobs.{is_success}
 use Rattle.machine_model.specs.Memory.{with_pages, without_pages}
 use Rattle.machine_model.specs.Commands.{Io, Management}
 use Rattle.machine_model.specs.State.{State, Host, HostQueue, Record, Held, Drafted, Live, Deleting, is_at, record_at, pages_of, with_record, without_record, outstanding_on}
+use Rattle.machine_model.specs.Placement.{without_numbers}
 use Rattle.machine_model.specs.Refusals.{slot_page, slot_offset, host_queue, refusal_of, is_submitted, is_deleting, has_sq, in_state, no_io_queue, no_identifier, pages_wanted}
 use Rattle.machine_model.specs.Step.{host_part, IsController, IsNewIdentifier, times}
 use Rattle.machine_model.specs.After as a
@@ -93,9 +94,9 @@ ok-reserve s d other new are h =
     let record' : Record = record { q = d.q; cid = d.cid; phase = Drafted; work = Io d.request; data_pages = numbers_of d.data_pages; chain_pages = numbers_of d.chain_pages; status = None } in
     let count = length (in_store s.memory) in
     recount count (length (in_store (without_pages pages s.memory)))
-    (record s.host { free = a.without_numbers pages s.host.free; records = s.host.records ++ record' ∷ [] })
+    (record s.host { free = without_numbers pages s.host.free; records = s.host.records ++ record' ∷ [] })
     (length-in_store s.memory ∙ sym (length-without_pages pages s.memory) ∙ sym (length-in_store (without_pages pages s.memory)))
-    (holds_more count s.host record' (a.without_numbers pages s.host.free) (unused s d.q d.cid new) other
+    (holds_more count s.host record' (without_numbers pages s.host.free) (unused s d.q d.cid new) other
     (λ p. let few = few_free count p s.host h in times_granted p pages s.host.free (are p) (omega (arith, at_most_one (nat_lt p count))))
     h)
 

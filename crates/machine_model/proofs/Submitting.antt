@@ -26,13 +26,15 @@ use Rattle.io_commands.specs.declared.request.Piece.TheVariants.{Data, Bucket}
 use Rattle.io_commands.specs.Requests.{parts_of, FitsPiece, fault_of}
 use Rattle.io_commands.specs.Values.{numbers_of}
 use Rattle.io_commands.specs.Drafts.{DraftContents, HoldsPages, draft_first, draft_parts}
-use Rattle.io_commands.proofs.Spelled.{built_drafts_spell}
+use Rattle.io_commands.proofs.Building.{joined_parts_few}
+use Rattle.io_commands.proofs.Spelled.{built_drafts_spell, few_pieces}
 use Rattle.machine_model.specs.Memory.{with_pages}
 use Rattle.machine_model.specs.Proper.{IsPage, ArePages, IsProperDraft}
 use Rattle.machine_model.specs.Refusals.{same_piece, same_pieces, same_kind, same_request}
 use Rattle.machine_model.specs.Step.{times}
 use Rattle.machine_model.specs.Reached.{only, on_pages}
 use Rattle.machine_model.proofs.Counting.{one, times-cons}
+use Rattle.machine_model.proofs.JoinedParts.{joined_fit}
 use Rattle.machine_model.proofs.Elsewhere.{with_elsewhere, among_counts}
 use Rattle.entry_codec.specs.declared.submission.SubEntry.{SubEntry}
 
@@ -76,59 +78,39 @@ requests_same a b h =
 
 -- A descriptor whose fields fit is read back
 
-part_fits : (pieces : List Piece) (numbers : List ℕ) (parts : List Part) (p : Part) → All FitsPiece pieces → ((n : ℕ) → is_among numbers n ≡ true → n < 65536) → parts_of pieces numbers ≡ p ∷ parts → Fits (descriptor_of_part p)
-part_fits [] numbers parts p fit low e = absurd (none e)
-  where
-    none : [] ≡ p ∷ parts → ⊥
-    none e = cc
-part_fits (Bucket len ∷ pieces) numbers parts p fit low e =
-    subst (λ (x : Part). Fits (descriptor_of_part x)) (first e) (All-head FitsPiece (Bucket len) pieces fit)
-  where
-    first : part.Bucket len ∷ parts_of pieces numbers ≡ p ∷ parts → part.Bucket len ≡ p
-    first e = cc
-part_fits (Data offset len ∷ pieces) [] parts p fit low e = absurd (none e)
-  where
-    none : [] ≡ p ∷ parts → ⊥
-    none e = cc
-part_fits (Data offset len ∷ pieces) (n ∷ numbers) parts p fit low e =
+parts_fit : (pieces : List Piece) (numbers : List ℕ) → All FitsPiece pieces → ((n : ℕ) → is_among numbers n ≡ true → n < 65536)
+    → AllByRecursion (λ part. Fits (descriptor_of_part part)) (parts_of pieces numbers)
+parts_fit [] numbers fit low = tt
+parts_fit (Bucket len ∷ pieces) numbers fit low = (All-head FitsPiece (Bucket len) pieces fit, parts_fit pieces numbers (All-tail FitsPiece (Bucket len) pieces fit) low)
+parts_fit (Data offset len ∷ pieces) [] fit low = tt
+parts_fit (Data offset len ∷ pieces) (n ∷ numbers) fit low =
     let here = All-head FitsPiece (Data offset len) pieces fit in
-    let page = low n (or_left (n == n) (is_among numbers n) (eq-eqb n n refl)) in
-    subst (λ (x : Part). Fits (descriptor_of_part x)) (first e) (omega (arith, here.0, page), here.1)
-  where
-    first : part.Data (4096 * n + offset) len ∷ parts_of pieces numbers ≡ p ∷ parts → part.Data (4096 * n + offset) len ≡ p
-    first e = cc
+    let page = low n (or_left (n == n) (is_among numbers n) (eq-eqb n n refl)) in (
+      (omega (arith, here.0, page), here.1),
+      parts_fit pieces numbers (All-tail FitsPiece (Data offset len) pieces fit) (λ k h. low k (or_right (n == k) (is_among numbers k) h)),
+    )
 
-first_fits : (s : ℕ) (pages numbers : List ℕ) (pieces : List Piece) → s ≤ 256 → length pieces ≤ 1024 → length (parts_of pieces numbers) ≤ 1024 → All FitsPiece pieces
-    → ((n : ℕ) → is_among numbers n ≡ true → n < 65536) → ((n : ℕ) → is_among pages n ≡ true → n < 65536) → Fits (first_of s pages (parts_of pieces numbers))
-first_fits s (page ∷ pages) numbers pieces high few few' fit low low' = go (nat_le (length (parts_of pieces numbers)) s)
+first_fits : (s : ℕ) (pages : List ℕ) (parts : List Part) → s ≤ 256 → length parts ≤ 1024 → AllByRecursion (λ part. Fits (descriptor_of_part part)) parts
+    → ((n : ℕ) → is_among pages n ≡ true → n < 65536) → Fits (first_of s pages parts)
+first_fits s (page ∷ pages) parts high few fit low = go (nat_le (length parts) s)
   where
     here : page < 65536
-    here = low' page (or_left (page == page) (is_among pages page) (eq-eqb page page refl))
+    here = low page (or_left (page == page) (is_among pages page) (eq-eqb page page refl))
 
-    go : (b : Bool) → Fits (if b then LastSegment (4096 * page) (16 * length (parts_of pieces numbers)) else Segment (4096 * page) (16 * s))
-    go true = (omega (arith, here), omega (arith, few'))
+    go : (b : Bool) → Fits (if b then LastSegment (4096 * page) (16 * length parts) else Segment (4096 * page) (16 * s))
+    go true = (omega (arith, here), omega (arith, few))
     go false = (omega (arith, here), omega (arith, high))
-first_fits s [] numbers pieces high few few' fit low low' = go (parts_of pieces numbers) refl
-  where
-    go : (parts : List Part) → parts_of pieces numbers ≡ parts → Fits (first_of s [] parts)
-    go [] e = omega arith
-    go (p ∷ parts) e = part_fits pieces numbers parts p fit low e
-
-few_pieces : (kind : Kind) (blocks : ℕ) (pieces : List Piece) → fault_of kind blocks pieces ≡ None → length pieces ≤ 1024
-few_pieces kind blocks pieces h = grind (arith, nat_tests)
-
-few_parts : (pieces : List Piece) (numbers : List ℕ) → length (parts_of pieces numbers) ≤ length pieces
-few_parts [] numbers = omega arith
-few_parts (Bucket len ∷ pieces) numbers = omega (arith, few_parts pieces numbers)
-few_parts (Data offset len ∷ pieces) [] = omega arith
-few_parts (Data offset len ∷ pieces) (n ∷ numbers) = omega (arith, few_parts pieces numbers)
+first_fits s [] [] high few fit low = omega arith
+first_fits s [] (part ∷ parts) high few fit low = fit.0
 
 pub first_read : (d : DraftContents) → IsProperDraft d → ((n : ℕ) → is_among (numbers_of d.data_pages) n ≡ true → n < 65536) → ((n : ℕ) → is_among (numbers_of d.chain_pages) n ≡ true → n < 65536)
     → descriptor_of (spelling (draft_first d)) ≡ Some (draft_first d)
 first_read d proper low low' =
     let few = few_pieces d.request.kind d.request.blocks d.request.pieces proper.draft.good in
     reads_itself (draft_first d)
-    (first_fits d.segment (numbers_of d.chain_pages) (numbers_of d.data_pages) d.request.pieces proper.draft.high few (omega (arith, few, few_parts d.request.pieces (numbers_of d.data_pages))) proper.request.pieces low low')
+    (first_fits d.segment (numbers_of d.chain_pages) (draft_parts d) proper.draft.high
+    (omega (arith, few, joined_parts_few d.request.pieces (numbers_of d.data_pages)))
+    (joined_fit (parts_of d.request.pieces (numbers_of d.data_pages)) (parts_fit d.request.pieces (numbers_of d.data_pages) proper.request.pieces low)) low')
 
 -- Its pages in the store
 

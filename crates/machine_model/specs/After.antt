@@ -26,6 +26,7 @@ use Rattle.entry_codec.specs.declared.submission.SubEntry.{SubEntry}
 use Rattle.page_memory.specs.Pages.{Pages, page_at, with_page_bytes, with_bytes}
 use Rattle.entry_codec.specs.declared.status.TheConstants.Status.{SUCCESS, COMMAND_ID_CONFLICT, ABORT_REQUESTED, ABORTED_SQ_DELETION}
 use Rattle.entry_codec.specs.declared.status.Status.{Status}
+use Rattle.machine_model.specs.Placement.{without_numbers}
 use Rattle.machine_model.specs.Memory.{without_pages, with_pages, memory_of}
 use Rattle.machine_model.specs.Commands.{Work, Io, Management}
 use Rattle.machine_model.specs.State.{State, Host, Device, HostQueue, Live, Deleting, Retired, Gone, DeviceQueue, Record, Drafted, Submitted, Held, Collected, Job, Answer, record_at, without_record, with_record, pages_of}
@@ -90,9 +91,6 @@ abbrev pub gone : HostQueue → HostQueue
 gone queue = record queue { state = Gone; cq_pages = [] }
 
 -- Pages: the free ones stand in rising order
-
-abbrev pub without_numbers : List ℕ → List ℕ → List ℕ
-without_numbers pages free = filter (λ p. not (is_among pages p)) free
 
 abbrev pub joined_in_order : ℕ → List ℕ → List ℕ → List ℕ
 joined_in_order count pages free = filter (λ p. is_among free p || is_among pages p) (pages_from 0 count)

@@ -1,7 +1,7 @@
 -- What the host has whatever was forged: each queue its halves until it gives them back, and each command what it was reserved with.
 use Rattle.std.specs.Prelude.{◌≡◌, ℕ, ◌-◌, ◌<◌, List, length, if◌then◌else◌}
 use Rattle.std.specs.List.{AllByRecursion}
-use Rattle.io_commands.specs.Requests.{data_count}
+use Rattle.io_commands.specs.Requests.{data_count, joined_parts}
 use Rattle.page_memory.specs.declared.page.Half.TheVariants.{Submission, Completion}
 use Rattle.queue_pair.specs.Memory.{half_pages}
 use Rattle.sgl_chain.specs.Chains.{pages_needed}
@@ -19,10 +19,10 @@ pub record HasHalves (n : ℕ) (queue : HostQueue) : Type 0 where
   pub submission : length queue.sq_pages ≡ (if has_sq queue.state then half_pages n Submission else 0)
   pub completion : length queue.cq_pages ≡ (if has_cq queue.state then half_pages n Completion else 0)
 
--- an I/O command has as many data and chain pages as its request wants
+-- an I/O command has a data page for each data piece, and as many chain pages as the chain of its joined parts takes
 abbrev pub HasPagesFor : ℕ → Work → (data_pages chain_pages : List ℕ) → Type 0
 HasPagesFor segment (Io request) data_pages chain_pages =
-    (length data_pages ≡ data_count request.pieces) × (length chain_pages ≡ pages_needed (length request.pieces) segment)
+    (length data_pages ≡ data_count request.pieces) × (length chain_pages ≡ pages_needed (length (joined_parts request.pieces data_pages)) segment)
 HasPagesFor segment (Management a) data_pages chain_pages = Unit {0}
 
 -- an outstanding command has them, and an identifier below its queue's entries less one

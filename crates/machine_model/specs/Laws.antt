@@ -6,7 +6,7 @@ use Rattle.page_ledger.specs.Owners.{is_among}
 use Rattle.machine_model.specs.Touch.{stays_allowed, stays_own}
 use Rattle.block_image.specs.Blocks.{blocks_at}
 use Rattle.sgl_descriptor.specs.declared.Direction.TheVariants.{Destination}
-use Rattle.io_commands.specs.Requests.{parts_of}
+use Rattle.io_commands.specs.Requests.{parts_of, joined_parts}
 use Rattle.sgl_descriptor.specs.Targets.{Target, Place, Discarded, targets}
 use Rattle.sgl_descriptor.specs.Spelling.{spelling}
 use Rattle.sgl_descriptor.specs.declared.Descriptor.{Descriptor}
@@ -165,7 +165,7 @@ compares_tell_equality =
     → IsTrue (not (same_status st ABORT_REQUESTED || same_status st ABORTED_SQ_DELETION || same_status st LBA_OUT_OF_RANGE))
     → st ≡ (if bytes_eq (gathered d.request.pieces d.data_pages) (blocks_of_request d.request m.before.device.image) then SUCCESS else COMPARE_FAILURE)
 
--- A submitted record's chain spells its parts, from some descriptor, which is that of its entry wherever the entry still stands.
+-- A submitted record's chain spells its parts, neighbours that join as one, from some descriptor, which is that of its entry wherever the entry still stands.
 -- A record doesn't keep its entry: after the completion nobody reads the chain.
 abbrev pub entries_of : State → ℕ → ℕ → List SubEntry
 entries_of s q cid =
@@ -174,7 +174,7 @@ entries_of s q cid =
 
 pub record HasChain (s : State) (r : Record) (request : Request) : Type 0 where
   pub first : Descriptor
-  pub spells : Spells (byte_at s.memory) first (parts_of request.pieces r.data_pages)
+  pub spells : Spells (byte_at s.memory) first (joined_parts request.pieces r.data_pages)
   pub named : All (λ e. e.sgl1 ≡ spelling first) (entries_of s r.q r.cid)
 
 abbrev pub HasChainIfIo : State → Record → Work → Type 0

@@ -5,6 +5,7 @@ pub mod State
 pub mod Events
 pub mod Proper
 pub mod Reached
+pub mod Placement
 pub mod Refusals
 pub mod After
 pub mod Opening

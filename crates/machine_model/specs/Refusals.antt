@@ -2,14 +2,14 @@
 use Rattle.std.specs.Prelude.{ℕ, ◌+◌, ◌*◌, ◌-◌, ◌/◌, ◌%◌, ◌==◌, nat_lt, nat_le, Bool, true, false, ◌&&◌, ◌||◌, not, Option, Some, None, List, [], ◌∷◌, length, find, is_some, is_none, slice_get, slice_index, slice_range, option_and_then, if◌then◌else◌, nat_eq}
 use Rattle.std.specs.List.{list_any}
 use Rattle.std.specs.Option.{option_map, option_map_or}
-use Rattle.sgl_chain.specs.Chains.{pages_needed}
+use Rattle.machine_model.specs.Placement.{wanted_of}
 use Rattle.entry_codec.specs.Completion.{completion_of}
 use Rattle.admin_commands.specs.Verdicts.{is_live as is_running}
 use Rattle.io_commands.specs.Values.{numbers_of}
 use Rattle.admin_commands.specs.declared.AdminKind.TheVariants.{Abort, DeleteSq, DeleteCq}
 use Rattle.entry_codec.specs.declared.completion.ComEntry.{ComEntry}
 use Rattle.entry_codec.specs.declared.submission.SubEntry.{SubEntry}
-use Rattle.io_commands.specs.Requests.{fault_of, data_count}
+use Rattle.io_commands.specs.Requests.{fault_of}
 use Rattle.controller_walk.specs.Units.{first_passing}
 use Rattle.io_commands.specs.declared.request.RequestFault.{RequestFault}
 use Rattle.io_commands.specs.Asked.{Request}
@@ -161,7 +161,7 @@ is_of phase request data_pages chain_pages r =
 -- Pages and identifiers
 
 abbrev pub pages_wanted : State → Request → ℕ
-pages_wanted s r = data_count r.pieces + pages_needed (length r.pieces) s.segment
+pages_wanted s r = wanted_of s.host.free s.segment r.pieces
 
 abbrev pub no_identifier : State → ℕ → Bool
 no_identifier s q = nat_le (s.entries - 1) (length (outstanding_on s.host q))

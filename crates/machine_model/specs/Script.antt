@@ -1,4 +1,4 @@
--- Scripts, played: the choices are the lowest free identifier and the lowest free pages, and drafts, tickets and finished commands are kept beside the machine.
+-- Scripts, played: the choices are the lowest free identifier and the first placement of pages, and drafts, tickets and finished commands are kept beside the machine.
 use Rattle.std.specs.Prelude.{ℕ, zero, suc, ◌+◌, ◌-◌, ◌==◌, Bool, true, false, nat_lt, ◌&&◌, not, Option, Some, None, List, [], ◌∷◌, ◌++◌, length, take, drop, replicate, filter, find, sum_by, option_and_then, if◌then◌else◌}
 use Rattle.std.specs.Option.{option_map_or, option_map}
 use Rattle.machine_model.specs.State.{State, record_at, outstanding_on, Job}
@@ -11,9 +11,8 @@ use Rattle.page_ledger.specs.Owners.{is_among, pages_from}
 use Rattle.controller_walk.specs.Units.{touched as pages_touched, first_passing}
 use Rattle.machine_model.specs.Touch.{stays_allowed, stays_own}
 use Rattle.controller_walk.specs.declared.walk.WalkState.{WalkState}
-use Rattle.sgl_chain.specs.Chains.{pages_needed}
+use Rattle.machine_model.specs.Placement.{data_placed, chain_placed}
 use Rattle.io_commands.specs.Values.{FinishedContents, numbers_of, gathered_from}
-use Rattle.io_commands.specs.Requests.{data_count}
 use Rattle.io_commands.specs.DataBytes.{data_length, filled}
 use Rattle.io_commands.specs.Asked.{Request}
 use Rattle.io_commands.specs.declared.request.Piece.{Piece}
@@ -85,13 +84,12 @@ lowest_of used (n ∷ ns) = if is_among used n then lowest_of used ns else n
 
 abbrev pub chosen : State → ℕ → Request → DraftContents
 chosen s q r =
-    let count = data_count r.pieces in
     record {
       q = q;
       cid = lowest_of (outstanding_on s.host q) (pages_from 0 s.entries);
       request = r;
-      data_pages = zeroed_pages (take count s.host.free);
-      chain_pages = zeroed_pages (take (pages_needed (length r.pieces) s.segment) (drop count s.host.free));
+      data_pages = zeroed_pages (data_placed s.host.free r.pieces);
+      chain_pages = zeroed_pages (chain_placed s.host.free s.segment r.pieces);
       segment = s.segment;
       entry = None;
     }

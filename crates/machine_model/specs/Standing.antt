@@ -10,7 +10,7 @@ use Rattle.controller_walk.specs.declared.walk.WalkState.TheVariants.{End}
 use Rattle.controller_walk.specs.Units.{units, verdict}
 use Rattle.entry_codec.specs.declared.submission.SubEntry.{SubEntry}
 use Rattle.io_commands.specs.Asked.{Request}
-use Rattle.io_commands.specs.Requests.{data_count, parts_of, FitsRequest}
+use Rattle.io_commands.specs.Requests.{data_count, joined_parts, FitsRequest}
 use Rattle.io_commands.specs.Drafts.{io_entry}
 use Rattle.io_commands.specs.Values.{IsGood}
 use Rattle.page_memory.specs.Pages.{Pages, byte_at}
@@ -39,11 +39,11 @@ pub record HasEntry (queues : List DeviceQueue) (jobs : List Job) (q cid : ℕ) 
   pub unfetched : AllByRecursion (λ e. e.cid ≡ cid → e ≡ entry) (unfetched_at queues q)
   pub fetched : AllByRecursion (λ j. j.q ≡ q → j.entry.cid ≡ cid → j.entry ≡ entry) jobs
 
--- The command's chain pages spell its parts, whatever stands in other pages, from the descriptor of its entry.
+-- The command's chain pages spell its joined parts, whatever stands in other pages, from the descriptor of its entry.
 pub record ListStands (m : Pages) (queues : List DeviceQueue) (jobs : List Job) (r : Record) (request : Request) : Type 0 where
   pub first : Descriptor
   pub read : descriptor_of (spelling first) ≡ Some first
-  pub spells : Spells (only (on_pages r.chain_pages) (byte_at m)) first (parts_of request.pieces r.data_pages)
+  pub spells : Spells (only (on_pages r.chain_pages) (byte_at m)) first (joined_parts request.pieces r.data_pages)
   pub entry : HasEntry queues jobs r.q r.cid (io_entry r.cid request (spelling first))
 
 abbrev pub StandsAs : Pages → List DeviceQueue → List Job → Record → Work → Type 0

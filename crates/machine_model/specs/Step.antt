@@ -6,7 +6,7 @@ use Rattle.controller_walk.specs.Units.{Act, touched}
 use Rattle.controller_walk.specs.declared.walk.WalkState.{WalkState}
 use Rattle.sgl_chain.specs.Chains.{pages_needed}
 use Rattle.io_commands.specs.Values.{FinishedContents, numbers_of}
-use Rattle.io_commands.specs.Requests.{data_count}
+use Rattle.io_commands.specs.Requests.{data_count, joined_parts}
 use Rattle.entry_codec.specs.declared.completion.ComEntry.{ComEntry}
 use Rattle.io_commands.specs.Asked.{Request}
 use Rattle.page_memory.specs.Pages.{Pages, page_at, zero_page, AreWhole}
@@ -45,7 +45,7 @@ pub record IsReserved (s : State) (q : ℕ) (r : Request) (d : DraftContents) : 
   pub segment : d.segment ≡ s.segment
   pub identifier : IsNewIdentifier s q d.cid
   pub data_pages : length d.data_pages ≡ data_count r.pieces
-  pub chain_pages : length d.chain_pages ≡ pages_needed (length r.pieces) s.segment
+  pub chain_pages : length d.chain_pages ≡ pages_needed (length (joined_parts r.pieces (numbers_of d.data_pages))) s.segment
   pub free : AreFree s (numbers_of d.data_pages ++ numbers_of d.chain_pages)
   pub zero : zeroed (d.data_pages ++ d.chain_pages)
   pub not_built : d.entry ≡ None

@@ -27,13 +27,21 @@ pub fn worked_reads()
     ensures stopped_read { played ordinary stopped_read ≡ stopped_read_said }
 {}
 
-/// Chains: two segments, a Bit Bucket, four whole pages. Their descriptors stand in memory byte for byte.
+/// Chains: two segments, a Bit Bucket, four whole pages that join. Their descriptors stand in memory byte for byte.
 pub fn worked_chains()
     ensures two_segments { played small_segments chains.two_segments ≡ chains.two_segments_said }
     ensures two_segments_bytes { chains.two_segments_shown ≡ chains.two_segments_bytes }
     ensures bucket_behind_data { played ordinary chains.bucket_behind_data ≡ chains.bucket_behind_data_said }
     ensures bucket_bytes { chains.bucket_shown ≡ chains.bucket_bytes }
     ensures four_pages { played ordinary chains.four_pages ≡ chains.four_pages_said }
+    ensures four_pages_bytes { chains.four_pages_shown ≡ chains.four_pages_bytes }
+{}
+
+/// Where pages are placed: a run behind a page that stands alone, and pages that are no run, which want a chain page.
+pub fn worked_placements()
+    ensures run_behind_a_hole { played ordinary chains.run_behind_a_hole ≡ chains.run_behind_a_hole_said }
+    ensures run_behind_a_hole_bytes { chains.run_behind_a_hole_shown ≡ chains.run_behind_a_hole_bytes }
+    ensures no_run { played chains.nine_pages chains.no_run ≡ chains.no_run_said }
 {}
 
 /// Walks over lists in a store of eight pages: their answers and touched pages, and the order of the faults.

@@ -11,9 +11,10 @@ use Rattle.page_ledger.specs.declared.owner.Owner.{Owner}
 use Rattle.page_ledger.specs.declared.owner.Owner.TheVariants.{Free, Queue, Command}
 use Rattle.page_ledger.specs.Owners.{is_among, owner_at, is_free, is_owned_at, pages_from, pages_owned, free_pages, with_owner, given_back}
 use Rattle.bit_list.specs.Places.{is_true_at}
+use Rattle.bit_list.specs.Searches.{IsFirstFrom, IsNoneFrom}
 use Rattle.page_ledger.specs.Free.{true_places}
 use Rattle.page_ledger.specs.Lists.{ListsAll}
-use Rattle.page_ledger.proofs.Pages.{filter-agree, filter-within, filter-without_first, filter-contains, pages_from-more}
+use Rattle.page_ledger.proofs.Pages.{filter-agree, filter-within, filter-without_first, filter-contains, filter-found, filter-gap, pages_from-more}
 
 -- the free pages lie in the pool
 pub free-within : (k : ℕ) (owners : List Owner) → All (λ p. p < length owners) (take k (free_pages owners))
@@ -358,6 +359,22 @@ pub true_places-free : (owners : List Owner) → true_places (map is_free owners
 true_places-free owners =
     ap (λ (n : ℕ). filter (is_true_at (map is_free owners)) (pages_from 0 n)) (length-map owners is_free)
     ∙ filter-agree (is_true_at (map is_free owners)) (is_owned_at is_free owners) 0 (length owners) (λ p low high. flag-free owners p)
+
+-- the search from one free page to the next
+
+pub flags-agree : (flags : List Bool) (owners : List Owner) → flags ≡ map is_free owners → (p : ℕ) → is_true_at flags p ≡ is_owned_at is_free owners p
+flags-agree flags owners is p = ap (λ l. is_true_at l p) is ∙ flag-free owners p
+
+pub free-next : (flags : List Bool) (owners : List Owner) (from p : ℕ) → flags ≡ map is_free owners → IsFirstFrom (is_true_at flags) from p
+    → filter (is_owned_at is_free owners) (pages_from 0 (p + 1)) ≡ filter (is_owned_at is_free owners) (pages_from 0 from) ++ p ∷ []
+free-next flags owners from p is first =
+    filter-found (is_owned_at is_free owners) from p first.after (λ q low high. sym (flags-agree flags owners is q) ∙ first.before q low high)
+    (sym (flags-agree flags owners is p) ∙ first.passes)
+
+pub free-no_more : (flags : List Bool) (owners : List Owner) (from : ℕ) → flags ≡ map is_free owners → IsNoneFrom (is_true_at flags) from → from ≤ length owners
+    → free_pages owners ≡ filter (is_owned_at is_free owners) (pages_from 0 from)
+free-no_more flags owners from is none inside =
+    filter-gap (is_owned_at is_free owners) from (length owners) inside (λ q low high. sym (flags-agree flags owners is q) ∙ none.fails q low)
 
 -- pages that a caller lists
 

@@ -9,6 +9,7 @@ ghost use Rattle.page_ledger.specs.Counting.{counts_of, total};
 ghost use Rattle.page_ledger.specs.Runs.{lowest_run as spec_lowest_run};
 
 use crate::owner::{Counts, Group, NoPages, Owner};
+use arrayvec::ArrayVec;
 use bit_list::BitList;
 use page_memory::{Half, OpenFault, PageNo};
 use std::alloc::{Allocator, Global};
@@ -101,9 +102,9 @@ impl<A: Allocator> Ledger<A> {
         ensures owners { IfSome result (λ p. self.new ≡ with_owner self.old (pages_from p k) owner) }
         ensures unchanged { IfNone result (self.new ≡ self.old) }
     {
-        let first = self.free.lowest_run(k)?;
-        self.give_run(first, k, owner);
-        Some(PageNo(first))
+        let first = self.lowest_run(k)?;
+        self.give_run(first.0, k, owner);
+        Some(first)
     }
 
     /// Frees the pages of a command, of its data and of its chain, and answers how many there were.
@@ -150,8 +151,33 @@ impl<A: Allocator> Ledger<A> {
         requires { ListsAll (is_half q half) self.old (pages_from first k) }
         ensures { self.new ≡ given_back (is_half q half) self.old }
     {
-        prove!(self.owners.len() <= 65_536);
         self.give_run(first.0, k, Owner::Free);
+    }
+
+    /// The first page of the lowest run of `count` consecutive free pages; `None` where there is no such run.
+    pub fn lowest_run(&self, count: u32) -> Option<PageNo>
+        requires some { 0 < count }
+        ensures lowest { result ≡ spec_lowest_run count self.now }
+    {
+        let first = self.free.lowest_run(count)?;
+        Some(PageNo(first))
+    }
+
+    /// The `count` lowest free pages in rising order, at most 1,024; all that are free where there are fewer.
+    pub fn lowest_free(&self, count: u32) -> ArrayVec<PageNo, 1024>
+        requires few { count ≤ 1024 }
+        ensures pages { result.items ≡ take count (free_pages self.now) }
+    {
+        let mut pages = ArrayVec::new();
+        let mut from = 0;
+        for _ in 0..count {
+            let Some(p) = self.free.lowest_from(from) else {
+                return pages;
+            };
+            pages.push(PageNo(p));
+            from = p + 1;
+        }
+        pages
     }
 
     /// The owner of a page of the pool.
@@ -205,10 +231,10 @@ impl<A: Allocator> Ledger<A> {
 
     /// Gives `k` consecutive pages of the pool to an owner.
     fn give_run(&mut self, first: u32, k: u32, owner: Owner)
-        requires inside { (i : ℕ) → i < k → first + i < length self.old }
-        requires pool { length self.old ≤ 65536 }
+        requires { (i : ℕ) → i < k → first + i < length self.old }
         ensures { self.new ≡ with_owner self.old (pages_from first k) owner }
     {
+        prove!(self.owners.len() <= 65_536);
         for i in 0..k {
             self.set(PageNo(first + i), owner);
         }

@@ -86,8 +86,12 @@ fn a_draft_is_built_once_no_growth_is_refused(rt: HostRuntime) -> Result<(), Fai
     let request = three_blocks(rt.alloc(), Kind::Write)?;
     assert!(rt; request.check().is_ok());
     let pages = fresh_pages(rt.alloc(), 5)?;
+    let count = request.data_pages();
+    assert!(rt; count <= pages.len());
+    let (front, _) = pages.split_at(count);
+    let joined = request.parts_in(rt.alloc(), front)?;
     assert_eq!(rt;
-        request.pieces.data_pages() + sgl_chain::pages_needed(request.pieces.as_slice().len(), 2),
+        count + sgl_chain::pages_needed(joined.len(), 2),
         pages.len()
     );
     let mut draft = Draft::make(1, 0, request, pages, 2);

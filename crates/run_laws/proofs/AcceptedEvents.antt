@@ -1,5 +1,5 @@
 -- An event that no cause refuses is accepted.
-use Rattle.std.proofs.Common.{◌≡◌, ℕ, ◌+◌, ◌-◌, ◌<◌, ◌≤◌, ◌==◌, nat_lt, nat_le, Bool, true, false, not, ◌&&◌, ◌||◌, Option, Some, None, List, [], ◌∷◌, ◌++◌, length, take, drop, slice_get, is_some, is_none, get_or, MatchBool, if◌then◌else◌, refl, ap, sym, ◌∙◌, arith, subst, eqb-true}
+use Rattle.std.proofs.Common.{◌≡◌, ℕ, ◌+◌, ◌-◌, ◌<◌, ◌≤◌, ◌==◌, nat_lt, nat_le, Bool, true, false, not, ◌&&◌, ◌||◌, Option, Some, None, List, [], ◌∷◌, ◌++◌, length, take, drop, slice_get, is_some, is_none, get_or, MatchBool, if◌then◌else◌, refl, ap, ap₂, sym, ◌∙◌, arith, subst, eqb-true}
 use Rattle.std.specs.Option.{option_map, option_map_or, option_and_then}
 use Rattle.std.proofs.lemmas.Bool.{true≢false, or_parts, and_parts, not-false, not-true}
 use Rattle.std.proofs.lemmas.Bool.Decides.{nat_tests}
@@ -11,10 +11,11 @@ use Rattle.controller_walk.specs.Units.{Act, touched, units}
 use Rattle.entry_codec.specs.declared.status.Status.{Status}
 use Rattle.entry_codec.specs.declared.submission.SubEntry.{SubEntry}
 use Rattle.io_commands.specs.Asked.{Request}
-use Rattle.io_commands.specs.Requests.{fault_of, data_count}
+use Rattle.io_commands.specs.Requests.{fault_of, data_count, joined_parts}
 use Rattle.io_commands.specs.Drafts.{DraftContents}
 use Rattle.io_commands.specs.Values.{FinishedContents, numbers_of}
 use Rattle.machine_model.specs.Memory.{is_in, zeroed_pages}
+use Rattle.machine_model.specs.Placement.{data_placed, chain_placed, chain_wanted}
 use Rattle.machine_model.specs.declared.words.Phase.{Phase}
 use Rattle.machine_model.specs.declared.words.Phase.TheVariants.{Drafted, Submitted, Held, Collected}
 use Rattle.machine_model.specs.declared.words.Refusal.TheVariants as refusals
@@ -35,7 +36,8 @@ use Rattle.machine_model.proofs.Placed.{is_job, find_sound}
 use Rattle.machine_model.proofs.Members.{all_at_found}
 use Rattle.machine_model.proofs.Agreed.{agreed_jobs}
 use Rattle.run_laws.specs.Accepted.{HasEnded, EndedIfHeld, IsReady, IsAccepted, is_refusal, every_event_is_accepted_or_has_a_cause, queue_of, forged_worlds_accept_the_controller, forged_worlds_know_their_queues}
-use Rattle.run_laws.proofs.AcceptedFree.{free_number, are_free, numbers_zeroed, both_zeroed, first_length, second_length}
+use Rattle.machine_model.proofs.FreePages.{length_placed, length_chain, placement_times, room_for}
+use Rattle.run_laws.proofs.AcceptedFree.{free_number, counted_free, numbers_zeroed, both_zeroed, length_zeroed}
 
 permits_judged : {A : Type 0} (B : Type 0) (b : Bool) → b ≡ true → A → MatchBool b A B
 permits_judged B true e x = x
@@ -132,15 +134,15 @@ by_delete_cq s q none =
 free_once : (s : State) → IsSound s → (p : ℕ) → times p s.host.free ≤ 1
 free_once s sound p = omega (arith, owned_once _ p s.host (holds_from_sound s sound))
 
--- a draft of the lowest free pages
+-- a draft whose pages are placed
 abbrev drafted : State → ℕ → Request → ℕ → DraftContents
 drafted s q r cid =
     record {
       q = q;
       cid = cid;
       request = r;
-      data_pages = zeroed_pages (take (data_count r.pieces) s.host.free);
-      chain_pages = zeroed_pages (take (pages_needed (length r.pieces) s.segment) (drop (data_count r.pieces) s.host.free));
+      data_pages = zeroed_pages (data_placed s.host.free r.pieces);
+      chain_pages = zeroed_pages (chain_placed s.host.free s.segment r.pieces);
       segment = s.segment;
       entry = None;
     }
@@ -176,11 +178,17 @@ by_reserve s q r sound proper none =
     d : DraftContents
     d = drafted s q r id.0
 
-    enough : data_count r.pieces + pages_needed (length r.pieces) s.segment ≤ length s.host.free
-    enough = at_least (length s.host.free) (data_count r.pieces + pages_needed (length r.pieces) s.segment) third.1
+    enough : data_count r.pieces + chain_wanted s.host.free s.segment r.pieces ≤ length s.host.free
+    enough = room_for s.host.free s.segment r.pieces (at_least (length s.host.free) (pages_wanted s r) third.1)
       where
         at_least : (a b : ℕ) → nat_lt a b ≡ false → b ≤ a
         at_least a b h = grind (arith, nat_tests, h)
+
+    front : List ℕ
+    front = data_placed s.host.free r.pieces
+
+    back : List ℕ
+    back = chain_placed s.host.free s.segment r.pieces
 
     reserved : IsReserved s q r (drafted s q r id.0)
     reserved = record {
@@ -188,14 +196,15 @@ by_reserve s q r sound proper none =
       request = refl;
       segment = refl;
       identifier = id.1;
-      data_pages = first_length (data_count r.pieces) (pages_needed (length r.pieces) s.segment) s.host.free enough;
-      chain_pages = second_length (data_count r.pieces) (pages_needed (length r.pieces) s.segment) s.host.free enough;
-      free = λ p. subst (λ (xs : List ℕ). times p (xs ++ numbers_of (zeroed_pages (take (pages_needed (length r.pieces) s.segment) (drop (data_count r.pieces) s.host.free))))
-          ≡ (if is_among (xs ++ numbers_of (zeroed_pages (take (pages_needed (length r.pieces) s.segment) (drop (data_count r.pieces) s.host.free)))) p && is_among s.host.free p then 1 else 0)) (sym (numbers_zeroed (take (data_count r.pieces) s.host.free)))
-          (subst (λ (ys : List ℕ). times p (take (data_count r.pieces) s.host.free ++ ys) ≡ (if is_among (take (data_count r.pieces) s.host.free ++ ys) p && is_among s.host.free p then 1 else 0))
-          (sym (numbers_zeroed (take (pages_needed (length r.pieces) s.segment) (drop (data_count r.pieces) s.host.free))))
-          (are_free p (data_count r.pieces) (pages_needed (length r.pieces) s.segment) s.host.free (free_once s sound p)));
-      zero = both_zeroed (take (data_count r.pieces) s.host.free) (take (pages_needed (length r.pieces) s.segment) (drop (data_count r.pieces) s.host.free));
+      data_pages = length_zeroed front ∙ length_placed s.host.free (data_count r.pieces) (omega (arith, enough));
+      chain_pages =
+          length_zeroed back
+          ∙ length_chain s.host.free s.segment r.pieces (free_once s sound) enough
+          ∙ ap (λ (ns : List ℕ). pages_needed (length (joined_parts r.pieces ns)) s.segment) (sym (numbers_zeroed front));
+      free = λ p. subst (λ (ns : List ℕ). times p ns ≡ (if is_among ns p && is_among s.host.free p then 1 else 0))
+          (sym (ap₂ (λ (xs ys : List ℕ). xs ++ ys) (numbers_zeroed front) (numbers_zeroed back)))
+          (counted_free p (front ++ back) s.host.free (placement_times p s.host.free s.segment r.pieces) (free_once s sound p));
+      zero = both_zeroed front back;
       not_built = refl;
     }
 

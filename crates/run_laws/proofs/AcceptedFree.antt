@@ -57,25 +57,14 @@ free_number n used few = go (unused n used)
 
 -- Pages
 
-split_times : (p n : ℕ) (xs : List ℕ) → times p (take n xs) + times p (drop n xs) ≡ times p xs
-split_times p zero xs = omega arith
-split_times p (suc n) [] = omega arith
-split_times p (suc n) (x ∷ xs) = omega (arith, split_times p n xs, times-cons p x (take n xs), times-cons p x xs)
-
-two_parts : (p c n : ℕ) (free : List ℕ) → times p (take c free ++ take n (drop c free)) ≤ times p free
-two_parts p c n free = omega (arith, times-append p (take c free) (take n (drop c free)), split_times p c free, split_times p n (drop c free))
-
 -- pages of which none stands twice, among free ones
-counted_free : (p : ℕ) (xs free : List ℕ) → times p xs ≤ times p free → times p free ≤ 1 → times p xs ≡ (if is_among xs p && is_among free p then 1 else 0)
+pub counted_free : (p : ℕ) (xs free : List ℕ) → times p xs ≤ times p free → times p free ≤ 1 → times p xs ≡ (if is_among xs p && is_among free p then 1 else 0)
 counted_free p xs free less once = go (is_among xs p) refl (is_among free p) refl
   where
     go : (a : Bool) → is_among xs p ≡ a → (b : Bool) → is_among free p ≡ b → times p xs ≡ (if a && b then 1 else 0)
     go true e true f = omega (arith, held_once p xs e, less, once)
     go true e false f = absurd (omega (arith, held_once p xs e, less, not_held p free f))
     go false e b f = not_held p xs e
-
-pub are_free : (p c n : ℕ) (free : List ℕ) → times p free ≤ 1 → times p (take c free ++ take n (drop c free)) ≡ (if is_among (take c free ++ take n (drop c free)) p && is_among free p then 1 else 0)
-are_free p c n free once = counted_free p (take c free ++ take n (drop c free)) free (two_parts p c n free) once
 
 pub numbers_zeroed : (xs : List ℕ) → numbers_of (zeroed_pages xs) ≡ xs
 numbers_zeroed [] = refl
@@ -88,22 +77,6 @@ all_zeroed (x ∷ xs) = All-cons (λ (page : ℕ × List ℕ). page.1 ≡ zero_p
 pub both_zeroed : (xs ys : List ℕ) → zeroed (zeroed_pages xs ++ zeroed_pages ys)
 both_zeroed xs ys = All-append (λ (page : ℕ × List ℕ). page.1 ≡ zero_page) (zeroed_pages xs) (zeroed_pages ys) (all_zeroed xs) (all_zeroed ys)
 
-length_taken : (n : ℕ) (xs : List ℕ) → n ≤ length xs → length (take n xs) ≡ n
-length_taken zero xs h = refl
-length_taken (suc n) [] h = absurd (omega (arith, h))
-length_taken (suc n) (x ∷ xs) h = omega (arith, length_taken n xs (omega (arith, h)))
-
-length_dropped : (n : ℕ) (xs : List ℕ) → n ≤ length xs → length (drop n xs) + n ≡ length xs
-length_dropped zero xs h = omega arith
-length_dropped (suc n) [] h = absurd (omega (arith, h))
-length_dropped (suc n) (x ∷ xs) h = omega (arith, length_dropped n xs (omega (arith, h)))
-
-length_zeroed : (xs : List ℕ) → length (zeroed_pages xs) ≡ length xs
+pub length_zeroed : (xs : List ℕ) → length (zeroed_pages xs) ≡ length xs
 length_zeroed [] = refl
 length_zeroed (x ∷ xs) = ap suc (length_zeroed xs)
-
-pub first_length : (c n : ℕ) (free : List ℕ) → c + n ≤ length free → length (zeroed_pages (take c free)) ≡ c
-first_length c n free h = length_zeroed (take c free) ∙ length_taken c free (omega (arith, h))
-
-pub second_length : (c n : ℕ) (free : List ℕ) → c + n ≤ length free → length (zeroed_pages (take n (drop c free))) ≡ n
-second_length c n free h = length_zeroed (take n (drop c free)) ∙ length_taken n (drop c free) (omega (arith, h, length_dropped c free (omega (arith, h))))

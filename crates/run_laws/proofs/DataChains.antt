@@ -14,7 +14,7 @@ use Rattle.sgl_chain.specs.Spells.{Spells}
 use Rattle.sgl_chain.proofs.Larger.{spells_there}
 use Rattle.entry_codec.specs.declared.submission.SubEntry.{SubEntry}
 use Rattle.io_commands.specs.Asked.{Request}
-use Rattle.io_commands.specs.Requests.{parts_of}
+use Rattle.io_commands.specs.Requests.{joined_parts}
 use Rattle.io_commands.specs.Drafts.{DraftContents, draft_first, draft_entry, io_entry}
 use Rattle.io_commands.specs.Values.{numbers_of}
 use Rattle.io_commands.proofs.Spelled.{carries_entry}
@@ -141,7 +141,7 @@ list_kept m m' qs qs' js js' r request same keeps l = (
   record {
     first = l.first;
     read = l.read;
-    spells = spells_there (only (on_pages r.chain_pages) (byte_at m)) (only (on_pages r.chain_pages) (byte_at m')) (only_same m m' r.chain_pages same) l.first (parts_of request.pieces r.data_pages) l.spells;
+    spells = spells_there (only (on_pages r.chain_pages) (byte_at m)) (only (on_pages r.chain_pages) (byte_at m')) (only_same m m' r.chain_pages same) l.first (joined_parts request.pieces r.data_pages) l.spells;
     entry = keeps (io_entry r.cid request (spelling l.first)) l.entry;
   },
   refl,
@@ -360,8 +360,8 @@ chains_drafted image made end q cid r request run found sub work = of known
             request_is = inside (sym h.of.work ∙ work);
             data_pages = h.of.data_pages;
             chain_pages = h.of.chain_pages;
-            spells = subst (λ (x : Descriptor). Spells (byte_at end.memory) x (parts_of request.pieces r.data_pages)) h.first
-                (spells_there (only (on_pages r.chain_pages) (byte_at end.memory)) (byte_at end.memory) (more_than_only (on_pages r.chain_pages) (byte_at end.memory)) h.list.first (parts_of request.pieces r.data_pages) h.list.spells);
+            spells = subst (λ (x : Descriptor). Spells (byte_at end.memory) x (joined_parts request.pieces r.data_pages)) h.first
+                (spells_there (only (on_pages r.chain_pages) (byte_at end.memory)) (byte_at end.memory) (more_than_only (on_pages r.chain_pages) (byte_at end.memory)) h.list.first (joined_parts request.pieces r.data_pages) h.list.spells);
             named = subst (λ (x : Descriptor). All (λ (e : SubEntry). e.sgl1 ≡ spelling x) (entries_of end r.q r.cid)) h.first
                 (all_of (λ e. e.sgl1 ≡ spelling h.list.first) (entries_of end r.q r.cid) (entries_named end r.q r.cid (io_entry r.cid request (spelling h.list.first)) h.list.entry));
           },

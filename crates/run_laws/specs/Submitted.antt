@@ -4,7 +4,7 @@ use Rattle.std.specs.List.{list_any}
 use Rattle.sgl_descriptor.specs.declared.Direction.TheVariants.{Destination}
 use Rattle.sgl_descriptor.specs.Targets.{targets}
 use Rattle.entry_codec.specs.declared.status.TheConstants.Status.{ABORTED_SQ_DELETION}
-use Rattle.io_commands.specs.Requests.{parts_of}
+use Rattle.io_commands.specs.Requests.{parts_of, joined_parts}
 use Rattle.io_commands.specs.DataBytes.{gathered}
 use Rattle.io_commands.specs.Drafts.{DraftContents, draft_first}
 use Rattle.io_commands.specs.Values.{FinishedContents, numbers_of}
@@ -152,7 +152,7 @@ pub record HasListOf (d : DraftContents) (s : State) (r : Record) (request : Req
   pub request_is : d.request ≡ request
   pub data_pages : numbers_of d.data_pages ≡ r.data_pages
   pub chain_pages : numbers_of d.chain_pages ≡ r.chain_pages
-  pub spells : Spells (byte_at s.memory) (draft_first d) (parts_of request.pieces r.data_pages)
+  pub spells : Spells (byte_at s.memory) (draft_first d) (joined_parts request.pieces r.data_pages)
   pub named : All (λ e. e.sgl1 ≡ spelling (draft_first d)) (entries_of s r.q r.cid)
 
 -- that draft is the latest that was submitted of its queue and identifier

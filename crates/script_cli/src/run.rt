@@ -48,7 +48,7 @@ fn open(alloc: Global, config: Config, image: Image) -> Result<Bench, RunFault>
     ensures image { IsImage image }
     ensures fault { IfErr result (λ fault. IsNoOpening config fault) }
 {
-    let _blocks = image.blocks();
+    prove!(image.blocks() > 0);
     match Bench::open(alloc, config, image) {
         Ok(bench) => Ok(bench),
         Err(refused) => Err(not_opened(refused.why)),

@@ -21,6 +21,6 @@ mod segment;
 pub mod worked;
 
 pub use chain::{BuildFault, Chain, MAX_PARTS, pages_needed};
-pub use joining::join_parts;
+pub use joining::{join, join_parts};
 pub use segment::{Descs, Segment};
 pub use sgl_descriptor::Part;

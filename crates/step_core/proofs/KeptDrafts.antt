@@ -18,7 +18,7 @@ use Rattle.io_commands.specs.Requests.{crosses_page}
 use Rattle.io_commands.specs.Values.{numbers_of}
 use Rattle.io_commands.specs.declared.request.Piece.{Piece}
 use Rattle.io_commands.specs.declared.request.Piece.TheVariants.{Data, Bucket}
-use Rattle.io_commands.proofs.Building.{some_pieces, length-parts_of, built_keeps}
+use Rattle.io_commands.proofs.Building.{some_parts, built_keeps}
 use Rattle.io_commands.proofs.Filling.{fill_keeps}
 use Rattle.machine_model.specs.Proper.{IsPage, IsProperDraft}
 use Rattle.machine_model.specs.Script.{filled_draft}
@@ -101,17 +101,14 @@ laid_pages (segment ∷ segments) (page ∷ pages) fit whole =
 -- one segment on each page of a draft's chain
 segment_on_each : (d : DraftContents) → IsDraft d → length (draft_segments d) ≡ length d.chain_pages
 segment_on_each d h =
-    let count : length (draft_parts d) ≡ length d.request.pieces =
-    length-parts_of d.request.pieces (numbers_of d.data_pages) (omega (arith, length-map d.data_pages (λ page. page.0), h.pieces_have_pages)) in
-    let needed : pages_needed (length (draft_parts d)) d.segment ≡ length d.chain_pages = ap (λ (k : ℕ). pages_needed k d.segment) count ∙ sym h.chain_has_pages in
     length-built d.segment (numbers_of d.chain_pages) (draft_parts d)
     (record {
       low = h.low;
       high = h.high;
-      some = omega (arith, count, some_pieces d.request.kind d.request.blocks d.request.pieces h.good);
-      needed = length-map d.chain_pages (λ page. page.0) ∙ sym needed;
+      some = some_parts d.request (numbers_of d.data_pages) h.good (omega (arith, length-map d.data_pages (λ page. page.0), h.pieces_have_pages));
+      needed = length-map d.chain_pages (λ page. page.0) ∙ h.chain_has_pages;
     })
-    ∙ needed
+    ∙ sym h.chain_has_pages
 
 pub built_stays_proper : (d : DraftContents) → IsProperDraft d → IsProperDraft (built d)
 built_stays_proper d h =

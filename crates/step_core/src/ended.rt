@@ -25,18 +25,18 @@ impl<A: Allocator> World<A> {
 
 impl<A: Allocator> Leftover for Draft<A> {
     fn after(self, _ended: &Ended) {
-        let _parts = self.apart();
+        drop(self.apart());
     }
 }
 
 impl Leftover for Ticket {
     fn after(self, _ended: &Ended) {
-        let _parts = self.apart();
+        drop(self.apart());
     }
 }
 
 impl<A: Allocator> Leftover for Finished<A> {
     fn after(self, _ended: &Ended) {
-        let _parts = self.apart();
+        drop(self.apart());
     }
 }

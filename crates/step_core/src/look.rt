@@ -1,6 +1,9 @@
 //! What would be answered: looks that change nothing, for those who wait until the answer is another.
 
-ghost use Rattle.std.specs.Prelude.{◌≡◌, ◌<◌, ℕ, true, false, None, IfSome, IfNone, IsTrue, length, option_and_then};
+ghost use Rattle.std.specs.Prelude.{◌≡◌, ◌<◌, ℕ, true, false, None, IfOk, IfSome, IfNone, IsTrue, length, option_and_then};
+ghost use Rattle.std.specs.Result.{result_err};
+ghost use Rattle.io_commands.specs.Least.{least_pages as spec_least_pages};
+ghost use Rattle.io_commands.specs.Requests.{fault_of};
 ghost use Rattle.machine_model.specs.Events as events;
 ghost use Rattle.machine_model.specs.Refusals.{refusal_of};
 ghost use Rattle.machine_model.specs.State.{record_at};
@@ -8,7 +11,7 @@ ghost use Rattle.machine_model.specs.State.{record_at};
 use crate::world::World;
 use controller_core::ControllerStep;
 use entry_codec::Status;
-use io_commands::Request;
+use io_commands::{Request, RequestFault};
 use machine_model::words::Refusal;
 use std::alloc::Allocator;
 
@@ -20,6 +23,18 @@ impl<A: Allocator + Copy> World<A> {
         ensures { result ≡ refusal_of self.now (events.Reserve q request.now) }
     {
         self.host.reserve_refusal(q, request)
+    }
+
+    /// The fewest pages that a request takes here, wherever it is placed. It makes no step and takes no memory.
+    ///
+    /// # Errors
+    ///
+    /// The first fault of the request.
+    pub fn least_pages<B: Allocator>(&self, request: &Request<B>) -> Result<u32, RequestFault>
+        ensures least { IfOk result (λ pages. pages ≡ spec_least_pages request.now.pieces self.now.segment) }
+        ensures fault { result_err result ≡ fault_of request.now.kind request.now.blocks request.now.pieces }
+    {
+        self.host.least_pages(request)
     }
 
     /// What [`World::collect`] of this command's ticket would be refused for, want of memory left aside. It makes no step.

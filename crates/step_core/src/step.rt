@@ -1,16 +1,12 @@
 //! Steps as values: what a bench is told to do, and what each step answered.
 
-ghost use Rattle.std.specs.Prelude.{◌≡◌, ◌≤◌, length};
-ghost use Rattle.io_commands.specs.Requests.{data_count};
-ghost use Rattle.io_commands.specs.Values.{IsGood};
-ghost use Rattle.sgl_chain.specs.Chains.{pages_needed as spec_pages_needed};
+ghost use Rattle.std.specs.Prelude.{◌≡◌, length};
 
 use crate::refused::Touched;
 use controller_walk::WalkState;
 use entry_codec::Status;
 use io_commands::{Draft, FillFault, Request};
 use machine_model::words::{Reaped, Refusal};
-use sgl_chain::pages_needed;
 use std::alloc::{Allocator, Global};
 use std::marker::Model;
 
@@ -239,31 +235,18 @@ pub enum Reply<B = Bytes> {
 /// What a step answered, where its bytes stand in the memory of one allocator.
 pub type ReplyIn<A> = Reply<Bytes<A>>;
 
-/// How many pages a good request takes for its data and for its chain.
-fn pages_of_request<A: Allocator>(request: &Request<A>, segment: u16) -> (u32, u32)
-    requires good { IsGood request.now }
-    requires least { 2 ≤ segment }
-    ensures front { result.0 ≡ data_count request.now.pieces }
-    ensures back { result.1 ≡ spec_pages_needed (length request.now.pieces) segment }
-{
-    let parts = request.pieces.as_slice().len();
-    let front = request.pieces.data_pages();
-    let back = pages_needed(parts, usize::from(segment));
-    (front as u32, back as u32)
-}
-
 impl<B> Reply<B> {
     /// What is answered of a command that was reserved.
     pub fn reserved<A: Allocator>(draft: &Draft<A>) -> Self
         ensures { result ≡ Reply.Reserved draft.now.q draft.now.cid (length draft.now.data_pages) (length draft.now.chain_pages) }
     {
-        let request = draft.request();
-        let (data, chain) = pages_of_request(request, draft.segment() as u16);
+        let data = draft.request().data_pages();
+        let chain = draft.pages().len() - data;
         Reply::Reserved {
             q: draft.q(),
             cid: draft.cid(),
-            data,
-            chain,
+            data: data as u32,
+            chain: chain as u32,
         }
     }
 }

@@ -3,7 +3,7 @@ use Rattle.std.proofs.Common.{◌≡◌, ℕ, zero, suc, ◌≤◌, Bool, true, 
 use Rattle.std.specs.Option.{option_map, option_map_or}
 use Rattle.std.proofs.lemmas.Bool.{OnTrue_from, true≢false}
 use Rattle.block_image.specs.Blocks.{block_count}
-use Rattle.controller_core.specs.Contents.{AreCommands, Contents, FetchedCommand, IsController}
+use Rattle.controller_core.specs.Contents.{AreAwaited, AreCommands, Contents, FetchedCommand, IsController}
 use Rattle.controller_walk.specs.Units.{first_passing}
 use Rattle.controller_core.specs.declared.queue.ControllerQueue.{ControllerQueue}
 use Rattle.entry_codec.specs.declared.completion.ComEntry.{ComEntry}
@@ -53,6 +53,7 @@ hears e reply v c is =
       commands = subst (λ (k : List FetchedCommand). AreCommands (block_count (heard e reply v c).image) (length (heard e reply v c).queues) k) (sym same)
           (subst (λ (n : ℕ). AreCommands n (length (heard e reply v c).queues) c.commands) (sym blocks)
           (subst (λ (n : ℕ). AreCommands (block_count c.image) n c.commands) (sym (length-heard e reply v c)) is.commands));
+      awaited = subst AreAwaited (sym same) is.awaited;
     }
 
 -- What holds whatever was forged stays behind each step of the host.

@@ -126,7 +126,7 @@ opened_are_worlds c image opens =
             admin = sound.admin;
           };
           provided = runs_provide c.pages c.queues c.entries c.segment image [] [] start opens refl;
-          controller = record { commands = record { each = tt; differ = λ q cid. omega arith } };
+          controller = record { commands = record { each = tt; differ = λ q cid. omega arith }; awaited = tt };
           queues = shared 0 c.entries 0 (c.queues + 1) l.least_entries l.most_entries;
         };
         tied = record {

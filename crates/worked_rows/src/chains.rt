@@ -211,7 +211,7 @@ counts free 12 queue 4 chain 0 data 0
     Ok(())
 }
 
-/// Thirty-two blocks in four whole pages.
+/// Thirty-two blocks in four whole pages, which are one descriptor together.
 #[test]
 fn four_pages_are_read(rt: HostRuntime) -> Result<(), Fail> {
     let image = zeros(rt.alloc())?;
@@ -229,10 +229,6 @@ walk 1 0
 walk 1 0
 walk 1 0
 walk 1 0
-walk 1 0
-walk 1 0
-walk 1 0
-walk 1 0
 complete 1 0
 reap 1
 collect 1 0
@@ -242,26 +238,123 @@ release 1 0
     )?;
     assert_eq!(rt;
         output.as_str(),
-        "1 reserve q 1 cid 0 data 4 chain 1
+        "1 reserve q 1 cid 0 data 4 chain 0
 2 build ok
 3 submit ok
 4 ring ok
 5 fetch cid 0 touched 2
 6 walk more touched -
-7 walk more touched 8
-8 walk more touched 4
-9 walk more touched 8
-10 walk more touched 5
-11 walk more touched 8
-12 walk more touched 6
-13 walk more touched 8
-14 walk end touched 7
-15 complete ok touched 3
-16 reap done cid 0 status 0:00
-17 collect status 0:00
-18 gather 00*16384
-19 release ok
+7 walk more touched 4
+8 walk more touched 5
+9 walk more touched 6
+10 walk end touched 7
+11 complete ok touched 3
+12 reap done cid 0 status 0:00
+13 collect status 0:00
+14 gather 00*16384
+15 release ok
 counts free 12 queue 4 chain 0 data 0
+"
+    );
+    Ok(())
+}
+
+/// A page that stands alone is left free, and two pages are placed in the run behind it.
+#[test]
+fn a_run_is_taken_behind_a_hole(rt: HostRuntime) -> Result<(), Fail> {
+    let image = zeros(rt.alloc())?;
+    let output = played(
+        rt.alloc(),
+        USUAL,
+        image,
+        "reserve 1 read 0 1 0+512
+reserve 1 read 0 1 0+512
+reserve 1 read 0 1 0+512
+cancel 1 1
+reserve 1 read 0 16 0+4096 0+4096
+owners
+cancel 1 0
+cancel 1 1
+cancel 1 2
+",
+    )?;
+    assert_eq!(rt;
+        output.as_str(),
+        "1 reserve q 1 cid 0 data 1 chain 0
+2 reserve q 1 cid 1 data 1 chain 0
+3 reserve q 1 cid 2 data 1 chain 0
+4 cancel ok
+5 reserve q 1 cid 1 data 2 chain 0
+0-0 queue 0 sq
+1-1 queue 0 cq
+2-2 queue 1 sq
+3-3 queue 1 cq
+4-4 command 1 0 data
+5-5 free
+6-6 command 1 2 data
+7-8 command 1 1 data
+9-15 free
+7 cancel ok
+8 cancel ok
+9 cancel ok
+counts free 12 queue 4 chain 0 data 0
+"
+    );
+    Ok(())
+}
+
+/// Two free pages that are no run want a chain page too; once there is a run, two pages are enough.
+#[test]
+fn pages_that_are_no_run_want_a_chain(rt: HostRuntime) -> Result<(), Fail> {
+    let image = zeros(rt.alloc())?;
+    let output = played(
+        rt.alloc(),
+        Config {
+            pages: 9,
+            entries: 8,
+            ..USUAL
+        },
+        image,
+        "reserve 1 read 0 1 0+512
+reserve 1 read 0 1 0+512
+reserve 1 read 0 1 0+512
+reserve 1 read 0 1 0+512
+reserve 1 read 0 1 0+512
+cancel 1 1
+cancel 1 3
+reserve 1 read 0 16 0+4096 0+4096
+cancel 1 4
+reserve 1 read 0 16 0+4096 0+4096
+owners
+cancel 1 0
+cancel 1 1
+cancel 1 2
+",
+    )?;
+    assert_eq!(rt;
+        output.as_str(),
+        "1 reserve q 1 cid 0 data 1 chain 0
+2 reserve q 1 cid 1 data 1 chain 0
+3 reserve q 1 cid 2 data 1 chain 0
+4 reserve q 1 cid 3 data 1 chain 0
+5 reserve q 1 cid 4 data 1 chain 0
+6 cancel ok
+7 cancel ok
+8 reserve refused NoPages need 3 free 2
+9 cancel ok
+10 reserve q 1 cid 1 data 2 chain 0
+0-0 queue 0 sq
+1-1 queue 0 cq
+2-2 queue 1 sq
+3-3 queue 1 cq
+4-4 command 1 0 data
+5-5 free
+6-6 command 1 2 data
+7-8 command 1 1 data
+12 cancel ok
+13 cancel ok
+14 cancel ok
+counts free 5 queue 4 chain 0 data 0
 "
     );
     Ok(())

@@ -5,7 +5,7 @@ use Rattle.driver_book.proofs.close.accepted_in.Goals as goal
 use Rattle.driver_book.proofs.close.accepted_in.Goals.{then-is_submission, else-is_submission}
 
 pub loop-p-preserved : goal.loop-p-preserved
-loop-p-preserved c =
+loop-p-preserved g c =
     let log = c.args.log.now in
     let x = c.index-log-p.result in
     let here = c.index-log-p.is in

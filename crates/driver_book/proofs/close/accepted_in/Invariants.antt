@@ -3,4 +3,4 @@ use Rattle.driver_book.specs.History.{accepted}
 use Rattle.driver_book.proofs.close.accepted_in.Given as goal
 
 abbrev pub invariant-loop-p : goal.invariant-loop-p
-invariant-loop-p l = l.number ≡ accepted (take l.p l.log)
+invariant-loop-p g l = l.number ≡ accepted (take l.p l.log)

@@ -1,7 +1,10 @@
-use Rattle.std.proofs.Common.{◌≡◌, take, arith, rules}
+use Rattle.std.proofs.Common.{◌≡◌, Some, take, arith, rules, subst}
 use Rattle.driver_book.specs.History.{accepted}
-use Rattle.driver_book.proofs.Standing.{all_before, first_missing}
+use Rattle.driver_book.specs.Passes.{StandOf}
+use Rattle.driver_book.specs.State.{SeatContents}
+use Rattle.driver_book.proofs.Standing.{all_before, first_missing, search_all, search_less}
 use Rattle.driver_book.proofs.close.missing.Goals as goal
+use Rattle.driver_book.proofs.close.missing.Goals.{in-Some, in-None}
 
 pub returns-then-end-log : goal.returns-then-end-log
 returns-then-end-log g c =
@@ -12,3 +15,18 @@ returns g c =
     let counted : c.accepted_in-number.result ≡ accepted (take c.loop-i.end c.args.log.now) = search rules in
     rw (c.unwrap_or.ensures, ← c.index-log-end.is)
     (first_missing c.args.log.now c.args.seats.now c.loop-i.i c.loop-i.end c.accepted_in-number.result c.index-log-end.result (omega arith) (omega (arith, c.loop-i.invariant.within)) c.index-log-end.is c.requires counted c.loop-i.invariant)
+
+pub loop-i-preserved : goal.loop-i-preserved
+loop-i-preserved g c =
+    let log = c.args.log.now in
+    let seats = c.args.seats.now in
+    let s = c.index-seats-i.result in
+    elim c.match-missing_of.branch [
+      | in-Some w ↦
+          rw w.end-is
+          (search_less log seats c.loop-i.i c.loop-i.end w.in-Some.p s c.index-seats-i.is w.in-Some.ensures.within
+          (subst (λ (t : SeatContents). StandOf (Some t.number) log seats w.in-Some.p) c.holder.view_is w.in-Some.ensures.before) w.in-Some.ensures.missing c.loop-i.invariant)
+      | in-None w ↦
+          rw w.end-is
+          (search_all log seats c.loop-i.i c.loop-i.end s c.index-seats-i.is (subst (λ (t : SeatContents). StandOf (Some t.number) log seats c.loop-i.end) c.holder.view_is w.in-None.ensures.none) c.loop-i.invariant)
+    ]

@@ -1,5 +1,7 @@
 -- The ends of a run are told as lists of ends, which are as long as the lists that hold them.
-use Rattle.std.proofs.Common.{length}
+use Rattle.std.proofs.Common.{length, subst}
+use Rattle.machine_model.specs.State.{State}
+use Rattle.driver_book.specs.History.{LeadsTo}
 use Rattle.std.proofs.lemmas.Simd.{map-map}
 use Rattle.driver_threads.proofs.run.finish.Goals as goal
 
@@ -7,3 +9,22 @@ pub returns-in-Ok-clause-all_jobs : goal.returns-in-Ok-clause-all_jobs
 returns-in-Ok-clause-all_jobs g c =
     let told = map-map length (λ list. list.items) c.in_ok-seats.lists.items in
     cc (told, c.of.ensures, c.in_ok-seats.ensures, c.in_ok-seats.lists-is)
+
+pub returns-in-Ok-clause-closed : goal.returns-in-Ok-clause-closed
+returns-in-Ok-clause-closed g c = record {
+  seats = c.in_ok-seats.field-0.seats.items;
+  before = c.args.book;
+  closed = record {
+    of = record {
+      opens = c.in-Ok.ensures.opening;
+      legal = subst (λ (opening : State). LeadsTo opening c.args.book.log c.args.book.world) c.in-Ok.ensures.opening c.in-Ok.ensures.legal;
+      sound = c.in-Ok.ensures.sound;
+    };
+    stand = c.in-Ok.ensures.stand;
+    no_more = c.in-Ok.ensures.no_more;
+    all_seats = c.in-Ok.ensures.all_seats;
+    done = c.in-Ok.ensures.done;
+    reports = c.in-Ok.ensures.report;
+  };
+  same = c.in-Ok.ensures.book;
+}

@@ -1,18 +1,39 @@
-use Rattle.std.proofs.Common.{refl}
-use Rattle.controller_core.proofs.Fetched.{begun_in, begins_in}
+use Rattle.std.proofs.Common.{◌<◌, length, arith, ap, refl, sym, ◌∙◌}
+use Rattle.controller_core.specs.Contents.{FetchedCommand}
+use Rattle.controller_core.specs.Managing.{with_taken}
+use Rattle.controller_core.specs.Tables.{Outstanding}
+use Rattle.controller_core.proofs.Fetched.{begun_in, begins_in, begun_unknown, on_err}
+use Rattle.controller_core.proofs.Lists.{length-change}
 use Rattle.controller_core.proofs.controller.Controller.begin_entry.Goals as goal
+
+pub put-requires : goal.put-requires
+put-requires g c =
+    let there : c.args.q < length c.self.inside.queues.items = rw (← c.self.view_is) at c.requires.there in
+    let own = ap (λ (k : FetchedCommand). k.q) c.fetched.ensures in
+    record {
+      there = omega (arith, own, c.self.invariant.1, there);
+      unknown = begun_unknown c.self.inside.commands.list c.args.q c.args.entry.now c.in_ok-job.job c.fetched.result c.in_ok-job.ensures.entry c.fetched.ensures (rw (← c.self.view_is) at c.requires.unknown);
+    }
 
 pub invariant_of-self-2 : goal.invariant_of-self-2
 invariant_of-self-2 g c =
     let b = c.in_ok-job.ensures in
-    begun_in _ _ c.args.q c.args.entry.now c.in_ok-job.job c.fetched.result _ c.reserve.new.self.items _ c.self.view_is c.self.invariant c.requires.io c.requires.there c.requires.unknown
-    (record { entry = b.entry; blocks = b.blocks; verdict = b.verdict; bytes = b.bytes; walk = b.walk; left = b.left }) c.take_entry.ensures c.reserve.ensures.items c.fetched.ensures c.push_reserved.ensures.items
+    let put = c.in_ok-put.ensures.put in (
+      begun_in _ _ c.args.q c.args.entry.now c.in_ok-job.job c.fetched.result _ c.self.inside.commands.list _ c.self.view_is c.self.invariant.0 c.requires.io c.requires.there c.requires.unknown
+          (record { entry = b.entry; blocks = b.blocks; verdict = b.verdict; bytes = b.bytes; walk = b.walk; left = b.left }) c.take_entry.ensures refl c.fetched.ensures (ap (λ (o : Outstanding). o.list) put),
+      ap (λ (o : Outstanding). o.queues) put ∙ c.self.invariant.1 ∙ sym (ap length c.take_entry.ensures ∙ length-change c.args.q with_taken c.self.inside.queues.items),
+    )
 
 pub returns-clause-begins : goal.returns-clause-begins
 returns-clause-begins g c =
     let b = c.in_ok-job.ensures in
-    begins_in _ _ _ c.args.q c.args.entry.now c.in_ok-job.job c.fetched.result _ c.reserve.new.self.items _ c.self.view_is
-    (record { entry = b.entry; blocks = b.blocks; verdict = b.verdict; bytes = b.bytes; walk = b.walk; left = b.left }) c.take_entry.ensures c.reserve.ensures.items c.fetched.ensures c.push_reserved.ensures.items refl
+    begins_in _ _ _ c.args.q c.args.entry.now c.in_ok-job.job c.fetched.result _ c.self.inside.commands.list _ c.self.view_is
+    (record { entry = b.entry; blocks = b.blocks; verdict = b.verdict; bytes = b.bytes; walk = b.walk; left = b.left }) c.take_entry.ensures refl c.fetched.ensures (ap (λ (o : Outstanding). o.list) c.in_ok-put.ensures.put) refl
 
 pub returns-clause-sound : goal.returns-clause-sound
-returns-clause-sound g c = invariant_of-self-2 g c
+returns-clause-sound g c = (invariant_of-self-2 g c).0
+
+pub returns-in_err-put-clause-refused : goal.returns-in_err-put-clause-refused
+returns-in_err-put-clause-refused g c =
+    let i = c.self.inside in
+    rw (← c.self.view_is) (on_err c.from_residual-in_err-put.result (ap (λ (o : Outstanding). record { queues = i.queues.items; commands = o.list; image = i.image }) c.in_err-put.ensures.refused))

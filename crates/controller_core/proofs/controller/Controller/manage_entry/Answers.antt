@@ -1,21 +1,46 @@
-use Rattle.std.proofs.Common.{ℕ, List, ap, ap₂, ◌∙◌}
+use Rattle.std.proofs.Common.{ℕ, ◌<◌, List, length, arith, ap, ap₂, sym, ◌∙◌}
 use Rattle.admin_commands.specs.Verdicts.{decision}
 use Rattle.entry_codec.specs.declared.status.Status.{Status}
-use Rattle.controller_core.specs.Contents.{FetchedCommand}
-use Rattle.controller_core.specs.Managing.{command_of, view_for}
+use Rattle.controller_core.specs.Contents.{Contents, FetchedCommand}
+use Rattle.controller_core.specs.Managing.{command_of, view_for, with_taken}
+use Rattle.controller_core.specs.Tables.{Outstanding}
 use Rattle.controller_core.specs.declared.command.Work.TheVariants.{Admin}
 use Rattle.controller_core.specs.declared.queue.ControllerQueue.{ControllerQueue}
-use Rattle.controller_core.proofs.Managed.{managed_in}
+use Rattle.controller_core.proofs.Managed.{length-after, managed_is, managed_sound}
+use Rattle.controller_core.proofs.Lists.{length-change}
 use Rattle.controller_core.proofs.controller.Controller.manage_entry.Goals as goal
+
+pub put-requires : goal.put-requires
+put-requires g c =
+    let own = c.fetched.ensures in
+    let there : 0 < length c.self.inside.queues.items = rw (← c.self.view_is) at c.requires.there in
+    let zeroth = ap (λ (k : FetchedCommand). k.q) own in
+    record { there = omega (arith, zeroth, c.self.invariant.1, there); unknown = rw (own) (rw (← c.self.view_is) at c.requires.unknown) }
 
 pub invariant_of-self-2 : goal.invariant_of-self-2
 invariant_of-self-2 g c =
-    managed_in _ _ c.args.entry c.decide-verdict.result c.take_entry.new.queues.items c.act-dw0.new.queues.items c.reserve.new.self.items c.act-dw0.new.commands.items c.push_reserved.new.self.items c.fetched.result
-    c.self.view_is c.self.invariant c.requires.there c.requires.unknown
-    (c.decide-verdict.ensures ∙ ap (decision c.args.entry) (c.view_of.ensures ∙ ap₂ (λ (qs : List ControllerQueue) (ks : List FetchedCommand). view_for qs ks c.args.entry) c.deref.ensures.value (c.deref-2.ensures.value ∙ c.reserve.ensures.items)))
-    c.take_entry.ensures c.act-dw0.ensures.queues c.reserve.ensures.items c.act-dw0.ensures.commands
-    (c.fetched.ensures ∙ ap₂ (λ (st : Status) (d : ℕ). command_of 0 (Admin c.args.entry st d)) c.act-dw0.ensures.status c.act-dw0.ensures.dw0)
-    c.push_reserved.ensures.items
+    let i = c.self.inside in
+    let old : Contents = record { queues = i.queues.items; commands = i.commands.list; image = i.image } in
+    let r = rw (← c.self.view_is) at c.requires in (
+      managed_sound old _ c.args.entry c.self.invariant.0 r.there r.unknown
+          (managed_is old c.args.entry c.decide-verdict.result c.take_entry.new.queues.items c.act.new.queues.items c.put.new.self.list c.act.new.commands.list c.fetched.result
+          (c.decide-verdict.ensures ∙ ap (decision c.args.entry) (c.view_of.ensures ∙ ap (λ (qs : List ControllerQueue). view_for qs i.commands.list c.args.entry) c.deref.ensures.value))
+          c.take_entry.ensures c.act.ensures.queues
+          (c.fetched.ensures ∙ ap₂ (λ (st : Status) (d : ℕ). command_of 0 (Admin c.args.entry st d)) c.end_of-dw0.ensures.status c.end_of-dw0.ensures.dw0)
+          (ap (λ (o : Outstanding). o.list) c.in_ok-put.ensures.put) (ap (λ (o : Outstanding). o.list) c.act.ensures.commands)),
+      ap (λ (o : Outstanding). o.queues) c.act.ensures.commands ∙ ap (λ (o : Outstanding). o.queues) c.in_ok-put.ensures.put ∙ c.self.invariant.1
+          ∙ sym (ap length c.act.ensures.queues ∙ length-after c.decide-verdict.result c.take_entry.new.queues.items ∙ ap length c.take_entry.ensures ∙ length-change 0 with_taken i.queues.items),
+    )
+
+pub returns-clause-managed : goal.returns-clause-managed
+returns-clause-managed g c =
+    let i = c.self.inside in
+    let old : Contents = record { queues = i.queues.items; commands = i.commands.list; image = i.image } in
+    rw (← c.self.view_is) (managed_is old c.args.entry c.decide-verdict.result c.take_entry.new.queues.items c.act.new.queues.items c.put.new.self.list c.act.new.commands.list c.fetched.result
+    (c.decide-verdict.ensures ∙ ap (decision c.args.entry) (c.view_of.ensures ∙ ap (λ (qs : List ControllerQueue). view_for qs i.commands.list c.args.entry) c.deref.ensures.value))
+    c.take_entry.ensures c.act.ensures.queues
+    (c.fetched.ensures ∙ ap₂ (λ (st : Status) (d : ℕ). command_of 0 (Admin c.args.entry st d)) c.end_of-dw0.ensures.status c.end_of-dw0.ensures.dw0)
+    (ap (λ (o : Outstanding). o.list) c.in_ok-put.ensures.put) (ap (λ (o : Outstanding). o.list) c.act.ensures.commands))
 
 pub returns-clause-sound : goal.returns-clause-sound
-returns-clause-sound g c = invariant_of-self-2 g c
+returns-clause-sound g c = (invariant_of-self-2 g c).0

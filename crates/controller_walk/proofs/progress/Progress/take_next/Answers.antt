@@ -31,3 +31,18 @@ pub returns-in-Ok-clause-leaves : goal.returns-in-Ok-clause-leaves
 returns-in-Ok-clause-leaves g c =
     rw (from_read c.args.self.allowed (g.D.Dma.memory c.args.dma.now) c.args.self.direction c.args.self.need c.args.cursor c.args.self.wanted c.read.new.into (omega arith) c.in-Ok.ensures.read)
     (c.take.ensures.leaves (g.D.Dma.memory c.args.dma.now))
+
+pub returns-then-self-eq0-clause-reads : goal.returns-then-self-eq0-clause-reads
+returns-then-self-eq0-clause-reads g c =
+    rw (from_none c.args.self.allowed (g.D.Dma.memory c.args.dma.now) c.args.self.direction c.args.self.need c.args.cursor c.args.self.wanted c.if-self-eq0.true)
+    (search rules)
+
+pub returns-in-Err-clause-reads : goal.returns-in-Err-clause-reads
+returns-in-Err-clause-reads g c =
+    rw (from_missing c.args.self.allowed (g.D.Dma.memory c.args.dma.now) c.args.self.direction c.args.self.need c.args.cursor c.args.self.wanted (omega arith) c.in-Err.ensures.missing)
+    (search rules)
+
+pub returns-in-Ok-clause-reads : goal.returns-in-Ok-clause-reads
+returns-in-Ok-clause-reads g c =
+    rw (from_read c.args.self.allowed (g.D.Dma.memory c.args.dma.now) c.args.self.direction c.args.self.need c.args.cursor c.args.self.wanted c.read.new.into (omega arith) c.in-Ok.ensures.read)
+    (omega (arith, c.take.ensures.allowed))

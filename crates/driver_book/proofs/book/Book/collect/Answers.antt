@@ -1,10 +1,26 @@
-use Rattle.std.proofs.Common.{None, refl}
+use Rattle.std.proofs.Common.{◌-◌, vec_capacity, vec_len, None, refl, sym, ◌∙◌, inl}
 use Rattle.machine_model.specs.Events as events
 use Rattle.step_core.specs.Replies.{collect_reply}
-use Rattle.driver_book.proofs.Runs.{keeps_book}
+use Rattle.driver_book.specs.Calls.{IsLogFull}
+use Rattle.driver_book.proofs.Runs.{does_in, has_room, keeps_book, no_room, takes_memory, wants_room}
 use Rattle.driver_book.proofs.book.Book.collect.Goals as goal
+
+pub returns-then-is_err-clause-memory : goal.returns-then-is_err-clause-memory
+returns-then-is_err-clause-memory g c =
+    wants_room _ _ c.unlogged.ensures.why (inl (no_room c.self.view_is _ _ c.reserve.result (sym c.is_err.ensures.value ∙ c.if-is_err.true) c.reserve.ensures.full refl))
+
+pub note-requires : goal.note-requires
+note-requires g c = has_room _ _ c.reserve.result (sym c.is_err.ensures.value ∙ c.if-is_err.false) c.reserve.ensures.ok
 
 pub invariant_of-self-2 : goal.invariant_of-self-2
 invariant_of-self-2 g c =
     keeps_book None (events.Collect c.args.ticket.q c.args.ticket.cid) (collect_reply c.collect-answer.result) c.self.invariant c.collect-answer.ensures.step refl
     (rw (c.note.ensures, c.reserve.ensures.items, c.q.ensures, c.cid.ensures, c.collected.ensures) refl)
+
+pub returns-clause-step : goal.returns-clause-step
+returns-clause-step g c =
+    does_in c.self.view_is c.collect-answer.new.self c.note.new.log.items (vec_capacity c.note.new.log - vec_len c.note.new.log) None (events.Collect c.args.ticket.q c.args.ticket.cid) (collect_reply c.collect-answer.result) c.collect-answer.ensures.step (rw (c.note.ensures, c.reserve.ensures.items, c.q.ensures, c.cid.ensures, c.collected.ensures) refl)
+
+pub returns-clause-memory : goal.returns-clause-memory
+returns-clause-memory g c =
+    takes_memory (IsLogFull c.args.self.now) c.self.view_is c.collect-answer.new.self (events.Collect c.args.ticket.q c.args.ticket.cid) (collect_reply c.collect-answer.result) c.collect-answer.ensures.step

@@ -1,10 +1,22 @@
-use Rattle.std.proofs.Common.{None, refl}
+use Rattle.std.proofs.Common.{◌-◌, vec_capacity, vec_len, None, refl, sym, ◌∙◌}
 use Rattle.machine_model.specs.Events as events
 use Rattle.step_core.specs.Replies.{ring_reply}
-use Rattle.driver_book.proofs.Runs.{keeps_book}
+use Rattle.driver_book.specs.Calls.{IsLogFull}
+use Rattle.driver_book.proofs.Runs.{does_in, has_room, keeps_book, takes_no_memory}
 use Rattle.driver_book.proofs.book.Book.forge.Goals as goal
+
+pub note-requires : goal.note-requires
+note-requires g c = has_room _ _ c.reserve.result (sym c.is_err.ensures.value ∙ c.if-is_err.false) c.reserve.ensures.ok
 
 pub invariant_of-self-2 : goal.invariant_of-self-2
 invariant_of-self-2 g c =
     keeps_book None (events.Forge c.args.q c.args.slot c.args.bytes) (ring_reply c.forge-answer.result) c.self.invariant c.forge-answer.ensures refl
     (rw (c.note.ensures, c.reserve.ensures.items, c.done.ensures) refl)
+
+pub returns-clause-step : goal.returns-clause-step
+returns-clause-step g c =
+    does_in c.self.view_is c.forge-answer.new.self c.note.new.log.items (vec_capacity c.note.new.log - vec_len c.note.new.log) None (events.Forge c.args.q c.args.slot c.args.bytes) (ring_reply c.forge-answer.result) c.forge-answer.ensures (rw (c.note.ensures, c.reserve.ensures.items, c.done.ensures) refl)
+
+pub returns-clause-memory : goal.returns-clause-memory
+returns-clause-memory g c =
+    takes_no_memory (IsLogFull c.args.self.now) c.self.inside.world c.forge-answer.new.self (events.Forge c.args.q c.args.slot c.args.bytes) (ring_reply c.forge-answer.result) refl c.forge-answer.ensures

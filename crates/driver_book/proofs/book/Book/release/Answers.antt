@@ -1,9 +1,12 @@
-use Rattle.std.proofs.Common.{◌-◌, vec_capacity, vec_len, Some, refl}
+use Rattle.std.proofs.Common.{◌≡◌, ◌-◌, ◌++◌, vec_capacity, vec_len, length, take, drop, Some, refl, ap, sym, ◌∙◌}
 use Rattle.machine_model.specs.Events as events
 use Rattle.step_core.specs.Replies.{accept_reply}
 use Rattle.driver_book.specs.Calls.{IsLogFull}
-use Rattle.driver_book.proofs.Runs.{does_in, keeps_book, takes_no_memory}
+use Rattle.driver_book.specs.State.{BookContents}
+use Rattle.driver_book.proofs.Runs.{does_in, has_room, keeps_book, no_room, takes_no_memory, wants_room}
+use Rattle.driver_book.proofs.Seats.{length_settled, settles_in, settles_none, written_back}
 use Rattle.driver_book.proofs.book.Book.release.Goals as goal
+use Rattle.driver_book.proofs.book.Book.release.Goals.{then-is_ok, else-is_ok}
 
 pub invariant_of-self-2 : goal.invariant_of-self-2
 invariant_of-self-2 g c =
@@ -19,3 +22,31 @@ returns-clause-step g c =
 pub returns-clause-memory : goal.returns-clause-memory
 returns-clause-memory g c =
     takes_no_memory (IsLogFull c.args.self.now) c.self.inside.world c.release-answer.new.self (events.Release c.args.finished) (accept_reply c.release-answer.result) refl c.release-answer.ensures.step
+
+pub returns-then-is_err-clause-memory : goal.returns-then-is_err-clause-memory
+returns-then-is_err-clause-memory g c =
+    wants_room _ _ c.unlogged.ensures.why (no_room c.self.view_is _ _ c.reserve.result (sym c.is_err.ensures.value ∙ c.if-is_err.true) c.reserve.ensures.full refl)
+
+pub note-requires : goal.note-requires
+note-requires g c = has_room _ _ c.reserve.result (sym c.is_err.ensures.value ∙ c.if-is_err.false) c.reserve.ensures.ok
+
+pub invariant_of-seat : goal.invariant_of-seat
+invariant_of-seat g c =
+    let receipts = c.seat.inside.receipts.items in
+    let long : vec_len c.seat.inside.receipts ≡ length receipts = sym c.as_mut_slice.ensures.len ∙ ap length c.as_mut_slice.ensures.value in
+    let same : length c.settle.new.receipts ≡ length receipts = ap length c.settle.ensures ∙ length_settled c.q-q.result c.cid-cid.result c.status_of-status.result c.as_mut_slice.result.now ∙ ap length c.as_mut_slice.ensures.value in
+    (c.seat.invariant.0, c.seat.invariant.1 ∙ sym same ∙ sym (ap length (written_back (vec_len c.seat.inside.receipts) receipts c.settle.new.receipts long same)))
+
+pub returns-clause-receipt : goal.returns-clause-receipt
+returns-clause-receipt g c =
+    let receipts = c.seat.inside.receipts.items in
+    elim c.if-is_ok.branch [
+      | then-is_ok w ↦
+          let long : vec_len c.seat.inside.receipts ≡ length receipts = sym w.as_mut_slice.ensures.len ∙ ap length w.as_mut_slice.ensures.value in
+          let same : length w.settle.new.receipts ≡ length receipts = ap length w.settle.ensures ∙ length_settled c.q-q.result c.cid-cid.result c.status_of-status.result w.as_mut_slice.result.now ∙ ap length w.as_mut_slice.ensures.value in
+          rw w.seat-is
+          (settles_in c.seat.view_is (ap (λ (b : BookContents). b.world) c.self.view_is) c.args.finished c.release-answer.result (sym c.is_ok.ensures.value ∙ w.if-is_ok.true)
+          (take (vec_len c.seat.inside.receipts) (w.settle.new.receipts ++ drop (length w.settle.new.receipts) receipts))
+          (written_back (vec_len c.seat.inside.receipts) receipts w.settle.new.receipts long same ∙ w.settle.ensures ∙ rw (c.status_of-status.ensures, c.q-q.ensures, c.cid-cid.ensures, w.as_mut_slice.ensures.value) refl))
+      | else-is_ok w ↦ settles_none c.args.self.now.world c.args.finished c.release-answer.result (sym c.is_ok.ensures.value ∙ w.if-is_ok.false) w.seat-is
+    ]

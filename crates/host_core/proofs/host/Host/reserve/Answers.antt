@@ -2,13 +2,13 @@ use Rattle.std.proofs.Common.{ap, ℕ, [], refl, sym, subst, arith}
 use Rattle.machine_model.specs.Events as events
 use Rattle.machine_model.specs.declared.words.Refusal.TheVariants as refusal
 use Rattle.io_commands.specs.Drafts.{DraftContents}
-use Rattle.host_core.specs.Alone.{HasFirstPages, HostView, IsLowest}
+use Rattle.host_core.specs.Alone.{HasPlacedPages, HostView, IsLowest}
 use Rattle.host_core.specs.Commands.{Grants}
 use Rattle.host_core.specs.Parts.{tables_of}
 use Rattle.host_core.specs.Tables.{Tables, state_of, view_of}
 use Rattle.host_core.specs.Whole.{IsWhole}
 use Rattle.host_core.proofs.Calls.{whole_at, step_at, stays_at}
-use Rattle.host_core.proofs.Granted.{first_pages, reserve_made}
+use Rattle.host_core.proofs.Granted.{placed_pages, reserve_made}
 use Rattle.host_core.proofs.Granting.{grant-lowest, refuses-memory}
 use Rattle.host_core.proofs.Keeping.{host_of, over_of}
 use Rattle.host_core.proofs.Steps.{host_step}
@@ -86,5 +86,5 @@ returns-clause-pages g c =
     let t : Tables = tables_of c.self.inside.parts c.args.store.now.pages in
     let w : IsWhole t = whole_at (tables_of c.self.inside.parts []) c.args.self.now c.args.store.now.pages c.self.view_is c.self.invariant c.requires in
     let grants : Grants t c.args.q c.args.request c.in-Ok.grant.cid c.in-Ok.grant.front c.in-Ok.grant.back = c.in-Ok.ensures.granted c.args.store.now.pages w in
-    subst (λ (v : HostView). HasFirstPages v.host c.commit_reserve.result) c.self.view_is
-    (first_pages t c.args.q c.in-Ok.grant.cid c.args.request c.in-Ok.grant.front c.in-Ok.grant.back c.commit_reserve.result grants c.commit_reserve.ensures.draft)
+    subst (λ (v : HostView). HasPlacedPages v.host c.commit_reserve.result) c.self.view_is
+    (placed_pages t c.args.q c.in-Ok.grant.cid c.args.request c.in-Ok.grant.front c.in-Ok.grant.back c.commit_reserve.result grants c.commit_reserve.ensures.draft)

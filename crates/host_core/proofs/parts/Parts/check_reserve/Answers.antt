@@ -1,7 +1,5 @@
-use Rattle.std.proofs.Common.{◌≡◌, ◌+◌, ℕ, List, false, arith, ap, sym, ◌∙◌, length, slice_get}
+use Rattle.std.proofs.Common.{◌≡◌, ℕ, List, false, ap, sym, ◌∙◌, slice_get}
 use Rattle.machine_model.specs.Refusals.{no_io_queue, in_state, is_deleting}
-use Rattle.page_ledger.specs.Owners.{free_pages}
-use Rattle.page_ledger.specs.declared.owner.Counts.{Counts}
 use Rattle.host_core.specs.Commands.{state_at, passes, takes_no_io}
 use Rattle.host_core.specs.Parts.{tables_of}
 use Rattle.host_core.specs.Tables.{Tables, state_of}
@@ -21,8 +19,8 @@ returns-in_default-clause-refused g c = λ pages w.
     let next = c.in_default.ensures there.0 (ap (λ (qs : List Queue). slice_get qs q) c.deref-2.ensures.value ∙ there.1) in
     refuses-no_identifier (state_of t) q c.args.request.now takes stays (sym c.in-Ok.ensures) (none-left t w q there.0 there.1 (sym next))
 
-pub returns-then-free-need-clause-refused : goal.returns-then-free-need-clause-refused
-returns-then-free-need-clause-refused g c = λ pages w.
+pub returns-in-Err-pages_wanted-clause-refused : goal.returns-in-Err-pages_wanted-clause-refused
+returns-in-Err-pages_wanted-clause-refused g c = λ pages w.
     let t : Tables = tables_of c.args.self.now pages in
     let q : ℕ = c.args.q in
     let seen : c.host_state-state.result ≡ state_at t.queues q = c.host_state-state.ensures ∙ ap (λ (qs : List Queue). state_at qs q) c.deref.ensures.value in
@@ -30,13 +28,11 @@ returns-then-free-need-clause-refused g c = λ pages w.
     let stays : in_state is_deleting (state_of t) q ≡ false = in_state-is is_deleting t q ∙ (ap (passes is_deleting) (sym seen) ∙ (sym c.is_deleting.ensures ∙ c.if-is_deleting.false)) in
     let there = queue_there t q takes in
     let next = c.in-Some.ensures there.0 (ap (λ (qs : List Queue). slice_get qs q) c.deref-2.ensures.value ∙ there.1) in
-    let free : c.counts-free.result.free_pages ≡ length (free_pages t.owners) = ap (λ (x : Counts). x.free_pages) c.counts-free.ensures.counts in
-    refuses-too_few (state_of t) q c.args.request.now (c.pages_of_request-front.result.0 + c.pages_of_request-front.result.1) c.counts-free.result.free_pages takes stays (sym c.in-Ok.ensures)
-    (next-left t w q c.in-Some.cid there.0 there.1 (sym next))
-    (omega (arith, c.pages_of_request-front.ensures.front, c.pages_of_request-front.ensures.back)) free c.if-free-need.true
+    refuses-too_few (state_of t) q c.args.request.now c.in-Err-pages_wanted.field-0.need c.in-Err-pages_wanted.field-0.free takes stays (sym c.in-Ok.ensures)
+    (next-left t w q c.in-Some.cid there.0 there.1 (sym next)) c.in-Err-pages_wanted.ensures.need c.in-Err-pages_wanted.ensures.free c.in-Err-pages_wanted.ensures.too_few
 
-pub returns-clause-granted : goal.returns-clause-granted
-returns-clause-granted g c = λ pages w.
+pub returns-in-Ok-pages_wanted-clause-granted : goal.returns-in-Ok-pages_wanted-clause-granted
+returns-in-Ok-pages_wanted-clause-granted g c = λ pages w.
     let t : Tables = tables_of c.args.self.now pages in
     let q : ℕ = c.args.q in
     let seen : c.host_state-state.result ≡ state_at t.queues q = c.host_state-state.ensures ∙ ap (λ (qs : List Queue). state_at qs q) c.deref.ensures.value in
@@ -45,6 +41,5 @@ returns-clause-granted g c = λ pages w.
     let there = queue_there t q takes in
     let next = c.in-Some.ensures there.0 (ap (λ (qs : List Queue). slice_get qs q) c.deref-2.ensures.value ∙ there.1) in
     let asked : Asked t q c.args.request.now = record { queue = there.0; at = there.1; takes = takes; stays = stays; good = sym c.in-Ok.ensures } in
-    let free : c.counts-free.result.free_pages ≡ length (free_pages t.owners) = ap (λ (x : Counts). x.free_pages) c.counts-free.ensures.counts in
-    granted t q c.args.request.now c.in-Some.cid c.pages_of_request-front.result.0 c.pages_of_request-front.result.1 w asked (sym next)
-    c.pages_of_request-front.ensures.front c.pages_of_request-front.ensures.back (omega (arith, free, c.if-free-need.false))
+    granted t q c.args.request.now c.in-Some.cid c.in-Ok-pages_wanted.front c.in-Ok-pages_wanted.back w asked (sym next)
+    c.in-Ok-pages_wanted.ensures.front c.in-Ok-pages_wanted.ensures.back c.in-Ok-pages_wanted.ensures.enough

@@ -1,6 +1,7 @@
 use Rattle.std.proofs.Common.{refl, sym, ap, subst, ◌≡◌, ◌≤◌, ◌∙◌, ℕ, List, length}
 use Rattle.sgl_descriptor.specs.Spelling.{spelling}
-use Rattle.io_commands.specs.Drafts.{DraftContents, IsDraft, SpellsItsParts, draft_segments, draft_first, draft_entry, io_entry}
+use Rattle.sgl_chain.specs.Chains.{pages_needed}
+use Rattle.io_commands.specs.Drafts.{DraftContents, IsDraft, SpellsItsParts, draft_parts, draft_segments, draft_first, draft_entry, io_entry}
 use Rattle.io_commands.specs.Drafting.{contents_of}
 use Rattle.io_commands.proofs.Filling.{enough_pages}
 use Rattle.io_commands.proofs.Building.{built_contents, built_keeps, built_spells}
@@ -13,7 +14,8 @@ invariant_of-self g c =
     let segments : c.in_ok-chain.chain.segments ≡ draft_segments d = rw c.as_slice.ensures.value at c.in_ok-chain.ensures.segments in
     let first : c.first.result ≡ draft_first d = c.first.ensures ∙ (rw c.as_slice.ensures.value at c.in_ok-chain.ensures.first) in
     let entry : c.io_entry.result ≡ draft_entry d = c.io_entry.ensures ∙ ap (λ (sgl1 : List ℕ). io_entry d.cid d.request sgl1) (c.write-first.ensures ∙ ap spelling first) in
-    let count : length (draft_segments d) ≡ length d.chain_pages = rw (← segments) (c.in_ok-chain.ensures.count ∙ sym c.self.invariant.0.chain_has_pages) in (
+    let needed : length c.in_ok-chain.chain.segments ≡ pages_needed (length (draft_parts d)) d.segment = rw c.as_slice.ensures.value at c.in_ok-chain.ensures.count in
+    let count : length (draft_segments d) ≡ length d.chain_pages = rw (← segments) (needed ∙ sym c.self.invariant.0.chain_has_pages) in (
       subst (λ (x : DraftContents). IsDraft x)
           (sym (built_contents d c.self.inside.pages.items c.lay_all.new.pages.items c.data_pages-data.result c.in_ok-chain.chain.segments c.io_entry.result c.data_pages-data.ensures few
           (rw c.data_pages-data.ensures refl) (rw c.data_pages-data.ensures refl) c.lay_all.ensures segments entry))
@@ -28,7 +30,8 @@ returns-clause-spells g c =
     let segments : c.in_ok-chain.chain.segments ≡ draft_segments d = rw c.as_slice.ensures.value at c.in_ok-chain.ensures.segments in
     let first : c.in_ok-chain.chain.first ≡ draft_first d = rw c.as_slice.ensures.value at c.in_ok-chain.ensures.first in
     let entry : c.io_entry.result ≡ draft_entry d = c.io_entry.ensures ∙ ap (λ (sgl1 : List ℕ). io_entry d.cid d.request sgl1) (c.write-first.ensures ∙ ap spelling (c.first.ensures ∙ first)) in
-    let count : length (draft_segments d) ≡ length d.chain_pages = rw (← segments) (c.in_ok-chain.ensures.count ∙ sym c.self.invariant.0.chain_has_pages) in
+    let needed : length c.in_ok-chain.chain.segments ≡ pages_needed (length (draft_parts d)) d.segment = rw c.as_slice.ensures.value at c.in_ok-chain.ensures.count in
+    let count : length (draft_segments d) ≡ length d.chain_pages = rw (← segments) (needed ∙ sym c.self.invariant.0.chain_has_pages) in
     subst (λ (x : DraftContents). SpellsItsParts x)
     (sym (built_contents d c.self.inside.pages.items c.lay_all.new.pages.items c.data_pages-data.result c.in_ok-chain.chain.segments c.io_entry.result c.data_pages-data.ensures few
     (rw c.data_pages-data.ensures refl) (rw c.data_pages-data.ensures refl) c.lay_all.ensures segments entry))

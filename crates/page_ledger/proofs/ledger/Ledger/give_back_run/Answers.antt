@@ -5,11 +5,8 @@ use Rattle.page_ledger.proofs.Tables.{given_back-listed}
 use Rattle.page_ledger.proofs.ledger.Ledger.give_back_run.Goals as goal
 
 pub give_run-requires : goal.give_run-requires
-give_run-requires g c =
-    rw c.first.view_is (record {
-      inside = λ i l. rw (← get_or-pages_from c.args.first c.args.k i 0 l) (c.requires.within i 0 (omega (arith, length-pages_from c.args.first c.args.k)));
-      pool = rw (← c.self.view_is) c.self.invariant.1;
-    })
+give_run-requires g c i l =
+    rw c.first.view_is (rw (← get_or-pages_from c.args.first c.args.k i 0 l) (c.requires.within i 0 (omega (arith, length-pages_from c.args.first c.args.k))))
 
 pub returns : goal.returns
 returns g c =

@@ -1,0 +1,67 @@
+//! A heap of fixed size, and how much of it is used.
+
+ghost use Rattle.std.specs.Prelude.{◌≡◌, ◌≤◌, ◌⊎◌};
+
+use crate::commands::carry;
+use crate::fault::Fault;
+use crate::shape::{IMAGE_BLOCKS, Shape};
+use block_image::Image;
+use linked_list_allocator::LocalHeap;
+use std::alloc::Global;
+use step_core::Bench;
+
+/// How many bytes of a heap were used.
+#[derive(Clone, Copy)]
+pub struct Used {
+    /// With the image alone.
+    pub image: usize,
+    /// With the image and a bench without commands.
+    pub opened: usize,
+    /// At most, after any step.
+    pub most: usize,
+    /// Once all of it was given back.
+    pub left: usize,
+}
+
+impl Used {
+    /// Notes how many bytes are used after a step.
+    pub fn note(&mut self, now: usize)
+        ensures most { (now ≤ self.new.most) × (self.old.most ≤ self.new.most) }
+        ensures met { (self.new.most ≡ now) ⊎ (self.new.most ≡ self.old.most) }
+    {
+        self.most = self.most.max(now);
+    }
+}
+
+/// Opens a bench in a heap, carries the commands through, and ends the bench.
+fn fill_heap(heap: &LocalHeap, shape: Shape, used: &mut Used) -> Result<(), Fault> {
+    let Ok(image) = Image::zeroed(heap, IMAGE_BLOCKS) else {
+        return Err(Fault::Memory);
+    };
+    used.image = heap.used();
+    let Ok(mut bench) = Bench::open(heap, shape.config(), image) else {
+        return Err(Fault::NotOpened);
+    };
+    used.opened = heap.used();
+    let carried = carry(heap, &mut bench, shape.commands, used);
+    let _ended = bench.end();
+    carried
+}
+
+/// Carries the commands of a shape through in a heap, and answers how much of it was used.
+///
+/// # Errors
+///
+/// `Memory` where the heap is too small, and `NotOpened` or `Refused` where the shape is none.
+pub fn use_heap(alloc: Global, shape: Shape) -> Result<Used, Fault> {
+    let heap = LocalHeap::new(alloc, shape.heap)?;
+    let mut used = Used {
+        image: 0,
+        opened: 0,
+        most: 0,
+        left: 0,
+    };
+    fill_heap(&heap, shape, &mut used)?;
+    used.left = heap.used();
+    Ok(used)
+}

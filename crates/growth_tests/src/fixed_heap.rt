@@ -1,0 +1,184 @@
+//! A host, its controller and sixteen outstanding commands in a heap of fixed size.
+
+use crate::placed::placed;
+use crate::sweep::{Wanted, look_at, read, unrefused, wants_memory};
+use linked_list_allocator::LocalHeap;
+use script_cli::{Line, Script};
+use std::alloc::{AllocError, Global};
+use std::process::Abort;
+use std::test::Fail;
+use step_core::{Bench, Config, Image, OpenRefusal};
+
+/// How many commands are outstanding at once.
+const COMMANDS: u16 = 16;
+
+/// The smallest pool for sixteen commands that have a page of data each: the two queues have four pages.
+const TWENTY_PAGES: Config = Config {
+    pages: 20,
+    queues: 1,
+    entries: 17,
+    segment: 256,
+};
+
+/// The blocks of the image.
+const BLOCKS: u32 = 16;
+
+/// A heap counts its bytes by so many.
+const STEP: usize = 16;
+
+/// The smallest heap in which a bench opens.
+const OPENS: usize = 96_272;
+
+/// The smallest heap in which the commands are carried through.
+const CARRIES: usize = 120_336;
+
+/// A verb for each command.
+fn put_each(text: &mut String, verb: &str) -> Result<(), AllocError> {
+    for cid in 0..COMMANDS {
+        writeln!(text, "{verb} 1 {cid}")?;
+    }
+    Ok(())
+}
+
+/// The steps from the building of a list on, each for all commands before the next one.
+fn put_steps(text: &mut String, last: &[&str]) -> Result<(), AllocError> {
+    for verb in ["build", "submit"] {
+        put_each(text, verb)?;
+    }
+    text.push_str("ring 1\n")?;
+    for _ in 0..COMMANDS {
+        text.push_str("fetch 1\n")?;
+    }
+    for verb in ["walk", "walk", "complete"] {
+        put_each(text, verb)?;
+    }
+    for _ in 0..COMMANDS {
+        text.push_str("reap 1\n")?;
+    }
+    for verb in last {
+        put_each(text, verb)?;
+    }
+    Ok(())
+}
+
+/// Sixteen Writes, and then sixteen Reads of what they wrote.
+fn commands(alloc: Global) -> Result<String, AllocError> {
+    let mut text = String::new(alloc);
+    for cid in 0..COMMANDS {
+        writeln!(text, "reserve 1 write {cid} 1 0+512")?;
+    }
+    for cid in 0..COMMANDS {
+        writeln!(text, "fill 1 {cid} A{cid:x}")?;
+    }
+    put_steps(&mut text, &["collect", "release"])?;
+    for cid in 0..COMMANDS {
+        writeln!(text, "reserve 1 read {cid} 1 0+512")?;
+    }
+    put_steps(&mut text, &["collect", "gather", "release"])?;
+    Ok(text)
+}
+
+/// What the Reads print once they are gathered, and the counts at the end.
+fn gathered(alloc: Global) -> Result<String, AllocError> {
+    let mut text = String::new(alloc);
+    for cid in 0..COMMANDS {
+        writeln!(text, "{} gather A{cid:X}*1,00*511", 323 + cid)?;
+    }
+    text.push_str("counts free 16 queue 4 chain 0 data 0\n")?;
+    Ok(text)
+}
+
+/// Opens a bench in a heap. Where it answers none memory was refused, and the image came back.
+fn open_in<'a>(rt: &impl Abort, heap: &'a LocalHeap) -> Result<Option<Bench<&'a LocalHeap>>, Fail> {
+    let Ok(image) = Image::zeroed(heap, BLOCKS) else {
+        return Ok(None);
+    };
+    match Bench::open(heap, TWENTY_PAGES, image) {
+        Ok(bench) => Ok(Some(bench)),
+        Err(refused) => {
+            assert_eq!(rt; refused.why, OpenRefusal::Memory);
+            assert_eq!(rt; refused.image.blocks(), BLOCKS);
+            Ok(None)
+        }
+    }
+}
+
+/// Does the steps of a script, each of which answers as is wanted, until one wants memory, and answers whether none did.
+fn steps_in<'a>(
+    rt: &impl Abort,
+    alloc: Global,
+    heap: &'a LocalHeap,
+    bench: &mut Bench<&'a LocalHeap>,
+    script: &Script,
+    wanted: &Wanted,
+) -> Result<bool, Fail> {
+    let mut wanted = wanted.answers.iter();
+    for numbered in script.lines() {
+        let Line::Step(step) = &numbered.line else {
+            continue;
+        };
+        let answer = match placed(heap, step) {
+            Ok(made) => bench.step(made),
+            Err(refused) => Err(refused),
+        };
+        if wants_memory(&answer) {
+            return Ok(false);
+        }
+        let text = format!(in alloc; "{:?}", answer?)?;
+        assert_eq!(rt; Some(&text), wanted.next());
+    }
+    Ok(true)
+}
+
+/// Whether the steps of a script are done in a heap of so many bytes, or memory is refused. At the end the heap is empty.
+fn fits(
+    rt: &impl Abort,
+    alloc: Global,
+    bytes: usize,
+    script: &Script,
+    wanted: &Wanted,
+) -> Result<bool, Fail> {
+    let heap = LocalHeap::new(alloc, bytes)?;
+    let fit = match open_in(rt, &heap)? {
+        None => Ok(false),
+        Some(mut bench) => {
+            let fit = steps_in(rt, alloc, &heap, &mut bench, script, wanted);
+            let _ended = bench.end();
+            fit
+        }
+    };
+    assert_eq!(rt; heap.used(), 0);
+    fit
+}
+
+/// Sixteen commands at once are carried through in a heap; in one that is a step smaller memory is refused, and it is empty at the end.
+#[test]
+fn sixteen_commands_fit_a_heap(rt: HostRuntime) -> Result<(), Fail> {
+    let alloc = rt.alloc();
+    let text = commands(alloc)?;
+    let shows = gathered(alloc)?;
+    look_at(&rt, alloc, TWENTY_PAGES, text.as_str(), shows.as_str())?;
+    let script = read(alloc, text.as_str())?;
+    let wanted = unrefused(alloc, TWENTY_PAGES, &script)?;
+    assert!(rt; fits(&rt, alloc, CARRIES, &script, &wanted)?);
+    assert!(rt; !fits(&rt, alloc, CARRIES - STEP, &script, &wanted)?);
+    Ok(())
+}
+
+/// A bench opens in a heap; in one that is a step smaller it is refused for want of memory, and the heap is empty.
+#[test]
+fn a_bench_opens_in_a_heap(rt: HostRuntime) -> Result<(), Fail> {
+    for (bytes, opens) in [(OPENS, true), (OPENS - STEP, false)] {
+        let heap = LocalHeap::new(rt.alloc(), bytes)?;
+        let opened = match open_in(&rt, &heap)? {
+            None => false,
+            Some(bench) => {
+                let _ended = bench.end();
+                true
+            }
+        };
+        assert_eq!(rt; opened, opens, "{bytes}");
+        assert_eq!(rt; heap.used(), 0, "{bytes}");
+    }
+    Ok(())
+}

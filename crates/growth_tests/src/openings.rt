@@ -1,0 +1,60 @@
+//! Openings with one growth refused.
+
+use crate::sweep::{Heap, MANY, TWO_QUEUES, USUAL, zeros};
+use refusing::{Refusal, Refusing};
+use std::alloc::Global;
+use std::process::Abort;
+use std::test::Fail;
+use step_core::{Bench, Config, Image, OpenRefusal};
+
+/// Opens a bench over an image and ends it. Where memory is refused the image comes back.
+fn open_and_end<'a>(
+    rt: &impl Abort,
+    heap: &'a Heap,
+    config: Config,
+    image: Image<&'a Heap>,
+) -> Option<Image<&'a Heap>> {
+    match Bench::open(heap, config, image) {
+        Ok(bench) => {
+            let _ended = bench.end();
+            None
+        }
+        Err(refused) => {
+            assert_eq!(rt; refused.why, OpenRefusal::Memory);
+            assert_eq!(rt; refused.image.blocks(), 64);
+            Some(refused.image)
+        }
+    }
+}
+
+/// Opens a bench with one growth refused, and once more where memory was refused. Answers whether there was such a growth.
+fn open_twice(rt: &impl Abort, alloc: Global, config: Config, growth: u64) -> Result<bool, Fail> {
+    let heap = Refusing::new(alloc);
+    let image = zeros(&heap)?;
+    heap.refuse(Refusal::Nth(growth));
+    let back = open_and_end(rt, &heap, config, image);
+    let refused = heap.tally().refused > 0;
+    assert_eq!(rt; back.is_some(), refused, "growth {growth}");
+    heap.refuse(Refusal::Never);
+    if let Some(image) = back {
+        assert!(rt; open_and_end(rt, &heap, config, image).is_none());
+    }
+    assert_eq!(rt; heap.tally().blocks, 0, "growth {growth}");
+    Ok(refused)
+}
+
+/// Each growth of an opening is refused: memory is wanted and the image comes back, with which a bench then opens.
+#[test]
+fn an_opening_wants_memory(rt: HostRuntime) -> Result<(), Fail> {
+    for (config, wanted) in [(USUAL, 29), (TWO_QUEUES, 39)] {
+        let mut growths: u64 = 0;
+        for growth in 1..MANY {
+            if !open_twice(&rt, rt.alloc(), config, growth)? {
+                break;
+            }
+            growths = growth;
+        }
+        assert_eq!(rt; growths, wanted);
+    }
+    Ok(())
+}

@@ -1,0 +1,42 @@
+use Rattle.std.proofs.lemmas.List.Sums.{count_by-le-length}
+use Rattle.std.proofs.Common.{◌≡◌, ◌<◌, ◌≤◌, ◌∙◌, ℕ, List, arith, ap, sym, length}
+use Rattle.io_commands.specs.Requests.{is_data, data_count, joined_parts}
+use Rattle.io_commands.proofs.Spelled.{few_pieces}
+use Rattle.sgl_chain.proofs.Counts.{needed_few}
+use Rattle.sgl_chain.specs.Chains.{pages_needed}
+use Rattle.machine_model.specs.Placement.{placed}
+use Rattle.page_ledger.specs.Owners.{free_pages}
+use Rattle.page_ledger.specs.declared.owner.Counts.{Counts}
+use Rattle.host_core.proofs.Granting.{wanted-placed}
+use Rattle.host_core.proofs.Placing.{placed-run, placed-lowest, least-in-run}
+use Rattle.host_core.proofs.place.need_of.Goals as goal
+
+pub overflow_add-result : goal.overflow_add-result
+overflow_add-result g c =
+    let request = c.args.request.now in
+    omega (arith, c.data_pages-front.ensures, c.scattered_chain.ensures.few, needed_few (length request.pieces) c.args.segment, few_pieces request.kind request.blocks request.pieces c.requires.good, count_by-le-length is_data request.pieces)
+
+pub returns-in-Some : goal.returns-in-Some
+returns-in-Some g c =
+    let request = c.args.request.now in
+    let free : List ℕ = free_pages c.args.ledger.now in
+    let front : c.data_pages-front.result ≡ data_count request.pieces = c.data_pages-front.ensures in
+    let some : 0 < data_count request.pieces = omega (arith, front, c.if-front-eq0.false) in
+    let counted : c.counts.result.free_pages ≡ length free = ap (λ (x : Counts). x.free_pages) c.counts.ensures.counts in
+    let room : data_count request.pieces ≤ length free = omega (arith, front, counted, c.if-counts-front.false) in
+    let run = placed-run c.args.ledger.now c.data_pages-front.result c.in-Some.field-0 (omega (arith, front, some)) (sym c.in-Some.is ∙ c.lowest_run.ensures.lowest) in
+    c.least_pages-in-Some.ensures
+    ∙ sym (least-in-run free c.args.segment c.in-Some.field-0 request c.requires.good (rw front at run))
+    ∙ sym (wanted-placed free c.args.segment request.pieces room)
+
+pub returns-in-None : goal.returns-in-None
+returns-in-None g c =
+    let request = c.args.request.now in
+    let free : List ℕ = free_pages c.args.ledger.now in
+    let front : c.data_pages-front.result ≡ data_count request.pieces = c.data_pages-front.ensures in
+    let some : 0 < data_count request.pieces = omega (arith, front, c.if-front-eq0.false) in
+    let counted : c.counts.result.free_pages ≡ length free = ap (λ (x : Counts). x.free_pages) c.counts.ensures.counts in
+    let room : data_count request.pieces ≤ length free = omega (arith, front, counted, c.if-counts-front.false) in
+    let lowest = placed-lowest c.args.ledger.now c.data_pages-front.result (omega (arith, front, some)) (sym c.in-None.is ∙ c.lowest_run.ensures.lowest) in
+    let pages = sym lowest ∙ ap (placed free) front in
+    omega (arith, front, c.scattered_chain.ensures.count, wanted-placed free c.args.segment request.pieces room, ap (λ (ps : List ℕ). pages_needed (length (joined_parts request.pieces ps)) c.args.segment) pages)

@@ -1,0 +1,44 @@
+use Rattle.std.proofs.Common.{◌≡◌, ◌+◌, ◌<◌, ◌≤◌, ◌∙◌, ◌++◌, ◌∷◌, [], ℕ, List, arith, ap, sym, refl, length, take}
+use Rattle.page_ledger.specs.Owners.{free_pages, pages_from}
+use Rattle.page_ledger.proofs.FreeRuns.{lowest_run-within}
+use Rattle.page_ledger.proofs.Pages.{pages_from-more}
+use Rattle.host_core.proofs.Placing.{placed-run, placed-lowest}
+use Rattle.host_core.proofs.place.place.Goals as goal
+
+pub loop-i-init : goal.loop-i-init
+loop-i-init g c = record { pages = c.requires.room.0; count = omega arith; room = refl }
+
+pub overflow_add-first-inside : goal.overflow_add-first-inside
+overflow_add-first-inside g c =
+    let some : 0 < c.args.count = omega (arith, c.loop-i-test.true) in
+    let first : ℕ = c.in-Some.first in
+    let within : first + c.args.count ≤ length c.args.ledger.now = lowest_run-within c.args.count first c.args.ledger.now some (sym c.in-Some.ensures.lowest) in
+    omega (arith, c.first.view_is, within, c.if-prove.false, c.pages.ensures.pages, c.loop-i-test.true)
+
+pub push_reserved-requires : goal.push_reserved-requires
+push_reserved-requires g c = omega (arith, c.loop-i.invariant.count, c.loop-i.invariant.room, c.requires.room.1, c.loop-i-test.true)
+
+pub loop-i-preserved : goal.loop-i-preserved
+loop-i-preserved g c = record {
+  pages = c.push_reserved.ensures.items ∙ ap (λ (ps : List ℕ). ps ++ (c.first.inside.0 + c.loop-i.i) ∷ []) c.loop-i.invariant.pages ∙ sym (pages_from-more c.first.inside.0 c.loop-i.i);
+  count = omega (arith, c.push_reserved.ensures.len, c.loop-i.invariant.count);
+  room = c.push_reserved.ensures.capacity ∙ c.loop-i.invariant.room;
+}
+
+pub returns-in-Some-clause-pages : goal.returns-in-Some-clause-pages
+returns-in-Some-clause-pages g c =
+    let some : 0 < c.args.count = omega (arith, c.if-count-eq0.false) in
+    let all : c.loop-i.i ≡ c.args.count = omega (arith, c.loop-i.auto.i-end, c.loop-i-test.false) in
+    c.loop-i.invariant.pages
+    ∙ ap (λ (k : ℕ). pages_from c.first.inside.0 k) all
+    ∙ ap (λ (p : ℕ). pages_from p c.args.count) c.first.view_is
+    ∙ sym (placed-run c.args.ledger.now c.args.count c.in-Some.first some c.in-Some.ensures.lowest)
+
+pub returns-in-Ok-clause-pages : goal.returns-in-Ok-clause-pages
+returns-in-Ok-clause-pages g c =
+    let some : 0 < c.args.count = omega (arith, c.if-count-eq0.false) in
+    let same : free_pages c.grant_run.new.self ≡ free_pages c.args.ledger.now = ap free_pages c.in-None.ensures.unchanged in
+    c.in-Ok.ensures.granted
+    ∙ ap (λ (ps : List ℕ). ps ++ take c.args.count (free_pages c.grant_run.new.self)) c.requires.room.0
+    ∙ ap (take c.args.count) same
+    ∙ sym (placed-lowest c.args.ledger.now c.args.count some c.in-None.ensures.lowest)

@@ -1,0 +1,146 @@
+//! Where the pages of a command are placed: its data in a run of consecutive free pages where there is one, else in the lowest
+//! free pages, and its chain in the same way among those that are left.
+
+ghost use Rattle.std.specs.Prelude.{◌≡◌, ◌+◌, ◌<◌, ◌≤◌, [], false, length, take, vec_len, vec_capacity, IfOk, IfErr};
+ghost use Rattle.io_commands.specs.Requests.{data_count, joined_parts};
+ghost use Rattle.io_commands.specs.Values.{IsGood};
+ghost use Rattle.sgl_chain.specs.Chains.{pages_needed};
+ghost use Rattle.machine_model.specs.Placement.{chain_wanted, placed as spec_placed, wanted_of};
+ghost use Rattle.page_ledger.specs.Owners.{free_pages, is_free, with_owner};
+ghost use Rattle.host_core.specs.Commands.{first_placed, then_placed};
+
+use io_commands::Request;
+use page_ledger::{Ledger, NoPages, Owner, Role};
+use page_memory::PageNo;
+use std::alloc::Allocator;
+
+/// What a request gets: an identifier, and so many pages for its data and for its chain.
+#[derive(Clone, Copy)]
+pub(crate) struct Grant {
+    pub(crate) cid: u16,
+    pub(crate) front: u32,
+    pub(crate) back: u32,
+}
+
+/// How many chain pages a good request takes whose data has the lowest free pages. Their list stands on the stack, which costs more to
+/// make than all else here, so it is no part of the way of a request whose data has a run.
+#[inline(never)]
+fn scattered_chain<A: Allocator, B: Allocator>(
+    ledger: &Ledger<A>,
+    request: &Request<B>,
+    front: u32,
+    segment: u16,
+) -> u32
+    requires good { IsGood request.now }
+    requires front { front ≡ data_count request.now.pieces }
+    requires enough { front ≤ length (free_pages ledger.now) }
+    requires low { 2 ≤ segment }
+    requires high { segment ≤ 256 }
+    ensures count { result ≡ pages_needed (length (joined_parts request.now.pieces (take front (free_pages ledger.now)))) segment }
+    ensures few { result ≤ pages_needed (length request.now.pieces) segment }
+{
+    request.chain_pages(&ledger.lowest_free(front), segment)
+}
+
+/// How many pages a good request wants: those of its placement, which in a run are the fewest that it can take; and the fewest where
+/// not even its data has room.
+fn need_of<A: Allocator, B: Allocator>(
+    ledger: &Ledger<A>,
+    request: &Request<B>,
+    segment: u16,
+) -> u32
+    requires good { IsGood request.now }
+    requires low { 2 ≤ segment }
+    requires high { segment ≤ 256 }
+    ensures { result ≡ wanted_of (free_pages ledger.now) segment request.now.pieces }
+{
+    let front = request.data_pages() as u32;
+    if front == 0 || ledger.counts().free_pages < front {
+        return request.least_pages(segment);
+    }
+    match ledger.lowest_run(front) {
+        Some(_) => request.least_pages(segment),
+        None => front + scattered_chain(ledger, request, front, segment),
+    }
+}
+
+/// How many pages a good request takes for its data, and for the chain of its parts where the data is placed; else how many it wants
+/// in all, where fewer are free.
+pub(crate) fn pages_wanted<A: Allocator, B: Allocator>(
+    ledger: &Ledger<A>,
+    request: &Request<B>,
+    segment: u16,
+) -> Result<(u32, u32), NoPages>
+    requires good { IsGood request.now }
+    requires low { 2 ≤ segment }
+    requires high { segment ≤ 256 }
+    ensures front { IfOk result (λ pages. pages.0 ≡ data_count request.now.pieces) }
+    ensures back { IfOk result (λ pages. pages.1 ≡ chain_wanted (free_pages ledger.now) segment request.now.pieces) }
+    ensures enough { IfOk result (λ pages. pages.0 + pages.1 ≤ length (free_pages ledger.now)) }
+    ensures need { IfErr result (λ e. e.need ≡ wanted_of (free_pages ledger.now) segment request.now.pieces) }
+    ensures free { IfErr result (λ e. e.free ≡ length (free_pages ledger.now)) }
+    ensures too_few { IfErr result (λ e. e.free < e.need) }
+{
+    let free = ledger.counts().free_pages;
+    let need = need_of(ledger, request, segment);
+    if free < need {
+        return Err(NoPages { need, free });
+    }
+    let front = request.data_pages() as u32;
+    Ok((front, need - front))
+}
+
+/// Places so many pages: the lowest run of free pages where there is one, else the lowest free pages, get the owner.
+fn place<A: Allocator>(ledger: &mut Ledger<A>, owner: Owner, count: u32, into: &mut Vec<PageNo, A>)
+    requires owned { is_free owner ≡ false }
+    requires enough { count ≤ length (free_pages ledger.old) }
+    requires room { (into.old.items ≡ []) × (vec_len into.old + count ≤ vec_capacity into.old) }
+    ensures pages { into.new.items ≡ spec_placed (free_pages ledger.old) count }
+    ensures owners { ledger.new ≡ with_owner ledger.old into.new.items owner }
+{
+    if count == 0 {
+        return;
+    }
+    prove!(ledger.pages() <= 65_536);
+    match ledger.grant_run(owner, count) {
+        Some(first) => {
+            for i in 0..count {
+                into.push_reserved(PageNo(first.0 + i));
+            }
+        }
+        None => match ledger.grant(owner, count, into) {
+            Ok(()) => {}
+            Err(_) => unreachable!(),
+        },
+    }
+}
+
+/// Places the pages of a command, first those for its data, then those for its chain.
+pub(crate) fn place_command<A: Allocator>(
+    ledger: &mut Ledger<A>,
+    q: u16,
+    grant: Grant,
+    front: &mut Vec<PageNo, A>,
+    back: &mut Vec<PageNo, A>,
+)
+    requires enough { grant.front + grant.back ≤ length (free_pages ledger.old) }
+    requires front_room { (front.old.items ≡ []) × (vec_len front.old + grant.front ≤ vec_capacity front.old) }
+    requires back_room { (back.old.items ≡ []) × (vec_len back.old + grant.back ≤ vec_capacity back.old) }
+    ensures front { front.new.items ≡ first_placed ledger.old grant.front }
+    ensures back { back.new.items ≡ then_placed ledger.old grant.front grant.back }
+    ensures owners { ledger.new ≡ with_owner (with_owner ledger.old front.new.items (Owner.Command q grant.cid Role.Data)) back.new.items (Owner.Command q grant.cid Role.Chain) }
+{
+    let cid = grant.cid;
+    let for_data = Owner::Command {
+        q,
+        cid,
+        role: Role::Data,
+    };
+    place(ledger, for_data, grant.front, front);
+    let for_chain = Owner::Command {
+        q,
+        cid,
+        role: Role::Chain,
+    };
+    place(ledger, for_chain, grant.back, back);
+}

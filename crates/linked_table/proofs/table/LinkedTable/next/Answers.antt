@@ -1,0 +1,19 @@
+use Rattle.std.proofs.Common.{ap, sym, ◌∙◌}
+use Rattle.std.specs.Option.{option_map, option_and_then, option_copied, is_some}
+use Rattle.linked_table.specs.Links.{Place, thread_of}
+use Rattle.linked_table.proofs.Whole.{behind-none, behind-rows}
+use Rattle.linked_table.proofs.Steps.{value_some}
+use Rattle.linked_table.proofs.table.LinkedTable.next.Goals as goal
+
+pub returns-in_err-get : goal.returns-in_err-get
+returns-in_err-get g c =
+    let none = sym c.get.ensures.value ∙ ap option_copied c.in_err-get.was in
+    c.from_residual.ensures ∙ rw (← c.self.view_is) (behind-none _ _ c.self.invariant (c.args.q, c.args.cid) (ap (option_map (λ n. n.value)) none))
+
+pub returns : goal.returns
+returns g c =
+    let i = c.self.inside.nodes in
+    let t = thread_of i.map i.first i.last in
+    let k : Place = (c.args.q, c.args.cid) in
+    let has = sym c.get.ensures.value ∙ ap option_copied c.in_ok-get.was in
+    rw (← c.self.view_is) (sym (ap (option_and_then (λ n. n.after)) has) ∙ behind-rows t _ c.self.invariant k (ap is_some (value_some t k c.in_ok-get.field-0.now has)))

@@ -1,0 +1,12 @@
+//! A table of records by queue and identifier, for places that are too many to make at opening.
+//!
+//! A [`LinkedTable`] holds at most one record for each queue and identifier, in the order in which they were put. Each record knows the
+//! places before and after its own, so no call goes over the others.
+//!
+//! Contracts see a table as the list of its rows; the hash map and how the list is threaded through it are hidden.
+#![tactic(auto)]
+
+mod nodes;
+mod table;
+
+pub use table::LinkedTable;
