@@ -1,5 +1,5 @@
 -- The moves of a list follow the targets of its parts.
-use Rattle.std.proofs.Common.{arith, ◌≡◌, ◌<◌, ◌+◌, ◌-◌, ◌++◌, ◌∷◌, [], ℕ, zero, suc, Bool, true, false, List, Option, Some, None, refl, sym, ap, subst, ◌∙◌, cond, is_some, length, map, min, nat_eq}
+use Rattle.std.proofs.Common.{arith, ◌≡◌, ◌<◌, ◌≤◌, ◌+◌, ◌-◌, ◌++◌, ◌∷◌, [], ℕ, zero, suc, Bool, true, false, List, Option, Some, None, refl, sym, ap, subst, ◌∙◌, cond, is_some, length, map, min, nat_eq}
 use Rattle.std.specs.List.{slice_get, range_with_len}
 use Rattle.std.specs.Option.{option_and_then}
 use Rattle.std.proofs.lemmas.Grind.{common_steps}
@@ -50,14 +50,14 @@ block_target dir parts addr len offset i count lt =
 abbrev Follows : Memory → Direction → ℕ → (Option Cursor → ℕ → Course) → Type 0
 Follows m dir need later = (a : Option Cursor) (wanted : ℕ) (parts : List Part) → counted_in dir parts + wanted ≡ need → MovesAlong m dir need parts (later a wanted)
 
-along_moving : (m : Memory) (dir : Direction) (need : ℕ) (parts : List Part) (n place len offset : ℕ) (rest : Course) →
+along_moving : (m : Memory) (dir : Direction) (need : ℕ) (parts : List Part) (n place len offset : ℕ) (rest : Course) → offset + len ≤ need →
     ((i : ℕ) → i < len → slice_get (targets dir parts) (offset + i) ≡ Some (Place (place + i))) → MovesAlong m dir need parts rest → MovesAlong m dir need parts (moving m n place len offset rest)
 unfolding moving
-along_moving m dir need parts zero place len offset rest there h = h
-along_moving m dir need parts (suc n) place len offset rest there h =
+along_moving m dir need parts zero place len offset rest within there h = h
+along_moving m dir need parts (suc n) place len offset rest within there h =
     both (is_some (bytes_at m place (first_part place len))) _
     (λ i lt. there i (omega (arith, (part_most place len).0)))
-    (along_moving m dir need parts n (place + first_part place len) (len - first_part place len) (offset + first_part place len) rest
+    (along_moving m dir need parts n (place + first_part place len) (len - first_part place len) (offset + first_part place len) rest (omega (arith, within, (part_most place len).0))
     (λ i lt. rw (← sum offset (first_part place len) i, ← sum place (first_part place len) i) (there (first_part place len + i) (omega arith))) h)
   where
     sum : (a b c : ℕ) → a + (b + c) ≡ a + b + c
@@ -65,7 +65,7 @@ along_moving m dir need parts (suc n) place len offset rest there h =
 
     both : (b : Bool) (c : Course) → ((i : ℕ) → i < first_part place len → slice_get (targets dir parts) (offset + i) ≡ Some (Place (place + i))) → MovesAlong m dir need parts c →
         MovesAlong m dir need parts (cond b (Does (Moves place (first_part place len) offset) c) (Does Stays (Closes (Fault DATA_TRANSFER_ERROR))))
-    both true c t k = (t, k)
+    both true c t k = (omega (arith, within, (part_most place len).0), t, k)
     both false c t k = λ e. cc
 
 -- how many bytes are wanted, where the parts count the others
@@ -86,7 +86,7 @@ along_on : (m : Memory) (dir : Direction) (need : ℕ) (c : Cursor) (wanted : �
     counted_in dir parts + wanted ≡ need → Follows m dir need later → MovesAlong m dir need (taken dir need parts (Some d)) (goes_on m dir need c wanted later d)
 along_on m dir need c wanted later parts (DataBlock addr len) sum h =
     subst (λ (w : ℕ). MovesAlong m dir need (parts ++ Data addr (min len w) ∷ []) (goes_on m dir need c wanted later (DataBlock addr len))) (sym (still_wanted dir parts wanted need sum))
-    (along_moving m dir need (parts ++ Data addr (min len wanted) ∷ []) (pages_spanned addr (min len wanted)) addr (min len wanted) (need - wanted) _
+    (along_moving m dir need (parts ++ Data addr (min len wanted) ∷ []) (pages_spanned addr (min len wanted)) addr (min len wanted) (need - wanted) _ (omega (arith, sum))
     (λ i lt. block_target dir parts addr (min len wanted) (need - wanted) i (omega (arith, sum)) lt)
     (h (next c) (wanted - len) (parts ++ Data addr (min len wanted) ∷ []) (count_one dir parts (Data addr (min len wanted)) len wanted need (omega arith) sum)))
 along_on m dir need c wanted later parts (BitBucket len) sum h =

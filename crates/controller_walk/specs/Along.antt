@@ -28,13 +28,14 @@ taken dir need parts (Some (Segment addr len)) = parts
 taken dir need parts (Some (LastSegment addr len)) = parts
 
 -- Each byte that a course moves goes to or comes from its target, by the parts taken so far, and where the course ends
--- well its parts count just the bytes that are needed. A descriptor is read only where bytes are still wanted.
+-- well its parts count just the bytes that are needed. Only needed bytes are moved, and a descriptor is read only where
+-- bytes are still wanted.
 abbrev pub MovesAlong : Memory → Direction → ℕ → List Part → Course → Type 0
 MovesAlong m dir need parts (Closes v) = v ≡ End → counted_in dir parts ≡ need
 MovesAlong m dir need parts (Does Stays rest) = MovesAlong m dir need parts rest
 MovesAlong m dir need parts (Does (Reads place) rest) = (counted_in dir parts < need) × MovesAlong m dir need (taken dir need parts (descriptor_at m place)) rest
 MovesAlong m dir need parts (Does (Moves place n offset) rest) =
-    ((i : ℕ) → i < n → slice_get (targets dir parts) (offset + i) ≡ Some (Place (place + i))) × MovesAlong m dir need parts rest
+    (offset + n ≤ need) × ((i : ℕ) → i < n → slice_get (targets dir parts) (offset + i) ≡ Some (Place (place + i))) × MovesAlong m dir need parts rest
 
 abbrev pub ListMovesAlong : Memory → List ℕ → Direction → ℕ → Type 0
 ListMovesAlong m sgl1 dir need = MovesAlong m dir need (taken dir need [] (descriptor_of sgl1)) (course_of_list m sgl1 dir need)
