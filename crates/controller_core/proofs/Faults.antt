@@ -1,5 +1,5 @@
 -- A completion can carry each fault of a walk.
-use Rattle.std.proofs.Common.{ℕ, suc, zero, ◌+◌, ◌-◌, ◌<◌, ◌&&◌, Bool, true, false, not, nat_lt, nat_eq, cond, Option, Some, None, is_some, List, [], ◌∷◌, arith}
+use Rattle.std.proofs.Common.{ℕ, suc, zero, ◌+◌, ◌-◌, ◌<◌, ◌&&◌, Bool, true, false, not, min, nat_lt, nat_eq, cond, Option, Some, None, is_some, List, [], ◌∷◌, arith}
 use Rattle.std.specs.List.{AllByRecursion}
 use Rattle.controller_walk.specs.Units.{Course, Stays, Moves, Closes, Does, Row, after_read, read_at, from_place, behind, goes_on, unless_fault, first_fault, first_passing, named_last, named_on, names_no_segment, passes_end, moving, first_part, pages_spanned, entry_cursor}
 use Rattle.controller_walk.specs.Walks.{answer, course_in}
@@ -17,7 +17,6 @@ use Rattle.sgl_descriptor.specs.declared.Descriptor.{Descriptor}
 use Rattle.sgl_descriptor.specs.declared.Descriptor.TheVariants.{DataBlock, BitBucket, Segment, LastSegment}
 use Rattle.sgl_descriptor.specs.declared.Direction.{Direction}
 use Rattle.sgl_descriptor.specs.Spelling.{descriptor_of, is_link}
-use Rattle.sgl_descriptor.specs.Targets.{counted}
 use Rattle.controller_core.specs.Contents.{FitsVerdict}
 
 -- a course ends with what a completion can carry
@@ -49,21 +48,20 @@ rows_fit ((applies, status) ∷ rows) h = go applies (rows_fit rows h.1)
     go true rest = h.0
     go false rest = rest
 
-fault_fits : (c : Cursor) (dir : Direction) (wanted : ℕ) (d : Descriptor) → FitsVerdict (first_fault c dir wanted d)
-fault_fits c dir wanted d =
+fault_fits : (c : Cursor) (d : Descriptor) → FitsVerdict (first_fault c d)
+fault_fits c d =
     rows_fit (
     (is_link d && named_last c.named, INVALID_SGL_SEGMENT)
     ∷ (is_link d && nat_lt 1 c.left, INVALID_SGL_COUNT)
     ∷ (is_link d && names_no_segment d, INVALID_SGL_SEGMENT)
     ∷ (not (is_link d) && named_on c.named && nat_eq c.left 1, INVALID_SGL_SEGMENT)
-    ∷ (nat_lt wanted (counted dir d), DATA_SGL_LENGTH_INVALID)
     ∷ (passes_end d, DATA_SGL_LENGTH_INVALID)
     ∷ [])
-    (omega arith, (omega arith, (omega arith, (omega arith, (omega arith, (omega arith, tt))))))
+    (omega arith, (omega arith, (omega arith, (omega arith, (omega arith, tt)))))
 
 on_fits : (m : Memory) (dir : Direction) (need : ℕ) (c : Cursor) (wanted : ℕ) (later : Option Cursor → ℕ → Course) (d : Descriptor) → ((o : Option Cursor) (wanted : ℕ) → EndsFit (later o wanted))
     → EndsFit (goes_on m dir need c wanted later d)
-on_fits m dir need c wanted later (DataBlock addr len) h = moving_fits m (pages_spanned addr len) addr len (need - wanted) _ (h _ _)
+on_fits m dir need c wanted later (DataBlock addr len) h = moving_fits m (pages_spanned addr (min len wanted)) addr (min len wanted) (need - wanted) _ (h _ _)
 on_fits m dir need c wanted later (BitBucket len) h = h _ _
 on_fits m dir need c wanted later (Segment addr len) h = h _ _
 on_fits m dir need c wanted later (LastSegment addr len) h = h _ _
@@ -75,7 +73,7 @@ unless_fits (Some status) c f h = f
 read_fits : (m : Memory) (dir : Direction) (need : ℕ) (c : Cursor) (wanted : ℕ) (later : Option Cursor → ℕ → Course) (found : Option Descriptor) → ((o : Option Cursor) (wanted : ℕ) → EndsFit (later o wanted))
     → EndsFit (after_read m dir need c wanted later found)
 read_fits m dir need c wanted later None h = omega arith
-read_fits m dir need c wanted later (Some d) h = unless_fits (first_fault c dir wanted d) _ (fault_fits c dir wanted d) (on_fits m dir need c wanted later d h)
+read_fits m dir need c wanted later (Some d) h = unless_fits (first_fault c d) _ (fault_fits c d) (on_fits m dir need c wanted later d h)
 
 at_fits : (m : Memory) (dir : Direction) (need : ℕ) (c : Cursor) (wanted : ℕ) (later : Option Cursor → ℕ → Course) (bytes : Option (List ℕ)) → ((o : Option Cursor) (wanted : ℕ) → EndsFit (later o wanted))
     → EndsFit (read_at m dir need c wanted later bytes)
@@ -88,7 +86,11 @@ behind_fits from h None wanted = go (nat_eq wanted 0)
     go : (b : Bool) → FitsVerdict (verdict_of (cond b End (Fault DATA_SGL_LENGTH_INVALID)))
     go true = omega arith
     go false = omega arith
-behind_fits from h (Some c) wanted = h c wanted
+behind_fits from h (Some c) wanted = go (nat_eq wanted 0)
+  where
+    go : (b : Bool) → EndsFit (cond b (Closes End) (from c wanted))
+    go true = omega arith
+    go false = h c wanted
 
 from_fits : (k : ℕ) (m : Memory) (dir : Direction) (need : ℕ) (c : Cursor) (wanted : ℕ) → EndsFit (from_place k m dir need c wanted)
 unfolding from_place

@@ -1,5 +1,5 @@
 -- The moves of a list follow the targets of its parts.
-use Rattle.std.proofs.Common.{arith, ◌≡◌, ◌<◌, ◌≤◌, ◌+◌, ◌-◌, ◌++◌, ◌&&◌, not, ◌∷◌, [], ℕ, zero, suc, Bool, true, false, List, Option, Some, None, refl, sym, ap, subst, ◌∙◌, cond, is_some, length, map, nat_eq, nat_lt}
+use Rattle.std.proofs.Common.{arith, ◌≡◌, ◌<◌, ◌≤◌, ◌+◌, ◌-◌, ◌++◌, ◌∷◌, [], ℕ, zero, suc, Bool, true, false, List, Option, Some, None, refl, sym, ap, subst, ◌∙◌, cond, is_some, length, map, min, nat_eq}
 use Rattle.std.specs.List.{slice_get, range_with_len}
 use Rattle.std.specs.Option.{option_and_then}
 use Rattle.std.proofs.lemmas.Grind.{common_steps}
@@ -7,20 +7,21 @@ use Rattle.std.proofs.lemmas.Bool.Decides.{nat_tests}
 use Rattle.std.proofs.lemmas.List.FromFn.{length-map-range_with_len, get_or-map-range_with_len}
 use Rattle.std.proofs.lemmas.Option.{slice_get-get_or}
 use Rattle.entry_codec.specs.declared.status.Status.{Status}
-use Rattle.entry_codec.specs.declared.status.TheConstants.Status.{DATA_TRANSFER_ERROR, INVALID_SGL_SEGMENT, INVALID_SGL_COUNT, DATA_SGL_LENGTH_INVALID}
+use Rattle.entry_codec.specs.declared.status.TheConstants.Status.{DATA_TRANSFER_ERROR, DATA_SGL_LENGTH_INVALID}
 use Rattle.page_memory.specs.Memory.{Memory, bytes_at}
 use Rattle.sgl_descriptor.specs.declared.Descriptor.{Descriptor}
 use Rattle.sgl_descriptor.specs.declared.Descriptor.TheVariants.{DataBlock, BitBucket, Segment, LastSegment}
 use Rattle.sgl_descriptor.specs.declared.Direction.{Direction}
+use Rattle.sgl_descriptor.specs.declared.Direction.TheVariants.{Destination, Source}
 use Rattle.sgl_descriptor.specs.declared.Part.{Part}
 use Rattle.sgl_descriptor.specs.declared.Part.TheVariants.{Data, Bucket}
-use Rattle.sgl_descriptor.specs.Spelling.{descriptor_of, is_link}
+use Rattle.sgl_descriptor.specs.Spelling.{descriptor_of}
 use Rattle.sgl_descriptor.specs.Targets.{Target, Place, targets, counted, counted_in}
 use Rattle.sgl_descriptor.proofs.Counts.{length-targets, targets-append, counted_in-append}
 use Rattle.controller_walk.specs.declared.cursor.Cursor.{Cursor}
 use Rattle.controller_walk.specs.declared.walk.WalkState.TheVariants.{End, Fault}
-use Rattle.controller_walk.specs.Units.{Stays, Moves, Course, Closes, Does, Row, first_passing, after_read, read_at, from_place, behind, goes_on, unless_fault, first_fault, moving, first_part, pages_spanned, entry_cursor, next, named_last, named_on, names_no_segment, passes_end}
-use Rattle.controller_walk.specs.Along.{taken, MovesAlong, ListMovesAlong}
+use Rattle.controller_walk.specs.Units.{Stays, Moves, Course, Closes, Does, after_read, read_at, from_place, behind, goes_on, unless_fault, first_fault, moving, first_part, pages_spanned, entry_cursor, next}
+use Rattle.controller_walk.specs.Along.{taken, wanted_behind, MovesAlong, ListMovesAlong}
 use Rattle.controller_walk.proofs.Courses.{part_most}
 
 -- the target of a byte of a block behind others
@@ -49,14 +50,14 @@ block_target dir parts addr len offset i count lt =
 abbrev Follows : Memory → Direction → ℕ → (Option Cursor → ℕ → Course) → Type 0
 Follows m dir need later = (a : Option Cursor) (wanted : ℕ) (parts : List Part) → counted_in dir parts + wanted ≡ need → MovesAlong m dir need parts (later a wanted)
 
-along_moving : (m : Memory) (dir : Direction) (need : ℕ) (parts : List Part) (n place len offset : ℕ) (rest : Course) →
+along_moving : (m : Memory) (dir : Direction) (need : ℕ) (parts : List Part) (n place len offset : ℕ) (rest : Course) → offset + len ≤ need →
     ((i : ℕ) → i < len → slice_get (targets dir parts) (offset + i) ≡ Some (Place (place + i))) → MovesAlong m dir need parts rest → MovesAlong m dir need parts (moving m n place len offset rest)
 unfolding moving
-along_moving m dir need parts zero place len offset rest there h = h
-along_moving m dir need parts (suc n) place len offset rest there h =
+along_moving m dir need parts zero place len offset rest within there h = h
+along_moving m dir need parts (suc n) place len offset rest within there h =
     both (is_some (bytes_at m place (first_part place len))) _
     (λ i lt. there i (omega (arith, (part_most place len).0)))
-    (along_moving m dir need parts n (place + first_part place len) (len - first_part place len) (offset + first_part place len) rest
+    (along_moving m dir need parts n (place + first_part place len) (len - first_part place len) (offset + first_part place len) rest (omega (arith, within, (part_most place len).0))
     (λ i lt. rw (← sum offset (first_part place len) i, ← sum place (first_part place len) i) (there (first_part place len + i) (omega arith))) h)
   where
     sum : (a b c : ℕ) → a + (b + c) ≡ a + b + c
@@ -64,80 +65,77 @@ along_moving m dir need parts (suc n) place len offset rest there h =
 
     both : (b : Bool) (c : Course) → ((i : ℕ) → i < first_part place len → slice_get (targets dir parts) (offset + i) ≡ Some (Place (place + i))) → MovesAlong m dir need parts c →
         MovesAlong m dir need parts (cond b (Does (Moves place (first_part place len) offset) c) (Does Stays (Closes (Fault DATA_TRANSFER_ERROR))))
-    both true c t k = (t, k)
+    both true c t k = (omega (arith, within, (part_most place len).0), t, k)
     both false c t k = λ e. cc
 
-none_first : (b : Bool) (s : Status) (rows : List Row) → first_passing ((b, s) ∷ rows) ≡ None → (b ≡ false) × (first_passing rows ≡ None)
-none_first true s rows h = cc
-none_first false s rows h = (refl, h)
+-- how many bytes are wanted, where the parts count the others
+pub still_wanted : (dir : Direction) (parts : List Part) (wanted need : ℕ) → counted_in dir parts + wanted ≡ need → wanted_behind dir need parts ≡ wanted
+still_wanted dir parts wanted need sum = omega (arith, sum)
 
-none_fifth : (a b e f g : Bool) (s t u v w : Status) (rows : List Row) → first_passing ((a, s) ∷ (b, t) ∷ (e, u) ∷ (f, v) ∷ (g, w) ∷ rows) ≡ None → g ≡ false
-none_fifth a b e f g s t u v w rows h =
-    let second = none_first a s ((b, t) ∷ (e, u) ∷ (f, v) ∷ (g, w) ∷ rows) h in
-    let third = none_first b t ((e, u) ∷ (f, v) ∷ (g, w) ∷ rows) second.1 in
-    let fourth = none_first e u ((f, v) ∷ (g, w) ∷ rows) third.1 in
-    let fifth = none_first f v ((g, w) ∷ rows) fourth.1 in
-    (none_first g w rows fifth.1).0
+-- the front of a bucket counts what of the bucket is wanted
+pub bucket_front : (dir : Direction) (len wanted : ℕ) → counted_in dir (Bucket (min len wanted) ∷ []) ≡ min (counted dir (BitBucket len)) wanted
+bucket_front Destination len wanted = omega arith
+bucket_front Source len wanted = omega arith
 
--- a descriptor without fault counts no more than is wanted
-pub counts_few : (c : Cursor) (dir : Direction) (wanted : ℕ) (d : Descriptor) → first_fault c dir wanted d ≡ None → counted dir d ≤ wanted
-counts_few c dir wanted d h =
-    small wanted (counted dir d)
-    (none_fifth (is_link d && named_last c.named) (is_link d && nat_lt 1 c.left) (is_link d && names_no_segment d) (not (is_link d) && named_on c.named && nat_eq c.left 1) (nat_lt wanted (counted dir d))
-    INVALID_SGL_SEGMENT INVALID_SGL_COUNT INVALID_SGL_SEGMENT INVALID_SGL_SEGMENT DATA_SGL_LENGTH_INVALID ((passes_end d, DATA_SGL_LENGTH_INVALID) ∷ []) h)
-  where
-    small : (wanted n : ℕ) → nat_lt wanted n ≡ false → n ≤ wanted
-    small wanted n b = grind (arith, nat_tests)
-
-pub count_one : (dir : Direction) (parts : List Part) (part : Part) (n wanted need : ℕ) → counted_in dir (part ∷ []) ≡ n → n ≤ wanted → counted_in dir parts + wanted ≡ need →
+-- behind the wanted front of one more part, parts and wanted bytes still make up the need
+pub count_one : (dir : Direction) (parts : List Part) (part : Part) (n wanted need : ℕ) → counted_in dir (part ∷ []) ≡ min n wanted → counted_in dir parts + wanted ≡ need →
     counted_in dir (parts ++ part ∷ []) + (wanted - n) ≡ need
-count_one dir parts part n wanted need one few sum = omega (arith, counted_in-append dir parts (part ∷ []))
+count_one dir parts part n wanted need one sum = omega (arith, counted_in-append dir parts (part ∷ []))
 
 along_on : (m : Memory) (dir : Direction) (need : ℕ) (c : Cursor) (wanted : ℕ) (later : Option Cursor → ℕ → Course) (parts : List Part) (d : Descriptor) →
-    counted dir d ≤ wanted → counted_in dir parts + wanted ≡ need → Follows m dir need later → MovesAlong m dir need (taken parts (Some d)) (goes_on m dir need c wanted later d)
-along_on m dir need c wanted later parts (DataBlock addr len) few sum h =
-    along_moving m dir need (parts ++ Data addr len ∷ []) (pages_spanned addr len) addr len (need - wanted) _
-    (λ i lt. block_target dir parts addr len (need - wanted) i (omega arith) lt)
-    (h (next c) (wanted - len) (parts ++ Data addr len ∷ []) (count_one dir parts (Data addr len) len wanted need (omega arith) few sum))
-along_on m dir need c wanted later parts (BitBucket len) few sum h =
-    h (next c) (wanted - counted dir (BitBucket len)) (parts ++ Bucket len ∷ []) (count_one dir parts (Bucket len) (counted dir (BitBucket len)) wanted need (omega arith) few sum)
-along_on m dir need c wanted later parts (Segment addr len) few sum h = h _ wanted parts sum
-along_on m dir need c wanted later parts (LastSegment addr len) few sum h = h _ wanted parts sum
+    counted_in dir parts + wanted ≡ need → Follows m dir need later → MovesAlong m dir need (taken dir need parts (Some d)) (goes_on m dir need c wanted later d)
+along_on m dir need c wanted later parts (DataBlock addr len) sum h =
+    subst (λ (w : ℕ). MovesAlong m dir need (parts ++ Data addr (min len w) ∷ []) (goes_on m dir need c wanted later (DataBlock addr len))) (sym (still_wanted dir parts wanted need sum))
+    (along_moving m dir need (parts ++ Data addr (min len wanted) ∷ []) (pages_spanned addr (min len wanted)) addr (min len wanted) (need - wanted) _ (omega (arith, sum))
+    (λ i lt. block_target dir parts addr (min len wanted) (need - wanted) i (omega (arith, sum)) lt)
+    (h (next c) (wanted - len) (parts ++ Data addr (min len wanted) ∷ []) (count_one dir parts (Data addr (min len wanted)) len wanted need (omega arith) sum)))
+along_on m dir need c wanted later parts (BitBucket len) sum h =
+    subst (λ (w : ℕ). MovesAlong m dir need (parts ++ Bucket (min len w) ∷ []) (goes_on m dir need c wanted later (BitBucket len))) (sym (still_wanted dir parts wanted need sum))
+    (h (next c) (wanted - counted dir (BitBucket len)) (parts ++ Bucket (min len wanted) ∷ []) (count_one dir parts (Bucket (min len wanted)) (counted dir (BitBucket len)) wanted need (bucket_front dir len wanted) sum))
+along_on m dir need c wanted later parts (Segment addr len) sum h = h _ wanted parts sum
+along_on m dir need c wanted later parts (LastSegment addr len) sum h = h _ wanted parts sum
 
-along_unless : (m : Memory) (dir : Direction) (need : ℕ) (parts : List Part) (f : Option Status) (c : Course) → (f ≡ None → MovesAlong m dir need parts c) → MovesAlong m dir need parts (unless_fault f c)
+along_unless : (m : Memory) (dir : Direction) (need : ℕ) (parts : List Part) (f : Option Status) (c : Course) → MovesAlong m dir need parts c → MovesAlong m dir need parts (unless_fault f c)
 along_unless m dir need parts (Some status) c h = λ e. cc
-along_unless m dir need parts None c h = h refl
+along_unless m dir need parts None c h = h
 
 along_read : (m : Memory) (dir : Direction) (need : ℕ) (c : Cursor) (wanted : ℕ) (later : Option Cursor → ℕ → Course) (parts : List Part) (found : Option Descriptor) →
-    counted_in dir parts + wanted ≡ need → Follows m dir need later → MovesAlong m dir need (taken parts found) (after_read m dir need c wanted later found)
+    counted_in dir parts + wanted ≡ need → Follows m dir need later → MovesAlong m dir need (taken dir need parts found) (after_read m dir need c wanted later found)
 along_read m dir need c wanted later parts None sum h = λ e. cc
 along_read m dir need c wanted later parts (Some d) sum h =
-    along_unless m dir need (taken parts (Some d)) (first_fault c dir wanted d) _ (λ clear. along_on m dir need c wanted later parts d (counts_few c dir wanted d clear) sum h)
+    along_unless m dir need (taken dir need parts (Some d)) (first_fault c d) (goes_on m dir need c wanted later d) (along_on m dir need c wanted later parts d sum h)
 
 along_at : (m : Memory) (dir : Direction) (need : ℕ) (c : Cursor) (wanted : ℕ) (later : Option Cursor → ℕ → Course) (parts : List Part) (found : Option (List ℕ)) → bytes_at m c.place 16 ≡ found →
-    counted_in dir parts + wanted ≡ need → Follows m dir need later → MovesAlong m dir need parts (read_at m dir need c wanted later found)
-along_at m dir need c wanted later parts None e sum h = λ e'. cc
-along_at m dir need c wanted later parts (Some bytes) e sum h =
-    subst (λ (o : Option (List ℕ)). MovesAlong m dir need (taken parts (option_and_then descriptor_of o)) (after_read m dir need c wanted later (descriptor_of bytes)))
-    (sym e) (along_read m dir need c wanted later parts (descriptor_of bytes) sum h)
+    0 < wanted → counted_in dir parts + wanted ≡ need → Follows m dir need later → MovesAlong m dir need parts (read_at m dir need c wanted later found)
+along_at m dir need c wanted later parts None e some sum h = λ e'. cc
+along_at m dir need c wanted later parts (Some bytes) e some sum h = (
+  omega (arith, some, sum),
+  subst (λ (o : Option (List ℕ)). MovesAlong m dir need (taken dir need parts (option_and_then descriptor_of o)) (after_read m dir need c wanted later (descriptor_of bytes)))
+      (sym e) (along_read m dir need c wanted later parts (descriptor_of bytes) sum h),
+)
+
+-- a byte is wanted, or none
+pub is_wanted : (n : ℕ) → (nat_eq n 0 ≡ true → n ≡ 0) × (nat_eq n 0 ≡ false → 0 < n)
+is_wanted n = grind (arith, nat_tests)
 
 along_behind : (m : Memory) (dir : Direction) (need : ℕ) (from : Cursor → ℕ → Course) →
-    ((c : Cursor) (wanted : ℕ) (parts : List Part) → counted_in dir parts + wanted ≡ need → MovesAlong m dir need parts (from c wanted)) → Follows m dir need (behind from)
+    ((c : Cursor) (wanted : ℕ) (parts : List Part) → 0 < wanted → counted_in dir parts + wanted ≡ need → MovesAlong m dir need parts (from c wanted)) → Follows m dir need (behind from)
 along_behind m dir need from h None wanted parts sum = ending (nat_eq wanted 0) refl
   where
     ending : (b : Bool) → nat_eq wanted 0 ≡ b → cond b End (Fault DATA_SGL_LENGTH_INVALID) ≡ End → counted_in dir parts ≡ need
-    ending true e v = let none : wanted ≡ 0 = is_zero wanted e in omega (arith, sum, none)
-      where
-        is_zero : (n : ℕ) → nat_eq n 0 ≡ true → n ≡ 0
-        is_zero n t = grind (arith, nat_tests)
+    ending true e v = let none : wanted ≡ 0 = (is_wanted wanted).0 e in omega (arith, sum, none)
     ending false e v = cc
-along_behind m dir need from h (Some c) wanted parts sum = h c wanted parts sum
+along_behind m dir need from h (Some c) wanted parts sum = either (nat_eq wanted 0) refl
+  where
+    either : (b : Bool) → nat_eq wanted 0 ≡ b → MovesAlong m dir need parts (cond b (Closes End) (from c wanted))
+    either true e = let none : wanted ≡ 0 = (is_wanted wanted).0 e in λ v. omega (arith, sum, none)
+    either false e = h c wanted parts ((is_wanted wanted).1 e) sum
 
-along_from : (k : ℕ) (m : Memory) (dir : Direction) (need : ℕ) (c : Cursor) (wanted : ℕ) (parts : List Part) → counted_in dir parts + wanted ≡ need → MovesAlong m dir need parts (from_place k m dir need c wanted)
+along_from : (k : ℕ) (m : Memory) (dir : Direction) (need : ℕ) (c : Cursor) (wanted : ℕ) (parts : List Part) → 0 < wanted → counted_in dir parts + wanted ≡ need → MovesAlong m dir need parts (from_place k m dir need c wanted)
 unfolding from_place
-along_from zero m dir need c wanted parts sum = λ e. cc
-along_from (suc k) m dir need c wanted parts sum =
-    along_at m dir need c wanted (behind (from_place k m dir need)) parts (bytes_at m c.place 16) refl sum
+along_from zero m dir need c wanted parts some sum = λ e. cc
+along_from (suc k) m dir need c wanted parts some sum =
+    along_at m dir need c wanted (behind (from_place k m dir need)) parts (bytes_at m c.place 16) refl some sum
     (along_behind m dir need (from_place k m dir need) (along_from k m dir need))
 
 pub list_moves_along : (m : Memory) (sgl1 : List ℕ) (dir : Direction) (need : ℕ) → ListMovesAlong m sgl1 dir need

@@ -1,5 +1,5 @@
 -- How many descriptors a course reads.
-use Rattle.std.proofs.Common.{arith, ◌≤◌, ◌+◌, ◌-◌, ℕ, zero, suc, Bool, true, false, List, Option, Some, None, cond, is_some}
+use Rattle.std.proofs.Common.{arith, ◌≤◌, ◌+◌, ◌-◌, ℕ, zero, suc, Bool, true, false, List, Option, Some, None, cond, is_some, min, nat_eq}
 use Rattle.entry_codec.specs.declared.status.Status.{Status}
 use Rattle.entry_codec.specs.declared.status.TheConstants.Status.{DATA_TRANSFER_ERROR}
 use Rattle.page_memory.specs.Memory.{Memory, bytes_at}
@@ -8,7 +8,7 @@ use Rattle.sgl_descriptor.specs.declared.Descriptor.TheVariants.{DataBlock, BitB
 use Rattle.sgl_descriptor.specs.declared.Direction.{Direction}
 use Rattle.sgl_descriptor.specs.Spelling.{descriptor_of}
 use Rattle.controller_walk.specs.declared.cursor.Cursor.{Cursor}
-use Rattle.controller_walk.specs.declared.walk.WalkState.TheVariants.{Fault}
+use Rattle.controller_walk.specs.declared.walk.WalkState.TheVariants.{End, Fault}
 use Rattle.controller_walk.specs.Units.{Stays, Moves, Course, Closes, Does, after_read, read_at, from_place, behind, goes_on, unless_fault, first_fault, moving, first_part, pages_spanned, entry_cursor, units, units_of_list}
 use Rattle.controller_walk.specs.Laws.{reads_in}
 
@@ -30,7 +30,7 @@ few_moving k m (suc n) place len offset rest h =
     both false c few = omega arith
 
 few_on : (k : ℕ) (m : Memory) (dir : Direction) (need : ℕ) (c : Cursor) (wanted : ℕ) (later : Option Cursor → ℕ → Course) (d : Descriptor) → FollowsFew k later → ReadsFew k (goes_on m dir need c wanted later d)
-few_on k m dir need c wanted later (DataBlock addr len) h = few_moving k m (pages_spanned addr len) addr len (need - wanted) _ (h _ _)
+few_on k m dir need c wanted later (DataBlock addr len) h = few_moving k m (pages_spanned addr (min len wanted)) addr (min len wanted) (need - wanted) _ (h _ _)
 few_on k m dir need c wanted later (BitBucket len) h = h _ _
 few_on k m dir need c wanted later (Segment addr len) h = h _ _
 few_on k m dir need c wanted later (LastSegment addr len) h = h _ _
@@ -41,7 +41,7 @@ few_unless k None c h = h
 
 few_read : (k : ℕ) (m : Memory) (dir : Direction) (need : ℕ) (c : Cursor) (wanted : ℕ) (later : Option Cursor → ℕ → Course) (found : Option Descriptor) → FollowsFew k later → ReadsFew k (after_read m dir need c wanted later found)
 few_read k m dir need c wanted later None h = omega arith
-few_read k m dir need c wanted later (Some d) h = few_unless k (first_fault c dir wanted d) _ (few_on k m dir need c wanted later d h)
+few_read k m dir need c wanted later (Some d) h = few_unless k (first_fault c d) _ (few_on k m dir need c wanted later d h)
 
 few_at : (k : ℕ) (m : Memory) (dir : Direction) (need : ℕ) (c : Cursor) (wanted : ℕ) (later : Option Cursor → ℕ → Course) (found : Option (List ℕ)) → FollowsFew k later → ReadsFew (suc k) (read_at m dir need c wanted later found)
 few_at k m dir need c wanted later None h = omega arith
@@ -50,7 +50,11 @@ few_at k m dir need c wanted later (Some bytes) h =
 
 few_behind : (k : ℕ) (from : Cursor → ℕ → Course) → ((c : Cursor) (wanted : ℕ) → ReadsFew k (from c wanted)) → FollowsFew k (behind from)
 few_behind k from h None wanted = omega arith
-few_behind k from h (Some c) wanted = h c wanted
+few_behind k from h (Some c) wanted = either (nat_eq wanted 0)
+  where
+    either : (b : Bool) → ReadsFew k (cond b (Closes End) (from c wanted))
+    either true = omega arith
+    either false = h c wanted
 
 few_from : (k : ℕ) (m : Memory) (dir : Direction) (need : ℕ) (c : Cursor) (wanted : ℕ) → ReadsFew k (from_place k m dir need c wanted)
 unfolding from_place

@@ -1,5 +1,5 @@
 -- What is left of a walk, at each place where its definition is stuck.
-use Rattle.std.proofs.Common.{arith, ◌≡◌, ◌≤◌, ◌<◌, ◌+◌, ◌-◌, ℕ, zero, suc, List, Option, Some, None, refl, cond, is_some, Bool, true, false}
+use Rattle.std.proofs.Common.{arith, ◌≡◌, ◌≢◌, ◌≤◌, ◌<◌, ◌+◌, ◌-◌, min, nat_eq, ℕ, zero, suc, List, Option, Some, None, refl, cond, is_some, Bool, true, false}
 use Rattle.std.proofs.lemmas.Bool.Decides.{nat_tests}
 use Rattle.entry_codec.specs.declared.status.TheConstants.Status.{DATA_TRANSFER_ERROR, INVALID_SGL_COUNT}
 use Rattle.page_memory.specs.Memory.{Memory, bytes_at}
@@ -20,6 +20,14 @@ pub more_at : (k : ℕ) (m : Memory) (dir : Direction) (need : ℕ) (c : Cursor)
 unfolding from_place
 more_at zero m dir need c wanted = refl
 more_at (suc k) m dir need c wanted = more_found m dir need c wanted (behind (from_place k m dir need)) (bytes_at m c.place 16)
+
+-- where bytes are wanted, the descriptor is next
+pub still_wants : (wanted : ℕ) → wanted ≢ 0 → nat_eq wanted 0 ≡ false
+still_wants wanted some = grind (arith, nat_tests)
+
+-- behind the wanted front of a block, just as many bytes are wanted as behind the whole
+pub behind_front : (len wanted : ℕ) → wanted - min len wanted ≡ wanted - len
+behind_front len wanted = omega arith
 
 -- the first part of a range lies in one of its pages
 pub pages_step : (place len : ℕ) → 0 < len → pages_spanned place len ≡ suc (pages_spanned (place + first_part place len) (len - first_part place len))

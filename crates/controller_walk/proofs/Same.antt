@@ -1,5 +1,5 @@
 -- Memories that agree on the descriptors read give one course.
-use Rattle.std.proofs.Common.{arith, ◌≡◌, ◌<◌, ◌+◌, ◌-◌, ◌&&◌, ℕ, zero, suc, Bool, true, false, List, Option, Some, None, refl, sym, ap, subst, ◌∙◌, cond, is_some, add-zero}
+use Rattle.std.proofs.Common.{arith, ◌≡◌, ◌<◌, ◌+◌, ◌-◌, ◌&&◌, ℕ, zero, suc, Bool, true, false, List, Option, Some, None, refl, sym, ap, subst, ◌∙◌, cond, is_some, add-zero, min, nat_eq}
 use Rattle.entry_codec.specs.declared.status.Status.{Status}
 use Rattle.entry_codec.specs.declared.status.TheConstants.Status.{DATA_TRANSFER_ERROR}
 use Rattle.page_memory.specs.Memory.{Memory, bytes_at, joined}
@@ -11,7 +11,7 @@ use Rattle.controller_walk.specs.declared.cursor.Cursor.{Cursor}
 use Rattle.controller_walk.specs.declared.progress.State.{State}
 use Rattle.controller_walk.specs.declared.progress.State.TheVariants.{First, Next, Data, Over}
 use Rattle.controller_walk.specs.declared.progress.Progress.{Progress}
-use Rattle.controller_walk.specs.declared.walk.WalkState.TheVariants.{Fault}
+use Rattle.controller_walk.specs.declared.walk.WalkState.TheVariants.{End, Fault}
 use Rattle.controller_walk.specs.Units.{Stays, Reads, Moves, Course, Closes, Does, after_read, read_at, from_place, behind, goes_on, unless_fault, first_fault, moving, first_part, pages_spanned, entry_cursor}
 use Rattle.controller_walk.specs.Walks.{course, course_in}
 use Rattle.controller_walk.specs.Laws.{Agree, ReadsWithin, SameCourse}
@@ -55,7 +55,7 @@ moving_same at m m' (suc n) place len offset rest rest' there h look =
 
 goes_same : (at : ℕ → Bool) (m m' : Memory) (dir : Direction) (need : ℕ) (c : Cursor) (wanted : ℕ) (later later' : Option Cursor → ℕ → Course) (d : Descriptor) → ((q : ℕ) → is_some (m q) ≡ is_some (m' q)) →
     ((a : Option Cursor) (w : ℕ) → ReadsWithin at (later a w) → later a w ≡ later' a w) → ReadsWithin at (goes_on m dir need c wanted later d) → goes_on m dir need c wanted later d ≡ goes_on m' dir need c wanted later' d
-goes_same at m m' dir need c wanted later later' (DataBlock addr len) there h look = moving_same at m m' (pages_spanned addr len) addr len (need - wanted) _ _ there (h _ _) look
+goes_same at m m' dir need c wanted later later' (DataBlock addr len) there h look = moving_same at m m' (pages_spanned addr (min len wanted)) addr (min len wanted) (need - wanted) _ _ there (h _ _) look
 goes_same at m m' dir need c wanted later later' (BitBucket len) there h look = h _ _ look
 goes_same at m m' dir need c wanted later later' (Segment addr len) there h look = h _ _ look
 goes_same at m m' dir need c wanted later later' (LastSegment addr len) there h look = h _ _ look
@@ -68,7 +68,7 @@ read_same : (at : ℕ → Bool) (m m' : Memory) (dir : Direction) (need : ℕ) (
     ((a : Option Cursor) (w : ℕ) → ReadsWithin at (later a w) → later a w ≡ later' a w) → ReadsWithin at (after_read m dir need c wanted later found) → after_read m dir need c wanted later found ≡ after_read m' dir need c wanted later' found
 read_same at m m' dir need c wanted later later' None there h look = refl
 read_same at m m' dir need c wanted later later' (Some d) there h look =
-    fault_same at (first_fault c dir wanted d) _ _ (goes_same at m m' dir need c wanted later later' d there h) look
+    fault_same at (first_fault c d) _ _ (goes_same at m m' dir need c wanted later later' d there h) look
 
 place_same : (at : ℕ → Bool) (m m' : Memory) (dir : Direction) (need : ℕ) (c : Cursor) (wanted : ℕ) (later later' : Option Cursor → ℕ → Course) (b b' : Option (List ℕ)) → ((q : ℕ) → is_some (m q) ≡ is_some (m' q)) →
     is_some b ≡ is_some b' → (((k : ℕ) → k < 16 → at (c.place + k) ≡ true) → b ≡ b') →
@@ -81,7 +81,11 @@ place_same at m m' dir need c wanted later later' (Some x) b' there s e h look =
 
 behind_same : (at : ℕ → Bool) (from from' : Cursor → ℕ → Course) → ((c : Cursor) (w : ℕ) → ReadsWithin at (from c w) → from c w ≡ from' c w) → (a : Option Cursor) (w : ℕ) → ReadsWithin at (behind from a w) → behind from a w ≡ behind from' a w
 behind_same at from from' h None w look = refl
-behind_same at from from' h (Some c) w look = h c w look
+behind_same at from from' h (Some c) w look = either (nat_eq w 0) look
+  where
+    either : (b : Bool) → ReadsWithin at (cond b (Closes End) (from c w)) → cond b (Closes End) (from c w) ≡ cond b (Closes End) (from' c w)
+    either true l = refl
+    either false l = h c w l
 
 -- memories that agree on the descriptors read give one course
 from_same : (at : ℕ → Bool) (m m' : Memory) → Agree at m m' → (k : ℕ) (dir : Direction) (need : ℕ) (c : Cursor) (wanted : ℕ) → ReadsWithin at (from_place k m dir need c wanted) → from_place k m dir need c wanted ≡ from_place k m' dir need c wanted

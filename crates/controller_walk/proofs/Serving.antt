@@ -1,5 +1,5 @@
 -- A memory that serves a course gives it again.
-use Rattle.std.proofs.Common.{◌≡◌, ◌+◌, ◌-◌, ℕ, zero, suc, Bool, true, false, List, Option, Some, None, refl, ap, cond, is_some}
+use Rattle.std.proofs.Common.{◌≡◌, ◌+◌, ◌-◌, ℕ, zero, suc, Bool, true, false, List, Option, Some, None, refl, ap, cond, is_some, min, nat_eq}
 use Rattle.entry_codec.specs.declared.status.Status.{Status}
 use Rattle.entry_codec.specs.declared.status.TheConstants.Status.{DATA_TRANSFER_ERROR}
 use Rattle.page_memory.specs.Memory.{Memory, bytes_at}
@@ -11,7 +11,7 @@ use Rattle.controller_walk.specs.declared.cursor.Cursor.{Cursor}
 use Rattle.controller_walk.specs.declared.progress.State.{State}
 use Rattle.controller_walk.specs.declared.progress.State.TheVariants.{First, Next, Data, Over}
 use Rattle.controller_walk.specs.declared.progress.Progress.{Progress}
-use Rattle.controller_walk.specs.declared.walk.WalkState.TheVariants.{Fault}
+use Rattle.controller_walk.specs.declared.walk.WalkState.TheVariants.{End, Fault}
 use Rattle.controller_walk.specs.Units.{Stays, Reads, Moves, Course, Closes, Does, after_read, read_at, from_place, behind, goes_on, unless_fault, first_fault, moving, first_part, pages_spanned, entry_cursor}
 use Rattle.controller_walk.specs.Walks.{course_in}
 use Rattle.controller_walk.specs.Serving.{Serves, SameWhereServed, SameListWhereServed}
@@ -37,7 +37,7 @@ served_moving m other (suc n) place len offset rest rest' h serves =
 
 served_on : (m other : Memory) (dir : Direction) (need : ℕ) (c : Cursor) (wanted : ℕ) (later later' : Option Cursor → ℕ → Course) (d : Descriptor)
     → Follows m other later later' → Serves m other (goes_on m dir need c wanted later d) → goes_on other dir need c wanted later' d ≡ goes_on m dir need c wanted later d
-served_on m other dir need c wanted later later' (DataBlock addr len) h serves = served_moving m other (pages_spanned addr len) addr len (need - wanted) _ _ (h _ _) serves
+served_on m other dir need c wanted later later' (DataBlock addr len) h serves = served_moving m other (pages_spanned addr (min len wanted)) addr (min len wanted) (need - wanted) _ _ (h _ _) serves
 served_on m other dir need c wanted later later' (BitBucket len) h serves = h _ _ serves
 served_on m other dir need c wanted later later' (Segment addr len) h serves = h _ _ serves
 served_on m other dir need c wanted later later' (LastSegment addr len) h serves = h _ _ serves
@@ -50,7 +50,7 @@ served_read : (m other : Memory) (dir : Direction) (need : ℕ) (c : Cursor) (wa
     → Follows m other later later' → Serves m other (after_read m dir need c wanted later found) → after_read other dir need c wanted later' found ≡ after_read m dir need c wanted later found
 served_read m other dir need c wanted later later' None h serves = refl
 served_read m other dir need c wanted later later' (Some d) h serves =
-    served_unless m other (first_fault c dir wanted d) _ _ (served_on m other dir need c wanted later later' d h) serves
+    served_unless m other (first_fault c d) _ _ (served_on m other dir need c wanted later later' d h) serves
 
 served_at : (m other : Memory) (dir : Direction) (need : ℕ) (c : Cursor) (wanted : ℕ) (later later' : Option Cursor → ℕ → Course) (b : Option (List ℕ)) → bytes_at m c.place 16 ≡ b
     → Follows m other later later' → Serves m other (read_at m dir need c wanted later b)
@@ -61,7 +61,11 @@ served_at m other dir need c wanted later later' (Some bytes) e h serves =
 
 served_behind : (m other : Memory) (from from' : Cursor → ℕ → Course) → ((c : Cursor) (w : ℕ) → Serves m other (from c w) → from' c w ≡ from c w) → Follows m other (behind from) (behind from')
 served_behind m other from from' h None w serves = refl
-served_behind m other from from' h (Some c) w serves = h c w serves
+served_behind m other from from' h (Some c) w serves = either (nat_eq w 0) serves
+  where
+    either : (b : Bool) → Serves m other (cond b (Closes End) (from c w)) → cond b (Closes End) (from' c w) ≡ cond b (Closes End) (from c w)
+    either true s = refl
+    either false s = h c w s
 
 served_from : (m other : Memory) (k : ℕ) (dir : Direction) (need : ℕ) (c : Cursor) (wanted : ℕ)
     → Serves m other (from_place k m dir need c wanted) → from_place k other dir need c wanted ≡ from_place k m dir need c wanted

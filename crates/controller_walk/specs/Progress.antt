@@ -2,8 +2,6 @@
 use Rattle.std.specs.Prelude.{◌≡◌, ◌≤◌, ◌<◌, ◌+◌, ◌*◌, ◌/◌, ◌^◌, ℕ, Option, Some, None}
 use Rattle.sgl_descriptor.specs.declared.Descriptor.{Descriptor}
 use Rattle.sgl_descriptor.specs.declared.Descriptor.TheVariants.{DataBlock, BitBucket, Segment, LastSegment}
-use Rattle.sgl_descriptor.specs.declared.Direction.{Direction}
-use Rattle.sgl_descriptor.specs.Targets.{counted}
 use Rattle.controller_walk.specs.declared.cursor.Cursor.{Cursor}
 use Rattle.controller_walk.specs.declared.progress.Block.{Block}
 use Rattle.controller_walk.specs.declared.progress.State.{State}
@@ -22,12 +20,12 @@ IsAfter (Some c) = IsCursor c
 abbrev pub IsBlock : ℕ → ℕ → Block → Type 0
 IsBlock need wanted block = (0 < block.len) × (block.place + block.len ≤ 2 ^ 64) × (block.offset + (block.len + wanted) ≡ need)
 
--- what a descriptor without fault has: a counted length that is wanted, or a segment below 2 ^ 64
-abbrev pub IsClear : Direction → ℕ → Descriptor → Type 0
-IsClear dir wanted (DataBlock addr len) = (len ≤ wanted) × (addr + len ≤ 2 ^ 64)
-IsClear dir wanted (BitBucket len) = counted dir (BitBucket len) ≤ wanted
-IsClear dir wanted (Segment addr len) = (0 < len / 16) × (addr + 16 * (len / 16) ≤ 2 ^ 64)
-IsClear dir wanted (LastSegment addr len) = (0 < len / 16) × (addr + 16 * (len / 16) ≤ 2 ^ 64)
+-- what a descriptor without fault has: a range below 2 ^ 64, if it has one, and a link names a segment that is not empty
+abbrev pub IsClear : Descriptor → Type 0
+IsClear (DataBlock addr len) = addr + len ≤ 2 ^ 64
+IsClear (BitBucket len) = Unit {0}
+IsClear (Segment addr len) = (0 < len / 16) × (addr + 16 * (len / 16) ≤ 2 ^ 64)
+IsClear (LastSegment addr len) = (0 < len / 16) × (addr + 16 * (len / 16) ≤ 2 ^ 64)
 
 abbrev pub IsStateOf : ℕ → ℕ → State → Type 0
 IsStateOf need wanted (First sgl1) = Unit {0}

@@ -1,5 +1,5 @@
 -- What each step of a walk does, and how the walk ends (NVM Express Base Specification 2.0, "SGL", section 4.1.2).
-use Rattle.std.specs.Prelude.{◌+◌, ◌-◌, ◌/◌, ◌%◌, ◌^◌, ◌&&◌, ◌||◌, ◌∷◌, [], ℕ, Bool, true, false, not, List, Option, Some, None, if◌then◌else◌, nat_eq, nat_le, nat_lt, zero, suc, is_some}
+use Rattle.std.specs.Prelude.{◌+◌, ◌-◌, ◌/◌, ◌%◌, ◌^◌, ◌&&◌, ◌||◌, ◌∷◌, [], ℕ, Bool, true, false, not, List, Option, Some, None, if◌then◌else◌, nat_eq, nat_le, nat_lt, zero, suc, min, is_some}
 use Rattle.entry_codec.specs.declared.status.Status.{Status}
 use Rattle.entry_codec.specs.declared.status.TheConstants.Status.{DATA_TRANSFER_ERROR, INVALID_SGL_SEGMENT, INVALID_SGL_COUNT, DATA_SGL_LENGTH_INVALID, SGL_TYPE_INVALID}
 use Rattle.page_memory.specs.Memory.{Memory, bytes_at, pages_reached}
@@ -38,7 +38,8 @@ pub data Course : Type 0 where
 --   its type is above 3, or its subtype is not 0                             SGL Descriptor Type Invalid         `after_read`
 --   the rows of `first_fault`, in their order
 --   a byte of its data is unreadable                                         Data Transfer Error                 `moving`
--- At the end of the list with bytes still wanted: Data SGL Length Invalid (`behind`).
+-- The list is over as soon as all bytes that the command moves are counted: what stands behind is no fault. At the end of
+-- a list with bytes still wanted: Data SGL Length Invalid (`behind`).
 
 -- a row of the table: whether it applies, and its status
 abbrev pub Row : Type 0
@@ -82,9 +83,9 @@ abbrev pub passes_end : Descriptor → Bool
 passes_end d = nat_lt (2 ^ 64) (address d + size d)
 
 -- The first fault of a descriptor that was read and has a type, at a cursor (which says how many descriptors are
--- left in the segment, itself among them, and what names the segment), with so many bytes wanted.
-abbrev pub first_fault : Cursor → Direction → ℕ → Descriptor → Option Status
-first_fault c dir wanted d =
+-- left in the segment, itself among them, and what names the segment). How many bytes are wanted is no matter.
+abbrev pub first_fault : Cursor → Descriptor → Option Status
+first_fault c d =
     first_passing (
     -- a link, in a segment that a Last Segment descriptor names
     (is_link d && named_last c.named, INVALID_SGL_SEGMENT)
@@ -94,9 +95,7 @@ first_fault c dir wanted d =
     ∷ (is_link d && names_no_segment d, INVALID_SGL_SEGMENT)
     -- no link, in the last place of a segment that a Segment descriptor names
     ∷ (not (is_link d) && named_on c.named && nat_eq c.left 1, INVALID_SGL_SEGMENT)
-    -- a counted length above what is wanted
-    ∷ (nat_lt wanted (counted dir d), DATA_SGL_LENGTH_INVALID)
-    -- a Data Block or a link whose address plus length is above 2 ^ 64
+    -- a Data Block or a link whose address plus its whole length is above 2 ^ 64
     ∷ (passes_end d, DATA_SGL_LENGTH_INVALID)
     ∷ [])
 
@@ -125,10 +124,11 @@ next c = if nat_lt 1 c.left then Some (record { place = c.place + 16; left = c.l
 abbrev pub segment_start : Named → ℕ → ℕ → Cursor
 segment_start named addr len = record { place = addr; left = len / 16; named = named }
 
--- What follows a descriptor without fault. `later` says what follows behind it, with so many bytes still wanted.
+-- What follows a descriptor without fault. `later` says what follows behind it, with so many bytes still wanted. Of a Data
+-- Block the wanted front is moved, and no descriptor counts more than is wanted.
 abbrev pub goes_on : Memory → Direction → ℕ → Cursor → ℕ → (Option Cursor → ℕ → Course) → Descriptor → Course
 goes_on m dir need c wanted later (DataBlock addr len) =
-    moving m (pages_spanned addr len) addr len (need - wanted) (later (next c) (wanted - len))
+    moving m (pages_spanned addr (min len wanted)) addr (min len wanted) (need - wanted) (later (next c) (wanted - len))
 goes_on m dir need c wanted later (BitBucket len) = later (next c) (wanted - counted dir (BitBucket len))
 goes_on m dir need c wanted later (Segment addr len) = later (Some (segment_start BySegment addr len)) wanted
 goes_on m dir need c wanted later (LastSegment addr len) = later (Some (segment_start ByLastSegment addr len)) wanted
@@ -140,17 +140,17 @@ unless_fault None course = course
 -- what follows the reading of a descriptor
 abbrev pub after_read : Memory → Direction → ℕ → Cursor → ℕ → (Option Cursor → ℕ → Course) → Option Descriptor → Course
 after_read m dir need c wanted later None = Closes (Fault SGL_TYPE_INVALID)
-after_read m dir need c wanted later (Some d) = unless_fault (first_fault c dir wanted d) (goes_on m dir need c wanted later d)
+after_read m dir need c wanted later (Some d) = unless_fault (first_fault c d) (goes_on m dir need c wanted later d)
 
 -- what is left at a descriptor's place, given the bytes there
 abbrev pub read_at : Memory → Direction → ℕ → Cursor → ℕ → (Option Cursor → ℕ → Course) → Option (List ℕ) → Course
 read_at m dir need c wanted later None = Does Stays (Closes (Fault DATA_TRANSFER_ERROR))
 read_at m dir need c wanted later (Some bytes) = Does (Reads c.place) (after_read m dir need c wanted later (descriptor_of bytes))
 
--- what is left behind a descriptor, where `from` says what is left at a place
+-- What is left behind a descriptor, where `from` says what is left at a place: nothing, where no byte is wanted any more.
 abbrev pub behind : (Cursor → ℕ → Course) → Option Cursor → ℕ → Course
 behind from None wanted = Closes (if nat_eq wanted 0 then End else Fault DATA_SGL_LENGTH_INVALID)
-behind from (Some c) wanted = from c wanted
+behind from (Some c) wanted = if nat_eq wanted 0 then Closes End else from c wanted
 
 -- what is left at a place, where the list may have k more descriptors
 unfoldable pub from_place : ℕ → Memory → Direction → ℕ → Cursor → ℕ → Course

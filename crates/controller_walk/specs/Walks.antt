@@ -9,7 +9,7 @@ use Rattle.controller_walk.specs.declared.progress.State.TheVariants.{First, Nex
 use Rattle.controller_walk.specs.declared.walk.Walk.{Walk}
 use Rattle.controller_walk.specs.declared.walk.WalkState.{WalkState}
 use Rattle.controller_walk.specs.declared.walk.WalkState.TheVariants.{More, End, Fault}
-use Rattle.controller_walk.specs.Units.{Act, Stays, Reads, Moves, touched, Course, Closes, Does, after_read, rest_of, moving, pages_spanned, entry_cursor}
+use Rattle.controller_walk.specs.Units.{Act, Stays, Reads, Moves, touched, Course, Closes, Does, after_read, from_place, rest_of, moving, pages_spanned, entry_cursor}
 
 -- how many bytes the command of a walk moves
 abbrev pub need_of : Walk → ℕ
@@ -31,7 +31,7 @@ is_over w = is_over_in w.state
 
 abbrev pub course_in : Memory → Walk → State → Course
 course_in m w (First sgl1) = Does Stays (after_read m w.direction w.need entry_cursor w.wanted (rest_of w.allowed m w.direction w.need) (descriptor_of sgl1))
-course_in m w (Next c) = rest_of w.allowed m w.direction w.need (Some c) w.wanted
+course_in m w (Next c) = from_place w.allowed m w.direction w.need c w.wanted
 course_in m w (Data block after) = moving m (pages_spanned block.place block.len) block.place block.len block.offset (rest_of w.allowed m w.direction w.need after w.wanted)
 course_in m w Over = Closes End
 

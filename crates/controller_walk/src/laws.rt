@@ -44,8 +44,9 @@ pub fn lists_read_few_descriptors()
     ensures { (m : Memory) (sgl1 : List ℕ) (dir : Direction) (need : ℕ) → reads_in (units_of_list m sgl1 dir need) ≤ 4095 }
 {}
 
-/// Each byte that a list moves goes to or comes from the place that the targets of its parts give it, in the parts' order. A
-/// list that ends well has parts that count just the bytes that the command moves.
+/// Each byte that a list moves goes to or comes from the place that the targets of its parts give it, in the parts' order; of
+/// a part only the front counts that is still wanted. A descriptor is read only where bytes are still wanted. The parts that a
+/// list that ends well takes count just the bytes that the command moves.
 pub fn lists_move_along_targets()
     ensures { (m : Memory) (sgl1 : List ℕ) (dir : Direction) (need : ℕ) → ListMovesAlong m sgl1 dir need }
 {}

@@ -3,8 +3,9 @@
 //! A [`Walk`] begins at the descriptor in a command's entry and goes over its list one unit a step: a step takes
 //! the next descriptor, or moves the part of the current Data Block that lies in one page. The entry's descriptor is
 //! the first of the list and is taken without reading memory. A Bit Bucket and an empty Data Block are finished by the
-//! step that takes them. The step that finishes the last descriptor answers `End`, or a fault where bytes are still
-//! wanted; the step that meets a fault answers that fault.
+//! step that takes them. The step that counts or moves the last of the bytes that the command wants answers `End`; a list may
+//! be longer: of its last part only the wanted front is counted or moved, and no descriptor behind it is read. The step that
+//! finishes the last descriptor of a list that is too short answers a fault, as does each step that meets one.
 //!
 //! `specs/Units.antt` defines, for any memory, the units of a list and its verdict, with the table of faults. A step's
 //! contract is that it does the first of what is left and leaves the others, and [`laws::steps_do_units`] says that the

@@ -1,6 +1,6 @@
 //! How far a walk is, and what one step does.
 
-ghost use Rattle.std.specs.Prelude.{◌≡◌, ◌<◌, ◌≤◌, ◌+◌, ◌-◌, ◌*◌, ◌/◌, ◌^◌, ◌⊎◌, ◌++◌, ℕ, List, OnOk, OnErr, Some, None, length, not, true, false};
+ghost use Rattle.std.specs.Prelude.{◌≡◌, ◌<◌, ◌≤◌, ◌+◌, ◌-◌, ◌*◌, ◌/◌, ◌^◌, ◌⊎◌, ◌++◌, ℕ, List, OnOk, OnErr, Some, None, length, min, not, true, false};
 ghost use Rattle.page_memory.specs.Memory.{Memory, bytes_at, pages_reached};
 ghost use Rattle.sgl_descriptor.specs.declared.Descriptor.TheVariants.{BitBucket};
 ghost use Rattle.sgl_descriptor.specs.Spelling.{descriptor_of};
@@ -11,7 +11,7 @@ ghost use Rattle.controller_walk.specs.Progress.{IsProgress, IsBounded, IsClear,
 ghost use Rattle.controller_walk.specs.Walks.{course, is_over, is_more, IfMore, DoesFirst, LeavesRest, Leaves, left_of, reads_first, Keeps, Moved};
 
 use crate::cursor::{Cursor, Named};
-use crate::faults::{counted, first_fault};
+use crate::faults::first_fault;
 use crate::walk::WalkState;
 use entry_codec::Status;
 use page_memory::{Dma, Unreadable};
@@ -95,7 +95,8 @@ impl Progress {
         (Progress { state, ..self }, verdict)
     }
 
-    /// Goes on behind a descriptor that is done.
+    /// Goes on behind a descriptor that is done, if bytes are still wanted.
+    #[tactic(auto, using(crate::proofs::Courses::more_at, crate::proofs::Courses::still_wants))]
     fn go(self, after: Option<Cursor>) -> (Progress, WalkState)
         requires bounded { IsBounded self }
         requires after { IsAfter after }
@@ -106,12 +107,14 @@ impl Progress {
         ensures fewer { IfMore result.1 (left_of result.0 ≤ 1 + 3 * self.allowed + self.wanted / 4096) }
         ensures allowed { result.0.allowed ≡ self.allowed }
     {
+        if self.wanted == 0 {
+            return self.close(WalkState::End);
+        }
         match after {
             Some(cursor) => {
                 let state = State::Next(cursor);
                 (Progress { state, ..self }, WalkState::More)
             }
-            None if self.wanted == 0 => self.close(WalkState::End),
             None => self.close(WalkState::Fault(Status::DATA_SGL_LENGTH_INVALID)),
         }
     }
@@ -158,7 +161,7 @@ impl Progress {
     {
         match Descriptor::read(bytes) {
             Err(_) => self.close(WalkState::Fault(Status::SGL_TYPE_INVALID)),
-            Ok(descriptor) => match first_fault(cursor, self.direction, self.wanted, descriptor) {
+            Ok(descriptor) => match first_fault(cursor, descriptor) {
                 Some(status) => self.close(WalkState::Fault(status)),
                 None => self.follow(cursor, descriptor),
             },
@@ -169,7 +172,7 @@ impl Progress {
     fn follow(self, cursor: Cursor, descriptor: Descriptor) -> (Progress, WalkState)
         requires bounded { IsBounded self }
         requires cursor { IsCursor cursor }
-        requires clear { IsClear self.direction self.wanted descriptor }
+        requires clear { IsClear descriptor }
         ensures leaves { (m : Memory) → Leaves (goes_on m self.direction self.need cursor self.wanted (rest_of self.allowed m self.direction self.need) descriptor) result.1 (course m result.0) }
         ensures proper { IsProgress result.0 }
         ensures over { is_over result.0 ≡ not (is_more result.1) }
@@ -193,24 +196,24 @@ impl Progress {
         }
     }
 
-    /// Counts the bytes of a descriptor.
+    /// Counts the bytes of a descriptor, as far as they are wanted.
     fn count(self, descriptor: Descriptor) -> Progress
-        requires { spec_counted self.direction descriptor ≤ self.wanted }
         ensures { result ≡ record self { wanted = self.wanted - spec_counted self.direction descriptor } }
     {
-        let wanted = self.wanted - counted(self.direction, descriptor);
+        let wanted = self
+            .wanted
+            .saturating_sub(counted(self.direction, descriptor));
         Progress { wanted, ..self }
     }
 }
 
 impl Progress {
-    /// Begins to move a Data Block, behind which another descriptor may stand.
+    /// Begins to move the wanted front of a Data Block, behind which another descriptor may stand.
     fn start(self, place: u64, len: u32, after: Option<Cursor>) -> (Progress, WalkState)
         requires bounded { IsBounded self }
         requires after { IsAfter after }
-        requires len { len ≤ self.wanted }
         requires end { place + len ≤ 2 ^ 64 }
-        ensures leaves { (m : Memory) → Leaves (moving m (pages_spanned place len) place len (self.need - self.wanted) (rest_of self.allowed m self.direction self.need after (self.wanted - len))) result.1 (course m result.0) }
+        ensures leaves { (m : Memory) → Leaves (moving m (pages_spanned place (min len self.wanted)) place (min len self.wanted) (self.need - self.wanted) (rest_of self.allowed m self.direction self.need after (self.wanted - len))) result.1 (course m result.0) }
         ensures proper { IsProgress result.0 }
         ensures over { is_over result.0 ≡ not (is_more result.1) }
         ensures kept { Keeps self result.0 }
@@ -218,14 +221,20 @@ impl Progress {
         ensures allowed { result.0.allowed ≡ self.allowed }
     {
         let offset = self.need - self.wanted;
+        let front = len.min(self.wanted);
         let counted = Progress {
-            wanted: self.wanted - len,
+            wanted: self.wanted - front,
             ..self
         };
-        if len == 0 {
+        if front == 0 {
             return counted.go(after);
         }
-        let state = State::Data(Block { place, len, offset }, after);
+        let block = Block {
+            place,
+            len: front,
+            offset,
+        };
+        let state = State::Data(block, after);
         (Progress { state, ..counted }, WalkState::More)
     }
 
@@ -289,6 +298,20 @@ impl Progress {
         };
         let state = State::Data(rest, after);
         (Progress { state, ..self }, WalkState::More)
+    }
+}
+
+/// How many bytes a descriptor counts: a Bit Bucket counts for a destination alone, and a link never.
+fn counted(direction: Direction, descriptor: Descriptor) -> u32
+    ensures { result ≡ spec_counted direction descriptor }
+{
+    match descriptor {
+        Descriptor::DataBlock { len, .. } => len,
+        Descriptor::BitBucket { len } => match direction {
+            Direction::Destination => len,
+            Direction::Source => 0,
+        },
+        Descriptor::Segment { .. } | Descriptor::LastSegment { .. } => 0,
     }
 }
 

@@ -16,7 +16,8 @@ use std::marker::Model;
 pub enum WalkState {
     /// The walk goes on.
     More,
-    /// The list is over, its parts count all the bytes of the command, and each of these that has a place was moved.
+    /// All the bytes of the command are counted, and each of these that has a place was moved. What the list has behind them was
+    /// not looked at.
     End,
     /// The walk met a fault, and is over: 0:04 for an unreadable byte, 0:0D, 0:0E, 0:0F or 0:11 for a list that breaks a rule (NVM
     /// Express Base Specification 2.0, Generic Command Status Values; which comes first is this project's own).

@@ -6,8 +6,8 @@ ghost use Rattle.sgl_descriptor.specs.declared.Direction.TheVariants.{Destinatio
 ghost use Rattle.sgl_descriptor.specs.declared.Part.TheVariants.{Data, Bucket};
 ghost use Rattle.sgl_descriptor.specs.Spelling.{spelling};
 ghost use Rattle.controller_walk.specs.declared.walk.WalkState.TheVariants.{End, Fault};
-ghost use Rattle.controller_walk.specs.Along.{parts_taken};
-ghost use Rattle.controller_walk.specs.Units.{Stays, Reads, Moves, touched, course_of_list, units_of_list, verdict_of_list};
+ghost use Rattle.controller_walk.specs.Along.{parts_of_list};
+ghost use Rattle.controller_walk.specs.Units.{Stays, Reads, Moves, touched, units_of_list, verdict_of_list};
 ghost use Rattle.controller_walk.specs.Worked.{eight_pages, with_descriptors};
 
 /// The pages of units: none, those of a descriptor that crosses a page's end, and that of a part of a block.
@@ -15,16 +15,18 @@ pub fn worked_pages()
     ensures { map touched (Stays ∷ Reads 0x1FF8 ∷ Moves 0x4000 512 0 ∷ []) ≡ [] ∷ (1 ∷ 2 ∷ []) ∷ (4 ∷ []) ∷ [] }
 {}
 
-/// Lists of the entry's one descriptor, for 512 bytes. A block of 511 is moved, and the list ends too early; one of
-/// 513 is refused, as is one that ends above 2^64. So is a type above 3 and a subtype that isn't 0.
+/// Lists of the entry's one descriptor, for 512 bytes. A block of 511 is moved, and the list ends too early; of one of
+/// 513 the wanted front is moved. One that ends above 2^64 is refused, also where its wanted front ends below. So is a type
+/// above 3 and a subtype that isn't 0.
 #[tactic(auto, unfolding(crate::specs::Units::moving, sgl_descriptor::specs::Spelling::descriptor_of, page_memory::specs::Memory::bytes_at))]
 pub fn worked_entries()
     ensures short { units_of_list eight_pages (spelling (DataBlock 0x2000 511)) Destination 512 ≡ Stays ∷ Moves 0x2000 511 0 ∷ [] }
     ensures short_verdict { verdict_of_list eight_pages (spelling (DataBlock 0x2000 511)) Destination 512 ≡ Fault (record { sct = 0; sc = 0x0F }) }
-    ensures long { units_of_list eight_pages (spelling (DataBlock 0x2000 513)) Destination 512 ≡ Stays ∷ [] }
-    ensures long_verdict { verdict_of_list eight_pages (spelling (DataBlock 0x2000 513)) Destination 512 ≡ Fault (record { sct = 0; sc = 0x0F }) }
+    ensures long { units_of_list eight_pages (spelling (DataBlock 0x2000 513)) Destination 512 ≡ Stays ∷ Moves 0x2000 512 0 ∷ [] }
+    ensures long_verdict { verdict_of_list eight_pages (spelling (DataBlock 0x2000 513)) Destination 512 ≡ End }
     ensures past_end { units_of_list eight_pages (spelling (DataBlock 0xFFFFFFFFFFFFFF00 512)) Source 512 ≡ Stays ∷ [] }
     ensures past_end_verdict { verdict_of_list eight_pages (spelling (DataBlock 0xFFFFFFFFFFFFFF00 512)) Source 512 ≡ Fault (record { sct = 0; sc = 0x0F }) }
+    ensures front_below_end { verdict_of_list eight_pages (spelling (DataBlock 0xFFFFFFFFFFFFFF00 512)) Source 256 ≡ Fault (record { sct = 0; sc = 0x0F }) }
     ensures type_four { verdict_of_list eight_pages (0 ∷ 0x20 ∷ 0 ∷ 0 ∷ 0 ∷ 0 ∷ 0 ∷ 0 ∷ 0 ∷ 2 ∷ 0 ∷ 0 ∷ 0 ∷ 0 ∷ 0 ∷ 0x40 ∷ []) Destination 512
         ≡ Fault (record { sct = 0; sc = 0x11 }) }
     ensures subtype_one { verdict_of_list eight_pages (0 ∷ 0x20 ∷ 0 ∷ 0 ∷ 0 ∷ 0 ∷ 0 ∷ 0 ∷ 0 ∷ 2 ∷ 0 ∷ 0 ∷ 0 ∷ 0 ∷ 0 ∷ 0x01 ∷ []) Destination 512
@@ -56,11 +58,29 @@ pub fn worked_links()
 pub fn worked_buckets()
     ensures units { units_of_list (with_descriptors 0x5000 (DataBlock 0x4000 512 ∷ BitBucket 512 ∷ [])) (spelling (LastSegment 0x5000 32)) Destination 1024
         ≡ Stays ∷ Reads 0x5000 ∷ Moves 0x4000 512 0 ∷ Reads 0x5010 ∷ [] }
-    ensures parts { parts_taken (with_descriptors 0x5000 (DataBlock 0x4000 512 ∷ BitBucket 512 ∷ [])) []
-        (course_of_list (with_descriptors 0x5000 (DataBlock 0x4000 512 ∷ BitBucket 512 ∷ [])) (spelling (LastSegment 0x5000 32)) Destination 1024)
+    ensures parts { parts_of_list (with_descriptors 0x5000 (DataBlock 0x4000 512 ∷ BitBucket 512 ∷ [])) (spelling (LastSegment 0x5000 32)) Destination 1024
         ≡ Data 0x4000 512 ∷ Bucket 512 ∷ [] }
     ensures destination { verdict_of_list (with_descriptors 0x5000 (DataBlock 0x4000 512 ∷ BitBucket 512 ∷ [])) (spelling (LastSegment 0x5000 32)) Destination 1024 ≡ End }
     ensures source { verdict_of_list (with_descriptors 0x5000 (DataBlock 0x4000 512 ∷ BitBucket 512 ∷ [])) (spelling (LastSegment 0x5000 32)) Source 512 ≡ End }
     ensures source_wants { verdict_of_list (with_descriptors 0x5000 (DataBlock 0x4000 512 ∷ BitBucket 512 ∷ [])) (spelling (LastSegment 0x5000 32)) Source 1024
         ≡ Fault (record { sct = 0; sc = 0x0F }) }
+{}
+
+/// Lists that are longer than the data: the descriptor behind the wanted bytes is not read, be it a block, a bucket or a link that
+/// would be a fault, and a block that crosses the end of the wanted bytes is moved as far as they go.
+#[tactic(auto, unfolding(crate::specs::Units::moving, crate::specs::Units::from_place, sgl_descriptor::specs::Spelling::descriptor_of, page_memory::specs::Memory::bytes_at))]
+pub fn worked_longer_lists()
+    ensures block { units_of_list (with_descriptors 0x1000 (DataBlock 0x2F00 512 ∷ DataBlock 0x4000 512 ∷ [])) (spelling (LastSegment 0x1000 32)) Source 512
+        ≡ Stays ∷ Reads 0x1000 ∷ Moves 0x2F00 256 0 ∷ Moves 0x3000 256 256 ∷ [] }
+    ensures block_verdict { verdict_of_list (with_descriptors 0x1000 (DataBlock 0x2F00 512 ∷ DataBlock 0x4000 512 ∷ [])) (spelling (LastSegment 0x1000 32)) Source 512 ≡ End }
+    ensures front { units_of_list (with_descriptors 0x1000 (DataBlock 0x2000 512 ∷ DataBlock 0x4F00 1024 ∷ [])) (spelling (LastSegment 0x1000 32)) Destination 1000
+        ≡ Stays ∷ Reads 0x1000 ∷ Moves 0x2000 512 0 ∷ Reads 0x1010 ∷ Moves 0x4F00 256 512 ∷ Moves 0x5000 232 768 ∷ [] }
+    ensures front_parts { parts_of_list (with_descriptors 0x1000 (DataBlock 0x2000 512 ∷ DataBlock 0x4F00 1024 ∷ [])) (spelling (LastSegment 0x1000 32)) Destination 1000
+        ≡ Data 0x2000 512 ∷ Data 0x4F00 488 ∷ [] }
+    ensures bucket { units_of_list (with_descriptors 0x1000 (BitBucket 1024 ∷ DataBlock 0x2000 512 ∷ [])) (spelling (LastSegment 0x1000 32)) Destination 512 ≡ Stays ∷ Reads 0x1000 ∷ [] }
+    ensures bucket_parts { parts_of_list (with_descriptors 0x1000 (BitBucket 1024 ∷ DataBlock 0x2000 512 ∷ [])) (spelling (LastSegment 0x1000 32)) Destination 512 ≡ Bucket 512 ∷ [] }
+    ensures bucket_verdict { verdict_of_list (with_descriptors 0x1000 (BitBucket 1024 ∷ DataBlock 0x2000 512 ∷ [])) (spelling (LastSegment 0x1000 32)) Destination 512 ≡ End }
+    ensures link { units_of_list (with_descriptors 0x1000 (DataBlock 0x2000 512 ∷ Segment 0x3000 16 ∷ [])) (spelling (LastSegment 0x1000 32)) Destination 512
+        ≡ Stays ∷ Reads 0x1000 ∷ Moves 0x2000 512 0 ∷ [] }
+    ensures link_verdict { verdict_of_list (with_descriptors 0x1000 (DataBlock 0x2000 512 ∷ Segment 0x3000 16 ∷ [])) (spelling (LastSegment 0x1000 32)) Destination 512 ≡ End }
 {}

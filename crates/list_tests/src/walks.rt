@@ -128,16 +128,14 @@ fn lengths_over<D: TouchRecord>(rt: &impl Abort, memory: &mut D) -> Result<(), U
     memory.read(0x21FE, &mut bytes)?;
     assert_eq!(rt; bytes, [7, 0]);
     let refused = [(fault(0x0F), NONE)];
-    for first in [block(0x2000, 513), block(0xFFFF_FFFF_FFFF_FF00, 512)] {
-        follow(
-            rt,
-            memory,
-            &mut staging,
-            Direction::Destination,
-            first,
-            &refused,
-        );
-    }
+    follow(
+        rt,
+        memory,
+        &mut staging,
+        Direction::Destination,
+        block(0xFFFF_FFFF_FFFF_FF00, 512),
+        &refused,
+    );
     for last in [0x40, 0x01] {
         let mut sgl1 = block(0x2000, 512).write();
         sgl1[15] = last;
@@ -264,6 +262,11 @@ fn buckets_over<D: TouchRecord>(rt: &impl Abort, memory: &mut D) {
         last_segment(0x5000, 32),
         &steps,
     );
+    let before_it = [
+        (WalkState::More, NONE),
+        (WalkState::More, &[5]),
+        (WalkState::End, &[4]),
+    ];
     let mut staging = [0; 512];
     follow(
         rt,
@@ -271,7 +274,7 @@ fn buckets_over<D: TouchRecord>(rt: &impl Abort, memory: &mut D) {
         &mut staging,
         Direction::Source,
         last_segment(0x5000, 32),
-        &steps,
+        &before_it,
     );
     assert_eq!(rt; staging, [6; 512]);
 }
@@ -282,6 +285,56 @@ fn destinations_count_buckets_and_sources_skip_them(rt: HostRuntime) -> Result<(
     buckets_over(&rt, &mut store);
     let mut flat = FlatMemory::zeroed(rt.alloc(), 8)?;
     buckets_over(&rt, &mut flat);
+    Ok(())
+}
+
+/// Lists for more than the 512 bytes that are wanted: a block of 600, and behind it each kind of descriptor, valid or not; and a
+/// bucket of 600.
+fn longer_over<D: TouchRecord>(rt: &impl Abort, memory: &mut D) -> Result<(), Unreadable> {
+    let steps = [
+        (WalkState::More, NONE),
+        (WalkState::More, &[1]),
+        (WalkState::End, &[2]),
+    ];
+    put(rt, memory, 0x1000, block(0x2000, 600));
+    for behind in [
+        block(0x3000, 512),
+        Descriptor::BitBucket { len: 512 },
+        segment(3, 7),
+        last_segment(0x4000, 16),
+    ] {
+        put(rt, memory, 0x1010, behind);
+        for (direction, byte) in [(Direction::Destination, 7), (Direction::Source, 8)] {
+            let mut staging = [byte; 512];
+            let first = last_segment(0x1000, 32);
+            follow(rt, memory, &mut staging, direction, first, &steps);
+            assert_eq!(rt; staging, [7; 512]);
+        }
+    }
+    let mut bytes = [1; 2];
+    memory.clear();
+    memory.read(0x21FF, &mut bytes)?;
+    assert_eq!(rt; bytes, [7, 0]);
+    let mut staging = [5; 512];
+    let bucket = Descriptor::BitBucket { len: 600 };
+    let at_once = [(WalkState::End, NONE)];
+    follow(
+        rt,
+        memory,
+        &mut staging,
+        Direction::Destination,
+        bucket,
+        &at_once,
+    );
+    Ok(())
+}
+
+#[test]
+fn a_list_may_be_longer_than_its_data(rt: HostRuntime) -> Result<(), Fail> {
+    let mut store = Store::open(rt.alloc(), 8)?;
+    longer_over(&rt, &mut store)?;
+    let mut flat = FlatMemory::zeroed(rt.alloc(), 8)?;
+    longer_over(&rt, &mut flat)?;
     Ok(())
 }
 

@@ -196,7 +196,7 @@ walk_keeps earlier s q cid m far none stood h =
     stepped j w dir Stays u k = goes j w j.bytes (λ kind len. len) k
     stepped j w dir (Reads place) u k = goes j w j.bytes (λ kind len. len) k
     stepped j w Destination (Moves place n offset) u k = goes j w j.bytes (λ kind len. len) k
-    stepped j w Source (Moves place n offset) u k = goes j w (with_bytes j.bytes offset (a.page_bytes s.memory place n)) (λ kind len. moved_length s j place n offset (course_ends s stood j w.list) u len) k
+    stepped j w Source (Moves place n offset) u k = goes j w (with_bytes j.bytes offset (a.page_bytes s.memory place n)) (λ kind len. moved_length s j place n offset u len) k
 
 -- Completing
 

@@ -197,7 +197,7 @@ all_carried s stood j l dir pages numbers stand st v c =
 
     to : MovesTo s.memory (targets (direction_of_entry j.entry) (parts_of l.request.pieces l.command.data_pages)) (course_of s j)
     to = moves_to s.memory (memory_of s.memory) (direction_of_entry j.entry) (need_of_entry j.entry) l.command.chain_pages l.command.data_pages (targets (direction_of_entry j.entry) (parts_of l.request.pieces l.command.data_pages))
-        (λ p own. page_found s.memory pages stand p (ap (λ (ns : List ℕ). is_among ns p) numbers ∙ own)) (course_of s j) (taken [] (descriptor_of j.entry.sgl1))
+        (λ p own. page_found s.memory pages stand p (ap (λ (ns : List ℕ). is_among ns p) numbers ∙ own)) (course_of s j) (taken (direction_of_entry j.entry) (need_of_entry j.entry) [] (descriptor_of j.entry.sgl1))
         (list_moves_along (memory_of s.memory) j.entry.sgl1 (direction_of_entry j.entry) (need_of_entry j.entry)) whole.takes (course_in s j l)
 
     start : length {A = ℕ} (replicate (need_of_entry j.entry) 0) ≡ length (targets (direction_of_entry j.entry) (parts_of l.request.pieces l.command.data_pages))

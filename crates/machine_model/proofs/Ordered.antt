@@ -1,5 +1,5 @@
 -- The units of a list move its bytes in rising order, each byte once, and each to a place of its own.
-use Rattle.std.proofs.Common.{◌≡◌, ◌⊎◌, inl, inr, ℕ, zero, suc, ◌+◌, ◌-◌, ◌*◌, ◌<◌, ◌≤◌, ◌==◌, nat_lt, Bool, true, false, Option, Some, None, List, [], ◌∷◌, ◌++◌, length, map, take, slice_get, replicate, is_some, cond, refl, ap, sym, ◌∙◌, arith, eq-eqb}
+use Rattle.std.proofs.Common.{◌≡◌, ◌⊎◌, inl, inr, ℕ, zero, suc, ◌+◌, ◌-◌, ◌*◌, ◌<◌, ◌≤◌, ◌==◌, nat_lt, Bool, true, false, Option, Some, None, List, [], ◌∷◌, ◌++◌, length, map, take, slice_get, replicate, min, nat_eq, is_some, cond, refl, ap, sym, ◌∙◌, arith, eq-eqb}
 use Rattle.std.specs.List.{list_any, range_with_len}
 use Rattle.std.proofs.lemmas.Bool.{or_parts, or_left, or_right}
 use Rattle.std.proofs.lemmas.Bool.Decides.{nat_tests}
@@ -16,10 +16,9 @@ use Rattle.sgl_descriptor.specs.declared.Part.TheVariants as part
 use Rattle.sgl_descriptor.specs.Spelling.{descriptor_of}
 use Rattle.sgl_descriptor.specs.Targets.{Target, Place, Discarded, targets, targets_of_part, counted}
 use Rattle.controller_walk.specs.declared.cursor.Cursor.{Cursor}
-use Rattle.controller_walk.specs.declared.walk.WalkState.TheVariants.{Fault}
+use Rattle.controller_walk.specs.declared.walk.WalkState.TheVariants.{End, Fault}
 use Rattle.controller_walk.specs.Units.{Act, Stays, Reads, Moves, Course, Closes, Does, units, after_read, read_at, from_place, behind, goes_on, unless_fault, first_fault, moving, first_part, pages_spanned, entry_cursor, next, course_of_list}
 use Rattle.controller_walk.specs.Along.{MovesByte}
-use Rattle.controller_walk.proofs.Along.{counts_few}
 use Rattle.controller_walk.proofs.Courses.{part_most}
 use Rattle.io_commands.specs.declared.request.Piece.{Piece}
 use Rattle.io_commands.specs.declared.request.Piece.TheVariants.{Data, Bucket}
@@ -55,24 +54,24 @@ ordered_moving m (suc n) place len offset end rest le h =
 abbrev Follows : ℕ → (Option Cursor → ℕ → Course) → Type 0
 Follows need later = (a : Option Cursor) (wanted : ℕ) → wanted ≤ need → Ordered (need - wanted) (later a wanted)
 
-ordered_on : (m : Memory) (dir : Direction) (need : ℕ) (c : Cursor) (wanted : ℕ) (later : Option Cursor → ℕ → Course) (d : Descriptor) → counted dir d ≤ wanted → wanted ≤ need → Follows need later
+ordered_on : (m : Memory) (dir : Direction) (need : ℕ) (c : Cursor) (wanted : ℕ) (later : Option Cursor → ℕ → Course) (d : Descriptor) → wanted ≤ need → Follows need later
     → Ordered (need - wanted) (goes_on m dir need c wanted later d)
-ordered_on m dir need c wanted later (DataBlock addr len) few le h =
-    ordered_moving m (pages_spanned addr len) addr len (need - wanted) (need - (wanted - len)) _ (omega (arith, few, le)) (h (next c) (wanted - len) (omega (arith, le)))
-ordered_on m dir need c wanted later (BitBucket len) few le h =
-    ordered_less (need - (wanted - counted dir (BitBucket len))) (need - wanted) (omega (arith, few, le)) (later (next c) (wanted - counted dir (BitBucket len))) (h (next c) (wanted - counted dir (BitBucket len)) (omega (arith, le)))
-ordered_on m dir need c wanted later (Segment addr len) few le h = h _ wanted le
-ordered_on m dir need c wanted later (LastSegment addr len) few le h = h _ wanted le
+ordered_on m dir need c wanted later (DataBlock addr len) le h =
+    ordered_moving m (pages_spanned addr (min len wanted)) addr (min len wanted) (need - wanted) (need - (wanted - len)) _ (omega (arith, le)) (h (next c) (wanted - len) (omega (arith, le)))
+ordered_on m dir need c wanted later (BitBucket len) le h =
+    ordered_less (need - (wanted - counted dir (BitBucket len))) (need - wanted) (omega (arith, le)) (later (next c) (wanted - counted dir (BitBucket len))) (h (next c) (wanted - counted dir (BitBucket len)) (omega (arith, le)))
+ordered_on m dir need c wanted later (Segment addr len) le h = h _ wanted le
+ordered_on m dir need c wanted later (LastSegment addr len) le h = h _ wanted le
 
-ordered_unless : (k : ℕ) (f : Option Status) (c : Course) → (f ≡ None → Ordered k c) → Ordered k (unless_fault f c)
+ordered_unless : (k : ℕ) (f : Option Status) (c : Course) → Ordered k c → Ordered k (unless_fault f c)
 ordered_unless k (Some status) c h = tt
-ordered_unless k None c h = h refl
+ordered_unless k None c h = h
 
 ordered_read : (m : Memory) (dir : Direction) (need : ℕ) (c : Cursor) (wanted : ℕ) (later : Option Cursor → ℕ → Course) (found : Option Descriptor) → wanted ≤ need → Follows need later
     → Ordered (need - wanted) (after_read m dir need c wanted later found)
 ordered_read m dir need c wanted later None le h = tt
 ordered_read m dir need c wanted later (Some d) le h =
-    ordered_unless (need - wanted) (first_fault c dir wanted d) _ (λ clear. ordered_on m dir need c wanted later d (counts_few c dir wanted d clear) le h)
+    ordered_unless (need - wanted) (first_fault c d) _ (ordered_on m dir need c wanted later d le h)
 
 ordered_at : (m : Memory) (dir : Direction) (need : ℕ) (c : Cursor) (wanted : ℕ) (later : Option Cursor → ℕ → Course) (found : Option (List ℕ)) → wanted ≤ need → Follows need later
     → Ordered (need - wanted) (read_at m dir need c wanted later found)
@@ -81,7 +80,11 @@ ordered_at m dir need c wanted later (Some bytes) le h = ordered_read m dir need
 
 ordered_behind : (need : ℕ) (from : Cursor → ℕ → Course) → ((c : Cursor) (wanted : ℕ) → wanted ≤ need → Ordered (need - wanted) (from c wanted)) → Follows need (behind from)
 ordered_behind need from h None wanted le = tt
-ordered_behind need from h (Some c) wanted le = h c wanted le
+ordered_behind need from h (Some c) wanted le = either (nat_eq wanted 0)
+  where
+    either : (b : Bool) → Ordered (need - wanted) (cond b (Closes End) (from c wanted))
+    either true = tt
+    either false = h c wanted le
 
 ordered_from : (k : ℕ) (m : Memory) (dir : Direction) (need : ℕ) (c : Cursor) (wanted : ℕ) → wanted ≤ need → Ordered (need - wanted) (from_place k m dir need c wanted)
 unfolding from_place

@@ -1,5 +1,5 @@
 -- The walk of a list that spells parts reads where its segments lie, and moves where its parts lie.
-use Rattle.std.proofs.Common.{arith, ◌≡◌, ◌<◌, ◌≤◌, ◌⊎◌, inl, inr, ◌+◌, ◌-◌, ◌*◌, ◌%◌, ◌++◌, ◌∷◌, [], ℕ, zero, suc, Bool, true, false, List, Option, Some, None, refl, sym, ap, subst, ◌∙◌, cond, is_some, length, map, nat_lt, add-zero, if◌then◌else◌}
+use Rattle.std.proofs.Common.{arith, ◌≡◌, ◌<◌, ◌≤◌, ◌⊎◌, inl, inr, ◌+◌, ◌-◌, ◌*◌, ◌%◌, ◌++◌, ◌∷◌, [], ℕ, zero, suc, Bool, true, false, List, Option, Some, None, refl, sym, ap, subst, ◌∙◌, cond, is_some, length, map, min, nat_eq, nat_lt, add-zero, if◌then◌else◌}
 use Rattle.std.specs.List.{AllByRecursion}
 use Rattle.std.proofs.lemmas.Bool.{true≢false}
 use Rattle.std.proofs.lemmas.Bool.Decides.{nat_tests}
@@ -18,7 +18,7 @@ use Rattle.sgl_chain.specs.Spells.{SpellsBy, Stand, Spells}
 use Rattle.controller_walk.specs.declared.cursor.Named.{Named}
 use Rattle.controller_walk.specs.declared.cursor.Named.TheVariants.{Unnamed, BySegment, ByLastSegment}
 use Rattle.controller_walk.specs.declared.cursor.Cursor.{Cursor}
-use Rattle.controller_walk.specs.declared.walk.WalkState.TheVariants.{Fault}
+use Rattle.controller_walk.specs.declared.walk.WalkState.TheVariants.{End, Fault}
 use Rattle.controller_walk.specs.Units.{Stays, Reads, Moves, Course, Closes, Does, after_read, from_place, rest_of, goes_on, unless_fault, first_fault, moving, first_part, pages_spanned, entry_cursor, next, segment_start, course_of_list, named_on, named_last}
 use Rattle.controller_walk.proofs.Courses.{pages_step, from_read}
 use Rattle.machine_model.specs.Reached.{only, LiesIn, CourseIn}
@@ -171,6 +171,14 @@ FromIn chain own m dir need k =
     → c.left ≡ length (d ∷ ds) → Stand (only chain m) c.place (d ∷ ds) → Ahead (only chain m) c.named (d ∷ ds) segments parts → AllByRecursion (LiesIn own) parts
     → CourseIn chain own (from_place k m dir need c wanted)
 
+-- a descriptor is next, if bytes are still wanted
+wanted_in : (chain own : ℕ → Bool) (m : Memory) (dir : Direction) (need k : ℕ) (c : Cursor) (wanted : ℕ) → CourseIn chain own (from_place k m dir need c wanted) → CourseIn chain own (rest_of k m dir need (Some c) wanted)
+wanted_in chain own m dir need k c wanted h = either (nat_eq wanted 0)
+  where
+    either : (b : Bool) → CourseIn chain own (cond b (Closes End) (from_place k m dir need c wanted))
+    either true = tt
+    either false = h
+
 -- behind a part: the next descriptor of its segment, or the end
 next_in : (chain own : ℕ → Bool) (m : Memory) (dir : Direction) (need k : ℕ) → FromIn chain own m dir need k
     → (c : Cursor) (wanted : ℕ) (d : Descriptor) (ds : List Descriptor) (segments : List (List Descriptor)) (parts : List Part)
@@ -180,7 +188,8 @@ next_in chain own m dir need k from c wanted d [] segments parts left stand ahea
     subst (λ (n : ℕ). CourseIn chain own (rest_of k m dir need (if nat_lt 1 n then Some (record { place = c.place + 16; left = c.left - 1; named = c.named }) else None) wanted)) (sym left) tt
 next_in chain own m dir need k from c wanted d (e ∷ es) segments parts left stand ahead lie =
     subst (λ (b : Bool). CourseIn chain own (rest_of k m dir need (if b then Some (record { place = c.place + 16; left = c.left - 1; named = c.named }) else None) wanted)) (sym (more c.left (length es) left))
-    (from (record { place = c.place + 16; left = c.left - 1; named = c.named }) wanted e es segments parts (omega (arith, left)) stand ahead lie)
+    (wanted_in chain own m dir need k (record { place = c.place + 16; left = c.left - 1; named = c.named }) wanted
+    (from (record { place = c.place + 16; left = c.left - 1; named = c.named }) wanted e es segments parts (omega (arith, left)) stand ahead lie))
   where
     more : (n l : ℕ) → n ≡ suc (suc l) → nat_lt 1 n ≡ true
     more n l e = grind (arith, nat_tests)
@@ -193,13 +202,14 @@ unless_in chain own None c h = h
 part_in : (chain own : ℕ → Bool) (m : Memory) (dir : Direction) (need k : ℕ) (c : Cursor) (wanted : ℕ) (part : Part) → LiesIn own part
     → ((w : ℕ) → CourseIn chain own (rest_of k m dir need (next c) w))
     → CourseIn chain own (goes_on m dir need c wanted (rest_of k m dir need) (descriptor_of_part part))
-part_in chain own m dir need k c wanted (Data addr len) lies later = moves_in chain own m _ (later (wanted - len)) (pages_spanned addr len) addr len (need - wanted) refl lies
+part_in chain own m dir need k c wanted (Data addr len) lies later =
+    moves_in chain own m _ (later (wanted - len)) (pages_spanned addr (min len wanted)) addr (min len wanted) (need - wanted) refl (λ i lt. lies i (omega arith))
 part_in chain own m dir need k c wanted (Bucket len) lies later = later _
 
 start_in : (chain own : ℕ → Bool) (m : Memory) (dir : Direction) (need k : ℕ) → FromIn chain own m dir need k → (named : Named) (addr len wanted : ℕ) (segments : List (List Descriptor)) (parts : List Part)
     → LinkedTo (only chain m) named addr len segments parts → AllByRecursion (LiesIn own) parts → CourseIn chain own (rest_of k m dir need (Some (segment_start named addr len)) wanted)
 start_in chain own m dir need k from named addr len wanted segments parts to lie =
-    from (segment_start named addr len) wanted to.first to.others to.segments parts (omega (arith, to.whole)) to.stand to.ahead lie
+    wanted_in chain own m dir need k (segment_start named addr len) wanted (from (segment_start named addr len) wanted to.first to.others to.segments parts (omega (arith, to.whole)) to.stand to.ahead lie)
 
 -- what follows a link
 link_in : (chain own : ℕ → Bool) (m : Memory) (dir : Direction) (need k : ℕ) → FromIn chain own m dir need k → (c : Cursor) (wanted : ℕ) (d : Descriptor) (segments : List (List Descriptor)) (parts : List Part)
@@ -212,7 +222,7 @@ link_in chain own m dir need k from c wanted (LastSegment addr len) segments par
 read_in : (chain own : ℕ → Bool) (m : Memory) (dir : Direction) (need k : ℕ) → FromIn chain own m dir need k → (c : Cursor) (wanted : ℕ) (d : Descriptor) (ds : List Descriptor) (segments : List (List Descriptor)) (parts : List Part)
     → c.left ≡ length (d ∷ ds) → Stand (only chain m) (c.place + 16) ds → Ahead (only chain m) c.named (d ∷ ds) segments parts → AllByRecursion (LiesIn own) parts
     → CourseIn chain own (after_read m dir need c wanted (rest_of k m dir need) (Some d))
-read_in chain own m dir need k from c wanted d ds segments parts left stand ahead lie = unless_in chain own (first_fault c dir wanted d) _ (go (first_ahead (only chain m) c.named d ds segments parts ahead))
+read_in chain own m dir need k from c wanted d ds segments parts left stand ahead lie = unless_in chain own (first_fault c d) _ (go (first_ahead (only chain m) c.named d ds segments parts ahead))
   where
     go : PartFirst (only chain m) c.named d ds segments parts ⊎ LinkFirst (only chain m) c.named d ds segments parts → CourseIn chain own (goes_on m dir need c wanted (rest_of k m dir need) d)
     go (inl p) =

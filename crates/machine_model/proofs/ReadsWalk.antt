@@ -222,7 +222,7 @@ further s q cid r request j act x o touched ok drafts at h = (
         let whole = course_whole s x.stood j x.walking.list in
         subst (λ (d : Direction). MovesTo s.memory (targets d (parts_of request.pieces r.data_pages)) (course_of s j)) dir
         (moves_to s.memory (memory_of s.memory) (direction_of_entry j.entry) (need_of_entry j.entry) x.walking.list.command.chain_pages x.walking.list.command.data_pages (targets (direction_of_entry j.entry) (parts_of request.pieces r.data_pages))
-        (λ p own. h.whole p (ap (λ (y : Record). is_among y.data_pages p) same.0 ∙ own)) (course_of s j) (taken [] (descriptor_of j.entry.sgl1))
+        (λ p own. h.whole p (ap (λ (y : Record). is_among y.data_pages p) same.0 ∙ own)) (course_of s j) (taken (direction_of_entry j.entry) (need_of_entry j.entry) [] (descriptor_of j.entry.sgl1))
         (list_moves_along (memory_of s.memory) j.entry.sgl1 (direction_of_entry j.entry) (need_of_entry j.entry)) (whole.takes ∙ ap (targets (direction_of_entry j.entry)) parts) (course_in s j x.walking.list))
 
     to : (place n offset : ℕ) → act ≡ Moves place n offset → MoveTo s.memory (read_targets r request) place n offset

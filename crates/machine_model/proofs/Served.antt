@@ -15,7 +15,7 @@ use Rattle.sgl_chain.proofs.JoinedLists.{same_targets, same_count}
 use Rattle.sgl_chain.proofs.Larger.{spells_there}
 use Rattle.controller_walk.specs.declared.walk.WalkState.TheVariants.{End, Fault}
 use Rattle.controller_walk.specs.Units.{Stays, Reads, Moves, Course, Closes, Does, verdict}
-use Rattle.controller_walk.specs.Along.{taken as taken_parts, parts_taken}
+use Rattle.controller_walk.specs.Along.{parts_of_list}
 use Rattle.controller_walk.specs.Serving.{Serves}
 use Rattle.controller_walk.proofs.Serving.{list_served}
 use Rattle.entry_codec.specs.declared.submission.SubEntry.{SubEntry}
@@ -235,7 +235,7 @@ low_places m few place h =
 -- it ends well, the parts that are taken have the targets of its parts, and those count what is moved
 pub record CourseWhole (s : State) (j : Job) (parts : List Part) : Type 0 where
   pub ends : verdict (course_of s j) ≡ End
-  pub takes : targets (direction_of_entry j.entry) (parts_taken (memory_of s.memory) (taken_parts [] (descriptor_of j.entry.sgl1)) (course_of s j)) ≡ targets (direction_of_entry j.entry) parts
+  pub takes : targets (direction_of_entry j.entry) (parts_of_list (memory_of s.memory) j.entry.sgl1 (direction_of_entry j.entry) (need_of_entry j.entry)) ≡ targets (direction_of_entry j.entry) parts
   pub counts : counted_in (direction_of_entry j.entry) parts ≡ need_of_entry j.entry
 
 pub course_whole : (s : State) → Stood s → (j : Job) (l : JobList s j) → CourseWhole s j (parts_of l.request.pieces l.command.data_pages)

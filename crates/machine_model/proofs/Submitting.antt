@@ -2,7 +2,6 @@
 use Rattle.std.proofs.Common.{◌≡◌, ℕ, zero, suc, ◌+◌, ◌*◌, ◌^◌, ◌<◌, ◌≤◌, ◌==◌, nat_le, Bool, true, false, ◌&&◌, Option, Some, None, List, [], ◌∷◌, length, slice_set, slice_index, All, if◌then◌else◌, refl, ap, sym, ◌∙◌, arith, subst, eqb-true, eq-eqb, length-set}
 use Rattle.std.specs.List.{AllByRecursion}
 use Rattle.std.proofs.lemmas.Bool.{true≢false, and_parts, or_left, or_right}
-use Rattle.std.proofs.lemmas.Bool.Decides.{nat_tests}
 use Rattle.std.proofs.lemmas.Option.{slice_get-get_or}
 use Rattle.std.proofs.lemmas.List.Elements.{All-head, All-tail, All-nil, All-cons}
 use Rattle.page_ledger.specs.Owners.{is_among}
@@ -11,7 +10,6 @@ use Rattle.page_memory.specs.Pages.{Pages, page_at, byte_at}
 use Rattle.page_memory.proofs.Reading.{byte_in}
 use Rattle.sgl_descriptor.specs.declared.Descriptor.TheVariants.{Segment, LastSegment}
 use Rattle.sgl_descriptor.specs.declared.Part.{Part}
-use Rattle.sgl_descriptor.specs.declared.Part.TheVariants as part
 use Rattle.sgl_descriptor.specs.Spelling.{spelling, descriptor_of, Fits}
 use Rattle.sgl_descriptor.specs.Targets.{descriptor_of_part}
 use Rattle.sgl_descriptor.proofs.Spells.{reads_itself}
@@ -23,7 +21,7 @@ use Rattle.io_commands.specs.declared.request.Kind.{Kind}
 use Rattle.io_commands.specs.declared.request.Kind.TheVariants.{Read, Write, Compare}
 use Rattle.io_commands.specs.declared.request.Piece.{Piece}
 use Rattle.io_commands.specs.declared.request.Piece.TheVariants.{Data, Bucket}
-use Rattle.io_commands.specs.Requests.{parts_of, FitsPiece, fault_of}
+use Rattle.io_commands.specs.Requests.{parts_of, FitsPiece}
 use Rattle.io_commands.specs.Values.{numbers_of}
 use Rattle.io_commands.specs.Drafts.{DraftContents, HoldsPages, draft_first, draft_parts}
 use Rattle.io_commands.proofs.Building.{joined_parts_few}

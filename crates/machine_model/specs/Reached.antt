@@ -1,5 +1,5 @@
 -- What the list of a command makes its walk do, where memory spells the command's parts from the list's first descriptor.
-use Rattle.std.specs.Prelude.{◌≡◌, ◌<◌, ◌≤◌, ◌+◌, [], ◌%◌, ◌^◌, ◌||◌, ℕ, Bool, true, false, Some, None, List, is_some, if◌then◌else◌}
+use Rattle.std.specs.Prelude.{◌≡◌, ◌<◌, ◌≤◌, ◌+◌, ◌%◌, ◌^◌, ◌||◌, ℕ, Bool, true, false, Some, None, List, is_some, take, if◌then◌else◌}
 use Rattle.std.specs.List.{list_all, AllByRecursion}
 use Rattle.page_ledger.specs.Owners.{is_among}
 use Rattle.page_memory.specs.Memory.{Memory, page_of}
@@ -12,7 +12,7 @@ use Rattle.sgl_descriptor.specs.Targets.{counted_in, targets}
 use Rattle.sgl_chain.specs.Spells.{Spells}
 use Rattle.controller_walk.specs.declared.walk.WalkState.TheVariants.{End}
 use Rattle.controller_walk.specs.Units.{Act, Stays, Reads, Moves, Course, Closes, Does, touched, units, course_of_list, verdict_of_list}
-use Rattle.controller_walk.specs.Along.{taken, parts_taken}
+use Rattle.controller_walk.specs.Along.{parts_of_list}
 use Rattle.controller_walk.specs.Laws.{ReadsWithin, MovesOutside}
 
 -- of a memory only the bytes at some places
@@ -67,10 +67,18 @@ IsThere m (Data addr len) = (addr + len ≤ 2 ^ 64) × ((k : ℕ) → k < len �
 IsThere m (Bucket len) = len ≤ 2 ^ 64
 
 -- A list whose parts are there and count just the bytes that are moved ends well, and the parts that are taken have the targets of its
--- parts, byte for byte: how they are cut is the walk's own.
+-- parts, byte for byte: how they are cut, and that empty ones behind the last byte are left, is the walk's own.
 abbrev pub lists_end_well : Type 0
 lists_end_well =
     (m : Memory) (sgl1 : List ℕ) (first : Descriptor) (parts : List Part) (dir : Direction) (need : ℕ)
     → ((place : ℕ) → is_some (m place) ≡ true → place < 2 ^ 64) → descriptor_of sgl1 ≡ Some first → Spells m first parts → AllByRecursion (IsThere m) parts → counted_in dir parts ≡ need
     → (verdict_of_list m sgl1 dir need ≡ End)
-    × (targets dir (parts_taken m (taken [] (descriptor_of sgl1)) (course_of_list m sgl1 dir need)) ≡ targets dir parts)
+    × (targets dir (parts_of_list m sgl1 dir need) ≡ targets dir parts)
+
+-- Its parts may count more: then what is taken has the first of its targets, one for each byte that is moved.
+abbrev pub long_lists_end_well : Type 0
+long_lists_end_well =
+    (m : Memory) (sgl1 : List ℕ) (first : Descriptor) (parts : List Part) (dir : Direction) (need : ℕ)
+    → ((place : ℕ) → is_some (m place) ≡ true → place < 2 ^ 64) → descriptor_of sgl1 ≡ Some first → Spells m first parts → AllByRecursion (IsThere m) parts → need ≤ counted_in dir parts
+    → (verdict_of_list m sgl1 dir need ≡ End)
+    × (targets dir (parts_of_list m sgl1 dir need) ≡ take need (targets dir parts))

@@ -40,7 +40,7 @@ abbrev pub bucket_request : Kind → (blocks : ℕ) → Line
 bucket_request kind blocks = reserve 1 kind 0 blocks (Data 0 512 ∷ Bucket 512 ∷ [])
 
 abbrev pub bucket_behind_data : List Line
-bucket_behind_data = bucket_request Read 2 ∷ carried 4 1 0 ++ gather 1 0 ∷ release 1 0 ∷ bucket_request Write 1 ∷ carried 4 1 0 ++ bucket_request Write 2 ∷ []
+bucket_behind_data = bucket_request Read 2 ∷ carried 4 1 0 ++ gather 1 0 ∷ release 1 0 ∷ bucket_request Write 1 ∷ carried 3 1 0 ++ bucket_request Write 2 ∷ []
 
 abbrev pub bucket_behind_data_said : List Said
 bucket_behind_data_said =
@@ -48,7 +48,7 @@ bucket_behind_data_said =
     ∷ walked More [] ∷ walked More (5 ∷ []) ∷ walked More (4 ∷ []) ∷ walked End (5 ∷ []) ∷ completed (3 ∷ [])
     ∷ reaps (events.Done 0 SUCCESS) ∷ held SUCCESS ∷ gathered ((0, 512) ∷ []) ∷ ok
     ∷ reserved 1 0 (4 ∷ []) (5 ∷ []) ∷ ok ∷ ok ∷ ok ∷ fetched 0 (2 ∷ [])
-    ∷ walked More [] ∷ walked More (5 ∷ []) ∷ walked More (4 ∷ []) ∷ walked End (5 ∷ []) ∷ completed (3 ∷ [])
+    ∷ walked More [] ∷ walked More (5 ∷ []) ∷ walked End (4 ∷ []) ∷ completed (3 ∷ [])
     ∷ reaps (events.Done 0 SUCCESS) ∷ held SUCCESS
     ∷ refused (events.Bad LengthMismatch) ∷ []
 

@@ -71,10 +71,10 @@ orders =
     -- f alone: length zero, and an address no multiple of 8
     ∷ walk_of store (spelling (Segment 4096 0)) 512
     ∷ walk_of store (spelling (LastSegment 4100 16)) 512
-    -- g before h: a block too long in the last place of a linked segment
+    -- g, whatever the length: a block longer than what is wanted in the last place of a linked segment
     ∷ walk_of (store_at (DataBlock 8192 9999)) (spelling (Segment 4096 16)) 512
-    -- h before i and j: a block too long, that ends above 2^64
-    ∷ walk_of store (spelling (DataBlock 18446744073709551360 513)) 512
+    -- i before j, by the whole length: a block that ends above 2^64 behind what is wanted
+    ∷ walk_of store (spelling (DataBlock 18446744073709551104 513)) 512
     -- i: a link that ends above 2^64, and one that ends there and is unreadable
     ∷ walk_of store (spelling (LastSegment 18446744073709551608 16)) 512
     ∷ walk_of store (spelling (LastSegment 18446744073709551600 16)) 512
@@ -82,10 +82,11 @@ orders =
     ∷ walk_of (pool_without_2 store) (spelling (DataBlock 8000 512)) 512
     -- b: one byte of a descriptor is unreadable, and no page of it is named
     ∷ walk_of (pool_without_2 straddling) (spelling (LastSegment 8184 16)) 512
-    -- a bucket of a read counts, one byte too many
+    -- a bucket of a read counts, as far as it is wanted
     ∷ walk_of store (spelling (BitBucket 512)) 512
     ∷ walk_of store (spelling (BitBucket 513)) 512
-    -- a zero-length block in the last place
+    -- a zero-length block before the wanted bytes, and one behind them
+    ∷ walk_of (two_at (DataBlock 3 0) (DataBlock 8192 512)) (spelling (LastSegment 4096 32)) 512
     ∷ walk_of (two_at (DataBlock 8192 512) (DataBlock 3 0)) (spelling (LastSegment 4096 32)) 512
     ∷ []
 
@@ -102,8 +103,29 @@ orders_said =
     ∷ ((More, []) ∷ (More, 1 ∷ []) ∷ (Fault DATA_TRANSFER_ERROR, []) ∷ [])
     ∷ ((More, []) ∷ (Fault DATA_TRANSFER_ERROR, []) ∷ [])
     ∷ ((End, []) ∷ [])
-    ∷ ((Fault DATA_SGL_LENGTH_INVALID, []) ∷ [])
-    ∷ ((More, []) ∷ (More, 1 ∷ []) ∷ (More, 2 ∷ []) ∷ (End, 1 ∷ []) ∷ [])
+    ∷ ((End, []) ∷ [])
+    ∷ ((More, []) ∷ (More, 1 ∷ []) ∷ (More, 1 ∷ []) ∷ (End, 2 ∷ []) ∷ [])
+    ∷ ((More, []) ∷ (More, 1 ∷ []) ∷ (End, 2 ∷ []) ∷ [])
+    ∷ []
+
+-- lists that are longer than their data: the front of a block of 513, in one page and in two; behind the wanted bytes a bucket, a link
+-- that would be a fault, and a descriptor on a page that is out
+abbrev pub longer : List (List (WalkState × List ℕ))
+longer =
+    walk_of store (spelling (DataBlock 8192 513)) 512
+    ∷ walk_of store (spelling (DataBlock 8000 9999)) 512
+    ∷ walk_of (two_at (DataBlock 8192 600) (BitBucket 512)) (spelling (LastSegment 4096 32)) 512
+    ∷ walk_of (two_at (BitBucket 600) (Segment 3 7)) (spelling (LastSegment 4096 32)) 512
+    ∷ walk_of (pool_without_2 (with_page_bytes store 1 4080 (spelling (DataBlock 0 512)))) (spelling (LastSegment 8176 32)) 512
+    ∷ []
+
+abbrev pub longer_said : List (List (WalkState × List ℕ))
+longer_said =
+    ((More, []) ∷ (End, 2 ∷ []) ∷ [])
+    ∷ ((More, []) ∷ (More, 1 ∷ []) ∷ (End, 2 ∷ []) ∷ [])
+    ∷ ((More, []) ∷ (More, 1 ∷ []) ∷ (End, 2 ∷ []) ∷ [])
+    ∷ ((More, []) ∷ (End, 1 ∷ []) ∷ [])
+    ∷ ((More, []) ∷ (More, 1 ∷ []) ∷ (End, 0 ∷ []) ∷ [])
     ∷ []
 
 -- a before b: the descriptor after the last that may be taken isn't read

@@ -6,7 +6,7 @@ ghost use Rattle.machine_model.specs.Claims.{each_step_keeps, every_run_is_sound
 ghost use Rattle.machine_model.specs.Histories.{openings_have_histories, steps_make_histories, unforged_runs_end_trusted, trusted_ends_are_unforged};
 ghost use Rattle.machine_model.specs.InOrder.{openings_are_in_order, steps_keep_order, reserved_drafts_are_proper, collected_commands_are_proper, every_event_is_answered, runs_are_made};
 ghost use Rattle.machine_model.specs.Linked.{trusted_worlds_are_linked, live_queues_are_there};
-ghost use Rattle.machine_model.specs.Reached.{lists_keep_to_their_pages, lists_end_well};
+ghost use Rattle.machine_model.specs.Reached.{lists_keep_to_their_pages, lists_end_well, long_lists_end_well};
 ghost use Rattle.machine_model.specs.Memory.{walks_read_the_pool, walks_go_as_in_the_pool};
 ghost use Rattle.machine_model.specs.Positions.{each_step_stays_in_rings, every_run_stays_in_rings};
 ghost use Rattle.machine_model.specs.Standing.{jobs_stand, jobs_keep_their_lists};
@@ -94,6 +94,12 @@ pub fn law_of_lists()
 /// has the targets of its parts, byte for byte.
 pub fn law_of_ends()
     ensures { lists_end_well }
+{}
+
+/// A list may be longer than its data: it ends without a fault too, and what is taken has as many of the first of its targets as
+/// the command moves bytes.
+pub fn law_of_longer_lists()
+    ensures { long_lists_end_well }
 {}
 
 /// Where nothing was forged, each queue that the controller has, and each that has a job, stands at the host with its halves.

@@ -50,6 +50,7 @@ pub fn worked_walks()
     ensures straddling_descriptor { walks.straddling_descriptor ≡ walks.straddling_descriptor_said }
     ensures empty_block_and_bucket { walks.empty_block_and_bucket ≡ walks.empty_block_and_bucket_said }
     ensures orders { walks.orders ≡ walks.orders_said }
+    ensures longer { walks.longer ≡ walks.longer_said }
     ensures too_many { walks.too_many ≡ walks.too_many_said }
 {}
 

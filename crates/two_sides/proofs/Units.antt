@@ -11,7 +11,7 @@ use Rattle.controller_walk.specs.declared.progress.State as progress
 use Rattle.controller_walk.specs.declared.progress.State.TheVariants.{First, Next, Data, Over}
 use Rattle.controller_walk.specs.declared.walk.Walk.{Walk}
 use Rattle.controller_walk.specs.declared.walk.WalkState.{WalkState}
-use Rattle.controller_walk.specs.declared.walk.WalkState.TheVariants.{Fault}
+use Rattle.controller_walk.specs.declared.walk.WalkState.TheVariants.{End, Fault}
 use Rattle.entry_codec.specs.declared.status.TheConstants.Status.{DATA_TRANSFER_ERROR}
 use Rattle.host_core.proofs.Slots.{page-written}
 use Rattle.io_commands.specs.Jobs.{course_of_walk}
@@ -99,7 +99,11 @@ head_from (suc k) m dir need c wanted = go (bytes_at m c.place 16)
 
 head_behind : (k : ℕ) (m : Memory) (dir : Direction) (need : ℕ) (o : Option Cursor) (wanted : ℕ) → HeadInPage (behind (from_place k m dir need) o wanted)
 head_behind k m dir need None wanted = tt
-head_behind k m dir need (Some c) wanted = head_from k m dir need c wanted
+head_behind k m dir need (Some c) wanted = go (nat_eq wanted 0)
+  where
+    go : (b : Bool) → HeadInPage (cond b (Closes End) (from_place k m dir need c wanted))
+    go true = tt
+    go false = head_from k m dir need c wanted
 
 head_in : (m : Memory) (w : Progress) (s : progress.State) → HeadInPage (course_in m w s)
 head_in m w (First sgl1) = tt

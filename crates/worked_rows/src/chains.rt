@@ -61,7 +61,7 @@ counts free 12 queue 4 chain 0 data 0
     Ok(())
 }
 
-/// A Read drops its second block, and a Write's bucket moves nothing.
+/// A Read drops its second block. A Write's bucket moves nothing, and is read before its bytes and not behind them.
 #[test]
 fn a_bucket_drops_a_block(rt: HostRuntime) -> Result<(), Fail> {
     let image = zeros(rt.alloc())?;
@@ -91,11 +91,23 @@ fetch 1
 walk 1 0
 walk 1 0
 walk 1 0
-walk 1 0
 complete 1 0
 reap 1
 collect 1 0
 gather 1 0
+release 1 0
+reserve 1 write 0 1 x512 0+512
+build 1 0
+submit 1 0
+ring 1
+fetch 1
+walk 1 0
+walk 1 0
+walk 1 0
+walk 1 0
+complete 1 0
+reap 1
+collect 1 0
 release 1 0
 reserve 1 write 0 2 0+512 x512
 ",
@@ -123,14 +135,26 @@ reserve 1 write 0 2 0+512 x512
 19 fetch cid 0 touched 2
 20 walk more touched -
 21 walk more touched 5
-22 walk more touched 4
-23 walk end touched 5
-24 complete ok touched 3
-25 reap done cid 0 status 0:00
-26 collect status 0:00
-27 gather -
-28 release ok
-29 reserve refused Bad LengthMismatch
+22 walk end touched 4
+23 complete ok touched 3
+24 reap done cid 0 status 0:00
+25 collect status 0:00
+26 gather -
+27 release ok
+28 reserve q 1 cid 0 data 1 chain 1
+29 build ok
+30 submit ok
+31 ring ok
+32 fetch cid 0 touched 2
+33 walk more touched -
+34 walk more touched 5
+35 walk more touched 5
+36 walk end touched 4
+37 complete ok touched 3
+38 reap done cid 0 status 0:00
+39 collect status 0:00
+40 release ok
+41 reserve refused Bad LengthMismatch
 counts free 12 queue 4 chain 0 data 0
 "
     );

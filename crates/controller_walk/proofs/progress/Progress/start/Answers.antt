@@ -1,12 +1,16 @@
-use Rattle.std.proofs.Common.{arith, sym, refl, subst}
+use Rattle.std.proofs.Common.{arith, ◌≡◌, ◌<◌, min, sym, refl, subst}
 use Rattle.controller_walk.specs.Units.{Course}
 use Rattle.controller_walk.specs.Walks.{Leaves, course}
-use Rattle.controller_walk.proofs.Courses.{more_moving, none_moving}
+use Rattle.controller_walk.proofs.Courses.{more_moving, none_moving, behind_front}
 use Rattle.controller_walk.proofs.progress.Progress.start.Goals as goal
 
-pub returns-then-len-eq0-clause-leaves : goal.returns-then-len-eq0-clause-leaves
-returns-then-len-eq0-clause-leaves c m =
-    subst (λ (x : Course). Leaves x c.go.result.1 (course m c.go.result.0)) (sym (none_moving m c.args.place c.args.len _ _ c.if-len-eq0.true)) (c.go.ensures.leaves m)
+pub returns-then-front-eq0-clause-leaves : goal.returns-then-front-eq0-clause-leaves
+returns-then-front-eq0-clause-leaves c m =
+    let none : min c.args.len c.args.self.wanted ≡ 0 = omega (arith, c.min-front.ensures) in
+    subst (λ (x : Course). Leaves x c.go.result.1 (course m c.go.result.0)) (sym (none_moving m c.args.place (min c.args.len c.args.self.wanted) _ _ none))
+    (rw (← behind_front c.args.len c.args.self.wanted, ← c.min-front.ensures) (c.go.ensures.leaves m))
 
 pub returns-clause-leaves : goal.returns-clause-leaves
-returns-clause-leaves c m = (sym (more_moving m c.args.place c.args.len _ _ (omega arith)), refl)
+returns-clause-leaves c m =
+    let some : 0 < min c.args.len c.args.self.wanted = omega (arith, c.min-front.ensures) in
+    (sym (more_moving m c.args.place (min c.args.len c.args.self.wanted) _ _ some), rw (c.min-front.ensures, behind_front c.args.len c.args.self.wanted) refl)
