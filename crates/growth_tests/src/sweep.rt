@@ -245,6 +245,66 @@ fn steps_on<'a>(
     Ok(left)
 }
 
+/// Whether a step is one of the five calls of a world that send, submit or reap: they take no memory.
+fn takes_no_memory(step: &Step) -> bool {
+    matches!(
+        step,
+        Step::Submit { .. }
+            | Step::Reap { .. }
+            | Step::Abort { .. }
+            | Step::DeleteSq { .. }
+            | Step::DeleteCq { .. }
+    )
+}
+
+/// A queue that no script has.
+const NO_QUEUE: u16 = 999;
+
+/// Does the steps of a script, those that take no memory over a heap that refuses each growth: none is asked for, and each answers as it
+/// must. A bench makes room in its own lists before each step: a ring of no queue has it do so before the heap refuses.
+fn steps_without_memory<'a>(
+    rt: &impl Abort,
+    alloc: Global,
+    heap: &'a Heap,
+    bench: &mut Bench<&'a Heap>,
+    script: &Script,
+    wanted: &Wanted,
+) -> Result<(), Fail> {
+    let mut answers = wanted.answers.iter();
+    for numbered in script.lines() {
+        let Line::Step(step) = &numbered.line else {
+            continue;
+        };
+        let made = placed(heap, step)?;
+        if takes_no_memory(step) {
+            let _ring = bench.step(Step::Ring { q: NO_QUEUE })?;
+            heap.refuse(Refusal::NthOn(1));
+        }
+        let answer = bench.step(made);
+        assert_eq!(rt; heap.tally().refused, 0);
+        heap.refuse(Refusal::Never);
+        let text = format!(in alloc; "{:?}", answer?)?;
+        assert_eq!(rt; Some(&text), answers.next());
+    }
+    assert_eq!(rt; Standing::of(alloc, bench)?, wanted.end);
+    Ok(())
+}
+
+/// Plays a script, those of its steps that take no memory over a heap that refuses each growth.
+fn play_without_memory(
+    rt: &impl Abort,
+    alloc: Global,
+    config: Config,
+    script: &Script,
+    wanted: &Wanted,
+) -> Result<(), Fail> {
+    let heap = Refusing::new(alloc);
+    let mut bench = opened(&heap, config)?;
+    let played = steps_without_memory(rt, alloc, &heap, &mut bench, script, wanted);
+    let _ended = bench.end();
+    played
+}
+
 /// Plays a script with one growth of its steps refused, and answers whether there was such a growth.
 fn play(
     rt: &impl Abort,
@@ -262,11 +322,12 @@ fn play(
     Ok(left? == 0)
 }
 
-/// Sees what a script shows, and plays it once for each growth that its steps have.
+/// Sees what a script shows, plays it once for each growth that its steps have, and once with no memory for those that take none.
 pub(crate) fn sweep(rt: &impl Abort, alloc: Global, row: Row) -> Result<(), Fail> {
     look_at(rt, alloc, row.config, row.script, row.shows)?;
     let script = read(alloc, row.script)?;
     let wanted = unrefused(alloc, row.config, &script)?;
+    play_without_memory(rt, alloc, row.config, &script, &wanted)?;
     let mut growths: u64 = 0;
     for growth in 1..MANY {
         if !play(rt, alloc, row.config, &script, &wanted, growth)? {

@@ -5,6 +5,8 @@
 #[cfg(test)]
 mod chains;
 #[cfg(test)]
+mod heaps;
+#[cfg(test)]
 mod jobs;
 #[cfg(test)]
 mod requests;

@@ -5,7 +5,8 @@ use crate::runs::{Narrow, Slow};
 use script_cli::{RunFault, run_steps};
 use std::alloc::Global;
 use std::io;
-use std::io::Write;
+use std::io::{ErrorKind, Write};
+use std::process::Abort;
 use std::test::Fail;
 
 /// How a run of a script's front ends, and how many bytes it wrote.
@@ -129,25 +130,96 @@ fn a_writer_fails_after_each_byte(rt: HostRuntime) -> Result<(), Fail> {
     Ok(())
 }
 
-/// Takes nothing.
-#[derive(Drop)]
-struct Shut;
+/// How a write fails.
+#[derive(Clone, Copy, Debug)]
+enum Failing {
+    /// It answers an error.
+    Refuses,
+    /// It takes no byte.
+    TakesNone,
+}
 
-impl Write for Shut {
-    fn write(&mut self, _buf: &[u8]) -> io::Result<usize> {
-        Ok(0)
+/// Takes all that so many writes bring, and then fails. It can be flushed, or not.
+#[derive(Drop)]
+struct Whole {
+    writes: usize,
+    failing: Failing,
+    flushes: bool,
+    taken: Vec<u8>,
+}
+
+impl Write for Whole {
+    fn write(&mut self, buf: &[u8]) -> io::Result<usize> {
+        if self.writes == 0 {
+            return match self.failing {
+                Failing::Refuses => Err(io::Error::from(ErrorKind::Other)),
+                Failing::TakesNone => Ok(0),
+            };
+        }
+        self.writes = self.writes.saturating_sub(1);
+        self.taken.extend_from_slice(buf)?;
+        Ok(buf.len())
     }
 
     fn flush(&mut self) -> io::Result<()> {
-        Ok(())
+        if self.flushes {
+            Ok(())
+        } else {
+            Err(io::Error::from(ErrorKind::Other))
+        }
     }
 }
 
-#[test]
-fn a_writer_takes_nothing(rt: HostRuntime) -> Result<(), Fail> {
+/// How many bytes of the output so many writes bring: there is one for each line of the script, of which the twelfth brings six lines of
+/// owners, and one for the counts.
+fn bytes_of(writes: usize) -> usize {
+    let mut lines = writes;
+    if writes > 11 {
+        lines = writes.saturating_add(5);
+    }
+    let mut bytes = 0usize;
+    for line in READ_OUTPUT.lines().take(lines) {
+        bytes = bytes.saturating_add(line.len()).saturating_add(1);
+    }
+    bytes
+}
+
+/// Sees how the first script ends over a writer that fails, and that just the output of the writes before stands there.
+fn ends_over(
+    rt: &impl Abort,
+    alloc: Global,
+    (writes, failing, flushes): (usize, Failing, bool),
+    wanted: Result<(), RunFault>,
+) -> Result<(), Fail> {
     let mut reader = READ_SCRIPT.as_bytes();
-    let image = zeros(rt.alloc())?;
-    let end = run_steps(rt.alloc(), USUAL, image, &mut reader, &mut Shut);
-    assert_eq!(rt; end, Err(RunFault::OutputFailed));
+    let mut writer = Whole {
+        writes,
+        failing,
+        flushes,
+        taken: Vec::new(alloc),
+    };
+    let end = run_steps(alloc, USUAL, zeros(alloc)?, &mut reader, &mut writer);
+    assert_eq!(rt; end, wanted, "{writes} {failing:?}");
+    let front = READ_OUTPUT.as_bytes().get(..bytes_of(writes));
+    assert_eq!(rt;
+        Some(writer.taken.as_slice()),
+        front,
+        "{writes} {failing:?}"
+    );
+    Ok(())
+}
+
+/// The first script has fourteen writes.
+#[test]
+fn a_writer_fails_at_each_write(rt: HostRuntime) -> Result<(), Fail> {
+    for failing in [Failing::Refuses, Failing::TakesNone] {
+        for writes in 0..14 {
+            let writer = (writes, failing, true);
+            ends_over(&rt, rt.alloc(), writer, Err(RunFault::OutputFailed))?;
+        }
+        ends_over(&rt, rt.alloc(), (14, failing, true), Ok(()))?;
+        let unflushed = (14, failing, false);
+        ends_over(&rt, rt.alloc(), unflushed, Err(RunFault::OutputFailed))?;
+    }
     Ok(())
 }

@@ -153,6 +153,48 @@ fn readers_without_end(rt: HostRuntime) -> Result<(), Fail> {
     Ok(())
 }
 
+/// Gives one byte at a time, so many of them: comments in lines of 16,384 bytes.
+#[derive(Drop)]
+struct Comments {
+    given: usize,
+    most: usize,
+}
+
+impl Read for Comments {
+    fn read(&mut self, buf: &mut [u8]) -> io::Result<usize> {
+        if buf.is_empty() || self.given >= self.most {
+            return Ok(0);
+        }
+        self.given = self.given.saturating_add(1);
+        buf[0] = if self.given % 16_384 == 0 {
+            b'\n'
+        } else {
+            b'#'
+        };
+        Ok(1)
+    }
+}
+
+/// A script of 1,048,576 bytes is played, however slowly it comes. Of a longer one nothing is.
+#[test]
+fn readers_of_the_most_bytes(rt: HostRuntime) -> Result<(), Fail> {
+    let counts = "counts free 12 queue 4 chain 0 data 0\n";
+    for (most, end, written) in [
+        (1_048_576, Ok(()), counts),
+        (1_048_577, Err(RunFault::TooLong), ""),
+    ] {
+        let Ok(image) = Image::zeroed(rt.alloc(), 1) else {
+            panic!(rt; "no memory");
+        };
+        let mut reader = Comments { given: 0, most };
+        let mut out = Vec::new(rt.alloc());
+        let ended = run_steps(rt.alloc(), USUAL, image, &mut reader, &mut out);
+        assert_eq!(rt; (ended, reader.given), (end, most));
+        assert_eq!(rt; out.as_slice(), written.as_bytes());
+    }
+    Ok(())
+}
+
 #[test]
 fn images(rt: HostRuntime) -> Result<(), Fail> {
     let mut bytes = vec![in rt.alloc(); 17; 512]?;
@@ -162,8 +204,10 @@ fn images(rt: HostRuntime) -> Result<(), Fail> {
     for (len, fails, end) in [
         (1024, false, "2 blocks"),
         (1023, false, "image: BadLength, 2"),
+        (513, false, "image: BadLength, 2"),
         (0, false, "image: BadLength, 2"),
         (1024, true, "image: unreadable, 2"),
+        (700, true, "image: unreadable, 2"),
     ] {
         let rest = &bytes[..len.min(bytes.len())];
         let mut reader = Slow {
