@@ -1,6 +1,6 @@
 //! Replies as text.
 
-ghost use Rattle.std.specs.Prelude.{◌≡◌, ◌++◌, OnOk, string_bytes, codes};
+ghost use Rattle.std.specs.Prelude.{◌≡◌, ◌++◌, OnOk, IfSome, string_bytes, codes, true, replicate};
 ghost use Rattle.std.specs.Fmt.{decimal};
 ghost use Rattle.entry_codec.specs.Status.{status_text};
 ghost use Rattle.machine_model.specs.declared.words.Reaped.TheVariants.{Done};
@@ -46,7 +46,27 @@ fn put_run(out: &mut String, byte: u8, count: usize) -> Result<(), AllocError>
     put_field(out, "*", count as u64)
 }
 
+/// Whether eight bytes are all this one.
+fn are_all(byte: u8, eight: [u8; 8]) -> bool
+    ensures { result ≡ true → eight ≡ replicate 8 byte }
+{
+    u64::from_le_bytes(eight) == u64::from_le_bytes([byte; 8])
+}
+
+/// What stands behind the first eight bytes, if those are all this one.
+fn behind_eight(byte: u8, bytes: &[u8]) -> Option<&[u8]>
+    ensures { IfSome result (λ behind. bytes.now ≡ replicate 8 byte ++ behind.now) }
+{
+    let (eight, behind) = bytes.split_first_chunk::<8>()?;
+    if are_all(byte, *eight) {
+        Some(behind)
+    } else {
+        None
+    }
+}
+
 /// Puts bytes as their longest runs.
+#[tactic(auto, using(crate::proofs::Gathered::eight_more, crate::proofs::Gathered::eight_fewer))]
 pub fn put_gathered(out: &mut String, bytes: &[u8]) -> Result<(), AllocError>
     ensures { OnOk result (string_bytes out.new ≡ string_bytes out.old ++ gathered_text bytes.now) }
 {
@@ -56,15 +76,19 @@ pub fn put_gathered(out: &mut String, bytes: &[u8]) -> Result<(), AllocError>
     let mut byte = *first;
     let mut count = 1usize;
     while let Some((next, others)) = rest.split_first() {
-        if *next == byte {
+        if let Some(behind) = behind_eight(byte, rest) {
+            count += 8;
+            rest = behind;
+        } else if *next == byte {
             count += 1;
+            rest = others;
         } else {
             put_run(out, byte, count)?;
             out.push_str(",")?;
             byte = *next;
             count = 1;
+            rest = others;
         }
-        rest = others;
     }
     put_run(out, byte, count)
 }
