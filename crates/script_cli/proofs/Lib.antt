@@ -8,3 +8,4 @@ pub mod FitLines
 pub mod OwnersThere
 pub mod GoingOn
 pub mod Gathered
+pub mod Names

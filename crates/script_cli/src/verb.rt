@@ -152,10 +152,14 @@ const ALL: [Verb; 19] = [
     Verb::Owners,
 ];
 
-/// Whether a word is this name. Most names differ from it in their first byte.
+/// Whether a word is this name. Most names differ from it in their length or their first byte.
+#[tactic(auto, using(crate::proofs::Names::other_length))]
 fn is_name(name: &[u8], word: &[u8]) -> bool
     ensures { result ≡ bytes_eq name.now word.now }
 {
+    if name.len() != word.len() {
+        return false;
+    }
     let mut name = name;
     let mut word = word;
     while let Some((byte, names)) = name.split_first() {

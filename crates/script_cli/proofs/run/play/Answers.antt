@@ -1,5 +1,5 @@
 -- What was written is what the lines done print; a write that fails leaves a front of it.
-use Rattle.std.proofs.Common.{arith, sym, ◌≡◌, [], ◌∷◌, ◌++◌, ◌∙◌}
+use Rattle.std.proofs.Common.{arith, sym, ◌≡◌, [], ◌∷◌, ◌++◌}
 use Rattle.std.proofs.lemmas.Grind.{common_steps}
 use Rattle.script_cli.specs.Runs.{last_line, IsRunText}
 use Rattle.script_cli.proofs.Runs.{on_ok, on_err, printed_more, cut_between, cut_inside, cut_in_counts, whole_text, kept_gains, whole_is_cut}
