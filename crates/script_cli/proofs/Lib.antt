@@ -7,3 +7,5 @@ pub mod Runs
 pub mod FitLines
 pub mod OwnersThere
 pub mod GoingOn
+pub mod Gathered
+pub mod Names

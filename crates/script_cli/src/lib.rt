@@ -14,6 +14,7 @@ mod fault;
 mod grammar;
 mod input;
 mod lines;
+mod numbers;
 mod output;
 mod owners;
 mod reply;

@@ -1,11 +1,15 @@
 //! Replies as text.
 
-ghost use Rattle.std.specs.Prelude.{◌≡◌, ◌<◌, ◌++◌, OnOk, string_bytes, true, codes};
-ghost use Rattle.std.specs.Fmt.{decimal, digit_glyph};
+ghost use Rattle.std.specs.Prelude.{◌≡◌, ◌++◌, OnOk, IfSome, string_bytes, codes, true, replicate};
+ghost use Rattle.std.specs.Fmt.{decimal};
+ghost use Rattle.entry_codec.specs.Status.{status_text};
+ghost use Rattle.machine_model.specs.declared.words.Reaped.TheVariants.{Done};
 ghost use Rattle.script_cli.specs.Replies.{more_pages, touched_text, run_text, gathered_text, request_fault_name as spec_request_fault_name, fill_fault_name as spec_fill_fault_name, refusal_name as spec_refusal_name, refusal_detail, refusal_text, rejected_name as spec_rejected_name, reaped_text, walk_text, reserved_text, answer_text, reply_line};
 
+use crate::numbers::{put_byte, put_field, put_number, put_status};
 use crate::verb::Verb;
 use controller_walk::WalkState;
+use entry_codec::Status;
 use io_commands::{FillFault, RequestFault};
 use page_memory::PageNo;
 use std::alloc::AllocError;
@@ -17,8 +21,7 @@ fn put_more_pages(out: &mut String, pages: &[PageNo]) -> Result<(), AllocError>
 {
     let mut rest = pages;
     while let Some((page, others)) = rest.split_first() {
-        let number = page.0;
-        write!(out, ",{number}")?;
+        put_field(out, ",", u64::from(page.0))?;
         rest = others;
     }
     Ok(())
@@ -31,34 +34,39 @@ fn put_touched(out: &mut String, touched: &Touched) -> Result<(), AllocError>
     let Some((page, rest)) = touched.pages().split_first() else {
         return out.push_str("-");
     };
-    let number = page.0;
-    write!(out, "{number}")?;
+    put_number(out, u64::from(page.0))?;
     put_more_pages(out, rest)
-}
-
-/// An upper case hexadecimal digit.
-fn digit_char(digit: u8) -> char
-    requires { digit < 16 }
-    ensures value { result ≡ digit_glyph true digit }
-    ensures ascii { result < 128 }
-{
-    if digit < 10 {
-        char::from(b'0' + digit)
-    } else {
-        char::from(b'A' + (digit - 10))
-    }
 }
 
 /// Puts a run of one byte.
 fn put_run(out: &mut String, byte: u8, count: usize) -> Result<(), AllocError>
     ensures { OnOk result (string_bytes out.new ≡ string_bytes out.old ++ run_text byte count) }
 {
-    out.push(digit_char(byte / 16))?;
-    out.push(digit_char(byte % 16))?;
-    write!(out, "*{count}")
+    put_byte(out, byte)?;
+    put_field(out, "*", count as u64)
+}
+
+/// Whether eight bytes are all this one.
+fn are_all(byte: u8, eight: [u8; 8]) -> bool
+    ensures { result ≡ true → eight ≡ replicate 8 byte }
+{
+    u64::from_le_bytes(eight) == u64::from_le_bytes([byte; 8])
+}
+
+/// What stands behind the first eight bytes, if those are all this one.
+fn behind_eight(byte: u8, bytes: &[u8]) -> Option<&[u8]>
+    ensures { IfSome result (λ behind. bytes.now ≡ replicate 8 byte ++ behind.now) }
+{
+    let (eight, behind) = bytes.split_first_chunk::<8>()?;
+    if are_all(byte, *eight) {
+        Some(behind)
+    } else {
+        None
+    }
 }
 
 /// Puts bytes as their longest runs.
+#[tactic(auto, using(crate::proofs::Gathered::eight_more, crate::proofs::Gathered::eight_fewer))]
 pub fn put_gathered(out: &mut String, bytes: &[u8]) -> Result<(), AllocError>
     ensures { OnOk result (string_bytes out.new ≡ string_bytes out.old ++ gathered_text bytes.now) }
 {
@@ -68,15 +76,19 @@ pub fn put_gathered(out: &mut String, bytes: &[u8]) -> Result<(), AllocError>
     let mut byte = *first;
     let mut count = 1usize;
     while let Some((next, others)) = rest.split_first() {
-        if *next == byte {
+        if let Some(behind) = behind_eight(byte, rest) {
+            count += 8;
+            rest = behind;
+        } else if *next == byte {
             count += 1;
+            rest = others;
         } else {
             put_run(out, byte, count)?;
             out.push_str(",")?;
             byte = *next;
             count = 1;
+            rest = others;
         }
-        rest = others;
     }
     put_run(out, byte, count)
 }
@@ -169,13 +181,22 @@ fn put_refusal(out: &mut String, why: Refusal) -> Result<(), AllocError>
     put_refusal_detail(out, why)
 }
 
+/// Puts the status that a command ended with, behind its identifier.
+fn put_done(out: &mut String, cid: u16, status: Status) -> Result<(), AllocError>
+    ensures { OnOk result (string_bytes out.new ≡ string_bytes out.old ++ reaped_text (Done cid status)) }
+{
+    put_field(out, "done cid ", u64::from(cid))?;
+    out.push_str(" status ")?;
+    put_status(out, status)
+}
+
 /// Puts what a reap found.
 fn put_reaped(out: &mut String, what: &Reaped) -> Result<(), AllocError>
     ensures { OnOk result (string_bytes out.new ≡ string_bytes out.old ++ reaped_text what.now) }
 {
     match *what {
         Reaped::Empty => out.push_str("empty"),
-        Reaped::Done { cid, status } => write!(out, "done cid {cid} status {status}"),
+        Reaped::Done { cid, status } => put_done(out, cid, status),
         Reaped::AdminDone { cid, status, dw0 } => {
             write!(out, "admin cid {cid} status {status} dw0 {dw0}")
         }
@@ -221,7 +242,7 @@ fn put_device_answer(
 fn put_fetched(out: &mut String, cid: u16, touched: &Touched) -> Result<(), AllocError>
     ensures { OnOk result (string_bytes out.new ≡ string_bytes out.old ++ (codes "cid " ++ (decimal cid ++ (codes " touched " ++ touched_text touched.now)))) }
 {
-    write!(out, "cid {cid}")?;
+    put_field(out, "cid ", u64::from(cid))?;
     put_touched_word(out, touched)
 }
 
@@ -245,7 +266,18 @@ pub fn put_not_filled(out: &mut String, why: FillFault) -> Result<(), AllocError
 fn put_reserved(out: &mut String, q: u16, cid: u16, data: u32, chain: u32) -> Result<(), AllocError>
     ensures { OnOk result (string_bytes out.new ≡ string_bytes out.old ++ reserved_text q cid «data» chain) }
 {
-    write!(out, "q {q} cid {cid} data {data} chain {chain}")
+    put_field(out, "q ", u64::from(q))?;
+    put_field(out, " cid ", u64::from(cid))?;
+    put_field(out, " data ", u64::from(data))?;
+    put_field(out, " chain ", u64::from(chain))
+}
+
+/// Puts the status that a collect took.
+fn put_collected(out: &mut String, status: Status) -> Result<(), AllocError>
+    ensures { OnOk result (string_bytes out.new ≡ string_bytes out.old ++ (codes "status " ++ status_text status)) }
+{
+    out.push_str("status ")?;
+    put_status(out, status)
 }
 
 /// Puts an answer.
@@ -264,9 +296,9 @@ fn put_answer(out: &mut String, reply: &Reply) -> Result<(), AllocError>
         Reply::Walked { state, touched } => put_device_answer(out, *state, touched),
         Reply::Completed { touched } => put_completed(out, touched),
         Reply::Reaps(what) => put_reaped(out, what),
-        Reply::Collected(status) => write!(out, "status {status}"),
+        Reply::Collected(status) => put_collected(out, *status),
         Reply::Gathered(bytes) => put_gathered(out, bytes.as_slice()),
-        Reply::Sent { cid } => write!(out, "cid {cid}"),
+        Reply::Sent { cid } => put_field(out, "cid ", u64::from(*cid)),
         Reply::NoValue => out.push_str("refused NoValue"),
         Reply::NotFilled(why) => put_not_filled(out, *why),
         Reply::Refused { why, .. } => put_refusal(out, *why),
@@ -286,8 +318,10 @@ pub fn append_reply(
 ) -> Result<(), AllocError>
     ensures { OnOk result (string_bytes out.new ≡ string_bytes out.old ++ reply_line number verb reply.now) }
 {
-    let name = verb.name();
-    write!(out, "{number} {name} ")?;
+    put_number(out, u64::from(number))?;
+    out.push(' ')?;
+    out.push_str(verb.name())?;
+    out.push(' ')?;
     put_answer(out, reply)?;
-    out.push_str("\n")
+    out.push('\n')
 }

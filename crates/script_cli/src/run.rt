@@ -1,6 +1,6 @@
 //! A script, played over a world that it opens.
 
-ghost use Rattle.std.specs.Prelude.{◌≡◌, ◌≤◌, ◌⊎◌, length, OnOk, OnErr, IfOk, IfErr, None, string_bytes};
+ghost use Rattle.std.specs.Prelude.{◌≡◌, ◌≤◌, ◌⊎◌, [], length, OnOk, OnErr, IfOk, IfErr, None, string_bytes};
 ghost use Rattle.block_image.specs.Blocks.{IsImage};
 ghost use Rattle.machine_model.specs.Claims.{counts_of};
 ghost use Rattle.machine_model.specs.Script.{table};
@@ -68,34 +68,29 @@ fn all_owners(alloc: Global, bench: &Bench) -> Result<Vec<Owner>, AllocError>
     Ok(owners)
 }
 
-/// Does what a line says, and answers what it prints.
-fn play_line(alloc: Global, bench: &mut Bench, numbered: Numbered) -> Result<String, AllocError>
-    ensures { IfOk result (λ text. PrintsLine bench.old numbered.number numbered.line (string_bytes text) bench.new) }
+/// Does what a line says, and leaves what it prints in an empty text.
+fn play_line(
+    alloc: Global,
+    bench: &mut Bench,
+    numbered: Numbered,
+    text: &mut String,
+) -> Result<(), AllocError>
+    requires empty { string_bytes text.old ≡ [] }
+    ensures { OnOk result (PrintsLine bench.old numbered.number numbered.line (string_bytes text.new) bench.new) }
 {
     let number = numbered.number;
-    let mut text = String::new(alloc);
     match numbered.line {
         Line::Step(step) => {
             let verb = Verb::of(&step);
             let reply = bench.step(step)?;
-            append_reply(&mut text, number, verb, &reply)?;
+            append_reply(text, number, verb, &reply)
         }
         Line::Owners => {
             let owners = all_owners(alloc, bench)?;
-            append_owners(&mut text, &owners)?;
+            append_owners(text, &owners)
         }
-        Line::Nothing => {}
+        Line::Nothing => Ok(()),
     }
-    Ok(text)
-}
-
-/// What a run prints last.
-fn counts_text(alloc: Global, bench: &Bench) -> Result<String, AllocError>
-    ensures { IfOk result (λ text. string_bytes text ≡ counts_line (counts_of bench.now.world.host)) }
-{
-    let mut text = String::new(alloc);
-    append_counts(&mut text, bench.counts())?;
-    Ok(text)
 }
 
 /// Plays a script, and writes what it prints.
@@ -109,11 +104,14 @@ fn play<W: Write>(
     ensures cut { OnErr result (Gains (W.contents writer.old) (W.contents writer.new) (IsFrontOfFirst bench.old script)) }
     ensures fault { IfErr result (λ fault. (fault ≡ run.Memory) ⊎ (fault ≡ run.OutputFailed)) }
 {
+    let mut text = String::new(alloc);
     for numbered in script.into_lines() {
-        let text = play_line(alloc, bench, numbered)?;
+        text.clear();
+        play_line(alloc, bench, numbered, &mut text)?;
         put(writer, text.as_bytes())?;
     }
-    let text = counts_text(alloc, bench)?;
+    text.clear();
+    append_counts(&mut text, bench.counts())?;
     put(writer, text.as_bytes())?;
     flush(writer)
 }

@@ -1,6 +1,7 @@
 //! The verbs of a script.
 
 ghost use Rattle.std.specs.Prelude.{◌≡◌};
+ghost use Rattle.std.specs.Str.{bytes_eq};
 ghost use Rattle.script_cli.specs.Verbs.{queue_verb_text, command_verb_text, verb_text, queue_step, command_step, first_named, verb_named, verb_of};
 
 use step_core::Step;
@@ -151,6 +152,29 @@ const ALL: [Verb; 19] = [
     Verb::Owners,
 ];
 
+/// Whether a word is this name. Most names differ from it in their length or their first byte.
+#[tactic(auto, using(crate::proofs::Names::other_length))]
+fn is_name(name: &[u8], word: &[u8]) -> bool
+    ensures { result ≡ bytes_eq name.now word.now }
+{
+    if name.len() != word.len() {
+        return false;
+    }
+    let mut name = name;
+    let mut word = word;
+    while let Some((byte, names)) = name.split_first() {
+        let Some((other, words)) = word.split_first() else {
+            return false;
+        };
+        if *byte != *other {
+            return false;
+        }
+        name = names;
+        word = words;
+    }
+    word.is_empty()
+}
+
 /// The first of these verbs that a word names.
 #[tactic(auto, unfolding(crate::specs::Verbs::first_named))]
 fn find_named(verbs: &[Verb], word: &[u8]) -> Option<Verb>
@@ -158,7 +182,7 @@ fn find_named(verbs: &[Verb], word: &[u8]) -> Option<Verb>
 {
     let mut rest = verbs;
     while let Some((verb, others)) = rest.split_first() {
-        if verb.name().as_bytes() == word {
+        if is_name(verb.name().as_bytes(), word) {
             return Some(*verb);
         }
         rest = others;
