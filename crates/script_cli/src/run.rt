@@ -77,7 +77,7 @@ fn play_line(alloc: Global, bench: &mut Bench, numbered: Numbered) -> Result<Str
     match numbered.line {
         Line::Step(step) => {
             let verb = Verb::of(&step);
-            let reply = bench.step(step)?;
+            let reply = bench.step(step);
             append_reply(&mut text, number, verb, &reply)?;
         }
         Line::Owners => {
