@@ -1,5 +1,5 @@
 -- What ties a bench's values to its world, kept: values are taken out of their rows and put back, and the world goes on.
-use Rattle.std.proofs.Common.{◌≡◌, ℕ, zero, suc, ◌+◌, ◌-◌, ◌<◌, ◌==◌, Bool, true, false, ◌&&◌, Option, Some, None, List, [], ◌∷◌, ◌++◌, length, slice_get, refl, ap, ap₂, sym, ◌∙◌, subst, eqb-true, eq-eqb}
+use Rattle.std.proofs.Common.{◌≡◌, ℕ, zero, suc, ◌+◌, ◌-◌, ◌<◌, ◌==◌, Bool, true, false, ◌&&◌, Option, Some, None, List, [], ◌∷◌, length, slice_get, IfNone, IfSome, refl, ap, ap₂, sym, ◌∙◌, subst, eqb-true, eq-eqb, arith}
 use Rattle.std.specs.List.{AllByRecursion}
 use Rattle.std.proofs.lemmas.Bool.{true≢false, and_parts}
 use Rattle.io_commands.specs.Asked.{Request}
@@ -11,33 +11,48 @@ use Rattle.machine_model.specs.Image.{is_draft}
 use Rattle.machine_model.specs.Opening.{queues_from}
 use Rattle.machine_model.specs.Script.{is_finished, is_ticket}
 use Rattle.machine_model.specs.State.{State, HostQueue}
-use Rattle.machine_model.specs.Step.{Step, IsNewIdentifier}
+use Rattle.machine_model.specs.Step.{Step, IsReserved}
 use Rattle.machine_model.proofs.Moves.{drafted_record, live_queue}
 use Rattle.machine_model.proofs.Refused.{unrefused}
-use Rattle.host_core.proofs.Lists.{all-all, all-append}
+use Rattle.host_core.proofs.Lists.{all-all, all-append, some_is}
 use Rattle.host_core.specs.declared.config.Config.{Config}
-use Rattle.slot_table.specs.Table.{Row, TableOf, IsPlace, AreInside, IsDistinct, is_at, value_at, with_row, with_value, without}
+use Rattle.page_memory.specs.declared.page.Half.TheVariants.{Submission, Completion}
+use Rattle.queue_pair.specs.Memory.{half_pages}
+use Rattle.slot_table.specs.Table.{Row, TableOf, IsPlace, IsDistinct, is_at, value_at, with_row, with_value, without}
 use Rattle.slot_table.proofs.Walks.{none_stands}
-use Rattle.step_core.specs.Kept.{as_draft, as_ticket, as_finished, queue_of, identifier_of, picked, IsOutstanding, IsHeld, IsBench, IsOut}
+use Rattle.step_core.specs.Kept.{as_draft, as_ticket, as_finished, queue_of, identifier_of, IsOutstanding, IsHeld, IsBench, IsOut}
 use Rattle.step_core.specs.Opening.{opening_of}
 use Rattle.step_core.specs.declared.kept.Value.{Value}
 use Rattle.step_core.specs.declared.kept.Value.TheVariants as value
-use Rattle.step_core.proofs.Outstanding.{SameLimits, ends_by, limits_stay, none_there, record_reserved, reserved_ok, stays_outstanding}
+use Rattle.step_core.proofs.Outstanding.{ends_by, limits_stay, none_there, record_reserved, reserved_ok, stays_outstanding}
 use Rattle.step_core.proofs.Records.{found_any}
-use Rattle.step_core.proofs.Rows.{all_with_value, all_without_row, distinct_more, distinct_with, distinct_without, holds_there, inside_more, inside_with, inside_without, gone, names, place_of_row, value_with, with_same, with_twice, without_with, IsNamed}
+use Rattle.step_core.proofs.Rows.{all_with_value, all_without_row, distinct_more, distinct_with, distinct_without, holds_there, inside_more, inside_with, inside_without, gone, gone_none, place_of_row, value_with, with_same, with_twice, without_with, IsNamed}
 
 -- Queues as they open
 
 length-queues_from : (page n count : ℕ) → length (queues_from page n count) ≡ count
 length-queues_from page n zero = refl
-length-queues_from page n (suc count) = ap suc (length-queues_from _ n count)
+length-queues_from page n (suc count) = ap suc (length-queues_from (page + half_pages n Submission + half_pages n Completion) n count)
+
+-- The queue of a reservation is there
+
+within : (queues : List HostQueue) (q : ℕ) (queue : HostQueue) → slice_get queues q ≡ Some queue → q < length queues
+within [] q queue at = absurd cc
+within (x ∷ xs) zero queue at = omega arith
+within (x ∷ xs) (suc q) queue at = let h = within xs q queue at in omega arith
+
+queue_there : (s new : State) (q : ℕ) (request : Request) (d : DraftContents) → Step s (events.Reserve q request) (events.Reserved d) new → q < length s.host.queues
+queue_there s new q request d step =
+    let fails = unrefused s (events.Reserve q request) (reserved_ok s new q request d step).0 in
+    let x = live_queue s q fails.0 fails.1.0 in
+    within s.host.queues q x.0 x.1.there
 
 -- Names
 
-module _ {A : Type 0} where
-  same_names : (a b k n q cid : ℕ) → a ≡ k → b ≡ n → ((a == q) && (b == cid)) ≡ ((k == q) && (n == cid))
-  same_names a b k n q cid queue identifier = ap₂ (λ (x y : ℕ). (x == q) && (y == cid)) queue identifier
+same_names : (a b k n q cid : ℕ) → a ≡ k → b ≡ n → ((a == q) && (b == cid)) ≡ ((k == q) && (n == cid))
+same_names a b k n q cid queue identifier = ap₂ (λ (x y : ℕ). (x == q) && (y == cid)) queue identifier
 
+module _ {A : Type 0} where
   names_draft : (v : Value A) (row : Row (Option (Value A))) (d : DraftContents) → as_draft (Some v) ≡ Some d → queue_of v ≡ row.q → identifier_of v ≡ row.cid → (q cid : ℕ) → is_draft q cid d ≡ is_at row q cid
   names_draft (value.Draft x) row d e queue identifier q cid =
       let same : x ≡ d = cc in
@@ -71,16 +86,25 @@ module _ {A : Type 0} where
   finished_named s values b =
       all-all (IsHeld s.host.records) (IsNamed as_finished is_finished) (λ row h f e. names_finished h.value row f (ap as_finished (sym h.held) ∙ e) h.queue h.identifier) values.rows b.held
 
-  same_value : {X : Type 0} {x y : X} → Some x ≡ Some y → x ≡ y
-  same_value e = cc
-
   -- a value's name is that of its row
   pub named_there : (s : State) (values : TableOf (Option (Value A))) (q cid : ℕ) (v : Value A) → IsBench s values → value_at values.rows q cid ≡ Some (Some v) → (queue_of v ≡ q) × (identifier_of v ≡ cid)
   named_there s values q cid v b there =
       let at = holds_there (IsHeld s.host.records) values.rows q cid (Some v) there b.held in
       let h = at.4 in
-      let same : h.value ≡ v = same_value (sym h.held ∙ at.3) in
+      let same : h.value ≡ v = some_is (sym h.held ∙ at.3) in
       (ap queue_of (sym same) ∙ h.queue ∙ at.1, ap identifier_of (sym same) ∙ h.identifier ∙ at.2)
+
+  -- Nothing is taken out of an empty row, and a row that was dropped is gone
+
+  pub none_taken : (values : TableOf (Option (Value A))) (q cid : ℕ) (held left result : Option (Value A)) → value_at values.rows q cid ≡ Some held → result ≡ held → left ≡ None
+      → IfNone result (record values { rows = with_value values.rows q cid left } ≡ values)
+  none_taken values q cid held left (Some v) there is out = tt
+  none_taken values q cid held left None there is out =
+      ap (λ (rows : List (Row (Option (Value A)))). record values { rows = rows }) (with_same values.rows q cid left (there ∙ ap Some (sym is ∙ sym out)))
+
+  pub row_gone : (rows : List (Row (Option (Value A)))) (q cid : ℕ) (result : Option (Option (Value A))) → result ≡ value_at rows q cid → IfSome result (λ _. IsDistinct rows) → value_at (without rows q cid) q cid ≡ None
+  row_gone rows q cid None is d = gone_none rows q cid (sym is)
+  row_gone rows q cid (Some held) is d = gone rows q cid d
 
   -- Rows, once a value was taken out
 
@@ -147,7 +171,7 @@ module _ {A : Type 0} where
     where
       on : (row : Row (Option (Value A))) → row.value ≡ Some v → IsHeld s.host.records row → IsHeld s.host.records (record row { value = Some w })
       on row is h =
-          let same : h.value ≡ v = same_value (sym h.held ∙ is) in
+          let same : h.value ≡ v = some_is (sym h.held ∙ is) in
           record { value = w; held = refl; queue = queue ∙ ap queue_of (sym same) ∙ h.queue; identifier = identifier ∙ ap identifier_of (sym same) ∙ h.identifier; outstanding = h.outstanding }
 
   -- a value gives way to the next one of its name
@@ -209,16 +233,6 @@ module _ {A : Type 0} where
 
   -- A reservation
 
-  -- its queue is there
-  queue_there : (s new : State) (q : ℕ) (request : Request) (d : DraftContents) → Step s (events.Reserve q request) (events.Reserved d) new → q < length s.host.queues
-  queue_there s new q request d step =
-      let fails = unrefused s (events.Reserve q request) (reserved_ok s new q request d step).0 in
-      let x = live_queue s q fails.0 fails.1.0 in
-      within s.host.queues q x.0 x.1.there
-    where
-      within : (queues : List HostQueue) (q : ℕ) (queue : HostQueue) → slice_get queues q ≡ Some queue → q < length queues
-      within queues q queue at = grind (arith)
-
   -- its place is one of the table, and is free
   pub place_free : (s new : State) (q : ℕ) (request : Request) (d : DraftContents) (values : TableOf (Option (Value A))) → Step s (events.Reserve q request) (events.Reserved d) new → IsBench s values
       → IsPlace values q d.cid × (value_at values.rows q d.cid ≡ None)
@@ -230,6 +244,7 @@ module _ {A : Type 0} where
     free (value_at values.rows q d.cid) refl,
   )
     where
+      r : IsReserved s q request d
       r = (reserved_ok s new q request d step).1
 
       free : (o : Option (Option (Value A))) → value_at values.rows q d.cid ≡ o → o ≡ None

@@ -1,24 +1,29 @@
 -- An I/O command stays outstanding until it is cancelled or released, whatever else happens; and no event changes how many queues there are.
-use Rattle.std.proofs.Common.{◌≡◌, ℕ, ◌==◌, Bool, true, false, not, ◌&&◌, ◌||◌, Some, None, List, [], ◌∷◌, ◌++◌, length, map, find, if◌then◌else◌, refl, ap, sym, ◌∙◌, subst, MatchBool, eq-eqb}
+use Rattle.std.proofs.Common.{◌≡◌, ℕ, ◌==◌, Bool, true, false, not, ◌&&◌, ◌||◌, Option, Some, None, List, [], ◌∷◌, ◌++◌, length, map, find, if◌then◌else◌, refl, ap, sym, ◌∙◌, subst, MatchBool, eq-eqb}
 use Rattle.std.proofs.lemmas.Bool.{true≢false, not-true}
 use Rattle.std.specs.List.{list_any}
+use Rattle.std.specs.Option.{option_and_then, option_map}
 use Rattle.admin_commands.specs.declared.AdminKind.TheVariants.{Abort, DeleteSq, DeleteCq}
 use Rattle.admin_commands.specs.declared.AdminKind.{AdminKind}
 use Rattle.entry_codec.specs.declared.status.TheConstants.Status.{ABORTED_SQ_DELETION}
 use Rattle.io_commands.specs.Asked.{Request}
+use Rattle.entry_codec.specs.declared.status.Status.{Status}
 use Rattle.io_commands.specs.Drafts.{DraftContents}
+use Rattle.io_commands.specs.Values.{FinishedContents}
+use Rattle.machine_model.specs.declared.words.Phase.TheVariants.{Held}
 use Rattle.machine_model.specs.declared.words.Work.TheVariants.{Io, Management}
-use Rattle.machine_model.specs.State.{State, HostQueue, Record, Held, is_at, record_at, with_record, without_record}
+use Rattle.machine_model.specs.State.{State, HostQueue, Record, is_at, record_at, with_record, without_record}
 use Rattle.machine_model.specs.Refusals.{is_submitted, refusal_of}
-use Rattle.machine_model.specs.Step.{Step, HostPart, IsController, IsReserved, IsNewIdentifier, Permits, host_part}
+use Rattle.machine_model.specs.Step.{Step, HostPart, IsController, IsReserved, IsNewIdentifier, Permits, asked_by, finished_from, host_part, pages_with_bytes}
 use Rattle.machine_model.specs.After as a
 use Rattle.machine_model.specs.Events as events
 use Rattle.machine_model.specs.Events.{Event, Reply}
 use Rattle.machine_model.proofs.Frames.{host_leaves}
 use Rattle.machine_model.proofs.Moves.{host_moves, drafted_record, sent_record}
-use Rattle.machine_model.proofs.Steps.{Accepts, each_step, part_controller, part_left}
+use Rattle.machine_model.proofs.PlacesKept.{ids_of}
+use Rattle.machine_model.proofs.Steps.{Accepts, part_controller, part_left}
 use Rattle.host_core.proofs.Identifiers.{outstanding-among}
-use Rattle.host_core.proofs.Lists.{length-change}
+use Rattle.host_core.proofs.Lists.{length-change, some_is}
 use Rattle.step_core.specs.Kept.{IsOutstanding}
 use Rattle.step_core.proofs.Records.{find_more, find_last, find_changed, other_than, apart, found_with, found_without}
 
@@ -94,13 +99,13 @@ event_keeps q cid s e reply far ok c h =
     far
   where
     more : (new : List Record) → IsOutstanding q cid (s.host.records ++ new)
-    more new = (h.0, find_more (is_at q cid) s.host.records new h.0 h.1, h.2)
+    more new = (h.0, find_more (is_at q cid) s.host.records new h.0 h.1, h.2, h.3)
 
     without : (k n : ℕ) → ((k == q) && (n == cid)) ≡ false → IsOutstanding q cid (without_record k n s.host.records)
-    without k n far = (h.0, found_without q cid k n s.host.records h.0 h.1 far, h.2)
+    without k n far = (h.0, found_without q cid k n s.host.records h.0 h.1 far, h.2, h.3)
 
     unlike : (x : Record) (adm : AdminKind) → x.work ≡ Management adm → x ≡ h.0 → ⊥
-    unlike x adm w same = let bad : Management adm ≡ Io h.2.0 = sym w ∙ ap (λ (y : Record). y.work) same ∙ h.2.1 in cc
+    unlike x adm w same = let bad : Management adm ≡ Io h.2 = sym w ∙ ap (λ (y : Record). y.work) same ∙ h.3 in cc
 
     managed : (k n : ℕ) (x : Record) (adm : AdminKind) → record_at s.host k n ≡ Some x → x.work ≡ Management adm → IsOutstanding q cid (without_record k n s.host.records)
     managed k n x adm there w = without k n (apart q cid k n s.host.records h.0 h.1 (other_than q cid k n s.host.records h.0 h.1 x there (unlike x adm w)))
@@ -133,6 +138,32 @@ pub record_reserved : (s new : State) (q : ℕ) (request : Request) (d : DraftCo
 record_reserved s new q request d step =
     ap (λ (part : HostPart). find (is_at d.q d.cid) part.host.records) (part_left s (events.Reserve q request) (events.Reserved d) new step.2)
     ∙ find_last (is_at d.q d.cid) s.host.records (drafted_record d) (none_there s new q request d step) (rw (eq-eqb d.q d.q refl, eq-eqb d.cid d.cid refl) refl)
+
+-- A collection
+
+names_of : (s : State) (r : Record) (f : FinishedContents) (asked : Option Request) (o : Option Status)
+    → option_and_then
+    (λ (request : Request). option_map
+    (λ (st : Status). record { q = r.q; cid = r.cid; request = request; status = st; data_pages = pages_with_bytes s.memory r.data_pages; chain_pages = pages_with_bytes s.memory r.chain_pages })
+    o)
+    asked ≡ Some f → (f.q ≡ r.q) × (f.cid ≡ r.cid)
+names_of s r f None o e = absurd cc
+names_of s r f (Some request) None e = absurd cc
+names_of s r f (Some request) (Some st) e = let same = some_is e in (ap (λ (x : FinishedContents). x.q) (sym same), ap (λ (x : FinishedContents). x.cid) (sym same))
+
+-- gives a command of the name that was asked for
+pub collected_named : (s new : State) (q cid : ℕ) (f : FinishedContents) → Step s (events.Collect q cid) (events.Collects f) new → (f.q ≡ q) × (f.cid ≡ cid)
+collected_named s new q cid f step = go (record_at s.host q cid) refl ok.1
+  where
+    ok : (refusal_of s (events.Collect q cid) ≡ None) × (option_and_then (finished_from s) (record_at s.host q cid) ≡ Some f)
+    ok = accepted _ s.trusted step.1
+
+    go : (o : Option Record) → record_at s.host q cid ≡ o → option_and_then (finished_from s) o ≡ Some f → (f.q ≡ q) × (f.cid ≡ cid)
+    go None e h = absurd cc
+    go (Some r) e h =
+        let its = names_of s r f (asked_by r.work) r.status h in
+        let ids = ids_of s q cid r e in
+        (its.0 ∙ ids.0, its.1 ∙ ids.1)
 
 -- How many queues there are
 

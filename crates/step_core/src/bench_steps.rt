@@ -7,7 +7,7 @@ ghost use Rattle.step_core.specs.Kept.{table_of, IsBench};
 use crate::fill::{build_draft, fill_draft, no_memory};
 use crate::kept::{Kept, Value};
 use crate::kept_values::{
-    drop_row, put_back, put_next, take_draft, take_finished, take_ticket,
+    drop_row, finished_in, put_back, put_next, take_draft, take_finished, take_ticket,
 };
 use crate::refused::{StepRefused, none_touched};
 use crate::step::{Bytes, Reply, ReplyIn, Step, StepIn};
@@ -220,7 +220,7 @@ impl<A: Allocator + Copy> Kept<A> {
         ensures does { Does (table_of self.old) (Step.Gather q cid) result (table_of self.new) }
         ensures kept { IsBench self.new.world self.new.values }
     {
-        let Some(Some(Value::Finished(finished))) = self.values.get(q, cid) else {
+        let Some(finished) = finished_in(&self.values, q, cid) else {
             return Reply::NoValue;
         };
         match finished.gather(self.alloc) {

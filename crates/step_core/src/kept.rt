@@ -1,6 +1,8 @@
 //! What a bench holds.
 
-ghost use Rattle.step_core.specs.Kept.{IsDraftOf, IsTicketOf, IsFinishedOf};
+ghost use Rattle.std.specs.Prelude.{◌≡◌, Some};
+ghost use Rattle.std.specs.Option.{option_copied};
+ghost use Rattle.step_core.specs.Kept.{as_finished, IsDraftOf, IsTicketOf, IsFinishedOf};
 
 use crate::world::World;
 use io_commands::{Draft, Finished, Ticket};
@@ -18,6 +20,16 @@ pub(crate) enum Value<A: Allocator> {
 }
 
 impl<A: Allocator> Value<A> {
+    /// The finished command, if it is one.
+    pub(crate) fn finished(&self) -> Option<&Finished<A>>
+        ensures { option_copied result ≡ as_finished (Some self.now) }
+    {
+        match self {
+            Value::Finished(finished) => Some(finished),
+            Value::Draft(_) | Value::Ticket(_) => None,
+        }
+    }
+
     /// The draft, or another value as it was.
     pub(crate) fn into_draft(self) -> Result<Draft<A>, Self>
         ensures { IsDraftOf self result }

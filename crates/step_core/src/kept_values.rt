@@ -1,13 +1,25 @@
 //! Values by queue and identifier: taken out of their rows, and put back.
 
 ghost use Rattle.std.specs.Prelude.{◌≡◌, None, Some, IfSome, IfNone};
-ghost use Rattle.std.specs.Option.{option_and_then};
+ghost use Rattle.std.specs.Option.{option_and_then, option_copied};
 ghost use Rattle.slot_table.specs.Table.{IsPlace, value_at, with_row, with_value, without};
 ghost use Rattle.step_core.specs.Kept.{IsOut, as_draft, as_finished, as_ticket};
 
 use crate::kept::{Value, Values};
 use io_commands::{Draft, Finished, Ticket};
 use std::alloc::Allocator;
+
+/// A finished command in its row.
+pub(crate) fn finished_in<A: Allocator>(
+    values: &Values<A>,
+    q: u16,
+    cid: u16,
+) -> Option<&Finished<A>>
+    ensures { option_copied result ≡ option_and_then as_finished (value_at values.now.rows q cid) }
+{
+    let value = values.get(q, cid)?.as_ref()?;
+    value.finished()
+}
 
 /// Takes a command's value out of its row. The row stays, and is empty.
 fn take_value<A: Allocator>(values: &mut Values<A>, q: u16, cid: u16) -> Option<Value<A>>
@@ -48,11 +60,7 @@ pub(crate) fn put_next<A: Allocator>(values: &mut Values<A>, q: u16, cid: u16, v
 }
 
 /// Takes a command's draft out of its row.
-pub(crate) fn take_draft<A: Allocator>(
-    values: &mut Values<A>,
-    q: u16,
-    cid: u16,
-) -> Option<Draft<A>>
+pub(crate) fn take_draft<A: Allocator>(values: &mut Values<A>, q: u16, cid: u16) -> Option<Draft<A>>
     ensures out { IfSome result (λ draft. IsOut values.old q cid (Value.Draft draft) values.new) }
     ensures none { IfNone result (option_and_then as_draft (value_at values.old.rows q cid) ≡ None) }
     ensures kept { IfNone result (values.new ≡ values.old) }
@@ -67,11 +75,7 @@ pub(crate) fn take_draft<A: Allocator>(
 }
 
 /// Takes a command's ticket out of its row.
-pub(crate) fn take_ticket<A: Allocator>(
-    values: &mut Values<A>,
-    q: u16,
-    cid: u16,
-) -> Option<Ticket>
+pub(crate) fn take_ticket<A: Allocator>(values: &mut Values<A>, q: u16, cid: u16) -> Option<Ticket>
     ensures out { IfSome result (λ ticket. IsOut values.old q cid (Value.Ticket ticket) values.new) }
     ensures none { IfNone result (option_and_then as_ticket (value_at values.old.rows q cid) ≡ None) }
     ensures kept { IfNone result (values.new ≡ values.old) }
