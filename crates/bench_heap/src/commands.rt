@@ -35,7 +35,7 @@ fn did<'a>(
     step: StepIn<&'a LocalHeap>,
     used: &mut Used,
 ) -> Result<(), Fault> {
-    let reply = bench.step(step)?;
+    let reply = bench.step(step);
     used.note(heap.used());
     match reply {
         Reply::Refused { .. } | Reply::NoValue | Reply::NotFilled(_) => Err(Fault::Refused),

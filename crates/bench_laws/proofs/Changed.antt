@@ -51,21 +51,3 @@ find_without_other {X} p test far (x ∷ xs) = go (test x) refl (find_without_ot
     go : (b : Bool) → test x ≡ b → find p (without_first test xs) ≡ find p xs → find p (if b then xs else x ∷ without_first test xs) ≡ cond (p x) (Some x) (find p xs)
     go true is ih = sym (ap (λ (c : Bool). cond c (Some x) (find p xs)) (far x is))
     go false is ih = ap (cond (p x) (Some x)) ih
-
--- With one more
-
-pub find_last : {X : Type 0} (p : X → Bool) (xs : List X) (y : X) → list_any p xs ≡ false → p y ≡ true → find p (xs ++ y ∷ []) ≡ Some y
-find_last p [] y none is = ap (λ (b : Bool). cond b (Some y) None) is
-find_last {X} p (x ∷ xs) y none is = go (p x) none (find_last p xs y)
-  where
-    go : (b : Bool) → (b || list_any p xs) ≡ false → (list_any p xs ≡ false → p y ≡ true → find p (xs ++ y ∷ []) ≡ Some y) → cond b (Some x) (find p (xs ++ y ∷ [])) ≡ Some y
-    go true none ih = absurd (true≢false none)
-    go false none ih = ih none is
-
-pub found_any : {X : Type 0} (p : X → Bool) (xs : List X) (y : X) → find p xs ≡ Some y → list_any p xs ≡ true
-found_any p [] y e = absurd cc
-found_any {X} p (x ∷ xs) y e = go (p x) e (found_any p xs y)
-  where
-    go : (b : Bool) → cond b (Some x) (find p xs) ≡ Some y → (find p xs ≡ Some y → list_any p xs ≡ true) → (b || list_any p xs) ≡ true
-    go true e ih = refl
-    go false e ih = ih e

@@ -15,13 +15,15 @@ use Rattle.machine_model.specs.declared.words.Phase.TheVariants.{Drafted}
 use Rattle.machine_model.specs.Step as machine
 use Rattle.machine_model.specs.Step.{IsReserved, IsNewIdentifier, HostPart}
 use Rattle.machine_model.specs.declared.words.Work.TheVariants.{Io}
-use Rattle.machine_model.proofs.Steps.{part_left}
+use Rattle.machine_model.proofs.Moves.{drafted_record}
 use Rattle.host_core.proofs.Identifiers.{outstanding-among}
 use Rattle.step_core.specs.Values.{Reply}
 use Rattle.step_core.specs.Values.{Step}
 use Rattle.step_core.specs.Bench.{with_first, without_first}
 use Rattle.bench_laws.specs.Values.{Done, Goes}
-use Rattle.bench_laws.proofs.Changed.{any_with, few_with, find_last, found_any}
+use Rattle.bench_laws.proofs.Changed.{any_with, few_with}
+use Rattle.step_core.proofs.Outstanding.{none_there, record_reserved, reserved_ok}
+use Rattle.step_core.proofs.Records.{found_any}
 use Rattle.bench_laws.proofs.DraftMoves.{DraftMove, Rested, Stepped, Added, Filled, Built, Taken, moves}
 use Rattle.bench_laws.proofs.Lists.{Few, few_more, few_without, gone, any_without, any_of_more}
 use Rattle.bench_laws.proofs.Standing.{Drafts, step_drafts, takes_by}
@@ -31,23 +33,6 @@ pub record DraftsStand (t : Table) : Type 0 where
   pub few : (q cid : ℕ) → Few (is_draft q cid) t.drafts
 
 -- A reservation
-
-accepted : {A : Type 0} (B : Type 0) (b : Bool) → MatchBool (b || true) A B → A
-accepted B true h = h
-accepted B false h = h
-
-pub reserved_is : (s new : State) (q : ℕ) (request : Request) (d : DraftContents) → machine.Step s (events.Reserve q request) (events.Reserved d) new → IsReserved s q request d
-reserved_is s new q request d step = of (accepted _ s.trusted step.1)
-  where
-    of : (refusal_of s (events.Reserve q request) ≡ None) × IsReserved s q request d → IsReserved s q request d
-    of ok = ok.1
-
--- its identifier is new
-none_there : (s new : State) (q : ℕ) (request : Request) (d : DraftContents) → machine.Step s (events.Reserve q request) (events.Reserved d) new → list_any (is_at d.q d.cid) s.host.records ≡ false
-none_there s new q request d step =
-    let r = reserved_is s new q request d step in
-    let fresh : IsNewIdentifier s d.q d.cid = subst (λ (k : ℕ). IsNewIdentifier s k d.cid) (sym r.queue) r.identifier in
-    outstanding-among s.host d.q d.cid ∙ not-true _ fresh.unused
 
 pub none_named : (t : Table) (new : State) (q : ℕ) (request : Request) (d : DraftContents) → machine.Step t.world (events.Reserve q request) (events.Reserved d) new → DraftsStand t → list_any (is_draft d.q d.cid) t.drafts ≡ false
 none_named t new q request d step h = go (list_any (is_draft d.q d.cid) t.drafts) refl
@@ -59,15 +44,7 @@ none_named t new q request d step h = go (list_any (is_draft d.q d.cid) t.drafts
         absurd (true≢false (sym (found_any (is_at d.q d.cid) t.world.host.records s.0 s.1) ∙ none_there t.world new q request d step))
 
 reserved_drafted : (s new : State) (q : ℕ) (request : Request) (d : DraftContents) → machine.Step s (events.Reserve q request) (events.Reserved d) new → Drafts d.q d.cid new.host.records
-reserved_drafted s new q request d step =
-    subst (λ (part : HostPart). Drafts d.q d.cid part.host.records) (sym (part_left s (events.Reserve q request) (events.Reserved d) new step.2)) (
-      record { q = d.q; cid = d.cid; phase = Drafted; work = Io d.request; data_pages = numbers_of d.data_pages; chain_pages = numbers_of d.chain_pages; status = None },
-      find_last (is_at d.q d.cid) s.host.records _ (none_there s new q request d step) (own (eq-eqb d.q d.q refl) (eq-eqb d.cid d.cid refl)),
-      refl,
-    )
-  where
-    own : (d.q == d.q) ≡ true → (d.cid == d.cid) ≡ true → ((d.q == d.q) && (d.cid == d.cid)) ≡ true
-    own x y = rw (x, y) refl
+reserved_drafted s new q request d step = (drafted_record d, record_reserved s new q request d step, refl)
 
 -- One step
 

@@ -20,6 +20,7 @@ use Rattle.machine_model.proofs.PlacesKept.{ids_of}
 use Rattle.host_core.proofs.Lists.{all-append}
 use Rattle.run_laws.specs.Submitted.{submits}
 use Rattle.step_core.specs.Bench.{without_first}
+use Rattle.step_core.proofs.Outstanding.{collected_named}
 use Rattle.bench_laws.specs.Gathering.{collects}
 use Rattle.bench_laws.proofs.Standing.{Stands, releases_by, step_stands, not_again, collected_stands}
 use Rattle.bench_laws.proofs.Lists.{Few, none_last, few_more, few_without, gone, any_without, all_without, any_on, any_last, any_of_more, HasLast, split_last}
@@ -143,36 +144,6 @@ submitted_tickets made m t new q cid d is queue id tickets h k n there =
     (λ late. any_last (submits k n) made m (submits_own k n q cid d m is queue id late))
 
 -- A collection
-
-same_finished : {x y : FinishedContents} → Some x ≡ Some y → x ≡ y
-same_finished e = cc
-
-names_of : (s : State) (r : Record) (f : FinishedContents) (asked : Option Request) (o : Option Status)
-    → option_and_then
-    (λ (request : Request). option_map
-    (λ (st : Status). record { q = r.q; cid = r.cid; request = request; status = st; data_pages = pages_with_bytes s.memory r.data_pages; chain_pages = pages_with_bytes s.memory r.chain_pages })
-    o)
-    asked ≡ Some f → (f.q ≡ r.q) × (f.cid ≡ r.cid)
-names_of s r f None o e = absurd cc
-names_of s r f (Some request) None e = absurd cc
-names_of s r f (Some request) (Some st) e = let same = same_finished e in (ap (λ (x : FinishedContents). x.q) (sym same), ap (λ (x : FinishedContents). x.cid) (sym same))
-
-accepted : {A : Type 0} (B : Type 0) (b : Bool) → MatchBool (b || true) A B → A
-accepted B true h = h
-accepted B false h = h
-
-pub collected_named : (s new : State) (q cid : ℕ) (f : FinishedContents) → machine.Step s (events.Collect q cid) (events.Collects f) new → (f.q ≡ q) × (f.cid ≡ cid)
-collected_named s new q cid f step = go (record_at s.host q cid) refl ok.1
-  where
-    ok : (refusal_of s (events.Collect q cid) ≡ None) × (option_and_then (finished_from s) (record_at s.host q cid) ≡ Some f)
-    ok = accepted _ s.trusted step.1
-
-    go : (o : Option Record) → record_at s.host q cid ≡ o → option_and_then (finished_from s) o ≡ Some f → (f.q ≡ q) × (f.cid ≡ cid)
-    go None e h = absurd cc
-    go (Some r) e h =
-        let its = names_of s r f (asked_by r.work) r.status h in
-        let ids = ids_of s q cid r e in
-        (its.0 ∙ ids.0, its.1 ∙ ids.1)
 
 -- an accepted submission of a name is of a draft of that name
 record SubmitsDraft (q cid : ℕ) (e : Event) (reply : events.Reply) : Type 0 where

@@ -12,9 +12,11 @@ use Rattle.step_core.specs.declared.step.Reply.TheVariants as reply
 use Rattle.step_core.specs.declared.step.Step.TheVariants as step
 use Rattle.bench_laws.specs.Drafts.{takes_draft, submitted_drafts_were_reserved}
 use Rattle.bench_laws.specs.Values.{Done, Goes}
-use Rattle.bench_laws.proofs.Changed.{any_with, found_any}
+use Rattle.bench_laws.proofs.Changed.{any_with}
+use Rattle.step_core.proofs.Outstanding.{reserved_ok}
+use Rattle.step_core.proofs.Records.{found_any}
 use Rattle.bench_laws.proofs.DraftMoves.{DraftMove, Rested, Stepped, Added, Filled, Built, Taken, moves}
-use Rattle.bench_laws.proofs.DraftsStand.{DraftsStand, reserved_is, stand_on, none_kept}
+use Rattle.bench_laws.proofs.DraftsStand.{DraftsStand, stand_on, none_kept}
 use Rattle.bench_laws.proofs.Lists.{none_last, gone, any_without, any_of_more}
 use Rattle.bench_laws.proofs.SubmitsDrafts.{parted}
 
@@ -78,7 +80,7 @@ all_more past m (Stepped drafts e r step untaken idle) h q cid there = one_more 
 all_more past m (Added k request d step is says drafts idle) h q cid there =
     any_of_more (is_draft q cid) m.before.drafts d (ReservedIn (past ++ m ∷ []) q cid) (ap (list_any (is_draft q cid)) (sym drafts) ∙ there)
     (λ early. one_more past m q cid (idle q cid).1 (h.all q cid early))
-    (λ late. reserved_now past m k request d (reserved_is m.before.world m.after.world k request d step).queue is says q cid late)
+    (λ late. reserved_now past m k request d (reserved_ok m.before.world m.after.world k request d step).1.queue is says q cid late)
 all_more past m (Filled k n bytes d fill found fits world drafts untaken) h q cid there =
     one_more past m q cid (untaken q cid)
     (h.all q cid (sym (any_with (is_draft q cid) (is_draft k n) (filled_draft bytes) (λ x. refl) m.before.drafts) ∙ ap (list_any (is_draft q cid)) (sym drafts) ∙ there))

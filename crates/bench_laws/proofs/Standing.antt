@@ -14,15 +14,17 @@ use Rattle.machine_model.specs.declared.words.Phase.{Phase}
 use Rattle.machine_model.specs.declared.words.Phase.TheVariants.{Drafted, Submitted, Held, Collected}
 use Rattle.machine_model.specs.State.{State, Record, is_at, record_at, pages_of, with_record, without_record}
 use Rattle.machine_model.specs.Refusals.{asks_for, is_submitted, is_drafted, is_held, is_collected, is_live, refusal_of, record_is, is_of, in_state, queue_full}
-use Rattle.machine_model.specs.Step.{Step, HostPart, IsController, Permits}
+use Rattle.machine_model.specs.Step.{Step, HostPart, IsController}
 use Rattle.machine_model.specs.After as a
 use Rattle.machine_model.specs.Events as events
 use Rattle.machine_model.specs.Events.{Event, Reply}
 use Rattle.machine_model.specs.declared.words.Refusal.TheVariants as refusals
 use Rattle.machine_model.proofs.Moves.{host_moves, sent_record}
-use Rattle.machine_model.proofs.Steps.{Accepts, part_controller, part_left}
+use Rattle.machine_model.proofs.Steps.{Accepts, part_left}
 use Rattle.machine_model.proofs.Refused.{first_fails, found}
 use Rattle.host_core.proofs.Lists.{found_is}
+use Rattle.step_core.proofs.Outstanding.{one_step}
+use Rattle.step_core.proofs.Records.{find_more, find_changed, other_than, off_name, apart, found_with, found_without}
 
 -- the record of a name is in a phase that passes a test
 abbrev pub StandsIn : (Phase → Bool) → ℕ → ℕ → List Record → Type 0
@@ -56,103 +58,20 @@ unsubmitted test rests ph e = (or_parts (is_submitted ph) (is_held ph) (rests ph
 unheld : (test : Phase → Bool) → Rests test → (ph : Phase) → test ph ≡ true → is_held ph ≡ false
 unheld test rests ph e = (or_parts (is_submitted ph) (is_held ph) (rests ph e)).1
 
--- Lists of records
-
-pub find_more : {X : Type 0} (p : X → Bool) (xs ys : List X) (r : X) → find p xs ≡ Some r → find p (xs ++ ys) ≡ Some r
-find_more p [] ys r e = absurd cc
-find_more {X} p (x ∷ xs) ys r e = go (p x) e (find_more p xs ys r)
-  where
-    go : (b : Bool) → cond b (Some x) (find p xs) ≡ Some r → (find p xs ≡ Some r → find p (xs ++ ys) ≡ Some r) → cond b (Some x) (find p (xs ++ ys)) ≡ Some r
-    go true e ih = e
-    go false e ih = ih e
-
-find_changed : {X : Type 0} (p : X → Bool) (g : X → X) → ((x : X) → p (g x) ≡ p x) → (xs : List X) (r : X) → find p xs ≡ Some r → find p (map g xs) ≡ Some (g r)
-find_changed p g same [] r e = absurd cc
-find_changed {X} p g same (x ∷ xs) r e = ap (λ (b : Bool). cond b (Some (g x)) (find p (map g xs))) (same x) ∙ go (p x) e (find_changed p g same xs r)
-  where
-    go : (b : Bool) → cond b (Some x) (find p xs) ≡ Some r → (find p xs ≡ Some r → find p (map g xs) ≡ Some (g r)) → cond b (Some (g x)) (find p (map g xs)) ≡ Some (g r)
-    go true e ih = let here : x ≡ r = cc in ap (λ (y : X). Some (g y)) here
-    go false e ih = ih e
-
-find_left : {X : Type 0} (p f : X → Bool) → ((x : X) → p x ≡ true → f x ≡ true) → (xs : List X) (r : X) → find p xs ≡ Some r → find p (filter f xs) ≡ Some r
-find_left p f keeps [] r e = absurd cc
-find_left {X} p f keeps (x ∷ xs) r e = go (p x) refl (f x) refl e (find_left p f keeps xs r)
-  where
-    go : (b : Bool) → p x ≡ b → (c : Bool) → f x ≡ c → cond b (Some x) (find p xs) ≡ Some r → (find p xs ≡ Some r → find p (filter f xs) ≡ Some r) → find p (if c then x ∷ filter f xs else filter f xs) ≡ Some r
-    go true is true kept e ih = ap (λ (b : Bool). cond b (Some x) (find p (filter f xs))) is ∙ e
-    go true is false kept e ih = absurd (true≢false (sym (keeps x is) ∙ kept))
-    go false is true kept e ih = ap (λ (b : Bool). cond b (Some x) (find p (filter f xs))) is ∙ ih e
-    go false is false kept e ih = ih e
-
 -- Names and phases
-
-ids : (q cid : ℕ) (r : Record) → is_at q cid r ≡ true → (r.q ≡ q) × (r.cid ≡ cid)
-ids q cid r e = let both = and_parts (r.q == q) (r.cid == cid) e in (eqb-true r.q q both.0, eqb-true r.cid cid both.1)
-
-some_is : {x y : Record} → Some x ≡ Some y → x ≡ y
-some_is e = cc
 
 -- a record in another phase is of another name
 other_name : (test other : Phase → Bool) → ((ph : Phase) → test ph ≡ true → other ph ≡ false) → (q cid k n : ℕ) (rs : List Record) (s : StandsIn test q cid rs) (x : Record) → find (is_at k n) rs ≡ Some x → other x.phase ≡ true → is_at k n s.0 ≡ false
-other_name test other none q cid k n rs (r, at, is) x there in_phase = go (is_at k n r) refl
-  where
-    go : (b : Bool) → is_at k n r ≡ b → b ≡ false
-    go false e = refl
-    go true e =
-        let mine = ids q cid r (found_is (is_at q cid) rs r at) in
-        let its = ids k n r e in
-        let same : x ≡ r =
-        some_is (sym there ∙ ap (λ (m : ℕ). find (is_at m n) rs) (sym its.0 ∙ mine.0) ∙ ap (λ (m : ℕ). find (is_at q m) rs) (sym its.1 ∙ mine.1) ∙ at) in
-        absurd (true≢false (sym in_phase ∙ ap (λ (y : Record). other y.phase) same ∙ none r.phase is))
-
-off_name : (test : Phase → Bool) (q cid k n : ℕ) (rs : List Record) (h : StandsIn test q cid rs) → ((k == q) && (n == cid)) ≡ false → is_at k n h.0 ≡ false
-off_name test q cid k n rs h far = go (is_at k n h.0) refl
-  where
-    both : (k == q) ≡ true → (n == cid) ≡ true → ((k == q) && (n == cid)) ≡ true
-    both x y = rw (x, y) refl
-
-    go : (b : Bool) → is_at k n h.0 ≡ b → b ≡ false
-    go false e = refl
-    go true e =
-        let mine = ids q cid h.0 (found_is (is_at q cid) rs h.0 h.1) in
-        let its = ids k n h.0 e in
-        absurd (true≢false (sym (both (eq-eqb k q (sym its.0 ∙ mine.0)) (eq-eqb n cid (sym its.1 ∙ mine.1))) ∙ far))
-
-apart : (test : Phase → Bool) (q cid k n : ℕ) (rs : List Record) (h : StandsIn test q cid rs) → is_at k n h.0 ≡ false → ((k == q) && (n == cid)) ≡ false
-apart test q cid k n rs h far = go ((k == q) && (n == cid)) refl
-  where
-    go : (b : Bool) → ((k == q) && (n == cid)) ≡ b → b ≡ false
-    go false e = refl
-    go true e =
-        let both = and_parts (k == q) (n == cid) e in
-        let mine = ids q cid h.0 (found_is (is_at q cid) rs h.0 h.1) in
-        absurd (true≢false (sym (at_name (eq-eqb h.0.q k (mine.0 ∙ sym (eqb-true k q both.0))) (eq-eqb h.0.cid n (mine.1 ∙ sym (eqb-true n cid both.1)))) ∙ far))
-      where
-        at_name : (h.0.q == k) ≡ true → (h.0.cid == n) ≡ true → is_at k n h.0 ≡ true
-        at_name x y = rw (x, y) refl
+other_name test other none q cid k n rs (r, at, is) x there in_phase =
+    other_than q cid k n rs r at x there (λ same. true≢false (sym in_phase ∙ ap (λ (y : Record). other y.phase) same ∙ none r.phase is))
 
 -- What changes records
 
 stands_with : (test : Phase → Bool) (q cid k n : ℕ) (f : Record → Record) (rs : List Record) → ((x : Record) → is_at q cid (f x) ≡ is_at q cid x) → (s : StandsIn test q cid rs) → is_at k n s.0 ≡ false → StandsIn test q cid (with_record k n f rs)
-stands_with test q cid k n f rs same (r, at, is) far =
-    (r, find_changed (is_at q cid) (λ (x : Record). if is_at k n x then f x else x) (λ x. each x (is_at k n x)) rs r at ∙ ap (λ (b : Bool). Some (if b then f r else r)) far, is)
-  where
-    each : (x : Record) (b : Bool) → is_at q cid (if b then f x else x) ≡ is_at q cid x
-    each x true = same x
-    each x false = refl
+stands_with test q cid k n f rs same (r, at, is) far = (r, found_with q cid k n rs r at f same ∙ ap (λ (b : Bool). Some (if b then f r else r)) far, is)
 
 stands_without : (test : Phase → Bool) (q cid k n : ℕ) (rs : List Record) → ((k == q) && (n == cid)) ≡ false → StandsIn test q cid rs → StandsIn test q cid (without_record k n rs)
-stands_without test q cid k n rs far (r, at, is) = (r, find_left (is_at q cid) (λ (x : Record). not (is_at k n x)) (λ x mine. keeps x mine (is_at k n x) refl) rs r at, is)
-  where
-    keeps : (x : Record) → is_at q cid x ≡ true → (b : Bool) → is_at k n x ≡ b → not b ≡ true
-    keeps x mine false e = refl
-    keeps x mine true e =
-        let m = ids q cid x mine in
-        let i = ids k n x e in
-        absurd (true≢false (sym (and_both (eq-eqb k q (sym i.0 ∙ m.0)) (eq-eqb n cid (sym i.1 ∙ m.1))) ∙ far))
-      where
-        and_both : (k == q) ≡ true → (n == cid) ≡ true → ((k == q) && (n == cid)) ≡ true
-        and_both a b = rw (a, b) refl
+stands_without test q cid k n rs far (r, at, is) = (r, found_without q cid k n rs r at far, is)
 
 stands_lost : (test : Phase → Bool) → Rests test → (q cid k : ℕ) (rs : List Record) → StandsIn test q cid rs → StandsIn test q cid (map (a.lost k) rs)
 stands_lost test rests q cid k rs (r, at, is) =
@@ -200,7 +119,7 @@ event_stands test rests q cid s e reply far ok c h =
     host_moves (λ (e : Event) (reply : Reply) (t : State). names_by q cid e reply ≡ false → On test q cid t) s e reply ok c
     (record {
       reserves = λ k request d none is far. more (record { q = d.q; cid = d.cid; phase = Drafted; work = Io d.request; data_pages = numbers_of d.data_pages; chain_pages = numbers_of d.chain_pages; status = None } ∷ []);
-      submits = λ d entry r none built its live far. stands_with test q cid d.q d.cid a.submitted s.host.records (λ x. refl) h (off_name test q cid d.q d.cid s.host.records h far);
+      submits = λ d entry r none built its live far. stands_with test q cid d.q d.cid a.submitted s.host.records (λ x. refl) h (off_name q cid d.q d.cid s.host.records h.0 h.1 far);
       cancels = λ d r its far. stands_without test q cid d.q d.cid s.host.records far h;
       rings = λ k none far. h;
       rests = λ k is far. h;
@@ -226,28 +145,14 @@ event_stands test rests q cid s e reply far ok c h =
     sent k n r at sub = other_name test is_submitted (unsubmitted test rests) q cid k n s.host.records h r at sub
 
     without : (k n : ℕ) (r : Record) → record_at s.host k n ≡ Some r → is_submitted r.phase ≡ true → StandsIn test q cid (without_record k n s.host.records)
-    without k n r at sub = stands_without test q cid k n s.host.records (apart test q cid k n s.host.records h (sent k n r at sub)) h
+    without k n r at sub = stands_without test q cid k n s.host.records (apart q cid k n s.host.records h.0 h.1 (sent k n r at sub)) h
 
 -- One step
-
-surely : {A : Type 0} (B : Type 0) (t c : Bool) → c ≡ false → MatchBool (t || not c) A B → A
-surely B true c e h = h
-surely B false true e h = absurd (true≢false e)
-surely B false false e h = h
-
-anyway : (test : Phase → Bool) → Rests test → (q cid : ℕ) (s : State) (e : Event) (reply : Reply) (b : Bool) → IsController e ≡ b → Permits s e reply
-    → (Accepts s e reply → names_by q cid e reply ≡ false) → On test q cid s → On test q cid (a.after s e reply)
-anyway test rests q cid s e reply true c permits far h = subst (λ (part : HostPart). StandsIn test q cid part.host.records) (sym (part_controller s e reply c)) h
-anyway test rests q cid s e (events.Refused why touched) false c permits far h = h
-anyway test rests q cid s e (events.Reserved d) false c permits far h =
-    let ok = surely _ s.trusted (IsController e) c permits in event_stands test rests q cid s e (events.Reserved d) (far ok) ok c h
-anyway test rests q cid s e reply false c permits far h =
-    let ok = surely _ s.trusted (IsController e) c permits in event_stands test rests q cid s e reply (far ok) ok c h
 
 rests_on : (test : Phase → Bool) → Rests test → (q cid : ℕ) (s : State) (e : Event) (reply : Reply) (new : State) → Step s e reply new → (Accepts s e reply → names_by q cid e reply ≡ false)
     → StandsIn test q cid s.host.records → StandsIn test q cid new.host.records
 rests_on test rests q cid s e reply new step far h =
-    subst (λ (part : HostPart). StandsIn test q cid part.host.records) (sym (part_left s e reply new step.2)) (anyway test rests q cid s e reply (IsController e) refl step.1 far h)
+    one_step (λ (part : HostPart). StandsIn test q cid part.host.records) s e reply new step (λ ok c h. event_stands test rests q cid s e reply (far ok) ok c h) h
 
 -- the record that an event of a draft or of a finished command finds
 phase_of : (test : Phase → Bool) (request : Request) (front back : List ℕ) (r : Record) → is_of test request front back r ≡ true → test r.phase ≡ true
@@ -260,7 +165,7 @@ found_apart : (test other : Phase → Bool) → ((ph : Phase) → test ph ≡ tr
     → record_is (is_of other request front back) s k n ≡ true → On test q cid s → ((k == q) && (n == cid)) ≡ false
 found_apart test other none q cid k n request front back s there h =
     let x = found (is_of other request front back) s k n there in
-    apart test q cid k n s.host.records h (other_name test other none q cid k n s.host.records h x.0 x.1 (phase_of other request front back x.0 x.2))
+    apart q cid k n s.host.records h.0 h.1 (other_name test other none q cid k n s.host.records h x.0 x.1 (phase_of other request front back x.0 x.2))
 
 -- whether a step releases this name
 abbrev pub releases_by : ℕ → ℕ → Event → Reply → Bool
@@ -318,7 +223,7 @@ accepted B false h = h
 pub not_again : (q cid k n : ℕ) (s new : State) (f : FinishedContents) → Step s (events.Collect k n) (events.Collects f) new → Stands q cid s.host.records → ((k == q) && (n == cid)) ≡ false
 not_again q cid k n s new f step h =
     let ok : Accepts s (events.Collect k n) (events.Collects f) = accepted _ s.trusted step.1 in
-    apart is_collected q cid k n s.host.records h (collect_far is_collected collected_rests q cid k n s ok.0 h)
+    apart q cid k n s.host.records h.0 h.1 (collect_far is_collected collected_rests q cid k n s ok.0 h)
 
 pub collected_stands : (k n : ℕ) (s new : State) (f : FinishedContents) → Step s (events.Collect k n) (events.Collects f) new → Stands k n new.host.records
 collected_stands k n s new f step =
@@ -331,11 +236,7 @@ collected_stands k n s new f step =
     go None e = absurd cc
     go (Some r) e = (
       a.collected x.command,
-      find_changed (is_at k n) (λ (y : Record). if is_at k n y then a.collected y else y) (λ y. each y (is_at k n y)) s.host.records x.command x.is
+      found_with k n k n s.host.records x.command x.is a.collected (λ y. refl)
           ∙ ap (λ (b : Bool). Some (if b then a.collected x.command else x.command)) (found_is (is_at k n) s.host.records x.command x.is),
       refl,
     )
-      where
-        each : (y : Record) (b : Bool) → is_at k n (if b then a.collected y else y) ≡ is_at k n y
-        each y true = refl
-        each y false = refl

@@ -24,8 +24,9 @@ use Rattle.step_core.specs.declared.step.Step.TheVariants as step
 use Rattle.step_core.proofs.InTableOrder.{bench_opens, bench_keeps}
 use Rattle.bench_laws.specs.Drafts.{ReservedCommand, benches_submit_what_they_reserved_and_filled, takes_draft, fills_of, data_bytes, written_over}
 use Rattle.bench_laws.specs.Values.{Done, Goes, event_at}
-use Rattle.bench_laws.proofs.Changed.{find_last}
-use Rattle.bench_laws.proofs.DraftsStand.{DraftsStand, reserved_is, none_named, none_kept, stand_along}
+use Rattle.step_core.proofs.Outstanding.{reserved_ok}
+use Rattle.step_core.proofs.Records.{find_last}
+use Rattle.bench_laws.proofs.DraftsStand.{DraftsStand, none_named, none_kept, stand_along}
 use Rattle.bench_laws.proofs.FilledBytes.{gathered_zeros}
 use Rattle.bench_laws.proofs.Tracked.{Tracked, tracked}
 
@@ -105,7 +106,7 @@ submits_filled c =
     name = same_queue made.says
 
     its : IsReserved c.reservation.before.world c.q c.request made.draft
-    its = reserved_is c.reservation.before.world c.reservation.after.world c.q c.request made.draft made.step
+    its = (reserved_ok c.reservation.before.world c.reservation.after.world c.q c.request made.draft made.step).1
 
     own : (made.draft.q == c.q) ≡ true → (made.draft.cid == c.cid) ≡ true → ((made.draft.q == c.q) && (made.draft.cid == c.cid)) ≡ true
     own x y = rw (x, y) refl

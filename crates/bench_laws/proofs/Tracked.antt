@@ -26,7 +26,7 @@ use Rattle.bench_laws.specs.Values.{Done, Goes}
 use Rattle.bench_laws.proofs.Changed.{find_with, find_with_other, find_without_other}
 use Rattle.bench_laws.proofs.DraftMoves.{DraftMove, Rested, Stepped, Added, Filled, Built, Taken, moves}
 use Rattle.bench_laws.proofs.FilledBytes.{gathered_filled, gathered_length, filled_same, filled_again}
-use Rattle.bench_laws.proofs.Standing.{find_more}
+use Rattle.step_core.proofs.Records.{find_more}
 
 -- what fills and builds leave of a draft
 pub record Leaves (d : DraftContents) (fills : List (List ℕ)) (x : DraftContents) : Type 0 where

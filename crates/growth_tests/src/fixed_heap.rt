@@ -1,7 +1,7 @@
 //! A host, its controller and sixteen outstanding commands in a heap of fixed size.
 
 use crate::placed::placed;
-use crate::sweep::{Wanted, look_at, read, unrefused, wants_memory};
+use crate::sweep::{Wanted, look_at, read, unrefused, is_memory};
 use linked_list_allocator::LocalHeap;
 use script_cli::{Line, Script};
 use std::alloc::{AllocError, Global};
@@ -117,14 +117,14 @@ fn steps_in<'a>(
         let Line::Step(step) = &numbered.line else {
             continue;
         };
-        let answer = match placed(heap, step) {
-            Ok(made) => bench.step(made),
-            Err(refused) => Err(refused),
+        let Ok(made) = placed(heap, step) else {
+            return Ok(false);
         };
-        if wants_memory(&answer) {
+        let answer = bench.step(made);
+        if is_memory(&answer) {
             return Ok(false);
         }
-        let text = format!(in alloc; "{:?}", answer?)?;
+        let text = format!(in alloc; "{answer:?}")?;
         assert_eq!(rt; Some(&text), wanted.next());
     }
     Ok(true)

@@ -164,7 +164,7 @@ fn answers_on<'a>(
     let mut answers = Vec::new(alloc);
     for numbered in script.lines() {
         if let Line::Step(step) = &numbered.line {
-            let reply = bench.step(placed(heap, step)?)?;
+            let reply = bench.step(placed(heap, step)?);
             answers.push(format!(in alloc; "{reply:?}")?)?;
         }
     }
@@ -186,14 +186,6 @@ pub(crate) fn is_memory<A: Allocator>(reply: &ReplyIn<A>) -> bool {
     matches!(reply, Reply::Refused { why, touched: _ } if *why == step_core::Refusal::Memory)
 }
 
-/// Whether a step's answer is want of memory.
-pub(crate) fn wants_memory<A: Allocator>(answer: &Result<ReplyIn<A>, AllocError>) -> bool {
-    match answer {
-        Err(AllocError) => true,
-        Ok(reply) => is_memory(reply),
-    }
-}
-
 /// Does a step with one growth refused, and answers how many growths it had until then. Where the step wants memory nothing has
 /// changed, and once more it answers as it must.
 fn step_on<'a>(
@@ -210,11 +202,11 @@ fn step_on<'a>(
     let mut answer = bench.step(made);
     let tally = heap.tally();
     heap.refuse(Refusal::Never);
-    if tally.refused > 0 && wants_memory(&answer) {
+    if tally.refused > 0 && is_memory(&answer) {
         assert_eq!(rt; Standing::of(alloc, bench)?, before, "{wanted}");
         answer = bench.step(placed(heap, step)?);
     }
-    let text = format!(in alloc; "{:?}", answer?)?;
+    let text = format!(in alloc; "{answer:?}")?;
     assert_eq!(rt; text.as_str(), wanted);
     Ok(tally.calls)
 }

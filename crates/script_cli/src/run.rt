@@ -82,7 +82,7 @@ fn play_line(
     match numbered.line {
         Line::Step(step) => {
             let verb = Verb::of(&step);
-            let reply = bench.step(step)?;
+            let reply = bench.step(step);
             append_reply(text, number, verb, &reply)
         }
         Line::Owners => {

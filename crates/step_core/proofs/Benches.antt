@@ -1,7 +1,11 @@
--- What the small calls on kept values do is what a step of a bench does.
-use Rattle.std.proofs.Common.{◌≡◌, ℕ, zero, suc, Bool, true, false, ◌||◌, Some, None, List, [], ◌∷◌, ◌++◌, ◌==◌, ap₂, eqb-true, map, find, cond, slice_get, get_or, refl, ap, sym, ◌∙◌, subst, if◌then◌else◌, position}
-use Rattle.std.specs.List.{list_any, slice_set}
+-- What the small calls on kept values do is what a step of a bench does, and the bench stays tied to its world.
+use Rattle.std.proofs.Common.{◌≡◌, ℕ, Bool, true, false, ◌||◌, Option, Some, None, List, [], ◌∷◌, ◌++◌, length, ◌==◌, ◌&&◌, find, cond, refl, ap, ap₂, sym, ◌∙◌, subst}
+use Rattle.std.specs.List.{list_any}
+use Rattle.std.specs.Option.{option_and_then}
+use Rattle.std.proofs.lemmas.List.{append-nil}
+use Rattle.std.proofs.lemmas.List.Elements.{filter_map-append}
 use Rattle.entry_codec.specs.declared.status.Status.{Status}
+use Rattle.io_commands.specs.Asked.{Request}
 use Rattle.io_commands.specs.Drafts.{DraftContents, built}
 use Rattle.io_commands.specs.Values.{FinishedContents, TicketContents, gathered_from}
 use Rattle.machine_model.specs.Events as events
@@ -9,151 +13,312 @@ use Rattle.machine_model.specs.State.{State}
 use Rattle.machine_model.specs.Step as machine
 use Rattle.machine_model.specs.Image.{draft_of, is_draft}
 use Rattle.machine_model.specs.Script.{Table, finished_at, is_ticket, filled_draft, is_finished}
+use Rattle.machine_model.specs.declared.words.Refusal.{Refusal}
 use Rattle.machine_model.specs.declared.words.Refusal.TheVariants as refusal
-use Rattle.step_core.specs.Bench.{without_first, with_first, Fills, Builds, Submits, Gathers, Collects}
-use Rattle.step_core.specs.Kept.{pair_of, is_ticket_of, FillsDraft, BuildsDraft}
+use Rattle.slot_table.specs.Table.{Row, TableOf, IsPlace, value_at, with_row, with_value, without}
+use Rattle.step_core.specs.Bench.{Does, without_first, with_first, Fills, Builds, Submits, Cancels, Collects, Gathers, Releases}
+use Rattle.step_core.specs.Kept.{as_draft, as_ticket, as_finished, picked, table_with, IsBench, IsOut, FillsDraft, BuildsDraft}
 use Rattle.step_core.specs.Values.{Reply}
+use Rattle.step_core.specs.declared.kept.Value.{Value}
+use Rattle.step_core.specs.declared.kept.Value.TheVariants as value
 use Rattle.step_core.specs.declared.step.Reply.TheVariants as reply
-use Rattle.step_core.proofs.Firsts.{IsFirst, changed, found, first_at, none_found, within_first}
-use Rattle.std.proofs.lemmas.Bool.{and_parts}
-use Rattle.std.proofs.lemmas.List.{map-append}
-use Rattle.std.proofs.lemmas.Option.{slice_get-get_or}
+use Rattle.step_core.specs.declared.step.Step.TheVariants as step
+use Rattle.step_core.proofs.KeptRows.{drafts_named, tickets_named, finished_named, named_there, place_free, put_back, put_same, put_next, reserved, row_dropped, renewed, followed, ended, goes_on}
+use Rattle.step_core.proofs.Outstanding.{collected_named}
+use Rattle.step_core.proofs.Rows.{found_at, changed_at, changed_other, taken_at, taken_other}
 
--- Tickets, seen as pairs
-
-pub ticket_there : (q cid : ℕ) (ts : List TicketContents) (x : TicketContents) → find (is_ticket_of q cid) ts ≡ Some x → list_any (is_ticket q cid) (map pair_of ts) ≡ true
-ticket_there q cid [] x e = absurd cc
-ticket_there q cid (t ∷ ts) x e = go (is_ticket_of q cid t) e (ticket_there q cid ts x)
+-- whether one passes is whether one is found
+any_found : {X : Type 0} (p : X → Bool) (xs : List X) (o : Option X) → find p xs ≡ o → list_any p xs ≡ elim o [ None ↦ false | Some x ↦ true ]
+any_found p [] o e = subst (λ (o : Option _). false ≡ elim o [ None ↦ false | Some x ↦ true ]) e refl
+any_found {X} p (x ∷ xs) o e = go (p x) e (any_found p xs o)
   where
-    go : (b : Bool) → cond b (Some t) (find (is_ticket_of q cid) ts) ≡ Some x → (find (is_ticket_of q cid) ts ≡ Some x → list_any (is_ticket q cid) (map pair_of ts) ≡ true)
-        → (b || list_any (is_ticket q cid) (map pair_of ts)) ≡ true
-    go true e ih = refl
+    go : (b : Bool) → cond b (Some x) (find p xs) ≡ o → (find p xs ≡ o → list_any p xs ≡ elim o [ None ↦ false | Some x ↦ true ]) → (b || list_any p xs) ≡ elim o [ None ↦ false | Some x ↦ true ]
+    go true e ih = subst (λ (o : Option X). true ≡ elim o [ None ↦ false | Some x ↦ true ]) e refl
     go false e ih = ih e
 
-pub no_ticket : (q cid : ℕ) (ts : List TicketContents) → find (is_ticket_of q cid) ts ≡ None → list_any (is_ticket q cid) (map pair_of ts) ≡ false
-no_ticket q cid [] e = refl
-no_ticket q cid (t ∷ ts) e = go (is_ticket_of q cid t) e (no_ticket q cid ts)
-  where
-    go : (b : Bool) → cond b (Some t) (find (is_ticket_of q cid) ts) ≡ None → (find (is_ticket_of q cid) ts ≡ None → list_any (is_ticket q cid) (map pair_of ts) ≡ false)
-        → (b || list_any (is_ticket q cid) (map pair_of ts)) ≡ false
-    go true e ih = absurd cc
-    go false e ih = ih e
+abbrev table_of_parts : State → List DraftContents → List (ℕ × ℕ) → List FinishedContents → Table
+table_of_parts world drafts tickets finished = record { world = world; drafts = drafts; tickets = tickets; finished = finished }
 
-pub tickets_left : (q cid : ℕ) (ts : List TicketContents) → map pair_of (without_first (is_ticket_of q cid) ts) ≡ without_first (is_ticket q cid) (map pair_of ts)
-tickets_left q cid [] = refl
-tickets_left q cid (t ∷ ts) = go (is_ticket_of q cid t) (tickets_left q cid ts)
-  where
-    go : (b : Bool) → map pair_of (without_first (is_ticket_of q cid) ts) ≡ without_first (is_ticket q cid) (map pair_of ts)
-        → map pair_of (if b then ts else (t ∷ without_first (is_ticket_of q cid) ts)) ≡ (if b then map pair_of ts else (pair_of t ∷ without_first (is_ticket q cid) (map pair_of ts)))
-    go true ih = refl
-    go false ih = ap (λ l. pair_of t ∷ l) ih
+tables_same : (world : State) (drafts ds : List DraftContents) (tickets ts : List (ℕ × ℕ)) (finished fs : List FinishedContents) → drafts ≡ ds → tickets ≡ ts → finished ≡ fs
+    → table_of_parts world drafts tickets finished ≡ table_of_parts world ds ts fs
+tables_same world drafts ds tickets ts finished fs d t f =
+    ap (λ (x : List DraftContents). table_of_parts world x tickets finished) d
+    ∙ ap₂ (λ (x : List (ℕ × ℕ)) (y : List FinishedContents). table_of_parts world ds x y) t f
 
--- A draft is filled or built at its place
+abbrev Values : Type 0 → Type 0
+Values A = TableOf (Option (Value A))
 
-pub stands : {X : Type 0} (p : X → Bool) (xs : List X) (i : ℕ) (x : X) → position p xs ≡ Some i → x ≡ get_or xs i x → slice_get xs i ≡ Some x
-stands p xs i x e here = slice_get-get_or xs i x (within_first p xs i e) ∙ ap Some (sym here)
+module _ {A : Type 0} where
+  -- What is found under a name
 
-same_set : {X : Type 0} (xs : List X) (i : ℕ) (x : X) → slice_get xs i ≡ Some x → slice_set xs i x ≡ xs
-same_set [] i x e = absurd cc
-same_set (y ∷ xs) zero x e = let same : x ≡ y = cc in ap (λ z. z ∷ xs) same
-same_set (y ∷ xs) (suc i) x e = ap (λ l. y ∷ l) (same_set xs i x e)
+  draft_at : (s : State) (values : Values A) (q cid : ℕ) → IsBench s values → draft_of q cid (table_with s values).drafts ≡ option_and_then as_draft (value_at values.rows q cid)
+  draft_at s values q cid b = found_at as_draft is_draft values.rows q cid b.distinct (drafts_named s values b)
 
-abbrev with_drafts : Table → List DraftContents → Table
-with_drafts t drafts = record t { drafts = drafts }
+  ticket_at : (s : State) (values : Values A) (q cid : ℕ) (o : Option (ℕ × ℕ)) → IsBench s values → option_and_then as_ticket (value_at values.rows q cid) ≡ o → list_any (is_ticket q cid) (table_with s values).tickets ≡ elim o [ None ↦ false | Some x ↦ true ]
+  ticket_at s values q cid o b e = any_found (is_ticket q cid) (table_with s values).tickets o (found_at as_ticket is_ticket values.rows q cid b.distinct (tickets_named s values b) ∙ e)
 
-kept_same : (t : Table) (i : ℕ) (d new : DraftContents) → slice_get t.drafts i ≡ Some d → new ≡ d → with_drafts t (slice_set t.drafts i new) ≡ t
-kept_same t i d new at e = ap (with_drafts t) (ap (slice_set t.drafts i) e ∙ same_set t.drafts i d at)
+  finished_there : (s : State) (values : Values A) (q cid : ℕ) → IsBench s values → finished_at q cid (table_with s values).finished ≡ option_and_then as_finished (value_at values.rows q cid)
+  finished_there s values q cid b = found_at as_finished is_finished values.rows q cid b.distinct (finished_named s values b)
 
-kept_changed : (t : Table) (q cid i : ℕ) (f : DraftContents → DraftContents) (d new : DraftContents) → IsFirst (is_draft q cid) t.drafts i → slice_get t.drafts i ≡ Some d → new ≡ f d
-    → with_drafts t (slice_set t.drafts i new) ≡ with_drafts t (with_first (is_draft q cid) f t.drafts)
-kept_changed t q cid i f d new first at e = ap (with_drafts t) (ap (slice_set t.drafts i) e ∙ changed (is_draft q cid) f t.drafts i d first at)
+  pub no_fill : (s : State) (values : Values A) (q cid : ℕ) (bytes : List ℕ) → IsBench s values → option_and_then as_draft (value_at values.rows q cid) ≡ None
+      → Fills (table_with s values) q cid bytes (draft_of q cid (table_with s values).drafts) reply.NoValue (table_with s values)
+  no_fill s values q cid bytes b none = rw (draft_at s values q cid b ∙ none) (refl, refl)
 
-pub fills : (t : Table) (q cid : ℕ) (bytes : List ℕ) (i : ℕ) (d : DraftContents) (answer : Reply) (new : DraftContents) → position (is_draft q cid) t.drafts ≡ Some i → d ≡ get_or t.drafts i d
-    → FillsDraft d bytes answer new → Fills t q cid bytes (draft_of q cid t.drafts) answer (with_drafts t (slice_set t.drafts i new))
-fills t q cid bytes i d answer new e here is =
-    let first = first_at (is_draft q cid) t.drafts i e in
-    let at = stands (is_draft q cid) t.drafts i d e here in
-    rw (found (is_draft q cid) t.drafts i first ∙ at) (go answer first at is)
-  where
-    go : (answer : Reply) → IsFirst (is_draft q cid) t.drafts i → slice_get t.drafts i ≡ Some d → FillsDraft d bytes answer new → Fills t q cid bytes (Some d) answer (with_drafts t (slice_set t.drafts i new))
-    go reply.Accepted first at is = (is.0, kept_changed t q cid i (filled_draft bytes) d new first at is.1)
-    go (reply.NotFilled why) first at is = (is.0, kept_same t i d new at is.1)
-    go (reply.Refused refusal.Memory []) first at is = (is.0, kept_same t i d new at is.1)
-    go answer first at is = absurd is
+  pub no_build : (s : State) (values : Values A) (q cid : ℕ) → IsBench s values → option_and_then as_draft (value_at values.rows q cid) ≡ None
+      → Builds (table_with s values) q cid (draft_of q cid (table_with s values).drafts) reply.NoValue (table_with s values)
+  no_build s values q cid b none = rw (draft_at s values q cid b ∙ none) (refl, refl)
 
-pub builds : (t : Table) (q cid : ℕ) (i : ℕ) (d : DraftContents) (answer : Reply) (new : DraftContents) → position (is_draft q cid) t.drafts ≡ Some i → d ≡ get_or t.drafts i d
-    → BuildsDraft d answer new → Builds t q cid (draft_of q cid t.drafts) answer (with_drafts t (slice_set t.drafts i new))
-builds t q cid i d answer new e here is =
-    let first = first_at (is_draft q cid) t.drafts i e in
-    let at = stands (is_draft q cid) t.drafts i d e here in
-    rw (found (is_draft q cid) t.drafts i first ∙ at) (go answer first at is)
-  where
-    go : (answer : Reply) → IsFirst (is_draft q cid) t.drafts i → slice_get t.drafts i ≡ Some d → BuildsDraft d answer new → Builds t q cid (Some d) answer (with_drafts t (slice_set t.drafts i new))
-    go reply.Accepted first at is = kept_changed t q cid i built d new first at is
-    go (reply.Refused refusal.Memory []) first at is = kept_same t i d new at is
-    go answer first at is = absurd is
+  pub no_submit : (s : State) (values : Values A) (q cid : ℕ) → IsBench s values → option_and_then as_draft (value_at values.rows q cid) ≡ None
+      → Submits (table_with s values) q cid (draft_of q cid (table_with s values).drafts) reply.NoValue (table_with s values)
+  no_submit s values q cid b none = rw (draft_at s values q cid b ∙ none) (refl, refl)
 
-pub no_fill : (t : Table) (q cid : ℕ) (bytes : List ℕ) → position (is_draft q cid) t.drafts ≡ None → Fills t q cid bytes (draft_of q cid t.drafts) reply.NoValue t
-no_fill t q cid bytes e = rw (none_found (is_draft q cid) t.drafts e) (refl, refl)
+  pub no_cancel : (s : State) (values : Values A) (q cid : ℕ) → IsBench s values → option_and_then as_draft (value_at values.rows q cid) ≡ None
+      → Cancels (table_with s values) q cid (draft_of q cid (table_with s values).drafts) reply.NoValue (table_with s values)
+  no_cancel s values q cid b none = rw (draft_at s values q cid b ∙ none) (refl, refl)
 
-pub no_build : (t : Table) (q cid : ℕ) → position (is_draft q cid) t.drafts ≡ None → Builds t q cid (draft_of q cid t.drafts) reply.NoValue t
-no_build t q cid e = rw (none_found (is_draft q cid) t.drafts e) (refl, refl)
+  pub no_collect : (s : State) (values : Values A) (q cid : ℕ) → IsBench s values → option_and_then as_ticket (value_at values.rows q cid) ≡ None
+      → Collects (table_with s values) q cid (list_any (is_ticket q cid) (table_with s values).tickets) reply.NoValue (table_with s values)
+  no_collect s values q cid b none = rw (ticket_at s values q cid None b none) (refl, refl)
 
--- A finished command is gathered at its place
+  pub no_gather : (s : State) (values : Values A) (q cid : ℕ) → IsBench s values → option_and_then as_finished (value_at values.rows q cid) ≡ None
+      → Gathers (table_with s values) (finished_at q cid (table_with s values).finished) reply.NoValue (table_with s values)
+  no_gather s values q cid b none = rw (finished_there s values q cid b ∙ none) (refl, refl)
 
-pub no_gather : (t : Table) (q cid : ℕ) → position (is_finished q cid) t.finished ≡ None → Gathers t (finished_at q cid t.finished) reply.NoValue t
-no_gather t q cid e = rw (none_found (is_finished q cid) t.finished e) (refl, refl)
+  pub no_release : (s : State) (values : Values A) (q cid : ℕ) → IsBench s values → option_and_then as_finished (value_at values.rows q cid) ≡ None
+      → Releases (table_with s values) q cid (finished_at q cid (table_with s values).finished) reply.NoValue (table_with s values)
+  no_release s values q cid b none = rw (finished_there s values q cid b ∙ none) (refl, refl)
 
-pub gathers : (t : Table) (q cid i : ℕ) (f : FinishedContents) (bytes : List ℕ) → position (is_finished q cid) t.finished ≡ Some i → f ≡ get_or t.finished i f → bytes ≡ gathered_from f
-    → Gathers t (finished_at q cid t.finished) (reply.Gathered bytes) t
-gathers t q cid i f bytes e here is = rw (found (is_finished q cid) t.finished i (first_at (is_finished q cid) t.finished i e) ∙ stands (is_finished q cid) t.finished i f e here) (is, refl)
+  -- A command is reserved
 
-pub gathers_nothing : (t : Table) (q cid i : ℕ) (f : FinishedContents) (answer : Reply) → position (is_finished q cid) t.finished ≡ Some i → f ≡ get_or t.finished i f → answer ≡ reply.Refused refusal.Memory []
-    → Gathers t (finished_at q cid t.finished) answer t
-gathers_nothing t q cid i f answer e here is =
-    rw (found (is_finished q cid) t.finished i (first_at (is_finished q cid) t.finished i e) ∙ stands (is_finished q cid) t.finished i f e here)
-    (rw is refl)
+  pub reserves : (s : State) (old : Values A) (q cid : ℕ) (request : Request) (d : DraftContents) (b : IsBench s old) (world : State) (answer : Reply) (new : Values A) → machine.Step s (events.Reserve q request) (events.Reserved d) world → cid ≡ d.cid
+      → answer ≡ reply.Reserved d.q d.cid (length d.data_pages) (length d.chain_pages) → new ≡ with_row old q cid (Some (value.Draft d)) → Does (table_with s old) (step.Reserve q request) answer (table_with world new) × IsBench world new
+  reserves s old q cid request d b world answer new made same says left = (
+    rw says (record {
+      draft = d;
+      says = refl;
+      step = made;
+      keeps = ap (table_with world) is
+          ∙ tables_same world _ _ _ _ _ _
+          (filter_map-append (λ (r : Row (Option (Value A))). as_draft r.value) old.rows (row ∷ []))
+          (filter_map-append (λ (r : Row (Option (Value A))). as_ticket r.value) old.rows (row ∷ []) ∙ append-nil (picked as_ticket old.rows))
+          (filter_map-append (λ (r : Row (Option (Value A))). as_finished r.value) old.rows (row ∷ []) ∙ append-nil (picked as_finished old.rows));
+    }),
+    subst (IsBench world) (sym is) (reserved s world q request d old made b),
+  )
+    where
+      row : Row (Option (Value A))
+      row = record { q = q; cid = d.cid; value = Some (value.Draft d) }
 
--- A draft is submitted
+      is : new ≡ with_row old q d.cid (Some (value.Draft d))
+      is = left ∙ ap (λ (n : ℕ). with_row old q n (Some (value.Draft d))) same
 
-abbrev with_ticket : Table → State → List DraftContents → List (ℕ × ℕ) → Table
-with_ticket t world drafts tickets = record t { world = world; drafts = drafts; tickets = tickets }
+  pub place_of : (s : State) (old : Values A) (q cid : ℕ) (request : Request) (d : DraftContents) (b : IsBench s old) (world : State) → machine.Step s (events.Reserve q request) (events.Reserved d) world → cid ≡ d.cid
+      → IsPlace old q cid × (value_at old.rows q cid ≡ None)
+  place_of s old q cid request d b world made same = subst (λ (n : ℕ). IsPlace old q n × (value_at old.rows q n ≡ None)) (sym same) (place_free s world q request d old made b)
 
-pub submits : (t : Table) (q cid : ℕ) (d : DraftContents) (ticket : TicketContents) (world : State) (drafts : List DraftContents) (before now : List TicketContents)
-    → find (is_draft q cid) t.drafts ≡ Some d → is_draft q cid d ≡ true → drafts ≡ without_first (is_draft q cid) t.drafts
-    → machine.Step t.world (events.Submit d) events.Accepted world → ticket ≡ record { q = d.q; cid = d.cid }
-    → t.tickets ≡ map pair_of before → now ≡ before ++ ticket ∷ []
-    → Submits t q cid (draft_of q cid t.drafts) reply.Accepted (record t { world = world; drafts = drafts; tickets = map pair_of now })
-submits t q cid d ticket world drafts before now found its left step is were more =
-    let parts = and_parts (d.q == q) (d.cid == cid) its in
-    let pair : pair_of ticket ≡ (q, cid) = ap pair_of is ∙ ap₂ (λ (a b : ℕ). (a, b)) (eqb-true d.q q parts.0) (eqb-true d.cid cid parts.1) in
-    let tickets : map pair_of now ≡ t.tickets ++ (q, cid) ∷ [] =
-    ap (map pair_of) more ∙ (map-append pair_of before (ticket ∷ []) ∙ ap₂ (λ (xs : List (ℕ × ℕ)) (x : ℕ × ℕ). xs ++ x ∷ []) (sym were) pair) in
-    rw found (step, ap₂ (λ (ds : List DraftContents) (ts : List (ℕ × ℕ)). with_ticket t world ds ts) left tickets)
+  -- A draft is filled or built
 
--- A ticket is collected
+  module _ (s : State) (old mid : Values A) (q cid : ℕ) (d : DraftContents) (b : IsBench s old) (out : IsOut old q cid (value.Draft d) mid) where
+    found_draft : draft_of q cid (table_with s old).drafts ≡ Some d
+    found_draft = draft_at s old q cid b ∙ ap (option_and_then as_draft) out.there
 
-abbrev with_values : Table → State → List (ℕ × ℕ) → List FinishedContents → Table
-with_values t world tickets finished = record t { world = world; tickets = tickets; finished = finished }
+    left_same : (d' : DraftContents) (new : Values A) → d' ≡ d → new ≡ record mid { rows = with_value mid.rows q cid (Some (value.Draft d')) } → table_with s new ≡ table_with s old
+    left_same d' new same is = ap (table_with s) (put_same old mid q cid (value.Draft d) out (value.Draft d') new (ap value.Draft same) is)
 
-pub no_collect : (t : Table) (q cid : ℕ) → list_any (is_ticket q cid) t.tickets ≡ false → Collects t q cid (list_any (is_ticket q cid) t.tickets) reply.NoValue t
-no_collect t q cid e = rw e (refl, refl)
+    left_changed : (f : DraftContents → DraftContents) (d' : DraftContents) (new : Values A) → d' ≡ f d → new ≡ record mid { rows = with_value mid.rows q cid (Some (value.Draft d')) }
+        → table_with s new ≡ record (table_with s old) { drafts = with_first (is_draft q cid) f (table_with s old).drafts }
+    left_changed f d' new same is =
+        ap (table_with s) (put_back old mid q cid (value.Draft d) out (value.Draft d') new is)
+        ∙ tables_same s _ _ _ _ _ _
+        (changed_at as_draft is_draft f old.rows q cid (Some (value.Draft d)) (Some (value.Draft d')) d out.there refl (ap Some same) (drafts_named s old b))
+        (changed_other as_ticket old.rows q cid (Some (value.Draft d)) (Some (value.Draft d')) out.there refl refl)
+        (changed_other as_finished old.rows q cid (Some (value.Draft d)) (Some (value.Draft d')) out.there refl refl)
 
-pub ticket_is : (q cid : ℕ) (ticket : TicketContents) → is_ticket_of q cid ticket ≡ true → pair_of ticket ≡ (q, cid)
-ticket_is q cid ticket its =
-    let parts = and_parts (ticket.q == q) (ticket.cid == cid) its in
-    ap₂ (λ (a b : ℕ). (a, b)) (eqb-true ticket.q q parts.0) (eqb-true ticket.cid cid parts.1)
+    pub fills : (bytes : List ℕ) (answer : Reply) (d' : DraftContents) (new : Values A) → FillsDraft d bytes answer d' → new ≡ record mid { rows = with_value mid.rows q cid (Some (value.Draft d')) }
+        → Fills (table_with s old) q cid bytes (draft_of q cid (table_with s old).drafts) answer (table_with s new)
+    fills bytes answer d' new is left = rw found_draft (go answer is)
+      where
+        go : (answer : Reply) → FillsDraft d bytes answer d' → Fills (table_with s old) q cid bytes (Some d) answer (table_with s new)
+        go reply.Accepted is = (is.0, left_changed (filled_draft bytes) d' new is.1 left)
+        go (reply.NotFilled why) is = (is.0, left_same d' new is.1 left)
+        go (reply.Refused refusal.Memory []) is = (is.0, left_same d' new is.1 left)
+        go answer is = absurd is
 
-pub collects : (t : Table) (q cid : ℕ) (ticket : TicketContents) (f : FinishedContents) (status : Status) (world : State) (tickets : List (ℕ × ℕ)) (finished : List FinishedContents)
-    → list_any (is_ticket q cid) t.tickets ≡ true → is_ticket_of q cid ticket ≡ true → status ≡ f.status
-    → machine.Step t.world (events.Collect ticket.q ticket.cid) (events.Collects f) world
-    → tickets ≡ without_first (is_ticket q cid) t.tickets → finished ≡ t.finished ++ f ∷ []
-    → Collects t q cid (list_any (is_ticket q cid) t.tickets) (reply.Collected status) (record t { world = world; tickets = tickets; finished = finished })
-collects t q cid ticket f status world tickets finished there its ends step left more =
-    rw there
-    (record {
-      finished = f;
-      says = ap reply.Collected ends;
-      step = subst (λ (p : ℕ × ℕ). machine.Step t.world (events.Collect p.0 p.1) (events.Collects f) world) (ticket_is q cid ticket its) step;
-      keeps = ap₂ (λ (ts : List (ℕ × ℕ)) (fs : List FinishedContents). with_values t world ts fs) left more;
-    })
+    pub builds : (answer : Reply) (d' : DraftContents) (new : Values A) → BuildsDraft d answer d' → new ≡ record mid { rows = with_value mid.rows q cid (Some (value.Draft d')) }
+        → Builds (table_with s old) q cid (draft_of q cid (table_with s old).drafts) answer (table_with s new)
+    builds answer d' new is left = rw found_draft (go answer is)
+      where
+        go : (answer : Reply) → BuildsDraft d answer d' → Builds (table_with s old) q cid (Some d) answer (table_with s new)
+        go reply.Accepted is = left_changed built d' new is left
+        go (reply.Refused refusal.Memory []) is = left_same d' new is left
+        go answer is = absurd is
+
+    kept_name : (d' : DraftContents) (new : Values A) → d'.q ≡ d.q → d'.cid ≡ d.cid → new ≡ record mid { rows = with_value mid.rows q cid (Some (value.Draft d')) } → IsBench s new
+    kept_name d' new queue identifier left =
+        subst (IsBench s) (sym (put_back old mid q cid (value.Draft d) out (value.Draft d') new left)) (renewed s old q cid (value.Draft d) (value.Draft d') b out.there queue identifier)
+
+    pub fills_kept : (bytes : List ℕ) (answer : Reply) (d' : DraftContents) (new : Values A) → FillsDraft d bytes answer d' → new ≡ record mid { rows = with_value mid.rows q cid (Some (value.Draft d')) } → IsBench s new
+    fills_kept bytes reply.Accepted d' new is left = kept_name d' new (ap (λ (x : DraftContents). x.q) is.1) (ap (λ (x : DraftContents). x.cid) is.1) left
+    fills_kept bytes (reply.NotFilled why) d' new is left = kept_name d' new (ap (λ (x : DraftContents). x.q) is.1) (ap (λ (x : DraftContents). x.cid) is.1) left
+    fills_kept bytes (reply.Refused refusal.Memory []) d' new is left = kept_name d' new (ap (λ (x : DraftContents). x.q) is.1) (ap (λ (x : DraftContents). x.cid) is.1) left
+    fills_kept bytes answer d' new is left = absurd is
+
+    pub builds_kept : (answer : Reply) (d' : DraftContents) (new : Values A) → BuildsDraft d answer d' → new ≡ record mid { rows = with_value mid.rows q cid (Some (value.Draft d')) } → IsBench s new
+    builds_kept reply.Accepted d' new is left = kept_name d' new (ap (λ (x : DraftContents). x.q) is) (ap (λ (x : DraftContents). x.cid) is) left
+    builds_kept (reply.Refused refusal.Memory []) d' new is left = kept_name d' new (ap (λ (x : DraftContents). x.q) is) (ap (λ (x : DraftContents). x.cid) is) left
+    builds_kept answer d' new is left = absurd is
+
+    -- It is submitted, or cancelled
+
+    pub submits : (world : State) (ticket : TicketContents) (new : Values A) → machine.Step s (events.Submit d) events.Accepted world → ticket ≡ record { q = d.q; cid = d.cid }
+        → new ≡ with_row (record mid { rows = without mid.rows q cid }) q cid (Some (value.Ticket ticket))
+        → Submits (table_with s old) q cid (draft_of q cid (table_with s old).drafts) reply.Accepted (table_with world new) × IsBench world new
+    submits world ticket new step is left = (
+      rw found_draft (step, ap (table_with world) (put_next old mid q cid (value.Draft d) out (value.Ticket ticket) new left) ∙ tables_same world _ _ _ _ _ _ drafts tickets finished),
+      subst (IsBench world) (sym (put_next old mid q cid (value.Draft d) out (value.Ticket ticket) new left))
+          (followed world old q cid (value.Draft d) (value.Ticket ticket) (goes_on s (events.Submit d) events.Accepted world old step (λ k n. refl) b) out.there pair.0 pair.1),
+    )
+      where
+        name : (d.q ≡ q) × (d.cid ≡ cid)
+        name = named_there s old q cid (value.Draft d) b out.there
+
+        pair : (ticket.q ≡ q) × (ticket.cid ≡ cid)
+        pair = (ap (λ (t : TicketContents). t.q) is ∙ name.0, ap (λ (t : TicketContents). t.cid) is ∙ name.1)
+
+        row : Row (Option (Value A))
+        row = record { q = q; cid = cid; value = Some (value.Ticket ticket) }
+
+        drafts : picked as_draft (without old.rows q cid ++ row ∷ []) ≡ without_first (is_draft q cid) (picked as_draft old.rows)
+        drafts =
+            filter_map-append (λ (r : Row (Option (Value A))). as_draft r.value) (without old.rows q cid) (row ∷ []) ∙ append-nil (picked as_draft (without old.rows q cid))
+            ∙ taken_at as_draft is_draft old.rows q cid b.distinct (drafts_named s old b)
+
+        tickets : picked as_ticket (without old.rows q cid ++ row ∷ []) ≡ picked as_ticket old.rows ++ (q, cid) ∷ []
+        tickets =
+            filter_map-append (λ (r : Row (Option (Value A))). as_ticket r.value) (without old.rows q cid) (row ∷ [])
+            ∙ ap₂ (λ (xs : List (ℕ × ℕ)) (x : ℕ × ℕ). xs ++ x ∷ []) (taken_other as_ticket old.rows q cid (Some (value.Draft d)) out.there refl) (ap₂ (λ (k n : ℕ). (k, n)) pair.0 pair.1)
+
+        finished : picked as_finished (without old.rows q cid ++ row ∷ []) ≡ picked as_finished old.rows
+        finished =
+            filter_map-append (λ (r : Row (Option (Value A))). as_finished r.value) (without old.rows q cid) (row ∷ []) ∙ append-nil (picked as_finished (without old.rows q cid))
+            ∙ taken_other as_finished old.rows q cid (Some (value.Draft d)) out.there refl
+
+    pub submit_refused : (world : State) (x : DraftContents) (why : Refusal) (answer : Reply) (new : Values A) → machine.Step s (events.Submit d) (events.Refused why []) world → x ≡ d → answer ≡ reply.Refused why []
+        → new ≡ record mid { rows = with_value mid.rows q cid (Some (value.Draft x)) }
+        → Submits (table_with s old) q cid (draft_of q cid (table_with s old).drafts) answer (table_with world new) × IsBench world new
+    submit_refused world x why answer new step back says left =
+        let stays = put_same old mid q cid (value.Draft d) out (value.Draft x) new (ap value.Draft back) left in (
+          rw (found_draft, says) (step, ap (table_with world) stays),
+          subst (IsBench world) (sym stays) (goes_on s (events.Submit d) (events.Refused why []) world old step (λ k n. refl) b),
+        )
+
+    pub cancels : (world : State) (new : Values A) → machine.Step s (events.Cancel d) events.Accepted world → new ≡ record mid { rows = without mid.rows q cid }
+        → Cancels (table_with s old) q cid (draft_of q cid (table_with s old).drafts) reply.Accepted (table_with world new) × IsBench world new
+    cancels world new step left =
+        let name = named_there s old q cid (value.Draft d) b out.there in
+        let is = row_dropped old mid q cid (value.Draft d) out new left in (
+          rw found_draft (step, ap (table_with world) is ∙ tables_same world _ _ _ _ _ _ (taken_at as_draft is_draft old.rows q cid b.distinct (drafts_named s old b)) (taken_other as_ticket old.rows q cid (Some (value.Draft d)) out.there refl) (taken_other as_finished old.rows q cid (Some (value.Draft d)) out.there refl)),
+          subst (IsBench world) (sym is) (ended s (events.Cancel d) events.Accepted world old q cid step (λ k n. ap₂ (λ (x y : ℕ). (x == k) && (y == n)) name.0 name.1) b),
+        )
+
+    pub cancel_refused : (world : State) (x : DraftContents) (why : Refusal) (answer : Reply) (new : Values A) → machine.Step s (events.Cancel d) (events.Refused why []) world → x ≡ d → answer ≡ reply.Refused why []
+        → new ≡ record mid { rows = with_value mid.rows q cid (Some (value.Draft x)) }
+        → Cancels (table_with s old) q cid (draft_of q cid (table_with s old).drafts) answer (table_with world new) × IsBench world new
+    cancel_refused world x why answer new step back says left =
+        let stays = put_same old mid q cid (value.Draft d) out (value.Draft x) new (ap value.Draft back) left in (
+          rw (found_draft, says) (step, ap (table_with world) stays),
+          subst (IsBench world) (sym stays) (goes_on s (events.Cancel d) (events.Refused why []) world old step (λ k n. refl) b),
+        )
+
+  -- A ticket is collected
+
+  module _ (s : State) (old mid : Values A) (q cid : ℕ) (ticket : TicketContents) (b : IsBench s old) (out : IsOut old q cid (value.Ticket ticket) mid) where
+    found_ticket : list_any (is_ticket q cid) (table_with s old).tickets ≡ true
+    found_ticket = ticket_at s old q cid (Some (ticket.q, ticket.cid)) b (ap (option_and_then as_ticket) out.there)
+
+    ticket_name : (ticket.q ≡ q) × (ticket.cid ≡ cid)
+    ticket_name = named_there s old q cid (value.Ticket ticket) b out.there
+
+    by_name : (reply : events.Reply) (world : State) → machine.Step s (events.Collect ticket.q ticket.cid) reply world → machine.Step s (events.Collect q cid) reply world
+    by_name reply world step =
+        subst (λ (k : ℕ). machine.Step s (events.Collect k cid) reply world) ticket_name.0 (subst (λ (n : ℕ). machine.Step s (events.Collect ticket.q n) reply world) ticket_name.1 step)
+
+    pub collects : (world : State) (f : FinishedContents) (status : Status) (new : Values A) → machine.Step s (events.Collect ticket.q ticket.cid) (events.Collects f) world → status ≡ f.status
+        → new ≡ with_row (record mid { rows = without mid.rows q cid }) q cid (Some (value.Finished f))
+        → Collects (table_with s old) q cid (list_any (is_ticket q cid) (table_with s old).tickets) (reply.Collected status) (table_with world new) × IsBench world new
+    collects world f status new step ends left = (
+      rw found_ticket (record {
+        finished = f;
+        says = ap reply.Collected ends;
+        step = by_name (events.Collects f) world step;
+        keeps = ap (table_with world) (put_next old mid q cid (value.Ticket ticket) out (value.Finished f) new left) ∙ tables_same world _ _ _ _ _ _ drafts tickets finished;
+      }),
+      subst (IsBench world) (sym (put_next old mid q cid (value.Ticket ticket) out (value.Finished f) new left))
+          (followed world old q cid (value.Ticket ticket) (value.Finished f) (goes_on s (events.Collect ticket.q ticket.cid) (events.Collects f) world old step (λ k n. refl) b) out.there name.0 name.1),
+    )
+      where
+        name : (f.q ≡ q) × (f.cid ≡ cid)
+        name = collected_named s world q cid f (by_name (events.Collects f) world step)
+
+        row : Row (Option (Value A))
+        row = record { q = q; cid = cid; value = Some (value.Finished f) }
+
+        drafts : picked as_draft (without old.rows q cid ++ row ∷ []) ≡ picked as_draft old.rows
+        drafts =
+            filter_map-append (λ (r : Row (Option (Value A))). as_draft r.value) (without old.rows q cid) (row ∷ []) ∙ append-nil (picked as_draft (without old.rows q cid))
+            ∙ taken_other as_draft old.rows q cid (Some (value.Ticket ticket)) out.there refl
+
+        tickets : picked as_ticket (without old.rows q cid ++ row ∷ []) ≡ without_first (is_ticket q cid) (picked as_ticket old.rows)
+        tickets =
+            filter_map-append (λ (r : Row (Option (Value A))). as_ticket r.value) (without old.rows q cid) (row ∷ []) ∙ append-nil (picked as_ticket (without old.rows q cid))
+            ∙ taken_at as_ticket is_ticket old.rows q cid b.distinct (tickets_named s old b)
+
+        finished : picked as_finished (without old.rows q cid ++ row ∷ []) ≡ picked as_finished old.rows ++ f ∷ []
+        finished =
+            filter_map-append (λ (r : Row (Option (Value A))). as_finished r.value) (without old.rows q cid) (row ∷ [])
+            ∙ ap (λ (xs : List FinishedContents). xs ++ f ∷ []) (taken_other as_finished old.rows q cid (Some (value.Ticket ticket)) out.there refl)
+
+    pub collect_refused : (world : State) (x : TicketContents) (why : Refusal) (answer : Reply) (new : Values A) → machine.Step s (events.Collect ticket.q ticket.cid) (events.Refused why []) world → x ≡ ticket → answer ≡ reply.Refused why []
+        → new ≡ record mid { rows = with_value mid.rows q cid (Some (value.Ticket x)) }
+        → Collects (table_with s old) q cid (list_any (is_ticket q cid) (table_with s old).tickets) answer (table_with world new) × IsBench world new
+    collect_refused world x why answer new step back says left =
+        let stays = put_same old mid q cid (value.Ticket ticket) out (value.Ticket x) new (ap value.Ticket back) left in (
+          rw (found_ticket, says) (by_name (events.Refused why []) world step, ap (table_with world) stays),
+          subst (IsBench world) (sym stays) (goes_on s (events.Collect ticket.q ticket.cid) (events.Refused why []) world old step (λ k n. refl) b),
+        )
+
+  -- A finished command is gathered
+
+  module _ (s : State) (values : Values A) (q cid : ℕ) (f : FinishedContents) (b : IsBench s values) (there : Some f ≡ option_and_then as_finished (value_at values.rows q cid)) where
+    is_finished_there : finished_at q cid (table_with s values).finished ≡ Some f
+    is_finished_there = finished_there s values q cid b ∙ sym there
+
+    pub gathers : (bytes : List ℕ) → bytes ≡ gathered_from f → Gathers (table_with s values) (finished_at q cid (table_with s values).finished) (reply.Gathered bytes) (table_with s values)
+    gathers bytes is = rw is_finished_there (is, refl)
+
+    pub gathers_nothing : (answer : Reply) → answer ≡ reply.Refused refusal.Memory [] → Gathers (table_with s values) (finished_at q cid (table_with s values).finished) answer (table_with s values)
+    gathers_nothing answer is = rw (is_finished_there, is) refl
+
+  -- It is released
+
+  module _ (s : State) (old mid : Values A) (q cid : ℕ) (f : FinishedContents) (b : IsBench s old) (out : IsOut old q cid (value.Finished f) mid) where
+    found_finished : finished_at q cid (table_with s old).finished ≡ Some f
+    found_finished = finished_there s old q cid b ∙ ap (option_and_then as_finished) out.there
+
+    pub releases : (world : State) (new : Values A) → machine.Step s (events.Release f) events.Accepted world → new ≡ record mid { rows = without mid.rows q cid }
+        → Releases (table_with s old) q cid (finished_at q cid (table_with s old).finished) reply.Accepted (table_with world new) × IsBench world new
+    releases world new step left =
+        let name = named_there s old q cid (value.Finished f) b out.there in
+        let is = row_dropped old mid q cid (value.Finished f) out new left in (
+          rw found_finished (step, ap (table_with world) is ∙ tables_same world _ _ _ _ _ _ (taken_other as_draft old.rows q cid (Some (value.Finished f)) out.there refl) (taken_other as_ticket old.rows q cid (Some (value.Finished f)) out.there refl) (taken_at as_finished is_finished old.rows q cid b.distinct (finished_named s old b))),
+          subst (IsBench world) (sym is) (ended s (events.Release f) events.Accepted world old q cid step (λ k n. ap₂ (λ (x y : ℕ). (x == k) && (y == n)) name.0 name.1) b),
+        )
+
+    pub release_refused : (world : State) (x : FinishedContents) (why : Refusal) (answer : Reply) (new : Values A) → machine.Step s (events.Release f) (events.Refused why []) world → x ≡ f → answer ≡ reply.Refused why []
+        → new ≡ record mid { rows = with_value mid.rows q cid (Some (value.Finished x)) }
+        → Releases (table_with s old) q cid (finished_at q cid (table_with s old).finished) answer (table_with world new) × IsBench world new
+    release_refused world x why answer new step back says left =
+        let stays = put_same old mid q cid (value.Finished f) out (value.Finished x) new (ap value.Finished back) left in (
+          rw (found_finished, says) (step, ap (table_with world) stays),
+          subst (IsBench world) (sym stays) (goes_on s (events.Release f) (events.Refused why []) world old step (λ k n. refl) b),
+        )

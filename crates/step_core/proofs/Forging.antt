@@ -1,7 +1,7 @@
 -- Where a forged completion goes.
-use Rattle.std.proofs.Common.{◌≡◌, ◌≢◌, ℕ, zero, suc, ◌+◌, ◌*◌, ◌<◌, ◌≤◌, ◌/◌, Bool, true, false, ◌||◌, MatchBool, Option, Some, None, List, [], ◌∷◌, length, if◌then◌else◌, refl, ap, ap₂, sym, ◌∙◌, subst, arith, ◌⊎◌, inl, inr, get_or}
+use Rattle.std.proofs.Common.{◌≡◌, ◌≢◌, ℕ, zero, suc, ◌+◌, ◌*◌, ◌<◌, ◌≤◌, Bool, true, false, ◌||◌, MatchBool, Option, Some, None, List, [], ◌∷◌, length, refl, ap, ap₂, sym, ◌∙◌, subst, arith, ◌⊎◌, inl, inr, get_or}
 use Rattle.std.specs.Prelude.{slice_get, option_and_then}
-use Rattle.std.specs.Option.{option_map, option_map_or}
+use Rattle.std.specs.Option.{option_map}
 use Rattle.std.proofs.lemmas.Bool.{lt-leb, le-leb}
 use Rattle.std.proofs.lemmas.Option.{slice_get_cases}
 use Rattle.controller_core.specs.declared.queue.ControllerQueue.{ControllerQueue}
@@ -15,7 +15,7 @@ use Rattle.machine_model.specs.declared.words.Refusal.{Refusal}
 use Rattle.machine_model.specs.declared.words.Refusal.TheVariants as refusal
 use Rattle.page_ledger.specs.Owners.{pages_from}
 use Rattle.page_memory.specs.Memory.{Memory, bytes_at, page_of, written}
-use Rattle.page_memory.specs.Pages.{Pages, byte_at, page_at, AreWhole, IsPool}
+use Rattle.page_memory.specs.Pages.{Pages, byte_at, AreWhole, IsPool}
 use Rattle.page_memory.proofs.Reading.{none_at}
 use Rattle.queue_pair.specs.Memory.{completion_place, completion_slot}
 use Rattle.two_sides.specs.Sides.{Sides, state_of}

@@ -1,5 +1,5 @@
 -- Proper drafts stay proper when they are filled and when they are built.
-use Rattle.std.proofs.Common.{◌≡◌, ◌≤◌, ◌+◌, ◌-◌, ℕ, Bool, true, false, nat_lt, nat_le, List, [], ◌∷◌, ◌++◌, length, map, take, drop, replicate, sum_by, if◌then◌else◌, refl, ap, sym, ◌∙◌, arith}
+use Rattle.std.proofs.Common.{◌≡◌, ◌≤◌, ◌+◌, ◌-◌, ℕ, Bool, true, false, nat_lt, nat_le, List, [], ◌∷◌, ◌++◌, length, map, take, drop, replicate, sum_by, if◌then◌else◌, refl, sym, ◌∙◌, arith}
 use Rattle.std.specs.List.{AllByRecursion, list_any}
 use Rattle.std.proofs.lemmas.Bool.{or_parts}
 use Rattle.std.proofs.lemmas.Bool.Decides.{nat_tests}
@@ -8,7 +8,7 @@ use Rattle.std.proofs.lemmas.List.{length-map}
 use Rattle.sgl_descriptor.specs.declared.Descriptor.{Descriptor}
 use Rattle.sgl_descriptor.specs.declared.Part.{Part}
 use Rattle.sgl_descriptor.specs.Targets.{descriptor_of_part}
-use Rattle.sgl_chain.specs.Chains.{pages_needed, segments_on, segment_bytes, link_to}
+use Rattle.sgl_chain.specs.Chains.{segments_on, segment_bytes, link_to}
 use Rattle.sgl_chain.proofs.Built.{length-built}
 use Rattle.sgl_chain.proofs.Laying.{length-segment_bytes}
 use Rattle.page_memory.specs.Pages.{with_bytes}

@@ -1,12 +1,15 @@
-pub mod Firsts
-pub mod Benches
 pub mod Runs
 pub mod RunsOf
 pub mod Lawful
 pub mod KeptDrafts
+pub mod KeptRows
 pub mod InTableOrder
 pub mod GoingOn
 pub mod Steps
 pub mod Looking
 pub mod Forging
 pub mod Opening
+pub mod Outstanding
+pub mod Records
+pub mod Rows
+pub mod Benches

@@ -1,5 +1,5 @@
 -- What looks at a world tell, from those at its sides.
-use Rattle.std.proofs.Common.{◌≡◌, ℕ, zero, suc, ◌+◌, ◌<◌, ◌≤◌, Bool, true, false, ◌&&◌, Option, Some, None, List, [], ◌∷◌, length, is_none, is_some, IfSome, IfNone, IsTrue, refl, ap, sym, ◌∙◌, subst, arith, ◌⊎◌, inl, inr, get_or, below_more}
+use Rattle.std.proofs.Common.{◌≡◌, ℕ, suc, ◌+◌, ◌<◌, ◌≤◌, Bool, true, false, ◌&&◌, Option, Some, None, List, [], ◌∷◌, length, is_none, IfSome, IfNone, IsTrue, refl, ap, sym, ◌∙◌, subst, arith, ◌⊎◌, inl, inr, get_or, below_more}
 use Rattle.std.specs.Prelude.{slice_get}
 use Rattle.std.specs.Option.{option_map}
 use Rattle.std.proofs.lemmas.Option.{slice_get_cases}

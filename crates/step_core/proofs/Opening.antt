@@ -1,18 +1,15 @@
 -- A world as it opens.
-use Rattle.std.proofs.Common.{◌≡◌, ℕ, zero, suc, ◌+◌, ◌*◌, true, None, List, [], ◌∷◌, ◌++◌, refl, ap, ap₂, sym, ◌∙◌, subst, arith}
+use Rattle.std.proofs.Common.{◌≡◌, ℕ, zero, suc, ◌+◌, ◌*◌, true, None, List, [], ◌∷◌, ◌++◌, ap, ap₂, sym, ◌∙◌, subst, arith}
 use Rattle.controller_core.specs.Contents.{Contents}
 use Rattle.controller_core.specs.Opening as controller
 use Rattle.controller_core.specs.declared.queue.QueuePages.{QueuePages}
 use Rattle.host_core.specs.Alone.{HostView}
 use Rattle.host_core.specs.Opening.{refusal_of_config, opened_view, opened_pages}
 use Rattle.host_core.specs.declared.config.Config.{Config}
-use Rattle.machine_model.specs.Claims.{IsSound}
-use Rattle.machine_model.specs.State.{State}
-use Rattle.machine_model.proofs.Headline.{runs_are_sound}
 use Rattle.page_memory.specs.Pages.{Pages}
 use Rattle.page_memory.specs.declared.page.Half.TheVariants.{Submission, Completion}
 use Rattle.queue_pair.specs.Memory.{half_pages}
-use Rattle.two_sides.specs.Opening.{halves_from, opened_sides}
+use Rattle.two_sides.specs.Opening.{halves_from}
 use Rattle.two_sides.specs.Sides.{Sides, state_of}
 use Rattle.two_sides.proofs.Opened.{opened_are_worlds}
 use Rattle.step_core.specs.Opening.{opening_of}

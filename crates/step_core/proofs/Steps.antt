@@ -1,5 +1,5 @@
 -- Each call of a world is a step of the machine, behind which both sides are tied.
-use Rattle.std.proofs.Common.{◌≡◌, ◌≢◌, ℕ, Bool, true, false, Option, Some, None, List, [], Result, Ok, Err, OnErr, IfOk, length, refl, ap, sym, ◌∙◌, subst}
+use Rattle.std.proofs.Common.{◌≡◌, ℕ, Bool, true, false, Option, Some, List, [], Result, Ok, Err, OnErr, IfOk, length, refl, ap, sym, ◌∙◌, subst}
 use Rattle.std.specs.Result.{result_err}
 use Rattle.std.specs.Option.{option_map_or}
 use Rattle.std.proofs.lemmas.Bool.{true≢false, OnTrue_at, OnTrue_from}
@@ -22,7 +22,6 @@ use Rattle.machine_model.specs.State.{State}
 use Rattle.machine_model.specs.Step as machine
 use Rattle.machine_model.specs.Step.{Step, forges}
 use Rattle.machine_model.proofs.Agreed.{agreed_stays}
-use Rattle.machine_model.proofs.Headline.{steps_keep}
 use Rattle.page_memory.specs.Memory.{Memory}
 use Rattle.page_memory.specs.Pages as store
 use Rattle.page_memory.specs.Pages.{Pages, byte_at, AreWhole}

@@ -1,52 +1,102 @@
 -- A bench's world and kept values, as a table.
-use Rattle.std.specs.Prelude.{◌≡◌, ℕ, ◌+◌, ◌≤◌, Bool, true, None, Some, List, [], length, map, find, vec_len, vec_capacity}
-use Rattle.std.specs.List.{insert}
+use Rattle.std.specs.Prelude.{◌≡◌, ℕ, ◌-◌, None, Some, Option, List, [], length, filter_map, find, Result, Ok, Err}
+use Rattle.std.specs.List.{AllByRecursion}
+use Rattle.io_commands.specs.Asked.{Request}
 use Rattle.io_commands.specs.Drafts.{DraftContents, built}
-use Rattle.io_commands.specs.Values.{TicketContents}
-use Rattle.machine_model.specs.Script.{Table, is_ticket, fill_fault, filled_draft}
+use Rattle.io_commands.specs.Values.{FinishedContents, TicketContents}
+use Rattle.machine_model.specs.declared.words.Work.TheVariants.{Io}
+use Rattle.machine_model.specs.Script.{Table, fill_fault, filled_draft}
+use Rattle.machine_model.specs.State.{State, Record, is_at}
 use Rattle.machine_model.specs.declared.words.Refusal.TheVariants as refusal
-use Rattle.step_core.specs.Bench.{without_first}
+use Rattle.slot_table.specs.Table.{Row, TableOf, AreInside, IsDistinct, value_at, with_value}
 use Rattle.step_core.specs.declared.kept.Kept.{Kept}
+use Rattle.step_core.specs.declared.kept.Value.{Value}
+use Rattle.step_core.specs.declared.kept.Value.TheVariants as value
 use Rattle.step_core.specs.Values.{Reply}
 use Rattle.step_core.specs.declared.step.Reply.TheVariants as reply
 
-abbrev pub pair_of : TicketContents → ℕ × ℕ
-pair_of ticket = (ticket.q, ticket.cid)
+-- Values by kind
 
-abbrev pub is_ticket_of : ℕ → ℕ → TicketContents → Bool
-is_ticket_of q cid ticket = is_ticket q cid (pair_of ticket)
+module _ {A : Type 0} where
+  abbrev pub as_draft : Option (Value A) → Option DraftContents
+  as_draft (Some (value.Draft draft)) = Some draft
+  as_draft v = None
 
-abbrev pub table_of : {A : Type 0} → Kept A → Table
-table_of kept =
+  abbrev pub as_ticket : Option (Value A) → Option (ℕ × ℕ)
+  as_ticket (Some (value.Ticket ticket)) = Some (ticket.q, ticket.cid)
+  as_ticket v = None
+
+  abbrev pub as_finished : Option (Value A) → Option FinishedContents
+  as_finished (Some (value.Finished finished)) = Some finished
+  as_finished v = None
+
+  abbrev pub queue_of : Value A → ℕ
+  queue_of (value.Draft draft) = draft.q
+  queue_of (value.Ticket ticket) = ticket.q
+  queue_of (value.Finished finished) = finished.q
+
+  abbrev pub identifier_of : Value A → ℕ
+  identifier_of (value.Draft draft) = draft.cid
+  identifier_of (value.Ticket ticket) = ticket.cid
+  identifier_of (value.Finished finished) = finished.cid
+
+module _ {A : Type 0} where
+  -- a value is given as the one of its kind, or as it was
+  abbrev pub IsDraftOf : Value A → Result DraftContents (Value A) → Type 0
+  IsDraftOf v (Ok draft) = v ≡ value.Draft draft
+  IsDraftOf v (Err other) = (other ≡ v) × (as_draft (Some v) ≡ None)
+
+  abbrev pub IsTicketOf : Value A → Result TicketContents (Value A) → Type 0
+  IsTicketOf v (Ok ticket) = v ≡ value.Ticket ticket
+  IsTicketOf v (Err other) = (other ≡ v) × (as_ticket (Some v) ≡ None)
+
+  abbrev pub IsFinishedOf : Value A → Result FinishedContents (Value A) → Type 0
+  IsFinishedOf v (Ok finished) = v ≡ value.Finished finished
+  IsFinishedOf v (Err other) = (other ≡ v) × (as_finished (Some v) ≡ None)
+
+-- the values of rows that are of a kind, in their order
+abbrev pub picked : {V X : Type 0} → (V → Option X) → List (Row V) → List X
+picked pick rows = filter_map (λ row. pick row.value) rows
+
+-- a world with these values
+abbrev pub table_with : {A : Type 0} → State → TableOf (Option (Value A)) → Table
+table_with world values =
     record {
-      world = kept.world;
-      drafts = kept.drafts.items;
-      tickets = map pair_of kept.tickets.items;
-      finished = kept.finished.items;
+      world = world;
+      drafts = picked as_draft values.rows;
+      tickets = picked as_ticket values.rows;
+      finished = picked as_finished values.rows;
     }
 
--- the first value that passes a test, taken out of a list: putting it back at its place leaves the list as it was
-pub record IsTaken {X : Type 0} (p : X → Bool) (old : List X) (place : ℕ) (x : X) (new : List X) : Type 0 where
-  pub found : find p old ≡ Some x
-  pub passes : p x ≡ true
-  pub rest : new ≡ without_first p old
-  pub within : place ≤ length new
-  pub back : insert new place x ≡ old
+abbrev pub table_of : {A : Type 0} → Kept A → Table
+table_of kept = table_with kept.world kept.values
 
--- room for so many values more of each kind
-pub record HasRoom {A : Type 0} (n : ℕ) (kept : Kept A) : Type 0 where
-  pub drafts : vec_len kept.drafts + n ≤ vec_capacity kept.drafts
-  pub tickets : vec_len kept.tickets + n ≤ vec_capacity kept.tickets
-  pub finished : vec_len kept.finished + n ≤ vec_capacity kept.finished
+-- What ties the values to the world
 
--- a value more of each kind at most, and no less room
-pub record TakesOne {A : Type 0} (old new : Kept A) : Type 0 where
-  pub drafts : vec_len new.drafts ≤ vec_len old.drafts + 1
-  pub drafts_room : vec_capacity old.drafts ≤ vec_capacity new.drafts
-  pub tickets : vec_len new.tickets ≤ vec_len old.tickets + 1
-  pub tickets_room : vec_capacity old.tickets ≤ vec_capacity new.tickets
-  pub finished : vec_len new.finished ≤ vec_len old.finished + 1
-  pub finished_room : vec_capacity old.finished ≤ vec_capacity new.finished
+-- an I/O command is outstanding under a name
+abbrev pub IsOutstanding : ℕ → ℕ → List Record → Type 0
+IsOutstanding q cid records = (r : Record) × (find (is_at q cid) records ≡ Some r) × (asked : Request) × (r.work ≡ Io asked)
+
+-- a row has a value of its own name, whose command is outstanding
+pub record IsHeld {A : Type 0} (records : List Record) (row : Row (Option (Value A))) : Type 0 where
+  pub value : Value A
+  pub held : row.value ≡ Some value
+  pub queue : queue_of value ≡ row.q
+  pub identifier : identifier_of value ≡ row.cid
+  pub outstanding : IsOutstanding row.q row.cid records
+
+-- the values of a bench: one at most of each command that is outstanding, and a place for each that may be
+pub record IsBench {A : Type 0} (s : State) (values : TableOf (Option (Value A))) : Type 0 where
+  pub queues : values.queues ≡ length s.host.queues
+  pub places : values.places ≡ s.entries - 1
+  pub inside : AreInside values.queues values.places values.rows
+  pub distinct : IsDistinct values.rows
+  pub held : AllByRecursion (IsHeld s.host.records) values.rows
+
+-- a value is taken out of its row, which stays
+pub record IsOut {A : Type 0} (old : TableOf (Option (Value A))) (q cid : ℕ) (v : Value A) (new : TableOf (Option (Value A))) : Type 0 where
+  pub there : value_at old.rows q cid ≡ Some (Some v)
+  pub left : new ≡ record old { rows = with_value old.rows q cid None }
 
 -- what filling a draft answers, and what it leaves of it
 abbrev pub FillsDraft : DraftContents → List ℕ → Reply → DraftContents → Type 0

@@ -1,24 +1,26 @@
 //! A bench: lists of steps are run on a world, with the drafts, tickets and finished commands that are about.
 
-ghost use Rattle.std.specs.Prelude.{◌≡◌, ◌+◌, ◌<◌, ◌≤◌, ◌⊎◌, [], length, vec_len, vec_capacity, None, IfOk, IfErr, OnOk, OnErr};
+ghost use Rattle.std.specs.Prelude.{◌≡◌, ◌+◌, ◌<◌, ◌≤◌, [], length, vec_len, vec_capacity, None, IfOk, IfErr, OnErr};
 ghost use Rattle.std.specs.List.{Contains};
 ghost use Rattle.machine_model.specs.Claims.{claims_of, counts_of, IsSound};
 ghost use Rattle.machine_model.specs.Script.{table};
 ghost use Rattle.page_ledger.specs.Counting.{total};
 ghost use Rattle.step_core.specs.Bench.{Does, DoesAll};
-ghost use Rattle.step_core.specs.Kept.{table_of, HasRoom};
+ghost use Rattle.step_core.specs.Kept.{table_of, IsBench};
 ghost use Rattle.host_core.specs.Opening.{refusal_of_config, RefusesOpening};
 ghost use Rattle.step_core.specs.Opening.{opening_of};
 
-use crate::ended::{Ended, Leftover};
+use crate::ended::Ended;
 use crate::kept::Kept;
 use crate::open::OpenRefused;
 use crate::step::{ReplyIn, StepIn};
 use crate::world::World;
 use block_image::Image;
-use host_core::Config;
+use host_core::{Config, Host};
+use machine_model::words::OpenRefusal;
 use page_ledger::{Counts, Owner};
 use page_memory::PageNo;
+use slot_table::SlotTable;
 use std::alloc::{AllocError, Allocator, Global};
 use std::marker::Model;
 
@@ -30,32 +32,23 @@ pub struct Bench<A: Allocator = Global> {
 
 impl<A: Allocator> Model for Bench<A> {
     ghost use Rattle.machine_model.specs.Script.{Table};
-    ghost use Rattle.step_core.specs.Kept.{table_of};
+    ghost use Rattle.step_core.specs.Kept.{table_of, IsBench};
 
     ghost Value = { Table };
 
     ghost view = { λ b. table_of b.kept };
+
+    ghost invariant = { λ b. IsBench b.kept.world b.kept.values };
 }
 
 impl<A: Allocator + Copy> Kept<A> {
-    /// Makes room for so many values more of each kind.
-    fn make_room(&mut self, many: usize) -> Result<(), AllocError>
-        ensures same { table_of self.new ≡ table_of self.old }
-        ensures room { OnOk result (HasRoom many self.new) }
-        ensures full { OnErr result ((vec_capacity self.old.drafts < vec_len self.old.drafts + many) ⊎ (vec_capacity self.old.tickets < vec_len self.old.tickets + many) ⊎ (vec_capacity self.old.finished < vec_len self.old.finished + many)) }
-    {
-        self.drafts.reserve(many)?;
-        self.tickets.reserve(many)?;
-        self.finished.reserve(many)?;
-        Ok(())
-    }
-
-    /// Does the steps in order, with room for what they keep and answer.
+    /// Does the steps in order, with room for their answers.
     fn do_all(&mut self, steps: Vec<StepIn<A>, A>, replies: &mut Vec<ReplyIn<A>, A>)
-        requires room { HasRoom (length steps.items) self.old }
+        requires bench { IsBench self.old.world self.old.values }
         requires answers { vec_len replies.old + length steps.items ≤ vec_capacity replies.old }
         requires none { replies.old.items ≡ [] }
-        ensures { DoesAll (table_of self.old) steps.items replies.new.items (table_of self.new) }
+        ensures does { DoesAll (table_of self.old) steps.items replies.new.items (table_of self.new) }
+        ensures kept { IsBench self.new.world self.new.values }
     {
         for step in steps {
             let reply = self.step(step);
@@ -76,13 +69,24 @@ impl<A: Allocator + Copy> Bench<A> {
         ensures refused { IfErr result (λ refused. RefusesOpening config refused.why) }
         ensures handed_back { IfErr result (λ refused. refused.image ≡ image) }
     {
-        match World::open(alloc, config, image) {
+        let opened = match Host::open(alloc, config) {
+            Ok(opened) => opened,
+            Err(why) => return Err(OpenRefused { image, why }),
+        };
+        let values = match SlotTable::open(alloc, config.queues + 1, config.entries) {
+            Ok(values) => values,
+            Err(_) => {
+                return Err(OpenRefused {
+                    image,
+                    why: OpenRefusal::Memory,
+                });
+            }
+        };
+        match World::over(opened, alloc, config, image) {
             Ok(world) => Ok(Bench {
                 kept: Kept {
                     world,
-                    drafts: Vec::new(alloc),
-                    tickets: Vec::new(alloc),
-                    finished: Vec::new(alloc),
+                    values,
                     alloc,
                 },
             }),
@@ -95,28 +99,21 @@ impl<A: Allocator + Copy> Bench<A> {
     ///
     /// # Errors
     ///
-    /// Where memory is refused for the answers and the values that steps keep. Then no step was done.
+    /// Where memory is refused for the answers. Then no step was done.
     pub fn run(&mut self, steps: Vec<StepIn<A>, A>) -> Result<Vec<ReplyIn<A>, A>, AllocError>
         ensures ran { IfOk result (λ replies. DoesAll self.old steps.items replies.items self.new) }
         ensures refused { OnErr result (self.new ≡ self.old) }
     {
         let mut replies = Vec::with_capacity(self.kept.alloc, steps.len())?;
-        self.kept.make_room(steps.len())?;
         self.kept.do_all(steps, &mut replies);
         Ok(replies)
     }
 
     /// Does one step, and answers what it answered. A step that is refused changes nothing; want of memory inside the step is its answer.
-    ///
-    /// # Errors
-    ///
-    /// Where memory is refused for what the step may keep. Then it was not done.
-    pub fn step(&mut self, step: StepIn<A>) -> Result<ReplyIn<A>, AllocError>
-        ensures did { IfOk result (λ reply. Does self.old step reply self.new) }
-        ensures refused { OnErr result (self.new ≡ self.old) }
+    pub fn step(&mut self, step: StepIn<A>) -> ReplyIn<A>
+        ensures { Does self.old step result self.new }
     {
-        self.kept.make_room(1)?;
-        Ok(self.kept.step(step))
+        self.kept.step(step)
     }
 
     /// Whose a page of the pool is: the owner of the one claim in which it stands.
@@ -158,28 +155,15 @@ impl<A: Allocator + Copy> Bench<A> {
         self.kept.world.check();
     }
 
-    /// Ends the bench: its world, and then each value that is about. It takes no memory.
+    /// Ends the bench: its world, and each value that is about. It takes no memory.
     pub fn end(self) -> Ended {
         let Bench { kept } = self;
         let Kept {
             world,
-            drafts,
-            tickets,
-            finished,
+            values,
             alloc: _,
         } = kept;
-        let ended = world.end();
-        spend(drafts, &ended);
-        spend(tickets, &ended);
-        spend(finished, &ended);
-        ended
+        drop(values);
+        world.end()
     }
-}
-
-/// Spends each value of a list.
-fn spend<T: Leftover, A: Allocator>(mut values: Vec<T, A>, ended: &Ended) {
-    while let Some(value) = values.pop() {
-        value.after(ended);
-    }
-    values.destroy_empty();
 }

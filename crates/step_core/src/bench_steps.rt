@@ -2,12 +2,12 @@
 
 ghost use Rattle.std.specs.Prelude.{◌≡◌, [], length};
 ghost use Rattle.step_core.specs.Bench.{Does};
-ghost use Rattle.step_core.specs.Kept.{table_of, HasRoom, TakesOne};
+ghost use Rattle.step_core.specs.Kept.{table_of, IsBench};
 
 use crate::fill::{build_draft, fill_draft, no_memory};
-use crate::kept::Kept;
+use crate::kept::{Kept, Value};
 use crate::kept_values::{
-    draft_place, finished_place, put_back, take_draft, take_finished, take_ticket,
+    drop_row, finished_in, put_back, put_next, take_draft, take_finished, take_ticket,
 };
 use crate::refused::{StepRefused, none_touched};
 use crate::step::{Bytes, Reply, ReplyIn, Step, StepIn};
@@ -39,14 +39,15 @@ fn refused_step<A: Allocator>(step: StepRefused) -> ReplyIn<A>
 impl<A: Allocator + Copy> Kept<A> {
     /// Reserves a command, and keeps its draft.
     fn reserve(&mut self, q: u16, request: Request<A>) -> ReplyIn<A>
-        requires { HasRoom 1 self.old }
+        requires { IsBench self.old.world self.old.values }
         ensures does { Does (table_of self.old) (Step.Reserve q request) result (table_of self.new) }
-        ensures room { TakesOne self.old self.new }
+        ensures kept { IsBench self.new.world self.new.values }
     {
         match self.world.reserve(q, request) {
             Ok(draft) => {
                 let reply = Reply::reserved(&draft);
-                self.drafts.push_reserved(draft);
+                let cid = draft.cid();
+                self.values.put(q, cid, Some(Value::Draft(draft)));
                 reply
             }
             Err(Refused { value: _, why }) => refused(why),
@@ -55,42 +56,48 @@ impl<A: Allocator + Copy> Kept<A> {
 
     /// Fills a draft.
     fn fill(&mut self, q: u16, cid: u16, bytes: Bytes<A>) -> ReplyIn<A>
+        requires { IsBench self.old.world self.old.values }
         ensures does { Does (table_of self.old) (Step.Fill q cid bytes) result (table_of self.new) }
-        ensures room { TakesOne self.old self.new }
+        ensures kept { IsBench self.new.world self.new.values }
     {
-        let Some(place) = draft_place(&self.drafts, q, cid) else {
+        let Some(mut draft) = take_draft(&mut self.values, q, cid) else {
             return Reply::NoValue;
         };
-        fill_draft(&mut self.drafts[place], bytes)
+        let reply = fill_draft(&mut draft, bytes);
+        put_back(&mut self.values, q, cid, Value::Draft(draft));
+        reply
     }
 
     /// Builds a draft.
     fn build(&mut self, q: u16, cid: u16) -> ReplyIn<A>
+        requires { IsBench self.old.world self.old.values }
         ensures does { Does (table_of self.old) (Step.Build q cid) result (table_of self.new) }
-        ensures room { TakesOne self.old self.new }
+        ensures kept { IsBench self.new.world self.new.values }
     {
-        let Some(place) = draft_place(&self.drafts, q, cid) else {
+        let Some(mut draft) = take_draft(&mut self.values, q, cid) else {
             return Reply::NoValue;
         };
-        build_draft(&mut self.drafts[place], self.alloc)
+        let reply = build_draft(&mut draft, self.alloc);
+        put_back(&mut self.values, q, cid, Value::Draft(draft));
+        reply
     }
 
     /// Submits a draft, and keeps its ticket.
     fn submit(&mut self, q: u16, cid: u16) -> ReplyIn<A>
-        requires { HasRoom 1 self.old }
+        requires { IsBench self.old.world self.old.values }
         ensures does { Does (table_of self.old) (Step.Submit q cid) result (table_of self.new) }
-        ensures room { TakesOne self.old self.new }
+        ensures kept { IsBench self.new.world self.new.values }
     {
-        let Some((place, draft)) = take_draft(&mut self.drafts, q, cid) else {
+        let Some(draft) = take_draft(&mut self.values, q, cid) else {
             return Reply::NoValue;
         };
         match self.world.submit(draft) {
             Ok(ticket) => {
-                self.tickets.push_reserved(ticket);
+                put_next(&mut self.values, q, cid, Value::Ticket(ticket));
                 Reply::Accepted
             }
             Err(Refused { value, why }) => {
-                put_back(&mut self.drafts, place, value);
+                put_back(&mut self.values, q, cid, Value::Draft(value));
                 refused(why)
             }
         }
@@ -98,17 +105,20 @@ impl<A: Allocator + Copy> Kept<A> {
 
     /// Cancels a draft.
     fn cancel(&mut self, q: u16, cid: u16) -> ReplyIn<A>
-        requires { HasRoom 1 self.old }
+        requires { IsBench self.old.world self.old.values }
         ensures does { Does (table_of self.old) (Step.Cancel q cid) result (table_of self.new) }
-        ensures room { TakesOne self.old self.new }
+        ensures kept { IsBench self.new.world self.new.values }
     {
-        let Some((place, draft)) = take_draft(&mut self.drafts, q, cid) else {
+        let Some(draft) = take_draft(&mut self.values, q, cid) else {
             return Reply::NoValue;
         };
         match self.world.cancel(draft) {
-            Ok(()) => Reply::Accepted,
+            Ok(()) => {
+                drop_row(&mut self.values, q, cid);
+                Reply::Accepted
+            }
             Err(Refused { value, why }) => {
-                put_back(&mut self.drafts, place, value);
+                put_back(&mut self.values, q, cid, Value::Draft(value));
                 refused(why)
             }
         }
@@ -116,8 +126,9 @@ impl<A: Allocator + Copy> Kept<A> {
 
     /// Rings a queue.
     fn ring(&mut self, q: u16) -> ReplyIn<A>
+        requires { IsBench self.old.world self.old.values }
         ensures does { Does (table_of self.old) (Step.Ring q) result (table_of self.new) }
-        ensures room { TakesOne self.old self.new }
+        ensures kept { IsBench self.new.world self.new.values }
     {
         match self.world.ring(q) {
             Ok(()) => Reply::Accepted,
@@ -127,8 +138,9 @@ impl<A: Allocator + Copy> Kept<A> {
 
     /// Lets the controller fetch an entry.
     fn fetch(&mut self, q: u16) -> ReplyIn<A>
+        requires { IsBench self.old.world self.old.values }
         ensures does { Does (table_of self.old) (Step.Fetch q) result (table_of self.new) }
-        ensures room { TakesOne self.old self.new }
+        ensures kept { IsBench self.new.world self.new.values }
     {
         match self.world.fetch(q) {
             Ok(done) => Reply::Fetched {
@@ -141,8 +153,9 @@ impl<A: Allocator + Copy> Kept<A> {
 
     /// Lets the controller do a unit of a command's list.
     fn walk(&mut self, q: u16, cid: u16) -> ReplyIn<A>
+        requires { IsBench self.old.world self.old.values }
         ensures does { Does (table_of self.old) (Step.Walk q cid) result (table_of self.new) }
-        ensures room { TakesOne self.old self.new }
+        ensures kept { IsBench self.new.world self.new.values }
     {
         match self.world.walk(q, cid) {
             Ok(done) => Reply::Walked {
@@ -155,8 +168,9 @@ impl<A: Allocator + Copy> Kept<A> {
 
     /// Lets the controller complete a command.
     fn complete(&mut self, q: u16, cid: u16) -> ReplyIn<A>
+        requires { IsBench self.old.world self.old.values }
         ensures does { Does (table_of self.old) (Step.Complete q cid) result (table_of self.new) }
-        ensures room { TakesOne self.old self.new }
+        ensures kept { IsBench self.new.world self.new.values }
     {
         match self.world.complete(q, cid) {
             Ok(done) => Reply::Completed {
@@ -168,8 +182,9 @@ impl<A: Allocator + Copy> Kept<A> {
 
     /// Takes a completion.
     fn reap(&mut self, q: u16) -> ReplyIn<A>
+        requires { IsBench self.old.world self.old.values }
         ensures does { Does (table_of self.old) (Step.Reap q) result (table_of self.new) }
-        ensures room { TakesOne self.old self.new }
+        ensures kept { IsBench self.new.world self.new.values }
     {
         match self.world.reap(q) {
             Ok(what) => Reply::Reaps(what),
@@ -179,21 +194,21 @@ impl<A: Allocator + Copy> Kept<A> {
 
     /// Collects a command by its ticket, and keeps the finished command.
     fn collect(&mut self, q: u16, cid: u16) -> ReplyIn<A>
-        requires { HasRoom 1 self.old }
+        requires { IsBench self.old.world self.old.values }
         ensures does { Does (table_of self.old) (Step.Collect q cid) result (table_of self.new) }
-        ensures room { TakesOne self.old self.new }
+        ensures kept { IsBench self.new.world self.new.values }
     {
-        let Some((place, ticket)) = take_ticket(&mut self.tickets, q, cid) else {
+        let Some(ticket) = take_ticket(&mut self.values, q, cid) else {
             return Reply::NoValue;
         };
         match self.world.collect(ticket) {
             Ok(finished) => {
                 let status = finished.status();
-                self.finished.push_reserved(finished);
+                put_next(&mut self.values, q, cid, Value::Finished(finished));
                 Reply::Collected(status)
             }
             Err(Refused { value, why }) => {
-                put_back(&mut self.tickets, place, value);
+                put_back(&mut self.values, q, cid, Value::Ticket(value));
                 refused(why)
             }
         }
@@ -201,13 +216,14 @@ impl<A: Allocator + Copy> Kept<A> {
 
     /// Gathers a Read's bytes.
     fn gather(&mut self, q: u16, cid: u16) -> ReplyIn<A>
+        requires { IsBench self.old.world self.old.values }
         ensures does { Does (table_of self.old) (Step.Gather q cid) result (table_of self.new) }
-        ensures room { TakesOne self.old self.new }
+        ensures kept { IsBench self.new.world self.new.values }
     {
-        let Some(place) = finished_place(&self.finished, q, cid) else {
+        let Some(finished) = finished_in(&self.values, q, cid) else {
             return Reply::NoValue;
         };
-        match self.finished[place].gather(self.alloc) {
+        match finished.gather(self.alloc) {
             Ok(bytes) => Reply::Gathered(Bytes::from_vec(bytes)),
             Err(_) => no_memory(),
         }
@@ -215,17 +231,20 @@ impl<A: Allocator + Copy> Kept<A> {
 
     /// Releases a finished command.
     fn release(&mut self, q: u16, cid: u16) -> ReplyIn<A>
-        requires { HasRoom 1 self.old }
+        requires { IsBench self.old.world self.old.values }
         ensures does { Does (table_of self.old) (Step.Release q cid) result (table_of self.new) }
-        ensures room { TakesOne self.old self.new }
+        ensures kept { IsBench self.new.world self.new.values }
     {
-        let Some((place, finished)) = take_finished(&mut self.finished, q, cid) else {
+        let Some(finished) = take_finished(&mut self.values, q, cid) else {
             return Reply::NoValue;
         };
         match self.world.release(finished) {
-            Ok(()) => Reply::Accepted,
+            Ok(()) => {
+                drop_row(&mut self.values, q, cid);
+                Reply::Accepted
+            }
             Err(Refused { value, why }) => {
-                put_back(&mut self.finished, place, value);
+                put_back(&mut self.values, q, cid, Value::Finished(value));
                 refused(why)
             }
         }
@@ -233,8 +252,9 @@ impl<A: Allocator + Copy> Kept<A> {
 
     /// Sends an Abort.
     fn abort(&mut self, q: u16, cid: u16) -> ReplyIn<A>
+        requires { IsBench self.old.world self.old.values }
         ensures does { Does (table_of self.old) (Step.Abort q cid) result (table_of self.new) }
-        ensures room { TakesOne self.old self.new }
+        ensures kept { IsBench self.new.world self.new.values }
     {
         match self.world.abort(q, cid) {
             Ok(sent) => Reply::Sent { cid: sent },
@@ -244,8 +264,9 @@ impl<A: Allocator + Copy> Kept<A> {
 
     /// Sends the deletion of a submission queue.
     fn delete_sq(&mut self, q: u16) -> ReplyIn<A>
+        requires { IsBench self.old.world self.old.values }
         ensures does { Does (table_of self.old) (Step.DeleteSq q) result (table_of self.new) }
-        ensures room { TakesOne self.old self.new }
+        ensures kept { IsBench self.new.world self.new.values }
     {
         match self.world.delete_sq(q) {
             Ok(cid) => Reply::Sent { cid },
@@ -255,8 +276,9 @@ impl<A: Allocator + Copy> Kept<A> {
 
     /// Sends the deletion of a completion queue.
     fn delete_cq(&mut self, q: u16) -> ReplyIn<A>
+        requires { IsBench self.old.world self.old.values }
         ensures does { Does (table_of self.old) (Step.DeleteCq q) result (table_of self.new) }
-        ensures room { TakesOne self.old self.new }
+        ensures kept { IsBench self.new.world self.new.values }
     {
         match self.world.delete_cq(q) {
             Ok(cid) => Reply::Sent { cid },
@@ -266,8 +288,9 @@ impl<A: Allocator + Copy> Kept<A> {
 
     /// Retires a queue.
     fn retire(&mut self, q: u16) -> ReplyIn<A>
+        requires { IsBench self.old.world self.old.values }
         ensures does { Does (table_of self.old) (Step.Retire q) result (table_of self.new) }
-        ensures room { TakesOne self.old self.new }
+        ensures kept { IsBench self.new.world self.new.values }
     {
         match self.world.retire(q) {
             Ok(()) => Reply::Accepted,
@@ -277,8 +300,9 @@ impl<A: Allocator + Copy> Kept<A> {
 
     /// Forges a completion.
     fn forge(&mut self, q: u16, slot: u16, bytes: [u8; 16]) -> ReplyIn<A>
+        requires { IsBench self.old.world self.old.values }
         ensures does { Does (table_of self.old) (Step.Forge q slot bytes) result (table_of self.new) }
-        ensures room { TakesOne self.old self.new }
+        ensures kept { IsBench self.new.world self.new.values }
     {
         match self.world.forge(q, slot, bytes) {
             Ok(()) => Reply::Accepted,
@@ -288,9 +312,9 @@ impl<A: Allocator + Copy> Kept<A> {
 
     /// Does a step.
     pub(crate) fn step(&mut self, step: StepIn<A>) -> ReplyIn<A>
-        requires { HasRoom 1 self.old }
+        requires { IsBench self.old.world self.old.values }
         ensures does { Does (table_of self.old) step result (table_of self.new) }
-        ensures room { TakesOne self.old self.new }
+        ensures kept { IsBench self.new.world self.new.values }
     {
         match step {
             Step::Reserve { q, request } => self.reserve(q, request),

@@ -1,110 +1,109 @@
-//! Values in lists: found by their queue and identifier, and put back where they were.
+//! Values by queue and identifier: taken out of their rows, and put back.
 
-ghost use Rattle.std.specs.Prelude.{◌≡◌, ◌+◌, ◌<◌, ◌≤◌, None, IfSome, IfNone, find, position, vec_len, vec_capacity};
-ghost use Rattle.std.specs.List.{insert};
-ghost use Rattle.machine_model.specs.Image.{is_draft};
-ghost use Rattle.machine_model.specs.Script.{is_finished};
-ghost use Rattle.step_core.specs.Kept.{is_ticket_of, IsTaken};
+ghost use Rattle.std.specs.Prelude.{◌≡◌, None, Some, IfSome, IfNone};
+ghost use Rattle.std.specs.Option.{option_and_then, option_copied};
+ghost use Rattle.slot_table.specs.Table.{IsPlace, value_at, with_row, with_value, without};
+ghost use Rattle.step_core.specs.Kept.{IsOut, as_draft, as_finished, as_ticket};
 
+use crate::kept::{Value, Values};
 use io_commands::{Draft, Finished, Ticket};
 use std::alloc::Allocator;
 
-/// The place of a command's draft.
-pub(crate) fn draft_place<A: Allocator>(drafts: &[Draft<A>], q: u16, cid: u16) -> Option<usize>
-    ensures { result ≡ position (is_draft q cid) drafts.now }
-{
-    drafts.iter().position(
-        |draft|
-            ensures { result ≡ is_draft q cid draft.now }
-        { draft.q() == q && draft.cid() == cid },
-    )
-}
-
-/// The place of a command's ticket.
-pub(crate) fn ticket_place(tickets: &[Ticket], q: u16, cid: u16) -> Option<usize>
-    ensures { result ≡ position (is_ticket_of q cid) tickets.now }
-{
-    tickets
-        .iter()
-        .position(|ticket| ticket.q() == q && ticket.cid() == cid)
-}
-
-/// The place of a finished command.
-pub(crate) fn finished_place<A: Allocator>(
-    finished: &[Finished<A>],
+/// A finished command in its row.
+pub(crate) fn finished_in<A: Allocator>(
+    values: &Values<A>,
     q: u16,
     cid: u16,
-) -> Option<usize>
-    ensures { result ≡ position (is_finished q cid) finished.now }
+) -> Option<&Finished<A>>
+    ensures { option_copied result ≡ option_and_then as_finished (value_at values.now.rows q cid) }
 {
-    finished.iter().position(
-        |command|
-            ensures { result ≡ is_finished q cid command.now }
-        { command.q() == q && command.cid() == cid },
-    )
+    let value = values.get(q, cid)?.as_ref()?;
+    value.finished()
 }
 
-/// Puts a value back into a list that has room for it.
-pub(crate) fn put_back<T, A: Allocator>(values: &mut Vec<T, A>, place: usize, value: T)
-    requires place { place ≤ vec_len values.old }
-    requires room { vec_len values.old < vec_capacity values.old }
-    ensures items { values.new.items ≡ insert values.old.items place value }
-    ensures len { vec_len values.new ≡ vec_len values.old + 1 }
-    ensures capacity { vec_capacity values.old ≤ vec_capacity values.new }
+/// Takes a command's value out of its row. The row stays, and is empty.
+fn take_value<A: Allocator>(values: &mut Values<A>, q: u16, cid: u16) -> Option<Value<A>>
+    ensures out { IfSome result (λ value. IsOut values.old q cid value values.new) }
+    ensures none { IfNone result (option_and_then (λ value. value) (value_at values.old.rows q cid) ≡ None) }
+    ensures kept { IfNone result (values.new ≡ values.old) }
 {
-    match values.insert(place, value) {
-        Ok(()) => {}
-        Err(_failed) => unreachable!(),
+    let row = values.get_mut(q, cid)?;
+    row.take()
+}
+
+/// Puts a value back into the row that it was taken out of.
+pub(crate) fn put_back<A: Allocator>(values: &mut Values<A>, q: u16, cid: u16, value: Value<A>)
+    requires { value_at values.old.rows q cid ≡ Some None }
+    ensures { values.new ≡ record values.old { rows = with_value values.old.rows q cid (Some value) } }
+{
+    match values.get_mut(q, cid) {
+        Some(row) => *row = Some(value),
+        None => unreachable!(),
     }
 }
 
-/// Takes a command's draft out, with its place.
-pub(crate) fn take_draft<A: Allocator>(
-    drafts: &mut Vec<Draft<A>, A>,
-    q: u16,
-    cid: u16,
-) -> Option<(usize, Draft<A>)>
-    ensures taken { IfSome result (λ t. IsTaken (is_draft q cid) drafts.old.items t.0 t.1 drafts.new.items) }
-    ensures len { IfSome result (λ t. vec_len drafts.new + 1 ≡ vec_len drafts.old) }
-    ensures none { IfNone result (find (is_draft q cid) drafts.old.items ≡ None) }
-    ensures kept { IfNone result (drafts.new ≡ drafts.old) }
-    ensures capacity { vec_capacity drafts.new ≡ vec_capacity drafts.old }
+/// Drops a row.
+pub(crate) fn drop_row<A: Allocator>(values: &mut Values<A>, q: u16, cid: u16)
+    ensures rest { values.new ≡ record values.old { rows = without values.old.rows q cid } }
+    ensures gone { value_at values.new.rows q cid ≡ None }
 {
-    let place = draft_place(drafts, q, cid)?;
-    let draft = drafts.remove(place);
-    Some((place, draft))
+    let _row = values.take(q, cid);
 }
 
-/// Takes a command's ticket out, with its place.
-pub(crate) fn take_ticket<A: Allocator>(
-    tickets: &mut Vec<Ticket, A>,
-    q: u16,
-    cid: u16,
-) -> Option<(usize, Ticket)>
-    ensures taken { IfSome result (λ t. IsTaken (is_ticket_of q cid) tickets.old.items t.0 t.1 tickets.new.items) }
-    ensures len { IfSome result (λ t. vec_len tickets.new + 1 ≡ vec_len tickets.old) }
-    ensures none { IfNone result (find (is_ticket_of q cid) tickets.old.items ≡ None) }
-    ensures kept { IfNone result (tickets.new ≡ tickets.old) }
-    ensures capacity { vec_capacity tickets.new ≡ vec_capacity tickets.old }
+/// Puts a command's next value behind all others, in place of the one that was taken out of its row.
+pub(crate) fn put_next<A: Allocator>(values: &mut Values<A>, q: u16, cid: u16, value: Value<A>)
+    requires { IsPlace values.old q cid }
+    ensures { values.new ≡ with_row (record values.old { rows = without values.old.rows q cid }) q cid (Some value) }
 {
-    let place = ticket_place(tickets, q, cid)?;
-    let ticket = tickets.remove(place);
-    Some((place, ticket))
+    drop_row(values, q, cid);
+    values.put(q, cid, Some(value));
 }
 
-/// Takes a finished command out, with its place.
+/// Takes a command's draft out of its row.
+pub(crate) fn take_draft<A: Allocator>(values: &mut Values<A>, q: u16, cid: u16) -> Option<Draft<A>>
+    ensures out { IfSome result (λ draft. IsOut values.old q cid (Value.Draft draft) values.new) }
+    ensures none { IfNone result (option_and_then as_draft (value_at values.old.rows q cid) ≡ None) }
+    ensures kept { IfNone result (values.new ≡ values.old) }
+{
+    match take_value(values, q, cid)?.into_draft() {
+        Ok(draft) => Some(draft),
+        Err(other) => {
+            put_back(values, q, cid, other);
+            None
+        }
+    }
+}
+
+/// Takes a command's ticket out of its row.
+pub(crate) fn take_ticket<A: Allocator>(values: &mut Values<A>, q: u16, cid: u16) -> Option<Ticket>
+    ensures out { IfSome result (λ ticket. IsOut values.old q cid (Value.Ticket ticket) values.new) }
+    ensures none { IfNone result (option_and_then as_ticket (value_at values.old.rows q cid) ≡ None) }
+    ensures kept { IfNone result (values.new ≡ values.old) }
+{
+    match take_value(values, q, cid)?.into_ticket() {
+        Ok(ticket) => Some(ticket),
+        Err(other) => {
+            put_back(values, q, cid, other);
+            None
+        }
+    }
+}
+
+/// Takes a finished command out of its row.
 pub(crate) fn take_finished<A: Allocator>(
-    finished: &mut Vec<Finished<A>, A>,
+    values: &mut Values<A>,
     q: u16,
     cid: u16,
-) -> Option<(usize, Finished<A>)>
-    ensures taken { IfSome result (λ t. IsTaken (is_finished q cid) finished.old.items t.0 t.1 finished.new.items) }
-    ensures len { IfSome result (λ t. vec_len finished.new + 1 ≡ vec_len finished.old) }
-    ensures none { IfNone result (find (is_finished q cid) finished.old.items ≡ None) }
-    ensures kept { IfNone result (finished.new ≡ finished.old) }
-    ensures capacity { vec_capacity finished.new ≡ vec_capacity finished.old }
+) -> Option<Finished<A>>
+    ensures out { IfSome result (λ finished. IsOut values.old q cid (Value.Finished finished) values.new) }
+    ensures none { IfNone result (option_and_then as_finished (value_at values.old.rows q cid) ≡ None) }
+    ensures kept { IfNone result (values.new ≡ values.old) }
 {
-    let place = finished_place(finished, q, cid)?;
-    let command = finished.remove(place);
-    Some((place, command))
+    match take_value(values, q, cid)?.into_finished() {
+        Ok(finished) => Some(finished),
+        Err(other) => {
+            put_back(values, q, cid, other);
+            None
+        }
+    }
 }

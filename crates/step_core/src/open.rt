@@ -1,7 +1,8 @@
 //! The opening of a world.
 
 ghost use Rattle.std.specs.Prelude.{◌≡◌, ◌≤◌, None, IfOk, IfErr};
-ghost use Rattle.host_core.specs.Opening.{refusal_of_config, RefusesOpening};
+ghost use Rattle.host_core.specs.Opening.{refusal_of_config, opened_view, opened_pages, RefusesOpening};
+ghost use Rattle.machine_model.specs.declared.words.OpenRefusal.TheVariants.{Memory};
 ghost use Rattle.step_core.specs.Opening.{opening_of};
 ghost use Rattle.two_sides.specs.Opening.{halves_from};
 
@@ -57,10 +58,31 @@ impl<A: Allocator + Copy> World<A> {
         ensures refused { IfErr result (λ refused. RefusesOpening config refused.why) }
         ensures handed_back { IfErr result (λ refused. refused.image ≡ image) }
     {
-        let Opened { host, store } = match Host::open(alloc, config) {
-            Ok(opened) => opened,
-            Err(why) => return Err(OpenRefused { image, why }),
-        };
+        match Host::open(alloc, config) {
+            Ok(opened) => World::over(opened, alloc, config, image),
+            Err(why) => Err(OpenRefused { image, why }),
+        }
+    }
+
+    /// Opens a world over an image, with the host that opened.
+    ///
+    /// # Errors
+    ///
+    /// `Memory` where memory is refused. The image comes back.
+    pub(crate) fn over(
+        opened: Opened<A>,
+        alloc: A,
+        config: Config,
+        image: Image<A>,
+    ) -> Result<World<A>, OpenRefused<A>>
+        requires fits { refusal_of_config config ≡ None }
+        requires host { opened.host ≡ opened_view config }
+        requires pages { opened.store.pages ≡ opened_pages config }
+        ensures opened { IfOk result (λ world. world ≡ opening_of config image) }
+        ensures refused { IfErr result (λ refused. refused.why ≡ Memory) }
+        ensures handed_back { IfErr result (λ refused. refused.image ≡ image) }
+    {
+        let Opened { host, store } = opened;
         let entries = config.entries as u16;
         let halves = halves(entries, config.queues as u16 + 1);
         match Controller::open(alloc, entries, &halves, image) {

@@ -1,15 +1,8 @@
-use Rattle.std.proofs.Common.{◌≡◌, Some, None, position}
-use Rattle.machine_model.specs.Image.{is_draft}
-use Rattle.step_core.proofs.Firsts.{none_found, taken, within_first}
+use Rattle.step_core.proofs.KeptRows.{is_empty, put_same}
 use Rattle.step_core.proofs.kept_values.take_draft.Goals as goal
 
-pub returns-in_err-place-clause-none : goal.returns-in_err-place-clause-none
-returns-in_err-place-clause-none g c =
-    let e : position (is_draft c.args.q c.args.cid) c.args.drafts.now.items ≡ None = cc (c.in_err-place.was) in
-    rw c.from_residual.ensures (none_found (is_draft c.args.q c.args.cid) c.args.drafts.now.items e)
+pub put_back-requires : goal.put_back-requires
+put_back-requires g c = is_empty c.args.values.now c.take_value.new.values c.args.q c.args.cid c.in_ok-take_value.field-0 c.in_ok-take_value.ensures.out
 
-pub returns-clause-taken : goal.returns-clause-taken
-returns-clause-taken g c =
-    let e : position (is_draft c.args.q c.args.cid) c.args.drafts.now.items ≡ Some c.in_ok-place.place = cc (c.in_ok-place.was) in
-    taken (is_draft c.args.q c.args.cid) c.args.drafts.now.items c.in_ok-place.place c.remove-draft.result c.remove-draft.new.self.items e
-    (within_first (is_draft c.args.q c.args.cid) c.args.drafts.now.items c.in_ok-place.place e) c.remove-draft.ensures.value c.remove-draft.ensures.items
+pub returns-in-Err-clause-kept : goal.returns-in-Err-clause-kept
+returns-in-Err-clause-kept g c = put_same c.args.values.now c.take_value.new.values c.args.q c.args.cid c.in_ok-take_value.field-0 c.in_ok-take_value.ensures.out c.in-Err.other c.put_back.new.values c.in-Err.ensures.0 c.put_back.ensures

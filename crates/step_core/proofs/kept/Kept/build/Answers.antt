@@ -1,15 +1,16 @@
-use Rattle.std.proofs.Common.{◌≡◌, Some, None, position}
-use Rattle.machine_model.specs.Image.{is_draft}
-use Rattle.step_core.specs.Kept.{table_of}
-use Rattle.step_core.proofs.Benches.{builds, no_build}
+use Rattle.step_core.proofs.Benches.{no_build, builds, builds_kept}
+use Rattle.step_core.proofs.KeptRows.{is_empty}
+use Rattle.step_core.specs.declared.kept.Value.TheVariants as value
 use Rattle.step_core.proofs.kept.Kept.build.Goals as goal
 
 pub returns-in_default-clause-does : goal.returns-in_default-clause-does
-returns-in_default-clause-does g c =
-    let e : position (is_draft c.args.q c.args.cid) c.args.self.now.drafts.items ≡ None = cc in
-    no_build (table_of c.args.self.now) c.args.q c.args.cid e
+returns-in_default-clause-does g c = rw c.in_default.ensures.kept (no_build c.args.self.now.world c.args.self.now.values c.args.q c.args.cid c.requires c.in_default.ensures.none)
+
+pub put_back-requires : goal.put_back-requires
+put_back-requires g c = is_empty c.args.self.now.values c.take_draft.new.values c.args.q c.args.cid (value.Draft c.in-Some.draft) c.in-Some.ensures.out
 
 pub returns-clause-does : goal.returns-clause-does
-returns-clause-does g c =
-    let e : position (is_draft c.args.q c.args.cid) c.args.self.now.drafts.items ≡ Some c.in-Some.place = cc in
-    builds (table_of c.args.self.now) c.args.q c.args.cid c.in-Some.place c.index_mut.result.now c.build_draft.result c.build_draft.new.draft e c.index_mut.ensures.value c.build_draft.ensures
+returns-clause-does g c = builds c.args.self.now.world c.args.self.now.values c.take_draft.new.values c.args.q c.args.cid c.in-Some.draft c.requires c.in-Some.ensures.out c.build_draft-reply.result c.build_draft-reply.new.draft c.put_back.new.values c.build_draft-reply.ensures c.put_back.ensures
+
+pub returns-clause-kept : goal.returns-clause-kept
+returns-clause-kept g c = builds_kept c.args.self.now.world c.args.self.now.values c.take_draft.new.values c.args.q c.args.cid c.in-Some.draft c.requires c.in-Some.ensures.out c.build_draft-reply.result c.build_draft-reply.new.draft c.put_back.new.values c.build_draft-reply.ensures c.put_back.ensures

@@ -13,11 +13,11 @@ loop-step-preserved g c =
     let turn = YieldsList-turn (YieldsList-from_vec c.args.steps.items (search rules) (search rules)) c.loop-step.yielded c.loop-step.step-iterator c.loop-step.yielded_by c.next.result c.next.new.self c.in-Some.step c.in-Some.is c.next.ensures.steps in
     let more = length_push c.loop-step.yielded c.in-Some.step in
     record {
+      bench = c.step-reply.ensures.kept;
       done =
           subst (λ (answers : List Reply). DoesAll (table_of c.args.self.now) (c.loop-step.yielded ++ c.in-Some.step ∷ []) answers (table_of c.step-reply.new.self))
           (sym {A = List Reply} c.push_reserved.ensures.items)
           (does_more (table_of c.args.self.now) (table_of c.loop-step.self) (table_of c.step-reply.new.self) c.loop-step.yielded c.loop-step.replies.items c.in-Some.step c.step-reply.result
           c.loop-step.invariant.done c.step-reply.ensures.does);
-      room = record { drafts = omega arith; tickets = omega arith; finished = omega arith };
       answers = omega arith;
     }

@@ -1,15 +1,16 @@
-use Rattle.std.proofs.Common.{◌≡◌, Some, None, position}
-use Rattle.machine_model.specs.Image.{is_draft}
-use Rattle.step_core.specs.Kept.{table_of}
-use Rattle.step_core.proofs.Benches.{fills, no_fill}
+use Rattle.step_core.proofs.Benches.{no_fill, fills, fills_kept}
+use Rattle.step_core.proofs.KeptRows.{is_empty}
+use Rattle.step_core.specs.declared.kept.Value.TheVariants as value
 use Rattle.step_core.proofs.kept.Kept.fill.Goals as goal
 
 pub returns-in_default-clause-does : goal.returns-in_default-clause-does
-returns-in_default-clause-does g c =
-    let e : position (is_draft c.args.q c.args.cid) c.args.self.now.drafts.items ≡ None = cc in
-    no_fill (table_of c.args.self.now) c.args.q c.args.cid c.args.bytes e
+returns-in_default-clause-does g c = rw c.in_default.ensures.kept (no_fill c.args.self.now.world c.args.self.now.values c.args.q c.args.cid c.args.bytes c.requires c.in_default.ensures.none)
+
+pub put_back-requires : goal.put_back-requires
+put_back-requires g c = is_empty c.args.self.now.values c.take_draft.new.values c.args.q c.args.cid (value.Draft c.in-Some.draft) c.in-Some.ensures.out
 
 pub returns-clause-does : goal.returns-clause-does
-returns-clause-does g c =
-    let e : position (is_draft c.args.q c.args.cid) c.args.self.now.drafts.items ≡ Some c.in-Some.place = cc in
-    fills (table_of c.args.self.now) c.args.q c.args.cid c.args.bytes c.in-Some.place c.index_mut.result.now c.fill_draft.result c.fill_draft.new.draft e c.index_mut.ensures.value c.fill_draft.ensures
+returns-clause-does g c = fills c.args.self.now.world c.args.self.now.values c.take_draft.new.values c.args.q c.args.cid c.in-Some.draft c.requires c.in-Some.ensures.out c.args.bytes c.fill_draft-reply.result c.fill_draft-reply.new.draft c.put_back.new.values c.fill_draft-reply.ensures c.put_back.ensures
+
+pub returns-clause-kept : goal.returns-clause-kept
+returns-clause-kept g c = fills_kept c.args.self.now.world c.args.self.now.values c.take_draft.new.values c.args.q c.args.cid c.in-Some.draft c.requires c.in-Some.ensures.out c.args.bytes c.fill_draft-reply.result c.fill_draft-reply.new.draft c.put_back.new.values c.fill_draft-reply.ensures c.put_back.ensures

@@ -1,4 +1,4 @@
-use Rattle.std.proofs.Common.{◌≡◌, ◌∙◌, ◌-◌, ap, arith, length, length-append}
+use Rattle.std.proofs.Common.{◌≡◌, ◌∙◌, ap, arith, length, length-append}
 use Rattle.io_commands.specs.Asked.{Request}
 use Rattle.io_commands.specs.Drafts.{draft_parts}
 use Rattle.io_commands.specs.Requests.{data_count}

@@ -1,0 +1,16 @@
+use Rattle.std.proofs.Common.{arith, subst, sym}
+use Rattle.host_core.proofs.Fresh.{limits}
+use Rattle.machine_model.specs.State.{State}
+use Rattle.step_core.specs.Kept.{IsBench}
+use Rattle.step_core.proofs.KeptRows.{opens_tied}
+use Rattle.step_core.proofs.bench.Bench.open.Goals as goal
+
+pub overflow_add-config : goal.overflow_add-config
+overflow_add-config g c = let most = (limits c.args.config c.in-Ok.ensures.fits).most_queues in omega (arith, most)
+
+pub open-requires-2-clause-queues : goal.open-requires-2-clause-queues
+open-requires-2-clause-queues g c = let most = (limits c.args.config c.in-Ok.ensures.fits).most_queues in omega (arith, most)
+
+pub invariant_of-result : goal.invariant_of-result
+invariant_of-result g c =
+    subst (λ (s : State). IsBench s c.in-Ok-open.values) (sym c.in-Ok-over.ensures.opened) (opens_tied c.args.config c.args.image c.in-Ok-open.values c.in-Ok-open.ensures)
