@@ -1,7 +1,7 @@
 //! A host, its controller and sixteen outstanding commands in a heap of fixed size.
 
 use crate::placed::placed;
-use crate::sweep::{Wanted, look_at, read, unrefused, is_memory};
+use crate::sweep::{Wanted, is_memory, look_at, read, unrefused};
 use linked_list_allocator::LocalHeap;
 use script_cli::{Line, Script};
 use std::alloc::{AllocError, Global};
