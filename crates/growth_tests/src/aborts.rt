@@ -54,7 +54,7 @@ reap 0
 38 reap admin cid 0 status 0:00 dw0 1
 counts free 9 queue 4 chain 0 data 3
 ",
-    growths: 24,
+    growths: 21,
 };
 
 #[test]
@@ -92,7 +92,7 @@ reap 1
 22 reap done cid 0 status 0:07
 counts free 11 queue 4 chain 0 data 1
 ",
-    growths: 21,
+    growths: 18,
 };
 
 #[test]
@@ -141,7 +141,7 @@ reap 1
 30 reap done cid 0 status 0:00
 counts free 11 queue 4 chain 0 data 1
 ",
-    growths: 22,
+    growths: 19,
 };
 
 #[test]
@@ -199,7 +199,7 @@ release 1 2
 38 gather 00*512,BB*1,00*511
 counts free 10 queue 4 chain 0 data 2
 ",
-    growths: 30,
+    growths: 27,
 };
 
 #[test]

@@ -60,7 +60,7 @@ owners
 40 reap admin cid 0 status 0:00 dw0 0
 counts free 14 queue 2 chain 0 data 0
 ",
-    growths: 27,
+    growths: 24,
 };
 
 #[test]
@@ -134,7 +134,7 @@ cancel 1 0
 52 fetch refused Idle
 counts free 14 queue 2 chain 0 data 0
 ",
-    growths: 12,
+    growths: 9,
 };
 
 #[test]
@@ -168,7 +168,7 @@ abort 1 0
 14 reap admin cid 0 status 1:0C dw0 0
 counts free 11 queue 4 chain 0 data 1
 ",
-    growths: 12,
+    growths: 9,
 };
 
 #[test]
@@ -232,7 +232,7 @@ release 1 0
 43 gather 55*1,00*511
 counts free 20 queue 4 chain 0 data 0
 ",
-    growths: 33,
+    growths: 30,
 };
 
 #[test]

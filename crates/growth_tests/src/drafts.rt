@@ -28,7 +28,7 @@ cancel 1 0
 14 cancel ok
 counts free 12 queue 4 chain 0 data 0
 ",
-    growths: 25,
+    growths: 22,
 };
 
 #[test]
@@ -77,7 +77,7 @@ release 1 0
 31 gather 0A*1,0B*1,00*1022
 counts free 12 queue 4 chain 0 data 0
 ",
-    growths: 37,
+    growths: 34,
 };
 
 #[test]
@@ -114,7 +114,7 @@ cancel 1 0
 13 reserve q 1 cid 2 data 3 chain 1
 counts free 12 queue 4 chain 0 data 0
 ",
-    growths: 26,
+    growths: 23,
 };
 
 #[test]
@@ -178,7 +178,7 @@ cancel 1 1
 36 gather 00*512
 counts free 12 queue 4 chain 0 data 0
 ",
-    growths: 19,
+    growths: 16,
 };
 
 #[test]

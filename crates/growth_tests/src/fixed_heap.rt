@@ -1,7 +1,7 @@
 //! A host, its controller and sixteen outstanding commands in a heap of fixed size.
 
 use crate::placed::placed;
-use crate::sweep::{Wanted, look_at, read, unrefused, is_memory};
+use crate::sweep::{Wanted, is_memory, look_at, read, unrefused};
 use linked_list_allocator::LocalHeap;
 use script_cli::{Line, Script};
 use std::alloc::{AllocError, Global};
@@ -27,10 +27,10 @@ const BLOCKS: u32 = 16;
 const STEP: usize = 16;
 
 /// The smallest heap in which a bench opens.
-const OPENS: usize = 96_272;
+const OPENS: usize = 102_944;
 
 /// The smallest heap in which the commands are carried through.
-const CARRIES: usize = 120_336;
+const CARRIES: usize = 117_152;
 
 /// A verb for each command.
 fn put_each(text: &mut String, verb: &str) -> Result<(), AllocError> {

@@ -34,7 +34,7 @@ release 1 0
 16 gather 00*512
 counts free 12 queue 4 chain 0 data 0
 ",
-    growths: 11,
+    growths: 8,
 };
 
 #[test]
@@ -64,7 +64,7 @@ reap 1
 13 reap empty
 counts free 12 queue 4 chain 0 data 0
 ",
-    growths: 15,
+    growths: 12,
 };
 
 #[test]
@@ -116,7 +116,7 @@ reap 1
 29 walk more touched -
 counts free 11 queue 4 chain 0 data 1
 ",
-    growths: 36,
+    growths: 33,
 };
 
 #[test]
@@ -150,7 +150,7 @@ cancel 1 0
 17 submit refused QueueFull
 counts free 10 queue 4 chain 0 data 2
 ",
-    growths: 25,
+    growths: 22,
 };
 
 #[test]
@@ -201,7 +201,7 @@ complete 1 2
 33 complete ok touched 3
 counts free 9 queue 4 chain 0 data 3
 ",
-    growths: 32,
+    growths: 29,
 };
 
 #[test]
@@ -235,7 +235,7 @@ release 1 0
 14 collect status 0:08
 counts free 19 queue 5 chain 0 data 0
 ",
-    growths: 18,
+    growths: 15,
 };
 
 #[test]
@@ -276,7 +276,7 @@ retire 1
 18 collect status 0:08
 counts free 12 queue 4 chain 0 data 0
 ",
-    growths: 16,
+    growths: 13,
 };
 
 #[test]
@@ -312,7 +312,7 @@ reap 0
 18 reap admin cid 0 status 0:00 dw0 0
 counts free 11 queue 4 chain 0 data 1
 ",
-    growths: 13,
+    growths: 10,
 };
 
 #[test]

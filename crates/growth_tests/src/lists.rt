@@ -59,7 +59,7 @@ release 1 0
 44 gather 01*1,02*1,03*1,04*1,00*2044
 counts free 12 queue 4 chain 0 data 0
 ",
-    growths: 41,
+    growths: 38,
 };
 
 #[test]
@@ -142,7 +142,7 @@ release 1 0
 62 gather -
 counts free 12 queue 4 chain 0 data 0
 ",
-    growths: 54,
+    growths: 51,
 };
 
 #[test]
@@ -204,7 +204,7 @@ reserve 1 write 0 2 0+512 x512
 43 reserve refused Bad LengthMismatch
 counts free 12 queue 4 chain 0 data 0
 ",
-    growths: 40,
+    growths: 37,
 };
 
 #[test]
@@ -267,7 +267,7 @@ release 1 0
 42 gather 99*1,00*8703
 counts free 12 queue 4 chain 0 data 0
 ",
-    growths: 37,
+    growths: 34,
 };
 
 #[test]
@@ -308,7 +308,7 @@ cancel 1 2
 21 gather 00*8192
 counts free 5 queue 4 chain 0 data 0
 ",
-    growths: 32,
+    growths: 28,
 };
 
 #[test]
@@ -373,7 +373,7 @@ release 1 0
 46 reap done cid 0 status 2:85
 counts free 12 queue 4 chain 0 data 0
 ",
-    growths: 44,
+    growths: 41,
 };
 
 #[test]

@@ -46,7 +46,7 @@ fn open_twice(rt: &impl Abort, alloc: Global, config: Config, growth: u64) -> Re
 /// Each growth of an opening is refused: memory is wanted and the image comes back, with which a bench then opens.
 #[test]
 fn an_opening_wants_memory(rt: HostRuntime) -> Result<(), Fail> {
-    for (config, wanted) in [(USUAL, 29), (TWO_QUEUES, 39)] {
+    for (config, wanted) in [(USUAL, 31), (TWO_QUEUES, 41)] {
         let mut growths: u64 = 0;
         for growth in 1..MANY {
             if !open_twice(&rt, rt.alloc(), config, growth)? {

@@ -99,7 +99,7 @@ fn run(
     came
 }
 
-/// A list of steps is not run where memory is refused for its answers and values; else the steps before the one that wants memory
+/// A list of steps is not run where memory is refused for its answers; else the steps before the one that wants memory
 /// answer as they must.
 #[test]
 fn a_list_of_steps_is_run_or_none_is_done(rt: HostRuntime) -> Result<(), Fail> {
@@ -132,6 +132,6 @@ release 1 0
             Came::Whole => break,
         }
     }
-    assert_eq!(rt; (not_run, wanting), (4, 16));
+    assert_eq!(rt; (not_run, wanting), (1, 16));
     Ok(())
 }

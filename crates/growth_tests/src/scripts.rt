@@ -33,7 +33,7 @@ release 1 0
 20 gather 00*2048
 counts free 18 queue 6 chain 0 data 0
 ",
-    growths: 21,
+    growths: 18,
 };
 
 #[test]
@@ -78,7 +78,7 @@ release 2 0
 23 reap done cid 0 status 0:00
 counts free 18 queue 6 chain 0 data 0
 ",
-    growths: 28,
+    growths: 25,
 };
 
 #[test]
@@ -130,7 +130,7 @@ release 1 1
 29 reap admin cid 0 status 0:00 dw0 0
 counts free 20 queue 4 chain 0 data 0
 ",
-    growths: 23,
+    growths: 20,
 };
 
 #[test]
@@ -172,7 +172,7 @@ delete_cq 1
 19 retire refused NotDeleted
 counts free 18 queue 6 chain 0 data 0
 ",
-    growths: 16,
+    growths: 13,
 };
 
 #[test]

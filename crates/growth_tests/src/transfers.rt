@@ -37,7 +37,7 @@ release 1 0
 25 gather AB*1,CD*1,00*510
 counts free 12 queue 4 chain 0 data 0
 ",
-    growths: 25,
+    growths: 22,
 };
 
 #[test]
@@ -102,7 +102,7 @@ release 1 0
 46 reap done cid 0 status 2:85
 counts free 12 queue 4 chain 0 data 0
 ",
-    growths: 43,
+    growths: 40,
 };
 
 #[test]
@@ -174,7 +174,7 @@ release 1 0
 52 gather CC*1,00*511
 counts free 12 queue 4 chain 0 data 0
 ",
-    growths: 48,
+    growths: 45,
 };
 
 #[test]
@@ -226,7 +226,7 @@ release 1 0
 35 gather 00*512
 counts free 12 queue 4 chain 0 data 0
 ",
-    growths: 34,
+    growths: 31,
 };
 
 #[test]
@@ -325,7 +325,7 @@ release 1 4
 65 collect status 2:85
 counts free 12 queue 4 chain 0 data 0
 ",
-    growths: 73,
+    growths: 67,
 };
 
 #[test]
@@ -374,7 +374,7 @@ release 1 0
 31 gather 01*1,02*1,03*1,04*1,05*1,06*1,07*1,08*1,09*1,0A*1,00*1014
 counts free 12 queue 4 chain 0 data 0
 ",
-    growths: 31,
+    growths: 28,
 };
 
 #[test]
