@@ -114,6 +114,6 @@ fn arbitrary_pages(rt: HostRuntime) -> Result<(), Fail> {
     }
     // How many calls were accepted, and what all of them left of the memory: as on the day when this was written, so that a change shows.
     let left = digest(&rt, &mut guest);
-    assert_eq!(rt; (done, left), (42_695, 7_938_649_641_229_649_343));
+    assert_eq!(rt; (done, left), (40_719, 14_402_293_619_527_674_103));
     Ok(())
 }
