@@ -249,11 +249,8 @@ fn takes_no_memory(step: &Step) -> bool {
     )
 }
 
-/// A queue that no script has.
-const NO_QUEUE: u16 = 999;
-
 /// Does the steps of a script, those that take no memory over a heap that refuses each growth: none is asked for, and each answers as it
-/// must. A bench makes room in its own lists before each step: a ring of no queue has it do so before the heap refuses.
+/// must.
 fn steps_without_memory<'a>(
     rt: &impl Abort,
     alloc: Global,
@@ -269,13 +266,12 @@ fn steps_without_memory<'a>(
         };
         let made = placed(heap, step)?;
         if takes_no_memory(step) {
-            let _ring = bench.step(Step::Ring { q: NO_QUEUE })?;
             heap.refuse(Refusal::NthOn(1));
         }
         let answer = bench.step(made);
         assert_eq!(rt; heap.tally().refused, 0);
         heap.refuse(Refusal::Never);
-        let text = format!(in alloc; "{:?}", answer?)?;
+        let text = format!(in alloc; "{answer:?}")?;
         assert_eq!(rt; Some(&text), answers.next());
     }
     assert_eq!(rt; Standing::of(alloc, bench)?, wanted.end);
