@@ -1,6 +1,6 @@
 //! A run of threads over a new book, and what it leaves.
 
-ghost use Rattle.std.specs.Prelude.{◌≡◌, ◌≤◌, map, length, vec_len, IfOk, IfErr};
+ghost use Rattle.std.specs.Prelude.{◌≡◌, ◌≤◌, map, length, vec_len, IfOk, IfErr, IfSome};
 ghost use Rattle.driver_threads.specs.Runs.{IsAfterOpening, RanFrom, RefusesRun};
 ghost use Rattle.step_core.specs.Opening.{opening_of};
 
@@ -51,6 +51,20 @@ fn lengths<T, A: Allocator>(alloc: A, lists: &[Vec<T, A>]) -> Result<Vec<usize, 
     ensures { IfOk result (λ lengths. lengths.items ≡ map (λ list. length list.items) lists.now) }
 {
     lists.iter().map(|list| list.len()).collect(alloc)
+}
+
+/// The lists, where each is as long as is told. `None` too where memory is refused.
+fn as_long_as<T: Drop, A: Allocator + Copy>(
+    alloc: A,
+    lists: Vec<Vec<T, A>, A>,
+    told: &[usize],
+) -> Option<Vec<Vec<T, A>, A>>
+    ensures { IfSome result (λ lists. map (λ list. length list.items) lists.items ≡ told.now) }
+{
+    match lengths(alloc, &lists) {
+        Ok(lengths) if lengths.as_slice() == told => Some(lists),
+        _ => None,
+    }
 }
 
 /// Joins the submitters, tells the poller and the controller to stop, and joins them.
@@ -159,8 +173,8 @@ fn handed_in<L: Driver, A: Allocator + Copy>(
             None => return Err(Failure::NoThread),
         }
     }
-    match lengths(alloc, &lists) {
-        Ok(ends) if !short && ends.as_slice() == jobs => Ok(HandedIn { seats, lists }),
+    match as_long_as(alloc, lists, jobs) {
+        Some(lists) if !short => Ok(HandedIn { seats, lists }),
         _ => Err(Failure::Memory),
     }
 }
