@@ -7,10 +7,11 @@ ghost use Rattle.step_core.specs.Replies.{complete_reply, fetch_reply, walk_repl
 
 use crate::shared::Shared;
 use driver_book::Driver;
+use std::alloc::Allocator;
 use std::sync::Wait;
 use step_core::{Completed, Fetched, StepRefused, Walked};
 
-impl<L: Driver> Shared<L> {
+impl<L: Driver, A: Allocator + Copy> Shared<L, A> {
     /// [`driver_book::Book::fetch`].
     ///
     /// # Errors

@@ -10,10 +10,11 @@ ghost use Rattle.step_core.specs.Replies.{reserve_reply, accept_reply, collect_r
 use crate::shared::Shared;
 use driver_book::{Driver, Seat};
 use io_commands::{Draft, Finished, Request, Ticket};
+use std::alloc::Allocator;
 use std::sync::Wait;
 use step_core::{Reaped, Refusal, Refused};
 
-impl<L: Driver> Shared<L> {
+impl<L: Driver, A: Allocator + Copy> Shared<L, A> {
     /// [`driver_book::Book::reserve`].
     ///
     /// # Errors
@@ -23,8 +24,8 @@ impl<L: Driver> Shared<L> {
         &self,
         rt: &R,
         q: u16,
-        request: Request,
-    ) -> Result<Draft, Refused<Request>>
+        request: Request<A>,
+    ) -> Result<Draft<A>, Refused<Request<A>>>
         ensures step { Made L.opening None (events.Reserve q request) (reserve_reply result) }
         ensures back { IfErr result (λ r. r.value ≡ request) }
     {
@@ -39,9 +40,9 @@ impl<L: Driver> Shared<L> {
     pub fn submit<R: Wait>(
         &self,
         rt: &R,
-        seat: &mut Seat<L>,
-        draft: Draft,
-    ) -> Result<Ticket, Refused<Draft>>
+        seat: &mut Seat<L, A>,
+        draft: Draft<A>,
+    ) -> Result<Ticket, Refused<Draft<A>>>
         ensures step { Submitted L.opening seat.old draft result seat.new }
         ensures back { IfErr result (λ r. r.value ≡ draft) }
         ensures ticket { IfOk result (λ ticket. ticket ≡ record { q = draft.q; cid = draft.cid }) }
@@ -55,7 +56,7 @@ impl<L: Driver> Shared<L> {
     /// # Errors
     ///
     /// As there; the draft is handed back.
-    pub fn cancel<R: Wait>(&self, rt: &R, draft: Draft) -> Result<(), Refused<Draft>>
+    pub fn cancel<R: Wait>(&self, rt: &R, draft: Draft<A>) -> Result<(), Refused<Draft<A>>>
         ensures step { Made L.opening None (events.Cancel draft) (accept_reply result) }
         ensures back { IfErr result (λ r. r.value ≡ draft) }
     {
@@ -95,7 +96,7 @@ impl<L: Driver> Shared<L> {
     /// # Errors
     ///
     /// As there; the ticket is handed back.
-    pub fn collect<R: Wait>(&self, rt: &R, ticket: Ticket) -> Result<Finished, Refused<Ticket>>
+    pub fn collect<R: Wait>(&self, rt: &R, ticket: Ticket) -> Result<Finished<A>, Refused<Ticket>>
         ensures step { Made L.opening None (events.Collect ticket.q ticket.cid) (collect_reply result) }
         ensures back { IfErr result (λ r. r.value ≡ ticket) }
         ensures command { IfOk result (λ finished. (finished.q ≡ ticket.q) × (finished.cid ≡ ticket.cid)) }
@@ -111,9 +112,9 @@ impl<L: Driver> Shared<L> {
     pub fn release<R: Wait>(
         &self,
         rt: &R,
-        seat: &mut Seat<L>,
-        finished: Finished,
-    ) -> Result<(), Refused<Finished>>
+        seat: &mut Seat<L, A>,
+        finished: Finished<A>,
+    ) -> Result<(), Refused<Finished<A>>>
         requires { list_any (is_open_for finished.q finished.cid) seat.old.receipts ≡ true }
         ensures step { Released L.opening seat.old finished result seat.new }
         ensures back { IfErr result (λ r. r.value ≡ finished) }

@@ -2,38 +2,45 @@
 
 ghost use Rattle.std.specs.Prelude.{◌≡◌, map};
 
-use driver_book::{Book, CloseFault, Driver, Report};
+use driver_book::{Book, CloseFault, Driver, ReportIn};
 use entry_codec::Status;
 use io_commands::{Request, RequestFault};
+use std::alloc::{Allocator, Global};
 use std::marker::Model;
 use step_core::{Bytes, OpenRefusal};
 use thiserror::Error;
 
 /// A command that a submitter carries through.
 #[derive(Debug, Drop)]
-pub struct Job {
+pub struct Job<R = Request, B = Bytes> {
     /// Its queue.
     pub q: u16,
     /// What is asked for.
-    pub request: Request,
+    pub request: R,
     /// The data of a Write or a Compare; where it is shorter than the data pieces, zeros stand behind it. A Read has none, and what
     /// stands here of it is not looked at.
-    pub bytes: Bytes,
+    pub bytes: B,
 }
+
+/// A job whose request and bytes stand in the memory of one allocator.
+pub type JobIn<A> = Job<Request<A>, Bytes<A>>;
 
 /// How a job ended.
 #[derive(Debug, Drop)]
-pub enum JobEnd {
+pub enum JobEnd<B = Bytes> {
     /// Its command was carried through.
     Done {
         /// How the command ended.
         status: Status,
         /// What it gathered: a Read's data pieces joined in order, and nothing of a Write or a Compare.
-        bytes: Bytes,
+        bytes: B,
     },
     /// It was refused, and left nothing.
     Refused(JobRefusal),
 }
+
+/// The end of a job whose bytes stand in the memory of one allocator.
+pub type JobEndIn<A> = JobEnd<Bytes<A>>;
 
 /// Why a job was refused.
 #[derive(Clone, Copy, Debug, PartialEq, Eq, Error)]
@@ -62,29 +69,29 @@ pub enum JobRefusal {
 
 /// How the jobs of submitters ended, one list for each submitter. Contracts see these lists.
 #[derive(Debug, Drop)]
-pub struct JobEnds {
-    lists: Vec<Vec<JobEnd>>,
+pub struct JobEnds<A: Allocator = Global> {
+    lists: Vec<Vec<JobEndIn<A>, A>, A>,
 }
 
-impl Model for JobEnds {
+impl<A: Allocator> Model for JobEnds<A> {
     ghost use Rattle.std.specs.Prelude.{List, map};
-    ghost use Rattle.driver_threads.specs.declared.jobs.JobEnd.{JobEnd};
+    ghost use Rattle.driver_threads.specs.Values.{JobEnd};
 
     ghost Value = { List (List JobEnd) };
 
     ghost view = { λ e. map (λ list. list.items) e.lists.items };
 }
 
-impl JobEnds {
+impl<A: Allocator> JobEnds<A> {
     /// These lists.
-    pub(crate) fn of(lists: Vec<Vec<JobEnd>>) -> Self
+    pub(crate) fn of(lists: Vec<Vec<JobEndIn<A>, A>, A>) -> Self
         ensures { result ≡ map (λ list. list.items) lists.items }
     {
         JobEnds { lists }
     }
 
     /// The lists, one for each submitter, in their order.
-    pub fn as_slice(&self) -> &[Vec<JobEnd>]
+    pub fn as_slice(&self) -> &[Vec<JobEndIn<A>, A>]
         ensures { map (λ list. list.items) result.now ≡ self.now }
     {
         &self.lists
@@ -93,13 +100,13 @@ impl JobEnds {
 
 /// What a run of threads leaves.
 #[derive(Drop)]
-pub struct Ran<L: Driver> {
+pub struct Ran<L: Driver, A: Allocator = Global> {
     /// What the book said as it was closed.
-    pub report: Report,
+    pub report: ReportIn<A>,
     /// How the jobs ended.
-    pub jobs: JobEnds,
+    pub jobs: JobEnds<A>,
     /// The book.
-    pub book: Book<L>,
+    pub book: Book<L, A>,
 }
 
 /// Why a run of threads failed.

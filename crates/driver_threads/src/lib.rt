@@ -7,6 +7,9 @@
 //! built and bytes are gathered outside the lock. Who waits sleeps on a condition variable and looks at the book as it wakes: a wait makes no
 //! step and writes nothing down, so the log of a run is as long as its jobs make it, whatever the schedule.
 //!
+//! All of it stands in the memory of the allocator with which the book was opened, from which threads take memory side by side: it is
+//! `Send` and `Sync` where threads are started, and [`Global`](std::alloc::Global) where none is named.
+//!
 //! [`run_threads`] opens a book, runs submitters over it with a poller and a controller, each in a thread of its own, and closes it.
 #![tactic(auto)]
 
@@ -20,7 +23,7 @@ mod waits;
 mod workers;
 
 pub use gate::{Gate, GateClosed, Open, Point};
-pub use jobs::{Job, JobEnd, JobEnds, JobRefusal, Ran, RunFault};
+pub use jobs::{Job, JobEnd, JobEndIn, JobEnds, JobIn, JobRefusal, Ran, RunFault};
 pub use run::run_threads;
 pub use shared::Shared;
 pub use workers::{Worked, controller, poller, submitter};

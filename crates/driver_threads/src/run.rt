@@ -1,16 +1,16 @@
 //! A run of threads over a new book, and what it leaves.
 
-ghost use Rattle.std.specs.Prelude.{◌≡◌, ◌≤◌, map, length, vec_len, IfOk, IfErr};
+ghost use Rattle.std.specs.Prelude.{◌≡◌, ◌≤◌, map, length, vec_len, IfOk, IfErr, IfSome};
 ghost use Rattle.driver_threads.specs.Runs.{IsAfterOpening, RanFrom, RefusesRun};
 ghost use Rattle.step_core.specs.Opening.{opening_of};
 
 use crate::gate::Gate;
-use crate::jobs::{Job, JobEnd, JobEnds, Ran, RunFault};
+use crate::jobs::{JobEndIn, JobEnds, JobIn, Ran, RunFault};
 use crate::shared::Shared;
 use crate::workers::{Worked, controller, poller, submitter};
 use block_image::Image;
 use driver_book::{Book, CloseFault, Driver, Seat};
-use std::alloc::{AllocError, Global};
+use std::alloc::{AllocError, Allocator};
 use std::sync::Wait;
 use std::sync::ledger::Blank;
 use std::thread;
@@ -40,28 +40,42 @@ fn fault_of(failure: Failure) -> RunFault
 
 /// What the threads gave back.
 #[derive(Drop)]
-struct Work<L: Driver> {
-    workers: Vec<Worked<L>>,
+struct Work<L: Driver, A: Allocator> {
+    workers: Vec<Worked<L, A>, A>,
     /// Whether memory was refused to the poller, to the controller, or to the list of the workers.
     short: bool,
 }
 
 /// How long each list is.
-fn lengths<T>(alloc: Global, lists: &[Vec<T>]) -> Result<Vec<usize>, AllocError>
+fn lengths<T, A: Allocator>(alloc: A, lists: &[Vec<T, A>]) -> Result<Vec<usize, A>, AllocError>
     ensures { IfOk result (λ lengths. lengths.items ≡ map (λ list. length list.items) lists.now) }
 {
     lists.iter().map(|list| list.len()).collect(alloc)
 }
 
+/// The lists, where each is as long as is told. `None` too where memory is refused.
+fn as_long_as<T: Drop, A: Allocator + Copy>(
+    alloc: A,
+    lists: Vec<Vec<T, A>, A>,
+    told: &[usize],
+) -> Option<Vec<Vec<T, A>, A>>
+    ensures { IfSome result (λ lists. map (λ list. length list.items) lists.items ≡ told.now) }
+{
+    match lengths(alloc, &lists) {
+        Ok(lengths) if lengths.as_slice() == told => Some(lists),
+        _ => None,
+    }
+}
+
 /// Joins the submitters, tells the poller and the controller to stop, and joins them.
-fn join_all<L: Driver, R: Threads + Wait>(
+fn join_all<L: Driver, A: Allocator + Copy, R: Threads + Wait>(
     rt: &R,
-    alloc: Global,
-    shared: &Shared<L>,
-    submitters: Vec<JoinHandle<Worked<L>>>,
+    alloc: A,
+    shared: &Shared<L, A>,
+    submitters: Vec<JoinHandle<Worked<L, A>>, A>,
     polls: JoinHandle<Result<(), AllocError>>,
     serves: JoinHandle<Result<(), AllocError>>,
-) -> Work<L> {
+) -> Work<L, A> {
     let mut workers = Vec::new(alloc);
     let mut short = false;
     for handle in submitters {
@@ -74,13 +88,18 @@ fn join_all<L: Driver, R: Threads + Wait>(
 }
 
 /// Starts a submitter for each list of jobs, a poller and a controller, and joins them.
-fn run_workers<L: Driver + Send + Sync, G: Gate + Sync, R: Threads + Wait + Sync>(
+fn run_workers<
+    L: Driver + Send + Sync,
+    A: Allocator + Copy + Send + Sync,
+    G: Gate + Sync,
+    R: Threads + Wait + Sync,
+>(
     rt: &R,
-    alloc: Global,
-    shared: &Shared<L>,
+    alloc: A,
+    shared: &Shared<L, A>,
     gate: &G,
-    jobs: Vec<Vec<Job>>,
-) -> Result<Work<L>, Failure> {
+    jobs: Vec<Vec<JobIn<A>, A>, A>,
+) -> Result<Work<L, A>, Failure> {
     let Ok(mut handles) = Vec::with_capacity(alloc, jobs.len()) else {
         return Err(Failure::Memory);
     };
@@ -115,7 +134,7 @@ fn run_workers<L: Driver + Send + Sync, G: Gate + Sync, R: Threads + Wait + Sync
 }
 
 /// The least worker to whom a gate was closed.
-fn first_closed<L: Driver>(workers: &[Worked<L>]) -> Option<u16> {
+fn first_closed<L: Driver, A: Allocator>(workers: &[Worked<L, A>]) -> Option<u16> {
     (0..16u16)
         .zip(workers)
         .find(|(_, worked)| worked.closed)
@@ -124,18 +143,18 @@ fn first_closed<L: Driver>(workers: &[Worked<L>]) -> Option<u16> {
 
 /// What submitters hand in: their seats, and how their jobs ended.
 #[derive(Drop)]
-struct HandedIn<L: Driver> {
-    seats: Vec<Seat<L>>,
-    lists: Vec<Vec<JobEnd>>,
+struct HandedIn<L: Driver, A: Allocator> {
+    seats: Vec<Seat<L, A>, A>,
+    lists: Vec<Vec<JobEndIn<A>, A>, A>,
 }
 
 /// Takes what the submitters hand in, whose lists of jobs are so long. A job without an end is one before which the workers were told to
 /// stop, as memory was refused to one of them.
-fn handed_in<L: Driver>(
-    alloc: Global,
-    work: Work<L>,
+fn handed_in<L: Driver, A: Allocator + Copy>(
+    alloc: A,
+    work: Work<L, A>,
     jobs: &[usize],
-) -> Result<HandedIn<L>, Failure>
+) -> Result<HandedIn<L, A>, Failure>
     ensures { IfOk result (λ hand. map (λ list. length list.items) hand.lists.items ≡ jobs.now) }
 {
     let mut short = work.short;
@@ -154,19 +173,19 @@ fn handed_in<L: Driver>(
             None => return Err(Failure::NoThread),
         }
     }
-    match lengths(alloc, &lists) {
-        Ok(ends) if !short && ends.as_slice() == jobs => Ok(HandedIn { seats, lists }),
+    match as_long_as(alloc, lists, jobs) {
+        Some(lists) if !short => Ok(HandedIn { seats, lists }),
         _ => Err(Failure::Memory),
     }
 }
 
 /// Closes the book with the seats of the workers, whose lists of jobs are so long.
-fn finish<L: Driver>(
-    alloc: Global,
-    book: Book<L>,
-    work: Work<L>,
+fn finish<L: Driver, A: Allocator + Copy>(
+    alloc: A,
+    book: Book<L, A>,
+    work: Work<L, A>,
     jobs: &[usize],
-) -> Result<Ran<L>, Failure>
+) -> Result<Ran<L, A>, Failure>
     ensures closed { IfOk result (λ ran. RanFrom L.opening ran.report ran.book) }
     ensures all_jobs { IfOk result (λ ran. map length ran.jobs ≡ jobs.now) }
 {
@@ -189,13 +208,18 @@ fn finish<L: Driver>(
 }
 
 /// Runs submitters, a poller and a controller over a book, and closes it.
-fn run_over<L: Driver + Send + Sync, G: Gate + Sync, R: Threads + Wait + Sync>(
+fn run_over<
+    L: Driver + Send + Sync,
+    A: Allocator + Copy + Send + Sync,
+    G: Gate + Sync,
+    R: Threads + Wait + Sync,
+>(
     rt: &R,
-    alloc: Global,
-    book: Book<L>,
+    alloc: A,
+    book: Book<L, A>,
     gate: &G,
-    jobs: Vec<Vec<Job>>,
-) -> Result<Ran<L>, Failure>
+    jobs: Vec<Vec<JobIn<A>, A>, A>,
+) -> Result<Ran<L, A>, Failure>
     ensures closed { IfOk result (λ ran. RanFrom L.opening ran.report ran.book) }
     ensures all_jobs { IfOk result (λ ran. map length ran.jobs ≡ map (λ list. length list.items) jobs.items) }
 {
@@ -216,15 +240,20 @@ fn run_over<L: Driver + Send + Sync, G: Gate + Sync, R: Threads + Wait + Sync>(
 /// worker, and then the least. `Close` where the book is not closed. `Memory` where memory is refused to the opening, to the run, to a
 /// worker or to the closing; a worker to whom it is refused tells the others to stop, so that jobs have no end. What was moved in is
 /// dropped.
-pub fn run_threads<L: Driver + Send + Sync, G: Gate + Sync, R: Threads + Wait + Sync>(
+pub fn run_threads<
+    L: Driver + Send + Sync,
+    A: Allocator + Copy + Send + Sync,
+    G: Gate + Sync,
+    R: Threads + Wait + Sync,
+>(
     rt: &R,
-    alloc: Global,
+    alloc: A,
     config: Config,
-    image: Image,
-    jobs: Vec<Vec<Job>>,
+    image: Image<A>,
+    jobs: Vec<Vec<JobIn<A>, A>, A>,
     gate: &G,
     blank: Blank,
-) -> Result<Ran<L>, RunFault>
+) -> Result<Ran<L, A>, RunFault>
     requires name { blank.name ≡ L.name }
     requires parts { blank.parts ≡ L.parts }
     requires number { blank.parts ≡ 65536 }
@@ -235,7 +264,7 @@ pub fn run_threads<L: Driver + Send + Sync, G: Gate + Sync, R: Threads + Wait + 
     ensures all_jobs { IfOk result (λ ran. map length ran.jobs ≡ map (λ list. length list.items) jobs.items) }
     ensures refused { IfErr result (RefusesRun config) }
 {
-    let book = match Book::<L>::open(alloc, config, image, blank) {
+    let book = match Book::<L, A>::open(alloc, config, image, blank) {
         Ok(book) => book,
         Err(refused) => {
             return match refused.why {

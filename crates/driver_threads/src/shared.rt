@@ -5,26 +5,27 @@ ghost use Rattle.std.specs.Sync.Mutex.{mutex_guard_value};
 ghost use Rattle.driver_book.specs.State.{BookContents};
 ghost use Rattle.driver_threads.specs.Sharing.{IsBookOf, GivesNoSeat, Tells, Counted, Closes, StaysOpen};
 
-use driver_book::{Book, CloseRefused, Driver, NoSeat, Report, Seat};
+use driver_book::{Book, CloseRefused, Driver, NoSeat, ReportIn, Seat};
 use page_ledger::{Counts, Owner};
 use page_memory::PageNo;
+use std::alloc::{Allocator, Global};
 use std::sync::{Condvar, Mutex, MutexGuard, Wait};
 
 /// A book under the driver's lock. Each call makes one step of it, or looks at it, while it has the lock.
 ///
 /// Who waits sleeps on a condition variable, looks at the book as it wakes, and makes its step once it would be answered otherwise.
 #[derive(Drop)]
-pub struct Shared<L: Driver> {
-    book: Mutex<Book<L>>,
+pub struct Shared<L: Driver, A: Allocator = Global> {
+    book: Mutex<Book<L, A>>,
     /// Submitters wait here: for identifiers, for pages, and for the end of their commands.
     pub(crate) freed: Condvar,
     /// The poller and the controller wait here: for completions, and for entries to fetch.
     pub(crate) work: Condvar,
 }
 
-impl<L: Driver> Shared<L> {
+impl<L: Driver, A: Allocator + Copy> Shared<L, A> {
     /// Puts a book under a lock.
-    pub fn new(book: Book<L>) -> Self {
+    pub fn new(book: Book<L, A>) -> Self {
         Shared {
             book: Mutex::new(book),
             freed: Condvar::new(),
@@ -33,11 +34,14 @@ impl<L: Driver> Shared<L> {
     }
 
     /// Takes the lock. What it finds there is a book of the opening: its log leads from the opening to the world, which is sound.
-    pub(crate) fn lock<R: Wait>(&self, rt: &R) -> MutexGuard<'_, Book<L>>
+    pub(crate) fn lock<R: Wait>(&self, rt: &R) -> MutexGuard<'_, Book<L, A>>
         ensures { IsBookOf L.opening (mutex_guard_value result) }
     {
         let book = self.book.lock(rt);
-        book.check();
+        prove!({
+            book.check();
+            true
+        });
         book
     }
 
@@ -52,7 +56,7 @@ impl<L: Driver> Shared<L> {
     /// # Errors
     ///
     /// Where 65,535 seats were made.
-    pub fn seat<R: Wait>(&self, rt: &R) -> Result<Seat<L>, NoSeat>
+    pub fn seat<R: Wait>(&self, rt: &R) -> Result<Seat<L, A>, NoSeat>
         ensures seat { IfOk result (λ seat. seat.receipts ≡ []) }
         ensures refused { IfErr result (λ none. GivesNoSeat L.opening) }
     {
@@ -94,7 +98,11 @@ impl<L: Driver> Shared<L> {
     /// # Errors
     ///
     /// As there; the seats are handed back.
-    pub fn close<R: Wait>(&self, rt: &R, seats: Vec<Seat<L>>) -> Result<Report, CloseRefused<L>>
+    pub fn close<R: Wait>(
+        &self,
+        rt: &R,
+        seats: Vec<Seat<L, A>, A>,
+    ) -> Result<ReportIn<A>, CloseRefused<L, A>>
         ensures closed { IfOk result (λ report. (book : BookContents) × Closes L.opening report seats.items book) }
         ensures cause { IfErr result (λ refused. StaysOpen L.opening refused.why seats.items) }
         ensures back { IfErr result (λ refused. refused.seats.items ≡ seats.items) }
@@ -103,7 +111,7 @@ impl<L: Driver> Shared<L> {
     }
 
     /// The book, once nobody shares it.
-    pub fn end(self) -> Book<L> {
+    pub fn end(self) -> Book<L, A> {
         let Shared {
             book,
             freed: _,

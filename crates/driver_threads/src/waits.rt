@@ -7,7 +7,7 @@ use crate::jobs::JobRefusal;
 use crate::shared::Shared;
 use driver_book::{Book, Driver};
 use io_commands::{Draft, Finished, Request, Ticket};
-use std::alloc::AllocError;
+use std::alloc::{AllocError, Allocator};
 use std::sync::Wait;
 use step_core::{ControllerStep, Refusal};
 
@@ -35,7 +35,11 @@ enum Turn {
 
 /// What a request on a queue is answered now. It waits for pages only where those that no queue owns are as many as the fewest that the
 /// request could take.
-fn turn_of<L: Driver>(book: &Book<L>, q: u16, request: &Request) -> Turn {
+fn turn_of<L: Driver, A: Allocator + Copy>(
+    book: &Book<L, A>,
+    q: u16,
+    request: &Request<A>,
+) -> Turn {
     if book.stopping() {
         return Turn::Never(Halt::Stopped);
     }
@@ -59,7 +63,7 @@ fn turn_of<L: Driver>(book: &Book<L>, q: u16, request: &Request) -> Turn {
     Turn::Never(Halt::Refused(refusal))
 }
 
-impl<L: Driver> Shared<L> {
+impl<L: Driver, A: Allocator + Copy> Shared<L, A> {
     /// Reserves for a request, and waits as long as identifiers or pages are wanting that others hold.
     ///
     /// # Errors
@@ -69,8 +73,8 @@ impl<L: Driver> Shared<L> {
         &self,
         rt: &R,
         q: u16,
-        request: Request,
-    ) -> Result<Draft, Halt> {
+        request: Request<A>,
+    ) -> Result<Draft<A>, Halt> {
         let mut book = self.freed.wait_while(rt, self.lock(rt), |book| {
             matches!(turn_of(book, q, &request), Turn::Later)
         });
@@ -93,7 +97,7 @@ impl<L: Driver> Shared<L> {
         &self,
         rt: &R,
         ticket: Ticket,
-    ) -> Result<Finished, Halt>
+    ) -> Result<Finished<A>, Halt>
         ensures { IfOk result (λ finished. (finished.q ≡ ticket.q) × (finished.cid ≡ ticket.cid)) }
     {
         let (q, cid) = (ticket.q(), ticket.cid());
@@ -174,7 +178,10 @@ impl<L: Driver> Shared<L> {
 }
 
 /// Does a step of the controller. Why it was refused, if it was.
-fn serve<L: Driver>(book: &mut Book<L>, step: ControllerStep) -> Option<Refusal> {
+fn serve<L: Driver, A: Allocator + Copy>(
+    book: &mut Book<L, A>,
+    step: ControllerStep,
+) -> Option<Refusal> {
     match step {
         ControllerStep::Fetch { q } => book.fetch(q).err().map(|refused| refused.why),
         ControllerStep::Walk { q, cid } => book.walk(q, cid).err().map(|refused| refused.why),

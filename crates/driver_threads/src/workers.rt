@@ -5,23 +5,23 @@ ghost use Rattle.std.specs.List.{list_any};
 ghost use Rattle.driver_book.specs.Calls.{is_open_for};
 
 use crate::gate::{Gate, Point};
-use crate::jobs::{Job, JobEnd, JobRefusal};
+use crate::jobs::{Job, JobEnd, JobEndIn, JobIn, JobRefusal};
 use crate::shared::Shared;
 use crate::waits::Halt;
 use driver_book::{Driver, Seat};
 use io_commands::{Draft, Finished, Kind, Ticket};
-use std::alloc::{AllocError, Global};
+use std::alloc::{AllocError, Allocator, Global};
 use std::sync::Wait;
 use std::sync::ledger::Ledger;
 use step_core::{Bytes, Refusal};
 
 /// What a submitter gives back.
 #[derive(Drop)]
-pub struct Worked<L: Ledger> {
+pub struct Worked<L: Ledger, A: Allocator = Global> {
     /// Its seat; none where no more seats were to be had.
-    pub seat: Option<Seat<L>>,
+    pub seat: Option<Seat<L, A>>,
     /// How its jobs ended, in their order. It has fewer than there were jobs where the workers were told to stop.
-    pub ends: Vec<JobEnd>,
+    pub ends: Vec<JobEndIn<A>, A>,
     /// Whether a gate was closed to it.
     pub closed: bool,
     /// Whether memory was refused to it.
@@ -46,7 +46,7 @@ impl<G: Gate> Watch<'_, G> {
 }
 
 /// The bytes, with zeros behind them up to a length.
-fn padded(bytes: Bytes, whole: usize) -> Result<Vec<u8>, AllocError>
+fn padded<A: Allocator>(bytes: Bytes<A>, whole: usize) -> Result<Vec<u8, A>, AllocError>
     requires { length bytes ≤ whole }
 {
     let mut padded = bytes.into_vec();
@@ -55,7 +55,7 @@ fn padded(bytes: Bytes, whole: usize) -> Result<Vec<u8>, AllocError>
 }
 
 /// Fills a source with its bytes, and with zeros behind them. No lock is held.
-fn fill(draft: &mut Draft, bytes: Bytes) -> Result<(), Halt> {
+fn fill<A: Allocator>(draft: &mut Draft<A>, bytes: Bytes<A>) -> Result<(), Halt> {
     let request = draft.request();
     if matches!(request.kind, Kind::Read) {
         return Ok(());
@@ -74,7 +74,11 @@ fn fill(draft: &mut Draft, bytes: Bytes) -> Result<(), Halt> {
 }
 
 /// Fills a draft and builds it. No lock is held.
-fn prepare(alloc: Global, draft: &mut Draft, bytes: Bytes) -> Result<(), Halt> {
+fn prepare<A: Allocator + Copy>(
+    alloc: A,
+    draft: &mut Draft<A>,
+    bytes: Bytes<A>,
+) -> Result<(), Halt> {
     fill(draft, bytes)?;
     match draft.build(alloc) {
         Ok(()) => Ok(()),
@@ -83,7 +87,12 @@ fn prepare(alloc: Global, draft: &mut Draft, bytes: Bytes) -> Result<(), Halt> {
 }
 
 /// Gives a draft up: a refused job leaves nothing, and who stops spends what he holds.
-fn give_up<L: Driver, R: Wait>(rt: &R, shared: &Shared<L>, draft: Draft, halt: Halt) -> Halt {
+fn give_up<L: Driver, A: Allocator + Copy, R: Wait>(
+    rt: &R,
+    shared: &Shared<L, A>,
+    draft: Draft<A>,
+    halt: Halt,
+) -> Halt {
     match halt {
         Halt::Refused(_) => match shared.cancel(rt, draft) {
             Ok(()) => halt,
@@ -100,13 +109,13 @@ fn give_up<L: Driver, R: Wait>(rt: &R, shared: &Shared<L>, draft: Draft, halt: H
 }
 
 /// Reserves for a job, fills and builds.
-fn drafted<L: Driver, G: Gate, R: Wait>(
+fn drafted<L: Driver, A: Allocator + Copy, G: Gate, R: Wait>(
     rt: &R,
-    alloc: Global,
-    shared: &Shared<L>,
+    alloc: A,
+    shared: &Shared<L, A>,
     watch: &mut Watch<G>,
-    job: Job,
-) -> Result<Draft, Halt> {
+    job: JobIn<A>,
+) -> Result<Draft<A>, Halt> {
     let Job { q, request, bytes } = job;
     let mut draft = shared.reserve_when_free(rt, q, request)?;
     watch.pass(Point::Reserved);
@@ -117,11 +126,11 @@ fn drafted<L: Driver, G: Gate, R: Wait>(
 }
 
 /// Submits a draft for a seat. A queue that takes no more commands refuses the job.
-fn submitted<L: Driver, R: Wait>(
+fn submitted<L: Driver, A: Allocator + Copy, R: Wait>(
     rt: &R,
-    shared: &Shared<L>,
-    seat: &mut Seat<L>,
-    draft: Draft,
+    shared: &Shared<L, A>,
+    seat: &mut Seat<L, A>,
+    draft: Draft<A>,
 ) -> Result<Ticket, Halt>
     ensures { IfOk result (λ ticket. list_any (is_open_for ticket.q ticket.cid) seat.new.receipts ≡ true) }
 {
@@ -138,13 +147,13 @@ fn submitted<L: Driver, R: Wait>(
 }
 
 /// Gathers what a finished command brought, and releases it. Nothing is held while it gathers.
-fn finished<L: Driver, R: Wait>(
+fn finished<L: Driver, A: Allocator + Copy, R: Wait>(
     rt: &R,
-    alloc: Global,
-    shared: &Shared<L>,
-    seat: &mut Seat<L>,
-    finished: Finished,
-) -> Result<JobEnd, Halt>
+    alloc: A,
+    shared: &Shared<L, A>,
+    seat: &mut Seat<L, A>,
+    finished: Finished<A>,
+) -> Result<JobEndIn<A>, Halt>
     requires { list_any (is_open_for finished.q finished.cid) seat.old.receipts ≡ true }
 {
     let status = finished.status();
@@ -165,14 +174,14 @@ fn finished<L: Driver, R: Wait>(
 }
 
 /// Carries a job through: reserve, fill, build, submit, ring, collect, gather, release.
-fn carry<L: Driver, G: Gate, R: Wait>(
+fn carry<L: Driver, A: Allocator + Copy, G: Gate, R: Wait>(
     rt: &R,
-    alloc: Global,
-    shared: &Shared<L>,
-    seat: &mut Seat<L>,
+    alloc: A,
+    shared: &Shared<L, A>,
+    seat: &mut Seat<L, A>,
     watch: &mut Watch<G>,
-    job: Job,
-) -> Result<JobEnd, Halt> {
+    job: JobIn<A>,
+) -> Result<JobEndIn<A>, Halt> {
     let q = job.q;
     let draft = drafted(rt, alloc, shared, watch, job)?;
     let ticket = submitted(rt, shared, seat, draft)?;
@@ -195,14 +204,14 @@ fn carry<L: Driver, G: Gate, R: Wait>(
 /// # Errors
 ///
 /// Where the workers are told to stop, or memory is refused. The job and those behind it have no end then.
-fn carry_all<L: Driver, G: Gate, R: Wait>(
+fn carry_all<L: Driver, A: Allocator + Copy, G: Gate, R: Wait>(
     rt: &R,
-    alloc: Global,
-    shared: &Shared<L>,
-    seat: &mut Seat<L>,
+    alloc: A,
+    shared: &Shared<L, A>,
+    seat: &mut Seat<L, A>,
     watch: &mut Watch<G>,
-    jobs: Vec<Job>,
-    ends: &mut Vec<JobEnd>,
+    jobs: Vec<JobIn<A>, A>,
+    ends: &mut Vec<JobEndIn<A>, A>,
 ) -> Result<(), Halt>
     ensures all { OnOk result (vec_len ends.new ≡ vec_len ends.old + vec_len jobs) }
     ensures most { vec_len ends.new ≤ vec_len ends.old + vec_len jobs }
@@ -222,14 +231,14 @@ fn carry_all<L: Driver, G: Gate, R: Wait>(
 
 /// Takes a seat, and carries jobs through, one after the other. It waits for identifiers and pages that others hold, and for the end of its
 /// commands. Where memory is refused to it, all workers are told to stop; what it holds is spent.
-pub fn submitter<L: Driver, G: Gate, R: Wait>(
+pub fn submitter<L: Driver, A: Allocator + Copy, G: Gate, R: Wait>(
     rt: &R,
-    alloc: Global,
-    shared: &Shared<L>,
+    alloc: A,
+    shared: &Shared<L, A>,
     gate: &G,
     worker: u16,
-    jobs: Vec<Job>,
-) -> Worked<L>
+    jobs: Vec<JobIn<A>, A>,
+) -> Worked<L, A>
     ensures { vec_len result.ends ≤ vec_len jobs }
 {
     let mut watch = Watch {
@@ -269,7 +278,10 @@ pub fn submitter<L: Driver, G: Gate, R: Wait>(
 /// # Errors
 ///
 /// Where memory is refused to it. All workers are told to stop then.
-pub fn poller<L: Driver, R: Wait>(rt: &R, shared: &Shared<L>) -> Result<(), AllocError> {
+pub fn poller<L: Driver, A: Allocator + Copy, R: Wait>(
+    rt: &R,
+    shared: &Shared<L, A>,
+) -> Result<(), AllocError> {
     for _ in rt.forever() {
         match shared.reap_next(rt) {
             Ok(true) => {}
@@ -288,7 +300,10 @@ pub fn poller<L: Driver, R: Wait>(rt: &R, shared: &Shared<L>) -> Result<(), Allo
 /// # Errors
 ///
 /// Where memory is refused to it. All workers are told to stop then.
-pub fn controller<L: Driver, R: Wait>(rt: &R, shared: &Shared<L>) -> Result<(), AllocError> {
+pub fn controller<L: Driver, A: Allocator + Copy, R: Wait>(
+    rt: &R,
+    shared: &Shared<L, A>,
+) -> Result<(), AllocError> {
     for _ in rt.forever() {
         match shared.serve_next(rt) {
             Ok(true) => {}

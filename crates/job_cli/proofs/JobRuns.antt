@@ -7,8 +7,7 @@ use Rattle.std.proofs.lemmas.Grind.{common_steps}
 use Rattle.std.proofs.lemmas.List.{append-nil, length-replicate, get_or-map, get_or-replicate, get_or_at, map-set}
 use Rattle.std.proofs.lemmas.Option.{slice_get-get_or, get_or_from_slice_get}
 use Rattle.driver_threads.specs.Runs.{RefusesRun}
-use Rattle.driver_threads.specs.declared.jobs.Job.{Job}
-use Rattle.driver_threads.specs.declared.jobs.JobEnd.{JobEnd}
+use Rattle.driver_threads.specs.Values.{Job, JobEnd}
 use Rattle.driver_threads.specs.declared.jobs.RunFault as threads_fault
 use Rattle.driver_threads.specs.declared.jobs.RunFault.TheVariants as threads
 use Rattle.driver_book.specs.declared.log.CloseFault.TheVariants as closing

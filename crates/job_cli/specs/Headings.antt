@@ -1,6 +1,6 @@
 -- What is kept of the lines of jobs while these run.
 use Rattle.std.specs.Prelude.{ℕ, Option, Some, None, option_and_then, List, [], ◌∷◌, ◌++◌, length, slice_get}
-use Rattle.driver_threads.specs.declared.jobs.JobEnd.{JobEnd}
+use Rattle.driver_threads.specs.Values.{JobEnd}
 use Rattle.job_cli.specs.JobLines.{job_text}
 use Rattle.job_cli.specs.JobRuns.{jobs_for}
 use Rattle.job_cli.specs.declared.job_runs.Heading.{Heading}

@@ -1,7 +1,7 @@
 -- The text of how jobs ended.
 use Rattle.std.specs.Prelude.{ℕ, List, [], ◌∷◌, ◌++◌, codes}
 use Rattle.std.specs.Fmt.{decimal}
-use Rattle.driver_threads.specs.declared.jobs.JobEnd.{JobEnd}
+use Rattle.driver_threads.specs.Values.{JobEnd}
 use Rattle.driver_threads.specs.declared.jobs.JobEnd.TheVariants as end
 use Rattle.driver_threads.specs.declared.jobs.JobRefusal.{JobRefusal}
 use Rattle.driver_threads.specs.declared.jobs.JobRefusal.TheVariants as refusal

@@ -4,8 +4,7 @@ use Rattle.std.specs.Io.KnownBytes.{Keeps}
 use Rattle.driver_book.specs.State.{BookContents}
 use Rattle.driver_book.specs.Values.{Report}
 use Rattle.driver_threads.specs.Runs.{RanFrom}
-use Rattle.driver_threads.specs.declared.jobs.Job.{Job}
-use Rattle.driver_threads.specs.declared.jobs.JobEnd.{JobEnd}
+use Rattle.driver_threads.specs.Values.{Job, JobEnd}
 use Rattle.machine_model.specs.Claims.{counts_of}
 use Rattle.machine_model.specs.State.{State}
 use Rattle.machine_model.specs.declared.words.OpenRefusal.{OpenRefusal}

@@ -18,8 +18,6 @@ use denote.Steps.{nothing, only}
 use denote.RattleType.{RowLaws}
 use denote.Triple.Statement.{Contract}
 use denote.Triple.Spec.{triple_of}
-use Rattle.std.proofs.cell.Cell.TheLaws as cell_laws
-use Rattle.std.specs.contracts.cell.Cell as cell
 use Rattle.refusing.proofs.allocator.Account.TheLaws as account_laws
 use Rattle.refusing.specs.contracts.allocator.Account as account
 use Rattle.refusing.specs.contracts.allocator.refuses_call as ask
@@ -27,10 +25,14 @@ use Rattle.refusing.specs.contracts.allocator.count_block as block
 use Rattle.refusing.specs.contracts.allocator.count_return as returned
 
 abbrev pub Kept : RattleType
-Kept = cell.the_row account.the_row
+Kept = account.the_row
 
 abbrev pub kept_laws : RowLaws Kept
-kept_laws = (cell_laws.the_row_laws account.the_row account_laws.the_row_laws).shr_laws
+kept_laws = account_laws.the_row_laws.shr_laws
+
+-- an account as contracts see it: nothing is known of its words
+abbrev pub some_account : account.the_row.Denot
+some_account = record { first = tt; last = tt; calls = tt; refused = tt; blocks = tt; bytes = tt }
 
 -- what is left to run after a match's arm
 abbrev pub then_runs : {M : Type 1} {𝓤 : Ura M} (𝓛 : Logic 𝓤) → Calls 𝓤 𝓛.H → Loops 𝓤 𝓛.H → Env 𝓤 𝓛.H → Body → Post 𝓤 𝓛.H → Post 𝓤 𝓛.H
@@ -41,26 +43,26 @@ module _ {M : Type 1} {𝓤 : Ura M} (𝓛 : Logic 𝓤) (at_mem : Memory → SP
   Ask = triple_of 𝓛 ask.signature (ask.spec 𝓛 at_mem run)
 
   abbrev pub at_ask : Lft → Share → ℕ × ℕ → Ask.Ghost
-  at_ask κ q c = (((κ, tt), (q, tt), tt, (record { ref_ptr = c; now = record { value = tt } }, tt), (vptr c.0 c.1 ∷ [], tt)), tt)
+  at_ask κ q c = (((κ, tt), (q, tt), tt, (record { ref_ptr = c; now = some_account }, tt), (vptr c.0 c.1 ∷ [], tt)), tt)
 
   abbrev pub Block : Contract 𝓤
   Block = triple_of 𝓛 block.signature (block.spec 𝓛 at_mem run)
 
   abbrev pub at_block : Lft → Share → ℕ × ℕ → ℕ → Block.Ghost
-  at_block κ q c n = (((κ, tt), (q, tt), tt, (record { ref_ptr = c; now = record { value = tt } }, (n, tt)), (vptr c.0 c.1 ∷ [], (vint w64 n ∷ [], tt))), tt)
+  at_block κ q c n = (((κ, tt), (q, tt), tt, (record { ref_ptr = c; now = some_account }, (n, tt)), (vptr c.0 c.1 ∷ [], (vint w64 n ∷ [], tt))), tt)
 
   abbrev pub Returned : Contract 𝓤
   Returned = triple_of 𝓛 returned.signature (returned.spec 𝓛 at_mem run)
 
   abbrev pub at_returned : Lft → Share → ℕ × ℕ → ℕ → Returned.Ghost
-  at_returned κ q c n = (((κ, tt), (q, tt), tt, (record { ref_ptr = c; now = record { value = tt } }, (n, tt)), (vptr c.0 c.1 ∷ [], (vint w64 n ∷ [], tt))), tt)
+  at_returned κ q c n = (((κ, tt), (q, tt), tt, (record { ref_ptr = c; now = some_account }, (n, tt)), (vptr c.0 c.1 ∷ [], (vint w64 n ∷ [], tt))), tt)
 
 module _ {M : Type 1} {𝓤 : Ura M} (𝓛 : Logic 𝓤) (at_mem : Memory → SProp 𝓤) (run : Routine → Fun 𝓤) (κ : Lft) (q : Share) (c : ℕ × ℕ) where
   open 𝓛 use {H, A}
 
-  pub Ask-goes : ent 𝓤 (sep 𝓤 (sem 𝓛 (hidden_shr Kept κ (record { value = tt }) c.0 c.1)) (A.lft κ q)) ((Ask 𝓛 at_mem run).pre (at_ask 𝓛 at_mem run κ q c))
+  pub Ask-goes : ent 𝓤 (sep 𝓤 (sem 𝓛 (hidden_shr Kept κ (some_account) c.0 c.1)) (A.lft κ q)) ((Ask 𝓛 at_mem run).pre (at_ask 𝓛 at_mem run κ q c))
   Ask-goes =
-      qed 𝓛 (‵ (hidden_shr Kept κ (record { value = tt }) c.0 c.1) ∷ ‵ (flft κ q) ∷ []) ∵ feq_i ! (List Val) (vptr c.0 c.1 ∷ []) (vptr c.0 c.1 ∷ []) refl $ fjoin ! $
+      qed 𝓛 (‵ (hidden_shr Kept κ (some_account) c.0 c.1) ∷ ‵ (flft κ q) ∷ []) ∵ feq_i ! (List Val) (vptr c.0 c.1 ∷ []) (vptr c.0 c.1 ∷ []) refl $ fjoin ! $
       nothing ! $ move ! (1 ∷ []) $ fjoin ! $ nothing ! $ move ! (2 ∷ []) $ join ! $ join ! $ nothing ! $ move ! (1 ∷ []) $ join ! $ done !
 
   pub Ask-gives : (v : Val) → ent 𝓤 ((Ask 𝓛 at_mem run).post (at_ask 𝓛 at_mem run κ q c) v) (H.⇛ (ex 𝓤 (λ (y : Bool). guard 𝓤 (v ≡ vbool y) (A.lft κ q))))
@@ -70,9 +72,9 @@ module _ {M : Type 1} {𝓤 : Ura M} (𝓛 : Logic 𝓤) (at_mem : Memory → SP
       split ! $ split ! $ move ! (1 ∷ []) $ feq_l ! (λ e. split ! $ at_once ! $
       show ! (λ (z : Bool). guard 𝓤 (v ≡ vbool z) (A.lft κ q)) y $ check ! (ap only e) $ keep ! (0 ∷ []) $ done !))
 
-  pub Block-goes : (n : ℕ) → n < 2 ^ 64 → ent 𝓤 (sep 𝓤 (sem 𝓛 (hidden_shr Kept κ (record { value = tt }) c.0 c.1)) (A.lft κ q)) ((Block 𝓛 at_mem run).pre (at_block 𝓛 at_mem run κ q c n))
+  pub Block-goes : (n : ℕ) → n < 2 ^ 64 → ent 𝓤 (sep 𝓤 (sem 𝓛 (hidden_shr Kept κ (some_account) c.0 c.1)) (A.lft κ q)) ((Block 𝓛 at_mem run).pre (at_block 𝓛 at_mem run κ q c n))
   Block-goes n fn =
-      qed 𝓛 (‵ (hidden_shr Kept κ (record { value = tt }) c.0 c.1) ∷ ‵ (flft κ q) ∷ []) ∵
+      qed 𝓛 (‵ (hidden_shr Kept κ (some_account) c.0 c.1) ∷ ‵ (flft κ q) ∷ []) ∵
       nothing ! $ flt_i ! n (2 ^ 64) fn $ feq_i ! (List Val) (vint w64 n ∷ []) (vint w64 n ∷ []) refl $ fjoin ! $ fjoin ! $
       move ! (1 ∷ []) $ feq_i ! (List Val) (vptr c.0 c.1 ∷ []) (vptr c.0 c.1 ∷ []) refl $ fjoin ! $ move ! (0 ∷ 1 ∷ []) $ fjoin ! $
       nothing ! $ move ! (2 ∷ []) $ join ! $ join ! $ nothing ! $ move ! (1 ∷ []) $ join ! $ done !
@@ -83,9 +85,9 @@ module _ {M : Type 1} {𝓤 : Ura M} (𝓛 : Logic 𝓤) (at_mem : Memory → SP
       use1 𝓛 (later (some (λ (r : Unit {0}). ((‵ (flft κ q) ⊛ ‵ ftrue) ⊛ ‵ (unit.own_val r (v ∷ []))) ⊛ some (λ (ws : Unit {0} × (Unit {0} × Unit {0})). ‵ (fsep ftrue (fsep ftrue ftrue)) ⊛ ‵ ftrue)))) (id⊢ 𝓤 _) $ await ! tt $ pick ! (λ r.
       split ! $ split ! $ move ! (1 ∷ []) $ feq_l ! (λ e. split ! $ at_once ! $ check ! (ap only e) $ keep ! (0 ∷ []) $ done !))
 
-  pub Returned-goes : (n : ℕ) → n < 2 ^ 64 → ent 𝓤 (sep 𝓤 (sem 𝓛 (hidden_shr Kept κ (record { value = tt }) c.0 c.1)) (A.lft κ q)) ((Returned 𝓛 at_mem run).pre (at_returned 𝓛 at_mem run κ q c n))
+  pub Returned-goes : (n : ℕ) → n < 2 ^ 64 → ent 𝓤 (sep 𝓤 (sem 𝓛 (hidden_shr Kept κ (some_account) c.0 c.1)) (A.lft κ q)) ((Returned 𝓛 at_mem run).pre (at_returned 𝓛 at_mem run κ q c n))
   Returned-goes n fn =
-      qed 𝓛 (‵ (hidden_shr Kept κ (record { value = tt }) c.0 c.1) ∷ ‵ (flft κ q) ∷ []) ∵
+      qed 𝓛 (‵ (hidden_shr Kept κ (some_account) c.0 c.1) ∷ ‵ (flft κ q) ∷ []) ∵
       nothing ! $ flt_i ! n (2 ^ 64) fn $ feq_i ! (List Val) (vint w64 n ∷ []) (vint w64 n ∷ []) refl $ fjoin ! $ fjoin ! $
       move ! (1 ∷ []) $ feq_i ! (List Val) (vptr c.0 c.1 ∷ []) (vptr c.0 c.1 ∷ []) refl $ fjoin ! $ move ! (0 ∷ 1 ∷ []) $ fjoin ! $
       nothing ! $ move ! (2 ∷ []) $ join ! $ join ! $ nothing ! $ move ! (1 ∷ []) $ join ! $ done !

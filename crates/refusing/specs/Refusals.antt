@@ -1,5 +1,5 @@
 -- Which calls for memory are refused.
-use Rattle.std.specs.Prelude.{◌≡◌, ◌≤◌, ℕ}
+use Rattle.std.specs.Prelude.{◌≡◌, ◌≤◌, ◌<◌, ◌^◌, ◌↔◌, ℕ}
 use Rattle.refusing.specs.declared.refusal.Refusal.{Refusal}
 use Rattle.refusing.specs.declared.refusal.Refusal.TheVariants.{Never, Nth, NthOn}
 
@@ -8,3 +8,7 @@ abbrev pub IsRefused : Refusal → ℕ → Type 0
 IsRefused Never call = ⊥
 IsRefused (Nth refused) call = call ≡ refused
 IsRefused (NthOn first) call = first ≤ call
+
+-- the calls that are refused are those from the first number to the last
+abbrev pub IsSpanOf : Refusal → ℕ → ℕ → Type 0
+IsSpanOf refusal first last = (call : ℕ) → call < 2 ^ 64 → IsRefused refusal call ↔ ((first ≤ call) × (call ≤ last))

@@ -3,68 +3,91 @@
 use crate::refusal::Refusal;
 use crate::tally::Tally;
 use std::alloc::{AllocError, Allocator};
-use std::cell::Cell;
+use std::sync::atomic::{AtomicU64, Ordering};
 
 /// An allocator that passes each call on to another, but for the calls for memory that it was told to refuse.
 ///
-/// A growth of a block counts as one call for memory, and as the return of the block that it was.
+/// A growth of a block counts as one call for memory, and as the return of the block that it was. Threads may share it where they may
+/// share the other one.
 #[derive(Debug)]
 pub struct Refusing<A: Allocator> {
     inner: A,
-    account: Cell<Account>,
+    account: Account,
 }
 
-/// What is refused, and what was asked for so far.
-#[derive(Clone, Copy, Debug)]
+/// What is refused, and what was asked for so far. Each number changes in one step, since threads count side by side.
+#[derive(Debug, Drop)]
 struct Account {
-    refusal: Refusal,
-    tally: Tally,
+    /// The first call that is refused.
+    first: AtomicU64,
+    /// The last call that is refused: below the first where none is.
+    last: AtomicU64,
+    calls: AtomicU64,
+    refused: AtomicU64,
+    blocks: AtomicU64,
+    bytes: AtomicU64,
 }
 
 impl<A: Allocator> Refusing<A> {
     /// Refuses nothing yet.
     pub fn new(inner: A) -> Refusing<A> {
-        let refusal = Refusal::Never;
-        let tally = Tally::EMPTY;
+        let (first, last) = Refusal::Never.span();
         Refusing {
             inner,
-            account: Cell::new(Account { refusal, tally }),
+            account: Account {
+                first: AtomicU64::new(first),
+                last: AtomicU64::new(last),
+                calls: AtomicU64::new(0),
+                refused: AtomicU64::new(0),
+                blocks: AtomicU64::new(0),
+                bytes: AtomicU64::new(0),
+            },
         }
     }
 
-    /// Refuses these calls from now on, the next call being number 1.
+    /// Refuses these calls from now on, the next call being number 1. No other thread may ask for memory meanwhile.
     pub fn refuse(&self, refusal: Refusal) {
-        let tally = self.tally().without_calls();
-        self.account.set(Account { refusal, tally });
+        let (first, last) = refusal.span();
+        self.account.first.store(first, Ordering::SeqCst);
+        self.account.last.store(last, Ordering::SeqCst);
+        self.account.calls.store(0, Ordering::SeqCst);
+        self.account.refused.store(0, Ordering::SeqCst);
     }
 
-    /// What was asked for since `refuse` was last called, and what is given out.
+    /// What was asked for since `refuse` was last called, and what is given out. Its counts are of one time where no other thread asks for
+    /// memory meanwhile.
     pub fn tally(&self) -> Tally {
-        self.account.get().tally
+        Tally {
+            calls: self.account.calls.load(Ordering::SeqCst),
+            refused: self.account.refused.load(Ordering::SeqCst),
+            blocks: self.account.blocks.load(Ordering::SeqCst),
+            bytes: self.account.bytes.load(Ordering::SeqCst),
+        }
     }
 }
 
 /// Counts a call for memory, and says whether it is refused.
-fn refuses_call(account: &Cell<Account>) -> bool {
-    let Account { refusal, tally } = account.get();
-    let refused = refusal.refuses(tally.calls.wrapping_add(1));
-    let tally = tally.with_call(refused);
-    account.set(Account { refusal, tally });
+fn refuses_call(account: &Account) -> bool {
+    let call = account.calls.fetch_add(1, Ordering::SeqCst).wrapping_add(1);
+    let first = account.first.load(Ordering::SeqCst);
+    let last = account.last.load(Ordering::SeqCst);
+    let refused = first <= call && call <= last;
+    if refused {
+        account.refused.fetch_add(1, Ordering::SeqCst);
+    }
     refused
 }
 
 /// Counts a block that was given out.
-fn count_block(account: &Cell<Account>, size: usize) {
-    let Account { refusal, tally } = account.get();
-    let tally = tally.with_block(size as u64);
-    account.set(Account { refusal, tally });
+fn count_block(account: &Account, size: usize) {
+    account.blocks.fetch_add(1, Ordering::SeqCst);
+    account.bytes.fetch_add(size as u64, Ordering::SeqCst);
 }
 
 /// Counts a block that came back.
-fn count_return(account: &Cell<Account>, size: usize) {
-    let Account { refusal, tally } = account.get();
-    let tally = tally.without_block(size as u64);
-    account.set(Account { refusal, tally });
+fn count_return(account: &Account, size: usize) {
+    account.blocks.fetch_sub(1, Ordering::SeqCst);
+    account.bytes.fetch_sub(size as u64, Ordering::SeqCst);
 }
 
 unsafe impl<A: Allocator> Allocator for Refusing<A> {

@@ -3,10 +3,10 @@
 //!
 //! A [`Refusing`] passes each call on to another allocator, but for those that its [`Refusal`] names: they get an `AllocError` and
 //! reach nobody. Its [`Tally`] counts calls and blocks, so that a test sees that a refused call leaked no byte. Collections hold
-//! a `&` to it; it is for one thread.
+//! a `&` to it, in several threads at once too.
 //!
-//! A clause can name no value of a cell, so contracts say what a refusal and a tally are, and tests say that the allocator keeps
-//! to them.
+//! A clause can name no value of an atomic word, so a contract says which calls a refusal names, and tests say that the allocator keeps
+//! to it.
 #![tactic(auto)]
 
 pub mod allocator;

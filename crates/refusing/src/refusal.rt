@@ -1,7 +1,6 @@
 //! Which calls are refused.
 
-ghost use Rattle.std.specs.Prelude.{◌↔◌, IsTrue};
-ghost use Rattle.refusing.specs.Refusals.{IsRefused};
+ghost use Rattle.refusing.specs.Refusals.{IsSpanOf};
 
 /// Which calls for memory are refused. Calls are counted from 1.
 #[derive(Clone, Copy, PartialEq, Eq, Debug)]
@@ -15,14 +14,14 @@ pub enum Refusal {
 }
 
 impl Refusal {
-    /// Whether the call of this number is refused.
-    pub fn refuses(self, call: u64) -> bool
-        ensures { IsTrue result ↔ IsRefused self call }
+    /// The first call that is refused, and the last: the last is below the first where none is.
+    pub fn span(self) -> (u64, u64)
+        ensures { IsSpanOf self result.0 result.1 }
     {
         match self {
-            Refusal::Never => false,
-            Refusal::Nth(refused) => call == refused,
-            Refusal::NthOn(first) => call >= first,
+            Refusal::Never => (1, 0),
+            Refusal::Nth(refused) => (refused, refused),
+            Refusal::NthOn(first) => (first, u64::MAX),
         }
     }
 }

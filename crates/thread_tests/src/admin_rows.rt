@@ -4,8 +4,8 @@ ghost use Rattle.std.specs.Prelude.{◌≡◌};
 ghost use Rattle.step_core.specs.Opening.{opening_of};
 
 use crate::calls::{
-    USUAL, cancelled, collected, counts, done, managed, opened, receipt, released, reserved,
-    seated, served, submitted,
+    USUAL, begun, cancelled, collected, counts, done, drafted, managed, managed_with, opened,
+    receipt, released, seated, served, submitted, turned_back,
 };
 use crate::row::{Row, play};
 use block_image::Image;
@@ -22,26 +22,6 @@ use std::sync::Wait;
 use std::sync::ledger::Blank;
 use std::test::Fail;
 use step_core::{Config, Reaped, Refusal};
-
-/// How the command 0 of queue 0 ended, with a first word of 0.
-fn managed_with(status: Status) -> Reaped {
-    Reaped::AdminDone {
-        cid: 0,
-        status,
-        dw0: 0,
-    }
-}
-
-/// Submits a Read of one block for a seat.
-fn begun<L: Driver, R: Abort + Wait>(
-    rt: &R,
-    shared: &Shared<L>,
-    seat: &mut Seat<L>,
-    alloc: Global,
-) -> Ticket {
-    let draft = reserved(rt, shared, alloc, Kind::Read, 0);
-    submitted(rt, shared, seat, alloc, draft)
-}
 
 /// Collects a command, which ended so.
 fn ended<L: Driver, R: Abort + Wait>(
@@ -147,23 +127,6 @@ fn abort_three<L: Driver, R: Abort + Wait>(
     assert_eq!(rt; shared.end().log().len(), 47);
 }
 
-/// A Read of one block that is reserved and built, and has this page.
-fn drafted<L: Driver, R: Abort + Wait>(
-    rt: &R,
-    shared: &Shared<L>,
-    alloc: Global,
-    page: PageNo,
-) -> Draft {
-    let mut draft = reserved(rt, shared, alloc, Kind::Read, 0);
-    let built = draft.build(alloc).is_ok() && draft.pages().len() == 1;
-    let first = draft.pages().first().map(|(page, _)| *page);
-    if !built || first != Some(page) {
-        let _parts = draft.apart();
-        panic!(rt; "it was not drafted");
-    }
-    draft
-}
-
 /// Why a reservation on queue 1 is refused.
 fn refusal_of_a_reservation<L: Driver, R: Abort + Wait>(
     rt: &R,
@@ -189,25 +152,6 @@ fn refusal_of_a_reservation<L: Driver, R: Abort + Wait>(
             None
         }
         Err(refused) => Some(refused.why),
-    }
-}
-
-/// A draft that is not submitted, as its queue is gone.
-fn too_late<L: Driver, R: Abort + Wait>(
-    rt: &R,
-    shared: &Shared<L>,
-    seat: &mut Seat<L>,
-    draft: Draft,
-) -> Draft {
-    match shared.submit(rt, seat, draft) {
-        Ok(ticket) => {
-            let _parts = ticket.apart();
-            panic!(rt; "it was submitted")
-        }
-        Err(refused) => {
-            assert_eq!(rt; refused.why, Refusal::QueueGone);
-            refused.value
-        }
     }
 }
 
@@ -287,7 +231,7 @@ fn delete_a_queue<L: Driver, R: Abort + Wait>(
     delete_in_the_walk(rt, &shared);
     retire_in_order(rt, &shared, alloc);
     let second = ended(rt, &shared, second, Status::ABORTED_SQ_DELETION);
-    let third = too_late(rt, &shared, &mut seat, third);
+    let third = turned_back(rt, &shared, &mut seat, third, Refusal::QueueGone);
     cancelled(rt, &shared, third);
     settled(rt, &shared, &mut seat, first, Status::ABORTED_SQ_DELETION);
     released(rt, &shared, &mut seat, second);

@@ -60,6 +60,18 @@ pub(crate) fn reserved<L: Driver, R: Abort + Wait>(
     kind: Kind,
     slba: u64,
 ) -> Draft {
+    reserved_on(rt, shared, alloc, 1, kind, slba)
+}
+
+/// Reserves a command of one block on a queue.
+pub(crate) fn reserved_on<L: Driver, R: Abort + Wait>(
+    rt: &R,
+    shared: &Shared<L>,
+    alloc: Global,
+    q: u16,
+    kind: Kind,
+    slba: u64,
+) -> Draft {
     let Ok(pieces) = Vec::from_slice(
         alloc,
         &[Piece::Data {
@@ -75,7 +87,7 @@ pub(crate) fn reserved<L: Driver, R: Abort + Wait>(
         blocks: 1,
         pieces: Pieces::from_vec(pieces),
     };
-    match shared.reserve(rt, 1, request) {
+    match shared.reserve(rt, q, request) {
         Ok(draft) => draft,
         Err(_) => panic!(rt; "it was not reserved"),
     }
@@ -96,6 +108,54 @@ pub(crate) fn submitted<L: Driver, R: Abort + Wait>(
         Err(refused) => {
             let _parts = refused.value.apart();
             panic!(rt; "it was not submitted")
+        }
+    }
+}
+
+/// Submits a Read of one block for a seat.
+pub(crate) fn begun<L: Driver, R: Abort + Wait>(
+    rt: &R,
+    shared: &Shared<L>,
+    seat: &mut Seat<L>,
+    alloc: Global,
+) -> Ticket {
+    let draft = reserved(rt, shared, alloc, Kind::Read, 0);
+    submitted(rt, shared, seat, alloc, draft)
+}
+
+/// A Read of one block that is reserved and built, and has this page.
+pub(crate) fn drafted<L: Driver, R: Abort + Wait>(
+    rt: &R,
+    shared: &Shared<L>,
+    alloc: Global,
+    page: PageNo,
+) -> Draft {
+    let mut draft = reserved(rt, shared, alloc, Kind::Read, 0);
+    let built = draft.build(alloc).is_ok() && draft.pages().len() == 1;
+    let first = draft.pages().first().map(|(page, _)| *page);
+    if !built || first != Some(page) {
+        let _parts = draft.apart();
+        panic!(rt; "it was not drafted");
+    }
+    draft
+}
+
+/// A draft that is not submitted, for this cause.
+pub(crate) fn turned_back<L: Driver, R: Abort + Wait>(
+    rt: &R,
+    shared: &Shared<L>,
+    seat: &mut Seat<L>,
+    draft: Draft,
+    why: Refusal,
+) -> Draft {
+    match shared.submit(rt, seat, draft) {
+        Ok(ticket) => {
+            let _parts = ticket.apart();
+            panic!(rt; "it was submitted")
+        }
+        Err(refused) => {
+            assert_eq!(rt; refused.why, why);
+            refused.value
         }
     }
 }
@@ -199,6 +259,15 @@ pub(crate) fn managed<L: Driver, R: Abort + Wait>(rt: &R, shared: &Shared<L>, ci
         dw0,
     };
     assert_eq!(rt; shared.reap(rt, 0), Ok(done));
+}
+
+/// How the command 0 of queue 0 ended, with a first word of 0.
+pub(crate) fn managed_with(status: Status) -> Reaped {
+    Reaped::AdminDone {
+        cid: 0,
+        status,
+        dw0: 0,
+    }
 }
 
 /// The only page of these.

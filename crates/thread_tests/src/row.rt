@@ -22,7 +22,9 @@ pub(crate) enum Row {
     Complete(u16, u16, Result<Option<PageNo>, Refusal>),
     /// The host reaps a completion of a queue.
     Reap(u16, Reaped),
-    /// It asks for the abort of a command of a queue: the identifier of the Abort.
+    /// Bytes are forged into a slot of a queue.
+    Forge(u16, u16, [u8; 16], Result<(), Refusal>),
+    /// The host asks for the abort of a command of a queue: the identifier of the Abort.
     Abort(u16, u16, Result<u16, Refusal>),
     /// It asks for the deletion of a submission queue, by command 0.
     DeleteSq(u16),
@@ -40,6 +42,9 @@ fn answer<L: Driver, R: Abort + Wait>(rt: &R, shared: &Shared<L>, row: Row) {
         Row::Walk(q, cid, want) => assert_eq!(rt; walked(rt, shared, q, cid), want),
         Row::Complete(q, cid, want) => assert_eq!(rt; completed(rt, shared, q, cid), want),
         Row::Reap(q, want) => assert_eq!(rt; shared.reap(rt, q), Ok(want)),
+        Row::Forge(q, slot, bytes, want) => {
+            assert_eq!(rt; shared.forge(rt, q, slot, bytes), want)
+        }
         Row::Abort(q, cid, want) => assert_eq!(rt; shared.abort(rt, q, cid), want),
         Row::DeleteSq(q) => assert_eq!(rt; shared.delete_sq(rt, q), Ok(0)),
         Row::DeleteCq(q) => assert_eq!(rt; shared.delete_cq(rt, q), Ok(0)),

@@ -1,14 +1,18 @@
 //! Runs whose jobs are told one by one: two submitters, with gates and without; queues of their own; jobs that are refused; a closed gate;
 //! a command of the longest list.
 
+ghost use Rattle.std.specs.Prelude.{◌≡◌, vec_len, IfOk};
+
 use crate::calls::{USUAL, counts};
 use crate::runs::{Outcome, is_done, job, play};
-use driver_threads::{Gate, GateClosed, Job, JobEnd, JobRefusal, Open, Point, RunFault};
+use driver_threads::{
+    Gate, GateClosed, JobEnd, JobEndIn, JobIn, JobRefusal, Open, Point, RunFault,
+};
 use entry_codec::Status;
 use io_commands::{Kind, RequestFault};
 use page_ledger::Owner;
 use page_memory::Half;
-use std::alloc::{AllocError, Global};
+use std::alloc::{AllocError, Allocator, Global};
 use std::process::Abort;
 use std::sync::Wait;
 use std::sync::atomic::{AtomicBool, Ordering};
@@ -69,7 +73,12 @@ impl Gate for Closed {
 }
 
 /// Three Writes of a block from `first` on, and the Reads of these blocks.
-fn writes_and_reads(alloc: Global, q: u16, first: u64, byte: u8) -> Result<Vec<Job>, AllocError> {
+fn writes_and_reads<A: Allocator + Copy>(
+    alloc: A,
+    q: u16,
+    first: u64,
+    byte: u8,
+) -> Result<Vec<JobIn<A>, A>, AllocError> {
     let mut jobs = Vec::new(alloc);
     for i in 0..3u8 {
         let slba = first.wrapping_add(u64::from(i));
@@ -83,7 +92,7 @@ fn writes_and_reads(alloc: Global, q: u16, first: u64, byte: u8) -> Result<Vec<J
 }
 
 /// Whether these are the ends of three such Writes and Reads.
-fn are_written_and_read(ends: &[JobEnd], byte: u8) -> bool {
+fn are_written_and_read<A: Allocator>(ends: &[JobEndIn<A>], byte: u8) -> bool {
     ends.len() == 6
         && ends
             .iter()
@@ -96,20 +105,25 @@ fn are_written_and_read(ends: &[JobEnd], byte: u8) -> bool {
         })
 }
 
+/// The jobs of two submitters on one queue.
+pub(crate) fn two_lists<A: Allocator + Copy>(
+    alloc: A,
+) -> Result<Vec<Vec<JobIn<A>, A>, A>, AllocError>
+    ensures { IfOk result (λ lists. vec_len lists ≡ 2) }
+{
+    let mut lists = Vec::new(alloc);
+    lists.push(writes_and_reads(alloc, 1, 0, 0xA0)?)?;
+    lists.push(writes_and_reads(alloc, 1, 8, 0xB0)?)?;
+    Ok(lists)
+}
+
 /// Two submitters on one queue, with a gate.
 fn two_submitters<G: Gate + Sync, R: Threads + Wait + Sync>(
     rt: &R,
     alloc: Global,
     gate: &G,
 ) -> Result<Outcome, Fail> {
-    let jobs = vec![in alloc;
-        writes_and_reads(alloc, 1, 0, 0xA0)?,
-        writes_and_reads(alloc, 1, 8, 0xB0)?,
-    ]?;
-    if jobs.len() != 2 {
-        return Err(Fail::from("two lists"));
-    }
-    Ok(play(rt, alloc, USUAL, 64, jobs, gate)?)
+    Ok(play(rt, alloc, USUAL, 64, two_lists(alloc)?, gate)?)
 }
 
 /// The first four pages are those of the queues, and the others are free.
@@ -133,8 +147,8 @@ fn check_owners<R: Abort>(rt: &R, owners: &[Owner]) {
 
 /// What two submitters must leave, whatever the schedule: each job has one reserve, submit, ring, fetch, complete, reap, collect and release
 /// in the log, and two steps of its walk, and nothing was refused.
-fn check<R: Abort>(rt: &R, outcome: &Outcome) {
-    let ends: &[Vec<JobEnd>] = outcome.jobs.as_slice();
+pub(crate) fn check<A: Allocator, R: Abort>(rt: &R, outcome: &Outcome<A>) {
+    let ends: &[Vec<JobEndIn<A>, A>] = outcome.jobs.as_slice();
     match ends {
         [first, second] => {
             assert!(rt; are_written_and_read(first, 0xA0));

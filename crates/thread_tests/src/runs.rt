@@ -4,13 +4,13 @@ ghost use Rattle.std.specs.Prelude.{◌≡◌, ◌≤◌, vec_len};
 ghost use Rattle.step_core.specs.Opening.{opening_of};
 
 use block_image::Image;
-use driver_book::{Book, Driver, Report};
-use driver_threads::{Gate, Job, JobEnd, JobEnds, Ran, RunFault, run_threads};
+use driver_book::{Book, Driver, ReportIn};
+use driver_threads::{Gate, Job, JobEnd, JobEndIn, JobEnds, JobIn, Ran, RunFault, run_threads};
 use entry_codec::Status;
 use io_commands::{Kind, Piece, Pieces, Request};
 use page_ledger::Owner;
 use page_memory::PageNo;
-use std::alloc::{AllocError, Global};
+use std::alloc::{AllocError, Allocator, Global};
 use std::marker::Brand;
 use std::sync::Wait;
 use std::sync::ledger::Blank;
@@ -19,11 +19,11 @@ use step_core::{Bytes, Config, Reply};
 
 /// What a run leaves.
 #[derive(Drop)]
-pub(crate) struct Outcome {
-    pub(crate) report: Report,
-    pub(crate) jobs: JobEnds,
+pub(crate) struct Outcome<A: Allocator = Global> {
+    pub(crate) report: ReportIn<A>,
+    pub(crate) jobs: JobEnds<A>,
     /// Whose each page is.
-    pub(crate) owners: Vec<Owner>,
+    pub(crate) owners: Vec<Owner, A>,
     /// How many entries the log has.
     pub(crate) entries: usize,
     /// How many of them are refusals.
@@ -31,7 +31,10 @@ pub(crate) struct Outcome {
 }
 
 /// Whose each page is.
-fn owners_of<L: Driver>(alloc: Global, book: &Book<L>) -> Result<Vec<Owner>, RunFault> {
+fn owners_of<L: Driver, A: Allocator + Copy>(
+    alloc: A,
+    book: &Book<L, A>,
+) -> Result<Vec<Owner, A>, RunFault> {
     let mut owners = Vec::new(alloc);
     for p in 0..book.pages() {
         if owners.push(book.owner(PageNo(p))).is_err() {
@@ -42,15 +45,20 @@ fn owners_of<L: Driver>(alloc: Global, book: &Book<L>) -> Result<Vec<Owner>, Run
 }
 
 /// Runs jobs over a new book.
-fn outcome_of<L: Driver + Send + Sync, G: Gate + Sync, R: Threads + Wait + Sync>(
+fn outcome_of<
+    L: Driver + Send + Sync,
+    A: Allocator + Copy + Send + Sync,
+    G: Gate + Sync,
+    R: Threads + Wait + Sync,
+>(
     rt: &R,
-    alloc: Global,
+    alloc: A,
     config: Config,
-    image: Image,
-    jobs: Vec<Vec<Job>>,
+    image: Image<A>,
+    jobs: Vec<Vec<JobIn<A>, A>, A>,
     gate: &G,
     blank: Blank,
-) -> Result<Outcome, RunFault>
+) -> Result<Outcome<A>, RunFault>
     requires name { blank.name ≡ L.name }
     requires parts { blank.parts ≡ L.parts }
     requires number { blank.parts ≡ 65536 }
@@ -58,7 +66,7 @@ fn outcome_of<L: Driver + Send + Sync, G: Gate + Sync, R: Threads + Wait + Sync>
     requires some { 1 ≤ vec_len jobs }
     requires few { vec_len jobs ≤ 16 }
 {
-    let ran: Ran<L> = run_threads(rt, alloc, config, image, jobs, gate, blank)?;
+    let ran: Ran<L, A> = run_threads(rt, alloc, config, image, jobs, gate, blank)?;
     let owners = owners_of(alloc, &ran.book)?;
     let entries = ran.book.log().len();
     let refusals = ran
@@ -82,32 +90,32 @@ fn outcome_of<L: Driver + Send + Sync, G: Gate + Sync, R: Threads + Wait + Sync>
 }
 
 /// Runs jobs over a new book, whose image has so many zero blocks.
-pub(crate) fn play<G: Gate + Sync, R: Threads + Wait + Sync>(
+pub(crate) fn play<A: Allocator + Copy + Send + Sync, G: Gate + Sync, R: Threads + Wait + Sync>(
     rt: &R,
-    alloc: Global,
+    alloc: A,
     config: Config,
     blocks: u32,
-    jobs: Vec<Vec<Job>>,
+    jobs: Vec<Vec<JobIn<A>, A>, A>,
     gate: &G,
-) -> Result<Outcome, RunFault>
+) -> Result<Outcome<A>, RunFault>
     requires some { 1 ≤ vec_len jobs }
     requires few { vec_len jobs ≤ 16 }
 {
     let Ok(image) = Image::zeroed(alloc, blocks) else {
         return Err(RunFault::Memory);
     };
-    outcome_of::<Brand, G, R>(rt, alloc, config, image, jobs, gate, Blank::new(65536))
+    outcome_of::<Brand, A, G, R>(rt, alloc, config, image, jobs, gate, Blank::new(65536))
 }
 
 /// A job of so many blocks, each in a piece of its own.
-pub(crate) fn job(
-    alloc: Global,
+pub(crate) fn job<A: Allocator + Copy>(
+    alloc: A,
     q: u16,
     kind: Kind,
     slba: u64,
     blocks: u32,
     bytes: &[u8],
-) -> Result<Job, AllocError> {
+) -> Result<JobIn<A>, AllocError> {
     let mut pieces = Vec::new(alloc);
     for _ in 0..blocks {
         pieces.push(Piece::Data {
@@ -128,7 +136,7 @@ pub(crate) fn job(
 }
 
 /// Whether a job was carried through, with this status and these bytes.
-pub(crate) fn is_done(end: &JobEnd, status: Status, bytes: &[u8]) -> bool {
+pub(crate) fn is_done<A: Allocator>(end: &JobEndIn<A>, status: Status, bytes: &[u8]) -> bool {
     match end {
         JobEnd::Done {
             status: told,

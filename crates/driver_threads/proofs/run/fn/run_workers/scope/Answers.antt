@@ -1,0 +1,34 @@
+use denote.Param.{param, copied}
+use denote.Param.Send.{IsSend, Frees, sendable}
+use Rattle.std.proofs.vec.Vec.TheSendSync as vectors
+use Rattle.step_core.proofs.step.Bytes.TheSendSync as bytes
+use Rattle.io_commands.proofs.request.Pieces.TheSendSync as pieces
+use Rattle.io_commands.proofs.request.RequestOf.TheSendSync as requests
+use Rattle.driver_threads.proofs.jobs.Job.TheSendSync as jobs
+use Rattle.driver_threads.proofs.shared.Shared.TheSendSync as books
+use Rattle.driver_threads.proofs.workers.Worked.TheSendSync as ends
+use Rattle.driver_threads.proofs.run.fn.run_workers.scope.Goals as goal
+
+-- each part of the closure that names the allocator, whole: a `search` that goes down to it runs out of steps
+pub spawn-requires-in-loop-worker-send-F : goal.spawn-requires-in-loop-worker-send-F
+spawn-requires-in-loop-worker-send-F g c κs within =
+    let A = copied 1 g.row.A in
+    let told = c.requires.1.1.1.1 in
+    let send : IsSend (copied 1 g.row.A) = search sendable depth 20 in
+    let frees : Frees g.A.Allocator g.A.Allocator.dealloc_token = search sendable depth 20 in
+    let byte = bytes.the_send A g.A.Allocator send frees in
+    let piece = pieces.the_send A g.A.Allocator send frees in
+    let book = books.the_field_sync (param 0 g.row.L) A g.L.Driver g.L.Ledger g.A.Allocator send frees in
+    let list = vectors.the_send _ A g.A.Allocator (jobs.the_field_send _ _ (requests.the_field_send _ piece) byte) send frees in
+    let row = vectors.the_send _ A g.A.Allocator (jobs.the_send _ _ (requests.the_send _ piece) byte) send frees in
+    let mixed = vectors.the_send _ A g.A.Allocator (jobs.the_field_send _ _ (requests.the_send _ piece) byte) send frees in
+    search sendable depth 30
+
+pub spawn-requires-in-loop-worker-send-T : goal.spawn-requires-in-loop-worker-send-T
+spawn-requires-in-loop-worker-send-T g c κs within =
+    let told = c.requires.1.1.1.1 in
+    let send : IsSend (copied 1 g.row.A) = search sendable depth 20 in
+    let frees : Frees g.A.Allocator g.A.Allocator.dealloc_token = search sendable depth 20 in
+    let field = ends.the_field_send (param 0 g.row.L) (copied 1 g.row.A) g.L.Ledger g.A.Allocator send frees in
+    let row = ends.the_send (param 0 g.row.L) (copied 1 g.row.A) g.L.Ledger g.A.Allocator send frees in
+    search sendable depth 30
