@@ -12,8 +12,6 @@ mod crowd;
 #[cfg(test)]
 mod forged_rows;
 #[cfg(test)]
-mod growths;
-#[cfg(test)]
 mod row;
 #[cfg(test)]
 mod rows;
