@@ -50,83 +50,126 @@ fn serve(
 ) -> Result<Status, Fail> {
     let mut job = begin_job(alloc, entry, image)?;
     walk(rt, store, &mut job);
-    assert_eq!(rt; job.entry().cid, 7);
+    assert!(rt; job.entry().cid == 7);
     assert!(rt; job.verdict().is_some());
-    assert_eq!(rt; job.blocks(), image.blocks());
+    assert!(rt; job.blocks() == image.blocks());
     Ok(finish_job(job, image))
 }
 
-#[test]
-fn a_write_is_compared_and_read(rt: HostRuntime) -> Result<(), Fail> {
-    let mut store = Store::open(rt.alloc(), 8)?;
-    let mut image = Image::zeroed(rt.alloc(), 2)?;
-    assert!(rt; store.write(8_192, &[0x5A; 512]).is_ok());
-    for (opcode, status) in [
-        (io_opcode::COMPARE, Status { sct: 2, sc: 0x85 }),
-        (io_opcode::WRITE, Status { sct: 0, sc: 0x00 }),
-        (io_opcode::COMPARE, Status { sct: 0, sc: 0x00 }),
-    ] {
-        let asked = entry(opcode, 1, 512);
-        let ended = serve(&rt, rt.alloc(), &mut store, &mut image, &asked)?;
-        assert_eq!(rt; ended, status);
+/// A command of one block: its opcode, its block, how many bytes its list has, and how it ends.
+type Served = (u8, u32, u32, Status);
+
+const SUCCESS: Status = Status { sct: 0, sc: 0x00 };
+
+/// Serves commands one after the other, and sees how each ends.
+fn see_served(
+    rt: &impl Abort,
+    alloc: Global,
+    store: &mut Store,
+    image: &mut Image,
+    commands: &[Served],
+) -> Result<(), Fail> {
+    for (opcode, slba, len, status) in commands {
+        let ended = serve(rt, alloc, store, image, &entry(*opcode, *slba, *len))?;
+        assert_eq!(rt; ended, *status);
     }
-    let mut block = [0; 512];
-    assert_eq!(rt; image.blocks(), 2);
-    image.copy_out(1, &mut block);
-    assert_eq!(rt; block, [0x5A; 512]);
-    image.copy_out(0, &mut block);
-    assert_eq!(rt; block, [0; 512]);
-    let asked = entry(io_opcode::READ, 0, 512);
-    let ended = serve(&rt, rt.alloc(), &mut store, &mut image, &asked)?;
-    assert_eq!(rt; ended, Status { sct: 0, sc: 0x00 });
-    store.clear();
-    let mut page = [1; 512];
-    assert!(rt; store.read(8_192, &mut page).is_ok());
-    assert_eq!(rt; page, [0; 512]);
     Ok(())
 }
+
+/// A store whose page 2 begins with 600 bytes of 0x5A.
+fn filled(rt: &impl Abort, alloc: Global) -> Result<Store, Fail> {
+    let mut store = Store::open(alloc, 8)?;
+    assert!(rt; store.write(8_192, &[0x5A; 600]).is_ok());
+    Ok(store)
+}
+
+/// A block of the image.
+fn block(rt: &impl Abort, image: &Image, slba: u64) -> [u8; 512] {
+    let mut block = [1; 512];
+    assert!(rt; image.blocks() == 2 && slba < 2);
+    image.copy_out(slba, &mut block);
+    block
+}
+
+/// Whether each byte of a block of the image is this one.
+fn is_block_of(rt: &impl Abort, image: &Image, slba: u64, byte: u8) -> bool {
+    assert!(rt; image.blocks() == 2 && slba < 2);
+    image.equal(slba, &[byte; 512])
+}
+
+/// Sees that page 2 begins with a block of zeros, and goes on with the bytes that it had.
+fn see_read(rt: &impl Abort, store: &mut Store) {
+    let mut bytes = [1; 513];
+    store.clear();
+    assert!(rt; store.read(8_192, &mut bytes).is_ok());
+    assert!(rt; bytes.starts_with(&[0; 512]));
+    assert_eq!(rt; bytes[512], 0x5A);
+}
+
+/// A block is compared in vain, written and compared.
+static WRITTEN: [Served; 3] = [
+    (io_opcode::COMPARE, 1, 512, Status { sct: 2, sc: 0x85 }),
+    (io_opcode::WRITE, 1, 512, SUCCESS),
+    (io_opcode::COMPARE, 1, 512, SUCCESS),
+];
+
+/// A block is read.
+static READ: [Served; 1] = [(io_opcode::READ, 0, 512, SUCCESS)];
+
+#[test]
+fn a_write_is_compared_and_read(rt: HostRuntime) -> Result<(), Fail> {
+    let mut store = filled(&rt, rt.alloc())?;
+    let mut image = Image::zeroed(rt.alloc(), 2)?;
+    see_served(&rt, rt.alloc(), &mut store, &mut image, &WRITTEN)?;
+    assert!(rt; block(&rt, &image, 1) == [0x5A; 512]);
+    assert!(rt; block(&rt, &image, 0) == [0; 512]);
+    see_served(&rt, rt.alloc(), &mut store, &mut image, &READ)?;
+    see_read(&rt, &mut store);
+    Ok(())
+}
+
+/// A block is written, compared and read by lists of 600 bytes.
+static LONGER: [Served; 3] = [
+    (io_opcode::WRITE, 0, 600, SUCCESS),
+    (io_opcode::COMPARE, 0, 600, SUCCESS),
+    (io_opcode::READ, 1, 600, SUCCESS),
+];
 
 /// A list for 600 bytes moves the 512 of the block, and nothing behind them.
 #[test]
 fn a_longer_list_moves_the_block_alone(rt: HostRuntime) -> Result<(), Fail> {
-    let mut store = Store::open(rt.alloc(), 8)?;
+    let mut store = filled(&rt, rt.alloc())?;
     let mut image = Image::zeroed(rt.alloc(), 2)?;
-    assert!(rt; store.write(8_192, &[0x5A; 600]).is_ok());
-    for (opcode, slba) in [
-        (io_opcode::WRITE, 0),
-        (io_opcode::COMPARE, 0),
-        (io_opcode::READ, 1),
-    ] {
-        let asked = entry(opcode, slba, 600);
-        let ended = serve(&rt, rt.alloc(), &mut store, &mut image, &asked)?;
-        assert_eq!(rt; ended, Status { sct: 0, sc: 0x00 });
-    }
-    assert_eq!(rt; image.blocks(), 2);
-    assert!(rt; image.equal(0, &[0x5A; 512]));
-    assert!(rt; image.equal(1, &[0; 512]));
-    store.clear();
-    let mut end = [1; 2];
-    assert!(rt; store.read(8_703, &mut end).is_ok());
-    assert_eq!(rt; end, [0, 0x5A]);
+    see_served(&rt, rt.alloc(), &mut store, &mut image, &LONGER)?;
+    assert!(rt; is_block_of(&rt, &image, 0, 0x5A));
+    assert!(rt; is_block_of(&rt, &image, 1, 0));
+    see_read(&rt, &mut store);
+    Ok(())
+}
+
+/// Writes behind the last block, and of a byte too few.
+static FAILED: [Served; 2] = [
+    (io_opcode::WRITE, 2, 512, Status { sct: 0, sc: 0x80 }),
+    (io_opcode::WRITE, 1, 511, Status { sct: 0, sc: 0x0F }),
+];
+
+#[test]
+fn a_failed_command_leaves_the_image(rt: HostRuntime) -> Result<(), Fail> {
+    let mut store = filled(&rt, rt.alloc())?;
+    let mut image = Image::zeroed(rt.alloc(), 2)?;
+    see_served(&rt, rt.alloc(), &mut store, &mut image, &FAILED)?;
+    assert!(rt; is_block_of(&rt, &image, 1, 0));
     Ok(())
 }
 
 #[test]
-fn a_failed_command_leaves_the_image(rt: HostRuntime) -> Result<(), Fail> {
-    let mut store = Store::open(rt.alloc(), 8)?;
+fn a_stopped_command_leaves_the_image(rt: HostRuntime) -> Result<(), Fail> {
     let mut image = Image::zeroed(rt.alloc(), 2)?;
-    assert!(rt; store.write(8_192, &[0x5A; 512]).is_ok());
-    for (slba, len, sc) in [(2, 512, 0x80), (1, 511, 0x0F)] {
-        let asked = entry(io_opcode::WRITE, slba, len);
-        let ended = serve(&rt, rt.alloc(), &mut store, &mut image, &asked)?;
-        assert_eq!(rt; ended, Status { sct: 0, sc });
-    }
     let mut job = begin_job(rt.alloc(), &entry(io_opcode::WRITE, 1, 512), &image)?;
-    assert_eq!(rt; job.verdict(), None);
-    assert_eq!(rt; job.blocks(), image.blocks());
+    assert!(rt; job.verdict() == None && job.blocks() == image.blocks());
     job.stop(Status::ABORT_REQUESTED);
-    assert_eq!(rt; finish_job(job, &mut image), Status { sct: 0, sc: 0x07 });
-    assert_eq!(rt; image.blocks(), 2);
-    assert!(rt; image.equal(1, &[0; 512]));
+    let ended = finish_job(job, &mut image);
+    assert_eq!(rt; ended, Status { sct: 0, sc: 0x07 });
+    assert!(rt; is_block_of(&rt, &image, 1, 0));
     Ok(())
 }

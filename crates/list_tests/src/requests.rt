@@ -1,237 +1,202 @@
-//! The faults of a request at their borders, and values that are made, used and taken apart.
+//! The faults of a request at their borders, and how many pages requests take.
 
 ghost use Rattle.std.specs.Prelude.{◌≤◌};
 
-use entry_codec::Status;
+use crate::asked::{Asked, BLOCK, BUCKET, PAGE};
 use io_commands::*;
-use page_memory::{PageNo, Store};
-use sgl_chain::{Part, pages_needed};
-use std::alloc::{AllocError, AllocGlobal, Global};
+use page_memory::PageNo;
+use sgl_chain::pages_needed;
+use std::alloc::{AllocError, Global};
 use std::process::Abort;
 use std::test::Fail;
 
-fn request(
+/// A bucket of no bytes.
+const NOTHING: Piece = Piece::Bucket { len: 0 };
+
+/// Requests, each with its fault.
+static BORDERS: [(Asked, Option<RequestFault>); 13] = [
+    (
+        Asked {
+            kind: Kind::Read,
+            blocks: 1_024,
+            pieces: &[(BLOCK, 1_024)],
+        },
+        None,
+    ),
+    (
+        Asked {
+            kind: Kind::Read,
+            blocks: 1_024,
+            pieces: &[(NOTHING, 1_025)],
+        },
+        Some(RequestFault::TooManyPieces),
+    ),
+    (
+        Asked {
+            kind: Kind::Read,
+            blocks: 0,
+            pieces: &[
+                (
+                    Piece::Data {
+                        offset: 4_000,
+                        len: 97,
+                    },
+                    1,
+                ),
+                (NOTHING, 1),
+            ],
+        },
+        Some(RequestFault::EmptyPiece),
+    ),
+    (
+        Asked {
+            kind: Kind::Read,
+            blocks: 1,
+            pieces: &[(
+                Piece::Data {
+                    offset: 3_584,
+                    len: 512,
+                },
+                1,
+            )],
+        },
+        None,
+    ),
+    (
+        Asked {
+            kind: Kind::Read,
+            blocks: 0,
+            pieces: &[(
+                Piece::Data {
+                    offset: 3_585,
+                    len: 512,
+                },
+                1,
+            )],
+        },
+        Some(RequestFault::CrossesPage),
+    ),
+    (
+        Asked {
+            kind: Kind::Read,
+            blocks: 1,
+            pieces: &[(
+                Piece::Data {
+                    offset: u32::MAX,
+                    len: u32::MAX,
+                },
+                1,
+            )],
+        },
+        Some(RequestFault::CrossesPage),
+    ),
+    (
+        Asked {
+            kind: Kind::Read,
+            blocks: 0,
+            pieces: &[(BLOCK, 1)],
+        },
+        Some(RequestFault::BadCount),
+    ),
+    (
+        Asked {
+            kind: Kind::Write,
+            blocks: 2_048,
+            pieces: &[(PAGE, 256)],
+        },
+        None,
+    ),
+    (
+        Asked {
+            kind: Kind::Write,
+            blocks: 2_049,
+            pieces: &[(PAGE, 256)],
+        },
+        Some(RequestFault::BadCount),
+    ),
+    (
+        Asked {
+            kind: Kind::Read,
+            blocks: 2,
+            pieces: &[(BLOCK, 1), (BUCKET, 1)],
+        },
+        None,
+    ),
+    (
+        Asked {
+            kind: Kind::Write,
+            blocks: 2,
+            pieces: &[(BLOCK, 1), (BUCKET, 1)],
+        },
+        Some(RequestFault::LengthMismatch),
+    ),
+    (
+        Asked {
+            kind: Kind::Compare,
+            blocks: 1,
+            pieces: &[(BLOCK, 1), (BUCKET, 1)],
+        },
+        None,
+    ),
+    (
+        Asked {
+            kind: Kind::Read,
+            blocks: 1,
+            pieces: &[],
+        },
+        Some(RequestFault::LengthMismatch),
+    ),
+];
+
+/// Sees what is against a request.
+fn see_fault(
+    rt: &impl Abort,
     alloc: Global,
-    kind: Kind,
-    blocks: u32,
-    pieces: &[Piece],
-) -> Result<Request, AllocError> {
-    Ok(Request {
-        kind,
-        slba: 0,
-        blocks,
-        pieces: Pieces::from_vec(Vec::from_slice(alloc, pieces)?),
-    })
-}
-
-fn data(offset: u32, len: u32) -> Piece {
-    Piece::Data { offset, len }
-}
-
-fn bucket(len: u32) -> Piece {
-    Piece::Bucket { len }
+    asked: &Asked,
+    wanted: Option<RequestFault>,
+) -> Result<(), Fail> {
+    let fault = asked.request(alloc)?.check().err();
+    assert_eq!(rt;
+        fault,
+        wanted,
+        "{:?} of {} blocks",
+        asked.kind, asked.blocks
+    );
+    Ok(())
 }
 
 #[test]
 fn requests_are_checked_at_their_borders(rt: HostRuntime) -> Result<(), Fail> {
-    let most = vec![in rt.alloc(); data(0, 512); 1_024]?;
-    let more = vec![in rt.alloc(); bucket(0); 1_025]?;
-    let whole = vec![in rt.alloc(); data(0, 4_096); 256]?;
-    for (kind, blocks, pieces, want) in [
-        (Kind::Read, 1_024, most.as_slice(), None),
-        (
-            Kind::Read,
-            1_024,
-            more.as_slice(),
-            Some(RequestFault::TooManyPieces),
-        ),
-        (
-            Kind::Read,
-            0,
-            [data(4_000, 97), bucket(0)].as_slice(),
-            Some(RequestFault::EmptyPiece),
-        ),
-        (Kind::Read, 1, [data(3_584, 512)].as_slice(), None),
-        (
-            Kind::Read,
-            0,
-            [data(3_585, 512)].as_slice(),
-            Some(RequestFault::CrossesPage),
-        ),
-        (
-            Kind::Read,
-            1,
-            [data(u32::MAX, u32::MAX)].as_slice(),
-            Some(RequestFault::CrossesPage),
-        ),
-        (
-            Kind::Read,
-            0,
-            [data(0, 512)].as_slice(),
-            Some(RequestFault::BadCount),
-        ),
-        (Kind::Write, 2_048, whole.as_slice(), None),
-        (
-            Kind::Write,
-            2_049,
-            whole.as_slice(),
-            Some(RequestFault::BadCount),
-        ),
-        (Kind::Read, 2, [data(0, 512), bucket(512)].as_slice(), None),
-        (
-            Kind::Write,
-            2,
-            [data(0, 512), bucket(512)].as_slice(),
-            Some(RequestFault::LengthMismatch),
-        ),
-        (
-            Kind::Compare,
-            1,
-            [data(0, 512), bucket(512)].as_slice(),
-            None,
-        ),
-        (
-            Kind::Read,
-            1,
-            [].as_slice(),
-            Some(RequestFault::LengthMismatch),
-        ),
-    ] {
-        let asked = request(rt.alloc(), kind, blocks, pieces)?;
-        assert_eq!(rt; asked.check().err(), want, "{kind:?} of {blocks} blocks");
+    for (asked, wanted) in &BORDERS {
+        see_fault(&rt, rt.alloc(), asked, *wanted)?;
     }
     Ok(())
 }
 
-#[test]
-fn a_read_gathers_its_data_pieces(rt: HostRuntime) -> Result<(), Fail> {
-    let mut store = Store::open(rt.alloc(), 8)?;
-    let mut pages = Vec::new(rt.alloc());
-    for (number, byte) in [(4, 0xA0), (5, 0xB0)] {
-        let mut page = store.take(PageNo(number)).expect(&rt, "it is in");
-        page.set(100, &[byte; 512]);
-        pages.push((PageNo(number), page))?;
-    }
-    let pieces = [data(100, 256), bucket(512), data(356, 256)];
-    let asked = request(rt.alloc(), Kind::Read, 2, &pieces)?;
-    assert!(rt; asked.check().is_ok());
-    assert!(rt; asked.pieces.data_pages() <= pages.len());
-    let done = Finished::make(1, 3, asked, Status::SUCCESS, pages);
-    assert_eq!(rt;
-        (done.q(), done.cid(), done.status()),
-        (1, 3, Status::SUCCESS)
-    );
-    assert_eq!(rt; done.pages().len(), 2);
-    let gathered = done.gather(rt.alloc());
-    let parts = done.apart();
-    let bytes = gathered?;
-    assert_eq!(rt; bytes.len(), 512);
-    for (i, byte) in bytes.iter().enumerate() {
-        assert_eq!(rt; *byte, if i < 256 { 0xA0 } else { 0xB0 }, "at {i}");
-    }
-    assert_eq!(rt; (parts.q, parts.pages.len()), (1, 2));
-    let (q, cid) = Ticket::make(1, 3).apart();
-    assert_eq!(rt; (q, cid), (1, 3));
-    Ok(())
-}
+/// A Read of three whole pages and half a one, the last block of which it discards.
+const FOUR_PAGES: Asked = Asked {
+    kind: Kind::Read,
+    blocks: 26,
+    pieces: &[(PAGE, 3), (BLOCK, 1), (BUCKET, 1)],
+};
 
-/// Pages of a fresh pool, from one number on.
-fn taken(alloc: Global, from: u32, count: u32) -> Result<Vec<(PageNo, page_memory::Page)>, Fail> {
-    let mut store = Store::open(alloc, 16)?;
-    let mut pages = Vec::new(alloc);
-    for number in from..from.saturating_add(count) {
-        if let Some(page) = store.take(PageNo(number)) {
-            pages.push((PageNo(number), page))?;
-        }
-    }
-    Ok(pages)
-}
-
-#[test]
-fn a_built_draft_names_its_chain(rt: HostRuntime) -> Result<(), Fail> {
-    let pieces = [data(0, 512), data(0, 512), data(0, 512)];
-    let asked = request(rt.alloc(), Kind::Write, 3, &pieces)?;
-    assert!(rt; asked.check().is_ok());
-    let pages = taken(rt.alloc(), 4, 5)?;
-    let count = asked.data_pages();
-    assert!(rt; count <= pages.len());
-    let (front, _) = pages.split_at(count);
-    let joined = asked.parts_in(rt.alloc(), front)?;
-    assert_eq!(rt; count + pages_needed(joined.len(), 2), pages.len());
-    let mut draft = Draft::make(1, 0, asked, pages, 2);
-    let unbuilt = draft.entry();
-    let short = draft.fill(&[0xAB; 1_535]);
-    let filled = draft.fill(&[0xCD; 1_536]);
-    let built = draft.build(rt.alloc());
-    let entry = draft.entry();
-    let parts = draft.apart();
-    filled?;
-    built?;
-    assert_eq!(rt; unbuilt, None);
-    assert_eq!(rt; short, Err(FillFault::WrongLength));
-    let entry = entry.ok_or("built")?;
-    assert_eq!(rt;
-        entry.sgl1,
-        [0, 0x70, 0, 0, 0, 0, 0, 0, 0x20, 0, 0, 0, 0, 0, 0, 0x20]
-    );
-    assert_eq!(rt;
-        (entry.opcode, entry.psdt, entry.nsid, entry.cdw12),
-        (1, 1, 1, 2)
-    );
-    assert_eq!(rt; parts.pages.len(), 5);
-    let bytes = parts.pages[3].1.bytes();
-    assert!(rt; bytes.len() >= 32);
-    assert_eq!(rt;
-        bytes[..16],
-        *[0, 0x40, 0, 0, 0, 0, 0, 0, 0, 2, 0, 0, 0, 0, 0, 0].as_slice()
-    );
-    assert_eq!(rt;
-        bytes[16..32],
-        *[0, 0x80, 0, 0, 0, 0, 0, 0, 0x20, 0, 0, 0, 0, 0, 0, 0x30].as_slice()
-    );
-    Ok(())
-}
-
-#[test]
-fn whole_pages_that_join_take_no_chain(rt: HostRuntime) -> Result<(), Fail> {
-    let pieces = [data(0, 4_096); 4];
-    let asked = request(rt.alloc(), Kind::Write, 32, &pieces)?;
-    assert!(rt; asked.check().is_ok());
-    let pages = taken(rt.alloc(), 4, 4)?;
-    let count = asked.data_pages();
-    assert_eq!(rt; count, pages.len());
-    let (front, _) = pages.split_at(count);
-    let joined = asked.parts_in(rt.alloc(), front)?;
-    let whole = Part::Data {
-        addr: 0x4000,
-        len: 0x4000,
-    };
-    assert_eq!(rt; joined.as_slice(), [whole].as_slice());
-    assert_eq!(rt; count + pages_needed(joined.len(), 2), pages.len());
-    let mut draft = Draft::make(1, 0, asked, pages, 2);
-    let built = draft.build(rt.alloc());
-    let entry = draft.entry();
-    let parts = draft.apart();
-    built?;
-    assert_eq!(rt; parts.pages.len(), 4);
-    assert_eq!(rt;
-        entry.ok_or("built")?.sgl1,
-        [0, 0x40, 0, 0, 0, 0, 0, 0, 0, 0x40, 0, 0, 0, 0, 0, 0]
-    );
+/// Sees how many chain pages that request takes where its data pages have these numbers.
+fn see_chain_pages(
+    rt: &impl Abort,
+    alloc: Global,
+    numbers: [u32; 4],
+    wanted: u32,
+) -> Result<(), Fail> {
+    let request = FOUR_PAGES.request(alloc)?;
+    assert!(rt; request.check().is_ok());
+    let pages = numbers.map(|number| PageNo(number));
+    assert_eq!(rt; request.data_pages(), pages.len());
+    assert_eq!(rt; request.chain_pages(&pages, 2), wanted);
     Ok(())
 }
 
 #[test]
 fn chain_pages_are_those_of_the_parts_that_join(rt: HostRuntime) -> Result<(), Fail> {
-    let pieces = [
-        data(0, 4_096),
-        data(0, 4_096),
-        data(0, 4_096),
-        data(0, 512),
-        bucket(512),
-    ];
-    let asked = request(rt.alloc(), Kind::Read, 26, &pieces)?;
-    assert!(rt; asked.check().is_ok());
     for (numbers, want) in [
         ([4, 5, 6, 7], 1),
         ([4, 5, 7, 8], 2),
@@ -239,9 +204,7 @@ fn chain_pages_are_those_of_the_parts_that_join(rt: HostRuntime) -> Result<(), F
         ([7, 6, 5, 4], 4),
         ([4, 6, 7, 8], 2),
     ] {
-        let pages = numbers.map(|number| PageNo(number));
-        assert_eq!(rt; asked.data_pages(), pages.len());
-        assert_eq!(rt; asked.chain_pages(&pages, 2), want);
+        see_chain_pages(&rt, rt.alloc(), numbers, want)?;
     }
     Ok(())
 }
@@ -270,38 +233,112 @@ fn parts_plainly(pieces: &[Piece]) -> usize {
     parts
 }
 
-/// The fewest pages of a Read of these pieces, which must be those of a plain loop.
-fn fewest(
-    rt: &(impl Abort + AllocGlobal),
-    blocks: u32,
-    pieces: &[Piece],
-    segment: u16,
-) -> Result<u32, Fail>
-    requires low { 2 ≤ segment }
-    requires high { segment ≤ 256 }
+/// The fewest pages of a request in segments of so many descriptors, by a plain loop.
+fn fewest_plainly(request: &Request, segment: u16) -> usize
+    requires { 2 ≤ segment }
 {
-    let asked = request(rt.alloc(), Kind::Read, blocks, pieces)?;
-    assert!(rt; asked.check().is_ok());
-    let least = asked.least_pages(segment);
-    let chain = pages_needed(parts_plainly(pieces), usize::from(segment));
-    assert_eq!(rt; least as usize, asked.data_pages().saturating_add(chain));
-    Ok(least)
+    let chain = pages_needed(parts_plainly(request.pieces()), usize::from(segment));
+    request.data_pages().saturating_add(chain)
 }
+
+/// Sees the fewest pages of a request in segments of so many descriptors, which a plain loop must count too.
+fn see_fewest(
+    rt: &impl Abort,
+    alloc: Global,
+    asked: &Asked,
+    segment: u16,
+    wanted: u32,
+) -> Result<(), Fail> {
+    assert!(rt; 2 <= segment && segment <= 256);
+    let request = asked.request(alloc)?;
+    assert!(rt; request.check().is_ok());
+    let least = request.least_pages(segment);
+    assert_eq!(rt; least as usize, fewest_plainly(&request, segment));
+    assert_eq!(rt; least, wanted);
+    Ok(())
+}
+
+/// Reads, each with the most descriptors of a segment and its fewest pages.
+static FEWEST: [(Asked, u16, u32); 7] = [
+    (
+        Asked {
+            kind: Kind::Read,
+            blocks: 2_048,
+            pieces: &[(PAGE, 256)],
+        },
+        2,
+        256,
+    ),
+    (
+        Asked {
+            kind: Kind::Read,
+            blocks: 1_024,
+            pieces: &[(BLOCK, 1_024)],
+        },
+        2,
+        2_047,
+    ),
+    (
+        Asked {
+            kind: Kind::Read,
+            blocks: 1_024,
+            pieces: &[(BLOCK, 1_024)],
+        },
+        256,
+        1_029,
+    ),
+    (
+        Asked {
+            kind: Kind::Read,
+            blocks: 32,
+            pieces: &[(PAGE, 4)],
+        },
+        256,
+        4,
+    ),
+    (
+        Asked {
+            kind: Kind::Read,
+            blocks: 10,
+            pieces: &[
+                (
+                    Piece::Data {
+                        offset: 3_584,
+                        len: 512,
+                    },
+                    1,
+                ),
+                (PAGE, 1),
+                (BLOCK, 1),
+            ],
+        },
+        2,
+        3,
+    ),
+    (
+        Asked {
+            kind: Kind::Read,
+            blocks: 17,
+            pieces: &[(PAGE, 1), (BUCKET, 1), (PAGE, 1)],
+        },
+        256,
+        3,
+    ),
+    (
+        Asked {
+            kind: Kind::Read,
+            blocks: 1_024,
+            pieces: &[(BUCKET, 1_024)],
+        },
+        256,
+        5,
+    ),
+];
 
 #[test]
 fn the_fewest_pages_are_those_of_joined_parts(rt: HostRuntime) -> Result<(), Fail> {
-    let whole = vec![in rt.alloc(); data(0, 4_096); 256]?;
-    assert_eq!(rt; fewest(&rt, 2_048, whole.as_slice(), 2)?, 256);
-    let gaps = vec![in rt.alloc(); data(0, 512); 1_024]?;
-    assert_eq!(rt; fewest(&rt, 1_024, gaps.as_slice(), 2)?, 2_047);
-    assert_eq!(rt; fewest(&rt, 1_024, gaps.as_slice(), 256)?, 1_029);
-    let four = [data(0, 4_096); 4];
-    assert_eq!(rt; fewest(&rt, 32, &four, 256)?, 4);
-    let ends = [data(3_584, 512), data(0, 4_096), data(0, 512)];
-    assert_eq!(rt; fewest(&rt, 10, &ends, 2)?, 3);
-    let split = [data(0, 4_096), bucket(512), data(0, 4_096)];
-    assert_eq!(rt; fewest(&rt, 17, &split, 256)?, 3);
-    let buckets = vec![in rt.alloc(); bucket(512); 1_024]?;
-    assert_eq!(rt; fewest(&rt, 1_024, buckets.as_slice(), 256)?, 5);
+    for (asked, segment, wanted) in &FEWEST {
+        see_fewest(&rt, rt.alloc(), asked, *segment, *wanted)?;
+    }
     Ok(())
 }
