@@ -1,46 +1,52 @@
 //! The head that a completion tells of its submission queue: the entries that are fetched, not those that are rung or posted. The host
 //! takes it over, and forged completions show what it then knows: a head behind it is refused, and the head itself is taken.
 
-use crate::told::{build, complete, fetch, forge, read_one, reap, ring, run, submit, walk};
+use crate::steps::{Act, Answer, READ_ONE, Row, run};
 use std::alloc::Global;
 use std::process::Abort;
 use std::test::Fail;
 use step_core::*;
 
+/// Command 0 is submitted, and command 1 is built.
+static BEFORE: [Row; 5] = [
+    (READ_ONE, Answer::Reserved(0, 1, 0)),
+    (READ_ONE, Answer::Reserved(1, 1, 0)),
+    (Act::Build(1, 0), Answer::Accepted),
+    (Act::Build(1, 1), Answer::Accepted),
+    (Act::Submit(1, 0), Answer::Accepted),
+];
+
+/// Command 0 is fetched and completed, and completions of command 1 are forged.
+static BEHIND: [Row; 9] = [
+    (Act::Fetch(1), Answer::Fetched(0, &[2])),
+    (Act::Walk(1, 0), Answer::Walked(WalkState::More, &[])),
+    (Act::Walk(1, 0), Answer::Walked(WalkState::End, &[4])),
+    (Act::Complete(1, 0), Answer::Completed(&[3])),
+    (Act::Reap(1), Answer::Done(0, 0x00)),
+    (Act::Forge(1, 0, 1, 1), Answer::Accepted),
+    (Act::Reap(1), Answer::Rejected(RejectedFor::BadHead)),
+    (Act::Forge(2, 1, 1, 1), Answer::Accepted),
+    (Act::Reap(1), Answer::Done(1, 0x00)),
+];
+
 /// Command 0 is fetched and completed, and command 1 stands behind it: these two steps of it come between.
-fn head_is_one(rt: &impl Abort, alloc: Global, earlier: Step, later: Step) -> Result<(), Fail> {
-    let left = run(
-        rt,
-        alloc,
-        vec![in alloc;
-            (read_one(alloc)?, "q 1 cid 0 data 1 chain 0"),
-            (read_one(alloc)?, "q 1 cid 1 data 1 chain 0"),
-            (build(0), "ok"),
-            (build(1), "ok"),
-            (submit(0), "ok"),
-            (earlier, "ok"),
-            (later, "ok"),
-            (fetch(), "cid 0 touched 2"),
-            (walk(0), "more touched -"),
-            (walk(0), "end touched 4"),
-            (complete(0), "ok touched 3"),
-            (reap(), "done cid 0 status 0:00"),
-            (forge(1, 0, 1, 1), "ok"),
-            (reap(), "rejected BadHead"),
-            (forge(2, 1, 1, 1), "ok"),
-            (reap(), "done cid 1 status 0:00"),
-        ]?,
-    )?;
-    assert_eq!(rt; left.trusted, false);
+fn head_is_one(rt: &impl Abort, alloc: Global, between: [Act; 2]) -> Result<(), Fail> {
+    let mut rows = Vec::from_slice(alloc, &BEFORE)?;
+    for act in between {
+        rows.push((act, Answer::Accepted))?;
+    }
+    rows.extend_from_slice(&BEHIND)?;
+    let left = run(rt, alloc, rows.as_slice())?;
+    assert!(rt; !left.trusted);
     Ok(())
 }
 
 #[test]
 fn an_entry_that_is_not_rung_does_not_count(rt: HostRuntime) -> Result<(), Fail> {
-    head_is_one(&rt, rt.alloc(), ring(), submit(1))
+    head_is_one(&rt, rt.alloc(), [Act::Ring(1), Act::Submit(1, 1)])
 }
 
 #[test]
 fn an_entry_that_is_not_fetched_does_not_count(rt: HostRuntime) -> Result<(), Fail> {
-    head_is_one(&rt, rt.alloc(), submit(1), ring())
+    head_is_one(&rt, rt.alloc(), [Act::Submit(1, 1), Act::Ring(1)])
 }

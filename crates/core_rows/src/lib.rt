@@ -5,6 +5,8 @@
 #[cfg(test)]
 mod bench;
 #[cfg(test)]
+mod calls;
+#[cfg(test)]
 mod command;
 #[cfg(test)]
 mod fetching;
@@ -21,4 +23,4 @@ mod retiring;
 #[cfg(test)]
 mod sending;
 #[cfg(test)]
-mod told;
+mod steps;
