@@ -8,8 +8,18 @@ mod calls;
 #[cfg(test)]
 mod closing;
 #[cfg(test)]
+mod desk;
+#[cfg(test)]
+mod device;
+#[cfg(test)]
 mod forging;
 #[cfg(test)]
-mod growths;
+mod host;
+#[cfg(test)]
+mod looks;
 #[cfg(test)]
 mod row;
+#[cfg(test)]
+mod seats;
+#[cfg(test)]
+mod values;

@@ -4,13 +4,17 @@
 #[cfg(test)]
 mod admin_rows;
 #[cfg(test)]
-mod calls;
-#[cfg(test)]
 mod closing;
 #[cfg(test)]
 mod crowd;
 #[cfg(test)]
+mod desk;
+#[cfg(test)]
+mod device;
+#[cfg(test)]
 mod forged_rows;
+#[cfg(test)]
+mod host;
 #[cfg(test)]
 mod row;
 #[cfg(test)]
@@ -18,4 +22,8 @@ mod rows;
 #[cfg(test)]
 mod runs;
 #[cfg(test)]
+mod seats;
+#[cfg(test)]
 mod turned_away;
+#[cfg(test)]
+mod values;

@@ -1,30 +1,63 @@
-//! Calls of a shared book one after the other in one thread, each with what it must answer.
+//! Steps at a desk one after the other in one thread, each with what it must answer, and looks at it.
 
-use crate::calls::{completed, fetched, walked};
+ghost use Rattle.std.specs.Prelude.{◌≡◌};
+ghost use Rattle.step_core.specs.Opening.{opening_of};
+
+use crate::desk::{Desk, counts, end, opened, see};
+use crate::device::{Forged, complete, fetch, walk};
+use crate::host::{build, cancel, collect, has_page, reap, reserve};
+use crate::seats::{Told, close, has_receipts, keep_back, release, sit, stay_open, submit};
+use crate::values::Value;
+use block_image::Image;
 use controller_walk::WalkState;
-use driver_book::Driver;
+use driver_book::*;
 use driver_threads::Shared;
-use page_memory::PageNo;
+use entry_codec::Status;
+use io_commands::Kind;
+use std::alloc::Global;
+use std::marker::Brand;
 use std::process::Abort;
 use std::sync::Wait;
-use step_core::{Reaped, Refusal};
+use std::sync::ledger::Blank;
+use std::test::Fail;
+use step_core::{Config, Reaped, Refusal, RejectedFor};
 
-/// A call of a shared book, and what it must answer.
+/// A step at a desk, or a look at it, and what it must answer. A command is named by its queue and identifier.
 #[derive(Clone, Copy)]
 pub(crate) enum Row {
+    /// A seat is made behind the others, with this number.
+    Sit(u16),
+    /// A command of one block is reserved on a queue, from a block of the image on: its identifier.
+    Reserve(u16, Kind, u64, Result<u16, Refusal>),
+    /// The draft of a command has this page alone.
+    HasPage(u16, u16, u32),
+    /// A draft is built.
+    Build(u16, u16),
+    /// A draft is submitted for the seat at this place.
+    Submit(usize, u16, u16, Result<(), Refusal>),
+    /// A Read of one block is reserved on queue 1, with this identifier, built, and submitted for the seat at this place.
+    Begin(usize, u16),
+    /// A draft is cancelled.
+    Cancel(u16, u16),
     /// A queue is rung.
     Ring(u16),
-    /// The controller fetches from a queue: the identifier, and the page that this touches.
-    Fetch(u16, Result<(u16, Option<PageNo>), Refusal>),
-    /// It walks one unit of a command of a queue.
-    Walk(u16, u16, Result<WalkState, Refusal>),
-    /// It completes a command of a queue: the page that this touches.
-    Complete(u16, u16, Result<Option<PageNo>, Refusal>),
-    /// The host reaps a completion of a queue.
-    Reap(u16, Reaped),
-    /// Bytes are forged into a slot of a queue.
-    Forge(u16, u16, [u8; 16], Result<(), Refusal>),
-    /// The host asks for the abort of a command of a queue: the identifier of the Abort.
+    /// The controller fetches from a queue: the identifier, and the pages that this touches.
+    Fetch(u16, Result<u16, Refusal>, &'static [u32]),
+    /// It walks one unit of a command: the pages that this touches.
+    Walk(u16, u16, Result<WalkState, Refusal>, &'static [u32]),
+    /// It completes a command: the pages that this touches.
+    Complete(u16, u16, Result<(), Refusal>, &'static [u32]),
+    /// The host reaps a completion of a queue: the identifier of its command, and how that ended.
+    Reap(u16, u16, Status),
+    /// It reaps a completion of queue 0: the identifier, how the command ended, and its first word.
+    ReapAdmin(u16, Status, u32),
+    /// It reaps a completion of a queue that it rejects.
+    Reject(u16, RejectedFor),
+    /// It finds no completion on a queue.
+    ReapNothing(u16),
+    /// A completion is forged into a slot of a queue.
+    Forge(u16, u16, Forged, Result<(), Refusal>),
+    /// The host asks for the abort of a command: the identifier of the Abort.
     Abort(u16, u16, Result<u16, Refusal>),
     /// It asks for the deletion of a submission queue, by command 0.
     DeleteSq(u16),
@@ -32,29 +65,126 @@ pub(crate) enum Row {
     DeleteCq(u16),
     /// It retires a queue.
     Retire(u16, Result<(), Refusal>),
+    /// A command is collected, which ended so.
+    Collect(u16, u16, Status),
+    /// A finished command of the seat at this place is released.
+    Release(usize, u16, u16),
+    /// The seat at this place has these receipts.
+    HasReceipts(usize, &'static [Told]),
+    /// So many pages are free, are of queues and are of data.
+    HasPages(u32, u32, u32),
+    /// All seats are handed in, and the book is closed: these are the receipts of each.
+    Close(&'static [&'static [Told]]),
+    /// All seats are handed in, and come back, as the book is not closed.
+    StayOpen(CloseFault),
+    /// The last seat is kept back and the others are handed in: they come back, as the book is not closed.
+    KeepBack(CloseFault),
 }
 
-/// Makes one call, which must answer what its row says.
-fn answer<L: Driver, R: Abort + Wait>(rt: &R, shared: &Shared<L>, row: Row) {
+/// A Read of one block is reserved on queue 1, built, and submitted for a seat.
+fn begin<L: Driver, R: Abort + Wait>(rt: &R, desk: &mut Desk<L>, seat: usize, cid: u16) {
+    reserve(rt, desk, 1, Kind::Read, 0, Ok(cid));
+    build(rt, desk.alloc, &mut desk.values, 1, cid);
+    submit(rt, desk, seat, 1, cid, Ok(()));
+}
+
+/// Does what a row says with a command that is about, and answers whether it says such a thing.
+fn is_of_a_value<R: Abort>(rt: &R, alloc: Global, values: &mut Vec<Value>, row: Row) -> bool {
     match row {
-        Row::Ring(q) => assert_eq!(rt; shared.ring(rt, q), Ok(())),
-        Row::Fetch(q, want) => assert_eq!(rt; fetched(rt, shared, q), want),
-        Row::Walk(q, cid, want) => assert_eq!(rt; walked(rt, shared, q, cid), want),
-        Row::Complete(q, cid, want) => assert_eq!(rt; completed(rt, shared, q, cid), want),
-        Row::Reap(q, want) => assert_eq!(rt; shared.reap(rt, q), Ok(want)),
-        Row::Forge(q, slot, bytes, want) => {
-            assert_eq!(rt; shared.forge(rt, q, slot, bytes), want)
+        Row::HasPage(q, cid, page) => has_page(rt, values, q, cid, page),
+        Row::Build(q, cid) => build(rt, alloc, values, q, cid),
+        _ => return false,
+    }
+    true
+}
+
+/// Does what a row says of the book alone, and answers whether it says such a thing.
+fn is_of_the_book<L: Driver, R: Abort + Wait>(rt: &R, shared: &Shared<L>, row: Row) -> bool {
+    match row {
+        Row::Ring(q) => see(rt, &shared.ring(rt, q), &Ok(())),
+        Row::Fetch(q, want, pages) => fetch(rt, shared, q, want, pages),
+        Row::Walk(q, cid, want, pages) => walk(rt, shared, q, cid, want, pages),
+        Row::Complete(q, cid, want, pages) => complete(rt, shared, q, cid, want, pages),
+        Row::Reap(q, cid, status) => reap(rt, shared, q, Reaped::Done { cid, status }),
+        Row::ReapAdmin(cid, status, dw0) => {
+            reap(rt, shared, 0, Reaped::AdminDone { cid, status, dw0 })
         }
-        Row::Abort(q, cid, want) => assert_eq!(rt; shared.abort(rt, q, cid), want),
-        Row::DeleteSq(q) => assert_eq!(rt; shared.delete_sq(rt, q), Ok(0)),
-        Row::DeleteCq(q) => assert_eq!(rt; shared.delete_cq(rt, q), Ok(0)),
-        Row::Retire(q, want) => assert_eq!(rt; shared.retire(rt, q), want),
+        Row::Reject(q, why) => reap(rt, shared, q, Reaped::Rejected(why)),
+        Row::ReapNothing(q) => reap(rt, shared, q, Reaped::Empty),
+        Row::Forge(q, slot, forged, want) => see(
+            rt,
+            &shared.forge(rt, q, slot, forged.bytes()),
+            &want,
+        ),
+        Row::Abort(q, cid, want) => see(rt, &shared.abort(rt, q, cid), &want),
+        Row::DeleteSq(q) => see(rt, &shared.delete_sq(rt, q), &Ok(0)),
+        Row::DeleteCq(q) => see(rt, &shared.delete_cq(rt, q), &Ok(0)),
+        Row::Retire(q, want) => see(rt, &shared.retire(rt, q), &want),
+        Row::HasPages(free, queue, data) => see(rt, &shared.counts(rt), &counts(free, queue, data)),
+        _ => return false,
+    }
+    true
+}
+
+/// Does what a row says with seats, or with commands and the book.
+fn do_at_the_desk<L: Driver, R: Abort + Wait>(rt: &R, desk: &mut Desk<L>, row: Row) {
+    match row {
+        Row::Sit(number) => sit(rt, desk, number),
+        Row::Reserve(q, kind, slba, want) => reserve(rt, desk, q, kind, slba, want),
+        Row::Submit(seat, q, cid, want) => submit(rt, desk, seat, q, cid, want),
+        Row::Begin(seat, cid) => begin(rt, desk, seat, cid),
+        Row::Cancel(q, cid) => cancel(rt, desk, q, cid),
+        Row::Collect(q, cid, status) => collect(rt, desk, q, cid, status),
+        Row::Release(seat, q, cid) => release(rt, desk, seat, q, cid),
+        Row::HasReceipts(seat, want) => has_receipts(rt, &desk.seats, seat, want),
+        Row::Close(receipts) => close(rt, desk, receipts),
+        Row::StayOpen(why) => stay_open(rt, desk, why),
+        Row::KeepBack(why) => keep_back(rt, desk, why),
+        _ => panic!(rt; "it is a row of another kind"),
     }
 }
 
-/// Makes calls one after the other, each of which must answer what its row says.
-pub(crate) fn play<L: Driver, R: Abort + Wait>(rt: &R, shared: &Shared<L>, rows: &[Row]) {
+/// Does what rows say, one after the other.
+pub(crate) fn play<L: Driver, R: Abort + Wait>(rt: &R, desk: &mut Desk<L>, rows: &[Row]) {
     for row in rows {
-        answer(rt, shared, *row);
+        let done = is_of_a_value(rt, desk.alloc, &mut desk.values, *row)
+            || is_of_the_book(rt, &desk.shared, *row);
+        if !done {
+            do_at_the_desk(rt, desk, *row);
+        }
     }
+}
+
+/// Does what rows say at a new desk, and ends its book, whose log has so many entries.
+fn play_anew<L: Driver, R: Abort + Wait>(
+    rt: &R,
+    alloc: Global,
+    config: Config,
+    image: Image,
+    blank: Blank,
+    rows: &[Row],
+    entries: usize,
+)
+    requires name { blank.name ≡ L.name }
+    requires parts { blank.parts ≡ L.parts }
+    requires number { blank.parts ≡ 65536 }
+    requires opening { L.opening ≡ opening_of config image }
+{
+    let mut desk: Desk<L> = opened(rt, alloc, config, image, blank);
+    play(rt, &mut desk, rows);
+    see(rt, &end(desk), &entries);
+}
+
+/// Does what rows say at a new desk over an image of 64 zero blocks, and ends its book, whose log has so many entries.
+pub(crate) fn run<R: Abort + Wait>(
+    rt: &R,
+    alloc: Global,
+    config: Config,
+    rows: &[Row],
+    entries: usize,
+) -> Result<(), Fail> {
+    let image = Image::zeroed(alloc, 64)?;
+    let blank = Blank::new(65536);
+    play_anew::<Brand, R>(rt, alloc, config, image, blank, rows, entries);
+    Ok(())
 }

@@ -1,0 +1,162 @@
+//! Seats at a desk: they are made and handed in, and submit and release with what they must answer.
+
+ghost use Rattle.std.specs.Prelude.{◌<◌, ◌≡◌, length, vec_len};
+ghost use Rattle.std.specs.List.{list_any};
+
+use crate::desk::{Desk, counts, see};
+use crate::values::{Value, draft, finished, put};
+use driver_book::*;
+use entry_codec::Status;
+use io_commands::Finished;
+use std::mem;
+use std::process::Abort;
+use step_core::Refusal;
+
+/// What a receipt of queue 1 tells: its number, and the identifier and the status of its command.
+pub(crate) type Told = (u64, u16, Option<Status>);
+
+/// Whether these receipts tell so.
+fn tell(receipts: &[Receipt], told: &[Told]) -> bool {
+    receipts.len() == told.len()
+        && receipts.iter().zip(told).all(|(receipt, told)| {
+            receipt.q == 1 && (receipt.number, receipt.cid, receipt.status) == *told
+        })
+}
+
+/// A seat is made behind the others, with this number.
+pub(crate) fn sit<L: Driver, R: Abort>(rt: &R, desk: &mut Desk<L>, number: u16) {
+    let Ok(seat) = desk.book.seat() else {
+        panic!(rt; "no seat was made");
+    };
+    see(rt, &seat.number(), &number);
+    assert!(rt; desk.seats.push(seat).is_ok());
+}
+
+/// The last seat is lost.
+pub(crate) fn lose<L: Driver, R: Abort>(rt: &R, seats: &mut Vec<Seat<L>>) {
+    assert!(rt; seats.pop().is_some());
+}
+
+/// A draft is submitted for a seat.
+pub(crate) fn submit<L: Driver, R: Abort>(
+    rt: &R,
+    desk: &mut Desk<L>,
+    seat: usize,
+    q: u16,
+    cid: u16,
+    want: Result<(), Refusal>,
+) {
+    let draft = draft(rt, &mut desk.values, q, cid);
+    let Some(seat) = desk.seats.get_mut(seat) else {
+        let _parts = draft.apart();
+        panic!(rt; "there is no such seat");
+    };
+    let (value, answer) = match desk.book.submit(seat, draft) {
+        Ok(ticket) => (Value::Ticket(ticket), Ok(())),
+        Err(refused) => (Value::Draft(refused.value), Err(refused.why)),
+    };
+    put(rt, &mut desk.values, value);
+    see(rt, &answer, &want);
+}
+
+/// A finished command of a seat is released.
+pub(crate) fn release<L: Driver, R: Abort>(
+    rt: &R,
+    desk: &mut Desk<L>,
+    seat: usize,
+    q: u16,
+    cid: u16,
+) {
+    let finished = finished(rt, &mut desk.values, q, cid);
+    let Some(seat) = desk.seats.get_mut(seat) else {
+        let _parts = finished.apart();
+        panic!(rt; "there is no such seat");
+    };
+    assert!(rt; seat.awaits(finished.q(), finished.cid()));
+    match desk.book.release(seat, finished) {
+        Ok(()) => {}
+        Err(refused) => {
+            let _parts = refused.value.apart();
+            panic!(rt; "it was not released")
+        }
+    }
+}
+
+/// A finished command that is taken apart, and made anew with another status.
+fn made_anew<R: Abort>(rt: &R, finished: Finished, status: Status) -> Finished {
+    let parts = finished.apart();
+    match parts.request.check() {
+        Ok(()) => {}
+        Err(_) => panic!(rt; "the request is no good"),
+    }
+    assert!(rt; parts.request.pieces.data_pages() <= parts.pages.len());
+    Finished::make(parts.q, parts.cid, parts.request, status, parts.pages)
+}
+
+/// A finished command is made anew with another status, which it has then.
+pub(crate) fn alter<R: Abort>(rt: &R, values: &mut Vec<Value>, q: u16, cid: u16, status: Status) {
+    let finished = finished(rt, values, q, cid);
+    let finished = made_anew(rt, finished, status);
+    let told = finished.status();
+    put(rt, values, Value::Finished(finished));
+    see(rt, &told, &status);
+}
+
+/// A seat has this number.
+pub(crate) fn has_number<L: Driver, R: Abort>(rt: &R, seats: &[Seat<L>], seat: usize, number: u16) {
+    match seats.get(seat) {
+        Some(seat) => see(rt, &seat.number(), &number),
+        None => panic!(rt; "there is no such seat"),
+    }
+}
+
+/// A seat has these receipts.
+pub(crate) fn has_receipts<L: Driver, R: Abort>(
+    rt: &R,
+    seats: &[Seat<L>],
+    seat: usize,
+    want: &[Told],
+) {
+    match seats.get(seat) {
+        Some(seat) => assert!(rt; tell(seat.receipts(), want), "{want:?}"),
+        None => panic!(rt; "there is no such seat"),
+    }
+}
+
+/// A report counts 12 free pages and 4 of queues, and each seat in it has one receipt, in this order.
+fn see_report<R: Abort>(rt: &R, report: &Report, want: &[Told]) {
+    see(rt, &report.submissions, &(want.len() as u64));
+    see(rt, &report.counts, &counts(12, 4, 0));
+    let lists = report.receipts.as_slice();
+    see(rt, &lists.len(), &want.len());
+    for (receipts, told) in lists.iter().zip(want) {
+        assert!(rt; tell(receipts, &[*told]), "{told:?}");
+    }
+}
+
+/// All seats are handed in, and the book is closed: the only receipt of each is this one.
+pub(crate) fn close<L: Driver, R: Abort>(rt: &R, desk: &mut Desk<L>, want: &[Told]) {
+    let seats = mem::replace(&mut desk.seats, Vec::new(desk.alloc));
+    match desk.book.close(seats) {
+        Ok(report) => see_report(rt, &report, want),
+        Err(_) => panic!(rt; "it was not closed"),
+    }
+}
+
+/// All seats are handed in, and come back, so many of them, as the book is not closed.
+pub(crate) fn stay_open<L: Driver, R: Abort>(
+    rt: &R,
+    desk: &mut Desk<L>,
+    want: CloseFault,
+    seats: usize,
+) {
+    let handed_in = mem::replace(&mut desk.seats, Vec::new(desk.alloc));
+    match desk.book.close(handed_in) {
+        Ok(_) => panic!(rt; "it was closed"),
+        Err(refused) => {
+            see(rt, &refused.why, &want);
+            see(rt, &refused.seats.len(), &seats);
+            desk.seats = refused.seats;
+        }
+    }
+}
