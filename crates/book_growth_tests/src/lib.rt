@@ -7,8 +7,6 @@ mod aborts;
 #[cfg(test)]
 mod deletions;
 #[cfg(test)]
-mod desk;
-#[cfg(test)]
 mod forgeries;
 #[cfg(test)]
 mod placed;
@@ -17,10 +15,6 @@ mod refusals;
 #[cfg(test)]
 mod standing;
 #[cfg(test)]
-mod steps;
-#[cfg(test)]
 mod sweep;
 #[cfg(test)]
 mod transfers;
-#[cfg(test)]
-mod values;

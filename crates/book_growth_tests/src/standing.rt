@@ -1,9 +1,6 @@
 //! How a book stands, and a bench.
 
-ghost use Rattle.std.specs.Prelude.{◌≤◌, length};
-
-use crate::desk::Desk;
-use crate::values::Value;
+use book_desk::{Desk, Value};
 use driver_book::*;
 use page_ledger::{Counts, Owner};
 use page_memory::PageNo;
@@ -52,6 +49,7 @@ pub(crate) struct Standing {
     holdings: Holdings,
     /// How many entries the log has.
     entries: usize,
+    /// The receipts of the seat.
     receipts: Vec<Receipt>,
     /// The bytes of the pages that commands have, in the order of the pages.
     bytes: Vec<u8>,
@@ -88,6 +86,16 @@ fn bytes_of<A: Allocator>(
     Ok(bytes)
 }
 
+/// The receipts of the only seat.
+fn receipts_of<L: Driver, A: Allocator + Copy>(
+    desk: &Desk<L, A>,
+) -> Result<Vec<Receipt>, AllocError> {
+    match desk.seats.last() {
+        Some(seat) => Vec::from_slice(desk.alloc, seat.receipts()),
+        None => Ok(Vec::new(desk.alloc)),
+    }
+}
+
 impl Standing {
     /// How a desk stands.
     pub(crate) fn of<L: Driver, A: Allocator + Copy>(
@@ -97,7 +105,7 @@ impl Standing {
         Ok(Standing {
             holdings: Holdings::of_book(alloc, &desk.book)?,
             entries: desk.book.log().len(),
-            receipts: Vec::from_slice(alloc, desk.seat.receipts())?,
+            receipts: receipts_of(desk)?,
             bytes: bytes_of(alloc, &desk.values, desk.book.pages())?,
             built: desk.values.iter().filter(|value| value.is_built()).count(),
         })

@@ -3,9 +3,9 @@
 ghost use Rattle.std.specs.Prelude.{◌≡◌};
 ghost use Rattle.step_core.specs.Opening.{opening_of};
 
-use crate::desk::{Desk, step};
 use crate::placed::placed;
 use crate::standing::{Holdings, Standing};
+use book_desk::Desk;
 use driver_book::*;
 use refusing::Refusing;
 use script_cli::{Line, Script, read_script, run_steps};
@@ -155,17 +155,13 @@ fn opened<L: Driver, A: Allocator + Copy, R: Abort>(
 fn seated<'a, L: Driver>(
     alloc: Global,
     heap: &'a Heap,
-    mut book: Book<L, &'a Heap>,
+    book: Book<L, &'a Heap>,
 ) -> Result<Desk<L, &'a Heap>, Fail> {
-    match book.seat() {
-        Ok(seat) => Ok(Desk {
-            alloc,
-            heap,
-            book,
-            seat,
-            values: Vec::new(alloc),
-        }),
-        Err(_) => Err(Fail::from("no seat was made")),
+    let mut desk = Desk::new(alloc, heap, book);
+    if desk.sit()? {
+        Ok(desk)
+    } else {
+        Err(Fail::from("no seat was made"))
     }
 }
 
@@ -186,12 +182,12 @@ fn step_on<'a, L: Driver, R: Abort>(
     let first = placed(heap, made)?;
     let before = Standing::of(desk)?;
     heap.refuse(refusing::Refusal::Nth(growth));
-    let mut answer = step(desk, first)?;
+    let mut answer = desk.step(first)?;
     let tally = heap.tally();
     heap.refuse(refusing::Refusal::Never);
     if tally.refused > 0 && is_memory(&answer) {
         assert!(rt; Standing::of(desk)? == before, "{wanted}");
-        answer = step(desk, placed(heap, made)?)?;
+        answer = desk.step(placed(heap, made)?)?;
     }
     let text = format!(in desk.alloc; "{answer:?}")?;
     assert!(rt; text.as_str() == wanted, "{text} in place of {wanted}");
@@ -222,14 +218,16 @@ fn steps_on<'a, L: Driver, R: Abort>(
     Ok(left)
 }
 
-/// The only seat of a book, in a list.
+/// The seats of a book, in a list in its heap.
 fn listed<'a, L: Driver>(
     heap: &'a Heap,
-    seat: Seat<L, &'a Heap>,
+    seats: Vec<Seat<L, &'a Heap>>,
 ) -> Result<Vec<Seat<L, &'a Heap>, &'a Heap>, Fail> {
-    let mut seats = Vec::new(heap);
-    seats.push(seat)?;
-    Ok(seats)
+    let mut listed = Vec::new(heap);
+    for seat in seats {
+        listed.push(seat)?;
+    }
+    Ok(listed)
 }
 
 /// What closing a book answers: how many submissions there were. Where memory is refused nothing has changed, and once more it answers so.
@@ -268,10 +266,10 @@ fn close_on<'a, L: Driver, R: Abort>(
         alloc,
         heap: _,
         mut book,
-        seat,
+        seats,
         values: _,
     } = desk;
-    let seats = listed(heap, seat)?;
+    let seats = listed(heap, seats)?;
     heap.refuse(refusing::Refusal::Nth(growth));
     let closes = closed(rt, alloc, &mut book, seats)?;
     let calls = heap.tally().calls;

@@ -1,46 +1,56 @@
 //! A run through a book on two seats, and each other call of a book on its good path.
 
-use crate::desk::USUAL;
-use crate::row::{Row, run};
-use crate::seats::Told;
-use controller_walk::WalkState;
+use crate::part::{Part, Told, USUAL, run};
 use entry_codec::Status;
-use io_commands::Kind;
 use std::test::Fail;
 
 /// A Write of one seat and a Read of another, of the same block.
-const WRITE_AND_READ: [Row; 31] = [
-    Row::Sit(0),
-    Row::Sit(1),
-    Row::Reserve(1, Kind::Write, 5, Ok(0)),
-    Row::Fill(1, 0, 0xAB),
-    Row::Build(1, 0),
-    Row::Submit(0, 1, 0, Ok(())),
-    Row::Reserve(1, Kind::Read, 5, Ok(1)),
-    Row::Build(1, 1),
-    Row::Submit(1, 1, 1, Ok(())),
-    Row::HasReceipts(0, &[(0, 0, None)]),
-    Row::HasReceipts(1, &[(1, 1, None)]),
-    Row::Ring(1),
-    Row::Fetch(1, Ok(0), &[2]),
-    Row::Walk(1, 0, Ok(WalkState::More), &[]),
-    Row::Walk(1, 0, Ok(WalkState::End), &[4]),
-    Row::Complete(1, 0, Ok(()), &[3]),
-    Row::Reap(1, 0, Status::SUCCESS),
-    Row::Fetch(1, Ok(1), &[2]),
-    Row::Walk(1, 1, Ok(WalkState::More), &[]),
-    Row::Walk(1, 1, Ok(WalkState::End), &[5]),
-    Row::Complete(1, 1, Ok(()), &[3]),
-    Row::Reap(1, 1, Status::SUCCESS),
-    Row::Collect(1, 0, Status::SUCCESS),
-    Row::Release(0, 1, 0),
-    Row::Collect(1, 1, Status::SUCCESS),
-    Row::Gather(1, 1, 0xAB),
-    Row::Release(1, 1, 1),
-    Row::HasReceipts(0, &[(0, 0, Some(Status::SUCCESS))]),
-    Row::HasReceipts(1, &[(1, 1, Some(Status::SUCCESS))]),
-    Row::HasPages(12, 4, 0),
-    Row::HasEntries(19),
+const WRITE_AND_READ: [Part; 24] = [
+    Part::Sit,
+    Part::Sit,
+    Part::Steps("reserve 1 write 5 1 0+512 => q 1 cid 0 data 1 chain 0"),
+    Part::FillLast(0xAB),
+    Part::Steps("build 1 0 => ok"),
+    Part::Turn,
+    Part::Steps(
+        "submit 1 0 => ok
+reserve 1 read 5 1 0+512 => q 1 cid 1 data 1 chain 0
+build 1 1 => ok",
+    ),
+    Part::Turn,
+    Part::Steps("submit 1 1 => ok"),
+    Part::Turn,
+    Part::HasReceipts(0, &[(0, 0, None)]),
+    Part::Turn,
+    Part::HasReceipts(1, &[(1, 1, None)]),
+    Part::Steps(
+        "ring 1 => ok
+fetch 1 => cid 0 touched 2
+walk 1 0 => more touched -
+walk 1 0 => end touched 4
+complete 1 0 => ok touched 3
+reap 1 => done cid 0 status 0:00
+fetch 1 => cid 1 touched 2
+walk 1 1 => more touched -
+walk 1 1 => end touched 5
+complete 1 1 => ok touched 3
+reap 1 => done cid 1 status 0:00
+collect 1 0 => status 0:00",
+    ),
+    Part::Turn,
+    Part::Steps(
+        "release 1 0 => ok
+collect 1 1 => status 0:00
+gather 1 1 => AB*512",
+    ),
+    Part::Turn,
+    Part::Steps("release 1 1 => ok"),
+    Part::Turn,
+    Part::HasReceipts(0, &[(0, 0, Some(Status::SUCCESS))]),
+    Part::Turn,
+    Part::HasReceipts(1, &[(1, 1, Some(Status::SUCCESS))]),
+    Part::HasPages(12, 4, 0),
+    Part::HasEntries(19),
 ];
 
 #[test]
@@ -52,25 +62,31 @@ fn two_seats(rt: HostRuntime) -> Result<(), Fail> {
 const ENDED: [Told; 1] = [(0, 0, Some(Status::ABORTED_SQ_DELETION))];
 
 /// A queue ends with a command that was never fetched.
-const END_OF_A_QUEUE: [Row; 18] = [
-    Row::Sit(0),
-    Row::Begin(0, 0),
-    Row::DeleteSq(1),
-    Row::Ring(0),
-    Row::Fetch(0, Ok(0), &[0]),
-    Row::Complete(0, 0, Ok(()), &[1]),
-    Row::ReapAdmin(0, Status::SUCCESS, 0),
-    Row::Retire(1, Ok(())),
-    Row::Collect(1, 0, Status::ABORTED_SQ_DELETION),
-    Row::Release(0, 1, 0),
-    Row::HasReceipts(0, &ENDED),
-    Row::DeleteCq(1),
-    Row::Ring(0),
-    Row::Fetch(0, Ok(0), &[0]),
-    Row::Complete(0, 0, Ok(()), &[1]),
-    Row::ReapAdmin(0, Status::SUCCESS, 0),
-    Row::HasPages(14, 2, 0),
-    Row::HasEntries(15),
+const END_OF_A_QUEUE: [Part; 6] = [
+    Part::Sit,
+    Part::Steps(
+        "reserve 1 read 0 1 0+512 => q 1 cid 0 data 1 chain 0
+build 1 0 => ok
+submit 1 0 => ok
+delete_sq 1 => cid 0
+ring 0 => ok
+fetch 0 => cid 0 touched 0
+complete 0 0 => ok touched 1
+reap 0 => admin cid 0 status 0:00 dw0 0
+retire 1 => ok
+collect 1 0 => status 0:08
+release 1 0 => ok",
+    ),
+    Part::HasReceipts(0, &ENDED),
+    Part::Steps(
+        "delete_cq 1 => cid 0
+ring 0 => ok
+fetch 0 => cid 0 touched 0
+complete 0 0 => ok touched 1
+reap 0 => admin cid 0 status 0:00 dw0 0",
+    ),
+    Part::HasPages(14, 2, 0),
+    Part::HasEntries(15),
 ];
 
 #[test]
@@ -79,20 +95,24 @@ fn a_queue_ends(rt: HostRuntime) -> Result<(), Fail> {
 }
 
 /// A command that is aborted before it is fetched, a draft that is cancelled and one that is left over, and a forged entry.
-const GIVEN_UP: [Row; 13] = [
-    Row::Sit(0),
-    Row::Begin(0, 0),
-    Row::Abort(1, 0, Ok(0)),
-    Row::Ring(0),
-    Row::Fetch(0, Ok(0), &[0]),
-    Row::Complete(0, 0, Ok(()), &[1]),
-    Row::ReapAdmin(0, Status::SUCCESS, 1),
-    Row::Reserve(1, Kind::Compare, 1, Ok(1)),
-    Row::Cancel(1, 1),
-    Row::ForgeZeros(1, 0),
-    Row::Reserve(1, Kind::Write, 2, Ok(1)),
-    Row::HasPages(10, 4, 2),
-    Row::HasEntries(11),
+const GIVEN_UP: [Part; 4] = [
+    Part::Sit,
+    Part::Steps(
+        "reserve 1 read 0 1 0+512 => q 1 cid 0 data 1 chain 0
+build 1 0 => ok
+submit 1 0 => ok
+abort 1 0 => cid 0
+ring 0 => ok
+fetch 0 => cid 0 touched 0
+complete 0 0 => ok touched 1
+reap 0 => admin cid 0 status 0:00 dw0 1
+reserve 1 compare 1 1 0+512 => q 1 cid 1 data 1 chain 0
+cancel 1 1 => ok
+forge 1 0 00000000000000000000000000000000 => ok
+reserve 1 write 2 1 0+512 => q 1 cid 1 data 1 chain 0",
+    ),
+    Part::HasPages(10, 4, 2),
+    Part::HasEntries(11),
 ];
 
 #[test]

@@ -6,20 +6,16 @@ mod admin;
 #[cfg(test)]
 mod calls;
 #[cfg(test)]
+mod closes;
+#[cfg(test)]
 mod closing;
-#[cfg(test)]
-mod desk;
-#[cfg(test)]
-mod device;
 #[cfg(test)]
 mod forging;
 #[cfg(test)]
-mod host;
-#[cfg(test)]
 mod looks;
 #[cfg(test)]
-mod row;
+mod opening;
 #[cfg(test)]
-mod seats;
+mod part;
 #[cfg(test)]
-mod values;
+mod steps;

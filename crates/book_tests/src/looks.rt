@@ -1,109 +1,86 @@
-//! What a book shows without a step, and that one which is not opened gives back what it was made of.
+//! Looks at a desk, and what is done with commands that are about and is no step.
 
-ghost use Rattle.std.specs.Prelude.{◌≡◌};
-ghost use Rattle.step_core.specs.Opening.{opening_of};
+ghost use Rattle.std.specs.Prelude.{◌≡◌, ◌≤◌, length};
 
-use crate::desk::{Desk, USUAL, counts, opened, see};
-use crate::seats::sit;
-use block_image::Image;
+use crate::part::Told;
+use book_desk::Value;
 use driver_book::*;
-use page_ledger::Owner;
-use page_memory::PageNo;
-use std::alloc::Global;
-use std::marker::Brand;
+use entry_codec::Status;
+use io_commands::Finished;
+use std::fmt::Debug;
 use std::process::Abort;
-use std::sync::ledger::Blank;
 use std::test::Fail;
-use step_core::{Config, OpenRefusal};
 
-/// A new book has 16 pages, of which 12 are free, 4 are of queues, and page 4 is free, and its log is empty.
-fn see_new<L: Driver, R: Abort>(rt: &R, book: &Book<L>) {
-    see(rt, &book.pages(), &16);
-    see(rt, &book.owner(PageNo(4)), &Owner::Free);
-    see(rt, &book.counts(), &counts(12, 4, 0));
-    book.check();
-    assert!(rt; book.log().is_empty());
+/// Sees that an answer is the one that is wanted.
+pub(crate) fn see<T: PartialEq + Debug, R: Abort>(rt: &R, answer: &T, want: &T) {
+    assert!(rt; answer == want, "{answer:?} in place of {want:?}");
 }
 
-/// A book tells that it is stopped once it is told so.
-fn see_stop<L: Driver, R: Abort>(rt: &R, book: &mut Book<L>) {
-    assert!(rt; !book.stopping());
-    book.stop();
-    assert!(rt; book.stopping());
+/// Fills the draft that came about last with a block of one byte.
+pub(crate) fn fill_last<R: Abort>(rt: &R, values: &mut Vec<Value>, byte: u8) -> Result<(), Fail> {
+    let Some(mut draft) = values.pop().and_then(Value::into_draft) else {
+        panic!(rt; "it is no draft");
+    };
+    let filled = draft.fill(&[byte; 512]).is_ok();
+    values.push(Value::Draft(draft))?;
+    assert!(rt; filled);
+    Ok(())
 }
 
-/// What a book shows, and what it is told, without a step.
-fn look<L: Driver, R: Abort>(rt: &R, alloc: Global, config: Config, image: Image, blank: Blank)
-    requires name { blank.name ≡ L.name }
-    requires parts { blank.parts ≡ L.parts }
-    requires number { blank.parts ≡ 65536 }
-    requires opening { L.opening ≡ opening_of config image }
-{
-    let mut desk: Desk<L> = opened(rt, alloc, config, image, blank);
-    sit(rt, &mut desk, 0);
-    sit(rt, &mut desk, 1);
-    see_stop(rt, &mut desk.book);
-    see_new(rt, &desk.book);
-}
-
-/// A book that is not opened: why, and the image and the ledger, which come back.
-fn refused<K: Driver, R: Abort>(
-    rt: &R,
-    alloc: Global,
-    wrong: Config,
-    image: Image,
-    blank: Blank,
-) -> BookRefused
-    requires name { blank.name ≡ K.name }
-    requires parts { blank.parts ≡ K.parts }
-    requires number { blank.parts ≡ 65536 }
-    requires opening { K.opening ≡ opening_of wrong image }
-    ensures image { result.image ≡ image }
-    ensures blank { result.blank ≡ blank }
-{
-    match Book::<K>::open(alloc, wrong, image, blank) {
-        Ok(_) => panic!(rt; "it was opened"),
-        Err(refused) => refused,
+/// The command that came about last has this page alone.
+pub(crate) fn has_page<R: Abort>(rt: &R, values: &[Value], want: u32) {
+    match values.last() {
+        Some(value) => match value.pages() {
+            [(page, _)] => see(rt, &page.0, &want),
+            _ => panic!(rt; "it does not have one page"),
+        },
+        None => panic!(rt; "no command is about"),
     }
 }
 
-/// A book that is not opened gives back the image and the ledger, with which another one opens.
-fn open_again<K: Driver, L: Driver, R: Abort>(
+/// A finished command that is taken apart, and made anew with another status.
+fn made_anew<R: Abort>(rt: &R, finished: Finished, status: Status) -> Finished {
+    let parts = finished.apart();
+    match parts.request.check() {
+        Ok(()) => {}
+        Err(_) => panic!(rt; "the request is no good"),
+    }
+    assert!(rt; parts.request.pieces.data_pages() <= parts.pages.len());
+    Finished::make(parts.q, parts.cid, parts.request, status, parts.pages)
+}
+
+/// Makes the command that was collected last anew with another status, which it then has.
+pub(crate) fn alter<R: Abort>(rt: &R, values: &mut Vec<Value>, status: Status) -> Result<(), Fail> {
+    let Some(finished) = values.pop().and_then(Value::into_finished) else {
+        panic!(rt; "it is not finished");
+    };
+    let finished = made_anew(rt, finished, status);
+    let told = finished.status();
+    values.push(Value::Finished(finished))?;
+    see(rt, &told, &status);
+    Ok(())
+}
+
+/// Whether these receipts tell so.
+pub(crate) fn tell(receipts: &[Receipt], told: &[Told]) -> bool {
+    receipts.len() == told.len()
+        && receipts.iter().zip(told).all(|(receipt, told)| {
+            receipt.q == 1 && (receipt.number, receipt.cid, receipt.status) == *told
+        })
+}
+
+/// The last seat has this number and these receipts.
+pub(crate) fn has_receipts<L: Driver, R: Abort>(
     rt: &R,
-    alloc: Global,
-    wrong: Config,
-    config: Config,
-    image: Image,
-    blank: Blank,
-)
-    requires wrong_name { blank.name ≡ K.name }
-    requires wrong_parts { blank.parts ≡ K.parts }
-    requires wrong_opening { K.opening ≡ opening_of wrong image }
-    requires name { blank.name ≡ L.name }
-    requires parts { blank.parts ≡ L.parts }
-    requires number { blank.parts ≡ 65536 }
-    requires opening { L.opening ≡ opening_of config image }
-{
-    let refused = refused::<K, R>(rt, alloc, wrong, image, blank);
-    see(rt, &refused.why, &OpenRefusal::BadConfig);
-    let desk: Desk<L> = opened(rt, alloc, config, refused.image, refused.blank);
-    see(rt, &desk.book.counts(), &counts(12, 4, 0));
-}
-
-#[test]
-fn a_book_shows_itself(rt: HostRuntime) -> Result<(), Fail> {
-    let alloc = rt.alloc();
-    let image = Image::zeroed(alloc, 64)?;
-    look::<Brand, HostRuntime>(&rt, alloc, USUAL, image, Blank::new(65536));
-    Ok(())
-}
-
-#[test]
-fn a_book_is_not_opened(rt: HostRuntime) -> Result<(), Fail> {
-    let alloc = rt.alloc();
-    let image = Image::zeroed(alloc, 64)?;
-    let small = Config { pages: 7, ..USUAL };
-    let blank = Blank::new(65536);
-    open_again::<Brand, Brand, HostRuntime>(&rt, alloc, small, USUAL, image, blank);
-    Ok(())
+    seats: &[Seat<L>],
+    number: u16,
+    told: &[Told],
+) {
+    match seats.last() {
+        Some(seat) => {
+            see(rt, &seat.number(), &number);
+            assert!(rt; tell(seat.receipts(), told), "{told:?}");
+        }
+        None => panic!(rt; "there is no seat"),
+    }
 }

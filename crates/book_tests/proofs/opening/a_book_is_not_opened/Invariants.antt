@@ -1,5 +1,5 @@
 use Rattle.step_core.specs.Opening.{opening_of}
-use Rattle.book_tests.proofs.looks.a_book_is_not_opened.Given as goal
+use Rattle.book_tests.proofs.opening.a_book_is_not_opened.Given as goal
 
 abbrev pub ghosts-open_again-K-Ledger : goal.ghosts-open_again-K-Ledger
 ghosts-open_again-K-Ledger g a = record { name = a.blank.name; parts = a.blank.parts }

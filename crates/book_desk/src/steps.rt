@@ -1,8 +1,8 @@
 //! The steps of a script, each a call of a book or of a command that is about.
 
-use crate::values::{Value, take_draft, take_finished, take_ticket};
+use crate::values::{Value, What, taken};
 use driver_book::*;
-use io_commands::{Draft, Request};
+use io_commands::{Draft, Finished, Request, Ticket};
 use std::alloc::{AllocError, Allocator, Global};
 use step_core::{Bytes, Refusal, Reply, ReplyIn, StepRefused, Touched};
 
@@ -39,6 +39,21 @@ pub(crate) fn sent<A: Allocator>(answer: Result<u16, Refusal>) -> ReplyIn<A> {
         Ok(cid) => Reply::Sent { cid },
         Err(why) => refused(why),
     }
+}
+
+/// Takes a draft away, where it is about.
+fn draft_of<A: Allocator>(values: &mut Vec<Value<A>>, q: u16, cid: u16) -> Option<Draft<A>> {
+    taken(values, What::Draft, q, cid)?.into_draft()
+}
+
+/// Takes a ticket away, where it is about.
+fn ticket_of<A: Allocator>(values: &mut Vec<Value<A>>, q: u16, cid: u16) -> Option<Ticket> {
+    taken(values, What::Ticket, q, cid)?.into_ticket()
+}
+
+/// Takes a finished command away, where it is about.
+fn finished_of<A: Allocator>(values: &mut Vec<Value<A>>, q: u16, cid: u16) -> Option<Finished<A>> {
+    taken(values, What::Finished, q, cid)?.into_finished()
 }
 
 /// Reserves a command.
@@ -80,7 +95,7 @@ pub(crate) fn fill<A: Allocator>(
     cid: u16,
     bytes: &Bytes<A>,
 ) -> Answer<A> {
-    let Some(mut draft) = take_draft(values, q, cid) else {
+    let Some(mut draft) = draft_of(values, q, cid) else {
         return Ok(Reply::NoValue);
     };
     let filled = match padded(alloc, &draft, bytes.as_slice()) {
@@ -101,7 +116,7 @@ pub(crate) fn build<A: Allocator + Copy>(
     q: u16,
     cid: u16,
 ) -> Answer<A> {
-    let Some(mut draft) = take_draft(values, q, cid) else {
+    let Some(mut draft) = draft_of(values, q, cid) else {
         return Ok(Reply::NoValue);
     };
     let built = draft.build(heap);
@@ -120,7 +135,7 @@ pub(crate) fn submit<L: Driver, A: Allocator + Copy>(
     q: u16,
     cid: u16,
 ) -> Answer<A> {
-    let Some(draft) = take_draft(values, q, cid) else {
+    let Some(draft) = draft_of(values, q, cid) else {
         return Ok(Reply::NoValue);
     };
     let (value, reply) = match book.submit(seat, draft) {
@@ -138,7 +153,7 @@ pub(crate) fn cancel<L: Driver, A: Allocator + Copy>(
     q: u16,
     cid: u16,
 ) -> Answer<A> {
-    let Some(draft) = take_draft(values, q, cid) else {
+    let Some(draft) = draft_of(values, q, cid) else {
         return Ok(Reply::NoValue);
     };
     match book.cancel(draft) {
@@ -205,7 +220,7 @@ pub(crate) fn collect<L: Driver, A: Allocator + Copy>(
     q: u16,
     cid: u16,
 ) -> Answer<A> {
-    let Some(ticket) = take_ticket(values, q, cid) else {
+    let Some(ticket) = ticket_of(values, q, cid) else {
         return Ok(Reply::NoValue);
     };
     let (value, reply) = match book.collect(ticket) {
@@ -226,7 +241,7 @@ pub(crate) fn gather<A: Allocator + Copy>(
     q: u16,
     cid: u16,
 ) -> Answer<A> {
-    let Some(finished) = take_finished(values, q, cid) else {
+    let Some(finished) = finished_of(values, q, cid) else {
         return Ok(Reply::NoValue);
     };
     let gathered = finished.gather(heap);
@@ -248,7 +263,7 @@ pub(crate) fn release<L: Driver, A: Allocator + Copy>(
     if !seat.awaits(q, cid) {
         return Ok(Reply::NoValue);
     }
-    let Some(finished) = take_finished(values, q, cid) else {
+    let Some(finished) = finished_of(values, q, cid) else {
         return Ok(Reply::NoValue);
     };
     match book.release(seat, finished) {

@@ -1,5 +1,5 @@
 use Rattle.step_core.specs.Opening.{opening_of}
-use Rattle.book_tests.proofs.looks.a_book_shows_itself.Given as goal
+use Rattle.book_tests.proofs.opening.a_book_shows_itself.Given as goal
 
 abbrev pub ghosts-look-L-Ledger : goal.ghosts-look-L-Ledger
 ghosts-look-L-Ledger g a = record { name = a.blank.name; parts = a.blank.parts }
