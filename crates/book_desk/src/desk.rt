@@ -1,10 +1,11 @@
 //! A book with seats, and the commands that are about.
 
-use crate::steps::{
-    build, cancel, collect, complete, done, fetch, fill, gather, reap, release, reserve, sent,
-    submit, walk,
+use crate::answers::{
+    Answer, cancelled, collected, completed, done, fetched, reaped, released, reserved, sent,
+    submitted, walked,
 };
-use crate::values::Value;
+use crate::steps::{build, fill, gather};
+use crate::values::{Value, draft_of, finished_of, ticket_of};
 use driver_book::*;
 use std::alloc::{AllocError, Allocator, Global};
 use step_core::{Reply, ReplyIn, Step, StepIn};
@@ -51,32 +52,63 @@ impl<L: Driver, A: Allocator + Copy> Desk<L, A> {
         }
     }
 
-    /// Does a step that the last seat makes. Without a seat it is of no value.
-    fn step_seated(&mut self, step: StepIn<A>) -> Result<ReplyIn<A>, AllocError> {
+    /// Submits a draft for the last seat. Without a seat there is nothing to submit for.
+    fn submit(&mut self, q: u16, cid: u16) -> Answer<A> {
         let Some(seat) = self.seats.last_mut() else {
             return Ok(Reply::NoValue);
         };
-        match step {
-            Step::Submit { q, cid } => submit(&mut self.book, seat, &mut self.values, q, cid),
-            Step::Release { q, cid } => release(&mut self.book, seat, &mut self.values, q, cid),
-            _ => Ok(Reply::NoValue),
+        let Some(draft) = draft_of(&mut self.values, q, cid) else {
+            return Ok(Reply::NoValue);
+        };
+        let answer = self.book.submit(seat, draft);
+        submitted(&mut self.values, answer)
+    }
+
+    /// Releases a finished command of the last seat, where it has a receipt of it.
+    fn release(&mut self, q: u16, cid: u16) -> Answer<A> {
+        let Some(seat) = self.seats.last_mut() else {
+            return Ok(Reply::NoValue);
+        };
+        let Some(finished) = finished_of(&mut self.values, q, cid) else {
+            return Ok(Reply::NoValue);
+        };
+        if !seat.awaits(finished.q(), finished.cid()) {
+            self.values.push(Value::Finished(finished))?;
+            return Ok(Reply::NoValue);
+        }
+        let answer = self.book.release(seat, finished);
+        released(&mut self.values, answer)
+    }
+
+    /// Cancels a draft.
+    fn cancel(&mut self, q: u16, cid: u16) -> Answer<A> {
+        match draft_of(&mut self.values, q, cid) {
+            Some(draft) => cancelled(&mut self.values, self.book.cancel(draft)),
+            None => Ok(Reply::NoValue),
+        }
+    }
+
+    /// Collects a command by its ticket.
+    fn collect(&mut self, q: u16, cid: u16) -> Answer<A> {
+        match ticket_of(&mut self.values, q, cid) {
+            Some(ticket) => collected(&mut self.values, self.book.collect(ticket)),
+            None => Ok(Reply::NoValue),
         }
     }
 
     /// Does a step that no command is handed in for or comes of.
     fn step_alone(&mut self, step: StepIn<A>) -> ReplyIn<A> {
-        let book = &mut self.book;
         match step {
-            Step::Ring { q } => done(book.ring(q)),
-            Step::Fetch { q } => fetch(book, q),
-            Step::Walk { q, cid } => walk(book, q, cid),
-            Step::Complete { q, cid } => complete(book, q, cid),
-            Step::Reap { q } => reap(book, q),
-            Step::Abort { q, cid } => sent(book.abort(q, cid)),
-            Step::DeleteSq { q } => sent(book.delete_sq(q)),
-            Step::DeleteCq { q } => sent(book.delete_cq(q)),
-            Step::Retire { q } => done(book.retire(q)),
-            Step::Forge { q, slot, bytes } => done(book.forge(q, slot, bytes)),
+            Step::Ring { q } => done(self.book.ring(q)),
+            Step::Fetch { q } => fetched(self.book.fetch(q)),
+            Step::Walk { q, cid } => walked(self.book.walk(q, cid)),
+            Step::Complete { q, cid } => completed(self.book.complete(q, cid)),
+            Step::Reap { q } => reaped(self.book.reap(q)),
+            Step::Abort { q, cid } => sent(self.book.abort(q, cid)),
+            Step::DeleteSq { q } => sent(self.book.delete_sq(q)),
+            Step::DeleteCq { q } => sent(self.book.delete_cq(q)),
+            Step::Retire { q } => done(self.book.retire(q)),
+            Step::Forge { q, slot, bytes } => done(self.book.forge(q, slot, bytes)),
             _ => Reply::NoValue,
         }
     }
@@ -86,15 +118,20 @@ impl<L: Driver, A: Allocator + Copy> Desk<L, A> {
     /// # Errors
     ///
     /// Where memory is refused for the list of the commands, or for bytes that a draft is filled with.
-    pub fn step(&mut self, step: StepIn<A>) -> Result<ReplyIn<A>, AllocError> {
+    pub fn step(&mut self, step: StepIn<A>) -> Answer<A> {
         match step {
-            Step::Reserve { q, request } => reserve(&mut self.book, &mut self.values, q, request),
-            Step::Fill { q, cid, bytes } => fill(self.alloc, &mut self.values, q, cid, &bytes),
+            Step::Reserve { q, request } => {
+                reserved(&mut self.values, self.book.reserve(q, request))
+            }
+            Step::Fill { q, cid, bytes } => {
+                fill(self.alloc, &mut self.values, q, cid, bytes.as_slice())
+            }
             Step::Build { q, cid } => build(self.heap, &mut self.values, q, cid),
-            Step::Cancel { q, cid } => cancel(&mut self.book, &mut self.values, q, cid),
-            Step::Collect { q, cid } => collect(&mut self.book, &mut self.values, q, cid),
+            Step::Submit { q, cid } => self.submit(q, cid),
+            Step::Cancel { q, cid } => self.cancel(q, cid),
+            Step::Collect { q, cid } => self.collect(q, cid),
             Step::Gather { q, cid } => gather(self.heap, &mut self.values, q, cid),
-            Step::Submit { .. } | Step::Release { .. } => self.step_seated(step),
+            Step::Release { q, cid } => self.release(q, cid),
             other => Ok(self.step_alone(other)),
         }
     }

@@ -3,9 +3,11 @@
 //! [`Desk::step`] does a step by the call of the book that makes it, and answers as a bench answers (`step_core`).
 #![tactic(auto)]
 
+pub mod answers;
 mod desk;
-mod steps;
-mod values;
+pub mod steps;
+pub mod values;
 
+pub use answers::Answer;
 pub use desk::Desk;
-pub use values::{Value, What};
+pub use values::Value;

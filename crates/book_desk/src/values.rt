@@ -6,8 +6,8 @@ use std::alloc::{Allocator, Global};
 use step_core::{Ended, Leftover};
 
 /// How far a command has come.
-#[derive(Clone, Copy, Debug, PartialEq, Eq)]
-pub enum What {
+#[derive(Clone, Copy, PartialEq, Eq)]
+enum What {
     /// It was reserved.
     Draft,
     /// It was submitted.
@@ -101,7 +101,7 @@ impl<A: Allocator> Leftover for Value<A> {
 }
 
 /// Takes a command away, where it is about and has come so far.
-pub(crate) fn taken<A: Allocator>(
+fn taken<A: Allocator>(
     values: &mut Vec<Value<A>>,
     what: What,
     q: u16,
@@ -109,4 +109,23 @@ pub(crate) fn taken<A: Allocator>(
 ) -> Option<Value<A>> {
     let place = values.iter().position(|value| value.is(what, q, cid))?;
     Some(values.remove(place))
+}
+
+/// Takes a draft away, where it is about.
+pub fn draft_of<A: Allocator>(values: &mut Vec<Value<A>>, q: u16, cid: u16) -> Option<Draft<A>> {
+    taken(values, What::Draft, q, cid)?.into_draft()
+}
+
+/// Takes a ticket away, where it is about.
+pub fn ticket_of<A: Allocator>(values: &mut Vec<Value<A>>, q: u16, cid: u16) -> Option<Ticket> {
+    taken(values, What::Ticket, q, cid)?.into_ticket()
+}
+
+/// Takes a finished command away, where it is about.
+pub fn finished_of<A: Allocator>(
+    values: &mut Vec<Value<A>>,
+    q: u16,
+    cid: u16,
+) -> Option<Finished<A>> {
+    taken(values, What::Finished, q, cid)?.into_finished()
 }
