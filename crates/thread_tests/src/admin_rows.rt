@@ -1,13 +1,9 @@
 //! Two worked rows of steps through a shared book: commands that are aborted, and a queue that is deleted while its commands are about.
 
-use crate::desk::USUAL;
-use crate::row::{Row, run};
-use crate::seats::Told;
-use controller_walk::WalkState;
+use crate::looks::{Told, USUAL};
+use crate::part::{Part, run};
 use entry_codec::Status;
-use io_commands::Kind;
 use std::test::Fail;
-use step_core::Refusal;
 
 /// The receipts of the three Reads that are aborted.
 const ABORTED: [Told; 3] = [
@@ -17,54 +13,62 @@ const ABORTED: [Told; 3] = [
 ];
 
 /// Three Reads, and an abort of each: as the controller walks, when it has walked to the end, and before it fetches, which changes nothing.
-const ABORTS: [Row; 47] = [
-    Row::Sit(0),
-    Row::Begin(0, 0),
-    Row::Ring(1),
-    Row::Fetch(1, Ok(0), &[2]),
-    Row::Walk(1, 0, Ok(WalkState::More), &[]),
-    Row::Abort(1, 0, Ok(0)),
-    Row::Ring(0),
-    Row::Fetch(0, Ok(0), &[0]),
-    Row::Complete(0, 0, Err(Refusal::Waits), &[]),
-    Row::Walk(1, 0, Err(Refusal::Nothing), &[]),
-    Row::Complete(1, 0, Ok(()), &[3]),
-    Row::Complete(0, 0, Ok(()), &[1]),
-    Row::Reap(1, 0, Status::ABORT_REQUESTED),
-    Row::ReapAdmin(0, Status::SUCCESS, 0),
-    Row::Abort(1, 0, Err(Refusal::NoSuchCommand)),
-    Row::Begin(0, 1),
-    Row::Ring(1),
-    Row::Fetch(1, Ok(1), &[2]),
-    Row::Walk(1, 1, Ok(WalkState::More), &[]),
-    Row::Walk(1, 1, Ok(WalkState::End), &[5]),
-    Row::Abort(1, 1, Ok(0)),
-    Row::Ring(0),
-    Row::Fetch(0, Ok(0), &[0]),
-    Row::Complete(0, 0, Ok(()), &[1]),
-    Row::ReapAdmin(0, Status::SUCCESS, 1),
-    Row::Complete(1, 1, Ok(()), &[3]),
-    Row::Reap(1, 1, Status::SUCCESS),
-    Row::Begin(0, 2),
-    Row::Abort(1, 2, Ok(0)),
-    Row::Ring(0),
-    Row::Fetch(0, Ok(0), &[0]),
-    Row::Complete(0, 0, Ok(()), &[1]),
-    Row::ReapAdmin(0, Status::SUCCESS, 1),
-    Row::Ring(1),
-    Row::Fetch(1, Ok(2), &[2]),
-    Row::Walk(1, 2, Ok(WalkState::More), &[]),
-    Row::Walk(1, 2, Ok(WalkState::End), &[6]),
-    Row::Complete(1, 2, Ok(()), &[3]),
-    Row::Reap(1, 2, Status::SUCCESS),
-    Row::Collect(1, 0, Status::ABORT_REQUESTED),
-    Row::Release(0, 1, 0),
-    Row::Collect(1, 1, Status::SUCCESS),
-    Row::Release(0, 1, 1),
-    Row::Collect(1, 2, Status::SUCCESS),
-    Row::Release(0, 1, 2),
-    Row::HasReceipts(0, &ABORTED),
-    Row::HasPages(12, 4, 0),
+const ABORTS: [Part; 4] = [
+    Part::Sit,
+    Part::Steps(
+        "reserve 1 read 0 1 0+512 => q 1 cid 0 data 1 chain 0
+build 1 0 => ok
+submit 1 0 => ok
+ring 1 => ok
+fetch 1 => cid 0 touched 2
+walk 1 0 => more touched -
+abort 1 0 => cid 0
+ring 0 => ok
+fetch 0 => cid 0 touched 0
+complete 0 0 => refused Waits
+walk 1 0 => refused Nothing
+complete 1 0 => ok touched 3
+complete 0 0 => ok touched 1
+reap 1 => done cid 0 status 0:07
+reap 0 => admin cid 0 status 0:00 dw0 0
+abort 1 0 => refused NoSuchCommand
+reserve 1 read 0 1 0+512 => q 1 cid 1 data 1 chain 0
+build 1 1 => ok
+submit 1 1 => ok
+ring 1 => ok
+fetch 1 => cid 1 touched 2
+walk 1 1 => more touched -
+walk 1 1 => end touched 5
+abort 1 1 => cid 0
+ring 0 => ok
+fetch 0 => cid 0 touched 0
+complete 0 0 => ok touched 1
+reap 0 => admin cid 0 status 0:00 dw0 1
+complete 1 1 => ok touched 3
+reap 1 => done cid 1 status 0:00
+reserve 1 read 0 1 0+512 => q 1 cid 2 data 1 chain 0
+build 1 2 => ok
+submit 1 2 => ok
+abort 1 2 => cid 0
+ring 0 => ok
+fetch 0 => cid 0 touched 0
+complete 0 0 => ok touched 1
+reap 0 => admin cid 0 status 0:00 dw0 1
+ring 1 => ok
+fetch 1 => cid 2 touched 2
+walk 1 2 => more touched -
+walk 1 2 => end touched 6
+complete 1 2 => ok touched 3
+reap 1 => done cid 2 status 0:00
+collect 1 0 => status 0:07
+release 1 0 => ok
+collect 1 1 => status 0:00
+release 1 1 => ok
+collect 1 2 => status 0:00
+release 1 2 => ok",
+    ),
+    Part::HasReceipts(&ABORTED),
+    Part::HasPages(12, 4, 0),
 ];
 
 #[test]
@@ -80,52 +84,60 @@ const DELETED: [Told; 2] = [
 
 /// A queue is deleted while one command is walked, one waits to be fetched, and one is a draft. The deletion of its completion queue is
 /// refused at first, as its submission queue is about, and that of the submission queue is answered behind the command that was fetched.
-const DELETION: [Row; 45] = [
-    Row::Sit(0),
-    Row::Reserve(1, Kind::Read, 0, Ok(0)),
-    Row::Build(1, 0),
-    Row::HasPage(1, 0, 4),
-    Row::Reserve(1, Kind::Read, 0, Ok(1)),
-    Row::Build(1, 1),
-    Row::HasPage(1, 1, 5),
-    Row::Reserve(1, Kind::Read, 0, Ok(2)),
-    Row::Build(1, 2),
-    Row::HasPage(1, 2, 6),
-    Row::Submit(0, 1, 0, Ok(())),
-    Row::Submit(0, 1, 1, Ok(())),
-    Row::Ring(1),
-    Row::Fetch(1, Ok(0), &[2]),
-    Row::Walk(1, 0, Ok(WalkState::More), &[]),
-    Row::DeleteCq(1),
-    Row::Ring(0),
-    Row::Fetch(0, Ok(0), &[0]),
-    Row::Complete(0, 0, Ok(()), &[1]),
-    Row::ReapAdmin(0, Status::INVALID_QUEUE_DELETION, 0),
-    Row::DeleteSq(1),
-    Row::Ring(0),
-    Row::Fetch(0, Ok(0), &[0]),
-    Row::Complete(0, 0, Err(Refusal::Waits), &[]),
-    Row::Complete(1, 0, Ok(()), &[3]),
-    Row::Complete(0, 0, Ok(()), &[1]),
-    Row::Retire(1, Err(Refusal::NotDeleted)),
-    Row::Reserve(1, Kind::Read, 0, Err(Refusal::Deleting)),
-    Row::ReapAdmin(0, Status::SUCCESS, 0),
-    Row::Retire(1, Err(Refusal::NotDrained)),
-    Row::Reap(1, 0, Status::ABORTED_SQ_DELETION),
-    Row::Retire(1, Ok(())),
-    Row::Collect(1, 1, Status::ABORTED_SQ_DELETION),
-    Row::Submit(0, 1, 2, Err(Refusal::QueueGone)),
-    Row::Cancel(1, 2),
-    Row::Collect(1, 0, Status::ABORTED_SQ_DELETION),
-    Row::Release(0, 1, 0),
-    Row::Release(0, 1, 1),
-    Row::DeleteCq(1),
-    Row::Ring(0),
-    Row::Fetch(0, Ok(0), &[0]),
-    Row::Complete(0, 0, Ok(()), &[1]),
-    Row::ReapAdmin(0, Status::SUCCESS, 0),
-    Row::HasReceipts(0, &DELETED),
-    Row::HasPages(14, 2, 0),
+const DELETION: [Part; 10] = [
+    Part::Sit,
+    Part::Steps(
+        "reserve 1 read 0 1 0+512 => q 1 cid 0 data 1 chain 0
+build 1 0 => ok",
+    ),
+    Part::HasPage(4),
+    Part::Steps(
+        "reserve 1 read 0 1 0+512 => q 1 cid 1 data 1 chain 0
+build 1 1 => ok",
+    ),
+    Part::HasPage(5),
+    Part::Steps(
+        "reserve 1 read 0 1 0+512 => q 1 cid 2 data 1 chain 0
+build 1 2 => ok",
+    ),
+    Part::HasPage(6),
+    Part::Steps(
+        "submit 1 0 => ok
+submit 1 1 => ok
+ring 1 => ok
+fetch 1 => cid 0 touched 2
+walk 1 0 => more touched -
+delete_cq 1 => cid 0
+ring 0 => ok
+fetch 0 => cid 0 touched 0
+complete 0 0 => ok touched 1
+reap 0 => admin cid 0 status 1:0C dw0 0
+delete_sq 1 => cid 0
+ring 0 => ok
+fetch 0 => cid 0 touched 0
+complete 0 0 => refused Waits
+complete 1 0 => ok touched 3
+complete 0 0 => ok touched 1
+retire 1 => refused NotDeleted
+reserve 1 read 0 1 0+512 => refused Deleting
+reap 0 => admin cid 0 status 0:00 dw0 0
+retire 1 => refused NotDrained
+reap 1 => done cid 0 status 0:08
+retire 1 => ok
+collect 1 1 => status 0:08
+submit 1 2 => refused QueueGone
+cancel 1 2 => ok
+collect 1 0 => status 0:08
+release 1 0 => ok
+release 1 1 => ok
+delete_cq 1 => cid 0
+ring 0 => ok
+fetch 0 => cid 0 touched 0
+complete 0 0 => ok touched 1
+reap 0 => admin cid 0 status 0:00 dw0 0",
+    ),
+    Part::HasReceipts(&DELETED),
+    Part::HasPages(14, 2, 0),
 ];
 
 #[test]

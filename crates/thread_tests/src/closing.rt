@@ -3,10 +3,10 @@
 ghost use Rattle.std.specs.Prelude.{◌≡◌};
 ghost use Rattle.step_core.specs.Opening.{opening_of};
 
-use crate::desk::{Desk, USUAL, end, opened, see};
-use crate::row::{Row, run};
+use crate::desk::{Desk, end, opened};
+use crate::looks::{USUAL, see};
+use crate::part::{Part, run};
 use block_image::Image;
-use controller_walk::WalkState;
 use driver_book::{CloseFault, Driver};
 use driver_threads::Shared;
 use entry_codec::Status;
@@ -21,29 +21,43 @@ use std::test::Fail;
 use step_core::Config;
 
 /// Each of two seats submits once. One is kept back, then both are handed in too early, and at last in time.
-const KEPT_BACK: [Row; 22] = [
-    Row::Sit(0),
-    Row::Sit(1),
-    Row::Begin(0, 0),
-    Row::Begin(1, 1),
-    Row::KeepBack(CloseFault::Missing { seat: 1, number: 1 }),
-    Row::StayOpen(CloseFault::StillOut),
-    Row::Ring(1),
-    Row::Fetch(1, Ok(0), &[2]),
-    Row::Walk(1, 0, Ok(WalkState::More), &[]),
-    Row::Walk(1, 0, Ok(WalkState::End), &[4]),
-    Row::Complete(1, 0, Ok(()), &[3]),
-    Row::Reap(1, 0, Status::SUCCESS),
-    Row::Fetch(1, Ok(1), &[2]),
-    Row::Walk(1, 1, Ok(WalkState::More), &[]),
-    Row::Walk(1, 1, Ok(WalkState::End), &[5]),
-    Row::Complete(1, 1, Ok(()), &[3]),
-    Row::Reap(1, 1, Status::SUCCESS),
-    Row::Collect(1, 1, Status::SUCCESS),
-    Row::Release(1, 1, 1),
-    Row::Collect(1, 0, Status::SUCCESS),
-    Row::Release(0, 1, 0),
-    Row::Close(&[
+const KEPT_BACK: [Part; 13] = [
+    Part::Sit,
+    Part::Sit,
+    Part::Turn,
+    Part::Steps(
+        "reserve 1 read 0 1 0+512 => q 1 cid 0 data 1 chain 0
+build 1 0 => ok
+submit 1 0 => ok",
+    ),
+    Part::Turn,
+    Part::Steps(
+        "reserve 1 read 0 1 0+512 => q 1 cid 1 data 1 chain 0
+build 1 1 => ok
+submit 1 1 => ok",
+    ),
+    Part::KeepBack(CloseFault::Missing { seat: 1, number: 1 }),
+    Part::StayOpen(CloseFault::StillOut),
+    Part::Steps(
+        "ring 1 => ok
+fetch 1 => cid 0 touched 2
+walk 1 0 => more touched -
+walk 1 0 => end touched 4
+complete 1 0 => ok touched 3
+reap 1 => done cid 0 status 0:00
+fetch 1 => cid 1 touched 2
+walk 1 1 => more touched -
+walk 1 1 => end touched 5
+complete 1 1 => ok touched 3
+reap 1 => done cid 1 status 0:00
+collect 1 1 => status 0:00
+release 1 1 => ok
+collect 1 0 => status 0:00",
+    ),
+    Part::Turn,
+    Part::Steps("release 1 0 => ok"),
+    Part::Turn,
+    Part::Close(&[
         &[(0, 0, Some(Status::SUCCESS))],
         &[(1, 1, Some(Status::SUCCESS))],
     ]),
@@ -55,11 +69,11 @@ fn a_seat_with_a_submission_is_missed(rt: HostRuntime) -> Result<(), Fail> {
 }
 
 /// A seat that submitted nothing is kept back, and then handed in.
-const KEPT_BACK_IDLE: [Row; 4] = [
-    Row::Sit(0),
-    Row::Sit(1),
-    Row::KeepBack(CloseFault::SeatOut),
-    Row::Close(&[&[], &[]]),
+const KEPT_BACK_IDLE: [Part; 4] = [
+    Part::Sit,
+    Part::Sit,
+    Part::KeepBack(CloseFault::SeatOut),
+    Part::Close(&[&[], &[]]),
 ];
 
 #[test]

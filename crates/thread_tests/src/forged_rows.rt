@@ -1,14 +1,10 @@
 //! Rows in which completions are forged, through a shared book: what the host believes and rejects, and what the controller then does.
 
-use crate::desk::USUAL;
-use crate::device::Forged;
-use crate::row::{Row, run};
-use crate::seats::Told;
-use controller_walk::WalkState;
+use crate::looks::{Told, USUAL};
+use crate::part::{Part, run};
 use entry_codec::Status;
-use io_commands::Kind;
 use std::test::Fail;
-use step_core::{Config, Refusal, RejectedFor};
+use step_core::Config;
 
 /// 16 pages and two I/O queues of 4 entries: pages 6 to 15 are free.
 const TWO_QUEUES: Config = Config {
@@ -19,206 +15,173 @@ const TWO_QUEUES: Config = Config {
 };
 
 /// Forged entries of an unknown command, with a head outside the ring, and of another queue. Each is taken, and changes nothing else.
-const THREE_FORGED: [Row; 9] = [
-    Row::Forge(
-        1,
-        0,
-        Forged {
-            sq_head: 0,
-            queue: 1,
-            cid: 3,
-        },
-        Ok(()),
+const THREE_FORGED: [Part; 2] = [
+    Part::Steps(
+        "forge 1 0 00000000000000000000010003000100 => ok
+reap 1 => rejected UnknownId
+forge 1 1 00000000000000000100010000000100 => ok
+reap 1 => rejected BadHead
+forge 1 2 00000000000000000000000000000100 => ok
+reap 1 => rejected WrongQueue
+reap 1 => empty
+forge 1 4 00000000000000000000000000000100 => refused NoSlot",
     ),
-    Row::Reject(1, RejectedFor::UnknownId),
-    Row::Forge(
-        1,
-        1,
-        Forged {
-            sq_head: 1,
-            queue: 1,
-            cid: 0,
-        },
-        Ok(()),
-    ),
-    Row::Reject(1, RejectedFor::BadHead),
-    Row::Forge(
-        1,
-        2,
-        Forged {
-            sq_head: 0,
-            queue: 0,
-            cid: 0,
-        },
-        Ok(()),
-    ),
-    Row::Reject(1, RejectedFor::WrongQueue),
-    Row::ReapNothing(1),
-    Row::Forge(
-        1,
-        4,
-        Forged {
-            sq_head: 0,
-            queue: 0,
-            cid: 0,
-        },
-        Err(Refusal::NoSlot),
-    ),
-    Row::HasPages(12, 4, 0),
+    Part::HasPages(12, 4, 0),
 ];
 
 /// A Read whose completion is forged while its list is walked: the walk finds its page out, and its own completion comes to nobody.
-const FORGED_IN_THE_WALK: [Row; 13] = [
-    Row::Sit(0),
-    Row::Begin(0, 0),
-    Row::Ring(1),
-    Row::Fetch(1, Ok(0), &[2]),
-    Row::Walk(1, 0, Ok(WalkState::More), &[]),
-    Row::Forge(
-        1,
-        0,
-        Forged {
-            sq_head: 1,
-            queue: 1,
-            cid: 0,
-        },
-        Ok(()),
+const FORGED_IN_THE_WALK: [Part; 3] = [
+    Part::Sit,
+    Part::Steps(
+        "reserve 1 read 0 1 0+512 => q 1 cid 0 data 1 chain 0
+build 1 0 => ok
+submit 1 0 => ok
+ring 1 => ok
+fetch 1 => cid 0 touched 2
+walk 1 0 => more touched -
+forge 1 0 00000000000000000100010000000100 => ok
+reap 1 => done cid 0 status 0:00
+collect 1 0 => status 0:00
+walk 1 0 => fault 0:04 touched -
+release 1 0 => ok
+complete 1 0 => ok touched 3
+reap 1 => empty",
     ),
-    Row::Reap(1, 0, Status::SUCCESS),
-    Row::Collect(1, 0, Status::SUCCESS),
-    Row::Walk(1, 0, Ok(WalkState::Fault(Status::DATA_TRANSFER_ERROR)), &[]),
-    Row::Release(0, 1, 0),
-    Row::Complete(1, 0, Ok(()), &[3]),
-    Row::ReapNothing(1),
-    Row::HasPages(12, 4, 0),
+    Part::HasPages(12, 4, 0),
 ];
 
 /// The receipts of three Reads, once the host believes that the first ended.
 const BELIEVED: [Told; 3] = [(0, 0, Some(Status::SUCCESS)), (1, 1, None), (2, 2, None)];
 
 /// Three Reads, and a forged completion of the first that tells of no entry taken: the identifier is free again, and the ring still full.
-const FORGED_BEFORE_THE_FETCH: [Row; 15] = [
-    Row::Sit(0),
-    Row::Begin(0, 0),
-    Row::Begin(0, 1),
-    Row::Begin(0, 2),
-    Row::Ring(1),
-    Row::Forge(
-        1,
-        0,
-        Forged {
-            sq_head: 0,
-            queue: 1,
-            cid: 0,
-        },
-        Ok(()),
+const FORGED_BEFORE_THE_FETCH: [Part; 6] = [
+    Part::Sit,
+    Part::Steps(
+        "reserve 1 read 0 1 0+512 => q 1 cid 0 data 1 chain 0
+build 1 0 => ok
+submit 1 0 => ok
+reserve 1 read 0 1 0+512 => q 1 cid 1 data 1 chain 0
+build 1 1 => ok
+submit 1 1 => ok
+reserve 1 read 0 1 0+512 => q 1 cid 2 data 1 chain 0
+build 1 2 => ok
+submit 1 2 => ok
+ring 1 => ok
+forge 1 0 00000000000000000000010000000100 => ok
+reap 1 => done cid 0 status 0:00
+collect 1 0 => status 0:00
+release 1 0 => ok",
     ),
-    Row::Reap(1, 0, Status::SUCCESS),
-    Row::Collect(1, 0, Status::SUCCESS),
-    Row::Release(0, 1, 0),
-    Row::HasReceipts(0, &BELIEVED),
-    Row::Reserve(1, Kind::Read, 0, Ok(0)),
-    Row::Build(1, 0),
-    Row::HasPage(1, 0, 4),
-    Row::Submit(0, 1, 0, Err(Refusal::QueueFull)),
-    Row::Cancel(1, 0),
+    Part::HasReceipts(&BELIEVED),
+    Part::Steps(
+        "reserve 1 read 0 1 0+512 => q 1 cid 0 data 1 chain 0
+build 1 0 => ok",
+    ),
+    Part::HasPage(4),
+    Part::Steps(
+        "submit 1 0 => refused QueueFull
+cancel 1 0 => ok",
+    ),
 ];
 
 /// Three Reads, and a forged completion of the first, which the controller has: its identifier comes again, and is refused there while the
 /// first is about.
-const FORGED_BEHIND_THE_WALKS: [Row; 27] = [
-    Row::Sit(0),
-    Row::Begin(0, 0),
-    Row::Begin(0, 1),
-    Row::Begin(0, 2),
-    Row::Ring(1),
-    Row::Fetch(1, Ok(0), &[2]),
-    Row::Walk(1, 0, Ok(WalkState::More), &[]),
-    Row::Walk(1, 0, Ok(WalkState::End), &[4]),
-    Row::Fetch(1, Ok(1), &[2]),
-    Row::Walk(1, 1, Ok(WalkState::More), &[]),
-    Row::Walk(1, 1, Ok(WalkState::End), &[5]),
-    Row::Fetch(1, Ok(2), &[2]),
-    Row::Walk(1, 2, Ok(WalkState::More), &[]),
-    Row::Walk(1, 2, Ok(WalkState::End), &[6]),
-    Row::Forge(
-        1,
-        0,
-        Forged {
-            sq_head: 3,
-            queue: 1,
-            cid: 0,
-        },
-        Ok(()),
+const FORGED_BEHIND_THE_WALKS: [Part; 4] = [
+    Part::Sit,
+    Part::Steps(
+        "reserve 1 read 0 1 0+512 => q 1 cid 0 data 1 chain 0
+build 1 0 => ok
+submit 1 0 => ok
+reserve 1 read 0 1 0+512 => q 1 cid 1 data 1 chain 0
+build 1 1 => ok
+submit 1 1 => ok
+reserve 1 read 0 1 0+512 => q 1 cid 2 data 1 chain 0
+build 1 2 => ok
+submit 1 2 => ok
+ring 1 => ok
+fetch 1 => cid 0 touched 2
+walk 1 0 => more touched -
+walk 1 0 => end touched 4
+fetch 1 => cid 1 touched 2
+walk 1 1 => more touched -
+walk 1 1 => end touched 5
+fetch 1 => cid 2 touched 2
+walk 1 2 => more touched -
+walk 1 2 => end touched 6
+forge 1 0 00000000000000000300010000000100 => ok
+reap 1 => done cid 0 status 0:00
+collect 1 0 => status 0:00
+release 1 0 => ok",
     ),
-    Row::Reap(1, 0, Status::SUCCESS),
-    Row::Collect(1, 0, Status::SUCCESS),
-    Row::Release(0, 1, 0),
-    Row::HasReceipts(0, &BELIEVED),
-    Row::Begin(0, 0),
-    Row::Ring(1),
-    Row::Fetch(1, Ok(0), &[2, 3]),
-    Row::Complete(1, 0, Ok(()), &[3]),
-    Row::Complete(1, 1, Ok(()), &[3]),
-    Row::Complete(1, 2, Err(Refusal::Full), &[]),
-    Row::Reap(1, 0, Status::SUCCESS),
-    Row::Complete(1, 2, Ok(()), &[3]),
+    Part::HasReceipts(&BELIEVED),
+    Part::Steps(
+        "reserve 1 read 0 1 0+512 => q 1 cid 0 data 1 chain 0
+build 1 0 => ok
+submit 1 0 => ok
+ring 1 => ok
+fetch 1 => cid 0 touched 2,3
+complete 1 0 => ok touched 3
+complete 1 1 => ok touched 3
+complete 1 2 => refused Full
+reap 1 => done cid 0 status 0:00
+complete 1 2 => ok touched 3",
+    ),
 ];
 
 /// Three Reads, and a forged completion of the first that tells of entries never taken: the tail comes back to where the controller's head is,
 /// and it sees no entry.
-const FORGED_HEAD: [Row; 13] = [
-    Row::Sit(0),
-    Row::Begin(0, 0),
-    Row::Begin(0, 1),
-    Row::Begin(0, 2),
-    Row::Ring(1),
-    Row::Forge(
-        1,
-        0,
-        Forged {
-            sq_head: 3,
-            queue: 1,
-            cid: 0,
-        },
-        Ok(()),
+const FORGED_HEAD: [Part; 4] = [
+    Part::Sit,
+    Part::Steps(
+        "reserve 1 read 0 1 0+512 => q 1 cid 0 data 1 chain 0
+build 1 0 => ok
+submit 1 0 => ok
+reserve 1 read 0 1 0+512 => q 1 cid 1 data 1 chain 0
+build 1 1 => ok
+submit 1 1 => ok
+reserve 1 read 0 1 0+512 => q 1 cid 2 data 1 chain 0
+build 1 2 => ok
+submit 1 2 => ok
+ring 1 => ok
+forge 1 0 00000000000000000300010000000100 => ok
+reap 1 => done cid 0 status 0:00
+collect 1 0 => status 0:00
+release 1 0 => ok",
     ),
-    Row::Reap(1, 0, Status::SUCCESS),
-    Row::Collect(1, 0, Status::SUCCESS),
-    Row::Release(0, 1, 0),
-    Row::HasReceipts(0, &BELIEVED),
-    Row::Begin(0, 0),
-    Row::Ring(1),
-    Row::Fetch(1, Err(Refusal::Idle), &[]),
+    Part::HasReceipts(&BELIEVED),
+    Part::Steps(
+        "reserve 1 read 0 1 0+512 => q 1 cid 0 data 1 chain 0
+build 1 0 => ok
+submit 1 0 => ok
+ring 1 => ok
+fetch 1 => refused Idle",
+    ),
 ];
 
 /// A forged answer to a deletion: the page of the submission ring goes to another command, and the controller finds its slot out.
-const FORGED_DELETION: [Row; 12] = [
-    Row::Sit(0),
-    Row::Begin(0, 0),
-    Row::Ring(1),
-    Row::DeleteSq(1),
-    Row::Forge(
-        0,
-        0,
-        Forged {
-            sq_head: 0,
-            queue: 0,
-            cid: 0,
-        },
-        Ok(()),
+const FORGED_DELETION: [Part; 4] = [
+    Part::Sit,
+    Part::Steps(
+        "reserve 1 read 0 1 0+512 => q 1 cid 0 data 1 chain 0
+build 1 0 => ok
+submit 1 0 => ok
+ring 1 => ok
+delete_sq 1 => cid 0
+forge 0 0 00000000000000000000000000000100 => ok
+reap 0 => admin cid 0 status 0:00 dw0 0
+retire 1 => ok
+reserve 2 read 0 1 0+512 => q 2 cid 0 data 1 chain 0",
     ),
-    Row::ReapAdmin(0, Status::SUCCESS, 0),
-    Row::Retire(1, Ok(())),
-    Row::Reserve(2, Kind::Read, 0, Ok(0)),
-    Row::HasPage(2, 0, 2),
-    Row::Fetch(1, Err(Refusal::SlotOut), &[]),
-    Row::Cancel(2, 0),
-    Row::Fetch(1, Ok(0), &[2]),
+    Part::HasPage(2),
+    Part::Steps(
+        "fetch 1 => refused SlotOut
+cancel 2 0 => ok
+fetch 1 => cid 0 touched 2",
+    ),
 ];
 
 /// Each run with its configuration, and how many entries it leaves in the log.
-const RUNS: [(Config, &[Row], usize); 6] = [
+const RUNS: [(Config, &[Part], usize); 6] = [
     (USUAL, &THREE_FORGED, 8),
     (USUAL, &FORGED_IN_THE_WALK, 12),
     (USUAL, &FORGED_BEFORE_THE_FETCH, 14),

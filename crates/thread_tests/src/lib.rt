@@ -4,26 +4,24 @@
 #[cfg(test)]
 mod admin_rows;
 #[cfg(test)]
+mod closes;
+#[cfg(test)]
 mod closing;
 #[cfg(test)]
 mod crowd;
 #[cfg(test)]
 mod desk;
 #[cfg(test)]
-mod device;
-#[cfg(test)]
 mod forged_rows;
 #[cfg(test)]
-mod host;
+mod looks;
 #[cfg(test)]
-mod row;
+mod part;
 #[cfg(test)]
 mod rows;
 #[cfg(test)]
 mod runs;
 #[cfg(test)]
-mod seats;
+mod steps;
 #[cfg(test)]
 mod turned_away;
-#[cfg(test)]
-mod values;

@@ -3,7 +3,7 @@
 
 ghost use Rattle.std.specs.Prelude.{◌≡◌, vec_len, IfOk};
 
-use crate::desk::{USUAL, counts, see};
+use crate::looks::{USUAL, counts, see};
 use crate::runs::{Outcome, is_done, job, play};
 use driver_book::Report;
 use driver_threads::{Gate, GateClosed, Job, JobEnd, JobRefusal, Open, Point, RunFault};

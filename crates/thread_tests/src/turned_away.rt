@@ -3,7 +3,8 @@
 ghost use Rattle.std.specs.Prelude.{◌≡◌};
 ghost use Rattle.step_core.specs.Opening.{opening_of};
 
-use crate::desk::{Desk, USUAL, counts, end, opened, see};
+use crate::desk::{Desk, end, opened};
+use crate::looks::{USUAL, counts, see};
 use crate::runs::job;
 use block_image::Image;
 use driver_book::Driver;
