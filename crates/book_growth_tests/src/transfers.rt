@@ -24,6 +24,9 @@ release 1 0
 ",
     shows: "5 fetch cid 0 touched 2
 6 walk more touched -
+7 walk more touched 6
+8 walk more touched 4
+9 walk more touched 6
 10 walk end touched 5
 11 complete ok touched 3
 12 reap done cid 0 status 0:00
