@@ -12,7 +12,7 @@ const ABORTED: [Told; 3] = [
 ];
 
 /// Three Reads, and an abort of each: as the controller walks, when it has walked to the end, and before it fetches, which changes nothing.
-const ABORTS: [Part; 5] = [
+const ABORTS: &[Part] = &[
     Part::Sit,
     Part::Steps(
         "reserve 1 read 0 1 0+512 => q 1 cid 0 data 1 chain 0
@@ -73,7 +73,7 @@ release 1 2 => ok",
 
 #[test]
 fn commands_are_aborted(rt: HostRuntime) -> Result<(), Fail> {
-    run(&rt, rt.alloc(), USUAL, &ABORTS)
+    run(&rt, rt.alloc(), USUAL, ABORTS)
 }
 
 /// The receipts of the two Reads that the deletion ends.
@@ -84,7 +84,7 @@ const DELETED: [Told; 2] = [
 
 /// A queue is deleted while one command is walked, one waits to be fetched, and one is a draft. The deletion of its completion queue is
 /// refused at first, as its submission queue is about, and that of the submission queue is answered behind the command that was fetched.
-const DELETION: [Part; 11] = [
+const DELETION: &[Part] = &[
     Part::Sit,
     Part::Steps(
         "reserve 1 read 0 1 0+512 => q 1 cid 0 data 1 chain 0
@@ -143,5 +143,5 @@ reap 0 => admin cid 0 status 0:00 dw0 0",
 
 #[test]
 fn a_queue_is_deleted(rt: HostRuntime) -> Result<(), Fail> {
-    run(&rt, rt.alloc(), USUAL, &DELETION)
+    run(&rt, rt.alloc(), USUAL, DELETION)
 }

@@ -5,7 +5,7 @@ use entry_codec::Status;
 use std::test::Fail;
 
 /// A Write of one seat and a Read of another, of the same block.
-const WRITE_AND_READ: [Part; 24] = [
+const WRITE_AND_READ: &[Part] = &[
     Part::Sit,
     Part::Sit,
     Part::Steps("reserve 1 write 5 1 0+512 => q 1 cid 0 data 1 chain 0"),
@@ -55,14 +55,14 @@ gather 1 1 => AB*512",
 
 #[test]
 fn two_seats(rt: HostRuntime) -> Result<(), Fail> {
-    run(&rt, rt.alloc(), USUAL, &WRITE_AND_READ)
+    run(&rt, rt.alloc(), USUAL, WRITE_AND_READ)
 }
 
 /// The receipt of a Read that the deletion of its queue ends.
 const ENDED: [Told; 1] = [(0, 0, Some(Status::ABORTED_SQ_DELETION))];
 
 /// A queue ends with a command that was never fetched.
-const END_OF_A_QUEUE: [Part; 6] = [
+const END_OF_A_QUEUE: &[Part] = &[
     Part::Sit,
     Part::Steps(
         "reserve 1 read 0 1 0+512 => q 1 cid 0 data 1 chain 0
@@ -91,11 +91,11 @@ reap 0 => admin cid 0 status 0:00 dw0 0",
 
 #[test]
 fn a_queue_ends(rt: HostRuntime) -> Result<(), Fail> {
-    run(&rt, rt.alloc(), USUAL, &END_OF_A_QUEUE)
+    run(&rt, rt.alloc(), USUAL, END_OF_A_QUEUE)
 }
 
 /// A command that is aborted before it is fetched, a draft that is cancelled and one that is left over, and a forged entry.
-const GIVEN_UP: [Part; 4] = [
+const GIVEN_UP: &[Part] = &[
     Part::Sit,
     Part::Steps(
         "reserve 1 read 0 1 0+512 => q 1 cid 0 data 1 chain 0
@@ -117,5 +117,5 @@ reserve 1 write 2 1 0+512 => q 1 cid 1 data 1 chain 0",
 
 #[test]
 fn commands_are_given_up(rt: HostRuntime) -> Result<(), Fail> {
-    run(&rt, rt.alloc(), USUAL, &GIVEN_UP)
+    run(&rt, rt.alloc(), USUAL, GIVEN_UP)
 }

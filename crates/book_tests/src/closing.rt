@@ -20,7 +20,7 @@ use step_core::Config;
 const TWO: [Told; 2] = [(1, 0, Some(Status::SUCCESS)), (0, 0, Some(Status::SUCCESS))];
 
 /// Two seats with a command each, handed in the second first; and then none, as the receipts of the two are gone.
-const TWO_SEATS: [Part; 9] = [
+const TWO_SEATS: &[Part] = &[
     Part::Sit,
     Part::Sit,
     Part::Turn,
@@ -58,14 +58,14 @@ release 1 0 => ok",
 
 #[test]
 fn a_report_of_two_seats(rt: HostRuntime) -> Result<(), Fail> {
-    run(&rt, rt.alloc(), USUAL, &TWO_SEATS)
+    run(&rt, rt.alloc(), USUAL, TWO_SEATS)
 }
 
 /// The receipt of a Read that ended well.
 const ONE: [Told; 1] = [(0, 0, Some(Status::SUCCESS))];
 
 /// A Read that ends with success, and is released as one that did not: its receipt has the status that the world kept.
-const RELEASED_ANEW: [Part; 6] = [
+const RELEASED_ANEW: &[Part] = &[
     Part::Sit,
     Part::Steps(
         "reserve 1 read 0 1 0+512 => q 1 cid 0 data 1 chain 0
@@ -87,11 +87,11 @@ collect 1 0 => status 0:00",
 
 #[test]
 fn a_status_is_kept(rt: HostRuntime) -> Result<(), Fail> {
-    run(&rt, rt.alloc(), USUAL, &RELEASED_ANEW)
+    run(&rt, rt.alloc(), USUAL, RELEASED_ANEW)
 }
 
 /// A Read of a new seat, from its reservation to its release.
-const CARRIED_THROUGH: [Part; 2] = [
+const CARRIED_THROUGH: &[Part] = &[
     Part::Sit,
     Part::Steps(
         "reserve 1 read 0 1 0+512 => q 1 cid 0 data 1 chain 0
@@ -133,7 +133,7 @@ fn close_many<L: Driver, R: Abort>(
     let receipts = receipts(alloc, 40)?;
     let mut desk: Desk<L> = opened(rt, alloc, config, image, blank);
     for _ in 0..40 {
-        play(rt, &mut desk, &CARRIED_THROUGH)?;
+        play(rt, &mut desk, CARRIED_THROUGH)?;
     }
     close(rt, &mut desk, &receipts);
     Ok(())
@@ -150,7 +150,7 @@ fn many_seats(rt: HostRuntime) -> Result<(), Fail> {
 const OPEN: [Told; 1] = [(0, 0, None)];
 
 /// Two seats with a submitted command each, the second of which is lost: that comes before the commands that are outstanding.
-const LOST_RECEIPT: [Part; 9] = [
+const LOST_RECEIPT: &[Part] = &[
     Part::Sit,
     Part::Sit,
     Part::Turn,
@@ -172,11 +172,11 @@ submit 1 1 => ok",
 
 #[test]
 fn a_receipt_is_missing(rt: HostRuntime) -> Result<(), Fail> {
-    run(&rt, rt.alloc(), USUAL, &LOST_RECEIPT)
+    run(&rt, rt.alloc(), USUAL, LOST_RECEIPT)
 }
 
 /// A seat without receipts, which is lost.
-const LOST_SEAT: [Part; 3] = [
+const LOST_SEAT: &[Part] = &[
     Part::Sit,
     Part::Lose,
     Part::StayOpen(CloseFault::SeatOut, 0),
@@ -184,11 +184,11 @@ const LOST_SEAT: [Part; 3] = [
 
 #[test]
 fn a_seat_is_out(rt: HostRuntime) -> Result<(), Fail> {
-    run(&rt, rt.alloc(), USUAL, &LOST_SEAT)
+    run(&rt, rt.alloc(), USUAL, LOST_SEAT)
 }
 
 /// A command that was collected, and not released.
-const HELD_COMMAND: [Part; 3] = [
+const HELD_COMMAND: &[Part] = &[
     Part::Sit,
     Part::Steps(
         "reserve 1 read 0 1 0+512 => q 1 cid 0 data 1 chain 0
@@ -207,24 +207,24 @@ collect 1 0 => status 0:00",
 
 #[test]
 fn a_command_is_not_released(rt: HostRuntime) -> Result<(), Fail> {
-    run(&rt, rt.alloc(), USUAL, &HELD_COMMAND)
+    run(&rt, rt.alloc(), USUAL, HELD_COMMAND)
 }
 
 /// An admin command that was sent, and not reaped.
-const AWAITED_ANSWER: [Part; 2] = [
+const AWAITED_ANSWER: &[Part] = &[
     Part::Steps("delete_sq 1 => cid 0"),
     Part::StayOpen(CloseFault::StillOut, 0),
 ];
 
 #[test]
 fn an_admin_command_is_outstanding(rt: HostRuntime) -> Result<(), Fail> {
-    run(&rt, rt.alloc(), USUAL, &AWAITED_ANSWER)
+    run(&rt, rt.alloc(), USUAL, AWAITED_ANSWER)
 }
 
 /// A book of which nobody has a seat.
-const NO_SEATS: [Part; 1] = [Part::Close(&[])];
+const NO_SEATS: &[Part] = &[Part::Close(&[])];
 
 #[test]
 fn a_report_of_nothing(rt: HostRuntime) -> Result<(), Fail> {
-    run(&rt, rt.alloc(), USUAL, &NO_SEATS)
+    run(&rt, rt.alloc(), USUAL, NO_SEATS)
 }

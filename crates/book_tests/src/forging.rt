@@ -14,7 +14,7 @@ const TWO_QUEUES: Config = Config {
 };
 
 /// Forged entries of an unknown command, with a head outside the ring, and of another queue. Each is taken, and changes nothing else.
-const THREE_FORGED: [Part; 3] = [
+const THREE_FORGED: &[Part] = &[
     Part::Steps(
         "forge 1 0 00000000000000000000010003000100 => ok
 reap 1 => rejected UnknownId
@@ -31,11 +31,11 @@ forge 1 4 00000000000000000000000000000100 => refused NoSlot",
 
 #[test]
 fn forged_entries_are_rejected(rt: HostRuntime) -> Result<(), Fail> {
-    run(&rt, rt.alloc(), USUAL, &THREE_FORGED)
+    run(&rt, rt.alloc(), USUAL, THREE_FORGED)
 }
 
 /// A Read whose completion is forged while its list is walked: the walk finds its page out, and its own completion comes to nobody.
-const FORGED_IN_THE_WALK: [Part; 3] = [
+const FORGED_IN_THE_WALK: &[Part] = &[
     Part::Sit,
     Part::Steps(
         "reserve 1 read 0 1 0+512 => q 1 cid 0 data 1 chain 0
@@ -57,14 +57,14 @@ reap 1 => empty",
 
 #[test]
 fn a_walk_finds_its_page_out(rt: HostRuntime) -> Result<(), Fail> {
-    run(&rt, rt.alloc(), USUAL, &FORGED_IN_THE_WALK)
+    run(&rt, rt.alloc(), USUAL, FORGED_IN_THE_WALK)
 }
 
 /// The receipts of three Reads, once the host believes that the first ended.
 const BELIEVED: [Told; 3] = [(0, 0, Some(Status::SUCCESS)), (1, 1, None), (2, 2, None)];
 
 /// Three Reads, and a forged completion of the first that tells of no entry taken: the identifier is free again, and the ring still full.
-const FORGED_BEFORE_THE_FETCH: [Part; 6] = [
+const FORGED_BEFORE_THE_FETCH: &[Part] = &[
     Part::Sit,
     Part::Steps(
         "reserve 1 read 0 1 0+512 => q 1 cid 0 data 1 chain 0
@@ -96,12 +96,12 @@ cancel 1 0 => ok",
 
 #[test]
 fn the_ring_is_still_full(rt: HostRuntime) -> Result<(), Fail> {
-    run(&rt, rt.alloc(), USUAL, &FORGED_BEFORE_THE_FETCH)
+    run(&rt, rt.alloc(), USUAL, FORGED_BEFORE_THE_FETCH)
 }
 
 /// Three Reads, and a forged completion of the first, which the controller has: its identifier comes again, and is refused there while the
 /// first is about.
-const FORGED_BEHIND_THE_WALKS: [Part; 4] = [
+const FORGED_BEHIND_THE_WALKS: &[Part] = &[
     Part::Sit,
     Part::Steps(
         "reserve 1 read 0 1 0+512 => q 1 cid 0 data 1 chain 0
@@ -145,12 +145,12 @@ complete 1 2 => ok touched 3",
 
 #[test]
 fn an_identifier_comes_again(rt: HostRuntime) -> Result<(), Fail> {
-    run(&rt, rt.alloc(), USUAL, &FORGED_BEHIND_THE_WALKS)
+    run(&rt, rt.alloc(), USUAL, FORGED_BEHIND_THE_WALKS)
 }
 
 /// Three Reads, and a forged completion of the first that tells of entries never taken: the tail comes back to where the controller's head is,
 /// and it sees no entry.
-const FORGED_HEAD: [Part; 4] = [
+const FORGED_HEAD: &[Part] = &[
     Part::Sit,
     Part::Steps(
         "reserve 1 read 0 1 0+512 => q 1 cid 0 data 1 chain 0
@@ -180,11 +180,11 @@ fetch 1 => refused Idle",
 
 #[test]
 fn the_controller_sees_no_entry(rt: HostRuntime) -> Result<(), Fail> {
-    run(&rt, rt.alloc(), USUAL, &FORGED_HEAD)
+    run(&rt, rt.alloc(), USUAL, FORGED_HEAD)
 }
 
 /// A forged answer to a deletion: the page of the submission ring goes to another command, and the controller finds its slot out.
-const FORGED_DELETION: [Part; 4] = [
+const FORGED_DELETION: &[Part] = &[
     Part::Sit,
     Part::Steps(
         "reserve 1 read 0 1 0+512 => q 1 cid 0 data 1 chain 0
@@ -207,5 +207,5 @@ fetch 1 => cid 0 touched 2",
 
 #[test]
 fn a_slot_is_out(rt: HostRuntime) -> Result<(), Fail> {
-    run(&rt, rt.alloc(), TWO_QUEUES, &FORGED_DELETION)
+    run(&rt, rt.alloc(), TWO_QUEUES, FORGED_DELETION)
 }

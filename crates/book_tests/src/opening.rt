@@ -34,7 +34,7 @@ fn see_stop<L: Driver, R: Abort>(rt: &R, book: &mut Book<L>) {
 }
 
 /// Two seats, which are numbered in the order in which they are made.
-const TWO_SEATS: [Part; 4] = [
+const TWO_SEATS: &[Part] = &[
     Part::Sit,
     Part::HasReceipts(0, &[]),
     Part::Sit,
@@ -55,7 +55,7 @@ fn look<L: Driver, R: Abort>(
     requires opening { L.opening ≡ opening_of config image }
 {
     let mut desk: Desk<L> = opened(rt, alloc, config, image, blank);
-    play(rt, &mut desk, &TWO_SEATS)?;
+    play(rt, &mut desk, TWO_SEATS)?;
     see_stop(rt, &mut desk.book);
     see_new(rt, &desk.book);
     Ok(())

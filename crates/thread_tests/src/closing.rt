@@ -21,7 +21,7 @@ use std::test::Fail;
 use step_core::Config;
 
 /// Each of two seats submits once. One is kept back, then both are handed in too early, and at last in time.
-const KEPT_BACK: [Part; 13] = [
+const KEPT_BACK: &[Part] = &[
     Part::Sit,
     Part::Sit,
     Part::Turn,
@@ -65,11 +65,11 @@ collect 1 0 => status 0:00",
 
 #[test]
 fn a_seat_with_a_submission_is_missed(rt: HostRuntime) -> Result<(), Fail> {
-    run(&rt, rt.alloc(), USUAL, &KEPT_BACK, 19)
+    run(&rt, rt.alloc(), USUAL, KEPT_BACK, 19)
 }
 
 /// A seat that submitted nothing is kept back, and then handed in.
-const KEPT_BACK_IDLE: [Part; 4] = [
+const KEPT_BACK_IDLE: &[Part] = &[
     Part::Sit,
     Part::Sit,
     Part::KeepBack(CloseFault::SeatOut),
@@ -78,7 +78,7 @@ const KEPT_BACK_IDLE: [Part; 4] = [
 
 #[test]
 fn an_idle_seat_is_out(rt: HostRuntime) -> Result<(), Fail> {
-    run(&rt, rt.alloc(), USUAL, &KEPT_BACK_IDLE, 0)
+    run(&rt, rt.alloc(), USUAL, KEPT_BACK_IDLE, 0)
 }
 
 /// Whose some pages are: one of a queue, a free one, and one that is not there.

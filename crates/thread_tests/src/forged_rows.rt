@@ -15,7 +15,7 @@ const TWO_QUEUES: Config = Config {
 };
 
 /// Forged entries of an unknown command, with a head outside the ring, and of another queue. Each is taken, and changes nothing else.
-const THREE_FORGED: [Part; 2] = [
+const THREE_FORGED: &[Part] = &[
     Part::Steps(
         "forge 1 0 00000000000000000000010003000100 => ok
 reap 1 => rejected UnknownId
@@ -30,7 +30,7 @@ forge 1 4 00000000000000000000000000000100 => refused NoSlot",
 ];
 
 /// A Read whose completion is forged while its list is walked: the walk finds its page out, and its own completion comes to nobody.
-const FORGED_IN_THE_WALK: [Part; 3] = [
+const FORGED_IN_THE_WALK: &[Part] = &[
     Part::Sit,
     Part::Steps(
         "reserve 1 read 0 1 0+512 => q 1 cid 0 data 1 chain 0
@@ -54,7 +54,7 @@ reap 1 => empty",
 const BELIEVED: [Told; 3] = [(0, 0, Some(Status::SUCCESS)), (1, 1, None), (2, 2, None)];
 
 /// Three Reads, and a forged completion of the first that tells of no entry taken: the identifier is free again, and the ring still full.
-const FORGED_BEFORE_THE_FETCH: [Part; 6] = [
+const FORGED_BEFORE_THE_FETCH: &[Part] = &[
     Part::Sit,
     Part::Steps(
         "reserve 1 read 0 1 0+512 => q 1 cid 0 data 1 chain 0
@@ -86,7 +86,7 @@ cancel 1 0 => ok",
 
 /// Three Reads, and a forged completion of the first, which the controller has: its identifier comes again, and is refused there while the
 /// first is about.
-const FORGED_BEHIND_THE_WALKS: [Part; 4] = [
+const FORGED_BEHIND_THE_WALKS: &[Part] = &[
     Part::Sit,
     Part::Steps(
         "reserve 1 read 0 1 0+512 => q 1 cid 0 data 1 chain 0
@@ -130,7 +130,7 @@ complete 1 2 => ok touched 3",
 
 /// Three Reads, and a forged completion of the first that tells of entries never taken: the tail comes back to where the controller's head is,
 /// and it sees no entry.
-const FORGED_HEAD: [Part; 4] = [
+const FORGED_HEAD: &[Part] = &[
     Part::Sit,
     Part::Steps(
         "reserve 1 read 0 1 0+512 => q 1 cid 0 data 1 chain 0
@@ -159,7 +159,7 @@ fetch 1 => refused Idle",
 ];
 
 /// A forged answer to a deletion: the page of the submission ring goes to another command, and the controller finds its slot out.
-const FORGED_DELETION: [Part; 4] = [
+const FORGED_DELETION: &[Part] = &[
     Part::Sit,
     Part::Steps(
         "reserve 1 read 0 1 0+512 => q 1 cid 0 data 1 chain 0
@@ -182,12 +182,12 @@ fetch 1 => cid 0 touched 2",
 
 /// Each run with its configuration, and how many entries it leaves in the log.
 const RUNS: [(Config, &[Part], usize); 6] = [
-    (USUAL, &THREE_FORGED, 8),
-    (USUAL, &FORGED_IN_THE_WALK, 12),
-    (USUAL, &FORGED_BEFORE_THE_FETCH, 14),
-    (USUAL, &FORGED_BEHIND_THE_WALKS, 29),
-    (USUAL, &FORGED_HEAD, 15),
-    (TWO_QUEUES, &FORGED_DELETION, 11),
+    (USUAL, THREE_FORGED, 8),
+    (USUAL, FORGED_IN_THE_WALK, 12),
+    (USUAL, FORGED_BEFORE_THE_FETCH, 14),
+    (USUAL, FORGED_BEHIND_THE_WALKS, 29),
+    (USUAL, FORGED_HEAD, 15),
+    (TWO_QUEUES, FORGED_DELETION, 11),
 ];
 
 #[test]
