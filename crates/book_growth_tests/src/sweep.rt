@@ -87,7 +87,7 @@ fn look_at(rt: &impl Abort, alloc: Global, row: Row) -> Result<(), Fail> {
     };
     let mut lines = printed.as_str().lines();
     for wanted in row.shows.lines() {
-        assert!(rt; lines.any(|line| line == wanted), "{wanted}");
+        assert!(rt; lines.any(|line| line == wanted));
     }
     Ok(())
 }

@@ -1,7 +1,7 @@
 //! Runs whose jobs are told one by one: two submitters, with gates and without; queues of their own; jobs that are refused; a closed gate;
 //! a command of the longest list.
 
-ghost use Rattle.std.specs.Prelude.{◌≡◌, vec_len, IfOk};
+ghost use Rattle.std.specs.Prelude.{◌≡◌, ◌≤◌, vec_len, IfOk};
 
 use crate::looks::{USUAL, counts, see};
 use crate::runs::{Outcome, is_done, job, play};
