@@ -9,8 +9,10 @@ use std::sync::Wait;
 
 /// A report counts so many submissions as its receipts, 12 free pages and 4 of queues, and each seat in it has these receipts.
 fn see_report<R: Abort>(rt: &R, report: &Report, want: &[&[Told]]) {
-    let submissions: usize = want.iter().map(|told| told.len()).sum();
-    see(rt, &report.submissions, &(submissions as u64));
+    let submissions = want
+        .iter()
+        .fold(0, |sum: u64, told| sum.saturating_add(told.len() as u64));
+    see(rt, &report.submissions, &submissions);
     see(rt, &report.counts, &counts(12, 4, 0));
     let lists = report.receipts.as_slice();
     see(rt, &lists.len(), &want.len());
