@@ -6,10 +6,16 @@ mod admin;
 #[cfg(test)]
 mod calls;
 #[cfg(test)]
+mod closes;
+#[cfg(test)]
 mod closing;
 #[cfg(test)]
 mod forging;
 #[cfg(test)]
-mod growths;
+mod looks;
 #[cfg(test)]
-mod row;
+mod opening;
+#[cfg(test)]
+mod part;
+#[cfg(test)]
+mod steps;

@@ -1,6 +1,6 @@
 //! Sixteen submitters over a pool so small that they wait for pages and for identifiers.
 
-use crate::calls::counts;
+use crate::looks::{counts, see};
 use crate::runs::{Outcome, is_done, job, play};
 use driver_threads::{Job, JobEnd, Open};
 use entry_codec::Status;
@@ -31,17 +31,23 @@ fn blocks(worker: u8, round: u8) -> [u8; 1536] {
     bytes
 }
 
-/// A submitter's jobs: in each round a Write of three blocks, a Read of them, a Compare that finds them equal, and one that does not.
-fn rounds(alloc: Global, worker: u8) -> Result<Vec<Job>, AllocError> {
+/// The jobs of one round: a Write of three blocks, a Read of them, a Compare that finds them equal, and one that does not.
+fn put_round(alloc: Global, jobs: &mut Vec<Job>, worker: u8, round: u8) -> Result<(), AllocError> {
     let slba = 3 * u64::from(worker);
+    let bytes = blocks(worker, round);
+    let other = blocks(worker, round.wrapping_add(1));
+    jobs.push(job(alloc, 1, Kind::Write, slba, 3, &bytes)?)?;
+    jobs.push(job(alloc, 1, Kind::Read, slba, 3, &[])?)?;
+    jobs.push(job(alloc, 1, Kind::Compare, slba, 3, &bytes)?)?;
+    jobs.push(job(alloc, 1, Kind::Compare, slba, 3, &other)?)?;
+    Ok(())
+}
+
+/// A submitter's jobs.
+fn rounds(alloc: Global, worker: u8) -> Result<Vec<Job>, AllocError> {
     let mut jobs = Vec::new(alloc);
     for round in 0..ROUNDS {
-        let bytes = blocks(worker, round);
-        let other = blocks(worker, round.wrapping_add(1));
-        jobs.push(job(alloc, 1, Kind::Write, slba, 3, &bytes)?)?;
-        jobs.push(job(alloc, 1, Kind::Read, slba, 3, &[])?)?;
-        jobs.push(job(alloc, 1, Kind::Compare, slba, 3, &bytes)?)?;
-        jobs.push(job(alloc, 1, Kind::Compare, slba, 3, &other)?)?;
+        put_round(alloc, &mut jobs, worker, round)?;
     }
     Ok(jobs)
 }
@@ -66,30 +72,41 @@ fn are_rounds(ends: &[JobEnd], worker: u8) -> bool {
             .all(|(ends, round)| is_round(ends, worker, round))
 }
 
-/// What the submitters must leave, whatever the schedule: eight entries of the log for each job, and the steps of its walk, which takes the
-/// link and the three descriptors of its segment and moves three pages. Waiting left no entry.
-fn check<R: Abort>(rt: &R, outcome: &Outcome) {
+/// Sees that each of the sixteen submitters' rounds came to their ends.
+fn see_ends<R: Abort>(rt: &R, outcome: &Outcome) {
     let ends: &[Vec<JobEnd>] = outcome.jobs.as_slice();
-    assert_eq!(rt; ends.len(), 16);
+    see(rt, &ends.len(), &16);
     for (list, worker) in ends.iter().zip(0..16u8) {
         assert!(rt; are_rounds(list, worker));
     }
+}
+
+/// What the submitters must leave, whatever the schedule: eight entries of the log for each job, and the steps of its walk, which takes the
+/// link and the three descriptors of its segment and moves three pages. Waiting left no entry.
+fn see_outcome<R: Abort>(rt: &R, outcome: &Outcome) {
     let jobs = 16 * 4 * usize::from(ROUNDS);
-    assert_eq!(rt; outcome.report.submissions, jobs as u64);
-    assert_eq!(rt; outcome.report.counts, counts(8, 4, 0));
-    assert_eq!(rt; outcome.refusals, 0);
-    assert_eq!(rt; outcome.entries, jobs * (8 + 7));
+    see(rt, &outcome.report.submissions, &(jobs as u64));
+    see(rt, &outcome.report.counts, &counts(8, 4, 0));
+    see(rt, &outcome.refusals, &0);
+    see(rt, &outcome.entries, &(jobs * (8 + 7)));
+}
+
+/// The jobs of sixteen submitters.
+fn lists(alloc: Global) -> Result<Vec<Vec<Job>>, AllocError> {
+    let mut lists = Vec::new(alloc);
+    for worker in 0..16u8 {
+        lists.push(rounds(alloc, worker)?)?;
+    }
+    Ok(lists)
 }
 
 #[test]
 fn sixteen_submitters_wait_for_pages_and_identifiers(rt: HostRuntime) -> Result<(), Fail> {
     let alloc = rt.alloc();
-    let mut jobs = Vec::new(alloc);
-    for worker in 0..16u8 {
-        jobs.push(rounds(alloc, worker)?)?;
-    }
+    let jobs = lists(alloc)?;
     assert_eq!(rt; jobs.len(), 16);
     let outcome = play(&rt, alloc, SMALL, 64, jobs, &Open)?;
-    check(&rt, &outcome);
+    see_ends(&rt, &outcome);
+    see_outcome(&rt, &outcome);
     Ok(())
 }

@@ -4,18 +4,24 @@
 #[cfg(test)]
 mod admin_rows;
 #[cfg(test)]
-mod calls;
+mod closes;
 #[cfg(test)]
 mod closing;
 #[cfg(test)]
 mod crowd;
 #[cfg(test)]
+mod desk;
+#[cfg(test)]
 mod forged_rows;
 #[cfg(test)]
-mod row;
+mod looks;
+#[cfg(test)]
+mod part;
 #[cfg(test)]
 mod rows;
 #[cfg(test)]
 mod runs;
+#[cfg(test)]
+mod steps;
 #[cfg(test)]
 mod turned_away;

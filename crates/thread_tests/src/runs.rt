@@ -4,13 +4,13 @@ ghost use Rattle.std.specs.Prelude.{◌≡◌, ◌≤◌, vec_len};
 ghost use Rattle.step_core.specs.Opening.{opening_of};
 
 use block_image::Image;
-use driver_book::{Book, Driver, ReportIn};
-use driver_threads::{Gate, Job, JobEnd, JobEndIn, JobEnds, JobIn, Ran, RunFault, run_threads};
+use driver_book::{Book, Driver, Report};
+use driver_threads::{Gate, Job, JobEnd, JobEnds, Ran, RunFault, run_threads};
 use entry_codec::Status;
 use io_commands::{Kind, Piece, Pieces, Request};
 use page_ledger::Owner;
 use page_memory::PageNo;
-use std::alloc::{AllocError, Allocator, Global};
+use std::alloc::{AllocError, Global};
 use std::marker::Brand;
 use std::sync::Wait;
 use std::sync::ledger::Blank;
@@ -19,11 +19,11 @@ use step_core::{Bytes, Config, Reply};
 
 /// What a run leaves.
 #[derive(Drop)]
-pub(crate) struct Outcome<A: Allocator = Global> {
-    pub(crate) report: ReportIn<A>,
-    pub(crate) jobs: JobEnds<A>,
+pub(crate) struct Outcome {
+    pub(crate) report: Report,
+    pub(crate) jobs: JobEnds,
     /// Whose each page is.
-    pub(crate) owners: Vec<Owner, A>,
+    pub(crate) owners: Vec<Owner>,
     /// How many entries the log has.
     pub(crate) entries: usize,
     /// How many of them are refusals.
@@ -31,10 +31,7 @@ pub(crate) struct Outcome<A: Allocator = Global> {
 }
 
 /// Whose each page is.
-fn owners_of<L: Driver, A: Allocator + Copy>(
-    alloc: A,
-    book: &Book<L, A>,
-) -> Result<Vec<Owner, A>, RunFault> {
+fn owners_of<L: Driver>(alloc: Global, book: &Book<L>) -> Result<Vec<Owner>, RunFault> {
     let mut owners = Vec::new(alloc);
     for p in 0..book.pages() {
         if owners.push(book.owner(PageNo(p))).is_err() {
@@ -44,21 +41,24 @@ fn owners_of<L: Driver, A: Allocator + Copy>(
     Ok(owners)
 }
 
+/// How many entries of a book's log are refusals.
+fn refusals_of<L: Driver>(book: &Book<L>) -> usize {
+    book.log()
+        .iter()
+        .filter(|entry| matches!(entry.answer, Reply::Refused { .. }))
+        .count()
+}
+
 /// Runs jobs over a new book.
-fn outcome_of<
-    L: Driver + Send + Sync,
-    A: Allocator + Copy + Send + Sync,
-    G: Gate + Sync,
-    R: Threads + Wait + Sync,
->(
+fn outcome_of<L: Driver + Send + Sync, G: Gate + Sync, R: Threads + Wait + Sync>(
     rt: &R,
-    alloc: A,
+    alloc: Global,
     config: Config,
-    image: Image<A>,
-    jobs: Vec<Vec<JobIn<A>, A>, A>,
+    image: Image,
+    jobs: Vec<Vec<Job>>,
     gate: &G,
     blank: Blank,
-) -> Result<Outcome<A>, RunFault>
+) -> Result<Outcome, RunFault>
     requires name { blank.name ≡ L.name }
     requires parts { blank.parts ≡ L.parts }
     requires number { blank.parts ≡ 65536 }
@@ -66,56 +66,37 @@ fn outcome_of<
     requires some { 1 ≤ vec_len jobs }
     requires few { vec_len jobs ≤ 16 }
 {
-    let ran: Ran<L, A> = run_threads(rt, alloc, config, image, jobs, gate, blank)?;
-    let owners = owners_of(alloc, &ran.book)?;
-    let entries = ran.book.log().len();
-    let refusals = ran
-        .book
-        .log()
-        .iter()
-        .filter(|entry| matches!(entry.answer, Reply::Refused { .. }))
-        .count();
-    let Ran {
-        report,
-        jobs,
-        book: _,
-    } = ran;
+    let ran: Ran<L> = run_threads(rt, alloc, config, image, jobs, gate, blank)?;
+    let Ran { report, jobs, book } = ran;
     Ok(Outcome {
         report,
         jobs,
-        owners,
-        entries,
-        refusals,
+        owners: owners_of(alloc, &book)?,
+        entries: book.log().len(),
+        refusals: refusals_of(&book),
     })
 }
 
 /// Runs jobs over a new book, whose image has so many zero blocks.
-pub(crate) fn play<A: Allocator + Copy + Send + Sync, G: Gate + Sync, R: Threads + Wait + Sync>(
+pub(crate) fn play<G: Gate + Sync, R: Threads + Wait + Sync>(
     rt: &R,
-    alloc: A,
+    alloc: Global,
     config: Config,
     blocks: u32,
-    jobs: Vec<Vec<JobIn<A>, A>, A>,
+    jobs: Vec<Vec<Job>>,
     gate: &G,
-) -> Result<Outcome<A>, RunFault>
+) -> Result<Outcome, RunFault>
     requires some { 1 ≤ vec_len jobs }
     requires few { vec_len jobs ≤ 16 }
 {
     let Ok(image) = Image::zeroed(alloc, blocks) else {
         return Err(RunFault::Memory);
     };
-    outcome_of::<Brand, A, G, R>(rt, alloc, config, image, jobs, gate, Blank::new(65536))
+    outcome_of::<Brand, G, R>(rt, alloc, config, image, jobs, gate, Blank::new(65536))
 }
 
-/// A job of so many blocks, each in a piece of its own.
-pub(crate) fn job<A: Allocator + Copy>(
-    alloc: A,
-    q: u16,
-    kind: Kind,
-    slba: u64,
-    blocks: u32,
-    bytes: &[u8],
-) -> Result<JobIn<A>, AllocError> {
+/// So many pieces of one block each.
+fn pieces(alloc: Global, blocks: u32) -> Result<Pieces, AllocError> {
     let mut pieces = Vec::new(alloc);
     for _ in 0..blocks {
         pieces.push(Piece::Data {
@@ -123,20 +104,32 @@ pub(crate) fn job<A: Allocator + Copy>(
             len: 512,
         })?;
     }
+    Ok(Pieces::from_vec(pieces))
+}
+
+/// A job of so many blocks, each in a piece of its own.
+pub(crate) fn job(
+    alloc: Global,
+    q: u16,
+    kind: Kind,
+    slba: u64,
+    blocks: u32,
+    bytes: &[u8],
+) -> Result<Job, AllocError> {
     Ok(Job {
         q,
         request: Request {
             kind,
             slba,
             blocks,
-            pieces: Pieces::from_vec(pieces),
+            pieces: pieces(alloc, blocks)?,
         },
         bytes: Bytes::from_vec(Vec::from_slice(alloc, bytes)?),
     })
 }
 
 /// Whether a job was carried through, with this status and these bytes.
-pub(crate) fn is_done<A: Allocator>(end: &JobEndIn<A>, status: Status, bytes: &[u8]) -> bool {
+pub(crate) fn is_done(end: &JobEnd, status: Status, bytes: &[u8]) -> bool {
     match end {
         JobEnd::Done {
             status: told,

@@ -3,7 +3,8 @@
 ghost use Rattle.std.specs.Prelude.{◌≡◌};
 ghost use Rattle.step_core.specs.Opening.{opening_of};
 
-use crate::calls::{USUAL, counts, opened};
+use crate::desk::{Desk, end, opened};
+use crate::looks::{USUAL, counts, see};
 use crate::runs::job;
 use block_image::Image;
 use driver_book::Driver;
@@ -29,7 +30,27 @@ fn worked<L: Driver, R: Abort + Wait>(rt: &R, shared: &Shared<L>, alloc: Global)
     submitter(rt, alloc, shared, &Open, 0, jobs)
 }
 
-/// A job on a queue that is being deleted is refused, and leaves nothing. Workers that are told to stop carry nothing through.
+/// A job on a queue that is being deleted is refused, and leaves no receipt.
+fn see_refused<L: Driver, R: Abort + Wait>(rt: &R, shared: &Shared<L>, alloc: Global) {
+    see(rt, &shared.delete_sq(rt, 1), &Ok(0));
+    let refused = worked(rt, shared, alloc);
+    match refused.ends.as_slice() {
+        [JobEnd::Refused(why)] => see(rt, why, &JobRefusal::QueueGone),
+        _ => panic!(rt; "one end, a refusal"),
+    }
+    assert!(rt; refused.seat.is_some_and(|seat| seat.receipts().is_empty()));
+}
+
+/// Workers that are told to stop carry nothing through.
+fn see_stopped<L: Driver, R: Abort + Wait>(rt: &R, shared: &Shared<L>, alloc: Global) {
+    shared.stop(rt);
+    let stopped = worked(rt, shared, alloc);
+    assert!(rt; stopped.ends.is_empty() && stopped.seat.is_some());
+    assert!(rt; !stopped.closed && !stopped.short);
+    assert!(rt; poller(rt, shared).is_ok() && controller(rt, shared).is_ok());
+}
+
+/// Workers whose queue is being deleted, and that are told to stop: the log has one entry, that of the deletion.
 fn turn_away<L: Driver, R: Abort + Wait>(
     rt: &R,
     alloc: Global,
@@ -42,21 +63,11 @@ fn turn_away<L: Driver, R: Abort + Wait>(
     requires number { blank.parts ≡ 65536 }
     requires opening { L.opening ≡ opening_of config image }
 {
-    let shared: Shared<L> = Shared::new(opened(rt, alloc, config, image, blank));
-    assert_eq!(rt; shared.delete_sq(rt, 1), Ok(0));
-    let refused = worked(rt, &shared, alloc);
-    match refused.ends.as_slice() {
-        [JobEnd::Refused(why)] => assert_eq!(rt; *why, JobRefusal::QueueGone),
-        _ => panic!(rt; "one end, a refusal"),
-    }
-    assert!(rt; refused.seat.is_some_and(|seat| seat.receipts().is_empty()));
-    shared.stop(rt);
-    let stopped = worked(rt, &shared, alloc);
-    assert!(rt; stopped.ends.is_empty() && stopped.seat.is_some());
-    assert!(rt; !stopped.closed && !stopped.short);
-    assert!(rt; poller(rt, &shared).is_ok() && controller(rt, &shared).is_ok());
-    assert_eq!(rt; shared.counts(rt), counts(12, 4, 0));
-    assert_eq!(rt; shared.end().log().len(), 1);
+    let desk: Desk<L> = opened(rt, alloc, config, image, blank);
+    see_refused(rt, &desk.shared, alloc);
+    see_stopped(rt, &desk.shared, alloc);
+    see(rt, &desk.shared.counts(rt), &counts(12, 4, 0));
+    see(rt, &end(desk), &1);
 }
 
 #[test]

@@ -1,0 +1,123 @@
+//! What a book shows without a step, and that one which is not opened gives back what it was made of.
+
+ghost use Rattle.std.specs.Prelude.{◌≡◌};
+ghost use Rattle.step_core.specs.Opening.{opening_of};
+
+use crate::looks::see;
+use crate::part::{Part, USUAL, counts, opened, play};
+use block_image::Image;
+use book_desk::Desk;
+use driver_book::*;
+use page_ledger::Owner;
+use page_memory::PageNo;
+use std::alloc::Global;
+use std::marker::Brand;
+use std::process::Abort;
+use std::sync::ledger::Blank;
+use std::test::Fail;
+use step_core::{Config, OpenRefusal};
+
+/// A new book has 16 pages, of which 12 are free, 4 are of queues, and page 4 is free, and its log is empty.
+fn see_new<L: Driver, R: Abort>(rt: &R, book: &Book<L>) {
+    see(rt, &book.pages(), &16);
+    see(rt, &book.owner(PageNo(4)), &Owner::Free);
+    see(rt, &book.counts(), &counts(12, 4, 0));
+    book.check();
+    assert!(rt; book.log().is_empty());
+}
+
+/// A book tells that it is stopped once it is told so.
+fn see_stop<L: Driver, R: Abort>(rt: &R, book: &mut Book<L>) {
+    assert!(rt; !book.stopping());
+    book.stop();
+    assert!(rt; book.stopping());
+}
+
+/// Two seats, which are numbered in the order in which they are made.
+const TWO_SEATS: &[Part] = &[
+    Part::Sit,
+    Part::HasReceipts(0, &[]),
+    Part::Sit,
+    Part::HasReceipts(1, &[]),
+];
+
+/// What a book shows, and what it is told, without a step.
+fn look<L: Driver, R: Abort>(
+    rt: &R,
+    alloc: Global,
+    config: Config,
+    image: Image,
+    blank: Blank,
+) -> Result<(), Fail>
+    requires name { blank.name ≡ L.name }
+    requires parts { blank.parts ≡ L.parts }
+    requires number { blank.parts ≡ 65536 }
+    requires opening { L.opening ≡ opening_of config image }
+{
+    let mut desk: Desk<L> = opened(rt, alloc, config, image, blank);
+    play(rt, &mut desk, TWO_SEATS)?;
+    see_stop(rt, &mut desk.book);
+    see_new(rt, &desk.book);
+    Ok(())
+}
+
+/// A book that is not opened: why, and the image and the ledger, which come back.
+fn refused<K: Driver, R: Abort>(
+    rt: &R,
+    alloc: Global,
+    wrong: Config,
+    image: Image,
+    blank: Blank,
+) -> BookRefused
+    requires name { blank.name ≡ K.name }
+    requires parts { blank.parts ≡ K.parts }
+    requires number { blank.parts ≡ 65536 }
+    requires opening { K.opening ≡ opening_of wrong image }
+    ensures image { result.image ≡ image }
+    ensures blank { result.blank ≡ blank }
+{
+    match Book::<K>::open(alloc, wrong, image, blank) {
+        Ok(_) => panic!(rt; "it was opened"),
+        Err(refused) => refused,
+    }
+}
+
+/// A book that is not opened gives back the image and the ledger, with which another one opens.
+fn open_again<K: Driver, L: Driver, R: Abort>(
+    rt: &R,
+    alloc: Global,
+    wrong: Config,
+    config: Config,
+    image: Image,
+    blank: Blank,
+)
+    requires wrong_name { blank.name ≡ K.name }
+    requires wrong_parts { blank.parts ≡ K.parts }
+    requires wrong_opening { K.opening ≡ opening_of wrong image }
+    requires name { blank.name ≡ L.name }
+    requires parts { blank.parts ≡ L.parts }
+    requires number { blank.parts ≡ 65536 }
+    requires opening { L.opening ≡ opening_of config image }
+{
+    let refused = refused::<K, R>(rt, alloc, wrong, image, blank);
+    see(rt, &refused.why, &OpenRefusal::BadConfig);
+    let desk: Desk<L> = opened(rt, alloc, config, refused.image, refused.blank);
+    see(rt, &desk.book.counts(), &counts(12, 4, 0));
+}
+
+#[test]
+fn a_book_shows_itself(rt: HostRuntime) -> Result<(), Fail> {
+    let alloc = rt.alloc();
+    let image = Image::zeroed(alloc, 64)?;
+    look::<Brand, HostRuntime>(&rt, alloc, USUAL, image, Blank::new(65536))
+}
+
+#[test]
+fn a_book_is_not_opened(rt: HostRuntime) -> Result<(), Fail> {
+    let alloc = rt.alloc();
+    let image = Image::zeroed(alloc, 64)?;
+    let small = Config { pages: 7, ..USUAL };
+    let blank = Blank::new(65536);
+    open_again::<Brand, Brand, HostRuntime>(&rt, alloc, small, USUAL, image, blank);
+    Ok(())
+}

@@ -1,0 +1,63 @@
+//! Steps of a script at a desk, each with what it must answer.
+
+use book_desk::Desk;
+use driver_book::*;
+use script_cli::{Line, Verb, append_reply, read_script};
+use std::alloc::Global;
+use std::process::Abort;
+use std::test::Fail;
+use step_core::{Reply, Step};
+
+/// The step of a line.
+fn step_of(alloc: Global, line: &str) -> Result<Step, Fail> {
+    let Ok(script) = read_script(alloc, line.as_bytes()) else {
+        return Err(Fail::from("no script"));
+    };
+    for numbered in script.into_lines() {
+        if let Line::Step(step) = numbered.line {
+            return Ok(step);
+        }
+    }
+    Err(Fail::from("no step"))
+}
+
+/// A refused step has touched no page.
+fn see_untouched<R: Abort>(rt: &R, reply: &Reply) {
+    if let Reply::Refused { why: _, touched } = reply {
+        assert!(rt; touched.pages().is_empty());
+    }
+}
+
+/// Does the step of a line, and sees that it answers so.
+fn play_step<L: Driver, R: Abort>(
+    rt: &R,
+    desk: &mut Desk<L>,
+    line: &str,
+    wanted: &str,
+) -> Result<(), Fail> {
+    let step = step_of(desk.alloc, line)?;
+    let verb = Verb::of(&step);
+    let reply = desk.step(step)?;
+    see_untouched(rt, &reply);
+    let mut text = String::new(desk.alloc);
+    append_reply(&mut text, 1, verb, &reply)?;
+    let name = verb.name();
+    let wanted = format!(in desk.alloc; "1 {name} {wanted}\n")?;
+    assert!(rt; text == wanted, "{line}: {text}");
+    Ok(())
+}
+
+/// Does the steps of lines, and sees that each answers as stands behind its arrow.
+pub(crate) fn play_steps<L: Driver, R: Abort>(
+    rt: &R,
+    desk: &mut Desk<L>,
+    lines: &str,
+) -> Result<(), Fail> {
+    for line in lines.lines() {
+        match line.split_once(" => ") {
+            Some((step, wanted)) => play_step(rt, desk, step, wanted)?,
+            None => panic!(rt; "{line}: it has no arrow"),
+        }
+    }
+    Ok(())
+}
