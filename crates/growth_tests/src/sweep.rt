@@ -246,6 +246,8 @@ fn takes_no_memory(step: &Step) -> bool {
             | Step::Abort { .. }
             | Step::DeleteSq { .. }
             | Step::DeleteCq { .. }
+            | Step::CreateCq { .. }
+            | Step::CreateSq { .. }
     )
 }
 

@@ -35,6 +35,7 @@ pub mod ReapSteps
 pub mod Retired
 pub mod Sending
 pub mod SendChecks
+pub mod Creating
 pub mod Calls
 pub mod Changing
 pub mod Sweeping

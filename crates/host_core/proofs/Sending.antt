@@ -6,14 +6,14 @@ use Rattle.std.proofs.lemmas.Bool.{or_parts, not-false}
 use Rattle.std.proofs.lemmas.Option.{slice_get-map}
 use Rattle.admin_commands.specs.Entries.{admin_entry}
 use Rattle.admin_commands.specs.declared.AdminKind.{AdminKind}
-use Rattle.admin_commands.specs.declared.AdminKind.TheVariants.{Abort, DeleteSq, DeleteCq}
+use Rattle.admin_commands.specs.declared.AdminKind.TheVariants.{Abort, DeleteSq, DeleteCq, CreateCq, CreateSq}
 use Rattle.entry_codec.specs.Submission.{submission_bytes, FitsSubmission}
 use Rattle.entry_codec.specs.declared.submission.SubEntry.{SubEntry}
 use Rattle.machine_model.specs.After as a
 use Rattle.machine_model.specs.After.{change}
 use Rattle.machine_model.specs.Events as events
 use Rattle.machine_model.specs.Proper.{IsProper}
-use Rattle.machine_model.specs.Refusals.{in_state, is_deleting, no_identifier, no_io_queue, queue_full, refusal_of, has_sq}
+use Rattle.machine_model.specs.Refusals.{in_state, is_deleting, no_identifier, no_io_queue, queue_full, refusal_of, has_sq, in_service}
 use Rattle.machine_model.specs.State.{HostQueue, State}
 use Rattle.machine_model.specs.Step.{Answers, IsController, IsNewIdentifier, Refuses, Step}
 use Rattle.machine_model.specs.declared.words.Refusal.{Refusal}
@@ -23,7 +23,7 @@ use Rattle.machine_model.proofs.Refused.{first_fails}
 use Rattle.host_core.specs.Commands.{with_claim}
 use Rattle.host_core.specs.Exact.{Exactly}
 use Rattle.host_core.specs.Posting.{CanPost, posted, tail_place, with_tail_moved}
-use Rattle.host_core.specs.Sending.{CanSend, Sends, asked, noted, record_of_admin, sending, sent}
+use Rattle.host_core.specs.Sending.{CanSend, Sends, asked, grants_none, noted, record_of_admin, sending, sent}
 use Rattle.host_core.specs.Tables.{Tables, state_of, host_queue_of}
 use Rattle.host_core.specs.Whole.{ClaimsIdentifiers, IsQueue, IsRecord, IsWhole, TellsCommand, TellsQueue}
 use Rattle.host_core.specs.Rows.{Queue}
@@ -38,7 +38,7 @@ use Rattle.host_core.proofs.QueueLists.{each-change, submission_page-in}
 use Rattle.host_core.proofs.Settled.{Settled, settled-of, settled-state, settled-with, whole-of}
 use Rattle.host_core.proofs.Spared.{claims_keep_queue, claims_keep_tells, each_claimed}
 use Rattle.host_core.proofs.Steps.{host_step, length-change, sound_after}
-use Rattle.machine_model.proofs.Halves.{live_has_sq}
+use Rattle.machine_model.proofs.Halves.{live_has_sq, service_has_sq}
 
 -- The first of a list, and a change of it
 
@@ -154,12 +154,14 @@ abbrev AsksOf : AdminKind → Tables → Type 0
 AsksOf (Abort q cid) u = Unit {0}
 AsksOf (DeleteSq q) u = (x : Queue) → slice_get u.queues q ≡ Some x → has_sq x.state ≡ true
 AsksOf (DeleteCq q) u = Unit {0}
+AsksOf (CreateCq q n base) u = Unit {0}
+AsksOf (CreateSq q n base) u = Unit {0}
 
 has-half : (t : Tables) (q : ℕ) → refusal_of (state_of t) (events.DeleteSq q) ≡ None → (x : Queue) → slice_get t.queues q ≡ Some x → has_sq x.state ≡ true
-has-half t q none x at =
-    sym (ap (λ (o : Option HostQueue). option_map_or (λ (queue : HostQueue). has_sq queue.state) o false) (slice_get-map host_queue_of t.queues q ∙ ap (option_map host_queue_of) at))
-    ∙ not-false _ (or_parts (q == 0) (not (in_state has_sq s q))
-    (first_fails (no_io_queue s q) refusal.NoQueue ((in_state is_deleting s q, refusal.WrongState) ∷ (no_identifier s 0, refusal.NoIdentifier) ∷ (queue_full s 0, refusal.QueueFull) ∷ []) none)).1
+has-half t q none x at = service_has_sq x.state
+    (sym (ap (λ (o : Option HostQueue). option_map_or (λ (queue : HostQueue). in_service queue.state) o false) (slice_get-map host_queue_of t.queues q ∙ ap (option_map host_queue_of) at))
+    ∙ not-false _ (or_parts (q == 0) (not (in_state in_service s q))
+    (first_fails (no_io_queue s q) refusal.NoQueue ((in_state is_deleting s q, refusal.WrongState) ∷ (no_identifier s 0, refusal.NoIdentifier) ∷ (queue_full s 0, refusal.QueueFull) ∷ []) none)).1)
   where
     s : State
     s = state_of t
@@ -174,53 +176,69 @@ asks-sent t (DeleteSq q) cid x none =
     claimed = each_claimed (λ (k : ℕ) (z : Queue). q ≡ k → has_sq z.state ≡ true) (more cid) (λ k z h. h) 0 t.queues
         (λ k z at same. has-half t q none z (subst (λ (i : ℕ). slice_get t.queues i ≡ Some z) (sym same) at))
 asks-sent t (DeleteCq q) cid x none = tt
+asks-sent t (CreateCq q n base) cid x none = tt
+asks-sent t (CreateSq q n base) cid x none = tt
 
 asked_in : AdminKind → State → State
 asked_in (Abort q cid) s = s
 asked_in (DeleteSq q) s = a.on_host_queue q a.deleting s
 asked_in (DeleteCq q) s = s
+asked_in (CreateCq q n base) s = s
+asked_in (CreateSq q n base) s = s
 
 asked-state : (u : Tables) (kind : AdminKind) → AsksOf kind u → state_of (asked kind u) ≡ asked_in kind (state_of u)
 unfolding asked_in
 asked-state u (Abort q cid) h = refl
 asked-state u (DeleteSq q) h = state-set u q (Deleting false) (refl) h
 asked-state u (DeleteCq q) h = refl
+asked-state u (CreateCq q n base) h = refl
+asked-state u (CreateSq q n base) h = refl
 
 settled-asked : (u : Tables) (kind : AdminKind) → Settled u → AsksOf kind u → Settled (asked kind u)
 settled-asked u (Abort q cid) s h = s
 settled-asked u (DeleteSq q) s h = settled-state u q (Deleting false) s (refl) h
 settled-asked u (DeleteCq q) s h = s
+settled-asked u (CreateCq q n base) s h = s
+settled-asked u (CreateSq q n base) s h = s
 
 -- The machine's step
 
-send-after : (s : State) (kind : AdminKind) (cid : ℕ) → a.after s (sending kind) (events.Sent cid) ≡ asked_in kind (sent_in kind cid s)
+send-after : (s : State) (kind : AdminKind) (cid : ℕ) → grants_none kind ≡ true → a.after s (sending kind) (events.Sent cid) ≡ asked_in kind (sent_in kind cid s)
 unfolding asked_in
-send-after s (Abort q c) cid = refl
-send-after s (DeleteSq q) cid = refl
-send-after s (DeleteCq q) cid = refl
+send-after s (Abort q c) cid plain = refl
+send-after s (DeleteSq q) cid plain = refl
+send-after s (DeleteCq q) cid plain = refl
+send-after s (CreateCq q n base) cid plain = cc
+send-after s (CreateSq q n base) cid plain = cc
 
-send-answers : (s : State) (kind : AdminKind) (cid : ℕ) → IsNewIdentifier s 0 cid → Answers s (sending kind) (events.Sent cid)
-send-answers s (Abort q c) cid h = h
-send-answers s (DeleteSq q) cid h = h
-send-answers s (DeleteCq q) cid h = h
+send-answers : (s : State) (kind : AdminKind) (cid : ℕ) → grants_none kind ≡ true → IsNewIdentifier s 0 cid → Answers s (sending kind) (events.Sent cid)
+send-answers s (Abort q c) cid plain h = h
+send-answers s (DeleteSq q) cid plain h = h
+send-answers s (DeleteCq q) cid plain h = h
+send-answers s (CreateCq q n base) cid plain h = cc
+send-answers s (CreateSq q n base) cid plain h = cc
 
 is-hosts : (kind : AdminKind) → IsController (sending kind) ≡ false
 is-hosts (Abort q cid) = refl
 is-hosts (DeleteSq q) = refl
 is-hosts (DeleteCq q) = refl
+is-hosts (CreateCq q n base) = refl
+is-hosts (CreateSq q n base) = refl
 
 is-proper : (kind : AdminKind) → IsProper (sending kind)
 is-proper (Abort q cid) = tt
 is-proper (DeleteSq q) = tt
 is-proper (DeleteCq q) = tt
+is-proper (CreateCq q n base) = tt
+is-proper (CreateSq q n base) = tt
 
 pub send-exact : (t : Tables) (kind : AdminKind) (cid : ℕ) → IsWhole t → (can : CanSend t kind cid) → IsTyped (admin_entry kind cid)
     → Exactly (state_of t) (sending kind) (events.Sent cid) (state_of (asked kind (sent kind cid can.queue t)))
 send-exact t kind cid w can is = (
   can.none,
-  send-answers (state_of t) kind cid (next-fresh t w 0 cid can.queue can.at can.next),
+  send-answers (state_of t) kind cid can.plain (next-fresh t w 0 cid can.queue can.at can.next),
   asked-state (sent kind cid can.queue t) kind (asks-sent t kind cid can.queue can.none)
-      ∙ (ap (asked_in kind) (sent-exact t kind cid w can is) ∙ sym (send-after (state_of t) kind cid)),
+      ∙ (ap (asked_in kind) (sent-exact t kind cid w can is) ∙ sym (send-after (state_of t) kind cid can.plain)),
 )
 
 -- What a sending makes of whole tables: a step of the machine, and whole tables.

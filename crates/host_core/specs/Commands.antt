@@ -11,7 +11,7 @@ use Rattle.machine_model.specs.Events as events
 use Rattle.machine_model.specs.Memory.{without_pages, with_pages, zeroed_pages}
 use Rattle.machine_model.specs.Placement.{placed, without_numbers, chain_wanted}
 use Rattle.machine_model.specs.State.{Record, is_at, pages_of, with_record, without_record}
-use Rattle.machine_model.specs.Refusals.{refusal_of, is_drafted, is_collected, is_of, has_sq}
+use Rattle.machine_model.specs.Refusals.{refusal_of, is_drafted, is_collected, is_of, in_service}
 use Rattle.machine_model.specs.Claims.{is_away}
 use Rattle.machine_model.specs.Step.{IsNewIdentifier}
 use Rattle.machine_model.specs.declared.words.HostState.{HostState}
@@ -93,7 +93,7 @@ passes test state = option_map_or test state false
 
 -- whether a queue of this number, in this state, takes no I/O commands
 abbrev pub takes_no_io : ℕ → Option HostState → Bool
-takes_no_io q state = (q == 0) || not (passes has_sq state)
+takes_no_io q state = (q == 0) || not (passes in_service state)
 
 -- The identifier that a queue would claim next
 abbrev pub ClaimsNext : List Queue → ℕ → ℕ → Type 0

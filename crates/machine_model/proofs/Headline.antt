@@ -13,7 +13,7 @@ use Rattle.machine_model.proofs.Counting.{length_of_all}
 use Rattle.machine_model.proofs.Parts.{length-in_store}
 use Rattle.machine_model.specs.Events.{Event, Reply}
 use Rattle.machine_model.proofs.Steps.{Accepts, IsKept, each_step, each_run}
-use Rattle.machine_model.proofs.Asked.{AskedPart, asked_event, asked_from_fit, fit_from_asked, asked_at_opening}
+use Rattle.machine_model.proofs.Asked.{AskedPart, asked_event, asked_from_fit, asked_at_opening}
 use Rattle.machine_model.proofs.Zero.{zero_host, zero_opened}
 use Rattle.machine_model.proofs.Owned.{holds_from_sound, owners_from_holds, identifiers_from_holds}
 use Rattle.machine_model.proofs.Opening.{fits_pool, holds_at_opening, taken_at_opening}
@@ -78,7 +78,9 @@ sound_from_all s all =
       identifiers = identifiers_from_holds _ s.host all.0.0;
       out = out_from_taken s all.0.1;
       works_fit = all.0.0.admins;
-      deletions = fit_from_asked s.host all.1;
+      deletions = all.0.0.deletions;
+      creations = all.0.0.creations;
+      halves = all.0.0.halves;
       admin = all.2;
     }
 

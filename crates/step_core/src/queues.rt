@@ -83,6 +83,34 @@ impl<A: Allocator + Copy> World<A> {
         self.host.delete_cq(&mut self.store, q)
     }
 
+    /// Makes the completion queue of a queue that is gone: its half is granted, in and zero, and the command that creates it stands
+    /// behind the tail of queue 0 under the identifier that is answered.
+    ///
+    /// # Errors
+    ///
+    /// Nothing changed. 1. `NoQueue` for queue 0 and an unknown queue. 2. `WrongState` where the queue is not gone. 3. `Outstanding` where a
+    /// command of the queue is outstanding. 4. `NoIdentifier` where each identifier of queue 0 is outstanding. 5. `NoRun` where no run of so
+    /// many consecutive pages is free. 6. `QueueFull` where the submission ring of queue 0 is full.
+    pub fn create_cq(&mut self, q: u16) -> Result<u16, Refusal>
+        ensures { Step self.old (events.CreateCq q) (send_reply result) self.new }
+    {
+        self.host.create_cq(&mut self.store, q)
+    }
+
+    /// Makes the submission queue of a queue that has its completion queue alone: its half is granted, in and zero, and the command
+    /// that creates it stands behind the tail of queue 0 under the identifier that is answered.
+    ///
+    /// # Errors
+    ///
+    /// Nothing changed. 1. `NoQueue` for queue 0 and an unknown queue. 2. `WrongState` where the queue is not half made, or the deletion of its
+    /// completion queue is outstanding. 3. `NoIdentifier` where each identifier of queue 0 is outstanding. 4. `NoRun` where no run of so
+    /// many consecutive pages is free. 5. `QueueFull` where the submission ring of queue 0 is full.
+    pub fn create_sq(&mut self, q: u16) -> Result<u16, Refusal>
+        ensures { Step self.old (events.CreateSq q) (send_reply result) self.new }
+    {
+        self.host.create_sq(&mut self.store, q)
+    }
+
     /// Gives the submission half of a deleted queue back, and ends its commands that were never answered.
     ///
     /// Each of those is held with the status "Command Aborted due to SQ Deletion", as if its completion had been reaped; its pages
