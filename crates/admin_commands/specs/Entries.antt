@@ -1,22 +1,47 @@
 -- The entries of admin commands, and what they name.
-use Rattle.std.specs.Prelude.{ℕ, ◌+◌, ◌*◌, ◌/◌, ◌%◌, ◌==◌, ◌||◌, not, if◌then◌else◌, Result, Ok, Err, replicate}
+use Rattle.std.specs.Prelude.{ℕ, ◌+◌, ◌*◌, ◌-◌, ◌/◌, ◌%◌, ◌==◌, Bool, ◌||◌, not, List, ◌++◌, if◌then◌else◌, Result, Ok, Err, replicate, take}
+use Rattle.std.specs.Int.{w64, to_le_bytes, from_le_bytes}
 use Rattle.entry_codec.specs.declared.status.Status.{Status}
 use Rattle.entry_codec.specs.declared.status.TheConstants.Status.{INVALID_OPCODE, INVALID_FIELD}
 use Rattle.entry_codec.specs.declared.submission.SubEntry.{SubEntry}
 use Rattle.entry_codec.specs.declared.admin_opcode.TheConstants as opcodes
 use Rattle.admin_commands.specs.declared.AdminKind.{AdminKind}
-use Rattle.admin_commands.specs.declared.AdminKind.TheVariants.{Abort, DeleteSq, DeleteCq}
+use Rattle.admin_commands.specs.declared.AdminKind.TheVariants.{Abort, DeleteSq, DeleteCq, CreateCq, CreateSq}
 
 abbrev pub opcode_of : AdminKind → ℕ
 opcode_of (Abort q cid) = opcodes.ABORT
 opcode_of (DeleteSq q) = opcodes.DELETE_IO_SQ
 opcode_of (DeleteCq q) = opcodes.DELETE_IO_CQ
+opcode_of (CreateCq q n base) = opcodes.CREATE_IO_CQ
+opcode_of (CreateSq q n base) = opcodes.CREATE_IO_SQ
 
--- CDW10: the queue in its low half, and the command that an Abort names in its high half
+-- CDW10: the queue in its low half; in its high half the command that an Abort names, and one less than the entries of a ring
 abbrev pub named_by : AdminKind → ℕ
 named_by (Abort q cid) = q + 65536 * cid
 named_by (DeleteSq q) = q
 named_by (DeleteCq q) = q
+named_by (CreateCq q n base) = q + 65536 * (n - 1)
+named_by (CreateSq q n base) = q + 65536 * (n - 1)
+
+-- CDW11 of a creation: the ring lies in consecutive pages, and a submission queue's completions go to the completion queue of its number
+abbrev pub qualified_by : AdminKind → ℕ
+qualified_by (Abort q cid) = 0
+qualified_by (DeleteSq q) = 0
+qualified_by (DeleteCq q) = 0
+qualified_by (CreateCq q n base) = 1
+qualified_by (CreateSq q n base) = 1 + 65536 * q
+
+-- the address where a creation's ring begins
+abbrev pub base_of : AdminKind → ℕ
+base_of (Abort q cid) = 0
+base_of (DeleteSq q) = 0
+base_of (DeleteCq q) = 0
+base_of (CreateCq q n base) = base
+base_of (CreateSq q n base) = base
+
+-- the data pointer: an address in its first eight bytes
+abbrev pub pointer_to : ℕ → List ℕ
+pointer_to address = to_le_bytes w64 address ++ replicate 8 0
 
 -- the entry that the driver sends
 abbrev pub admin_entry : AdminKind → ℕ → SubEntry
@@ -28,9 +53,9 @@ admin_entry kind cid =
       cid = cid;
       nsid = 0;
       mptr = 0;
-      sgl1 = replicate 16 0;
+      sgl1 = pointer_to (base_of kind);
       cdw10 = named_by kind;
-      cdw11 = 0;
+      cdw11 = qualified_by kind;
       cdw12 = 0;
       cdw13 = 0;
       cdw14 = 0;
@@ -45,11 +70,33 @@ named_queue entry = entry.cdw10 % 65536
 abbrev pub named_command : SubEntry → ℕ
 named_command entry = entry.cdw10 / 65536
 
+-- how many entries the ring of a creation has
+abbrev pub named_size : SubEntry → ℕ
+named_size entry = entry.cdw10 / 65536 + 1
+
+-- whether the ring lies in consecutive pages, and the completion queue of a submission queue
+abbrev pub is_contiguous : SubEntry → Bool
+is_contiguous entry = entry.cdw11 % 2 == 1
+
+abbrev pub named_completion_queue : SubEntry → ℕ
+named_completion_queue entry = entry.cdw11 / 65536
+
+-- the address where the ring begins
+abbrev pub named_base : SubEntry → ℕ
+named_base entry = from_le_bytes w64 (take 8 entry.sgl1)
+
+-- whether an opcode is one of the five
+abbrev pub is_opcode : ℕ → Bool
+is_opcode code =
+    (code == opcodes.ABORT) || (code == opcodes.DELETE_IO_SQ) || (code == opcodes.DELETE_IO_CQ) || (code == opcodes.CREATE_IO_CQ) || (code == opcodes.CREATE_IO_SQ)
+
 -- the command that an entry asks for, or the status of the first field that is refused: the opcode, and then FUSE
 abbrev pub kind_or_fault : SubEntry → Result AdminKind Status
 kind_or_fault entry =
-    if not ((entry.opcode == opcodes.ABORT) || (entry.opcode == opcodes.DELETE_IO_SQ) || (entry.opcode == opcodes.DELETE_IO_CQ)) then Err INVALID_OPCODE
+    if not (is_opcode entry.opcode) then Err INVALID_OPCODE
     else if not (entry.fuse == 0) then Err INVALID_FIELD
     else if entry.opcode == opcodes.ABORT then Ok (Abort (named_queue entry) (named_command entry))
     else if entry.opcode == opcodes.DELETE_IO_SQ then Ok (DeleteSq (named_queue entry))
-    else Ok (DeleteCq (named_queue entry))
+    else if entry.opcode == opcodes.DELETE_IO_CQ then Ok (DeleteCq (named_queue entry))
+    else if entry.opcode == opcodes.CREATE_IO_CQ then Ok (CreateCq (named_queue entry) (named_size entry) (named_base entry))
+    else Ok (CreateSq (named_queue entry) (named_size entry) (named_base entry))

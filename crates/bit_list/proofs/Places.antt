@@ -1,5 +1,5 @@
 -- A list of Bools, and the words with a summary that hold it.
-use Rattle.std.proofs.Common.{◌≡◌, ◌≢◌, ℕ, ◌+◌, ◌-◌, ◌*◌, ◌/◌, ◌%◌, ◌^◌, ◌<◌, ◌≤◌, ◌⊎◌, ◌==◌, inl, inr, Bool, true, false, not, List, length, get_or, replicate, slice_index, slice_set, ap, sym, ◌∙◌, arith, subst, nat_lt, length-set, w64}
+use Rattle.std.proofs.Common.{◌≡◌, ◌≢◌, ℕ, ◌+◌, ◌-◌, ◌*◌, ◌/◌, ◌%◌, ◌^◌, ◌<◌, ◌≤◌, ◌⊎◌, ◌==◌, ◌&&◌, inl, inr, Bool, true, false, not, List, length, get_or, replicate, slice_index, slice_set, refl, ap, sym, ◌∙◌, arith, subst, nat_lt, length-set, w64}
 use Rattle.std.specs.Int.{trailing_zeros}
 use Rattle.std.proofs.lemmas.Bool.{true≢false, cases_lt, cases_eq, lt-ltb, le-ltb, ne_eqb, eqb-true, eqb-false, not-true, not-false}
 use Rattle.std.proofs.lemmas.List.{get_or-set_same, get_or-set_other, get_or_past, get_or_read, get_or-replicate, length-replicate, ext_get_or}
@@ -54,6 +54,27 @@ summed-all words summary len most size all above sums = record {
             let first : is_set words (64 * w) ≡ true = all (64 * w) ∙ lt-ltb (64 * w) len (omega (arith, size)) in
             let none : is_set words (64 * w) ≡ false = set-in words w (64 * w) (omega arith) (omega arith) ∙ (ap (λ n. is_one n (64 * w - 64 * w)) nothing ∙ zero-from 0 _ (bit_at-zero _)) in
             true≢false (sym first ∙ none)
+
+-- a list whose places were all made alike
+
+pub bools-filled : (words : List ℕ) (len : ℕ) (value : Bool) → ((i : ℕ) → is_set words i ≡ (value && nat_lt i len)) → bools_of words len ≡ replicate len value
+bools-filled words len true all = bools-all words len all
+bools-filled words len false all =
+    ext_get_or true (bools_of words len) (replicate len false) (length-bools words len ∙ sym (length-replicate len false))
+    (λ i within.
+    let inside : i < len = omega (arith, length-bools words len) in
+    get_or-map-range_with_len (is_set words) 0 len i i true inside (omega arith) ∙ (all i ∙ sym (get_or-replicate len i false true inside)))
+
+pub summed-filled : (words summary : List ℕ) (len : ℕ) (value : Bool) → len ≤ 65536 → length words ≡ (len + 63) / 64 → ((i : ℕ) → is_set words i ≡ (value && nat_lt i len))
+    → (value ≡ false → (w : ℕ) → slice_index words w ≡ 0) → length summary ≡ (length words + 63) / 64 → ((w : ℕ) → is_set summary w ≡ (value && nat_lt w (length words))) → IsSummed words summary len
+summed-filled words summary len true most size all none above sums = summed-all words summary len most size all above sums
+summed-filled words summary len false most size all none above sums = record {
+  most = most;
+  size = size;
+  above = above;
+  past = λ p past. all p;
+  sums = λ w. sums w ∙ sym (ap (λ (n : ℕ). not (n == 0)) (none refl w));
+}
 
 -- one place written
 

@@ -1,7 +1,7 @@
 -- Sets of numbers as words: what one write changes, and searches from word to word.
-use Rattle.std.proofs.Common.{◌≡◌, ◌≢◌, ℕ, ◌+◌, ◌-◌, ◌*◌, ◌/◌, ◌%◌, ◌^◌, ◌<◌, ◌≤◌, ◌⊎◌, inl, inr, w64, min, Bool, true, false, not, List, [], ◌∷◌, ◌++◌, length, slice_index, slice_set, refl, ap, sym, ◌∙◌, arith, nat_lt, length-set}
+use Rattle.std.proofs.Common.{◌≡◌, ◌≢◌, ℕ, ◌+◌, ◌-◌, ◌*◌, ◌/◌, ◌%◌, ◌^◌, ◌<◌, ◌≤◌, ◌⊎◌, inl, inr, w64, min, Bool, true, false, not, List, [], ◌∷◌, ◌++◌, length, replicate, slice_index, slice_set, refl, ap, sym, ◌∙◌, arith, nat_lt, length-set}
 use Rattle.std.proofs.lemmas.Bool.{true≢false, cases_lt, cases_eq, cases_order, lt-ltb, le-ltb}
-use Rattle.std.proofs.lemmas.List.{get_or-set_same, get_or-set_other, get_or_past, get_or_push, get_or_append_left, length_push}
+use Rattle.std.proofs.lemmas.List.{get_or-set_same, get_or-set_other, get_or_past, get_or_push, get_or_append_left, get_or-replicate, length-replicate, length_push}
 use Rattle.std.proofs.lemmas.Nat.Bits.{bit_at-zero}
 use Rattle.std.specs.Int.{bit_not}
 use Rattle.bit_list.specs.Bits.{is_one, is_set, IsPut}
@@ -89,3 +89,33 @@ push-ones words k rest word size all inside ones i = go (cases_order (i / 64) k)
         ap (λ w. is_one w (i % 64)) (get_or_append_left words (word ∷ []) 0 (i / 64) (omega arith))
         ∙ (all i ∙ (lt-ltb i (64 * k) (omega arith) ∙ sym (lt-ltb i (64 * k + rest) (omega arith))))
     go (inr (inr behind)) = set-past (words ++ word ∷ []) i (omega (arith, length_push words word)) ∙ sym (le-ltb i (64 * k + rest) (omega arith))
+
+-- words of ones alone
+
+pub filled-ones : (n word i : ℕ) → word ≡ 2 ^ 64 - 1 → is_set (replicate n word) i ≡ nat_lt i (64 * n)
+filled-ones n word i ones = go (cases_lt (i / 64) n)
+  where
+    go : (i / 64 < n) ⊎ (n ≤ i / 64) → is_set (replicate n word) i ≡ nat_lt i (64 * n)
+    go (inl inside) =
+        ap (λ w. is_one w (i % 64)) (get_or-replicate n (i / 64) word 0 inside ∙ ones)
+        ∙ (ones-are 64 (i % 64) ∙ (lt-ltb (i % 64) 64 (omega arith) ∙ sym (lt-ltb i (64 * n) (omega arith))))
+    go (inr past) = set-past (replicate n word) i (omega (arith, length-replicate n word)) ∙ sym (le-ltb i (64 * n) (omega arith))
+
+-- the last word of them cut down to so many ones
+pub filled-cut : (n k rest word last i : ℕ) → k < n → rest ≤ 64 → word ≡ 2 ^ 64 - 1 → last ≡ 2 ^ rest - 1 → n ≤ k + 1
+    → is_set (slice_set (replicate n word) k last) i ≡ nat_lt i (64 * k + rest)
+filled-cut n k rest word last i within inside ones cut least = go (cases_order (i / 64) k)
+  where
+    go : (i / 64 ≡ k) ⊎ ((i / 64 < k) ⊎ (k < i / 64)) → is_set (slice_set (replicate n word) k last) i ≡ nat_lt i (64 * k + rest)
+    go (inl here) =
+        ap (λ w. is_one w (i % 64)) (ap (slice_index (slice_set (replicate n word) k last)) here ∙ (get_or-set_same (replicate n word) k last 0 (omega (arith, length-replicate n word)) ∙ cut))
+        ∙ (ones-are rest (i % 64) ∙ same (cases_lt (i % 64) rest))
+      where
+        same : (i % 64 < rest) ⊎ (rest ≤ i % 64) → nat_lt (i % 64) rest ≡ nat_lt i (64 * k + rest)
+        same (inl below) = lt-ltb (i % 64) rest below ∙ sym (lt-ltb i (64 * k + rest) (omega arith))
+        same (inr above) = le-ltb (i % 64) rest above ∙ sym (le-ltb i (64 * k + rest) (omega arith))
+    go (inr (inl before)) =
+        ap (λ w. is_one w (i % 64)) (get_or-set_other (replicate n word) k (i / 64) last 0 (omega arith))
+        ∙ (filled-ones n word i ones ∙ (lt-ltb i (64 * n) (omega arith) ∙ sym (lt-ltb i (64 * k + rest) (omega arith))))
+    go (inr (inr behind)) =
+        set-past (slice_set (replicate n word) k last) i (omega (arith, length-set (replicate n word) k last, length-replicate n word)) ∙ sym (le-ltb i (64 * k + rest) (omega arith))

@@ -1,6 +1,6 @@
 //! A set of numbers as words of 64 bits: number `i` is inside where bit `i % 64` of word `i / 64` is 1.
 
-ghost use Rattle.std.specs.Prelude.{◌≡◌, ◌+◌, ◌*◌, ◌/◌, ◌<◌, ◌≤◌, Bool, ℕ, length, nat_lt, not, IfOk, IfSome};
+ghost use Rattle.std.specs.Prelude.{◌≡◌, ◌+◌, ◌*◌, ◌/◌, ◌<◌, ◌≤◌, ◌&&◌, Bool, ℕ, length, nat_lt, not, slice_index, IfOk, IfSome, IsFalse};
 ghost use Rattle.bit_list.specs.Bits.{is_one, is_set, IsPut};
 ghost use Rattle.bit_list.specs.Searches.{FindsFrom, IsRunEnd};
 
@@ -21,6 +21,24 @@ pub(crate) fn all_below<A: Allocator>(alloc: A, bound: u32) -> Result<Vec<u64, A
         words.push_reserved((1 << rest) - 1);
     }
     Ok(words)
+}
+
+/// Puts all numbers below a bound into a set that has no others, or takes all out.
+pub(crate) fn fill_below(words: &mut [u64], bound: u32, inside: bool)
+    requires { length words.old ≡ (bound + 63) / 64 }
+    ensures size { length words.new ≡ length words.old }
+    ensures all { (i : ℕ) → is_set words.new i ≡ (inside && nat_lt i bound) }
+    ensures none { IsFalse inside → (w : ℕ) → slice_index words.new w ≡ 0 }
+{
+    if inside {
+        words.fill(u64::MAX);
+        let rest = bound % 64;
+        if rest > 0 {
+            words[(bound / 64) as usize] = (1 << rest) - 1;
+        }
+    } else {
+        words.fill(0);
+    }
 }
 
 /// Puts a number into a set, or takes it out.

@@ -4,7 +4,7 @@ ghost use Rattle.std.specs.Prelude.{◌≡◌, ◌+◌, ◌<◌, ◌≤◌, Bool
 ghost use Rattle.bit_list.specs.Places.{is_true_at};
 ghost use Rattle.bit_list.specs.Searches.{FindsFrom, IsRunEnd, is_run};
 
-use crate::bits::{all_below, lowest_from, lowest_one, put, run_end};
+use crate::bits::{all_below, fill_below, lowest_from, lowest_one, put, run_end};
 use std::alloc::{AllocError, Allocator, Global};
 use std::marker::Model;
 
@@ -57,6 +57,14 @@ impl<A: Allocator> BitList<A> {
         let word = i / 64;
         let some = self.words[word as usize] != 0;
         put(&mut self.summary, word, some);
+    }
+
+    /// Makes every place true, or every place false.
+    pub fn fill(&mut self, value: bool)
+        ensures filled { self.new ≡ replicate (length self.old) value }
+    {
+        fill_below(&mut self.words, self.len, value);
+        fill_below(&mut self.summary, self.words.len() as u32, value);
     }
 
     /// The lowest true place, from one on.

@@ -151,10 +151,10 @@ found_by (Some x) o is = ap is_some is
 
 -- An entry whose identifier is known
 
-pub answers_fetch : (v c c' : Contents) (queues : List ControllerQueue) (m m' m'' : Memory) (q : ℕ) (e : SubEntry) (reached looked reached' : List ℕ) → v ≡ c
+pub answers_fetch : (pages : ℕ) (v c c' : Contents) (queues : List ControllerQueue) (m m' m'' : Memory) (q : ℕ) (e : SubEntry) (reached looked reached' : List ℕ) → v ≡ c
     → is_some (find (is_command q e.cid) v.commands) ≡ true → LooksAt c m reached q e looked → m' ≡ m → None ≡ answer_refusal v.queues m' q
-    → AnswersKnown v.queues q e.cid m' looked queues m'' reached' → c' ≡ record { queues = queues; commands = v.commands; image = v.image } → FetchesTo c m reached q e.cid c' m'' reached'
-answers_fetch v c c' queues m m' m'' q e reached looked reached' same found looks em room answers is =
+    → AnswersKnown v.queues q e.cid m' looked queues m'' reached' → c' ≡ record { queues = queues; commands = v.commands; image = v.image } → FetchesTo c pages m reached q e.cid c' m'' reached'
+answers_fetch pages v c c' queues m m' m'' q e reached looked reached' same found looks em room answers is =
     let known : is_known c q e ≡ true =
     subst (λ (x : Contents). is_some (find (is_command q e.cid) x.commands) ≡ true) same found in
     record {
@@ -164,16 +164,16 @@ answers_fetch v c c' queues m m' m'' q e reached looked reached' same found look
       named = refl;
       room = ap (λ (b : Bool). if b then answer_refusal c.queues m q else None) known
           ∙ sym (room ∙ ap₂ (λ (x : Contents) (n : Memory). answer_refusal x.queues n q) same em);
-      takes = subst (λ (b : Bool). Takes b c q e m looked c' m'' reached') (sym known)
-          (subst (λ (x : Contents). Takes true x q e m looked c' m'' reached') same
-          (subst (λ (n : Memory). Takes true v q e n looked c' m'' reached') em
-          (subst (λ (x : Contents). Takes true v q e m' looked x m'' reached') (sym is) (answers, refl, refl))));
+      takes = subst (λ (b : Bool). Takes b c pages q e m looked c' m'' reached') (sym known)
+          (subst (λ (x : Contents). Takes true x pages q e m looked c' m'' reached') same
+          (subst (λ (n : Memory). Takes true v pages q e n looked c' m'' reached') em
+          (subst (λ (x : Contents). Takes true v pages q e m' looked x m'' reached') (sym is) (answers, refl, refl))));
     }
 
 -- and one of queue 0 whose identifier is not
-pub manages_fetch : (v c c' : Contents) (m m' : Memory) (reached : List ℕ) (q : ℕ) (e : SubEntry) (reached' : List ℕ) → v ≡ c
-    → is_some (find (is_command q e.cid) v.commands) ≡ false → q ≡ 0 → LooksAt c m reached q e reached' → m' ≡ m → c' ≡ managed e c → FetchesTo c m reached q e.cid c' m' reached'
-manages_fetch v c c' m m' reached q e reached' same none zeroth looks after managed_by =
+pub manages_fetch : (pages : ℕ) (v c c' : Contents) (m m' : Memory) (reached : List ℕ) (q : ℕ) (e : SubEntry) (reached' : List ℕ) → v ≡ c
+    → is_some (find (is_command q e.cid) v.commands) ≡ false → q ≡ 0 → LooksAt c m reached q e reached' → m' ≡ m → c' ≡ managed pages e c → FetchesTo c pages m reached q e.cid c' m' reached'
+manages_fetch pages v c c' m m' reached q e reached' same none zeroth looks after managed_by =
     let unknown : is_known c q e ≡ false =
     subst (λ (x : Contents). is_some (find (is_command q e.cid) x.commands) ≡ false) same none in
     record {
@@ -182,13 +182,13 @@ manages_fetch v c c' m m' reached q e reached' same none zeroth looks after mana
       looks = looks;
       named = refl;
       room = ap (λ (b : Bool). if b then answer_refusal c.queues m q else None) unknown;
-      takes = subst (λ (b : Bool). Takes b c q e m reached' c' m' reached') (sym unknown)
-          (subst (λ (b : Bool). TakesIn b c q e c') (sym (ap (λ (k : ℕ). k == 0) zeroth)) managed_by, after, refl);
+      takes = subst (λ (b : Bool). Takes b c pages q e m reached' c' m' reached') (sym unknown)
+          (subst (λ (b : Bool). TakesIn b c pages q e c') (sym (ap (λ (k : ℕ). k == 0) zeroth)) managed_by, after, refl);
     }
 
-pub begins_fetch : (v c c' : Contents) (m m' : Memory) (reached : List ℕ) (q : ℕ) (e : SubEntry) (reached' : List ℕ) → v ≡ c
-    → is_some (find (is_command q e.cid) v.commands) ≡ false → q ≢ 0 → LooksAt c m reached q e reached' → m' ≡ m → Begins c q e c' → FetchesTo c m reached q e.cid c' m' reached'
-begins_fetch v c c' m m' reached q e reached' same none ne looks after begins =
+pub begins_fetch : (pages : ℕ) (v c c' : Contents) (m m' : Memory) (reached : List ℕ) (q : ℕ) (e : SubEntry) (reached' : List ℕ) → v ≡ c
+    → is_some (find (is_command q e.cid) v.commands) ≡ false → q ≢ 0 → LooksAt c m reached q e reached' → m' ≡ m → Begins c q e c' → FetchesTo c pages m reached q e.cid c' m' reached'
+begins_fetch pages v c c' m m' reached q e reached' same none ne looks after begins =
     let unknown : is_known c q e ≡ false =
     subst (λ (x : Contents). is_some (find (is_command q e.cid) x.commands) ≡ false) same none in
     record {
@@ -197,6 +197,6 @@ begins_fetch v c c' m m' reached q e reached' same none ne looks after begins =
       looks = looks;
       named = refl;
       room = ap (λ (b : Bool). if b then answer_refusal c.queues m q else None) unknown;
-      takes = subst (λ (b : Bool). Takes b c q e m reached' c' m' reached') (sym unknown)
-          (subst (λ (b : Bool). TakesIn b c q e c') (sym (no_zero q ne)) begins, after, refl);
+      takes = subst (λ (b : Bool). Takes b c pages q e m reached' c' m' reached') (sym unknown)
+          (subst (λ (b : Bool). TakesIn b c pages q e c') (sym (no_zero q ne)) begins, after, refl);
     }

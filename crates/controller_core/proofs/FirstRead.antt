@@ -11,7 +11,7 @@ use Rattle.controller_core.specs.Fetching.{FetchesTo}
 use Rattle.controller_core.specs.Walking.{WalksTo}
 use Rattle.controller_core.specs.Worked.{rung, memory_with_entry, read_begun, read_halfway, read_walked, with_read_begun, with_read_halfway, with_read_walked, with_read_completed, memory_with_data, memory_with_completion}
 
-pub first_fetch : FetchesTo rung memory_with_entry [] 1 0 with_read_begun memory_with_entry (2 ∷ [])
+pub first_fetch : FetchesTo rung 8 memory_with_entry [] 1 0 with_read_begun memory_with_entry (2 ∷ [])
 unfolding bytes_at submission_of
 first_fetch = record {
   entry = first_read;

@@ -8,8 +8,10 @@ pub mod Faults
 pub mod Kept
 pub mod Ready
 pub mod Fetched
+pub mod Decided
 pub mod Managed
 pub mod Opened
 pub mod OneWay
 pub mod FirstRead
+pub mod FirstCreations
 pub mod Looks

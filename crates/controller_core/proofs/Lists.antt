@@ -67,6 +67,10 @@ length-change k f [] = refl
 length-change zero f (x ∷ xs) = refl
 length-change (suc k) f (x ∷ xs) = ap suc (length-change k f xs)
 
+-- no queue number is past those of 16 bits
+pub few_stay : (n m : ℕ) → n ≡ m → m ≤ 65536 → n ≤ 65536
+few_stay n m e few = omega (arith, e, few)
+
 pub all-append : {A : Type 0} (P : A → Type 0) (xs : List A) (y : A) → AllByRecursion P xs → P y → AllByRecursion P (xs ++ y ∷ [])
 all-append P [] y all here = (here, tt)
 all-append P (x ∷ xs) y all here = (all.0, all-append P xs y all.1 here)

@@ -1,95 +1,62 @@
 -- What an admin entry keeps as it is fetched.
-use Rattle.std.proofs.Common.{◌≡◌, ℕ, zero, suc, ◌+◌, ◌<◌, ◌==◌, ◌&&◌, ◌||◌, not, Bool, true, false, is_none, is_some, Some, None, List, [], ◌∷◌, ◌++◌, find, length, map, if◌then◌else◌, refl, ap, ap₂, sym, ◌∙◌, arith, subst, eqb-true}
+use Rattle.std.proofs.Common.{◌≡◌, ℕ, zero, suc, ◌+◌, ◌<◌, ◌^◌, ◌==◌, ◌&&◌, ◌||◌, not, Bool, true, false, is_none, is_some, Some, None, List, [], ◌∷◌, ◌++◌, find, length, map, if◌then◌else◌, refl, ap, ap₂, sym, ◌∙◌, arith, subst, eqb-true}
 use Rattle.std.specs.List.{count_by}
 use Rattle.std.proofs.lemmas.Bool.{eq-eqb, true≢false, ne_eqb}
 use Rattle.admin_commands.specs.Entries.{named_queue, named_command}
-use Rattle.admin_commands.specs.Verdicts.{decision, is_live, is_absent, abort_verdict, delete_sq_verdict, delete_cq_verdict}
+use Rattle.admin_commands.specs.Verdicts.{decision}
 use Rattle.admin_commands.specs.declared.AdminVerdict.{AdminVerdict}
-use Rattle.admin_commands.specs.declared.AdminVerdict.TheVariants.{Answer, AbortJob, StopQueue, DropCompletion}
+use Rattle.admin_commands.specs.declared.AdminVerdict.TheVariants.{Answer, AbortJob, StopQueue, DropCompletion, MakeCompletion, MakeSubmission}
 use Rattle.admin_commands.specs.declared.DeviceView.{DeviceView}
 use Rattle.block_image.specs.Blocks.{block_count}
-use Rattle.entry_codec.specs.declared.admin_opcode.TheConstants.{ABORT, DELETE_IO_SQ, DELETE_IO_CQ}
+use Rattle.entry_codec.specs.declared.admin_opcode.TheConstants.{ABORT, DELETE_IO_SQ}
 use Rattle.entry_codec.specs.declared.status.Status.{Status}
-use Rattle.entry_codec.specs.declared.status.TheConstants.Status.{SUCCESS, INVALID_OPCODE, INVALID_FIELD, INVALID_QUEUE_IDENTIFIER, INVALID_QUEUE_DELETION, ABORT_REQUESTED, ABORTED_SQ_DELETION}
+use Rattle.entry_codec.specs.declared.status.TheConstants.Status.{SUCCESS, ABORT_REQUESTED, ABORTED_SQ_DELETION}
 use Rattle.entry_codec.specs.declared.submission.SubEntry.{SubEntry}
 use Rattle.io_commands.specs.Jobs.{JobContents}
 use Rattle.controller_core.specs.Contents.{Contents, IsController, IsNamedBy, AreAwaited, AreCommands, FetchedCommand, Work, FitsWork, FitsCommand, change, entry_of_work, is_command, is_deletion}
-use Rattle.controller_core.specs.Managing.{with_taken, command_of, admin_work, stopped_work, aborted, stopped_with_queue, stopping, without_completion, commands_after, queues_after, verdict_for, view_for, managed}
+use Rattle.controller_core.specs.Managing.{with_taken, command_of, admin_work, stopped_work, aborted, stopped_with_queue, stopping, without_completion, with_completion, with_submission, NamesPages, commands_after, queues_after, verdict_for, view_for, managed}
 use Rattle.controller_core.specs.declared.command.Work.TheVariants.{Io, Admin}
 use Rattle.controller_core.specs.declared.queue.ControllerQueue.{ControllerQueue}
 use Rattle.controller_core.proofs.Awaited.{Awaits, IsAlike, awaited_changed, awaited_more, awaits_alike, named_last, none_mapped}
+use Rattle.controller_core.proofs.Decided.{if_by, decided}
 use Rattle.controller_core.proofs.Fetched.{commands-with, none_found, not_some}
 use Rattle.controller_core.proofs.Lists.{all-map, count-cons, one, length-change}
 
--- What each verdict comes from
+-- What holds of each verdict
 
-if_by : {X : Type 0} (P : X → Type 0) (b : Bool) (x y : X) → (b ≡ true → P x) → (b ≡ false → P y) → P (if b then x else y)
-if_by P true x y f g = f refl
-if_by P false x y f g = g refl
-
--- No command that is answered at once deletes a queue, and what is deleted is an I/O queue.
+-- No command that is answered at once deletes a queue, and what is made or deleted is an I/O queue.
 abbrev Suits : SubEntry → AdminVerdict → Type 0
 Suits e (Answer st dw0) = (st.sct < 8) × (is_deletion e st ≡ false)
 Suits e (AbortJob q cid) = (named_queue e == 0) ≡ false
 Suits e (StopQueue q) = (named_queue e == 0) ≡ false
 Suits e (DropCompletion q) = (named_queue e == 0) ≡ false
+Suits e (MakeCompletion q base) = (named_queue e == 0) ≡ false
+Suits e (MakeSubmission q base) = (named_queue e == 0) ≡ false
 
 and_false : (b : Bool) → (b && false) ≡ false
 and_false true = refl
 and_false false = refl
 
-both_true : (a b : Bool) → (a && b) ≡ true → (a ≡ true) × (b ≡ true)
-both_true true b e = (refl, e)
-both_true false b e = cc
-
-either_false : (a b : Bool) → (a || b) ≡ false → (a ≡ false) × (b ≡ false)
-either_false true b e = cc
-either_false false b e = (refl, e)
-
-was_false : (b : Bool) → not b ≡ true → b ≡ false
-was_false true e = cc
-was_false false e = refl
-
-no_abort : (opcode : ℕ) → (opcode == ABORT) ≡ true → (opcode == DELETE_IO_SQ) ≡ false
-no_abort opcode e = ap (λ (k : ℕ). k == DELETE_IO_SQ) (eqb-true opcode ABORT e)
-
-abort_suits : (e : SubEntry) (view : DeviceView) → (e.opcode == ABORT) ≡ true → Suits e (abort_verdict (named_queue e) (named_command e) view)
-abort_suits e view op =
-    if_by (Suits e) (view.target_walks && not (named_queue e == 0)) (AbortJob (named_queue e) (named_command e)) (Answer SUCCESS 1)
-    (λ h. was_false (named_queue e == 0) (both_true view.target_walks (not (named_queue e == 0)) h).1)
-    (λ h. (omega arith, ap (λ (b : Bool). b && true) (no_abort e.opcode op)))
-
-delete_sq_suits : (e : SubEntry) (view : DeviceView) → Suits e (delete_sq_verdict (named_queue e) view)
-delete_sq_suits e view =
-    if_by (Suits e) ((named_queue e == 0) || not (is_live view.sq)) (Answer INVALID_QUEUE_IDENTIFIER 0) (StopQueue (named_queue e))
-    (λ h. (omega arith, and_false (e.opcode == DELETE_IO_SQ)))
-    (λ h. (either_false (named_queue e == 0) (not (is_live view.sq)) h).0)
-
-delete_cq_suits : (e : SubEntry) (view : DeviceView) → Suits e (delete_cq_verdict (named_queue e) view)
-delete_cq_suits e view =
-    if_by (Suits e) ((named_queue e == 0) || not view.cq_there) (Answer INVALID_QUEUE_IDENTIFIER 0) (if not (is_absent view.sq) then Answer INVALID_QUEUE_DELETION 0 else DropCompletion (named_queue e))
-    (λ h. (omega arith, and_false (e.opcode == DELETE_IO_SQ)))
-    (λ h. if_by (Suits e) (not (is_absent view.sq)) (Answer INVALID_QUEUE_DELETION 0) (DropCompletion (named_queue e))
-    (λ h'. (omega arith, and_false (e.opcode == DELETE_IO_SQ)))
-    (λ h'. (either_false (named_queue e == 0) (not view.cq_there) h).0))
-
 decision_suits : (e : SubEntry) (view : DeviceView) → Suits e (decision e view)
 decision_suits e view =
-    if_by (Suits e) (not ((e.opcode == ABORT) || (e.opcode == DELETE_IO_SQ) || (e.opcode == DELETE_IO_CQ))) (Answer INVALID_OPCODE 0) _
-    (λ h. (omega arith, and_false (e.opcode == DELETE_IO_SQ)))
-    (λ h. if_by (Suits e) (not (e.fuse == 0)) (Answer INVALID_FIELD 0) _
-    (λ h. (omega arith, and_false (e.opcode == DELETE_IO_SQ)))
-    (λ h. if_by (Suits e) (e.opcode == ABORT) (abort_verdict (named_queue e) (named_command e) view) _
-    (λ h. abort_suits e view h)
-    (λ h. if_by (Suits e) (e.opcode == DELETE_IO_SQ) (delete_sq_verdict (named_queue e) view) (delete_cq_verdict (named_queue e) view)
-    (λ h. delete_sq_suits e view)
-    (λ h. delete_cq_suits e view))))
+    decided (Suits e) e view
+    (record {
+      refused = λ st r. (r.small, ap (λ (b : Bool). (e.opcode == DELETE_IO_SQ) && b) r.fails ∙ and_false (e.opcode == DELETE_IO_SQ));
+      too_late = λ op. (omega arith, ap (λ (k : ℕ). (k == DELETE_IO_SQ) && true) op);
+      aborts = λ h. h;
+      stops = λ h. h;
+      drops = λ h. h;
+      makes_completion = λ h l. h;
+      makes_submission = λ h l. h;
+    })
 
 admin_fits : (blocks : ℕ) (e : SubEntry) (v : AdminVerdict) → Suits e v → FitsWork blocks 0 0 (admin_work e v)
 admin_fits blocks e (Answer st dw0) s = (refl, s.0, λ h. absurd (true≢false (sym h ∙ s.1)))
 admin_fits blocks e (AbortJob q cid) s = (refl, omega arith, λ h. s)
 admin_fits blocks e (StopQueue q) s = (refl, omega arith, λ h. s)
 admin_fits blocks e (DropCompletion q) s = (refl, omega arith, λ h. s)
+admin_fits blocks e (MakeCompletion q base) s = (refl, omega arith, λ h. s)
+admin_fits blocks e (MakeSubmission q base) s = (refl, omega arith, λ h. s)
 
 -- Commands that are stopped
 
@@ -145,12 +112,16 @@ commands_stay blocks queues abort (Answer st dw0) commands = record { are = λ a
 commands_stay blocks queues abort (AbortJob q cid) commands = commands_mapped blocks queues (aborted q cid abort) (aborted_stays blocks q cid abort) commands
 commands_stay blocks queues abort (StopQueue q) commands = commands_mapped blocks queues (stopped_with_queue q) (stopped_stays blocks q) commands
 commands_stay blocks queues abort (DropCompletion q) commands = record { are = λ are. are; count = λ r d. refl }
+commands_stay blocks queues abort (MakeCompletion q base) commands = record { are = λ are. are; count = λ r d. refl }
+commands_stay blocks queues abort (MakeSubmission q base) commands = record { are = λ are. are; count = λ r d. refl }
 
 pub length-after : (v : AdminVerdict) (queues : List ControllerQueue) → length (queues_after v queues) ≡ length queues
 length-after (Answer st dw0) queues = refl
 length-after (AbortJob q cid) queues = refl
 length-after (StopQueue q) queues = length-change q stopping queues
 length-after (DropCompletion q) queues = length-change q without_completion queues
+length-after (MakeCompletion q base) queues = length-change q (with_completion base) queues
+length-after (MakeSubmission q base) queues = length-change q (with_submission base) queues
 
 -- An Abort that stops a command names it.
 abbrev Aims : SubEntry → AdminVerdict → Type 0
@@ -158,21 +129,21 @@ Aims e (Answer st dw0) = Unit {0}
 Aims e (AbortJob q cid) = (q ≡ named_queue e) × (cid ≡ named_command e)
 Aims e (StopQueue q) = Unit {0}
 Aims e (DropCompletion q) = Unit {0}
-
-either_aims : (e : SubEntry) (b : Bool) (v w : AdminVerdict) → Aims e v → Aims e w → Aims e (if b then v else w)
-either_aims e true v w a b = a
-either_aims e false v w a b = b
+Aims e (MakeCompletion q base) = Unit {0}
+Aims e (MakeSubmission q base) = Unit {0}
 
 decision_aims : (e : SubEntry) (view : DeviceView) → Aims e (decision e view)
 decision_aims e view =
-    either_aims e (not ((e.opcode == ABORT) || (e.opcode == DELETE_IO_SQ) || (e.opcode == DELETE_IO_CQ))) (Answer INVALID_OPCODE 0) _ tt
-    (either_aims e (not (e.fuse == 0)) (Answer INVALID_FIELD 0) _ tt
-    (either_aims e (e.opcode == ABORT) (abort_verdict (named_queue e) (named_command e) view) _
-    (either_aims e (view.target_walks && not (named_queue e == 0)) (AbortJob (named_queue e) (named_command e)) (Answer SUCCESS 1) (refl, refl) tt)
-    (either_aims e (e.opcode == DELETE_IO_SQ) (delete_sq_verdict (named_queue e) view) (delete_cq_verdict (named_queue e) view)
-    (either_aims e ((named_queue e == 0) || not (is_live view.sq)) (Answer INVALID_QUEUE_IDENTIFIER 0) (StopQueue (named_queue e)) tt tt)
-    (either_aims e ((named_queue e == 0) || not view.cq_there) (Answer INVALID_QUEUE_IDENTIFIER 0) _ tt
-    (either_aims e (not (is_absent view.sq)) (Answer INVALID_QUEUE_DELETION 0) (DropCompletion (named_queue e)) tt tt)))))
+    decided (Aims e) e view
+    (record {
+      refused = λ st r. tt;
+      too_late = λ op. tt;
+      aborts = λ h. (refl, refl);
+      stops = λ h. tt;
+      drops = λ h. tt;
+      makes_completion = λ h l. tt;
+      makes_submission = λ h l. tt;
+    })
 
 aborted_same : (q cid abort : ℕ) (k : FetchedCommand) → IsAlike k (aborted q cid abort k)
 aborted_same q cid abort k = let stay = aborted_stays 0 q cid abort k in (stay.q, stay.entry)
@@ -209,19 +180,21 @@ managed_awaited commands e (StopQueue q) are aims none =
     awaited_changed (stopped_with_queue q) commands (command_of 0 (admin_work e (StopQueue q))) (stopped_same q)
     (λ k was. awaits_alike _ _ k (stopped_with_queue q k) (if_by (λ (x : FetchedCommand). x.waiting_abort ≡ k.waiting_abort) (k.q == q) (record k { work = stopped_work ABORTED_SQ_DELETION k.work }) k (λ h. refl) (λ h. refl)) (stopped_same q k) (λ cid e h. h) was) refl are
 managed_awaited commands e (DropCompletion q) are aims none = awaited_more commands (command_of 0 (admin_work e (DropCompletion q))) are refl
+managed_awaited commands e (MakeCompletion q base) are aims none = awaited_more commands (command_of 0 (admin_work e (MakeCompletion q base))) are refl
+managed_awaited commands e (MakeSubmission q base) are aims none = awaited_more commands (command_of 0 (admin_work e (MakeSubmission q base))) are refl
 
-pub managed_kept : (c : Contents) (e : SubEntry) → IsController c → 0 < length c.queues → is_some (find (is_command 0 e.cid) c.commands) ≡ false → IsController (managed e c)
-managed_kept c e is there free =
-    let v = verdict_for c e in
+pub managed_kept : (pages : ℕ) (c : Contents) (e : SubEntry) → IsController c → 0 < length c.queues → is_some (find (is_command 0 e.cid) c.commands) ≡ false → IsController (managed pages e c)
+managed_kept pages c e is there free =
+    let v = verdict_for pages c e in
     let blocks = block_count c.image in
     let stay = commands_stay blocks (length c.queues) e.cid v c.commands in
     record {
       commands =
-          subst (λ (n : ℕ). AreCommands blocks n (managed e c).commands) (sym (length-after v (change 0 with_taken c.queues) ∙ length-change 0 with_taken c.queues))
+          subst (λ (n : ℕ). AreCommands blocks n (managed pages e c).commands) (sym (length-after v (change 0 with_taken c.queues) ∙ length-change 0 with_taken c.queues))
           (commands-with blocks (length c.queues) (commands_after e.cid v c.commands) (command_of 0 (admin_work e v)) (stay.are is.commands) there
-          (admin_fits blocks e v (decision_suits e (view_for c.queues c.commands e)))
+          (admin_fits blocks e v (decision_suits e (view_for pages c.queues c.commands e)))
           (stay.count 0 e.cid ∙ none_found (is_command 0 e.cid) c.commands (not_some (find (is_command 0 e.cid) c.commands) free)));
-      awaited = managed_awaited c.commands e v is.awaited (decision_aims e (view_for c.queues c.commands e)) (not_some (find (is_command 0 e.cid) c.commands) free);
+      awaited = managed_awaited c.commands e v is.awaited (decision_aims e (view_for pages c.queues c.commands e)) (not_some (find (is_command 0 e.cid) c.commands) free);
     }
 
 -- An Abort that stops a command names one of an I/O queue.
@@ -230,24 +203,35 @@ Spares (Answer st dw0) = Unit {0}
 Spares (AbortJob q cid) = (q == 0) ≡ false
 Spares (StopQueue q) = Unit {0}
 Spares (DropCompletion q) = Unit {0}
-
-answer_spares : (b : Bool) (v w : AdminVerdict) → Spares v → Spares w → Spares (if b then v else w)
-answer_spares true v w a b = a
-answer_spares false v w a b = b
-
-abort_spares : (q cid : ℕ) (view : DeviceView) → Spares (abort_verdict q cid view)
-abort_spares q cid view =
-    if_by Spares (view.target_walks && not (q == 0)) (AbortJob q cid) (Answer SUCCESS 1) (λ h. was_false (q == 0) (both_true view.target_walks (not (q == 0)) h).1) (λ h. tt)
+Spares (MakeCompletion q base) = Unit {0}
+Spares (MakeSubmission q base) = Unit {0}
 
 decision_spares : (e : SubEntry) (view : DeviceView) → Spares (decision e view)
 decision_spares e view =
-    answer_spares (not ((e.opcode == ABORT) || (e.opcode == DELETE_IO_SQ) || (e.opcode == DELETE_IO_CQ))) (Answer INVALID_OPCODE 0) _ tt
-    (answer_spares (not (e.fuse == 0)) (Answer INVALID_FIELD 0) _ tt
-    (answer_spares (e.opcode == ABORT) (abort_verdict (named_queue e) (named_command e) view) _ (abort_spares (named_queue e) (named_command e) view)
-    (answer_spares (e.opcode == DELETE_IO_SQ) (delete_sq_verdict (named_queue e) view) (delete_cq_verdict (named_queue e) view)
-    (answer_spares ((named_queue e == 0) || not (is_live view.sq)) (Answer INVALID_QUEUE_IDENTIFIER 0) (StopQueue (named_queue e)) tt tt)
-    (answer_spares ((named_queue e == 0) || not view.cq_there) (Answer INVALID_QUEUE_IDENTIFIER 0) _ tt
-    (answer_spares (not (is_absent view.sq)) (Answer INVALID_QUEUE_DELETION 0) (DropCompletion (named_queue e)) tt tt)))))
+    decided Spares e view
+    (record {
+      refused = λ st r. tt;
+      too_late = λ op. tt;
+      aborts = λ h. h;
+      stops = λ h. tt;
+      drops = λ h. tt;
+      makes_completion = λ h l. tt;
+      makes_submission = λ h l. tt;
+    })
+
+-- a creation names a page below those of the pool
+pub decision_names : (e : SubEntry) (view : DeviceView) → view.pages < 2 ^ 32 → NamesPages (decision e view)
+decision_names e view few =
+    decided NamesPages e view
+    (record {
+      refused = λ st r. tt;
+      too_late = λ op. tt;
+      aborts = λ h. tt;
+      stops = λ h. tt;
+      drops = λ h. tt;
+      makes_completion = λ h l. omega (arith, few, l);
+      makes_submission = λ h l. omega (arith, few, l);
+    })
 
 zero_other : (q : ℕ) → (q == 0) ≡ false → (0 == q) ≡ false
 zero_other zero e = cc
@@ -272,19 +256,21 @@ own_spared e (StopQueue q) commands k s is =
     by true = refl
     by false = refl
 own_spared e (DropCompletion q) commands k s is = refl
+own_spared e (MakeCompletion q base) commands k s is = refl
+own_spared e (MakeSubmission q base) commands k s is = refl
 
 -- The controller behind an admin entry whose command was put first, and its verdict carried out then.
-pub managed_is : (c : Contents) (e : SubEntry) (w : AdminVerdict) (took queues : List ControllerQueue) (before after : List FetchedCommand) (k : FetchedCommand)
-    → w ≡ verdict_for c e → took ≡ change 0 with_taken c.queues → queues ≡ queues_after w took
+pub managed_is : (pages : ℕ) (c : Contents) (e : SubEntry) (w : AdminVerdict) (took queues : List ControllerQueue) (before after : List FetchedCommand) (k : FetchedCommand)
+    → w ≡ verdict_for pages c e → took ≡ change 0 with_taken c.queues → queues ≡ queues_after w took
     → k ≡ command_of 0 (admin_work e w) → before ≡ c.commands ++ k ∷ [] → after ≡ commands_after e.cid w before
-    → record { queues = queues; commands = after; image = c.image } ≡ managed e c
-managed_is c e w took queues before after k ew et eq ek eb ea =
-    let queues_are : queues ≡ (managed e c).queues = eq ∙ ap₂ queues_after ew et in
-    let spares : Spares w = subst Spares (sym ew) (decision_spares e (view_for c.queues c.commands e)) in
-    let commands_are : after ≡ (managed e c).commands =
+    → record { queues = queues; commands = after; image = c.image } ≡ managed pages e c
+managed_is pages c e w took queues before after k ew et eq ek eb ea =
+    let queues_are : queues ≡ (managed pages e c).queues = eq ∙ ap₂ queues_after ew et in
+    let spares : Spares w = subst Spares (sym ew) (decision_spares e (view_for pages c.queues c.commands e)) in
+    let commands_are : after ≡ (managed pages e c).commands =
     ea ∙ ap (commands_after e.cid w) eb ∙ own_spared e w c.commands k spares ek
     ∙ ap₂ (λ (v : AdminVerdict) (x : FetchedCommand). commands_after e.cid v c.commands ++ x ∷ []) ew (ek ∙ ap (λ (v : AdminVerdict). command_of 0 (admin_work e v)) ew) in
     ap₂ (λ (xs : List ControllerQueue) (ys : List FetchedCommand). record { queues = xs; commands = ys; image = c.image }) queues_are commands_are
 
-pub managed_sound : (c c' : Contents) (e : SubEntry) → IsController c → 0 < length c.queues → is_some (find (is_command 0 e.cid) c.commands) ≡ false → c' ≡ managed e c → IsController c'
-managed_sound c c' e is there free same = subst IsController (sym same) (managed_kept c e is there free)
+pub managed_sound : (pages : ℕ) (c c' : Contents) (e : SubEntry) → IsController c → 0 < length c.queues → is_some (find (is_command 0 e.cid) c.commands) ≡ false → c' ≡ managed pages e c → IsController c'
+managed_sound pages c c' e is there free same = subst IsController (sym same) (managed_kept pages c e is there free)

@@ -137,29 +137,29 @@ one_begin c q e x x' b b' = record {
   image = ap (λ (y : Contents). y.image) b.leaves ∙ sym (ap (λ (y : Contents). y.image) b'.leaves);
 }
 
-one_taken : (z : Bool) (c : Contents) (q : ℕ) (e : SubEntry) (x x' : Contents) → TakesIn z c q e x → TakesIn z c q e x' → AreAlike x x'
-one_taken true c q e x x' h g =
+one_taken : (z : Bool) (c : Contents) (pages q : ℕ) (e : SubEntry) (x x' : Contents) → TakesIn z c pages q e x → TakesIn z c pages q e x' → AreAlike x x'
+one_taken true c pages q e x x' h g =
     let same = h ∙ sym g in
     record { queues = ap (λ (y : Contents). y.queues) same; commands = ap (λ (y : Contents). map unplaced_command y.commands) same; image = ap (λ (y : Contents). y.image) same }
-one_taken false c q e x x' h g = one_begin c q e x x' h g
+one_taken false c pages q e x x' h g = one_begin c q e x x' h g
 
-one_take : (b : Bool) (c : Contents) (q : ℕ) (e : SubEntry) (m : Memory) (look : List ℕ) (x x' : Contents) (n n' : Memory) (t t' : List ℕ) → Takes b c q e m look x n t → Takes b c q e m look x' n' t' → AreAlike x x' × (n ≡ n') × (t ≡ t')
-one_take true c q e m look x x' n n' t t' h g =
+one_take : (b : Bool) (c : Contents) (pages q : ℕ) (e : SubEntry) (m : Memory) (look : List ℕ) (x x' : Contents) (n n' : Memory) (t t' : List ℕ) → Takes b c pages q e m look x n t → Takes b c pages q e m look x' n' t' → AreAlike x x' × (n ≡ n') × (t ≡ t')
+one_take true c pages q e m look x x' n n' t t' h g =
     let queue : h.0.queue ≡ g.0.queue = same_found h.0.here g.0.here in (
       record { queues = h.0.leaves ∙ sym g.0.leaves; commands = ap (map unplaced_command) (h.1 ∙ sym g.1); image = h.2 ∙ sym g.2 },
       h.0.memory ∙ ap (λ (z : ControllerQueue). memory_posted m z.device (completion_by q e.cid COMMAND_ID_CONFLICT 0 (with_taken z).device)) queue ∙ sym g.0.memory,
       h.0.touches ∙ ap (λ (z : ControllerQueue). look ++ page_posted z.device ∷ []) queue ∙ sym g.0.touches,
     )
-one_take false c q e m look x x' n n' t t' h g = (one_taken (q == 0) c q e x x' h.0 g.0, h.1 ∙ sym g.1, h.2 ∙ sym g.2)
+one_take false c pages q e m look x x' n n' t t' h g = (one_taken (q == 0) c pages q e x x' h.0 g.0, h.1 ∙ sym g.1, h.2 ∙ sym g.2)
 
-takes_same : (c : Contents) (q : ℕ) (e e' : SubEntry) (m : Memory) (look look' : List ℕ) (x : Contents) (n : Memory) (t : List ℕ) → e ≡ e' → look ≡ look' → Takes (is_known c q e) c q e m look x n t → Takes (is_known c q e') c q e' m look' x n t
-takes_same c q e e' m look look' x n t same looks h =
-    subst (λ (l : List ℕ). Takes (is_known c q e') c q e' m l x n t) looks (subst (λ (y : SubEntry). Takes (is_known c q y) c q y m look x n t) same h)
+takes_same : (c : Contents) (pages q : ℕ) (e e' : SubEntry) (m : Memory) (look look' : List ℕ) (x : Contents) (n : Memory) (t : List ℕ) → e ≡ e' → look ≡ look' → Takes (is_known c q e) c pages q e m look x n t → Takes (is_known c q e') c pages q e' m look' x n t
+takes_same c pages q e e' m look look' x n t same looks h =
+    subst (λ (l : List ℕ). Takes (is_known c q e') c pages q e' m l x n t) looks (subst (λ (y : SubEntry). Takes (is_known c q y) c pages q y m look x n t) same h)
 
 pub one_fetch : FetchesOneWay
-one_fetch c m s q cid cid' x x' n n' t t' w w' =
+one_fetch c pages m s q cid cid' x x' n n' t t' w w' =
     let l = one_look c m s q w.entry w'.entry w.looked w'.looked w.looks w'.looks in
-    let r = one_take (is_known c q w'.entry) c q w'.entry m w'.looked x x' n n' t t' (takes_same c q w.entry w'.entry m w.looked w'.looked x n t l.0 l.1 w.takes) w'.takes in
+    let r = one_take (is_known c q w'.entry) c pages q w'.entry m w'.looked x x' n n' t t' (takes_same c pages q w.entry w'.entry m w.looked w'.looked x n t l.0 l.1 w.takes) w'.takes in
     (w.named ∙ ap (λ (e : SubEntry). e.cid) l.0 ∙ sym w'.named, r.0, r.1, r.2)
 
 abbrev cause_of : Contents → Memory → ℕ → SubEntry → Option Refusal
@@ -185,7 +185,7 @@ no_refusal c m r q e t l =
     apart false h = h
 
 pub served_unless_memory : ServedUnlessMemory
-served_unless_memory c m s q cid why x n t t' w h =
+served_unless_memory c pages m s q cid why x n t t' w h =
     entry (subst (λ (o : Option Refusal). RefusedBy o c m s q why t') (no_refusal c m s q w.entry w.looked w.looks) h)
   where
     by : (b : Bool) → entry_refusal c m q w.entry ≡ None → (if b then entry_refusal c m q w.entry else Some refusal.Memory) ≡ Some why → why ≡ refusal.Memory

@@ -80,22 +80,22 @@ pub record AnswersKnown (queues : List ControllerQueue) (q cid : ℕ) (m : Memor
   pub touches : reached' ≡ reached ++ page_posted queue.device ∷ []
 
 -- An entry of queue 0 is decided at once, and one of an I/O queue begins a job.
-abbrev pub TakesIn : Bool → Contents → ℕ → SubEntry → Contents → Type 0
-TakesIn true c q e c' = c' ≡ managed e c
-TakesIn false c q e c' = Begins c q e c'
+abbrev pub TakesIn : Bool → Contents → ℕ → ℕ → SubEntry → Contents → Type 0
+TakesIn true c pages q e c' = c' ≡ managed pages e c
+TakesIn false c pages q e c' = Begins c q e c'
 
-abbrev pub Takes : Bool → Contents → ℕ → SubEntry → Memory → List ℕ → Contents → Memory → List ℕ → Type 0
-Takes true c q e m looked c' m' reached' = AnswersKnown c.queues q e.cid m looked c'.queues m' reached' × (c'.commands ≡ c.commands) × (c'.image ≡ c.image)
-Takes false c q e m looked c' m' reached' = TakesIn (q == 0) c q e c' × (m' ≡ m) × (reached' ≡ looked)
+abbrev pub Takes : Bool → Contents → ℕ → ℕ → SubEntry → Memory → List ℕ → Contents → Memory → List ℕ → Type 0
+Takes true c pages q e m looked c' m' reached' = AnswersKnown c.queues q e.cid m looked c'.queues m' reached' × (c'.commands ≡ c.commands) × (c'.image ≡ c.image)
+Takes false c pages q e m looked c' m' reached' = TakesIn (q == 0) c pages q e c' × (m' ≡ m) × (reached' ≡ looked)
 
--- What a fetch makes of a controller, of the memory and of the list of the pages touched.
-pub record FetchesTo (c : Contents) (m : Memory) (reached : List ℕ) (q cid : ℕ) (c' : Contents) (m' : Memory) (reached' : List ℕ) : Type 0 where
+-- What a fetch makes of a controller, of the memory and of the list of the pages touched, over a pool of so many pages.
+pub record FetchesTo (c : Contents) (pages : ℕ) (m : Memory) (reached : List ℕ) (q cid : ℕ) (c' : Contents) (m' : Memory) (reached' : List ℕ) : Type 0 where
   pub entry : SubEntry
   pub looked : List ℕ
   pub looks : LooksAt c m reached q entry looked
   pub named : cid ≡ entry.cid
   pub room : entry_refusal c m q entry ≡ None
-  pub takes : Takes (is_known c q entry) c q entry m looked c' m' reached'
+  pub takes : Takes (is_known c q entry) c pages q entry m looked c' m' reached'
 
 -- What one is refused for: nothing to look at, no room for an answer at once, or else memory for the command.
 pub record RefusedEntry (c : Contents) (m : Memory) (reached : List ℕ) (q : ℕ) (why : Refusal) (reached' : List ℕ) : Type 0 where
@@ -107,6 +107,6 @@ abbrev pub RefusedBy : Option Refusal → Contents → Memory → List ℕ → �
 RefusedBy (Some cause) c m reached q why reached' = (why ≡ cause) × (reached' ≡ reached)
 RefusedBy None c m reached q why reached' = RefusedEntry c m reached q why reached'
 
-abbrev pub Fetches : Contents → Memory → List ℕ → ℕ → Result ℕ Refusal → Contents → Memory → List ℕ → Type 0
-Fetches c m reached q (Ok cid) c' m' reached' = FetchesTo c m reached q cid c' m' reached'
-Fetches c m reached q (Err why) c' m' reached' = RefusedBy (look_refusal c m q) c m reached q why reached' × (c' ≡ c) × (m' ≡ m)
+abbrev pub Fetches : Contents → ℕ → Memory → List ℕ → ℕ → Result ℕ Refusal → Contents → Memory → List ℕ → Type 0
+Fetches c pages m reached q (Ok cid) c' m' reached' = FetchesTo c pages m reached q cid c' m' reached'
+Fetches c pages m reached q (Err why) c' m' reached' = RefusedBy (look_refusal c m q) c m reached q why reached' × (c' ≡ c) × (m' ≡ m)

@@ -37,8 +37,8 @@ CompletesOneWay =
 
 abbrev pub FetchesOneWay : Type 0
 FetchesOneWay =
-    (c : Contents) (m : Memory) (r : List ℕ) (q cid cid' : ℕ) (x x' : Contents) (n n' : Memory) (t t' : List ℕ)
-    → FetchesTo c m r q cid x n t → FetchesTo c m r q cid' x' n' t' → (cid ≡ cid') × AreAlike x x' × (n ≡ n') × (t ≡ t')
+    (c : Contents) (pages : ℕ) (m : Memory) (r : List ℕ) (q cid cid' : ℕ) (x x' : Contents) (n n' : Memory) (t t' : List ℕ)
+    → FetchesTo c pages m r q cid x n t → FetchesTo c pages m r q cid' x' n' t' → (cid ≡ cid') × AreAlike x x' × (n ≡ n') × (t ≡ t')
 
 -- A refusal is determined too, and a fetch that can be served is refused for want of memory alone.
 abbrev pub RefusesOneWay : Type 0
@@ -48,5 +48,5 @@ RefusesOneWay =
 
 abbrev pub ServedUnlessMemory : Type 0
 ServedUnlessMemory =
-    (c : Contents) (m : Memory) (r : List ℕ) (q cid : ℕ) (why : Refusal) (x : Contents) (n : Memory) (t t' : List ℕ)
-    → FetchesTo c m r q cid x n t → RefusedBy (look_refusal c m q) c m r q why t' → why ≡ refusal.Memory
+    (c : Contents) (pages : ℕ) (m : Memory) (r : List ℕ) (q cid : ℕ) (why : Refusal) (x : Contents) (n : Memory) (t t' : List ℕ)
+    → FetchesTo c pages m r q cid x n t → RefusedBy (look_refusal c m q) c m r q why t' → why ≡ refusal.Memory

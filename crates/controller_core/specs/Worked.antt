@@ -1,6 +1,9 @@
 -- A controller for worked runs: an admin queue in the pages 0 and 1, an I/O queue in the pages 2 and 3, four entries in each ring, over an
 -- image of one block of bytes 11h. The first slot of the I/O queue has the entry of a Read of that block to the page at 4000h.
-use Rattle.std.specs.Prelude.{ℕ, ◌∷◌, [], List, Option, Some, None, replicate, slice_range}
+use Rattle.std.specs.Prelude.{ℕ, ◌∷◌, ◌++◌, [], List, Option, Some, None, true, replicate, slice_range}
+use Rattle.admin_commands.specs.Entries.{admin_entry}
+use Rattle.admin_commands.specs.declared.AdminKind.TheVariants.{CreateCq, CreateSq}
+use Rattle.admin_commands.specs.declared.SqState.TheVariants.{Live}
 use Rattle.controller_walk.specs.Worked.{eight_pages}
 use Rattle.controller_walk.specs.declared.progress.State.{State}
 use Rattle.controller_walk.specs.declared.progress.State.TheVariants.{First, Data, Over}
@@ -14,13 +17,14 @@ use Rattle.page_memory.specs.Memory.{Memory, written}
 use Rattle.queue_pair.specs.Rings.{fresh_device_ring}
 use Rattle.sgl_descriptor.specs.declared.Direction.TheVariants.{Destination}
 use Rattle.controller_core.specs.Answering.{completion_by}
-use Rattle.controller_core.specs.Completing.{completed}
-use Rattle.controller_core.specs.Contents.{Contents}
+use Rattle.controller_core.specs.Completing.{completed, without_submission}
+use Rattle.controller_core.specs.Contents.{Contents, change}
 use Rattle.controller_core.specs.Doorbells.{tail_rung}
 use Rattle.controller_core.specs.Fetching.{begun}
-use Rattle.controller_core.specs.Managing.{command_of}
+use Rattle.controller_core.specs.Managing.{command_of, managed, without_completion}
 use Rattle.controller_core.specs.Opening.{opened}
 use Rattle.controller_core.specs.declared.command.Work.TheVariants.{Io}
+use Rattle.controller_core.specs.declared.queue.ControllerQueue.{ControllerQueue}
 use Rattle.controller_core.specs.declared.queue.QueuePages.{QueuePages}
 
 abbrev pub block : List ℕ
@@ -86,3 +90,46 @@ wrong_opcode = record first_read { opcode = 0x77 }
 -- the halfword of status and phase in the first completion of a queue, for a command that ends so
 abbrev pub status_bytes : Status → List ℕ
 status_bytes st = slice_range (completion_bytes (completion_by 1 0 st 0 (record { q = 1; entries = 4; sq = 2; cq = 3; ring = fresh_device_ring }))) 14 16
+
+-- the entries that make the I/O queue again, once it is deleted: its completion queue at 6000h, and its submission queue at 5000h
+abbrev pub create_cq : SubEntry
+create_cq = admin_entry (CreateCq 1 4 0x6000) 0
+
+abbrev pub create_sq : SubEntry
+create_sq = admin_entry (CreateSq 1 4 0x5000) 1
+
+abbrev pub create_cq_bytes : List ℕ
+create_cq_bytes =
+    0x05 ∷ 0x00 ∷ 0x00 ∷ 0x00 ∷ []
+    ++ replicate 21 0x00
+    ++ 0x60 ∷ []
+    ++ replicate 14 0x00
+    ++ 0x01 ∷ 0x00 ∷ 0x03 ∷ 0x00 ∷ []
+    ++ 0x01 ∷ 0x00 ∷ 0x00 ∷ 0x00 ∷ []
+    ++ replicate 16 0x00
+
+abbrev pub create_sq_bytes : List ℕ
+create_sq_bytes =
+    0x01 ∷ 0x00 ∷ 0x01 ∷ 0x00 ∷ []
+    ++ replicate 21 0x00
+    ++ 0x50 ∷ []
+    ++ replicate 14 0x00
+    ++ 0x01 ∷ 0x00 ∷ 0x03 ∷ 0x00 ∷ []
+    ++ 0x01 ∷ 0x00 ∷ 0x01 ∷ 0x00 ∷ []
+    ++ replicate 16 0x00
+
+-- both in the slots of queue 0, at a controller that has neither half of the I/O queue
+abbrev pub memory_with_creations : Memory
+memory_with_creations = written (written eight_pages 0x0000 create_cq_bytes) 0x0040 create_sq_bytes
+
+abbrev pub without_queue : Contents
+without_queue = tail_rung 0 2 (record fresh { queues = change 1 without_completion (change 1 without_submission fresh.queues) })
+
+abbrev pub with_completion_made : Contents
+with_completion_made = managed 8 create_cq without_queue
+
+abbrev pub with_queue_made : Contents
+with_queue_made = managed 8 create_sq with_completion_made
+
+abbrev pub made_queue : ControllerQueue
+made_queue = record { state = Live; cq_there = true; device = record { q = 1; entries = 4; sq = 5; cq = 6; ring = fresh_device_ring } }

@@ -27,14 +27,14 @@ pub struct Controller<A: Allocator = Global> {
 }
 
 impl<A: Allocator> Model for Controller<A> {
-    ghost use Rattle.std.specs.Prelude.{◌≡◌, length};
+    ghost use Rattle.std.specs.Prelude.{◌≡◌, ◌≤◌, length};
     ghost use Rattle.controller_core.specs.Contents.{Contents, IsController};
 
     ghost Value = { Contents };
 
     ghost view = { λ c. record { queues = c.queues.items; commands = c.commands.list; image = c.image } };
 
-    ghost invariant = { λ c. IsController (record { queues = c.queues.items; commands = c.commands.list; image = c.image }) × (c.commands.queues ≡ length c.queues.items) };
+    ghost invariant = { λ c. IsController (record { queues = c.queues.items; commands = c.commands.list; image = c.image }) × (c.commands.queues ≡ length c.queues.items) × (length c.queues.items ≤ 65536) };
 }
 
 /// Memory was refused to a controller that opens.

@@ -149,15 +149,18 @@ impl<A: Allocator + Copy> Controller<A> {
     }
 
     /// Takes the entry at the head of queue 0, decides it and does what was decided, and keeps it as a command behind the others.
-    fn manage_entry(&mut self, entry: SubEntry) -> Result<(), AllocError>
+    fn manage_entry(&mut self, pages: u32, entry: SubEntry) -> Result<(), AllocError>
         requires there { 0 < length self.old.queues }
         requires rung { IfSome (slice_get self.old.queues 0) (λ queue. queue.device.ring.head ≢ queue.device.ring.bell) }
         requires unknown { is_some (find (is_command 0 entry.cid) self.old.commands) ≡ false }
-        ensures managed { OnOk result (self.new ≡ managed entry self.old) }
+        ensures managed { OnOk result (self.new ≡ managed pages entry self.old) }
         ensures sound { IsController self.new }
         ensures refused { OnErr result (self.new ≡ self.old) }
     {
-        let verdict = decide(&entry, &view_of(&self.queues, &self.commands, &entry));
+        let verdict = decide(
+            &entry,
+            &view_of(pages, &self.queues, &self.commands, &entry),
+        );
         let (status, dw0) = end_of(verdict);
         let cid = entry.cid;
         self.commands
@@ -167,12 +170,12 @@ impl<A: Allocator + Copy> Controller<A> {
         Ok(())
     }
 
-    /// Fetches the entry at the head of a submission queue: the identifier of its command. An entry of an I/O queue begins a job: where
-    /// a field check fails, that is its verdict, and a Read takes its blocks from the image as it is now. An entry of queue 0 is decided
-    /// here: an Abort stops its command, the deletion of a submission queue stops that queue and its commands, and the deletion of a
-    /// completion queue drops it. An identifier that was fetched from the queue and not completed is answered at once, with Command
-    /// Identifier Conflict. The list of the touched pages has one page at most before. It gets the entry's page, and behind it that of
-    /// such an answer.
+    /// Fetches the entry at the head of a submission queue: the identifier of its command. An entry of an I/O queue begins a job: where a
+    /// field check fails, that is its verdict, and a Read takes its blocks from the image as it is now. An entry of queue 0 is decided
+    /// here: an Abort stops its command, the deletion of a submission queue stops that queue and its commands, the deletion of a completion
+    /// queue drops it, and a creation makes its queue, with empty rings at the pages that it names. An identifier that was fetched from the
+    /// queue and not completed is answered at once, with Command Identifier Conflict. The list of the touched pages has one page at most
+    /// before. It gets the entry's page, and behind it that of such an answer.
     ///
     /// # Errors
     ///
@@ -182,7 +185,7 @@ impl<A: Allocator + Copy> Controller<A> {
     /// entry's page from the third on.
     pub fn fetch<D: Dma>(&mut self, q: u16, dma: &mut D) -> Result<u16, Refusal>
         requires room { length (D.reached dma.old) ≤ 1 }
-        ensures fetches { Fetches self.old (D.memory dma.old) (D.reached dma.old) q result self.new (D.memory dma.new) (D.reached dma.new) }
+        ensures fetches { Fetches self.old (D.page_count dma.old) (D.memory dma.old) (D.reached dma.old) q result self.new (D.memory dma.new) (D.reached dma.new) }
         ensures sound { IsController self.new }
         ensures pool { D.page_count dma.new ≡ D.page_count dma.old }
     {
@@ -193,7 +196,7 @@ impl<A: Allocator + Copy> Controller<A> {
             return Ok(cid);
         }
         if q == 0 {
-            self.manage_entry(entry)?;
+            self.manage_entry(dma.pool_pages(), entry)?;
             return Ok(cid);
         }
         self.begin_entry(q, &entry)?;

@@ -1,9 +1,9 @@
 //! What an entry of queue 0 does as it is fetched.
 
-ghost use Rattle.std.specs.Prelude.{◌≡◌, find, false, is_none};
+ghost use Rattle.std.specs.Prelude.{◌≡◌, ◌<◌, ◌≤◌, ◌^◌, ◌*◌, find, false, is_none, length};
 ghost use Rattle.std.specs.Option.{option_map_or};
 ghost use Rattle.controller_core.specs.Contents.{change, verdict_of_work, is_command};
-ghost use Rattle.controller_core.specs.Managing.{view_for, stopped_work, stopped_with_queue, stopping, without_completion, status_of_verdict, dw0_of_verdict, commands_after, queues_after};
+ghost use Rattle.controller_core.specs.Managing.{view_for, stopped_work, stopped_with_queue, stopping, with_completion, with_submission, without_completion, status_of_verdict, dw0_of_verdict, commands_after, queues_after, NamesPages};
 
 use crate::command::{FetchedCommand, Work};
 use crate::commands::Commands;
@@ -23,27 +23,30 @@ fn is_walking<A: Allocator>(commands: &Commands<A>, q: u16, cid: u16) -> bool
     }
 }
 
-/// What the rule of an admin entry looks at.
+/// What the rule of an admin entry looks at, over a pool of so many pages.
 pub(crate) fn view_of<A: Allocator>(
+    pages: u32,
     queues: &[ControllerQueue],
     commands: &Commands<A>,
     entry: &SubEntry,
 ) -> DeviceView
-    ensures { result ≡ view_for queues.now commands.now.list entry.now }
+    requires some { 0 < length queues.now }
+    requires few { length queues.now ≤ 65536 }
+    ensures { result ≡ view_for pages queues.now commands.now.list entry.now }
 {
     let q = queue_of(entry);
     let target_walks = is_walking(commands, q, command_of(entry));
-    match queues.get(usize::from(q)) {
-        Some(queue) => DeviceView {
-            sq: queue.state,
-            cq_there: queue.cq_there,
-            target_walks,
-        },
-        None => DeviceView {
-            sq: SqState::Absent,
-            cq_there: false,
-            target_walks,
-        },
+    let (sq, cq_there, entries) = match queues.get(usize::from(q)) {
+        Some(queue) => (queue.state, queue.cq_there, queue.device.entries()),
+        None => (SqState::Absent, false, 0),
+    };
+    DeviceView {
+        sq,
+        cq_there,
+        target_walks,
+        queues: (queues.len() - 1) as u16,
+        entries,
+        pages,
     }
 }
 
@@ -92,6 +95,26 @@ fn drop_completion<A: Allocator>(queues: &mut Vec<ControllerQueue, A>, q: u16)
     }
 }
 
+/// Makes the completion side of a queue, where there is such a queue: its ring begins at an address, and is empty.
+fn make_completion<A: Allocator>(queues: &mut Vec<ControllerQueue, A>, q: u16, base: u64)
+    requires { base < 4096 * 2 ^ 32 }
+    ensures { queues.new.items ≡ change q (with_completion base) queues.old.items }
+{
+    if usize::from(q) < queues.len() {
+        queues[usize::from(q)].renew_completion(base);
+    }
+}
+
+/// Makes the submission side of a queue, where there is such a queue: its ring begins at an address, and is empty.
+fn make_submission<A: Allocator>(queues: &mut Vec<ControllerQueue, A>, q: u16, base: u64)
+    requires { base < 4096 * 2 ^ 32 }
+    ensures { queues.new.items ≡ change q (with_submission base) queues.old.items }
+{
+    if usize::from(q) < queues.len() {
+        queues[usize::from(q)].renew_submission(base);
+    }
+}
+
 /// How a command ends that has this verdict: its status, and the command specific double word of its completion.
 pub(crate) fn end_of(verdict: AdminVerdict) -> (Status, u32)
     ensures status { result.0 ≡ status_of_verdict verdict }
@@ -110,6 +133,7 @@ pub(crate) fn act<A: Allocator>(
     abort: u16,
     verdict: AdminVerdict,
 )
+    requires pages { NamesPages verdict }
     ensures queues { queues.new.items ≡ queues_after verdict queues.old.items }
     ensures commands { commands.new ≡ record commands.old { list = commands_after abort verdict commands.old.list } }
 {
@@ -121,5 +145,7 @@ pub(crate) fn act<A: Allocator>(
             stop_queue(queues, q);
         }
         AdminVerdict::DropCompletion { q } => drop_completion(queues, q),
+        AdminVerdict::MakeCompletion { q, base } => make_completion(queues, q, base),
+        AdminVerdict::MakeSubmission { q, base } => make_submission(queues, q, base),
     }
 }

@@ -1,10 +1,11 @@
 //! A queue at the controller.
 
-ghost use Rattle.std.specs.Prelude.{◌≡◌};
+ghost use Rattle.std.specs.Prelude.{◌≡◌, ◌<◌, ◌*◌, ◌/◌, ◌^◌};
 ghost use Rattle.controller_core.specs.Doorbells.{with_tail, with_head};
+ghost use Rattle.controller_core.specs.Managing.{with_completion, with_submission};
 
 use admin_commands::SqState;
-use page_memory::PageNo;
+use page_memory::{Half, PageNo};
 use queue_pair::DevicePair;
 
 /// Where the two halves of a queue begin.
@@ -27,6 +28,14 @@ pub struct ControllerQueue {
     pub device: DevicePair,
 }
 
+/// The page of an address that a creation names.
+fn page_at(base: u64) -> PageNo
+    requires { base < 4096 * 2 ^ 32 }
+    ensures { result ≡ base / 4096 }
+{
+    PageNo((base / 4096) as u32)
+}
+
 impl ControllerQueue {
     /// Hears a tail, where it is a slot of the ring.
     pub(crate) fn hear_tail(&mut self, value: u16)
@@ -46,5 +55,25 @@ impl ControllerQueue {
             Ok(()) => {}
             Err(_) => {}
         }
+    }
+
+    /// Makes the completion side anew: its ring begins at an address, and is empty.
+    pub(crate) fn renew_completion(&mut self, base: u64)
+        requires { base < 4096 * 2 ^ 32 }
+        ensures { self.new ≡ with_completion base self.old }
+    {
+        let sq = self.device.first_page(Half::Submission);
+        self.device.renew(sq, page_at(base));
+        self.cq_there = true;
+    }
+
+    /// Makes the submission side anew: its ring begins at an address, and is empty.
+    pub(crate) fn renew_submission(&mut self, base: u64)
+        requires { base < 4096 * 2 ^ 32 }
+        ensures { self.new ≡ with_submission base self.old }
+    {
+        let cq = self.device.first_page(Half::Completion);
+        self.device.renew(page_at(base), cq);
+        self.state = SqState::Live;
     }
 }

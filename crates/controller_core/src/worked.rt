@@ -1,25 +1,25 @@
 //! Worked runs of the definitions. Each function does nothing, and its clauses are the run.
 #![tactic(auto, unfolding(page_memory::specs::Memory::bytes_at, sgl_descriptor::specs::Spelling::descriptor_of, entry_codec::specs::Submission::submission_of, entry_codec::specs::Completion::completion_bytes, controller_walk::specs::Units::moving, controller_walk::specs::Units::from_place))]
 
-ghost use Rattle.std.specs.Prelude.{◌≡◌, ◌∷◌, [], None, Some, replicate};
+ghost use Rattle.std.specs.Prelude.{◌≡◌, ◌∷◌, [], None, Some, replicate, slice_get};
 ghost use Rattle.admin_commands.specs.Entries.{admin_entry};
-ghost use Rattle.admin_commands.specs.declared.AdminKind.TheVariants.{Abort};
+ghost use Rattle.admin_commands.specs.declared.AdminKind.TheVariants.{Abort, CreateCq};
 ghost use Rattle.controller_walk.specs.declared.walk.WalkState.TheVariants.{More, End};
 ghost use Rattle.entry_codec.specs.Worked.{first_completion_bytes};
-ghost use Rattle.entry_codec.specs.declared.status.TheConstants.Status.{INVALID_OPCODE, DATA_TRANSFER_ERROR, INVALID_SGL_SEGMENT, INVALID_SGL_COUNT, DATA_SGL_LENGTH_INVALID, SGL_TYPE_INVALID};
+ghost use Rattle.entry_codec.specs.declared.status.TheConstants.Status.{SUCCESS, INVALID_OPCODE, INVALID_FIELD, DATA_TRANSFER_ERROR, INVALID_SGL_SEGMENT, INVALID_SGL_COUNT, DATA_SGL_LENGTH_INVALID, SGL_TYPE_INVALID};
 ghost use Rattle.page_memory.specs.Memory.{bytes_at};
 ghost use Rattle.controller_core.specs.Completing.{CompletesTo, complete_refusal};
 ghost use Rattle.controller_core.specs.Doorbells.{tail_rung, head_rung};
 ghost use Rattle.controller_core.specs.Fetching.{FetchesTo, look_refusal};
 ghost use Rattle.controller_core.specs.Managing.{command_of, managed};
 ghost use Rattle.controller_core.specs.Walking.{WalksTo, walk_refusal};
-ghost use Rattle.controller_core.specs.Worked.{fresh, rung, memory_with_entry, with_read_begun, with_read_halfway, with_read_walked, with_read_completed, memory_with_data, memory_with_completion, wrong_opcode, status_bytes};
+ghost use Rattle.controller_core.specs.Worked.{fresh, rung, memory_with_entry, with_read_begun, with_read_halfway, with_read_walked, with_read_completed, memory_with_data, memory_with_completion, wrong_opcode, status_bytes, create_cq, create_sq, memory_with_creations, without_queue, with_completion_made, with_queue_made, made_queue};
 ghost use Rattle.controller_core.specs.declared.command.Work.TheVariants.{Admin};
 ghost use Rattle.controller_core.specs.declared.refusal.Refusal.TheVariants as refusal;
 
 /// A Read of one block, from the entry in memory to the completion in memory, with the pages that each call touches behind those that were touched before.
 pub fn worked_first_read()
-    ensures fetch { FetchesTo rung memory_with_entry [] 1 0 with_read_begun memory_with_entry (2 ∷ []) }
+    ensures fetch { FetchesTo rung 8 memory_with_entry [] 1 0 with_read_begun memory_with_entry (2 ∷ []) }
     ensures first_unit { WalksTo with_read_begun 1 0 memory_with_entry (2 ∷ []) More with_read_halfway memory_with_entry (2 ∷ []) }
     ensures second_unit { WalksTo with_read_halfway 1 0 memory_with_entry (2 ∷ []) End with_read_walked memory_with_data (2 ∷ 4 ∷ []) }
     ensures completion { CompletesTo with_read_walked 1 0 memory_with_data (2 ∷ 4 ∷ []) with_read_completed memory_with_completion (2 ∷ 4 ∷ 3 ∷ []) }
@@ -47,10 +47,25 @@ pub fn worked_doorbells()
 
 /// An entry of queue 0 with a wrong opcode, and an Abort of the Read in the midst of its walk, which waits for it.
 pub fn worked_admin()
-    ensures wrong { (managed wrong_opcode fresh).commands ≡ command_of 0 (Admin wrong_opcode INVALID_OPCODE 0) ∷ [] }
-    ensures waits { complete_refusal (managed (admin_entry (Abort 1 0) 0) with_read_halfway) memory_with_entry 0 0 ≡ Some refusal.Waits }
-    ensures stopped { walk_refusal (managed (admin_entry (Abort 1 0) 0) with_read_halfway) 1 0 ≡ Some refusal.Nothing }
-    ensures too_late { complete_refusal (managed (admin_entry (Abort 1 0) 0) with_read_walked) memory_with_data 0 0 ≡ None }
+    ensures wrong { (managed 8 wrong_opcode fresh).commands ≡ command_of 0 (Admin wrong_opcode INVALID_OPCODE 0) ∷ [] }
+    ensures waits { complete_refusal (managed 8 (admin_entry (Abort 1 0) 0) with_read_halfway) memory_with_entry 0 0 ≡ Some refusal.Waits }
+    ensures stopped { walk_refusal (managed 8 (admin_entry (Abort 1 0) 0) with_read_halfway) 1 0 ≡ Some refusal.Nothing }
+    ensures too_late { complete_refusal (managed 8 (admin_entry (Abort 1 0) 0) with_read_walked) memory_with_data 0 0 ≡ None }
+{}
+
+/// The halves of a queue that was deleted are made again, from their entries in memory: it is live, with empty rings at the pages named.
+pub fn worked_creations()
+    ensures completion { FetchesTo without_queue 8 memory_with_creations [] 0 0 with_completion_made memory_with_creations (0 ∷ []) }
+    ensures submission { FetchesTo with_completion_made 8 memory_with_creations (0 ∷ []) 0 1 with_queue_made memory_with_creations (0 ∷ 0 ∷ []) }
+    ensures queue { slice_get with_queue_made.queues 1 ≡ Some made_queue }
+    ensures ends { with_queue_made.commands ≡ command_of 0 (Admin create_cq SUCCESS 0) ∷ command_of 0 (Admin create_sq SUCCESS 0) ∷ [] }
+{}
+
+/// A completion queue that would begin inside a page, and one that would begin where the pool ends: invalid field, and nothing is made.
+pub fn worked_refused_creations()
+    ensures inside { (managed 8 (admin_entry (CreateCq 1 4 0x6010) 0) without_queue).commands ≡ command_of 0 (Admin (admin_entry (CreateCq 1 4 0x6010) 0) INVALID_FIELD 0) ∷ [] }
+    ensures behind { (managed 8 (admin_entry (CreateCq 1 4 0x8000) 0) without_queue).commands ≡ command_of 0 (Admin (admin_entry (CreateCq 1 4 0x8000) 0) INVALID_FIELD 0) ∷ [] }
+    ensures unmade { slice_get (managed 8 (admin_entry (CreateCq 1 4 0x6010) 0) without_queue).queues 1 ≡ slice_get without_queue.queues 1 }
 {}
 
 /// The bytes that tell the guest of each fault of a walk, in the first pass of the ring.

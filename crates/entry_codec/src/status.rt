@@ -43,8 +43,12 @@ impl Status {
     pub const SGL_TYPE_INVALID: Status = Status { sct: 0, sc: 0x11 };
     /// LBA Out of Range (Generic Command Status Values, those of the NVM Command Set).
     pub const LBA_OUT_OF_RANGE: Status = Status { sct: 0, sc: 0x80 };
+    /// Completion Queue Invalid (Command Specific Status Values).
+    pub const COMPLETION_QUEUE_INVALID: Status = Status { sct: 1, sc: 0x00 };
     /// Invalid Queue Identifier (Command Specific Status Values).
     pub const INVALID_QUEUE_IDENTIFIER: Status = Status { sct: 1, sc: 0x01 };
+    /// Invalid Queue Size (Command Specific Status Values).
+    pub const INVALID_QUEUE_SIZE: Status = Status { sct: 1, sc: 0x02 };
     /// Invalid Queue Deletion (Command Specific Status Values).
     pub const INVALID_QUEUE_DELETION: Status = Status { sct: 1, sc: 0x0C };
     /// Compare Failure (Media and Data Integrity Errors).
@@ -79,7 +83,9 @@ pub fn code_values()
     ensures data_sgl_length_invalid { Status.DATA_SGL_LENGTH_INVALID ≡ record { sct = 0; sc = 0x0F } }
     ensures sgl_type_invalid { Status.SGL_TYPE_INVALID ≡ record { sct = 0; sc = 0x11 } }
     ensures lba_out_of_range { Status.LBA_OUT_OF_RANGE ≡ record { sct = 0; sc = 0x80 } }
+    ensures completion_queue_invalid { Status.COMPLETION_QUEUE_INVALID ≡ record { sct = 1; sc = 0x00 } }
     ensures invalid_queue_identifier { Status.INVALID_QUEUE_IDENTIFIER ≡ record { sct = 1; sc = 0x01 } }
+    ensures invalid_queue_size { Status.INVALID_QUEUE_SIZE ≡ record { sct = 1; sc = 0x02 } }
     ensures invalid_queue_deletion { Status.INVALID_QUEUE_DELETION ≡ record { sct = 1; sc = 0x0C } }
     ensures compare_failure { Status.COMPARE_FAILURE ≡ record { sct = 2; sc = 0x85 } }
 {}

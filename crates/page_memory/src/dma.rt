@@ -29,6 +29,10 @@ pub trait Dma {
     // how many pages the pool has
     ghost page_count: { Self → ℕ };
 
+    /// How many pages the pool has.
+    fn pool_pages(&self) -> u32
+        ensures { result ≡ page_count self.now };
+
     /// Fills the buffer with the bytes from an address on, or answers `Unreadable` exactly where one is missing.
     fn read(&mut self, addr: u64, into: &mut [u8]) -> Result<(), Unreadable>
         requires room { length (reached self.old) ≤ 2 }

@@ -133,6 +133,10 @@ impl<A: Allocator> Dma for FlatMemory<A> {
 
     ghost page_count = { λ m. length m.bytes / 4096 };
 
+    fn pool_pages(&self) -> u32 {
+        (self.bytes.len() / 4096) as u32
+    }
+
     fn read(&mut self, addr: u64, into: &mut [u8]) -> Result<(), Unreadable> {
         if !self.is_there(addr, into.len()) {
             return Err(Unreadable);

@@ -225,6 +225,10 @@ impl<A: Allocator> Dma for Store<A> {
 
     ghost page_count = { λ s. length s.pages };
 
+    fn pool_pages(&self) -> u32 {
+        self.pages()
+    }
+
     fn read(&mut self, addr: u64, into: &mut [u8]) -> Result<(), Unreadable> {
         let range = Range::new(addr, into.len());
         let (front, back) = into.split_at_mut(range.front);

@@ -43,6 +43,11 @@ pub record DeviceSide : Type 0 where
   pub cq : ℕ
   pub ring : DeviceRing
 
+-- and the same of the controller
+abbrev pub first_page_at : Half → DeviceSide → ℕ
+first_page_at Submission side = side.sq
+first_page_at Completion side = side.cq
+
 pub record IsHostSide (side : HostSide) : Type 0 where
   pub least : 2 ≤ side.entries
   pub most : side.entries ≤ 1024

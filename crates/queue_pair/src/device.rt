@@ -4,7 +4,7 @@ ghost use Rattle.std.specs.Prelude.{◌≡◌, ◌≢◌, ◌<◌, ◌≤◌, �
 ghost use Rattle.page_memory.specs.Memory.{Memory, written};
 ghost use Rattle.entry_codec.specs.Completion.{completion_bytes, FitsCompletion};
 ghost use Rattle.queue_pair.specs.Slots.{is_full, is_in_range};
-ghost use Rattle.queue_pair.specs.Rings.{HostSide, IsHostSide, IsDeviceSide, fresh_device_ring, hearing_tail, hearing_head, entry_taken, answer_posted};
+ghost use Rattle.queue_pair.specs.Rings.{HostSide, IsHostSide, IsDeviceSide, first_page_at, fresh_device_ring, hearing_tail, hearing_head, entry_taken, answer_posted};
 ghost use Rattle.queue_pair.specs.Memory.{completion_place, submission_page, completion_page, submission_slot, completion_slot, entry_at, phased};
 ghost use Rattle.queue_pair.specs.Lists.{unfetched, rung, answers, front, IsPair, HasPhases, AreTied};
 
@@ -12,7 +12,7 @@ use crate::fault::{BadBell, PostFault, SlotOut};
 use crate::image::completion_image;
 use crate::slots::{completion_address, lies_between, phase_after, slot_after, submission_address};
 use entry_codec::{ComEntry, SubEntry};
-use page_memory::{Dma, PageNo};
+use page_memory::{Dma, Half, PageNo};
 use std::marker::Model;
 
 /// The controller's side of a queue pair: where it takes entries and posts completions, and what it heard by doorbells.
@@ -62,6 +62,32 @@ impl DevicePair {
             tail: 0,
             phase: true,
             known_head: 0,
+        }
+    }
+
+    /// Makes the side as [`DevicePair::open`] makes one, over halves that begin at the pages `sq` and `cq`: nothing is rung, and the
+    /// first completion is posted with phase 1. The number of the queue and of its entries stay.
+    pub fn renew(&mut self, sq: PageNo, cq: PageNo)
+        ensures renewed { self.new ≡ record self.old { sq = sq; cq = cq; ring = fresh_device_ring } }
+        ensures proper { IsDeviceSide self.new }
+    {
+        *self = DevicePair::open(self.q, self.entries, sq, cq);
+    }
+
+    /// The entries of each ring.
+    pub fn entries(&self) -> u16
+        ensures { result ≡ self.now.entries }
+    {
+        self.entries
+    }
+
+    /// The first page of a half.
+    pub fn first_page(&self, half: Half) -> PageNo
+        ensures { result ≡ first_page_at half self.now }
+    {
+        match half {
+            Half::Submission => self.sq,
+            Half::Completion => self.cq,
         }
     }
 

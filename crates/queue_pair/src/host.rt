@@ -76,6 +76,22 @@ impl<A: Allocator + Clone> HostPair<A> {
 }
 
 impl<A: Allocator> HostPair<A> {
+    /// Makes the side as [`HostPair::open`] makes one, over halves that begin at the pages `sq` and `cq`: nothing is posted, the first
+    /// completion is expected with phase 1, and no identifier is claimed. The number of the queue and of its entries stay. It takes no
+    /// memory.
+    pub fn renew(&mut self, sq: PageNo, cq: PageNo)
+        ensures renewed { self.new ≡ record self.old { sq = sq; cq = cq; ring = fresh_host_ring; claimed = none_claimed (self.old.entries - 1) } }
+        ensures proper { IsHostSide self.new }
+    {
+        self.sq = sq;
+        self.cq = cq;
+        self.head = 0;
+        self.phase = true;
+        self.known_head = 0;
+        self.tail = 0;
+        self.free.fill(true);
+    }
+
     /// Puts an entry into the slot at the tail and answers that slot. The controller sees it once the tail is rung.
     ///
     /// # Errors

@@ -6,7 +6,7 @@ ghost use Rattle.page_memory.specs.Memory.{Memory, written, pages_reached};
 ghost use Rattle.page_memory.specs.Pages.{Pages, page_at, byte_at, zero_page, AreWhole};
 ghost use Rattle.page_memory.specs.declared.page.Half.TheVariants.{Submission, Completion};
 ghost use Rattle.queue_pair.specs.Slots.{next_slot, distance, is_full, is_in_range, moved};
-ghost use Rattle.queue_pair.specs.Rings.{HostSide, DeviceSide, IsHostSide, IsDeviceSide, fresh_host_ring, fresh_device_ring, next_tail, next_head, knowing, hearing_tail, hearing_head, entry_taken, answer_posted};
+ghost use Rattle.queue_pair.specs.Rings.{HostSide, DeviceSide, IsHostSide, IsDeviceSide, fresh_host_ring, fresh_device_ring, next_tail, next_head, knowing, hearing_tail, hearing_head, entry_taken, answer_posted, none_claimed};
 ghost use Rattle.queue_pair.specs.Memory.{submission_place, completion_place, submission_page, completion_page, submission_slot, completion_slot, half_pages, doorbell_offset};
 ghost use Rattle.queue_pair.specs.Lists.{entries_between, answers_between, PhasesStand, expected_phase};
 ghost use Rattle.queue_pair.specs.Halves.{IsIn, IsZero, Agree, IsOutside, AreApart};
@@ -97,7 +97,7 @@ pub fn fresh_rings_stand()
     ensures tied { fresh_host_ring.phase ≡ expected_phase fresh_host_ring.head fresh_device_ring.tail fresh_device_ring.phase }
 {}
 
-/// Each move of a side leaves its positions inside the ring.
+/// Each move of a side leaves its positions inside the ring, and so does making it anew over other halves.
 pub fn moves_stay_inside()
     ensures next_tail { (side : HostSide) → IsHostSide side → IsHostSide (record side { ring = next_tail side.entries side.ring }) }
     ensures next_head { (side : HostSide) → IsHostSide side → IsHostSide (record side { ring = next_head side.entries side.ring }) }
@@ -108,6 +108,8 @@ pub fn moves_stay_inside()
         → IsDeviceSide (record side { ring = hearing_head head side.ring }) }
     ensures entry_taken { (side : DeviceSide) → IsDeviceSide side → IsDeviceSide (record side { ring = entry_taken side.entries side.ring }) }
     ensures answer_posted { (side : DeviceSide) → IsDeviceSide side → IsDeviceSide (record side { ring = answer_posted side.entries side.ring }) }
+    ensures host_renewed { (side : HostSide) (sq cq : ℕ) → IsHostSide side → IsHostSide (record side { sq = sq; cq = cq; ring = fresh_host_ring; claimed = none_claimed (side.entries - 1) }) }
+    ensures device_renewed { (side : DeviceSide) (sq cq : ℕ) → IsDeviceSide side → IsDeviceSide (record side { sq = sq; cq = cq; ring = fresh_device_ring }) }
 {}
 
 /// Where two positions lie so many slots apart, each tells the other; and the phase that the host expects tells the controller's,

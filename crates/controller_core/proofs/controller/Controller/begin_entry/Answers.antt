@@ -3,7 +3,7 @@ use Rattle.controller_core.specs.Contents.{FetchedCommand}
 use Rattle.controller_core.specs.Managing.{with_taken}
 use Rattle.controller_core.specs.Tables.{Outstanding}
 use Rattle.controller_core.proofs.Fetched.{begun_in, begins_in, begun_unknown, on_err}
-use Rattle.controller_core.proofs.Lists.{length-change}
+use Rattle.controller_core.proofs.Lists.{few_stay, length-change}
 use Rattle.controller_core.proofs.controller.Controller.begin_entry.Goals as goal
 
 pub put-requires : goal.put-requires
@@ -22,6 +22,7 @@ invariant_of-self-2 g c =
       begun_in _ _ c.args.q c.args.entry.now c.in_ok-job.job c.fetched.result _ c.self.inside.commands.list _ c.self.view_is c.self.invariant.0 c.requires.io c.requires.there c.requires.unknown
           (record { entry = b.entry; blocks = b.blocks; verdict = b.verdict; bytes = b.bytes; walk = b.walk; left = b.left }) c.take_entry.ensures refl c.fetched.ensures (ap (λ (o : Outstanding). o.list) put),
       ap (λ (o : Outstanding). o.queues) put ∙ c.self.invariant.1 ∙ sym (ap length c.take_entry.ensures ∙ length-change c.args.q with_taken c.self.inside.queues.items),
+      few_stay _ _ (ap length c.take_entry.ensures ∙ length-change c.args.q with_taken c.self.inside.queues.items) c.self.invariant.2,
     )
 
 pub returns-clause-begins : goal.returns-clause-begins

@@ -6,6 +6,7 @@ use Rattle.controller_core.specs.Completing.{complete_refusal}
 use Rattle.controller_core.specs.Contents.{Contents}
 use Rattle.controller_core.specs.Tables.{Outstanding}
 use Rattle.controller_core.proofs.Kept.{finished_kept, length_finished}
+use Rattle.controller_core.proofs.Lists.{few_stay}
 use Rattle.controller_core.proofs.Ready.{is_found, end_fits, over_fits, finishes_in}
 use Rattle.controller_core.proofs.controller.Controller.complete.Goals as goal
 
@@ -36,6 +37,7 @@ invariant_of-self-in-Some-take g c =
     ∙ sym (ap (λ (x : Contents). answer_refusal x.queues m c.args.q) c.self.view_is) ∙ sym c.in_ok-answer.ensures.refusal in (
       finished_kept _ _ _ c.args.q c.args.cid c.in-Some-take.command _ _ _ _ _ _ _ _ c.self.invariant.0 ready c.in_ok-answer.ensures.posts (ap (λ (o : Outstanding). o.list) c.take.ensures.rest) c.settle.ensures.queues c.settle.ensures.as_long,
       ap (λ (o : Outstanding). o.queues) c.take.ensures.rest ∙ c.self.invariant.1 ∙ sym (length_finished _ _ _ c.in-Some-take.command.work _ _ _ _ _ _ _ _ c.in_ok-answer.ensures.posts c.settle.ensures.queues),
+      few_stay _ _ (length_finished _ _ _ c.in-Some-take.command.work _ _ _ _ _ _ _ _ c.in_ok-answer.ensures.posts c.settle.ensures.queues) c.self.invariant.2,
     )
 
 pub returns-clause-completes : goal.returns-clause-completes

@@ -2,7 +2,7 @@ use Rattle.std.proofs.Common.{List, length, ap, sym, subst, ◌∙◌}
 use Rattle.controller_core.specs.Contents.{IsController}
 use Rattle.controller_core.specs.Doorbells.{with_head}
 use Rattle.controller_core.specs.declared.queue.ControllerQueue.{ControllerQueue}
-use Rattle.controller_core.proofs.Lists.{length-change}
+use Rattle.controller_core.proofs.Lists.{few_stay, length-change}
 use Rattle.controller_core.proofs.Kept.{rung_kept}
 use Rattle.controller_core.proofs.controller.Controller.head_doorbell.Goals as goal
 
@@ -11,4 +11,5 @@ invariant_of-self g c = (
   subst (λ (queues : List ControllerQueue). IsController (record { queues = queues; commands = c.self.inside.commands.list; image = c.self.inside.image }))
       (sym c.hear_head_of.ensures) (rung_kept _ c.args.q (with_head c.args.value) c.self.invariant.0),
   c.self.invariant.1 ∙ sym (ap length c.hear_head_of.ensures ∙ length-change c.args.q (with_head c.args.value) c.self.inside.queues.items),
+  few_stay _ _ (ap length c.hear_head_of.ensures ∙ length-change c.args.q (with_head c.args.value) c.self.inside.queues.items) c.self.invariant.2,
 )

@@ -1,7 +1,9 @@
-use Rattle.std.proofs.Common.{sym, ap, subst, length, arith}
+use Rattle.std.proofs.Common.{sym, ap, subst, length, arith, ◌∙◌}
 use Rattle.block_image.specs.Blocks.{block_count}
 use Rattle.controller_core.specs.Contents.{AreAwaited, AreCommands}
 use Rattle.controller_core.specs.Tables.{Outstanding}
+use Rattle.controller_core.proofs.Lists.{few_stay}
+use Rattle.controller_core.proofs.Opened.{many}
 use Rattle.controller_core.proofs.controller.Controller.open.Goals as goal
 
 pub invariant_of-result : goal.invariant_of-result
@@ -13,4 +15,5 @@ invariant_of-result g c =
         awaited = subst AreAwaited none tt;
       },
       ap (λ (o : Outstanding). o.queues) is,
+      few_stay _ _ (ap length c.in-Ok.ensures.queues ∙ many c.args.entries 0 c.args.pages.now) c.requires.few,
     )

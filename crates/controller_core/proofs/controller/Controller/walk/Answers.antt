@@ -8,7 +8,7 @@ walk-requires-clause-few g c = few_walked _ c.args.q c.args.cid c.self.invariant
 pub invariant_of-self : goal.invariant_of-self
 invariant_of-self g c =
     let is = c.self.invariant.0 in
-    (record { commands = walked_kept _ _ _ _ _ _ _ _ _ _ _ is.commands c.walk.ensures.among; awaited = awaited_kept _ _ _ _ _ _ _ _ _ is.awaited c.walk.ensures.among }, c.walk.ensures.queues ∙ c.self.invariant.1)
+    (record { commands = walked_kept _ _ _ _ _ _ _ _ _ _ _ is.commands c.walk.ensures.among; awaited = awaited_kept _ _ _ _ _ _ _ _ _ is.awaited c.walk.ensures.among }, c.walk.ensures.queues ∙ c.self.invariant.1, c.self.invariant.2)
 
 pub returns-clause-sound : goal.returns-clause-sound
 returns-clause-sound g c = (invariant_of-self g c).0
