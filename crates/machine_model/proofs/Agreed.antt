@@ -2,7 +2,7 @@
 use Rattle.std.proofs.Common.{not, ap}
 use Rattle.machine_model.specs.AgreeingLaws.{agreeing_sides_are_linked, agreed_live_queues_are_there, agreeing_sides_have_room, agreed_admin_commands_stand_once, agreed_jobs_stand, agreed_jobs_keep_their_lists, agreed_chains_stand, agreed_chains_stay, agreeing_steps_stay_allowed}
 use Rattle.machine_model.proofs.Agreeing.{stood_of, roomy_of}
-use Rattle.machine_model.proofs.BackedAll.{there_from_backed}
+use Rattle.machine_model.proofs.TiedAll.{live_is_there}
 use Rattle.machine_model.proofs.JobLaws.{stood_has_chains, stood_has_jobs, stood_keeps_chains, stood_keeps_lists, stood_linked, stood_stays}
 use Rattle.machine_model.proofs.NeverFull.{reply_not_full}
 use Rattle.machine_model.proofs.Trusted.{stands_once}
@@ -12,8 +12,7 @@ pub agreed_linked : agreeing_sides_are_linked
 agreed_linked s agree = stood_linked s (stood_of s agree)
 
 pub agreed_there : agreed_live_queues_are_there
-agreed_there s q queue agree found live =
-    let grounds = (stood_of s agree).grounds in there_from_backed s grounds.stands grounds.fit agree.deletions_heard q queue found live
+agreed_there s q queue agree found live = live_is_there s (stood_of s agree).grounds.fit q queue found live
 
 pub agreed_room : agreeing_sides_have_room
 agreed_room old e reply new agree trusted step = ap not (reply_not_full old (roomy_of old agree) trusted e reply step.1)

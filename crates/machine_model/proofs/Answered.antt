@@ -12,7 +12,7 @@ use Rattle.io_commands.specs.Requests.{fault_of}
 use Rattle.io_commands.specs.Asked.{Request}
 use Rattle.io_commands.specs.declared.request.RequestFault.{RequestFault}
 use Rattle.machine_model.specs.State.{State, Job, outstanding_on}
-use Rattle.machine_model.specs.Refusals.{causes, no_identifier, reserve_causes, refusal_of, job_at, job_is, post_page}
+use Rattle.machine_model.specs.Refusals.{causes, no_identifier, reserve_causes, refusal_of, is_job, job_at, job_is, post_page}
 use Rattle.machine_model.specs.Proper.{IsProper}
 use Rattle.machine_model.specs.After.{after, course_of, next_answer, next_unit}
 use Rattle.machine_model.specs.Step.{Step, Refuses, MayRefuse, Answers, AnswersAnything, IsController, LeavesByController, LeavesByHost, IsNewIdentifier, allocates, forges, reaped, touched_by_refusal, unit_answered}
@@ -21,7 +21,7 @@ use Rattle.machine_model.specs.Events.{Event, Reaped, Refusal}
 use Rattle.machine_model.specs.InOrder.{IsInOrder, IsAnswered, every_event_is_answered}
 use Rattle.machine_model.proofs.Refused.{first_fails, rest_fails, unrefused}
 use Rattle.machine_model.proofs.Fresh.{not_among}
-use Rattle.machine_model.proofs.Placed.{is_job, find_sound}
+use Rattle.machine_model.proofs.Lists.{find_sound}
 use Rattle.machine_model.proofs.Agreeing.{stood_of}
 use Rattle.machine_model.proofs.JobLaws.{stood_has_jobs}
 
@@ -323,6 +323,12 @@ delete_sq_answered s q = sends s (events.DeleteSq q) tt refl (λ none. (unrefuse
 pub delete_cq_answered : (s : State) (q : ℕ) → IsRefused s (events.DeleteCq q) ⊎ IsSent s (events.DeleteCq q)
 delete_cq_answered s q = sends s (events.DeleteCq q) tt refl (λ none. (unrefused s (events.DeleteCq q) none).1.1.0) (λ id is. is)
 
+pub create_cq_answered : (s : State) (q : ℕ) → IsRefused s (events.CreateCq q) ⊎ IsSent s (events.CreateCq q)
+create_cq_answered s q = sends s (events.CreateCq q) tt refl (λ none. (unrefused s (events.CreateCq q) none).1.1.1.0) (λ id is. is)
+
+pub create_sq_answered : (s : State) (q : ℕ) → IsRefused s (events.CreateSq q) ⊎ IsSent s (events.CreateSq q)
+create_sq_answered s q = sends s (events.CreateSq q) tt refl (λ none. (unrefused s (events.CreateSq q) none).1.1.0) (λ id is. is)
+
 answer_sent : (s : State) (e : Event) → IsRefused s e ⊎ IsSent s e → IsAnswered s e
 answer_sent s e (inl h) = answer_refused s e h
 answer_sent s e (inr h) = record { reply = events.Sent h.0; left = h.1; step = h.2 }
@@ -361,4 +367,6 @@ answers_every_event s (events.Reserve q r) order proper = answer_refused s (even
 answers_every_event s (events.Collect q cid) order proper = answer_refused s (events.Collect q cid) (refusable s (events.Collect q cid) proper refl refl)
 answers_every_event s (events.Abort q cid) order proper = answer_sent s (events.Abort q cid) (abort_answered s q cid)
 answers_every_event s (events.DeleteSq q) order proper = answer_sent s (events.DeleteSq q) (delete_sq_answered s q)
+answers_every_event s (events.CreateCq q) order proper = answer_sent s (events.CreateCq q) (create_cq_answered s q)
+answers_every_event s (events.CreateSq q) order proper = answer_sent s (events.CreateSq q) (create_sq_answered s q)
 answers_every_event s (events.DeleteCq q) order proper = answer_sent s (events.DeleteCq q) (delete_cq_answered s q)

@@ -1,33 +1,33 @@
--- One deletion of a queue's submission side is outstanding where the host waits for it: what each host event does to that.
-use Rattle.std.proofs.Common.{◌≡◌, ℕ, zero, suc, ◌+◌, ◌<◌, ◌==◌, Bool, true, false, ◌&&◌, Option, Some, None, List, [], ◌∷◌, ◌++◌, length, map, filter, find, slice_get, is_some, if◌then◌else◌, refl, ap, sym, ◌∙◌, arith, subst, eqb-true, eq-eqb}
-use Rattle.std.specs.Option.{option_map_or}
-use Rattle.std.proofs.lemmas.Bool.{true≢false, eqb-false}
+-- One deletion of a queue's submission side is outstanding where the host waits for it, and one creation of a half where it waits for that: each event of the host keeps it so.
+use Rattle.std.proofs.Common.{◌≡◌, ℕ, zero, suc, ◌+◌, ◌<◌, Bool, true, false, ◌||◌, Option, Some, None, List, [], ◌∷◌, ◌++◌, find, map, slice_get, is_some, if◌then◌else◌, refl, ap, sym, ◌∙◌, arith, eq-eqb}
+use Rattle.std.proofs.lemmas.Bool.{true≢false}
 use Rattle.entry_codec.specs.declared.completion.ComEntry.{ComEntry}
-use Rattle.admin_commands.specs.declared.AdminKind.TheVariants.{Abort, DeleteSq, DeleteCq}
-use Rattle.admin_commands.specs.declared.AdminKind.{AdminKind}
-use Rattle.entry_codec.specs.declared.status.TheConstants.Status.{ABORTED_SQ_DELETION}
+use Rattle.admin_commands.specs.declared.AdminKind.TheVariants.{DeleteSq}
 use Rattle.entry_codec.specs.declared.status.Status.{Status}
-use Rattle.io_commands.specs.Jobs.{is_success}
+use Rattle.page_memory.specs.declared.page.Half.TheVariants.{Submission, Completion}
+use Rattle.queue_pair.specs.Memory.{half_pages}
+use Rattle.queue_pair.specs.Rings.{HostRing}
 use Rattle.machine_model.specs.Commands.{Work, Management}
-use Rattle.machine_model.specs.State.{State, Host, HostQueue, HostState, Live, Deleting, Retired, Gone, Record, Held, is_at, record_at, with_record, without_record}
-use Rattle.machine_model.specs.Refusals.{is_submitted, is_retired, is_asked, deletes_sq_of}
-use Rattle.machine_model.specs.Opening.{queues_from}
+use Rattle.machine_model.specs.State.{State, Host, HostQueue, HostState, Live, Deleting, Record, is_at, with_record, without_record}
+use Rattle.machine_model.specs.Refusals.{is_asked, is_making_cq, is_making_sq, deletes_sq_of, creates_cq_of, creates_sq_of}
+use Rattle.machine_model.specs.Opening.{opening, queues_from}
 use Rattle.machine_model.specs.Step.{HostPart, host_part, IsController}
-use Rattle.machine_model.specs.Claims.{DeletionsFit}
+use Rattle.machine_model.specs.Claims.{DeletionsFit, CreationsFit}
 use Rattle.machine_model.specs.After as a
 use Rattle.machine_model.specs.After.{change}
 use Rattle.machine_model.specs.Events.{Event, Reply}
 use Rattle.machine_model.proofs.Counting.{one}
-use Rattle.machine_model.proofs.Totals.{total, total-append, total-map, total_without, here}
-use Rattle.machine_model.proofs.Steps.{Accepts, IsKept}
+use Rattle.machine_model.proofs.Totals.{total, here}
+use Rattle.machine_model.proofs.Steps.{Accepts}
 use Rattle.machine_model.proofs.Owned.{HoldsPart}
-use Rattle.queue_pair.specs.Rings.{HostRing, next_tail, next_head, knowing}
-use Rattle.queue_pair.specs.Memory.{half_pages}
-use Rattle.page_memory.specs.declared.page.Half.TheVariants.{Submission, Completion}
-use Rattle.machine_model.proofs.Moves.{host_moves, IsLiveQueue, IsHeard, drafted_record, sent_record, sends}
+use Rattle.machine_model.proofs.Moves.{IsLiveQueue, IsHeard}
+use Rattle.machine_model.proofs.Awaited.{awaited_at, awaited_starts, awaited_ends, was_awaited as was_awaited_for, with_awaits, lost_awaits, at_same, at_found}
+use Rattle.machine_model.proofs.AwaitedKept.{Waits, awaited_event, asked_as_heard, ring_at, deletions_awaited, completions_awaited, submissions_awaited, deletions_fit, creations_fit}
+
+-- Deletions
 
 abbrev pub asked_at : List HostQueue → ℕ → Bool
-asked_at hs q = option_map_or (λ h. is_asked h.state) (slice_get hs q) false
+asked_at hs q = awaited_at is_asked hs q
 
 abbrev pub asks_work : ℕ → Work → ℕ
 asks_work q w = one (deletes_sq_of q w)
@@ -41,152 +41,53 @@ Asked rs hs = (q : ℕ) → total (asks q) rs ≡ one (asked_at hs q)
 abbrev pub AskedPart : HostPart → Type 0
 AskedPart part = Asked part.host.records part.host.queues
 
--- as the public statement says it
-
-length_asks : (q : ℕ) (rs : List Record) → length (filter (λ r. deletes_sq_of q r.work) rs) ≡ total (asks q) rs
-length_asks q [] = refl
-length_asks q (r ∷ rs) = go (deletes_sq_of q r.work) (length_asks q rs)
-  where
-    go : (b : Bool) → length (filter (λ r. deletes_sq_of q r.work) rs) ≡ total (asks q) rs
-        → length (if b then r ∷ filter (λ r. deletes_sq_of q r.work) rs else filter (λ r. deletes_sq_of q r.work) rs) ≡ one b + total (asks q) rs
-    go true ih = omega (arith, ih)
-    go false ih = omega (arith, ih)
+abbrev pub AskedS : State → Type 0
+AskedS s = AskedPart (host_part s)
 
 pub asked_from_fit : (h : Host) → DeletionsFit h → Asked h.records h.queues
-asked_from_fit h fit q = sym (length_asks q h.records) ∙ fit q
-
-pub fit_from_asked : (h : Host) → Asked h.records h.queues → DeletionsFit h
-fit_from_asked h asked q = length_asks q h.records ∙ asked q
-
--- Queues that change
-
-pub asked_same : (f : HostQueue → HostQueue) → ((h : HostQueue) → is_asked (f h).state ≡ is_asked h.state) → (k : ℕ) (hs : List HostQueue) (q : ℕ) → asked_at (change k f hs) q ≡ asked_at hs q
-asked_same f same k [] q = refl
-asked_same f same zero (h ∷ hs) zero = same h
-asked_same f same zero (h ∷ hs) (suc q) = refl
-asked_same f same (suc k) (h ∷ hs) zero = refl
-asked_same f same (suc k) (h ∷ hs) (suc q) = asked_same f same k hs q
-
-pub asked_other : (f : HostQueue → HostQueue) (k : ℕ) (hs : List HostQueue) (q : ℕ) → (k ≡ q → ⊥) → asked_at (change k f hs) q ≡ asked_at hs q
-asked_other f k [] q far = refl
-asked_other f zero (h ∷ hs) zero far = absurd (far refl)
-asked_other f zero (h ∷ hs) (suc q) far = refl
-asked_other f (suc k) (h ∷ hs) zero far = refl
-asked_other f (suc k) (h ∷ hs) (suc q) far = asked_other f k hs q (λ e. far (ap suc e))
-
-pub asked_here : (f : HostQueue → HostQueue) (b : Bool) → ((h : HostQueue) → is_asked (f h).state ≡ b) → (k : ℕ) (hs : List HostQueue) → is_some (slice_get hs k) ≡ true → asked_at (change k f hs) k ≡ b
-asked_here f b is k [] there = absurd (true≢false (sym there))
-asked_here f b is zero (h ∷ hs) there = is h
-asked_here f b is (suc k) (h ∷ hs) there = asked_here f b is k hs there
-
-pub asked_when : (f : HostQueue → HostQueue) (k : ℕ) (hs : List HostQueue) → ((h : HostQueue) → slice_get hs k ≡ Some h → is_asked (f h).state ≡ is_asked h.state) → (q : ℕ) → asked_at (change k f hs) q ≡ asked_at hs q
-asked_when f k [] same q = refl
-asked_when f zero (h ∷ hs) same zero = same h refl
-asked_when f zero (h ∷ hs) same (suc q) = refl
-asked_when f (suc k) (h ∷ hs) same zero = refl
-asked_when f (suc k) (h ∷ hs) same (suc q) = asked_when f k hs same q
-
-not_asked_here : (f : HostQueue → HostQueue) → ((h : HostQueue) → is_asked (f h).state ≡ false) → (k : ℕ) (hs : List HostQueue) → asked_at (change k f hs) k ≡ false
-not_asked_here f is k [] = refl
-not_asked_here f is zero (h ∷ hs) = is h
-not_asked_here f is (suc k) (h ∷ hs) = not_asked_here f is k hs
-
--- Records that change
+asked_from_fit h fit = deletions_awaited h fit
 
 pub with_same : (k c : ℕ) (f : Record → Record) → ((r : Record) → (f r).work ≡ r.work) → (rs : List Record) (q : ℕ) → total (asks q) (with_record k c f rs) ≡ total (asks q) rs
-with_same k c f same rs q = total-map (asks q) (λ r. if is_at k c r then f r else r) (λ r. go r (is_at k c r)) rs
-  where
-    go : (r : Record) (b : Bool) → asks q (if b then f r else r) ≡ asks q r
-    go r true = ap (asks_work q) (same r)
-    go r false = refl
+with_same k c f same rs q = with_awaits deletes_sq_of k c f same rs q
 
 pub lost_same : (k : ℕ) (rs : List Record) (q : ℕ) → total (asks q) (map (a.lost k) rs) ≡ total (asks q) rs
-lost_same k rs q = total-map (asks q) (a.lost k) (λ r. go r ((r.q == k) && is_submitted r.phase)) rs
-  where
-    go : (r : Record) (b : Bool) → asks q (if b then record r { phase = Held; status = Some ABORTED_SQ_DELETION } else r) ≡ asks q r
-    go r true = refl
-    go r false = refl
+lost_same k rs q = lost_awaits deletes_sq_of k rs q
 
--- A deletion is asked for
+pub asked_same : (f : HostQueue → HostQueue) → ((h : HostQueue) → is_asked (f h).state ≡ is_asked h.state) → (k : ℕ) (hs : List HostQueue) (q : ℕ) → asked_at (change k f hs) q ≡ asked_at hs q
+asked_same f same k hs q = at_same is_asked f k hs (λ h e. same h) q
 
-pub asked_ask : (rs : List Record) (hs : List HostQueue) (k : ℕ) (new : Record) → new.work ≡ Management (DeleteSq k) → is_some (slice_get hs k) ≡ true
-    → ((h : HostQueue) → slice_get hs k ≡ Some h → is_asked h.state ≡ false)
-    → Asked rs hs → Asked (rs ++ new ∷ []) (change k (λ h. record h { state = Deleting false }) hs)
-asked_ask rs hs k new work there before asked q = counts q (k == q) refl (total-append (asks q) rs (new ∷ []))
-  where
-    was : asked_at hs k ≡ false
-    was = go (slice_get hs k) refl
-      where
-        go : (o : Option HostQueue) → slice_get hs k ≡ o → option_map_or (λ h. is_asked h.state) o false ≡ false
-        go None e = refl
-        go (Some x) e = before x e
+pub asked_when : (f : HostQueue → HostQueue) (k : ℕ) (hs : List HostQueue) → ((h : HostQueue) → slice_get hs k ≡ Some h → is_asked (f h).state ≡ is_asked h.state) → (q : ℕ) → asked_at (change k f hs) q ≡ asked_at hs q
+asked_when f k hs same q = at_same is_asked f k hs same q
 
-    counts : (q : ℕ) (b : Bool) → (k == q) ≡ b → total (asks q) (rs ++ new ∷ []) ≡ total (asks q) rs + (asks q new + 0) → total (asks q) (rs ++ new ∷ []) ≡ one (asked_at (change k (λ h. record h { state = Deleting false }) hs) q)
-    counts q true e t =
-        let same : k ≡ q = eqb-true k q e in
-        let mine : asks q new ≡ 1 = ap (asks_work q) work ∙ ap one e in
-        let now : asked_at (change k (λ h. record h { state = Deleting false }) hs) q ≡ true = subst (λ (z : ℕ). asked_at (change k (λ h. record h { state = Deleting false }) hs) z ≡ true) same (asked_here (λ h. record h { state = Deleting false }) true (λ h. refl) k hs there) in
-        let before' : asked_at hs q ≡ false = subst (λ (z : ℕ). asked_at hs z ≡ false) same was in
-        omega (arith, t, mine, asked q, ap one before', ap one now)
-    counts q false e t =
-        let mine : asks q new ≡ 0 = ap (asks_work q) work ∙ ap one e in
-        let now : asked_at (change k (λ h. record h { state = Deleting false }) hs) q ≡ asked_at hs q = asked_other (λ h. record h { state = Deleting false }) k hs q (eqb-false k q e) in
-        omega (arith, t, mine, asked q, ap one now)
-
--- and heard of
-
+-- where a deletion is outstanding, its queue waits for it
 pub was_asked : (rs : List Record) (hs : List HostQueue) (k at c : ℕ) (r : Record) → find (is_at at c) rs ≡ Some r → r.work ≡ Management (DeleteSq k) → total (here at c) rs < 2
     → Asked rs hs → asked_at hs k ≡ true
-was_asked rs hs k at c r is work once asked = go (asked_at hs k) refl
-  where
-    mine : asks k r ≡ one (k == k)
-    mine = ap (asks_work k) work
+was_asked rs hs k at c r is work once asked = was_awaited_for deletes_sq_of is_asked rs hs k at c r is (ap (deletes_sq_of k) work ∙ eq-eqb k k refl) once asked
 
-    go : (b : Bool) → asked_at hs k ≡ b → asked_at hs k ≡ true
-    go true e = e
-    go false e = absurd (omega (arith, total_without (asks k) at c rs r is once, mine, ap one (eq-eqb k k refl), asked k, ap one e))
+-- a deletion is asked for, and heard of
+pub asked_ask : (rs : List Record) (hs : List HostQueue) (k : ℕ) (new : Record) → new.work ≡ Management (DeleteSq k) → is_some (slice_get hs k) ≡ true
+    → ((h : HostQueue) → slice_get hs k ≡ Some h → is_asked h.state ≡ false) → Asked rs hs → Asked (rs ++ new ∷ []) (change k (λ h. record h { state = Deleting false }) hs)
+asked_ask rs hs k new work there before asked = go (slice_get hs k) refl there
+  where
+    go : (o : Option HostQueue) → slice_get hs k ≡ o → is_some o ≡ true → Asked (rs ++ new ∷ []) (change k (λ h. record h { state = Deleting false }) hs)
+    go None e h = absurd (true≢false (sym h))
+    go (Some x) e h =
+        awaited_starts deletes_sq_of is_asked rs hs (λ h. record h { state = Deleting false }) k new x e (λ q far. ap (deletes_sq_of q) work ∙ far)
+        (omega (arith, ap one (before x e), ap one (ap (deletes_sq_of k) work ∙ eq-eqb k k refl))) asked
 
 pub asked_noted : (rs : List Record) (hs : List HostQueue) (k at c : ℕ) (r : Record) (b : Bool) → find (is_at at c) rs ≡ Some r → r.work ≡ Management (DeleteSq k) → total (here at c) rs < 2
     → Asked rs hs → Asked (without_record at c rs) (change k (λ h. record h { state = if b then Deleting true else Live }) hs)
-asked_noted rs hs k at c r b is work once asked q = counts q (k == q) refl (total_without (asks q) at c rs r is once)
+asked_noted rs hs k at c r b is work once asked =
+    awaited_ends deletes_sq_of is_asked rs hs (λ h. record h { state = if b then Deleting true else Live }) k at c r is once (λ q far. ap (deletes_sq_of q) work ∙ far)
+    (λ x e. omega (arith, ap one (quiet b), ap one (ap (deletes_sq_of k) work ∙ eq-eqb k k refl), ap one (sym (at_found is_asked hs k x e) ∙ was_asked rs hs k at c r is work once asked))) asked
   where
-    mine : (q : ℕ) → asks q r ≡ one (k == q)
-    mine q = ap (asks_work q) work
-
-    was : asked_at hs k ≡ true
-    was = was_asked rs hs k at c r is work once asked
-
     quiet : (b : Bool) → is_asked (if b then Deleting true else Live) ≡ false
     quiet true = refl
     quiet false = refl
 
-    counts : (q : ℕ) (e : Bool) → (k == q) ≡ e → total (asks q) (without_record at c rs) + asks q r ≡ total (asks q) rs → total (asks q) (without_record at c rs) ≡ one (asked_at (change k (λ h. record h { state = if b then Deleting true else Live }) hs) q)
-    counts q true e t =
-        let same : k ≡ q = eqb-true k q e in
-        let now : asked_at (change k (λ h. record h { state = if b then Deleting true else Live }) hs) q ≡ false = subst (λ (z : ℕ). asked_at (change k (λ h. record h { state = if b then Deleting true else Live }) hs) z ≡ false) same (not_asked_here (λ h. record h { state = if b then Deleting true else Live }) (λ h. quiet b) k hs) in
-        let before : asked_at hs q ≡ true = subst (λ (z : ℕ). asked_at hs z ≡ true) same was in
-        omega (arith, t, mine q, ap one e, asked q, ap one before, ap one now)
-    counts q false e t =
-        let now : asked_at (change k (λ h. record h { state = if b then Deleting true else Live }) hs) q ≡ asked_at hs q = asked_other (λ h. record h { state = if b then Deleting true else Live }) k hs q (eqb-false k q e) in
-        omega (arith, t, mine q, ap one e, asked q, ap one now)
-
--- Each event
-
-abbrev pub AskedS : State → Type 0
-AskedS s = AskedPart (host_part s)
-
-asked_ring : (rs : List Record) (hs : List HostQueue) (q : ℕ) (g : HostRing → HostRing) → Asked rs hs → Asked rs (change q (λ x. record x { ring = g x.ring }) hs)
-asked_ring rs hs q g h z = h z ∙ ap one (sym (asked_same (λ x. record x { ring = g x.ring }) (λ x. refl) q hs z))
-
-pub asked_heard : (rs : List Record) (q : ℕ) (e : ComEntry) (s : State) → Asked rs s.host.queues → Asked rs (a.heard q e s).host.queues
-asked_heard rs q e s h = asked_ring rs (change q (λ x. record x { ring = next_head s.entries x.ring }) s.host.queues) q (knowing e.sqhd) (asked_ring rs s.host.queues q (next_head s.entries) h)
-
-pub ring_at : (k q : ℕ) (g : HostRing → HostRing) (hs : List HostQueue) (y : HostQueue) → slice_get (change k (λ x. record x { ring = g x.ring }) hs) q ≡ Some y → (x : HostQueue) × (slice_get hs q ≡ Some x) × (y.state ≡ x.state)
-ring_at k q g [] y e = absurd cc
-ring_at zero zero g (h ∷ hs) y e = let same : record h { ring = g h.ring } ≡ y = cc in (h, refl, ap (λ (z : HostQueue). z.state) (sym same))
-ring_at zero (suc q) g (h ∷ hs) y e = (y, e, refl)
-ring_at (suc k) zero g (h ∷ hs) y e = (y, e, refl)
-ring_at (suc k) (suc q) g (h ∷ hs) y e = ring_at k q g hs y e
+pub asked_note : (s : State) (q cid : ℕ) (st : Status) (e : ComEntry) (r : Record) (k : ℕ) → HoldsPart (host_part s) → AskedS s → IsHeard s q cid st e r → r.work ≡ Management (DeleteSq k)
+    → (x : HostQueue) → slice_get (a.heard q e s).host.queues k ≡ Some x → is_asked x.state ≡ true
+asked_note s q cid st e r k holds f heard w x ex = ap is_asked (asked_as_heard s q cid st e r k holds heard w x ex)
 
 pub ring_some : (k q : ℕ) (f : HostQueue → HostQueue) (hs : List HostQueue) → is_some (slice_get hs q) ≡ true → is_some (slice_get (change k f hs) q) ≡ true
 ring_some k q f [] h = h
@@ -202,63 +103,102 @@ still_live s q k g queue y live e =
     let same : queue ≡ x.0 = cc (live.there, x.1) in
     x.2 ∙ ap (λ (z : HostQueue). z.state) (sym same) ∙ live.live
 
-pub asked_event : (s : State) (e : Event) (reply : Reply) → Accepts s e reply → IsController e ≡ false → HoldsPart (host_part s) → IsKept AskedPart s e reply
-asked_event s e reply ok c holds h =
-    host_moves (λ (e : Event) (reply : Reply) (t : State). AskedS t) s e reply ok c
-    (record {
-      reserves = λ q request d none is. began (drafted_record d) (λ z. refl);
-      submits = λ d entry r none built its live. asked_ring (with_record d.q d.cid a.submitted s.host.records) s.host.queues d.q (next_tail s.entries) (λ z. with_same d.q d.cid a.submitted (λ r. refl) s.host.records z ∙ h z);
-      cancels = λ d r its. ended d.q d.cid r its.found (λ z. ap (asks_work z) its.asked.1);
-      rings = λ q none. h;
-      rests = λ q is. h;
-      rejects = λ q why is. asked_ring s.host.records s.host.queues q (next_head s.entries) h;
-      tells = λ q cid st what e r request t heard w. asked_heard (with_record q cid (a.held st) s.host.records) q e s (λ z. with_same q cid (a.held st) (λ r'. refl) s.host.records z ∙ h z);
-      hears = λ q cid st what e r adm t heard w quiet. asked_heard (without_record q cid s.host.records) q e s (ended q cid r heard.found (λ z. ap (asks_work z) w ∙ ap one (quiet z)));
-      notes = λ q cid st what e r k t heard w. asked_noted s.host.records (a.heard q e s).host.queues k q cid r (is_success st) heard.found w (holds.once q cid) (asked_heard s.host.records q e s h);
-      frees = λ q cid st what e r k queue t heard w at retired good z.
-          asked_heard (without_record q cid s.host.records) q e s (ended q cid r heard.found (λ z. ap (asks_work z) w)) z
-          ∙ ap one (sym (asked_when a.gone k (a.heard q e s).host.queues (λ y ey. let same : queue ≡ y = cc (at, ey) in sym (quiet y.state (ap (λ (x : HostQueue). is_retired x.state) (sym same) ∙ retired))) z));
-      collects = λ q cid r f at held is z. with_same q cid a.collected (λ r'. refl) s.host.records z ∙ h z;
-      releases = λ f r its. ended f.q f.cid r its.found (λ z. ap (asks_work z) its.asked.1);
-      aborts = λ q cid id none new. sent (Abort q cid) id (λ z. refl);
-      asks = λ q id queue none new live.
-          asked_ask s.host.records (change 0 (λ x. record x { ring = next_tail s.entries x.ring }) s.host.queues) q (sent_record (DeleteSq q) id) refl
-          (ring_some 0 q (λ x. record x { ring = next_tail s.entries x.ring }) s.host.queues (ap is_some live.there))
-          (λ y ey. ap is_asked (still_live s q 0 (next_tail s.entries) queue y live ey)) (asked_ring s.host.records s.host.queues 0 (next_tail s.entries) h);
-      drops = λ q id none new. sent (DeleteCq q) id (λ z. refl);
-      retires = λ q queue none at deleted z.
-          lost_same q s.host.records z ∙ h z
-          ∙ ap one (sym (asked_when a.retired q s.host.queues (λ y ey. let same : queue ≡ y = cc (at, ey) in sym (ap (λ (x : HostQueue). is_asked x.state) (sym same) ∙ ap is_asked deleted)) z));
-      forges = λ q slot bytes queue none at. h;
-    })
-  where
-    began : (new : Record) → ((z : ℕ) → asks z new ≡ 0) → Asked (s.host.records ++ new ∷ []) s.host.queues
-    began new quiet z = omega (arith, h z, total-append (asks z) s.host.records (new ∷ []), quiet z)
+-- What waits for what
 
-    ended : (q cid : ℕ) (r : Record) → record_at s.host q cid ≡ Some r → ((z : ℕ) → asks z r ≡ 0) → Asked (without_record q cid s.host.records) s.host.queues
-    ended q cid r at quiet z = omega (arith, h z, total_without (asks z) q cid s.host.records r at (holds.once q cid), quiet z)
+first_of : (x y : Bool) → x ≡ true → (x || y) ≡ true
+first_of true y h = refl
+first_of false y h = absurd (true≢false (sym h))
 
-    sent : (adm : AdminKind) (id : ℕ) → ((z : ℕ) → asks_work z (Management adm) ≡ 0) → AskedS (sends adm id s)
-    sent adm id quiet = asked_ring (s.host.records ++ sent_record adm id ∷ []) s.host.queues 0 (next_tail s.entries) (began (sent_record adm id) quiet)
+second_of : (x y : Bool) → y ≡ true → (x || y) ≡ true
+second_of true y h = refl
+second_of false y h = h
 
-    quiet : (st : HostState) → is_retired st ≡ true → is_asked st ≡ false
-    quiet Live e = absurd (true≢false (sym e))
-    quiet (Deleting noted) e = absurd (true≢false (sym e))
-    quiet Retired e = refl
-    quiet Gone e = refl
+deletions_wait : Waits deletes_sq_of is_asked
+deletions_wait = record {
+  io = λ z request. refl;
+  aborts = λ z k cid. refl;
+  drops = λ z k. refl;
+  deletes = λ z k far. far;
+  creates_cq = λ z k n base far. refl;
+  creates_sq = λ z k n base far. refl;
+  kinds = λ z w is. first_of (deletes_sq_of z w) _ is;
+  asked = λ k. eq-eqb k k refl;
+  making_cq = λ k n base. refl;
+  making_sq = λ k n base. refl;
+  live = refl;
+  noted = refl;
+  retired = refl;
+  gone = refl;
+  half_made = refl;
+}
 
--- a queue of whose deletion the host hears was asked for it
-pub asked_note : (s : State) (q cid : ℕ) (st : Status) (e : ComEntry) (r : Record) (k : ℕ) → HoldsPart (host_part s) → AskedS s → IsHeard s q cid st e r → r.work ≡ Management (DeleteSq k)
-    → (x : HostQueue) → slice_get (a.heard q e s).host.queues k ≡ Some x → is_asked x.state ≡ true
-asked_note s q cid st e r k holds f heard w x ex =
-    sym (ap (λ (o : Option HostQueue). option_map_or (λ h. is_asked h.state) o false) ex) ∙ was_asked s.host.records (a.heard q e s).host.queues k q cid r heard.found w (holds.once q cid) (asked_heard s.host.records q e s f)
+completions_wait : Waits creates_cq_of is_making_cq
+completions_wait = record {
+  io = λ z request. refl;
+  aborts = λ z k cid. refl;
+  drops = λ z k. refl;
+  deletes = λ z k far. refl;
+  creates_cq = λ z k n base far. far;
+  creates_sq = λ z k n base far. refl;
+  kinds = λ z w is. second_of (deletes_sq_of z w) _ (first_of (creates_cq_of z w) _ is);
+  asked = λ k. refl;
+  making_cq = λ k n base. eq-eqb k k refl;
+  making_sq = λ k n base. refl;
+  live = refl;
+  noted = refl;
+  retired = refl;
+  gone = refl;
+  half_made = refl;
+}
+
+submissions_wait : Waits creates_sq_of is_making_sq
+submissions_wait = record {
+  io = λ z request. refl;
+  aborts = λ z k cid. refl;
+  drops = λ z k. refl;
+  deletes = λ z k far. refl;
+  creates_cq = λ z k n base far. refl;
+  creates_sq = λ z k n base far. far;
+  kinds = λ z w is. second_of (deletes_sq_of z w) _ (second_of (creates_cq_of z w) _ is);
+  asked = λ k. refl;
+  making_cq = λ k n base. refl;
+  making_sq = λ k n base. eq-eqb k k refl;
+  live = refl;
+  noted = refl;
+  retired = refl;
+  gone = refl;
+  half_made = refl;
+}
+
+-- Each event
+
+pub asked_event : (s : State) (e : Event) (reply : Reply) → Accepts s e reply → IsController e ≡ false → HoldsPart (host_part s) → AskedS s → AskedS (a.after s e reply)
+asked_event s e reply ok c holds h = awaited_event deletes_sq_of is_asked deletions_wait s e reply ok c holds h
+
+pub deletions_event : (s : State) (e : Event) (reply : Reply) → Accepts s e reply → IsController e ≡ false → HoldsPart (host_part s) → DeletionsFit (a.after s e reply).host
+deletions_event s e reply ok c holds = deletions_fit (a.after s e reply).host (asked_event s e reply ok c holds (deletions_awaited s.host holds.deletions))
+
+pub creations_event : (s : State) (e : Event) (reply : Reply) → Accepts s e reply → IsController e ≡ false → HoldsPart (host_part s) → CreationsFit (a.after s e reply).host
+creations_event s e reply ok c holds =
+    creations_fit (a.after s e reply).host (awaited_event creates_cq_of is_making_cq completions_wait s e reply ok c holds (completions_awaited s.host holds.creations))
+    (awaited_event creates_sq_of is_making_sq submissions_wait s e reply ok c holds (submissions_awaited s.host holds.creations))
 
 -- As it opens
 
+pub opened_waits_not : (test : HostState → Bool) → test Live ≡ false → (page n count q : ℕ) → awaited_at test (queues_from page n count) q ≡ false
+opened_waits_not test live page n zero q = refl
+opened_waits_not test live page n (suc count) zero = live
+opened_waits_not test live page n (suc count) (suc q) = opened_waits_not test live (page + half_pages n Submission + half_pages n Completion) n count q
+
 pub opened_quiet : (page n count q : ℕ) → asked_at (queues_from page n count) q ≡ false
-opened_quiet page n zero q = refl
-opened_quiet page n (suc count) zero = refl
-opened_quiet page n (suc count) (suc q) = opened_quiet (page + half_pages n Submission + half_pages n Completion) n count q
+opened_quiet page n count q = opened_waits_not is_asked refl page n count q
 
 pub asked_at_opening : (page n count : ℕ) → Asked [] (queues_from page n count)
 asked_at_opening page n count q = sym (ap one (opened_quiet page n count q))
+
+pub deletions_at_opening : (pages queues n s : ℕ) (image : List ℕ) → DeletionsFit (opening pages queues n s image).host
+deletions_at_opening pages queues n s image = deletions_fit (opening pages queues n s image).host (asked_at_opening 0 n (queues + 1))
+
+pub creations_at_opening : (pages queues n s : ℕ) (image : List ℕ) → CreationsFit (opening pages queues n s image).host
+creations_at_opening pages queues n s image =
+    creations_fit (opening pages queues n s image).host (λ q. sym (ap one (opened_waits_not is_making_cq refl 0 n (queues + 1) q))) (λ q. sym (ap one (opened_waits_not is_making_sq refl 0 n (queues + 1) q)))

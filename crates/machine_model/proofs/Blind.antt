@@ -6,15 +6,16 @@ use Rattle.entry_codec.specs.Submission.{submission_bytes}
 use Rattle.admin_commands.specs.Entries.{admin_entry}
 use Rattle.entry_codec.specs.declared.completion.ComEntry.{ComEntry}
 use Rattle.entry_codec.specs.declared.submission.SubEntry.{SubEntry}
-use Rattle.admin_commands.specs.declared.AdminKind.TheVariants.{Abort, DeleteSq, DeleteCq}
+use Rattle.admin_commands.specs.declared.AdminKind.TheVariants.{Abort, DeleteSq, DeleteCq, CreateCq, CreateSq}
 use Rattle.admin_commands.specs.declared.AdminKind.{AdminKind}
+use Rattle.page_memory.specs.declared.page.Half.TheVariants.{Submission, Completion}
 use Rattle.page_memory.specs.Pages.{Pages, with_page_bytes}
 use Rattle.entry_codec.specs.declared.status.Status.{Status}
 use Rattle.io_commands.specs.Jobs.{is_success}
 use Rattle.machine_model.specs.Memory.{with_pages, without_pages}
 use Rattle.machine_model.specs.Commands.{Work, Io, Management}
 use Rattle.machine_model.specs.State.{State, Device, HostQueue, Submitted, record_at, with_record, without_record, pages_of}
-use Rattle.machine_model.specs.Refusals.{host_queue, seen_entry, refusal_of, slot_page, slot_offset, is_retired}
+use Rattle.machine_model.specs.Refusals.{host_queue, seen_entry, refusal_of, slot_page, slot_offset, has_cq_alone}
 use Rattle.machine_model.specs.Step.{Permits, Refuses, Answers, IsNewIdentifier, IsController, HostPart, host_part, touched_by_refusal}
 use Rattle.machine_model.specs.After as a
 use Rattle.machine_model.specs.After.{change}
@@ -56,7 +57,7 @@ seen-admin : (adm : AdminKind) (st : Status) (s : State) (d d' : Device) → see
 seen-admin (Abort q cid) st s d d' = refl
 seen-admin (DeleteSq q) st s d d' = refl
 seen-admin (DeleteCq q) st s d d' =
-    seen-if (is_success st && option_map_or (λ queue. is_retired queue.state) (host_queue s q) false)
+    seen-if (is_success st && option_map_or (λ queue. has_cq_alone queue.state) (host_queue s q) false)
     (a.half_freed (λ queue. queue.cq_pages) a.gone q (over s d))
     (a.half_freed (λ queue. queue.cq_pages) a.gone q (over s d'))
     (over s d) (over s d')
@@ -64,6 +65,22 @@ seen-admin (DeleteCq q) st s d d' =
     (λ queue. a.on_host_queue q a.gone (a.given_back queue.cq_pages (over s d')))
     (host_queue s q) (over s d) (over s d') refl (λ queue. refl))
     refl
+seen-admin (CreateCq q n base) st s d d' =
+    seen-if (is_success st) (a.on_host_queue q a.half_made (over s d)) (a.on_host_queue q a.half_made (over s d'))
+    (a.half_freed (λ queue. queue.cq_pages) a.gone q (over s d))
+    (a.half_freed (λ queue. queue.cq_pages) a.gone q (over s d'))
+    refl
+    (seen-option (λ queue. a.on_host_queue q a.gone (a.given_back queue.cq_pages (over s d)))
+    (λ queue. a.on_host_queue q a.gone (a.given_back queue.cq_pages (over s d')))
+    (host_queue s q) (over s d) (over s d') refl (λ queue. refl))
+seen-admin (CreateSq q n base) st s d d' =
+    seen-if (is_success st) (a.on_host_queue q a.live (over s d)) (a.on_host_queue q a.live (over s d'))
+    (a.half_freed (λ queue. queue.sq_pages) a.unmade_sq q (over s d))
+    (a.half_freed (λ queue. queue.sq_pages) a.unmade_sq q (over s d'))
+    refl
+    (seen-option (λ queue. a.on_host_queue q a.unmade_sq (a.given_back queue.sq_pages (over s d)))
+    (λ queue. a.on_host_queue q a.unmade_sq (a.given_back queue.sq_pages (over s d')))
+    (host_queue s q) (over s d) (over s d') refl (λ queue. refl))
 
 seen-work : (w : Work) (q cid : ℕ) (st : Status) (s : State) (d d' : Device) → seen (a.after_work w q cid st (over s d)) ≡ seen (a.after_work w q cid st (over s d'))
 seen-work (Io r) q cid st s d d' = refl
@@ -111,6 +128,14 @@ seen_after s d d' (events.DeleteSq q) (events.Sent id) c ok =
     let deleting : Seen → Seen = λ x. (record x.0 { host = record x.0.host { queues = change q a.deleting x.0.host.queues } }, x.1) in
     ap deleting (seen-sent (DeleteSq q) id (admin_entry (DeleteSq q) id) s d d')
 seen_after s d d' (events.DeleteCq q) (events.Sent id) c ok = seen-sent (DeleteCq q) id (admin_entry (DeleteCq q) id) s d d'
+seen_after s d d' (events.CreateCq q) (events.Sent id) c ok =
+    let pages = a.half_run Completion s in
+    let kind : AdminKind = CreateCq q s.entries (a.base_of pages) in
+    seen-sent kind id (admin_entry kind id) (a.on_host_queue q (a.making_cq pages) (a.half_granted pages s)) d d'
+seen_after s d d' (events.CreateSq q) (events.Sent id) c ok =
+    let pages = a.half_run Submission s in
+    let kind : AdminKind = CreateSq q s.entries (a.base_of pages) in
+    seen-sent kind id (admin_entry kind id) (a.on_host_queue q (a.making_sq pages) (a.half_granted pages s)) d d'
 seen_after s d d' (events.Retire q) events.Accepted c ok =
     seen-option (λ queue. a.on_host_queue q a.retired (a.given_back queue.sq_pages (a.on_records (λ records. map (a.lost q) records) (over s d))))
     (λ queue. a.on_host_queue q a.retired (a.given_back queue.sq_pages (a.on_records (λ records. map (a.lost q) records) (over s d'))))
@@ -155,6 +180,8 @@ answers_same s d d' (events.Release f) events.Accepted c h = h
 answers_same s d d' (events.Abort q cid) (events.Sent id) c h = new_same s d d' 0 id h
 answers_same s d d' (events.DeleteSq q) (events.Sent id) c h = new_same s d d' 0 id h
 answers_same s d d' (events.DeleteCq q) (events.Sent id) c h = new_same s d d' 0 id h
+answers_same s d d' (events.CreateCq q) (events.Sent id) c h = new_same s d d' 0 id h
+answers_same s d d' (events.CreateSq q) (events.Sent id) c h = new_same s d d' 0 id h
 answers_same s d d' (events.Retire q) events.Accepted c h = h
 answers_same s d d' (events.Forge q slot bytes) events.Accepted c h = h
 answers_same s d d' (events.Fetch q) reply c h = absurd (true≢false c)

@@ -39,7 +39,7 @@ use Rattle.machine_model.proofs.WalksKept.{one_job, host_jobs}
 use Rattle.machine_model.proofs.Lengths.{host_image, moved_length, blocks_put}
 use Rattle.machine_model.proofs.Caused.{cause, goes_well, Caused, CausedIfIo, AllCaused, caused_on, all_on, caused_abort, caused_stop, hand_good, caused_begun, answers_well}
 pub use Rattle.machine_model.proofs.HeadsAll.{no_conflict as not_conflicting}
-use Rattle.machine_model.proofs.Managed.{managed_by_cause}
+use Rattle.machine_model.proofs.Managed.{managed_by}
 use Rattle.machine_model.proofs.DeviceMoves.{unit_bytes, unit_done, finished, fetch_of, walk_by, complete_by}
 
 -- What a step leaves: an image as long, and each verdict with its cause
@@ -69,14 +69,19 @@ far_zero q h = grind (arith, nat_tests, h)
 managed_keeps : (earlier : List Made) (s : State) (q : ℕ) (e : SubEntry) (c : ℕ) (touched : List ℕ) → q ≡ 0 → next_rung s q ≡ Some e → AllCaused earlier (a.image_blocks s) s.device.jobs
     → Keeps (earlier ++ record { before = s; event = events.Fetch q; reply = events.Fetched c touched } ∷ []) s (a.managed e (a.taken_off 0 s))
 managed_keeps earlier s q e c touched z rung h =
-    managed_by_cause (Keeps (earlier ++ m ∷ []) s) e (a.taken_off 0 s)
-    (λ st dw0. decided st dw0 (a.taken_off 0 s) refl old)
-    (λ is8 w. decided SUCCESS 0 (a.on_job (named_queue e) (named_command e) (λ j. record j { verdict = Some ABORT_REQUESTED; waiting_abort = Some e.cid }) (a.taken_off 0 s)) refl
-    (all_map (CausedIfIo earlier (a.image_blocks s)) (CausedIfIo (earlier ++ m ∷ []) (a.image_blocks s)) (λ j. if (j.q == named_queue e) && (j.entry.cid == named_command e) then record j { verdict = Some ABORT_REQUESTED; waiting_abort = Some e.cid } else j)
-    s.device.jobs (λ j k. marked is8 w j ((j.q == named_queue e) && (j.entry.cid == named_command e)) refl k) h))
-    (λ is0. decided SUCCESS 0 (a.on_device (λ d. record d { jobs = map (a.stopped (named_queue e)) d.jobs }) (a.on_device_queue (named_queue e) (λ at. record at { state = Stopping }) (a.taken_off 0 s))) refl
-    (all_map (CausedIfIo earlier (a.image_blocks s)) (CausedIfIo (earlier ++ m ∷ []) (a.image_blocks s)) (a.stopped (named_queue e)) s.device.jobs (λ j k. halted is0 j ((j.q == named_queue e) && is_none j.verdict) refl k) h))
-    (decided SUCCESS 0 (a.on_device_queue (named_queue e) (λ at. record at { cq_there = false }) (a.taken_off 0 s)) refl old)
+    managed_by (Keeps (earlier ++ m ∷ []) s) e (a.taken_off 0 s)
+    (record {
+      refuses = λ st bad. decided st 0 (a.taken_off 0 s) refl old;
+      aborts = λ is8 w. decided SUCCESS 0 (a.on_job (named_queue e) (named_command e) (λ j. record j { verdict = Some ABORT_REQUESTED; waiting_abort = Some e.cid }) (a.taken_off 0 s)) refl
+          (all_map (CausedIfIo earlier (a.image_blocks s)) (CausedIfIo (earlier ++ m ∷ []) (a.image_blocks s)) (λ j. if (j.q == named_queue e) && (j.entry.cid == named_command e) then record j { verdict = Some ABORT_REQUESTED; waiting_abort = Some e.cid } else j)
+          s.device.jobs (λ j k. marked is8 w j ((j.q == named_queue e) && (j.entry.cid == named_command e)) refl k) h);
+      is_late = λ is8. decided SUCCESS 1 (a.taken_off 0 s) refl old;
+      stops = λ is0 q0 runs. decided SUCCESS 0 (a.on_device (λ d. record d { jobs = map (a.stopped (named_queue e)) d.jobs }) (a.on_device_queue (named_queue e) (λ at. record at { state = Stopping }) (a.taken_off 0 s))) refl
+          (all_map (CausedIfIo earlier (a.image_blocks s)) (CausedIfIo (earlier ++ m ∷ []) (a.image_blocks s)) (a.stopped (named_queue e)) s.device.jobs (λ j k. halted is0 j ((j.q == named_queue e) && is_none j.verdict) refl k) h);
+      drops = λ is4 q0 there gone. decided SUCCESS 0 (a.on_device_queue (named_queue e) a.dropped (a.taken_off 0 s)) refl old;
+      makes_completion = λ is5 q0 none. decided SUCCESS 0 (a.on_device_queue (named_queue e) a.completion_made (a.taken_off 0 s)) refl old;
+      makes_submission = λ is1 q0 gone there. decided SUCCESS 0 (a.on_device_queue (named_queue e) a.submission_made (a.taken_off 0 s)) refl old;
+    })
   where
     m : Made
     m = record { before = s; event = events.Fetch q; reply = events.Fetched c touched }

@@ -26,7 +26,7 @@ use Rattle.machine_model.specs.After as a
 use Rattle.machine_model.specs.After.{change}
 use Rattle.machine_model.specs.Reached.{only, on_pages}
 use Rattle.machine_model.specs.Standing.{HasEntry, ListStands, StandsAs, CommandStands}
-use Rattle.machine_model.proofs.Managed.{managed_by_case}
+use Rattle.machine_model.proofs.Managed.{managed_by}
 use Rattle.machine_model.proofs.Placed.{is_job}
 use Rattle.machine_model.proofs.Members.{In, all_in_both, all_map, all_filter, all_append, all_drop_one}
 use Rattle.machine_model.proofs.Served.{Commands}
@@ -89,23 +89,22 @@ keeps_answered s t q an keeps =
 
 keeps_managed : (s : State) (e : SubEntry) → InHand s 0 e → Keeps s.device.queues s.device.jobs (a.managed e (a.taken_off 0 s)).device.queues (a.managed e (a.taken_off 0 s)).device.jobs
 keeps_managed s e hand =
-    managed_by_case (λ (t : State). Keeps s.device.queues s.device.jobs t.device.queues t.device.jobs) e s0
-    (decided s0 off _ 0) (decided s0 off _ 0)
-    (λ is8. decided (a.on_job (named_queue e) (named_command e) stop s0)
-    (keeps_both s.device.queues qs qs s.device.jobs s.device.jobs _ off
-    (keeps_jobs qs s.device.jobs (λ j. if (j.q == named_queue e) && (j.entry.cid == named_command e) then stop j else j)
-    (on_job_q (named_queue e) (named_command e) stop (λ j. refl)) (on_job_entry (named_queue e) (named_command e) stop (λ j. refl)))) _ 0)
-    (λ is8. decided s0 off _ 1)
-    (decided s0 off _ 0)
-    (λ is0 q0 runs. decided (a.on_device (λ d. record d { jobs = map (a.stopped (named_queue e)) d.jobs }) (a.on_device_queue (named_queue e) (λ at. record at { state = Stopping }) s0))
-    (keeps_both s.device.queues (change (named_queue e) (λ at. record at { state = Stopping }) qs) (change (named_queue e) (λ at. record at { state = Stopping }) qs) s.device.jobs s.device.jobs (map (a.stopped (named_queue e)) s.device.jobs)
-    (keeps_both s.device.queues qs (change (named_queue e) (λ at. record at { state = Stopping }) qs) s.device.jobs s.device.jobs s.device.jobs off
-    (keeps_state qs s.device.jobs (named_queue e) (λ at. record at { state = Stopping }) (λ at. refl)))
-    (keeps_jobs (change (named_queue e) (λ at. record at { state = Stopping }) qs) s.device.jobs (a.stopped (named_queue e)) (stopped_q (named_queue e)) (stopped_entry (named_queue e)))) _ 0)
-    (decided s0 off _ 0)
-    (λ not8 not0 gone. decided (a.on_device_queue (named_queue e) (λ at. record at { cq_there = false }) s0)
-    (keeps_both s.device.queues qs (change (named_queue e) (λ at. record at { cq_there = false }) qs) s.device.jobs s.device.jobs s.device.jobs off
-    (keeps_state qs s.device.jobs (named_queue e) (λ at. record at { cq_there = false }) (λ at. refl))) _ 0)
+    managed_by (λ (t : State). Keeps s.device.queues s.device.jobs t.device.queues t.device.jobs) e s0
+    (record {
+      refuses = λ st bad. decided s0 off st 0;
+      aborts = λ is8 walks. decided (a.on_job (named_queue e) (named_command e) stop s0)
+          (keeps_both s.device.queues qs qs s.device.jobs s.device.jobs _ off
+          (keeps_jobs qs s.device.jobs (λ j. if (j.q == named_queue e) && (j.entry.cid == named_command e) then stop j else j)
+          (on_job_q (named_queue e) (named_command e) stop (λ j. refl)) (on_job_entry (named_queue e) (named_command e) stop (λ j. refl)))) _ 0;
+      is_late = λ is8. decided s0 off _ 1;
+      stops = λ is0 q0 runs. decided (a.on_device (λ d. record d { jobs = map (a.stopped (named_queue e)) d.jobs }) (a.on_device_queue (named_queue e) (λ at. record at { state = Stopping }) s0))
+          (keeps_both s.device.queues (change (named_queue e) (λ at. record at { state = Stopping }) qs) (change (named_queue e) (λ at. record at { state = Stopping }) qs) s.device.jobs s.device.jobs (map (a.stopped (named_queue e)) s.device.jobs)
+          (queue (λ at. record at { state = Stopping }) (λ P at all. all))
+          (keeps_jobs (change (named_queue e) (λ at. record at { state = Stopping }) qs) s.device.jobs (a.stopped (named_queue e)) (stopped_q (named_queue e)) (stopped_entry (named_queue e)))) _ 0;
+      drops = λ is4 q0 there gone. decided (a.on_device_queue (named_queue e) a.dropped s0) (queue a.dropped (λ P at all. all)) _ 0;
+      makes_completion = λ is5 q0 none. decided (a.on_device_queue (named_queue e) a.completion_made s0) (queue a.completion_made (λ P at all. all)) _ 0;
+      makes_submission = λ is1 q0 gone there. decided (a.on_device_queue (named_queue e) a.submission_made s0) (queue a.submission_made (λ P at all. tt)) _ 0;
+    })
   where
     stop : Job → Job
     stop j = record j { verdict = Some ABORT_REQUESTED; waiting_abort = Some e.cid }
@@ -118,6 +117,9 @@ keeps_managed s e hand =
 
     off : Keeps s.device.queues s.device.jobs (a.taken_off 0 s).device.queues s.device.jobs
     off = keeps_off s 0
+
+    queue : (f : DeviceQueue → DeviceQueue) → ((P : SubEntry → Type 0) (at : DeviceQueue) → AllByRecursion P at.unfetched → AllByRecursion P (f at).unfetched) → Keeps s.device.queues s.device.jobs (change (named_queue e) f qs) s.device.jobs
+    queue f step = keeps_both s.device.queues qs (change (named_queue e) f qs) s.device.jobs s.device.jobs s.device.jobs off (keeps_queue qs s.device.jobs (named_queue e) f step)
 
     decided : (t : State) → Keeps s.device.queues s.device.jobs t.device.queues t.device.jobs → (st : Status) (dw0 : ℕ) → Keeps s.device.queues s.device.jobs (a.decided e st dw0 t).device.queues (a.decided e st dw0 t).device.jobs
     decided t keeps st dw0 = keeps_job s 0 e hand t.device.queues t.device.jobs (a.new_job 0 e (Some st) dw0 []) refl refl keeps

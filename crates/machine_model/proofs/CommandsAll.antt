@@ -41,7 +41,7 @@ use Rattle.machine_model.proofs.Commanding.{Keeps, keeps_queue, keeps_fetch, kee
 use Rattle.machine_model.proofs.CommandsKept.{CommandsIn, SamePages, still, commands_reserve, commands_submit}
 use Rattle.machine_model.specs.Claims.{OwnsFit}
 use Rattle.machine_model.proofs.Members.{all_in}
-use Rattle.machine_model.proofs.Moves.{host_moves, sends, sent_record}
+use Rattle.machine_model.proofs.Moves.{host_moves, sends, sent_record, creates_cq, creates_sq, grants_cq, grants_sq}
 use Rattle.machine_model.proofs.DeviceMoves.{unit_memory, walk_by}
 use Rattle.machine_model.proofs.Refused.{unrefused}
 
@@ -68,9 +68,9 @@ commands_ended q cid pages s g same h =
 -- Sending
 
 -- queue 0 has no I/O command
-commands_sent : (adm : AdminKind) (id : ℕ) (s : State) → Grounds s → SamePages s (sends adm id s).memory → CommandsIn s → CommandsIn (sends adm id s)
-commands_sent adm id s g same h =
-    let m = (sends adm id s).memory in
+commands_sent : (adm : AdminKind) (id : ℕ) (s : State) (m : Pages) → Grounds s → SamePages s m → CommandsIn s
+    → Commands m (change 0 (λ at. record at { unfetched = at.unfetched ++ admin_entry adm id ∷ [] }) s.device.queues) s.device.jobs (s.host.records ++ sent_record adm id ∷ [])
+commands_sent adm id s m g same h =
     let qs = change 0 (λ at. record at { unfetched = at.unfetched ++ admin_entry adm id ∷ [] }) s.device.queues in
     let kept : Commands m qs s.device.jobs s.host.records =
     commands_still (λ r. Unit {0}) s.memory m s.device.queues qs s.device.jobs s.device.jobs s.host.records
@@ -106,16 +106,22 @@ commands_host s e reply pr ok c w h =
       rejects = λ q why is pr same. commands_consumed q s h.grounds h.commands;
       tells = λ q cid st what e r request t heard w pr same.
           with_still s.memory (a.consumed q s).device.queues s.device.jobs q cid (a.held st) s r heard.found h.grounds (λ x. refl) (λ x. refl) refl (commands_consumed q s h.grounds h.commands);
-      hears = λ q cid st what e r adm t heard w quiet pr same. without q cid;
+      hears = λ q cid st what e r adm t heard w quiet unmade pr same. without q cid;
       notes = λ q cid st what e r k t heard w pr same. without q cid;
-      frees = λ q cid st what e r k queue t heard w at retired good pr same. without q cid;
+      frees = λ q cid st what e r k queue t heard w at alone good pr same. without q cid;
+      makes_cq = λ q cid st what e r k n base t heard w good pr same. without q cid;
+      unmakes_cq = λ q cid st what e r k n base queue t heard w at bad pr same. without q cid;
+      makes_sq = λ q cid st what e r k n base t heard w good pr same. without q cid;
+      unmakes_sq = λ q cid st what e r k n base queue t heard w at bad pr same. without q cid;
       collects = λ q cid r f at held is pr same.
           with_still (without_pages (pages_of r) s.memory) s.device.queues s.device.jobs q cid a.collected s r at h.grounds (λ x. refl) (λ x. refl) refl
           (still s (without_pages (pages_of r) s.memory) s.device.queues s.device.jobs h.grounds same (nothing s.device.queues s.device.jobs) h.commands);
       releases = λ f r its pr same. commands_ended f.q f.cid (f.data_pages ++ f.chain_pages) s h.grounds same h.commands;
-      aborts = λ q cid id none new pr same. commands_sent (Abort q cid) id s h.grounds same h.commands;
-      asks = λ q id queue none new live pr same. commands_sent (DeleteSq q) id s h.grounds same h.commands;
-      drops = λ q id none new pr same. commands_sent (DeleteCq q) id s h.grounds same h.commands;
+      aborts = λ q cid id none new pr same. commands_sent (Abort q cid) id s (sends (Abort q cid) id s).memory h.grounds same h.commands;
+      asks = λ q id queue none new live pr same. commands_sent (DeleteSq q) id s (sends (DeleteSq q) id s).memory h.grounds same h.commands;
+      drops = λ q id none new pr same. commands_sent (DeleteCq q) id s (sends (DeleteCq q) id s).memory h.grounds same h.commands;
+      creates_cqs = λ q id first queue none new granted pr same. commands_sent (creates_cq q first s) id s (sends (creates_cq q first s) id (grants_cq q first s)).memory h.grounds same h.commands;
+      creates_sqs = λ q id first queue none new granted pr same. commands_sent (creates_sq q first s) id s (sends (creates_sq q first s) id (grants_sq q first s)).memory h.grounds same h.commands;
       retires = λ q queue none at deleted pr same.
           all_map (CommandStands s.memory s.device.queues s.device.jobs) (CommandStands s.memory s.device.queues s.device.jobs) (a.lost q) s.host.records (λ r c. lose r ((r.q == q) && is_submitted r.phase) c) h.commands;
       forges = λ q slot bytes queue none at pr same.

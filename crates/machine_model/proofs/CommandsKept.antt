@@ -19,7 +19,7 @@ use Rattle.machine_model.specs.Proper.{IsProper}
 use Rattle.machine_model.specs.Memory.{with_pages, without_pages}
 use Rattle.machine_model.specs.Commands.{Work, Io, Management}
 use Rattle.machine_model.specs.State.{State, HostQueue, DeviceQueue, Record, Drafted, Job, is_at, pages_of, with_record}
-use Rattle.machine_model.specs.Refusals.{is_submitted, is_drafted, is_live, asks_for, in_state, has_sq}
+use Rattle.machine_model.specs.Refusals.{is_submitted, is_drafted, is_live, asks_for, in_state, in_service}
 use Rattle.machine_model.specs.Step.{times}
 use Rattle.machine_model.specs.Claims.{OwnsFit}
 use Rattle.machine_model.specs.After as a
@@ -43,7 +43,7 @@ use Rattle.machine_model.proofs.Submitting.{requests_same, first_read, brought, 
 use Rattle.machine_model.proofs.Commanding.{Keeps, commands_still}
 use Rattle.machine_model.proofs.Moves.{IsOf, posts}
 use Rattle.machine_model.proofs.Refused.{unrefused}
-use Rattle.machine_model.proofs.Halves.{live_has_sq}
+use Rattle.machine_model.proofs.Halves.{live_has_sq, live_serves}
 
 abbrev pub CommandsIn : State → Type 0
 CommandsIn s = Commands s.memory s.device.queues s.device.jobs s.host.records
@@ -181,9 +181,9 @@ commands_submit d entry r s proper e its live g few places same h =
     not_past : past_at s.host.queues d.q ≡ false
     not_past = at (slice_get s.host.queues d.q) live
       where
-        at : (o : Option HostQueue) → option_map_or (λ queue. is_live queue.state) o false ≡ true → option_map_or (λ h. not (has_sq h.state)) o false ≡ false
+        at : (o : Option HostQueue) → option_map_or (λ queue. is_live queue.state) o false ≡ true → option_map_or (λ h. not (in_service h.state)) o false ≡ false
         at None e = refl
-        at (Some queue) e = ap not (live_has_sq queue.state e)
+        at (Some queue) e = ap not (live_serves queue.state e)
 
     no_entries : AllByRecursion (λ (e : SubEntry). e.cid ≡ d.cid → e ≡ draft_entry d) (unfetched_at s.device.queues d.q)
     no_entries =

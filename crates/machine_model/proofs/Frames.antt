@@ -5,7 +5,8 @@ use Rattle.admin_commands.specs.Entries.{admin_entry}
 use Rattle.admin_commands.specs.declared.AdminKind.TheVariants.{Abort, DeleteSq, DeleteCq}
 use Rattle.admin_commands.specs.declared.AdminKind.{AdminKind}
 use Rattle.entry_codec.specs.declared.submission.SubEntry.{SubEntry}
-use Rattle.machine_model.specs.Memory.{with_pages}
+use Rattle.page_memory.specs.declared.page.Half.TheVariants.{Submission, Completion}
+use Rattle.machine_model.specs.Memory.{with_pages, zeroed_pages}
 use Rattle.machine_model.specs.State.{State, pages_of, with_record}
 use Rattle.machine_model.specs.Refusals.{slot_page}
 use Rattle.machine_model.specs.Step.{IsController}
@@ -13,7 +14,7 @@ use Rattle.machine_model.specs.After as a
 use Rattle.machine_model.specs.Events.{Event, Reply}
 use Rattle.machine_model.proofs.Parts.{length-in_store, length-with_pages, length-without_pages}
 use Rattle.machine_model.proofs.Steps.{Accepts}
-use Rattle.machine_model.proofs.Moves.{host_moves, posted_bytes, posted_bits, sent_record, sends}
+use Rattle.machine_model.proofs.Moves.{host_moves, posted_bytes, posted_bits, sent_record, sends, half_from, creates_cq, creates_sq, grants_cq, grants_sq}
 
 pub record HostLeaves (s t : State) : Type 0 where
   pub entries : t.entries ≡ s.entries
@@ -43,20 +44,26 @@ host_leaves s e reply ok c =
       rests = λ q is. left s s refl refl refl refl (λ d. d) refl;
       rejects = λ q why is. left s _ refl refl refl refl (λ d. d) refl;
       tells = λ q cid st what e r request t heard w. left s _ refl refl refl refl (λ d. d) refl;
-      hears = λ q cid st what e r adm t heard w quiet. left s _ refl refl refl refl (λ d. d) refl;
+      hears = λ q cid st what e r adm t heard w quiet unmade. left s _ refl refl refl refl (λ d. d) refl;
       notes = λ q cid st what e r k t heard w. left s _ refl refl refl refl (λ d. d) refl;
       frees = λ q cid st what e r k queue t heard w at retired good. left s _ refl refl refl refl (λ d. d) refl;
+      makes_cq = λ q cid st what e r k size base t heard w good. left s _ refl refl refl refl (λ d. d) refl;
+      unmakes_cq = λ q cid st what e r k size base queue t heard w at bad. left s _ refl refl refl refl (λ d. d) refl;
+      makes_sq = λ q cid st what e r k size base t heard w good. left s _ refl refl refl refl (λ d. d) refl;
+      unmakes_sq = λ q cid st what e r k size base queue t heard w at bad. left s _ refl refl refl refl (λ d. d) refl;
       collects = λ q cid r f at held is. left s _ refl refl refl refl (λ d. d) (length-without_pages (pages_of r) s.memory);
       releases = λ f r its. left s _ refl refl refl refl (λ d. d) (length-with_pages (f.data_pages ++ f.chain_pages) s.memory);
-      aborts = λ q cid id none new. sent (Abort q cid) id;
-      asks = λ q id queue none new live. left s _ refl refl refl refl (λ d. d) (sent (DeleteSq q) id).size;
-      drops = λ q id none new. sent (DeleteCq q) id;
+      aborts = λ q cid id none new. sent (Abort q cid) id s;
+      asks = λ q id queue none new live. left s _ refl refl refl refl (λ d. d) (sent (DeleteSq q) id s).size;
+      drops = λ q id none new. sent (DeleteCq q) id s;
+      creates_cqs = λ q id first queue none new granted. left s _ refl refl refl refl (λ d. d) ((sent (creates_cq q first s) id (grants_cq q first s)).size ∙ length-with_pages (zeroed_pages (half_from Completion first s)) s.memory);
+      creates_sqs = λ q id first queue none new granted. left s _ refl refl refl refl (λ d. d) ((sent (creates_sq q first s) id (grants_sq q first s)).size ∙ length-with_pages (zeroed_pages (half_from Submission first s)) s.memory);
       retires = λ q queue none at deleted. left s _ refl refl refl refl (λ d. d) refl;
       forges = λ q slot bytes queue none at. left s _ refl refl refl refl (λ d. refl) (length-set s.memory (slot_page queue.cq_pages 16 slot) _);
     })
   where
-    sent : (adm : AdminKind) (id : ℕ) → HostLeaves s (sends adm id s)
-    sent adm id = left s _ refl refl refl refl (λ d. d) (posted_size 0 (admin_entry adm id) (a.on_records (λ records. records ++ sent_record adm id ∷ []) s))
+    sent : (adm : AdminKind) (id : ℕ) (s : State) → HostLeaves s (sends adm id s)
+    sent adm id s = left s _ refl refl refl refl (λ d. d) (posted_size 0 (admin_entry adm id) (a.on_records (λ records. records ++ sent_record adm id ∷ []) s))
 
 pub host_image : (s : State) (e : Event) (reply : Reply) → Accepts s e reply → IsController e ≡ false → (a.after s e reply).device.image ≡ s.device.image
 host_image s e reply ok c = (host_leaves s e reply ok c).image

@@ -1,8 +1,7 @@
 -- What is placed are free pages, each once, and as many as are wanted where there are so many.
-use Rattle.std.proofs.Common.{◌≡◌, ℕ, zero, suc, ◌+◌, ◌<◌, ◌≤◌, ◌==◌, nat_lt, Bool, true, false, not, Option, Some, None, List, [], ◌∷◌, ◌++◌, length, take, filter, if◌then◌else◌, refl, ap, sym, ◌∙◌, arith, eqb-true, eq-eqb, ltb-true}
-use Rattle.std.specs.List.{list_all}
+use Rattle.std.proofs.Common.{◌≡◌, ℕ, zero, suc, ◌+◌, ◌≤◌, ◌==◌, nat_lt, Bool, true, false, not, Option, Some, None, List, [], ◌∷◌, ◌++◌, length, take, filter, if◌then◌else◌, refl, ap, sym, ◌∙◌, arith, eqb-true, eq-eqb, ltb-true}
 use Rattle.std.specs.Option.{option_map_or}
-use Rattle.std.proofs.lemmas.Bool.{true≢false, and_parts}
+use Rattle.std.proofs.lemmas.Bool.{true≢false}
 use Rattle.page_ledger.specs.Owners.{is_among, pages_from}
 use Rattle.io_commands.specs.declared.request.Piece.{Piece}
 use Rattle.io_commands.specs.Requests.{data_count}
@@ -11,43 +10,8 @@ use Rattle.io_commands.proofs.Fewest.{is_between}
 use Rattle.machine_model.specs.Placement.{is_run, first_of_run, placed, without_numbers, data_placed, chain_wanted, chain_placed, wanted_of}
 use Rattle.machine_model.specs.Step.{times}
 use Rattle.machine_model.proofs.Counting.{one, times-cons, times-append, times-filter, held_once, not_held}
-use Rattle.machine_model.proofs.Placed.{find_sound}
-
--- Consecutive pages
-
-length_run : (first count : ℕ) → length (pages_from first count) ≡ count
-length_run first zero = refl
-length_run first (suc count) = ap suc (length_run (first + 1) count)
-
--- none of them stands twice
-none_before : (p first count : ℕ) → p < first → times p (pages_from first count) ≡ 0
-none_before p first zero l = refl
-none_before p first (suc count) l = omega (arith, times-cons p first (pages_from (first + 1) count), differ (first == p) refl, none_before p (first + 1) count (omega (arith, l)))
-  where
-    differ : (b : Bool) → (first == p) ≡ b → one (first == p) ≡ 0
-    differ true e = absurd (let same = eqb-true first p e in omega (arith, l, same))
-    differ false e = ap one e
-
-once_in_run : (p first count : ℕ) → times p (pages_from first count) ≤ 1
-once_in_run p first zero = omega arith
-once_in_run p first (suc count) = go (first == p) refl (once_in_run p (first + 1) count)
-  where
-    go : (b : Bool) → (first == p) ≡ b → times p (pages_from (first + 1) count) ≤ 1 → times p (pages_from first (suc count)) ≤ 1
-    go true e ih =
-        let same = eqb-true first p e in
-        omega (arith, times-cons p first (pages_from (first + 1) count), ap one e, none_before p (first + 1) count (omega (arith, same)))
-    go false e ih = omega (arith, times-cons p first (pages_from (first + 1) count), ap one e, ih)
-
-all_among : (pages free : List ℕ) (p : ℕ) → list_all (is_among free) pages ≡ true → is_among pages p ≡ true → is_among free p ≡ true
-all_among [] free p all h = absurd (true≢false (sym h))
-all_among (x ∷ pages) free p all h = go (x == p) refl h (all_among pages free p parts.1)
-  where
-    parts : (is_among free x ≡ true) × (list_all (is_among free) pages ≡ true)
-    parts = and_parts (is_among free x) (list_all (is_among free) pages) all
-
-    go : (b : Bool) → (x == p) ≡ b → is_among (x ∷ pages) p ≡ true → (is_among pages p ≡ true → is_among free p ≡ true) → is_among free p ≡ true
-    go true e h ih = ap (is_among free) (sym (eqb-true x p e)) ∙ parts.0
-    go false e h ih = ih (rw e at h)
+use Rattle.machine_model.proofs.Lists.{find_sound}
+use Rattle.machine_model.proofs.Runs.{length_run, once_in_run, all_among}
 
 -- Pages that are placed
 

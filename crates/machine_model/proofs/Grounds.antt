@@ -1,8 +1,9 @@
 -- What is known of every state of a trusted run, taken together.
-use Rattle.std.proofs.Common.{◌≡◌, ℕ, zero, suc, ◌+◌, Bool, true, false, Some, List, [], ◌∷◌, slice_get, refl, sym, subst}
+use Rattle.std.proofs.Common.{◌≡◌, ℕ, zero, suc, ◌+◌, Bool, true, false, Option, Some, List, [], ◌∷◌, slice_get, refl, ap, sym, ◌∙◌, subst}
+use Rattle.std.specs.Option.{option_map_or}
 use Rattle.machine_model.specs.Positions.{IsInRing}
 use Rattle.machine_model.specs.State.{State, HostQueue, DeviceQueue}
-use Rattle.machine_model.specs.Refusals.{host_queue}
+use Rattle.machine_model.specs.Refusals.{host_queue, is_live}
 use Rattle.machine_model.specs.Opening.{Opens, opening}
 use Rattle.machine_model.specs.Claims.{AdminLives}
 use Rattle.machine_model.specs.Step.{HostPart, host_part, IsController}
@@ -38,7 +39,7 @@ grounds_on s e reply ok t g = record {
 }
   where
     all' : StandsSound (a.after s e reply) × FitS (a.after s e reply)
-    all' = all_on s e reply ok t (g.stands, g.fit)
+    all' = all_on s e reply ok t g.zero_live (g.stands, g.fit)
 
     both : (b : Bool) → IsController e ≡ b → Both (host_part (a.after s e reply))
     both true c = subst Both (sym (part_controller s e reply c)) (g.stands.0, g.taken)
@@ -46,7 +47,7 @@ grounds_on s e reply ok t g = record {
 
     zeros : (b : Bool) → IsController e ≡ b → AdminLives (a.after s e reply).host.queues
     zeros true c = subst (λ (part : HostPart). AdminLives part.host.queues) (sym (part_controller s e reply c)) g.zero_live
-    zeros false c = zero_host s e reply ok c g.stands.0 g.fit.asked g.zero_live
+    zeros false c = zero_host s e reply ok c g.stands.0
 
 pub grounds_at_opening : (pages queues n s : ℕ) (image : List ℕ) → Opens pages queues n s → Grounds (opening pages queues n s image)
 grounds_at_opening pages queues n s image opens = record {
@@ -71,3 +72,7 @@ pair_at s g q queue e = paired_host_at s.entries q s.host.queues s.device.queues
 
 pub ring_in : (s : State) → Grounds s → (q : ℕ) (queue : HostQueue) → host_queue s q ≡ Some queue → IsInRing s.entries queue.ring
 ring_in s g q queue e = all_at (λ queue. IsInRing s.entries queue.ring) s.host.queues q queue e g.rings
+
+-- queue 0 is live
+pub zero_lives : (s : State) → Grounds s → (queue : HostQueue) → host_queue s 0 ≡ Some queue → is_live queue.state ≡ true
+zero_lives s g queue e = sym (ap (λ (o : Option HostQueue). option_map_or (λ h. is_live h.state) o true) e) ∙ g.zero_live

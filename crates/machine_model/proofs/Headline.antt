@@ -1,5 +1,5 @@
 -- The laws.
-use Rattle.std.proofs.Common.{◌≡◌, ℕ, suc, ◌+◌, false, List, [], ◌∷◌, ◌++◌, length, map, flat_map, sum_by, refl, ap, sym, ◌∙◌, arith, length-append, subst}
+use Rattle.std.proofs.Common.{◌≡◌, ℕ, suc, ◌+◌, List, [], ◌∷◌, ◌++◌, length, map, flat_map, sum_by, refl, ap, sym, ◌∙◌, arith, length-append, subst}
 use Rattle.std.proofs.lemmas.List.Sums.{sum_by-cons}
 use Rattle.page_ledger.specs.declared.owner.Role.TheVariants.{Data, Chain}
 use Rattle.page_memory.specs.declared.page.Half.TheVariants.{Submission, Completion}
@@ -7,14 +7,11 @@ use Rattle.page_ledger.specs.declared.owner.Owner.TheVariants.{Free, Queue, Comm
 use Rattle.page_ledger.specs.declared.owner.Owner.{Owner}
 use Rattle.page_ledger.specs.Counting.{total}
 use Rattle.machine_model.specs.State.{State, Host, HostQueue, Record}
-use Rattle.machine_model.specs.Step.{HostPart, host_part, IsController}
-use Rattle.machine_model.specs.Claims.{each_step_keeps, every_run_is_sound, every_run_takes_out, counts_add_up, claimed, claims_of, claims_of_queues, claims_of_record, AdminLives, IsSound, HasOneOwner, counts_of}
+use Rattle.machine_model.specs.Step.{host_part}
+use Rattle.machine_model.specs.Claims.{each_step_keeps, every_run_is_sound, every_run_takes_out, counts_add_up, claimed, claims_of, claims_of_queues, claims_of_record, IsSound, HasOneOwner, counts_of}
 use Rattle.machine_model.proofs.Counting.{length_of_all}
 use Rattle.machine_model.proofs.Parts.{length-in_store}
-use Rattle.machine_model.specs.Events.{Event, Reply}
-use Rattle.machine_model.proofs.Steps.{Accepts, IsKept, each_step, each_run}
-use Rattle.machine_model.proofs.Asked.{AskedPart, asked_event, asked_from_fit, fit_from_asked, asked_at_opening}
-use Rattle.machine_model.proofs.Zero.{zero_host, zero_opened}
+use Rattle.machine_model.proofs.Steps.{each_step, each_run}
 use Rattle.machine_model.proofs.Owned.{holds_from_sound, owners_from_holds, identifiers_from_holds}
 use Rattle.machine_model.proofs.Opening.{fits_pool, holds_at_opening, taken_at_opening}
 use Rattle.machine_model.proofs.Taken.{out_from_taken, taken_from_out}
@@ -60,35 +57,32 @@ counts_are_all count h owners = sym (all_claims h) ∙ length_of_all count (firs
 
 -- The invariant that is kept, and the statement
 
-abbrev All : HostPart → Type 0
-All part = Both part × AskedPart part × AdminLives part.host.queues
+both_from_sound : (s : State) → IsSound s → Both (host_part s)
+both_from_sound s sound = (holds_from_sound s sound, taken_from_out s sound.out)
 
-all_events : (s : State) (e : Event) (reply : Reply) → Accepts s e reply → IsController e ≡ false → IsKept All s e reply
-all_events s e reply ok c h = (both_events s e reply ok c h.0, asked_event s e reply ok c h.0.0 h.1, zero_host s e reply ok c h.0.0 h.1 h.2)
-
-all_from_sound : (s : State) → IsSound s → All (host_part s)
-all_from_sound s sound = ((holds_from_sound s sound, taken_from_out s sound.out), asked_from_fit s.host sound.deletions, sound.admin)
-
-pub sound_from_all : (s : State) → All (host_part s) → IsSound s
-sound_from_all s all =
-    let owners : HasOneOwner (length s.memory) s.host = subst (λ (k : ℕ). HasOneOwner k s.host) (length-in_store s.memory) (owners_from_holds _ s.host all.0.0) in
+pub sound_from_both : (s : State) → Both (host_part s) → IsSound s
+sound_from_both s both =
+    let owners : HasOneOwner (length s.memory) s.host = subst (λ (k : ℕ). HasOneOwner k s.host) (length-in_store s.memory) (owners_from_holds _ s.host both.0) in
     record {
       owners = owners;
       counted = counts_are_all (length s.memory) s.host owners;
-      identifiers = identifiers_from_holds _ s.host all.0.0;
-      out = out_from_taken s all.0.1;
-      works_fit = all.0.0.admins;
-      deletions = fit_from_asked s.host all.1;
-      admin = all.2;
+      identifiers = identifiers_from_holds _ s.host both.0;
+      out = out_from_taken s both.1;
+      works_fit = both.0.admins;
+      deletions = both.0.deletions;
+      creations = both.0.creations;
+      bare = both.0.bare;
+      halves = both.0.halves;
+      admin = both.0.admin;
     }
 
 pub steps_keep : each_step_keeps
-steps_keep old e reply new step sound = sound_from_all new (each_step All all_events old e reply new step (all_from_sound old sound))
+steps_keep old e reply new step sound = sound_from_both new (each_step Both both_events old e reply new step (both_from_sound old sound))
 
 pub runs_are_sound : every_run_is_sound
 runs_are_sound pages queues n s image es replies new opens run =
-    sound_from_all new (each_run All all_events _ es replies new run
-    ((holds_at_opening pages queues n s image (fits_pool pages queues n s opens), taken_at_opening pages queues n s image), asked_at_opening 0 n (queues + 1), zero_opened 0 n (queues + 1)))
+    sound_from_both new (each_run Both both_events _ es replies new run
+    (holds_at_opening pages queues n s image (fits_pool pages queues n s opens), taken_at_opening pages queues n s image))
 
 pub runs_take_out : every_run_takes_out
 runs_take_out pages queues n s image es replies new opens run = (runs_are_sound pages queues n s image es replies new opens run).out

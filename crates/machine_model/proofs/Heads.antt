@@ -138,6 +138,13 @@ changed_at (suc k) f (x ∷ xs) (suc q) y e = elim (changed_at k f xs q y e) [
   | inr h ↦ inr ((λ z. h.0 (omega (arith, z))), h.1)
 ]
 
+pub changed_elsewhere : {A : Type 0} (k : ℕ) (f : A → A) (xs : List A) (q : ℕ) → (k ≡ q → ⊥) → slice_get (change k f xs) q ≡ slice_get xs q
+changed_elsewhere k f [] q far = refl
+changed_elsewhere zero f (x ∷ xs) zero far = absurd (far refl)
+changed_elsewhere zero f (x ∷ xs) (suc q) far = refl
+changed_elsewhere (suc k) f (x ∷ xs) zero far = refl
+changed_elsewhere (suc k) f (x ∷ xs) (suc q) far = changed_elsewhere k f xs q (λ e. far (ap suc e))
+
 pub total_ones : {A : Type 0} (xs : List A) → total (λ x. 1) xs ≡ length xs
 total_ones [] = refl
 total_ones (x ∷ xs) = omega (arith, total_ones xs)

@@ -2,11 +2,11 @@
 use Rattle.std.proofs.Common.{◌≡◌, ◌⊎◌, inl, inr, ℕ, zero, suc, ◌+◌, ◌-◌, ◌<◌, ◌≤◌, ◌==◌, Bool, true, false, not, ◌&&◌, Option, Some, None, List, [], ◌∷◌, ◌++◌, length, map, drop, slice_get, is_some, replicate, if◌then◌else◌, refl, ap, sym, ◌∙◌, arith, subst, eqb-true, eq-eqb}
 use Rattle.std.specs.Option.{option_map_or}
 use Rattle.std.specs.List.{AllByRecursion}
-use Rattle.std.proofs.lemmas.Bool.{true≢false, and_parts}
+use Rattle.std.proofs.lemmas.Bool.{true≢false, and_parts, eqb-false}
 use Rattle.std.proofs.lemmas.Bool.Decides.{nat_tests}
 use Rattle.admin_commands.specs.Entries.{named_queue}
 use Rattle.admin_commands.specs.declared.SqState.TheVariants.{Stopping}
-use Rattle.admin_commands.specs.declared.AdminKind.TheVariants.{Abort, DeleteSq, DeleteCq}
+use Rattle.admin_commands.specs.declared.AdminKind.TheVariants.{Abort, DeleteSq, DeleteCq, CreateSq}
 use Rattle.entry_codec.specs.declared.submission.SubEntry.{SubEntry}
 use Rattle.entry_codec.specs.declared.status.Status.{Status}
 use Rattle.entry_codec.specs.declared.status.TheConstants.Status.{ABORTED_SQ_DELETION}
@@ -15,8 +15,9 @@ use Rattle.queue_pair.specs.Slots.{distance, moved}
 use Rattle.queue_pair.proofs.Order.{distance_same}
 use Rattle.machine_model.specs.Proper.{IsProper}
 use Rattle.machine_model.specs.Positions.{IsInRing}
-use Rattle.machine_model.specs.State.{with_record, is_at, without_record, record_at, State, Device, Host, HostQueue, Live, Deleting, DeviceQueue, Record, Held, Job, Answer}
-use Rattle.machine_model.specs.Refusals.{is_submitted, device_queue, job_at, fetch_slot, has_sq}
+use Rattle.machine_model.specs.State.{with_record, is_at, without_record, record_at, State, Device, Host, HostQueue, Live, Deleting, MakingSq, DeviceQueue, Record, Held, Job, Answer}
+use Rattle.machine_model.specs.Commands.{Management}
+use Rattle.machine_model.specs.Refusals.{is_submitted, device_queue, job_at, fetch_slot, in_service, is_live, is_making}
 use Rattle.machine_model.specs.Step.{HostPart, IsController}
 use Rattle.machine_model.specs.After as a
 use Rattle.machine_model.specs.After.{change}
@@ -27,27 +28,29 @@ use Rattle.machine_model.specs.Standing.{unfetched_at}
 use Rattle.machine_model.proofs.Counting.{one}
 use Rattle.machine_model.proofs.Totals.{total_with, total_without, total, total-append, total-map, here}
 use Rattle.machine_model.proofs.Steps.{Accepts, part_controller}
-use Rattle.machine_model.proofs.Managed.{managed_by_case}
+use Rattle.machine_model.proofs.Managed.{managed_by}
 use Rattle.machine_model.proofs.Placed.{is_job, find_sound}
 use Rattle.machine_model.proofs.Members.{all_filter, in_found, all_map, all_append, sent}
-use Rattle.machine_model.proofs.Grounds.{Grounds, ring_in}
+use Rattle.machine_model.proofs.Grounds.{Grounds, pair_at, ring_in, zero_lives}
 use Rattle.machine_model.proofs.Served.{Stood, past_at, unfetched_count, job_weight, answers_at}
 use Rattle.machine_model.proofs.Queues.{list_same}
 use Rattle.machine_model.proofs.Placements.{InHand, in_hand, first_is}
 use Rattle.machine_model.proofs.PlacesKept.{sent_is, ids_of, held_not, PlacesIn, places_event, running_not_past, sent_not}
-use Rattle.machine_model.proofs.Heads.{Heads, HeadBehind, AnswersBehind, sent_count, behind_answered, head_at, few_outstanding, sent_outstanding, changed_at, total_ones}
-use Rattle.machine_model.proofs.HeadsKept.{drafted_room, heads_less, ids_with, heads_heard, heads_consumed, heads_posted, HeadsIn, HeadsS, heads_records, heads_device, heads_state, heads_sent}
-use Rattle.queue_pair.specs.Rings.{HostRing, next_tail, fresh_host_ring}
+use Rattle.machine_model.proofs.Heads.{Heads, HeadBehind, AnswersBehind, sent_count, behind_answered, head_at, few_outstanding, sent_outstanding, changed_at, changed_elsewhere, total_ones}
+use Rattle.machine_model.proofs.HeadsKept.{drafted_room, heads_less, ids_with, heads_heard, heads_consumed, heads_posted, HeadsIn, HeadsS, heads_records, heads_device, heads_fewer, heads_made, heads_out, heads_state, heads_sent, list_emptied}
+use Rattle.queue_pair.specs.Rings.{HostRing, next_tail, next_head, knowing, fresh_host_ring}
 use Rattle.queue_pair.specs.Memory.{half_pages}
 use Rattle.page_memory.specs.declared.page.Half.TheVariants.{Submission, Completion}
-use Rattle.machine_model.proofs.Moves.{host_moves, sends, drafted_record, heard_without, IsHeard, answer_heard}
+use Rattle.machine_model.proofs.Moves.{host_moves, sends, drafted_record, heard_without, half_from, creates_cq, creates_sq, grants_cq, grants_sq, IsHeard, answer_heard}
 use Rattle.machine_model.proofs.Asked.{still_live, asked_note}
+use Rattle.machine_model.proofs.AwaitedKept.{making_sq_as_heard, ring_at}
+use Rattle.machine_model.proofs.Standing.{admin_zero}
 use Rattle.machine_model.proofs.Refused.{unrefused}
 use Rattle.entry_codec.specs.declared.completion.ComEntry.{ComEntry}
 use Rattle.machine_model.specs.Memory.{with_pages}
 use Rattle.machine_model.proofs.DeviceMoves.{fetch_by, walk_by}
 use Rattle.machine_model.proofs.DeviceMoves.{answers, finished, cleared, complete_by}
-use Rattle.machine_model.proofs.Halves.{asked_has_sq}
+use Rattle.machine_model.proofs.Halves.{asked_serves}
 
 -- Retiring
 
@@ -74,9 +77,9 @@ heads_retire q s h = record { ids = ids; behind = λ k x ex open'. at k x open' 
     other : (q k : ℕ) → (q ≡ k → ⊥) → (q == k) ≡ false
     other q k far = grind (arith, nat_tests)
 
-    at : (k : ℕ) (x : HostQueue) → has_sq x.state ≡ true → ((q ≡ k) × ((y : HostQueue) × (slice_get s.host.queues k ≡ Some y) × (x ≡ a.retired y))) ⊎ ((q ≡ k → ⊥) × (slice_get s.host.queues k ≡ Some x))
+    at : (k : ℕ) (x : HostQueue) → in_service x.state ≡ true → ((q ≡ k) × ((y : HostQueue) × (slice_get s.host.queues k ≡ Some y) × (x ≡ a.retired y))) ⊎ ((q ≡ k → ⊥) × (slice_get s.host.queues k ≡ Some x))
         → HeadBehind s.entries (sent_count k (map (a.lost q) s.host.records)) x (answers_at s.device.queues k)
-    at k x open' (inl (same, (y, e, is))) = absurd (true≢false (sym open' ∙ ap (λ (z : HostQueue). has_sq z.state) is))
+    at k x open' (inl (same, (y, e, is))) = absurd (true≢false (sym open' ∙ ap (λ (z : HostQueue). in_service z.state) is))
     at k x open' (inr (far, e)) = subst (λ (m : ℕ). HeadBehind s.entries m x (answers_at s.device.queues k)) (sym (same_sent k (other q k far))) (h.behind k x e open')
 
 -- Fetching
@@ -111,29 +114,42 @@ no_conflict s stood q e hand = go (job_at s q e.cid) refl
         ap (λ (b : Bool). if b then 0 else total (λ (x : SubEntry). one (x.cid == e.cid)) (unfetched_at s.device.queues q)) (running_not_past s stood.grounds q e hand) in
         absurd (omega (arith, counted, here_first, mine, in_found (is_job q e.cid) s.device.jobs j n (job_weight q (λ c. one (c == e.cid))), stood.places q (λ c. one (c == e.cid)), few s.host.records, stood.grounds.stands.0.once q e.cid))
 
-abbrev Same : State → Device → Type 0
-Same s d = (k : ℕ) → answers_at d.queues k ≡ answers_at s.device.queues k
+-- a queue's answers stay, or are gone with its completion queue
+abbrev Fewer : State → Device → Type 0
+Fewer s d = (k : ℕ) → (answers_at d.queues k ≡ answers_at s.device.queues k) ⊎ (answers_at d.queues k ≡ [])
 
-same_off : (s : State) (q : ℕ) → Same s (a.taken_off q s).device
+same_off : (s : State) (q k : ℕ) → answers_at (a.taken_off q s).device.queues k ≡ answers_at s.device.queues k
 same_off s q k = list_same (λ at. at.answers) q (λ at. record at { unfetched = drop 1 at.unfetched; rung = at.rung - 1 }) s.device.queues k (λ at. refl)
 
-same_managed : (s : State) (e : SubEntry) → Same s (a.managed e (a.taken_off 0 s)).device
-same_managed s e =
-    managed_by_case (λ (t : State). Same s t.device) e (a.taken_off 0 s) (same_off s 0) (same_off s 0) (λ is8. same_off s 0) (λ is8. same_off s 0) (same_off s 0)
-    (λ is0 q0 runs k. list_same (λ at. at.answers) (named_queue e) (λ at. record at { state = Stopping }) (a.taken_off 0 s).device.queues k (λ at. refl) ∙ same_off s 0 k)
-    (same_off s 0)
-    (λ not8 not0 gone k. list_same (λ at. at.answers) (named_queue e) (λ at. record at { cq_there = false }) (a.taken_off 0 s).device.queues k (λ at. refl) ∙ same_off s 0 k)
+fewer_managed : (s : State) (e : SubEntry) → Fewer s (a.managed e (a.taken_off 0 s)).device
+fewer_managed s e =
+    managed_by (λ (t : State). Fewer s t.device) e (a.taken_off 0 s)
+    (record {
+      refuses = λ st bad k. inl (same_off s 0 k);
+      aborts = λ is8 walks k. inl (same_off s 0 k);
+      is_late = λ is8 k. inl (same_off s 0 k);
+      stops = λ is0 q0 runs k. inl (list_same (λ at. at.answers) (named_queue e) (λ at. record at { state = Stopping }) (a.taken_off 0 s).device.queues k (λ at. refl) ∙ same_off s 0 k);
+      drops = λ is4 q0 there gone. emptied a.dropped (λ at. refl);
+      makes_completion = λ is5 q0 none. emptied a.completion_made (λ at. refl);
+      makes_submission = λ is1 q0 gone there. emptied a.submission_made (λ at. refl);
+    })
+  where
+    emptied : (f : DeviceQueue → DeviceQueue) → ((at : DeviceQueue) → (f at).answers ≡ []) → Fewer s (a.on_device_queue (named_queue e) f (a.taken_off 0 s)).device
+    emptied f none k = elim (list_emptied (λ at. at.answers) (named_queue e) f (a.taken_off 0 s).device.queues k none) [
+      | inl same ↦ inl (same ∙ same_off s 0 k)
+      | inr gone ↦ inr gone
+    ]
 
-same_fetch : (s : State) → Stood s → (q : ℕ) → Same s (a.after_fetch q s).device
-same_fetch s stood q =
-    fetch_by (λ (t : State). Same s t.device) s q (λ k. refl)
+fewer_fetch : (s : State) → Stood s → (q : ℕ) → Fewer s (a.after_fetch q s).device
+fewer_fetch s stood q =
+    fetch_by (λ (t : State). Fewer s t.device) s q (λ k. inl refl)
     (λ e n c. absurd (true≢false (sym c ∙ ap (λ (o : Option SubEntry). option_map_or (λ e. is_some (job_at s q e.cid)) o false) n ∙ no_conflict s stood q e (in_hand s q e n))))
-    (λ e n c z. same_managed s e) (λ e n c other. same_off s q)
+    (λ e n c z. fewer_managed s e) (λ e n c other k. inl (same_off s q k))
 
 -- Walking
 
-same_walk : (s : State) (q cid : ℕ) → Same s (a.after_walk q cid s).device
-same_walk s q cid = walk_by (λ (t : State). Same s t.device) s q cid (λ k. refl) (λ j act at u k. refl)
+fewer_walk : (s : State) (q cid : ℕ) → Fewer s (a.after_walk q cid s).device
+fewer_walk s q cid = walk_by (λ (t : State). Fewer s t.device) s q cid (λ k. inl refl) (λ j act at u k. inl refl)
 
 -- Completing
 
@@ -180,7 +196,7 @@ heads_answered q cid st dw0 t pos few rings placed h = record { ids = h.ids; beh
     none_there zero (x ∷ qs) g e = absurd cc
     none_there (suc q) (x ∷ qs) g e = none_there q qs g e
 
-    at : (k : ℕ) (queue : HostQueue) → slice_get t.host.queues k ≡ Some queue → has_sq queue.state ≡ true → (b : Bool) → (q == k) ≡ b
+    at : (k : ℕ) (queue : HostQueue) → slice_get t.host.queues k ≡ Some queue → in_service queue.state ≡ true → (b : Bool) → (q == k) ≡ b
         → HeadBehind t.entries (sent_count k t.host.records) queue (answers_at (change q (λ at. record at { answers = at.answers ++ record { cid = cid; status = st; dw0 = dw0; sq_head = fetch_slot t q } ∷ [] }) t.device.queues) k)
     at k queue e open' false far = subst (HeadBehind t.entries (sent_count k t.host.records) queue) (sym (elsewhere q k t.device.queues _ far)) (h.behind k queue e open')
     at k queue e open' true same =
@@ -188,7 +204,7 @@ heads_answered q cid st dw0 t pos few rings placed h = record { ids = h.ids; beh
         subst (λ (m : ℕ). HeadBehind t.entries (sent_count m t.host.records) queue (answers_at (change q (λ at. record at { answers = at.answers ++ record { cid = cid; status = st; dw0 = dw0; sq_head = fetch_slot t q } ∷ [] }) t.device.queues) m)) z
         (mine queue (subst (λ (m : ℕ). slice_get t.host.queues m ≡ Some queue) (sym z) e) open' (slice_get t.device.queues q) refl)
       where
-        mine : (queue : HostQueue) → slice_get t.host.queues q ≡ Some queue → has_sq queue.state ≡ true → (o : Option DeviceQueue) → slice_get t.device.queues q ≡ o
+        mine : (queue : HostQueue) → slice_get t.host.queues q ≡ Some queue → in_service queue.state ≡ true → (o : Option DeviceQueue) → slice_get t.device.queues q ≡ o
             → HeadBehind t.entries (sent_count q t.host.records) queue (answers_at (change q (λ at. record at { answers = at.answers ++ record { cid = cid; status = st; dw0 = dw0; sq_head = fetch_slot t q } ∷ [] }) t.device.queues) q)
         mine queue e open' None d =
             subst (HeadBehind t.entries (sent_count q t.host.records) queue) (sym (none_there q t.device.queues _ d)) (record { known = (h.behind q queue e open').known; answers = tt })
@@ -197,7 +213,7 @@ heads_answered q cid st dw0 t pos few rings placed h = record { ids = h.ids; beh
             let b = h.behind q queue e open' in
             let before : AnswersBehind t.entries queue.ring.tail (sent_count q t.host.records) x.answers =
             subst (λ (o : Option DeviceQueue). AnswersBehind t.entries queue.ring.tail (sent_count q t.host.records) (option_map_or (λ at. at.answers) o [])) d b.answers in
-            let past : past_at t.host.queues q ≡ false = ap (λ (o : Option HostQueue). option_map_or (λ h. not (has_sq h.state)) o false) e ∙ ap not open' in
+            let past : past_at t.host.queues q ≡ false = ap (λ (o : Option HostQueue). option_map_or (λ h. not (in_service h.state)) o false) e ∙ ap not open' in
             let entries' : unfetched_count q (λ c. 1) t.host.queues (change q g t.device.queues) ≡ length x.unfetched =
             ap (λ (b : Bool). if b then 0 else total (λ (e : SubEntry). 1) (unfetched_at (change q g t.device.queues) q)) past ∙ ap (total (λ (e : SubEntry). 1)) (own_entries q t.device.queues x g d) ∙ total_ones x.unfetched in
             let answers' : total (λ (an : Answer). 1) (answers_at (change q g t.device.queues) q) ≡ length x.answers + 1 =
@@ -227,10 +243,10 @@ heads_complete q cid s g places h =
 
 -- Every event
 
-controller_heads : (s : State) (e : Event) (reply : Reply) → IsController e ≡ true → Same s (a.after s e reply).device → HeadsS s → HeadsS (a.after s e reply)
-controller_heads s e reply c same h =
+controller_heads : (s : State) (e : Event) (reply : Reply) → IsController e ≡ true → Fewer s (a.after s e reply).device → HeadsS s → HeadsS (a.after s e reply)
+controller_heads s e reply c fewer h =
     subst (λ (part : HostPart). HeadsIn part (a.after s e reply).device.queues) (sym (part_controller s e reply c))
-    (heads_device s.entries s.host.queues s.host.records s.device.queues (a.after s e reply).device.queues same h)
+    (heads_fewer s.entries s.host.queues s.host.records s.device.queues (a.after s e reply).device.queues fewer h)
 
 heads_host : (s : State) (e : Event) (reply : Reply) → Accepts s e reply → IsController e ≡ false → s.trusted ≡ true → Grounds s → HeadsS s → HeadsS (a.after s e reply)
 heads_host s e reply ok c t g h =
@@ -259,23 +275,34 @@ heads_host s e reply ok c t g h =
       tells = λ q cid st what e r request told heard w.
           good q cid st e r heard (with_record q cid (a.held st) s.host.records) (ids_with (s.entries - 1) q cid (a.held st) s.host.records (λ x. refl) h.ids)
           (λ k. omega (arith, total_with (sent k (λ c. 1)) q cid (a.held st) s.host.records r heard.found (g.stands.0.once q cid), sent_not k (λ c. 1) (a.held st r) refl));
-      hears = λ q cid st what e r adm told heard w quiet. without q cid st e r heard;
+      hears = λ q cid st what e r adm told heard w quiet unmade. without q cid st e r heard;
       notes = λ q cid st what e r k told heard w.
           let u = a.heard q e s in
           heads_state s.entries k (λ queue. record queue { state = if is_success st then Deleting true else Live }) u.host.queues (without_record q cid s.host.records) u.device.queues (λ x. refl)
-          (λ x ex open'. asked_has_sq x.state (asked_note s q cid st e r k g.stands.0 g.fit.asked heard w x ex)) (without q cid st e r heard);
-      frees = λ q cid st what e r k queue told heard w at retired good.
-          let u = a.heard q e s in heads_state s.entries k a.gone u.host.queues (without_record q cid s.host.records) u.device.queues (λ x. refl) (λ x ex open'. absurd (true≢false (sym open'))) (without q cid st e r heard);
+          (λ x ex open'. asked_serves x.state (asked_note s q cid st e r k g.stands.0 g.fit.asked heard w x ex)) (without q cid st e r heard);
+      frees = λ q cid st what e r k queue told heard w at alone good. heads_out s.entries k a.gone (a.heard q e s).host.queues (without_record q cid s.host.records) (a.heard q e s).device.queues (λ x. refl) (without q cid st e r heard);
+      makes_cq = λ q cid st what e r k n base told heard w good. heads_out s.entries k a.half_made (a.heard q e s).host.queues (without_record q cid s.host.records) (a.heard q e s).device.queues (λ x. refl) (without q cid st e r heard);
+      unmakes_cq = λ q cid st what e r k n base queue told heard w at bad. heads_out s.entries k a.gone (a.heard q e s).host.queues (without_record q cid s.host.records) (a.heard q e s).device.queues (λ x. refl) (without q cid st e r heard);
+      makes_sq = λ q cid st what e r k n base told heard w good.
+          let u = a.heard q e s in
+          heads_made s.entries k u.host.queues (without_record q cid s.host.records) u.device.queues (λ x ex. fresh q cid st e r k n base heard w x ex) (without q cid st e r heard);
+      unmakes_sq = λ q cid st what e r k n base queue told heard w at bad. heads_out s.entries k a.unmade_sq (a.heard q e s).host.queues (without_record q cid s.host.records) (a.heard q e s).device.queues (λ x. refl) (without q cid st e r heard);
       collects = λ q cid r f at held is.
           heads_records s.entries s.host.queues s.host.records (with_record q cid a.collected s.host.records) s.device.queues (ids_with (s.entries - 1) q cid a.collected s.host.records (λ x. refl) h.ids)
           (λ k. omega (arith, total_with (sent k (λ c. 1)) q cid a.collected s.host.records r at (g.stands.0.once q cid), sent_not k (λ c. 1) r (held_not r.phase held), sent_not k (λ c. 1) (a.collected r) refl)) h;
       releases = λ f r its. ended f.q f.cid r its.found its.quiet;
-      aborts = λ q cid id none new. heads_sent (Abort q cid) id s new (unrefused s (events.Abort q cid) none).1.1.1.0 g h;
+      aborts = λ q cid id none new. heads_sent (Abort q cid) id s new.in_range (unrefused s (events.Abort q cid) none).1.1.1.0 (λ queue e. ring_in s g 0 queue e) h;
       asks = λ q id queue none new live.
           let u = sends (DeleteSq q) id s in
-          heads_state s.entries q a.deleting u.host.queues u.host.records u.device.queues (λ x. refl) (λ x ex open'. ap has_sq (still_live s q 0 (next_tail s.entries) queue x live ex))
-          (heads_sent (DeleteSq q) id s new (unrefused s (events.DeleteSq q) none).1.1.0 g h);
-      drops = λ q id none new. heads_sent (DeleteCq q) id s new (unrefused s (events.DeleteCq q) none).1.1.0 g h;
+          heads_state s.entries q a.deleting u.host.queues u.host.records u.device.queues (λ x. refl) (λ x ex open'. ap in_service (still_live s q 0 (next_tail s.entries) queue x live ex))
+          (heads_sent (DeleteSq q) id s new.in_range (unrefused s (events.DeleteSq q) none).1.1.0 (λ queue e. ring_in s g 0 queue e) h);
+      drops = λ q id none new. heads_sent (DeleteCq q) id s new.in_range (unrefused s (events.DeleteCq q) none).1.1.0 (λ queue e. ring_in s g 0 queue e) h;
+      creates_cqs = λ q id first queue none new granted.
+          let pages = half_from Completion first s in
+          heads_sent (creates_cq q first s) id (grants_cq q first s) new.in_range (unrefused s (events.CreateCq q) none).1.1.1.0 (zero_ring (a.making_cq pages) q granted.other) (heads_out s.entries q (a.making_cq pages) s.host.queues s.host.records s.device.queues (λ x. refl) h);
+      creates_sqs = λ q id first queue none new granted.
+          let pages = half_from Submission first s in
+          heads_sent (creates_sq q first s) id (grants_sq q first s) new.in_range (unrefused s (events.CreateSq q) none).1.1.0 (zero_ring (a.making_sq pages) q granted.other) (heads_out s.entries q (a.making_sq pages) s.host.queues s.host.records s.device.queues (λ x. refl) h);
       retires = λ q queue none at deleted. heads_retire q s h;
       forges = λ q slot bytes queue none at. h;
     })
@@ -291,14 +318,38 @@ heads_host s e reply ok c t g h =
         subst (λ (x : ComEntry). Heads s.entries (a.heard q x s).host.queues rs (change q (λ at. record at { answers = drop 1 at.answers }) s.device.queues)) (sym an.is)
         (heads_heard q an.answer s rs an.first ids (λ k. omega (arith, less k, sent_is q cid k (λ c. 1) r its.0 its.1 heard.submitted)) h)
 
+    -- where a queue other than 0 changes
+    zero_ring : (f : HostQueue → HostQueue) (q : ℕ) → (q == 0) ≡ false → (queue : HostQueue) → slice_get (change q f s.host.queues) 0 ≡ Some queue → IsInRing s.entries queue.ring
+    zero_ring f q other queue e = ring_in s g 0 queue (sym (changed_elsewhere q f s.host.queues 0 (eqb-false q 0 other)) ∙ e)
+
+    -- a queue whose halves are both made has rings as they open, and no answers
+    fresh : (q cid : ℕ) (st : Status) (e : ComEntry) (r : Record) (k n base : ℕ) → IsHeard s q cid st e r → r.work ≡ Management (CreateSq k n base) → (x : HostQueue) → slice_get (a.heard q e s).host.queues k ≡ Some x
+        → (x.ring ≡ fresh_host_ring) × (answers_at (a.heard q e s).device.queues k ≡ [])
+    fresh q cid st e r k n base heard w x ex =
+        let making = making_sq_as_heard s q cid st e r k n base g.stands.0 heard w x ex in
+        let hs1 = change q (λ x. record x { ring = next_head s.entries x.ring }) s.host.queues in
+        let far : q ≡ k → ⊥ = λ same. not_zero k x making ex (sym same ∙ admin_zero s q cid r (CreateSq k n base) g.stands.0 heard.found w) in
+        let there : slice_get s.host.queues k ≡ Some x =
+        sym (changed_elsewhere q (λ x. record x { ring = next_head s.entries x.ring }) s.host.queues k far) ∙ sym (changed_elsewhere q (λ x. record x { ring = knowing e.sqhd x.ring }) hs1 k far) ∙ ex in
+        let pair = pair_at s g k x there in (
+          pair.2.fresh (ap is_making making),
+          ap (λ (o : Option DeviceQueue). option_map_or (λ at. at.answers) o []) (changed_elsewhere q (λ at. record at { answers = drop 1 at.answers }) s.device.queues k far ∙ pair.1) ∙ pair.2.answers (ap in_service making),
+        )
+      where
+        not_zero : (k : ℕ) (x : HostQueue) → x.state ≡ MakingSq → slice_get (a.heard q e s).host.queues k ≡ Some x → k ≡ 0 → ⊥
+        not_zero k x making ex zero' =
+            let b = ring_at q k (knowing e.sqhd) (change q (λ x. record x { ring = next_head s.entries x.ring }) s.host.queues) x ex in
+            let y = ring_at q k (next_head s.entries) s.host.queues b.0 b.1 in
+            true≢false (sym (zero_lives s g y.0 (subst (λ (z : ℕ). slice_get s.host.queues z ≡ Some y.0) zero' y.1)) ∙ ap is_live (sym y.2 ∙ sym b.2 ∙ making))
+
     without : (q cid : ℕ) (st : Status) (e : ComEntry) (r : Record) → IsHeard s q cid st e r → HeadsS (heard_without q cid e s)
     without q cid st e r heard =
         good q cid st e r heard (without_record q cid s.host.records) (all_filter (λ r. r.cid < s.entries - 1) (λ r. not (is_at q cid r)) s.host.records h.ids)
         (λ k. omega (arith, total_without (sent k (λ c. 1)) q cid s.host.records r heard.found (g.stands.0.once q cid)))
 
 pub heads_event : (s : State) (e : Event) (reply : Reply) → IsProper e → Accepts s e reply → s.trusted ≡ true → Stood s → HeadsS s → HeadsS (a.after s e reply)
-heads_event s (events.Fetch q) (events.Fetched c touched) pr ok t stood h = controller_heads s (events.Fetch q) (events.Fetched c touched) refl (same_fetch s stood q) h
-heads_event s (events.Walk q cid) (events.Walked o touched) pr ok t stood h = controller_heads s (events.Walk q cid) (events.Walked o touched) refl (same_walk s q cid) h
+heads_event s (events.Fetch q) (events.Fetched c touched) pr ok t stood h = controller_heads s (events.Fetch q) (events.Fetched c touched) refl (fewer_fetch s stood q) h
+heads_event s (events.Walk q cid) (events.Walked o touched) pr ok t stood h = controller_heads s (events.Walk q cid) (events.Walked o touched) refl (fewer_walk s q cid) h
 heads_event s (events.Complete q cid) (events.Completed touched) pr ok t stood h =
     heads_complete q cid s stood.grounds (places_event s (events.Complete q cid) (events.Completed touched) pr ok t stood.grounds stood.places) h
 heads_event s (events.Fetch q) reply pr ok t stood h = absurd ok.1

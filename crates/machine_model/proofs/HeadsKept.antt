@@ -1,25 +1,26 @@
 -- Every event keeps the heads behind the tail.
 use Rattle.std.proofs.Common.{◌≡◌, ◌⊎◌, inl, inr, ℕ, zero, suc, ◌+◌, ◌-◌, ◌<◌, ◌≤◌, ◌==◌, nat_le, Bool, true, false, ◌&&◌, Some, List, [], ◌∷◌, ◌++◌, length, filter, drop, slice_get, option_and_then, if◌then◌else◌, refl, ap, sym, ◌∙◌, arith, subst, eq-eqb}
 use Rattle.std.specs.List.{AllByRecursion}
+use Rattle.std.proofs.lemmas.Bool.{true≢false}
 use Rattle.std.proofs.lemmas.Bool.Decides.{nat_tests}
 use Rattle.admin_commands.specs.Entries.{admin_entry}
 use Rattle.admin_commands.specs.declared.AdminKind.{AdminKind}
 use Rattle.entry_codec.specs.declared.submission.SubEntry.{SubEntry}
-use Rattle.queue_pair.specs.Rings.{HostRing, next_tail, next_head, knowing}
+use Rattle.queue_pair.specs.Rings.{HostRing, fresh_host_ring, next_tail, next_head, knowing}
 use Rattle.queue_pair.specs.Slots.{next_slot, distance}
-use Rattle.queue_pair.proofs.Order.{distance_grows}
+use Rattle.queue_pair.proofs.Order.{distance_same, distance_grows}
 use Rattle.machine_model.specs.Positions.{IsInRing}
 use Rattle.machine_model.specs.State.{State, HostQueue, DeviceQueue, Record, Answer, is_at, with_record, outstanding_on}
-use Rattle.machine_model.specs.Refusals.{is_submitted, device_queue, no_identifier, entry_of, first_answer, has_sq}
-use Rattle.machine_model.specs.Step.{HostPart, host_part, IsNewIdentifier}
+use Rattle.machine_model.specs.Refusals.{is_submitted, device_queue, no_identifier, entry_of, first_answer, in_service}
+use Rattle.machine_model.specs.Step.{HostPart, host_part}
 use Rattle.machine_model.specs.After as a
 use Rattle.machine_model.specs.After.{change}
 use Rattle.machine_model.proofs.Counting.{one}
 use Rattle.machine_model.proofs.Totals.{total, total-append}
 use Rattle.machine_model.proofs.Members.{In, all_map, all_filter, all_append, sent}
-use Rattle.machine_model.proofs.Grounds.{Grounds, ring_in}
+use Rattle.machine_model.proofs.Grounds.{Grounds}
 use Rattle.machine_model.proofs.Served.{answers_at}
-use Rattle.machine_model.proofs.Queues.{list_same}
+use Rattle.machine_model.proofs.Queues.{list_at, list_same}
 use Rattle.machine_model.proofs.PlacesKept.{sent_is}
 use Rattle.machine_model.proofs.Heads.{Heads, HeadBehind, AnswersBehind, sent_count, behind_more, behind_posted, on_queue', few_outstanding, sent_outstanding, length_outstanding, changed_at}
 use Rattle.machine_model.proofs.Moves.{posts, sends, sent_record}
@@ -48,22 +49,60 @@ heads_device n hs rs qs qs' same h = record {
 
 -- a queue of the host changes, its ring left alone, and is past where it was
 pub heads_state : (n k : ℕ) (f : HostQueue → HostQueue) (hs : List HostQueue) (rs : List Record) (qs : List DeviceQueue) → ((x : HostQueue) → (f x).ring ≡ x.ring)
-    → ((x : HostQueue) → slice_get hs k ≡ Some x → has_sq (f x).state ≡ true → has_sq x.state ≡ true) → Heads n hs rs qs → Heads n (change k f hs) rs qs
+    → ((x : HostQueue) → slice_get hs k ≡ Some x → in_service (f x).state ≡ true → in_service x.state ≡ true) → Heads n hs rs qs → Heads n (change k f hs) rs qs
 heads_state n k f hs rs qs ring past h = record {
   ids = h.ids;
   behind = λ q queue e open'. at q queue open' (changed_at k f hs q queue e);
 }
   where
-    at : (q : ℕ) (queue : HostQueue) → has_sq queue.state ≡ true → ((k ≡ q) × ((x : HostQueue) × (slice_get hs q ≡ Some x) × (queue ≡ f x))) ⊎ ((k ≡ q → ⊥) × (slice_get hs q ≡ Some queue))
+    at : (q : ℕ) (queue : HostQueue) → in_service queue.state ≡ true → ((k ≡ q) × ((x : HostQueue) × (slice_get hs q ≡ Some x) × (queue ≡ f x))) ⊎ ((k ≡ q → ⊥) × (slice_get hs q ≡ Some queue))
         → HeadBehind n (sent_count q rs) queue (answers_at qs q)
     at q queue open' (inl (same, (x, e, is))) =
-        let before : has_sq x.state ≡ true = past x (subst (λ (z : ℕ). slice_get hs z ≡ Some x) (sym same) e) (ap (λ (y : HostQueue). has_sq y.state) (sym is) ∙ open') in
+        let before : in_service x.state ≡ true = past x (subst (λ (z : ℕ). slice_get hs z ≡ Some x) (sym same) e) (ap (λ (y : HostQueue). in_service y.state) (sym is) ∙ open') in
         let b = h.behind q x e before in
         let r : queue.ring ≡ x.ring = ap (λ (y : HostQueue). y.ring) is ∙ ring x in
         record {
           known = subst (λ (g : HostRing). distance n g.known_head g.tail ≤ sent_count q rs) (sym r) b.known;
           answers = subst (λ (g : HostRing). AnswersBehind n g.tail (sent_count q rs) (answers_at qs q)) (sym r) b.answers;
         }
+    at q queue open' (inr (far, e)) = h.behind q queue e open'
+
+-- answers stay, or are gone
+pub list_emptied : {B : Type 0} (get : DeviceQueue → List B) (k : ℕ) (f : DeviceQueue → DeviceQueue) (qs : List DeviceQueue) (q : ℕ) → ((at : DeviceQueue) → get (f at) ≡ [])
+    → (list_at get (change k f qs) q ≡ list_at get qs q) ⊎ (list_at get (change k f qs) q ≡ [])
+list_emptied get k f [] q none = inl refl
+list_emptied get zero f (x ∷ qs) zero none = inr (none x)
+list_emptied get zero f (x ∷ qs) (suc q) none = inl refl
+list_emptied get (suc k) f (x ∷ qs) zero none = inl refl
+list_emptied get (suc k) f (x ∷ qs) (suc q) none = list_emptied get k f qs q none
+
+pub heads_fewer : (n : ℕ) (hs : List HostQueue) (rs : List Record) (qs qs' : List DeviceQueue) → ((q : ℕ) → (answers_at qs' q ≡ answers_at qs q) ⊎ (answers_at qs' q ≡ [])) → Heads n hs rs qs → Heads n hs rs qs'
+heads_fewer n hs rs qs qs' fewer h = record { ids = h.ids; behind = λ q queue e open'. at q queue (h.behind q queue e open') (fewer q) }
+  where
+    at : (q : ℕ) (queue : HostQueue) → HeadBehind n (sent_count q rs) queue (answers_at qs q) → (answers_at qs' q ≡ answers_at qs q) ⊎ (answers_at qs' q ≡ []) → HeadBehind n (sent_count q rs) queue (answers_at qs' q)
+    at q queue b (inl same) = subst (HeadBehind n (sent_count q rs) queue) (sym same) b
+    at q queue b (inr none) = subst (HeadBehind n (sent_count q rs) queue) (sym none) (record { known = b.known; answers = tt })
+
+-- a queue is out of service from now on
+pub heads_out : (n k : ℕ) (f : HostQueue → HostQueue) (hs : List HostQueue) (rs : List Record) (qs : List DeviceQueue) → ((x : HostQueue) → in_service (f x).state ≡ false) → Heads n hs rs qs → Heads n (change k f hs) rs qs
+heads_out n k f hs rs qs out h = record { ids = h.ids; behind = λ q queue e open'. at q queue open' (changed_at k f hs q queue e) }
+  where
+    at : (q : ℕ) (queue : HostQueue) → in_service queue.state ≡ true → ((k ≡ q) × ((x : HostQueue) × (slice_get hs q ≡ Some x) × (queue ≡ f x))) ⊎ ((k ≡ q → ⊥) × (slice_get hs q ≡ Some queue))
+        → HeadBehind n (sent_count q rs) queue (answers_at qs q)
+    at q queue open' (inl (same, (x, e, is))) = absurd (true≢false (sym open' ∙ ap (λ (y : HostQueue). in_service y.state) is ∙ out x))
+    at q queue open' (inr (far, e)) = h.behind q queue e open'
+
+-- a queue comes into service with rings as they open, and no answers
+pub heads_made : (n k : ℕ) (hs : List HostQueue) (rs : List Record) (qs : List DeviceQueue) → ((x : HostQueue) → slice_get hs k ≡ Some x → (x.ring ≡ fresh_host_ring) × (answers_at qs k ≡ [])) → Heads n hs rs qs → Heads n (change k a.live hs) rs qs
+heads_made n k hs rs qs fresh h = record { ids = h.ids; behind = λ q queue e open'. at q queue open' (changed_at k a.live hs q queue e) }
+  where
+    at : (q : ℕ) (queue : HostQueue) → in_service queue.state ≡ true → ((k ≡ q) × ((x : HostQueue) × (slice_get hs q ≡ Some x) × (queue ≡ a.live x))) ⊎ ((k ≡ q → ⊥) × (slice_get hs q ≡ Some queue))
+        → HeadBehind n (sent_count q rs) queue (answers_at qs q)
+    at q queue open' (inl (same, (x, e, is))) =
+        let f = fresh x (subst (λ (z : ℕ). slice_get hs z ≡ Some x) (sym same) e) in
+        let ring : queue.ring ≡ fresh_host_ring = ap (λ (y : HostQueue). y.ring) is ∙ f.0 in
+        let none : answers_at qs q ≡ [] = subst (λ (z : ℕ). answers_at qs z ≡ []) same f.1 in
+        subst (HeadBehind n (sent_count q rs) queue) (sym none) (record { known = omega (arith, ap (λ (r : HostRing). distance n r.known_head r.tail) ring, distance_same n 0); answers = tt })
     at q queue open' (inr (far, e)) = h.behind q queue e open'
 
 -- Posting
@@ -81,7 +120,7 @@ heads_posted q entry s rs ids more few rings h = record {
     n : ℕ
     n = s.entries
 
-    at : (k : ℕ) (queue : HostQueue) → has_sq queue.state ≡ true
+    at : (k : ℕ) (queue : HostQueue) → in_service queue.state ≡ true
         → ((q ≡ k) × ((x : HostQueue) × (slice_get s.host.queues k ≡ Some x) × (queue ≡ record x { ring = next_tail s.entries x.ring }))) ⊎ ((q ≡ k → ⊥) × (slice_get s.host.queues k ≡ Some queue))
         → HeadBehind s.entries (sent_count k s.host.records) queue (answers_at s.device.queues k)
     at k queue open' (inr (far, e)) =
@@ -89,7 +128,7 @@ heads_posted q entry s rs ids more few rings h = record {
         let le : sent_count k rs ≤ sent_count k s.host.records = omega (arith, more k) in
         record { known = omega (arith, b.known, le); answers = behind_more s.entries queue.ring.tail (sent_count k rs) (sent_count k s.host.records) (answers_at s.device.queues k) le b.answers }
     at k queue open' (inl (same, (x, e, is))) =
-        let b = h.behind k x e (ap (λ (y : HostQueue). has_sq y.state) (sym is) ∙ open') in
+        let b = h.behind k x e (ap (λ (y : HostQueue). in_service y.state) (sym is) ∙ open') in
         let r = rings x (subst (λ (z : ℕ). slice_get s.host.queues z ≡ Some x) (sym same) e) in
         let few' : sent_count k rs < s.entries - 1 = subst (λ (z : ℕ). sent_count z rs < s.entries - 1) same few in
         let one_more : sent_count k rs + 1 ≤ sent_count k s.host.records = omega (arith, more k, ap one (eq-eqb q k same)) in
@@ -105,14 +144,14 @@ heads_posted q entry s rs ids more few rings h = record {
 few_sent : (s : State) → Grounds s → HeadsS s → (q : ℕ) → total (on_queue' q) s.host.records ≤ s.entries - 1
 few_sent s g h q = few_outstanding q (s.entries - 1) s.host.records h.ids g.stands.0.once
 
-pub heads_sent : (adm : AdminKind) (id : ℕ) (s : State) → IsNewIdentifier s 0 id → no_identifier s 0 ≡ false → Grounds s → HeadsS s → HeadsS (sends adm id s)
-heads_sent adm id s new room g h =
+pub heads_sent : (adm : AdminKind) (id : ℕ) (s : State) → id < s.entries - 1 → no_identifier s 0 ≡ false → ((queue : HostQueue) → slice_get s.host.queues 0 ≡ Some queue → IsInRing s.entries queue.ring) → HeadsS s → HeadsS (sends adm id s)
+heads_sent adm id s low room rings h =
     let r = sent_record adm id in
     heads_posted 0 (admin_entry adm id) (a.on_records (λ records. records ++ r ∷ []) s) s.host.records
-    (all_append (λ r. r.cid < s.entries - 1) s.host.records (r ∷ []) h.ids (new.in_range, tt))
+    (all_append (λ r. r.cid < s.entries - 1) s.host.records (r ∷ []) h.ids (low, tt))
     (λ k. omega (arith, total-append (sent k (λ c. 1)) s.host.records (r ∷ []), sent_is 0 id k (λ c. 1) r refl refl refl))
     (omega (arith, sent_outstanding 0 s.host.records, length_outstanding 0 s.host.records, below (s.entries - 1) (length (outstanding_on s.host 0)) room))
-    (λ queue e. ring_in s g 0 queue e) h
+    rings h
   where
     below : (a b : ℕ) → nat_le a b ≡ false → b < a
     below a b e = grind (arith, nat_tests)
@@ -167,13 +206,13 @@ heads_consumed q s h = record {
         over (suc q) (at ∷ qs) zero h = h
         over (suc q) (at ∷ qs) (suc k) h = over q qs k h
 
-    at : (k : ℕ) (queue : HostQueue) → has_sq queue.state ≡ true
+    at : (k : ℕ) (queue : HostQueue) → in_service queue.state ≡ true
         → ((q ≡ k) × ((x : HostQueue) × (slice_get s.host.queues k ≡ Some x) × (queue ≡ record x { ring = next_head s.entries x.ring }))) ⊎ ((q ≡ k → ⊥) × (slice_get s.host.queues k ≡ Some queue))
         → HeadBehind s.entries (sent_count k s.host.records) queue (answers_at (change q (λ at. record at { answers = drop 1 at.answers }) s.device.queues) k)
     at k queue open' (inr (far, e)) =
         let b = h.behind k queue e open' in record { known = b.known; answers = dropped k queue.ring.tail (sent_count k s.host.records) b.answers }
     at k queue open' (inl (same, (x, e, is))) =
-        let b = h.behind k x e (ap (λ (y : HostQueue). has_sq y.state) (sym is) ∙ open') in
+        let b = h.behind k x e (ap (λ (y : HostQueue). in_service y.state) (sym is) ∙ open') in
         subst (λ (y : HostQueue). HeadBehind s.entries (sent_count k s.host.records) y (answers_at (change q (λ at. record at { answers = drop 1 at.answers }) s.device.queues) k)) (sym is)
         (record { known = b.known; answers = dropped k x.ring.tail (sent_count k s.host.records) b.answers })
 
@@ -212,7 +251,7 @@ heads_heard q an s rs first ids less h = record {
         over (suc q) (at ∷ qs) (suc k) far = over q qs k (λ e. far (ap suc e))
 
     -- the queue itself
-    own : (k : ℕ) (x : HostQueue) → q ≡ k → slice_get s.host.queues k ≡ Some x → has_sq x.state ≡ true
+    own : (k : ℕ) (x : HostQueue) → q ≡ k → slice_get s.host.queues k ≡ Some x → in_service x.state ≡ true
         → (distance s.entries an.sq_head x.ring.tail ≤ sent_count k rs) × AnswersBehind s.entries x.ring.tail (sent_count k rs) (answers_at (change q (λ at. record at { answers = drop 1 at.answers }) s.device.queues) k)
     own k x same e open' =
         let b = h.behind k x e open' in
@@ -223,13 +262,13 @@ heads_heard q an s rs first ids less h = record {
           behind_more s.entries x.ring.tail (sent_count k s.host.records - 1) (sent_count k rs) (answers_at (change q (λ at. record at { answers = drop 1 at.answers }) s.device.queues) k) (omega (arith, less k, one')) front.2,
         )
 
-    at : (k : ℕ) (queue : HostQueue) → has_sq queue.state ≡ true
+    at : (k : ℕ) (queue : HostQueue) → in_service queue.state ≡ true
         → ((q ≡ k) × ((x : HostQueue) × (slice_get (change q (λ x. record x { ring = next_head s.entries x.ring }) s.host.queues) k ≡ Some x) × (queue ≡ record x { ring = knowing (entry_of q an).sqhd x.ring })))
         ⊎ ((q ≡ k → ⊥) × (slice_get (change q (λ x. record x { ring = next_head s.entries x.ring }) s.host.queues) k ≡ Some queue))
         → HeadBehind s.entries (sent_count k rs) queue (answers_at (change q (λ at. record at { answers = drop 1 at.answers }) s.device.queues) k)
     at k queue open' (inl (same, (x, e, is))) = elim (changed_at q (λ x. record x { ring = next_head s.entries x.ring }) s.host.queues k x e) [
       | inl (same', (y, ey, isy)) ↦
-          let state : has_sq y.state ≡ true = ap (λ (z : HostQueue). has_sq z.state) (sym isy) ∙ ap (λ (z : HostQueue). has_sq z.state) (sym is) ∙ open' in
+          let state : in_service y.state ≡ true = ap (λ (z : HostQueue). in_service z.state) (sym isy) ∙ ap (λ (z : HostQueue). in_service z.state) (sym is) ∙ open' in
           let o = own k y same ey state in
           let ring : queue.ring ≡ knowing (entry_of q an).sqhd (next_head s.entries y.ring) = ap (λ (z : HostQueue). z.ring) is ∙ ap (λ (z : HostQueue). knowing (entry_of q an).sqhd z.ring) isy in
           record {

@@ -30,7 +30,7 @@ use Rattle.machine_model.specs.After as a
 use Rattle.machine_model.specs.After.{final_status}
 use Rattle.machine_model.specs.Events as events
 use Rattle.machine_model.specs.Events.{Event, Reply, Refusal}
-use Rattle.machine_model.proofs.Managed.{managed_by_case}
+use Rattle.machine_model.proofs.Managed.{managed_by}
 use Rattle.machine_model.proofs.Placing.{device-answered}
 use Rattle.machine_model.proofs.Placed.{is_job, find_sound}
 use Rattle.machine_model.proofs.Steps.{Accepts}
@@ -160,7 +160,16 @@ complete_image drafts s q cid none stood known = go (job_at s q cid) refl
 fetch_image : (s : State) (q : ℕ) → (a.after_fetch q s).device.image ≡ s.device.image
 fetch_image s q =
     fetch_by (λ (t : State). t.device.image ≡ s.device.image) s q refl (λ e n c. refl)
-    (λ e n c z. managed_by_case (λ (t : State). t.device.image ≡ s.device.image) e (a.taken_off 0 s) refl refl (λ is8. refl) (λ is8. refl) refl (λ is0 q0 runs. refl) refl (λ not8 not0 gone. refl)) (λ e n c other. refl)
+    (λ e n c z. managed_by (λ (t : State). t.device.image ≡ s.device.image) e (a.taken_off 0 s)
+    (record {
+      refuses = λ st bad. refl;
+      aborts = λ is8 walks. refl;
+      is_late = λ is8. refl;
+      stops = λ is0 q0 runs. refl;
+      drops = λ is4 q0 there gone. refl;
+      makes_completion = λ is5 q0 gone. refl;
+      makes_submission = λ is1 q0 gone there. refl;
+    })) (λ e n c other. refl)
 
 pub walk_image : (s : State) (q cid : ℕ) → (a.after_walk q cid s).device.image ≡ s.device.image
 walk_image s q cid = walk_by (λ (t : State). t.device.image ≡ s.device.image) s q cid refl (λ j act at u. refl)

@@ -26,7 +26,7 @@ use Rattle.machine_model.proofs.Served.{Stood}
 use Rattle.machine_model.proofs.CommandsAll.{Walking, walking}
 use Rattle.machine_model.proofs.WalksKept.{one_job, host_jobs}
 use Rattle.machine_model.proofs.DeviceMoves.{unit_bytes, unit_done, walk_is, fetch_by, complete_by}
-use Rattle.machine_model.proofs.Managed.{managed_by_cause}
+use Rattle.machine_model.proofs.Managed.{managed_by}
 
 -- the bytes that a walk step leaves a job
 abbrev pub walked_bytes : State → Job → Direction → Act → List ℕ
@@ -67,13 +67,18 @@ jobs_fetch P Q s q move stood h =
 
     managed : (e : SubEntry) → q ≡ 0 → next_rung s q ≡ Some e → AllByRecursion Q (a.managed e (a.taken_off 0 s)).device.jobs
     managed e z rung =
-        managed_by_cause (λ (t : State). AllByRecursion Q t.device.jobs) e (a.taken_off 0 s)
-        (λ st dw0. one_more s.device.jobs st dw0 still)
-        (λ is8 w. one_more (map (λ (j : Job). if (j.q == named_queue e) && (j.entry.cid == named_command e) then record j { verdict = Some ABORT_REQUESTED; waiting_abort = Some e.cid } else j) s.device.jobs) SUCCESS 0
-        (mapped (λ (j : Job). if (j.q == named_queue e) && (j.entry.cid == named_command e) then record j { verdict = Some ABORT_REQUESTED; waiting_abort = Some e.cid } else j)
-        (λ k j f p. aborted w k j f p ((j.q == named_queue e) && (j.entry.cid == named_command e)) refl)))
-        (λ is0. one_more (map (a.stopped (named_queue e)) s.device.jobs) SUCCESS 0 (mapped (a.stopped (named_queue e)) (λ k j f p. halted k j f p ((j.q == named_queue e) && is_none j.verdict) refl)))
-        (one_more s.device.jobs SUCCESS 0 still)
+        managed_by (λ (t : State). AllByRecursion Q t.device.jobs) e (a.taken_off 0 s)
+        (record {
+          refuses = λ st bad. one_more s.device.jobs st 0 still;
+          aborts = λ is8 w. one_more (map (λ (j : Job). if (j.q == named_queue e) && (j.entry.cid == named_command e) then record j { verdict = Some ABORT_REQUESTED; waiting_abort = Some e.cid } else j) s.device.jobs) SUCCESS 0
+              (mapped (λ (j : Job). if (j.q == named_queue e) && (j.entry.cid == named_command e) then record j { verdict = Some ABORT_REQUESTED; waiting_abort = Some e.cid } else j)
+              (λ k j f p. aborted w k j f p ((j.q == named_queue e) && (j.entry.cid == named_command e)) refl));
+          is_late = λ is8. one_more s.device.jobs SUCCESS 1 still;
+          stops = λ is0 q0 runs. one_more (map (a.stopped (named_queue e)) s.device.jobs) SUCCESS 0 (mapped (a.stopped (named_queue e)) (λ k j f p. halted k j f p ((j.q == named_queue e) && is_none j.verdict) refl));
+          drops = λ is4 q0 there gone. one_more s.device.jobs SUCCESS 0 still;
+          makes_completion = λ is5 q0 none. one_more s.device.jobs SUCCESS 0 still;
+          makes_submission = λ is1 q0 gone there. one_more s.device.jobs SUCCESS 0 still;
+        })
       where
         one_more : (js : List Job) (st : Status) (dw0 : ℕ) → AllByRecursion Q js → AllByRecursion Q (js ++ a.new_job 0 e (Some st) dw0 [] ∷ [])
         one_more js st dw0 all =

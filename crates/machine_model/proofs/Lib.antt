@@ -11,6 +11,7 @@ pub mod Reaching
 pub mod Keeping
 pub mod Pools
 pub mod Ending
+pub mod Lists
 pub mod Parts
 pub mod Steps
 pub mod Owned
@@ -26,11 +27,16 @@ pub mod Positions
 pub mod Slots
 pub mod Built
 pub mod Out
+pub mod Awaited
+pub mod AwaitedKept
+mod BareKept
 pub mod Asked
+pub mod HalvesKept
 pub mod Zero
 pub mod Headline
 pub mod Touching
 pub mod Placed
+pub mod Runs
 pub mod FreePages
 pub mod JoinedParts
 pub mod Placing
@@ -43,8 +49,11 @@ pub mod Tied
 pub mod TiedHost
 pub mod TiedReap
 pub mod TiedAll
-pub mod Backed
-pub mod BackedAll
+pub mod Tokens
+pub mod TokensKept
+pub mod TokensDevice
+pub mod TokensHost
+pub mod TokensAll
 pub mod Along
 pub mod Grounds
 pub mod Untouched
@@ -89,6 +98,7 @@ pub mod ReadsWalk
 pub mod ReadsAlong
 pub mod ReadLaws
 pub mod WholePages
+pub mod Named
 pub mod Provided
 pub mod Agreeing
 pub mod Agreed

@@ -1,12 +1,12 @@
 -- What an accepted event of the host finds and leaves, case by case: a statement that holds of what each case leaves holds after the event. An
 -- event more is a case more here, and in each proof that is made by these cases.
-use Rattle.std.proofs.Common.{◌≡◌, ℕ, ◌==◌, Bool, true, false, not, ◌&&◌, ◌||◌, Option, Some, None, List, [], ◌∷◌, ◌++◌, map, is_none, if◌then◌else◌, refl, ap, ap₂, sym, ◌∙◌, subst, nat_eq}
+use Rattle.std.proofs.Common.{◌≡◌, ℕ, ◌==◌, Bool, true, false, not, ◌&&◌, ◌||◌, Option, Some, None, List, [], ◌∷◌, ◌++◌, map, is_none, is_some, slice_get, eqb-true, if◌then◌else◌, refl, ap, ap₂, sym, ◌∙◌, subst, nat_eq}
 use Rattle.std.specs.Option.{option_map, option_map_or, option_and_then}
 use Rattle.std.specs.Cmp.Lexicographic.{pointwise}
 use Rattle.std.proofs.lemmas.Bool.{true≢false, not-false, and_parts, or_parts}
 use Rattle.std.proofs.lemmas.List.{map-append}
 use Rattle.admin_commands.specs.Entries.{admin_entry}
-use Rattle.admin_commands.specs.declared.AdminKind.TheVariants.{Abort, DeleteSq, DeleteCq}
+use Rattle.admin_commands.specs.declared.AdminKind.TheVariants.{Abort, DeleteSq, DeleteCq, CreateCq, CreateSq}
 use Rattle.admin_commands.specs.declared.AdminKind.{AdminKind}
 use Rattle.entry_codec.specs.Submission.{submission_bytes}
 use Rattle.entry_codec.specs.declared.completion.ComEntry.{ComEntry}
@@ -18,11 +18,15 @@ use Rattle.io_commands.specs.Jobs.{is_success}
 use Rattle.io_commands.specs.Values.{FinishedContents, numbers_of}
 use Rattle.page_memory.specs.Pages.{Pages, with_page_bytes}
 use Rattle.queue_pair.specs.Rings.{next_tail}
+use Rattle.queue_pair.specs.Memory.{half_pages}
+use Rattle.page_ledger.specs.Owners.{pages_from}
+use Rattle.page_memory.specs.declared.page.Half.{Half}
+use Rattle.page_memory.specs.declared.page.Half.TheVariants.{Submission, Completion}
 use Rattle.machine_model.specs.Claims.{is_away}
 use Rattle.machine_model.specs.Memory.{with_pages, without_pages}
 use Rattle.machine_model.specs.Commands.{Work, Io, Management}
-use Rattle.machine_model.specs.State.{State, Answer, HostQueue, HostState, Live, Deleting, Retired, Gone, Record, Phase, Drafted, Submitted, Held, Collected, record_at, with_record, without_record, pages_of}
-use Rattle.machine_model.specs.Refusals.{device_queue, first_answer, entry_of, refusal_of, host_queue, seen_entry, is_of, asks_for, is_drafted, is_submitted, is_held, is_collected, is_live, is_deleting, is_deleted, is_retired, has_sq, has_cq, in_state, record_is, no_io_queue, deletes_sq_of, slot_page, slot_offset}
+use Rattle.machine_model.specs.State.{State, Answer, HostQueue, HostState, Live, Deleting, Retired, Gone, MakingCq, HalfMade, MakingSq, Record, Phase, Drafted, Submitted, Held, Collected, record_at, with_record, without_record, pages_of}
+use Rattle.machine_model.specs.Refusals.{device_queue, first_answer, entry_of, refusal_of, host_queue, seen_entry, is_of, asks_for, is_drafted, is_submitted, is_held, is_collected, is_live, is_deleting, is_deleted, is_gone, is_half_made, is_asked, is_making_cq, is_making_sq, has_cq_alone, in_service, is_reaped, run_for, in_state, record_is, no_io_queue, is_io_queue, deletes_sq_of, creates_cq_of, creates_sq_of, slot_page, slot_offset}
 use Rattle.machine_model.specs.Step.{IsController, IsReserved, IsNewIdentifier, Answers, finished_from, reaped, reaped_entry, reaped_as, fits_ring}
 use Rattle.machine_model.specs.After as a
 use Rattle.machine_model.specs.Events as events
@@ -91,6 +95,29 @@ pub record IsLiveQueue (s : State) (q : ℕ) (queue : HostQueue) : Type 0 where
   pub live : queue.state ≡ Live
   pub other : (q == 0) ≡ false
 
+-- a queue that gets a half: it is in a state, and the half is the lowest run of free pages
+pub record IsGranted (s : State) (q : ℕ) (half : Half) (was : HostState) (queue : HostQueue) (first : ℕ) : Type 0 where
+  pub there : host_queue s q ≡ Some queue
+  pub state : queue.state ≡ was
+  pub other : (q == 0) ≡ false
+  pub run : run_for s half ≡ Some first
+
+abbrev pub half_from : Half → ℕ → State → List ℕ
+half_from half first s = pages_from first (half_pages s.entries half)
+
+-- the queue with its new half, which is in and zero
+abbrev pub grants_cq : ℕ → ℕ → State → State
+grants_cq q first s = a.on_host_queue q (a.making_cq (half_from Completion first s)) (a.half_granted (half_from Completion first s) s)
+
+abbrev pub grants_sq : ℕ → ℕ → State → State
+grants_sq q first s = a.on_host_queue q (a.making_sq (half_from Submission first s)) (a.half_granted (half_from Submission first s) s)
+
+abbrev pub creates_cq : ℕ → ℕ → State → AdminKind
+creates_cq q first s = CreateCq q s.entries (a.base_of (half_from Completion first s))
+
+abbrev pub creates_sq : ℕ → ℕ → State → AdminKind
+creates_sq q first s = CreateSq q s.entries (a.base_of (half_from Submission first s))
+
 -- the entry that a reap sees, and the command that it answers
 pub record IsHeard (s : State) (q cid : ℕ) (st : Status) (e : ComEntry) (r : Record) : Type 0 where
   pub seen : seen_entry s q ≡ Some e
@@ -134,17 +161,32 @@ pub record HostMoves (P : Event → Reply → State → Type 0) (s : State) : Ty
   pub tells : (q cid : ℕ) (st : Status) (what : Reaped) (e : ComEntry) (r : Record) (request : Request) → Tells s q cid st what → IsHeard s q cid st e r → r.work ≡ Io request
       → P (events.Reap q) (events.Reaps what) (a.on_records (with_record q cid (a.held st)) (a.heard q e s))
   pub hears : (q cid : ℕ) (st : Status) (what : Reaped) (e : ComEntry) (r : Record) (adm : AdminKind) → Tells s q cid st what → IsHeard s q cid st e r → r.work ≡ Management adm
-      → ((k : ℕ) → deletes_sq_of k (Management adm) ≡ false) → P (events.Reap q) (events.Reaps what) (heard_without q cid e s)
+      → ((k : ℕ) → deletes_sq_of k (Management adm) ≡ false) → ((k : ℕ) → (creates_cq_of k (Management adm) || creates_sq_of k (Management adm)) ≡ true → host_queue (a.heard q e s) k ≡ None)
+      → P (events.Reap q) (events.Reaps what) (heard_without q cid e s)
   pub notes : (q cid : ℕ) (st : Status) (what : Reaped) (e : ComEntry) (r : Record) (k : ℕ) → Tells s q cid st what → IsHeard s q cid st e r → r.work ≡ Management (DeleteSq k)
       → P (events.Reap q) (events.Reaps what) (a.on_host_queue k (λ queue. record queue { state = if is_success st then Deleting true else Live }) (heard_without q cid e s))
   pub frees : (q cid : ℕ) (st : Status) (what : Reaped) (e : ComEntry) (r : Record) (k : ℕ) (queue : HostQueue) → Tells s q cid st what → IsHeard s q cid st e r → r.work ≡ Management (DeleteCq k)
-      → host_queue (a.heard q e s) k ≡ Some queue → is_retired queue.state ≡ true → is_success st ≡ true → P (events.Reap q) (events.Reaps what) (a.on_host_queue k a.gone (a.given_back queue.cq_pages (heard_without q cid e s)))
+      → host_queue (a.heard q e s) k ≡ Some queue → has_cq_alone queue.state ≡ true → is_success st ≡ true → P (events.Reap q) (events.Reaps what) (a.on_host_queue k a.gone (a.given_back queue.cq_pages (heard_without q cid e s)))
+  pub makes_cq : (q cid : ℕ) (st : Status) (what : Reaped) (e : ComEntry) (r : Record) (k n base : ℕ) → Tells s q cid st what → IsHeard s q cid st e r → r.work ≡ Management (CreateCq k n base)
+      → is_success st ≡ true → P (events.Reap q) (events.Reaps what) (a.on_host_queue k a.half_made (heard_without q cid e s))
+  pub unmakes_cq : (q cid : ℕ) (st : Status) (what : Reaped) (e : ComEntry) (r : Record) (k n base : ℕ) (queue : HostQueue) → Tells s q cid st what → IsHeard s q cid st e r
+      → r.work ≡ Management (CreateCq k n base) → host_queue (a.heard q e s) k ≡ Some queue → is_success st ≡ false
+      → P (events.Reap q) (events.Reaps what) (a.on_host_queue k a.gone (a.given_back queue.cq_pages (heard_without q cid e s)))
+  pub makes_sq : (q cid : ℕ) (st : Status) (what : Reaped) (e : ComEntry) (r : Record) (k n base : ℕ) → Tells s q cid st what → IsHeard s q cid st e r → r.work ≡ Management (CreateSq k n base)
+      → is_success st ≡ true → P (events.Reap q) (events.Reaps what) (a.on_host_queue k a.live (heard_without q cid e s))
+  pub unmakes_sq : (q cid : ℕ) (st : Status) (what : Reaped) (e : ComEntry) (r : Record) (k n base : ℕ) (queue : HostQueue) → Tells s q cid st what → IsHeard s q cid st e r
+      → r.work ≡ Management (CreateSq k n base) → host_queue (a.heard q e s) k ≡ Some queue → is_success st ≡ false
+      → P (events.Reap q) (events.Reaps what) (a.on_host_queue k a.unmade_sq (a.given_back queue.sq_pages (heard_without q cid e s)))
   pub collects : (q cid : ℕ) (r : Record) (f : FinishedContents) → record_at s.host q cid ≡ Some r → is_held r.phase ≡ true → finished_from s r ≡ Some f
       → P (events.Collect q cid) (events.Collects f) (a.on_records (with_record q cid a.collected) (a.on_memory (without_pages (pages_of r)) s))
   pub releases : (f : FinishedContents) (r : Record) → IsOf s is_collected f.request f.q f.cid f.data_pages f.chain_pages r → P (events.Release f) events.Accepted (a.after_end f.q f.cid (f.data_pages ++ f.chain_pages) s)
   pub aborts : (q cid id : ℕ) → refusal_of s (events.Abort q cid) ≡ None → IsNewIdentifier s 0 id → P (events.Abort q cid) (events.Sent id) (sends (Abort q cid) id s)
   pub asks : (q id : ℕ) (queue : HostQueue) → refusal_of s (events.DeleteSq q) ≡ None → IsNewIdentifier s 0 id → IsLiveQueue s q queue → P (events.DeleteSq q) (events.Sent id) (a.on_host_queue q a.deleting (sends (DeleteSq q) id s))
   pub drops : (q id : ℕ) → refusal_of s (events.DeleteCq q) ≡ None → IsNewIdentifier s 0 id → P (events.DeleteCq q) (events.Sent id) (sends (DeleteCq q) id s)
+  pub creates_cqs : (q id first : ℕ) (queue : HostQueue) → refusal_of s (events.CreateCq q) ≡ None → IsNewIdentifier s 0 id → IsGranted s q Completion Gone queue first
+      → P (events.CreateCq q) (events.Sent id) (sends (creates_cq q first s) id (grants_cq q first s))
+  pub creates_sqs : (q id first : ℕ) (queue : HostQueue) → refusal_of s (events.CreateSq q) ≡ None → IsNewIdentifier s 0 id → IsGranted s q Submission HalfMade queue first
+      → P (events.CreateSq q) (events.Sent id) (sends (creates_sq q first s) id (grants_sq q first s))
   pub retires : (q : ℕ) (queue : HostQueue) → refusal_of s (events.Retire q) ≡ None → host_queue s q ≡ Some queue → queue.state ≡ Deleting true
       → P (events.Retire q) events.Accepted (a.on_host_queue q a.retired (a.given_back queue.sq_pages (a.on_records (λ records. map (a.lost q) records) s)))
   pub forges : (q slot : ℕ) (bytes : List ℕ) (queue : HostQueue) → refusal_of s (events.Forge q slot bytes) ≡ None → host_queue s q ≡ Some queue
@@ -212,21 +254,88 @@ queue_known test s q h = ap is_none (queue_found test s q (not-false _ h)).1
 
 pub live_queue : (s : State) (q : ℕ) → no_io_queue s q ≡ false → in_state is_deleting s q ≡ false → (queue : HostQueue) × IsLiveQueue s q queue
 live_queue s q known deleting =
-    let known = or_parts (q == 0) (not (in_state has_sq s q)) known in
-    let x = queue_found has_sq s q (not-false _ known.1) in
+    let known = or_parts (q == 0) (not (in_state in_service s q)) known in
+    let x = queue_found in_service s q (not-false _ known.1) in
     (x.0, record { there = x.1; live = live x.0.state x.2 (sym (ap (λ (o : Option HostQueue). option_map_or (λ queue. is_deleting queue.state) o false) x.1) ∙ deleting); other = known.0 })
   where
-    live : (st : HostState) → has_sq st ≡ true → is_deleting st ≡ false → st ≡ Live
+    live : (st : HostState) → in_service st ≡ true → is_deleting st ≡ false → st ≡ Live
     live Live h d = refl
     live (Deleting noted) h d = absurd (true≢false d)
     live Retired h d = absurd (true≢false (sym h))
     live Gone h d = absurd (true≢false (sym h))
+    live MakingCq h d = absurd (true≢false (sym h))
+    live HalfMade h d = absurd (true≢false (sym h))
+    live MakingSq h d = absurd (true≢false (sym h))
 
 pub deleted_is : (st : HostState) → is_deleted st ≡ true → st ≡ Deleting true
 deleted_is Live e = absurd (true≢false (sym e))
 deleted_is (Deleting noted) e = ap Deleting e
 deleted_is Retired e = absurd (true≢false (sym e))
 deleted_is Gone e = absurd (true≢false (sym e))
+deleted_is MakingCq e = absurd (true≢false (sym e))
+deleted_is HalfMade e = absurd (true≢false (sym e))
+deleted_is MakingSq e = absurd (true≢false (sym e))
+
+pub gone_is : (st : HostState) → is_gone st ≡ true → st ≡ Gone
+gone_is Live e = absurd (true≢false (sym e))
+gone_is (Deleting noted) e = absurd (true≢false (sym e))
+gone_is Retired e = absurd (true≢false (sym e))
+gone_is Gone e = refl
+gone_is MakingCq e = absurd (true≢false (sym e))
+gone_is HalfMade e = absurd (true≢false (sym e))
+gone_is MakingSq e = absurd (true≢false (sym e))
+
+pub half_made_is : (st : HostState) → is_half_made st ≡ true → st ≡ HalfMade
+half_made_is Live e = absurd (true≢false (sym e))
+half_made_is (Deleting noted) e = absurd (true≢false (sym e))
+half_made_is Retired e = absurd (true≢false (sym e))
+half_made_is Gone e = absurd (true≢false (sym e))
+half_made_is MakingCq e = absurd (true≢false (sym e))
+half_made_is HalfMade e = refl
+half_made_is MakingSq e = absurd (true≢false (sym e))
+
+pub asked_is : (st : HostState) → is_asked st ≡ true → st ≡ Deleting false
+asked_is Live e = absurd (true≢false (sym e))
+asked_is (Deleting true) e = absurd (true≢false (sym e))
+asked_is (Deleting false) e = refl
+asked_is Retired e = absurd (true≢false (sym e))
+asked_is Gone e = absurd (true≢false (sym e))
+asked_is MakingCq e = absurd (true≢false (sym e))
+asked_is HalfMade e = absurd (true≢false (sym e))
+asked_is MakingSq e = absurd (true≢false (sym e))
+
+pub making_cq_is : (st : HostState) → is_making_cq st ≡ true → st ≡ MakingCq
+making_cq_is Live e = absurd (true≢false (sym e))
+making_cq_is (Deleting noted) e = absurd (true≢false (sym e))
+making_cq_is Retired e = absurd (true≢false (sym e))
+making_cq_is Gone e = absurd (true≢false (sym e))
+making_cq_is MakingCq e = refl
+making_cq_is HalfMade e = absurd (true≢false (sym e))
+making_cq_is MakingSq e = absurd (true≢false (sym e))
+
+pub making_sq_is : (st : HostState) → is_making_sq st ≡ true → st ≡ MakingSq
+making_sq_is Live e = absurd (true≢false (sym e))
+making_sq_is (Deleting noted) e = absurd (true≢false (sym e))
+making_sq_is Retired e = absurd (true≢false (sym e))
+making_sq_is Gone e = absurd (true≢false (sym e))
+making_sq_is MakingCq e = absurd (true≢false (sym e))
+making_sq_is HalfMade e = absurd (true≢false (sym e))
+making_sq_is MakingSq e = refl
+
+pub io_queue : (s : State) (q : ℕ) → not (is_io_queue s q) ≡ false → (q == 0) ≡ false
+io_queue s q h = go (q == 0) (and_parts (not (q == 0)) (is_some (host_queue s q)) (not-false _ h)).0
+  where
+    go : (b : Bool) → not b ≡ true → b ≡ false
+    go true e = absurd (true≢false (sym e))
+    go false e = refl
+
+-- where a run is free, it begins somewhere
+pub run_found : (s : State) (half : Half) → is_none (run_for s half) ≡ false → (first : ℕ) × (run_for s half ≡ Some first)
+run_found s half h = go (run_for s half) refl h
+  where
+    go : (o : Option ℕ) → run_for s half ≡ o → is_none o ≡ false → (first : ℕ) × (run_for s half ≡ Some first)
+    go None e h = absurd (true≢false h)
+    go (Some first) e h = (first, e)
 
 pub heard_of : (s : State) (q cid : ℕ) (st : Status) (what : Reaped) → Tells s q cid st what → (e : ComEntry) × (r : Record) × IsHeard s q cid st e r
 heard_of s q cid st what t = go (seen_entry s q) refl (ap named (sym t.is) ∙ t.names) (ap status_in (sym t.is) ∙ t.status)
@@ -289,6 +398,13 @@ no_refused : (s : State) (e : Event) (why : events.Refusal) (touched : List ℕ)
 no_refused s (events.Collect q cid) why touched h = h
 no_refused s e why touched h = h
 
+nobody : (hs : List HostQueue) (z k : ℕ) → (k == z) ≡ true → slice_get hs k ≡ None → slice_get hs z ≡ None
+nobody hs z k is at = subst (λ (n : ℕ). slice_get hs n ≡ None) (eqb-true k z is) at
+
+alone : (b : Bool) → (b || false) ≡ true → b ≡ true
+alone true h = refl
+alone false h = h
+
 told : (P : Event → Reply → State → Type 0) (s : State) (q cid : ℕ) (st : Status) (what : Reaped) → HostMoves P s → Tells s q cid st what
     → P (events.Reap q) (events.Reaps what) (option_map_or (λ r. a.after_work r.work q cid st (option_map_or (λ e. a.heard q e s) (seen_entry s q) s)) (record_at s.host q cid) s)
 told P s q cid st what move t =
@@ -298,22 +414,44 @@ told P s q cid st what move t =
   where
     by : (e : ComEntry) (r : Record) → IsHeard s q cid st e r → (w : Work) → r.work ≡ w → P (events.Reap q) (events.Reaps what) (a.after_work w q cid st (a.heard q e s))
     by e r heard (Io request) w = move.tells q cid st what e r request t heard w
-    by e r heard (Management (Abort k c)) w = move.hears q cid st what e r (Abort k c) t heard w (λ k. refl)
+    by e r heard (Management (Abort k c)) w = move.hears q cid st what e r (Abort k c) t heard w (λ k. refl) (λ k is. absurd (true≢false (sym is)))
     by e r heard (Management (DeleteSq k)) w = move.notes q cid st what e r k t heard w
     by e r heard (Management (DeleteCq k)) w = free (is_success st) refl (host_queue (a.heard q e s) k) refl
       where
         kept : P (events.Reap q) (events.Reaps what) (heard_without q cid e s)
-        kept = move.hears q cid st what e r (DeleteCq k) t heard w (λ k. refl)
+        kept = move.hears q cid st what e r (DeleteCq k) t heard w (λ k. refl) (λ k is. absurd (true≢false (sym is)))
 
         free : (b : Bool) → is_success st ≡ b → (o : Option HostQueue) → host_queue (a.heard q e s) k ≡ o
-            → P (events.Reap q) (events.Reaps what) (if b && option_map_or (λ queue. is_retired queue.state) o false then option_map_or (λ queue. a.on_host_queue k a.gone (a.given_back queue.cq_pages (heard_without q cid e s))) o (heard_without q cid e s) else heard_without q cid e s)
+            → P (events.Reap q) (events.Reaps what) (if b && option_map_or (λ queue. has_cq_alone queue.state) o false then option_map_or (λ queue. a.on_host_queue k a.gone (a.given_back queue.cq_pages (heard_without q cid e s))) o (heard_without q cid e s) else heard_without q cid e s)
         free false good o at = kept
         free true good None at = kept
-        free true good (Some queue) at = on (is_retired queue.state) refl
+        free true good (Some queue) at = on (has_cq_alone queue.state) refl
           where
-            on : (b : Bool) → is_retired queue.state ≡ b → P (events.Reap q) (events.Reaps what) (if b then a.on_host_queue k a.gone (a.given_back queue.cq_pages (heard_without q cid e s)) else heard_without q cid e s)
+            on : (b : Bool) → has_cq_alone queue.state ≡ b → P (events.Reap q) (events.Reaps what) (if b then a.on_host_queue k a.gone (a.given_back queue.cq_pages (heard_without q cid e s)) else heard_without q cid e s)
             on true is = move.frees q cid st what e r k queue t heard w at is good
             on false is = kept
+    by e r heard (Management (CreateCq k n base)) w = made (is_success st) refl
+      where
+        unmade : (o : Option HostQueue) → host_queue (a.heard q e s) k ≡ o → is_success st ≡ false
+            → P (events.Reap q) (events.Reaps what) (option_map_or (λ queue. a.on_host_queue k a.gone (a.given_back queue.cq_pages (heard_without q cid e s))) o (heard_without q cid e s))
+        unmade None at bad = move.hears q cid st what e r (CreateCq k n base) t heard w (λ k. refl) (λ z is. nobody (a.heard q e s).host.queues z k (alone (k == z) is) at)
+        unmade (Some queue) at bad = move.unmakes_cq q cid st what e r k n base queue t heard w at bad
+
+        made : (b : Bool) → is_success st ≡ b
+            → P (events.Reap q) (events.Reaps what) (if b then a.on_host_queue k a.half_made (heard_without q cid e s) else option_map_or (λ queue. a.on_host_queue k a.gone (a.given_back queue.cq_pages (heard_without q cid e s))) (host_queue (a.heard q e s) k) (heard_without q cid e s))
+        made true good = move.makes_cq q cid st what e r k n base t heard w good
+        made false bad = unmade (host_queue (a.heard q e s) k) refl bad
+    by e r heard (Management (CreateSq k n base)) w = made (is_success st) refl
+      where
+        unmade : (o : Option HostQueue) → host_queue (a.heard q e s) k ≡ o → is_success st ≡ false
+            → P (events.Reap q) (events.Reaps what) (option_map_or (λ queue. a.on_host_queue k a.unmade_sq (a.given_back queue.sq_pages (heard_without q cid e s))) o (heard_without q cid e s))
+        unmade None at bad = move.hears q cid st what e r (CreateSq k n base) t heard w (λ k. refl) (λ z is. nobody (a.heard q e s).host.queues z k is at)
+        unmade (Some queue) at bad = move.unmakes_sq q cid st what e r k n base queue t heard w at bad
+
+        made : (b : Bool) → is_success st ≡ b
+            → P (events.Reap q) (events.Reaps what) (if b then a.on_host_queue k a.live (heard_without q cid e s) else option_map_or (λ queue. a.on_host_queue k a.unmade_sq (a.given_back queue.sq_pages (heard_without q cid e s))) (host_queue (a.heard q e s) k) (heard_without q cid e s))
+        made true good = move.makes_sq q cid st what e r k n base t heard w good
+        made false bad = unmade (host_queue (a.heard q e s) k) refl bad
 
 pub host_moves : (P : Event → Reply → State → Type 0) (s : State) (e : Event) (reply : Reply) → Accepts s e reply → IsController e ≡ false → HostMoves P s → P e reply (a.after s e reply)
 host_moves P s e (events.Refused why touched) ok c move = absurd (no_refused s e why touched ok.1)
@@ -353,12 +491,32 @@ host_moves P s (events.DeleteSq q) (events.Sent id) ok c move =
     live : (queue : HostQueue) × IsLiveQueue s q queue
     live = let fails = unrefused s (events.DeleteSq q) ok.0 in live_queue s q fails.0 fails.1.0
 host_moves P s (events.DeleteCq q) (events.Sent id) ok c move = subst (P (events.DeleteCq q) (events.Sent id)) (posted_is 0 (admin_entry (DeleteCq q) id) (a.on_records (λ records. records ++ sent_record (DeleteCq q) id ∷ []) s)) (move.drops q id ok.0 ok.1)
+host_moves P s (events.CreateCq q) (events.Sent id) ok c move =
+    let fails = unrefused s (events.CreateCq q) ok.0 in
+    let x = queue_found is_gone s q (not-false _ fails.1.0) in
+    let run = run_found s Completion fails.1.1.1.1.0 in
+    let granted : IsGranted s q Completion Gone x.0 run.0 = record { there = x.1; state = gone_is x.0.state x.2; other = io_queue s q fails.0; run = run.1 } in
+    let pages = half_from Completion run.0 s in
+    subst (λ (ps : List ℕ). P (events.CreateCq q) (events.Sent id) (a.sent (CreateCq q s.entries (a.base_of ps)) id (admin_entry (CreateCq q s.entries (a.base_of ps)) id) (a.on_host_queue q (a.making_cq ps) (a.half_granted ps s))))
+    (sym (ap (λ (o : Option ℕ). option_map_or (λ first. pages_from first (half_pages s.entries Completion)) o []) run.1))
+    (subst (P (events.CreateCq q) (events.Sent id)) (posted_is 0 (admin_entry (creates_cq q run.0 s) id) (a.on_records (λ records. records ++ sent_record (creates_cq q run.0 s) id ∷ []) (grants_cq q run.0 s)))
+    (move.creates_cqs q id run.0 x.0 ok.0 ok.1 granted))
+host_moves P s (events.CreateSq q) (events.Sent id) ok c move =
+    let fails = unrefused s (events.CreateSq q) ok.0 in
+    let states = or_parts (not (in_state is_half_made s q)) _ fails.1.0 in
+    let x = queue_found is_half_made s q (not-false _ states.0) in
+    let run = run_found s Submission fails.1.1.1.0 in
+    let granted : IsGranted s q Submission HalfMade x.0 run.0 = record { there = x.1; state = half_made_is x.0.state x.2; other = io_queue s q fails.0; run = run.1 } in
+    subst (λ (ps : List ℕ). P (events.CreateSq q) (events.Sent id) (a.sent (CreateSq q s.entries (a.base_of ps)) id (admin_entry (CreateSq q s.entries (a.base_of ps)) id) (a.on_host_queue q (a.making_sq ps) (a.half_granted ps s))))
+    (sym (ap (λ (o : Option ℕ). option_map_or (λ first. pages_from first (half_pages s.entries Submission)) o []) run.1))
+    (subst (P (events.CreateSq q) (events.Sent id)) (posted_is 0 (admin_entry (creates_sq q run.0 s) id) (a.on_records (λ records. records ++ sent_record (creates_sq q run.0 s) id ∷ []) (grants_sq q run.0 s)))
+    (move.creates_sqs q id run.0 x.0 ok.0 ok.1 granted))
 host_moves P s (events.Retire q) events.Accepted ok c move =
     let x = queue_found is_deleted s q (not-false _ (unrefused s (events.Retire q) ok.0).0) in
     subst (λ (o : Option HostQueue). P (events.Retire q) events.Accepted (option_map_or (λ queue. a.on_host_queue q a.retired (a.given_back queue.sq_pages (a.on_records (λ records. map (a.lost q) records) s))) o (a.on_records (λ records. map (a.lost q) records) s)))
     (sym x.1) (move.retires q x.0 ok.0 x.1 (deleted_is x.0.state x.2))
 host_moves P s (events.Forge q slot bytes) events.Accepted ok c move =
-    let x = queue_found has_cq s q (not-false _ (unrefused s (events.Forge q slot bytes) ok.0).0) in
+    let x = queue_found is_reaped s q (not-false _ (unrefused s (events.Forge q slot bytes) ok.0).0) in
     subst (λ (o : Option HostQueue). P (events.Forge q slot bytes) events.Accepted (option_map_or (λ queue. record (a.on_memory (λ m. with_page_bytes m (slot_page queue.cq_pages 16 slot) (slot_offset 16 slot) bytes) s) { trusted = false }) o s)) (sym x.1)
     (move.forges q slot bytes x.0 ok.0 x.1)
 host_moves P s (events.Fetch q) reply ok c move = absurd (true≢false c)

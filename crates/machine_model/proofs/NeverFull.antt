@@ -16,7 +16,7 @@ use Rattle.queue_pair.specs.Slots.{is_full as ring_is_full, distance}
 use Rattle.machine_model.specs.Proper.{IsProper}
 use Rattle.machine_model.specs.Memory.{is_in}
 use Rattle.machine_model.specs.State.{State, HostQueue, DeviceQueue, Job, Answer, is_at, outstanding_on}
-use Rattle.machine_model.specs.Refusals.{causes, is_live, is_drafted, is_of, has_sq, has_cq, record_is, in_state, queue_full, no_identifier, no_io_queue, host_queue, device_queue, next_rung, job_at, conflicts, answers_full, fetch_page, post_page}
+use Rattle.machine_model.specs.Refusals.{causes, is_live, is_drafted, is_of, has_cq, in_service, is_io_queue, record_is, in_state, queue_full, no_identifier, no_io_queue, host_queue, device_queue, next_rung, job_at, conflicts, answers_full, fetch_page, post_page}
 use Rattle.machine_model.specs.Touch.{pages_of_queue}
 use Rattle.machine_model.specs.Step.{Permits, Refuses, IsController}
 use Rattle.machine_model.specs.Image.{Made}
@@ -49,7 +49,7 @@ use Rattle.machine_model.proofs.Heads.{sent_count, sent_outstanding, few_outstan
 use Rattle.machine_model.proofs.HeadsKept.{HeadsS, drafted_room}
 use Rattle.machine_model.proofs.HeadsAll.{heads_event, heads_at_opening, no_conflict}
 use Rattle.machine_model.proofs.Moves.{queue_known}
-use Rattle.machine_model.proofs.Halves.{live_has_sq}
+use Rattle.machine_model.proofs.Halves.{live_serves}
 
 pub record Roomy (s : State) : Type 0 where
   pub stood : Stood s
@@ -92,7 +92,7 @@ not_full s r q live there room = go (host_queue s q) refl there
     go : (o : Option HostQueue) → host_queue s q ≡ o → is_some o ≡ true → option_map_or (λ queue. ring_is_full s.entries queue.ring.known_head queue.ring.tail) o true ≡ false
     go None e h = absurd (true≢false (sym h))
     go (Some queue) e h =
-        far (distance s.entries queue.ring.known_head queue.ring.tail) (s.entries - 1) (omega (arith, room, (r.heads.behind q queue e (live_has_sq queue.state (live queue e))).known))
+        far (distance s.entries queue.ring.known_head queue.ring.tail) (s.entries - 1) (omega (arith, room, (r.heads.behind q queue e (live_serves queue.state (live queue e))).known))
 
 zero_there : {A : Type 0} (xs : List A) (q : ℕ) → is_none (slice_get xs q) ≡ false → is_some (slice_get xs 0) ≡ true
 zero_there [] q h = absurd (true≢false h)
@@ -109,7 +109,14 @@ zero_room s r q there room =
 
 no_io_there : (s : State) (q : ℕ) → no_io_queue s q ≡ false → is_none (host_queue s q) ≡ false
 no_io_there s q h =
-    queue_known has_sq s q (or_parts (q == 0) (not (in_state has_sq s q)) h).1
+    queue_known in_service s q (or_parts (q == 0) (not (in_state in_service s q)) h).1
+
+named_there : (s : State) (q : ℕ) → not (is_io_queue s q) ≡ false → is_none (host_queue s q) ≡ false
+named_there s q h = there (host_queue s q) (and_parts (not (q == 0)) (is_some (host_queue s q)) (not-false _ h)).1
+  where
+    there : (o : Option HostQueue) → is_some o ≡ true → is_none o ≡ false
+    there None e = absurd (true≢false (sym e))
+    there (Some queue) e = refl
 
 linked : (s : State) → Roomy s → IsLinked s
 linked s r = linked_from_tied s r.stood.grounds.rings (tied_from_fit s r.stood.grounds.fit)
@@ -213,6 +220,15 @@ no_cause s r (events.DeleteCq q) = (
     ),
   ),
 )
+no_cause s r (events.CreateCq q) = (
+  (λ t. refl),
+  λ there. (
+    (λ t. refl),
+    λ f. ((λ t. refl), λ f. ((λ t. refl), λ room. ((λ t. refl), λ f. ((λ t. absurd (true≢false (sym t ∙ zero_room s r q (named_there s q there) room))), λ f. tt)))),
+  ),
+)
+no_cause s r (events.CreateSq q) =
+    ((λ t. refl), λ there. ((λ t. refl), λ f. ((λ t. refl), λ room. ((λ t. refl), λ f. ((λ t. absurd (true≢false (sym t ∙ zero_room s r q (named_there s q there) room))), λ f. tt)))))
 no_cause s r (events.Retire q) = ((λ t. refl), λ f. ((λ t. refl), λ f. tt))
 no_cause s r (events.Forge q slot bytes) = ((λ t. refl), λ f. ((λ t. refl), λ f. tt))
 no_cause s r (events.Fetch q) = (

@@ -11,6 +11,10 @@ use Rattle.machine_model.proofs.Refused.{first_fails, rest_fails}
 use Rattle.machine_model.proofs.Totals.{total}
 use Rattle.machine_model.proofs.Parts.{in_store, length-in_store}
 use Rattle.machine_model.proofs.Owned.{in_queue, HoldsPart}
+use Rattle.machine_model.proofs.Asked.{deletions_at_opening, creations_at_opening}
+use Rattle.machine_model.proofs.BareKept.{bare_at_opening}
+use Rattle.machine_model.proofs.HalvesKept.{halves_at_opening}
+use Rattle.machine_model.proofs.Zero.{zero_opened}
 use Rattle.machine_model.proofs.Taken.{Taken}
 use Rattle.queue_pair.specs.Memory.{half_pages}
 use Rattle.page_memory.specs.declared.page.Half.TheVariants.{Submission, Completion}
@@ -100,6 +104,11 @@ holds_at_opening pages queues n s image fits =
       owner = λ p. whole p pages ((queues + 1) * (half_pages n Submission + half_pages n Completion)) fits (queue_pages p 0 n (queues + 1)) ∙ ap (λ k. one (nat_lt p k)) (sym count);
       once = λ q cid. omega arith;
       admins = tt;
+      deletions = deletions_at_opening pages queues n s image;
+      creations = creations_at_opening pages queues n s image;
+      bare = bare_at_opening pages queues n s image;
+      halves = halves_at_opening 0 n (queues + 1);
+      admin = zero_opened 0 n (queues + 1);
     }
 
 pub taken_at_opening : (pages queues n s : ℕ) (image : List ℕ) → Taken (in_store (opening pages queues n s image).memory) []

@@ -9,7 +9,9 @@ use Rattle.admin_commands.specs.declared.AdminKind.TheVariants.{Abort, DeleteSq,
 use Rattle.admin_commands.specs.declared.AdminKind.{AdminKind}
 use Rattle.entry_codec.specs.declared.status.TheConstants.Status.{ABORTED_SQ_DELETION}
 use Rattle.entry_codec.specs.declared.status.Status.{Status}
-use Rattle.machine_model.specs.Memory.{with_pages, without_pages}
+use Rattle.page_memory.specs.declared.page.Half.TheVariants.{Submission, Completion}
+use Rattle.queue_pair.specs.Memory.{half_pages}
+use Rattle.machine_model.specs.Memory.{with_pages, without_pages, zeroed_pages}
 use Rattle.machine_model.specs.State.{State, Record, Phase, Submitted, Held, Collected, Drafted, record_at, pages_of, with_record, without_record}
 use Rattle.machine_model.specs.Refusals.{slot_page, slot_offset, is_drafted, is_collected, is_submitted, is_held}
 use Rattle.machine_model.specs.Step.{HostPart, host_part, IsController, times, reaped}
@@ -23,7 +25,8 @@ use Rattle.machine_model.proofs.Steps.{Accepts, IsKept}
 use Rattle.machine_model.proofs.Owned.{in_record, HoldsPart}
 use Rattle.machine_model.proofs.Sound.{host_event}
 use Rattle.machine_model.proofs.Taken.{Taken, taken, is_out, none, none_here, some_here, taken_le, out_same, out_other, in_same, in_other}
-use Rattle.machine_model.proofs.Moves.{host_moves, posts, posted_bits, drafted_record, sent_record, sends, heard_of, Tells}
+use Rattle.machine_model.proofs.Moves.{host_moves, posts, posted_bits, drafted_record, sent_record, sends, heard_of, Tells, half_from, creates_cq, creates_sq, grants_cq, grants_sq}
+use Rattle.machine_model.proofs.Runs.{run_times, zeroed_numbers}
 pub use Rattle.machine_model.proofs.Moves.{named, status_in}
 
 abbrev pub TakenPart : HostPart → Type 0
@@ -38,13 +41,13 @@ Fits s = TakenPart (host_part s)
 fits-posted : (q : ℕ) (entry : SubEntry) (s : State) → Fits s → Fits (posts q entry s)
 fits-posted q entry s h = subst (λ bits. Taken bits s.host.records) (sym (posted_bits q entry s)) h
 
+small : (b : Bool) → one b ≤ 1
+small true = omega arith
+small false = omega arith
+
 -- of a taken record at most one page is there, so what is left of a sum without it is none
 at_most : (s : State) (p : ℕ) → HoldsPart (host_part s) → total (taken p) s.host.records ≤ 1
 at_most s p h = omega (arith, taken_le p s.host.records, h.owner p, small (nat_lt p (length (in_store s.memory))))
-  where
-    small : (b : Bool) → one b ≤ 1
-    small true = omega arith
-    small false = omega arith
 
 -- pages go out with a command that is then taken
 taken_out : (s : State) (pages : List ℕ) (records : List Record) → ((p : ℕ) → total (taken p) records ≡ total (taken p) s.host.records + times p pages)
@@ -69,6 +72,28 @@ brought_in s pages records less holds h p l = go (is_among (numbers_of pages) p)
     go : (b : Bool) → is_among (numbers_of pages) p ≡ b → slice_get (in_store (with_pages pages s.memory)) p ≡ Some (none (total (taken p) records))
     go true e = in_same pages s.memory p e l' ∙ ap Some (sym (none_here _ (omega (arith, less p, held_once p (numbers_of pages) e, at_most s p holds))))
     go false e = in_other pages s.memory p e ∙ h p (omega (arith, l', length-in_store s.memory)) ∙ ap (λ n. Some (none n)) (omega (arith, less p, not_held p (numbers_of pages) e))
+
+-- free pages are in, and stay in as a half is granted
+zeroed_in : (s : State) (pages : List ℕ) → ((p : ℕ) → times p pages ≡ (if is_among pages p && is_among s.host.free p then 1 else 0)) → HoldsPart (host_part s) → Fits s → Taken (in_store (with_pages (zeroed_pages pages) s.memory)) s.host.records
+zeroed_in s pages are holds h p l = go (is_among pages p) refl
+  where
+    l' : p < length s.memory
+    l' = omega (arith, length-in_store (with_pages (zeroed_pages pages) s.memory), length-with_pages (zeroed_pages pages) s.memory)
+
+    among : is_among (numbers_of (zeroed_pages pages)) p ≡ is_among pages p
+    among = ap (λ (ps : List ℕ). is_among ps p) (zeroed_numbers pages)
+
+    -- a page of the run is free, so no command has it
+    untaken : is_among pages p ≡ true → total (taken p) s.host.records ≡ 0
+    untaken e = go (is_among s.host.free p) refl
+      where
+        go : (b : Bool) → is_among s.host.free p ≡ b → total (taken p) s.host.records ≡ 0
+        go true f = omega (arith, taken_le p s.host.records, holds.owner p, held_once p s.host.free f, small (nat_lt p (length (in_store s.memory))))
+        go false f = let none : times p pages ≡ 0 = rw (e, f) at (are p) in absurd (omega (arith, none, held_once p pages e))
+
+    go : (b : Bool) → is_among pages p ≡ b → slice_get (in_store (with_pages (zeroed_pages pages) s.memory)) p ≡ Some (none (total (taken p) s.host.records))
+    go true e = in_same (zeroed_pages pages) s.memory p (among ∙ e) l' ∙ ap Some (sym (none_here _ (untaken e)))
+    go false e = in_other (zeroed_pages pages) s.memory p (among ∙ e) ∙ h p (omega (arith, l', length-in_store s.memory))
 
 -- records change and the store doesn't
 same_taken : (s : State) (records : List Record) → ((p : ℕ) → total (taken p) records ≡ total (taken p) s.host.records) → Fits s → Taken (in_store s.memory) records
@@ -150,16 +175,24 @@ fits_event s e reply ok c h =
       tells = λ q cid st what e r request t heard w.
           same_taken s (with_record q cid (a.held st) s.host.records)
           (λ p. omega (arith, total_with (taken p) q cid (a.held st) s.host.records r heard.found (h.0.once q cid), taken_when p r false (submitted_in r.phase heard.submitted))) h.1;
-      hears = λ q cid st what e r adm t heard w quiet. without q cid r heard.found heard.submitted;
+      hears = λ q cid st what e r adm t heard w quiet unmade. without q cid r heard.found heard.submitted;
       notes = λ q cid st what e r k t heard w. without q cid r heard.found heard.submitted;
       frees = λ q cid st what e r k queue t heard w at retired good. without q cid r heard.found heard.submitted;
+      makes_cq = λ q cid st what e r k n base t heard w good. without q cid r heard.found heard.submitted;
+      unmakes_cq = λ q cid st what e r k n base queue t heard w at bad. without q cid r heard.found heard.submitted;
+      makes_sq = λ q cid st what e r k n base t heard w good. without q cid r heard.found heard.submitted;
+      unmakes_sq = λ q cid st what e r k n base queue t heard w at bad. without q cid r heard.found heard.submitted;
       collects = λ q cid r f at held is.
           taken_out s (pages_of r) (with_record q cid a.collected s.host.records)
           (λ p. omega (arith, total_with (taken p) q cid a.collected s.host.records r at (h.0.once q cid), taken_when p r false (held_in r.phase held))) h.1;
       releases = λ f r its. ended f.q f.cid r (f.data_pages ++ f.chain_pages) its.found (collected_out r.phase its.phase) its.pages;
-      aborts = λ q cid id none new. sent (Abort q cid) id;
-      asks = λ q id queue none new live. sent (DeleteSq q) id;
-      drops = λ q id none new. sent (DeleteCq q) id;
+      aborts = λ q cid id none new. sent (Abort q cid) id s h.1;
+      asks = λ q id queue none new live. sent (DeleteSq q) id s h.1;
+      drops = λ q id none new. sent (DeleteCq q) id s h.1;
+      creates_cqs = λ q id first queue none new granted.
+          sent (creates_cq q first s) id (grants_cq q first s) (zeroed_in s (half_from Completion first s) (run_times s.host.free (half_pages s.entries Completion) first granted.run) h.0 h.1);
+      creates_sqs = λ q id first queue none new granted.
+          sent (creates_sq q first s) id (grants_sq q first s) (zeroed_in s (half_from Submission first s) (run_times s.host.free (half_pages s.entries Submission) first granted.run) h.0 h.1);
       retires = λ q queue none at deleted. same_taken s (map (a.lost q) s.host.records) (λ p. total-map (taken p) (a.lost q) (fits-lost p q) s.host.records) h.1;
       forges = λ q slot bytes queue none at. subst (λ bits. Taken bits s.host.records) (sym (in_store-with_bytes s.memory (slot_page queue.cq_pages 16 slot) (slot_offset 16 slot) bytes)) h.1;
     })
@@ -172,10 +205,10 @@ fits_event s e reply ok c h =
     without q cid r at sub =
         same_taken s (without_record q cid s.host.records) (λ p. omega (arith, total_without (taken p) q cid s.host.records r at (h.0.once q cid), taken_when p r false (submitted_in r.phase sub))) h.1
 
-    sent : (adm : AdminKind) (id : ℕ) → Fits (sends adm id s)
-    sent adm id =
+    sent : (adm : AdminKind) (id : ℕ) (s : State) → Fits s → Fits (sends adm id s)
+    sent adm id s h =
         fits-posted 0 (admin_entry adm id) (a.on_records (λ records. records ++ sent_record adm id ∷ []) s)
-        (same_taken s (s.host.records ++ sent_record adm id ∷ []) (λ p. omega (arith, total-append (taken p) s.host.records (sent_record adm id ∷ []))) h.1)
+        (same_taken s (s.host.records ++ sent_record adm id ∷ []) (λ p. omega (arith, total-append (taken p) s.host.records (sent_record adm id ∷ []))) h)
 
 pub both_events : (s : State) (e : Event) (reply : Reply) → Accepts s e reply → IsController e ≡ false → IsKept Both s e reply
 both_events s e reply ok c h = (host_event s e reply ok c h.0, fits_event s e reply ok c h)

@@ -9,7 +9,7 @@ use Rattle.page_ledger.specs.declared.owner.Owner.TheVariants.{Queue, Free, Comm
 use Rattle.page_ledger.specs.declared.owner.Owner.{Owner}
 use Rattle.machine_model.specs.State.{State, Host, HostQueue, Record, is_at, record_at, pages_of, without_record}
 use Rattle.machine_model.specs.Step.{times, HostPart, host_part}
-use Rattle.machine_model.specs.Claims.{claims_of, claimed, claims_of_queues, claims_of_record, IsSound, HasOneOwner, IdentifiersDiffer, OwnsFit}
+use Rattle.machine_model.specs.Claims.{claims_of, claimed, claims_of_queues, claims_of_record, IsSound, HasOneOwner, IdentifiersDiffer, OwnsFit, DeletionsFit, CreationsFit, NewQueuesAreBare, HasNoOtherPages, AdminLives}
 use Rattle.machine_model.proofs.Counting.{one, times-append, times-cons}
 use Rattle.machine_model.proofs.Parts.{length-in_store}
 use Rattle.machine_model.proofs.Totals.{total, total-append, total-map, total_without, total-filter, here, times-outstanding}
@@ -60,10 +60,27 @@ owned_is p h =
 
 -- the invariant by sums
 
+pub record Owns (count : ℕ) (h : Host) : Type 0 where
+  pub owner : (p : ℕ) → owned p h ≡ one (nat_lt p count)
+  pub once : (q cid : ℕ) → total (here q cid) h.records < 2
+  pub admins : AllByRecursion (λ r. OwnsFit r.q r.work (pages_of r)) h.records
+
+-- with what holds of queues that are deleted and made
 pub record Holds (count : ℕ) (h : Host) : Type 0 where
   pub owner : (p : ℕ) → owned p h ≡ one (nat_lt p count)
   pub once : (q cid : ℕ) → total (here q cid) h.records < 2
   pub admins : AllByRecursion (λ r. OwnsFit r.q r.work (pages_of r)) h.records
+  pub deletions : DeletionsFit h
+  pub creations : CreationsFit h
+  pub bare : NewQueuesAreBare h
+  pub halves : AllByRecursion HasNoOtherPages h.queues
+  pub admin : AdminLives h.queues
+
+pub owns_of : (count : ℕ) (h : Host) → Holds count h → Owns count h
+owns_of count h holds = record { owner = holds.owner; once = holds.once; admins = holds.admins }
+
+abbrev pub OwnsPart : HostPart → Type 0
+OwnsPart part = Owns (length part.in_store) part.host
 
 abbrev pub HoldsPart : HostPart → Type 0
 HoldsPart part = Holds (length part.in_store) part.host
@@ -73,6 +90,11 @@ holds_from_sound s sound = record {
   owner = λ p. sym (owned_is p s.host) ∙ sound.owners p ∙ ap (λ (k : ℕ). one (nat_lt p k)) (sym (length-in_store s.memory));
   once = λ q cid. subst (λ (n : ℕ). n < 2) (times-outstanding cid q s.host.records) (sound.identifiers q cid);
   admins = sound.works_fit;
+  deletions = sound.deletions;
+  creations = sound.creations;
+  bare = sound.bare;
+  halves = sound.halves;
+  admin = sound.admin;
 }
 
 pub owners_from_holds : (count : ℕ) (h : Host) → Holds count h → HasOneOwner count h
@@ -82,12 +104,12 @@ pub identifiers_from_holds : (count : ℕ) (h : Host) → Holds count h → Iden
 identifiers_from_holds count h holds q cid = subst (λ (n : ℕ). n < 2) (sym (times-outstanding cid q h.records)) (holds.once q cid)
 
 -- a change of queues that moves no page
-pub holds_queues : (count : ℕ) (h : Host) (queues : List HostQueue) → ((p : ℕ) → total (in_queue p) queues ≡ total (in_queue p) h.queues)
-    → Holds count h → Holds count (record h { queues = queues })
-holds_queues count h queues same holds = record {
-  owner = λ p. omega (arith, same p, holds.owner p);
-  once = holds.once;
-  admins = holds.admins;
+pub owns_queues : (count : ℕ) (h : Host) (queues : List HostQueue) → ((p : ℕ) → total (in_queue p) queues ≡ total (in_queue p) h.queues)
+    → Owns count h → Owns count (record h { queues = queues })
+owns_queues count h queues same owns = record {
+  owner = λ p. omega (arith, same p, owns.owner p);
+  once = owns.once;
+  admins = owns.admins;
 }
 
 -- a change of records that keeps their pages and identifiers
@@ -102,11 +124,11 @@ pub record KeepsRecord (f : Record → Record) : Type 0 where
   pub work : (r : Record) → (f r).work ≡ r.work
   pub pages : (r : Record) → pages_of (f r) ≡ pages_of r
 
-pub holds_map : (count : ℕ) (h : Host) (f : Record → Record) → KeepsRecord f → Holds count h → Holds count (record h { records = map f h.records })
-holds_map count h f keeps holds = record {
-  owner = λ p. omega (arith, holds.owner p, total-map (in_record p) f (λ r. ap (times p) (keeps.pages r)) h.records);
-  once = λ q cid. omega (arith, holds.once q cid, total-map (here q cid) f (λ r. rw (keeps.q r, keeps.cid r) refl) h.records);
-  admins = admins-map f keeps.q keeps.work keeps.pages h.records holds.admins;
+pub owns_map : (count : ℕ) (h : Host) (f : Record → Record) → KeepsRecord f → Owns count h → Owns count (record h { records = map f h.records })
+owns_map count h f keeps owns = record {
+  owner = λ p. omega (arith, owns.owner p, total-map (in_record p) f (λ r. ap (times p) (keeps.pages r)) h.records);
+  once = λ q cid. omega (arith, owns.once q cid, total-map (here q cid) f (λ r. rw (keeps.q r, keeps.cid r) refl) h.records);
+  admins = admins-map f keeps.q keeps.work keeps.pages h.records owns.admins;
 }
 
 -- one record more
@@ -128,13 +150,13 @@ admins_more : (records : List Record) (new : Record) → OwnsFit new.q new.work 
 admins_more [] new fit all = (fit, tt)
 admins_more (r ∷ records) new fit all = (all.0, admins_more records new fit all.1)
 
-pub holds_more : (count : ℕ) (h : Host) (new : Record) (free : List ℕ) → total (here new.q new.cid) h.records ≡ 0 → OwnsFit new.q new.work (pages_of new)
+pub owns_more : (count : ℕ) (h : Host) (new : Record) (free : List ℕ) → total (here new.q new.cid) h.records ≡ 0 → OwnsFit new.q new.work (pages_of new)
     → ((p : ℕ) → times p free + times p (pages_of new) ≡ times p h.free)
-    → Holds count h → Holds count (record h { free = free; records = h.records ++ new ∷ [] })
-holds_more count h new free unused fit moved holds = record {
-  owner = λ p. omega (arith, holds.owner p, moved p, total-append (in_record p) h.records (new ∷ []));
-  once = once_more h.records new unused holds.once;
-  admins = admins_more h.records new fit holds.admins;
+    → Owns count h → Owns count (record h { free = free; records = h.records ++ new ∷ [] })
+owns_more count h new free unused fit moved owns = record {
+  owner = λ p. omega (arith, owns.owner p, moved p, total-append (in_record p) h.records (new ∷ []));
+  once = once_more h.records new unused owns.once;
+  admins = admins_more h.records new fit owns.admins;
 }
 
 -- one record less
@@ -146,11 +168,11 @@ admins-filter f (r ∷ records) all = go (f r) (admins-filter f records all.1)
     go true rest = (all.0, rest)
     go false rest = rest
 
-pub holds_less : (count : ℕ) (h : Host) (q cid : ℕ) (r : Record) (free : List ℕ) → record_at h q cid ≡ Some r
+pub owns_less : (count : ℕ) (h : Host) (q cid : ℕ) (r : Record) (free : List ℕ) → record_at h q cid ≡ Some r
     → ((p : ℕ) → times p free ≡ times p h.free + in_record p r)
-    → Holds count h → Holds count (record h { free = free; records = without_record q cid h.records })
-holds_less count h q cid r free found moved holds = record {
-  owner = λ p. omega (arith, holds.owner p, moved p, total_without (in_record p) q cid h.records r found (holds.once q cid));
-  once = λ q' cid'. omega (arith, holds.once q' cid', total-filter (here q' cid') (λ r'. not (is_at q cid r')) h.records);
-  admins = admins-filter (λ r'. not (is_at q cid r')) h.records holds.admins;
+    → Owns count h → Owns count (record h { free = free; records = without_record q cid h.records })
+owns_less count h q cid r free found moved owns = record {
+  owner = λ p. omega (arith, owns.owner p, moved p, total_without (in_record p) q cid h.records r found (owns.once q cid));
+  once = λ q' cid'. omega (arith, owns.once q' cid', total-filter (here q' cid') (λ r'. not (is_at q cid r')) h.records);
+  admins = admins-filter (λ r'. not (is_at q cid r')) h.records owns.admins;
 }

@@ -4,19 +4,19 @@ use Rattle.std.specs.Option.{option_map_or}
 use Rattle.std.proofs.lemmas.Bool.{true≢false, and_parts}
 use Rattle.machine_model.proofs.Managed.{absent}
 use Rattle.admin_commands.specs.Verdicts.{is_absent}
-use Rattle.machine_model.specs.State.{State, HostQueue, DeviceQueue, Job}
-use Rattle.machine_model.specs.Refusals.{job_at}
+use Rattle.machine_model.specs.State.{State, HostQueue, HostState, Live, Deleting, Retired, Gone, MakingCq, HalfMade, MakingSq, DeviceQueue, Job}
+use Rattle.machine_model.specs.Refusals.{host_queue, job_at, has_cq, is_gone}
 use Rattle.machine_model.specs.After.{change, cq_there}
 use Rattle.machine_model.proofs.Touching.{IsLinked}
 use Rattle.machine_model.proofs.Counting.{one}
 use Rattle.machine_model.proofs.Totals.{total}
-use Rattle.machine_model.proofs.Placed.{gone_at, is_job}
+use Rattle.machine_model.proofs.Placed.{gone_at, there_at, is_job}
 use Rattle.queue_pair.specs.Memory.{half_pages}
 use Rattle.page_memory.specs.declared.page.Half.TheVariants.{Submission, Completion}
 use Rattle.machine_model.specs.Step.{host_part}
 use Rattle.machine_model.specs.Positions.{IsInRing}
 use Rattle.machine_model.proofs.Positions.{InRings, all_at}
-pub use Rattle.machine_model.specs.Agreeing.{is_known_deleted as is_over, QueueFits as PairOk, QueuesFit as Paired, on_queue}
+pub use Rattle.machine_model.specs.Agreeing.{is_known_deleted as is_over, QueueFits as PairOk, QueuesFit as Paired, on_queue, is_out_of_service_at as out_at}
 use Rattle.machine_model.proofs.Halves.{sq_stays, cq_stays}
 
 pub paired_host : (n k : ℕ) (f : HostQueue → HostQueue) (hs : List HostQueue) (ds : List DeviceQueue)
@@ -36,7 +36,7 @@ paired_device n zero f (h ∷ hs) (d ∷ ds) step p = (step h d refl refl p.0, p
 paired_device n (suc k) f (h ∷ hs) (d ∷ ds) step p = (p.0, paired_device n k f hs ds step p.1)
 
 -- a queue of the controller stands at the host
-paired_at : (n k : ℕ) (hs : List HostQueue) (ds : List DeviceQueue) (d : DeviceQueue) → slice_get ds k ≡ Some d → Paired n hs ds → (h : HostQueue) × (slice_get hs k ≡ Some h) × PairOk n h d
+pub paired_at : (n k : ℕ) (hs : List HostQueue) (ds : List DeviceQueue) (d : DeviceQueue) → slice_get ds k ≡ Some d → Paired n hs ds → (h : HostQueue) × (slice_get hs k ≡ Some h) × PairOk n h d
 paired_at n k [] [] d e p = absurd cc
 paired_at n k [] (x ∷ ds) d e p = absurd p
 paired_at n k (h ∷ hs) [] d e p = absurd p
@@ -48,8 +48,11 @@ pub record Tied (s : State) : Type 0 where
   pub some_entries : 0 < s.entries
   pub pairs : Paired s.entries s.host.queues s.device.queues
   pub jobs : (q : ℕ) → 0 < total (on_queue q) s.device.jobs → gone_at s.device.queues q ≡ false
+  -- what the host holds for deleted is deleted
+  pub over : (q : ℕ) (queue : HostQueue) → host_queue s q ≡ Some queue → is_over queue.state ≡ true → gone_at s.device.queues q ≡ true
+  pub gone : (q : ℕ) (queue : HostQueue) → host_queue s q ≡ Some queue → is_gone queue.state ≡ true → there_at s.device.queues q ≡ false
 
-found_counts : (q cid : ℕ) (js : List Job) (j : Job) → find (is_job q cid) js ≡ Some j → 0 < total (on_queue q) js
+pub found_counts : (q cid : ℕ) (js : List Job) (j : Job) → find (is_job q cid) js ≡ Some j → 0 < total (on_queue q) js
 found_counts q cid [] j e = absurd cc
 found_counts q cid (x ∷ js) j e = go (is_job q cid x) refl e (found_counts q cid js j)
   where
@@ -71,6 +74,15 @@ completion_queue s q h = go (slice_get s.device.queues q) refl h
     go None e h = absurd (true≢false (sym h))
     go (Some d) e h = (d, e, h)
 
+no_cq_is_gone : (st : HostState) → has_cq st ≡ false → is_gone st ≡ true
+no_cq_is_gone Live o = absurd (true≢false o)
+no_cq_is_gone (Deleting noted) o = absurd (true≢false o)
+no_cq_is_gone Retired o = absurd (true≢false o)
+no_cq_is_gone Gone o = refl
+no_cq_is_gone MakingCq o = absurd (true≢false o)
+no_cq_is_gone HalfMade o = absurd (true≢false o)
+no_cq_is_gone MakingSq o = absurd (true≢false o)
+
 pub linked_from_tied : (s : State) → InRings (host_part s) → Tied s → IsLinked s
 linked_from_tied s rings tied = record {
   entries = tied.some_entries;
@@ -79,12 +91,12 @@ linked_from_tied s rings tied = record {
       let d = there_queue s q there in
       let p = paired_at s.entries q s.host.queues s.device.queues d.0 d.1 tied.pairs in
       let same : p.0 ≡ queue = cc (p.1, e) in
-      subst (λ (h : HostQueue). length h.sq_pages ≡ half_pages s.entries Submission) same (p.2.sub (sq_stays p.0.state (λ o. true≢false (sym (p.2.over o) ∙ d.2))));
+      subst (λ (h : HostQueue). length h.sq_pages ≡ half_pages s.entries Submission) same (p.2.sub (sq_stays p.0.state (λ o. true≢false (sym (tied.over q p.0 p.1 o) ∙ there))));
   completion_whole = λ q queue e there.
       let d = completion_queue s q there in
       let p = paired_at s.entries q s.host.queues s.device.queues d.0 d.1 tied.pairs in
       let same : p.0 ≡ queue = cc (p.1, e) in
-      subst (λ (h : HostQueue). length h.cq_pages ≡ half_pages s.entries Completion) same (p.2.comp (cq_stays p.0.state (λ o. true≢false (sym d.2 ∙ p.2.gone o))));
+      subst (λ (h : HostQueue). length h.cq_pages ≡ half_pages s.entries Completion) same (p.2.comp (cq_stays p.0.state (λ o. true≢false (sym there ∙ tied.gone q p.0 p.1 (no_cq_is_gone p.0.state o)))));
   known = λ q there.
       let d = there_queue s q there in
       let p = paired_at s.entries q s.host.queues s.device.queues d.0 d.1 tied.pairs in

@@ -2,7 +2,7 @@
 use Rattle.std.proofs.Common.{◌≡◌, ℕ, zero, suc, ◌/◌, ◌%◌, ◌==◌, take, drop, Bool, true, false, Option, Some, None, List, [], ◌∷◌, length, map, is_some, slice_set, option_and_then, if◌then◌else◌, refl, ap, ◌∙◌, length-set}
 use Rattle.std.specs.Option.{option_map_or}
 use Rattle.controller_walk.specs.Units.{Act, Stays, Reads, Moves}
-use Rattle.machine_model.proofs.Managed.{managed_by_case}
+use Rattle.machine_model.proofs.Managed.{managed_by}
 use Rattle.sgl_descriptor.specs.declared.Direction.TheVariants.{Destination, Source}
 use Rattle.sgl_descriptor.specs.declared.Direction.{Direction}
 use Rattle.entry_codec.specs.Submission.{submission_bytes}
@@ -52,7 +52,17 @@ part-answered q cid st dw0 s =
     (λ queue. part-bytes s (slot_page queue.cq_pages 16 (post_slot s q)) (slot_offset 16 (post_slot s q)) (completion_bytes (record { dw0 = dw0; sqhd = fetch_slot s q; sqid = q; cid = cid; phase = post_phase s q queue; status = st })))
 
 part-managed : (e : SubEntry) (s : State) → host_part (managed e s) ≡ host_part s
-part-managed e s = managed_by_case (λ t. host_part t ≡ host_part s) e s refl refl (λ is8. refl) (λ is8. refl) refl (λ is0 q0 runs. refl) refl (λ not8 not0 gone. refl)
+part-managed e s =
+    managed_by (λ t. host_part t ≡ host_part s) e s
+    (record {
+      refuses = λ st bad. refl;
+      aborts = λ is8 walks. refl;
+      is_late = λ is8. refl;
+      stops = λ is0 q0 runs. refl;
+      drops = λ is4 q0 there gone. refl;
+      makes_completion = λ is5 q0 gone. refl;
+      makes_submission = λ is1 q0 gone there. refl;
+    })
 
 part-begun : (q : ℕ) (e : SubEntry) (s : State) → host_part (begun q e s) ≡ host_part s
 part-begun q e s = refl

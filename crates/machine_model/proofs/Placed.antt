@@ -1,19 +1,18 @@
 -- Where nothing was forged: each admin command's entry is in one place, and says what its record says.
-use Rattle.std.proofs.Common.{◌≡◌, ℕ, ◌+◌, ◌%◌, ◌<◌, ◌≤◌, ◌==◌, Bool, true, false, not, Some, List, [], ◌∷◌, ◌++◌, map, filter, find, if◌then◌else◌, refl, ap, sym, ◌∙◌, arith, subst, eqb-true, eq-eqb}
+use Rattle.std.proofs.Common.{◌≡◌, ℕ, ◌+◌, ◌<◌, ◌≤◌, ◌==◌, Bool, true, false, not, Some, List, [], ◌∷◌, ◌++◌, map, filter, find, if◌then◌else◌, refl, ap, sym, ◌∙◌, arith, subst, eqb-true, eq-eqb}
 use Rattle.std.specs.List.{AllByRecursion}
 use Rattle.std.proofs.lemmas.Bool.{true≢false, and_parts}
 use Rattle.admin_commands.specs.Entries.{admin_entry}
 use Rattle.entry_codec.specs.declared.submission.SubEntry.{SubEntry}
-use Rattle.admin_commands.specs.declared.AdminKind.TheVariants.{Abort, DeleteSq, DeleteCq}
 use Rattle.admin_commands.specs.declared.AdminKind.{AdminKind}
 use Rattle.entry_codec.specs.declared.status.Status.{Status}
 use Rattle.io_commands.specs.Jobs.{is_success}
 use Rattle.machine_model.specs.Commands.{Management}
-use Rattle.machine_model.specs.State.{Record, DeviceQueue, Job, Answer, is_at, without_record}
+use Rattle.machine_model.specs.State.{Record, Job, Answer, is_at, without_record}
 pub use Rattle.machine_model.specs.Refusals.{is_job}
 use Rattle.machine_model.proofs.Counting.{one}
 use Rattle.machine_model.proofs.Totals.{total, total-append, total_without, total-filter, here}
-pub use Rattle.machine_model.specs.Agreeing.{is_absent_at as gone_at, has_completions_at as there_at, Knows, Settled, Promised, EntryKnown, JobKnown, AnswerKnown, entry_is, job_is, answer_is, AdminCommandsStand as Placed}
+pub use Rattle.machine_model.specs.Agreeing.{is_absent_at as gone_at, has_completions_at as there_at, Knows, DeletesIo, EntryKnown, JobKnown, AnswerKnown, entry_is, job_is, answer_is, AdminCommandsStand as Placed}
 
 all-map : {A : Type 0} (P Q : A → Type 0) → ((x : A) → P x → Q x) → (xs : List A) → AllByRecursion P xs → AllByRecursion Q xs
 all-map P Q f [] all = tt
@@ -23,38 +22,14 @@ all-more : {A : Type 0} (P : A → Type 0) (xs : List A) (x : A) → AllByRecurs
 all-more P [] x all h = (h, tt)
 all-more P (y ∷ xs) x all h = (all.0, all-more P xs x all.1 h)
 
-pub placed_records : (rs rs' : List Record) (un : List SubEntry) (js : List Job) (ans : List Answer) (ds : List DeviceQueue)
+pub placed_records : (rs rs' : List Record) (un : List SubEntry) (js : List Job) (ans : List Answer)
     → ((c : ℕ) → total (here 0 c) rs ≤ total (here 0 c) rs') → ((c : ℕ) (adm : AdminKind) → Knows rs c adm → Knows rs' c adm)
-    → Placed rs un js ans ds → Placed rs' un js ans ds
-placed_records rs rs' un js ans ds more tells h = record {
+    → Placed rs un js ans → Placed rs' un js ans
+placed_records rs rs' un js ans more tells h = record {
   places = λ c. omega (arith, h.places c, more c);
   entries = all-map (EntryKnown rs) (EntryKnown rs') (λ e k. (k.0, tells e.cid k.0 k.1, k.2)) un h.entries;
-  jobs = all-map (JobKnown rs ds) (JobKnown rs' ds) (λ j k z. let w = k z in (w.0, tells j.entry.cid w.0 w.1, w.2, w.3)) js h.jobs;
-  answers = all-map (AnswerKnown rs ds) (AnswerKnown rs' ds) (λ an k. (k.0, tells an.cid k.0 k.1, k.2)) ans h.answers;
-}
-
--- the controller's queues lose, and never win
-pub record Loses (ds ds' : List DeviceQueue) : Type 0 where
-  pub gone : (q : ℕ) → gone_at ds q ≡ true → gone_at ds' q ≡ true
-  pub away : (q : ℕ) → there_at ds q ≡ false → there_at ds' q ≡ false
-
-pub settled_still : (ds ds' : List DeviceQueue) → Loses ds ds' → (adm : AdminKind) → Settled ds adm → Settled ds' adm
-settled_still ds ds' l (Abort q cid) h = tt
-settled_still ds ds' l (DeleteSq q) h = l.gone (q % 65536) h
-settled_still ds ds' l (DeleteCq q) h = l.away (q % 65536) h
-
-promised_still : (ds ds' : List DeviceQueue) → Loses ds ds' → (adm : AdminKind) → Promised ds adm → Promised ds' adm
-promised_still ds ds' l (Abort q cid) h = tt
-promised_still ds ds' l (DeleteSq q) h = h
-promised_still ds ds' l (DeleteCq q) h = l.away (q % 65536) h
-
-pub placed_queues : (rs : List Record) (un : List SubEntry) (js : List Job) (ans : List Answer) (ds ds' : List DeviceQueue)
-    → Loses ds ds' → Placed rs un js ans ds → Placed rs un js ans ds'
-placed_queues rs un js ans ds ds' l h = record {
-  places = h.places;
-  entries = h.entries;
-  jobs = all-map (JobKnown rs ds) (JobKnown rs ds') (λ j k z. let w = k z in (w.0, w.1, w.2, λ st v ok. promised_still ds ds' l w.0 (w.3 st v ok))) js h.jobs;
-  answers = all-map (AnswerKnown rs ds) (AnswerKnown rs ds') (λ an k. (k.0, k.1, λ ok. settled_still ds ds' l k.0 (k.2 ok))) ans h.answers;
+  jobs = all-map (JobKnown rs) (JobKnown rs') (λ j k z. let w = k z in (w.0, tells j.entry.cid w.0 w.1, w.2, w.3)) js h.jobs;
+  answers = all-map (AnswerKnown rs) (AnswerKnown rs') (λ an k. (k.0, tells an.cid k.0 k.1)) ans h.answers;
 }
 
 -- jobs change without coming nearer to a success
@@ -63,12 +38,12 @@ pub record MildJob (f : Job → Job) : Type 0 where
   pub entry : (j : Job) → (f j).entry ≡ j.entry
   pub verdict : (j : Job) (st : Status) → j.q ≡ 0 → (f j).verdict ≡ Some st → is_success st ≡ true → j.verdict ≡ Some st
 
-jobs-map : (rs : List Record) (ds : List DeviceQueue) (f : Job → Job) → MildJob f → (js : List Job) → AllByRecursion (JobKnown rs ds) js → AllByRecursion (JobKnown rs ds) (map f js)
-jobs-map rs ds f mild [] all = tt
-jobs-map rs ds f mild (j ∷ js) all = (
+jobs-map : (rs : List Record) (f : Job → Job) → MildJob f → (js : List Job) → AllByRecursion (JobKnown rs) js → AllByRecursion (JobKnown rs) (map f js)
+jobs-map rs f mild [] all = tt
+jobs-map rs f mild (j ∷ js) all = (
   λ z. let z' : j.q ≡ 0 = sym (mild.q j) ∙ z in let w = all.0 z' in
       (w.0, rw (mild.entry j) w.1, rw (mild.entry j) w.2, λ st v ok. w.3 st (mild.verdict j st z' v ok) ok),
-  jobs-map rs ds f mild js all.1,
+  jobs-map rs f mild js all.1,
 )
 
 total_jobs-map : (c : ℕ) (f : Job → Job) → MildJob f → (js : List Job) → total (job_is c) (map f js) ≡ total (job_is c) js
@@ -77,12 +52,12 @@ total_jobs-map c f mild (j ∷ js) =
     let first : job_is c (f j) ≡ job_is c j = rw (mild.q j, mild.entry j) refl in
     omega (arith, first, total_jobs-map c f mild js)
 
-pub placed_jobs : (rs : List Record) (un : List SubEntry) (js : List Job) (ans : List Answer) (ds : List DeviceQueue) (f : Job → Job)
-    → MildJob f → Placed rs un js ans ds → Placed rs un (map f js) ans ds
-placed_jobs rs un js ans ds f mild h = record {
+pub placed_jobs : (rs : List Record) (un : List SubEntry) (js : List Job) (ans : List Answer) (f : Job → Job)
+    → MildJob f → Placed rs un js ans → Placed rs un (map f js) ans
+placed_jobs rs un js ans f mild h = record {
   places = λ c. omega (arith, h.places c, total_jobs-map c f mild js);
   entries = h.entries;
-  jobs = jobs-map rs ds f mild js h.jobs;
+  jobs = jobs-map rs f mild js h.jobs;
   answers = h.answers;
 }
 
@@ -96,7 +71,7 @@ find_more test (x ∷ rs) new r e = go (test x) e (find_more test rs new r)
     go true e ih = e
     go false e ih = ih e
 
-find_new : (test : Record → Bool) (rs : List Record) (new : Record) → total (λ r. one (test r)) rs ≡ 0 → test new ≡ true → find test (rs ++ new ∷ []) ≡ Some new
+pub find_new : (test : Record → Bool) (rs : List Record) (new : Record) → total (λ r. one (test r)) rs ≡ 0 → test new ≡ true → find test (rs ++ new ∷ []) ≡ Some new
 find_new test [] new none e = rw e refl
 find_new test (x ∷ rs) new none e = go (test x) none (find_new test rs new)
   where
@@ -127,11 +102,11 @@ find_filter test keep all (x ∷ rs) r e = go (test x) (keep x) refl refl e (fin
 
 -- Sending an admin command
 
-pub placed_sent : (rs : List Record) (un : List SubEntry) (js : List Job) (ans : List Answer) (ds : List DeviceQueue) (adm : AdminKind) (id : ℕ) (new : Record)
+pub placed_sent : (rs : List Record) (un : List SubEntry) (js : List Job) (ans : List Answer) (adm : AdminKind) (id : ℕ) (new : Record)
     → total (here 0 id) rs ≡ 0 → is_at 0 id new ≡ true → new.work ≡ Management adm
-    → Placed rs un js ans ds → Placed (rs ++ new ∷ []) (un ++ admin_entry adm id ∷ []) js ans ds
-placed_sent rs un js ans ds adm id new none at work h =
-    let wide : Placed (rs ++ new ∷ []) un js ans ds = placed_records rs (rs ++ new ∷ []) un js ans ds (λ c. omega (arith, total-append (here 0 c) rs (new ∷ [])))
+    → Placed rs un js ans → Placed (rs ++ new ∷ []) (un ++ admin_entry adm id ∷ []) js ans
+placed_sent rs un js ans adm id new none at work h =
+    let wide : Placed (rs ++ new ∷ []) un js ans = placed_records rs (rs ++ new ∷ []) un js ans (λ c. omega (arith, total-append (here 0 c) rs (new ∷ [])))
     (λ c a k. (k.0, find_more (is_at 0 c) rs new k.0 k.1, k.2)) h in
     record {
       places = λ c. more c (id == c) refl (total-append (here 0 c) rs (new ∷ [])) (total-append (entry_is c) un (admin_entry adm id ∷ []));
@@ -155,34 +130,32 @@ placed_sent rs un js ans ds adm id new none at work h =
 
 -- Fetching one
 
-pub placed_decided : (rs : List Record) (e : SubEntry) (un : List SubEntry) (js : List Job) (ans : List Answer) (ds ds' : List DeviceQueue) (j : Job) (st : Status)
-    → j.q ≡ 0 → j.entry ≡ e → j.verdict ≡ Some st → Loses ds ds'
-    → ((adm : AdminKind) → e ≡ admin_entry adm e.cid → is_success st ≡ true → Promised ds' adm)
-    → Placed rs (e ∷ un) js ans ds → Placed rs un (js ++ j ∷ []) ans ds'
-placed_decided rs e un js ans ds ds' j st jq je jv loses promise h =
-    let wide : Placed rs (e ∷ un) js ans ds' = placed_queues rs (e ∷ un) js ans ds ds' loses h in
-    let k = wide.entries.0 in
+pub placed_decided : (rs : List Record) (e : SubEntry) (un : List SubEntry) (js : List Job) (ans : List Answer) (j : Job) (st : Status)
+    → j.q ≡ 0 → j.entry ≡ e → j.verdict ≡ Some st
+    → ((adm : AdminKind) → e ≡ admin_entry adm e.cid → is_success st ≡ true → DeletesIo adm)
+    → Placed rs (e ∷ un) js ans → Placed rs un (js ++ j ∷ []) ans
+placed_decided rs e un js ans j st jq je jv promise h =
+    let k = h.entries.0 in
     record {
       places = λ c.
           let one_job : job_is c j ≡ entry_is c e = rw (jq, je) refl in
           omega (arith, h.places c, total-append (job_is c) js (j ∷ []), one_job);
-      entries = wide.entries.1;
-      jobs = all-more (JobKnown rs ds') js j wide.jobs
+      entries = h.entries.1;
+      jobs = all-more (JobKnown rs) js j h.jobs
           (λ z. (k.0, rw je k.1, rw je k.2, λ st' v ok. let same : st ≡ st' = cc (jv, v) in promise k.0 k.2 (rw same ok)));
-      answers = wide.answers;
+      answers = h.answers;
     }
 
 -- an entry that is answered at once, without success
-pub placed_conflict : (rs : List Record) (e : SubEntry) (un : List SubEntry) (js : List Job) (ans : List Answer) (ds : List DeviceQueue) (an : Answer)
-    → an.cid ≡ e.cid → is_success an.status ≡ false
-    → Placed rs (e ∷ un) js ans ds → Placed rs un js (ans ++ an ∷ []) ds
-placed_conflict rs e un js ans ds an same bad h = record {
+pub placed_conflict : (rs : List Record) (e : SubEntry) (un : List SubEntry) (js : List Job) (ans : List Answer) (an : Answer)
+    → an.cid ≡ e.cid → Placed rs (e ∷ un) js ans → Placed rs un js (ans ++ an ∷ [])
+placed_conflict rs e un js ans an same h = record {
   places = λ c.
       let one' : answer_is c an ≡ entry_is c e = rw same refl in
       omega (arith, h.places c, total-append (answer_is c) ans (an ∷ []), one');
   entries = h.entries.1;
   jobs = h.jobs;
-  answers = all-more (AnswerKnown rs ds) ans an h.answers (h.entries.0.0, rw same h.entries.0.1, λ ok. absurd (true≢false (sym ok ∙ bad)));
+  answers = all-more (AnswerKnown rs) ans an h.answers (h.entries.0.0, rw same h.entries.0.1);
 }
 
 -- Reaping one
@@ -225,9 +198,9 @@ jobs_others c [] none = tt
 jobs_others c (j ∷ js) none =
     (λ z e. let w : job_is c j ≡ 1 = rw (eq-eqb j.q 0 z, eq-eqb j.entry.cid c e) refl in absurd (omega arith), jobs_others c js (omega arith))
 
-pub placed_reaped : (rs : List Record) (un : List SubEntry) (js : List Job) (an : Answer) (ans : List Answer) (ds : List DeviceQueue)
-    → total (here 0 an.cid) rs < 2 → Placed rs un js (an ∷ ans) ds → Placed (without_record 0 an.cid rs) un js ans ds
-placed_reaped rs un js an ans ds once h =
+pub placed_reaped : (rs : List Record) (un : List SubEntry) (js : List Job) (an : Answer) (ans : List Answer)
+    → total (here 0 an.cid) rs < 2 → Placed rs un js (an ∷ ans) → Placed (without_record 0 an.cid rs) un js ans
+placed_reaped rs un js an ans once h =
     let knows = h.answers.0.1 in
     let r = knows.0 in
     let at = and_parts (r.q == 0) (r.cid == an.cid) (find_sound (is_at 0 an.cid) rs r knows.1) in
@@ -242,9 +215,9 @@ placed_reaped rs un js an ans ds once h =
     record {
       places = λ c. omega (arith, h.places c, total_without (here 0 c) 0 an.cid rs r knows.1 once, mine c);
       entries = all-both (EntryKnown rs) (λ e. e.cid ≡ an.cid → ⊥) (EntryKnown (without_record 0 an.cid rs)) (λ e k far. (k.0, still e.cid k.0 far k.1, k.2)) un h.entries no_entry;
-      jobs = all-both (JobKnown rs ds) (λ j. j.q ≡ 0 → j.entry.cid ≡ an.cid → ⊥) (JobKnown (without_record 0 an.cid rs) ds)
+      jobs = all-both (JobKnown rs) (λ j. j.q ≡ 0 → j.entry.cid ≡ an.cid → ⊥) (JobKnown (without_record 0 an.cid rs))
           (λ j k far z. let w = k z in (w.0, still j.entry.cid w.0 (far z) w.1, w.2, w.3)) js h.jobs no_job;
-      answers = all-both (AnswerKnown rs ds) (λ a. a.cid ≡ an.cid → ⊥) (AnswerKnown (without_record 0 an.cid rs) ds) (λ a k far. (k.0, still a.cid k.0 far k.1, k.2)) ans h.answers.1 no_answer;
+      answers = all-both (AnswerKnown rs) (λ a. a.cid ≡ an.cid → ⊥) (AnswerKnown (without_record 0 an.cid rs)) (λ a k far. (k.0, still a.cid k.0 far k.1)) ans h.answers.1 no_answer;
     }
   where
     still : (c : ℕ) (adm : AdminKind) → (c ≡ an.cid → ⊥) → Knows rs c adm → Knows (without_record 0 an.cid rs) c adm
@@ -270,42 +243,39 @@ total_gone w test (y ∷ xs) x e = go (test y) e (total_gone w test xs x)
         omega (arith, ap w same, total-filter w (λ y. not (test y)) xs)
     go false e ih = omega (arith, ih e)
 
-pub placed_completed : (rs : List Record) (un : List SubEntry) (js : List Job) (ans : List Answer) (ds ds' : List DeviceQueue) (cid : ℕ) (j : Job) (an : Answer)
-    → find (is_job 0 cid) js ≡ Some j → an.cid ≡ cid → Loses ds ds'
-    → ((adm : AdminKind) → j.entry ≡ admin_entry adm j.entry.cid → is_success an.status ≡ true → ((st : Status) → j.verdict ≡ Some st → is_success st ≡ true → Promised ds adm) → Settled ds' adm)
-    → Placed rs un js ans ds → Placed rs un (filter (λ k. not (is_job 0 cid k)) js) (ans ++ an ∷ []) ds'
-placed_completed rs un js ans ds ds' cid j an found same loses settle h =
+pub placed_completed : (rs : List Record) (un : List SubEntry) (js : List Job) (ans : List Answer) (cid : ℕ) (j : Job) (an : Answer)
+    → find (is_job 0 cid) js ≡ Some j → an.cid ≡ cid → Placed rs un js ans → Placed rs un (filter (λ k. not (is_job 0 cid k)) js) (ans ++ an ∷ [])
+placed_completed rs un js ans cid j an found same h =
     let at = and_parts (j.q == 0) (j.entry.cid == cid) (find_sound (is_job 0 cid) js j found) in
     let jq : j.q ≡ 0 = eqb-true j.q 0 at.0 in
     let jc : j.entry.cid ≡ cid = eqb-true j.entry.cid cid at.1 in
-    let k = find_all (JobKnown rs ds) (is_job 0 cid) js j found h.jobs jq in
-    let wide : Placed rs un js ans ds' = placed_queues rs un js ans ds ds' loses h in
+    let k = find_all (JobKnown rs) (is_job 0 cid) js j found h.jobs jq in
     let ac : an.cid ≡ j.entry.cid = same ∙ sym jc in
     record {
       places = λ c.
           let mine : job_is c j ≡ answer_is c an = rw (jq, jc, same) refl in
           omega (arith, h.places c, total_gone (job_is c) (is_job 0 cid) js j found, mine, total-append (answer_is c) ans (an ∷ []));
-      entries = wide.entries;
-      jobs = all-filter (JobKnown rs ds') (λ k'. not (is_job 0 cid k')) js wide.jobs;
-      answers = all-more (AnswerKnown rs ds') ans an wide.answers (k.0, rw ac k.1, λ ok. settle k.0 k.2 ok k.3);
+      entries = h.entries;
+      jobs = all-filter (JobKnown rs) (λ k'. not (is_job 0 cid k')) js h.jobs;
+      answers = all-more (AnswerKnown rs) ans an h.answers (k.0, rw ac k.1);
     }
 
 -- Jobs of other queues
 
-pub placed_job_more : (rs : List Record) (un : List SubEntry) (js : List Job) (ans : List Answer) (ds : List DeviceQueue) (j : Job) → (j.q == 0) ≡ false
-    → Placed rs un js ans ds → Placed rs un (js ++ j ∷ []) ans ds
-placed_job_more rs un js ans ds j other h = record {
+pub placed_job_more : (rs : List Record) (un : List SubEntry) (js : List Job) (ans : List Answer) (j : Job) → (j.q == 0) ≡ false
+    → Placed rs un js ans → Placed rs un (js ++ j ∷ []) ans
+placed_job_more rs un js ans j other h = record {
   places = λ c. let none : job_is c j ≡ 0 = rw other refl in omega (arith, h.places c, total-append (job_is c) js (j ∷ []), none);
   entries = h.entries;
-  jobs = all-more (JobKnown rs ds) js j h.jobs (λ z. absurd (true≢false (sym (eq-eqb j.q 0 z) ∙ other)));
+  jobs = all-more (JobKnown rs) js j h.jobs (λ z. absurd (true≢false (sym (eq-eqb j.q 0 z) ∙ other)));
   answers = h.answers;
 }
 
-pub placed_job_less : (rs : List Record) (un : List SubEntry) (js : List Job) (ans : List Answer) (ds : List DeviceQueue) (keep : Job → Bool)
-    → Placed rs un js ans ds → Placed rs un (filter keep js) ans ds
-placed_job_less rs un js ans ds keep h = record {
+pub placed_job_less : (rs : List Record) (un : List SubEntry) (js : List Job) (ans : List Answer) (keep : Job → Bool)
+    → Placed rs un js ans → Placed rs un (filter keep js) ans
+placed_job_less rs un js ans keep h = record {
   places = λ c. omega (arith, h.places c, total-filter (job_is c) keep js);
   entries = h.entries;
-  jobs = all-filter (JobKnown rs ds) keep js h.jobs;
+  jobs = all-filter (JobKnown rs) keep js h.jobs;
   answers = h.answers;
 }

@@ -15,7 +15,7 @@ use Rattle.machine_model.specs.After.{change}
 use Rattle.machine_model.specs.Standing.{unfetched_at}
 use Rattle.machine_model.proofs.Totals.{total, total-append, total-map, total-filter}
 use Rattle.machine_model.proofs.Placed.{is_job}
-use Rattle.machine_model.proofs.Managed.{managed_by_case}
+use Rattle.machine_model.proofs.Managed.{managed_by}
 use Rattle.machine_model.proofs.Members.{sent}
 use Rattle.machine_model.proofs.Served.{Places, past_at, answers_at, unfetched_count, job_weight}
 use Rattle.machine_model.proofs.Queues.{list_same, more_at, less_at}
@@ -58,18 +58,22 @@ lessens_state hs qs js k f un an q w =
     let v : total (answers_weigh w) (answers_at (change k f qs) q) ≡ total (answers_weigh w) (answers_at qs q) = ap (total (answers_weigh w)) (list_same (λ at. at.answers) k f qs q an) in
     omega (arith, u, v)
 
--- its entries go
-pub lessens_cleared : (hs : List HostQueue) (qs : List DeviceQueue) (js : List Job) (k : ℕ) → Lessens hs qs js (change k (λ at. record at { state = Absent; unfetched = []; rung = 0 }) qs) js
-lessens_cleared hs qs js k q w =
-    let f : DeviceQueue → DeviceQueue = λ at. record at { state = Absent; unfetched = []; rung = 0 } in
-    let u = more_at (λ at. at.unfetched) (entries_weigh w) k f 0 qs q (λ at. omega arith) in
+-- its entries or answers go
+lessens_less : (hs : List HostQueue) (qs : List DeviceQueue) (js : List Job) (k : ℕ) (f : DeviceQueue → DeviceQueue)
+    → ((w : ℕ → ℕ) (at : DeviceQueue) → total (entries_weigh w) (f at).unfetched ≤ total (entries_weigh w) at.unfetched) → ((w : ℕ → ℕ) (at : DeviceQueue) → total (answers_weigh w) (f at).answers ≤ total (answers_weigh w) at.answers)
+    → Lessens hs qs js (change k f qs) js
+lessens_less hs qs js k f un an q w =
+    let u = more_at (λ at. at.unfetched) (entries_weigh w) k f 0 qs q (λ at. omega (arith, un w at)) in
+    let v = more_at (λ at. at.answers) (answers_weigh w) k f 0 qs q (λ at. omega (arith, an w at)) in
     let none : (if k == q then 0 else 0) ≡ 0 = nothing (k == q) in
-    let v : total (answers_weigh w) (answers_at (change k f qs) q) ≡ total (answers_weigh w) (answers_at qs q) = ap (total (answers_weigh w)) (list_same (λ at. at.answers) k f qs q (λ at. refl)) in
-    omega (arith, count_more (past_at hs q) (total (entries_weigh w) (unfetched_at qs q)) (total (entries_weigh w) (unfetched_at (change k f qs) q)) 0 (omega (arith, u, none)), v)
+    omega (arith, count_more (past_at hs q) (total (entries_weigh w) (unfetched_at qs q)) (total (entries_weigh w) (unfetched_at (change k f qs) q)) 0 (omega (arith, u, none)), v, none)
   where
     nothing : (b : Bool) → (if b then 0 else 0) ≡ zero
     nothing true = refl
     nothing false = refl
+
+lessens_cleared : (hs : List HostQueue) (qs : List DeviceQueue) (js : List Job) (k : ℕ) → Lessens hs qs js (change k (λ at. record at { state = Absent; unfetched = []; rung = 0 }) qs) js
+lessens_cleared hs qs js k = lessens_less hs qs js k (λ at. record at { state = Absent; unfetched = []; rung = 0 }) (λ w at. omega arith) (λ w at. omega arith)
 
 -- its oldest answer goes
 dropped : {B : Type 0} (w : B → ℕ) (xs : List B) → total w (drop 1 xs) ≤ total w xs
@@ -170,21 +174,24 @@ fetches_decided hs s t q e st dw0 zero' less k w =
 
 fetches_managed : (hs : List HostQueue) (s : State) (e : SubEntry) → Fetches hs s 0 e (a.managed e (a.taken_off 0 s)).device
 fetches_managed hs s e =
-    managed_by_case (λ (t : State). Fetches hs s 0 e t.device) e s0
-    (decided s0 nothing _ 0) (decided s0 nothing _ 0)
-    (λ is8. decided (a.on_job (named_queue e) (named_command e) (λ j. record j { verdict = Some ABORT_REQUESTED; waiting_abort = Some e.cid }) s0)
-    (lessens_jobs hs qs s.device.jobs (λ j. if (j.q == named_queue e) && (j.entry.cid == named_command e) then record j { verdict = Some ABORT_REQUESTED; waiting_abort = Some e.cid } else j)
-    (on_job_q (named_queue e) (named_command e) (λ j. record j { verdict = Some ABORT_REQUESTED; waiting_abort = Some e.cid }) (λ j. refl))
-    (on_job_entry (named_queue e) (named_command e) (λ j. record j { verdict = Some ABORT_REQUESTED; waiting_abort = Some e.cid }) (λ j. refl))) _ 0)
-    (λ is8. decided s0 nothing _ 1)
-    (decided s0 nothing _ 0)
-    (λ is0 q0 runs. decided (a.on_device (λ d. record d { jobs = map (a.stopped (named_queue e)) d.jobs }) (a.on_device_queue (named_queue e) (λ at. record at { state = Stopping }) s0))
-    (lessens_both hs qs (change (named_queue e) (λ at. record at { state = Stopping }) qs) (change (named_queue e) (λ at. record at { state = Stopping }) qs) s.device.jobs s.device.jobs (map (a.stopped (named_queue e)) s.device.jobs)
-    (lessens_state hs qs s.device.jobs (named_queue e) (λ at. record at { state = Stopping }) (λ at. refl) (λ at. refl))
-    (lessens_jobs hs (change (named_queue e) (λ at. record at { state = Stopping }) qs) s.device.jobs (a.stopped (named_queue e)) (stopped_q (named_queue e)) (stopped_entry (named_queue e)))) _ 0)
-    (decided s0 nothing _ 0)
-    (λ not8 not0 gone. decided (a.on_device_queue (named_queue e) (λ at. record at { cq_there = false }) s0)
-    (lessens_state hs qs s.device.jobs (named_queue e) (λ at. record at { cq_there = false }) (λ at. refl) (λ at. refl)) _ 0)
+    managed_by (λ (t : State). Fetches hs s 0 e t.device) e s0
+    (record {
+      refuses = λ st bad. decided s0 nothing st 0;
+      aborts = λ is8 walks. decided (a.on_job (named_queue e) (named_command e) (λ j. record j { verdict = Some ABORT_REQUESTED; waiting_abort = Some e.cid }) s0)
+          (lessens_jobs hs qs s.device.jobs (λ j. if (j.q == named_queue e) && (j.entry.cid == named_command e) then record j { verdict = Some ABORT_REQUESTED; waiting_abort = Some e.cid } else j)
+          (on_job_q (named_queue e) (named_command e) (λ j. record j { verdict = Some ABORT_REQUESTED; waiting_abort = Some e.cid }) (λ j. refl))
+          (on_job_entry (named_queue e) (named_command e) (λ j. record j { verdict = Some ABORT_REQUESTED; waiting_abort = Some e.cid }) (λ j. refl))) _ 0;
+      is_late = λ is8. decided s0 nothing _ 1;
+      stops = λ is0 q0 runs. decided (a.on_device (λ d. record d { jobs = map (a.stopped (named_queue e)) d.jobs }) (a.on_device_queue (named_queue e) (λ at. record at { state = Stopping }) s0))
+          (lessens_both hs qs (change (named_queue e) (λ at. record at { state = Stopping }) qs) (change (named_queue e) (λ at. record at { state = Stopping }) qs) s.device.jobs s.device.jobs (map (a.stopped (named_queue e)) s.device.jobs)
+          (lessens_state hs qs s.device.jobs (named_queue e) (λ at. record at { state = Stopping }) (λ at. refl) (λ at. refl))
+          (lessens_jobs hs (change (named_queue e) (λ at. record at { state = Stopping }) qs) s.device.jobs (a.stopped (named_queue e)) (stopped_q (named_queue e)) (stopped_entry (named_queue e)))) _ 0;
+      drops = λ is4 q0 there gone. decided (a.on_device_queue (named_queue e) a.dropped s0) (lessens_less hs qs s.device.jobs (named_queue e) a.dropped (λ w at. omega arith) (λ w at. omega arith)) _ 0;
+      makes_completion = λ is5 q0 gone.
+          decided (a.on_device_queue (named_queue e) a.completion_made s0) (lessens_less hs qs s.device.jobs (named_queue e) a.completion_made (λ w at. omega arith) (λ w at. omega arith)) _ 0;
+      makes_submission = λ is1 q0 gone there.
+          decided (a.on_device_queue (named_queue e) a.submission_made s0) (lessens_less hs qs s.device.jobs (named_queue e) a.submission_made (λ w at. omega arith) (λ w at. omega arith)) _ 0;
+    })
   where
     s0 : State
     s0 = a.taken_off 0 s

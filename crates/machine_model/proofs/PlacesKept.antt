@@ -1,24 +1,23 @@
 -- Every event keeps an entry of a submitted command in one place at most.
-use Rattle.std.proofs.Common.{◌≡◌, ℕ, zero, suc, ◌+◌, ◌≤◌, ◌==◌, Bool, true, false, ◌&&◌, Option, Some, None, List, [], ◌∷◌, ◌++◌, length, map, drop, slice_get, is_some, option_and_then, option_map, if◌then◌else◌, refl, ap, sym, ◌∙◌, arith, subst, eqb-true, not}
+use Rattle.std.proofs.Common.{◌≡◌, ℕ, zero, suc, ◌+◌, ◌≤◌, ◌==◌, Bool, true, false, ◌&&◌, Option, Some, None, List, [], ◌∷◌, ◌++◌, length, map, drop, slice_get, is_some, option_and_then, option_map, if◌then◌else◌, refl, ap, sym, ◌∙◌, arith, subst, eqb-true, eq-eqb, not}
 use Rattle.std.specs.Option.{option_map_or}
 use Rattle.std.proofs.lemmas.Bool.{true≢false, and_parts, eqb-false}
 use Rattle.admin_commands.specs.Entries.{admin_entry}
-use Rattle.admin_commands.specs.declared.AdminKind.TheVariants.{Abort, DeleteSq, DeleteCq}
+use Rattle.admin_commands.specs.declared.AdminKind.TheVariants.{Abort, DeleteSq, DeleteCq, CreateCq, CreateSq}
 use Rattle.admin_commands.specs.declared.AdminKind.{AdminKind}
-use Rattle.admin_commands.specs.Verdicts.{is_absent, is_live as is_running}
-use Rattle.admin_commands.specs.declared.SqState.TheVariants.{Absent, Live as Running, Stopping}
-use Rattle.admin_commands.specs.declared.SqState.{SqState}
 use Rattle.entry_codec.specs.declared.submission.SubEntry.{SubEntry}
 use Rattle.entry_codec.specs.declared.completion.ComEntry.{ComEntry}
 use Rattle.entry_codec.specs.declared.status.Status.{Status}
 use Rattle.entry_codec.specs.declared.status.TheConstants.Status.{ABORTED_SQ_DELETION}
 use Rattle.io_commands.specs.Jobs.{is_success}
 use Rattle.io_commands.proofs.Spelled.{carries_entry}
+use Rattle.page_memory.specs.declared.page.Half.TheVariants.{Submission, Completion}
+use Rattle.machine_model.specs.Commands.{Management}
 use Rattle.queue_pair.specs.Rings.{HostRing, next_tail, next_head, knowing}
 use Rattle.machine_model.specs.Proper.{IsProper}
 use Rattle.machine_model.specs.Memory.{with_pages}
 use Rattle.machine_model.specs.State.{State, HostQueue, Live, Deleting, DeviceQueue, Record, Phase, Drafted, Submitted, Held, Collected, Job, Answer, is_at, record_at, with_record, without_record}
-use Rattle.machine_model.specs.Refusals.{is_submitted, is_drafted, is_held, host_queue, device_queue, refusal_of, seen_entry, entry_of, first_answer, has_sq}
+use Rattle.machine_model.specs.Refusals.{is_submitted, is_drafted, is_held, host_queue, device_queue, refusal_of, seen_entry, entry_of, first_answer, in_service, is_making_sq, creates_sq_of}
 use Rattle.machine_model.specs.Step.{HostPart, IsController, reaped}
 use Rattle.machine_model.specs.After as a
 use Rattle.machine_model.specs.After.{change}
@@ -35,13 +34,16 @@ use Rattle.machine_model.proofs.Paired.{is_over, on_queue}
 use Rattle.machine_model.proofs.Members.{sent}
 use Rattle.machine_model.proofs.Grounds.{Grounds, pair_at}
 use Rattle.machine_model.proofs.Served.{Places, past_at, answers_at, unfetched_count, job_weight}
-use Rattle.machine_model.proofs.Queues.{past_same, past_other, past_here}
+use Rattle.machine_model.proofs.Queues.{list_same, past_same, past_other, past_here}
 use Rattle.machine_model.proofs.Placements.{Lessens, InHand, places_less, places_hosts, places_records, lessens_state, lessens_fetch, lessens_walk, lessens_complete, posted_load, reaped_load, heard_load}
 use Rattle.machine_model.proofs.Moves.{Tells, heard_of, answer_heard}
-use Rattle.machine_model.proofs.Moves.{host_moves, posts, sends, sent_record, drafted_record, heard_without, IsHeard}
+use Rattle.machine_model.proofs.Moves.{host_moves, posts, sends, sent_record, drafted_record, heard_without, IsHeard, making_sq_is, half_from, grants_cq, grants_sq, creates_cq, creates_sq}
 use Rattle.machine_model.proofs.Asked.{still_live, asked_note}
 use Rattle.machine_model.proofs.Refused.{unrefused}
-use Rattle.machine_model.proofs.Halves.{asked_has_sq, sq_stays}
+use Rattle.machine_model.proofs.Halves.{asked_serves}
+use Rattle.machine_model.proofs.AwaitedKept.{submissions_awaited}
+use Rattle.machine_model.proofs.Awaited.{awaited_at, was_awaited, awaited_is}
+use Rattle.machine_model.proofs.Tied.{deleted_is_gone}
 
 abbrev pub PlacesIn : State → Type 0
 PlacesIn s = Places s.host.queues s.host.records s.device.queues s.device.jobs
@@ -82,6 +84,8 @@ admin_cid : (adm : AdminKind) (id : ℕ) → (admin_entry adm id).cid ≡ id
 admin_cid (Abort q cid) id = refl
 admin_cid (DeleteSq q) id = refl
 admin_cid (DeleteCq q) id = refl
+admin_cid (CreateCq q n base) id = refl
+admin_cid (CreateSq q n base) id = refl
 
 places_sent : (adm : AdminKind) (id : ℕ) (s : State) → PlacesIn s → PlacesIn (sends adm id s)
 places_sent adm id s h =
@@ -122,13 +126,29 @@ reaped_answer s q cid t h = go (reaped s q) refl h
 consumed_past : (q : ℕ) (g : HostRing → HostRing) (hs : List HostQueue) (k : ℕ) → past_at hs k ≡ true → past_at (change q (λ x. record x { ring = g x.ring }) hs) k ≡ true
 consumed_past q g hs k p = past_same q (λ x. record x { ring = g x.ring }) hs k (λ x e. refl) ∙ p
 
--- what an admin completion does to the host's queues retires none, and calls none back
-gone_past : (k : ℕ) (hs : List HostQueue) (n : ℕ) → past_at hs n ≡ true → past_at (change k a.gone hs) n ≡ true
-gone_past k [] n p = p
-gone_past zero (x ∷ hs) zero p = refl
-gone_past zero (x ∷ hs) (suc n) p = p
-gone_past (suc k) (x ∷ hs) zero p = p
-gone_past (suc k) (x ∷ hs) (suc n) p = gone_past k hs n p
+-- a queue of the host goes out of service, or stays so
+out_past : (k : ℕ) (f : HostQueue → HostQueue) (hs : List HostQueue) (n : ℕ) → ((x : HostQueue) → in_service (f x).state ≡ false) → past_at hs n ≡ true → past_at (change k f hs) n ≡ true
+out_past k f [] n out p = p
+out_past zero f (x ∷ hs) zero out p = ap not (out x)
+out_past zero f (x ∷ hs) (suc n) out p = p
+out_past (suc k) f (x ∷ hs) zero out p = p
+out_past (suc k) f (x ∷ hs) (suc n) out p = out_past k f hs n out p
+
+places_out : (k : ℕ) (f : HostQueue → HostQueue) (s : State) → ((x : HostQueue) → in_service (f x).state ≡ false) → PlacesIn s → Places (change k f s.host.queues) s.host.records s.device.queues s.device.jobs
+places_out k f s out h = places_hosts s.host.queues (change k f s.host.queues) s.host.records s.device.queues s.device.jobs (λ n p. out_past k f s.host.queues n out p) h
+
+-- one comes into service that has no entry
+places_opens : (k : ℕ) (f : HostQueue → HostQueue) (s : State) → unfetched_at s.device.queues k ≡ [] → PlacesIn s → Places (change k f s.host.queues) s.host.records s.device.queues s.device.jobs
+places_opens k f s none h q w = go (k == q) refl
+  where
+    nothing : (b : Bool) (xs : List SubEntry) → xs ≡ [] → (if b then 0 else total (λ (e : SubEntry). w e.cid) xs) ≡ 0
+    nothing true xs e = refl
+    nothing false xs e = ap (total (λ (e : SubEntry). w e.cid)) e
+
+    go : (b : Bool) → (k == q) ≡ b
+        → unfetched_count q w (change k f s.host.queues) s.device.queues + (total (job_weight q w) s.device.jobs + total (λ (an : Answer). w an.cid) (answers_at s.device.queues q)) ≤ total (sent q w) s.host.records
+    go true is = omega (arith, h q w, nothing (past_at (change k f s.host.queues) q) (unfetched_at s.device.queues q) (subst (λ (z : ℕ). unfetched_at s.device.queues z ≡ []) (eqb-true k q is) none))
+    go false is = omega (arith, h q w, ap (λ (b : Bool). if b then 0 else total (λ (e : SubEntry). w e.cid) (unfetched_at s.device.queues q)) (past_other k f s.host.queues q (eqb-false k q is)))
 
 -- the answer is gone, and so is the submitted command
 places_heard : (q cid : ℕ) (st : Status) (e : ComEntry) (r : Record) (s : State) (rs : List Record) → s.trusted ≡ true → IsHeard s q cid st e r
@@ -182,9 +202,7 @@ places_retire q queue s t none e deleted g h = λ k w. places k w (q == k) refl
 
     -- no job of the queue is left
     jobless : total (on_queue q) s.device.jobs ≡ 0
-    jobless =
-        let pair = pair_at s g q queue e in
-        count (total (on_queue q) s.device.jobs) refl (ap (λ (o : Option DeviceQueue). option_map_or (λ at. is_absent at.state) o true) pair.1 ∙ pair.2.over (ap is_over deleted))
+    jobless = count (total (on_queue q) s.device.jobs) refl (deleted_is_gone s g.fit q queue e (ap is_over deleted))
       where
         count : (n : ℕ) → total (on_queue q) s.device.jobs ≡ n → gone_at s.device.queues q ≡ true → n ≡ 0
         count zero e gone = refl
@@ -219,17 +237,19 @@ places_retire q queue s t none e deleted g h = λ k w. places k w (q == k) refl
 pub running_not_past : (s : State) → Grounds s → (q : ℕ) (e : SubEntry) → InHand s q e → past_at s.host.queues q ≡ false
 running_not_past s g q e hand = go (slice_get s.host.queues q) refl
   where
-    runs_there : (st : SqState) → is_running st ≡ true → is_absent st ≡ false
-    runs_there Absent r = absurd (true≢false (sym r))
-    runs_there Running r = refl
-    runs_there Stopping r = refl
+    has : (un : List SubEntry) → slice_get un 0 ≡ Some e → un ≡ [] → ⊥
+    has un first none = let no : ◌≡◌ {A = Option SubEntry} None (Some e) = sym (ap (λ (xs : List SubEntry). slice_get xs 0) none) ∙ first in absurd cc
 
-    go : (o : Option HostQueue) → slice_get s.host.queues q ≡ o → option_map_or (λ h. not (has_sq h.state)) o false ≡ false
-    go None o = refl
-    go (Some queue) o =
+    serves : (queue : HostQueue) → slice_get s.host.queues q ≡ Some queue → (b : Bool) → in_service queue.state ≡ b → in_service queue.state ≡ true
+    serves queue o true is = is
+    serves queue o false is =
         let pair = pair_at s g q queue o in
         let same : pair.0 ≡ hand.queue = cc (pair.1, hand.at) in
-        ap not (sq_stays queue.state (λ over. true≢false (sym (pair.2.over over) ∙ ap (λ (d : DeviceQueue). is_absent d.state) same ∙ runs_there hand.queue.state hand.runs)))
+        absurd (has hand.queue.unfetched hand.first (ap (λ (d : DeviceQueue). d.unfetched) (sym same) ∙ pair.2.unfetched is))
+
+    go : (o : Option HostQueue) → slice_get s.host.queues q ≡ o → option_map_or (λ h. not (in_service h.state)) o false ≡ false
+    go None o = refl
+    go (Some queue) o = ap not (serves queue o (in_service queue.state) refl)
 
 by_controller : (s : State) (e : Event) (reply : Reply) → IsController e ≡ true → Lessens s.host.queues s.device.queues s.device.jobs (a.after s e reply).device.queues (a.after s e reply).device.jobs → PlacesIn s → PlacesIn (a.after s e reply)
 by_controller s e reply c less h =
@@ -261,15 +281,17 @@ places_host s e reply pr ok c t g h =
       tells = λ q cid st what e r request told heard w pr.
           places_heard q cid st e r s (with_record q cid (a.held st) s.host.records) t heard
           (λ k v. omega (arith, total_with (sent k v) q cid (a.held st) s.host.records r heard.found (g.stands.0.once q cid), sent_not k v (a.held st r) refl)) h;
-      hears = λ q cid st what e r adm told heard w quiet pr. without q cid st e r heard;
+      hears = λ q cid st what e r adm told heard w quiet unmade pr. without q cid st e r heard;
       notes = λ q cid st what e r k told heard w pr.
           let hs = (a.heard q e s).host.queues in
           places_hosts hs (change k (λ queue. record queue { state = if is_success st then Deleting true else Live }) hs) (without_record q cid s.host.records) (a.heard q e s).device.queues s.device.jobs
           (λ n p. past_same k (λ queue. record queue { state = if is_success st then Deleting true else Live }) hs n
-          (λ x ex. noted (is_success st) ∙ sym (asked_has_sq x.state (asked_note s q cid st e r k g.stands.0 g.fit.asked heard w x ex))) ∙ p) (without q cid st e r heard);
-      frees = λ q cid st what e r k queue told heard w at retired good pr.
-          let hs = (a.heard q e s).host.queues in
-          places_hosts hs (change k a.gone hs) (without_record q cid s.host.records) (a.heard q e s).device.queues s.device.jobs (λ n p. gone_past k hs n p) (without q cid st e r heard);
+          (λ x ex. noted (is_success st) ∙ sym (asked_serves x.state (asked_note s q cid st e r k g.stands.0 g.fit.asked heard w x ex))) ∙ p) (without q cid st e r heard);
+      frees = λ q cid st what e r k queue told heard w at retired good pr. places_out k a.gone (heard_without q cid e s) (λ x. refl) (without q cid st e r heard);
+      makes_cq = λ q cid st what e r k n base told heard w good pr. places_out k a.half_made (heard_without q cid e s) (λ x. refl) (without q cid st e r heard);
+      unmakes_cq = λ q cid st what e r k n base queue told heard w at bad pr. places_out k a.gone (heard_without q cid e s) (λ x. refl) (without q cid st e r heard);
+      makes_sq = λ q cid st what e r k n base told heard w good pr. places_opens k a.live (heard_without q cid e s) (unstarted q cid st e r k n base heard w) (without q cid st e r heard);
+      unmakes_sq = λ q cid st what e r k n base queue told heard w at bad pr. places_out k a.unmade_sq (heard_without q cid e s) (λ x. refl) (without q cid st e r heard);
       collects = λ q cid r f at held is pr.
           same_places (with_record q cid a.collected s.host.records)
           (λ k w. omega (arith, total_with (sent k w) q cid a.collected s.host.records r at (g.stands.0.once q cid), sent_not k w r (held_not r.phase held), sent_not k w (a.collected r) refl));
@@ -278,8 +300,10 @@ places_host s e reply pr ok c t g h =
       asks = λ q id queue none new live pr.
           let u = sends (DeleteSq q) id s in
           places_hosts u.host.queues (change q a.deleting u.host.queues) u.host.records u.device.queues u.device.jobs
-          (λ k p. past_same q a.deleting u.host.queues k (λ x e. sym (ap has_sq (still_live s q 0 (next_tail s.entries) queue x live e))) ∙ p) (places_sent (DeleteSq q) id s h);
+          (λ k p. past_same q a.deleting u.host.queues k (λ x e. sym (ap in_service (still_live s q 0 (next_tail s.entries) queue x live e))) ∙ p) (places_sent (DeleteSq q) id s h);
       drops = λ q id none new pr. places_sent (DeleteCq q) id s h;
+      creates_cqs = λ q id first queue none new granted pr. places_sent (creates_cq q first s) id (grants_cq q first s) (places_out q (a.making_cq (half_from Completion first s)) s (λ x. refl) h);
+      creates_sqs = λ q id first queue none new granted pr. places_sent (creates_sq q first s) id (grants_sq q first s) (places_out q (a.making_sq (half_from Submission first s)) s (λ x. refl) h);
       retires = λ q queue none at deleted pr. places_retire q queue s t none at deleted g h;
       forges = λ q slot bytes queue none at pr. h;
     }) pr
@@ -294,7 +318,20 @@ places_host s e reply pr ok c t g h =
     without q cid st e r heard =
         places_heard q cid st e r s (without_record q cid s.host.records) t heard (λ k v. omega (arith, total_without (sent k v) q cid s.host.records r heard.found (g.stands.0.once q cid))) h
 
-    noted : (b : Bool) → has_sq (if b then Deleting true else Live) ≡ true
+    -- a queue that is being made has no entry
+    unstarted : (q cid : ℕ) (st : Status) (e : ComEntry) (r : Record) (k n base : ℕ) → IsHeard s q cid st e r → r.work ≡ Management (CreateSq k n base) → unfetched_at (a.heard q e s).device.queues k ≡ []
+    unstarted q cid st e r k n base heard w = list_same (λ (at : DeviceQueue). at.unfetched) q (λ at. record at { answers = drop 1 at.answers }) s.device.queues k (λ at. refl) ∙ go (slice_get s.host.queues k) refl
+      where
+        making : awaited_at is_making_sq s.host.queues k ≡ true
+        making = was_awaited creates_sq_of is_making_sq s.host.records s.host.queues k q cid r heard.found (ap (creates_sq_of k) w ∙ eq-eqb k k refl) (g.stands.0.once q cid) (submissions_awaited s.host g.stands.0.creations)
+
+        go : (o : Option HostQueue) → slice_get s.host.queues k ≡ o → unfetched_at s.device.queues k ≡ []
+        go None o = absurd (true≢false (sym (ap (λ (o : Option HostQueue). option_map_or (λ h. is_making_sq h.state) o false) (sym o) ∙ making)))
+        go (Some x) o =
+            let pair = pair_at s g k x o in
+            ap (λ (o : Option DeviceQueue). option_map_or (λ at. at.unfetched) o []) pair.1 ∙ pair.2.unfetched (ap in_service (making_sq_is x.state (awaited_is is_making_sq s.host.queues k x making o)))
+
+    noted : (b : Bool) → in_service (if b then Deleting true else Live) ≡ true
     noted true = refl
     noted false = refl
 

@@ -1,8 +1,8 @@
 -- Each event keeps where admin commands stand.
-use Rattle.std.proofs.Common.{◌≡◌, ℕ, zero, suc, ◌-◌, ◌==◌, nat_lt, Bool, true, false, not, ◌&&◌, Option, Some, None, List, [], ◌∷◌, ◌++◌, length, map, drop, slice_get, is_some, is_none, option_and_then, if◌then◌else◌, refl, ap, sym, ◌∙◌, arith, subst, eqb-true, eq-eqb}
+use Rattle.std.proofs.Common.{◌≡◌, ℕ, zero, suc, ◌-◌, ◌==◌, nat_lt, Bool, true, false, not, ◌&&◌, Option, Some, None, List, [], ◌∷◌, ◌++◌, length, map, filter, find, drop, slice_get, is_some, is_none, option_and_then, if◌then◌else◌, refl, ap, sym, ◌∙◌, arith, subst, eqb-true, eq-eqb}
 use Rattle.std.specs.Option.{option_map_or}
 use Rattle.std.proofs.lemmas.Bool.{true≢false, ne_eqb, and_parts}
-use Rattle.machine_model.proofs.Managed.{managed_by_case}
+use Rattle.machine_model.proofs.Managed.{managed_by}
 use Rattle.entry_codec.specs.Completion.{completion_bytes}
 use Rattle.entry_codec.specs.Submission.{submission_bytes}
 use Rattle.admin_commands.specs.declared.SqState.TheVariants.{Absent, Live as Running, Stopping}
@@ -10,10 +10,10 @@ use Rattle.admin_commands.specs.declared.SqState.{SqState}
 use Rattle.admin_commands.specs.Verdicts.{is_absent, is_live as is_running}
 use Rattle.admin_commands.specs.Entries.{admin_entry, named_queue, named_command}
 use Rattle.entry_codec.specs.declared.submission.SubEntry.{SubEntry}
-use Rattle.admin_commands.specs.declared.AdminKind.TheVariants.{Abort, DeleteSq, DeleteCq}
+use Rattle.admin_commands.specs.declared.AdminKind.TheVariants.{Abort, DeleteSq, DeleteCq, CreateCq, CreateSq}
 use Rattle.admin_commands.specs.declared.AdminKind.{AdminKind}
 use Rattle.page_memory.specs.Pages.{with_page_bytes}
-use Rattle.entry_codec.specs.declared.status.TheConstants.Status.{SUCCESS, COMMAND_ID_CONFLICT, ABORT_REQUESTED, ABORTED_SQ_DELETION, INVALID_QUEUE_IDENTIFIER, INVALID_QUEUE_DELETION, INVALID_OPCODE, INVALID_FIELD}
+use Rattle.entry_codec.specs.declared.status.TheConstants.Status.{SUCCESS, COMMAND_ID_CONFLICT, ABORT_REQUESTED, ABORTED_SQ_DELETION}
 use Rattle.entry_codec.specs.declared.status.Status.{Status}
 use Rattle.io_commands.specs.Jobs.{is_success}
 use Rattle.machine_model.specs.Memory.{is_in}
@@ -26,34 +26,16 @@ use Rattle.machine_model.specs.Events as events
 use Rattle.machine_model.specs.Events.{Refusal}
 use Rattle.machine_model.proofs.Refused.{first_fails, rest_fails}
 use Rattle.machine_model.specs.After.{change}
-use Rattle.machine_model.proofs.Placed.{JobKnown, Knows, find_all, find_sound, Placed, Loses, MildJob, Promised, Settled, gone_at, there_at, is_job, placed_queues, placed_jobs, placed_decided, placed_conflict, placed_completed, placed_job_more, placed_job_less}
-use Rattle.entry_codec.specs.declared.admin_opcode.TheConstants.{ABORT, DELETE_IO_SQ}
+use Rattle.machine_model.proofs.Placed.{DeletesIo, JobKnown, find_all, find_sound, Placed, MildJob, gone_at, is_job, placed_jobs, placed_decided, placed_conflict, placed_completed, placed_job_more, placed_job_less}
+use Rattle.entry_codec.specs.declared.admin_opcode.TheConstants.{ABORT, DELETE_IO_SQ, DELETE_IO_CQ, CREATE_IO_CQ, CREATE_IO_SQ}
 use Rattle.io_commands.specs.Jobs.{io_fault, bytes_after_check}
 pub use Rattle.machine_model.specs.Agreeing.{waiting, answering}
-use Rattle.machine_model.proofs.DeviceMoves.{answer_of, unit_done, finished, fetch_by, walk_by, complete_by}
+use Rattle.machine_model.proofs.DeviceMoves.{answer_of, unit_done, finished, cleared, clears, fetch_by, walk_by, complete_by}
 
 pub record PlacedIn (rs : List Record) (d : Device) : Type 0 where
-  pub placed : Placed rs (waiting d.queues) d.jobs (answering d.queues) d.queues
+  pub placed : Placed rs (waiting d.queues) d.jobs (answering d.queues)
 
 -- One of the controller's queues changed
-
-pub loses_change : (f : DeviceQueue → DeviceQueue) → ((at : DeviceQueue) → is_absent at.state ≡ true → is_absent (f at).state ≡ true) → ((at : DeviceQueue) → at.cq_there ≡ false → (f at).cq_there ≡ false)
-    → (k : ℕ) (ds : List DeviceQueue) → Loses ds (change k f ds)
-loses_change f gone away k ds = record { gone = gone_on k ds; away = away_on k ds }
-  where
-    gone_on : (k : ℕ) (ds : List DeviceQueue) (q : ℕ) → gone_at ds q ≡ true → gone_at (change k f ds) q ≡ true
-    gone_on k [] q h = h
-    gone_on zero (at ∷ ds) zero h = gone at h
-    gone_on zero (at ∷ ds) (suc q) h = h
-    gone_on (suc k) (at ∷ ds) zero h = h
-    gone_on (suc k) (at ∷ ds) (suc q) h = gone_on k ds q h
-
-    away_on : (k : ℕ) (ds : List DeviceQueue) (q : ℕ) → there_at ds q ≡ false → there_at (change k f ds) q ≡ false
-    away_on k [] q h = h
-    away_on zero (at ∷ ds) zero h = away at h
-    away_on zero (at ∷ ds) (suc q) h = h
-    away_on (suc k) (at ∷ ds) zero h = h
-    away_on (suc k) (at ∷ ds) (suc q) h = away_on k ds q h
 
 pub waiting_same : (f : DeviceQueue → DeviceQueue) → ((at : DeviceQueue) → (f at).unfetched ≡ at.unfetched) → (k : ℕ) (ds : List DeviceQueue) → waiting (change k f ds) ≡ waiting ds
 waiting_same f same k [] = refl
@@ -77,23 +59,14 @@ answering_other f (suc k) (at ∷ ds) e = refl
 
 -- what it leaves where the entries and the answers of queue 0 stay
 pub placed_change : (rs : List Record) (d : Device) (k : ℕ) (f : DeviceQueue → DeviceQueue)
-    → waiting (change k f d.queues) ≡ waiting d.queues → answering (change k f d.queues) ≡ answering d.queues → Loses d.queues (change k f d.queues)
+    → waiting (change k f d.queues) ≡ waiting d.queues → answering (change k f d.queues) ≡ answering d.queues
     → PlacedIn rs d → PlacedIn rs (record d { queues = change k f d.queues })
-placed_change rs d k f w an loses h = record {
-  placed = rw (w, an) (placed_queues rs (waiting d.queues) d.jobs (answering d.queues) d.queues (change k f d.queues) loses h.placed);
-}
+placed_change rs d k f w an h = record { placed = rw (w, an) h.placed }
 
-abbrev same_state : (DeviceQueue → DeviceQueue) → Type 0
-same_state f = ((at : DeviceQueue) → (f at).state ≡ at.state) × ((at : DeviceQueue) → (f at).cq_there ≡ at.cq_there)
-
-pub loses_same : (f : DeviceQueue → DeviceQueue) → same_state f → (k : ℕ) (ds : List DeviceQueue) → Loses ds (change k f ds)
-loses_same f same k ds = loses_change f (λ at h. ap is_absent (same.0 at) ∙ h) (λ at h. same.1 at ∙ h) k ds
-
--- a queue other than 0, whose state stays
-pub placed_other : (rs : List Record) (d : Device) (k : ℕ) (f : DeviceQueue → DeviceQueue) → (k == 0) ≡ false → same_state f
+-- a queue other than 0
+pub placed_other : (rs : List Record) (d : Device) (k : ℕ) (f : DeviceQueue → DeviceQueue) → (k == 0) ≡ false
     → PlacedIn rs d → PlacedIn rs (record d { queues = change k f d.queues })
-placed_other rs d k f other same h =
-    placed_change rs d k f (waiting_other f k d.queues other) (answering_other f k d.queues other) (loses_same f same k d.queues) h
+placed_other rs d k f other h = placed_change rs d k f (waiting_other f k d.queues other) (answering_other f k d.queues other) h
 
 -- Where memory alone differs
 
@@ -137,15 +110,22 @@ placed-option rs f (Some x) s h each = each x refl
 
 -- with an entry still in hand
 abbrev Holding : List Record → SubEntry → Device → Type 0
-Holding rs e d = Placed rs (e ∷ waiting d.queues) d.jobs (answering d.queues) d.queues
+Holding rs e d = Placed rs (e ∷ waiting d.queues) d.jobs (answering d.queues)
 
 decide : (rs : List Record) (e : SubEntry) (st : Status) (dw0 : ℕ) (s : State)
-    → ((adm : AdminKind) → e ≡ admin_entry adm e.cid → is_success st ≡ true → Promised s.device.queues adm)
+    → ((adm : AdminKind) → e ≡ admin_entry adm e.cid → is_success st ≡ true → DeletesIo adm)
     → Holding rs e s.device → PlacedIn rs (a.decided e st dw0 s).device
 decide rs e st dw0 s promise h = record {
-  placed = placed_decided rs e (waiting s.device.queues) s.device.jobs (answering s.device.queues) s.device.queues s.device.queues
-      (a.new_job 0 e (Some st) dw0 []) st refl refl refl (record { gone = λ q g. g; away = λ q t. t }) promise h;
+  placed = placed_decided rs e (waiting s.device.queues) s.device.jobs (answering s.device.queues) (a.new_job 0 e (Some st) dw0 []) st refl refl refl promise h;
 }
+
+-- a success deletes no submission queue but an I/O queue's
+deletes_io : (e : SubEntry) → ((e.opcode == DELETE_IO_SQ) ≡ true → (named_queue e == 0) ≡ false) → (adm : AdminKind) → e ≡ admin_entry adm e.cid → DeletesIo adm
+deletes_io e io (Abort q cid) same = tt
+deletes_io e io (DeleteSq q) same = ap (λ (x : SubEntry). named_queue x == 0) (sym same) ∙ io (ap (λ (x : SubEntry). x.opcode == DELETE_IO_SQ) same)
+deletes_io e io (DeleteCq q) same = tt
+deletes_io e io (CreateCq q n base) same = tt
+deletes_io e io (CreateSq q n base) same = tt
 
 pub wrong_opcode : (e : SubEntry) (adm : AdminKind) (n : ℕ) (b : Bool) → e ≡ admin_entry adm e.cid → (e.opcode == n) ≡ b → ((admin_entry adm e.cid).opcode == n) ≡ b
 wrong_opcode e adm n b same h = ap (λ (x : SubEntry). x.opcode == n) (sym same) ∙ h
@@ -172,28 +152,6 @@ stops_mild q = record {
     not_success : {P : Type 0} (st : Status) → Some ABORTED_SQ_DELETION ≡ Some st → is_success st ≡ true → P
     not_success st v ok = let same : st ≡ ABORTED_SQ_DELETION = cc in absurd (true≢false (sym ok ∙ ap (λ x. is_success x) same))
 
-loses_stop : (k : ℕ) (ds : List DeviceQueue) → gone_at ds k ≡ false → Loses ds (change k (λ at. record at { state = Stopping }) ds)
-loses_stop k ds there = record { gone = gone_on k ds there; away = away_on k ds }
-  where
-    gone_on : (k : ℕ) (ds : List DeviceQueue) → gone_at ds k ≡ false → (q : ℕ) → gone_at ds q ≡ true → gone_at (change k (λ at. record at { state = Stopping }) ds) q ≡ true
-    gone_on k [] t q h = h
-    gone_on zero (at ∷ ds) t zero h = absurd (true≢false (sym h ∙ t))
-    gone_on zero (at ∷ ds) t (suc q) h = h
-    gone_on (suc k) (at ∷ ds) t zero h = h
-    gone_on (suc k) (at ∷ ds) t (suc q) h = gone_on k ds t q h
-
-    away_on : (k : ℕ) (ds : List DeviceQueue) (q : ℕ) → there_at ds q ≡ false → there_at (change k (λ at. record at { state = Stopping }) ds) q ≡ false
-    away_on k [] q h = h
-    away_on zero (at ∷ ds) zero h = h
-    away_on zero (at ∷ ds) (suc q) h = h
-    away_on (suc k) (at ∷ ds) zero h = h
-    away_on (suc k) (at ∷ ds) (suc q) h = away_on k ds q h
-
-there_dropped : (k : ℕ) (ds : List DeviceQueue) → there_at (change k (λ at. record at { cq_there = false }) ds) k ≡ false
-there_dropped k [] = refl
-there_dropped zero (at ∷ ds) = refl
-there_dropped (suc k) (at ∷ ds) = there_dropped k ds
-
 pub runs_there : (s : State) (q : ℕ) → is_running (a.sq_state s q) ≡ true → gone_at s.device.queues q ≡ false
 runs_there s q h = go (device_queue s q) h
   where
@@ -208,69 +166,53 @@ runs_there s q h = go (device_queue s q) h
 
 placed_managed : (rs : List Record) (e : SubEntry) (s : State) → Holding rs e s.device → PlacedIn rs (a.managed e s).device
 placed_managed rs e s h =
-    managed_by_case (λ (t : State). PlacedIn rs t.device) e s
-    (decide rs e INVALID_OPCODE 0 s (λ adm same ok. absurd (true≢false (sym ok))) h)
-    (decide rs e INVALID_FIELD 0 s (λ adm same ok. absurd (true≢false (sym ok))) h)
-    (λ is8. decide rs e SUCCESS 0 (a.on_job (named_queue e) (named_command e) (λ j. record j { verdict = Some ABORT_REQUESTED; waiting_abort = Some e.cid }) s) (no_promise is8 s.device.queues)
-    (placed_jobs rs (e ∷ waiting s.device.queues) s.device.jobs (answering s.device.queues) s.device.queues _ (aborts_mild (named_queue e) (named_command e) e.cid) h))
-    (λ is8. decide rs e SUCCESS 1 s (no_promise is8 s.device.queues) h)
-    (decide rs e INVALID_QUEUE_IDENTIFIER 0 s (λ adm same ok. absurd (true≢false (sym ok))) h)
-    stopping
-    (decide rs e INVALID_QUEUE_DELETION 0 s (λ adm same ok. absurd (true≢false (sym ok))) h)
-    dropping
+    managed_by (λ (t : State). PlacedIn rs t.device) e s
+    (record {
+      refuses = λ st bad. decide rs e st 0 s (λ adm same ok. absurd (true≢false (sym ok ∙ bad))) h;
+      aborts = λ is8 w. decide rs e SUCCESS 0 (a.on_job (named_queue e) (named_command e) (λ j. record j { verdict = Some ABORT_REQUESTED; waiting_abort = Some e.cid }) s)
+          (λ adm same ok. deletes_io e (other ABORT is8 refl) adm same)
+          (placed_jobs rs (e ∷ waiting s.device.queues) s.device.jobs (answering s.device.queues) _ (aborts_mild (named_queue e) (named_command e) e.cid) h);
+      is_late = λ is8. decide rs e SUCCESS 1 s (λ adm same ok. deletes_io e (other ABORT is8 refl) adm same) h;
+      stops = stopping;
+      drops = λ is4 q0 there gone. changing a.dropped q0 (other DELETE_IO_CQ is4 refl);
+      makes_completion = λ is5 q0 gone. changing a.completion_made q0 (other CREATE_IO_CQ is5 refl);
+      makes_submission = λ is1 q0 gone there. changing a.submission_made q0 (other CREATE_IO_SQ is1 refl);
+    })
   where
-    no_promise : (e.opcode == ABORT) ≡ true → (ds : List DeviceQueue) (adm : AdminKind) → e ≡ admin_entry adm e.cid → is_success SUCCESS ≡ true → Promised ds adm
-    no_promise is8 ds (Abort q cid) same ok = tt
-    no_promise is8 ds (DeleteSq q) same ok = absurd (true≢false (sym (wrong_opcode e (DeleteSq q) 8 true same is8)))
-    no_promise is8 ds (DeleteCq q) same ok = absurd (true≢false (sym (wrong_opcode e (DeleteCq q) 8 true same is8)))
+    other : {P : Type 0} (n : ℕ) → (e.opcode == n) ≡ true → (n == DELETE_IO_SQ) ≡ false → (e.opcode == DELETE_IO_SQ) ≡ true → P
+    other n is differs deletes = absurd (true≢false (sym deletes ∙ ap (λ (o : ℕ). o == DELETE_IO_SQ) (eqb-true e.opcode n is) ∙ differs))
+
+    changing : (f : DeviceQueue → DeviceQueue) → (named_queue e == 0) ≡ false → ((e.opcode == DELETE_IO_SQ) ≡ true → (named_queue e == 0) ≡ false)
+        → PlacedIn rs (a.decided e SUCCESS 0 (a.on_device_queue (named_queue e) f s)).device
+    changing f q0 io =
+        decide rs e SUCCESS 0 (a.on_device_queue (named_queue e) f s) (λ adm same ok. deletes_io e io adm same)
+        (rw (waiting_other f (named_queue e) s.device.queues q0, answering_other f (named_queue e) s.device.queues q0) h)
 
     stopping : (e.opcode == DELETE_IO_SQ) ≡ true → (named_queue e == 0) ≡ false → is_running (a.sq_state s (named_queue e)) ≡ true
         → PlacedIn rs (a.decided e SUCCESS 0 (a.on_device (λ d. record d { jobs = map (a.stopped (named_queue e)) d.jobs }) (a.on_device_queue (named_queue e) (λ at. record at { state = Stopping }) s))).device
     stopping is0 q0 runs =
         let stop : DeviceQueue → DeviceQueue = λ at. record at { state = Stopping } in
-        let s1 = a.on_device (λ d. record d { jobs = map (a.stopped (named_queue e)) d.jobs }) (a.on_device_queue (named_queue e) (λ at. record at { state = Stopping }) s) in
-        let there = runs_there s (named_queue e) runs in
-        let queues = placed_queues rs (e ∷ waiting s.device.queues) s.device.jobs (answering s.device.queues) s.device.queues (change (named_queue e) stop s.device.queues) (loses_stop (named_queue e) s.device.queues there) h in
-        let jobs = placed_jobs rs (e ∷ waiting s.device.queues) s.device.jobs (answering s.device.queues) (change (named_queue e) stop s.device.queues) (a.stopped (named_queue e)) (stops_mild (named_queue e)) queues in
-        decide rs e SUCCESS 0 s1 (promise q0 (change (named_queue e) stop s.device.queues))
-        (rw (waiting_same stop (λ at. refl) (named_queue e) s.device.queues, answering_same stop (λ at. refl) (named_queue e) s.device.queues) jobs)
-      where
-        promise : (named_queue e == 0) ≡ false → (ds : List DeviceQueue) (adm : AdminKind) → e ≡ admin_entry adm e.cid → is_success SUCCESS ≡ true → Promised ds adm
-        promise n ds (Abort q cid) same ok = absurd (true≢false (sym (wrong_opcode e (Abort q cid) 0 true same is0)))
-        promise n ds (DeleteSq q) same ok = ap (λ (x : SubEntry). named_queue x == 0) (sym same) ∙ n
-        promise n ds (DeleteCq q) same ok = absurd (true≢false (sym (wrong_opcode e (DeleteCq q) 0 true same is0)))
-
-    dropping : (e.opcode == ABORT) ≡ false → (e.opcode == DELETE_IO_SQ) ≡ false → is_absent (a.sq_state s (named_queue e)) ≡ true
-        → PlacedIn rs (a.decided e SUCCESS 0 (a.on_device_queue (named_queue e) (λ at. record at { cq_there = false }) s)).device
-    dropping not8 not0 gone =
-        let lose : DeviceQueue → DeviceQueue = λ at. record at { cq_there = false } in
-        let queues = placed_queues rs (e ∷ waiting s.device.queues) s.device.jobs (answering s.device.queues) s.device.queues (change (named_queue e) lose s.device.queues)
-        (loses_change lose (λ at g. g) (λ at t. refl) (named_queue e) s.device.queues) h in
-        decide rs e SUCCESS 0 (a.on_device_queue (named_queue e) (λ at. record at { cq_there = false }) s) promise
-        (rw (waiting_same lose (λ at. refl) (named_queue e) s.device.queues, answering_same lose (λ at. refl) (named_queue e) s.device.queues) queues)
-      where
-        promise : (adm : AdminKind) → e ≡ admin_entry adm e.cid → is_success SUCCESS ≡ true → Promised (change (named_queue e) (λ at. record at { cq_there = false }) s.device.queues) adm
-        promise (Abort q cid) same ok = tt
-        promise (DeleteSq q) same ok = absurd (true≢false (wrong_opcode e (DeleteSq q) 0 false same not0))
-        promise (DeleteCq q) same ok =
-            subst (λ (k : ℕ). there_at (change (named_queue e) (λ at. record at { cq_there = false }) s.device.queues) k ≡ false) (ap named_queue same) (there_dropped (named_queue e) s.device.queues)
+        decide rs e SUCCESS 0 (a.on_device (λ d. record d { jobs = map (a.stopped (named_queue e)) d.jobs }) (a.on_device_queue (named_queue e) (λ at. record at { state = Stopping }) s))
+        (λ adm same ok. deletes_io e (λ z. q0) adm same)
+        (rw (waiting_other stop (named_queue e) s.device.queues q0, answering_other stop (named_queue e) s.device.queues q0)
+        (placed_jobs rs (e ∷ waiting s.device.queues) s.device.jobs (answering s.device.queues) (a.stopped (named_queue e)) (stops_mild (named_queue e)) h))
 
 pub ne_zero : (k : ℕ) → (suc k == 0) ≡ false
 ne_zero k = ne_eqb (suc k) 0 (λ e. absurd (omega arith))
 
 placed_answered_other : (rs : List Record) (q : ℕ) (an : Answer) (d : Device) → (q == 0) ≡ false → PlacedIn rs d → PlacedIn rs (record d { queues = change q (λ at. record at { answers = at.answers ++ an ∷ [] }) d.queues })
-placed_answered_other rs q an d other h = placed_other rs d q (λ at. record at { answers = at.answers ++ an ∷ [] }) other ((λ at. refl), (λ at. refl)) h
+placed_answered_other rs q an d other h = placed_other rs d q (λ at. record at { answers = at.answers ++ an ∷ [] }) other h
 
 -- an answer more of queue 0, which is there
-answering_more : (ds : List DeviceQueue) (an : Answer) → is_some (slice_get ds 0) ≡ true → answering (change 0 (λ at. record at { answers = at.answers ++ an ∷ [] }) ds) ≡ answering ds ++ an ∷ []
+pub answering_more : (ds : List DeviceQueue) (an : Answer) → is_some (slice_get ds 0) ≡ true → answering (change 0 (λ at. record at { answers = at.answers ++ an ∷ [] }) ds) ≡ answering ds ++ an ∷ []
 answering_more [] an h = absurd (true≢false (sym h))
 answering_more (at ∷ ds) an h = refl
 
-some_zero : (ds : List DeviceQueue) (e : SubEntry) → option_and_then (λ queue. if is_running queue.state && nat_lt 0 queue.rung then slice_get queue.unfetched 0 else None) (slice_get ds 0) ≡ Some e → is_some (slice_get ds 0) ≡ true
+pub some_zero : (ds : List DeviceQueue) (e : SubEntry) → option_and_then (λ queue. if is_running queue.state && nat_lt 0 queue.rung then slice_get queue.unfetched 0 else None) (slice_get ds 0) ≡ Some e → is_some (slice_get ds 0) ≡ true
 some_zero [] e h = absurd cc
 some_zero (at ∷ ds) e h = refl
 
-some_still : (f : DeviceQueue → DeviceQueue) (k : ℕ) (ds : List DeviceQueue) → is_some (slice_get ds 0) ≡ true → is_some (slice_get (change k f ds) 0) ≡ true
+pub some_still : (f : DeviceQueue → DeviceQueue) (k : ℕ) (ds : List DeviceQueue) → is_some (slice_get ds 0) ≡ true → is_some (slice_get (change k f ds) 0) ≡ true
 some_still f k [] h = h
 some_still f zero (at ∷ ds) h = refl
 some_still f (suc k) (at ∷ ds) h = refl
@@ -281,8 +223,7 @@ placed_fetch rs zero s h =
     (λ e next c.
     let an = answer_of 0 e.cid COMMAND_ID_CONFLICT 0 (a.taken_off 0 s) in
     let more : DeviceQueue → DeviceQueue = λ at. record at { answers = at.answers ++ an ∷ [] } in
-    let done = placed_queues rs (waiting (ds1 s)) s.device.jobs (answering (ds1 s) ++ an ∷ []) (ds1 s) (change 0 more (ds1 s)) (loses_same more ((λ at. refl), (λ at. refl)) 0 (ds1 s))
-    (placed_conflict rs e (waiting (ds1 s)) s.device.jobs (answering (ds1 s)) (ds1 s) an refl refl (in_hand e next)) in
+    let done = placed_conflict rs e (waiting (ds1 s)) s.device.jobs (answering (ds1 s)) an refl (in_hand e next) in
     record { placed = rw (waiting_same more (λ at. refl) 0 (ds1 s), answering_more (ds1 s) an (some_still off 0 s.device.queues (some_zero s.device.queues e next))) done })
     (λ e next c z. placed_managed rs e (a.taken_off 0 s) (in_hand e next))
     (λ e next c other. absurd (true≢false other))
@@ -293,19 +234,18 @@ placed_fetch rs zero s h =
     ds1 : State → List DeviceQueue
     ds1 s = change 0 (λ at. record at { unfetched = drop 1 at.unfetched; rung = at.rung - 1 }) s.device.queues
 
-    in_hand : (e : SubEntry) → next_rung s 0 ≡ Some e → Placed rs (e ∷ waiting (ds1 s)) s.device.jobs (answering (ds1 s)) (ds1 s)
+    in_hand : (e : SubEntry) → next_rung s 0 ≡ Some e → Placed rs (e ∷ waiting (ds1 s)) s.device.jobs (answering (ds1 s))
     in_hand e next =
-        let queues = placed_queues rs (waiting s.device.queues) s.device.jobs (answering s.device.queues) s.device.queues (ds1 s) (loses_same off ((λ at. refl), (λ at. refl)) 0 s.device.queues) h.placed in
-        rw (answering_same off (λ at. refl) 0 s.device.queues) (subst (λ un. Placed rs un s.device.jobs (answering s.device.queues) (ds1 s)) (taken_entry s.device.queues e next) queues)
+        rw (answering_same off (λ at. refl) 0 s.device.queues) (subst (λ un. Placed rs un s.device.jobs (answering s.device.queues)) (taken_entry s.device.queues e next) h.placed)
 placed_fetch rs (suc k) s h =
     fetch_by (λ (t : State). PlacedIn rs t.device) s (suc k) h
     (λ e next c. placed_answered_other rs (suc k) (answer_of (suc k) e.cid COMMAND_ID_CONFLICT 0 (a.taken_off (suc k) s)) (a.taken_off (suc k) s).device (ne_zero k) base)
     (λ e next c z. absurd (omega arith))
     (λ e next c other. let fault = io_fault (a.image_blocks (a.taken_off (suc k) s)) e in
-    record { placed = placed_job_more rs _ (a.taken_off (suc k) s).device.jobs _ (a.taken_off (suc k) s).device.queues (a.new_job (suc k) e fault 0 (bytes_after_check s.device.image e fault)) (ne_zero k) base.placed })
+    record { placed = placed_job_more rs _ (a.taken_off (suc k) s).device.jobs _ (a.new_job (suc k) e fault 0 (bytes_after_check s.device.image e fault)) (ne_zero k) base.placed })
   where
     base : PlacedIn rs (a.taken_off (suc k) s).device
-    base = placed_other rs s.device (suc k) (λ at. record at { unfetched = drop 1 at.unfetched; rung = at.rung - 1 }) (ne_zero k) ((λ at. refl), (λ at. refl)) h
+    base = placed_other rs s.device (suc k) (λ at. record at { unfetched = drop 1 at.unfetched; rung = at.rung - 1 }) (ne_zero k) h
 
 -- Walking
 
@@ -327,18 +267,13 @@ other_mild q cid f other fq fe = record {
 placed_on_job : (rs : List Record) (q cid : ℕ) (f : Job → Job) (s : State) → (q == 0) ≡ false → ((j : Job) → (f j).q ≡ j.q) → ((j : Job) → (f j).entry ≡ j.entry)
     → PlacedIn rs s.device → PlacedIn rs (a.on_job q cid f s).device
 placed_on_job rs q cid f s other fq fe h = record {
-  placed = placed_jobs rs (waiting s.device.queues) s.device.jobs (answering s.device.queues) s.device.queues _ (other_mild q cid f other fq fe) h.placed;
+  placed = placed_jobs rs (waiting s.device.queues) s.device.jobs (answering s.device.queues) _ (other_mild q cid f other fq fe) h.placed;
 }
 
 pub placed_walk : (rs : List Record) (q cid : ℕ) (s : State) → (q == 0) ≡ false → PlacedIn rs s.device → PlacedIn rs (a.after_walk q cid s).device
 placed_walk rs q cid s other h = walk_by (λ (t : State). PlacedIn rs t.device) s q cid h (λ j act at u. placed_on_job rs q cid (unit_done s j act) s other (λ j. refl) (λ j. refl) h)
 
 -- Completing
-
-gone_killed : (k : ℕ) (ds : List DeviceQueue) → gone_at (change k (λ at. record at { state = Absent; unfetched = []; rung = 0 }) ds) k ≡ true
-gone_killed k [] = refl
-gone_killed zero (at ∷ ds) = refl
-gone_killed (suc k) (at ∷ ds) = gone_killed k ds
 
 pub final_admin : (s : State) (j : Job) (st : Status) → j.q ≡ 0 → j.verdict ≡ Some st → a.final_status s j ≡ st
 final_admin s j st z v = rw (eq-eqb j.q 0 z, v) refl
@@ -350,67 +285,29 @@ verdict_there j h = go j.verdict h
     go None h = absurd (true≢false h)
     go (Some st) h = (st, refl)
 
-answer_posted : (rs : List Record) (cid : ℕ) (st : Status) (dw0 : ℕ) (s : State) (an : Answer) → an ≡ record { cid = cid; status = st; dw0 = dw0; sq_head = fetch_slot s 0 } → is_some (slice_get s.device.queues 0) ≡ true
-    → Placed rs (waiting s.device.queues) s.device.jobs (answering s.device.queues ++ an ∷ []) s.device.queues → PlacedIn rs (a.answered 0 cid st dw0 s).device
-answer_posted rs cid st dw0 s an same there h =
-    let an' : Answer = record { cid = cid; status = st; dw0 = dw0; sq_head = fetch_slot s 0 } in
-    let more : DeviceQueue → DeviceQueue = λ at. record at { answers = at.answers ++ an' ∷ [] } in
-    let ds = s.device.queues in
-    let h' = subst (λ (x : Answer). Placed rs (waiting ds) s.device.jobs (answering ds ++ x ∷ []) ds) same h in
-    let done = placed_queues rs (waiting ds) s.device.jobs (answering ds ++ an' ∷ []) ds (change 0 more ds) (loses_same more ((λ at. refl), (λ at. refl)) 0 ds) h' in
-    subst (PlacedIn rs) (sym (device-answered 0 cid st dw0 s))
-    (record { placed = rw (waiting_same more (λ at. refl) 0 ds, answering_more ds an' there) done })
-
-complete_admin : (rs : List Record) (cid : ℕ) (s : State) (j : Job) (st : Status) → job_at s 0 cid ≡ Some j → j.q ≡ 0 → j.verdict ≡ Some st → is_some (slice_get s.device.queues 0) ≡ true
-    → PlacedIn rs s.device → (image : List ℕ)
-    → (b : Bool) → ((j.q == 0) && (j.entry.opcode == DELETE_IO_SQ) && is_success st) ≡ b
-    → let s1 = a.on_device (λ d. record d { image = image }) (a.without_job 0 cid s) in
-    PlacedIn rs (a.answered 0 cid st j.dw0 (if b then a.on_device_queue (named_queue j.entry) (λ at. record at { state = Absent; unfetched = []; rung = 0 }) s1 else s1)).device
-complete_admin rs cid s j st found jq v there h image true c =
-    let s1 = a.on_device (λ d. record d { image = image }) (a.without_job 0 cid s) in
-    let ds = s.device.queues in
-    let dead : DeviceQueue → DeviceQueue = λ at. record at { state = Absent; unfetched = []; rung = 0 } in
-    let n = named_queue j.entry in
-    let s2 = a.on_device_queue n (λ at. record at { state = Absent; unfetched = []; rung = 0 }) s1 in
-    let an : Answer = record { cid = cid; status = st; dw0 = j.dw0; sq_head = fetch_slot s2 0 } in
-    let c1 = and_parts ((j.q == 0) && (j.entry.opcode == DELETE_IO_SQ)) (is_success st) c in
-    let c2 = and_parts (j.q == 0) (j.entry.opcode == DELETE_IO_SQ) c1.0 in
-    let known = find_all (JobKnown rs ds) (is_job 0 cid) s.device.jobs j found h.placed.jobs jq in
-    let n0 : (n == 0) ≡ false = named_other j.entry known.0 ds known.2 c2.1 (known.3 st v c1.1) in
-    let done = placed_completed rs (waiting ds) s.device.jobs (answering ds) ds (change n dead ds) cid j an found refl
-    (loses_change dead (λ at g. refl) (λ at t. t) n ds) (settle s j st known c2.1) h.placed in
-    answer_posted rs cid st j.dw0 s2 an refl (some_still dead n ds there)
-    (rw (waiting_other dead n ds n0, answering_other dead n ds n0) done)
+-- its deletion was of an I/O queue
+pub clears_io : (rs : List Record) (s : State) (j : Job) (st : Status) → JobKnown rs j → j.q ≡ 0 → j.verdict ≡ Some st → clears s j ≡ true → (named_queue j.entry == 0) ≡ false
+clears_io rs s j st known jq v c =
+    let deletes = and_parts ((j.q == 0) && (j.entry.opcode == DELETE_IO_SQ)) (is_success (a.final_status s j)) c in
+    let k = known jq in
+    of k.0 k.2 (and_parts (j.q == 0) (j.entry.opcode == DELETE_IO_SQ) deletes.0).1 (k.3 st v (ap (λ (x : Status). is_success x) (sym (final_admin s j st jq v)) ∙ deletes.1))
   where
-    named_other : (e : SubEntry) (adm : AdminKind) (ds : List DeviceQueue) → e ≡ admin_entry adm e.cid → (e.opcode == DELETE_IO_SQ) ≡ true → Promised ds adm → (named_queue e == 0) ≡ false
-    named_other e (Abort q c) ds same z p = absurd (true≢false (sym (wrong_opcode e (Abort q c) 0 true same z)))
-    named_other e (DeleteSq q) ds same z p = ap (λ (x : SubEntry). named_queue x == 0) same ∙ p
-    named_other e (DeleteCq q) ds same z p = absurd (true≢false (sym (wrong_opcode e (DeleteCq q) 0 true same z)))
+    of : (adm : AdminKind) → j.entry ≡ admin_entry adm j.entry.cid → (j.entry.opcode == DELETE_IO_SQ) ≡ true → DeletesIo adm → (named_queue j.entry == 0) ≡ false
+    of (Abort q c) same z io = absurd (true≢false (sym (wrong_opcode j.entry (Abort q c) 0 true same z)))
+    of (DeleteSq q) same z io = ap (λ (x : SubEntry). named_queue x == 0) same ∙ io
+    of (DeleteCq q) same z io = absurd (true≢false (sym (wrong_opcode j.entry (DeleteCq q) 0 true same z)))
+    of (CreateCq q n base) same z io = absurd (true≢false (sym (wrong_opcode j.entry (CreateCq q n base) 0 true same z)))
+    of (CreateSq q n base) same z io = absurd (true≢false (sym (wrong_opcode j.entry (CreateSq q n base) 0 true same z)))
 
-    settle : (s : State) (j : Job) (st : Status) → (adm : AdminKind) × Knows rs j.entry.cid adm × (j.entry ≡ admin_entry adm j.entry.cid) × ((st : Status) → j.verdict ≡ Some st → is_success st ≡ true → Promised s.device.queues adm) → (j.entry.opcode == DELETE_IO_SQ) ≡ true
-        → (adm : AdminKind) → j.entry ≡ admin_entry adm j.entry.cid → is_success st ≡ true → ((st : Status) → j.verdict ≡ Some st → is_success st ≡ true → Promised s.device.queues adm)
-        → Settled (change (named_queue j.entry) (λ at. record at { state = Absent; unfetched = []; rung = 0 }) s.device.queues) adm
-    settle s j st known z (Abort q c) same ok p = tt
-    settle s j st known z (DeleteSq q) same ok p =
-        subst (λ (k : ℕ). gone_at (change (named_queue j.entry) (λ at. record at { state = Absent; unfetched = []; rung = 0 }) s.device.queues) k ≡ true) (ap named_queue same) (gone_killed (named_queue j.entry) s.device.queues)
-    settle s j st known z (DeleteCq q) same ok p = absurd (true≢false (sym (wrong_opcode j.entry (DeleteCq q) 0 true same z)))
-complete_admin rs cid s j st found jq v there h image false c =
-    let s1 = a.on_device (λ d. record d { image = image }) (a.without_job 0 cid s) in
-    let ds = s.device.queues in
-    let an : Answer = record { cid = cid; status = st; dw0 = j.dw0; sq_head = fetch_slot s1 0 } in
-    let done = placed_completed rs (waiting ds) s.device.jobs (answering ds) ds ds cid j an found refl
-    (record { gone = λ q g. g; away = λ q t. t }) (λ adm same ok p. settle adm same ok (p st v ok)) h.placed in
-    answer_posted rs cid st j.dw0 s1 an refl there done
-  where
-    settle : (adm : AdminKind) → j.entry ≡ admin_entry adm j.entry.cid → is_success st ≡ true → Promised s.device.queues adm → Settled s.device.queues adm
-    settle (Abort q c') same ok p = tt
-    settle (DeleteSq q) same ok p =
-        let z : (j.entry.opcode == DELETE_IO_SQ) ≡ true = ap (λ (x : SubEntry). x.opcode == DELETE_IO_SQ) same in
-        let all : ((j.q == 0) && (j.entry.opcode == DELETE_IO_SQ) && is_success st) ≡ true = rw (eq-eqb j.q 0 jq, z, ok) refl in
-        absurd (true≢false (sym all ∙ c))
-    settle (DeleteCq q) same ok p = p
+-- the answer of a job of queue 0 takes its place
+placed_answer : (rs : List Record) (cid : ℕ) (d : Device) (ds : List DeviceQueue) (j : Job) (an : Answer) → find (is_job 0 cid) d.jobs ≡ Some j → an.cid ≡ cid
+    → waiting ds ≡ waiting d.queues → answering ds ≡ answering d.queues → is_some (slice_get ds 0) ≡ true → PlacedIn rs d
+    → Placed rs (waiting (change 0 (λ at. record at { answers = at.answers ++ an ∷ [] }) ds)) (filter (λ k. not (is_job 0 cid k)) d.jobs) (answering (change 0 (λ at. record at { answers = at.answers ++ an ∷ [] }) ds))
+placed_answer rs cid d ds j an found same w an' there h =
+    rw (waiting_same (λ at. record at { answers = at.answers ++ an ∷ [] }) (λ at. refl) 0 ds, answering_more ds an there, w, an')
+    (placed_completed rs (waiting d.queues) d.jobs (answering d.queues) cid j an found same h.placed)
 
-queue_there : (s : State) → answers_full s 0 ≡ false → is_some (slice_get s.device.queues 0) ≡ true
+pub queue_there : (s : State) → answers_full s 0 ≡ false → is_some (slice_get s.device.queues 0) ≡ true
 queue_there s h = go (device_queue s 0) h
   where
     go : (o : Option DeviceQueue) → option_map_or (λ at. length at.answers == s.entries - 1) o true ≡ false → is_some o ≡ true
@@ -430,19 +327,22 @@ placed_complete rs zero cid s none h =
     let waits = rest_fails (refusals.job_is (λ j. is_none j.verdict) s 0 cid) events.Walking (waits_or_out s 0 cid) walking in
     let full = rest_fails (refusals.job_is (refusals.waits s) s 0 cid) events.Waits (full_or_out s 0) waits in
     let there = queue_there s (first_fails (answers_full s 0) events.Full ((not (is_in s.memory (post_page s 0)), events.SlotOut) ∷ []) full) in
-    placed-option rs
-    (λ j. let st = a.final_status s j in a.answered 0 cid st j.dw0 (a.deletion_done j st (a.on_device (λ d. record d { image = a.image_completed j d.image }) (a.without_job 0 cid s))))
-    (job_at s 0 cid) s h
-    (λ j e.
+    complete_by (λ (t : State). PlacedIn rs t.device) s 0 cid h
+    (λ j e c.
     let v = verdict_there j (rw e at judged) in
-    let at = and_parts (j.q == 0) (j.entry.cid == cid) (find_sound (is_job 0 cid) s.device.jobs j e) in
-    let jq : j.q ≡ 0 = eqb-true j.q 0 at.0 in
-    subst (λ (st : Status). PlacedIn rs (a.answered 0 cid st j.dw0 (a.deletion_done j st (a.on_device (λ d. record d { image = a.image_completed j d.image }) (a.without_job 0 cid s)))).device) (sym (final_admin s j v.0 jq v.1))
-    (complete_admin rs cid s j v.0 e jq v.1 there h (a.image_completed j s.device.image) ((j.q == 0) && (j.entry.opcode == DELETE_IO_SQ) && is_success v.0) refl))
+    let jq : j.q ≡ 0 = eqb-true j.q 0 (and_parts (j.q == 0) (j.entry.cid == cid) (find_sound (is_job 0 cid) s.device.jobs j e)).0 in
+    let n0 = clears_io rs s j v.0 (find_all (JobKnown rs) (is_job 0 cid) s.device.jobs j e h.placed.jobs) jq v.1 c in
+    record {
+      placed = placed_answer rs cid s.device (change (named_queue j.entry) cleared s.device.queues) j
+          (answer_of 0 cid (a.final_status s j) j.dw0 (a.on_device_queue (named_queue j.entry) cleared (finished 0 cid j s))) e refl
+          (waiting_other cleared (named_queue j.entry) s.device.queues n0) (answering_other cleared (named_queue j.entry) s.device.queues n0)
+          (some_still cleared (named_queue j.entry) s.device.queues there) h;
+    })
+    (λ j e c. record { placed = placed_answer rs cid s.device s.device.queues j (answer_of 0 cid (a.final_status s j) j.dw0 (finished 0 cid j s)) e refl refl refl there h })
 placed_complete rs (suc k) cid s none h =
     complete_by (λ (t : State). PlacedIn rs t.device) s (suc k) cid h (λ j e c. absurd (true≢false (sym (and_parts (j.q == 0) (j.entry.opcode == DELETE_IO_SQ) (and_parts ((j.q == 0) && (j.entry.opcode == DELETE_IO_SQ)) (is_success (a.final_status s j)) c).0).0 ∙ its_queue j e)))
     (λ j e c. placed_answered_other rs (suc k) (answer_of (suc k) cid (a.final_status s j) j.dw0 (finished (suc k) cid j s)) (finished (suc k) cid j s).device (ne_zero k)
-    (record { placed = placed_job_less rs (waiting s.device.queues) s.device.jobs (answering s.device.queues) s.device.queues (λ j'. not (is_job (suc k) cid j')) h.placed }))
+    (record { placed = placed_job_less rs (waiting s.device.queues) s.device.jobs (answering s.device.queues) (λ j'. not (is_job (suc k) cid j')) h.placed }))
   where
     its_queue : (j : Job) → job_at s (suc k) cid ≡ Some j → (j.q == 0) ≡ false
     its_queue j e = ap (λ (n : ℕ). n == 0) (eqb-true j.q (suc k) (and_parts (j.q == suc k) (j.entry.cid == cid) (find_sound (is_job (suc k) cid) s.device.jobs j e)).0) ∙ ne_zero k

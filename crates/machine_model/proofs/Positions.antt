@@ -1,12 +1,12 @@
 -- Every step leaves the host's positions in their rings.
-use Rattle.std.proofs.Common.{◌≡◌, ℕ, zero, suc, ◌+◌, ◌<◌, Bool, true, false, Option, Some, None, List, [], ◌∷◌, slice_get, refl, sym, arith, subst}
+use Rattle.std.proofs.Common.{◌≡◌, ℕ, zero, suc, ◌+◌, ◌<◌, Bool, true, false, Option, Some, None, List, refl, sym, arith, subst}
 use Rattle.std.specs.Option.{option_map_or}
 use Rattle.std.specs.List.{AllByRecursion}
 use Rattle.std.proofs.lemmas.Bool.{true≢false}
 use Rattle.std.proofs.lemmas.Bool.Decides.{nat_tests}
 use Rattle.entry_codec.specs.declared.completion.ComEntry.{ComEntry}
 use Rattle.queue_pair.specs.Slots.{next_slot, is_in_range}
-use Rattle.queue_pair.specs.Rings.{HostRing, next_tail, next_head, knowing}
+use Rattle.queue_pair.specs.Rings.{HostRing, fresh_host_ring, next_tail, next_head, knowing}
 use Rattle.machine_model.specs.State.{State, HostQueue}
 use Rattle.machine_model.specs.Refusals.{host_queue}
 use Rattle.machine_model.specs.Opening.{opening, queues_from, Opens}
@@ -19,23 +19,15 @@ use Rattle.machine_model.proofs.Steps.{Accepts, IsKept, each_step, each_run, par
 use Rattle.machine_model.proofs.Opening.{in_limits, limits_say}
 use Rattle.queue_pair.specs.Memory.{half_pages}
 use Rattle.page_memory.specs.declared.page.Half.TheVariants.{Submission, Completion}
-use Rattle.machine_model.proofs.Moves.{host_moves}
+use Rattle.machine_model.proofs.Lists.{all_changed}
+pub use Rattle.machine_model.proofs.Lists.{all_at}
+use Rattle.machine_model.proofs.Moves.{host_moves, half_from}
 
 abbrev pub InRings : HostPart → Type 0
 InRings part = AllByRecursion (λ queue. IsInRing part.entries queue.ring) part.host.queues
 
 abbrev In : State → Type 0
 In s = InRings (host_part s)
-
-all_changed : {A : Type 0} (P : A → Type 0) (k : ℕ) (f : A → A) (xs : List A) → ((x : A) → slice_get xs k ≡ Some x → P x → P (f x)) → AllByRecursion P xs → AllByRecursion P (change k f xs)
-all_changed P k f [] each h = tt
-all_changed P zero f (x ∷ xs) each h = (each x refl h.0, h.1)
-all_changed P (suc k) f (x ∷ xs) each h = (h.0, all_changed P k f xs each h.1)
-
-pub all_at : {A : Type 0} (P : A → Type 0) (xs : List A) (k : ℕ) (x : A) → slice_get xs k ≡ Some x → AllByRecursion P xs → P x
-all_at P [] k x e h = absurd cc
-all_at P (y ∷ xs) zero x e h = let same : y ≡ x = cc in subst P same h.0
-all_at P (y ∷ xs) (suc k) x e h = all_at P xs k x e h.1
 
 -- moves stay inside
 
@@ -66,26 +58,38 @@ rings_event s e reply ok c h =
     host_moves (λ (e : Event) (reply : Reply) (t : State). In t) s e reply ok c
     (record {
       reserves = λ q request d none is. h;
-      submits = λ d entry r none built its live. tail_moved d.q;
+      submits = λ d entry r none built its live. tail_moved d.q s.host.queues h;
       cancels = λ d r its. h;
       rings = λ q none. h;
       rests = λ q is. h;
       rejects = λ q why is. head_moved q;
       tells = λ q cid st what e r request t heard w. told q e heard.fits;
-      hears = λ q cid st what e r adm t heard w quiet. told q e heard.fits;
+      hears = λ q cid st what e r adm t heard w quiet unmade. told q e heard.fits;
       notes = λ q cid st what e r k t heard w. ring_left s.entries k _ (a.heard q e s).host.queues (λ queue. refl) (told q e heard.fits);
       frees = λ q cid st what e r k queue t heard w at retired good. ring_left s.entries k a.gone (a.heard q e s).host.queues (λ queue. refl) (told q e heard.fits);
+      makes_cq = λ q cid st what e r k size base t heard w good. ring_left s.entries k a.half_made (a.heard q e s).host.queues (λ queue. refl) (told q e heard.fits);
+      unmakes_cq = λ q cid st what e r k size base queue t heard w at bad. ring_left s.entries k a.gone (a.heard q e s).host.queues (λ queue. refl) (told q e heard.fits);
+      makes_sq = λ q cid st what e r k size base t heard w good. ring_left s.entries k a.live (a.heard q e s).host.queues (λ queue. refl) (told q e heard.fits);
+      unmakes_sq = λ q cid st what e r k size base queue t heard w at bad. ring_left s.entries k a.unmade_sq (a.heard q e s).host.queues (λ queue. refl) (told q e heard.fits);
       collects = λ q cid r f at held is. h;
       releases = λ f r its. h;
-      aborts = λ q cid id none new. tail_moved 0;
-      asks = λ q id queue none new live. ring_left s.entries q a.deleting (change 0 (λ queue. record queue { ring = next_tail s.entries queue.ring }) s.host.queues) (λ queue. refl) (tail_moved 0);
-      drops = λ q id none new. tail_moved 0;
+      aborts = λ q cid id none new. tail_moved 0 s.host.queues h;
+      asks = λ q id queue none new live. ring_left s.entries q a.deleting (change 0 (λ queue. record queue { ring = next_tail s.entries queue.ring }) s.host.queues) (λ queue. refl) (tail_moved 0 s.host.queues h);
+      drops = λ q id none new. tail_moved 0 s.host.queues h;
+      creates_cqs = λ q id first queue none new granted. tail_moved 0 (change q (a.making_cq (half_from Completion first s)) s.host.queues) (granted_fresh q (a.making_cq (half_from Completion first s)) (λ x. refl));
+      creates_sqs = λ q id first queue none new granted. tail_moved 0 (change q (a.making_sq (half_from Submission first s)) s.host.queues) (granted_fresh q (a.making_sq (half_from Submission first s)) (λ x. refl));
       retires = λ q queue none at deleted. ring_left s.entries q a.retired s.host.queues (λ queue. refl) h;
       forges = λ q slot bytes queue none at. h;
     })
   where
-    tail_moved : (q : ℕ) → AllByRecursion (λ queue. IsInRing s.entries queue.ring) (change q (λ queue. record queue { ring = next_tail s.entries queue.ring }) s.host.queues)
-    tail_moved q = ring_moved s.entries q (next_tail s.entries) s.host.queues (λ ring r. record { head = r.head; known_head = r.known_head; tail = next_below s.entries ring.tail r.tail }) h
+    tail_moved : (q : ℕ) (hs : List HostQueue) → AllByRecursion (λ queue. IsInRing s.entries queue.ring) hs → AllByRecursion (λ queue. IsInRing s.entries queue.ring) (change q (λ queue. record queue { ring = next_tail s.entries queue.ring }) hs)
+    tail_moved q hs h = ring_moved s.entries q (next_tail s.entries) hs (λ ring r. record { head = r.head; known_head = r.known_head; tail = next_below s.entries ring.tail r.tail }) h
+
+    -- rings as they open begin at slot 0, and a slot of the ring that was there is below its entries
+    granted_fresh : (q : ℕ) (f : HostQueue → HostQueue) → ((x : HostQueue) → (f x).ring ≡ fresh_host_ring) → AllByRecursion (λ queue. IsInRing s.entries queue.ring) (change q f s.host.queues)
+    granted_fresh q f fresh =
+        all_changed (λ queue. IsInRing s.entries queue.ring) q f s.host.queues
+        (λ x e r. let some : 0 < s.entries = omega (arith, r.tail) in subst (IsInRing s.entries) (sym (fresh x)) (record { head = some; known_head = some; tail = some })) h
 
     head_moved : (q : ℕ) → AllByRecursion (λ queue. IsInRing s.entries queue.ring) (change q (λ queue. record queue { ring = next_head s.entries queue.ring }) s.host.queues)
     head_moved q = ring_moved s.entries q (next_head s.entries) s.host.queues (λ ring r. record { head = next_below s.entries ring.head r.head; known_head = r.known_head; tail = r.tail }) h

@@ -7,7 +7,7 @@ use Rattle.machine_model.specs.State.{DeviceQueue, HostQueue}
 use Rattle.machine_model.specs.After.{change}
 use Rattle.machine_model.proofs.Totals.{total}
 use Rattle.machine_model.proofs.Served.{past_at}
-use Rattle.machine_model.specs.Refusals.{has_sq}
+use Rattle.machine_model.specs.Refusals.{in_service}
 
 abbrev pub list_at : {B : Type 0} → (DeviceQueue → List B) → List DeviceQueue → ℕ → List B
 list_at get qs q = option_map_or get (slice_get qs q) []
@@ -59,9 +59,9 @@ all_list P get zero f (x ∷ qs) (suc q) step all = all
 all_list P get (suc k) f (x ∷ qs) zero step all = all
 all_list P get (suc k) f (x ∷ qs) (suc q) step all = all_list P get k f qs q (λ at e. step at (ap suc e)) all
 
--- whether a queue of the host is retired
+-- whether a queue of the host is out of service
 
-pub past_same : (k : ℕ) (f : HostQueue → HostQueue) (hs : List HostQueue) (q : ℕ) → ((x : HostQueue) → slice_get hs k ≡ Some x → has_sq (f x).state ≡ has_sq x.state) → past_at (change k f hs) q ≡ past_at hs q
+pub past_same : (k : ℕ) (f : HostQueue → HostQueue) (hs : List HostQueue) (q : ℕ) → ((x : HostQueue) → slice_get hs k ≡ Some x → in_service (f x).state ≡ in_service x.state) → past_at (change k f hs) q ≡ past_at hs q
 past_same k f [] q same = refl
 past_same zero f (x ∷ hs) zero same = ap not (same x refl)
 past_same zero f (x ∷ hs) (suc q) same = refl
@@ -75,7 +75,7 @@ past_other zero f (x ∷ hs) (suc q) far = refl
 past_other (suc k) f (x ∷ hs) zero far = refl
 past_other (suc k) f (x ∷ hs) (suc q) far = past_other k f hs q (λ e. far (ap suc e))
 
-pub past_here : (k : ℕ) (f : HostQueue → HostQueue) (hs : List HostQueue) → ((x : HostQueue) → has_sq (f x).state ≡ false) → (x : HostQueue) → slice_get hs k ≡ Some x → past_at (change k f hs) k ≡ true
+pub past_here : (k : ℕ) (f : HostQueue → HostQueue) (hs : List HostQueue) → ((x : HostQueue) → in_service (f x).state ≡ false) → (x : HostQueue) → slice_get hs k ≡ Some x → past_at (change k f hs) k ≡ true
 past_here k f [] past x e = absurd cc
 past_here zero f (y ∷ hs) past x e = ap not (past y)
 past_here (suc k) f (y ∷ hs) past x e = past_here k f hs past x e

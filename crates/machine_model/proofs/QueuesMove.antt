@@ -14,15 +14,15 @@ use Rattle.machine_model.specs.Refusals.{job_at, fetch_slot}
 use Rattle.machine_model.specs.After as a
 use Rattle.machine_model.specs.After.{change}
 use Rattle.machine_model.specs.Events as events
-use Rattle.machine_model.specs.Events.{Event, Reply, Reaped}
-use Rattle.machine_model.proofs.Managed.{managed_by_case}
+use Rattle.machine_model.specs.Events.{Event, Reply}
+use Rattle.machine_model.proofs.Managed.{managed_by}
 use Rattle.machine_model.proofs.Steps.{Accepts}
 use Rattle.machine_model.proofs.Queues.{list_at, all_list}
 use Rattle.machine_model.proofs.Placements.{in_hand}
 use Rattle.machine_model.proofs.Served.{Stood}
 use Rattle.machine_model.proofs.CausedKept.{not_conflicting}
 use Rattle.machine_model.proofs.DeviceMoves.{answers, answer_of, finished, cleared, fetch_by, walk_by, complete_by}
-use Rattle.machine_model.proofs.Moves.{host_moves}
+use Rattle.machine_model.proofs.Moves.{host_moves, creates_cq, creates_sq}
 
 -- what holds of each in a list of queue n, and of what comes to it
 pub record QueueMove {B : Type 0} (get : DeviceQueue → List B) (Q : B → Type 0) (n : ℕ) (s : State) (e : Event) : Type 0 where
@@ -32,7 +32,9 @@ pub record QueueMove {B : Type 0} (get : DeviceQueue → List B) (Q : B → Type
   pub reaps : (at : DeviceQueue) → AllByRecursion Q (get at) → AllByRecursion Q (get (record at { answers = drop 1 at.answers }))
   pub fetches : (rung : ℕ) (at : DeviceQueue) → AllByRecursion Q (get at) → AllByRecursion Q (get (record at { unfetched = drop 1 at.unfetched; rung = rung }))
   pub stops : (at : DeviceQueue) → AllByRecursion Q (get at) → AllByRecursion Q (get (record at { state = Stopping }))
-  pub drops : (at : DeviceQueue) → AllByRecursion Q (get at) → AllByRecursion Q (get (record at { cq_there = false }))
+  pub drops : (at : DeviceQueue) → AllByRecursion Q (get at) → AllByRecursion Q (get (a.dropped at))
+  pub makes_completion : (at : DeviceQueue) → AllByRecursion Q (get at) → AllByRecursion Q (get (a.completion_made at))
+  pub makes_submission : (at : DeviceQueue) → AllByRecursion Q (get at) → AllByRecursion Q (get (a.submission_made at))
   pub clears : (at : DeviceQueue) → AllByRecursion Q (get at) → AllByRecursion Q (get (record at { state = Absent; unfetched = []; rung = 0 }))
   pub completes : (cid : ℕ) (j : Job) (head : ℕ) (at : DeviceQueue) → e ≡ events.Complete n cid → job_at s n cid ≡ Some j → AllByRecursion Q (get at)
       → AllByRecursion Q (get (record at { answers = at.answers ++ record { cid = cid; status = a.final_status s j; dw0 = j.dw0; sq_head = head } ∷ [] }))
@@ -42,15 +44,25 @@ queues_fetch : {B : Type 0} (get : DeviceQueue → List B) (Q : B → Type 0) (n
 queues_fetch get Q n s e move stood q h =
     fetch_by (λ (t : State). AllByRecursion Q (list_at get t.device.queues n)) s q h
     (λ x r con. absurd (true≢false (sym con ∙ ap (λ (o : Option SubEntry). option_map_or (λ e. is_some (job_at s q e.cid)) o false) r ∙ not_conflicting s stood q x (in_hand s q x r))))
-    (λ x r con z. managed_by_case (λ (t : State). AllByRecursion Q (list_at get t.device.queues n)) x (a.taken_off 0 s)
-    (off 0) (off 0) (λ is8. off 0) (λ is8. off 0) (off 0)
-    (λ is0 q0 runs. all_list Q get (named_queue x) (λ at. record at { state = Stopping }) (change 0 (λ at. record at { unfetched = drop 1 at.unfetched; rung = at.rung - 1 }) s.device.queues) n (λ at z all. move.stops at all) (off 0))
-    (off 0)
-    (λ not8 not0 gone. all_list Q get (named_queue x) (λ at. record at { cq_there = false }) (change 0 (λ at. record at { unfetched = drop 1 at.unfetched; rung = at.rung - 1 }) s.device.queues) n (λ at z all. move.drops at all) (off 0)))
+    (λ x r con z. managed_by (λ (t : State). AllByRecursion Q (list_at get t.device.queues n)) x (a.taken_off 0 s)
+    (record {
+      refuses = λ st bad. off 0;
+      aborts = λ is8 walks. off 0;
+      is_late = λ is8. off 0;
+      stops = λ is0 q0 runs. acts x (λ at. record at { state = Stopping }) move.stops;
+      drops = λ is4 q0 there gone. acts x a.dropped move.drops;
+      makes_completion = λ is5 q0 gone. acts x a.completion_made move.makes_completion;
+      makes_submission = λ is1 q0 gone there. acts x a.submission_made move.makes_submission;
+    }))
     (λ x r con other. off q)
   where
     off : (k : ℕ) → AllByRecursion Q (list_at get (change k (λ at. record at { unfetched = drop 1 at.unfetched; rung = at.rung - 1 }) s.device.queues) n)
     off k = all_list Q get k (λ at. record at { unfetched = drop 1 at.unfetched; rung = at.rung - 1 }) s.device.queues n (λ at z all. move.fetches (at.rung - 1) at all) h
+
+    -- what the entry's verdict does to the queue that it names
+    acts : (x : SubEntry) (f : DeviceQueue → DeviceQueue) → ((at : DeviceQueue) → AllByRecursion Q (get at) → AllByRecursion Q (get (f at)))
+        → AllByRecursion Q (list_at get (change (named_queue x) f (change 0 (λ at. record at { unfetched = drop 1 at.unfetched; rung = at.rung - 1 }) s.device.queues)) n)
+    acts x f each = all_list Q get (named_queue x) f (change 0 (λ at. record at { unfetched = drop 1 at.unfetched; rung = at.rung - 1 }) s.device.queues) n (λ at z all. each at all) (off 0)
 
 pub queues_walk : (s : State) (q cid : ℕ) → (a.after_walk q cid s).device.queues ≡ s.device.queues
 queues_walk s q cid = walk_by (λ (t : State). t.device.queues ≡ s.device.queues) s q cid refl (λ j act at u. refl)
@@ -85,14 +97,20 @@ queues_event get Q n s e reply move ok stood h =
       rests = λ q is move. h;
       rejects = λ q why is move. reaped q move;
       tells = λ q cid st what e r request t heard w move. reaped q move;
-      hears = λ q cid st what e r adm t heard w quiet move. reaped q move;
+      hears = λ q cid st what e r adm t heard w quiet unmade move. reaped q move;
       notes = λ q cid st what e r k t heard w move. reaped q move;
       frees = λ q cid st what e r k queue t heard w at retired good move. reaped q move;
+      makes_cq = λ q cid st what e r k size base t heard w good move. reaped q move;
+      unmakes_cq = λ q cid st what e r k size base queue t heard w at bad move. reaped q move;
+      makes_sq = λ q cid st what e r k size base t heard w good move. reaped q move;
+      unmakes_sq = λ q cid st what e r k size base queue t heard w at bad move. reaped q move;
       collects = λ q cid r f at held is move. h;
       releases = λ f r its move. h;
       aborts = λ q cid id none new move. sent (Abort q cid) id move;
       asks = λ q id queue none new live move. sent (DeleteSq q) id move;
       drops = λ q id none new move. sent (DeleteCq q) id move;
+      creates_cqs = λ q id first queue none new granted move. sent (creates_cq q first s) id move;
+      creates_sqs = λ q id first queue none new granted move. sent (creates_sq q first s) id move;
       retires = λ q queue none at deleted move. h;
       forges = λ q slot bytes queue none at move. h;
     }) move

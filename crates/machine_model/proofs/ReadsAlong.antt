@@ -166,7 +166,9 @@ submitted_reads s d events.Accepted x drafts at entry r request built found fits
       reaps = λ at all. dropped at.answers all;
       fetches = λ rung at all. all;
       stops = λ at all. all;
-      drops = λ at all. all;
+      drops = λ at all. tt;
+      makes_completion = λ at all. tt;
+      makes_submission = λ at all. tt;
       clears = λ at all. all;
       completes = λ cid j head at is found all. absurd (other is);
     }

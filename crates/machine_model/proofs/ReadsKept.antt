@@ -315,6 +315,8 @@ quiet_entries s e reply r request x k = record {
   fetches = λ rung at all. all_drop_one (UnreadEntry r k) at.unfetched all;
   stops = λ at all. all;
   drops = λ at all. all;
+  makes_completion = λ at all. all;
+  makes_submission = λ at all. tt;
   clears = λ at all. tt;
   completes = λ cid j head at is found all. all;
 }
@@ -334,7 +336,9 @@ quiet_answers s e reply r request x drafts at h sub = record {
   reaps = λ at all. all_drop_one (FullAnswer (a.after s e reply) r request h.k) at.answers all;
   fetches = λ rung at all. all;
   stops = λ at all. all;
-  drops = λ at all. all;
+  drops = λ at all. tt;
+  makes_completion = λ at all. tt;
+  makes_submission = λ at all. tt;
   clears = λ at all. all;
   completes = λ cid j head at' is found all.
       all_append (FullAnswer (a.after s e reply) r request h.k) at'.answers (record { cid = cid; status = a.final_status s j; dw0 = j.dw0; sq_head = head } ∷ []) all

@@ -1,6 +1,6 @@
 -- The walk of a Read brings it further.
-use Rattle.std.proofs.Common.{◌≡◌, ℕ, zero, suc, ◌+◌, ◌/◌, ◌%◌, ◌<◌, ◌≤◌, ◌==◌, Bool, true, false, ◌&&◌, Option, Some, None, List, [], ◌∷◌, length, take, drop, slice_get, slice_set, is_some, if◌then◌else◌, refl, ap, sym, ◌∙◌, arith, subst, eqb-true, eq-eqb, not}
-use Rattle.std.specs.Option.{option_map_or, option_and_then}
+use Rattle.std.proofs.Common.{◌≡◌, ℕ, zero, suc, ◌+◌, ◌/◌, ◌%◌, ◌<◌, ◌≤◌, ◌==◌, Bool, true, false, ◌&&◌, Option, Some, None, List, [], ◌∷◌, length, take, drop, slice_get, slice_set, if◌then◌else◌, refl, ap, sym, ◌∙◌, arith, subst, eqb-true, eq-eqb}
+use Rattle.std.specs.Option.{option_and_then}
 use Rattle.std.specs.List.{AllByRecursion}
 use Rattle.std.proofs.lemmas.Bool.{true≢false, and_parts, and_from, eqb-false}
 use Rattle.std.proofs.lemmas.Grind.{common_steps}
@@ -14,7 +14,6 @@ use Rattle.controller_walk.specs.Units.{Act, Stays, Reads, Moves, Course, Closes
 use Rattle.controller_walk.specs.Along.{MovesByte, taken}
 use Rattle.controller_walk.proofs.Along.{list_moves_along}
 use Rattle.controller_walk.proofs.All.{list_moves_all}
-use Rattle.admin_commands.specs.Verdicts.{is_absent}
 use Rattle.controller_walk.specs.declared.walk.WalkState.{WalkState}
 use Rattle.entry_codec.specs.declared.submission.SubEntry.{SubEntry}
 use Rattle.io_commands.specs.Asked.{Request}
@@ -24,8 +23,8 @@ use Rattle.io_commands.specs.Drafts.{DraftContents}
 use Rattle.io_commands.specs.Jobs.{need_of_entry, direction_of_entry}
 use Rattle.machine_model.specs.Memory.{memory_of}
 use Rattle.machine_model.specs.Commands.{Io}
-use Rattle.machine_model.specs.State.{State, HostQueue, DeviceQueue, Record, Phase, Drafted, Submitted, Held, Collected, Job, is_at}
-use Rattle.machine_model.specs.Refusals.{is_submitted, is_held, refusal_of, job_at, has_sq}
+use Rattle.machine_model.specs.State.{State, DeviceQueue, Record, Phase, Drafted, Submitted, Held, Collected, Job, is_at}
+use Rattle.machine_model.specs.Refusals.{is_submitted, is_held, refusal_of, job_at}
 use Rattle.machine_model.specs.Step.{unit_answered}
 use Rattle.machine_model.specs.Standing.{unfetched_at}
 use Rattle.machine_model.specs.After as a
@@ -36,12 +35,11 @@ use Rattle.machine_model.proofs.Counting.{one, times-append}
 use Rattle.machine_model.proofs.Totals.{total, here}
 use Rattle.machine_model.proofs.Steps.{Accepts}
 use Rattle.machine_model.proofs.Owned.{in_record}
-use Rattle.machine_model.proofs.Placed.{is_job, find_sound, gone_at}
-use Rattle.machine_model.proofs.Paired.{linked_from_tied}
-use Rattle.machine_model.proofs.Tied.{tied_from_fit}
+use Rattle.machine_model.proofs.Placed.{is_job, find_sound}
+use Rattle.machine_model.proofs.Paired.{on_queue}
 use Rattle.machine_model.proofs.Members.{In, in_found, all_in, all_at_found, sent}
 use Rattle.machine_model.proofs.Elsewhere.{owned_once, bytes_elsewhere}
-use Rattle.machine_model.proofs.Grounds.{Grounds, pair_at}
+use Rattle.machine_model.proofs.Grounds.{Grounds}
 use Rattle.machine_model.proofs.CommandsKept.{nobody}
 use Rattle.machine_model.proofs.Entered.{entry_direction, good_is}
 use Rattle.machine_model.proofs.Served.{Stood, past_at, unfetched_count, job_weight, course_in, course_whole}
@@ -58,7 +56,6 @@ use Rattle.machine_model.proofs.QueuesMove.{queues_walk}
 use Rattle.machine_model.proofs.Reading.{Images, read_targets, read_blocks, Reading, ReadingIf, UnreadEntry, FullAnswer, ReadSoFar, Member, sized_of, queue_of}
 use Rattle.machine_model.proofs.ReadsKept.{job_request}
 use Rattle.machine_model.proofs.DeviceMoves.{unit_memory, walk_is}
-use Rattle.machine_model.proofs.Halves.{sq_stays}
 
 -- What a walk writes
 
@@ -118,16 +115,16 @@ sent_few q cid (x ∷ rs) = omega (arith, sent_few q cid rs, each (x.q == q) (is
     each false b c = omega arith
 
 job_not_past : (s : State) → Grounds s → (q cid : ℕ) (j : Job) → job_at s q cid ≡ Some j → past_at s.host.queues q ≡ false
-job_not_past s g q cid j found = go (slice_get s.host.queues q) refl
+job_not_past s g q cid j found = g.fit.service q (omega (arith, ap one (find_sound (is_job q cid) s.device.jobs j found), in_found (is_job q cid) s.device.jobs j found (λ k. one (is_job q cid k)), each s.device.jobs))
   where
-    there : gone_at s.device.queues q ≡ false
-    there = (linked_from_tied s g.rings (tied_from_fit s g.fit)).jobs_have_queues q cid (ap is_some found)
-
-    go : (o : Option HostQueue) → slice_get s.host.queues q ≡ o → option_map_or (λ h. not (has_sq h.state)) o false ≡ false
-    go None o = refl
-    go (Some queue) o =
-        let pair = pair_at s g q queue o in
-        ap not (sq_stays queue.state (λ over. true≢false (sym (pair.2.over over) ∙ sym (ap (λ (o : Option DeviceQueue). option_map_or (λ at. is_absent at.state) o true) pair.1) ∙ there)))
+    each : (js : List Job) → total (λ k. one (is_job q cid k)) js ≤ total (on_queue q) js
+    each [] = omega arith
+    each (k ∷ js) = omega (arith, each js, both (k.q == q) (k.entry.cid == cid))
+      where
+        both : (x y : Bool) → one (x && y) ≤ one x
+        both true true = omega arith
+        both true false = omega arith
+        both false y = omega arith
 
 no_entry : (s : State) → Stood s → (q cid : ℕ) (j : Job) → job_at s q cid ≡ Some j → (P : SubEntry → Type 0) → AllByRecursion (λ (e : SubEntry). e.cid ≡ cid → P e) (unfetched_at s.device.queues q)
 no_entry s stood q cid j found P =

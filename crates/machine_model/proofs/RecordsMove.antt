@@ -16,12 +16,12 @@ use Rattle.machine_model.specs.Refusals.{is_submitted, is_drafted, is_of}
 use Rattle.machine_model.specs.Step.{IsController, HostPart, reaped}
 use Rattle.machine_model.specs.After as a
 use Rattle.machine_model.specs.Events as events
-use Rattle.machine_model.specs.Events.{Event, Reply, Reaped, Refusal}
+use Rattle.machine_model.specs.Events.{Event, Reply}
 use Rattle.machine_model.proofs.Steps.{Accepts, part_controller}
 pub use Rattle.machine_model.proofs.Out.{named, status_in}
 use Rattle.machine_model.proofs.Members.{In, all_in, all_map, all_filter, all_append, all_with}
 use Rattle.machine_model.proofs.Grounds.{Grounds}
-use Rattle.machine_model.proofs.Moves.{host_moves, drafted_record, sent_record}
+use Rattle.machine_model.proofs.Moves.{host_moves, drafted_record, sent_record, creates_cq, creates_sq}
 
 -- the record that a collect takes
 abbrev pub takes : Event → Record → Bool
@@ -87,14 +87,20 @@ records_event P Q s e reply move ok g h = by (IsController e) refl
           tells = λ q cid st what e r request t heard w move.
               all_with (Both P Q) Q q cid (a.held st) s.host.records r heard.found (g.stands.0.once q cid) (λ x far p. p.1)
               (λ p. move.reaps q cid st request r refl (ap named (sym t.is) ∙ t.names) (ap status_in (sym t.is) ∙ t.status) heard.found w p.0) (both (events.Reap q) move (λ r. refl));
-          hears = λ q cid st what e r adm t heard w quiet move. without (events.Reap q) q cid move (λ r. refl);
+          hears = λ q cid st what e r adm t heard w quiet unmade move. without (events.Reap q) q cid move (λ r. refl);
           notes = λ q cid st what e r k t heard w move. without (events.Reap q) q cid move (λ r. refl);
           frees = λ q cid st what e r k queue t heard w at retired good move. without (events.Reap q) q cid move (λ r. refl);
+          makes_cq = λ q cid st what e r k size base t heard w good move. without (events.Reap q) q cid move (λ r. refl);
+          unmakes_cq = λ q cid st what e r k size base queue t heard w at bad move. without (events.Reap q) q cid move (λ r. refl);
+          makes_sq = λ q cid st what e r k size base t heard w good move. without (events.Reap q) q cid move (λ r. refl);
+          unmakes_sq = λ q cid st what e r k size base queue t heard w at bad move. without (events.Reap q) q cid move (λ r. refl);
           collects = λ q cid r f at held is move. all_with (Inside s P) Q q cid a.collected s.host.records r at (g.stands.0.once q cid) (λ x far p. move.stays x p.0 far p.1) (λ p. move.collects r p.1) inside;
           releases = λ f r its move. without (events.Release f) f.q f.cid move (λ r. refl);
           aborts = λ q cid id none new move. began (events.Abort q cid) (sent_record (Abort q cid) id) move (λ r. refl) (move.sends (Abort q cid) id);
           asks = λ q id queue none new live move. began (events.DeleteSq q) (sent_record (DeleteSq q) id) move (λ r. refl) (move.sends (DeleteSq q) id);
           drops = λ q id none new move. began (events.DeleteCq q) (sent_record (DeleteCq q) id) move (λ r. refl) (move.sends (DeleteCq q) id);
+          creates_cqs = λ q id first queue none new granted move. began (events.CreateCq q) (sent_record (creates_cq q first s) id) move (λ r. refl) (move.sends (creates_cq q first s) id);
+          creates_sqs = λ q id first queue none new granted move. began (events.CreateSq q) (sent_record (creates_sq q first s) id) move (λ r. refl) (move.sends (creates_sq q first s) id);
           retires = λ q queue none at deleted move. all_map (Inside s P) Q (a.lost q) s.host.records (λ r p. one_lost q move r ((r.q == q) && is_submitted r.phase) refl p) inside;
           forges = λ q slot bytes queue none at move. still (events.Forge q slot bytes) move (λ r. refl);
         }) move

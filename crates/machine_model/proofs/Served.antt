@@ -45,7 +45,7 @@ use Rattle.machine_model.proofs.Reaching.{list_in}
 use Rattle.machine_model.proofs.Ending.{lists_end, bytes_there}
 use Rattle.machine_model.proofs.JoinedParts.{joined_lie, joined_there}
 use Rattle.machine_model.proofs.Entered.{good_is, entry_direction, entry_need, parts_count, parts_lie, parts_there}
-pub use Rattle.machine_model.specs.Agreeing.{is_given_back_at as past_at, answers_at, unfetched_count, job_weight, CommandsStandOnce as Places, CommandsStand as Commands}
+pub use Rattle.machine_model.specs.Agreeing.{is_out_of_service_at as past_at, answers_at, unfetched_count, job_weight, CommandsStandOnce as Places, CommandsStand as Commands}
 
 -- The invariant
 

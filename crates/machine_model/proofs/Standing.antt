@@ -4,7 +4,7 @@ use Rattle.std.proofs.lemmas.Bool.{true≢false, and_parts, or_parts}
 use Rattle.admin_commands.specs.Entries.{admin_entry}
 use Rattle.entry_codec.specs.declared.completion.ComEntry.{ComEntry}
 use Rattle.entry_codec.specs.declared.submission.SubEntry.{SubEntry}
-use Rattle.admin_commands.specs.declared.AdminKind.TheVariants.{Abort, DeleteSq, DeleteCq}
+use Rattle.admin_commands.specs.declared.AdminKind.TheVariants.{Abort, DeleteSq, DeleteCq, CreateCq, CreateSq}
 use Rattle.admin_commands.specs.declared.AdminKind.{AdminKind}
 use Rattle.io_commands.specs.Asked.{Request}
 use Rattle.entry_codec.specs.declared.status.TheConstants.Status.{ABORTED_SQ_DELETION}
@@ -26,11 +26,11 @@ use Rattle.machine_model.specs.Events.{Event, Reply, Refusal, Reaped}
 use Rattle.machine_model.proofs.Counting.{one}
 use Rattle.machine_model.proofs.Totals.{total, total-append, total-map, here}
 use Rattle.machine_model.proofs.Owned.{HoldsPart}
-use Rattle.machine_model.proofs.Placed.{Placed, Knows, find_more, find_map, find_filter, find_sound, is_job, placed_records, placed_sent, placed_reaped, placed_queues}
-use Rattle.machine_model.proofs.Placing.{PlacedIn, waiting, answering, placed_other, placed_change, waiting_same, answering_same, loses_same, ne_zero, placed_fetch, placed_walk, placed_complete}
+use Rattle.machine_model.proofs.Placed.{Placed, Knows, find_more, find_map, find_filter, find_sound, is_job, placed_records, placed_sent, placed_reaped}
+use Rattle.machine_model.proofs.Placing.{PlacedIn, waiting, answering, placed_other, placed_change, waiting_same, answering_same, ne_zero, placed_fetch, placed_walk, placed_complete}
 pub use Rattle.machine_model.proofs.Out.{named}
 pub use Rattle.machine_model.proofs.Moves.{seen_trusted}
-use Rattle.machine_model.proofs.Moves.{host_moves, posts, sends, sent_record, drafted_record, heard_without, IsHeard, answer_heard}
+use Rattle.machine_model.proofs.Moves.{host_moves, posts, sends, sent_record, drafted_record, heard_without, creates_cq, creates_sq, grants_cq, grants_sq, IsHeard, answer_heard}
 
 abbrev pub Stands : State → Type 0
 Stands s = PlacedIn s.host.records s.device
@@ -38,7 +38,7 @@ Stands s = PlacedIn s.host.records s.device
 -- Records that change
 
 records_change : (rs rs' : List Record) (d : Device) → ((c : ℕ) → total (here 0 c) rs ≤ total (here 0 c) rs') → ((c : ℕ) (adm : AdminKind) → Knows rs c adm → Knows rs' c adm) → PlacedIn rs d → PlacedIn rs' d
-records_change rs rs' d more tells h = record { placed = placed_records rs rs' (waiting d.queues) d.jobs (answering d.queues) d.queues more tells h.placed }
+records_change rs rs' d more tells h = record { placed = placed_records rs rs' (waiting d.queues) d.jobs (answering d.queues) more tells h.placed }
 
 records_more : (rs : List Record) (new : Record) (d : Device) → PlacedIn rs d → PlacedIn (rs ++ new ∷ []) d
 records_more rs new d h = records_change rs (rs ++ new ∷ []) d (λ c. omega (arith, total-append (here 0 c) rs (new ∷ []))) (λ c adm k. (k.0, find_more (is_at 0 c) rs new k.0 k.1, k.2)) h
@@ -82,7 +82,7 @@ records_less rs q cid d other h =
 -- Posting
 
 stands_posted_other : (q : ℕ) (entry : SubEntry) (s : State) → (q == 0) ≡ false → Stands s → Stands (posts q entry s)
-stands_posted_other q entry s other h = placed_other s.host.records s.device q (λ at. record at { unfetched = at.unfetched ++ entry ∷ [] }) other ((λ at. refl), (λ at. refl)) h
+stands_posted_other q entry s other h = placed_other s.host.records s.device q (λ at. record at { unfetched = at.unfetched ++ entry ∷ [] }) other h
 
 stands_sent : (adm : AdminKind) (id : ℕ) (s : State) → total (here 0 id) s.host.records ≡ 0 → Stands s → Stands (sends adm id s)
 stands_sent adm id s unused h = record { placed = go s.device.queues h.placed }
@@ -93,13 +93,10 @@ stands_sent adm id s unused h = record { placed = go s.device.queues h.placed }
     more : DeviceQueue → DeviceQueue
     more at = record at { unfetched = at.unfetched ++ admin_entry adm id ∷ [] }
 
-    go : (ds : List DeviceQueue) → Placed s.host.records (waiting ds) s.device.jobs (answering ds) ds
-        → Placed (s.host.records ++ new ∷ []) (waiting (change 0 more ds)) s.device.jobs (answering (change 0 more ds)) (change 0 more ds)
-    go [] p = placed_records s.host.records (s.host.records ++ new ∷ []) [] s.device.jobs [] [] (λ c. omega (arith, total-append (here 0 c) s.host.records (new ∷ [])))
+    go : (ds : List DeviceQueue) → Placed s.host.records (waiting ds) s.device.jobs (answering ds) → Placed (s.host.records ++ new ∷ []) (waiting (change 0 more ds)) s.device.jobs (answering (change 0 more ds))
+    go [] p = placed_records s.host.records (s.host.records ++ new ∷ []) [] s.device.jobs [] (λ c. omega (arith, total-append (here 0 c) s.host.records (new ∷ [])))
         (λ c adm k. (k.0, find_more (is_at 0 c) s.host.records new k.0 k.1, k.2)) p
-    go (at ∷ ds) p =
-        placed_queues (s.host.records ++ new ∷ []) (at.unfetched ++ admin_entry adm id ∷ []) s.device.jobs at.answers (at ∷ ds) (change 0 more (at ∷ ds)) (loses_same more ((λ at. refl), (λ at. refl)) 0 (at ∷ ds))
-        (placed_sent s.host.records at.unfetched s.device.jobs at.answers (at ∷ ds) adm id new unused (rw (eq-eqb id id refl) refl) refl p)
+    go (at ∷ ds) p = placed_sent s.host.records at.unfetched s.device.jobs at.answers adm id new unused (rw (eq-eqb id id refl) refl) refl p
 
 -- Reaping
 
@@ -113,23 +110,19 @@ answering_rest (at ∷ ds) an h = go at.answers h
     go (x ∷ ans) h = let same : x ≡ an = cc in ap (λ y. y ∷ ans) same
 
 answering_less : (rs : List Record) (d : Device) → PlacedIn rs d → PlacedIn rs (record d { queues = change 0 (λ at. record at { answers = drop 1 at.answers }) d.queues })
-answering_less rs d h =
-    let less : DeviceQueue → DeviceQueue = λ at. record at { answers = drop 1 at.answers } in
-    let ds = d.queues in
-    let wide = placed_queues rs (waiting ds) d.jobs (answering ds) ds (change 0 less ds) (loses_same less ((λ at. refl), (λ at. refl)) 0 ds) h.placed in
-    record { placed = rw (waiting_same less (λ at. refl) 0 ds) (shorter ds wide) }
+answering_less rs d h = record { placed = shorter d.queues h.placed }
   where
-    shorter : (ds : List DeviceQueue) → Placed rs (waiting ds) d.jobs (answering ds) (change 0 (λ at. record at { answers = drop 1 at.answers }) ds)
-        → Placed rs (waiting ds) d.jobs (answering (change 0 (λ at. record at { answers = drop 1 at.answers }) ds)) (change 0 (λ at. record at { answers = drop 1 at.answers }) ds)
+    cut : (un : List SubEntry) (ans : List Answer) → Placed rs un d.jobs ans → Placed rs un d.jobs (drop 1 ans)
+    cut un [] p = p
+    cut un (x ∷ ans) p = record { places = λ c. omega (arith, p.places c); entries = p.entries; jobs = p.jobs; answers = p.answers.1 }
+
+    shorter : (ds : List DeviceQueue) → Placed rs (waiting ds) d.jobs (answering ds)
+        → Placed rs (waiting (change 0 (λ at. record at { answers = drop 1 at.answers }) ds)) d.jobs (answering (change 0 (λ at. record at { answers = drop 1 at.answers }) ds))
     shorter [] p = p
-    shorter (at ∷ ds) p = cut at.answers p
-      where
-        cut : (ans : List Answer) → Placed rs at.unfetched d.jobs ans (change 0 (λ at. record at { answers = drop 1 at.answers }) (at ∷ ds)) → Placed rs at.unfetched d.jobs (drop 1 ans) (change 0 (λ at. record at { answers = drop 1 at.answers }) (at ∷ ds))
-        cut [] p = p
-        cut (x ∷ ans) p = record { places = λ c. omega (arith, p.places c); entries = p.entries; jobs = p.jobs; answers = p.answers.1 }
+    shorter (at ∷ ds) p = cut at.unfetched at.answers p
 
 stands_consumed_other : (q : ℕ) (s : State) → (q == 0) ≡ false → Stands s → Stands (a.consumed q s)
-stands_consumed_other q s other h = placed_other s.host.records s.device q (λ at. record at { answers = drop 1 at.answers }) other ((λ at. refl), (λ at. refl)) h
+stands_consumed_other q s other h = placed_other s.host.records s.device q (λ at. record at { answers = drop 1 at.answers }) other h
 
 stands_consumed : (q : ℕ) (s : State) → Stands s → Stands (a.consumed q s)
 stands_consumed zero s h = answering_less s.host.records s.device h
@@ -138,18 +131,15 @@ stands_consumed (suc k) s h = stands_consumed_other (suc k) s (ne_zero k) h
 -- the oldest answer of queue 0 goes with its record
 stands_reaped : (cid : ℕ) (an : Answer) (s : State) → option_and_then (λ queue. first_answer queue.answers) (device_queue s 0) ≡ Some an → an.cid ≡ cid → total (here 0 cid) s.host.records < 2 → Stands s
     → PlacedIn (without_record 0 cid s.host.records) (record s.device { queues = change 0 (λ at. record at { answers = drop 1 at.answers }) s.device.queues })
-stands_reaped cid an s first is once h = record {
-  placed = rw (waiting_same (λ at. record at { answers = drop 1 at.answers }) (λ at. refl) 0 s.device.queues)
-      (placed_queues _ _ _ _ s.device.queues less (loses_same (λ at. record at { answers = drop 1 at.answers }) ((λ at. refl), (λ at. refl)) 0 s.device.queues) reaped');
-}
+stands_reaped cid an s first is once h = record { placed = rw (waiting_same (λ at. record at { answers = drop 1 at.answers }) (λ at. refl) 0 s.device.queues) reaped' }
   where
-    less : List DeviceQueue
-    less = change 0 (λ at. record at { answers = drop 1 at.answers }) s.device.queues
+    rest : List Answer
+    rest = answering (change 0 (λ at. record at { answers = drop 1 at.answers }) s.device.queues)
 
-    reaped' : Placed (without_record 0 cid s.host.records) (waiting s.device.queues) s.device.jobs (answering (change 0 (λ at. record at { answers = drop 1 at.answers }) s.device.queues)) s.device.queues
-    reaped' = subst (λ (c : ℕ). total (here 0 c) s.host.records < 2 → Placed (without_record 0 c s.host.records) (waiting s.device.queues) s.device.jobs (answering less) s.device.queues) is
-        (λ once. placed_reaped s.host.records (waiting s.device.queues) s.device.jobs an (answering less) s.device.queues once
-        (subst (λ ans. Placed s.host.records (waiting s.device.queues) s.device.jobs ans s.device.queues) (answering_rest s.device.queues an first) h.placed)) once
+    reaped' : Placed (without_record 0 cid s.host.records) (waiting s.device.queues) s.device.jobs (answering (change 0 (λ at. record at { answers = drop 1 at.answers }) s.device.queues))
+    reaped' = subst (λ (c : ℕ). total (here 0 c) s.host.records < 2 → Placed (without_record 0 c s.host.records) (waiting s.device.queues) s.device.jobs rest) is
+        (λ once. placed_reaped s.host.records (waiting s.device.queues) s.device.jobs an rest once
+        (subst (λ ans. Placed s.host.records (waiting s.device.queues) s.device.jobs ans) (answering_rest s.device.queues an first) h.placed)) once
 
 -- Every event
 
@@ -179,19 +169,24 @@ stands_host s e reply ok c t h =
           (records_with s.host.records d.q d.cid a.submitted s.device (λ r. refl) (λ r. refl) (λ r. refl) h.1);
       cancels = λ d r its. records_less s.host.records d.q d.cid s.device (io_other s d.q d.cid r its.asked.0 h.0 its.found its.asked.1) h.1;
       rings = λ q none.
-          placed_change s.host.records s.device q (λ at. record at { rung = length at.unfetched }) (waiting_same _ (λ at. refl) q s.device.queues) (answering_same _ (λ at. refl) q s.device.queues)
-          (loses_same (λ at. record at { rung = length at.unfetched }) ((λ at. refl), (λ at. refl)) q s.device.queues) h.1;
+          placed_change s.host.records s.device q (λ at. record at { rung = length at.unfetched }) (waiting_same _ (λ at. refl) q s.device.queues) (answering_same _ (λ at. refl) q s.device.queues) h.1;
       rests = λ q is. h.1;
       rejects = λ q why is. stands_consumed q s h.1;
       tells = λ q cid st what e r request told heard w. records_with s.host.records q cid (a.held st) (a.consumed q s).device (λ r. refl) (λ r. refl) (λ r. refl) (stands_consumed q s h.1);
-      hears = λ q cid st what e r adm told heard w quiet. gone q cid st e r adm heard w;
+      hears = λ q cid st what e r adm told heard w quiet unmade. gone q cid st e r adm heard w;
       notes = λ q cid st what e r k told heard w. gone q cid st e r (DeleteSq k) heard w;
-      frees = λ q cid st what e r k queue told heard w at retired good. gone q cid st e r (DeleteCq k) heard w;
+      frees = λ q cid st what e r k queue told heard w at alone good. gone q cid st e r (DeleteCq k) heard w;
+      makes_cq = λ q cid st what e r k n base told heard w good. gone q cid st e r (CreateCq k n base) heard w;
+      unmakes_cq = λ q cid st what e r k n base queue told heard w at bad. gone q cid st e r (CreateCq k n base) heard w;
+      makes_sq = λ q cid st what e r k n base told heard w good. gone q cid st e r (CreateSq k n base) heard w;
+      unmakes_sq = λ q cid st what e r k n base queue told heard w at bad. gone q cid st e r (CreateSq k n base) heard w;
       collects = λ q cid r f at held is. records_with s.host.records q cid a.collected s.device (λ r. refl) (λ r. refl) (λ r. refl) h.1;
       releases = λ f r its. records_less s.host.records f.q f.cid s.device (io_other s f.q f.cid r its.asked.0 h.0 its.found its.asked.1) h.1;
       aborts = λ q cid id none new. stands_sent (Abort q cid) id s (unused s 0 id new) h.1;
       asks = λ q id queue none new live. stands_sent (DeleteSq q) id s (unused s 0 id new) h.1;
       drops = λ q id none new. stands_sent (DeleteCq q) id s (unused s 0 id new) h.1;
+      creates_cqs = λ q id first queue none new granted. stands_sent (creates_cq q first s) id (grants_cq q first s) (unused s 0 id new) (record { placed = h.1.placed });
+      creates_sqs = λ q id first queue none new granted. stands_sent (creates_sq q first s) id (grants_sq q first s) (unused s 0 id new) (record { placed = h.1.placed });
       retires = λ q queue none at deleted.
           records_map s.host.records (a.lost q) s.device
           (λ r. (elim ((r.q == q) && is_submitted r.phase) as (λ b. (if b then record r { phase = Held; status = Some ABORTED_SQ_DELETION } else r).q ≡ r.q) [ true ↦ refl | false ↦ refl ]))

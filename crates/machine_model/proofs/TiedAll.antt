@@ -1,117 +1,170 @@
--- Every trusted run keeps the tie, so its fetches and completions touch only what is allowed.
-use Rattle.std.proofs.Common.{◌≡◌, ℕ, zero, suc, ◌+◌, ◌<◌, true, false, Some, List, [], ◌∷◌, ◌++◌, length, map, replicate, is_some, refl, ap, sym, ◌∙◌, arith, subst}
-use Rattle.std.proofs.lemmas.Bool.{true≢false}
-use Rattle.admin_commands.specs.Entries.{admin_entry}
-use Rattle.admin_commands.specs.declared.AdminKind.TheVariants.{Abort, DeleteSq, DeleteCq}
-use Rattle.machine_model.specs.Memory.{with_pages}
-use Rattle.machine_model.specs.Commands.{Management}
-use Rattle.machine_model.specs.State.{State, HostQueue, HostState, Live, Deleting, Retired, Gone, Record, record_at, with_record, without_record}
-use Rattle.machine_model.specs.Refusals.{is_retired, has_sq}
+-- Every event keeps the tie of both sides and the tokens, so it fetches and completes in what is allowed only.
+use Rattle.std.proofs.Common.{◌≡◌, ℕ, zero, suc, ◌+◌, ◌<◌, ◌≤◌, ◌==◌, Bool, true, false, not, ◌||◌, Option, Some, None, List, [], ◌∷◌, length, replicate, slice_get, is_some, is_none, if◌then◌else◌, eqb-true, refl, ap, sym, ◌∙◌, arith, subst}
+use Rattle.std.specs.Option.{option_map_or}
+use Rattle.std.proofs.lemmas.Bool.{true≢false, and_parts, or_parts}
+use Rattle.page_memory.specs.declared.page.Half.TheVariants.{Submission, Completion}
+use Rattle.entry_codec.specs.declared.completion.ComEntry.{ComEntry}
+use Rattle.io_commands.specs.Jobs.{is_success}
+use Rattle.queue_pair.specs.Memory.{half_pages}
+use Rattle.queue_pair.specs.Rings.{next_tail, next_head, knowing}
+use Rattle.machine_model.specs.Claims.{AdminLives}
+use Rattle.machine_model.specs.State.{State, HostQueue, HostState, Live, Deleting, DeviceQueue, Job}
+use Rattle.machine_model.specs.Refusals.{is_live, is_gone, job_at, refusal_of}
 use Rattle.machine_model.specs.Step.{HostPart, host_part, IsController}
 use Rattle.machine_model.specs.After as a
 use Rattle.machine_model.specs.After.{change}
 use Rattle.machine_model.specs.Events as events
-use Rattle.machine_model.specs.Events.{Event, Reply, Refusal}
+use Rattle.machine_model.specs.Events.{Event, Reply}
 use Rattle.machine_model.specs.Opening.{Opens, opening, queues_from, device_queue as opened}
-use Rattle.machine_model.proofs.Totals.{total, total-append, total_without}
-use Rattle.machine_model.proofs.Steps.{Accepts, part_controller}
-use Rattle.machine_model.proofs.Paired.{Paired, is_over}
-use Rattle.machine_model.proofs.Standing.{StandsSound}
-use Rattle.machine_model.specs.Refusals.{is_asked}
-use Rattle.machine_model.proofs.Asked.{asks, with_same, lost_same, ring_some, opened_quiet}
-use Rattle.machine_model.proofs.Tying.{fit_gone, fit_noted, fit_device, fit_ask, fit_retired}
-use Rattle.machine_model.proofs.Tied.{FitP, FitS, fit-fetch, fit-walk, fit-complete}
-use Rattle.machine_model.proofs.TiedHost.{records_same}
+use Rattle.machine_model.specs.Agreeing.{TokensGoRound, is_known_deleted, is_live_at, waiting, answering}
 use Rattle.machine_model.proofs.Counting.{one}
+use Rattle.machine_model.proofs.Totals.{total}
+use Rattle.machine_model.proofs.Steps.{Accepts, part_controller}
+use Rattle.machine_model.proofs.Owned.{HoldsPart}
+use Rattle.machine_model.proofs.Placed.{gone_at, there_at, is_job, find_sound}
+use Rattle.machine_model.proofs.Paired.{Paired}
+use Rattle.machine_model.proofs.Standing.{StandsSound, stands_event}
+use Rattle.machine_model.proofs.Asked.{asks, asked_event, asked_at, opened_quiet}
+use Rattle.machine_model.proofs.AwaitedKept.{submissions_awaited}
+use Rattle.machine_model.proofs.Awaited.{awaited_at}
+use Rattle.machine_model.proofs.Tying.{tie_of, length-change}
+use Rattle.machine_model.proofs.Tied.{FitP, FitS, TieP, below, deleted_is_gone, tie_fetch, tie_walk, tie_complete}
+use Rattle.machine_model.proofs.TiedHost.{TieS, Ground, tie_host_event}
+use Rattle.machine_model.proofs.TokensKept.{tokens_of, tokens_to}
+use Rattle.machine_model.proofs.TokensDevice.{KnowingP, TokensP, tokens_fetch, tokens_walk, tokens_complete}
+use Rattle.machine_model.proofs.TokensAll.{TokensS, tokens_host_event}
+use Rattle.machine_model.proofs.Moves.{host_moves, half_from, grants_cq, grants_sq}
 use Rattle.machine_model.proofs.Opening.{in_limits, limits_say, length-range}
 use Rattle.machine_model.proofs.Trusted.{both_on}
-use Rattle.queue_pair.specs.Rings.{next_tail}
-use Rattle.queue_pair.specs.Memory.{half_pages}
-use Rattle.page_memory.specs.declared.page.Half.TheVariants.{Submission, Completion}
-use Rattle.machine_model.proofs.Moves.{host_moves, drafted_record, sent_record, sends, heard_without}
-use Rattle.machine_model.proofs.Asked.{still_live, ring_some, lost_same, with_same, asks, asks_work}
-use Rattle.machine_model.proofs.TiedHost.{records_same, fit-posts, fit-consumed, fit-heard, below, asked_some, small}
-use Rattle.machine_model.proofs.TiedReap.{settled_by}
-use Rattle.admin_commands.specs.declared.AdminKind.{AdminKind}
-use Rattle.entry_codec.specs.declared.completion.ComEntry.{ComEntry}
-use Rattle.io_commands.specs.Jobs.{is_success}
-use Rattle.machine_model.proofs.Placed.{there_at, gone_at}
+use Rattle.machine_model.proofs.Refused.{unrefused}
 
-fit-controller : (s : State) (e : Event) (reply : Reply) → IsController e ≡ true → FitP (host_part s) (a.after s e reply).device → FitS (a.after s e reply)
-fit-controller s e reply c h = subst (λ (part : HostPart). FitP part (a.after s e reply).device) (sym (part_controller s e reply c)) h
+-- What the tokens say of a live queue
 
-fit_host : (s : State) (e : Event) (reply : Reply) → Accepts s e reply → IsController e ≡ false → s.trusted ≡ true → StandsSound s → FitS s → FitS (a.after s e reply)
-fit_host s e reply ok c t h f =
-    host_moves (λ (e : Event) (reply : Reply) (t : State). FitS t) s e reply ok c
+pub live_is_there : (s : State) → FitS s → (q : ℕ) (x : HostQueue) → slice_get s.host.queues q ≡ Some x → is_live x.state ≡ true → gone_at s.device.queues q ≡ false
+live_is_there s h q x e live =
+    let known : is_live_at s.host.queues q ≡ true = ap (λ (o : Option HostQueue). option_map_or (λ h. is_live h.state) o false) e ∙ live in
+    h.tokens.there q (below s.host.queues q (ap is_some e)) (omega (arith, ap one known))
+
+ground : (s : State) → s.trusted ≡ true → AdminLives s.host.queues → HoldsPart (host_part s) → FitS s → Ground s
+ground s t zero' holds h = record { trusted = t; holds = holds; zero_live = zero'; live = live_is_there s h; over = deleted_is_gone s h }
+
+same_length : (n : ℕ) (hs : List HostQueue) (ds : List DeviceQueue) → Paired n hs ds → length ds ≡ length hs
+same_length n [] [] p = refl
+same_length n [] (d ∷ ds) p = absurd p
+same_length n (x ∷ hs) [] p = absurd p
+same_length n (x ∷ hs) (d ∷ ds) p = ap suc (same_length n hs ds p.1)
+
+known : (s : State) → StandsSound s → FitS s → KnowingP s.host.records s.host.queues s.device
+known s h f = record {
+  placed = h.1.placed;
+  once = h.0.once;
+  few = f.few;
+  long = same_length s.entries s.host.queues s.device.queues f.pairs;
+  asked = f.asked;
+  making = submissions_awaited s.host h.0.creations;
+}
+
+-- Each event
+
+pub whole : (s : State) → 0 < s.entries → length s.host.queues ≤ 65536 → ((q : ℕ) → total (asks q) s.host.records ≡ one (asked_at s.host.queues q)) → TieS s → TokensS s → FitS s
+whole s pos few asked tie held = record {
+  some_entries = pos;
+  few = few;
+  asked = asked;
+  pairs = tie.pairs;
+  jobs = tie.jobs;
+  service = tie.service;
+  tokens = tokens_to s.host.records s.host.queues s.device.queues s.device.jobs held;
+}
+
+-- how many queues and entries there are stays
+limits_stay : (s : State) (e : Event) (reply : Reply) → Accepts s e reply → IsController e ≡ false → (0 < s.entries) × (length s.host.queues ≤ 65536) → (0 < (a.after s e reply).entries) × (length (a.after s e reply).host.queues ≤ 65536)
+limits_stay s e reply ok c h =
+    host_moves (λ (e : Event) (reply : Reply) (t : State). (0 < t.entries) × (length t.host.queues ≤ 65536)) s e reply ok c
     (record {
-      reserves = λ q request d none is. began (drafted_record d) (λ z. refl);
-      submits = λ d entry r none built its live.
-          fit-posts d.q entry (a.on_records (with_record d.q d.cid a.submitted) (a.on_memory (with_pages (d.data_pages ++ d.chain_pages)) s))
-          (records_same s (with_record d.q d.cid a.submitted s.host.records) (with_same d.q d.cid a.submitted (λ r. refl) s.host.records) f);
-      cancels = λ d r its. records_same s (without_record d.q d.cid s.host.records) (less d.q d.cid r its.found (λ z. ap (asks_work z) its.asked.1)) f;
-      rings = λ q none. fit_device s.entries s.host.records s.host.queues s.device.queues s.device.jobs q (λ at. record at { rung = length at.unfetched }) (λ d. refl) (λ d. refl) f;
-      rests = λ q is. f;
-      rejects = λ q why is. fit-consumed q s f;
-      tells = λ q cid st what e r request told heard w. records_same (a.heard q e s) (with_record q cid (a.held st) s.host.records) (with_same q cid (a.held st) (λ r'. refl) s.host.records) (fit-heard q e s f);
-      hears = λ q cid st what e r adm told heard w quiet. ended q cid e r heard.found (λ z. ap (asks_work z) w ∙ ap one (quiet z));
-      notes = λ q cid st what e r k told heard w.
-          let u = a.heard q e s in
-          fit_noted s.entries s.host.records u.host.queues u.device.queues s.device.jobs k q cid r (is_success st) heard.found w (h.0.once q cid)
-          (λ asked good. subst (λ (z : ℕ). gone_at u.device.queues z ≡ true) (small k (length u.host.queues) (below u.host.queues k (asked_some u.host.queues k asked)) (fit-heard q e s f).few)
-          (settled_by s q cid st e r (DeleteSq k) t h heard w good)) (fit-heard q e s f);
-      frees = λ q cid st what e r k queue told heard w at retired good.
-          let u = a.heard q e s in
-          fit_gone s.entries (without_record q cid s.host.records) u.host.queues u.device.queues s.device.jobs k
-          (λ y ey. let same : queue ≡ y = cc (at, ey) in subst (λ (x : HostQueue). (is_over x.state ≡ true) × (is_asked x.state ≡ false)) same (past queue.state retired))
-          (subst (λ (z : ℕ). there_at u.device.queues z ≡ false) (small k (length u.host.queues) (below u.host.queues k (ap is_some at)) (fit-heard q e s f).few) (settled_by s q cid st e r (DeleteCq k) t h heard w good))
-          (ended q cid e r heard.found (λ z. ap (asks_work z) w));
-      collects = λ q cid r g at held is. records_same s (with_record q cid a.collected s.host.records) (with_same q cid a.collected (λ r'. refl) s.host.records) f;
-      releases = λ g r its. records_same s (without_record g.q g.cid s.host.records) (less g.q g.cid r its.found (λ z. ap (asks_work z) its.asked.1)) f;
-      aborts = λ q cid id none new. sent (Abort q cid) id (λ z. refl);
-      asks = λ q id queue none new live.
-          let entry = admin_entry (DeleteSq q) id in
-          fit_ask s.entries s.host.records (change 0 (λ x. record x { ring = next_tail s.entries x.ring }) s.host.queues) (change 0 (λ at. record at { unfetched = at.unfetched ++ entry ∷ [] }) s.device.queues) s.device.jobs q
-          (sent_record (DeleteSq q) id) refl (ring_some 0 q (λ x. record x { ring = next_tail s.entries x.ring }) s.host.queues (ap is_some live.there))
-          (λ y ey. let is : y.state ≡ Live = still_live s q 0 (next_tail s.entries) queue y live ey in (ap has_sq is, ap is_asked is)) (fit-posts 0 entry s f);
-      drops = λ q id none new. sent (DeleteCq q) id (λ z. refl);
-      retires = λ q queue none at deleted.
-          fit_retired s.entries (map (a.lost q) s.host.records) s.host.queues s.device.queues s.device.jobs q
-          (λ y ey. let same : queue ≡ y = cc (at, ey) in subst (λ (x : HostQueue). (is_over x.state ≡ true) × (has_sq x.state ≡ true)) same (ap is_over deleted, ap has_sq deleted))
-          (records_same s (map (a.lost q) s.host.records) (lost_same q s.host.records) f);
-      forges = λ q slot bytes queue none at. f;
+      reserves = λ q request d none is. h;
+      submits = λ d entry r none built its live. (h.0, few d.q (λ x. record x { ring = next_tail s.entries x.ring }) s.host.queues h.1);
+      cancels = λ d r its. h;
+      rings = λ q none. h;
+      rests = λ q is. h;
+      rejects = λ q why is. (h.0, few q (λ x. record x { ring = next_head s.entries x.ring }) s.host.queues h.1);
+      tells = λ q cid st what e r request told heard w. (h.0, heard_few q e);
+      hears = λ q cid st what e r adm told heard w quiet unmade. (h.0, heard_few q e);
+      notes = λ q cid st what e r k told heard w. (h.0, few k (λ queue. record queue { state = if is_success st then Deleting true else Live }) (a.heard q e s).host.queues (heard_few q e));
+      frees = λ q cid st what e r k queue told heard w at alone good. (h.0, few k a.gone (a.heard q e s).host.queues (heard_few q e));
+      makes_cq = λ q cid st what e r k n base told heard w good. (h.0, few k a.half_made (a.heard q e s).host.queues (heard_few q e));
+      unmakes_cq = λ q cid st what e r k n base queue told heard w at bad. (h.0, few k a.gone (a.heard q e s).host.queues (heard_few q e));
+      makes_sq = λ q cid st what e r k n base told heard w good. (h.0, few k a.live (a.heard q e s).host.queues (heard_few q e));
+      unmakes_sq = λ q cid st what e r k n base queue told heard w at bad. (h.0, few k a.unmade_sq (a.heard q e s).host.queues (heard_few q e));
+      collects = λ q cid r f at held is. h;
+      releases = λ f r its. h;
+      aborts = λ q cid id none new. (h.0, few 0 (λ x. record x { ring = next_tail s.entries x.ring }) s.host.queues h.1);
+      asks = λ q id queue none new live. (h.0, few q a.deleting (a.on_ring 0 (next_tail s.entries) s).host.queues (few 0 (λ x. record x { ring = next_tail s.entries x.ring }) s.host.queues h.1));
+      drops = λ q id none new. (h.0, few 0 (λ x. record x { ring = next_tail s.entries x.ring }) s.host.queues h.1);
+      creates_cqs = λ q id first queue none new granted. (h.0, few 0 (λ x. record x { ring = next_tail s.entries x.ring }) (grants_cq q first s).host.queues (few q (a.making_cq (half_from Completion first s)) s.host.queues h.1));
+      creates_sqs = λ q id first queue none new granted. (h.0, few 0 (λ x. record x { ring = next_tail s.entries x.ring }) (grants_sq q first s).host.queues (few q (a.making_sq (half_from Submission first s)) s.host.queues h.1));
+      retires = λ q queue none at deleted. (h.0, few q a.retired s.host.queues h.1);
+      forges = λ q slot bytes queue none at. h;
     })
   where
-    began : (new : Record) → ((z : ℕ) → asks z new ≡ 0) → FitS (a.on_records (λ records. records ++ new ∷ []) s)
-    began new quiet = records_same s (s.host.records ++ new ∷ []) (λ z. omega (arith, total-append (asks z) s.host.records (new ∷ []), quiet z)) f
+    few : (k : ℕ) (f : HostQueue → HostQueue) (hs : List HostQueue) → length hs ≤ 65536 → length (change k f hs) ≤ 65536
+    few k f hs l = subst (λ (n : ℕ). n ≤ 65536) (sym (length-change k f hs)) l
 
-    sent : (adm : AdminKind) (id : ℕ) → ((z : ℕ) → asks_work z (Management adm) ≡ 0) → FitS (sends adm id s)
-    sent adm id quiet = fit-posts 0 (admin_entry adm id) (a.on_records (λ records. records ++ sent_record adm id ∷ []) s) (began (sent_record adm id) quiet)
+    heard_few : (q : ℕ) (e : ComEntry) → length (a.heard q e s).host.queues ≤ 65536
+    heard_few q e = subst (λ (n : ℕ). n ≤ 65536) (sym (length-change q (λ x. record x { ring = knowing e.sqhd x.ring }) (a.consumed q s).host.queues ∙ length-change q (λ x. record x { ring = next_head s.entries x.ring }) s.host.queues)) h.1
 
-    less : (q cid : ℕ) (r : Record) → record_at s.host q cid ≡ Some r → ((z : ℕ) → asks z r ≡ 0) → (z : ℕ) → total (asks z) (without_record q cid s.host.records) ≡ total (asks z) s.host.records
-    less q cid r at quiet z = omega (arith, total_without (asks z) q cid s.host.records r at (h.0.once q cid), quiet z)
+-- of the controller
+by_controller : (s : State) (e : Event) (reply : Reply) → IsController e ≡ true → FitS s → TieP (host_part s) (a.after s e reply).device → TokensP s.host.records s.host.queues (a.after s e reply).device → FitS (a.after s e reply)
+by_controller s e reply c f tie held =
+    subst (λ (part : HostPart). FitP part (a.after s e reply).device) (sym (part_controller s e reply c))
+    (record {
+      some_entries = f.some_entries;
+      few = f.few;
+      asked = f.asked;
+      pairs = tie.pairs;
+      jobs = tie.jobs;
+      service = tie.service;
+      tokens = tokens_to s.host.records s.host.queues (a.after s e reply).device.queues (a.after s e reply).device.jobs held;
+    })
 
-    ended : (q cid : ℕ) (e : ComEntry) (r : Record) → record_at s.host q cid ≡ Some r → ((z : ℕ) → asks z r ≡ 0) → FitS (heard_without q cid e s)
-    ended q cid e r at quiet = records_same (a.heard q e s) (without_record q cid s.host.records) (less q cid r at quiet) (fit-heard q e s f)
+-- of the host
+by_host : (s : State) (e : Event) (reply : Reply) → Accepts s e reply → IsController e ≡ false → s.trusted ≡ true → AdminLives s.host.queues → StandsSound s → FitS s → FitS (a.after s e reply)
+by_host s e reply ok c t zero' h f =
+    let g = ground s t zero' h.0 f in
+    let tie = tie_host_event s e reply ok c g (tie_of s.entries s.host.records s.host.queues s.device.queues s.device.jobs f) in
+    let held = tokens_host_event s e reply ok c t f.few h.0 h.1 (stands_event s e reply ok t h) (tokens_of s.host.records s.host.queues s.device.queues s.device.jobs f.tokens) in
+    let limits = limits_stay s e reply ok c (f.some_entries, f.few) in
+    whole (a.after s e reply) limits.0 limits.1 (asked_event s e reply ok c h.0 f.asked) tie held
 
-    past : (st : HostState) → is_retired st ≡ true → (is_over st ≡ true) × (is_asked st ≡ false)
-    past Live e = absurd (true≢false (sym e))
-    past (Deleting noted) e = absurd (true≢false (sym e))
-    past Retired e = (refl, refl)
-    past Gone e = absurd (true≢false (sym e))
+-- a job that is walked is no admin command's
+walked : (s : State) (q cid : ℕ) → refusal_of s (events.Walk q cid) ≡ None → TokensP s.host.records s.host.queues s.device → TokensP s.host.records s.host.queues (a.after_walk q cid s).device
+walked s q cid none h = tokens_walk s.host.records s.host.queues q cid s (go (job_at s q cid) refl (unrefused s (events.Walk q cid) none).0 (unrefused s (events.Walk q cid) none).1.0) h
+  where
+    go : (o : Option Job) → job_at s q cid ≡ o → is_none o ≡ false → option_map_or (λ j. is_some j.verdict || (j.q == 0)) o false ≡ false → (q == 0) ≡ false
+    go None e there nothing = absurd (true≢false there)
+    go (Some j) e there nothing =
+        let at = and_parts (j.q == q) (j.entry.cid == cid) (find_sound (is_job q cid) s.device.jobs j e) in
+        ap (λ (k : ℕ). k == 0) (sym (eqb-true j.q q at.0)) ∙ (or_parts (is_some j.verdict) (j.q == 0) nothing).1
 
-fit_event : (s : State) (e : Event) (reply : Reply) → Accepts s e reply → s.trusted ≡ true → StandsSound s → FitS s → FitS (a.after s e reply)
-fit_event s (events.Fetch q) (events.Fetched c touched) ok t h f = fit-controller s (events.Fetch q) (events.Fetched c touched) refl (fit-fetch (host_part s) q s f)
-fit_event s (events.Walk q cid) (events.Walked o touched) ok t h f = fit-controller s (events.Walk q cid) (events.Walked o touched) refl (fit-walk (host_part s) q cid s f)
-fit_event s (events.Complete q cid) (events.Completed touched) ok t h f = fit-controller s (events.Complete q cid) (events.Completed touched) refl (fit-complete (host_part s) q cid s ok.0 f)
-fit_event s (events.Fetch q) reply ok t h f = absurd ok.1
-fit_event s (events.Walk q cid) reply ok t h f = absurd ok.1
-fit_event s (events.Complete q cid) reply ok t h f = absurd ok.1
-fit_event s e reply ok t h f = fit_host s e reply ok refl t h f
+fit_event : (s : State) (e : Event) (reply : Reply) → Accepts s e reply → s.trusted ≡ true → AdminLives s.host.queues → StandsSound s → FitS s → FitS (a.after s e reply)
+fit_event s (events.Fetch q) (events.Fetched c touched) ok t z h f =
+    by_controller s (events.Fetch q) (events.Fetched c touched) refl f (tie_fetch (host_part s) q s (tie_of s.entries s.host.records s.host.queues s.device.queues s.device.jobs f))
+    (tokens_fetch s.host.records s.host.queues q s (known s h f) (tokens_of s.host.records s.host.queues s.device.queues s.device.jobs f.tokens))
+fit_event s (events.Walk q cid) (events.Walked o touched) ok t z h f =
+    by_controller s (events.Walk q cid) (events.Walked o touched) refl f (tie_walk (host_part s) q cid s (tie_of s.entries s.host.records s.host.queues s.device.queues s.device.jobs f))
+    (walked s q cid ok.0 (tokens_of s.host.records s.host.queues s.device.queues s.device.jobs f.tokens))
+fit_event s (events.Complete q cid) (events.Completed touched) ok t z h f =
+    by_controller s (events.Complete q cid) (events.Completed touched) refl f (tie_complete (host_part s) q cid s ok.0 (tie_of s.entries s.host.records s.host.queues s.device.queues s.device.jobs f))
+    (tokens_complete s.host.records s.host.queues q cid s ok.0 (known s h f) (tokens_of s.host.records s.host.queues s.device.queues s.device.jobs f.tokens))
+fit_event s (events.Fetch q) reply ok t z h f = absurd ok.1
+fit_event s (events.Walk q cid) reply ok t z h f = absurd ok.1
+fit_event s (events.Complete q cid) reply ok t z h f = absurd ok.1
+fit_event s e reply ok t z h f = by_host s e reply ok refl t z h f
 
-pub all_on : (s : State) (e : Event) (reply : Reply) → Accepts s e reply → s.trusted ≡ true → StandsSound s × FitS s → StandsSound (a.after s e reply) × FitS (a.after s e reply)
-all_on s e reply ok t h = (both_on s e reply ok t h.0, fit_event s e reply ok t h.0 h.1)
+pub all_on : (s : State) (e : Event) (reply : Reply) → Accepts s e reply → s.trusted ≡ true → AdminLives s.host.queues → StandsSound s × FitS s → StandsSound (a.after s e reply) × FitS (a.after s e reply)
+all_on s e reply ok t z h = (both_on s e reply ok t h.0, fit_event s e reply ok t z h.0 h.1)
 
--- the opening
+-- As it opens
 
 opened_pairs : (page n count : ℕ) → Paired n (queues_from page n count) (replicate count opened)
 opened_pairs page n zero = tt
@@ -119,9 +172,11 @@ opened_pairs page n (suc count) = (
   record {
     sub = λ o. length-range page (half_pages n Submission);
     comp = λ o. length-range (page + half_pages n Submission) (half_pages n Completion);
-    over = λ o. absurd (true≢false (sym o));
-    gone = λ o. absurd (true≢false o);
     half = λ o. refl;
+    emptied = λ o. refl;
+    unfetched = λ o. refl;
+    answers = λ o. refl;
+    fresh = λ o. refl;
   },
   opened_pairs (page + half_pages n Submission + half_pages n Completion) n count,
 )
@@ -130,6 +185,34 @@ opened_length : (page n count : ℕ) → length (queues_from page n count) ≡ c
 opened_length page n zero = refl
 opened_length page n (suc count) = ap suc (opened_length (page + half_pages n Submission + half_pages n Completion) n count)
 
+opened_state : (test : HostState → Bool) → test Live ≡ false → (page n count q : ℕ) → awaited_at test (queues_from page n count) q ≡ false
+opened_state test live page n zero q = refl
+opened_state test live page n (suc count) zero = live
+opened_state test live page n (suc count) (suc q) = opened_state test live (page + half_pages n Submission + half_pages n Completion) n count q
+
+small : (b : Bool) → one b ≤ 1
+small true = omega arith
+small false = omega arith
+
+opened_there : (count q : ℕ) → q < count → gone_at (replicate count opened) q ≡ false
+opened_there zero q l = absurd (omega (arith, l))
+opened_there (suc count) zero l = refl
+opened_there (suc count) (suc q) l = opened_there count q (omega (arith, l))
+
+opened_waiting : (count : ℕ) → (waiting (replicate count opened) ≡ []) × (answering (replicate count opened) ≡ [])
+opened_waiting zero = (refl, refl)
+opened_waiting (suc count) = (refl, refl)
+
+opened_tokens : (n count : ℕ) → TokensGoRound [] (queues_from 0 n count) (replicate count opened) []
+opened_tokens n count =
+    tokens_to [] (queues_from 0 n count) (replicate count opened) []
+    (rw ((opened_waiting count).0, (opened_waiting count).1)
+    (record {
+      submission = λ q. omega (arith, ap one (opened_state is_known_deleted refl 0 n count q), small (not (gone_at (replicate count opened) q)));
+      completion = λ q. omega (arith, ap one (opened_state is_gone refl 0 n count q), small (there_at (replicate count opened) q));
+      there = λ q inside some. opened_there count q (omega (arith, inside, opened_length 0 n count));
+    }))
+
 fit-opening : (pages queues n s : ℕ) (image : List ℕ) → 0 < n → queues < 65536 → FitS (opening pages queues n s image)
 fit-opening pages queues n s image pos few = record {
   some_entries = pos;
@@ -137,6 +220,8 @@ fit-opening pages queues n s image pos few = record {
   asked = λ q. sym (ap one (opened_quiet 0 n (queues + 1) q));
   pairs = opened_pairs 0 n (queues + 1);
   jobs = λ q some. absurd (omega arith);
+  service = λ q some. absurd (omega arith);
+  tokens = opened_tokens n (queues + 1);
 }
 
 pub fit_limits : (pages queues n s : ℕ) (image : List ℕ) → Opens pages queues n s → FitS (opening pages queues n s image)

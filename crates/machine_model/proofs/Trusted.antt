@@ -6,7 +6,7 @@ use Rattle.std.proofs.lemmas.Bool.{true≢false, not-false}
 use Rattle.entry_codec.specs.declared.submission.SubEntry.{SubEntry}
 use Rattle.page_memory.specs.Pages.{with_page_bytes}
 use Rattle.machine_model.specs.State.{State, HostQueue, Job, Answer, outstanding_on}
-use Rattle.machine_model.specs.Refusals.{refusal_of, in_state, has_cq, host_queue, slot_page, slot_offset}
+use Rattle.machine_model.specs.Refusals.{refusal_of, in_state, is_reaped, host_queue, slot_page, slot_offset}
 use Rattle.machine_model.specs.Opening.{opening, device_queue as opened}
 use Rattle.machine_model.specs.Step.{IsController, host_part, times}
 use Rattle.machine_model.specs.After as a
@@ -24,14 +24,14 @@ use Rattle.machine_model.proofs.Placing.{waiting, answering}
 use Rattle.machine_model.proofs.Standing.{StandsSound, Stands, stands_event}
 
 -- An entry that is forged ends the trust
-forged_ends : (o : Option HostQueue) (f : HostQueue → State) (s : State) → ((x : HostQueue) → (f x).trusted ≡ false) → option_map_or (λ queue. has_cq queue.state) o false ≡ true → (option_map_or f o s).trusted ≡ false
+forged_ends : (o : Option HostQueue) (f : HostQueue → State) (s : State) → ((x : HostQueue) → (f x).trusted ≡ false) → option_map_or (λ queue. is_reaped queue.state) o false ≡ true → (option_map_or f o s).trusted ≡ false
 forged_ends None f s h e = absurd (true≢false (sym e))
 forged_ends (Some x) f s h e = h x
 
 pub forged_untrusted : (s : State) (q slot : ℕ) (bytes : List ℕ) → refusal_of s (events.Forge q slot bytes) ≡ None → (a.after_forge q slot bytes s).trusted ≡ false
 forged_untrusted s q slot bytes ok =
     forged_ends (host_queue s q) (λ queue. record (a.on_memory (λ m. with_page_bytes m (slot_page queue.cq_pages 16 slot) (slot_offset 16 slot) bytes) s) { trusted = false }) s (λ queue. refl)
-    (not-false _ (first_fails (not (in_state has_cq s q)) events.NoQueue ((nat_le s.entries slot, events.NoSlot) ∷ []) ok))
+    (not-false _ (first_fails (not (in_state is_reaped s q)) events.NoQueue ((nat_le s.entries slot, events.NoSlot) ∷ []) ok))
 
 -- Admin commands stand in one place
 
@@ -48,8 +48,8 @@ both_on s e reply ok t h = (holds_on s e reply ok h.0, stands_event s e reply ok
 pub opening_stands : (pages queues n s : ℕ) (image : List ℕ) → Stands (opening pages queues n s image)
 opening_stands pages queues n s image = record { placed = go queues }
   where
-    go : (queues : ℕ) → Placed [] (waiting (replicate (queues + 1) opened)) [] (answering (replicate (queues + 1) opened)) (replicate (queues + 1) opened)
-    go queues = subst (λ (k : ℕ). Placed [] (waiting (replicate k opened)) [] (answering (replicate k opened)) (replicate k opened)) (add-one' queues)
+    go : (queues : ℕ) → Placed [] (waiting (replicate (queues + 1) opened)) [] (answering (replicate (queues + 1) opened))
+    go queues = subst (λ (k : ℕ). Placed [] (waiting (replicate k opened)) [] (answering (replicate k opened))) (add-one' queues)
         (record { places = λ c. omega arith; entries = tt; jobs = tt; answers = tt })
       where
         add-one' : (k : ℕ) → suc k ≡ k + 1

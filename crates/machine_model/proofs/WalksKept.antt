@@ -32,7 +32,7 @@ use Rattle.machine_model.proofs.Counting.{one}
 use Rattle.machine_model.proofs.Totals.{total, here}
 use Rattle.machine_model.proofs.Parts.{part-walk, in_store, length-in_store}
 use Rattle.machine_model.proofs.Steps.{Accepts, part_controller}
-use Rattle.machine_model.proofs.Managed.{managed_by_case}
+use Rattle.machine_model.proofs.Managed.{managed_by}
 use Rattle.machine_model.proofs.Placed.{is_job}
 use Rattle.machine_model.proofs.Taken.{in_is}
 use Rattle.machine_model.proofs.Opening.{in_limits, limits_of}
@@ -109,16 +109,18 @@ units_stopped m f test s stopped h = all_map (UnitLeft m) (UnitLeft m) (λ j. if
 
 units_managed : (m : Pages) (e : SubEntry) (s : State) → Units m s → Units m (a.managed e s)
 units_managed m e s h =
-    managed_by_case (λ (t : State). Units m t) e s
-    (units_decided m e _ 0 s h) (units_decided m e _ 0 s h)
-    (λ is8. units_decided m e SUCCESS 0 (a.on_job (named_queue e) (named_command e) (λ j. record j { verdict = Some ABORT_REQUESTED; waiting_abort = Some e.cid }) s)
-    (units_stopped m (λ j. record j { verdict = Some ABORT_REQUESTED; waiting_abort = Some e.cid }) (λ j. (j.q == named_queue e) && (j.entry.cid == named_command e)) s (λ j. refl) h))
-    (λ is8. units_decided m e SUCCESS 1 s h)
-    (units_decided m e _ 0 s h)
-    (λ is0 q0 runs. units_decided m e SUCCESS 0 (a.on_device (λ d. record d { jobs = map (a.stopped (named_queue e)) d.jobs }) (a.on_device_queue (named_queue e) (λ at. record at { state = Stopping }) s))
-    (units_stopped m (λ j. record j { verdict = Some ABORTED_SQ_DELETION }) (λ j. (j.q == named_queue e) && is_none j.verdict) s (λ j. refl) h))
-    (units_decided m e _ 0 s h)
-    (λ not8 not0 gone. units_decided m e SUCCESS 0 (a.on_device_queue (named_queue e) (λ at. record at { cq_there = false }) s) h)
+    managed_by (λ (t : State). Units m t) e s
+    (record {
+      refuses = λ st bad. units_decided m e st 0 s h;
+      aborts = λ is8 walks. units_decided m e SUCCESS 0 (a.on_job (named_queue e) (named_command e) (λ j. record j { verdict = Some ABORT_REQUESTED; waiting_abort = Some e.cid }) s)
+          (units_stopped m (λ j. record j { verdict = Some ABORT_REQUESTED; waiting_abort = Some e.cid }) (λ j. (j.q == named_queue e) && (j.entry.cid == named_command e)) s (λ j. refl) h);
+      is_late = λ is8. units_decided m e SUCCESS 1 s h;
+      stops = λ is0 q0 runs. units_decided m e SUCCESS 0 (a.on_device (λ d. record d { jobs = map (a.stopped (named_queue e)) d.jobs }) (a.on_device_queue (named_queue e) (λ at. record at { state = Stopping }) s))
+          (units_stopped m (λ j. record j { verdict = Some ABORTED_SQ_DELETION }) (λ j. (j.q == named_queue e) && is_none j.verdict) s (λ j. refl) h);
+      drops = λ is4 q0 there gone. units_decided m e SUCCESS 0 (a.on_device_queue (named_queue e) a.dropped s) h;
+      makes_completion = λ is5 q0 none. units_decided m e SUCCESS 0 (a.on_device_queue (named_queue e) a.completion_made s) h;
+      makes_submission = λ is1 q0 gone there. units_decided m e SUCCESS 0 (a.on_device_queue (named_queue e) a.submission_made s) h;
+    })
 
 units_fetch : (m : Pages) (q : ℕ) (s : State) → Units m s → Units m (a.after_fetch q s)
 units_fetch m q s h =

@@ -7,7 +7,9 @@ use Rattle.sgl_descriptor.specs.declared.Direction.{Direction}
 use Rattle.sgl_descriptor.specs.declared.Direction.TheVariants.{Destination, Source}
 use Rattle.sgl_chain.proofs.Laying.{length-spelling}
 use Rattle.controller_walk.specs.Units.{Act, Stays, Reads, Moves}
-use Rattle.page_memory.specs.Pages.{Pages, page_at, with_bytes, with_page_bytes, AreWhole}
+use Rattle.page_memory.specs.declared.page.Half.TheVariants.{Submission, Completion}
+use Rattle.page_memory.proofs.Whole.{length-zero_page}
+use Rattle.page_memory.specs.Pages.{Pages, page_at, with_bytes, with_page_bytes, zero_page, AreWhole}
 use Rattle.admin_commands.specs.Entries.{admin_entry, named_queue}
 use Rattle.admin_commands.specs.declared.AdminKind.TheVariants.{Abort, DeleteSq, DeleteCq}
 use Rattle.admin_commands.specs.declared.AdminKind.{AdminKind}
@@ -21,7 +23,7 @@ use Rattle.io_commands.specs.Drafts.{DraftContents, draft_entry, draft_first}
 use Rattle.io_commands.specs.Values.{numbers_of}
 use Rattle.io_commands.specs.Jobs.{direction_of_entry}
 use Rattle.io_commands.proofs.Spelled.{carries_entry}
-use Rattle.machine_model.specs.Memory.{with_pages, without_pages}
+use Rattle.machine_model.specs.Memory.{with_pages, without_pages, zeroed_pages}
 use Rattle.machine_model.specs.Proper.{IsPage, ArePages, IsProper, IsProperDraft}
 use Rattle.machine_model.specs.State.{State, HostQueue, Job, pages_of, with_record}
 use Rattle.machine_model.specs.Refusals.{refusal_of, host_queue, slot_page, slot_offset, post_slot, fetch_slot}
@@ -30,13 +32,13 @@ use Rattle.machine_model.specs.Reached.{ActIn, on_pages}
 use Rattle.machine_model.specs.Step.{Step, LeavesByController, LeavesByHost, IsController, forges}
 use Rattle.machine_model.specs.Events as events
 use Rattle.machine_model.specs.Events.{Event, Reply}
-use Rattle.machine_model.proofs.Managed.{managed_by_case}
+use Rattle.machine_model.proofs.Managed.{managed_by}
 use Rattle.machine_model.proofs.Lengths.{length_put}
 use Rattle.machine_model.proofs.Steps.{Accepts}
 use Rattle.machine_model.proofs.Served.{Stood, course_in}
 use Rattle.machine_model.proofs.CommandsAll.{walking, unit_in}
 use Rattle.machine_model.proofs.JobLaws.{step_is}
-use Rattle.machine_model.proofs.Moves.{host_moves, posted_bytes, sends, sent_record}
+use Rattle.machine_model.proofs.Moves.{host_moves, posted_bytes, sends, sent_record, half_from, creates_cq, creates_sq, grants_cq, grants_sq}
 use Rattle.machine_model.proofs.DeviceMoves.{answered_bytes, unit_memory, finished, cleared, fetch_by, walk_by, complete_by}
 
 -- Pages
@@ -57,6 +59,10 @@ whole_brought [] m are whole = whole
 whole_brought (page ∷ more) m are whole =
     whole_brought more (slice_set m page.0 (Some page.1)) (All-tail (λ page. IsPage page.1) page more are)
     (whole_set m page.0 (Some page.1) (All-head (λ page. IsPage page.1) page more are) whole)
+
+whole_zeroed : (pages : List ℕ) (m : Pages) → AreWhole m → AreWhole (with_pages (zeroed_pages pages) m)
+whole_zeroed [] m whole = whole
+whole_zeroed (p ∷ pages) m whole = whole_zeroed pages (slice_set m p (Some zero_page)) (whole_set m p (Some zero_page) length-zero_page whole)
 
 whole_written : (m : Pages) (p at : ℕ) (new : List ℕ) → at + length new ≤ 4096 → AreWhole m → AreWhole (with_page_bytes m p at new)
 whole_written m p at new fits whole = whole_set m p (option_and_then (λ page. Some (with_bytes page at new)) (page_at m p)) (go (page_at m p) (whole p)) whole
@@ -116,7 +122,17 @@ whole-answered q cid st dw0 s whole = go (host_queue s q)
         whole_written s.memory (slot_page queue.cq_pages 16 (post_slot s q)) (slot_offset 16 (post_slot s q)) (completion_bytes entry) (answer_fits (post_slot s q) (completion_bytes entry) (length-completion_bytes entry)) whole
 
 whole-managed : (e : SubEntry) (s : State) → AreWhole s.memory → AreWhole (a.managed e s).memory
-whole-managed e s whole = managed_by_case (λ t. AreWhole t.memory) e s whole whole (λ is8. whole) (λ is8. whole) whole (λ is0 q0 runs. whole) whole (λ not8 not0 gone. whole)
+whole-managed e s whole =
+    managed_by (λ t. AreWhole t.memory) e s
+    (record {
+      refuses = λ st bad. whole;
+      aborts = λ is8 walks. whole;
+      is_late = λ is8. whole;
+      stops = λ is0 q0 runs. whole;
+      drops = λ is4 q0 there gone. whole;
+      makes_completion = λ is5 q0 gone. whole;
+      makes_submission = λ is1 q0 gone there. whole;
+    })
 
 whole-fetch : (q : ℕ) (s : State) → AreWhole s.memory → AreWhole (a.after_fetch q s).memory
 whole-fetch q s whole =
@@ -172,20 +188,26 @@ whole_after s e reply pr ok stood whole =
       rests = λ q is pr. whole;
       rejects = λ q why is pr. whole;
       tells = λ q cid st what e r request t heard w pr. whole;
-      hears = λ q cid st what e r adm t heard w quiet pr. whole;
+      hears = λ q cid st what e r adm t heard w quiet unmade pr. whole;
       notes = λ q cid st what e r k t heard w pr. whole;
       frees = λ q cid st what e r k queue t heard w at retired good pr. whole;
+      makes_cq = λ q cid st what e r k size base t heard w good pr. whole;
+      unmakes_cq = λ q cid st what e r k size base queue t heard w at bad pr. whole;
+      makes_sq = λ q cid st what e r k size base t heard w good pr. whole;
+      unmakes_sq = λ q cid st what e r k size base queue t heard w at bad pr. whole;
       collects = λ q cid r f at held is pr. whole_without (pages_of r) s.memory whole;
       releases = λ f r its pr. brought_pages f.data_pages f.chain_pages s.memory pr.0 pr.1 whole;
-      aborts = λ q cid id none new pr. sent (Abort q cid) id;
-      asks = λ q id queue none new live pr. sent (DeleteSq q) id;
-      drops = λ q id none new pr. sent (DeleteCq q) id;
+      aborts = λ q cid id none new pr. sent (Abort q cid) id s whole;
+      asks = λ q id queue none new live pr. sent (DeleteSq q) id s whole;
+      drops = λ q id none new pr. sent (DeleteCq q) id s whole;
+      creates_cqs = λ q id first queue none new granted pr. sent (creates_cq q first s) id (grants_cq q first s) (whole_zeroed (half_from Completion first s) s.memory whole);
+      creates_sqs = λ q id first queue none new granted pr. sent (creates_sq q first s) id (grants_sq q first s) (whole_zeroed (half_from Submission first s) s.memory whole);
       retires = λ q queue none at deleted pr. whole;
       forges = λ q slot bytes queue none at pr. whole_written s.memory (slot_page queue.cq_pages 16 slot) (slot_offset 16 slot) bytes (answer_fits slot bytes pr) whole;
     }) pr
   where
-    sent : (adm : AdminKind) (id : ℕ) → AreWhole (sends adm id s).memory
-    sent adm id = whole-posted 0 (admin_entry adm id) (a.on_records (λ records. records ++ sent_record adm id ∷ []) s) (admin_length adm id) whole
+    sent : (adm : AdminKind) (id : ℕ) (s : State) → AreWhole s.memory → AreWhole (sends adm id s).memory
+    sent adm id s whole = whole-posted 0 (admin_entry adm id) (a.on_records (λ records. records ++ sent_record adm id ∷ []) s) (admin_length adm id) whole
 
 -- Steps
 

@@ -1,12 +1,12 @@
 -- What an accepted event leaves: the state is a function of the state before, the event and the reply, which names what was chosen.
-use Rattle.std.specs.Prelude.{ℕ, ◌+◌, ◌-◌, ◌/◌, ◌%◌, ◌==◌, Bool, true, false, ◌&&◌, ◌||◌, not, Option, Some, None, List, [], ◌∷◌, ◌++◌, length, map, filter, take, drop, is_none, slice_get, if◌then◌else◌, unwrap_or}
+use Rattle.std.specs.Prelude.{ℕ, ◌+◌, ◌*◌, ◌-◌, ◌/◌, ◌%◌, ◌==◌, Bool, true, false, ◌&&◌, ◌||◌, not, Option, Some, None, List, [], ◌∷◌, ◌++◌, length, map, filter, take, drop, is_none, slice_get, slice_index, if◌then◌else◌, unwrap_or}
 use Rattle.std.specs.Option.{option_map_or}
 use Rattle.page_ledger.specs.Owners.{is_among, pages_from}
 use Rattle.controller_walk.specs.Laws.{after_units}
 use Rattle.controller_walk.specs.Walks.{answer}
 use Rattle.controller_walk.specs.Units.{Act, Stays, Reads, Moves, Course, course_of_list, units}
 use Rattle.admin_commands.specs.declared.SqState.{SqState}
-use Rattle.admin_commands.specs.declared.AdminVerdict.TheVariants.{Answer as Answered, AbortJob, StopQueue, DropCompletion}
+use Rattle.admin_commands.specs.declared.AdminVerdict.TheVariants.{Answer as Answered, AbortJob, StopQueue, DropCompletion, MakeCompletion, MakeSubmission}
 use Rattle.admin_commands.specs.declared.AdminVerdict.{AdminVerdict}
 use Rattle.admin_commands.specs.declared.DeviceView.{DeviceView}
 use Rattle.block_image.specs.Blocks.{block_count}
@@ -15,11 +15,11 @@ use Rattle.sgl_descriptor.specs.declared.Direction.TheVariants.{Destination, Sou
 use Rattle.sgl_descriptor.specs.declared.Direction.{Direction}
 use Rattle.entry_codec.specs.Completion.{completion_bytes}
 use Rattle.entry_codec.specs.Submission.{submission_bytes}
-use Rattle.admin_commands.specs.declared.SqState.TheVariants.{Absent, Stopping}
+use Rattle.admin_commands.specs.declared.SqState.TheVariants.{Absent, Live as Running, Stopping}
 use Rattle.admin_commands.specs.Verdicts.{decision}
 use Rattle.admin_commands.specs.Entries.{admin_entry, named_queue, named_command}
 use Rattle.io_commands.specs.Values.{numbers_of}
-use Rattle.admin_commands.specs.declared.AdminKind.TheVariants.{Abort, DeleteSq, DeleteCq}
+use Rattle.admin_commands.specs.declared.AdminKind.TheVariants.{Abort, DeleteSq, DeleteCq, CreateCq, CreateSq}
 use Rattle.admin_commands.specs.declared.AdminKind.{AdminKind}
 use Rattle.entry_codec.specs.declared.completion.ComEntry.{ComEntry}
 use Rattle.entry_codec.specs.declared.submission.SubEntry.{SubEntry}
@@ -27,15 +27,18 @@ use Rattle.page_memory.specs.Pages.{Pages, page_at, with_page_bytes, with_bytes}
 use Rattle.entry_codec.specs.declared.status.TheConstants.Status.{SUCCESS, COMMAND_ID_CONFLICT, ABORT_REQUESTED, ABORTED_SQ_DELETION}
 use Rattle.entry_codec.specs.declared.status.Status.{Status}
 use Rattle.machine_model.specs.Placement.{without_numbers}
-use Rattle.machine_model.specs.Memory.{without_pages, with_pages, memory_of}
+use Rattle.page_memory.specs.declared.page.Half.{Half}
+use Rattle.page_memory.specs.declared.page.Half.TheVariants.{Submission, Completion}
+use Rattle.queue_pair.specs.Memory.{half_pages}
+use Rattle.machine_model.specs.Memory.{without_pages, with_pages, zeroed_pages, memory_of}
 use Rattle.machine_model.specs.Commands.{Work, Io, Management}
-use Rattle.machine_model.specs.State.{State, Host, Device, HostQueue, Live, Deleting, Retired, Gone, DeviceQueue, Record, Drafted, Submitted, Held, Collected, Job, Answer, record_at, without_record, with_record, pages_of}
-use Rattle.machine_model.specs.Refusals.{host_queue, device_queue, slot_page, slot_offset, seen_entry, is_job, job_at, next_rung, post_slot, fetch_slot, conflicts, is_submitted, is_retired}
+use Rattle.machine_model.specs.State.{State, Host, Device, HostQueue, Live, Deleting, Retired, Gone, MakingCq, HalfMade, MakingSq, DeviceQueue, Record, Drafted, Submitted, Held, Collected, Job, Answer, record_at, without_record, with_record, pages_of}
+use Rattle.machine_model.specs.Refusals.{host_queue, device_queue, slot_page, slot_offset, seen_entry, is_job, job_at, next_rung, post_slot, fetch_slot, conflicts, is_submitted, has_cq_alone, run_for}
 use Rattle.machine_model.specs.Events as events
 use Rattle.io_commands.specs.Drafts.{DraftContents}
 use Rattle.machine_model.specs.Events.{Event, Reply, Reaped}
 pub use Rattle.queue_pair.specs.Members.{change}
-use Rattle.queue_pair.specs.Rings.{HostRing, next_tail, next_head, knowing}
+use Rattle.queue_pair.specs.Rings.{HostRing, fresh_host_ring, next_tail, next_head, knowing}
 use Rattle.queue_pair.specs.Lists.{expected_phase}
 use Rattle.io_commands.specs.Jobs as jobs
 use Rattle.io_commands.specs.Jobs.{io_fault, bytes_after_check, need_of_entry, direction_of_entry, verdict_of, is_success}
@@ -89,6 +92,24 @@ retired queue = record queue { state = Retired; sq_pages = [] }
 
 abbrev pub gone : HostQueue → HostQueue
 gone queue = record queue { state = Gone; cq_pages = [] }
+
+-- a queue gets a half, with rings as they open
+abbrev pub making_cq : List ℕ → HostQueue → HostQueue
+making_cq pages queue = record queue { state = MakingCq; ring = fresh_host_ring; cq_pages = pages }
+
+abbrev pub making_sq : List ℕ → HostQueue → HostQueue
+making_sq pages queue = record queue { state = MakingSq; ring = fresh_host_ring; sq_pages = pages }
+
+-- its completion queue is there
+abbrev pub half_made : HostQueue → HostQueue
+half_made queue = record queue { state = HalfMade }
+
+-- its submission queue is not made
+abbrev pub unmade_sq : HostQueue → HostQueue
+unmade_sq queue = record queue { state = HalfMade; sq_pages = [] }
+
+abbrev pub live : HostQueue → HostQueue
+live queue = record queue { state = Live }
 
 -- Pages: the free ones stand in rising order
 
@@ -151,9 +172,13 @@ after_admin (Abort q cid) st s = s
 after_admin (DeleteSq q) st s =
     on_host_queue q (λ queue. record queue { state = if is_success st then Deleting true else Live }) s
 after_admin (DeleteCq q) st s =
-    if is_success st && option_map_or (λ queue. is_retired queue.state) (host_queue s q) false
+    if is_success st && option_map_or (λ queue. has_cq_alone queue.state) (host_queue s q) false
     then half_freed (λ queue. queue.cq_pages) gone q s
     else s
+after_admin (CreateCq q n base) st s =
+    if is_success st then on_host_queue q half_made s else half_freed (λ queue. queue.cq_pages) gone q s
+after_admin (CreateSq q n base) st s =
+    if is_success st then on_host_queue q live s else half_freed (λ queue. queue.sq_pages) unmade_sq q s
 
 abbrev pub after_work : Work → ℕ → ℕ → Status → State → State
 after_work (Io r) q cid st s = on_records (with_record q cid (held st)) s
@@ -180,6 +205,29 @@ sent a cid entry s =
 abbrev pub after_delete_sq : ℕ → ℕ → State → State
 after_delete_sq q cid s =
     on_host_queue q deleting (sent (DeleteSq q) cid (admin_entry (DeleteSq q) cid) s)
+
+-- the lowest run of free pages for a half: it is the host's from now on, in and zero
+abbrev pub half_run : Half → State → List ℕ
+half_run half s = option_map_or (λ first. pages_from first (half_pages s.entries half)) (run_for s half) []
+
+abbrev pub half_granted : List ℕ → State → State
+half_granted pages s = granted pages (on_memory (with_pages (zeroed_pages pages)) s)
+
+-- the address of the first byte of consecutive pages
+abbrev pub base_of : List ℕ → ℕ
+base_of pages = 4096 * slice_index pages 0
+
+abbrev pub after_create_cq : ℕ → ℕ → State → State
+after_create_cq q cid s =
+    let pages = half_run Completion s in
+    let kind : AdminKind = CreateCq q s.entries (base_of pages) in
+    sent kind cid (admin_entry kind cid) (on_host_queue q (making_cq pages) (half_granted pages s))
+
+abbrev pub after_create_sq : ℕ → ℕ → State → State
+after_create_sq q cid s =
+    let pages = half_run Submission s in
+    let kind : AdminKind = CreateSq q s.entries (base_of pages) in
+    sent kind cid (admin_entry kind cid) (on_host_queue q (making_sq pages) (half_granted pages s))
 
 abbrev pub lost : ℕ → Record → Record
 lost q r = if (r.q == q) && is_submitted r.phase then record r { phase = Held; status = Some ABORTED_SQ_DELETION } else r
@@ -237,7 +285,20 @@ view_of s e =
       sq = sq_state s (named_queue e);
       cq_there = cq_there s (named_queue e);
       target_walks = walks s (named_queue e) (named_command e);
+      queues = length s.device.queues - 1;
+      entries = s.entries;
+      pages = length s.memory;
     }
+
+-- a completion queue is gone with what was not reaped of it, and one is there that is empty; so is a submission queue
+abbrev pub dropped : DeviceQueue → DeviceQueue
+dropped at = record at { cq_there = false; answers = [] }
+
+abbrev pub completion_made : DeviceQueue → DeviceQueue
+completion_made at = record at { cq_there = true; answers = [] }
+
+abbrev pub submission_made : DeviceQueue → DeviceQueue
+submission_made at = record at { state = Running; unfetched = []; rung = 0; answers = [] }
 
 -- what its verdict does: an Abort marks its job, a Delete SQ stops its queue and that queue's jobs
 abbrev pub acted : SubEntry → AdminVerdict → State → State
@@ -247,7 +308,9 @@ acted e (StopQueue q) s =
     decided e SUCCESS 0
     (on_device (λ d. record d { jobs = map (stopped q) d.jobs })
     (on_device_queue q (λ at. record at { state = Stopping }) s))
-acted e (DropCompletion q) s = decided e SUCCESS 0 (on_device_queue q (λ at. record at { cq_there = false }) s)
+acted e (DropCompletion q) s = decided e SUCCESS 0 (on_device_queue q dropped s)
+acted e (MakeCompletion q base) s = decided e SUCCESS 0 (on_device_queue q completion_made s)
+acted e (MakeSubmission q base) s = decided e SUCCESS 0 (on_device_queue q submission_made s)
 
 abbrev pub managed : SubEntry → State → State
 managed e s = acted e (decision e (view_of s e)) s
@@ -349,6 +412,8 @@ after s (events.Release f) reply = after_end f.q f.cid (f.data_pages ++ f.chain_
 after s (events.Abort q cid) (events.Sent id) = sent (Abort q cid) id (admin_entry (Abort q cid) id) s
 after s (events.DeleteSq q) (events.Sent id) = after_delete_sq q id s
 after s (events.DeleteCq q) (events.Sent id) = sent (DeleteCq q) id (admin_entry (DeleteCq q) id) s
+after s (events.CreateCq q) (events.Sent id) = after_create_cq q id s
+after s (events.CreateSq q) (events.Sent id) = after_create_sq q id s
 after s (events.Retire q) reply = after_retire q s
 after s (events.Forge q slot bytes) reply = after_forge q slot bytes s
 after s (events.Fetch q) reply = after_fetch q s

@@ -1,45 +1,52 @@
 -- What holds of a state where nothing was forged: the host's side and the controller's agree.
-use Rattle.std.specs.Prelude.{◌≡◌, ℕ, ◌+◌, ◌-◌, ◌%◌, ◌<◌, ◌≤◌, ◌==◌, Bool, true, false, not, ◌&&◌, Some, List, [], ◌∷◌, length, find, slice_get, if◌then◌else◌}
+use Rattle.std.specs.Prelude.{◌≡◌, ℕ, ◌+◌, ◌-◌, ◌%◌, ◌<◌, ◌≤◌, ◌==◌, Bool, true, false, not, ◌&&◌, Option, Some, None, option_and_then, List, [], ◌∷◌, length, find, slice_get, if◌then◌else◌}
 use Rattle.std.specs.List.{AllByRecursion}
 use Rattle.std.specs.Option.{option_map_or}
 use Rattle.admin_commands.specs.Entries.{admin_entry}
 use Rattle.admin_commands.specs.Verdicts.{is_absent}
 use Rattle.admin_commands.specs.declared.AdminKind.{AdminKind}
-use Rattle.admin_commands.specs.declared.AdminKind.TheVariants.{Abort, DeleteSq, DeleteCq}
+use Rattle.admin_commands.specs.declared.AdminKind.TheVariants.{Abort, DeleteSq, DeleteCq, CreateCq, CreateSq}
 use Rattle.entry_codec.specs.declared.status.Status.{Status}
 use Rattle.entry_codec.specs.declared.submission.SubEntry.{SubEntry}
 use Rattle.io_commands.specs.Jobs.{is_success}
 use Rattle.page_memory.specs.Pages.{Pages}
 use Rattle.page_memory.specs.declared.page.Half.TheVariants.{Submission, Completion}
 use Rattle.queue_pair.specs.Memory.{half_pages}
+use Rattle.queue_pair.specs.Rings.{fresh_host_ring}
 use Rattle.queue_pair.specs.Slots.{distance}
 use Rattle.machine_model.specs.Claims.{IsSound}
-use Rattle.machine_model.specs.Commands.{Management}
+use Rattle.machine_model.specs.Commands.{Work, Io, Management}
 use Rattle.machine_model.specs.Positions.{StandsInRings}
-use Rattle.machine_model.specs.Refusals.{has_sq, has_cq}
+use Rattle.machine_model.specs.Refusals.{has_sq, has_cq, in_service, is_gone, is_making, is_live}
 use Rattle.machine_model.specs.Standing.{CommandStands, HasUnitLeft, unfetched_at}
-use Rattle.machine_model.specs.State.{State, HostQueue, HostState, Live, Deleting, Retired, Gone, DeviceQueue, Record, Job, Answer, is_at}
+use Rattle.machine_model.specs.State.{State, HostQueue, HostState, Live, Deleting, Retired, Gone, MakingCq, HalfMade, MakingSq, DeviceQueue, Record, Job, Answer, is_at}
 use Rattle.machine_model.specs.Weights.{one, total, here, sent}
 
 -- A queue on both sides
 
--- whether the host knows that the submission queue is deleted
+-- whether the host knows that the controller has no submission queue, since one was deleted and none is being made
 abbrev pub is_known_deleted : HostState → Bool
 is_known_deleted Live = false
 is_known_deleted (Deleting noted) = noted
 is_known_deleted Retired = true
 is_known_deleted Gone = true
+is_known_deleted MakingCq = true
+is_known_deleted HalfMade = true
+is_known_deleted MakingSq = false
 
 -- what the host knows of a queue fits what the controller has of it
 pub record QueueFits (n : ℕ) (h : HostQueue) (d : DeviceQueue) : Type 0 where
   -- the halves are whole until they are freed
   pub sub : has_sq h.state ≡ true → length h.sq_pages ≡ half_pages n Submission
   pub comp : has_cq h.state ≡ true → length h.cq_pages ≡ half_pages n Completion
-  -- what the host holds for deleted is deleted
-  pub over : is_known_deleted h.state ≡ true → is_absent d.state ≡ true
-  pub gone : has_cq h.state ≡ false → d.cq_there ≡ false
-  -- a submission queue has its completion queue
+  -- a submission queue has its completion queue, and without it there is no entry
   pub half : is_absent d.state ≡ false → d.cq_there ≡ true
+  pub emptied : is_absent d.state ≡ true → d.unfetched ≡ []
+  -- nothing stands in the rings of a queue that is out of service
+  pub unfetched : in_service h.state ≡ false → d.unfetched ≡ []
+  pub answers : in_service h.state ≡ false → d.answers ≡ []
+  -- and rings that are being made are as they open
+  pub fresh : is_making h.state ≡ true → h.ring ≡ fresh_host_ring
 
 -- both sides have as many queues, and each fits
 abbrev pub QueuesFit : ℕ → List HostQueue → List DeviceQueue → Type 0
@@ -66,29 +73,25 @@ on_queue q j = one (j.q == q)
 abbrev pub Knows : List Record → ℕ → AdminKind → Type 0
 Knows rs c adm = (r : Record) × (find (is_at 0 c) rs ≡ Some r) × (r.work ≡ Management adm)
 
--- what a success means for the controller's queues
-abbrev pub Settled : List DeviceQueue → AdminKind → Type 0
-Settled ds (Abort q cid) = Unit {0}
-Settled ds (DeleteSq q) = is_absent_at ds (q % 65536) ≡ true
-Settled ds (DeleteCq q) = has_completions_at ds (q % 65536) ≡ false
-
--- what is so from the fetch on
-abbrev pub Promised : List DeviceQueue → AdminKind → Type 0
-Promised ds (Abort q cid) = Unit {0}
-Promised ds (DeleteSq q) = (q % 65536 == 0) ≡ false
-Promised ds (DeleteCq q) = has_completions_at ds (q % 65536) ≡ false
+-- only an I/O queue is deleted
+abbrev pub DeletesIo : AdminKind → Type 0
+DeletesIo (Abort q cid) = Unit {0}
+DeletesIo (DeleteSq q) = (q % 65536 == 0) ≡ false
+DeletesIo (DeleteCq q) = Unit {0}
+DeletesIo (CreateCq q n base) = Unit {0}
+DeletesIo (CreateSq q n base) = Unit {0}
 
 -- an entry that was not fetched is that of its record
 abbrev pub EntryKnown : List Record → SubEntry → Type 0
 EntryKnown rs e = (adm : AdminKind) × Knows rs e.cid adm × (e ≡ admin_entry adm e.cid)
 
--- so is a job's of queue 0, whose success will mean what was promised
-abbrev pub JobKnown : List Record → List DeviceQueue → Job → Type 0
-JobKnown rs ds j = (j.q ≡ 0) → (adm : AdminKind) × Knows rs j.entry.cid adm × (j.entry ≡ admin_entry adm j.entry.cid) × ((st : Status) → j.verdict ≡ Some st → is_success st ≡ true → Promised ds adm)
+-- so is a job's of queue 0
+abbrev pub JobKnown : List Record → Job → Type 0
+JobKnown rs j = (j.q ≡ 0) → (adm : AdminKind) × Knows rs j.entry.cid adm × (j.entry ≡ admin_entry adm j.entry.cid) × ((st : Status) → j.verdict ≡ Some st → is_success st ≡ true → DeletesIo adm)
 
--- an answer is that of an outstanding command, and its success means what it says
-abbrev pub AnswerKnown : List Record → List DeviceQueue → Answer → Type 0
-AnswerKnown rs ds an = (adm : AdminKind) × Knows rs an.cid adm × (is_success an.status ≡ true → Settled ds adm)
+-- an answer is that of an outstanding command
+abbrev pub AnswerKnown : List Record → Answer → Type 0
+AnswerKnown rs an = (adm : AdminKind) × Knows rs an.cid adm
 
 -- 1 for an entry, a job of queue 0 and an answer of this identifier
 abbrev pub entry_is : ℕ → SubEntry → ℕ
@@ -108,49 +111,118 @@ abbrev pub answering : List DeviceQueue → List Answer
 answering ds = option_map_or (λ at. at.answers) (slice_get ds 0) []
 
 -- each of them is known, and no identifier stands in more places than it is outstanding
-pub record AdminCommandsStand (rs : List Record) (un : List SubEntry) (js : List Job) (ans : List Answer) (ds : List DeviceQueue) : Type 0 where
+pub record AdminCommandsStand (rs : List Record) (un : List SubEntry) (js : List Job) (ans : List Answer) : Type 0 where
   pub places : (c : ℕ) → total (entry_is c) un + (total (job_is c) js + total (answer_is c) ans) ≤ total (here 0 c) rs
   pub entries : AllByRecursion (EntryKnown rs) un
-  pub jobs : AllByRecursion (JobKnown rs ds) js
-  pub answers : AllByRecursion (AnswerKnown rs ds) ans
+  pub jobs : AllByRecursion (JobKnown rs) js
+  pub answers : AllByRecursion (AnswerKnown rs) ans
 
--- Deleted queues
+-- What is deleted and made: for each queue a token goes round, and it is nowhere twice. A submission queue stands at the controller, or was deleted and the host hears of
+-- it, or the host knows it, or one is to be made and is not there yet. A completion queue in the same way. A completion that the host rejects takes its token with it.
 
--- an answer that tells no success
-abbrev pub fails : ℕ → Answer → ℕ
-fails c an = one ((an.cid == c) && not (is_success an.status))
+-- the admin command of an identifier of queue 0, if it is outstanding
+abbrev pub kind_of : Work → Option AdminKind
+kind_of (Io r) = None
+kind_of (Management adm) = Some adm
 
--- how often a command of queue 0 stands at the controller, an answer with success left out
-abbrev pub unsettled : ℕ → List DeviceQueue → List Job → ℕ
-unsettled c ds js = total (entry_is c) (waiting ds) + (total (job_is c) js + total (fails c) (answering ds))
+abbrev pub kind_at : List Record → ℕ → Option AdminKind
+kind_at rs c = option_and_then (λ r. kind_of r.work) (find (is_at 0 c) rs)
 
--- an outstanding deletion of a queue, which succeeded
-pub record Settles (rs : List Record) (ds : List DeviceQueue) (js : List Job) (q : ℕ) : Type 0 where
-  pub cid : ℕ
-  pub knows : Knows rs cid (DeleteSq q)
-  pub settled : unsettled cid ds js ≡ 0
+-- whether a command deletes or makes the submission queue or the completion queue of a number
+abbrev pub deletes_sq : ℕ → AdminKind → Bool
+deletes_sq q (Abort a cid) = false
+deletes_sq q (DeleteSq a) = a % 65536 == q
+deletes_sq q (DeleteCq a) = false
+deletes_sq q (CreateCq a n base) = false
+deletes_sq q (CreateSq a n base) = false
 
--- whether the host has a queue, and doesn't know it to be deleted
-abbrev pub is_hoped_at : List HostQueue → ℕ → Bool
-is_hoped_at hs q = option_map_or (λ h. not (is_known_deleted h.state)) (slice_get hs q) false
+abbrev pub deletes_cq : ℕ → AdminKind → Bool
+deletes_cq q (Abort a cid) = false
+deletes_cq q (DeleteSq a) = false
+deletes_cq q (DeleteCq a) = a % 65536 == q
+deletes_cq q (CreateCq a n base) = false
+deletes_cq q (CreateSq a n base) = false
 
--- a queue that the host hopes for, and that is gone, was deleted by a command of which the host will hear that it succeeded
-abbrev pub DeletionsAreHeard : List Record → List HostQueue → List DeviceQueue → List Job → Type 0
-DeletionsAreHeard rs hs ds js = (q : ℕ) → is_hoped_at hs q ≡ true → is_absent_at ds q ≡ true → Settles rs ds js q
+abbrev pub creates_cq : ℕ → AdminKind → Bool
+creates_cq q (Abort a cid) = false
+creates_cq q (DeleteSq a) = false
+creates_cq q (DeleteCq a) = false
+creates_cq q (CreateCq a n base) = a % 65536 == q
+creates_cq q (CreateSq a n base) = false
+
+abbrev pub creates_sq : ℕ → AdminKind → Bool
+creates_sq q (Abort a cid) = false
+creates_sq q (DeleteSq a) = false
+creates_sq q (DeleteCq a) = false
+creates_sq q (CreateCq a n base) = false
+creates_sq q (CreateSq a n base) = a % 65536 == q
+
+-- whether the command of an identifier is such a one
+abbrev pub is_kind : (AdminKind → Bool) → List Record → ℕ → Bool
+is_kind test rs c = option_map_or test (kind_at rs c) false
+
+-- whether an admin job will be answered with success
+abbrev pub succeeds : Job → Bool
+succeeds j = option_map_or is_success j.verdict false
+
+-- how many such commands were not fetched or have failed, and are not heard of
+abbrev pub unmade : (AdminKind → Bool) → List Record → List SubEntry → List Job → List Answer → ℕ
+unmade test rs un js ans =
+    total (λ e. one (is_kind test rs e.cid)) un
+    + (total (λ j. one ((j.q == 0) && is_kind test rs j.entry.cid && not (succeeds j))) js
+    + total (λ an. one (is_kind test rs an.cid && not (is_success an.status))) ans)
+
+-- how many such commands are answered with success, and are not heard of
+abbrev pub answered_well : (AdminKind → Bool) → List Record → List Answer → ℕ
+answered_well test rs ans = total (λ an. one (is_kind test rs an.cid && is_success an.status)) ans
+
+-- and how many have succeeded, answered or not
+abbrev pub done_well : (AdminKind → Bool) → List Record → List Job → List Answer → ℕ
+done_well test rs js ans =
+    total (λ j. one ((j.q == 0) && is_kind test rs j.entry.cid && succeeds j)) js + answered_well test rs ans
+
+-- what the host knows of a queue
+abbrev pub knows_deleted_at : List HostQueue → ℕ → Bool
+knows_deleted_at hs q = option_map_or (λ h. is_known_deleted h.state) (slice_get hs q) false
+
+abbrev pub is_gone_at : List HostQueue → ℕ → Bool
+is_gone_at hs q = option_map_or (λ h. is_gone h.state) (slice_get hs q) false
+
+-- the tokens of a queue's submission side, and of its completion side
+abbrev pub submission_tokens : List Record → List HostQueue → List DeviceQueue → List Job → ℕ → ℕ
+submission_tokens rs hs ds js q =
+    one (not (is_absent_at ds q)) + (answered_well (deletes_sq q) rs (answering ds) + (one (knows_deleted_at hs q) + unmade (creates_sq q) rs (waiting ds) js (answering ds)))
+
+abbrev pub completion_tokens : List Record → List HostQueue → List DeviceQueue → List Job → ℕ → ℕ
+completion_tokens rs hs ds js q =
+    one (has_completions_at ds q) + (done_well (deletes_cq q) rs js (answering ds) + (one (is_gone_at hs q) + unmade (creates_cq q) rs (waiting ds) js (answering ds)))
+
+-- what tells that a submission queue is there: the host has it live, or its deletion has not succeeded, or its creation has
+abbrev pub is_live_at : List HostQueue → ℕ → Bool
+is_live_at hs q = option_map_or (λ h. is_live h.state) (slice_get hs q) false
+
+abbrev pub submission_signs : List Record → List HostQueue → List DeviceQueue → List Job → ℕ → ℕ
+submission_signs rs hs ds js q = one (is_live_at hs q) + (unmade (deletes_sq q) rs (waiting ds) js (answering ds) + done_well (creates_sq q) rs js (answering ds))
+
+-- Each queue has no two tokens of its submission side, nor of its completion side, and a submission queue of which something tells that it is there is.
+pub record TokensGoRound (rs : List Record) (hs : List HostQueue) (ds : List DeviceQueue) (js : List Job) : Type 0 where
+  pub submission : (q : ℕ) → submission_tokens rs hs ds js q ≤ 1
+  pub completion : (q : ℕ) → completion_tokens rs hs ds js q ≤ 1
+  pub there : (q : ℕ) → q < length hs → 0 < submission_signs rs hs ds js q → is_absent_at ds q ≡ false
 
 -- Commands of every queue
 
--- whether the host gave the submission half of a queue back
-abbrev pub is_given_back_at : List HostQueue → ℕ → Bool
-is_given_back_at hs q = option_map_or (λ h. not (has_sq h.state)) (slice_get hs q) false
+-- whether a queue is out of service at the host
+abbrev pub is_out_of_service_at : List HostQueue → ℕ → Bool
+is_out_of_service_at hs q = option_map_or (λ h. not (in_service h.state)) (slice_get hs q) false
 
 -- the answers of a queue that were not reaped
 abbrev pub answers_at : List DeviceQueue → ℕ → List Answer
 answers_at qs q = option_map_or (λ at. at.answers) (slice_get qs q) []
 
--- how much the entries count that a queue has not fetched, by their identifiers; of a retired queue none does
+-- how much the entries count that a queue has not fetched, by their identifiers; of a queue out of service none does
 abbrev pub unfetched_count : ℕ → (ℕ → ℕ) → List HostQueue → List DeviceQueue → ℕ
-unfetched_count q w hs qs = if is_given_back_at hs q then 0 else total (λ e. w e.cid) (unfetched_at qs q)
+unfetched_count q w hs qs = if is_out_of_service_at hs q then 0 else total (λ e. w e.cid) (unfetched_at qs q)
 
 -- how much a job of a queue counts, by its identifier
 abbrev pub job_weight : ℕ → (ℕ → ℕ) → Job → ℕ
@@ -184,7 +256,7 @@ pub record IsHeadBehind (n k : ℕ) (queue : HostQueue) (ans : List Answer) : Ty
 -- identifiers are in range, and the heads of a queue are behind its tail by no more than its submitted commands
 pub record AreHeadsBehind (n : ℕ) (hs : List HostQueue) (rs : List Record) (qs : List DeviceQueue) : Type 0 where
   pub ids : AllByRecursion (λ r. r.cid < n - 1) rs
-  pub behind : (q : ℕ) (queue : HostQueue) → slice_get hs q ≡ Some queue → has_sq queue.state ≡ true → IsHeadBehind n (sent_count q rs) queue (answers_at qs q)
+  pub behind : (q : ℕ) (queue : HostQueue) → slice_get hs q ≡ Some queue → in_service queue.state ≡ true → IsHeadBehind n (sent_count q rs) queue (answers_at qs q)
 
 -- All of it: what each step keeps as long as nothing is forged. It speaks of the state alone, and of no step that led to it.
 pub record SidesAgree (s : State) : Type 0 where
@@ -195,12 +267,13 @@ pub record SidesAgree (s : State) : Type 0 where
   pub some_entries : 0 < s.entries
   pub few_queues : length s.host.queues ≤ 65536
   pub few_pages : length s.memory ≤ 65536
-  -- queue by queue, the host's part fits the controller's, and a job's queue is there
+  -- queue by queue, the host's part fits the controller's, and a job's queue is there, and in service at the host
   pub pairs : QueuesFit s.entries s.host.queues s.device.queues
   pub job_queues : (q : ℕ) → 0 < total (on_queue q) s.device.jobs → is_absent_at s.device.queues q ≡ false
-  -- admin commands stand once, and of a queue that one deleted the host hears
-  pub admin_commands : AdminCommandsStand s.host.records (waiting s.device.queues) s.device.jobs (answering s.device.queues) s.device.queues
-  pub deletions_heard : DeletionsAreHeard s.host.records s.host.queues s.device.queues s.device.jobs
+  pub job_service : (q : ℕ) → 0 < total (on_queue q) s.device.jobs → is_out_of_service_at s.host.queues q ≡ false
+  -- admin commands stand once, and what they delete and make the host hears
+  pub admin_commands : AdminCommandsStand s.host.records (waiting s.device.queues) s.device.jobs (answering s.device.queues)
+  pub tokens : TokensGoRound s.host.records s.host.queues s.device.queues s.device.jobs
   -- commands stand as they were submitted, in no more places than they are, and a job's walk has a unit left
   pub commands : CommandsStand s.memory s.device.queues s.device.jobs s.host.records
   pub places : CommandsStandOnce s.host.queues s.host.records s.device.queues s.device.jobs

@@ -12,7 +12,7 @@ use Rattle.page_ledger.specs.declared.owner.Owner.TheVariants.{Free, Queue, Comm
 use Rattle.page_ledger.specs.declared.owner.Owner.{Owner}
 use Rattle.machine_model.specs.Memory.{is_in}
 use Rattle.machine_model.specs.State.{State, Host, HostQueue, Record, outstanding_on, pages_of}
-use Rattle.machine_model.specs.Refusals.{is_drafted, is_collected, is_asked, is_live, deletes_sq_of}
+use Rattle.machine_model.specs.Refusals.{is_drafted, is_collected, is_asked, is_live, is_making, is_making_cq, is_making_sq, has_sq, has_cq, deletes_sq_of, creates_cq_of, creates_sq_of}
 use Rattle.machine_model.specs.Step.{Step, times}
 use Rattle.machine_model.specs.Opening.{opening, Opens}
 use Rattle.machine_model.specs.Commands.{Work, Io, Management}
@@ -68,6 +68,23 @@ abbrev pub DeletionsFit : Host → Type 0
 DeletionsFit h =
     (q : ℕ) → length (filter (λ r. deletes_sq_of q r.work) h.records) ≡ (if option_map_or (λ queue. is_asked queue.state) (slice_get h.queues q) false then 1 else 0)
 
+-- so is one creation of a half where the host waits for it
+abbrev pub CreationsFit : Host → Type 0
+CreationsFit h =
+    (q : ℕ)
+    → (length (filter (λ r. creates_cq_of q r.work) h.records) ≡ (if option_map_or (λ queue. is_making_cq queue.state) (slice_get h.queues q) false then 1 else 0))
+    × (length (filter (λ r. creates_sq_of q r.work) h.records) ≡ (if option_map_or (λ queue. is_making_sq queue.state) (slice_get h.queues q) false then 1 else 0))
+
+-- no command of a queue is outstanding while the queue is made again
+abbrev pub NewQueuesAreBare : Host → Type 0
+NewQueuesAreBare h =
+    (q : ℕ) → option_map_or (λ queue. is_making queue.state) (slice_get h.queues q) false ≡ true → length (outstanding_on h q) ≡ 0
+
+-- a queue has no page of a half that the host has not
+pub record HasNoOtherPages (queue : HostQueue) : Type 0 where
+  pub submission : has_sq queue.state ≡ false → queue.sq_pages ≡ []
+  pub completion : has_cq queue.state ≡ false → queue.cq_pages ≡ []
+
 -- queue 0 is never deleted
 abbrev pub AdminLives : List HostQueue → Type 0
 AdminLives queues = option_map_or (λ queue. is_live queue.state) (slice_get queues 0) true ≡ true
@@ -80,6 +97,9 @@ pub record IsSound (s : State) : Type 0 where
   pub out : IsOutWithItsCommand s
   pub works_fit : AllByRecursion (λ r. OwnsFit r.q r.work (pages_of r)) s.host.records
   pub deletions : DeletionsFit s.host
+  pub creations : CreationsFit s.host
+  pub bare : NewQueuesAreBare s.host
+  pub halves : AllByRecursion HasNoOtherPages s.host.queues
   pub admin : AdminLives s.host.queues
 
 abbrev pub each_step_keeps : Type 0

@@ -5,7 +5,7 @@ use Rattle.io_commands.specs.Drafts.{DraftContents}
 use Rattle.io_commands.specs.Values.{FinishedContents}
 use Rattle.io_commands.specs.Asked.{Request}
 pub use Rattle.machine_model.specs.declared.words.Refusal.{Refusal}
-pub use Rattle.machine_model.specs.declared.words.Refusal.TheVariants.{NoQueue, Deleting, Bad, NoIdentifier, NoPages, Memory, Stranger, NotBuilt, QueueGone, QueueFull, NotYet, WrongState, NoSuchCommand, NotDeleted, NotDrained, NoSlot, Idle, SlotOut, Full, NoJob, Nothing, Walking, Waits}
+pub use Rattle.machine_model.specs.declared.words.Refusal.TheVariants.{NoQueue, Deleting, Bad, NoIdentifier, NoPages, Memory, Stranger, NotBuilt, QueueGone, QueueFull, NotYet, WrongState, NoSuchCommand, NotDeleted, NotDrained, Outstanding, NoRun, NoSlot, Idle, SlotOut, Full, NoJob, Nothing, Walking, Waits}
 pub use Rattle.machine_model.specs.declared.words.RejectedFor.{RejectedFor}
 pub use Rattle.machine_model.specs.declared.words.RejectedFor.TheVariants.{WrongQueue, BadHead, UnknownId}
 pub use Rattle.machine_model.specs.declared.words.Reaped.{Reaped}
@@ -22,6 +22,8 @@ pub data Event : Type 0 where
   Abort : (q cid : ℕ) → Event
   DeleteSq : (q : ℕ) → Event
   DeleteCq : (q : ℕ) → Event
+  CreateCq : (q : ℕ) → Event
+  CreateSq : (q : ℕ) → Event
   Retire : (q : ℕ) → Event
   Fetch : (q : ℕ) → Event
   Walk : (q cid : ℕ) → Event

@@ -28,6 +28,7 @@ pub mod WorkedChains
 pub mod WorkedWalks
 pub mod WorkedQueues
 pub mod WorkedAdmin
+pub mod WorkedCreations
 pub mod WorkedForged
 pub mod WorkedLaws
 pub mod WorkedSound

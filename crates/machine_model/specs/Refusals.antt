@@ -2,11 +2,13 @@
 use Rattle.std.specs.Prelude.{ℕ, ◌+◌, ◌*◌, ◌-◌, ◌/◌, ◌%◌, ◌==◌, nat_lt, nat_le, Bool, true, false, ◌&&◌, ◌||◌, not, Option, Some, None, List, [], ◌∷◌, length, find, is_some, is_none, slice_get, slice_index, slice_range, option_and_then, if◌then◌else◌, nat_eq}
 use Rattle.std.specs.List.{list_any}
 use Rattle.std.specs.Option.{option_map, option_map_or}
-use Rattle.machine_model.specs.Placement.{wanted_of}
+use Rattle.machine_model.specs.Placement.{wanted_of, first_of_run}
+use Rattle.page_memory.specs.declared.page.Half.{Half}
+use Rattle.page_memory.specs.declared.page.Half.TheVariants.{Submission, Completion}
 use Rattle.entry_codec.specs.Completion.{completion_of}
 use Rattle.admin_commands.specs.Verdicts.{is_live as is_running}
 use Rattle.io_commands.specs.Values.{numbers_of}
-use Rattle.admin_commands.specs.declared.AdminKind.TheVariants.{Abort, DeleteSq, DeleteCq}
+use Rattle.admin_commands.specs.declared.AdminKind.TheVariants.{Abort, DeleteSq, DeleteCq, CreateCq, CreateSq}
 use Rattle.entry_codec.specs.declared.completion.ComEntry.{ComEntry}
 use Rattle.entry_codec.specs.declared.submission.SubEntry.{SubEntry}
 use Rattle.io_commands.specs.Requests.{fault_of}
@@ -20,10 +22,10 @@ use Rattle.io_commands.specs.declared.request.Kind.{Kind}
 use Rattle.page_memory.specs.Pages.{Pages, page_at}
 use Rattle.machine_model.specs.Memory.{is_in}
 use Rattle.machine_model.specs.Commands.{Work, Io, Management}
-use Rattle.machine_model.specs.State.{State, HostQueue, HostState, Live, Deleting, Retired, Gone, DeviceQueue, Record, Phase, Drafted, Submitted, Held, Collected, Job, Answer, record_at, outstanding_on}
+use Rattle.machine_model.specs.State.{State, HostQueue, HostState, Live, Deleting, Retired, Gone, MakingCq, HalfMade, MakingSq, DeviceQueue, Record, Phase, Drafted, Submitted, Held, Collected, Job, Answer, record_at, outstanding_on}
 use Rattle.machine_model.specs.Events as events
 use Rattle.machine_model.specs.Events.{Event, Refusal}
-use Rattle.queue_pair.specs.Memory.{with_phase}
+use Rattle.queue_pair.specs.Memory.{with_phase, half_pages}
 use Rattle.queue_pair.specs.Slots.{is_full, moved}
 use Rattle.io_commands.specs.Jobs.{is_success}
 use Rattle.entry_codec.specs.declared.admin_opcode.TheConstants.{DELETE_IO_SQ}
@@ -43,18 +45,27 @@ is_live Live = true
 is_live (Deleting noted) = false
 is_live Retired = false
 is_live Gone = false
+is_live MakingCq = false
+is_live HalfMade = false
+is_live MakingSq = false
 
 abbrev pub is_deleting : HostState → Bool
 is_deleting Live = false
 is_deleting (Deleting noted) = true
 is_deleting Retired = false
 is_deleting Gone = false
+is_deleting MakingCq = false
+is_deleting HalfMade = false
+is_deleting MakingSq = false
 
 abbrev pub is_deleted : HostState → Bool
 is_deleted Live = false
 is_deleted (Deleting noted) = noted
 is_deleted Retired = false
 is_deleted Gone = false
+is_deleted MakingCq = false
+is_deleted HalfMade = false
+is_deleted MakingSq = false
 
 -- its deletion was asked for and not answered
 abbrev pub is_asked : HostState → Bool
@@ -62,18 +73,55 @@ is_asked Live = false
 is_asked (Deleting noted) = not noted
 is_asked Retired = false
 is_asked Gone = false
+is_asked MakingCq = false
+is_asked HalfMade = false
+is_asked MakingSq = false
 
 abbrev pub is_retired : HostState → Bool
 is_retired Live = false
 is_retired (Deleting noted) = false
 is_retired Retired = true
 is_retired Gone = false
+is_retired MakingCq = false
+is_retired HalfMade = false
+is_retired MakingSq = false
 
 abbrev pub is_gone : HostState → Bool
 is_gone Live = false
 is_gone (Deleting noted) = false
 is_gone Retired = false
 is_gone Gone = true
+is_gone MakingCq = false
+is_gone HalfMade = false
+is_gone MakingSq = false
+
+-- the creation of its completion queue was asked for and not answered, and so that of its submission queue
+abbrev pub is_making_cq : HostState → Bool
+is_making_cq Live = false
+is_making_cq (Deleting noted) = false
+is_making_cq Retired = false
+is_making_cq Gone = false
+is_making_cq MakingCq = true
+is_making_cq HalfMade = false
+is_making_cq MakingSq = false
+
+abbrev pub is_half_made : HostState → Bool
+is_half_made Live = false
+is_half_made (Deleting noted) = false
+is_half_made Retired = false
+is_half_made Gone = false
+is_half_made MakingCq = false
+is_half_made HalfMade = true
+is_half_made MakingSq = false
+
+abbrev pub is_making_sq : HostState → Bool
+is_making_sq Live = false
+is_making_sq (Deleting noted) = false
+is_making_sq Retired = false
+is_making_sq Gone = false
+is_making_sq MakingCq = false
+is_making_sq HalfMade = false
+is_making_sq MakingSq = true
 
 -- whether the host has its submission half
 abbrev pub has_sq : HostState → Bool
@@ -81,6 +129,9 @@ has_sq Live = true
 has_sq (Deleting noted) = true
 has_sq Retired = false
 has_sq Gone = false
+has_sq MakingCq = false
+has_sq HalfMade = false
+has_sq MakingSq = true
 
 -- whether the host has its completion half
 abbrev pub has_cq : HostState → Bool
@@ -88,6 +139,58 @@ has_cq Live = true
 has_cq (Deleting noted) = true
 has_cq Retired = true
 has_cq Gone = false
+has_cq MakingCq = true
+has_cq HalfMade = true
+has_cq MakingSq = true
+
+-- whether its I/O commands are taken or known: it was made, and its submission half is not given back
+abbrev pub in_service : HostState → Bool
+in_service Live = true
+in_service (Deleting noted) = true
+in_service Retired = false
+in_service Gone = false
+in_service MakingCq = false
+in_service HalfMade = false
+in_service MakingSq = false
+
+-- whether its completions are reaped: it was made, and its completion half is not given back
+abbrev pub is_reaped : HostState → Bool
+is_reaped Live = true
+is_reaped (Deleting noted) = true
+is_reaped Retired = true
+is_reaped Gone = false
+is_reaped MakingCq = false
+is_reaped HalfMade = false
+is_reaped MakingSq = false
+
+-- whether its rings are made and not both in use yet
+abbrev pub is_making : HostState → Bool
+is_making Live = false
+is_making (Deleting noted) = false
+is_making Retired = false
+is_making Gone = false
+is_making MakingCq = true
+is_making HalfMade = true
+is_making MakingSq = true
+
+-- whether it waits for the end of a deletion or a creation, and whether it has its completion half alone
+abbrev pub is_changing : HostState → Bool
+is_changing Live = false
+is_changing (Deleting noted) = true
+is_changing Retired = false
+is_changing Gone = false
+is_changing MakingCq = true
+is_changing HalfMade = false
+is_changing MakingSq = true
+
+abbrev pub has_cq_alone : HostState → Bool
+has_cq_alone Live = false
+has_cq_alone (Deleting noted) = false
+has_cq_alone Retired = true
+has_cq_alone Gone = false
+has_cq_alone MakingCq = false
+has_cq_alone HalfMade = true
+has_cq_alone MakingSq = false
 
 -- whether the host's state of a queue passes a test; an unknown queue passes none
 abbrev pub in_state : (HostState → Bool) → State → ℕ → Bool
@@ -166,6 +269,13 @@ pages_wanted s r = wanted_of s.host.free s.segment r.pieces
 abbrev pub no_identifier : State → ℕ → Bool
 no_identifier s q = nat_le (s.entries - 1) (length (outstanding_on s.host q))
 
+-- where the lowest run of free pages for a half begins
+abbrev pub run_for : State → Half → Option ℕ
+run_for s half = first_of_run s.host.free (half_pages s.entries half)
+
+abbrev pub is_io_queue : State → ℕ → Bool
+is_io_queue s q = not (q == 0) && is_some (host_queue s q)
+
 -- one slot is left empty
 abbrev pub queue_full : State → ℕ → Bool
 queue_full s q = option_map_or (λ queue. is_full s.entries queue.ring.known_head queue.ring.tail) (host_queue s q) true
@@ -175,12 +285,32 @@ deletes_cq_of q (Io r) = false
 deletes_cq_of q (Management (Abort a b)) = false
 deletes_cq_of q (Management (DeleteSq a)) = false
 deletes_cq_of q (Management (DeleteCq a)) = a == q
+deletes_cq_of q (Management (CreateCq a n base)) = false
+deletes_cq_of q (Management (CreateSq a n base)) = false
 
 abbrev pub deletes_sq_of : ℕ → Work → Bool
 deletes_sq_of q (Io r) = false
 deletes_sq_of q (Management (Abort a b)) = false
 deletes_sq_of q (Management (DeleteSq a)) = a == q
 deletes_sq_of q (Management (DeleteCq a)) = false
+deletes_sq_of q (Management (CreateCq a n base)) = false
+deletes_sq_of q (Management (CreateSq a n base)) = false
+
+abbrev pub creates_cq_of : ℕ → Work → Bool
+creates_cq_of q (Io r) = false
+creates_cq_of q (Management (Abort a b)) = false
+creates_cq_of q (Management (DeleteSq a)) = false
+creates_cq_of q (Management (DeleteCq a)) = false
+creates_cq_of q (Management (CreateCq a n base)) = a == q
+creates_cq_of q (Management (CreateSq a n base)) = false
+
+abbrev pub creates_sq_of : ℕ → Work → Bool
+creates_sq_of q (Io r) = false
+creates_sq_of q (Management (Abort a b)) = false
+creates_sq_of q (Management (DeleteSq a)) = false
+creates_sq_of q (Management (DeleteCq a)) = false
+creates_sq_of q (Management (CreateCq a n base)) = false
+creates_sq_of q (Management (CreateSq a n base)) = a == q
 
 abbrev pub cq_deletion_outstanding : State → ℕ → Bool
 cq_deletion_outstanding s q = list_any (λ r. deletes_cq_of q r.work) s.host.records
@@ -268,7 +398,7 @@ job_is test s q cid = option_map_or test (job_at s q cid) false
 -- The refusals
 
 abbrev pub no_io_queue : State → ℕ → Bool
-no_io_queue s q = (q == 0) || not (in_state has_sq s q)
+no_io_queue s q = (q == 0) || not (in_state in_service s q)
 
 abbrev pub reserve_causes : State → ℕ → Request → Option RequestFault → List (Bool × Refusal)
 reserve_causes s q r bad =
@@ -291,8 +421,8 @@ causes s (events.Submit d) =
 causes s (events.Cancel d) =
     (not (record_is (is_of is_drafted d.request (numbers_of d.data_pages) (numbers_of d.chain_pages)) s d.q d.cid), events.Stranger) ∷ []
 causes s (events.Ring q) =
-    (not (in_state has_sq s q), events.NoQueue) ∷ []
-causes s (events.Reap q) = (not (in_state has_cq s q), events.NoQueue) ∷ []
+    (not (in_state in_service s q), events.NoQueue) ∷ []
+causes s (events.Reap q) = (not (in_state is_reaped s q), events.NoQueue) ∷ []
 causes s (events.Collect q cid) =
     (not (record_is (λ r. is_submitted r.phase || is_held r.phase) s q cid), events.Stranger)
     ∷ (record_is (λ r. is_submitted r.phase) s q cid, events.NotYet)
@@ -314,14 +444,29 @@ causes s (events.DeleteSq q) =
     ∷ []
 causes s (events.DeleteCq q) =
     ((q == 0) || not (in_state has_cq s q), events.NoQueue)
-    ∷ (in_state is_deleting s q || (in_state is_retired s q && cq_deletion_outstanding s q), events.WrongState)
+    ∷ (in_state is_changing s q || (in_state has_cq_alone s q && cq_deletion_outstanding s q), events.WrongState)
     ∷ (no_identifier s 0, events.NoIdentifier)
+    ∷ (queue_full s 0, events.QueueFull)
+    ∷ []
+causes s (events.CreateCq q) =
+    (not (is_io_queue s q), events.NoQueue)
+    ∷ (not (in_state is_gone s q), events.WrongState)
+    ∷ (nat_lt 0 (length (outstanding_on s.host q)), events.Outstanding)
+    ∷ (no_identifier s 0, events.NoIdentifier)
+    ∷ (is_none (run_for s Completion), events.NoRun (half_pages s.entries Completion))
+    ∷ (queue_full s 0, events.QueueFull)
+    ∷ []
+causes s (events.CreateSq q) =
+    (not (is_io_queue s q), events.NoQueue)
+    ∷ (not (in_state is_half_made s q) || cq_deletion_outstanding s q, events.WrongState)
+    ∷ (no_identifier s 0, events.NoIdentifier)
+    ∷ (is_none (run_for s Submission), events.NoRun (half_pages s.entries Submission))
     ∷ (queue_full s 0, events.QueueFull)
     ∷ []
 causes s (events.Retire q) =
     (not (in_state is_deleted s q), events.NotDeleted) ∷ (is_some (seen_entry s q), events.NotDrained) ∷ []
 causes s (events.Forge q slot bytes) =
-    (not (in_state has_cq s q), events.NoQueue)
+    (not (in_state is_reaped s q), events.NoQueue)
     ∷ (nat_le s.entries slot, events.NoSlot)
     ∷ []
 causes s (events.Fetch q) =

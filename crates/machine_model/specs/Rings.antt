@@ -1,5 +1,5 @@
 -- The machine with the controller's own rings, as the code keeps them: it reads slots and answers into slots, and hears doorbells. It decides what a forged entry leaves open.
-use Rattle.std.specs.Prelude.{ℕ, ◌*◌, ◌==◌, nat_lt, Bool, false, ◌||◌, not, List, [], ◌∷◌, length, replicate, slice_get, is_some, is_none, if◌then◌else◌}
+use Rattle.std.specs.Prelude.{ℕ, ◌*◌, ◌/◌, ◌==◌, nat_lt, Bool, false, ◌||◌, not, List, [], ◌∷◌, length, map, replicate, slice_get, is_some, is_none, if◌then◌else◌}
 use Rattle.std.specs.Option.{option_map_or}
 use Rattle.entry_codec.specs.Completion.{completion_bytes}
 use Rattle.admin_commands.specs.Verdicts.{is_live as is_running}
@@ -11,7 +11,11 @@ use Rattle.entry_codec.specs.declared.status.Status.{Status}
 use Rattle.machine_model.specs.Memory.{is_in, memory_of}
 use Rattle.machine_model.specs.State.{State, HostQueue, Job}
 use Rattle.machine_model.specs.Refusals.{host_queue, device_queue, slot_page, slot_offset, job_at, waits}
-use Rattle.machine_model.specs.After.{change, on_memory, on_device, begun, managed, final_status, image_completed, deletion_done, without_job}
+use Rattle.admin_commands.specs.Verdicts.{decision}
+use Rattle.admin_commands.specs.declared.AdminVerdict.{AdminVerdict}
+use Rattle.admin_commands.specs.declared.AdminVerdict.TheVariants.{Answer as Answered, AbortJob, StopQueue, DropCompletion, MakeCompletion, MakeSubmission}
+use Rattle.page_ledger.specs.Owners.{pages_from}
+use Rattle.machine_model.specs.After.{change, on_memory, on_device, begun, managed, view_of, final_status, image_completed, deletion_done, without_job}
 use Rattle.machine_model.specs.Events as events
 use Rattle.machine_model.specs.Events.{Refusal}
 use Rattle.machine_model.specs.Script as script
@@ -20,12 +24,20 @@ use Rattle.queue_pair.specs.Rings.{DeviceRing, fresh_device_ring, hearing_tail, 
 use Rattle.queue_pair.specs.Slots.{is_full, is_in_range}
 use Rattle.queue_pair.specs.Memory.{entry_at}
 
+-- beside the machine the controller's rings, and the page where it has each submission ring
 pub record Bench : Type 0 where
   pub table : Table
   pub rings : List DeviceRing
+  pub halves : List ℕ
 
+-- as it opens, each half is one page: the submission half of queue q is page 2 q
 abbrev pub bench : Table → Bench
-bench t = record { table = t; rings = replicate (length t.world.host.queues) fresh_device_ring }
+bench t =
+    record {
+      table = t;
+      rings = replicate (length t.world.host.queues) fresh_device_ring;
+      halves = map (λ q. 2 * q) (pages_from 0 (length t.world.host.queues));
+    }
 
 abbrev pub ring_of : Bench → ℕ → DeviceRing
 ring_of b q = option_map_or (λ r. r) (slice_get b.rings q) fresh_device_ring
@@ -65,6 +77,18 @@ post q cid st dw0 b =
 abbrev pub refuse : Bench → Refusal → Bench × Said
 refuse b why = (b, script.refused why)
 
+-- what is made begins with fresh rings, a submission queue at the page that its entry names
+abbrev pub made : AdminVerdict → Bench → Bench
+made (Answered st dw0) b = b
+made (AbortJob q cid) b = b
+made (StopQueue q) b = b
+made (DropCompletion q) b = b
+made (MakeCompletion q base) b = on_ring_of q (λ r. fresh_device_ring) b
+made (MakeSubmission q base) b = on_ring_of q (λ r. fresh_device_ring) (record b { halves = change q (λ page. base / 4096) b.halves })
+
+abbrev pub managed_entry : SubEntry → Bench → Bench
+managed_entry e b = made (decision e (view_of (world_of b) e)) (with_world (managed e) b)
+
 abbrev pub fetched_entry : ℕ → ℕ → SubEntry → Bench → Bench × Said
 fetched_entry q page e b =
     let taken = on_ring_of q (entry_taken (world_of b).entries) b in
@@ -72,7 +96,7 @@ fetched_entry q page e b =
     then (if ring_full_at (world_of b).entries (ring_of b q) then refuse b events.Full
     else if not (is_in (world_of b).memory (cq_page b q)) then refuse b events.SlotOut
     else (post q e.cid COMMAND_ID_CONFLICT 0 taken, script.fetched e.cid (page ∷ cq_page b q ∷ [])))
-    else (with_world (λ s. if q == 0 then managed e s else begun q e s) taken, script.fetched e.cid (page ∷ []))
+    else (if q == 0 then managed_entry e taken else with_world (begun q e) taken, script.fetched e.cid (page ∷ []))
 
 abbrev pub fetch_exactly : (page : ℕ) → Bench → ℕ → Bench × Said
 fetch_exactly page b q =
@@ -92,9 +116,9 @@ complete_exactly b q cid j =
       script.completed (cq_page b q ∷ []),
     ))
 
--- the host's lines are the machine's, with its doorbells heard; the halves stand where the opening put them, one page each
+-- the host's lines are the machine's, with its doorbells heard; each half has one page
 abbrev pub line' : Bench → Line → Bench × Said
-line' b (script.fetch q) = fetch_exactly (2 * q) b q
+line' b (script.fetch q) = fetch_exactly (option_map_or (λ page. page) (slice_get b.halves q) 0) b q
 line' b (script.complete q cid) = option_map_or (complete_exactly b q cid) (job_at (world_of b) q cid) (refuse b events.NoJob)
 line' b (script.ring q) =
     let step = line b.table (script.ring q) in

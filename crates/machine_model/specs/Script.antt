@@ -47,6 +47,8 @@ pub data Line : Type 0 where
   abort : (q cid : ℕ) → Line
   delete_sq : (q : ℕ) → Line
   delete_cq : (q : ℕ) → Line
+  create_cq : (q : ℕ) → Line
+  create_sq : (q : ℕ) → Line
   retire : (q : ℕ) → Line
   forge : (q slot : ℕ) → List ℕ → Line
 
@@ -213,6 +215,12 @@ line t (delete_sq q) =
 line t (delete_cq q) =
     let id = lowest_of (outstanding_on t.world.host 0) (pages_from 0 t.world.entries) in
     stepped t (events.DeleteCq q) (events.Sent id) (sent id) same_table
+line t (create_cq q) =
+    let id = lowest_of (outstanding_on t.world.host 0) (pages_from 0 t.world.entries) in
+    stepped t (events.CreateCq q) (events.Sent id) (sent id) same_table
+line t (create_sq q) =
+    let id = lowest_of (outstanding_on t.world.host 0) (pages_from 0 t.world.entries) in
+    stepped t (events.CreateSq q) (events.Sent id) (sent id) same_table
 line t (retire q) = stepped t (events.Retire q) events.Accepted ok same_table
 line t (forge q slot bytes) = stepped t (events.Forge q slot bytes) events.Accepted ok same_table
 

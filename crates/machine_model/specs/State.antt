@@ -8,7 +8,7 @@ use Rattle.machine_model.specs.Commands.{Work}
 pub use Rattle.machine_model.specs.declared.words.Phase.{Phase}
 pub use Rattle.machine_model.specs.declared.words.Phase.TheVariants.{Drafted, Submitted, Held, Collected}
 pub use Rattle.machine_model.specs.declared.words.HostState.{HostState}
-pub use Rattle.machine_model.specs.declared.words.HostState.TheVariants.{Live, Deleting, Retired, Gone}
+pub use Rattle.machine_model.specs.declared.words.HostState.TheVariants.{Live, Deleting, Retired, Gone, MakingCq, HalfMade, MakingSq}
 use Rattle.queue_pair.specs.Rings.{HostRing}
 
 -- an outstanding command. One of queue 0 owns no page and is submitted from its sending on

@@ -17,8 +17,8 @@ use io_commands::laws::laws_of_built_drafts;
 
 /// Whatever a step does, forged entries or not: where each page had exactly one owner, each page has one again.
 ///
-/// The four counts still add up to the pool, no identifier is outstanding twice on a queue, and a page is out exactly
-/// where a drafted or collected command has it.
+/// The four counts still add up to the pool, no identifier is outstanding twice on a queue, a page is out exactly
+/// where a drafted or collected command has it, and no command of a queue is outstanding while the queue is made again.
 pub fn law_of_steps()
     ensures { each_step_keeps }
 {}
@@ -51,8 +51,8 @@ pub fn law_of_positions()
     ensures runs { every_run_stays_in_rings }
 {}
 
-/// Each queue of the host has its halves until it gives them back, and none of their pages from then on: after every run from an
-/// opening, forged entries or not.
+/// Each queue of the host has its halves until it gives them back, the pages of each one after the other, and none of their pages from
+/// then on: after every run from an opening, forged entries or not.
 ///
 /// Each outstanding command has an identifier below its queue's entries less one, and an I/O command as many data and chain pages as its
 /// request wants. A sound state that is provided so stays so, whatever the step.

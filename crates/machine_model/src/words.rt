@@ -33,6 +33,12 @@ pub enum HostState {
     Retired,
     /// Both halves are given back.
     Gone,
+    /// The creation of its completion queue was sent.
+    MakingCq,
+    /// It has a completion queue, and no submission queue yet.
+    HalfMade,
+    /// The creation of its submission queue was sent.
+    MakingSq,
 }
 
 /// What an outstanding command is for.
@@ -82,6 +88,13 @@ pub enum Refusal {
     NotDeleted,
     /// A completion waits to be reaped.
     NotDrained,
+    /// A command of the queue is outstanding.
+    Outstanding,
+    /// No run of so many consecutive pages is free.
+    NoRun {
+        /// How many are needed.
+        need: u32,
+    },
     /// The queue has no such slot.
     NoSlot,
     /// There is nothing to fetch.

@@ -12,6 +12,7 @@ ghost use Rattle.machine_model.specs.Script as script;
 ghost use Rattle.machine_model.specs.WorkedAdmin as admin;
 ghost use Rattle.machine_model.specs.WorkedChains as chains;
 ghost use Rattle.machine_model.specs.WorkedChains.{small_segments};
+ghost use Rattle.machine_model.specs.WorkedCreations as creations;
 ghost use Rattle.machine_model.specs.WorkedForged as forged;
 ghost use Rattle.machine_model.specs.WorkedLaws as laws;
 ghost use Rattle.machine_model.specs.WorkedQueues as queues;
@@ -85,6 +86,17 @@ pub fn worked_admin()
     ensures two_cq_deletions { played ordinary admin.two_cq_deletions ≡ admin.two_cq_deletions_said }
 {}
 
+/// A queue that is gone is made again: the calls and what they answer, the bytes of the two entries, what is refused while
+/// half of it is there, and the pages that are left free.
+pub fn worked_creations()
+    ensures creation { played (left_by ordinary admin.queue_deletion) creations.creation ≡ creations.creation_said }
+    ensures completion_queue_entry { creations.entry_of (left_by ordinary admin.queue_deletion) (script.create_cq 1) ≡ creations.completion_queue_entry_said }
+    ensures submission_queue_entry { creations.entry_of (left_by (left_by ordinary admin.queue_deletion) (creations.managed (script.create_cq 1))) (script.create_sq 1) ≡ creations.submission_queue_entry_said }
+    ensures half_made_refusals { played (left_by ordinary admin.queue_deletion) creations.half_made_refusals ≡ creations.half_made_refusals_said }
+    ensures free_after_creation { free_of (left_by (left_by ordinary admin.queue_deletion) creations.creation) ≡ 11 }
+    ensures free_after_refusals { free_of (left_by (left_by ordinary admin.queue_deletion) creations.half_made_refusals) ≡ 14 }
+{}
+
 /// Forged completion entries: what the host is answered, whatever the controller's part is (blank or crowded).
 pub fn worked_forged()
     ensures three_rejections { played ordinary forged.three_rejections ≡ forged.three_rejections_said }
@@ -109,6 +121,8 @@ pub fn worked_touches()
     ensures two_segments { all_allowed (made_by small_segments chains.two_segments) ≡ true }
     ensures three_aborts { all_allowed (made_by ordinary admin.three_aborts) ≡ true }
     ensures queue_deletion { all_allowed (made_by ordinary admin.queue_deletion) ≡ true }
+    ensures creation { all_allowed (made_by (left_by ordinary admin.queue_deletion) creations.creation) ≡ true }
+    ensures half_made_refusals { all_allowed (made_by (left_by ordinary admin.queue_deletion) creations.half_made_refusals) ≡ true }
 {}
 
 /// What a walk may answer: the page that its unit touches, which it can't leave out.
@@ -153,6 +167,7 @@ pub fn worked_rings()
     ensures three_rejections { played_exactly (bench ordinary) forged.three_rejections ≡ forged.three_rejections_said }
     ensures three_aborts { played_exactly (bench ordinary) admin.three_aborts ≡ admin.three_aborts_said }
     ensures queue_deletion { played_exactly (bench ordinary) admin.queue_deletion ≡ admin.queue_deletion_said }
+    ensures creation { played_exactly (bench ordinary) creations.deleted_and_made ≡ creations.deleted_and_made_said }
     ensures abort_of_reused_identifier { played_exactly (bench ordinary) admin.abort_of_reused_identifier ≡ admin.abort_of_reused_identifier_said }
     ensures identifiers_run_out { played_exactly (bench ordinary) queues.identifiers_run_out ≡ queues.identifiers_run_out_said }
     ensures two_compares { played_exactly (bench ordinary) queues.two_compares ≡ queues.two_compares_said }
@@ -166,6 +181,8 @@ pub fn worked_rings()
 pub fn worked_owners()
     ensures three_aborts { sound.all_sound (made_by ordinary admin.three_aborts) ≡ true }
     ensures queue_deletion { sound.all_sound (made_by ordinary admin.queue_deletion) ≡ true }
+    ensures creation { sound.all_sound (made_by (left_by ordinary admin.queue_deletion) creations.creation) ≡ true }
+    ensures half_made_refusals { sound.all_sound (made_by (left_by ordinary admin.queue_deletion) creations.half_made_refusals) ≡ true }
     ensures bucket_behind_data { sound.all_sound (made_by ordinary chains.bucket_behind_data) ≡ true }
     ensures collected_while_walking { sound.all_sound (made_by ordinary forged.collected_while_walking) ≡ true }
     ensures identifier_of_a_job { sound.all_sound (made_by (left_by ordinary forged.three_submitted) forged.identifier_of_a_job) ≡ true }

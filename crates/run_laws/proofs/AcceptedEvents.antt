@@ -1,5 +1,5 @@
 -- An event that no cause refuses is accepted.
-use Rattle.std.proofs.Common.{◌≡◌, ℕ, ◌+◌, ◌-◌, ◌<◌, ◌≤◌, ◌==◌, nat_lt, nat_le, Bool, true, false, not, ◌&&◌, ◌||◌, Option, Some, None, List, [], ◌∷◌, ◌++◌, length, take, drop, slice_get, is_some, is_none, get_or, MatchBool, if◌then◌else◌, refl, ap, ap₂, sym, ◌∙◌, arith, subst, eqb-true}
+use Rattle.std.proofs.Common.{◌≡◌, ℕ, ◌+◌, ◌-◌, ◌<◌, ◌≤◌, ◌==◌, nat_lt, nat_le, Bool, true, false, not, ◌&&◌, ◌||◌, Option, Some, None, List, [], ◌∷◌, ◌++◌, length, slice_get, is_some, is_none, get_or, MatchBool, if◌then◌else◌, refl, ap, ap₂, sym, ◌∙◌, arith, subst, eqb-true}
 use Rattle.std.specs.Option.{option_map, option_map_or, option_and_then}
 use Rattle.std.proofs.lemmas.Bool.{true≢false, or_parts, and_parts, not-false, not-true}
 use Rattle.std.proofs.lemmas.Bool.Decides.{nat_tests}
@@ -11,16 +11,16 @@ use Rattle.controller_walk.specs.Units.{Act, touched, units}
 use Rattle.entry_codec.specs.declared.status.Status.{Status}
 use Rattle.entry_codec.specs.declared.submission.SubEntry.{SubEntry}
 use Rattle.io_commands.specs.Asked.{Request}
-use Rattle.io_commands.specs.Requests.{fault_of, data_count, joined_parts}
+use Rattle.io_commands.specs.Requests.{data_count, joined_parts}
 use Rattle.io_commands.specs.Drafts.{DraftContents}
-use Rattle.io_commands.specs.Values.{FinishedContents, numbers_of}
+use Rattle.io_commands.specs.Values.{FinishedContents}
 use Rattle.machine_model.specs.Memory.{is_in, zeroed_pages}
 use Rattle.machine_model.specs.Placement.{data_placed, chain_placed, chain_wanted}
 use Rattle.machine_model.specs.declared.words.Phase.{Phase}
 use Rattle.machine_model.specs.declared.words.Phase.TheVariants.{Drafted, Submitted, Held, Collected}
 use Rattle.machine_model.specs.declared.words.Refusal.TheVariants as refusals
 use Rattle.machine_model.specs.State.{State, Record, Job, is_at, record_at, outstanding_on}
-use Rattle.machine_model.specs.Refusals.{refusal_of, host_queue, next_rung, job_at, job_is, post_page, fetch_page, conflicts, answers_full, record_is, is_submitted, is_held, is_deleting, in_state, no_io_queue, no_identifier, queue_full, pages_wanted, is_retired, has_cq, cq_deletion_outstanding}
+use Rattle.machine_model.specs.Refusals.{refusal_of, host_queue, next_rung, job_at, job_is, post_page, fetch_page, conflicts, answers_full, record_is, is_submitted, is_held, no_identifier, pages_wanted}
 use Rattle.machine_model.specs.Proper.{IsProper}
 use Rattle.machine_model.specs.Claims.{IsSound}
 use Rattle.machine_model.specs.InOrder.{IsInOrder}
@@ -31,7 +31,7 @@ use Rattle.machine_model.specs.Events.{Event, Reply}
 use Rattle.machine_model.proofs.Steps.{part_controller}
 use Rattle.machine_model.proofs.Owned.{holds_from_sound}
 use Rattle.machine_model.proofs.Elsewhere.{owned_once}
-use Rattle.machine_model.proofs.Refused.{first_fails, rest_fails}
+use Rattle.machine_model.proofs.Refused.{first_fails, rest_fails, unrefused}
 use Rattle.machine_model.proofs.Placed.{is_job, find_sound}
 use Rattle.machine_model.proofs.Members.{all_at_found}
 use Rattle.machine_model.proofs.Agreed.{agreed_jobs}
@@ -106,28 +106,21 @@ by_sending s e proper c none answers free =
       step = (proper, permits_judged (AnswersAnything s e (events.Sent x.0)) (s.trusted || not (IsController e)) (host_judged s.trusted (IsController e) c) (none, answers x.0 x.1), left.1);
     }
 
+-- the events that send an admin command, each with its causes
 by_abort : (s : State) (q cid : ℕ) → refusal_of s (events.Abort q cid) ≡ None → IsAccepted s (events.Abort q cid)
-by_abort s q cid none =
-    by_sending s (events.Abort q cid) tt refl none (λ id new. new)
-    (first_fails (no_identifier s 0) refusals.NoIdentifier ((queue_full s 0, refusals.QueueFull) ∷ [])
-    (rest_fails (not (record_is (λ r. is_submitted r.phase) s q cid)) refusals.NoSuchCommand ((no_identifier s 0, refusals.NoIdentifier) ∷ (queue_full s 0, refusals.QueueFull) ∷ [])
-    (rest_fails (in_state is_deleting s q) refusals.WrongState ((not (record_is (λ r. is_submitted r.phase) s q cid), refusals.NoSuchCommand) ∷ (no_identifier s 0, refusals.NoIdentifier) ∷ (queue_full s 0, refusals.QueueFull) ∷ [])
-    (rest_fails (no_io_queue s q) refusals.NoQueue ((in_state is_deleting s q, refusals.WrongState) ∷ (not (record_is (λ r. is_submitted r.phase) s q cid), refusals.NoSuchCommand) ∷ (no_identifier s 0, refusals.NoIdentifier) ∷ (queue_full s 0, refusals.QueueFull) ∷ []) none))))
+by_abort s q cid none = by_sending s (events.Abort q cid) tt refl none (λ id new. new) (unrefused s (events.Abort q cid) none).1.1.1.0
 
 by_delete_sq : (s : State) (q : ℕ) → refusal_of s (events.DeleteSq q) ≡ None → IsAccepted s (events.DeleteSq q)
-by_delete_sq s q none =
-    by_sending s (events.DeleteSq q) tt refl none (λ id new. new)
-    (first_fails (no_identifier s 0) refusals.NoIdentifier ((queue_full s 0, refusals.QueueFull) ∷ [])
-    (rest_fails (in_state is_deleting s q) refusals.WrongState ((no_identifier s 0, refusals.NoIdentifier) ∷ (queue_full s 0, refusals.QueueFull) ∷ [])
-    (rest_fails (no_io_queue s q) refusals.NoQueue ((in_state is_deleting s q, refusals.WrongState) ∷ (no_identifier s 0, refusals.NoIdentifier) ∷ (queue_full s 0, refusals.QueueFull) ∷ []) none)))
+by_delete_sq s q none = by_sending s (events.DeleteSq q) tt refl none (λ id new. new) (unrefused s (events.DeleteSq q) none).1.1.0
 
 by_delete_cq : (s : State) (q : ℕ) → refusal_of s (events.DeleteCq q) ≡ None → IsAccepted s (events.DeleteCq q)
-by_delete_cq s q none =
-    by_sending s (events.DeleteCq q) tt refl none (λ id new. new)
-    (first_fails (no_identifier s 0) refusals.NoIdentifier ((queue_full s 0, refusals.QueueFull) ∷ [])
-    (rest_fails (in_state is_deleting s q || (in_state is_retired s q && cq_deletion_outstanding s q)) refusals.WrongState ((no_identifier s 0, refusals.NoIdentifier) ∷ (queue_full s 0, refusals.QueueFull) ∷ [])
-    (rest_fails ((q == 0) || not (in_state has_cq s q)) refusals.NoQueue
-    ((in_state is_deleting s q || (in_state is_retired s q && cq_deletion_outstanding s q), refusals.WrongState) ∷ (no_identifier s 0, refusals.NoIdentifier) ∷ (queue_full s 0, refusals.QueueFull) ∷ []) none)))
+by_delete_cq s q none = by_sending s (events.DeleteCq q) tt refl none (λ id new. new) (unrefused s (events.DeleteCq q) none).1.1.0
+
+by_create_cq : (s : State) (q : ℕ) → refusal_of s (events.CreateCq q) ≡ None → IsAccepted s (events.CreateCq q)
+by_create_cq s q none = by_sending s (events.CreateCq q) tt refl none (λ id new. new) (unrefused s (events.CreateCq q) none).1.1.1.0
+
+by_create_sq : (s : State) (q : ℕ) → refusal_of s (events.CreateSq q) ≡ None → IsAccepted s (events.CreateSq q)
+by_create_sq s q none = by_sending s (events.CreateSq q) tt refl none (λ id new. new) (unrefused s (events.CreateSq q) none).1.1.0
 
 -- Reserving
 
@@ -158,19 +151,7 @@ by_reserve s q r sound proper none =
     }
   where
     third : (no_identifier s q ≡ false) × (nat_lt (length s.host.free) (pages_wanted s r) ≡ false)
-    third =
-        let h1 = rest_fails (no_io_queue s q) refusals.NoQueue
-        ((in_state is_deleting s q, refusals.Deleting) ∷ (is_some (fault_of r.kind r.blocks r.pieces), option_map_or refusals.Bad (fault_of r.kind r.blocks r.pieces) refusals.NoQueue) ∷ (no_identifier s q, refusals.NoIdentifier)
-        ∷ (nat_lt (length s.host.free) (pages_wanted s r), refusals.NoPages (pages_wanted s r) (length s.host.free)) ∷ []) none in
-        let h2 = rest_fails (in_state is_deleting s q) refusals.Deleting
-        ((is_some (fault_of r.kind r.blocks r.pieces), option_map_or refusals.Bad (fault_of r.kind r.blocks r.pieces) refusals.NoQueue) ∷ (no_identifier s q, refusals.NoIdentifier)
-        ∷ (nat_lt (length s.host.free) (pages_wanted s r), refusals.NoPages (pages_wanted s r) (length s.host.free)) ∷ []) h1 in
-        let h3 = rest_fails (is_some (fault_of r.kind r.blocks r.pieces)) (option_map_or refusals.Bad (fault_of r.kind r.blocks r.pieces) refusals.NoQueue)
-        ((no_identifier s q, refusals.NoIdentifier) ∷ (nat_lt (length s.host.free) (pages_wanted s r), refusals.NoPages (pages_wanted s r) (length s.host.free)) ∷ []) h2 in (
-          first_fails (no_identifier s q) refusals.NoIdentifier ((nat_lt (length s.host.free) (pages_wanted s r), refusals.NoPages (pages_wanted s r) (length s.host.free)) ∷ []) h3,
-          first_fails (nat_lt (length s.host.free) (pages_wanted s r)) (refusals.NoPages (pages_wanted s r) (length s.host.free)) []
-              (rest_fails (no_identifier s q) refusals.NoIdentifier ((nat_lt (length s.host.free) (pages_wanted s r), refusals.NoPages (pages_wanted s r) (length s.host.free)) ∷ []) h3),
-        )
+    third = let fails = unrefused s (events.Reserve q r) none in (fails.1.1.1.0, fails.1.1.1.1.0)
 
     id : (cid : ℕ) × IsNewIdentifier s q cid
     id = new_identifier s q third.0
@@ -346,6 +327,8 @@ all_accepted s (events.Release f) ready proper judged none = by_plain s (events.
 all_accepted s (events.Abort q cid) ready proper judged none = by_abort s q cid none
 all_accepted s (events.DeleteSq q) ready proper judged none = by_delete_sq s q none
 all_accepted s (events.DeleteCq q) ready proper judged none = by_delete_cq s q none
+all_accepted s (events.CreateCq q) ready proper judged none = by_create_cq s q none
+all_accepted s (events.CreateSq q) ready proper judged none = by_create_sq s q none
 all_accepted s (events.Retire q) ready proper judged none = by_plain s (events.Retire q) proper refl none tt
 all_accepted s (events.Forge q slot bytes) ready proper judged none = by_plain s (events.Forge q slot bytes) proper refl none tt
 all_accepted s (events.Fetch q) ready proper judged none = by_fetch s q (trusted_only s.trusted judged) none

@@ -1,5 +1,5 @@
 -- Where identifiers and pages do not run out, there are free ones.
-use Rattle.std.proofs.Common.{◌≡◌, ◌⊎◌, inl, inr, ℕ, zero, suc, ◌+◌, ◌<◌, ◌≤◌, ◌==◌, nat_lt, Bool, true, false, ◌&&◌, List, [], ◌∷◌, ◌++◌, length, take, drop, if◌then◌else◌, refl, ap, ◌∙◌, arith}
+use Rattle.std.proofs.Common.{◌≡◌, ◌⊎◌, inl, inr, ℕ, zero, suc, ◌+◌, ◌<◌, ◌≤◌, ◌==◌, nat_lt, Bool, true, false, ◌&&◌, List, [], ◌∷◌, ◌++◌, length, if◌then◌else◌, refl, ap, arith}
 use Rattle.std.proofs.lemmas.Bool.Decides.{nat_tests}
 use Rattle.std.proofs.lemmas.List.Elements.{All-nil, All-cons, All-append}
 use Rattle.page_ledger.specs.Owners.{is_among}
@@ -7,7 +7,7 @@ use Rattle.page_memory.specs.Pages.{zero_page}
 use Rattle.io_commands.specs.Values.{numbers_of}
 use Rattle.machine_model.specs.Memory.{zeroed_pages}
 use Rattle.machine_model.specs.Step.{times, zeroed}
-use Rattle.machine_model.proofs.Counting.{one, times-cons, times-append, held_once, not_held, none_below}
+use Rattle.machine_model.proofs.Counting.{one, times-cons, held_once, not_held, none_below}
 
 -- Identifiers
 

@@ -102,6 +102,8 @@ entry_on s e reply g q cid wanted other far = record {
   fetches = λ rung at all. all_drop_one (λ (y : SubEntry). y.cid ≡ cid → y ≡ wanted) at.unfetched all;
   stops = λ at all. all;
   drops = λ at all. all;
+  makes_completion = λ at all. all;
+  makes_submission = λ at all. tt;
   clears = λ at all. tt;
   completes = λ c j head at is found all. all;
 }

@@ -38,29 +38,31 @@ use Rattle.run_laws.proofs.DataKept.{submits_far}
 abbrev pub NoEntry : ℕ → ℕ → State → Type 0
 NoEntry q cid s = AllByRecursion (λ (e : SubEntry). e.cid ≡ cid → ⊥) (list_at (λ at. at.unfetched) s.device.queues q)
 
-no_entry_on : (d : DraftContents) → (d.q == 0) ≡ false → (s : State) (e : Event) (reply : Reply) → Going s e reply → submits d.q d.cid (record { before = s; event = e; reply = reply }) ≡ false
-    → QueueMove (λ at. at.unfetched) (λ (x : SubEntry). x.cid ≡ d.cid → ⊥) d.q s e
-no_entry_on d other s e reply g far = record {
-  posts = λ x entry at is built z all. all_append (λ (y : SubEntry). y.cid ≡ d.cid → ⊥) at.unfetched (entry ∷ []) all (new x entry is built z, tt);
-  sends = λ entry at z all. absurd (true≢false (sym (eq-eqb d.q 0 (sym z)) ∙ other));
+no_entry_on : (q cid : ℕ) → (q == 0) ≡ false → (s : State) (e : Event) (reply : Reply) → Going s e reply → ((d : DraftContents) → e ≡ events.Submit d → ((d.q == q) && (d.cid == cid)) ≡ false)
+    → QueueMove (λ at. at.unfetched) (λ (x : SubEntry). x.cid ≡ cid → ⊥) q s e
+no_entry_on q cid other s e reply g far = record {
+  posts = λ x entry at is built z all. all_append (λ (y : SubEntry). y.cid ≡ cid → ⊥) at.unfetched (entry ∷ []) all (new x entry is built z, tt);
+  sends = λ entry at z all. absurd (true≢false (sym (eq-eqb q 0 (sym z)) ∙ other));
   rings = λ rung at all. all;
   reaps = λ at all. all;
-  fetches = λ rung at all. all_drop_one (λ (y : SubEntry). y.cid ≡ d.cid → ⊥) at.unfetched all;
+  fetches = λ rung at all. all_drop_one (λ (y : SubEntry). y.cid ≡ cid → ⊥) at.unfetched all;
   stops = λ at all. all;
   drops = λ at all. all;
+  makes_completion = λ at all. all;
+  makes_submission = λ at all. tt;
   clears = λ at all. tt;
-  completes = λ cid j head at is found all. all;
+  completes = λ c j head at is found all. all;
 }
   where
-    new : (x : DraftContents) (entry : SubEntry) → e ≡ events.Submit x → x.entry ≡ Some entry → x.q ≡ d.q → entry.cid ≡ d.cid → ⊥
+    new : (x : DraftContents) (entry : SubEntry) → e ≡ events.Submit x → x.entry ≡ Some entry → x.q ≡ q → entry.cid ≡ cid → ⊥
     new x entry is built z c =
         let proper : IsProper (events.Submit x) = subst IsProper is g.proper in
-        let cid : entry.cid ≡ x.cid = ap (λ (y : SubEntry). y.cid) (carries_entry x entry proper.draft built) in
-        true≢false (sym (rw (eq-eqb x.q d.q z, eq-eqb x.cid d.cid (sym cid ∙ c)) refl) ∙ submits_far s d e reply g far x is)
+        let its : entry.cid ≡ x.cid = ap (λ (y : SubEntry). y.cid) (carries_entry x entry proper.draft built) in
+        true≢false (sym (rw (eq-eqb x.q q z, eq-eqb x.cid cid (sym its ∙ c)) refl) ∙ far x is)
 
-pub no_entry_step : (d : DraftContents) → (d.q == 0) ≡ false → (s : State) (e : Event) (reply : Reply) → Going s e reply → submits d.q d.cid (record { before = s; event = e; reply = reply }) ≡ false
-    → NoEntry d.q d.cid s → NoEntry d.q d.cid (a.after s e reply)
-no_entry_step d other s e reply g far h = queues_event (λ at. at.unfetched) (λ (x : SubEntry). x.cid ≡ d.cid → ⊥) d.q s e reply (no_entry_on d other s e reply g far) g.ok g.stood h
+pub no_entry_step : (q cid : ℕ) → (q == 0) ≡ false → (s : State) (e : Event) (reply : Reply) → Going s e reply → ((d : DraftContents) → e ≡ events.Submit d → ((d.q == q) && (d.cid == cid)) ≡ false)
+    → NoEntry q cid s → NoEntry q cid (a.after s e reply)
+no_entry_step q cid other s e reply g far h = queues_event (λ at. at.unfetched) (λ (x : SubEntry). x.cid ≡ cid → ⊥) q s e reply (no_entry_on q cid other s e reply g far) g.ok g.stood h
 
 -- where none is left, none is fetched
 first_of : (P : SubEntry → Type 0) (qs : List DeviceQueue) (q : ℕ) (queue : DeviceQueue) (e : SubEntry) → slice_get qs q ≡ Some queue → slice_get queue.unfetched 0 ≡ Some e → AllByRecursion P (list_at (λ at. at.unfetched) qs q) → P e
@@ -114,14 +116,15 @@ fetch_made s e reply new q cid step t stood is =
     let x = fetched_entry s q cid cid ok.1.0 refl in
     record { touched = f.touched; going = record { proper = tt; ok = ok; trusted = t; stood = stood }; left = exact _ s.trusted t made.2; entry = x.0; rung = x.1; its_cid = x.2 }
 
-none_fetched : (d : DraftContents) (s new : State) → NoEntry d.q d.cid s → Fetches s new d.q d.cid → ⊥
-none_fetched d s new h f =
-    let hand = in_hand s d.q f.entry f.rung in
-    first_of (λ (x : SubEntry). x.cid ≡ d.cid → ⊥) s.device.queues d.q hand.queue f.entry hand.at hand.first h f.its_cid
+-- no entry of it is next
+pub none_next : (q cid : ℕ) (s : State) (entry : SubEntry) → NoEntry q cid s → next_rung s q ≡ Some entry → entry.cid ≡ cid → ⊥
+none_next q cid s entry h next its =
+    let hand = in_hand s q entry next in
+    first_of (λ (x : SubEntry). x.cid ≡ cid → ⊥) s.device.queues q hand.queue entry hand.at hand.first h its
 
 -- Behind a fetch
 
-sent_less : (q cid : ℕ) (rs : List Record) → total (sent q (λ c. one (c == cid))) rs ≤ total (here q cid) rs
+pub sent_less : (q cid : ℕ) (rs : List Record) → total (sent q (λ c. one (c == cid))) rs ≤ total (here q cid) rs
 sent_less q cid [] = omega arith
 sent_less q cid (x ∷ rs) = omega (arith, sent_less q cid rs, each (x.q == q) (is_submitted x.phase) (x.cid == cid))
   where
@@ -185,10 +188,10 @@ no_more d other (m ∷ made) s end (is, mid, step, rest) u stood none h =
     let next = unforged_next m made s mid step u in
     go (fetches d.q d.cid m) refl
     (no_more d other made mid end rest next (stood_step s m.event m.reply mid step u.trusted next.trusted stood) both.1
-    (one_step (NoEntry d.q d.cid) s m.event m.reply mid step u.trusted next.trusted stood (λ g. no_entry_step d other s m.event m.reply g both.0) h))
+    (one_step (NoEntry d.q d.cid) s m.event m.reply mid step u.trusted next.trusted stood (λ g. no_entry_step d.q d.cid other s m.event m.reply g (submits_far s d m.event m.reply g both.0)) h))
   where
     go : (b : Bool) → fetches d.q d.cid m ≡ b → list_any (fetches d.q d.cid) made ≡ false → (b || list_any (fetches d.q d.cid) made) ≡ false
-    go true f ih = absurd (none_fetched d s mid h (fetch_made s m.event m.reply mid d.q d.cid step u.trusted stood f))
+    go true f ih = let made = fetch_made s m.event m.reply mid d.q d.cid step u.trusted stood f in absurd (none_next d.q d.cid s made.entry h made.rung made.its_cid)
     go false f ih = ih
 
 pub once : (d : DraftContents) → (d.q == 0) ≡ false → (xs ys : List Made) (m : Made) (s end : State) → Steps s (xs ++ m ∷ ys) end → Unforged s (xs ++ m ∷ ys) → Stood s → list_any (submits d.q d.cid) (xs ++ m ∷ ys) ≡ false

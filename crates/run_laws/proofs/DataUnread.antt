@@ -97,7 +97,9 @@ answers_on d s e none = record {
   reaps = λ at all. dropped at.answers all;
   fetches = λ rung at all. all;
   stops = λ at all. all;
-  drops = λ at all. all;
+  drops = λ at all. tt;
+  makes_completion = λ at all. tt;
+  makes_submission = λ at all. tt;
   clears = λ at all. all;
   completes = λ cid j head at is found all. all_append (λ (an : Answer). an.cid ≡ d.cid → ⊥) at.answers (record { cid = cid; status = a.final_status s j; dw0 = j.dw0; sq_head = head } ∷ []) all ((λ same. no_job_at cid j found same), tt);
 }

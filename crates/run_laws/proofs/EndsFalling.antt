@@ -1,6 +1,6 @@
 -- The heads that the answers of a queue tell never come back: each is as near to the tail as the one before it, the first as the head
 -- that the host knows, and what is not fetched is nearer than all.
-use Rattle.std.proofs.Common.{◌≡◌, ◌⊎◌, inl, inr, ℕ, zero, suc, ◌-◌, ◌<◌, ◌≤◌, false, Some, List, [], ◌∷◌, ◌++◌, length, drop, slice_get, replicate, refl, ap, sym, ◌∙◌, arith, subst}
+use Rattle.std.proofs.Common.{◌≡◌, ◌⊎◌, inl, inr, ℕ, zero, suc, ◌-◌, ◌<◌, ◌≤◌, false, Some, List, [], ◌∷◌, ◌++◌, length, drop, slice_get, replicate, refl, ap, sym, arith, subst}
 use Rattle.std.proofs.lemmas.Bool.{eqb-false}
 use Rattle.queue_pair.specs.Slots.{next_slot, distance, is_full}
 use Rattle.queue_pair.specs.Rings.{HostRing, next_tail}
@@ -78,13 +78,21 @@ fall_both n k f g hs qs step h q queue at eh eq = go (changed_at k f hs q queue 
     go (inr (far, x)) (inl (same, y)) = absurd (far same)
     go (inr (far, ex)) (inr (far', ey)) = h q queue at ex ey
 
--- a queue of the host changes, and its ring stays
-pub fall_host : (n k : ℕ) (f : HostQueue → HostQueue) (hs : List HostQueue) (qs : List DeviceQueue) → ((queue : HostQueue) → (f queue).ring ≡ queue.ring) → AllFall n hs qs → AllFall n (change k f hs) qs
-fall_host n k f hs qs ring h q queue at eh eq = go (changed_at k f hs q queue eh)
+-- a queue of the host changes
+pub fall_host_by : (n k : ℕ) (f : HostQueue → HostQueue) (hs : List HostQueue) (qs : List DeviceQueue)
+    → ((queue : HostQueue) (at : DeviceQueue) → slice_get hs k ≡ Some queue → slice_get qs k ≡ Some at → FallsAt n queue.ring at → FallsAt n (f queue).ring at)
+    → AllFall n hs qs → AllFall n (change k f hs) qs
+fall_host_by n k f hs qs step h q queue at eh eq = go (changed_at k f hs q queue eh)
   where
     go : ((k ≡ q) × ((x : HostQueue) × (slice_get hs q ≡ Some x) × (queue ≡ f x))) ⊎ ((k ≡ q → ⊥) × (slice_get hs q ≡ Some queue)) → FallsAt n queue.ring at
-    go (inl (same, (x, ex, is))) = subst (λ (r : HostRing). FallsAt n r at) (sym (ap (λ (y : HostQueue). y.ring) is ∙ ring x)) (h q x at ex eq)
+    go (inl (same, (x, ex, is))) =
+        subst (λ (z : HostQueue). FallsAt n z.ring at) (sym is)
+        (step x at (subst (λ (z : ℕ). slice_get hs z ≡ Some x) (sym same) ex) (subst (λ (z : ℕ). slice_get qs z ≡ Some at) (sym same) eq) (h q x at ex eq))
     go (inr (far, ex)) = h q queue at ex eq
+
+-- and its ring stays
+pub fall_host : (n k : ℕ) (f : HostQueue → HostQueue) (hs : List HostQueue) (qs : List DeviceQueue) → ((queue : HostQueue) → (f queue).ring ≡ queue.ring) → AllFall n hs qs → AllFall n (change k f hs) qs
+fall_host n k f hs qs ring h = fall_host_by n k f hs qs (λ queue at eh eq falls. subst (λ (r : HostRing). FallsAt n r at) (sym (ring queue)) falls) h
 
 -- What a queue's change keeps
 

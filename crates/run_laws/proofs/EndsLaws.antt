@@ -37,6 +37,7 @@ use Rattle.run_laws.specs.Ends.{retires_by, WasCompleted, WasLost, CauseOfEnd, S
 use Rattle.machine_model.proofs.Along.{Before, keeps, run_before}
 use Rattle.machine_model.proofs.EveryStatus.{positive}
 use Rattle.machine_model.proofs.Steps.{permitted}
+use Rattle.run_laws.proofs.EndsGone.{DeletedSince}
 use Rattle.run_laws.proofs.EndsTold.{CompletedIn, EndedIn, AnswerTold, HeldTold, Told, told_carried, told_at_opening, deleted_before, first_told}
 
 told_before : (image : List ℕ) (earlier later : List Made) (m : Made) (end : State) → TrustedRun image (earlier ++ m ∷ later) end → Before Told earlier m
@@ -75,11 +76,11 @@ runs_end_by_completions image earlier later m end q cid st run io is_event is_re
 
 -- Retiring
 
-retire_told : (done : List Made) (s next : State) (e : Event) (reply : Reply) (q : ℕ) → Step s e reply next → s.trusted ≡ true → Told done s → retires_by q e reply ≡ true → list_any (deletes q) done ≡ true
+retire_told : (done : List Made) (s next : State) (e : Event) (reply : Reply) (q : ℕ) → Step s e reply next → s.trusted ≡ true → Told done s → retires_by q e reply ≡ true → DeletedSince q done
 retire_told done s next (events.Retire k) events.Accepted q step t h is =
     let ok = permitted _ s.trusted true t step.1 in
     let same : k ≡ q = eqb-true k q is in
-    subst (λ (n : ℕ). list_any (deletes n) done ≡ true) same (deleted_before done s k h.stood h.gone ok.0)
+    subst (λ (n : ℕ). DeletedSince n done) same (deleted_before done s k h.stood h.gone ok.0)
 retire_told done s next e reply q step t h is = absurd (true≢false (sym is))
 
 pub runs_retire_deleted : retired_queues_were_deleted

@@ -41,7 +41,7 @@ submit_by : (s : State) (d : DraftContents) (reply : Reply) → Accepts s (event
 submit_by s d events.Accepted ok = rw (eq-eqb d.q d.q refl, eq-eqb d.cid d.cid refl) refl
 submit_by s d reply ok = absurd ok.1
 
-submit_at : (s : State) (e : Event) (d : DraftContents) (reply : Reply) (q cid : ℕ) → Accepts s e reply → e ≡ events.Submit d → d.q ≡ q → d.cid ≡ cid → submits_by q cid e reply ≡ true
+pub submit_at : (s : State) (e : Event) (d : DraftContents) (reply : Reply) (q cid : ℕ) → Accepts s e reply → e ≡ events.Submit d → d.q ≡ q → d.cid ≡ cid → submits_by q cid e reply ≡ true
 submit_at s e d reply q cid ok is dq dc =
     subst (λ (x : ℕ). submits_by x cid e reply ≡ true) dq
     (subst (λ (x : ℕ). submits_by d.q x e reply ≡ true) dc

@@ -1,5 +1,5 @@
 -- Where statuses come from: those of answers and of held commands, along a run.
-use Rattle.std.proofs.Common.{◌≡◌, ◌⊎◌, inl, inr, ℕ, zero, suc, ◌+◌, ◌≤◌, ◌==◌, Bool, true, false, not, ◌&&◌, ◌||◌, Option, Some, None, List, [], ◌∷◌, ◌++◌, slice_get, replicate, is_some, is_none, option_and_then, refl, ap, sym, ◌∙◌, arith, subst, eqb-true, eq-eqb}
+use Rattle.std.proofs.Common.{◌≡◌, ◌⊎◌, inl, inr, ℕ, zero, suc, ◌+◌, ◌≤◌, ◌==◌, Bool, true, false, not, ◌&&◌, ◌||◌, Option, Some, None, List, [], ◌∷◌, ◌++◌, slice_get, replicate, is_none, option_and_then, refl, ap, sym, ◌∙◌, arith, subst, eqb-true, eq-eqb}
 use Rattle.std.specs.Option.{option_map_or, option_map}
 use Rattle.std.specs.List.{AllByRecursion, list_any}
 use Rattle.std.proofs.lemmas.Bool.{true≢false, and_parts, not-false}
@@ -12,8 +12,6 @@ use Rattle.io_commands.specs.Asked.{Request}
 use Rattle.io_commands.specs.Values.{numbers_of}
 use Rattle.machine_model.specs.Work.{Work}
 use Rattle.machine_model.specs.declared.words.Work.TheVariants.{Io}
-use Rattle.machine_model.specs.declared.words.HostState.{HostState}
-use Rattle.machine_model.specs.declared.words.HostState.TheVariants.{Live, Deleting, Retired, Gone}
 use Rattle.machine_model.specs.declared.words.Phase.{Phase}
 use Rattle.machine_model.specs.declared.words.Phase.TheVariants.{Drafted, Submitted, Held, Collected}
 use Rattle.machine_model.specs.declared.words.Refusal.{Refusal}
@@ -22,20 +20,22 @@ use Rattle.machine_model.specs.declared.words.Reaped.TheVariants.{Empty}
 use Rattle.machine_model.specs.Proper.{IsProper}
 use Rattle.machine_model.specs.Opening.{Opens, opening, device_queue as opened}
 use Rattle.machine_model.specs.Claims.{OwnsFit}
-use Rattle.machine_model.specs.State.{State, HostQueue, DeviceQueue, Record, Job, Answer, is_at, record_at, pages_of}
-use Rattle.machine_model.specs.Refusals.{is_live, queue_full, is_submitted, is_drafted, is_held, is_deleted, in_state, host_queue, job_at, seen_entry, first_answer, entry_of, record_is, is_of, refusal_of}
+use Rattle.machine_model.specs.State.{State, DeviceQueue, Record, Job, Answer, is_at, record_at, pages_of}
+use Rattle.machine_model.specs.Refusals.{is_live, queue_full, is_submitted, is_drafted, is_held, is_deleted, in_state, job_at, first_answer, entry_of, record_is, is_of, refusal_of}
 use Rattle.machine_model.specs.Step.{reaped, reaped_entry}
 use Rattle.machine_model.specs.After as a
 use Rattle.machine_model.specs.Events as events
 use Rattle.machine_model.specs.Events.{Event, Reply}
 use Rattle.machine_model.specs.Image.{Made}
-use Rattle.machine_model.specs.Laws.{status_by, status_given, deletes}
+use Rattle.machine_model.specs.Laws.{status_by, status_given}
 use Rattle.machine_model.proofs.Counting.{one}
 use Rattle.machine_model.proofs.Totals.{total}
 use Rattle.machine_model.proofs.Steps.{Accepts}
 use Rattle.admin_commands.specs.Entries.{named_queue}
-use Rattle.machine_model.proofs.Caused.{any_longer}
-use Rattle.machine_model.proofs.Refused.{first_fails, found, pages_match}
+use Rattle.machine_model.proofs.Refused.{first_fails, found, pages_match, unrefused}
+use Rattle.machine_model.proofs.Halves.{deleted_serves}
+use Rattle.machine_model.proofs.Moves.{queue_found, deleted_is}
+use Rattle.machine_model.proofs.Tied.{deleted_is_gone}
 use Rattle.machine_model.proofs.Paired.{is_over}
 use Rattle.machine_model.proofs.TiedReap.{told_entry}
 use Rattle.machine_model.proofs.Out.{named, status_in}
@@ -47,12 +47,12 @@ use Rattle.machine_model.proofs.QueuesMove.{QueueMove, queues_event}
 use Rattle.machine_model.proofs.PlacesKept.{reaped_answer, ids_of}
 use Rattle.machine_model.proofs.Reading.{Member, members}
 use Rattle.machine_model.proofs.WalksKept.{stood_on, stood_at_opening}
-use Rattle.run_laws.specs.Ends.{submits_by, submits, retires_by, WasLost}
+use Rattle.run_laws.specs.Ends.{submits_by, submits, retires_by, renews_by, WasLost}
 use Rattle.machine_model.proofs.Along.{made_of, Carried}
 use Rattle.run_laws.proofs.EndsFalling.{opened_lists}
 use Rattle.machine_model.proofs.RecordsMove.{RecordsMove, records_event}
 use Rattle.machine_model.proofs.JobsMove.{jobs_event}
-use Rattle.run_laws.proofs.EndsGone.{GoneTold, DeletionFetched, deletions_turn, gone_on}
+use Rattle.run_laws.proofs.EndsGone.{GoneTold, DeletedSince, DeletionFetched, deletions_turn, deleted_longer, gone_on}
 
 -- a command's completion with a status, its cause left aside
 pub record CompletedIn (earlier : List Made) (q cid : ℕ) (st : Status) : Type 0 where
@@ -110,6 +110,11 @@ ended_on earlier m q cid st far (inr c) = inr (lost_on earlier m q cid st far c)
 refused_no_submit : (e : Event) (why : Refusal) (touched : List ℕ) (q cid : ℕ) → submits_by q cid e (events.Refused why touched) ≡ false
 refused_no_submit (events.Submit d) why touched q cid = refl
 refused_no_submit e why touched q cid = refl
+
+refused_no_renewal : (e : Event) (why : Refusal) (touched : List ℕ) (q : ℕ) → renews_by q e (events.Refused why touched) ≡ false
+refused_no_renewal (events.Retire k) why touched q = refl
+refused_no_renewal (events.CreateSq k) why touched q = refl
+refused_no_renewal e why touched q = refl
 
 -- an accepted submit is of a drafted command
 not_submitted : (s : State) (e : Event) (reply : Reply) → Accepts s e reply → (q cid : ℕ) → ((r : Record) → record_at s.host q cid ≡ Some r → is_drafted r.phase ≡ false) → submits_by q cid e reply ≡ false
@@ -183,7 +188,9 @@ answers_turn done s e reply ok q = record {
   reaps = λ at h. all_drop_one (AnswerTold (done ++ made_of s e reply ∷ []) q) at.answers h;
   fetches = λ rung at h. h;
   stops = λ at h. h;
-  drops = λ at h. h;
+  drops = λ at h. tt;
+  makes_completion = λ at h. tt;
+  makes_submission = λ at h. tt;
   clears = λ at h. h;
   completes = λ cid j head at e' job h.
       all_append (AnswerTold (done ++ made_of s e reply ∷ []) q) at.answers (record { cid = cid; status = a.final_status s j; dw0 = j.dw0; sq_head = head } ∷ []) h
@@ -219,23 +226,12 @@ is_itself : (r : Record) → is_at r.q r.cid r ≡ true
 is_itself r = rw (eq-eqb r.q r.q refl, eq-eqb r.cid r.cid refl) refl
 
 -- a queue that is retired was deleted
-pub deleted_before : (done : List Made) (s : State) (q : ℕ) → Stood s → GoneTold done s.device.queues → refusal_of s (events.Retire q) ≡ None → list_any (deletes q) done ≡ true
-deleted_before done s q stood gone none = go (host_queue s q) refl deleted
-  where
-    deleted : in_state is_deleted s q ≡ true
-    deleted = not-false (in_state is_deleted s q) (first_fails (not (in_state is_deleted s q)) refusal.NotDeleted ((is_some (seen_entry s q), refusal.NotDrained) ∷ []) none)
-
-    over : (st : HostState) → is_deleted st ≡ true → is_over st ≡ true
-    over Live e = absurd (true≢false (sym e))
-    over (Deleting noted) e = e
-    over Retired e = refl
-    over Gone e = refl
-
-    go : (o : Option HostQueue) → host_queue s q ≡ o → option_map_or (λ queue. is_deleted queue.state) o false ≡ true → list_any (deletes q) done ≡ true
-    go None at e = absurd (true≢false (sym e))
-    go (Some queue) at e =
-        let pair = pair_at s stood.grounds q queue at in
-        gone q pair.0 pair.1 (pair.2.over (over queue.state e))
+pub deleted_before : (done : List Made) (s : State) (q : ℕ) → Stood s → GoneTold done s.host.queues s.device.queues → refusal_of s (events.Retire q) ≡ None → DeletedSince q done
+deleted_before done s q stood gone none =
+    let x = queue_found is_deleted s q (not-false _ (unrefused s (events.Retire q) none).0) in
+    let pair = pair_at s stood.grounds q x.0 x.1 in
+    let absent : is_absent pair.0.state ≡ true = sym (ap (λ (o : Option DeviceQueue). option_map_or (λ d. is_absent d.state) o true) pair.1) ∙ deleted_is_gone s stood.grounds.fit q x.0 x.1 (ap is_over (deleted_is x.0.state x.2)) in
+    gone q x.0 pair.0 x.1 (deleted_serves x.0.state x.2) pair.1 absent
 
 retires_at : (s : State) (reply : Reply) (q : ℕ) → Accepts s (events.Retire q) reply → retires_by q (events.Retire q) reply ≡ true
 retires_at s events.Accepted q ok = eq-eqb q q refl
@@ -249,7 +245,7 @@ sent_there s stood r within sub =
     let f = sent_found r.q r.cid s.host.records (omega (arith, mine, within (sent r.q w))) (stood.grounds.stands.0.once r.q r.cid) in
     ap (λ (o : Option Record). option_map_or (λ r. is_submitted r.phase) o false) f.1 ∙ f.2
 
-held_turn : (done : List Made) (s : State) (e : Event) (reply : Reply) → Accepts s e reply → s.trusted ≡ true → Stood s → ((q : ℕ) → (q == 0) ≡ false → AnswersTold done q s.device.queues) → GoneTold done s.device.queues
+held_turn : (done : List Made) (s : State) (e : Event) (reply : Reply) → Accepts s e reply → s.trusted ≡ true → Stood s → ((q : ℕ) → (q == 0) ≡ false → AnswersTold done q s.device.queues) → GoneTold done s.host.queues s.device.queues
     → RecordsMove (Known s done) (HeldTold (done ++ made_of s e reply ∷ [])) s e
 held_turn done s e reply ok t stood answers gone = record {
   stays = λ r within far k held st is.
@@ -288,7 +284,7 @@ held_turn done s e reply ok t stood answers gone = record {
           retired = subst (λ (n : ℕ). retires_by n e reply ≡ true) (sym rq) (subst (λ (x : Event). retires_by q x reply ≡ true) (sym is) (retires_at s reply q ok'));
           submitted = sent_there s stood r within sub;
           since = refl;
-          deleted = subst (λ (n : ℕ). list_any (deletes n) done ≡ true) (sym rq) (deleted_before done s q stood gone ok'.0);
+          deleted = subst (λ (n : ℕ). DeletedSince n done) (sym rq) (deleted_before done s q stood gone ok'.0);
         }
 
 -- All of it
@@ -298,7 +294,7 @@ pub record Told (done : List Made) (s : State) : Type 0 where
   pub answers : (q : ℕ) → (q == 0) ≡ false → AnswersTold done q s.device.queues
   pub held : AllByRecursion (HeldTold done) s.host.records
   pub deletions : AllByRecursion (DeletionFetched done) s.device.jobs
-  pub gone : GoneTold done s.device.queues
+  pub gone : GoneTold done s.host.queues s.device.queues
 
 told_on : (done : List Made) (s : State) (e : Event) (reply : Reply) → IsProper e → Accepts s e reply → s.trusted ≡ true → Told done s → Told (done ++ made_of s e reply ∷ []) (a.after s e reply)
 told_on done s e reply proper ok t h = record {
@@ -306,8 +302,8 @@ told_on done s e reply proper ok t h = record {
   answers = λ q other. answers_on done s e reply ok h.stood q (h.answers q other);
   held = records_event (Known s done) (HeldTold (done ++ made_of s e reply ∷ [])) s e reply (held_turn done s e reply ok t h.stood h.answers h.gone) ok h.stood.grounds
       (all_in_both (HeldTold done) (Member s) (Known s done) s.host.records (λ r within m k. (m, k)) (members s h.stood) h.held);
-  deletions = jobs_event (DeletionFetched done) (DeletionFetched (done ++ made_of s e reply ∷ [])) s e reply (deletions_turn done s e reply ok) ok h.stood h.deletions;
-  gone = gone_on done s e reply ok h.stood h.deletions h.gone;
+  deletions = jobs_event (DeletionFetched done) (DeletionFetched (done ++ made_of s e reply ∷ [])) s e reply (deletions_turn done s e reply ok h.stood) ok h.stood h.deletions;
+  gone = gone_on done s e reply ok h.stood (stood_on s e reply proper ok t h.stood) h.deletions h.gone;
 }
 
 told_refused : (done : List Made) (s : State) (e : Event) (why : Refusal) (touched : List ℕ) → Told done s → Told (done ++ made_of s e (events.Refused why touched) ∷ []) s
@@ -317,8 +313,8 @@ told_refused done s e why touched h = record {
   held = all_in (HeldTold done) (HeldTold (done ++ made_of s e (events.Refused why touched) ∷ [])) s.host.records
       (λ r within k held st is. ended_on done (made_of s e (events.Refused why touched)) r.q r.cid st (refused_no_submit e why touched r.q r.cid) (k held st is)) h.held;
   deletions = all_in (DeletionFetched done) (DeletionFetched (done ++ made_of s e (events.Refused why touched) ∷ [])) s.device.jobs
-      (λ j within k z is0. any_longer (deletes (named_queue j.entry)) done (made_of s e (events.Refused why touched)) (k z is0)) h.deletions;
-  gone = λ q at e' absent. any_longer (deletes q) done (made_of s e (events.Refused why touched)) (h.gone q at e' absent);
+      (λ j within k z is0. deleted_longer (named_queue j.entry) done (made_of s e (events.Refused why touched)) (refused_no_renewal e why touched (named_queue j.entry)) (k z is0)) h.deletions;
+  gone = λ q x at ex serves e' absent. deleted_longer q done (made_of s e (events.Refused why touched)) (refused_no_renewal e why touched q) (h.gone q x at ex serves e' absent);
 }
 
 pub told_carried : Carried Told
@@ -335,5 +331,5 @@ told_at_opening pages queues n s image opens = record {
   answers = λ q other. subst (AllByRecursion (AnswerTold [] q)) (sym (nothing_answered (queues + 1) q)) tt;
   held = tt;
   deletions = tt;
-  gone = λ q at e absent. absurd (true≢false (sym absent ∙ ap (λ (x : DeviceQueue). is_absent x.state) (opened_lists (queues + 1) q at e)));
+  gone = λ q x at ex serves e absent. absurd (true≢false (sym absent ∙ ap (λ (x : DeviceQueue). is_absent x.state) (opened_lists (queues + 1) q at e)));
 }

@@ -1,7 +1,6 @@
 pub mod VerdictsWorked
 pub mod EndsFalling
 pub mod EndsFront
-pub mod EndsQueues
 pub mod EndsGone
 pub mod EndsTold
 pub mod EndsPhases
@@ -10,12 +9,12 @@ pub mod EndsTwice
 pub mod VerdictsStay
 pub mod VerdictsCount
 pub mod VerdictsJobs
-pub mod EndsOnce
 pub mod DataAlong
 pub mod DataKept
 pub mod DataFound
 pub mod DataUnread
 pub mod DataOnce
+pub mod EndsOnce
 pub mod DataLaws
 pub mod DataChains
 pub mod WalkedCompares

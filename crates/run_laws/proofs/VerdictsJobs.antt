@@ -19,7 +19,7 @@ use Rattle.machine_model.specs.After as a
 use Rattle.machine_model.specs.Events as events
 use Rattle.machine_model.specs.Events.{Event, Reply}
 use Rattle.machine_model.specs.Laws.{status_by, forges_by}
-use Rattle.machine_model.proofs.Managed.{managed_by_case}
+use Rattle.machine_model.proofs.Managed.{managed_by}
 use Rattle.machine_model.proofs.Placing.{device-answered}
 use Rattle.machine_model.proofs.Placed.{is_job}
 use Rattle.machine_model.proofs.Steps.{Accepts}
@@ -77,16 +77,18 @@ there_fetch q cid k s h = go (next_rung s k)
 
     managed : (e : SubEntry) → There q cid (a.managed e (a.taken_off 0 s)).device.jobs
     managed e =
-        managed_by_case (λ (t : State). There q cid t.device.jobs) e (a.taken_off 0 s)
-        (one_more s.device.jobs _ h) (one_more s.device.jobs _ h)
-        (λ is8. one_more (map (λ (j : Job). if (j.q == named_queue e) && (j.entry.cid == named_command e) then record j { verdict = Some ABORT_REQUESTED; waiting_abort = Some e.cid } else j) s.device.jobs) _
-        (there_some q cid (λ j. (j.q == named_queue e) && (j.entry.cid == named_command e)) (λ j. record j { verdict = Some ABORT_REQUESTED; waiting_abort = Some e.cid }) (λ j. refl) s.device.jobs h))
-        (λ is8. one_more s.device.jobs _ h)
-        (one_more s.device.jobs _ h)
-        (λ is0 q0 runs. one_more (map (a.stopped (named_queue e)) s.device.jobs) _
-        (there_some q cid (λ j. (j.q == named_queue e) && is_none j.verdict) (λ j. record j { verdict = Some ABORTED_SQ_DELETION }) (λ j. refl) s.device.jobs h))
-        (one_more s.device.jobs _ h)
-        (λ not8 not0 gone. one_more s.device.jobs _ h)
+        managed_by (λ (t : State). There q cid t.device.jobs) e (a.taken_off 0 s)
+        (record {
+          refuses = λ st bad. one_more s.device.jobs _ h;
+          aborts = λ is8 w. one_more (map (λ (j : Job). if (j.q == named_queue e) && (j.entry.cid == named_command e) then record j { verdict = Some ABORT_REQUESTED; waiting_abort = Some e.cid } else j) s.device.jobs) _
+              (there_some q cid (λ j. (j.q == named_queue e) && (j.entry.cid == named_command e)) (λ j. record j { verdict = Some ABORT_REQUESTED; waiting_abort = Some e.cid }) (λ j. refl) s.device.jobs h);
+          is_late = λ is8. one_more s.device.jobs _ h;
+          stops = λ is0 q0 runs. one_more (map (a.stopped (named_queue e)) s.device.jobs) _
+              (there_some q cid (λ j. (j.q == named_queue e) && is_none j.verdict) (λ j. record j { verdict = Some ABORTED_SQ_DELETION }) (λ j. refl) s.device.jobs h);
+          drops = λ is4 q0 there gone. one_more s.device.jobs _ h;
+          makes_completion = λ is5 q0 none. one_more s.device.jobs _ h;
+          makes_submission = λ is1 q0 gone there. one_more s.device.jobs _ h;
+        })
 
     inner : (e : SubEntry) (b z : Bool) → There q cid (if b then a.answered k e.cid COMMAND_ID_CONFLICT 0 (a.taken_off k s) else if z then a.managed e (a.taken_off 0 s) else a.begun k e (a.taken_off k s)).device.jobs
     inner e true z = subst (λ (d : Device). There q cid d.jobs) (sym (device-answered k e.cid COMMAND_ID_CONFLICT 0 (a.taken_off k s))) h

@@ -24,7 +24,7 @@ use Rattle.machine_model.specs.Step.{Step, unit_answered}
 use Rattle.machine_model.specs.After as a
 use Rattle.machine_model.specs.Events as events
 use Rattle.machine_model.specs.Events.{Event, Reply}
-use Rattle.machine_model.proofs.Managed.{managed_by_case}
+use Rattle.machine_model.proofs.Managed.{managed_by}
 use Rattle.machine_model.proofs.Placing.{device-answered}
 use Rattle.machine_model.proofs.Placed.{is_job, find_sound}
 use Rattle.machine_model.proofs.Unforged.{Unforged, unforged_next, unforged_front, unforged_back, unforged_run, unforged_end, trusted_end}
@@ -100,17 +100,19 @@ fetch_decided s n stood q cid h = go (next_rung s n) refl
 
     managed : (e : SubEntry) → DecidedIn q cid (a.managed e (a.taken_off 0 s)).device.jobs
     managed e =
-        managed_by_case (λ (t : State). DecidedIn q cid t.device.jobs) e (a.taken_off 0 s)
-        (one_more s.device.jobs _ h) (one_more s.device.jobs _ h)
-        (λ is8. one_more (map (λ (j : Job). if (j.q == named_queue e) && (j.entry.cid == named_command e) then record j { verdict = Some ABORT_REQUESTED; waiting_abort = Some e.cid } else j) s.device.jobs) _
-        (mapped q cid (λ (j : Job). if (j.q == named_queue e) && (j.entry.cid == named_command e) then record j { verdict = Some ABORT_REQUESTED; waiting_abort = Some e.cid } else j) s.device.jobs
-        (λ j. abort_q j ((j.q == named_queue e) && (j.entry.cid == named_command e))) (λ j. abort_entry j ((j.q == named_queue e) && (j.entry.cid == named_command e))) (λ j. abort_over j ((j.q == named_queue e) && (j.entry.cid == named_command e))) h))
-        (λ is8. one_more s.device.jobs _ h)
-        (one_more s.device.jobs _ h)
-        (λ is0 q0 runs. one_more (map (a.stopped (named_queue e)) s.device.jobs) _
-        (mapped q cid (a.stopped (named_queue e)) s.device.jobs (λ j. stop_q j ((j.q == named_queue e) && is_none j.verdict)) (λ j. stop_entry j ((j.q == named_queue e) && is_none j.verdict)) (λ j. stop_over j ((j.q == named_queue e) && is_none j.verdict)) h))
-        (one_more s.device.jobs _ h)
-        (λ not8 not0 gone. one_more s.device.jobs _ h)
+        managed_by (λ (t : State). DecidedIn q cid t.device.jobs) e (a.taken_off 0 s)
+        (record {
+          refuses = λ st bad. one_more s.device.jobs _ h;
+          aborts = λ is8 w. one_more (map (λ (j : Job). if (j.q == named_queue e) && (j.entry.cid == named_command e) then record j { verdict = Some ABORT_REQUESTED; waiting_abort = Some e.cid } else j) s.device.jobs) _
+              (mapped q cid (λ (j : Job). if (j.q == named_queue e) && (j.entry.cid == named_command e) then record j { verdict = Some ABORT_REQUESTED; waiting_abort = Some e.cid } else j) s.device.jobs
+              (λ j. abort_q j ((j.q == named_queue e) && (j.entry.cid == named_command e))) (λ j. abort_entry j ((j.q == named_queue e) && (j.entry.cid == named_command e))) (λ j. abort_over j ((j.q == named_queue e) && (j.entry.cid == named_command e))) h);
+          is_late = λ is8. one_more s.device.jobs _ h;
+          stops = λ is0 q0 runs. one_more (map (a.stopped (named_queue e)) s.device.jobs) _
+              (mapped q cid (a.stopped (named_queue e)) s.device.jobs (λ j. stop_q j ((j.q == named_queue e) && is_none j.verdict)) (λ j. stop_entry j ((j.q == named_queue e) && is_none j.verdict)) (λ j. stop_over j ((j.q == named_queue e) && is_none j.verdict)) h);
+          drops = λ is4 q0 there gone. one_more s.device.jobs _ h;
+          makes_completion = λ is5 q0 none. one_more s.device.jobs _ h;
+          makes_submission = λ is1 q0 gone there. one_more s.device.jobs _ h;
+        })
       where
         abort_q : (j : Job) (b : Bool) → (if b then record j { verdict = Some ABORT_REQUESTED; waiting_abort = Some e.cid } else j).q ≡ j.q
         abort_q j true = refl

@@ -47,6 +47,20 @@ retires_by q e reply = false
 abbrev pub retires : ℕ → Made → Bool
 retires q m = retires_by q m.event m.reply
 
+-- A queue has another submission side once it is retired, and once it is asked for anew
+abbrev pub renews_by : ℕ → Event → Reply → Bool
+renews_by q (events.Retire k) events.Accepted = k == q
+renews_by q (events.CreateSq k) (events.Sent id) = k == q
+renews_by q e reply = false
+
+abbrev pub renews : ℕ → Made → Bool
+renews q m = renews_by q m.event m.reply
+
+-- the steps since then, and all of them where neither was
+abbrev pub since_renewed : ℕ → List Made → List Made
+since_renewed q [] = []
+since_renewed q (m ∷ made) = if list_any (renews q) made then since_renewed q made else if renews q m then made else m ∷ made
+
 -- A command completed with this status, which had its cause, and was not submitted anew since
 pub record WasCompleted (earlier : List Made) (q cid : ℕ) (st : Status) : Type 0 where
   pub before : List Made
@@ -57,7 +71,8 @@ pub record WasCompleted (earlier : List Made) (q cid : ℕ) (st : Status) : Type
   pub since : IsTrue (not (list_any (submits q cid) between))
   pub cause : IsTrue (has_cause before completion q cid st)
 
--- A command was submitted as its queue was retired, after a deletion of that queue had been fetched: it was lost
+-- A command was submitted as its queue was retired, after a deletion of that queue had been fetched, and of no queue of its number that was
+-- there before: it was lost
 pub record WasLost (earlier : List Made) (q cid : ℕ) (st : Status) : Type 0 where
   pub before : List Made
   pub retirement : Made
@@ -67,7 +82,7 @@ pub record WasLost (earlier : List Made) (q cid : ℕ) (st : Status) : Type 0 wh
   pub retired : IsTrue (retires q retirement)
   pub submitted : IsTrue (record_is (λ r. is_submitted r.phase) retirement.before q cid)
   pub since : IsTrue (not (list_any (submits q cid) between))
-  pub deleted : IsTrue (list_any (deletes q) before)
+  pub deleted : IsTrue (list_any (deletes q) (since_renewed q before))
 
 -- What a reap answers for a command of an I/O queue, its completion gave
 abbrev pub ends_come_from_completions : Type 0
@@ -75,11 +90,11 @@ ends_come_from_completions =
     (image : List ℕ) (earlier later : List Made) (m : Made) (end : State) (q cid : ℕ) (st : Status) → TrustedRun image (earlier ++ m ∷ later) end
     → IsTrue (nat_lt 0 q) → m.event ≡ events.Reap q → m.reply ≡ events.Reaps (Done cid st) → WasCompleted earlier q cid st
 
--- A queue that is retired was deleted: a Delete SQ of it was fetched before
+-- A queue that is retired was deleted: a Delete SQ of it was fetched before, since it was last retired and since it was last asked for anew
 abbrev pub retired_queues_were_deleted : Type 0
 retired_queues_were_deleted =
     (image : List ℕ) (earlier later : List Made) (m : Made) (end : State) (q : ℕ) → TrustedRun image (earlier ++ m ∷ later) end
-    → IsTrue (retires q m) → IsTrue (list_any (deletes q) earlier)
+    → IsTrue (retires q m) → IsTrue (list_any (deletes q) (since_renewed q earlier))
 
 -- What a collect answers, the command's completion gave, or the command was lost
 abbrev pub collects_tell_how_commands_ended : Type 0

@@ -4,4 +4,5 @@ pub mod WorkedVerdicts
 pub mod Submitted
 pub mod Walked
 pub mod WorkedHeads
+pub mod WorkedRenewals
 pub mod Accepted

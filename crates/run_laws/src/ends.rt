@@ -22,6 +22,8 @@ pub fn law_of_completions()
 
 /// Where nothing was forged, a queue that is retired was deleted: a Delete SQ of it was fetched before. So no command is lost but with a queue
 /// whose deletion was asked for.
+///
+/// A queue that was made again has a deletion of its own: it was fetched since the queue was last retired, and since it was last asked for anew.
 pub fn law_of_retirements()
     ensures { retired_queues_were_deleted }
 {}
