@@ -1,37 +1,39 @@
 -- An admin command was reaped: what its end means, on the tables.
-use Rattle.std.proofs.Common.{◌≡◌, ℕ, ◌<◌, ◌&&◌, Bool, true, false, cond, Option, Some, None, List, [], ◌∷◌, length, map, filter, find, not, slice_get, slice_set, length-set, if◌then◌else◌, refl, ap, sym, ◌∙◌, arith, subst, eq-eqb}
+use Rattle.std.proofs.Common.{◌≡◌, ℕ, zero, suc, ◌<◌, ◌==◌, ◌&&◌, Bool, true, false, cond, Option, Some, None, List, [], ◌∷◌, length, map, filter, find, not, slice_get, slice_set, length-set, if◌then◌else◌, refl, ap, sym, ◌∙◌, arith, subst, eq-eqb}
 use Rattle.std.specs.Option.{option_map, option_map_or}
 use Rattle.std.proofs.lemmas.List.{length-map}
 use Rattle.std.proofs.lemmas.Option.{slice_get-map}
 use Rattle.admin_commands.specs.declared.AdminKind.{AdminKind}
-use Rattle.admin_commands.specs.declared.AdminKind.TheVariants.{Abort, DeleteSq, DeleteCq}
+use Rattle.admin_commands.specs.declared.AdminKind.TheVariants.{Abort, DeleteSq, DeleteCq, CreateCq, CreateSq}
 use Rattle.entry_codec.specs.declared.completion.ComEntry.{ComEntry}
 use Rattle.entry_codec.specs.declared.status.Status.{Status}
 use Rattle.io_commands.specs.Jobs.{is_success}
 use Rattle.machine_model.specs.After as a
-use Rattle.machine_model.specs.After.{after_admin, after_reap, change, half_freed, gone}
+use Rattle.machine_model.specs.After.{after_admin, after_reap, change, half_freed, half_made, gone, unmade_sq}
 use Rattle.machine_model.specs.Events as events
-use Rattle.machine_model.specs.Refusals.{deletes_sq_of, host_queue, is_asked, is_retired, seen_entry, has_cq, has_sq}
+use Rattle.machine_model.specs.Refusals.{creates_cq_of, creates_sq_of, deletes_sq_of, host_queue, is_asked, is_making_cq, is_making_sq, has_cq_alone, seen_entry, has_cq, has_sq}
 use Rattle.machine_model.specs.State.{State, HostQueue, Record, is_at, record_at, without_record}
 use Rattle.machine_model.specs.Step.{reaped_entry}
 use Rattle.machine_model.specs.declared.words.HostState.{HostState}
-use Rattle.machine_model.specs.declared.words.HostState.TheVariants.{Live, Deleting, Retired, Gone}
+use Rattle.machine_model.specs.declared.words.HostState.TheVariants.{Live, Deleting, Retired, Gone, MakingCq, HalfMade, MakingSq}
 use Rattle.machine_model.specs.declared.words.Reaped.TheVariants as found
 use Rattle.machine_model.specs.Work.{Work}
 use Rattle.machine_model.specs.declared.words.Work.TheVariants.{Management}
 use Rattle.page_ledger.specs.Lists.{ListsAll}
-use Rattle.page_ledger.specs.Owners.{free_pages, given_back, is_half, pages_from}
-use Rattle.page_memory.specs.declared.page.Half.TheVariants.{Completion}
+use Rattle.page_ledger.specs.Owners.{free_pages, given_back, is_half, is_same_half, pages_from}
+use Rattle.page_ledger.specs.declared.owner.Owner.TheVariants as owner
+use Rattle.page_memory.specs.declared.page.Half.{Half}
+use Rattle.page_memory.specs.declared.page.Half.TheVariants.{Submission, Completion}
 use Rattle.queue_pair.specs.Memory.{half_pages}
 use Rattle.queue_pair.specs.Rings.{knowing}
 use Rattle.host_core.specs.Commands.{passes, state_at, without_claim}
 use Rattle.host_core.specs.Exact.{Exactly}
 use Rattle.host_core.specs.Halves.{HasMeant}
-use Rattle.host_core.specs.Reaping.{gives_back, heard, meant, over, state_deleted, with_answer_heard, with_state, without_completion}
+use Rattle.host_core.specs.Reaping.{gives_back, heard, meant, over, state_deleted, with_answer_heard, with_state, without_completion, without_submission}
 use Rattle.host_core.specs.Tables.{Tables, state_of, host_queue_of, sq_pages_of, cq_pages_of}
 use Rattle.host_core.specs.Whole.{IsHost, IsWhole, IsQueue, IsRecord, TellsCommand, TellsQueue}
 use Rattle.host_core.specs.Rows.{Queue}
-use Rattle.host_core.proofs.HalvesGiven.{OwnsHalf, commands-told, half-listed, half-owned, others-told}
+use Rattle.host_core.proofs.HalvesGiven.{OwnsHalf, commands-told, half-listed, half-owned, others-told, owner-stays}
 use Rattle.host_core.proofs.Identifiers.{claim-less}
 use Rattle.host_core.proofs.Lists.{all-filter, found_any, none_is_not, some_is}
 use Rattle.host_core.proofs.Lists as lists
@@ -39,16 +41,25 @@ use Rattle.host_core.proofs.Owners.{given-free}
 use Rattle.host_core.proofs.QueueLists.{each-change, map-change}
 use Rattle.host_core.proofs.Reaped.{settled-heard}
 use Rattle.host_core.proofs.Reapings.{Sees, heard-host, knowing_head, on_head, reap-none, reaped-told, with_all, with_lists}
-use Rattle.host_core.proofs.Settled.{Settled, cq-kept, settled-gone, settled-state, settled-with, sq-kept, whole-of}
+use Rattle.host_core.proofs.Settled.{Settled, cq-kept, settled-gone, settled-half_made, settled-state, settled-with, sq-kept, whole-of}
 use Rattle.host_core.proofs.Spared.{claims_keep_queue, claims_keep_tells, each_claimed}
 use Rattle.host_core.proofs.Steps.{host_step, sound_after, length-change}
-use Rattle.machine_model.proofs.Halves.{retired_has_no_sq, asked_has_sq}
+use Rattle.machine_model.proofs.Halves.{alone_has_cq, alone_has_no_sq, asked_has_sq}
+
+-- a queue whose half is being made, and that owns that half's pages
+pub record Makes (u : Tables) (k : ℕ) (half : Half) (state : HostState) : Type 0 where
+  pub queue : Queue
+  pub at : slice_get u.queues k ≡ Some queue
+  pub making : queue.state ≡ state
+  pub owns : OwnsHalf u.owners (length u.pages) k half queue
 
 -- What the end of an admin command leans on: a queue whose deletion it ends has both halves, and one of which it gives back a half owns that half's pages
 abbrev pub Means : AdminKind → Tables → Type 0
 Means (Abort k cid) u = Unit {0}
 Means (DeleteSq k) u = (x : Queue) → slice_get u.queues k ≡ Some x → has_sq x.state ≡ true
 Means (DeleteCq k) u = (x : Queue) → slice_get u.queues k ≡ Some x → OwnsHalf u.owners (length u.pages) k Completion x
+Means (CreateCq k n base) u = Makes u k Completion MakingCq
+Means (CreateSq k n base) u = Makes u k Submission MakingSq
 
 -- The machine's state
 
@@ -82,74 +93,142 @@ deleted-state u k status m = state-set u k (state_deleted status) (has-deleted s
 
 -- the completion half
 
-retired-at : (u : Tables) (k : ℕ) → option_map_or (λ (queue : HostQueue). is_retired queue.state) (host_queue (state_of u) k) false ≡ passes is_retired (state_at u.queues k)
-retired-at u k =
-    ap (λ (o : Option HostQueue). option_map_or (λ (queue : HostQueue). is_retired queue.state) o false) (slice_get-map host_queue_of u.queues k) ∙ go (slice_get u.queues k)
+alone-at : (u : Tables) (k : ℕ) → option_map_or (λ (queue : HostQueue). has_cq_alone queue.state) (host_queue (state_of u) k) false ≡ passes has_cq_alone (state_at u.queues k)
+alone-at u k =
+    ap (λ (o : Option HostQueue). option_map_or (λ (queue : HostQueue). has_cq_alone queue.state) o false) (slice_get-map host_queue_of u.queues k) ∙ go (slice_get u.queues k)
   where
-    go : (o : Option Queue) → option_map_or (λ (queue : HostQueue). is_retired queue.state) (option_map host_queue_of o) false ≡ passes is_retired (option_map (λ (queue : Queue). queue.state) o)
+    go : (o : Option Queue) → option_map_or (λ (queue : HostQueue). has_cq_alone queue.state) (option_map host_queue_of o) false ≡ passes has_cq_alone (option_map (λ (queue : Queue). queue.state) o)
     go None = refl
     go (Some x) = refl
 
--- a queue that is there, in such a state
-pub record IsRetired (u : Tables) (k : ℕ) : Type 0 where
+-- a queue that is there, with its completion half alone
+pub record IsAlone (u : Tables) (k : ℕ) : Type 0 where
   pub queue : Queue
   pub at : slice_get u.queues k ≡ Some queue
-  pub retired : is_retired queue.state ≡ true
+  pub alone : has_cq_alone queue.state ≡ true
 
-passes-at : (u : Tables) (k : ℕ) → passes is_retired (state_at u.queues k) ≡ true → IsRetired u k
+passes-at : (u : Tables) (k : ℕ) → passes has_cq_alone (state_at u.queues k) ≡ true → IsAlone u k
 passes-at u k h = go (slice_get u.queues k) refl h
   where
-    go : (o : Option Queue) → slice_get u.queues k ≡ o → passes is_retired (option_map (λ (queue : Queue). queue.state) o) ≡ true → IsRetired u k
+    go : (o : Option Queue) → slice_get u.queues k ≡ o → passes has_cq_alone (option_map (λ (queue : Queue). queue.state) o) ≡ true → IsAlone u k
     go None at h = cc
-    go (Some x) at h = record { queue = x; at = at; retired = h }
+    go (Some x) at h = record { queue = x; at = at; alone = h }
 
 both-true : (b c : Bool) → (b && c) ≡ true → c ≡ true
 both-true true c h = h
 both-true false c h = cc
 
-pub gives-retired : (u : Tables) (k : ℕ) (status : Status) → gives_back k status u ≡ true → IsRetired u k
-gives-retired u k status h = passes-at u k (both-true (is_success status) (passes is_retired (state_at u.queues k)) h)
+pub gives-alone : (u : Tables) (k : ℕ) (status : Status) → gives_back k status u ≡ true → IsAlone u k
+gives-alone u k status h = passes-at u k (both-true (is_success status) (passes has_cq_alone (state_at u.queues k)) h)
 
-gone-state : (u : Tables) (k : ℕ) → length u.owners ≡ length u.pages → Means (DeleteCq k) u → IsRetired u k
+abbrev with_free : Tables → List ℕ → List HostQueue → State
+with_free u free hs = record (state_of u) { host = record (state_of u).host { free = free; queues = hs } }
+
+gone-state : (u : Tables) (k : ℕ) (x : Queue) → length u.owners ≡ length u.pages → OwnsHalf u.owners (length u.pages) k Completion x → slice_get u.queues k ≡ Some x → has_sq x.state ≡ false
     → state_of (without_completion k u) ≡ half_freed (λ (queue : HostQueue). queue.cq_pages) gone k (state_of u)
-gone-state u k size m is =
-    ap (λ (hs : List HostQueue). with_free (free_pages (given_back (is_half k Completion) u.owners)) hs)
-    (map-change host_queue_of (with_state Gone) gone k u.queues (λ x at. host-gone x (subst (λ (y : Queue). is_retired y.state ≡ true) (some_is (sym is.at ∙ at)) is.retired)))
-    ∙ (ap (λ (free : List ℕ). with_free free (change k gone (map host_queue_of u.queues)))
-    (given-free u.owners (is_half k Completion) (length u.pages) (cq_pages_of is.queue) (sym size) (m is.queue is.at))
+gone-state u k x size owns at without =
+    ap (λ (hs : List HostQueue). with_free u (free_pages (given_back (is_half k Completion) u.owners)) hs)
+    (map-change host_queue_of (with_state Gone) gone k u.queues (λ y at'. host-gone y (subst (λ (z : Queue). has_sq z.state ≡ false) (some_is (sym at ∙ at')) without)))
+    ∙ (ap (λ (free : List ℕ). with_free u free (change k gone (map host_queue_of u.queues)))
+    (given-free u.owners (is_half k Completion) (length u.pages) (cq_pages_of x) (sym size) owns)
     ∙ ap (λ (o : Option HostQueue). option_map_or (λ (queue : HostQueue). a.on_host_queue k gone (a.given_back queue.cq_pages (state_of u))) o (state_of u))
-    (sym (slice_get-map host_queue_of u.queues k ∙ ap (option_map host_queue_of) is.at)))
+    (sym (slice_get-map host_queue_of u.queues k ∙ ap (option_map host_queue_of) at)))
   where
-    with_free : List ℕ → List HostQueue → State
-    with_free free hs = record (state_of u) { host = record (state_of u).host { free = free; queues = hs } }
+    host-gone : (x : Queue) → has_sq x.state ≡ false → host_queue_of (with_state Gone x) ≡ gone (host_queue_of x)
+    host-gone x h = rw h refl
 
-    host-gone : (x : Queue) → is_retired x.state ≡ true → host_queue_of (with_state Gone x) ≡ gone (host_queue_of x)
-    host-gone x h = rw (retired_has_no_sq x.state h) refl
+-- the submission half of a queue whose creation failed
+
+unmade-state : (u : Tables) (k : ℕ) (x : Queue) → length u.owners ≡ length u.pages → OwnsHalf u.owners (length u.pages) k Submission x → slice_get u.queues k ≡ Some x → x.state ≡ MakingSq
+    → state_of (without_submission HalfMade k u) ≡ half_freed (λ (queue : HostQueue). queue.sq_pages) unmade_sq k (state_of u)
+unmade-state u k x size owns at making =
+    ap (λ (hs : List HostQueue). with_free u (free_pages (given_back (is_half k Submission) u.owners)) hs)
+    (map-change host_queue_of (with_state HalfMade) unmade_sq k u.queues (λ y at'. host-unmade y (subst (λ (z : Queue). z.state ≡ MakingSq) (some_is (sym at ∙ at')) making)))
+    ∙ (ap (λ (free : List ℕ). with_free u free (change k unmade_sq (map host_queue_of u.queues)))
+    (given-free u.owners (is_half k Submission) (length u.pages) (sq_pages_of x) (sym size) owns)
+    ∙ ap (λ (o : Option HostQueue). option_map_or (λ (queue : HostQueue). a.on_host_queue k unmade_sq (a.given_back queue.sq_pages (state_of u))) o (state_of u))
+    (sym (slice_get-map host_queue_of u.queues k ∙ ap (option_map host_queue_of) at)))
+  where
+    host-unmade : (x : Queue) → x.state ≡ MakingSq → host_queue_of (with_state HalfMade x) ≡ unmade_sq (host_queue_of x)
+    host-unmade x h = rw h refl
+
+-- a completion queue that is made
+made-state : (u : Tables) (k : ℕ) (x : Queue) → slice_get u.queues k ≡ Some x → x.state ≡ MakingCq
+    → state_of (record u { queues = change k (with_state HalfMade) u.queues }) ≡ a.on_host_queue k half_made (state_of u)
+made-state u k x at making =
+    ap (λ (hs : List HostQueue). with_lists (state_of u) hs)
+    (map-change host_queue_of (with_state HalfMade) half_made k u.queues (λ y at'. host-made y (subst (λ (z : Queue). z.state ≡ MakingCq) (some_is (sym at ∙ at')) making)))
+  where
+    host-made : (x : Queue) → x.state ≡ MakingCq → host_queue_of (with_state HalfMade x) ≡ half_made (host_queue_of x)
+    host-made x h = rw h refl
+
+making-has : (u : Tables) (k : ℕ) (half : Half) → (m : Makes u k half MakingSq) → (x : Queue) → slice_get u.queues k ≡ Some x → has_sq x.state ≡ true
+making-has u k half m x at = subst (λ (z : Queue). has_sq z.state ≡ true) (some_is (sym m.at ∙ at)) (ap has_sq m.making)
 
 pub meant-state : (u : Tables) (kind : AdminKind) (status : Status) → length u.owners ≡ length u.pages → Means kind u → state_of (meant kind status u) ≡ after_admin kind status (state_of u)
 meant-state u (Abort k cid) status size m = refl
 meant-state u (DeleteSq k) status size m = deleted-state u k status m
-meant-state u (DeleteCq k) status size m = go (gives_back k status u) refl ∙ ap (λ (b : Bool). if is_success status && b then half_freed (λ (queue : HostQueue). queue.cq_pages) gone k (state_of u) else state_of u) (sym (retired-at u k))
+meant-state u (DeleteCq k) status size m = go (gives_back k status u) refl ∙ ap (λ (b : Bool). if is_success status && b then half_freed (λ (queue : HostQueue). queue.cq_pages) gone k (state_of u) else state_of u) (sym (alone-at u k))
   where
     go : (b : Bool) → gives_back k status u ≡ b → state_of (if b then without_completion k u else u) ≡ (if b then half_freed (λ (queue : HostQueue). queue.cq_pages) gone k (state_of u) else state_of u)
-    go true h = gone-state u k size m (gives-retired u k status h)
+    go true h = let is = gives-alone u k status h in gone-state u k is.queue size (m is.queue is.at) is.at (alone_has_no_sq is.queue.state is.alone)
     go false h = refl
+meant-state u (CreateCq k n base) status size m = go (is_success status)
+  where
+    go : (b : Bool) → state_of (if b then record u { queues = change k (with_state HalfMade) u.queues } else without_completion k u)
+        ≡ (if b then a.on_host_queue k half_made (state_of u) else half_freed (λ (queue : HostQueue). queue.cq_pages) gone k (state_of u))
+    go true = made-state u k m.queue m.at m.making
+    go false = gone-state u k m.queue size m.owns m.at (ap has_sq m.making)
+meant-state u (CreateSq k n base) status size m = go (is_success status)
+  where
+    go : (b : Bool) → state_of (if b then record u { queues = change k (with_state Live) u.queues } else without_submission HalfMade k u)
+        ≡ (if b then a.on_host_queue k a.live (state_of u) else half_freed (λ (queue : HostQueue). queue.sq_pages) unmade_sq k (state_of u))
+    go true = state-set u k Live refl (making-has u k Submission m)
+    go false = unmade-state u k m.queue size m.owns m.at m.making
 
 -- The tables
+
+settled-freed : (u : Tables) (k : ℕ) → Settled u → Settled (without_completion k u)
+settled-freed u k s =
+    settled-gone u k (given_back (is_half k Completion) u.owners) s (length-map u.owners _)
+    (λ j x far at. others-told u.owners k j Completion x far (s.owners.queues_told j x at))
+    (commands-told u.owners k Completion u.records s.owners.commands_told)
+
+making-cq : (u : Tables) (k : ℕ) (half : Half) (st : HostState) → has_cq st ≡ true → Makes u k half st → (x : Queue) → slice_get u.queues k ≡ Some x → has_cq x.state ≡ true
+making-cq u k half st has m x at = subst (λ (z : Queue). has_cq z.state ≡ true) (some_is (sym m.at ∙ at)) (ap has_cq m.making ∙ has)
+
+completion-kept : (q : ℕ) → is_half q Submission (owner.Queue q Completion) ≡ false
+completion-kept q = go (q == q)
+  where
+    go : (b : Bool) → (b && is_same_half Completion Submission) ≡ false
+    go true = refl
+    go false = refl
+
+settled-unmade : (u : Tables) (k : ℕ) → Settled u → Makes u k Submission MakingSq → Settled (without_submission HalfMade k u)
+settled-unmade u k s m =
+    settled-half_made u k (given_back (is_half k Submission) u.owners) s (length-map u.owners _) (making-cq u k Submission MakingSq refl m)
+    (λ x at p h. owner-stays u.owners (is_half k Submission) p (owner.Queue k Completion) (completion-kept k) ((s.owners.queues_told k x at).completion p h))
+    (λ j x far at. others-told u.owners k j Submission x far (s.owners.queues_told j x at))
+    (commands-told u.owners k Submission u.records s.owners.commands_told)
 
 pub meant-settled : (u : Tables) (kind : AdminKind) (status : Status) → Settled u → Means kind u → Settled (meant kind status u)
 meant-settled u (Abort k cid) status s m = s
 meant-settled u (DeleteSq k) status s m = settled-state u k (state_deleted status) s (has-deleted status) m
-meant-settled u (DeleteCq k) status s m = go (gives_back k status u) refl
+meant-settled u (DeleteCq k) status s m = go (gives_back k status u)
   where
-    go : (b : Bool) → gives_back k status u ≡ b → Settled (if b then without_completion k u else u)
-    go true h =
-        let is = gives-retired u k status h in
-        settled-gone u k (given_back (is_half k Completion) u.owners) s (length-map u.owners _)
-        (λ x at. subst (λ (y : Queue). is_retired y.state ≡ true) (some_is (sym is.at ∙ at)) is.retired)
-        (λ j x far at. others-told u.owners k j Completion x far (s.owners.queues_told j x at))
-        (commands-told u.owners k Completion u.records s.owners.commands_told)
-    go false h = s
+    go : (b : Bool) → Settled (if b then without_completion k u else u)
+    go true = settled-freed u k s
+    go false = s
+meant-settled u (CreateCq k n base) status s m = go (is_success status)
+  where
+    go : (b : Bool) → Settled (if b then record u { queues = change k (with_state HalfMade) u.queues } else without_completion k u)
+    go true = settled-half_made u k u.owners s refl (making-cq u k Completion MakingCq refl m) (λ x at. (s.owners.queues_told k x at).completion) (λ j x far at. s.owners.queues_told j x at) s.owners.commands_told
+    go false = settled-freed u k s
+meant-settled u (CreateSq k n base) status s m = go (is_success status)
+  where
+    go : (b : Bool) → Settled (if b then record u { queues = change k (with_state Live) u.queues } else without_submission HalfMade k u)
+    go true = settled-state u k Live s refl (making-has u k Submission m)
+    go false = settled-unmade u k s m
 
 -- An admin command is over
 
@@ -216,6 +295,75 @@ asked-at t w q cid k r was work x at = go (is_asked x.state) refl
     go true e = refl
     go false e = absurd (omega (arith, found-counts (is_at q cid) (λ (s : Record). deletes_sq_of k s.work) t.records r was deletes, count ∙ ap (λ (b : Bool). if b then 1 else 0) e))
 
+-- one that is being made, where its creation is outstanding
+made-at : (t : Tables) → (p : ℕ → Work → Bool) (test : HostState → Bool) (q cid k : ℕ) (r : Record)
+    → length (filter (λ (s : Record). p k s.work) t.records) ≡ (if option_map_or (λ (queue : HostQueue). test queue.state) (slice_get (map host_queue_of t.queues) k) false then 1 else 0)
+    → find (is_at q cid) t.records ≡ Some r → p k r.work ≡ true → (x : Queue) × (slice_get t.queues k ≡ Some x) × (test x.state ≡ true)
+made-at t p test q cid k r count was is = go (slice_get t.queues k) refl
+  where
+    some : 0 < length (filter (λ (s : Record). p k s.work) t.records)
+    some = found-counts (is_at q cid) (λ (s : Record). p k s.work) t.records r was is
+
+    told : (o : Option Queue) → slice_get t.queues k ≡ o → length (filter (λ (s : Record). p k s.work) t.records) ≡ (if option_map_or (λ (queue : HostQueue). test queue.state) (option_map host_queue_of o) false then 1 else 0)
+    told o at = count ∙ ap (λ (h : Option HostQueue). if option_map_or (λ (queue : HostQueue). test queue.state) h false then 1 else 0) (slice_get-map host_queue_of t.queues k ∙ ap (option_map host_queue_of) at)
+
+    one : (x : Queue) (b : Bool) → test x.state ≡ b → length (filter (λ (s : Record). p k s.work) t.records) ≡ (if b then 1 else 0) → b ≡ true
+    one x true e n = refl
+    one x false e n = absurd (omega (arith, some, n))
+
+    go : (o : Option Queue) → slice_get t.queues k ≡ o → (x : Queue) × (slice_get t.queues k ≡ Some x) × (test x.state ≡ true)
+    go None at = absurd (let n : length (filter (λ (s : Record). p k s.work) t.records) ≡ 0 = told None at in omega (arith, some, n))
+    go (Some x) at = (x, at, one x (test x.state) refl (told (Some x) at))
+
+is-making_cq : (st : HostState) → is_making_cq st ≡ true → st ≡ MakingCq
+is-making_cq Live h = cc
+is-making_cq (Deleting noted) h = cc
+is-making_cq Retired h = cc
+is-making_cq Gone h = cc
+is-making_cq MakingCq h = refl
+is-making_cq HalfMade h = cc
+is-making_cq MakingSq h = cc
+
+is-making_sq : (st : HostState) → is_making_sq st ≡ true → st ≡ MakingSq
+is-making_sq Live h = cc
+is-making_sq (Deleting noted) h = cc
+is-making_sq Retired h = cc
+is-making_sq Gone h = cc
+is-making_sq MakingCq h = cc
+is-making_sq HalfMade h = cc
+is-making_sq MakingSq h = refl
+
+-- a queue stands there still, in its state, once a completion was heard and a claim given up
+kept-change : (f : Queue → Queue) → ((y : Queue) → (f y).state ≡ y.state) → (q k : ℕ) (queues : List Queue) (x : Queue) → slice_get queues k ≡ Some x
+    → (y : Queue) × (slice_get (change q f queues) k ≡ Some y) × (y.state ≡ x.state)
+kept-change f same q k [] x at = cc
+kept-change f same zero zero (z ∷ queues) x at = (f z, refl, same z ∙ ap (λ (y : Queue). y.state) (some_is at))
+kept-change f same zero (suc k) (z ∷ queues) x at = (x, at, refl)
+kept-change f same (suc q) zero (z ∷ queues) x at = (z, refl, ap (λ (y : Queue). y.state) (some_is at))
+kept-change f same (suc q) (suc k) (z ∷ queues) x at = kept-change f same q k queues x at
+
+over-there : (t : Tables) (q : ℕ) (e : ComEntry) (k : ℕ) (x : Queue) → slice_get t.queues k ≡ Some x → (y : Queue) × (slice_get (over q e.sqhd e.cid t).queues k ≡ Some y) × (y.state ≡ x.state)
+over-there t q e k x at =
+    let a = kept-change (with_answer_heard e.sqhd) (λ y. refl) q k t.queues x at in
+    let b = kept-change (without_claim e.cid) (λ y. refl) q k (change q (with_answer_heard e.sqhd) t.queues) a.0 a.1 in
+    (b.0, b.1, b.2 ∙ a.2)
+
+over-makes : (t : Tables) → IsWhole t → (q : ℕ) (e : ComEntry) (k : ℕ) (half : Half) (st : HostState) (x : Queue) → slice_get t.queues k ≡ Some x → x.state ≡ st → Makes (over q e.sqhd e.cid t) k half st
+over-makes t w q e k half st x at is =
+    let there = over-there t q e k x at in
+    record {
+      queue = there.0;
+      at = there.1;
+      making = there.2 ∙ is;
+      owns = owned half k there.0 there.1;
+    }
+  where
+    owned : (half : Half) (k : ℕ) (y : Queue) → slice_get (over q e.sqhd e.cid t).queues k ≡ Some y → OwnsHalf t.owners (length t.pages) k half y
+    owned Submission k y at' = each-over (λ (j : ℕ) (y : Queue). OwnsHalf t.owners (length t.pages) j Submission y) q e.sqhd e.cid t.queues (λ j y h. h) (λ j y h. h)
+        (λ j y at'. half-owned t (length t.pages) w.sound.owners w.owners j Submission y at') k y at'
+    owned Completion k y at' = each-over (λ (j : ℕ) (y : Queue). OwnsHalf t.owners (length t.pages) j Completion y) q e.sqhd e.cid t.queues (λ j y h. h) (λ j y h. h)
+        (λ j y at'. half-owned t (length t.pages) w.sound.owners w.owners j Completion y at') k y at'
+
 pub over-means : (t : Tables) → IsWhole t → (q : ℕ) (e : ComEntry) (kind : AdminKind) → EndsAdmin t q kind e → Means kind (over q e.sqhd e.cid t)
 over-means t w q e (Abort k cid) ends = tt
 over-means t w q e (DeleteSq k) ends =
@@ -224,21 +372,33 @@ over-means t w q e (DeleteSq k) ends =
 over-means t w q e (DeleteCq k) ends =
     λ x at. each-over (λ (j : ℕ) (y : Queue). OwnsHalf t.owners (length t.pages) j Completion y) q e.sqhd e.cid t.queues (λ j y h. h) (λ j y h. h)
     (λ j y at'. half-owned t (length t.pages) w.sound.owners w.owners j Completion y at') k x at
+over-means t w q e (CreateCq k n base) ends =
+    let is = made-at t creates_cq_of is_making_cq q e.cid k ends.entry (w.sound.creations k).0 ends.was (ap (creates_cq_of k) ends.work ∙ eq-eqb k k refl) in
+    over-makes t w q e k Completion MakingCq is.0 is.1 (is-making_cq is.0.state is.2)
+over-means t w q e (CreateSq k n base) ends =
+    let is = made-at t creates_sq_of is_making_sq q e.cid k ends.entry (w.sound.creations k).1 ends.was (ap (creates_sq_of k) ends.work ∙ eq-eqb k k refl) in
+    over-makes t w q e k Submission MakingSq is.0 is.1 (is-making_sq is.0.state is.2)
 
-retired-has : (st : HostState) → is_retired st ≡ true → has_cq st ≡ true
-retired-has Live e = refl
-retired-has (Deleting noted) e = refl
-retired-has Retired e = refl
-retired-has Gone e = e
-
-pub over-has : (t : Tables) → IsHost t → (q : ℕ) (e : ComEntry) (kind : AdminKind) → HasMeant kind (over q e.sqhd e.cid t)
-over-has t h q e (Abort k cid) = tt
-over-has t h q e (DeleteSq k) = tt
-over-has t h q e (DeleteCq k) = λ retired.
-    let is = passes-at (over q e.sqhd e.cid t) k retired in
-    let lists = each-over (λ (j : ℕ) (y : Queue). is_retired y.state ≡ true → ListsAll (is_half j Completion) t.owners (pages_from y.host.cq (half_pages t.entries Completion))) q e.sqhd e.cid t.queues
-    (λ j y f. f) (λ j y f. f) (λ j y at r. half-listed t h j Completion y at (retired-has y.state r)) in
-    record { queue = is.queue; at = is.at; lists = lists k is.queue is.at is.retired }
+pub over-has : (t : Tables) → IsHost t → (q : ℕ) (e : ComEntry) (kind : AdminKind) → (entry : Record) → find (is_at q e.cid) t.records ≡ Some entry → entry.work ≡ Management kind → HasMeant kind (over q e.sqhd e.cid t)
+over-has t h q e (Abort k cid) entry was work = tt
+over-has t h q e (DeleteSq k) entry was work = tt
+over-has t h q e (DeleteCq k) entry was work = λ alone.
+    let is = passes-at (over q e.sqhd e.cid t) k alone in
+    let lists = each-over (λ (j : ℕ) (y : Queue). has_cq_alone y.state ≡ true → ListsAll (is_half j Completion) t.owners (pages_from y.host.cq (half_pages t.entries Completion))) q e.sqhd e.cid t.queues
+    (λ j y f. f) (λ j y f. f) (λ j y at r. half-listed t h j Completion y at (alone_has_cq y.state r)) in
+    record { queue = is.queue; at = is.at; lists = lists k is.queue is.at is.alone }
+over-has t h q e (CreateCq k n base) entry was work =
+    let is = made-at t creates_cq_of is_making_cq q e.cid k entry (h.sound.creations k).0 was (ap (creates_cq_of k) work ∙ eq-eqb k k refl) in
+    let there = over-there t q e k is.0 is.1 in
+    let lists = each-over (λ (j : ℕ) (y : Queue). y.state ≡ MakingCq → ListsAll (is_half j Completion) t.owners (pages_from y.host.cq (half_pages t.entries Completion))) q e.sqhd e.cid t.queues
+    (λ j y f. f) (λ j y f. f) (λ j y at r. half-listed t h j Completion y at (ap has_cq r)) in
+    record { queue = there.0; at = there.1; lists = lists k there.0 there.1 (there.2 ∙ is-making_cq is.0.state is.2) }
+over-has t h q e (CreateSq k n base) entry was work =
+    let is = made-at t creates_sq_of is_making_sq q e.cid k entry (h.sound.creations k).1 was (ap (creates_sq_of k) work ∙ eq-eqb k k refl) in
+    let there = over-there t q e k is.0 is.1 in
+    let lists = each-over (λ (j : ℕ) (y : Queue). y.state ≡ MakingSq → ListsAll (is_half j Submission) t.owners (pages_from y.host.sq (half_pages t.entries Submission))) q e.sqhd e.cid t.queues
+    (λ j y f. f) (λ j y f. f) (λ j y at r. half-listed t h j Submission y at (ap has_sq r)) in
+    record { queue = there.0; at = there.1; lists = lists k there.0 there.1 (there.2 ∙ is-making_sq is.0.state is.2) }
 
 -- The machine's state once it is over
 

@@ -10,7 +10,7 @@ use Rattle.io_commands.specs.Least.{least_pages}
 use Rattle.io_commands.specs.declared.request.Piece.{Piece}
 use Rattle.io_commands.specs.declared.request.RequestFault.{RequestFault}
 use Rattle.machine_model.specs.Events as events
-use Rattle.machine_model.specs.Refusals.{refusal_of, no_io_queue, in_state, is_deleting, no_identifier, pages_wanted, has_sq}
+use Rattle.machine_model.specs.Refusals.{refusal_of, no_io_queue, in_state, is_deleting, no_identifier, pages_wanted, in_service}
 use Rattle.machine_model.specs.State.{State, outstanding_on}
 use Rattle.machine_model.specs.Step.{IsNewIdentifier, Refuses, times}
 use Rattle.machine_model.specs.declared.words.HostState.{HostState}
@@ -38,7 +38,7 @@ in_state-is test t q = ap (λ o. option_map_or (λ queue. test queue.state) o fa
     go (Some queue) = refl
 
 pub no_io-is : (t : Tables) (q : ℕ) → no_io_queue (state_of t) q ≡ takes_no_io q (state_at t.queues q)
-no_io-is t q = ap (λ b. (q == 0) || not b) (in_state-is has_sq t q)
+no_io-is t q = ap (λ b. (q == 0) || not b) (in_state-is in_service t q)
 
 -- Identifiers
 

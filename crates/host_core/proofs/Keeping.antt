@@ -3,7 +3,7 @@ use Rattle.std.proofs.Common.{◌≡◌, ℕ, suc, ◌+◌, ◌<◌, Some, List,
 use Rattle.std.specs.List.{AllByRecursion}
 use Rattle.machine_model.specs.Positions.{IsInRing}
 use Rattle.host_core.specs.Rows.{Queue}
-use Rattle.machine_model.specs.Claims.{IsSound, HasOneOwner, counts_of}
+use Rattle.machine_model.specs.Claims.{IsSound, HasNoOtherPages, HasOneOwner, counts_of}
 use Rattle.machine_model.specs.State.{State}
 use Rattle.machine_model.proofs.Headline.{counts_are_all}
 use Rattle.machine_model.proofs.Totals.{total as sum_of, here, times-outstanding}
@@ -16,7 +16,12 @@ use Rattle.host_core.specs.Whole.{IsHost, IsQueue, IsWhole}
 -- what is sound says nothing of a controller
 pub alone_sound : (s : State) → IsSound s → IsSound (alone (record { entries = s.entries; segment = s.segment; host = s.host }) s.memory)
 alone_sound s h =
-    record { owners = h.owners; counted = h.counted; identifiers = h.identifiers; out = h.out; works_fit = h.works_fit; deletions = h.deletions; admin = h.admin }
+    record { owners = h.owners; counted = h.counted; identifiers = h.identifiers; out = h.out; works_fit = h.works_fit; deletions = h.deletions; creations = h.creations; bare = h.bare; halves = h.halves; admin = h.admin }
+
+-- a queue has no page of a half that it has not
+no-others : (queues : List Queue) → AllByRecursion HasNoOtherPages (map host_queue_of queues)
+no-others [] = tt
+no-others (x ∷ queues) = (record { submission = λ e. rw e refl; completion = λ e. rw e refl }, no-others queues)
 
 abbrev pub over_pages : Tables → Pages → Tables
 over_pages t pages = record t { pages = pages }
@@ -33,6 +38,9 @@ whole_of t pages h over =
         out = over.out;
         works_fit = h.sound.works_fit;
         deletions = h.sound.deletions;
+        creations = h.sound.creations;
+        bare = h.sound.bare;
+        halves = no-others t.queues;
         admin = h.sound.admin;
       };
       pool = over.pool;
@@ -70,6 +78,8 @@ host_of t pages w =
         identifiers = w.sound.identifiers;
         works_fit = w.sound.works_fit;
         deletions = w.sound.deletions;
+        creations = w.sound.creations;
+        bare = w.sound.bare;
         admin = w.sound.admin;
       };
       rings = w.queues;

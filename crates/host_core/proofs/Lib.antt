@@ -33,8 +33,12 @@ pub mod HalvesGiven
 pub mod AdminReaped
 pub mod ReapSteps
 pub mod Retired
+pub mod Zeroing
+pub mod Making
 pub mod Sending
 pub mod SendChecks
+pub mod Creating
+pub mod Creations
 pub mod Calls
 pub mod Changing
 pub mod Sweeping

@@ -1,7 +1,7 @@
 -- The places of the records: a new identifier's is empty, and no command stands outside.
-use Rattle.std.proofs.Common.{◌≡◌, ℕ, zero, suc, ◌+◌, ◌-◌, ◌<◌, Bool, true, false, ◌&&◌, ◌||◌, cond, Option, Some, None, List, [], ◌∷◌, length, find, slice_get, refl, ap, ap₂, sym, ◌∙◌, arith, subst, eq-eqb}
+use Rattle.std.proofs.Common.{◌≡◌, ℕ, zero, suc, ◌+◌, ◌-◌, ◌<◌, Bool, true, false, ◌&&◌, ◌||◌, cond, Option, Some, None, List, [], ◌∷◌, length, find, slice_get, refl, ap, ap₂, sym, ◌∙◌, arith, subst, eq-eqb, eqb-true, is_some, ◌==◌}
 use Rattle.std.specs.List.{list_any}
-use Rattle.std.proofs.lemmas.Bool.{true≢false, not-true, or_parts}
+use Rattle.std.proofs.lemmas.Bool.{true≢false, and_parts, not-true, or_parts}
 use Rattle.std.specs.Option.{option_map_or}
 use Rattle.machine_model.specs.Claims.{OwnsFit}
 use Rattle.machine_model.specs.Refusals.{deletes_cq_of}
@@ -33,20 +33,23 @@ new-empty parts pages q cid new =
     let t = tables_of parts pages in
     empty-row parts.records.rows q cid (none-found (is_at q cid) t.records (outstanding-among (view_of t).host q cid ∙ not-true _ new.unused))
 
+pub place-of : {A : Type 0} (parts : Parts A) (pages : Pages) (q cid : ℕ) → parts.records.queues ≡ length parts.queues.items → parts.records.places + 1 ≡ parts.entries → q < length parts.queues.items
+    → IsNewIdentifier (state_of (tables_of parts pages)) q cid → IsPlace parts.records q cid
+place-of parts pages q cid many places there new = record { queue = omega (arith, many, there); identifier = omega (arith, places, new.in_range) }
+
 pub new-place : {A : Type 0} (parts : Parts A) (pages : Pages) (q cid : ℕ) → IsWhole (tables_of parts pages) → q < length parts.queues.items → IsNewIdentifier (state_of (tables_of parts pages)) q cid → IsPlace parts.records q cid
-new-place parts pages q cid w there new =
-    record { queue = omega (arith, w.record_queues, there); identifier = omega (arith, w.record_places, new.in_range) }
+new-place parts pages q cid w there new = place-of parts pages q cid w.record_queues w.record_places there new
 
 -- An outstanding command stands in one of the places of its queue
+
+or-right : (a : Bool) {b : Bool} → b ≡ true → (a || b) ≡ true
+or-right true e = refl
+or-right false e = e
 
 any-at : {A : Type 0} (test : A → Bool) (xs : List A) (i : ℕ) (x : A) → slice_get xs i ≡ Some x → test x ≡ true → list_any test xs ≡ true
 any-at test [] i x at h = absurd (none_is_not at)
 any-at test (y ∷ xs) zero x at h = ap (λ b. b || list_any test xs) (ap test (some_is at) ∙ h)
 any-at test (y ∷ xs) (suc i) x at h = or-right (test y) (any-at test xs i x at h)
-  where
-    or-right : (a : Bool) {b : Bool} → b ≡ true → (a || b) ≡ true
-    or-right true e = refl
-    or-right false e = e
 
 any-found : {A : Type 0} (test : A → Bool) (xs : List A) → list_any test xs ≡ true → (i : ℕ) × (x : A) × (slice_get xs i ≡ Some x) × (test x ≡ true)
 any-found test [] h = absurd (true≢false (sym h))
@@ -112,3 +115,30 @@ deletion-none t h q n size none = go (list_any (deletes q) t.records) refl
         let found = only-found 0 r.cid t.records f.0 r f.2 own (once_of t h 0 r.cid) in
         let inside = record-inside t h f.0 r f.2 in
         absurd (true≢false (sym f.3 ∙ (ap (λ o. option_map_or (deletes q) o false) (sym found) ∙ none r.cid (omega (arith, inside, size)))))
+
+-- A command of a queue is outstanding under one of its identifiers.
+
+of-queue : (q cid : ℕ) (r : Record) → is_at q cid r ≡ true → (r.q == q) ≡ true
+of-queue q cid r h = (and_parts (r.q == q) (r.cid == cid) h).0
+
+pub commands-found : (rs : List Record) (q cid : ℕ) → is_some (find (is_at q cid) rs) ≡ true → list_any (λ (r : Record). r.q == q) rs ≡ true
+commands-found [] q cid h = absurd (true≢false (sym h))
+commands-found (x ∷ rs) q cid h = go (is_at q cid x) refl h (commands-found rs q cid)
+  where
+    go : (b : Bool) → is_at q cid x ≡ b → is_some (cond b (Some x) (find (is_at q cid) rs)) ≡ true
+        → (is_some (find (is_at q cid) rs) ≡ true → list_any (λ (r : Record). r.q == q) rs ≡ true) → ((x.q == q) || list_any (λ (r : Record). r.q == q) rs) ≡ true
+    go true e g ih = ap (λ (b : Bool). b || list_any (λ (r : Record). r.q == q) rs) (of-queue q cid x e)
+    go false e g ih = or-right (x.q == q) (ih g)
+
+pub commands-none : (t : Tables) → IsHost t → (q n : ℕ) → n + 1 ≡ t.entries → ((i : ℕ) → i < n → is_some (find (is_at q i) t.records) ≡ false) → list_any (λ (r : Record). r.q == q) t.records ≡ false
+commands-none t h q n size none = go (list_any (λ (r : Record). r.q == q) t.records) refl
+  where
+    go : (b : Bool) → list_any (λ (r : Record). r.q == q) t.records ≡ b → b ≡ false
+    go false e = refl
+    go true e =
+        let f = any-found (λ (r : Record). r.q == q) t.records e in
+        let r : Record = f.1 in
+        let own = subst (λ (k : ℕ). is_at k r.cid r ≡ true) (eqb-true r.q q f.3) (at-own r) in
+        let found = only-found q r.cid t.records f.0 r f.2 own (once_of t h q r.cid) in
+        let inside = record-inside t h f.0 r f.2 in
+        absurd (true≢false (sym (ap is_some found) ∙ none r.cid (omega (arith, inside, size))))

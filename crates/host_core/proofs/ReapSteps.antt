@@ -7,7 +7,7 @@ use Rattle.entry_codec.specs.declared.completion.ComEntry.{ComEntry}
 use Rattle.io_commands.specs.Asked.{Request}
 use Rattle.machine_model.specs.After.{change, held}
 use Rattle.machine_model.specs.Events as events
-use Rattle.machine_model.specs.Refusals.{refusal_of, is_retired, is_submitted, has_cq}
+use Rattle.machine_model.specs.Refusals.{refusal_of, has_cq_alone, is_submitted, is_reaped}
 use Rattle.machine_model.specs.State.{HostQueue, Record, is_at, with_record, without_record}
 use Rattle.machine_model.specs.Step.{Refuses, fits_ring, reaped_as, reaped_entry, submitted_at}
 use Rattle.machine_model.specs.declared.words.Reaped.TheVariants as found
@@ -20,13 +20,13 @@ use Rattle.queue_pair.specs.Slots.{is_in_range}
 use Rattle.queue_pair.proofs.Order.{in_range_below}
 use Rattle.entry_codec.specs.declared.status.Status.{Status}
 use Rattle.io_commands.specs.Jobs.{is_success}
-use Rattle.admin_commands.specs.declared.AdminKind.TheVariants.{Abort, DeleteSq, DeleteCq}
-use Rattle.machine_model.specs.declared.words.HostState.TheVariants.{Gone}
+use Rattle.admin_commands.specs.declared.AdminKind.TheVariants.{Abort, DeleteSq, DeleteCq, CreateCq, CreateSq}
+use Rattle.machine_model.specs.declared.words.HostState.TheVariants.{Live, Gone, HalfMade}
 use Rattle.machine_model.specs.declared.words.Phase.{Phase}
 use Rattle.machine_model.specs.declared.words.Phase.TheVariants.{Drafted, Submitted, Held, Collected}
 use Rattle.host_core.specs.Commands.{Claims, passes, state_at, without_claim}
 use Rattle.host_core.specs.Reaping.{lacks_completion}
-use Rattle.host_core.specs.Reaping.{Answered, ReapsTo, consumed, ended_with, gives_back, heard, kind_of, meant, over, seen_at, state_deleted, with_answer_heard, with_state, without_completion}
+use Rattle.host_core.specs.Reaping.{Answered, ReapsTo, consumed, ended_with, gives_back, heard, kind_of, meant, over, seen_at, state_deleted, with_answer_heard, with_state, without_completion, without_submission}
 use Rattle.machine_model.specs.declared.words.Refusal.{Refusal}
 use Rattle.host_core.specs.Looks.{completion_waits}
 use Rattle.host_core.specs.Tables.{Tables, state_of, host_queue_of}
@@ -93,7 +93,7 @@ head-below t q x e kind at is = in_range_below x.host.entries x.host.ring.known_
 pub record Looks (t : Tables) (q : ℕ) (o : Option ComEntry) : Type 0 where
   pub queue : Queue
   pub at : slice_get t.queues q ≡ Some queue
-  pub live : has_cq queue.state ≡ true
+  pub live : is_reaped queue.state ≡ true
   pub seen : seen_at t q ≡ o
 
 pub looks : (t : Tables) (q : ℕ) (o : Option ComEntry) → lacks_completion (slice_get t.queues q) ≡ false → seen_at t q ≡ o → Looks t q o
@@ -126,7 +126,7 @@ io-work : (v : Work) → kind_of v ≡ None → (request : Request) × (v ≡ Io
 io-work (Io request) h = (request, refl)
 io-work (Management kind) h = cc
 
-admin-work : (v : Work) (kind : AdminKind) → kind_of v ≡ Some kind → v ≡ Management kind
+pub admin-work : (v : Work) (kind : AdminKind) → kind_of v ≡ Some kind → v ≡ Management kind
 admin-work (Io request) kind h = cc
 admin-work (Management other) kind h = cc
 
@@ -197,12 +197,25 @@ submitted-is Held h = cc
 submitted-is Collected h = cc
 
 -- what the end of an admin command gives back
-pub gives-meant : (t new : Tables) (kind : AdminKind) (k : ℕ) (status : Status) → kind ≡ DeleteCq k → is_success status ≡ true → passes is_retired (state_at t.queues k) ≡ true
+pub gives-meant : (t new : Tables) (kind : AdminKind) (k : ℕ) (status : Status) → kind ≡ DeleteCq k → is_success status ≡ true → passes has_cq_alone (state_at t.queues k) ≡ true
     → new ≡ without_completion k t → new ≡ meant kind status t
 gives-meant t new kind k status e s r is = is ∙ sym (ap (λ (x : AdminKind). meant x status t) e ∙ both)
   where
     both : meant (DeleteCq k) status t ≡ without_completion k t
     both = rw (s, r) refl
+
+-- and where it does not make what it was to make
+pub unmade-cq : (t new : Tables) (kind : AdminKind) (k n base : ℕ) (status : Status) → kind ≡ CreateCq k n base → is_success status ≡ false → new ≡ without_completion k t → new ≡ meant kind status t
+unmade-cq t new kind k n base status e s is = is ∙ sym (ap (λ (x : AdminKind). meant x status t) e ∙ both)
+  where
+    both : meant (CreateCq k n base) status t ≡ without_completion k t
+    both = rw s refl
+
+pub unmade-sq : (t new : Tables) (kind : AdminKind) (k n base : ℕ) (status : Status) → kind ≡ CreateSq k n base → is_success status ≡ false → new ≡ without_submission HalfMade k t → new ≡ meant kind status t
+unmade-sq t new kind k n base status e s is = is ∙ sym (ap (λ (x : AdminKind). meant x status t) e ∙ both)
+  where
+    both : meant (CreateSq k n base) status t ≡ without_submission HalfMade k t
+    both = rw s refl
 
 -- as many queues as before
 pub meant-many : (t : Tables) (kind : AdminKind) (status : Status) → length (meant kind status t).queues ≡ length t.queues
@@ -213,6 +226,16 @@ meant-many t (DeleteCq k) status = go (gives_back k status t)
     go : (b : Bool) → length (if b then without_completion k t else t).queues ≡ length t.queues
     go true = length-change k (with_state Gone) t.queues
     go false = refl
+meant-many t (CreateCq k n base) status = go (is_success status)
+  where
+    go : (b : Bool) → length (if b then record t { queues = change k (with_state HalfMade) t.queues } else without_completion k t).queues ≡ length t.queues
+    go true = length-change k (with_state HalfMade) t.queues
+    go false = length-change k (with_state Gone) t.queues
+meant-many t (CreateSq k n base) status = go (is_success status)
+  where
+    go : (b : Bool) → length (if b then record t { queues = change k (with_state Live) t.queues } else without_submission HalfMade k t).queues ≡ length t.queues
+    go true = length-change k (with_state Live) t.queues
+    go false = length-change k (with_state HalfMade) t.queues
 
 pub heard-many : (t : Tables) (q k : ℕ) → length (heard q k t).queues ≡ length t.queues
 heard-many t q k = length-change q (with_answer_heard k) t.queues

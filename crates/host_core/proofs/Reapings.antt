@@ -9,7 +9,7 @@ use Rattle.io_commands.specs.Asked.{Request}
 use Rattle.machine_model.specs.After as a
 use Rattle.machine_model.specs.After.{after_reap, change, held}
 use Rattle.machine_model.specs.Events as events
-use Rattle.machine_model.specs.Refusals.{refusal_of, seen_entry, has_cq}
+use Rattle.machine_model.specs.Refusals.{refusal_of, seen_entry, is_reaped}
 use Rattle.machine_model.specs.State.{State, HostQueue, Record, record_at, with_record}
 use Rattle.machine_model.specs.Step.{reaped, reaped_entry}
 use Rattle.machine_model.specs.declared.words.Reaped.TheVariants as found
@@ -29,7 +29,7 @@ use Rattle.queue_pair.proofs.Order.{next_below}
 -- The completion that was seen
 pub record Sees (t : Tables) (q : ℕ) (x : Queue) (e : ComEntry) : Type 0 where
   pub at : slice_get t.queues q ≡ Some x
-  pub live : has_cq x.state ≡ true
+  pub live : is_reaped x.state ≡ true
   pub seen : seen_at t q ≡ Some e
 
 -- What the reap answers
@@ -40,7 +40,7 @@ reaped-empty s q h = ap (λ (o : Option ComEntry). option_map_or (reaped_entry s
 pub reaped-told : (s : State) (q : ℕ) (e : ComEntry) → seen_entry s q ≡ Some e → reaped s q ≡ reaped_entry s q e
 reaped-told s q e h = ap (λ (o : Option ComEntry). option_map_or (reaped_entry s q) o found.Empty) h
 
-pub reap-none : (t : Tables) (q : ℕ) (x : Queue) → slice_get t.queues q ≡ Some x → has_cq x.state ≡ true → refusal_of (state_of t) (events.Reap q) ≡ None
+pub reap-none : (t : Tables) (q : ℕ) (x : Queue) → slice_get t.queues q ≡ Some x → is_reaped x.state ≡ true → refusal_of (state_of t) (events.Reap q) ≡ None
 reap-none t q x at live = rw (slice_get-map host_queue_of t.queues q, at, live) refl
 
 -- What holds of the queue

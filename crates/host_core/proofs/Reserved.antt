@@ -11,7 +11,7 @@ use Rattle.io_commands.specs.Values.{numbers_of}
 use Rattle.io_commands.specs.Asked.{Request}
 use Rattle.machine_model.specs.After.{after_reserve}
 use Rattle.machine_model.specs.Events as events
-use Rattle.machine_model.specs.Refusals.{refusal_of, no_io_queue, in_state, is_deleting, no_identifier, pages_wanted, has_sq}
+use Rattle.machine_model.specs.Refusals.{refusal_of, no_io_queue, in_state, is_deleting, no_identifier, pages_wanted, in_service}
 use Rattle.machine_model.specs.State.{State}
 use Rattle.machine_model.specs.Step.{Step, IsReserved, times}
 use Rattle.machine_model.specs.declared.words.Refusal.{Refusal}
@@ -63,7 +63,7 @@ pub queue_there : (t : Tables) (q : ℕ) → no_io_queue (state_of t) q ≡ fals
 queue_there t q known = go (slice_get t.queues q) refl
   where
     there : is_none (slice_get (map host_queue_of t.queues) q) ≡ false
-    there = queue_known has_sq (state_of t) q (or_parts (q == 0) (not (in_state has_sq (state_of t) q)) known).1
+    there = queue_known in_service (state_of t) q (or_parts (q == 0) (not (in_state in_service (state_of t) q)) known).1
 
     go : (o : Option declared.Queue) → slice_get t.queues q ≡ o → (queue : declared.Queue) × (slice_get t.queues q ≡ Some queue)
     go (Some queue) e = (queue, e)

@@ -14,7 +14,7 @@ use Rattle.machine_model.specs.Events as events
 use Rattle.machine_model.specs.Refusals.{refusal_of, host_queue, in_state, is_deleted, is_live, is_submitted, seen_entry, has_cq}
 use Rattle.machine_model.specs.State.{State, HostQueue, Record, is_at, pages_of}
 use Rattle.machine_model.specs.declared.words.HostState.{HostState}
-use Rattle.machine_model.specs.declared.words.HostState.TheVariants.{Live, Deleting, Retired, Gone}
+use Rattle.machine_model.specs.declared.words.HostState.TheVariants.{Live, Deleting, Retired, Gone, MakingCq, HalfMade, MakingSq}
 use Rattle.machine_model.specs.declared.words.Phase.TheVariants.{Held}
 use Rattle.machine_model.specs.declared.words.Refusal.{Refusal}
 use Rattle.machine_model.specs.declared.words.Refusal.TheVariants as refusal
@@ -146,6 +146,9 @@ not-admin t w q x r = go (q == 0) refl
     dead (Deleting noted) h l = cc
     dead Retired h l = cc
     dead Gone h l = cc
+    dead MakingCq h l = cc
+    dead HalfMade h l = cc
+    dead MakingSq h l = cc
 
     first : q ≡ 0 → host_queue (state_of t) 0 ≡ Some (host_queue_of x)
     first z = subst (λ (k : ℕ). host_queue (state_of t) k ≡ Some (host_queue_of x)) z (host-at t q x r.at)

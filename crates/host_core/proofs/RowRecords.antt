@@ -1,5 +1,5 @@
 -- The rows of the table of records, as records.
-use Rattle.std.proofs.Common.{◌≡◌, ℕ, ◌==◌, Bool, true, false, not, cond, Option, Some, None, IfSome, List, [], ◌∷◌, ◌++◌, find, if◌then◌else◌, refl, ap, ap₂, sym, ◌∙◌, subst, eqb-true, option_map}
+use Rattle.std.proofs.Common.{is_some, ◌≡◌, ℕ, ◌==◌, Bool, true, false, not, cond, Option, Some, None, IfSome, List, [], ◌∷◌, ◌++◌, find, if◌then◌else◌, refl, ap, ap₂, sym, ◌∙◌, subst, eqb-true, option_map}
 use Rattle.std.proofs.lemmas.Bool.{and_parts}
 use Rattle.std.proofs.lemmas.List.{map-append}
 use Rattle.machine_model.specs.State.{Record, is_at, with_record, without_record}
@@ -27,6 +27,9 @@ find-rows (row ∷ rows) q cid = go (table.is_at row q cid) refl (find-rows rows
 
 pub found-row : (rows : List (Row Kept)) (q cid : ℕ) (value : Kept) → value_at rows q cid ≡ Some value → find (is_at q cid) (records_of rows) ≡ Some (record_of q cid value)
 found-row rows q cid value h = find-rows rows q cid ∙ ap (option_map (record_of q cid)) h
+
+pub row-there : (rows : List (Row Kept)) (q cid : ℕ) {value : Kept} → value_at rows q cid ≡ Some value → true ≡ is_some (find (is_at q cid) (records_of rows))
+row-there rows q cid {value} h = sym (ap is_some (found-row rows q cid value h))
 
 pub no-row : (rows : List (Row Kept)) (q cid : ℕ) → value_at rows q cid ≡ None → find (is_at q cid) (records_of rows) ≡ None
 no-row rows q cid h = find-rows rows q cid ∙ ap (option_map (record_of q cid)) h

@@ -4,7 +4,7 @@ use Rattle.std.specs.Option.{option_map, option_map_or, option_and_then}
 use Rattle.std.proofs.lemmas.Option.{slice_get-map}
 use Rattle.entry_codec.specs.Completion.{completion_of}
 use Rattle.entry_codec.specs.declared.completion.ComEntry.{ComEntry}
-use Rattle.machine_model.specs.Refusals.{in_state, host_queue, seen_entry, slot_bytes, slot_entry, slot_offset, slot_page, has_cq}
+use Rattle.machine_model.specs.Refusals.{in_state, host_queue, seen_entry, slot_bytes, slot_entry, slot_offset, slot_page, is_reaped}
 use Rattle.machine_model.specs.State.{HostQueue}
 use Rattle.page_ledger.specs.Owners.{pages_from}
 use Rattle.page_memory.specs.Memory.{Memory, bytes_at}
@@ -24,6 +24,7 @@ use Rattle.host_core.specs.Rows.{Queue}
 use Rattle.host_core.proofs.Slots.{completion-fits, completion-offset, completion-page, slot-in, place-parts}
 use Rattle.host_core.proofs.QueueLists.{completion-in, queue-at}
 use Rattle.std.proofs.lemmas.Bool.{not-false}
+use Rattle.machine_model.proofs.Halves.{reaped_has_cq}
 
 pub host-at : (t : Tables) (q : ℕ) (x : Queue) → slice_get t.queues q ≡ Some x → host_queue (state_of t) q ≡ Some (host_queue_of x)
 host-at t q x at = slice_get-map host_queue_of t.queues q ∙ ap (option_map host_queue_of) at
@@ -40,12 +41,12 @@ then-map : {X Y Z : Type 0} (f : Y → Option Z) (g : X → Y) (o : Option X) �
 then-map f g None = refl
 then-map f g (Some x) = refl
 
-slot-seen : (t : Tables) → IsWhole t → (q : ℕ) (x : Queue) → slice_get t.queues q ≡ Some x → has_cq x.state ≡ true
+slot-seen : (t : Tables) → IsWhole t → (q : ℕ) (x : Queue) → slice_get t.queues q ≡ Some x → is_reaped x.state ≡ true
     → slot_bytes t.pages (cq_pages_of x) 16 x.host.ring.head ≡ completion_slot (byte_at t.pages) x.host.cq x.host.ring.head
 slot-seen t w q x at live =
     let is = w.queues.each q x at in
     let place : ℕ = completion_place x.host.cq x.host.ring.head in
-    let pages : cq_pages_of x ≡ pages_from x.host.cq (half_pages x.host.entries Completion) = rw live refl in
+    let pages : cq_pages_of x ≡ pages_from x.host.cq (half_pages x.host.entries Completion) = rw (reaped_has_cq x.state live) refl in
     let page : slot_page (cq_pages_of x) 16 x.host.ring.head ≡ place / 4096 = ap (λ (ps : List ℕ). slot_page ps 16 x.host.ring.head) pages ∙ completion-page x.host.entries x.host.cq x.host.ring.head is.host_side.head in
     let offset : slot_offset 16 x.host.ring.head ≡ place % 4096 = completion-offset x.host.cq x.host.ring.head in
     let inside : IsSome (page_at t.pages (place / 4096)) = slot-in t w q x.host.ring.head place
@@ -55,7 +56,7 @@ slot-seen t w q x at live =
     ∙ (slot-read t.pages (place / 4096) (place % 4096) inside (completion-fits x.host.cq x.host.ring.head) w.pool
     ∙ ap (λ (p : ℕ). bytes_at (byte_at t.pages) p 16) (place-parts place)))
 
-pub untrusted-seen : (t : Tables) → IsWhole t → (q : ℕ) (x : Queue) → slice_get t.queues q ≡ Some x → has_cq x.state ≡ true
+pub untrusted-seen : (t : Tables) → IsWhole t → (q : ℕ) (x : Queue) → slice_get t.queues q ≡ Some x → is_reaped x.state ≡ true
     → new_completion_at (byte_at t.pages) x.host.cq x.host.ring.head x.host.ring.phase ≡ seen_entry (state_of t) q
 untrusted-seen t w q x at live =
     sym (then-map (with_phase x.host.ring.phase) completion_of (completion_slot (byte_at t.pages) x.host.cq x.host.ring.head))
@@ -72,7 +73,7 @@ completion-inside (x ∷ xs) (suc q) h = omega (arith, completion-inside xs q h)
 pub completion-at : (t : Tables) (q i : ℕ) (x : Queue) → lacks_completion (slice_get t.queues q) ≡ false → i ≡ q → x ≡ get_or t.queues i x → slice_get t.queues q ≡ Some x
 completion-at t q i x there e at = queue-at t q i x (completion-inside t.queues q there) e at
 
-completion-live : (t : Tables) (q : ℕ) (x : Queue) → lacks_completion (slice_get t.queues q) ≡ false → slice_get t.queues q ≡ Some x → has_cq x.state ≡ true
+completion-live : (t : Tables) (q : ℕ) (x : Queue) → lacks_completion (slice_get t.queues q) ≡ false → slice_get t.queues q ≡ Some x → is_reaped x.state ≡ true
 completion-live t q x there at = not-false _ (subst (λ (o : Option Queue). lacks_completion o ≡ false) at there)
 
 pub see-there : (t : Tables) → IsWhole t → (seen : Pages) (q i : ℕ) (x : Queue) → lacks_completion (slice_get t.queues q) ≡ false → i ≡ q → x ≡ get_or t.queues i x → byte_at seen ≡ byte_at t.pages
@@ -80,7 +81,7 @@ pub see-there : (t : Tables) → IsWhole t → (seen : Pages) (q i : ℕ) (x : Q
 see-there t w seen q i x there e at same =
     let here = completion-at t q i x there e at in
     subst (λ (m : Memory). IsSome (completion_slot m x.host.cq x.host.ring.head)) (sym same)
-    (completion_there (byte_at t.pages) x.host.cq x.host.entries x.host.ring.head (completion-in t w q x here (completion-live t q x there here)) (w.queues.each q x here).host_side.head)
+    (completion_there (byte_at t.pages) x.host.cq x.host.entries x.host.ring.head (completion-in t w q x here (reaped_has_cq x.state (completion-live t q x there here))) (w.queues.each q x here).host_side.head)
 
 pub see-seen : (t : Tables) → IsWhole t → (seen : Pages) (q i : ℕ) (x : Queue) (r : Option ComEntry) → lacks_completion (slice_get t.queues q) ≡ false → i ≡ q → x ≡ get_or t.queues i x → byte_at seen ≡ byte_at t.pages
     → r ≡ new_completion_at (byte_at seen) x.host.cq x.host.ring.head x.host.ring.phase → r ≡ seen_entry (state_of t) q
@@ -102,27 +103,29 @@ pub base-is : (t : Tables) (q i : ℕ) (x : Queue) → AreQueues t.entries t.que
     → Some (completion_place x.host.cq 0) ≡ completion_base (view_of t) q
 base-is t q i x rings there e at =
     let here = completion-at t q i x there e at in
+    let live = completion-live t q x there here in
     let side = (rings.each q x here).host_side in
     let many : 0 < half_pages x.host.entries Completion = omega (arith, side.least) in
-    let pages : cq_pages_of x ≡ pages_from x.host.cq (half_pages x.host.entries Completion) = rw (completion-live t q x there here) refl in
+    let pages : cq_pages_of x ≡ pages_from x.host.cq (half_pages x.host.entries Completion) = rw (reaped_has_cq x.state live) refl in
     ap (λ (n : ℕ). Some n) (omega arith)
-    ∙ sym (ap (λ (o : Option HostQueue). option_and_then (λ queue. option_map (λ page. 4096 * page) (slice_get queue.cq_pages 0)) o) (host-at t q x here)
-    ∙ (ap (λ (pages : List ℕ). option_map (λ page. 4096 * page) (slice_get pages 0)) pages ∙ ap (λ (o : Option ℕ). option_map (λ page. 4096 * page) o) (first-page x.host.cq _ many)))
+    ∙ sym (ap (λ (o : Option HostQueue). option_and_then (λ queue. if is_reaped queue.state then option_map (λ page. 4096 * page) (slice_get queue.cq_pages 0) else None) o) (host-at t q x here)
+    ∙ (ap (λ (b : Bool). if b then option_map (λ page. 4096 * page) (slice_get (cq_pages_of x) 0) else None) live
+    ∙ (ap (λ (pages : List ℕ). option_map (λ page. 4096 * page) (slice_get pages 0)) pages ∙ ap (λ (o : Option ℕ). option_map (λ page. 4096 * page) o) (first-page x.host.cq _ many))))
 
-pub base-there : (t : Tables) (q i : ℕ) (x : Queue) → lacks_completion (slice_get t.queues q) ≡ false → i ≡ q → x ≡ get_or t.queues i x → true ≡ in_state has_cq (alone (view_of t) []) q
+pub base-there : (t : Tables) (q i : ℕ) (x : Queue) → lacks_completion (slice_get t.queues q) ≡ false → i ≡ q → x ≡ get_or t.queues i x → true ≡ in_state is_reaped (alone (view_of t) []) q
 base-there t q i x there e at =
     let here = completion-at t q i x there e at in
-    sym (ap (λ (o : Option HostQueue). option_map_or (λ queue. has_cq queue.state) o false) (host-at t q x here) ∙ completion-live t q x there here)
+    sym (ap (λ (o : Option HostQueue). option_map_or (λ queue. is_reaped queue.state) o false) (host-at t q x here) ∙ completion-live t q x there here)
 
--- a queue without its completion half has no base
-pub base-gone : (t : Tables) (q : ℕ) → lacks_completion (slice_get t.queues q) ≡ true → (None ≡ completion_base (view_of t) q) × (false ≡ in_state has_cq (alone (view_of t) []) q)
+-- a queue whose completions are not reaped has no base
+pub base-gone : (t : Tables) (q : ℕ) → lacks_completion (slice_get t.queues q) ≡ true → (None ≡ completion_base (view_of t) q) × (false ≡ in_state is_reaped (alone (view_of t) []) q)
 base-gone t q gone = rw (slice_get-map host_queue_of t.queues q) (go (slice_get t.queues q) gone)
   where
-    at : (x : Queue) (b : Bool) → not b ≡ true → (None ≡ option_map (λ page. 4096 * page) (slice_get (if b then pages_from x.host.cq (half_pages x.host.entries Completion) else []) 0)) × (false ≡ b)
-    at x true h = cc
-    at x false h = (refl, refl)
+    at : (o : Option ℕ) (b : Bool) → not b ≡ true → (None ≡ (if b then option_map (λ page. 4096 * page) o else None)) × (false ≡ b)
+    at o true h = cc
+    at o false h = (refl, refl)
 
     go : (o : Option Queue) → lacks_completion o ≡ true
-        → (None ≡ option_and_then (λ queue. option_map (λ page. 4096 * page) (slice_get queue.cq_pages 0)) (option_map host_queue_of o)) × (false ≡ option_map_or (λ queue. has_cq queue.state) (option_map host_queue_of o) false)
+        → (None ≡ option_and_then (λ queue. if is_reaped queue.state then option_map (λ page. 4096 * page) (slice_get queue.cq_pages 0) else None) (option_map host_queue_of o)) × (false ≡ option_map_or (λ queue. is_reaped queue.state) (option_map host_queue_of o) false)
     go None h = (refl, refl)
-    go (Some x) h = at x (has_cq x.state) h
+    go (Some x) h = at (slice_get (cq_pages_of x) 0) (is_reaped x.state) h

@@ -1,29 +1,33 @@
 -- An admin command that is sent on the tables is the machine's, and leaves them whole.
-use Rattle.std.proofs.Common.{◌≡◌, ℕ, ◌+◌, ◌<◌, ◌≤◌, ◌/◌, ◌%◌, ◌==◌, ◌++◌, ◌∷◌, [], Bool, true, false, Option, Some, None, List, length, slice_get, slice_set, refl, ap, sym, ◌∙◌, subst, arith, length-set, not}
+use Rattle.std.proofs.Common.{◌≡◌, ℕ, IsSome, ◌+◌, ◌<◌, ◌≤◌, ◌/◌, ◌%◌, ◌==◌, ◌++◌, ◌∷◌, [], Bool, true, false, Option, Some, None, List, length, slice_get, slice_set, refl, ap, sym, ◌∙◌, subst, arith, length-set, not}
 use Rattle.std.specs.List.{AllByRecursion}
 use Rattle.std.specs.Option.{option_map, option_map_or}
 use Rattle.std.proofs.lemmas.Bool.{or_parts, not-false}
 use Rattle.std.proofs.lemmas.Option.{slice_get-map}
 use Rattle.admin_commands.specs.Entries.{admin_entry}
 use Rattle.admin_commands.specs.declared.AdminKind.{AdminKind}
-use Rattle.admin_commands.specs.declared.AdminKind.TheVariants.{Abort, DeleteSq, DeleteCq}
+use Rattle.admin_commands.specs.declared.AdminKind.TheVariants.{Abort, DeleteSq, DeleteCq, CreateCq, CreateSq}
 use Rattle.entry_codec.specs.Submission.{submission_bytes, FitsSubmission}
 use Rattle.entry_codec.specs.declared.submission.SubEntry.{SubEntry}
 use Rattle.machine_model.specs.After as a
 use Rattle.machine_model.specs.After.{change}
 use Rattle.machine_model.specs.Events as events
 use Rattle.machine_model.specs.Proper.{IsProper}
-use Rattle.machine_model.specs.Refusals.{in_state, is_deleting, no_identifier, no_io_queue, queue_full, refusal_of, has_sq}
+use Rattle.machine_model.specs.Refusals.{in_state, is_deleting, no_identifier, no_io_queue, queue_full, refusal_of, has_sq, in_service}
 use Rattle.machine_model.specs.State.{HostQueue, State}
 use Rattle.machine_model.specs.Step.{Answers, IsController, IsNewIdentifier, Refuses, Step}
 use Rattle.machine_model.specs.declared.words.Refusal.{Refusal}
 use Rattle.machine_model.specs.declared.words.HostState.TheVariants.{Deleting}
 use Rattle.machine_model.specs.declared.words.Refusal.TheVariants as refusal
 use Rattle.machine_model.proofs.Refused.{first_fails}
+use Rattle.page_memory.specs.Pages.{page_at}
+use Rattle.page_memory.specs.declared.page.Half.TheVariants.{Submission}
+use Rattle.queue_pair.specs.Memory.{half_pages}
+use Rattle.queue_pair.proofs.Identifiers.{found_within}
 use Rattle.host_core.specs.Commands.{with_claim}
 use Rattle.host_core.specs.Exact.{Exactly}
 use Rattle.host_core.specs.Posting.{CanPost, posted, tail_place, with_tail_moved}
-use Rattle.host_core.specs.Sending.{CanSend, Sends, asked, noted, record_of_admin, sending, sent}
+use Rattle.host_core.specs.Sending.{CanSend, HasSlot, Sends, asked, grants_none, noted, record_of_admin, sending, sent}
 use Rattle.host_core.specs.Tables.{Tables, state_of, host_queue_of}
 use Rattle.host_core.specs.Whole.{ClaimsIdentifiers, IsQueue, IsRecord, IsWhole, TellsCommand, TellsQueue}
 use Rattle.host_core.specs.Rows.{Queue}
@@ -32,13 +36,13 @@ use Rattle.host_core.proofs.Entries.{posted-exact, posted-queue, submission_leng
 use Rattle.host_core.proofs.Slots.{pool-with_bytes}
 use Rattle.host_core.proofs.Granting.{next-fresh}
 use Rattle.host_core.proofs.Identifiers.{claim-more}
-use Rattle.host_core.proofs.Lists.{all-append, map-change}
+use Rattle.host_core.proofs.Lists.{all-append, map-change, some_is}
 use Rattle.host_core.proofs.Submitting.{admin_live}
 use Rattle.host_core.proofs.QueueLists.{each-change, submission_page-in}
 use Rattle.host_core.proofs.Settled.{Settled, settled-of, settled-state, settled-with, whole-of}
 use Rattle.host_core.proofs.Spared.{claims_keep_queue, claims_keep_tells, each_claimed}
 use Rattle.host_core.proofs.Steps.{host_step, length-change, sound_after}
-use Rattle.machine_model.proofs.Halves.{live_has_sq}
+use Rattle.machine_model.proofs.Halves.{live_has_sq, service_has_sq}
 
 -- The first of a list, and a change of it
 
@@ -58,21 +62,20 @@ more cid claimed = slice_set claimed cid true
 none-told : (t : Tables) (kind : AdminKind) (cid : ℕ) → TellsCommand t.owners (record_of_admin kind cid)
 none-told t kind cid = record { data_pages = λ p h. cc; chain_pages = λ p h. cc }
 
-settled-noted : (t : Tables) (kind : AdminKind) (cid : ℕ) → IsWhole t → (can : CanSend t kind cid) → Settled (noted kind cid t)
-settled-noted t kind cid w can =
-    settled-with t t.owners (change 0 (with_claim cid) t.queues) (t.records ++ record_of_admin kind cid ∷ []) (settled-of t w)
+settled-noted : (t : Tables) (kind : AdminKind) (cid : ℕ) → Settled t → (slot : HasSlot t cid) → Settled (noted kind cid t)
+settled-noted t kind cid s slot =
+    settled-with t t.owners (change 0 (with_claim cid) t.queues) (t.records ++ record_of_admin kind cid ∷ []) s
     (record {
       table = refl;
       many = length-change 0 (with_claim cid) t.queues;
-      queues = record { each = each_claimed (IsQueue t.entries) (more cid) (claims_keep_queue (more cid) (λ bits. length-set bits cid true) t.entries) 0 t.queues w.queues.each };
-      identifiers = claim-more t.records t.queues (record_of_admin kind cid) w.identifiers (λ queue e.
-          let side = w.queues.each 0 queue e in
-          omega (arith, (next-fresh t w 0 cid can.queue can.at can.next).in_range, side.host_side.identifiers, side.entries));
+      queues = record { each = each_claimed (IsQueue t.entries) (more cid) (claims_keep_queue (more cid) (λ bits. length-set bits cid true) t.entries) 0 t.queues s.queues.each };
+      identifiers = claim-more t.records t.queues (record_of_admin kind cid) s.identifiers
+          (λ queue e. subst (λ (x : Queue). cid < length x.host.claimed) (some_is (sym slot.at ∙ e)) (found_within slot.queue.host.claimed cid slot.next));
       owners = record {
-        queues_told = each_claimed (TellsQueue t.owners) (more cid) (claims_keep_tells (more cid) t.owners) 0 t.queues w.owners.queues_told;
-        commands_told = all-append (TellsCommand t.owners) t.records (record_of_admin kind cid) w.owners.commands_told (none-told t kind cid);
+        queues_told = each_claimed (TellsQueue t.owners) (more cid) (claims_keep_tells (more cid) t.owners) 0 t.queues s.owners.queues_told;
+        commands_told = all-append (TellsCommand t.owners) t.records (record_of_admin kind cid) s.owners.commands_told (none-told t kind cid);
       };
-      records = all-append (IsRecord (length t.queues)) t.records (record_of_admin kind cid) w.records (record { queue = some-first t.queues can.queue can.at; work = tt; phase = tt });
+      records = all-append (IsRecord (length t.queues)) t.records (record_of_admin kind cid) s.records (record { queue = some-first t.queues slot.queue slot.at; work = tt; phase = tt });
     })
 
 -- the machine shows no claims
@@ -90,20 +93,28 @@ pub record IsTyped (entry : SubEntry) : Type 0 where
   pub sgl1 : length entry.sgl1 ≡ 16
   pub fits : FitsSubmission entry
 
-pub can-send : (t : Tables) (kind : AdminKind) (cid : ℕ) → IsWhole t → (can : CanSend t kind cid) → IsTyped (admin_entry kind cid)
-    → CanPost (noted kind cid t) 0 (with_claim cid can.queue) (admin_entry kind cid)
-can-send t kind cid w can is =
-    let s = settled-noted t kind cid w can in
-    let kept = live_has_sq can.queue.state (admin_live t w can.queue can.at) in
+-- the submission half of queue 0 is there, and in
+pub record HasHalfIn (t : Tables) (queue : Queue) : Type 0 where
+  pub kept : has_sq queue.state ≡ true
+  pub inside : (k : ℕ) → k < half_pages queue.host.entries Submission → IsSome (page_at t.pages (queue.host.sq + k))
+
+pub half-in : (t : Tables) (cid : ℕ) → IsWhole t → (slot : HasSlot t cid) → HasHalfIn t slot.queue
+half-in t cid w slot =
+    let kept = live_has_sq slot.queue.state (admin_live t w slot.queue slot.at) in
+    record { kept = kept; inside = λ k l. submission_page-in t w 0 slot.queue slot.at kept k l }
+
+pub can-send : (t : Tables) (kind : AdminKind) (cid : ℕ) → Settled t → (slot : HasSlot t cid) → HasHalfIn t slot.queue → IsTyped (admin_entry kind cid)
+    → CanPost (noted kind cid t) 0 (with_claim cid slot.queue) (admin_entry kind cid)
+can-send t kind cid s slot half is =
     record {
-      at = first-changed (with_claim cid) t.queues can.queue can.at;
-      kept = kept;
-      room = can.room;
+      at = first-changed (with_claim cid) t.queues slot.queue slot.at;
+      kept = half.kept;
+      room = slot.room;
       sgl1 = is.sgl1;
       fits = is.fits;
-      pool = w.pool;
-      inside = λ k l. submission_page-in t w 0 can.queue can.at kept k l;
-      queues = s.queues;
+      pool = s.pool;
+      inside = half.inside;
+      queues = (settled-noted t kind cid s slot).queues;
     }
 
 settled-posted : (u : Tables) (q : ℕ) (x : Queue) (entry : SubEntry) → Settled u → CanPost u q x entry → Settled (posted q x entry u)
@@ -132,19 +143,19 @@ settled-posted u q x entry s post =
       records = subst (λ (n : ℕ). AllByRecursion (IsRecord n) u.records) (sym size) s.records;
     }
 
-settled-sent : (t : Tables) (kind : AdminKind) (cid : ℕ) → IsWhole t → (can : CanSend t kind cid) → IsTyped (admin_entry kind cid) → Settled (sent kind cid can.queue t)
-settled-sent t kind cid w can is =
-    settled-posted (noted kind cid t) 0 (with_claim cid can.queue) (admin_entry kind cid) (settled-noted t kind cid w can) (can-send t kind cid w can is)
+pub settled-sent : (t : Tables) (kind : AdminKind) (cid : ℕ) → Settled t → (slot : HasSlot t cid) → HasHalfIn t slot.queue → IsTyped (admin_entry kind cid) → Settled (sent kind cid slot.queue t)
+settled-sent t kind cid s slot half is =
+    settled-posted (noted kind cid t) 0 (with_claim cid slot.queue) (admin_entry kind cid) (settled-noted t kind cid s slot) (can-send t kind cid s slot half is)
 
 -- the machine's state
 
-abbrev sent_in : AdminKind → ℕ → State → State
+abbrev pub sent_in : AdminKind → ℕ → State → State
 sent_in kind cid s = a.sent kind cid (admin_entry kind cid) s
 
-sent-exact : (t : Tables) (kind : AdminKind) (cid : ℕ) → IsWhole t → (can : CanSend t kind cid) → IsTyped (admin_entry kind cid)
-    → state_of (sent kind cid can.queue t) ≡ sent_in kind cid (state_of t)
-sent-exact t kind cid w can is =
-    posted-exact (noted kind cid t) 0 (with_claim cid can.queue) (admin_entry kind cid) (can-send t kind cid w can is)
+pub sent-exact : (t : Tables) (kind : AdminKind) (cid : ℕ) → Settled t → (slot : HasSlot t cid) → HasHalfIn t slot.queue → IsTyped (admin_entry kind cid)
+    → state_of (sent kind cid slot.queue t) ≡ sent_in kind cid (state_of t)
+sent-exact t kind cid s slot half is =
+    posted-exact (noted kind cid t) 0 (with_claim cid slot.queue) (admin_entry kind cid) (can-send t kind cid s slot half is)
     ∙ ap (a.posted 0 (admin_entry kind cid)) (noted-state t kind cid)
 
 -- The queue that it names
@@ -154,12 +165,14 @@ abbrev AsksOf : AdminKind → Tables → Type 0
 AsksOf (Abort q cid) u = Unit {0}
 AsksOf (DeleteSq q) u = (x : Queue) → slice_get u.queues q ≡ Some x → has_sq x.state ≡ true
 AsksOf (DeleteCq q) u = Unit {0}
+AsksOf (CreateCq q n base) u = Unit {0}
+AsksOf (CreateSq q n base) u = Unit {0}
 
 has-half : (t : Tables) (q : ℕ) → refusal_of (state_of t) (events.DeleteSq q) ≡ None → (x : Queue) → slice_get t.queues q ≡ Some x → has_sq x.state ≡ true
-has-half t q none x at =
-    sym (ap (λ (o : Option HostQueue). option_map_or (λ (queue : HostQueue). has_sq queue.state) o false) (slice_get-map host_queue_of t.queues q ∙ ap (option_map host_queue_of) at))
-    ∙ not-false _ (or_parts (q == 0) (not (in_state has_sq s q))
-    (first_fails (no_io_queue s q) refusal.NoQueue ((in_state is_deleting s q, refusal.WrongState) ∷ (no_identifier s 0, refusal.NoIdentifier) ∷ (queue_full s 0, refusal.QueueFull) ∷ []) none)).1
+has-half t q none x at = service_has_sq x.state
+    (sym (ap (λ (o : Option HostQueue). option_map_or (λ (queue : HostQueue). in_service queue.state) o false) (slice_get-map host_queue_of t.queues q ∙ ap (option_map host_queue_of) at))
+    ∙ not-false _ (or_parts (q == 0) (not (in_state in_service s q))
+    (first_fails (no_io_queue s q) refusal.NoQueue ((in_state is_deleting s q, refusal.WrongState) ∷ (no_identifier s 0, refusal.NoIdentifier) ∷ (queue_full s 0, refusal.QueueFull) ∷ []) none)).1)
   where
     s : State
     s = state_of t
@@ -174,53 +187,69 @@ asks-sent t (DeleteSq q) cid x none =
     claimed = each_claimed (λ (k : ℕ) (z : Queue). q ≡ k → has_sq z.state ≡ true) (more cid) (λ k z h. h) 0 t.queues
         (λ k z at same. has-half t q none z (subst (λ (i : ℕ). slice_get t.queues i ≡ Some z) (sym same) at))
 asks-sent t (DeleteCq q) cid x none = tt
+asks-sent t (CreateCq q n base) cid x none = tt
+asks-sent t (CreateSq q n base) cid x none = tt
 
 asked_in : AdminKind → State → State
 asked_in (Abort q cid) s = s
 asked_in (DeleteSq q) s = a.on_host_queue q a.deleting s
 asked_in (DeleteCq q) s = s
+asked_in (CreateCq q n base) s = s
+asked_in (CreateSq q n base) s = s
 
 asked-state : (u : Tables) (kind : AdminKind) → AsksOf kind u → state_of (asked kind u) ≡ asked_in kind (state_of u)
 unfolding asked_in
 asked-state u (Abort q cid) h = refl
 asked-state u (DeleteSq q) h = state-set u q (Deleting false) (refl) h
 asked-state u (DeleteCq q) h = refl
+asked-state u (CreateCq q n base) h = refl
+asked-state u (CreateSq q n base) h = refl
 
 settled-asked : (u : Tables) (kind : AdminKind) → Settled u → AsksOf kind u → Settled (asked kind u)
 settled-asked u (Abort q cid) s h = s
 settled-asked u (DeleteSq q) s h = settled-state u q (Deleting false) s (refl) h
 settled-asked u (DeleteCq q) s h = s
+settled-asked u (CreateCq q n base) s h = s
+settled-asked u (CreateSq q n base) s h = s
 
 -- The machine's step
 
-send-after : (s : State) (kind : AdminKind) (cid : ℕ) → a.after s (sending kind) (events.Sent cid) ≡ asked_in kind (sent_in kind cid s)
+send-after : (s : State) (kind : AdminKind) (cid : ℕ) → grants_none kind ≡ true → a.after s (sending kind) (events.Sent cid) ≡ asked_in kind (sent_in kind cid s)
 unfolding asked_in
-send-after s (Abort q c) cid = refl
-send-after s (DeleteSq q) cid = refl
-send-after s (DeleteCq q) cid = refl
+send-after s (Abort q c) cid plain = refl
+send-after s (DeleteSq q) cid plain = refl
+send-after s (DeleteCq q) cid plain = refl
+send-after s (CreateCq q n base) cid plain = cc
+send-after s (CreateSq q n base) cid plain = cc
 
-send-answers : (s : State) (kind : AdminKind) (cid : ℕ) → IsNewIdentifier s 0 cid → Answers s (sending kind) (events.Sent cid)
-send-answers s (Abort q c) cid h = h
-send-answers s (DeleteSq q) cid h = h
-send-answers s (DeleteCq q) cid h = h
+send-answers : (s : State) (kind : AdminKind) (cid : ℕ) → grants_none kind ≡ true → IsNewIdentifier s 0 cid → Answers s (sending kind) (events.Sent cid)
+send-answers s (Abort q c) cid plain h = h
+send-answers s (DeleteSq q) cid plain h = h
+send-answers s (DeleteCq q) cid plain h = h
+send-answers s (CreateCq q n base) cid plain h = cc
+send-answers s (CreateSq q n base) cid plain h = cc
 
 is-hosts : (kind : AdminKind) → IsController (sending kind) ≡ false
 is-hosts (Abort q cid) = refl
 is-hosts (DeleteSq q) = refl
 is-hosts (DeleteCq q) = refl
+is-hosts (CreateCq q n base) = refl
+is-hosts (CreateSq q n base) = refl
 
 is-proper : (kind : AdminKind) → IsProper (sending kind)
 is-proper (Abort q cid) = tt
 is-proper (DeleteSq q) = tt
 is-proper (DeleteCq q) = tt
+is-proper (CreateCq q n base) = tt
+is-proper (CreateSq q n base) = tt
 
 pub send-exact : (t : Tables) (kind : AdminKind) (cid : ℕ) → IsWhole t → (can : CanSend t kind cid) → IsTyped (admin_entry kind cid)
-    → Exactly (state_of t) (sending kind) (events.Sent cid) (state_of (asked kind (sent kind cid can.queue t)))
+    → Exactly (state_of t) (sending kind) (events.Sent cid) (state_of (asked kind (sent kind cid can.slot.queue t)))
 send-exact t kind cid w can is = (
   can.none,
-  send-answers (state_of t) kind cid (next-fresh t w 0 cid can.queue can.at can.next),
-  asked-state (sent kind cid can.queue t) kind (asks-sent t kind cid can.queue can.none)
-      ∙ (ap (asked_in kind) (sent-exact t kind cid w can is) ∙ sym (send-after (state_of t) kind cid)),
+  send-answers (state_of t) kind cid can.plain (next-fresh t w 0 cid can.slot.queue can.slot.at can.slot.next),
+  asked-state (sent kind cid can.slot.queue t) kind (asks-sent t kind cid can.slot.queue can.none)
+      ∙ (ap (asked_in kind) (sent-exact t kind cid (settled-of t w) can.slot (half-in t cid w can.slot) is) ∙ sym (send-after (state_of t) kind cid can.plain)),
 )
 
 -- What a sending makes of whole tables: a step of the machine, and whole tables.
@@ -228,19 +257,19 @@ pub record SendsTo (t : Tables) (kind : AdminKind) (cid : ℕ) (new : Tables) : 
   pub step : Step (state_of t) (sending kind) (events.Sent cid) (state_of new)
   pub whole : IsWhole new
 
-send-made : (t : Tables) (kind : AdminKind) (cid : ℕ) → IsWhole t → (can : CanSend t kind cid) → IsTyped (admin_entry kind cid) → SendsTo t kind cid (asked kind (sent kind cid can.queue t))
+send-made : (t : Tables) (kind : AdminKind) (cid : ℕ) → IsWhole t → (can : CanSend t kind cid) → IsTyped (admin_entry kind cid) → SendsTo t kind cid (asked kind (sent kind cid can.slot.queue t))
 send-made t kind cid w can is =
-    let u : Tables = sent kind cid can.queue t in
+    let u : Tables = sent kind cid can.slot.queue t in
     let step : Step (state_of t) (sending kind) (events.Sent cid) (state_of (asked kind u)) =
     host_step t (asked kind u) (sending kind) (events.Sent cid) (is-hosts kind) (is-proper kind) (send-exact t kind cid w can is) in
     record {
       step = step;
-      whole = whole-of (asked kind u) (settled-asked u kind (settled-sent t kind cid w can is) (asks-sent t kind cid can.queue can.none))
+      whole = whole-of (asked kind u) (settled-asked u kind (settled-sent t kind cid (settled-of t w) can.slot (half-in t cid w can.slot) is) (asks-sent t kind cid can.slot.queue can.none))
           (sound_after (state_of t) (sending kind) (events.Sent cid) (state_of (asked kind u)) step w.sound);
     }
 
 pub send_made : (t new : Tables) (kind : AdminKind) (cid : ℕ) → IsWhole t → CanSend t kind cid → IsTyped (admin_entry kind cid) → Sends t kind cid new → SendsTo t kind cid new
-send_made t new kind cid w can is sends = subst (λ (y : Tables). SendsTo t kind cid y) (sym (sends can.queue can.at)) (send-made t kind cid w can is)
+send_made t new kind cid w can is sends = subst (λ (y : Tables). SendsTo t kind cid y) (sym (sends can.slot.queue can.slot.at)) (send-made t kind cid w can is)
 
 -- What a refusal makes of it
 

@@ -3,10 +3,10 @@ use Rattle.std.proofs.Common.{◌≡◌, ◌≢◌, ℕ, ◌+◌, ◌≤◌, tru
 use Rattle.std.specs.List.{AllByRecursion}
 use Rattle.machine_model.specs.After.{change}
 use Rattle.machine_model.specs.Claims.{IsSound}
-use Rattle.machine_model.specs.Refusals.{is_retired, has_sq}
+use Rattle.machine_model.specs.Refusals.{has_cq, has_sq}
 use Rattle.machine_model.specs.State.{Record}
 use Rattle.machine_model.specs.declared.words.HostState.{HostState}
-use Rattle.machine_model.specs.declared.words.HostState.TheVariants.{Gone}
+use Rattle.machine_model.specs.declared.words.HostState.TheVariants.{Gone, HalfMade}
 use Rattle.page_ledger.specs.declared.owner.Owner.{Owner}
 use Rattle.page_ledger.specs.declared.owner.Owner.TheVariants as owner
 use Rattle.page_memory.specs.declared.page.Half.TheVariants.{Submission, Completion}
@@ -123,23 +123,31 @@ told-kept owners k state x new old told =
 is-queue : (n k : ℕ) (state : HostState) (x : Queue) → IsQueue n k x → IsQueue n k (with_state state x)
 is-queue n k state x is = record { number = is.number; entries = is.entries; host_side = is.host_side }
 
-pub settled-state : (t : Tables) (k : ℕ) (state : HostState) → Settled t → has_sq state ≡ true → ((x : Queue) → slice_get t.queues k ≡ Some x → has_sq x.state ≡ true)
-    → Settled (record t { queues = change k (with_state state) t.queues })
-settled-state t k state s new old =
-    settled-with t t.owners (change k (with_state state) t.queues) t.records s
+-- a queue in another state, over other owners, of which the same holds
+pub settled-as : (t : Tables) (k : ℕ) (state : HostState) (owners : List Owner) → Settled t → length owners ≡ length t.owners
+    → ((x : Queue) → slice_get t.queues k ≡ Some x → TellsQueue owners k (with_state state x))
+    → ((j : ℕ) (x : Queue) → j ≢ k → slice_get t.queues j ≡ Some x → TellsQueue owners j x) → AllByRecursion (TellsCommand owners) t.records
+    → Settled (record t { owners = owners; queues = change k (with_state state) t.queues })
+settled-as t k state owners s size own others commands =
+    settled-with t owners (change k (with_state state) t.queues) t.records s
     (record {
-      table = refl;
+      table = size;
       many = length-change k (with_state state) t.queues;
       queues = record { each = each-change (IsQueue t.entries) k (with_state state) t.queues (λ j y _ at. s.queues.each j y at) (λ y at. is-queue t.entries k state y (s.queues.each k y at)) };
       identifiers = record { each = each-change (λ (j : ℕ) (y : Queue). ClaimsIdentifiers t.records j y.host.claimed) k (with_state state) t.queues (λ j y _ at. s.identifiers.each j y at) (λ y at. s.identifiers.each k y at) };
       owners = record {
-        queues_told = each-change (TellsQueue t.owners) k (with_state state) t.queues (λ j y _ at. s.owners.queues_told j y at) (λ y at. told-kept t.owners k state y new (old y at) (s.owners.queues_told k y at));
-        commands_told = s.owners.commands_told;
+        queues_told = each-change (TellsQueue owners) k (with_state state) t.queues others own;
+        commands_told = commands;
       };
       records = s.records;
     })
 
--- A queue whose completion half is given back
+pub settled-state : (t : Tables) (k : ℕ) (state : HostState) → Settled t → has_sq state ≡ true → ((x : Queue) → slice_get t.queues k ≡ Some x → has_sq x.state ≡ true)
+    → Settled (record t { queues = change k (with_state state) t.queues })
+settled-state t k state s new old =
+    settled-as t k state t.owners s refl (λ y at. told-kept t.owners k state y new (old y at) (s.owners.queues_told k y at)) (λ j y _ at. s.owners.queues_told j y at) s.owners.commands_told
+
+-- A queue of which a half is given back
 
 none-told : (owners : List Owner) (o : Owner) → HaveOwner owners o []
 none-told owners o p h = cc
@@ -147,19 +155,26 @@ none-told owners o p h = cc
 gone-told : (owners : List Owner) (k : ℕ) (x : Queue) → TellsQueue owners k (with_state Gone x)
 gone-told owners k x = record { submission = none-told owners (owner.Queue k Submission); completion = none-told owners (owner.Queue k Completion) }
 
-pub settled-gone : (t : Tables) (k : ℕ) (owners : List Owner) → Settled t → length owners ≡ length t.owners → ((x : Queue) → slice_get t.queues k ≡ Some x → is_retired x.state ≡ true)
+pub settled-gone : (t : Tables) (k : ℕ) (owners : List Owner) → Settled t → length owners ≡ length t.owners
     → ((j : ℕ) (x : Queue) → j ≢ k → slice_get t.queues j ≡ Some x → TellsQueue owners j x) → AllByRecursion (TellsCommand owners) t.records
     → Settled (record t { owners = owners; queues = change k (with_state Gone) t.queues })
-settled-gone t k owners s size retired others commands =
-    settled-with t owners (change k (with_state Gone) t.queues) t.records s
-    (record {
-      table = size;
-      many = length-change k (with_state Gone) t.queues;
-      queues = record { each = each-change (IsQueue t.entries) k (with_state Gone) t.queues (λ j y _ at. s.queues.each j y at) (λ y at. is-queue t.entries k Gone y (s.queues.each k y at)) };
-      identifiers = record { each = each-change (λ (j : ℕ) (y : Queue). ClaimsIdentifiers t.records j y.host.claimed) k (with_state Gone) t.queues (λ j y _ at. s.identifiers.each j y at) (λ y at. s.identifiers.each k y at) };
-      owners = record {
-        queues_told = each-change (TellsQueue owners) k (with_state Gone) t.queues others (λ y at. gone-told owners k y);
-        commands_told = commands;
-      };
-      records = s.records;
-    })
+settled-gone t k owners s size others commands = settled-as t k Gone owners s size (λ y at. gone-told owners k y) others commands
+
+-- a queue that has its completion half alone
+half-told : (owners : List Owner) (k : ℕ) (x : Queue) → has_cq x.state ≡ true → HaveOwner owners (owner.Queue k Completion) (cq_pages_of x) → TellsQueue owners k (with_state HalfMade x)
+half-told owners k x there told =
+    record {
+      submission = none-told owners (owner.Queue k Submission);
+      completion = subst (λ (ps : List ℕ). HaveOwner owners (owner.Queue k Completion) ps) (sym kept) told;
+    }
+  where
+    kept : cq_pages_of (with_state HalfMade x) ≡ cq_pages_of x
+    kept = rw there refl
+
+pub settled-half_made : (t : Tables) (k : ℕ) (owners : List Owner) → Settled t → length owners ≡ length t.owners
+    → ((x : Queue) → slice_get t.queues k ≡ Some x → has_cq x.state ≡ true)
+    → ((x : Queue) → slice_get t.queues k ≡ Some x → HaveOwner owners (owner.Queue k Completion) (cq_pages_of x))
+    → ((j : ℕ) (x : Queue) → j ≢ k → slice_get t.queues j ≡ Some x → TellsQueue owners j x) → AllByRecursion (TellsCommand owners) t.records
+    → Settled (record t { owners = owners; queues = change k (with_state HalfMade) t.queues })
+settled-half_made t k owners s size there told others commands =
+    settled-as t k HalfMade owners s size (λ y at. half-told owners k y (there y at) (told y at)) others commands

@@ -16,6 +16,7 @@ use Rattle.host_core.specs.Reaping.{IsCompletionSlot}
 use Rattle.host_core.specs.Tables.{Tables}
 use Rattle.host_core.specs.Whole.{IsWhole}
 use Rattle.host_core.proofs.QueueLists.{completion_page-in}
+use Rattle.machine_model.proofs.Halves.{reaped_has_cq}
 
 -- Bytes of one page
 
@@ -87,7 +88,7 @@ slot-in t w q slot place s =
     let n : s.queue.host.entries ≡ t.entries = (w.queues.each q s.queue s.at).entries in
     let l : slot / 256 < half_pages s.queue.host.entries Completion = omega (arith, n, s.below) in
     subst (λ (p : ℕ). IsSome (page_at t.pages p)) (sym (ap (λ (x : ℕ). x / 4096) s.there ∙ page-of s.queue.host.cq slot))
-    (completion_page-in t w q s.queue s.at s.live (slot / 256) l)
+    (completion_page-in t w q s.queue s.at (reaped_has_cq s.queue.state s.live) (slot / 256) l)
 
 pub slot-fits : (t : Tables) (q slot place : ℕ) → IsCompletionSlot t q slot place → place % 4096 + 16 ≤ 4096
 slot-fits t q slot place s = subst (λ (x : ℕ). x % 4096 + 16 ≤ 4096) (sym s.there) (completion-fits s.queue.host.cq slot)

@@ -11,7 +11,7 @@ use Rattle.machine_model.specs.Events as events
 use Rattle.machine_model.specs.Memory.{without_pages, with_pages, zeroed_pages}
 use Rattle.machine_model.specs.Placement.{placed, without_numbers, chain_wanted}
 use Rattle.machine_model.specs.State.{Record, is_at, pages_of, with_record, without_record}
-use Rattle.machine_model.specs.Refusals.{refusal_of, is_drafted, is_collected, is_of, has_sq}
+use Rattle.machine_model.specs.Refusals.{refusal_of, is_drafted, is_collected, is_of, in_service}
 use Rattle.machine_model.specs.Claims.{is_away}
 use Rattle.machine_model.specs.Step.{IsNewIdentifier}
 use Rattle.machine_model.specs.declared.words.HostState.{HostState}
@@ -22,7 +22,7 @@ use Rattle.page_ledger.specs.Owners.{with_owner, given_back, is_command, free_pa
 use Rattle.page_ledger.specs.declared.owner.Owner.{Owner}
 use Rattle.page_ledger.specs.declared.owner.Owner.TheVariants.{Command}
 use Rattle.page_ledger.specs.declared.owner.Role.TheVariants.{Data, Chain}
-use Rattle.page_memory.specs.Pages.{Pages, page_at}
+use Rattle.page_memory.specs.Pages.{Pages, page_at, zero_page}
 use Rattle.host_core.specs.Tables.{Tables, state_of}
 use Rattle.host_core.specs.Rows.{Queue}
 
@@ -83,6 +83,11 @@ abbrev pub CanPut : PagesOut → Pages → Type 0
 CanPut [] m = Unit {0}
 CanPut (page ∷ pages) m = (slice_get m page.0 ≡ Some None) × CanPut pages (slice_set m page.0 (Some page.1))
 
+-- each page is in, and is one of zeros behind the others
+abbrev pub CanZero : List ℕ → Pages → Type 0
+CanZero [] m = Unit {0}
+CanZero (p ∷ ps) m = IsSome (page_at m p) × CanZero ps (slice_set m p (Some zero_page))
+
 -- the host's state of a queue, where there is one
 abbrev pub state_at : List Queue → ℕ → Option HostState
 state_at queues q = option_map (λ queue. queue.state) (slice_get queues q)
@@ -93,7 +98,7 @@ passes test state = option_map_or test state false
 
 -- whether a queue of this number, in this state, takes no I/O commands
 abbrev pub takes_no_io : ℕ → Option HostState → Bool
-takes_no_io q state = (q == 0) || not (passes has_sq state)
+takes_no_io q state = (q == 0) || not (passes in_service state)
 
 -- The identifier that a queue would claim next
 abbrev pub ClaimsNext : List Queue → ℕ → ℕ → Type 0

@@ -2,23 +2,23 @@
 use Rattle.std.specs.Prelude.{◌≡◌, ℕ, ◌<◌, ◌&&◌, Bool, true, false, Option, Some, None, List, find, slice_get, if◌then◌else◌, not}
 use Rattle.std.specs.Option.{option_map_or}
 use Rattle.admin_commands.specs.declared.AdminKind.{AdminKind}
-use Rattle.admin_commands.specs.declared.AdminKind.TheVariants.{Abort, DeleteSq, DeleteCq}
+use Rattle.admin_commands.specs.declared.AdminKind.TheVariants.{Abort, DeleteSq, DeleteCq, CreateCq, CreateSq}
 use Rattle.entry_codec.specs.declared.completion.ComEntry.{ComEntry}
 use Rattle.entry_codec.specs.declared.status.Status.{Status}
 use Rattle.io_commands.specs.Jobs.{is_success}
 use Rattle.machine_model.specs.After.{change, held}
 use Rattle.machine_model.specs.Events as events
-use Rattle.machine_model.specs.Refusals.{is_retired, seen_entry, has_cq}
+use Rattle.machine_model.specs.Refusals.{has_cq_alone, is_reaped, seen_entry}
 use Rattle.machine_model.specs.State.{Record, is_at, with_record, without_record}
 use Rattle.machine_model.specs.Step.{Step}
 use Rattle.machine_model.specs.declared.words.HostState.{HostState}
-use Rattle.machine_model.specs.declared.words.HostState.TheVariants.{Live, Deleting, Gone}
+use Rattle.machine_model.specs.declared.words.HostState.TheVariants.{Live, Deleting, Gone, HalfMade}
 use Rattle.machine_model.specs.declared.words.Phase.TheVariants.{Submitted}
 use Rattle.machine_model.specs.declared.words.Reaped.{Reaped}
 use Rattle.machine_model.specs.Work.{Work}
 use Rattle.machine_model.specs.declared.words.Work.TheVariants.{Io, Management}
 use Rattle.page_ledger.specs.Owners.{given_back, is_half}
-use Rattle.page_memory.specs.declared.page.Half.TheVariants.{Completion}
+use Rattle.page_memory.specs.declared.page.Half.TheVariants.{Submission, Completion}
 use Rattle.queue_pair.specs.Memory.{completion_place}
 use Rattle.queue_pair.specs.Rings.{knowing, next_head}
 use Rattle.queue_pair.specs.Slots.{is_in_range}
@@ -27,15 +27,15 @@ use Rattle.host_core.specs.Tables.{Tables, state_of}
 use Rattle.host_core.specs.Whole.{IsWhole}
 use Rattle.host_core.specs.Rows.{Queue}
 
--- no queue of a number has a completion half
+-- no queue of a number has completions that are reaped
 abbrev pub lacks_completion : Option Queue → Bool
-lacks_completion o = not (option_map_or (λ queue. has_cq queue.state) o false)
+lacks_completion o = not (option_map_or (λ queue. is_reaped queue.state) o false)
 
 -- the place of a completion slot of a queue that has its completion half
 pub record IsCompletionSlot (t : Tables) (q slot place : ℕ) : Type 0 where
   pub queue : Queue
   pub at : slice_get t.queues q ≡ Some queue
-  pub live : has_cq queue.state ≡ true
+  pub live : is_reaped queue.state ≡ true
   pub below : slot < t.entries
   pub there : place ≡ completion_place queue.host.cq slot
 
@@ -79,13 +79,19 @@ without_completion q t = record t { owners = given_back (is_half q Completion) t
 
 -- whether the end of the deletion of a completion queue gives the half back
 abbrev pub gives_back : ℕ → Status → Tables → Bool
-gives_back q status t = is_success status && passes is_retired (state_at t.queues q)
+gives_back q status t = is_success status && passes has_cq_alone (state_at t.queues q)
+
+-- a queue's submission half is given back, and the queue is in this state then
+abbrev pub without_submission : HostState → ℕ → Tables → Tables
+without_submission state q t = record t { owners = given_back (is_half q Submission) t.owners; queues = change q (with_state state) t.queues }
 
 -- what the end of an admin command means for the queue that it names
 abbrev pub meant : AdminKind → Status → Tables → Tables
 meant (Abort q cid) status t = t
 meant (DeleteSq q) status t = record t { queues = change q (with_state (state_deleted status)) t.queues }
 meant (DeleteCq q) status t = if gives_back q status t then without_completion q t else t
+meant (CreateCq q n base) status t = if is_success status then record t { queues = change q (with_state HalfMade) t.queues } else without_completion q t
+meant (CreateSq q n base) status t = if is_success status then record t { queues = change q (with_state Live) t.queues } else without_submission HalfMade q t
 
 -- the command of queue 0 that a command is
 abbrev pub kind_of : Work → Option AdminKind

@@ -1,15 +1,15 @@
 -- The values that a host hands to the doorbells.
 use Rattle.std.specs.Prelude.{ℕ, Bool, Option, None, false, slice_get, option_map, not}
 use Rattle.std.specs.Option.{option_map_or}
-use Rattle.machine_model.specs.Refusals.{has_sq}
+use Rattle.machine_model.specs.Refusals.{in_service}
 use Rattle.machine_model.specs.declared.words.Reaped.{Reaped}
 use Rattle.machine_model.specs.declared.words.Reaped.TheVariants.{Empty, Done, AdminDone, Rejected}
 use Rattle.host_core.specs.Alone.{HostView}
 use Rattle.host_core.specs.Rows.{Queue}
 
--- no queue of a number has a submission half
+-- no queue of a number is in service
 abbrev pub lacks_submission : Option Queue → Bool
-lacks_submission o = not (option_map_or (λ queue. has_sq queue.state) o false)
+lacks_submission o = not (option_map_or (λ queue. in_service queue.state) o false)
 
 -- the tail of a queue's submission ring, and the head of its completion ring
 abbrev pub tail_of : HostView → ℕ → Option ℕ

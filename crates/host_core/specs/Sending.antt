@@ -1,15 +1,22 @@
 -- The host sends an admin command.
-use Rattle.std.specs.Prelude.{◌≡◌, ◌++◌, ◌∷◌, ◌==◌, ◌||◌, ◌&&◌, [], ℕ, Bool, List, Option, None, Some, false, not, position, slice_get}
+use Rattle.std.specs.Prelude.{◌≡◌, ◌++◌, ◌∷◌, ◌*◌, ◌-◌, ◌==◌, ◌||◌, ◌&&◌, [], ℕ, Bool, List, Option, None, Some, true, false, nat_lt, not, length, position, slice_get}
 use Rattle.admin_commands.specs.Entries.{admin_entry}
 use Rattle.admin_commands.specs.declared.AdminKind.{AdminKind}
-use Rattle.admin_commands.specs.declared.AdminKind.TheVariants.{Abort, DeleteSq, DeleteCq}
+use Rattle.admin_commands.specs.declared.AdminKind.TheVariants.{Abort, DeleteSq, DeleteCq, CreateCq, CreateSq}
 use Rattle.machine_model.specs.After.{change}
 use Rattle.machine_model.specs.Events as events
 use Rattle.machine_model.specs.Events.{Event}
-use Rattle.machine_model.specs.Refusals.{cq_deletion_outstanding, in_state, is_deleting, is_retired, is_submitted, no_io_queue, record_is, refusal_of, has_cq}
-use Rattle.machine_model.specs.State.{Record, State}
+use Rattle.machine_model.specs.Refusals.{cq_deletion_outstanding, in_state, is_changing, is_deleting, is_gone, is_half_made, is_io_queue, is_submitted, has_cq, has_cq_alone, no_io_queue, record_is, refusal_of, run_for}
+use Rattle.machine_model.specs.Memory.{with_pages, zeroed_pages}
+use Rattle.machine_model.specs.State.{Record, State, outstanding_on}
+use Rattle.page_ledger.specs.Owners.{pages_from, with_owner}
+use Rattle.page_ledger.specs.declared.owner.Owner.TheVariants as owner
+use Rattle.page_memory.specs.declared.page.Half.{Half}
+use Rattle.page_memory.specs.declared.page.Half.TheVariants.{Submission, Completion}
+use Rattle.queue_pair.specs.Memory.{half_pages}
+use Rattle.queue_pair.specs.Rings.{HostSide, fresh_host_ring, none_claimed}
 use Rattle.machine_model.specs.declared.words.HostState.{HostState}
-use Rattle.machine_model.specs.declared.words.HostState.TheVariants.{Deleting}
+use Rattle.machine_model.specs.declared.words.HostState.TheVariants.{Deleting, MakingCq, MakingSq}
 use Rattle.machine_model.specs.declared.words.Phase.TheVariants.{Submitted}
 use Rattle.machine_model.specs.declared.words.Refusal.{Refusal}
 use Rattle.machine_model.specs.declared.words.Refusal.TheVariants as refusal
@@ -26,6 +33,16 @@ abbrev pub sending : AdminKind → Event
 sending (Abort q cid) = events.Abort q cid
 sending (DeleteSq q) = events.DeleteSq q
 sending (DeleteCq q) = events.DeleteCq q
+sending (CreateCq q n base) = events.CreateCq q
+sending (CreateSq q n base) = events.CreateSq q
+
+-- whether a command is sent with no half granted before it
+abbrev pub grants_none : AdminKind → Bool
+grants_none (Abort q cid) = true
+grants_none (DeleteSq q) = true
+grants_none (DeleteCq q) = true
+grants_none (CreateCq q n base) = false
+grants_none (CreateSq q n base) = false
 
 -- the record of an admin command that was just sent
 abbrev pub record_of_admin : AdminKind → ℕ → Record
@@ -45,10 +62,48 @@ abbrev pub asked : AdminKind → Tables → Tables
 asked (Abort q cid) t = t
 asked (DeleteSq q) t = record t { queues = change q (with_state (Deleting false)) t.queues }
 asked (DeleteCq q) t = t
+asked (CreateCq q n base) t = t
+asked (CreateSq q n base) t = t
+
+-- a queue's side made anew over other halves
+abbrev pub renewed : (sq cq : ℕ) → HostSide → HostSide
+renewed sq cq side = record side { sq = sq; cq = cq; ring = fresh_host_ring; claimed = none_claimed (side.entries - 1) }
+
+-- a queue whose half is granted from a page on
+abbrev pub making : Half → ℕ → Queue → Queue
+making Completion first queue = record queue { state = MakingCq; host = renewed queue.host.sq first queue.host }
+making Submission first queue = record queue { state = MakingSq; host = renewed first queue.host.cq queue.host }
+
+-- the pages of a half from its first on
+abbrev pub half_from : Tables → Half → ℕ → List ℕ
+half_from t half first = pages_from first (half_pages t.entries half)
+
+-- a queue is granted a half: its pages are the queue's, in and zero
+abbrev pub granted : Half → (q first : ℕ) → Tables → Tables
+granted half q first t =
+    record t {
+      pages = with_pages (zeroed_pages (half_from t half first)) t.pages;
+      owners = with_owner t.owners (half_from t half first) (owner.Queue q half);
+      queues = change q (making half first) t.queues;
+    }
+
+-- the call that makes a half, and the command that it sends
+abbrev pub creating : Half → ℕ → Event
+creating Completion q = events.CreateCq q
+creating Submission q = events.CreateSq q
+
+abbrev pub creation : Half → (q entries first : ℕ) → AdminKind
+creation Completion q entries first = CreateCq q entries (4096 * first)
+creation Submission q entries first = CreateSq q entries (4096 * first)
 
 -- the tables that a sending leaves, by queue 0
 abbrev pub Sends : Tables → AdminKind → ℕ → Tables → Type 0
 Sends t kind cid new = (queue : Queue) → slice_get t.queues 0 ≡ Some queue → new ≡ asked kind (sent kind cid queue t)
+
+-- the tables that a creation leaves: the half is granted, and the command sent
+abbrev pub Creates : Tables → Half → (q cid first : ℕ) → Tables → Type 0
+Creates t half q cid first new =
+    (queue : Queue) → slice_get t.queues 0 ≡ Some queue → new ≡ sent (creation half q t.entries first) cid queue (granted half q first t)
 
 -- what is against a command for the queue and the command that it names
 abbrev pub named_causes : State → AdminKind → List (Bool × Refusal)
@@ -60,16 +115,34 @@ named_causes s (Abort q cid) =
 named_causes s (DeleteSq q) = (no_io_queue s q, refusal.NoQueue) ∷ (in_state is_deleting s q, refusal.WrongState) ∷ []
 named_causes s (DeleteCq q) =
     ((q == 0) || not (in_state has_cq s q), refusal.NoQueue)
-    ∷ (in_state is_deleting s q || (in_state is_retired s q && cq_deletion_outstanding s q), refusal.WrongState)
+    ∷ (in_state is_changing s q || (in_state has_cq_alone s q && cq_deletion_outstanding s q), refusal.WrongState)
     ∷ []
+named_causes s (CreateCq q n base) =
+    (not (is_io_queue s q), refusal.NoQueue)
+    ∷ (not (in_state is_gone s q), refusal.WrongState)
+    ∷ (nat_lt 0 (length (outstanding_on s.host q)), refusal.Outstanding)
+    ∷ []
+named_causes s (CreateSq q n base) =
+    (not (is_io_queue s q), refusal.NoQueue) ∷ (not (in_state is_half_made s q) || cq_deletion_outstanding s q, refusal.WrongState) ∷ []
 
--- Nothing is against a sending: queue 0 has room, and this is its next identifier.
-pub record CanSend (t : Tables) (kind : AdminKind) (cid : ℕ) : Type 0 where
-  pub none : refusal_of (state_of t) (sending kind) ≡ None
+-- Queue 0 has room for a command, and this is its next identifier.
+pub record HasSlot (t : Tables) (cid : ℕ) : Type 0 where
   pub queue : Queue
   pub at : slice_get t.queues 0 ≡ Some queue
   pub next : position not queue.host.claimed ≡ Some cid
   pub room : is_full queue.host.entries queue.host.ring.known_head queue.host.ring.tail ≡ false
+
+-- Nothing is against a sending with no half granted.
+pub record CanSend (t : Tables) (kind : AdminKind) (cid : ℕ) : Type 0 where
+  pub plain : grants_none kind ≡ true
+  pub none : refusal_of (state_of t) (sending kind) ≡ None
+  pub slot : HasSlot t cid
+
+-- Nothing is against the making of a half, and from this page on its pages are free.
+pub record CanCreate (t : Tables) (half : Half) (q cid first : ℕ) : Type 0 where
+  pub none : refusal_of (state_of t) (creating half q) ≡ None
+  pub slot : HasSlot t cid
+  pub run : run_for (state_of t) half ≡ Some first
 
 -- whether no queue of this number, in this state, has a completion half that can be deleted
 abbrev pub lacks_queue : ℕ → Option HostState → Bool

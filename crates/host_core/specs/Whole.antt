@@ -4,7 +4,7 @@ use Rattle.std.specs.List.{AllByRecursion, list_any}
 use Rattle.entry_codec.specs.declared.status.Status.{Status}
 use Rattle.io_commands.specs.Requests.{data_count}
 use Rattle.io_commands.specs.Values.{IsGood}
-use Rattle.machine_model.specs.Claims.{IsSound, HasOneOwner, IdentifiersDiffer, DeletionsFit, AdminLives, OwnsFit}
+use Rattle.machine_model.specs.Claims.{IsSound, HasOneOwner, IdentifiersDiffer, DeletionsFit, CreationsFit, NewQueuesAreBare, AdminLives, OwnsFit}
 use Rattle.machine_model.specs.State.{Record, is_at, pages_of}
 use Rattle.machine_model.specs.Work.{Work}
 use Rattle.machine_model.specs.declared.words.Phase.{Phase}
@@ -120,6 +120,8 @@ pub record IsSoundTable (t : Tables) : Type 0 where
   pub identifiers : IdentifiersDiffer (view_of t).host
   pub works_fit : AllByRecursion (λ r. OwnsFit r.q r.work (pages_of r)) t.records
   pub deletions : DeletionsFit (view_of t).host
+  pub creations : CreationsFit (view_of t).host
+  pub bare : NewQueuesAreBare (view_of t).host
   pub admin : AdminLives (view_of t).host.queues
 
 pub record IsHost (t : Tables) : Type 0 where

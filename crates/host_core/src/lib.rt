@@ -14,6 +14,7 @@
 mod collect;
 mod compare;
 mod config;
+mod create;
 mod finish;
 mod host;
 pub mod laws;

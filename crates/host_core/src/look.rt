@@ -5,7 +5,7 @@ ghost use Rattle.std.specs.Result.{result_err};
 ghost use Rattle.io_commands.specs.Least.{least_pages as spec_least_pages};
 ghost use Rattle.io_commands.specs.Requests.{fault_of};
 ghost use Rattle.machine_model.specs.Events as events;
-ghost use Rattle.machine_model.specs.Refusals.{has_cq, in_state, refusal_of};
+ghost use Rattle.machine_model.specs.Refusals.{in_state, is_reaped, refusal_of};
 ghost use Rattle.machine_model.specs.State.{record_at};
 ghost use Rattle.page_memory.specs.Pages.{Pages};
 ghost use Rattle.host_core.specs.Alone.{alone, IsOver};
@@ -95,7 +95,7 @@ impl<A: Allocator> Host<A> {
     /// The address at which a queue's completion ring begins, as long as the host has it.
     pub fn completion_base(&self, q: u16) -> Option<u64>
         ensures base { result ≡ spec_completion_base self.now q }
-        ensures there { is_some result ≡ in_state has_cq (alone self.now []) q }
+        ensures there { is_some result ≡ in_state is_reaped (alone self.now []) q }
     {
         if has_no_completion(&self.parts.queues, q) {
             return None;

@@ -5,7 +5,8 @@ ghost use Rattle.std.specs.Option.{option_map_or};
 ghost use Rattle.host_core.specs.Collecting.{taken_pages};
 ghost use Rattle.page_memory.specs.Pages.{page_at, zero_page};
 ghost use Rattle.machine_model.specs.Memory.{without_pages, with_pages, zeroed_pages};
-ghost use Rattle.host_core.specs.Commands.{CanTake, CanPut};
+ghost use Rattle.host_core.specs.Commands.{CanTake, CanPut, CanZero};
+ghost use Rattle.page_ledger.specs.Owners.{pages_from};
 
 use page_memory::{Page, PageNo, Store};
 use std::alloc::Allocator;
@@ -39,6 +40,17 @@ pub(crate) fn move_out_zeroed<A: Allocator>(
     for number in numbers {
         let page = take_zeroed(store, *number);
         into.push_reserved((*number, page));
+    }
+}
+
+/// Makes the pages of a run zero, which are in.
+pub(crate) fn zero_run<A: Allocator>(store: &mut Store<A>, first: PageNo, count: u32)
+    requires few { first + count ≤ 65536 }
+    requires can { CanZero (pages_from first count) store.old.pages }
+    ensures { store.new.pages ≡ with_pages (zeroed_pages (pages_from first count)) store.old.pages }
+{
+    for p in first.0..first.0 + count {
+        store.zero(PageNo(p));
     }
 }
 

@@ -2,7 +2,7 @@
 
 ghost use Rattle.std.specs.Prelude.{◌≡◌, ◌<◌, not, position, length, slice_get, Some};
 ghost use Rattle.machine_model.specs.After.{change};
-ghost use Rattle.machine_model.specs.Refusals.{is_deleted as spec_is_deleted, is_deleting as spec_is_deleting, is_live as spec_is_live, is_retired as spec_is_retired};
+ghost use Rattle.machine_model.specs.Refusals.{has_cq_alone as spec_has_cq_alone, is_changing as spec_is_changing, is_deleted as spec_is_deleted, is_deleting as spec_is_deleting, is_live as spec_is_live};
 ghost use Rattle.host_core.specs.Commands.{ClaimsNext, passes, state_at, takes_no_io as spec_takes_no_io, with_claim};
 ghost use Rattle.host_core.specs.Reaping.{lacks_completion, with_state};
 ghost use Rattle.host_core.specs.Ringing.{lacks_submission};
@@ -31,8 +31,8 @@ pub(crate) fn takes_no_io(q: u16, state: Option<HostState>) -> bool
         return true;
     }
     match state {
-        None | Some(HostState::Retired | HostState::Gone) => true,
         Some(HostState::Live | HostState::Deleting { .. }) => false,
+        _ => true,
     }
 }
 
@@ -42,7 +42,17 @@ pub(crate) fn is_deleting(state: Option<HostState>) -> bool
 {
     match state {
         Some(HostState::Deleting { .. }) => true,
-        None | Some(HostState::Live | HostState::Retired | HostState::Gone) => false,
+        _ => false,
+    }
+}
+
+/// Whether the host waits for the end of a deletion or a creation of a queue in this state.
+pub(crate) fn is_changing(state: Option<HostState>) -> bool
+    ensures { result ≡ passes spec_is_changing state }
+{
+    match state {
+        Some(HostState::Deleting { .. } | HostState::MakingCq | HostState::MakingSq) => true,
+        _ => false,
     }
 }
 
@@ -52,7 +62,7 @@ pub(crate) fn is_deleted(state: Option<HostState>) -> bool
 {
     match state {
         Some(HostState::Deleting { noted }) => noted,
-        None | Some(HostState::Live | HostState::Retired | HostState::Gone) => false,
+        _ => false,
     }
 }
 
@@ -63,43 +73,43 @@ pub(crate) fn is_live<A: Allocator>(queues: &[Queue<HostPair<A>>], q: u16) -> bo
     match queues.get(usize::from(q)) {
         Some(queue) => match queue.state {
             HostState::Live => true,
-            HostState::Deleting { .. } | HostState::Retired | HostState::Gone => false,
+            _ => false,
         },
         None => false,
     }
 }
 
-/// Whether the submission half of a queue in this state was given back, and the other was not.
-pub(crate) fn is_retired(state: Option<HostState>) -> bool
-    ensures { result ≡ passes spec_is_retired state }
+/// Whether a queue in this state has its completion half alone, and waits for nothing.
+pub(crate) fn has_cq_alone(state: Option<HostState>) -> bool
+    ensures { result ≡ passes spec_has_cq_alone state }
 {
     match state {
-        Some(HostState::Retired) => true,
-        None | Some(HostState::Live | HostState::Deleting { .. } | HostState::Gone) => false,
+        Some(HostState::Retired | HostState::HalfMade) => true,
+        _ => false,
     }
 }
 
-/// Whether no queue of a number has a submission half.
+/// Whether no queue of a number is in service.
 pub(crate) fn has_no_submission<A: Allocator>(queues: &[Queue<HostPair<A>>], q: u16) -> bool
     ensures { result ≡ lacks_submission (slice_get queues.now q) }
 {
     match queues.get(usize::from(q)) {
         Some(queue) => match queue.state {
-            HostState::Retired | HostState::Gone => true,
             HostState::Live | HostState::Deleting { noted: _ } => false,
+            _ => true,
         },
         None => true,
     }
 }
 
-/// Whether no queue of a number has a completion half.
+/// Whether no queue of a number has completions that are reaped.
 pub(crate) fn has_no_completion<A: Allocator>(queues: &[Queue<HostPair<A>>], q: u16) -> bool
     ensures { result ≡ lacks_completion (slice_get queues.now q) }
 {
     match queues.get(usize::from(q)) {
         Some(queue) => match queue.state {
-            HostState::Gone => true,
             HostState::Live | HostState::Deleting { noted: _ } | HostState::Retired => false,
+            _ => true,
         },
         None => true,
     }

@@ -20,7 +20,7 @@ use crate::finish::unclaim;
 use crate::host::Host;
 use crate::parts::Parts;
 use crate::queue::Queue;
-use crate::queues::{has_no_completion, host_state, is_retired, note};
+use crate::queues::{has_cq_alone, has_no_completion, host_state, note};
 use admin_commands::AdminKind;
 use entry_codec::{ComEntry, Status};
 use machine_model::words::{HostState, Reaped, Refusal, RejectedFor};
@@ -158,8 +158,22 @@ impl<A: Allocator> Parts<A> {
             AdminKind::Abort { q: _, cid: _ } => {}
             AdminKind::DeleteSq { q } => note(&mut self.queues, q, deleted(status)),
             AdminKind::DeleteCq { q } => {
-                if is_success(status) && is_retired(host_state(&self.queues, q)) {
+                if is_success(status) && has_cq_alone(host_state(&self.queues, q)) {
                     self.give_back_completion(q);
+                }
+            }
+            AdminKind::CreateCq { q, .. } => {
+                if is_success(status) {
+                    note(&mut self.queues, q, HostState::HalfMade);
+                } else {
+                    self.give_back_completion(q);
+                }
+            }
+            AdminKind::CreateSq { q, .. } => {
+                if is_success(status) {
+                    note(&mut self.queues, q, HostState::Live);
+                } else {
+                    self.give_back_submission(q, HostState::HalfMade);
                 }
             }
         }

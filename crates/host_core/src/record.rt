@@ -76,8 +76,7 @@ impl<A: Allocator> Record<A> {
     {
         match &self.work {
             Work::Management(AdminKind::DeleteCq { q: named }) => *named == q,
-            Work::Io(_) | Work::Management(AdminKind::Abort { .. } | AdminKind::DeleteSq { .. }) =>
-                false,
+            _ => false,
         }
     }
 

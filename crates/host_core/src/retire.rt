@@ -5,9 +5,9 @@ ghost use Rattle.machine_model.specs.Events as events;
 ghost use Rattle.host_core.specs.Alone.{HostStep, IsOver};
 ghost use Rattle.host_core.specs.Halves.{HasHalf};
 ghost use Rattle.host_core.specs.Parts.{tables_of, Becomes};
-ghost use Rattle.host_core.specs.Reaping.{lacks_completion, seen_at};
+ghost use Rattle.host_core.specs.Reaping.{lacks_completion, seen_at, without_submission};
 ghost use Rattle.host_core.specs.Replies.{ring_reply};
-ghost use Rattle.host_core.specs.Retiring.{retired, with_lost, without_submission};
+ghost use Rattle.host_core.specs.Retiring.{retired, with_lost};
 ghost use Rattle.host_core.specs.Whole.{IsHost, IsWhole};
 
 use crate::host::Host;
@@ -43,17 +43,17 @@ impl<A: Allocator> Parts<A> {
         }
     }
 
-    /// Gives a queue's submission half back.
-    fn give_back_submission(&mut self, q: u16)
+    /// Gives a queue's submission half back, which is in this state then.
+    pub(crate) fn give_back_submission(&mut self, q: u16, state: HostState)
         requires { HasHalf (tables_of self.old []) q Half.Submission }
-        ensures { Becomes self.old (without_submission q) self.new }
+        ensures { Becomes self.old (without_submission state q) self.new }
     {
         let pages = half_pages(self.entries, Half::Submission);
         let first = self.queues[usize::from(q)]
             .host
             .first_page(Half::Submission);
         self.ledger.give_back_run(q, Half::Submission, first, pages);
-        note(&mut self.queues, q, HostState::Retired);
+        note(&mut self.queues, q, state);
     }
 
     /// Retires a queue whose deletion has ended and whose completions are all reaped.
@@ -63,7 +63,7 @@ impl<A: Allocator> Parts<A> {
         ensures { Becomes self.old (retired q) self.new }
     {
         self.lose_commands(q);
-        self.give_back_submission(q);
+        self.give_back_submission(q, HostState::Retired);
     }
 }
 

@@ -1,6 +1,6 @@
 //! The host sends admin commands on queue 0.
 
-ghost use Rattle.std.specs.Prelude.{◌≡◌, ◌<◌, [], None, false, IfOk, IfErr, OnOk, length, find};
+ghost use Rattle.std.specs.Prelude.{◌≡◌, ◌<◌, [], None, true, false, IfOk, IfErr, OnOk, length, find};
 ghost use Rattle.std.specs.List.{list_any};
 ghost use Rattle.std.specs.Option.{option_map_or};
 ghost use Rattle.admin_commands.specs.declared.AdminKind.TheVariants as kinds;
@@ -15,14 +15,14 @@ ghost use Rattle.host_core.specs.Alone.{HostStep, IsLowest, IsOver};
 ghost use Rattle.host_core.specs.Commands.{ClaimsNext};
 ghost use Rattle.host_core.specs.Parts.{records_of, tables_of, Becomes, Over};
 ghost use Rattle.host_core.specs.Replies.{send_reply};
-ghost use Rattle.host_core.specs.Sending.{asked, lacks_queue as spec_lacks_queue, named_causes, noted, sending, CanSend, Sends};
+ghost use Rattle.host_core.specs.Sending.{asked, grants_none, lacks_queue as spec_lacks_queue, named_causes, noted, sending, CanSend, Sends};
 ghost use Rattle.host_core.specs.Tables.{state_of};
 ghost use Rattle.host_core.specs.Whole.{IsHost, IsWhole};
 
 use crate::host::Host;
 use crate::parts::Parts;
 use crate::queues::{
-    claim, host_state, is_deleting, is_retired, next_identifier, note, takes_no_io,
+    claim, has_cq_alone, host_state, is_changing, is_deleting, next_identifier, note, takes_no_io,
 };
 use crate::record::Record;
 use admin_commands::{AdminKind, entry};
@@ -39,7 +39,7 @@ fn lacks_queue(q: u16, state: Option<HostState>) -> bool
     }
     match state {
         None | Some(HostState::Gone) => true,
-        Some(HostState::Live | HostState::Deleting { .. } | HostState::Retired) => false,
+        Some(_) => false,
     }
 }
 
@@ -55,7 +55,7 @@ impl<A: Allocator> Parts<A> {
     }
 
     /// Whether the deletion of a queue's completion side is outstanding.
-    fn awaits_deletion(&self, q: u16) -> bool
+    pub(crate) fn awaits_deletion(&self, q: u16) -> bool
         requires { IsHost (tables_of self.now []) }
         ensures { result ≡ list_any (λ r. deletes_cq_of q r.work) (records_of self.now.records.rows) }
     {
@@ -112,10 +112,10 @@ impl<A: Allocator + Copy> Parts<A> {
         if lacks_queue(q, state) {
             return Err(Refusal::NoQueue);
         }
-        if is_deleting(state) {
+        if is_changing(state) {
             return Err(Refusal::WrongState);
         }
-        if is_retired(state) && self.awaits_deletion(q) {
+        if has_cq_alone(state) && self.awaits_deletion(q) {
             return Err(Refusal::WrongState);
         }
         Ok(())
@@ -131,14 +131,17 @@ impl<A: Allocator + Copy> Parts<A> {
             AdminKind::Abort { q, cid } => self.check_abort(q, cid),
             AdminKind::DeleteSq { q } => self.check_delete_sq(q),
             AdminKind::DeleteCq { q } => self.check_delete_cq(q),
+            AdminKind::CreateCq { q, .. } => self.check_create_cq(q),
+            AdminKind::CreateSq { q, .. } => self.check_create_sq(q),
         }
     }
 }
 
 impl<A: Allocator + Copy> Parts<A> {
-    /// The identifier of queue 0 that an admin command gets, or the first cause against it.
+    /// The identifier of queue 0 that a command gets for which no half is granted, or the first cause against it.
     fn check_send(&self, kind: AdminKind) -> Result<u16, Refusal>
-        requires { IsHost (tables_of self.now []) }
+        requires host { IsHost (tables_of self.now []) }
+        requires plain { grants_none kind ≡ true }
         ensures ready { IfOk result (λ cid. Over self.now (λ t. CanSend t kind cid)) }
         ensures refused { IfErr result (λ why. Over self.now (λ t. Refuses (state_of t) (sending kind) why [])) }
     {
@@ -156,7 +159,7 @@ impl<A: Allocator + Copy> Parts<A> {
     }
 
     /// Claims an identifier of queue 0 for an admin command, which is outstanding then.
-    fn note_sent(&mut self, kind: AdminKind, cid: u16)
+    pub(crate) fn note_sent(&mut self, kind: AdminKind, cid: u16)
         requires there { 0 < length self.old.queues.items }
         requires next { ClaimsNext self.old.queues.items 0 cid }
         requires place { IsPlace self.old.records 0 cid }
@@ -182,7 +185,10 @@ impl<A: Allocator + Copy> Parts<A> {
             AdminKind::DeleteSq { q } => {
                 note(&mut self.queues, q, HostState::Deleting { noted: false });
             }
-            AdminKind::Abort { .. } | AdminKind::DeleteCq { .. } => {}
+            AdminKind::Abort { .. }
+            | AdminKind::DeleteCq { .. }
+            | AdminKind::CreateCq { .. }
+            | AdminKind::CreateSq { .. } => {}
         }
     }
 
@@ -199,9 +205,10 @@ impl<A: Allocator + Copy> Parts<A> {
 }
 
 impl<A: Allocator + Copy> Host<A> {
-    /// Sends an admin command, where nothing is against it.
+    /// Sends an admin command for which no half is granted, where nothing is against it.
     fn send(&mut self, store: &mut Store<A>, kind: AdminKind) -> Result<u16, Refusal>
-        requires { IsOver self.old store.old.pages }
+        requires over { IsOver self.old store.old.pages }
+        requires plain { grants_none kind ≡ true }
         ensures step { HostStep self.old store.old.pages (sending kind) (send_reply result) self.new store.new.pages }
         ensures identifier { IfOk result (λ id. IsLowest self.old.host 0 id) }
         ensures over { IsOver self.new store.new.pages }

@@ -1,5 +1,5 @@
 use Rattle.std.proofs.Common.{arith, None, ◌≡◌, ◌∙◌, ℕ, true, false, [], List, slice_get, ap, subst, sym, Some}
-use Rattle.machine_model.specs.Refusals.{has_cq, in_state}
+use Rattle.machine_model.specs.Refusals.{is_reaped, in_state}
 use Rattle.host_core.specs.Alone.{HostView, alone}
 use Rattle.host_core.specs.Looks.{completion_base as spec_completion_base}
 use Rattle.host_core.specs.Parts.{tables_of}
@@ -16,7 +16,7 @@ returns-clause-base g c =
 
 pub returns-clause-there : goal.returns-clause-there
 returns-clause-there g c =
-    subst (λ (v : HostView). true ≡ in_state has_cq (alone v []) c.args.q) c.self.view_is
+    subst (λ (v : HostView). true ≡ in_state is_reaped (alone v []) c.args.q) c.self.view_is
     (base-there (tables_of c.self.inside.parts []) c.args.q c.from.result c.index.result.now (subst (λ (queues : List Queue). lacks_completion (slice_get queues c.args.q) ≡ false) c.deref.ensures.value (sym c.if-has_no_completion.ensures)) c.from.ensures c.index.ensures)
 
 pub returns-then-has_no_completion-clause-base : goal.returns-then-has_no_completion-clause-base
@@ -25,7 +25,7 @@ returns-then-has_no_completion-clause-base g c =
 
 pub returns-then-has_no_completion-clause-there : goal.returns-then-has_no_completion-clause-there
 returns-then-has_no_completion-clause-there g c =
-    subst (λ (v : HostView). false ≡ in_state has_cq (alone v []) c.args.q) c.self.view_is (base-gone (tables_of c.self.inside.parts []) c.args.q (subst (λ (queues : List Queue). lacks_completion (slice_get queues c.args.q) ≡ true) c.deref.ensures.value (sym c.if-has_no_completion.ensures))).1
+    subst (λ (v : HostView). false ≡ in_state is_reaped (alone v []) c.args.q) c.self.view_is (base-gone (tables_of c.self.inside.parts []) c.args.q (subst (λ (queues : List Queue). lacks_completion (slice_get queues c.args.q) ≡ true) c.deref.ensures.value (sym c.if-has_no_completion.ensures))).1
 
 pub index-requires : goal.index-requires
 index-requires g c =

@@ -15,23 +15,23 @@ use Rattle.host_core.proofs.host.Host.send.Goals as goal
 pub returns-in-Err-clause-step : goal.returns-in-Err-clause-step
 returns-in-Err-clause-step g c =
     let t : Tables = tables_of c.self.inside.parts c.args.store.now.pages in
-    let w : IsWhole t = whole_at (tables_of c.self.inside.parts []) c.args.self.now c.args.store.now.pages c.self.view_is c.self.invariant c.requires in
+    let w : IsWhole t = whole_at (tables_of c.self.inside.parts []) c.args.self.now c.args.store.now.pages c.self.view_is c.self.invariant c.requires.over in
     stays_at t c.args.self.now (sending c.args.kind) (events.Refused c.in-Err.why []) c.self.view_is (send-refused t c.args.kind c.in-Err.why (c.in-Err.ensures.refused c.args.store.now.pages w))
 
 pub commit_send-requires-clause-whole : goal.commit_send-requires-clause-whole
 commit_send-requires-clause-whole g c =
-    whole_at (tables_of c.self.inside.parts []) c.args.self.now c.args.store.now.pages c.self.view_is c.self.invariant c.requires
+    whole_at (tables_of c.self.inside.parts []) c.args.self.now c.args.store.now.pages c.self.view_is c.self.invariant c.requires.over
 
 pub commit_send-requires-clause-ready : goal.commit_send-requires-clause-ready
 commit_send-requires-clause-ready g c =
     let t : Tables = tables_of c.self.inside.parts c.args.store.now.pages in
-    let w : IsWhole t = whole_at (tables_of c.self.inside.parts []) c.args.self.now c.args.store.now.pages c.self.view_is c.self.invariant c.requires in
+    let w : IsWhole t = whole_at (tables_of c.self.inside.parts []) c.args.self.now c.args.store.now.pages c.self.view_is c.self.invariant c.requires.over in
     c.in-Ok.ensures.ready c.args.store.now.pages w
 
 pub invariant_of-self : goal.invariant_of-self
 invariant_of-self g c =
     let t : Tables = tables_of c.self.inside.parts c.args.store.now.pages in
-    let w : IsWhole t = whole_at (tables_of c.self.inside.parts []) c.args.self.now c.args.store.now.pages c.self.view_is c.self.invariant c.requires in
+    let w : IsWhole t = whole_at (tables_of c.self.inside.parts []) c.args.self.now c.args.store.now.pages c.self.view_is c.self.invariant c.requires.over in
     let ready = c.in-Ok.ensures.ready c.args.store.now.pages w in
     let new : Tables = tables_of c.commit_send.new.self c.commit_send.new.store.pages in
     let made = send_made t new c.args.kind c.in-Ok.cid w ready (send-typed c.args.kind c.in-Ok.cid) c.commit_send.ensures in
@@ -40,7 +40,7 @@ invariant_of-self g c =
 pub returns-clause-step : goal.returns-clause-step
 returns-clause-step g c =
     let t : Tables = tables_of c.self.inside.parts c.args.store.now.pages in
-    let w : IsWhole t = whole_at (tables_of c.self.inside.parts []) c.args.self.now c.args.store.now.pages c.self.view_is c.self.invariant c.requires in
+    let w : IsWhole t = whole_at (tables_of c.self.inside.parts []) c.args.self.now c.args.store.now.pages c.self.view_is c.self.invariant c.requires.over in
     let ready = c.in-Ok.ensures.ready c.args.store.now.pages w in
     let new : Tables = tables_of c.commit_send.new.self c.commit_send.new.store.pages in
     let made = send_made t new c.args.kind c.in-Ok.cid w ready (send-typed c.args.kind c.in-Ok.cid) c.commit_send.ensures in
@@ -49,7 +49,7 @@ returns-clause-step g c =
 pub returns-clause-over : goal.returns-clause-over
 returns-clause-over g c =
     let t : Tables = tables_of c.self.inside.parts c.args.store.now.pages in
-    let w : IsWhole t = whole_at (tables_of c.self.inside.parts []) c.args.self.now c.args.store.now.pages c.self.view_is c.self.invariant c.requires in
+    let w : IsWhole t = whole_at (tables_of c.self.inside.parts []) c.args.self.now c.args.store.now.pages c.self.view_is c.self.invariant c.requires.over in
     let ready = c.in-Ok.ensures.ready c.args.store.now.pages w in
     let new : Tables = tables_of c.commit_send.new.self c.commit_send.new.store.pages in
     let made = send_made t new c.args.kind c.in-Ok.cid w ready (send-typed c.args.kind c.in-Ok.cid) c.commit_send.ensures in
@@ -58,6 +58,6 @@ returns-clause-over g c =
 pub returns-clause-identifier : goal.returns-clause-identifier
 returns-clause-identifier g c =
     let t : Tables = tables_of c.self.inside.parts c.args.store.now.pages in
-    let w : IsWhole t = whole_at (tables_of c.self.inside.parts []) c.args.self.now c.args.store.now.pages c.self.view_is c.self.invariant c.requires in
+    let w : IsWhole t = whole_at (tables_of c.self.inside.parts []) c.args.self.now c.args.store.now.pages c.self.view_is c.self.invariant c.requires.over in
     let ready = c.in-Ok.ensures.ready c.args.store.now.pages w in
-    subst (λ (v : HostView). IsLowest v.host 0 c.in-Ok.cid) c.self.view_is (next-lowest t w 0 c.in-Ok.cid ready.queue ready.at ready.next)
+    subst (λ (v : HostView). IsLowest v.host 0 c.in-Ok.cid) c.self.view_is (next-lowest t w 0 c.in-Ok.cid ready.slot.queue ready.slot.at ready.slot.next)

@@ -31,3 +31,19 @@ returns-in-DeleteSq-clause-refused g c =
 pub returns-in-DeleteCq-clause-refused : goal.returns-in-DeleteCq-clause-refused
 returns-in-DeleteCq-clause-refused g c =
     subst (λ (kind : AdminKind). IfErr c.check_delete_cq.result (λ why. (pages : Pages) → Refuses (state_of (tables_of c.args.self.now pages)) (sending kind) why [])) (sym c.in-DeleteCq.is) c.check_delete_cq.ensures.refused
+
+pub returns-in-CreateCq-clause-free : goal.returns-in-CreateCq-clause-free
+returns-in-CreateCq-clause-free g c =
+    subst (λ (kind : AdminKind). OnOk c.check_create_cq.result ((pages : Pages) → first_passing (named_causes (state_of (tables_of c.args.self.now pages)) kind) ≡ None)) (sym c.in-CreateCq.is) c.check_create_cq.ensures.free
+
+pub returns-in-CreateCq-clause-refused : goal.returns-in-CreateCq-clause-refused
+returns-in-CreateCq-clause-refused g c =
+    subst (λ (kind : AdminKind). IfErr c.check_create_cq.result (λ why. (pages : Pages) → Refuses (state_of (tables_of c.args.self.now pages)) (sending kind) why [])) (sym c.in-CreateCq.is) c.check_create_cq.ensures.refused
+
+pub returns-in-CreateSq-clause-free : goal.returns-in-CreateSq-clause-free
+returns-in-CreateSq-clause-free g c =
+    subst (λ (kind : AdminKind). OnOk c.check_create_sq.result ((pages : Pages) → first_passing (named_causes (state_of (tables_of c.args.self.now pages)) kind) ≡ None)) (sym c.in-CreateSq.is) c.check_create_sq.ensures.free
+
+pub returns-in-CreateSq-clause-refused : goal.returns-in-CreateSq-clause-refused
+returns-in-CreateSq-clause-refused g c =
+    subst (λ (kind : AdminKind). IfErr c.check_create_sq.result (λ why. (pages : Pages) → Refuses (state_of (tables_of c.args.self.now pages)) (sending kind) why [])) (sym c.in-CreateSq.is) c.check_create_sq.ensures.refused

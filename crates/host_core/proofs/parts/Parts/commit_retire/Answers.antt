@@ -1,7 +1,8 @@
 use Rattle.std.proofs.Common.{[], ap, sym, ◌∙◌, subst}
 use Rattle.page_memory.specs.declared.page.Half.TheVariants.{Submission}
+use Rattle.machine_model.specs.declared.words.HostState.TheVariants.{Retired}
 use Rattle.host_core.specs.Halves.{HasHalf}
-use Rattle.host_core.specs.Retiring.{without_submission}
+use Rattle.host_core.specs.Reaping.{without_submission}
 use Rattle.host_core.specs.Tables.{Tables}
 use Rattle.host_core.proofs.parts.Parts.commit_retire.Goals as goal
 
@@ -11,4 +12,4 @@ give_back_submission-requires g c =
     subst (λ (u : Tables). HasHalf u c.args.q Submission) (sym (c.lose_commands.ensures [])) (record { queue = h.queue; at = h.at; lists = h.lists })
 
 pub returns : goal.returns
-returns g c = λ pages. c.give_back_submission.ensures pages ∙ ap (without_submission c.args.q) (c.lose_commands.ensures pages)
+returns g c = λ pages. c.give_back_submission.ensures pages ∙ ap (without_submission Retired c.args.q) (c.lose_commands.ensures pages)

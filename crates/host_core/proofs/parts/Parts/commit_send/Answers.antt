@@ -25,9 +25,9 @@ returns g c =
 pub note_sent-requires-clause-place : goal.note_sent-requires-clause-place
 note_sent-requires-clause-place g c =
     let can = c.requires.ready in
-    new-place c.args.self.now c.args.store.now.pages 0 c.args.cid c.requires.whole (slice_get_within c.args.self.now.queues.items 0 can.queue can.at) (next-fresh (tables_of c.args.self.now c.args.store.now.pages) c.requires.whole 0 c.args.cid can.queue can.at can.next)
+    new-place c.args.self.now c.args.store.now.pages 0 c.args.cid c.requires.whole (slice_get_within c.args.self.now.queues.items 0 can.slot.queue can.slot.at) (next-fresh (tables_of c.args.self.now c.args.store.now.pages) c.requires.whole 0 c.args.cid can.slot.queue can.slot.at can.slot.next)
 
 pub note_sent-requires-clause-empty : goal.note_sent-requires-clause-empty
 note_sent-requires-clause-empty g c =
     let can = c.requires.ready in
-    new-empty c.args.self.now c.args.store.now.pages 0 c.args.cid (next-fresh (tables_of c.args.self.now c.args.store.now.pages) c.requires.whole 0 c.args.cid can.queue can.at can.next)
+    new-empty c.args.self.now c.args.store.now.pages 0 c.args.cid (next-fresh (tables_of c.args.self.now c.args.store.now.pages) c.requires.whole 0 c.args.cid can.slot.queue can.slot.at can.slot.next)

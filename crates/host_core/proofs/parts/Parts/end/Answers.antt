@@ -4,7 +4,7 @@ use Rattle.host_core.specs.Parts.{tables_of}
 use Rattle.host_core.specs.Reaping.{meant, over, Answered}
 use Rattle.host_core.specs.Tables.{Tables}
 use Rattle.host_core.proofs.AdminReaped.{over-has}
-use Rattle.host_core.proofs.ReapSteps.{answered-claims, heard-many, looks, meant-many, over-many, reaps-admin, reaps-done}
+use Rattle.host_core.proofs.ReapSteps.{admin-work, answered-claims, heard-many, looks, meant-many, over-many, reaps-admin, reaps-done}
 use Rattle.host_core.proofs.Seen.{completion-inside}
 use Rattle.host_core.proofs.parts.Parts.end.Goals as goal
 
@@ -23,7 +23,10 @@ end_command-requires-clause-claimed g c =
 
 pub apply-requires : goal.apply-requires
 apply-requires g c =
-    subst (λ (u : Tables). HasMeant c.in-Some.kind u) (sym (c.end_command.ensures [])) (over-has (tables_of c.args.self.now []) c.requires.host c.args.q c.args.entry c.in-Some.kind)
+    let t : Tables = tables_of c.args.self.now [] in
+    let answered = subst (λ kind. Answered t c.args.q c.args.entry kind) c.in-Some.is (c.requires.answered []) in
+    subst (λ (u : Tables). HasMeant c.in-Some.kind u) (sym (c.end_command.ensures []))
+    (over-has t c.requires.host c.args.q c.args.entry c.in-Some.kind answered.entry answered.was (admin-work answered.entry.work c.in-Some.kind answered.means))
 
 pub returns-in-Some-clause-reaps : goal.returns-in-Some-clause-reaps
 returns-in-Some-clause-reaps g c = λ pages w seen.

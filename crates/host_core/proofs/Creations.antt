@@ -1,0 +1,305 @@
+-- The command that makes a half, as it is sent: what is found before it, what is written, and the step of the machine that it is.
+use Rattle.std.proofs.Common.{◌≡◌, ℕ, zero, suc, ◌+◌, ◌*◌, ◌<◌, ◌==◌, ◌||◌, ◌&&◌, nat_lt, ◌++◌, ◌∷◌, [], Bool, true, false, not, Option, Some, None, List, is_none, is_some, length, position, slice_get, slice_index, refl, ap, ap₂, sym, ◌∙◌, subst, arith}
+use Rattle.std.specs.List.{list_any}
+use Rattle.std.specs.Option.{option_map, option_map_or}
+use Rattle.std.proofs.lemmas.Bool.{true≢false, and_parts, not-false, or_parts}
+use Rattle.std.proofs.lemmas.Option.{slice_get-map, slice_get_within}
+use Rattle.admin_commands.specs.Entries.{admin_entry}
+use Rattle.admin_commands.specs.declared.AdminKind.{AdminKind}
+use Rattle.admin_commands.specs.declared.AdminKind.TheVariants.{CreateCq, CreateSq}
+use Rattle.controller_walk.specs.Units.{first_passing}
+use Rattle.entry_codec.specs.declared.submission.SubEntry.{SubEntry}
+use Rattle.machine_model.specs.After as a
+use Rattle.machine_model.specs.After.{change}
+use Rattle.machine_model.specs.Events as events
+use Rattle.machine_model.specs.Proper.{IsProper}
+use Rattle.machine_model.specs.Refusals.{cq_deletion_outstanding, in_state, is_gone, is_half_made, is_io_queue, is_making, no_identifier, queue_full, refusal_of, run_for}
+use Rattle.machine_model.specs.State.{HostQueue, Record, State, is_at, outstanding_on}
+use Rattle.machine_model.specs.Step.{Answers, IsController, IsNewIdentifier, Refuses, Step, touched_by_refusal}
+use Rattle.machine_model.specs.declared.words.HostState.{HostState}
+use Rattle.machine_model.specs.declared.words.HostState.TheVariants.{Live, Deleting, Retired, Gone, MakingCq, HalfMade, MakingSq}
+use Rattle.machine_model.specs.declared.words.Refusal.{Refusal}
+use Rattle.machine_model.specs.declared.words.Refusal.TheVariants as refusal
+use Rattle.machine_model.proofs.Refused.{first_fails, rest_fails}
+use Rattle.page_ledger.specs.Owners.{pages_from}
+use Rattle.page_ledger.specs.Runs.{lowest_run}
+use Rattle.page_memory.specs.declared.page.Half.{Half}
+use Rattle.page_memory.specs.declared.page.Half.TheVariants.{Submission, Completion}
+use Rattle.queue_pair.specs.Memory.{half_pages}
+use Rattle.machine_model.specs.Memory.{zeroed_pages}
+use Rattle.host_core.specs.Commands.{ClaimsNext, with_claim}
+use Rattle.host_core.specs.Posting.{CanPostTo, Posts, posted}
+use Rattle.host_core.specs.Sending.{CanCreate, Creates, HasSlot, creating, creation, granted, half_from, making, named_causes, noted, sent}
+use Rattle.host_core.specs.Tables.{Tables, host_queue_of, state_of}
+use Rattle.host_core.specs.Whole.{IsWhole}
+use Rattle.host_core.specs.Rows.{Queue}
+use Rattle.host_core.proofs.Creating.{any-count}
+use Rattle.host_core.proofs.Granting.{in_state-is, next-fresh, next-left, none-left}
+use Rattle.host_core.proofs.Lists.{some_is}
+use Rattle.host_core.proofs.Making.{IsBare, granted-state, half_in, run-within, settled-granted, some-pages, with-some}
+use Rattle.host_core.proofs.Placing.{same-run}
+use Rattle.host_core.proofs.SendChecks.{Next, can-post-to, first-there, past, send-typed}
+use Rattle.host_core.proofs.Sending.{HasHalfIn, first-changed, half-in, sent-exact, sent_in, settled-sent, some-first}
+use Rattle.host_core.proofs.Settled.{Settled, whole-of}
+use Rattle.host_core.proofs.Steps.{host_step, sound_after}
+use Rattle.host_core.proofs.Submitting.{full_is}
+
+-- What is against it
+
+abbrev pub half_causes : State → Half → List (Bool × Refusal)
+half_causes s half =
+    (no_identifier s 0, refusal.NoIdentifier) ∷ (is_none (run_for s half), refusal.NoRun (half_pages s.entries half)) ∷ (queue_full s 0, refusal.QueueFull) ∷ []
+
+by-half : (s : State) (half : Half) (q : ℕ) → refusal_of s (creating half q) ≡ first_passing (named_causes s (creation half q 0 0) ++ half_causes s half)
+by-half s Completion q = refl
+by-half s Submission q = refl
+
+behind : (s : State) (half : Half) (q : ℕ) → first_passing (named_causes s (creation half q 0 0)) ≡ None → refusal_of s (creating half q) ≡ first_passing (half_causes s half)
+behind s half q free = by-half s half q ∙ past (named_causes s (creation half q 0 0)) (half_causes s half) free
+
+untouched : (s : State) (half : Half) (q : ℕ) (why : Refusal) → [] ≡ touched_by_refusal s (creating half q) why
+untouched s Completion q why = refl
+untouched s Submission q why = refl
+
+run-is : (t : Tables) (half : Half) (k : ℕ) (o : Option ℕ) → IsWhole t → k ≡ half_pages t.entries half → lowest_run k t.owners ≡ o → run_for (state_of t) half ≡ o
+run-is t half k o w is found =
+    same-run t.owners (half_pages t.entries half) (some-pages t.entries half w.least_entries) ∙ (ap (λ (n : ℕ). lowest_run n t.owners) (sym is) ∙ found)
+
+pub create-no_identifier : (t : Tables) (half : Half) (q : ℕ) (queues : List Queue) → IsWhole t → first_passing (named_causes (state_of t) (creation half q 0 0)) ≡ None → queues ≡ t.queues → Next queues None
+    → Refuses (state_of t) (creating half q) refusal.NoIdentifier []
+create-no_identifier t half q queues w free same next =
+    let x = first-there t.queues w.some_queues in
+    let none = none-left t w 0 x.0 x.1 (sym (next x.0 (ap (λ (qs : List Queue). slice_get qs 0) same ∙ x.1))) in
+    (behind (state_of t) half q free ∙ rw none refl, untouched (state_of t) half q refusal.NoIdentifier)
+
+pub create-no_run : (t : Tables) (half : Half) (q k : ℕ) (queues : List Queue) (cid : ℕ) → IsWhole t → first_passing (named_causes (state_of t) (creation half q 0 0)) ≡ None → queues ≡ t.queues → Next queues (Some cid)
+    → k ≡ half_pages t.entries half → lowest_run k t.owners ≡ None → Refuses (state_of t) (creating half q) (refusal.NoRun k) []
+create-no_run t half q k queues cid w free same next is none =
+    let x = first-there t.queues w.some_queues in
+    let left = next-left t w 0 cid x.0 x.1 (sym (next x.0 (ap (λ (qs : List Queue). slice_get qs 0) same ∙ x.1))) in
+    subst (λ (n : ℕ). Refuses (state_of t) (creating half q) (refusal.NoRun n) []) (sym is)
+    (behind (state_of t) half q free ∙ rw (left, run-is t half k None w is none) refl, untouched (state_of t) half q (refusal.NoRun (half_pages t.entries half)))
+
+pub create-full : (t : Tables) (half : Half) (q k : ℕ) (queues : List Queue) (cid first : ℕ) → IsWhole t → first_passing (named_causes (state_of t) (creation half q 0 0)) ≡ None → queues ≡ t.queues → Next queues (Some cid)
+    → k ≡ half_pages t.entries half → lowest_run k t.owners ≡ Some first → queue_full (state_of t) 0 ≡ true → Refuses (state_of t) (creating half q) refusal.QueueFull []
+create-full t half q k queues cid first w free same next is found full =
+    let x = first-there t.queues w.some_queues in
+    let left = next-left t w 0 cid x.0 x.1 (sym (next x.0 (ap (λ (qs : List Queue). slice_get qs 0) same ∙ x.1))) in
+    (behind (state_of t) half q free ∙ rw (left, run-is t half k (Some first) w is found, full) refl, untouched (state_of t) half q refusal.QueueFull)
+
+pub create-ready : (t : Tables) (half : Half) (q k : ℕ) (queues : List Queue) (cid first : ℕ) → IsWhole t → first_passing (named_causes (state_of t) (creation half q 0 0)) ≡ None → queues ≡ t.queues → Next queues (Some cid)
+    → k ≡ half_pages t.entries half → lowest_run k t.owners ≡ Some first → queue_full (state_of t) 0 ≡ false → CanCreate t half q cid first
+create-ready t half q k queues cid first w free same next is found room =
+    let x = first-there t.queues w.some_queues in
+    let next' = sym (next x.0 (ap (λ (qs : List Queue). slice_get qs 0) same ∙ x.1)) in
+    let run = run-is t half k (Some first) w is found in
+    record {
+      none = behind (state_of t) half q free ∙ rw (next-left t w 0 cid x.0 x.1 next', run, room) refl;
+      slot = record { queue = x.0; at = x.1; next = next'; room = full_is t w.queues 0 x.0 x.1 ∙ room };
+      run = run;
+    }
+
+-- The queue that it names
+
+none-of : (q : ℕ) (rs : List Record) → list_any (λ (r : Record). r.q == q) rs ≡ false → (cid : ℕ) → list_any (is_at q cid) rs ≡ false
+none-of q [] h cid = refl
+none-of q (r ∷ rs) h cid =
+    let both = or_parts (r.q == q) (list_any (λ (x : Record). x.q == q) rs) h in
+    ap₂ (λ (b c : Bool). b && (r.cid == cid) || c) both.0 (none-of q rs both.1 cid)
+
+in-it : (test : HostState → Bool) (t : Tables) (q : ℕ) → in_state test (state_of t) q ≡ true → (x : Queue) × (slice_get t.queues q ≡ Some x) × (test x.state ≡ true)
+in-it test t q h = go (slice_get t.queues q) refl (sym (in_state-is test t q) ∙ h)
+  where
+    go : (o : Option Queue) → slice_get t.queues q ≡ o → option_map_or test (option_map (λ (queue : Queue). queue.state) o) false ≡ true → (x : Queue) × (slice_get t.queues q ≡ Some x) × (test x.state ≡ true)
+    go None at is = absurd (true≢false (sym is))
+    go (Some x) at is = (x, at, is)
+
+gone-is : (state : HostState) → is_gone state ≡ true → state ≡ Gone
+gone-is Gone e = refl
+gone-is Live e = absurd (true≢false (sym e))
+gone-is (Deleting noted) e = absurd (true≢false (sym e))
+gone-is Retired e = absurd (true≢false (sym e))
+gone-is MakingCq e = absurd (true≢false (sym e))
+gone-is HalfMade e = absurd (true≢false (sym e))
+gone-is MakingSq e = absurd (true≢false (sym e))
+
+half-made-is : (state : HostState) → is_half_made state ≡ true → state ≡ HalfMade
+half-made-is HalfMade e = refl
+half-made-is Live e = absurd (true≢false (sym e))
+half-made-is (Deleting noted) e = absurd (true≢false (sym e))
+half-made-is Retired e = absurd (true≢false (sym e))
+half-made-is Gone e = absurd (true≢false (sym e))
+half-made-is MakingCq e = absurd (true≢false (sym e))
+half-made-is MakingSq e = absurd (true≢false (sym e))
+
+not-queue-0 : (s : State) (q : ℕ) → not (is_io_queue s q) ≡ false → (q == 0) ≡ false
+not-queue-0 s q h = not-true' (q == 0) (and_parts (not (q == 0)) (is_some (slice_get s.host.queues q)) (not-false (is_io_queue s q) h)).0
+  where
+    not-true' : (b : Bool) → not b ≡ true → b ≡ false
+    not-true' true e = absurd (true≢false (sym e))
+    not-true' false e = refl
+
+pub bare-of : (t : Tables) (half : Half) (q : ℕ) → IsWhole t → refusal_of (state_of t) (creating half q) ≡ None → IsBare t half q
+bare-of t Completion q w none =
+    let s = state_of t in
+    let rest2 = (nat_lt 0 (length (outstanding_on s.host q)), refusal.Outstanding) ∷ half_causes s Completion in
+    let rest1 = (not (in_state is_gone s q), refusal.WrongState) ∷ rest2 in
+    let second = rest_fails (not (is_io_queue s q)) refusal.NoQueue rest1 none in
+    let third = rest_fails (not (in_state is_gone s q)) refusal.WrongState rest2 second in
+    let is = in-it is_gone t q (not-false (in_state is_gone s q) (first_fails (not (in_state is_gone s q)) refusal.WrongState rest2 second)) in
+    record {
+      queue = is.0;
+      at = is.1;
+      other = not-queue-0 s q (first_fails (not (is_io_queue s q)) refusal.NoQueue rest1 none);
+      state = gone-is is.0.state is.2;
+      none = none-of q t.records (sym (any-count q t.records) ∙ first_fails (nat_lt 0 (length (outstanding_on s.host q))) refusal.Outstanding (half_causes s Completion) third);
+    }
+bare-of t Submission q w none =
+    let s = state_of t in
+    let rest1 = (not (in_state is_half_made s q) || cq_deletion_outstanding s q, refusal.WrongState) ∷ half_causes s Submission in
+    let second = rest_fails (not (is_io_queue s q)) refusal.NoQueue rest1 none in
+    let wrong = first_fails (not (in_state is_half_made s q) || cq_deletion_outstanding s q) refusal.WrongState (half_causes s Submission) second in
+    let is = in-it is_half_made t q (not-false (in_state is_half_made s q) (or_parts (not (in_state is_half_made s q)) (cq_deletion_outstanding s q) wrong).0) in
+    let state = half-made-is is.0.state is.2 in
+    let making : option_map_or (λ (queue : HostQueue). is_making queue.state) (slice_get s.host.queues q) false ≡ true =
+    ap (λ (o : Option HostQueue). option_map_or (λ (queue : HostQueue). is_making queue.state) o false) (slice_get-map host_queue_of t.queues q ∙ ap (option_map host_queue_of) is.1) ∙ ap is_making state in
+    record {
+      queue = is.0;
+      at = is.1;
+      other = not-queue-0 s q (first_fails (not (is_io_queue s q)) refusal.NoQueue rest1 none);
+      state = state;
+      none = none-of q t.records (sym (any-count q t.records) ∙ ap (nat_lt 0) (w.sound.bare q making));
+    }
+
+-- The half is granted, and queue 0 stands as it stood
+
+kept-at : {A : Type 0} (q : ℕ) (f : A → A) (xs : List A) → (q == 0) ≡ false → slice_get (change q f xs) 0 ≡ slice_get xs 0
+kept-at zero f xs other = absurd (true≢false other)
+kept-at (suc q) f [] other = refl
+kept-at (suc q) f (x ∷ xs) other = refl
+
+abbrev granted-slot : (t : Tables) (half : Half) (q cid first : ℕ) → (q == 0) ≡ false → HasSlot t cid → HasSlot (granted half q first t) cid
+granted-slot t half q cid first other slot = record { queue = slot.queue; at = kept-at q (making half first) t.queues other ∙ slot.at; next = slot.next; room = slot.room }
+
+granted-half-in : (t : Tables) (half : Half) (q first : ℕ) (queue : Queue) → HasHalfIn t queue → HasHalfIn (granted half q first t) queue
+granted-half-in t half q first queue h = record { kept = h.kept; inside = λ k l. with-some (zeroed_pages (half_from t half first)) t.pages (queue.host.sq + k) (h.inside k l) }
+
+-- The machine's step
+
+first-of : (first k : ℕ) → 0 < k → slice_index (pages_from first k) 0 ≡ first
+first-of first zero some = absurd (omega arith)
+first-of first (suc k) some = refl
+
+run-pages : (s : State) (half : Half) (first : ℕ) → run_for s half ≡ Some first → a.half_run half s ≡ pages_from first (half_pages s.entries half)
+run-pages s half first run = ap (λ (o : Option ℕ). option_map_or (λ (p : ℕ). pages_from p (half_pages s.entries half)) o []) run
+
+-- what the machine makes of a creation
+abbrev makes_cq : State → (q cid : ℕ) → List ℕ → ℕ → State
+makes_cq s q cid pages base = sent_in (CreateCq q s.entries base) cid (a.on_host_queue q (a.making_cq pages) (a.half_granted pages s))
+
+abbrev makes_sq : State → (q cid : ℕ) → List ℕ → ℕ → State
+makes_sq s q cid pages base = sent_in (CreateSq q s.entries base) cid (a.on_host_queue q (a.making_sq pages) (a.half_granted pages s))
+
+created-after : (s : State) (half : Half) (q cid first : ℕ) → run_for s half ≡ Some first → 0 < half_pages s.entries half
+    → a.after s (creating half q) (events.Sent cid)
+    ≡ sent_in (creation half q s.entries first) cid (a.on_host_queue q (half_in half (pages_from first (half_pages s.entries half))) (a.half_granted (pages_from first (half_pages s.entries half)) s))
+created-after s Completion q cid first run some =
+    ap (λ (pages : List ℕ). makes_cq s q cid pages (a.base_of pages)) (run-pages s Completion first run)
+    ∙ ap (λ (p : ℕ). makes_cq s q cid (pages_from first (half_pages s.entries Completion)) (4096 * p)) (first-of first (half_pages s.entries Completion) some)
+created-after s Submission q cid first run some =
+    ap (λ (pages : List ℕ). makes_sq s q cid pages (a.base_of pages)) (run-pages s Submission first run)
+    ∙ ap (λ (p : ℕ). makes_sq s q cid (pages_from first (half_pages s.entries Submission)) (4096 * p)) (first-of first (half_pages s.entries Submission) some)
+
+created-answers : (s : State) (half : Half) (q cid : ℕ) → IsNewIdentifier s 0 cid → Answers s (creating half q) (events.Sent cid)
+created-answers s Completion q cid new = new
+created-answers s Submission q cid new = new
+
+is-hosts : (half : Half) (q : ℕ) → IsController (creating half q) ≡ false
+is-hosts Completion q = refl
+is-hosts Submission q = refl
+
+is-proper : (half : Half) (q : ℕ) → IsProper (creating half q)
+is-proper Completion q = tt
+is-proper Submission q = tt
+
+-- What a creation makes of whole tables: a step of the machine, and whole tables.
+pub record CreatesTo (t : Tables) (half : Half) (q cid : ℕ) (new : Tables) : Type 0 where
+  pub step : Step (state_of t) (creating half q) (events.Sent cid) (state_of new)
+  pub whole : IsWhole new
+
+created-made : (t : Tables) (half : Half) (q cid first : ℕ) → IsWhole t → (can : CanCreate t half q cid first)
+    → CreatesTo t half q cid (sent (creation half q t.entries first) cid can.slot.queue (granted half q first t))
+created-made t half q cid first w can =
+    let kind : AdminKind = creation half q t.entries first in
+    let bare = bare-of t half q w can.none in
+    let g : Tables = granted half q first t in
+    let s = settled-granted t half q first w bare can.run in
+    let slot = granted-slot t half q cid first bare.other can.slot in
+    let in_half = granted-half-in t half q first can.slot.queue (half-in t cid w can.slot) in
+    let new : Tables = sent kind cid can.slot.queue g in
+    let exact : state_of new ≡ a.after (state_of t) (creating half q) (events.Sent cid) =
+    sent-exact g kind cid s slot in_half (send-typed kind cid)
+    ∙ (ap (sent_in kind cid) (granted-state t half q first w bare)
+    ∙ sym (created-after (state_of t) half q cid first can.run (some-pages t.entries half w.least_entries))) in
+    let step : Step (state_of t) (creating half q) (events.Sent cid) (state_of new) =
+    host_step t new (creating half q) (events.Sent cid) (is-hosts half q) (is-proper half q)
+    (can.none, created-answers (state_of t) half q cid (next-fresh t w 0 cid can.slot.queue can.slot.at can.slot.next), exact) in
+    record {
+      step = step;
+      whole = whole-of new (settled-sent g kind cid s slot in_half (send-typed kind cid)) (sound_after (state_of t) (creating half q) (events.Sent cid) (state_of new) step w.sound);
+    }
+
+pub created_made : (t new : Tables) (half : Half) (q cid first : ℕ) → IsWhole t → CanCreate t half q cid first → Creates t half q cid first new → CreatesTo t half q cid new
+created_made t new half q cid first w can creates = subst (λ (y : Tables). CreatesTo t half q cid y) (sym (creates can.slot.queue can.slot.at)) (created-made t half q cid first w can)
+
+pub create-refused : (t : Tables) (half : Half) (q : ℕ) (why : Refusal) → Refuses (state_of t) (creating half q) why [] → Step (state_of t) (creating half q) (events.Refused why []) (state_of t)
+create-refused t half q why h = host_step t t (creating half q) (events.Refused why []) (is-hosts half q) (is-proper half q) (h, refl)
+
+-- What is written
+
+pub first-within : (t : Tables) (half : Half) (first : ℕ) → IsWhole t → run_for (state_of t) half ≡ Some first → first < 65536
+first-within t half first w run = omega (arith, run-within t half first (half_pages t.entries half) w refl run, some-pages t.entries half w.least_entries)
+
+pub queue-there : (t : Tables) (half : Half) (q cid first : ℕ) → IsWhole t → CanCreate t half q cid first → q < length t.queues
+queue-there t half q cid first w can = let bare = bare-of t half q w can.none in slice_get_within t.queues q bare.queue bare.at
+
+pub granted-there : (t u : Tables) (half : Half) (q cid first : ℕ) → IsWhole t → CanCreate t half q cid first → u ≡ granted half q first t → 0 < length u.queues
+granted-there t u half q cid first w can same =
+    let slot = granted-slot t half q cid first (bare-of t half q w can.none).other can.slot in
+    subst (λ (v : Tables). 0 < length v.queues) (sym same) (some-first (granted half q first t).queues slot.queue slot.at)
+
+pub granted-next : (t u : Tables) (half : Half) (q cid first : ℕ) → IsWhole t → CanCreate t half q cid first → u ≡ granted half q first t → ClaimsNext u.queues 0 cid
+granted-next t u half q cid first w can same =
+    let slot = granted-slot t half q cid first (bare-of t half q w can.none).other can.slot in
+    subst (λ (v : Tables). ClaimsNext v.queues 0 cid) (sym same) (λ x at. subst (λ (y : Queue). position not y.host.claimed ≡ Some cid) (some_is (sym slot.at ∙ at)) slot.next)
+
+-- the identifier is new in them, too
+pub granted-new : (t u : Tables) (half : Half) (q cid first : ℕ) → IsWhole t → CanCreate t half q cid first → u ≡ granted half q first t → IsNewIdentifier (state_of u) 0 cid
+granted-new t u half q cid first w can same =
+    let new = next-fresh t w 0 cid can.slot.queue can.slot.at can.slot.next in
+    subst (λ (v : Tables). IsNewIdentifier (state_of v) 0 cid) (sym same) (record { in_range = new.in_range; unused = new.unused })
+
+pub granted-settled : (t u : Tables) (half : Half) (q cid first : ℕ) → IsWhole t → CanCreate t half q cid first → u ≡ granted half q first t → Settled u
+granted-settled t u half q cid first w can same =
+    subst Settled (sym same) (settled-granted t half q first w (bare-of t half q w can.none) can.run)
+
+pub granted-noted-there : (t u v : Tables) (half : Half) (q cid first : ℕ) (kind : AdminKind) → IsWhole t → CanCreate t half q cid first → u ≡ granted half q first t → v ≡ noted kind cid u → 0 < length v.queues
+granted-noted-there t u v half q cid first kind w can same is =
+    let slot = granted-slot t half q cid first (bare-of t half q w can.none).other can.slot in
+    subst (λ (y : Tables). 0 < length y.queues) (sym (is ∙ ap (noted kind cid) same))
+    (some-first (noted kind cid (granted half q first t)).queues (with_claim cid slot.queue) (first-changed (with_claim cid) (granted half q first t).queues slot.queue slot.at))
+
+pub granted-can-post : (t u v : Tables) (half : Half) (q cid first : ℕ) (kind : AdminKind) (entry : SubEntry) → IsWhole t → CanCreate t half q cid first → u ≡ granted half q first t → v ≡ noted kind cid u
+    → entry ≡ admin_entry kind cid → CanPostTo v 0 entry
+granted-can-post t u v half q cid first kind entry w can same is posts =
+    let bare = bare-of t half q w can.none in
+    can-post-to (granted half q first t) v kind cid entry (settled-granted t half q first w bare can.run) (granted-slot t half q cid first bare.other can.slot)
+    (granted-half-in t half q first can.slot.queue (half-in t cid w can.slot)) (is ∙ ap (noted kind cid) same) posts
+
+pub creates-apart : (t u v new : Tables) (half : Half) (q cid first : ℕ) (kind : AdminKind) (entry : SubEntry) → (q == 0) ≡ false → kind ≡ creation half q t.entries first → u ≡ granted half q first t
+    → v ≡ noted kind cid u → entry ≡ admin_entry kind cid → Posts v 0 entry new → Creates t half q cid first new
+creates-apart t u v new half q cid first kind entry other is same noted-is posts-is posts = λ x at.
+    let g : Tables = granted half q first t in
+    let stands : slice_get g.queues 0 ≡ Some x = kept-at q (making half first) t.queues other ∙ at in
+    let there = subst (λ (y : Tables). Posts y 0 entry new) (noted-is ∙ ap (noted kind cid) same) posts (with_claim cid x) (first-changed (with_claim cid) g.queues x stands) in
+    there ∙ (ap (λ (e : SubEntry). posted 0 (with_claim cid x) e (noted kind cid g)) posts-is ∙ ap (λ (k : AdminKind). sent k cid x g) is)

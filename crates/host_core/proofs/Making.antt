@@ -1,0 +1,312 @@
+-- A queue is granted a half: the tables behind it, and the machine that they stand for.
+use Rattle.std.proofs.Common.{◌≡◌, ℕ, zero, suc, ◌+◌, ◌-◌, ◌<◌, ◌≤◌, ◌==◌, Bool, true, false, ◌||◌, Option, Some, None, IsSome, List, [], ◌∷◌, length, replicate, slice_get, slice_set, is_some, refl, ap, ap₂, sym, ◌∙◌, arith, subst, eqb-true, eq-eqb, if◌then◌else◌}
+use Rattle.std.specs.List.{AllByRecursion}
+use Rattle.std.proofs.lemmas.Bool.{true≢false, eqb-false}
+use Rattle.std.proofs.lemmas.List.{length-replicate}
+use Rattle.std.proofs.lemmas.Option.{slice_get_within}
+use Rattle.machine_model.specs.After as a
+use Rattle.machine_model.specs.After.{change}
+use Rattle.machine_model.specs.Memory.{is_in, with_pages, zeroed_pages}
+use Rattle.machine_model.specs.Placement.{is_run}
+use Rattle.machine_model.specs.Refusals.{has_sq, run_for}
+use Rattle.machine_model.specs.State.{HostQueue, Record, State}
+use Rattle.machine_model.specs.declared.words.HostState.{HostState}
+use Rattle.machine_model.specs.declared.words.HostState.TheVariants.{Gone, HalfMade, MakingCq, MakingSq}
+use Rattle.machine_model.proofs.Counting.{one, held_once}
+use Rattle.machine_model.proofs.Lists.{find_sound}
+use Rattle.machine_model.proofs.Parts.{length-with_pages}
+use Rattle.machine_model.proofs.Runs.{all_among}
+use Rattle.page_ledger.specs.Owners.{free_pages, is_among, owner_at, pages_from, with_owner}
+use Rattle.page_ledger.specs.declared.owner.Owner.{Owner}
+use Rattle.page_ledger.specs.declared.owner.Owner.TheVariants as owner
+use Rattle.page_ledger.specs.declared.owner.Role.TheVariants.{Data, Chain}
+use Rattle.page_ledger.specs.Runs.{lowest_run}
+use Rattle.page_ledger.proofs.FreeRuns.{lowest_run-within}
+use Rattle.page_ledger.proofs.Tables.{free-others, length-with_owner, owner-with}
+use Rattle.page_memory.specs.Pages.{Pages, page_at, zero_page}
+use Rattle.page_memory.specs.declared.page.Half.{Half}
+use Rattle.page_memory.proofs.Whole.{length-zero_page}
+use Rattle.page_memory.specs.declared.page.Half.TheVariants.{Submission, Completion}
+use Rattle.queue_pair.specs.Memory.{half_pages}
+use Rattle.queue_pair.specs.Rings.{IsHostSide, fresh_host_ring, none_claimed}
+use Rattle.host_core.specs.Commands.{CanZero}
+use Rattle.host_core.specs.Sending.{granted, half_from, making}
+use Rattle.host_core.specs.Tables.{Tables, cq_pages_of, host_queue_of, sq_pages_of, state_of}
+use Rattle.host_core.specs.Whole.{ClaimsIdentifiers, HaveOwner, IsQueue, IsRecord, IsWhole, TellsCommand, TellsQueue, is_outstanding}
+use Rattle.host_core.specs.Rows.{Queue}
+use Rattle.host_core.proofs.Lists.{all-all, some_is}
+use Rattle.host_core.proofs.Owners.{free-owner}
+use Rattle.host_core.proofs.Pages.{free-in, pool-with, set-other, set-there}
+use Rattle.host_core.proofs.Placing.{same-run}
+use Rattle.host_core.proofs.QueueLists.{each-change, map-change}
+use Rattle.host_core.proofs.Settled.{Settled, settled-of}
+use Rattle.host_core.proofs.Steps.{length-change}
+
+-- The queue that gets a half: it is in the state for it, is not queue 0, and has no command.
+
+abbrev pub was : Half → HostState
+was Completion = Gone
+was Submission = HalfMade
+
+pub record IsBare (t : Tables) (half : Half) (q : ℕ) : Type 0 where
+  pub queue : Queue
+  pub at : slice_get t.queues q ≡ Some queue
+  pub other : (q == 0) ≡ false
+  pub state : queue.state ≡ was half
+  pub none : (cid : ℕ) → is_outstanding t.records q cid ≡ false
+
+-- The pages of the half are free
+
+pub run-free : (t : Tables) (half : Half) (first p : ℕ) → run_for (state_of t) half ≡ Some first → is_among (half_from t half first) p ≡ true → is_among (free_pages t.owners) p ≡ true
+run-free t half first p run among =
+    all_among (half_from t half first) (free_pages t.owners) p (find_sound (is_run (free_pages t.owners) (half_pages t.entries half)) (free_pages t.owners) first run) among
+
+run-owner : (t : Tables) (half : Half) (first p : ℕ) → run_for (state_of t) half ≡ Some first → is_among (half_from t half first) p ≡ true → owner_at t.owners p ≡ Some owner.Free
+run-owner t half first p run among = free-owner t.owners p (held_once p (free_pages t.owners) (run-free t half first p run among))
+
+pub run-in : (t : Tables) (half : Half) (first p : ℕ) → IsWhole t → run_for (state_of t) half ≡ Some first → is_among (half_from t half first) p ≡ true → is_in t.pages p ≡ true
+run-in t half first p w run among = go (is_in t.pages p) refl
+  where
+    go : (b : Bool) → is_in t.pages p ≡ b → is_in t.pages p ≡ true
+    go true e = e
+    go false e = absurd (omega (arith, ap one e, free-in (state_of t) w.sound p, held_once p (free_pages t.owners) (run-free t half first p run among)))
+
+-- a page that is in stays so where others are written
+
+pub set-some : (m : Pages) (k p : ℕ) (x : List ℕ) → IsSome (page_at m p) → IsSome (page_at (slice_set m k (Some x)) p)
+set-some m k p x h = go (k == p) refl
+  where
+    go : (b : Bool) → (k == p) ≡ b → IsSome (page_at (slice_set m k (Some x)) p)
+    go true e =
+        let same = eqb-true k p e in
+        subst (λ (j : ℕ). IsSome (page_at (slice_set m k (Some x)) j)) same
+        (subst (λ (o : Option (List ℕ)). IsSome o) (sym (set-there m k x (subst (λ (j : ℕ). IsSome (page_at m j)) (sym same) h))) refl)
+    go false e = subst (λ (o : Option (List ℕ)). IsSome o) (sym (set-other m k p (Some x) (eqb-false k p e))) h
+
+pub with-some : (ps : List (ℕ × List ℕ)) (m : Pages) (p : ℕ) → IsSome (page_at m p) → IsSome (page_at (with_pages ps m) p)
+with-some [] m p h = h
+with-some (page ∷ ps) m p h = with-some ps (slice_set m page.0 (Some page.1)) p (set-some m page.0 p page.1 h)
+
+-- so each of them can be made zero
+
+is-some : {A : Type 0} (o : Option A) → is_some o ≡ true → IsSome o
+is-some None h = absurd (true≢false (sym h))
+is-some (Some x) h = refl
+
+among-here : (p : ℕ) (ps : List ℕ) → is_among (p ∷ ps) p ≡ true
+among-here p ps = rw (eq-eqb p p refl) refl
+
+among-there : (k p : ℕ) (ps : List ℕ) → is_among ps k ≡ true → is_among (p ∷ ps) k ≡ true
+among-there k p ps h = go (p == k)
+  where
+    go : (b : Bool) → (b || is_among ps k) ≡ true
+    go true = refl
+    go false = h
+
+pub can-zero : (ps : List ℕ) (m : Pages) → ((p : ℕ) → is_among ps p ≡ true → IsSome (page_at m p)) → CanZero ps m
+can-zero [] m h = tt
+can-zero (p ∷ ps) m h = (
+  h p (among-here p ps),
+  can-zero ps (slice_set m p (Some zero_page)) (λ k among. set-some m p k zero_page (h k (among-there k p ps among))),
+)
+
+pub half-can-zero : (t : Tables) (half : Half) (first : ℕ) → IsWhole t → run_for (state_of t) half ≡ Some first → CanZero (half_from t half first) t.pages
+half-can-zero t half first w run = can-zero (half_from t half first) t.pages (λ p among. is-some (page_at t.pages p) (run-in t half first p w run among))
+
+-- Whose pages they are then
+
+abbrev owned : Half → (q first : ℕ) → Tables → List Owner
+owned half q first t = with_owner t.owners (half_from t half first) (owner.Queue q half)
+
+-- a page that had an owner keeps it
+owner-stays : (t : Tables) (half : Half) (q first p : ℕ) (x : Owner) → run_for (state_of t) half ≡ Some first → (x ≡ owner.Free → ⊥) → owner_at t.owners p ≡ Some x → owner_at (owned half q first t) p ≡ Some x
+owner-stays t half q first p x run busy at = go (is_among (half_from t half first) p) refl
+  where
+    go : (b : Bool) → is_among (half_from t half first) p ≡ b → owner_at (owned half q first t) p ≡ Some x
+    go true e = absurd (busy (some_is (sym at ∙ run-owner t half first p run e)))
+    go false e =
+        owner-with t.owners (half_from t half first) (owner.Queue q half) p (slice_get_within t.owners p x at)
+        ∙ (ap (λ (b : Bool). if b then Some (owner.Queue q half) else owner_at t.owners p) e ∙ at)
+
+-- and those of the half are the queue's
+owner-new : (t : Tables) (half : Half) (q first : ℕ) → run_for (state_of t) half ≡ Some first → HaveOwner (owned half q first t) (owner.Queue q half) (half_from t half first)
+owner-new t half q first run p among =
+    owner-with t.owners (half_from t half first) (owner.Queue q half) p (slice_get_within t.owners p owner.Free (run-owner t half first p run among))
+    ∙ ap (λ (b : Bool). if b then Some (owner.Queue q half) else owner_at t.owners p) among
+
+stay-owned : (t : Tables) (half : Half) (q first : ℕ) (x : Owner) (pages : List ℕ) → run_for (state_of t) half ≡ Some first → (x ≡ owner.Free → ⊥) → HaveOwner t.owners x pages → HaveOwner (owned half q first t) x pages
+stay-owned t half q first x pages run busy h p among = owner-stays t half q first p x run busy (h p among)
+
+others-told : (t : Tables) (half : Half) (q first k : ℕ) (x : Queue) → run_for (state_of t) half ≡ Some first → TellsQueue t.owners k x → TellsQueue (owned half q first t) k x
+others-told t half q first k x run told =
+    record {
+      submission = stay-owned t half q first (owner.Queue k Submission) (sq_pages_of x) run (λ e. cc) told.submission;
+      completion = stay-owned t half q first (owner.Queue k Completion) (cq_pages_of x) run (λ e. cc) told.completion;
+    }
+
+commands-told : (t : Tables) (half : Half) (q first : ℕ) → run_for (state_of t) half ≡ Some first → AllByRecursion (TellsCommand t.owners) t.records → AllByRecursion (TellsCommand (owned half q first t)) t.records
+commands-told t half q first run told =
+    all-all (TellsCommand t.owners) (TellsCommand (owned half q first t))
+    (λ (r : Record) tells. record {
+      data_pages = stay-owned t half q first (owner.Command r.q r.cid Data) r.data_pages run (λ e. cc) tells.data_pages;
+      chain_pages = stay-owned t half q first (owner.Command r.q r.cid Chain) r.chain_pages run (λ e. cc) tells.chain_pages;
+    })
+    t.records told
+
+-- The queue with its half
+
+new-sq-pages : (half : Half) (first n : ℕ) (x : Queue) → x.state ≡ was half → x.host.entries ≡ n → sq_pages_of (making half first x) ≡ (elim half [ Completion ↦ [] | Submission ↦ pages_from first (half_pages n Submission) ])
+new-sq-pages Completion first n x state same = refl
+new-sq-pages Submission first n x state same = ap (λ (k : ℕ). pages_from first (half_pages k Submission)) same
+
+new-cq-pages : (half : Half) (first n : ℕ) (x : Queue) → x.state ≡ was half → x.host.entries ≡ n → cq_pages_of (making half first x) ≡ (elim half [ Completion ↦ pages_from first (half_pages n Completion) | Submission ↦ cq_pages_of x ])
+new-cq-pages Completion first n x state same = ap (λ (k : ℕ). pages_from first (half_pages k Completion)) same
+new-cq-pages Submission first n x state same = rw state refl
+
+own-told : (t : Tables) (half : Half) (q first : ℕ) (x : Queue) → run_for (state_of t) half ≡ Some first → x.state ≡ was half → x.host.entries ≡ t.entries → TellsQueue t.owners q x
+    → TellsQueue (owned half q first t) q (making half first x)
+own-told t Completion q first x run state same told =
+    record {
+      submission = λ p among. cc;
+      completion = subst (HaveOwner (owned Completion q first t) (owner.Queue q Completion)) (sym (new-cq-pages Completion first t.entries x state same)) (owner-new t Completion q first run);
+    }
+own-told t Submission q first x run state same told =
+    record {
+      submission = subst (HaveOwner (owned Submission q first t) (owner.Queue q Submission)) (sym (new-sq-pages Submission first t.entries x state same)) (owner-new t Submission q first run);
+      completion = subst (HaveOwner (owned Submission q first t) (owner.Queue q Completion)) (sym (new-cq-pages Submission first t.entries x state same))
+          (stay-owned t Submission q first (owner.Queue q Completion) (cq_pages_of x) run (λ e. cc) told.completion);
+    }
+
+some-less : (x n : ℕ) → 2 ≤ n → x ≡ 0 → x < n
+some-less x n l e = omega arith
+
+made-side : (half : Half) (first : ℕ) (x : Queue) → IsHostSide x.host → IsHostSide (making half first x).host
+made-side Completion first x side =
+    record {
+      least = side.least;
+      most = side.most;
+      head = some-less 0 x.host.entries side.least refl;
+      known_head = some-less 0 x.host.entries side.least refl;
+      tail = some-less 0 x.host.entries side.least refl;
+      identifiers = omega (arith, length-replicate (x.host.entries - 1) false, side.least);
+    }
+made-side Submission first x side =
+    record {
+      least = side.least;
+      most = side.most;
+      head = some-less 0 x.host.entries side.least refl;
+      known_head = some-less 0 x.host.entries side.least refl;
+      tail = some-less 0 x.host.entries side.least refl;
+      identifiers = omega (arith, length-replicate (x.host.entries - 1) false, side.least);
+    }
+
+made-queue : (half : Half) (first n q : ℕ) (x : Queue) → IsQueue n q x → IsQueue n q (making half first x)
+made-queue Completion first n q x is = record { number = is.number; entries = is.entries; host_side = made-side Completion first x is.host_side }
+made-queue Submission first n q x is = record { number = is.number; entries = is.entries; host_side = made-side Submission first x is.host_side }
+
+-- none of its identifiers is claimed, and none is outstanding
+
+replicate-at : (n cid : ℕ) → cid < n → slice_get (replicate n false) cid ≡ Some false
+replicate-at zero cid l = absurd (omega arith)
+replicate-at (suc n) zero l = refl
+replicate-at (suc n) (suc cid) l = replicate-at n cid (omega arith)
+
+made-claims : (half : Half) (first q : ℕ) (x : Queue) → (making half first x).host.claimed ≡ none_claimed (x.host.entries - 1)
+made-claims Completion first q x = refl
+made-claims Submission first q x = refl
+
+claims-none : (records : List Record) (q n : ℕ) → ((cid : ℕ) → is_outstanding records q cid ≡ false) → ClaimsIdentifiers records q (none_claimed n)
+claims-none records q n none =
+    record {
+      told = λ cid l. replicate-at n cid (omega (arith, l, length-replicate n false)) ∙ ap Some (sym (none cid));
+      inside = λ cid h. absurd (true≢false (sym h ∙ none cid));
+    }
+
+-- What holds of the tables by themselves
+
+whole-zeros : (ps : List ℕ) → AllByRecursion (λ (page : ℕ × List ℕ). length page.1 ≡ 4096) (zeroed_pages ps)
+whole-zeros [] = tt
+whole-zeros (p ∷ ps) = (length-zero_page, whole-zeros ps)
+
+pub settled-granted : (t : Tables) (half : Half) (q first : ℕ) → IsWhole t → IsBare t half q → run_for (state_of t) half ≡ Some first → Settled (granted half q first t)
+settled-granted t half q first w bare run =
+    let s = settled-of t w in
+    let many = length-change q (making half first) t.queues in
+    record {
+      pool = pool-with (zeroed_pages (half_from t half first)) t.pages (whole-zeros (half_from t half first)) s.pool;
+      table = length-with_owner t.owners (half_from t half first) (owner.Queue q half) ∙ (s.table ∙ sym (length-with_pages (zeroed_pages (half_from t half first)) t.pages));
+      least_entries = s.least_entries;
+      most_entries = s.most_entries;
+      least_segment = s.least_segment;
+      most_segment = s.most_segment;
+      some_queues = subst (λ (n : ℕ). 2 ≤ n) (sym many) s.some_queues;
+      few_queues = subst (λ (n : ℕ). n ≤ 65) (sym many) s.few_queues;
+      record_queues = s.record_queues ∙ sym many;
+      record_places = s.record_places;
+      queues = record { each = each-change (IsQueue t.entries) q (making half first) t.queues (λ k y _ at. s.queues.each k y at) (λ y at. made-queue half first t.entries q y (s.queues.each q y at)) };
+      identifiers = record {
+        each = each-change (λ (k : ℕ) (y : Queue). ClaimsIdentifiers t.records k y.host.claimed) q (making half first) t.queues (λ k y _ at. s.identifiers.each k y at)
+            (λ y at. subst (ClaimsIdentifiers t.records q) (sym (made-claims half first q y)) (claims-none t.records q (y.host.entries - 1) bare.none));
+      };
+      owners = record {
+        queues_told = each-change (TellsQueue (owned half q first t)) q (making half first) t.queues
+            (λ k y _ at. others-told t half q first k y run (s.owners.queues_told k y at))
+            (λ y at.
+            let same : bare.queue ≡ y = some_is (sym bare.at ∙ at) in
+            own-told t half q first y run (subst (λ (z : Queue). z.state ≡ was half) same bare.state) (s.queues.each q y at).entries (s.owners.queues_told q y at));
+        commands_told = commands-told t half q first run s.owners.commands_told;
+      };
+      records = subst (λ (n : ℕ). AllByRecursion (IsRecord n) t.records) (sym many) s.records;
+    }
+
+-- The machine that they stand for
+
+-- what the machine makes of the queue
+abbrev pub half_in : Half → List ℕ → HostQueue → HostQueue
+half_in Completion pages queue = a.making_cq pages queue
+half_in Submission pages queue = a.making_sq pages queue
+
+shown-made : (half : Half) (first n : ℕ) (x : Queue) → x.state ≡ was half → x.host.entries ≡ n → host_queue_of (making half first x) ≡ half_in half (pages_from first (half_pages n half)) (host_queue_of x)
+shown-made Completion first n x state same =
+    ap₂ (λ (sq cq : List ℕ). record { state = MakingCq; ring = fresh_host_ring; sq_pages = sq; cq_pages = cq }) (sym (no-sq (ap has_sq state))) (new-cq-pages Completion first n x state same)
+  where
+    no-sq : has_sq x.state ≡ false → sq_pages_of x ≡ []
+    no-sq e = rw e refl
+shown-made Submission first n x state same =
+    ap₂ (λ (sq cq : List ℕ). record { state = MakingSq; ring = fresh_host_ring; sq_pages = sq; cq_pages = cq }) (new-sq-pages Submission first n x state same) (new-cq-pages Submission first n x state same)
+
+pub granted-state : (t : Tables) (half : Half) (q first : ℕ) → IsWhole t → IsBare t half q
+    → state_of (granted half q first t) ≡ a.on_host_queue q (half_in half (half_from t half first)) (a.half_granted (half_from t half first) (state_of t))
+granted-state t half q first w bare =
+    ap₂ shown (free-others (half_from t half first) (owner.Queue q half) t.owners refl)
+    (map-change host_queue_of (making half first) (half_in half (half_from t half first)) q t.queues
+    (λ x at.
+    let same : bare.queue ≡ x = some_is (sym bare.at ∙ at) in
+    shown-made half first t.entries x (subst (λ (z : Queue). z.state ≡ was half) same bare.state) (w.queues.each q x at).entries))
+  where
+    shown : List ℕ → List HostQueue → State
+    shown free hs =
+        record (state_of t) { memory = with_pages (zeroed_pages (half_from t half first)) t.pages; host = record (state_of t).host { free = free; queues = hs } }
+
+-- What is granted is the lowest run
+
+pub some-pages : (n : ℕ) (half : Half) → 2 ≤ n → 0 < half_pages n half
+some-pages n Submission l = omega arith
+some-pages n Completion l = omega arith
+
+pub run-lowest : (t : Tables) (half : Half) (first k : ℕ) → IsWhole t → k ≡ half_pages t.entries half → run_for (state_of t) half ≡ Some first → lowest_run k t.owners ≡ Some first
+run-lowest t half first k w is run =
+    ap (λ (n : ℕ). lowest_run n t.owners) is ∙ (sym (same-run t.owners (half_pages t.entries half) (some-pages t.entries half w.least_entries)) ∙ run)
+
+pub run-within : (t : Tables) (half : Half) (first k : ℕ) → IsWhole t → k ≡ half_pages t.entries half → run_for (state_of t) half ≡ Some first → first + k ≤ 65536
+run-within t half first k w is run =
+    omega (arith, w.pool.few, w.table, is, some-pages t.entries half w.least_entries, lowest_run-within k first t.owners (subst (λ (n : ℕ). 0 < n) (sym is) (some-pages t.entries half w.least_entries)) (run-lowest t half first k w is run))
+
+-- as it is made of its parts
+pub made-granted : (t : Tables) (half : Half) (q first k : ℕ) (pages : Pages) (owners : List Owner) (queues : List Queue) → k ≡ half_pages t.entries half
+    → pages ≡ with_pages (zeroed_pages (pages_from first k)) t.pages → owners ≡ with_owner t.owners (pages_from first k) (owner.Queue q half) → queues ≡ change q (making half first) t.queues
+    → record t { pages = pages; owners = owners; queues = queues } ≡ granted half q first t
+made-granted t half q first k pages owners queues is written given changed =
+    ap₂ (λ (m : Pages) (os : List Owner). record t { pages = m; owners = os; queues = queues }) written given
+    ∙ (ap (λ (qs : List Queue). record t { pages = with_pages (zeroed_pages (pages_from first k)) t.pages; owners = with_owner t.owners (pages_from first k) (owner.Queue q half); queues = qs }) changed
+    ∙ ap (λ (n : ℕ). record t { pages = with_pages (zeroed_pages (pages_from first n)) t.pages; owners = with_owner t.owners (pages_from first n) (owner.Queue q half); queues = change q (making half first) t.queues }) is)

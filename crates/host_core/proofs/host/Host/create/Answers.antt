@@ -1,0 +1,61 @@
+use Rattle.std.proofs.Common.{[], subst}
+use Rattle.machine_model.specs.Events as events
+use Rattle.host_core.specs.Alone.{HostView, IsLowest}
+use Rattle.host_core.specs.Parts.{tables_of}
+use Rattle.host_core.specs.Sending.{creating}
+use Rattle.host_core.specs.Tables.{Tables}
+use Rattle.host_core.specs.Whole.{IsWhole}
+use Rattle.host_core.proofs.Calls.{whole_at, step_at, stays_at}
+use Rattle.host_core.proofs.Creations.{create-refused, created_made}
+use Rattle.host_core.proofs.Granting.{next-lowest}
+use Rattle.host_core.proofs.Keeping.{host_of, over_of}
+use Rattle.host_core.proofs.host.Host.create.Goals as goal
+
+pub returns-in-Err-clause-step : goal.returns-in-Err-clause-step
+returns-in-Err-clause-step g c =
+    let t : Tables = tables_of c.self.inside.parts c.args.store.now.pages in
+    let w : IsWhole t = whole_at (tables_of c.self.inside.parts []) c.args.self.now c.args.store.now.pages c.self.view_is c.self.invariant c.requires in
+    stays_at t c.args.self.now (creating c.args.half c.args.q) (events.Refused c.in-Err.why []) c.self.view_is (create-refused t c.args.half c.args.q c.in-Err.why (c.in-Err.ensures.refused c.args.store.now.pages w))
+
+pub commit_create-requires-clause-whole : goal.commit_create-requires-clause-whole
+commit_create-requires-clause-whole g c = whole_at (tables_of c.self.inside.parts []) c.args.self.now c.args.store.now.pages c.self.view_is c.self.invariant c.requires
+
+pub commit_create-requires-clause-ready : goal.commit_create-requires-clause-ready
+commit_create-requires-clause-ready g c =
+    let t : Tables = tables_of c.self.inside.parts c.args.store.now.pages in
+    let w : IsWhole t = whole_at (tables_of c.self.inside.parts []) c.args.self.now c.args.store.now.pages c.self.view_is c.self.invariant c.requires in
+    c.in-Ok.ensures.ready c.args.store.now.pages w
+
+pub invariant_of-self : goal.invariant_of-self
+invariant_of-self g c =
+    let t : Tables = tables_of c.self.inside.parts c.args.store.now.pages in
+    let w : IsWhole t = whole_at (tables_of c.self.inside.parts []) c.args.self.now c.args.store.now.pages c.self.view_is c.self.invariant c.requires in
+    let ready = c.in-Ok.ensures.ready c.args.store.now.pages w in
+    let new : Tables = tables_of c.commit_create.new.self c.commit_create.new.store.pages in
+    let made = created_made t new c.args.half c.args.q c.in-Ok.creation.cid c.in-Ok.creation.first w ready c.commit_create.ensures in
+    host_of (tables_of c.commit_create.new.self []) c.commit_create.new.store.pages made.whole
+
+pub returns-clause-step : goal.returns-clause-step
+returns-clause-step g c =
+    let t : Tables = tables_of c.self.inside.parts c.args.store.now.pages in
+    let w : IsWhole t = whole_at (tables_of c.self.inside.parts []) c.args.self.now c.args.store.now.pages c.self.view_is c.self.invariant c.requires in
+    let ready = c.in-Ok.ensures.ready c.args.store.now.pages w in
+    let new : Tables = tables_of c.commit_create.new.self c.commit_create.new.store.pages in
+    let made = created_made t new c.args.half c.args.q c.in-Ok.creation.cid c.in-Ok.creation.first w ready c.commit_create.ensures in
+    step_at t new c.args.self.now (creating c.args.half c.args.q) (events.Sent c.in-Ok.creation.cid) c.self.view_is made.step
+
+pub returns-clause-over : goal.returns-clause-over
+returns-clause-over g c =
+    let t : Tables = tables_of c.self.inside.parts c.args.store.now.pages in
+    let w : IsWhole t = whole_at (tables_of c.self.inside.parts []) c.args.self.now c.args.store.now.pages c.self.view_is c.self.invariant c.requires in
+    let ready = c.in-Ok.ensures.ready c.args.store.now.pages w in
+    let new : Tables = tables_of c.commit_create.new.self c.commit_create.new.store.pages in
+    let made = created_made t new c.args.half c.args.q c.in-Ok.creation.cid c.in-Ok.creation.first w ready c.commit_create.ensures in
+    over_of new made.whole
+
+pub returns-clause-identifier : goal.returns-clause-identifier
+returns-clause-identifier g c =
+    let t : Tables = tables_of c.self.inside.parts c.args.store.now.pages in
+    let w : IsWhole t = whole_at (tables_of c.self.inside.parts []) c.args.self.now c.args.store.now.pages c.self.view_is c.self.invariant c.requires in
+    let ready = c.in-Ok.ensures.ready c.args.store.now.pages w in
+    subst (λ (v : HostView). IsLowest v.host 0 c.in-Ok.creation.cid) c.self.view_is (next-lowest t w 0 c.in-Ok.creation.cid ready.slot.queue ready.slot.at ready.slot.next)
