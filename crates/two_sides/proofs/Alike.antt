@@ -1,10 +1,10 @@
 -- What an event of the host leaves at the host is told by the host's part and the memory, where the same stands at the head of the
 -- completion ring that is reaped.
-use Rattle.std.proofs.Common.{◌≡◌, ℕ, Bool, true, false, ◌&&◌, Option, Some, None, [], ◌∷◌, ◌++◌, map, if◌then◌else◌, refl, ap, subst}
+use Rattle.std.proofs.Common.{◌≡◌, ℕ, Bool, true, false, ◌&&◌, Option, Some, None, List, [], ◌∷◌, ◌++◌, map, if◌then◌else◌, refl, ap, subst}
 use Rattle.std.specs.Option.{option_map, option_map_or}
 use Rattle.std.proofs.lemmas.Bool.{true≢false}
 use Rattle.admin_commands.specs.Entries.{admin_entry}
-use Rattle.admin_commands.specs.declared.AdminKind.TheVariants.{Abort, DeleteSq, DeleteCq}
+use Rattle.admin_commands.specs.declared.AdminKind.TheVariants.{Abort, DeleteSq, DeleteCq, CreateCq, CreateSq}
 use Rattle.admin_commands.specs.declared.AdminKind.{AdminKind}
 use Rattle.entry_codec.specs.Submission.{submission_bytes}
 use Rattle.entry_codec.specs.declared.completion.ComEntry.{ComEntry}
@@ -23,10 +23,11 @@ use Rattle.machine_model.specs.declared.words.Reaped.TheVariants as reaped
 use Rattle.machine_model.specs.Events as events
 use Rattle.machine_model.specs.Events.{Event, Reply}
 use Rattle.machine_model.specs.Memory.{with_pages, without_pages}
-use Rattle.machine_model.specs.Refusals.{host_queue, is_retired, seen_entry, slot_page, slot_offset}
+use Rattle.machine_model.specs.Refusals.{has_cq_alone, host_queue, seen_entry, slot_page, slot_offset}
 use Rattle.machine_model.specs.State.{State, Device, HostQueue, record_at, with_record, without_record, pages_of}
 use Rattle.machine_model.specs.Step.{Answers, IsController, forges}
 use Rattle.page_memory.specs.Pages.{Pages, with_page_bytes}
+use Rattle.page_memory.specs.declared.page.Half.TheVariants.{Submission, Completion}
 use Rattle.queue_pair.specs.Rings.{next_tail, knowing}
 
 -- a state with any part of the controller's, trusted or not
@@ -67,18 +68,31 @@ alike-posted q entry s d d' b b' =
     write : HostQueue → Pages → Pages
     write queue m = with_page_bytes m (slot_page queue.sq_pages 64 queue.ring.tail) (slot_offset 64 queue.ring.tail) (submission_bytes entry)
 
+alike-freed : (pages : HostQueue → List ℕ) (without : HostQueue → HostQueue) (q : ℕ) (s : State) (d d' : Device) (b b' : Bool)
+    → Alike b (a.half_freed pages without q (over s d b)) (a.half_freed pages without q (over s d' b'))
+alike-freed pages without q s d d' b b' =
+    alike-option b (λ queue. a.on_host_queue q without (a.given_back (pages queue) (over s d b)))
+    (λ queue. a.on_host_queue q without (a.given_back (pages queue) (over s d' b')))
+    (host_queue s q) (over s d b) (over s d' b') refl (λ queue. refl)
+
 alike-admin : (adm : AdminKind) (st : Status) (s : State) (d d' : Device) (b b' : Bool) → Alike b (a.after_admin adm st (over s d b)) (a.after_admin adm st (over s d' b'))
 alike-admin (Abort q cid) st s d d' b b' = refl
 alike-admin (DeleteSq q) st s d d' b b' = refl
 alike-admin (DeleteCq q) st s d d' b b' =
-    alike-if b (is_success st && option_map_or (λ queue. is_retired queue.state) (host_queue s q) false)
+    alike-if b (is_success st && option_map_or (λ queue. has_cq_alone queue.state) (host_queue s q) false)
     (a.half_freed (λ queue. queue.cq_pages) a.gone q (over s d b))
     (a.half_freed (λ queue. queue.cq_pages) a.gone q (over s d' b'))
     (over s d b) (over s d' b')
-    (alike-option b (λ queue. a.on_host_queue q a.gone (a.given_back queue.cq_pages (over s d b)))
-    (λ queue. a.on_host_queue q a.gone (a.given_back queue.cq_pages (over s d' b')))
-    (host_queue s q) (over s d b) (over s d' b') refl (λ queue. refl))
+    (alike-freed (λ queue. queue.cq_pages) a.gone q s d d' b b')
     refl
+alike-admin (CreateCq q n base) st s d d' b b' =
+    alike-if b (is_success st) (a.on_host_queue q a.half_made (over s d b)) (a.on_host_queue q a.half_made (over s d' b'))
+    (a.half_freed (λ queue. queue.cq_pages) a.gone q (over s d b)) (a.half_freed (λ queue. queue.cq_pages) a.gone q (over s d' b'))
+    refl (alike-freed (λ queue. queue.cq_pages) a.gone q s d d' b b')
+alike-admin (CreateSq q n base) st s d d' b b' =
+    alike-if b (is_success st) (a.on_host_queue q a.live (over s d b)) (a.on_host_queue q a.live (over s d' b'))
+    (a.half_freed (λ queue. queue.sq_pages) a.unmade_sq q (over s d b)) (a.half_freed (λ queue. queue.sq_pages) a.unmade_sq q (over s d' b'))
+    refl (alike-freed (λ queue. queue.sq_pages) a.unmade_sq q s d d' b b')
 
 alike-work : (w : Work) (q cid : ℕ) (st : Status) (s : State) (d d' : Device) (b b' : Bool) → Alike b (a.after_work w q cid st (over s d b)) (a.after_work w q cid st (over s d' b'))
 alike-work (Io r) q cid st s d d' b b' = refl
@@ -145,6 +159,14 @@ alike_after s d d' b b' (events.Release fin) events.Accepted c f sees ok = refl
 alike_after s d d' b b' (events.Abort q cid) (events.Sent id) c f sees ok = alike-sent (Abort q cid) id (admin_entry (Abort q cid) id) s d d' b b'
 alike_after s d d' b b' (events.DeleteSq q) (events.Sent id) c f sees ok = ap (with_queue q a.deleting) (alike-sent (DeleteSq q) id (admin_entry (DeleteSq q) id) s d d' b b')
 alike_after s d d' b b' (events.DeleteCq q) (events.Sent id) c f sees ok = alike-sent (DeleteCq q) id (admin_entry (DeleteCq q) id) s d d' b b'
+alike_after s d d' b b' (events.CreateCq q) (events.Sent id) c f sees ok =
+    let pages = a.half_run Completion s in
+    let kind : AdminKind = CreateCq q s.entries (a.base_of pages) in
+    alike-sent kind id (admin_entry kind id) (a.on_host_queue q (a.making_cq pages) (a.half_granted pages s)) d d' b b'
+alike_after s d d' b b' (events.CreateSq q) (events.Sent id) c f sees ok =
+    let pages = a.half_run Submission s in
+    let kind : AdminKind = CreateSq q s.entries (a.base_of pages) in
+    alike-sent kind id (admin_entry kind id) (a.on_host_queue q (a.making_sq pages) (a.half_granted pages s)) d d' b b'
 alike_after s d d' b b' (events.Retire q) events.Accepted c f sees ok =
     let lost : State → State = λ t. a.on_records (λ records. map (a.lost q) records) t in
     alike-option b (λ queue. a.on_host_queue q a.retired (a.given_back queue.sq_pages (lost (over s d b))))

@@ -14,7 +14,7 @@ use Rattle.entry_codec.specs.declared.submission.SubEntry.{SubEntry}
 use Rattle.entry_codec.proofs.CompletionLemmas.{round_trip}
 use Rattle.machine_model.specs.After.{answered, change}
 use Rattle.machine_model.specs.Memory.{is_in}
-use Rattle.machine_model.specs.Refusals.{fetch_slot, has_cq, host_queue, post_slot, slot_offset, slot_page}
+use Rattle.machine_model.specs.Refusals.{fetch_slot, host_queue, in_service, post_slot, slot_offset, slot_page}
 use Rattle.machine_model.specs.State.{State, HostQueue, Answer}
 use Rattle.machine_model.proofs.Elsewhere.{bytes_elsewhere}
 use Rattle.machine_model.proofs.Members.{all_append}
@@ -37,10 +37,10 @@ use Rattle.queue_pair.proofs.Pools.{pages_agree}
 use Rattle.queue_pair.proofs.Round.{told_alike}
 use Rattle.two_sides.specs.Sides.{Sides, answer_of, completions_between, device_queue_of, present, unfetched_between}
 use Rattle.two_sides.specs.Stepping.{LeavesPages}
-use Rattle.two_sides.specs.Ties.{HeadsFollow, IsWorld, RingsStand, ShareQueue}
+use Rattle.two_sides.specs.Ties.{HeadsFollow, IsWorld, QueueStands, RingsStand, ShareQueue, has_ring}
 use Rattle.two_sides.proofs.Frames.{SparesQueue, SparesSubmitted, apart_from_queues, halves_apart, own_halves_apart}
-use Rattle.two_sides.proofs.Known.{IsKnown}
-use Rattle.two_sides.proofs.Places.{Shows, map-append, fetch_slot_is, post_slot_is, own_page, in_ring, has_submission, has_completion}
+use Rattle.two_sides.proofs.Known.{IsKnown, queue_ring}
+use Rattle.two_sides.proofs.Places.{Shows, map-append, fetch_slot_is, post_slot_is, own_page, in_ring}
 
 pub length-completion_bytes : (e : ComEntry) → length (completion_bytes e) ≡ 16
 unfolding completion_bytes
@@ -82,7 +82,7 @@ post_room m device none = go (is_full device.entries device.ring.known_head devi
     go false None e = cc
     go false (Some bytes) e = (refl, λ none. cc)
 
--- and the halves lie where they lay
+-- and both sides have the queue
 pub answer_shares : (n i : ℕ) (h : HostQueue) (c : ControllerQueue) → ShareQueue n i h c → ShareQueue n i h (with_answer c)
 answer_shares n i h c share =
     record {
@@ -96,28 +96,31 @@ answer_shares n i h c share =
         tail = next_below c.device.entries c.device.ring.tail share.side.tail;
         known_head = share.side.known_head;
       };
-      submission = share.submission;
-      completion = share.completion;
     }
 
 -- Where nothing was forged
 
--- A completion can be posted in a queue: the controller has the queue, and there is room.
+-- A completion can be posted in a queue: the controller has the queue, the host has it in service, and there is room.
 pub record CanAnswer (s : Sides) (q : ℕ) (h : HostQueue) (c : ControllerQueue) (e : ComEntry) : Type 0 where
   pub known : IsKnown s q h c
   pub there : is_absent c.state ≡ false
+  pub served : in_service h.state ≡ true
   pub room : is_full c.device.entries c.device.ring.known_head c.device.ring.tail ≡ false
   pub typed : IsComEntry e
   pub fits : FitsCompletion e
+
+-- its rings are in use, and stand
+rings_of : (s : Sides) (q : ℕ) (h : HostQueue) (c : ControllerQueue) (e : ComEntry) → CanAnswer s q h c e → RingsStand (byte_at s.pages) q h c
+rings_of s q h c e can = can.known.rings (queue_ring s q h c can.known can.there)
 
 -- the pages behind it: the slot at the controller's tail has the completion's bytes
 abbrev pub with_completion : Sides → ControllerQueue → ComEntry → Pages
 with_completion s c e = with_page_bytes s.pages (page_posted c.device) (slot_offset 16 c.device.ring.tail) (completion_bytes e)
 
 -- the page of the slot is one of the queue's completion half, which is in
-pub page_is_own : (s : Sides) (q : ℕ) (h : HostQueue) (c : ControllerQueue) → IsKnown s q h c → has_cq h.state ≡ true → is_among h.cq_pages (page_posted c.device) ≡ true
-page_is_own s q h c known lives =
-    subst (λ (pages : List ℕ). is_among pages (page_posted c.device) ≡ true) (sym (known.placed.completion lives))
+pub page_is_own : (s : Sides) (q : ℕ) (h : HostQueue) (c : ControllerQueue) → IsKnown s q h c → has_ring h c ≡ true → is_among h.cq_pages (page_posted c.device) ≡ true
+page_is_own s q h c known has =
+    subst (λ (pages : List ℕ). is_among pages (page_posted c.device) ≡ true) (sym (known.completion has))
     (among-from c.device.cq (half_pages s.host.entries Completion) (c.device.ring.tail / 256) (omega (arith, known.placed.share.entries, known.placed.share.side.tail)))
 
 pub byte_in_page : (pages : Pages) (place : ℕ) → IsSome (byte_at pages place) → is_in pages (place / 4096) ≡ true
@@ -127,34 +130,34 @@ byte_in_page pages place some = go (page_at pages (place / 4096)) some
     go None some = cc
     go (Some page) some = refl
 
-pub page_is_in : (s : Sides) (q : ℕ) (h : HostQueue) (c : ControllerQueue) → IsKnown s q h c → has_cq h.state ≡ true → is_in s.pages (page_posted c.device) ≡ true
-page_is_in s q h c known lives =
+pub page_is_in : (s : Sides) (q : ℕ) (h : HostQueue) (c : ControllerQueue) → IsKnown s q h c → has_ring h c ≡ true → is_in s.pages (page_posted c.device) ≡ true
+page_is_in s q h c known has =
     let page : (4096 * c.device.cq + 16 * c.device.ring.tail) / 4096 ≡ page_posted c.device = omega arith in
     subst (λ (p : ℕ). is_in s.pages p ≡ true) page
-    (byte_in_page s.pages (4096 * c.device.cq + 16 * c.device.ring.tail) ((known.placed.completion_in lives).there (16 * c.device.ring.tail) (omega (arith, known.placed.share.entries, known.placed.share.side.tail))))
+    (byte_in_page s.pages (4096 * c.device.cq + 16 * c.device.ring.tail) ((known.completion_in has).there (16 * c.device.ring.tail) (omega (arith, known.placed.share.entries, known.placed.share.side.tail))))
 
 -- the memory behind it
-posted_shown : (s : Sides) (q : ℕ) (h : HostQueue) (c : ControllerQueue) (e : ComEntry) → IsWorld s → IsKnown s q h c → has_cq h.state ≡ true → byte_at (with_completion s c e) ≡ memory_posted (byte_at s.pages) c.device e
-posted_shown s q h c e world known lives = slot_shown s.pages c.device.cq c.device.ring.tail (completion_bytes e) world.sides.over.pool (page_is_in s q h c known lives) (length-completion_bytes e)
+posted_shown : (s : Sides) (q : ℕ) (h : HostQueue) (c : ControllerQueue) (e : ComEntry) → IsWorld s → IsKnown s q h c → has_ring h c ≡ true → byte_at (with_completion s c e) ≡ memory_posted (byte_at s.pages) c.device e
+posted_shown s q h c e world known has = slot_shown s.pages c.device.cq c.device.ring.tail (completion_bytes e) world.sides.over.pool (page_is_in s q h c known has) (length-completion_bytes e)
 
 -- A page that is not that of the slot is the same.
-page_spared : (s : Sides) (q : ℕ) (h : HostQueue) (c : ControllerQueue) (e : ComEntry) (p : ℕ) → IsKnown s q h c → has_cq h.state ≡ true → is_among h.cq_pages p ≡ false → page_at (with_completion s c e) p ≡ page_at s.pages p
-page_spared s q h c e p known lives far =
+page_spared : (s : Sides) (q : ℕ) (h : HostQueue) (c : ControllerQueue) (e : ComEntry) (p : ℕ) → IsKnown s q h c → has_ring h c ≡ true → is_among h.cq_pages p ≡ false → page_at (with_completion s c e) p ≡ page_at s.pages p
+page_spared s q h c e p known has far =
     bytes_elsewhere s.pages (page_posted c.device) p (slot_offset 16 c.device.ring.tail) (completion_bytes e)
-    (λ same. true≢false (sym (page_is_own s q h c known lives) ∙ (ap (is_among h.cq_pages) same ∙ far)))
+    (λ same. true≢false (sym (page_is_own s q h c known has) ∙ (ap (is_among h.cq_pages) same ∙ far)))
 
 -- The halves of the other queues are the same, and so are the pages of the submitted commands.
-pub answer_spares_queues : (s : Sides) (q k : ℕ) (h x : HostQueue) (c : ControllerQueue) (e : ComEntry) → IsWorld s → IsKnown s q h c → has_cq h.state ≡ true
+pub answer_spares_queues : (s : Sides) (q k : ℕ) (h x : HostQueue) (c : ControllerQueue) (e : ComEntry) → IsWorld s → IsKnown s q h c → has_ring h c ≡ true
     → slice_get s.host.host.queues q ≡ Some h → slice_get s.host.host.queues k ≡ Some x → k ≢ q → SparesQueue s.pages (with_completion s c e) x
-answer_spares_queues s q k h x c e world known lives at there apart =
+answer_spares_queues s q k h x c e world known has at there apart =
     record {
-      submission = λ p among. page_spared s q h c e p known lives ((halves_apart s world k q x h p there at apart).0 among).1;
-      completion = λ p among. page_spared s q h c e p known lives ((halves_apart s world k q x h p there at apart).1 among).1;
+      submission = λ p among. page_spared s q h c e p known has ((halves_apart s world k q x h p there at apart).0 among).1;
+      completion = λ p among. page_spared s q h c e p known has ((halves_apart s world k q x h p there at apart).1 among).1;
     }
 
-pub answer_spares_commands : (s : Sides) (q : ℕ) (h : HostQueue) (c : ControllerQueue) (e : ComEntry) → IsWorld s → IsKnown s q h c → has_cq h.state ≡ true
+pub answer_spares_commands : (s : Sides) (q : ℕ) (h : HostQueue) (c : ControllerQueue) (e : ComEntry) → IsWorld s → IsKnown s q h c → has_ring h c ≡ true
     → slice_get s.host.host.queues q ≡ Some h → SparesSubmitted s (with_completion s c e)
-answer_spares_commands s q h c e world known lives at i r there submitted p among = page_spared s q h c e p known lives (apart_from_queues s world q i h r p at there among).1
+answer_spares_commands s q h c e world known has at i r there submitted p among = page_spared s q h c e p known has (apart_from_queues s world q i h r p at there among).1
 
 -- The queue itself
 
@@ -167,12 +170,12 @@ present-append (Some y ∷ xs) x = ap (λ ys. y ∷ ys) (present-append xs x)
 entries_stay : (s : Sides) (q : ℕ) (h : HostQueue) (c : ControllerQueue) (e : ComEntry) → IsWorld s → slice_get s.host.host.queues q ≡ Some h → CanAnswer s q h c e
     → unfetched_between (byte_at (with_completion s c e)) h.ring c.device ≡ unfetched_between (byte_at s.pages) h.ring c.device
 entries_stay s q h c e world at can =
-    let lives = has_completion s q h c can.known can.there in
-    let sq = can.known.placed.submission (has_submission s q h c can.known can.there) in
+    let has = queue_ring s q h c can.known can.there in
+    let sq = can.known.submission can.there in
     let n = can.known.placed.share.entries in
     let many = half_pages c.device.entries Submission in
     let spared : (p : ℕ) → p < many → page_at s.pages (c.device.sq + p) ≡ page_at (with_completion s c e) (c.device.sq + p) =
-    λ p l. sym (page_spared s q h c e (c.device.sq + p) can.known lives (own_halves_apart s world q h (c.device.sq + p) at
+    λ p l. sym (page_spared s q h c e (c.device.sq + p) can.known has (own_halves_apart s world q h (c.device.sq + p) at
     (subst (λ (pages : List ℕ). is_among pages (c.device.sq + p) ≡ true) (sym sq) (among-from c.device.sq (half_pages s.host.entries Submission) p (subst (λ (k : ℕ). p < half_pages k Submission) n l))))) in
     ap present (sym (entries_agree (byte_at s.pages) (byte_at (with_completion s c e)) c.device.sq c.device.entries c.device.ring.head h.ring.tail
     (pages_agree s.pages (with_completion s c e) c.device.sq many spared) can.known.placed.share.side.head))
@@ -182,19 +185,29 @@ completions_grow : (s : Sides) (q : ℕ) (h : HostQueue) (c : ControllerQueue) (
 completions_grow s q h c e world can =
     let n = c.device.entries in
     let tail = c.device.ring.tail in
-    ap (λ (m : Memory). completions_between m h.ring (with_answer c).device) (posted_shown s q h c e world can.known (has_completion s q h c can.known can.there))
+    ap (λ (m : Memory). completions_between m h.ring (with_answer c).device) (posted_shown s q h c e world can.known (queue_ring s q h c can.known can.there))
     ∙ ap present (answers_append (byte_at s.pages) c.device.cq n h.ring.head tail (completion_bytes e) e (length-completion_bytes e) (round_trip e can.typed can.fits) (in_ring s q h c can.known).head can.known.placed.share.side.tail
-    (subst (λ (k : ℕ). is_full n k tail ≡ false) can.known.rings.heard can.room))
+    (subst (λ (k : ℕ). is_full n k tail ≡ false) (rings_of s q h c e can).heard can.room))
     ∙ present-append (answers_between (byte_at s.pages) c.device.cq n h.ring.head tail) e
 
 -- the machine's queue has one answer more
 pub answer_seen : (s : Sides) (q : ℕ) (h : HostQueue) (c : ControllerQueue) (e : ComEntry) → IsWorld s → slice_get s.host.host.queues q ≡ Some h → CanAnswer s q h c e
     → device_queue_of (byte_at (with_completion s c e)) h.ring (with_answer c)
-    ≡ record (device_queue_of (byte_at s.pages) h.ring c) { answers = map answer_of (completions_between (byte_at s.pages) h.ring c.device) ++ answer_of e ∷ [] }
+    ≡ record (device_queue_of (byte_at s.pages) h.ring c) { answers = (device_queue_of (byte_at s.pages) h.ring c).answers ++ answer_of e ∷ [] }
 answer_seen s q h c e world at can =
     ap₂ (λ (entries : List SubEntry) (answers : List Answer). record (device_queue_of (byte_at s.pages) h.ring c) { unfetched = if is_absent c.state then [] else entries; answers = answers })
     (entries_stay s q h c e world at can)
-    (ap (map answer_of) (completions_grow s q h c e world can) ∙ map-append answer_of (completions_between (byte_at s.pages) h.ring c.device) e)
+    (more c.cq_there (can.known.fits.half can.there))
+  where
+    old : List ComEntry
+    old = completions_between (byte_at s.pages) h.ring c.device
+
+    new : List ComEntry
+    new = completions_between (byte_at (with_completion s c e)) h.ring (with_answer c).device
+
+    more : (b : Bool) → b ≡ true → (if b then map answer_of new else []) ≡ (if b then map answer_of old else []) ++ answer_of e ∷ []
+    more true there = ap (map answer_of) (completions_grow s q h c e world can) ∙ map-append answer_of old e
+    more false there = absurd (true≢false (sym there))
 
 -- its rings stand
 ends_inside : (n from to : ℕ) → to < n → is_in_range n from to to ≡ true
@@ -204,14 +217,14 @@ heads_grow : (n from to : ℕ) (e : ComEntry) (es : List ComEntry) → to < n �
 heads_grow n from to e [] l same h = (subst (λ (x : ℕ). is_in_range n from to x ≡ true) (sym same) (ends_inside n from to l), ends_inside n e.sqhd to l)
 heads_grow n from to e (x ∷ es) l same h = (h.0, heads_grow n x.sqhd to e es l same h.1)
 
-pub answer_stands : (s : Sides) (q cid : ℕ) (st : Status) (dw0 : ℕ) (h : HostQueue) (c : ControllerQueue) → IsWorld s → CanAnswer s q h c (completion_by q cid st dw0 c.device)
+answer_rings : (s : Sides) (q cid : ℕ) (st : Status) (dw0 : ℕ) (h : HostQueue) (c : ControllerQueue) → IsWorld s → CanAnswer s q h c (completion_by q cid st dw0 c.device)
     → RingsStand (byte_at (with_completion s c (completion_by q cid st dw0 c.device))) q h (with_answer c)
-answer_stands s q cid st dw0 h c world can =
+answer_rings s q cid st dw0 h c world can =
     let e : ComEntry = completion_by q cid st dw0 c.device in
-    let old = can.known.rings in
+    let old = rings_of s q h c e can in
     let side = can.known.placed.share.side in
     let n = c.device.entries in
-    let lives = has_completion s q h c can.known can.there in
+    let has = queue_ring s q h c can.known can.there in
     let grown = completions_grow s q h c e world can in
     record {
       fetched = old.fetched;
@@ -219,12 +232,21 @@ answer_stands s q cid st dw0 h c world can =
       heard = old.heard;
       expected = old.expected
           ∙ sym (tie_kept_by_post n h.ring.head c.device.ring.tail c.device.ring.phase (in_ring s q h c can.known).head side.tail (subst (λ (k : ℕ). is_full n k c.device.ring.tail ≡ false) old.heard can.room));
-      phases = λ x. subst (λ (m : Memory). HasPhases m (with_answer c).device) (sym (posted_shown s q h c e world can.known lives))
-          (phases_kept (byte_at s.pages) c.device.cq n c.device.ring.tail c.device.ring.phase (completion_bytes e) (length-completion_bytes e) (ap (λ (y : ComEntry). y.phase) (round_trip e can.typed can.fits)) side.tail (old.phases lives));
-      owned = λ x. subst (AllByRecursion (λ (y : ComEntry). y.sqid ≡ q)) (sym grown) (all_append (λ (y : ComEntry). y.sqid ≡ q) (completions_between (byte_at s.pages) h.ring c.device) (e ∷ []) (old.owned lives) (refl, tt));
-      follow = λ x. subst (HeadsFollow n h.ring.known_head c.device.ring.head) (sym grown)
-          (heads_grow n h.ring.known_head c.device.ring.head e (completions_between (byte_at s.pages) h.ring c.device) side.head refl (old.follow lives));
-      drained = λ x. absurd (true≢false (sym (has_submission s q h c can.known can.there) ∙ x));
+      phases = subst (λ (m : Memory). HasPhases m (with_answer c).device) (sym (posted_shown s q h c e world can.known has))
+          (phases_kept (byte_at s.pages) c.device.cq n c.device.ring.tail c.device.ring.phase (completion_bytes e) (length-completion_bytes e) (ap (λ (y : ComEntry). y.phase) (round_trip e can.typed can.fits)) side.tail old.phases);
+      owned = subst (AllByRecursion (λ (y : ComEntry). y.sqid ≡ q)) (sym grown) (all_append (λ (y : ComEntry). y.sqid ≡ q) (completions_between (byte_at s.pages) h.ring c.device) (e ∷ []) old.owned (refl, tt));
+      follow = subst (HeadsFollow n h.ring.known_head c.device.ring.head) (sym grown)
+          (heads_grow n h.ring.known_head c.device.ring.head e (completions_between (byte_at s.pages) h.ring c.device) side.head refl old.follow);
+      drained = λ x. absurd (true≢false (sym can.served ∙ x));
+    }
+
+pub answer_stands : (s : Sides) (q cid : ℕ) (st : Status) (dw0 : ℕ) (h : HostQueue) (c : ControllerQueue) → IsWorld s → CanAnswer s q h c (completion_by q cid st dw0 c.device)
+    → QueueStands s.host.entries (byte_at (with_completion s c (completion_by q cid st dw0 c.device))) q h (with_answer c)
+answer_stands s q cid st dw0 h c world can =
+    record {
+      halves = record { submission = can.known.submission; completion = can.known.completion };
+      rings = λ has. answer_rings s q cid st dw0 h c world can;
+      granted = λ making none. absurd (true≢false (sym (can.known.fits.half can.there) ∙ none));
     }
 
 -- What was posted is the machine's answer, in each state that shows the queue and the pages as both sides have them.
@@ -244,12 +266,12 @@ pub answer_is : (u : State) (s : Sides) (q cid : ℕ) (st : Status) (dw0 : ℕ) 
     }
     ≡ answered q cid st dw0 u
 answer_is u s q cid st dw0 h c shown memory can =
-    let lives = has_completion s q h c can.known can.there in
+    let has = queue_ring s q h c can.known can.there in
     let ring = c.device.ring in
     let e : ComEntry = completion_by q cid st dw0 c.device in
     ap (λ (m : Pages). record u {
       memory = with_page_bytes m (page_posted c.device) (slot_offset 16 ring.tail) (completion_bytes e);
       device = record u.device { queues = change q (λ at. record at { answers = at.answers ++ answer_of e ∷ [] }) u.device.queues };
     }) (sym memory)
-    ∙ answered_as u q cid st dw0 h ring.head ring.tail (page_posted c.device) ring.phase shown.host (fetch_slot_is u s q h c shown can.known can.there) (post_slot_is u s q h c shown can.known lives) (own_page s q h c can.known lives)
-    (ap (expected_phase h.ring.head ring.tail) can.known.rings.expected ∙ sym (told_alike h.ring.head ring.tail ring.phase))
+    ∙ answered_as u q cid st dw0 h ring.head ring.tail (page_posted c.device) ring.phase shown.host (fetch_slot_is u s q h c shown can.known can.there) (post_slot_is u s q h c shown can.known (can.known.fits.half can.there)) (own_page s q h c can.known has)
+    (ap (expected_phase h.ring.head ring.tail) (rings_of s q h c e can).expected ∙ sym (told_alike h.ring.head ring.tail ring.phase))

@@ -10,20 +10,20 @@ use Rattle.entry_codec.specs.declared.completion.ComEntry.{ComEntry}
 use Rattle.host_core.specs.Alone.{HostView, HostStep, IsOver, alone}
 use Rattle.host_core.proofs.Exact.{leaves_just}
 use Rattle.machine_model.specs.After.{after}
-use Rattle.machine_model.specs.Claims.{AdminLives, HasOneOwner, IsSound}
+use Rattle.machine_model.specs.Claims.{HasOneOwner, IsSound}
 use Rattle.machine_model.specs.Events as events
 use Rattle.machine_model.specs.Events.{Event, Reply}
 use Rattle.machine_model.specs.Memory.{memory_of}
 use Rattle.machine_model.specs.Proper.{IsProper}
 use Rattle.machine_model.specs.Step as machine
-use Rattle.machine_model.specs.Refusals.{has_cq, host_queue, refusal_of, seen_entry}
+use Rattle.machine_model.specs.Refusals.{is_reaped, host_queue, refusal_of, seen_entry}
 use Rattle.machine_model.specs.State.{State, Device, HostQueue}
 use Rattle.machine_model.specs.Step.{Answers, Leaves, LeavesByController, LeavesByHost, HostPart, Permits, Step, forges, host_part}
 use Rattle.machine_model.specs.declared.words.Refusal.{Refusal}
 use Rattle.machine_model.specs.declared.words.Refusal.TheVariants as refusal
 use Rattle.machine_model.proofs.Agreeing.{step_keeps_agreement}
-use Rattle.machine_model.proofs.Asked.{AskedPart, asked_from_fit}
-use Rattle.machine_model.proofs.Headline.{sound_from_all, steps_keep}
+use Rattle.machine_model.proofs.Frames.{host_leaves}
+use Rattle.machine_model.proofs.Headline.{sound_from_both, steps_keep}
 use Rattle.machine_model.proofs.Out.{Both}
 use Rattle.machine_model.proofs.Owned.{holds_from_sound}
 use Rattle.machine_model.proofs.Positions.{steps_stay_in_rings}
@@ -35,9 +35,10 @@ use Rattle.two_sides.specs.Hearing.{heard}
 use Rattle.two_sides.specs.Laws.{behind}
 use Rattle.two_sides.specs.Sides.{Sides, state_of, device_of}
 use Rattle.two_sides.specs.Stepping.{StepsTo, LeavesPages, served}
-use Rattle.two_sides.specs.Ties.{AreSides, IsWorld, AllRingsStand, ShareQueues, WalksStand}
+use Rattle.two_sides.specs.Ties.{AreSides, IsWorld, AllQueuesStand, ShareQueues, WalksStand}
 use Rattle.two_sides.proofs.Alike.{SeesAlike, bare, head_of_entry, left_alike}
 use Rattle.two_sides.proofs.Refusing.{out_of}
+use Rattle.two_sides.proofs.Deletions.{step_keeps_serving}
 use Rattle.two_sides.proofs.Forged.{refused_leaves, length-device, forged_step, commands-heard, image-heard, length-heard}
 use Rattle.two_sides.proofs.Known.{tied_of}
 use Rattle.two_sides.proofs.Seen.{seen_alike, told}
@@ -90,11 +91,11 @@ pub host_refused : (s : Sides) (e : Event) (reply : Reply) (host : HostView) (pa
 host_refused s e reply host pages world same stays proper permits leaves =
     subst (λ (x : Sides). StepsTo s e reply x) (sym stays) ((proper, permits, stays_left (state_of s) e reply world.sides.over.pool.whole leaves), world)
 
--- An accepted call where nothing was forged: the machine's lists, and that the rings and the walks stand.
+-- An accepted call where nothing was forged: the machine's lists, and that the queues and the walks stand.
 pub record Ties (s : Sides) (e : Event) (reply : Reply) (host : HostView) (pages : Pages) : Type 0 where
   pub permits : Permits (state_of s) e reply
   pub device : device_of (behind s e reply host pages) ≡ (after (state_of s) e reply).device
-  pub rings : AllRingsStand (byte_at pages) zero host.host.queues (heard e reply host s.controller).queues
+  pub queues : AllQueuesStand s.host.entries (byte_at pages) zero host.host.queues (heard e reply host s.controller).queues
   pub walks : WalksStand (memory_of pages) s.controller.commands
 
 -- what an accepted call leaves is what is due
@@ -118,18 +119,18 @@ heads_alike (Some e) None same = absurd cc
 heads_alike (Some e) (Some e') same = sym (ap (option_map head_of_entry) same)
 
 pub sees_alike : (s : Sides) (e : Event) → IsWorld s → refusal_of (alone s.host s.pages) e ≡ None → SeesAlike (state_of s) (alone s.host s.pages) e
-sees_alike s (events.Reap q) world none = go (slice_get s.host.host.queues q) refl (unrefused (option_map_or (λ queue. has_cq queue.state) (host_queue (alone s.host s.pages) q) false) none)
+sees_alike s (events.Reap q) world none = go (slice_get s.host.host.queues q) refl (unrefused (option_map_or (λ queue. is_reaped queue.state) (host_queue (alone s.host s.pages) q) false) none)
   where
     unrefused : (b : Bool) → first_passing ((not b, refusal.NoQueue) ∷ []) ≡ None → b ≡ true
     unrefused true h = refl
     unrefused false h = absurd cc
 
-    go : (o : Option HostQueue) → slice_get s.host.host.queues q ≡ o → option_map_or (λ queue. has_cq queue.state) (slice_get s.host.host.queues q) false ≡ true
+    go : (o : Option HostQueue) → slice_get s.host.host.queues q ≡ o → option_map_or (λ queue. is_reaped queue.state) (slice_get s.host.host.queues q) false ≡ true
         → option_map head_of_entry (seen_entry (state_of s) q) ≡ option_map head_of_entry (seen_entry (alone s.host s.pages) q)
-    go None at has = absurd (true≢false (sym has ∙ ap (λ (o : Option HostQueue). option_map_or (λ queue. has_cq queue.state) o false) at))
+    go None at has = absurd (true≢false (sym has ∙ ap (λ (o : Option HostQueue). option_map_or (λ queue. is_reaped queue.state) o false) at))
     go (Some h) at has =
         heads_alike (seen_entry (alone s.host s.pages) q) (seen_entry (state_of s) q)
-        (seen_alike s world q h at (sym (ap (λ (o : Option HostQueue). option_map_or (λ queue. has_cq queue.state) o false) at) ∙ has))
+        (seen_alike s world q h at (sym (ap (λ (o : Option HostQueue). option_map_or (λ queue. is_reaped queue.state) o false) at) ∙ has))
 sees_alike s e world none = tt
 
 -- the host and the memory that an accepted call leaves are those that the machine leaves, whatever was forged
@@ -153,6 +154,17 @@ left_due s e (events.Refused why touched) host pages world c f step device = ref
 left_due s e (events.Reserved d) host pages world c f step device = accepted_due s e (events.Reserved d) host pages world c f step device (out_of _ (machine.IsController e) c step.1)
 left_due s e reply host pages world c f step device = accepted_due s e reply host pages world c f step device (out_of _ (machine.IsController e) c step.1)
 
+-- the rings have as many entries as before
+accepted_entries : (s : Sides) (e : Event) (reply : Reply) (host : HostView) (pages : Pages) → machine.IsController e ≡ false → HostStep s.host s.pages e reply host pages
+    → Accepts (alone s.host s.pages) e reply → host.entries ≡ s.host.entries
+accepted_entries s e reply host pages c step ok =
+    ap (λ (v : HostView). v.entries) (leaves_just s.host host s.pages pages e reply c step).0 ∙ (host_leaves (alone s.host s.pages) e reply ok c).entries
+
+entries_kept : (s : Sides) (e : Event) (reply : Reply) (host : HostView) (pages : Pages) → machine.IsController e ≡ false → HostStep s.host s.pages e reply host pages → host.entries ≡ s.host.entries
+entries_kept s e (events.Refused why touched) host pages c step = ap (λ (x : State). x.entries) step.2
+entries_kept s e (events.Reserved d) host pages c step = accepted_entries s e (events.Reserved d) host pages c step (out_of _ (machine.IsController e) c step.1)
+entries_kept s e reply host pages c step = accepted_entries s e reply host pages c step (out_of _ (machine.IsController e) c step.1)
+
 pub host_stepped : (s : Sides) (e : Event) (reply : Reply) (host : HostView) (pages : Pages) → IsWorld s → machine.IsController e ≡ false → forges e ≡ false
     → HostStep s.host s.pages e reply host pages → IsOver host pages → (s.trusted ≡ true → Ties s e reply host pages) → StepsTo s e reply (behind s e reply host pages)
 host_stepped s e reply host pages world c f step over ties = (
@@ -162,9 +174,10 @@ host_stepped s e reply host pages world c f step over ties = (
     tied = OnTrue_from s.trusted _ (λ t.
         let tie = ties t in
         record {
-          rings = tie.rings;
+          queues = subst (λ (n : ℕ). AllQueuesStand n (byte_at pages) zero host.host.queues (heard e reply host s.controller).queues) (sym (entries_kept s e reply host pages c step)) tie.queues;
           walks = subst (λ (k : List FetchedCommand). WalksStand (memory_of pages) k) (sym (commands-heard e reply host s.controller)) tie.walks;
           agree = (step_keeps_agreement (state_of s) e reply (state_of (behind s e reply host pages)) (go s.trusted refl) t).1 (tied_of s world t).agree;
+          serve = step_keeps_serving (state_of s) e reply (state_of (behind s e reply host pages)) (go s.trusted refl) t t (tied_of s world t).agree (tied_of s world t).serve;
         });
   },
 )
@@ -183,11 +196,7 @@ pub record ServesOver (s : Sides) (c : Contents) (pages : Pages) : Type 0 where
 
 -- what is kept speaks of the host's part alone
 sound_alike : (s t : State) → host_part t ≡ host_part s → IsSound s → IsSound t
-sound_alike s t same sound =
-    sound_from_all t (subst HoldsAll (sym same) ((holds_from_sound s sound, taken_from_out s sound.out), asked_from_fit s.host sound.deletions, sound.admin))
-  where
-    HoldsAll : HostPart → Type 0
-    HoldsAll part = Both part × AskedPart part × AdminLives part.host.queues
+sound_alike s t same sound = sound_from_both t (subst Both (sym same) (holds_from_sound s sound, taken_from_out s sound.out))
 
 pub sides_served : (s : Sides) (c : Contents) (pages : Pages) → AreSides s → ServesOver s c pages → AreSides (served s c pages)
 sides_served s c pages sides serves =
@@ -224,20 +233,21 @@ pub serve_refused : (s : Sides) (e : Event) (why : Refusal) (touched : List ℕ)
 serve_refused s e why touched c pages world is_controller same_controller same_pages permits =
     subst (λ (x : Sides). StepsTo s e (events.Refused why touched) x) (sym (ap₂ (λ (k : Contents) (m : Pages). served s k m) same_controller same_pages)) ((proper_serve e is_controller, permits, refl), world)
 
--- An accepted call of the controller: where nothing was forged it leaves the machine's state, and the rings and the walks stand.
+-- An accepted call of the controller: where nothing was forged it leaves the machine's state, and the queues and the walks stand.
 pub served_stepped : (s : Sides) (e : Event) (reply : Reply) (c : Contents) (pages : Pages) → IsWorld s → machine.IsController e ≡ true → ServesOver s c pages
     → ((new : State) → Leaves (state_of s) e reply new ≡ MatchBool (not (forges e) && s.trusted) (new ≡ after (state_of s) e reply) (MatchBool (machine.IsController e) (LeavesByController (state_of s) (after (state_of s) e reply) new) (LeavesByHost (state_of s) (after (state_of s) e reply) new)))
     → Permits (state_of s) e reply
-    → (s.trusted ≡ true → (state_of (served s c pages) ≡ after (state_of s) e reply) × AllRingsStand (byte_at pages) zero s.host.host.queues c.queues × WalksStand (memory_of pages) c.commands)
+    → (s.trusted ≡ true → (state_of (served s c pages) ≡ after (state_of s) e reply) × AllQueuesStand s.host.entries (byte_at pages) zero s.host.host.queues c.queues × WalksStand (memory_of pages) c.commands)
     → StepsTo s e reply (served s c pages)
 served_stepped s e reply c pages world is_controller serves accepted permits exact = (
   step,
   record {
     sides = sides_served s c pages world.sides serves;
     tied = OnTrue_from s.trusted _ (λ t. record {
-      rings = (exact t).1;
+      queues = (exact t).1;
       walks = (exact t).2;
       agree = (step_keeps_agreement (state_of s) e reply (state_of (served s c pages)) step t).1 (tied_of s world t).agree;
+      serve = step_keeps_serving (state_of s) e reply (state_of (served s c pages)) step t t (tied_of s world t).agree (tied_of s world t).serve;
     });
   },
 )

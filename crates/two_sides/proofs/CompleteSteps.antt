@@ -1,7 +1,7 @@
 -- The completion of a command is a step of the machine, and leaves both sides tied.
-use Rattle.std.proofs.Common.{◌≡◌, ◌≢◌, ℕ, ◌<◌, ◌==◌, ◌&&◌, ◌||◌, ◌++◌, Bool, true, false, not, Option, Some, None, Ok, Err, IfSome, IsSome, is_none, is_some, List, [], ◌∷◌, length, find, map, slice_get, if◌then◌else◌, refl, ap, ap₂, sym, ◌∙◌, subst}
+use Rattle.std.proofs.Common.{◌≡◌, ◌≢◌, ℕ, ◌<◌, ◌==◌, ◌&&◌, ◌||◌, ◌++◌, Bool, true, false, not, Option, Some, None, Ok, Err, IfSome, IsSome, is_none, is_some, List, [], ◌∷◌, length, find, map, slice_get, if◌then◌else◌, refl, ap, ap₂, sym, ◌∙◌, subst, arith}
 use Rattle.std.specs.Option.{option_map, option_map_or}
-use Rattle.std.proofs.lemmas.Bool.{true≢false}
+use Rattle.std.proofs.lemmas.Bool.{and_parts, not-false, true≢false}
 use Rattle.admin_commands.specs.Verdicts.{is_absent}
 use Rattle.block_image.specs.Blocks.{block_count}
 use Rattle.controller_core.specs.Answering.{completion_by, page_posted, post_refusal, with_answer}
@@ -16,15 +16,19 @@ use Rattle.entry_codec.specs.Completion.{completion_bytes}
 use Rattle.entry_codec.specs.declared.admin_opcode.TheConstants.{DELETE_IO_SQ}
 use Rattle.entry_codec.specs.declared.completion.ComEntry.{ComEntry}
 use Rattle.entry_codec.specs.declared.status.Status.{Status}
+use Rattle.machine_model.specs.Agreeing.{on_queue}
 use Rattle.machine_model.specs.After.{after_complete, answered, change, deletion_done, final_status, image_completed, on_device, without_job}
 use Rattle.machine_model.specs.Events as events
 use Rattle.machine_model.specs.Memory.{is_in, memory_of}
-use Rattle.machine_model.specs.Refusals.{answers_full, has_cq, is_abort_of, job_at, post_page, refusal_of, slot_offset, waits}
+use Rattle.machine_model.specs.Refusals.{answers_full, in_service, is_abort_of, job_at, post_page, refusal_of, slot_offset, waits}
 use Rattle.machine_model.specs.State.{State, DeviceQueue, HostQueue, Job}
 use Rattle.machine_model.specs.Step.{Permits}
 use Rattle.machine_model.specs.declared.words.Refusal.TheVariants as refusal
 use Rattle.machine_model.proofs.Agreed.{agreed_linked}
-use Rattle.machine_model.proofs.Members.{all_filter}
+use Rattle.machine_model.proofs.Counting.{one}
+use Rattle.machine_model.proofs.Members.{all_filter, in_found}
+use Rattle.machine_model.proofs.Placed.{is_job}
+use Rattle.machine_model.proofs.Totals.{total}
 use Rattle.machine_model.proofs.Parts.{in_store, in_store-with_bytes}
 use Rattle.page_memory.specs.Memory.{Memory}
 use Rattle.page_memory.specs.Pages.{Pages, byte_at}
@@ -34,15 +38,15 @@ use Rattle.queue_pair.proofs.Halves.{completion_there}
 use Rattle.two_sides.specs.Serving.{why_of}
 use Rattle.two_sides.specs.Sides.{Sides, state_of, answer_of, device_of, device_queue_of, device_queues_of, job_of}
 use Rattle.two_sides.specs.Stepping.{LeavesPages, StepsTo, served, completes_step, completes_refuse_alike}
-use Rattle.two_sides.specs.Ties.{IsWorld, ShareQueues, AllRingsStand, RingsStand, WalkStands, WalksStand}
+use Rattle.two_sides.specs.Ties.{IsWorld, ShareQueues, AllQueuesStand, QueueStands, WalkStands, WalksStand, has_ring}
 use Rattle.two_sides.proofs.Answering.{CanAnswer, answer_is, answer_seen, answer_shares, answer_spares_commands, answer_spares_queues, answer_stands, length-completion_bytes, page_is_in, post_room, slot_is_in, slot_written, with_completion}
 use Rattle.two_sides.proofs.Assembling.{ServesOver, serve_refused, served_stepped}
-use Rattle.two_sides.proofs.Changed.{devices_changed, rings_changed}
-use Rattle.two_sides.proofs.Ending.{devices_end_behind, devices_end_elsewhere, devices_ended, devices_of_end, end_fits, ended, rings_ended, share_ended, status_seen}
-use Rattle.two_sides.proofs.Frames.{queue_stays, rings_stay, walks_stay}
+use Rattle.two_sides.proofs.Changed.{devices_changed, stands_changed}
+use Rattle.two_sides.proofs.Ending.{devices_end_behind, devices_end_elsewhere, devices_ended, devices_of_end, end_fits, ended, share_ended, stands_ended, status_seen}
+use Rattle.two_sides.proofs.Frames.{queue_stays, stands_still, walks_stay}
 use Rattle.two_sides.proofs.Jobs.{IsFound, any-map, is_found, job-at, job-found}
-use Rattle.two_sides.proofs.Known.{IsKnown, device_at, known, tied_of}
-use Rattle.two_sides.proofs.Places.{Shows, answers_full_is, has_completion, post_page_is, shows}
+use Rattle.two_sides.proofs.Known.{IsKnown, device_at, known, there_ring, tied_of}
+use Rattle.two_sides.proofs.Places.{Shows, answers_full_is, post_page_is, shows}
 use Rattle.two_sides.proofs.ServeSteps.{either_by, same_pages, with_served}
 use Rattle.two_sides.proofs.Shared.{belled}
 
@@ -53,6 +57,14 @@ there : (s : Sides) → IsWorld s → s.trusted ≡ true → (q cid : ℕ) (k : 
 there s world t q cid k h c found at here =
     ap (λ (o : Option DeviceQueue). option_map_or (λ at. is_absent at.state) o true) (sym (device_at s q h c at here))
     ∙ (agreed_linked (state_of s) (tied_of s world t).agree).jobs_have_queues q cid (ap is_some (job-found s q cid k found))
+
+-- and the host has it in service
+served_there : (s : Sides) → IsWorld s → s.trusted ≡ true → (q cid : ℕ) (k : FetchedCommand) (h : HostQueue) → find (is_command q cid) s.controller.commands ≡ Some k → slice_get s.host.host.queues q ≡ Some h → in_service h.state ≡ true
+served_there s world t q cid k h found at =
+    let named = and_parts (k.q == q) ((entry_of_work k.work).cid == cid) (is_found s world q cid k found).named in
+    let some : 0 < total (on_queue q) (state_of s).device.jobs = omega (arith, ap one named.0, in_found (is_job q cid) (state_of s).device.jobs (job_of k) (job-found s q cid k found) (on_queue q)) in
+    not-false (in_service h.state)
+    (sym (ap (λ (o : Option HostQueue). option_map_or (λ h. not (in_service h.state)) o false) at) ∙ (tied_of s world t).agree.job_service q some)
 
 -- The refusals
 
@@ -93,14 +105,15 @@ complete_refused_alike s q cid world t = go (find (is_command q cid) s.controlle
         let h = found.host in
         let c = found.queue in
         let known = known s world t q h c found.host_here found.queue_here in
-        let lives = has_completion s q h c known (there s world t q cid k h c e found.host_here found.queue_here) in
+        let has = known.fits.half (there s world t q cid k h c e found.host_here found.queue_here) in
+        let used = there_ring h c has in
         let shown = shows s q h c found.host_here found.queue_here in
         let full = is_full c.device.entries c.device.ring.known_head c.device.ring.tail in
         let out = is_none (completion_slot (byte_at s.pages) c.device.cq c.device.ring.tail) in
-        refused_by (state_of s) q cid (job_of k) (waits_among s.controller.commands k) full (job-found s q cid k e) (waits_seen s k) (answers_full_is (state_of s) s q h c shown known lives)
-        (ap (is_in s.pages) (post_page_is (state_of s) s q h c shown known lives) ∙ page_is_in s q h c known lives)
+        refused_by (state_of s) q cid (job_of k) (waits_among s.controller.commands k) full (job-found s q cid k e) (waits_seen s k) (answers_full_is (state_of s) s q h c shown known has)
+        (ap (is_in s.pages) (post_page_is (state_of s) s q h c shown known has) ∙ page_is_in s q h c known used)
         ∙ same_causes (is_none (verdict_of_work k.work)) (waits_among s.controller.commands k) full out
-        (none_some _ (completion_there (byte_at s.pages) c.device.cq s.host.entries c.device.ring.tail (known.placed.completion_in lives) (subst (λ (n : ℕ). c.device.ring.tail < n) known.placed.share.entries known.placed.share.side.tail)))
+        (none_some _ (completion_there (byte_at s.pages) c.device.cq s.host.entries c.device.ring.tail (known.completion_in used) (subst (λ (n : ℕ). c.device.ring.tail < n) known.placed.share.entries known.placed.share.side.tail)))
         ∙ ap (λ (o : Option ControllerQueue). option_map why_of (if is_none (verdict_of_work k.work) then Some because.Walking else if waits_among s.controller.commands k then Some because.Waits else option_map_or (λ queue. post_refusal (byte_at s.pages) queue.device) o None)) (sym found.queue_here)
 
 may_refuse : (s : Sides) (q cid : ℕ) (why : controller.Refusal) → IsWorld s → complete_refusal s.controller (byte_at s.pages) q cid ≡ Some why → Permits (state_of s) (events.Complete q cid) (events.Refused (why_of why) [])
@@ -196,11 +209,14 @@ module _ (s : Sides) (q cid : ℕ) (c : Contents) (pages : Pages) (touched : Lis
     queue_there : is_absent x.state ≡ false
     queue_there = there s world t q cid k found.host x w.found found.host_here w.here
 
-    lives : has_cq found.host.state ≡ true
-    lives = has_completion s q found.host x queue_known queue_there
+    has : x.cq_there ≡ true
+    has = queue_known.fits.half queue_there
+
+    used : has_ring found.host x ≡ true
+    used = there_ring found.host x has
 
     can : CanAnswer s q found.host x e
-    can = record { known = queue_known; there = queue_there; room = room.0; typed = w.typed; fits = record { sct = end_fits (block_count s.controller.image) k.q k.units_done s.controller.image k.work found.fits.1 } }
+    can = record { known = queue_known; there = queue_there; served = served_there s world t q cid k found.host w.found found.host_here; room = room.0; typed = w.typed; fits = record { sct = end_fits (block_count s.controller.image) k.q k.units_done s.controller.image k.work found.fits.1 } }
 
     -- what changes of the machine's queue
     abbrev grown : DeviceQueue → DeviceQueue
@@ -212,15 +228,15 @@ module _ (s : Sides) (q cid : ℕ) (c : Contents) (pages : Pages) (touched : Lis
         (λ h y at here. subst (λ (h : HostQueue). device_queue_of m h.ring (with_answer y) ≡ grown (device_queue_of (byte_at s.pages) h.ring y)) (some_is (sym found.host_here ∙ at))
         (subst (λ (y : ControllerQueue). device_queue_of m found.host.ring (with_answer y) ≡ grown (device_queue_of (byte_at s.pages) found.host.ring y)) (some_is (sym w.here ∙ here))
         (answer_seen s q found.host x e world found.host_here can)))
-        (λ i h y other at here. queue_stays s posted i h y (known s world t i h y at here) (answer_spares_queues s q i found.host h x e world queue_known lives found.host_here at other))
+        (λ i h y other at here. queue_stays s posted i h y (known s world t i h y at here) (answer_spares_queues s q i found.host h x e world queue_known used found.host_here at other))
 
-    rings_posted : AllRingsStand m 0 hs (change q with_answer s.controller.queues)
-    rings_posted =
-        rings_changed (byte_at s.pages) m q with_answer hs s.controller.queues
-        (λ h y at here rings. subst (λ (h : HostQueue). RingsStand m q h (with_answer y)) (some_is (sym found.host_here ∙ at))
-        (subst (λ (y : ControllerQueue). RingsStand m q found.host (with_answer y)) (some_is (sym w.here ∙ here)) (answer_stands s q cid st (dw0_of_work k.work) found.host x world can)))
-        (λ i h y other at here rings. rings_stay s posted i h y (known s world t i h y at here) (answer_spares_queues s q i found.host h x e world queue_known lives found.host_here at other))
-        (tied_of s world t).rings
+    stand_posted : AllQueuesStand s.host.entries m 0 hs (change q with_answer s.controller.queues)
+    stand_posted =
+        stands_changed s.host.entries (byte_at s.pages) m q with_answer hs s.controller.queues
+        (λ h y at here stands. subst (λ (h : HostQueue). QueueStands s.host.entries m q h (with_answer y)) (some_is (sym found.host_here ∙ at))
+        (subst (λ (y : ControllerQueue). QueueStands s.host.entries m q found.host (with_answer y)) (some_is (sym w.here ∙ here)) (answer_stands s q cid st (dw0_of_work k.work) found.host x world can)))
+        (λ i h y other at here stands. stands_still s posted i h y (known s world t i h y at here) (answer_spares_queues s q i found.host h x e world queue_known used found.host_here at other))
+        (tied_of s world t).queues
 
     queues_completed : device_queues_of m hs c.queues ≡ change q grown (devices_of_end k.work (device_of s).queues)
     queues_completed =
@@ -252,32 +268,32 @@ module _ (s : Sides) (q cid : ℕ) (c : Contents) (pages : Pages) (touched : Lis
         ∙ ap (answered q cid st (dw0_of_work k.work)) (ended s q cid k (block_count s.controller.image) found.fits.1)
         ∙ sym (after_complete_is (state_of s) q cid (job_of k) st (job-found s q cid k w.found) (status_seen (state_of s) k (block_count s.controller.image) found.fits.1))
 
-    rings_completed : AllRingsStand (byte_at pages) 0 hs c.queues
-    rings_completed =
-        subst (λ (pages : Pages). AllRingsStand (byte_at pages) 0 hs c.queues) (sym pages_are)
-        (subst (λ (c : Contents). AllRingsStand m 0 hs c.queues) (sym w.leaves)
-        (subst (AllRingsStand m 0 hs) (end-posted k.work q s.controller.queues)
-        (rings_ended m k.work hs (change q with_answer s.controller.queues) rings_posted)))
+    stand_completed : AllQueuesStand s.host.entries (byte_at pages) 0 hs c.queues
+    stand_completed =
+        subst (λ (pages : Pages). AllQueuesStand s.host.entries (byte_at pages) 0 hs c.queues) (sym pages_are)
+        (subst (λ (c : Contents). AllQueuesStand s.host.entries m 0 hs c.queues) (sym w.leaves)
+        (subst (AllQueuesStand s.host.entries m 0 hs) (end-posted k.work q s.controller.queues)
+        (stands_ended s.host.entries m k.work hs (change q with_answer s.controller.queues) stand_posted)))
 
     walks_completed : WalksStand (memory_of pages) c.commands
     walks_completed =
         subst (λ (pages : Pages). WalksStand (memory_of pages) c.commands) (sym pages_are)
         (subst (λ (c : Contents). WalksStand (memory_of posted) c.commands) (sym w.leaves)
         (all_filter (λ (k : FetchedCommand). WalkStands (memory_of posted) k.units_done k.work) (λ (k : FetchedCommand). not (is_command q cid k)) s.controller.commands
-        (walks_stay s posted world t (answer_spares_commands s q found.host x e world queue_known lives found.host_here))))
+        (walks_stay s posted world t (answer_spares_commands s q found.host x e world queue_known used found.host_here))))
 
   permits : Permits (state_of s) (events.Complete q cid) (events.Completed touched)
   permits =
       either_by s.trusted _ _
       (λ t. (
         complete_refused_alike s q cid world t ∙ ap (option_map why_of) free,
-        w.touches ∙ ap (λ (p : ℕ). p ∷ []) (sym (post_page_is (state_of s) s q found.host x (shows s q found.host x found.host_here w.here) (queue_known t) (lives t))),
+        w.touches ∙ ap (λ (p : ℕ). p ∷ []) (sym (post_page_is (state_of s) s q found.host x (shows s q found.host x found.host_here w.here) (queue_known t) (has t))),
       ))
       (λ f. (ap is_some found.host_here, ap length w.touches))
 
   complete_done : IsController c → StepsTo s (events.Complete q cid) (events.Completed touched) (served s c pages)
   complete_done is =
-      served_stepped s (events.Complete q cid) (events.Completed touched) c pages world refl (serves is) (λ new. refl) permits (λ t. (state_completed t, rings_completed t, walks_completed t))
+      served_stepped s (events.Complete q cid) (events.Completed touched) c pages world refl (serves is) (λ new. refl) permits (λ t. (state_completed t, stand_completed t, walks_completed t))
 
 pub complete_steps : completes_step
 complete_steps s q cid (Ok done) c pages touched world is leaves w = complete_done s q cid c pages touched world leaves w.0 w.1 is

@@ -1,6 +1,6 @@
 -- How a command ends: on both sides, and at the machine.
 use Rattle.std.proofs.Common.{◌≡◌, ℕ, zero, ◌<◌, Bool, true, false, not, Option, Some, None, List, map, filter, slice_get, if◌then◌else◌, refl, ap₂, sym, ◌∙◌, arith}
-use Rattle.std.proofs.lemmas.Bool.{eqb-false}
+use Rattle.std.proofs.lemmas.Bool.{eqb-false, true≢false}
 use Rattle.admin_commands.specs.Entries.{named_queue}
 use Rattle.controller_core.specs.Completing.{image_of_end, queues_of_end, status_of_end, without_command, without_submission}
 use Rattle.controller_core.specs.Contents.{FetchedCommand, FitsVerdict, FitsWork, Work, is_deletion}
@@ -20,8 +20,8 @@ use Rattle.machine_model.proofs.DeviceMoves.{cleared}
 use Rattle.machine_model.proofs.Placed.{is_job}
 use Rattle.page_memory.specs.Memory.{Memory}
 use Rattle.two_sides.specs.Sides.{Sides, state_of, device_of, device_queues_of, job_of}
-use Rattle.two_sides.specs.Ties.{AllRingsStand, RingsStand, ShareQueue, ShareQueues}
-use Rattle.two_sides.proofs.Changed.{devices_changed, rings_changed}
+use Rattle.two_sides.specs.Ties.{AllQueuesStand, QueueStands, ShareQueue, ShareQueues}
+use Rattle.two_sides.proofs.Changed.{devices_changed, stands_changed}
 use Rattle.two_sides.proofs.Jobs.{filter-map}
 use Rattle.two_sides.proofs.ServeSteps.{with_served}
 use Rattle.two_sides.proofs.Shared.{belled}
@@ -65,24 +65,29 @@ devices_ended m (Admin entry status dw0) hs cs = go (is_deletion entry status)
     go true = devices_changed m m (named_queue entry) without_submission cleared hs cs (λ h c e f. refl) (λ i h c other e f. refl)
     go false = refl
 
-pub rings_ended : (m : Memory) (work : Work) (hs : List HostQueue) (cs : List ControllerQueue) → AllRingsStand m zero hs cs → AllRingsStand m zero hs (queues_of_end work cs)
-rings_ended m (Io job) hs cs rings = rings
-rings_ended m (Admin entry status dw0) hs cs rings = go (is_deletion entry status)
+pub stands_ended : (n : ℕ) (m : Memory) (work : Work) (hs : List HostQueue) (cs : List ControllerQueue) → AllQueuesStand n m zero hs cs → AllQueuesStand n m zero hs (queues_of_end work cs)
+stands_ended n m (Io job) hs cs all = all
+stands_ended n m (Admin entry status dw0) hs cs all = go (is_deletion entry status)
   where
-    without : (q : ℕ) (h : HostQueue) (c : ControllerQueue) → RingsStand m q h c → RingsStand m q h (without_submission c)
-    without q h c r =
-        record { fetched = r.fetched; rung = r.rung; heard = r.heard; expected = r.expected; phases = r.phases; owned = r.owned; follow = r.follow; drained = r.drained }
+    without : (q : ℕ) (h : HostQueue) (c : ControllerQueue) → QueueStands n m q h c → QueueStands n m q h (without_submission c)
+    without q h c stands =
+        record {
+          halves = record { submission = λ there. absurd (true≢false there); completion = stands.halves.completion };
+          rings = λ has. let r = stands.rings has in
+              record { fetched = r.fetched; rung = r.rung; heard = r.heard; expected = r.expected; phases = r.phases; owned = r.owned; follow = r.follow; drained = r.drained };
+          granted = stands.granted;
+        }
 
-    go : (b : Bool) → AllRingsStand m zero hs (if b then change (named_queue entry) without_submission cs else cs)
-    go true = rings_changed m m (named_queue entry) without_submission hs cs (λ h c e f r. without (named_queue entry) h c r) (λ i h c other e f r. r) rings
-    go false = rings
+    go : (b : Bool) → AllQueuesStand n m zero hs (if b then change (named_queue entry) without_submission cs else cs)
+    go true = stands_changed n m m (named_queue entry) without_submission hs cs (λ h c e f stands. without (named_queue entry) h c stands) (λ i h c other e f stands. stands) all
+    go false = all
 
 pub share_ended : (n : ℕ) (work : Work) (hs : List HostQueue) (cs : List ControllerQueue) → ShareQueues n zero hs cs → ShareQueues n zero hs (queues_of_end work cs)
 share_ended n (Io job) hs cs share = share
 share_ended n (Admin entry status dw0) hs cs share = go (is_deletion entry status)
   where
     one : (i : ℕ) (h : HostQueue) (c : ControllerQueue) → ShareQueue n i h c → ShareQueue n i h (without_submission c)
-    one i h c s = record { number = s.number; entries = s.entries; side = s.side; submission = s.submission; completion = s.completion }
+    one i h c s = record { number = s.number; entries = s.entries; side = s.side }
 
     go : (b : Bool) → ShareQueues n zero hs (if b then change (named_queue entry) without_submission cs else cs)
     go true = belled n zero (named_queue entry) without_submission hs cs one share

@@ -19,9 +19,9 @@ use Rattle.queue_pair.proofs.Halves.{submission_there}
 use Rattle.queue_pair.proofs.Lists.{entries_pop}
 use Rattle.queue_pair.proofs.Order.{next_below, distance_below, distance_none, distance_same, distance_grows, distance_shrinks, distance_parts, in_range_below, in_range_near}
 use Rattle.two_sides.specs.Sides.{Sides, completions_between, device_queue_of, present, unfetched_between}
-use Rattle.two_sides.specs.Ties.{HeadsFollow, RingsStand, ShareQueue}
-use Rattle.two_sides.proofs.Known.{IsKnown}
-use Rattle.two_sides.proofs.Places.{has_submission, in_ring}
+use Rattle.two_sides.specs.Ties.{HeadsFollow, QueueStands, RingsStand, ShareQueue}
+use Rattle.two_sides.proofs.Known.{IsKnown, queue_ring}
+use Rattle.two_sides.proofs.Places.{in_ring}
 
 -- Positions behind a take
 
@@ -78,16 +78,20 @@ not_absent Absent e = absurd (true≢false (sym e))
 not_absent Live e = refl
 not_absent Stopping e = refl
 
+-- its rings are in use, and stand
+rings_of : (s : Sides) (q : ℕ) (h : HostQueue) (c : ControllerQueue) → CanTake s q h c → RingsStand (byte_at s.pages) q h c
+rings_of s q h c can = can.known.rings (queue_ring s q h c can.known (not_absent c.state can.live))
+
 some_left : (s : Sides) (q : ℕ) (h : HostQueue) (c : ControllerQueue) → CanTake s q h c → c.device.ring.head ≢ h.ring.tail
 some_left s q h c can =
     let side = can.known.placed.share.side in
-    not_taken c.device.entries c.device.ring.head c.device.ring.bell h.ring.tail side.head side.bell can.known.rings.rung can.rung
+    not_taken c.device.entries c.device.ring.head c.device.ring.bell h.ring.tail side.head side.bell (rings_of s q h c can).rung can.rung
 
 pub entry_there : (s : Sides) (q : ℕ) (h : HostQueue) (c : ControllerQueue) → CanTake s q h c → (e : SubEntry) × (entry_at (byte_at s.pages) c.device.sq c.device.ring.head ≡ Some e)
 entry_there s q h c can =
     let placed = can.known.placed in
     go (submission_slot (byte_at s.pages) c.device.sq c.device.ring.head) refl
-    (submission_there (byte_at s.pages) c.device.sq s.host.entries c.device.ring.head (placed.submission_in (has_submission s q h c can.known (not_absent c.state can.live))) (omega (arith, placed.share.entries, placed.share.side.head)))
+    (submission_there (byte_at s.pages) c.device.sq s.host.entries c.device.ring.head (can.known.submission_in (not_absent c.state can.live)) (omega (arith, placed.share.entries, placed.share.side.head)))
   where
     go : (o : Option (List ℕ)) → submission_slot (byte_at s.pages) c.device.sq c.device.ring.head ≡ o → IsSome o → (e : SubEntry) × (entry_at (byte_at s.pages) c.device.sq c.device.ring.head ≡ Some e)
     go None e some = cc
@@ -121,9 +125,9 @@ taken_seen s q h c can =
     by false us vs k l b e f = ap₂ (λ (xs : List SubEntry) (r : ℕ). record (device_queue_of (byte_at s.pages) h.ring c) { unfetched = xs; rung = r }) e f
 
 -- and its rings stand
-pub taken_stands : (s : Sides) (q : ℕ) (h : HostQueue) (c : ControllerQueue) → CanTake s q h c → RingsStand (byte_at s.pages) q h (with_taken c)
-taken_stands s q h c can =
-    let old = can.known.rings in
+taken_rings : (s : Sides) (q : ℕ) (h : HostQueue) (c : ControllerQueue) → CanTake s q h c → RingsStand (byte_at s.pages) q h (with_taken c)
+taken_rings s q h c can =
+    let old = rings_of s q h c can in
     let side = can.known.placed.share.side in
     let n = c.device.entries in
     let ring = c.device.ring in
@@ -136,12 +140,16 @@ taken_stands s q h c can =
       expected = old.expected;
       phases = old.phases;
       owned = old.owned;
-      follow = λ x. heads_on n h.ring.known_head ring.head (completions_between (byte_at s.pages) h.ring c.device) is.known_head side.head
-          (not_last n h.ring.known_head ring.head h.ring.tail is.known_head side.head is.tail old.fetched left) (old.follow x);
+      follow = heads_on n h.ring.known_head ring.head (completions_between (byte_at s.pages) h.ring c.device) is.known_head side.head
+          (not_last n h.ring.known_head ring.head h.ring.tail is.known_head side.head is.tail old.fetched left) old.follow;
       drained = old.drained;
     }
 
--- Whatever was forged, the halves lie where they lay.
+pub taken_stands : (s : Sides) (q : ℕ) (h : HostQueue) (c : ControllerQueue) → CanTake s q h c → QueueStands s.host.entries (byte_at s.pages) q h (with_taken c)
+taken_stands s q h c can =
+    record { halves = record { submission = can.known.submission; completion = can.known.completion }; rings = λ has. taken_rings s q h c can; granted = can.known.granted }
+
+-- Whatever was forged, both sides have the queue.
 pub taken_shares : (n i : ℕ) (h : HostQueue) (c : ControllerQueue) → ShareQueue n i h c → ShareQueue n i h (with_taken c)
 taken_shares n i h c share =
     record {
@@ -155,6 +163,4 @@ taken_shares n i h c share =
         tail = share.side.tail;
         known_head = share.side.known_head;
       };
-      submission = share.submission;
-      completion = share.completion;
     }

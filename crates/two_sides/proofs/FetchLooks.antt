@@ -30,7 +30,7 @@ use Rattle.two_sides.proofs.Answering.{byte_in_page}
 use Rattle.two_sides.proofs.EntryTaking.{CanTake, entry_there, entries_first, not_absent}
 use Rattle.two_sides.proofs.Jobs.{job-at}
 use Rattle.two_sides.proofs.Known.{host_at, known}
-use Rattle.two_sides.proofs.Places.{Shows, fetch_page_is, has_submission, shows}
+use Rattle.two_sides.proofs.Places.{Shows, fetch_page_is, shows}
 
 -- What is looked at, whatever was forged
 
@@ -113,7 +113,7 @@ seen s q c e world t l =
       page = page;
       inside = ap (is_in s.pages) page ∙ subst (λ (p : ℕ). is_in s.pages p ≡ true) head
           (byte_in_page s.pages (4096 * c.device.sq + 64 * c.device.ring.head)
-          ((placed.submission_in (has_submission s q h c can.known (not_absent c.state l.live))).there (64 * c.device.ring.head) (omega (arith, placed.share.entries, placed.share.side.head))));
+          ((can.known.submission_in (not_absent c.state l.live)).there (64 * c.device.ring.head) (omega (arith, placed.share.entries, placed.share.side.head))));
       unknown = mapped (find (is_command q e.cid) s.controller.commands) ∙ sym (ap is_some (job-at s q e.cid)) ∙ alone;
       alone = ap (λ (o : Option SubEntry). option_map_or (λ e. is_some (job_at (state_of s) q e.cid)) o false) next ∙ alone;
     }

@@ -37,14 +37,15 @@ use Rattle.queue_pair.specs.Slots.{is_full}
 use Rattle.two_sides.specs.Serving.{why_of}
 use Rattle.two_sides.specs.Sides.{Sides, state_of, job_of}
 use Rattle.two_sides.specs.Stepping.{LeavesPages, StepsTo, fetches_step, served}
-use Rattle.two_sides.specs.Ties.{AllRingsStand, IsWorld, ShareQueues, WalkStands, WalksStand}
+use Rattle.two_sides.specs.Ties.{AllQueuesStand, IsWorld, ShareQueues, WalkStands, WalksStand}
 use Rattle.two_sides.proofs.Answering.{answer_shares, length-completion_bytes, post_room, slot_is_in, slot_written}
 use Rattle.two_sides.proofs.Assembling.{ServesOver, serve_refused, served_stepped}
-use Rattle.two_sides.proofs.Changed.{devices_changed, rings_changed}
+use Rattle.two_sides.proofs.Changed.{devices_changed, stands_changed}
 use Rattle.two_sides.proofs.EntryTaking.{CanTake, taken_seen, taken_shares, taken_stands}
 use Rattle.two_sides.proofs.FetchLooks.{IsLooked, IsSeen, accepts, looked, looks, page_of_head, refuse_alike, seen}
 use Rattle.two_sides.proofs.Known.{host_at}
-use Rattle.two_sides.proofs.Managing.{acted, managed_is, taken_view, verdict_rings, verdict_shares, verdict_walks}
+use Rattle.two_sides.proofs.Managing.{Suits, acted, managed_is, taken_view, verdict_shares, verdict_stand, verdict_walks}
+use Rattle.two_sides.proofs.Suited.{suited}
 use Rattle.two_sides.proofs.Places.{map-append}
 use Rattle.two_sides.proofs.ServeSteps.{either_by, same_pages}
 use Rattle.two_sides.proofs.Shared.{belled}
@@ -129,7 +130,7 @@ after_by u q e next alone = rw (alone, next) refl
 
 -- An entry was taken: where nothing was forged, the queue had it, and its identifier was new.
 fetch_stepped : (s : Sides) (q : ℕ) (c : ControllerQueue) (e : SubEntry) (new : Contents) (pages : Pages) (touched : List ℕ) → IsWorld s → IsLooked s q c e → ServesOver s new pages → length touched < 3
-    → (s.trusted ≡ true → IsSeen s q c e → (touched ≡ page_of_head c ∷ []) × (state_of (served s new pages) ≡ after_fetch q (state_of s)) × AllRingsStand (byte_at pages) zero s.host.host.queues new.queues × WalksStand (memory_of pages) new.commands)
+    → (s.trusted ≡ true → IsSeen s q c e → (touched ≡ page_of_head c ∷ []) × (state_of (served s new pages) ≡ after_fetch q (state_of s)) × AllQueuesStand s.host.entries (byte_at pages) zero s.host.host.queues new.queues × WalksStand (memory_of pages) new.commands)
     → StepsTo s (events.Fetch q) (events.Fetched e.cid touched) (served s new pages)
 fetch_stepped s q c e new pages touched world l serves few exact =
     let (h, found) = host_at s world q c l.here in
@@ -156,10 +157,11 @@ taken_state s q c e l is =
     (devices_changed (byte_at s.pages) (byte_at s.pages) q with_taken (λ (at : DeviceQueue). record at { unfetched = drop 1 at.unfetched; rung = at.rung - 1 }) s.host.host.queues s.controller.queues
     (λ h x at here. taken_seen s q h x (can_take s q c e l is h x at here)) (λ i h x far at here. refl))
 
-taken_rings : (s : Sides) (q : ℕ) (c : ControllerQueue) (e : SubEntry) → IsLooked s q c e → IsSeen s q c e → AllRingsStand (byte_at s.pages) zero s.host.host.queues s.controller.queues
-    → AllRingsStand (byte_at s.pages) zero s.host.host.queues (change q with_taken s.controller.queues)
-taken_rings s q c e l is rings =
-    rings_changed (byte_at s.pages) (byte_at s.pages) q with_taken s.host.host.queues s.controller.queues (λ h x at here r. taken_stands s q h x (can_take s q c e l is h x at here)) (λ i h x far at here r. r) rings
+taken_stand : (s : Sides) (q : ℕ) (c : ControllerQueue) (e : SubEntry) → IsLooked s q c e → IsSeen s q c e → AllQueuesStand s.host.entries (byte_at s.pages) zero s.host.host.queues s.controller.queues
+    → AllQueuesStand s.host.entries (byte_at s.pages) zero s.host.host.queues (change q with_taken s.controller.queues)
+taken_stand s q c e l is all =
+    stands_changed s.host.entries (byte_at s.pages) (byte_at s.pages) q with_taken s.host.host.queues s.controller.queues
+    (λ h x at here r. taken_stands s q h x (can_take s q c e l is h x at here)) (λ i h x far at here r. r) all
 
 -- An entry of an I/O queue
 
@@ -198,26 +200,30 @@ begins s q c e job world l is io b =
       begun_is s q e job b ∙ ap (after.begun q e) (taken_state s q c e l seen)
           ∙ ap (λ (z : Bool). if z then after.managed e (after.taken_off 0 (state_of s)) else after.begun q e (after.taken_off q (state_of s))) (sym io)
           ∙ sym (after_by (state_of s) q e seen.next seen.alone),
-      taken_rings s q c e l seen tied.rings,
+      taken_stand s q c e l seen tied.queues,
       begins_walk (memory_of s.pages) q s.controller.image e job s.controller.commands b tied.walks,
     ))
 
 -- An entry of queue 0
 
-manages : (s : Sides) (c : ControllerQueue) (e : SubEntry) → IsWorld s → IsLooked s zero c e → IsController (managed e s.controller)
-    → StepsTo s (events.Fetch zero) (events.Fetched e.cid (page_of_head c ∷ [])) (served s (managed e s.controller) s.pages)
+manages : (s : Sides) (c : ControllerQueue) (e : SubEntry) → IsWorld s → IsLooked s zero c e → IsController (managed (length s.pages) e s.controller)
+    → StepsTo s (events.Fetch zero) (events.Fetched e.cid (page_of_head c ∷ [])) (served s (managed (length s.pages) e s.controller) s.pages)
 manages s c e world l is =
-    let v = verdict_for s.controller e in
+    let many = length s.pages in
+    let v = verdict_for many s.controller e in
     let hosts = s.host.host.queues in
     let m = memory_of s.pages in
     let queues = change zero with_taken s.controller.queues in
     let share = taken_share s zero world in
-    fetch_stepped s zero c e (managed e s.controller) s.pages (page_of_head c ∷ []) world l (serves_there s (managed e s.controller) world is (verdict_shares v s.host.entries hosts queues share) refl) (omega arith)
-    (λ t seen. let tied = OnTrue_at t world.tied in (
+    let same = taken_view many s.controller.queues s.controller.commands zero e in
+    fetch_stepped s zero c e (managed many e s.controller) s.pages (page_of_head c ∷ []) world l (serves_there s (managed many e s.controller) world is (verdict_shares v s.host.entries hosts queues share) refl) (omega arith)
+    (λ t seen. let tied = OnTrue_at t world.tied in
+    let suits = suited s world t e seen.next in (
       refl,
-      ap (λ (view : DeviceView). state_of (acted e (decision e view) (taken zero s))) (sym (taken_view s.controller.queues s.controller.commands zero e))
-          ∙ managed_is (taken zero s) e share world.sides.controller.commands.differ ∙ ap (after.managed e) (taken_state s zero c e l seen) ∙ sym (after_by (state_of s) zero e seen.next seen.alone),
-      verdict_rings v (byte_at s.pages) hosts queues (taken_rings s zero c e l seen tied.rings),
+      ap (λ (view : DeviceView). state_of (acted e (decision e view) (taken zero s))) (sym same)
+          ∙ managed_is (taken zero s) e share (subst (λ (view : DeviceView). Suits (taken zero s) (decision e view)) (sym same) suits)
+          ∙ ap (after.managed e) (taken_state s zero c e l seen) ∙ sym (after_by (state_of s) zero e seen.next seen.alone),
+      verdict_stand v (taken zero s) suits share (taken_stand s zero c e l seen tied.queues),
       all-append (λ (k : FetchedCommand). WalkStands m k.units_done k.work) (commands_after e.cid v s.controller.commands) (command_of zero (admin_work e v)) (verdict_walks v m e.cid s.controller.commands tied.walks) tt,
     ))
 
@@ -252,18 +258,18 @@ answers s q c e new pages looked touched world l is leaves knows room one a imag
 
 -- All of them
 
-takes_in : (s : Sides) (q : ℕ) (c : ControllerQueue) (e : SubEntry) (new : Contents) → IsWorld s → IsLooked s q c e → IsController new → (b : Bool) → (q == 0) ≡ b → TakesIn b s.controller q e new
+takes_in : (s : Sides) (q : ℕ) (c : ControllerQueue) (e : SubEntry) (new : Contents) → IsWorld s → IsLooked s q c e → IsController new → (b : Bool) → (q == 0) ≡ b → TakesIn b s.controller (length s.pages) q e new
     → StepsTo s (events.Fetch q) (events.Fetched e.cid (page_of_head c ∷ [])) (served s new s.pages)
 takes_in s q c e new world l is false io begin =
     subst (λ (x : Contents). StepsTo s (events.Fetch q) (events.Fetched e.cid (page_of_head c ∷ [])) (served s x s.pages)) (sym begin.leaves)
     (begins s q c e begin.job world l (subst IsController begin.leaves is) io begin.is)
 takes_in s q c e new world l is true z done =
     subst (λ (x : Contents). StepsTo s (events.Fetch q) (events.Fetched e.cid (page_of_head c ∷ [])) (served s x s.pages)) (sym done)
-    (subst (λ (k : ℕ). IsLooked s k c e → StepsTo s (events.Fetch k) (events.Fetched e.cid (page_of_head c ∷ [])) (served s (managed e s.controller) s.pages)) (sym (eqb-true q 0 z))
+    (subst (λ (k : ℕ). IsLooked s k c e → StepsTo s (events.Fetch k) (events.Fetched e.cid (page_of_head c ∷ [])) (served s (managed (length s.pages) e s.controller) s.pages)) (sym (eqb-true q 0 z))
     (λ l. manages s c e world l (subst IsController done is)) l)
 
 taken_up : (s : Sides) (q : ℕ) (c : ControllerQueue) (e : SubEntry) (new : Contents) (pages : Pages) (looked touched : List ℕ) → IsWorld s → IsLooked s q c e → IsController new → LeavesPages s.pages pages
-    → looked ≡ page_of_head c ∷ [] → entry_refusal s.controller (byte_at s.pages) q e ≡ None → (b : Bool) → is_known s.controller q e ≡ b → Takes b s.controller q e (byte_at s.pages) looked new (byte_at pages) touched
+    → looked ≡ page_of_head c ∷ [] → entry_refusal s.controller (byte_at s.pages) q e ≡ None → (b : Bool) → is_known s.controller q e ≡ b → Takes b s.controller (length s.pages) q e (byte_at s.pages) looked new (byte_at pages) touched
     → StepsTo s (events.Fetch q) (events.Fetched e.cid touched) (served s new pages)
 taken_up s q c e new pages looked touched world l is leaves one room true knows took = answers s q c e new pages looked touched world l is leaves knows room one took.0 took.2
 taken_up s q c e new pages looked touched world l is leaves one room false unknown took =

@@ -1,20 +1,23 @@
 -- An entry is forged in a completion slot that the host still has.
 use Rattle.std.proofs.Common.{◌≡◌, ℕ, ◌+◌, ◌*◌, ◌/◌, ◌<◌, nat_le, true, false, Option, Some, None, IsSome, List, length, map, is_some, slice_get, refl, ap, sym, ◌∙◌, arith}
-use Rattle.std.proofs.lemmas.Bool.{not-false}
+use Rattle.std.specs.Option.{option_map_or}
+use Rattle.std.proofs.lemmas.Bool.{not-false, true≢false}
 use Rattle.std.proofs.lemmas.Bool.Decides.{nat_tests}
-use Rattle.controller_core.specs.declared.queue.ControllerQueue.{ControllerQueue}
 use Rattle.host_core.proofs.Pages.{among-from}
 use Rattle.host_core.proofs.Slots.{page-written}
 use Rattle.machine_model.specs.After.{after, on_memory}
 use Rattle.machine_model.specs.Events as events
-use Rattle.machine_model.specs.Refusals.{has_cq, host_queue, refusal_of, slot_offset, slot_page}
+use Rattle.machine_model.specs.Refusals.{has_cq, host_queue, is_reaped, refusal_of, slot_offset, slot_page}
+use Rattle.machine_model.specs.Always.{HasHalves}
 use Rattle.machine_model.specs.State.{State, HostQueue}
+use Rattle.machine_model.specs.declared.words.HostState.{HostState}
+use Rattle.machine_model.specs.declared.words.HostState.TheVariants as states
 use Rattle.machine_model.specs.Step.{host_part}
 use Rattle.machine_model.proofs.Counting.{held_once}
-use Rattle.machine_model.proofs.Moves.{queue_found}
+use Rattle.machine_model.proofs.Members.{all_at}
 use Rattle.machine_model.proofs.Parts.{in_store-with_bytes}
 use Rattle.machine_model.proofs.Refused.{unrefused}
-use Rattle.page_ledger.specs.Owners.{is_among}
+use Rattle.page_ledger.specs.Owners.{is_among, pages_from}
 use Rattle.page_memory.specs.Memory.{written}
 use Rattle.page_memory.specs.Pages.{Pages, byte_at, page_at, with_page_bytes}
 use Rattle.page_memory.specs.declared.page.Half.TheVariants.{Completion}
@@ -22,35 +25,43 @@ use Rattle.queue_pair.specs.Memory.{completion_page, completion_place, half_page
 use Rattle.queue_pair.proofs.Halves.{completion_there}
 use Rattle.two_sides.specs.Sides.{Sides, state_of}
 use Rattle.two_sides.specs.Stepping.{LeavesPages, completion_slots_are_in, forged, forged_entries_step, served}
-use Rattle.two_sides.specs.Ties.{AreSides, IsWorld}
+use Rattle.two_sides.specs.Ties.{AreSides, IsWorld, first_completion_page}
 use Rattle.two_sides.proofs.Assembling.{sides_served}
 use Rattle.two_sides.proofs.Forged.{length-device}
-use Rattle.two_sides.proofs.Known.{IsPlaced, placed}
+use Rattle.two_sides.proofs.Known.{half_in, half_lies}
 use Rattle.two_sides.proofs.Owning.{queue_page_in}
 use Rattle.two_sides.proofs.Places.{completion_slot_page}
 use Rattle.two_sides.proofs.Refusing.{into}
 
--- A slot that may be forged: the host has the completion half, and the slot is one of it.
-record IsSlot (s : Sides) (q slot : ℕ) (h : HostQueue) (c : ControllerQueue) : Type 0 where
-  found : slice_get s.host.host.queues q ≡ Some h
-  has : has_cq h.state ≡ true
+-- A slot that may be forged: the host has the completion half, whose pages lie together, and the slot is one of it.
+record IsSlot (s : Sides) (slot : ℕ) (h : HostQueue) : Type 0 where
   below : slot < s.host.entries
-  placed : IsPlaced s q h c
+  half : h.cq_pages ≡ pages_from (first_completion_page h) (half_pages s.host.entries Completion)
 
-slot_of : (s : Sides) (q slot : ℕ) (bytes : List ℕ) (c : ControllerQueue) → IsWorld s → refusal_of (state_of s) (events.Forge q slot bytes) ≡ None → slice_get s.controller.queues q ≡ Some c
-    → (h : HostQueue) × IsSlot s q slot h c
-slot_of s q slot bytes c world none at =
+reaped_has_cq : (st : HostState) → is_reaped st ≡ true → has_cq st ≡ true
+reaped_has_cq states.Live e = refl
+reaped_has_cq (states.Deleting noted) e = refl
+reaped_has_cq states.Retired e = refl
+reaped_has_cq st e = absurd (true≢false (sym e))
+
+slot_of : (s : Sides) (q slot : ℕ) (bytes : List ℕ) (h : HostQueue) → IsWorld s → refusal_of (state_of s) (events.Forge q slot bytes) ≡ None → slice_get s.host.host.queues q ≡ Some h → IsSlot s slot h
+slot_of s q slot bytes h world none at =
     let causes = unrefused (state_of s) (events.Forge q slot bytes) none in
-    let its = queue_found has_cq (state_of s) q (not-false _ causes.0) in
-    (its.0, record { found = its.1; has = its.2; below = within s.host.entries slot causes.1.0; placed = placed s world q its.0 c its.1 at })
+    let reaped : is_reaped h.state ≡ true = sym (ap (λ (o : Option HostQueue). option_map_or (λ queue. is_reaped queue.state) o false) at) ∙ not-false _ causes.0 in
+    let below = within s.host.entries slot causes.1.0 in
+    record {
+      below = below;
+      half = half_lies s.host.entries h (omega (arith, below)) (all_at (HasHalves s.host.entries) s.host.host.queues q h at world.sides.provided.queues) (reaped_has_cq h.state reaped);
+    }
   where
     within : (n slot : ℕ) → nat_le n slot ≡ false → slot < n
     within n slot l = grind (arith, nat_tests)
 
 pub slots_are_in : completion_slots_are_in
-slots_are_in s q slot bytes c world none at out =
-    let its = (slot_of s q slot bytes c world none at).1 in
-    missing _ (completion_there (byte_at s.pages) c.device.cq s.host.entries slot (its.placed.completion_in its.has) its.below) out
+slots_are_in s q slot bytes h world none at out =
+    let is = slot_of s q slot bytes h world none at in
+    missing _ (completion_there (byte_at s.pages) (first_completion_page h) s.host.entries slot
+    (half_in s world q h at h.cq_pages (λ p l. omega (arith, l)) (first_completion_page h) (half_pages s.host.entries Completion) is.half) is.below) out
   where
     missing : {X : Type 0} (o : Option X) → IsSome o → o ≡ None → ⊥
     missing None there e = cc
@@ -58,11 +69,12 @@ slots_are_in s q slot bytes c world none at out =
 
 -- Its page is in, and the bytes are written there.
 
-page_is_in : (s : Sides) (q slot : ℕ) (h : HostQueue) (c : ControllerQueue) → IsWorld s → IsSlot s q slot h c → IsSome (page_at s.pages (completion_page c.device.cq slot))
-page_is_in s q slot h c world is =
-    let own : is_among h.cq_pages (completion_page c.device.cq slot) ≡ true =
-    ap (λ (ps : List ℕ). is_among ps (completion_page c.device.cq slot)) (is.placed.completion is.has) ∙ among-from c.device.cq (half_pages s.host.entries Completion) (slot / 256) (page_below s.host.entries slot is.below) in
-    queue_page_in s world.sides q h (completion_page c.device.cq slot) is.found (omega (arith, held_once (completion_page c.device.cq slot) h.cq_pages own))
+page_is_in : (s : Sides) (q slot : ℕ) (h : HostQueue) → IsWorld s → slice_get s.host.host.queues q ≡ Some h → IsSlot s slot h → IsSome (page_at s.pages (completion_page (first_completion_page h) slot))
+page_is_in s q slot h world at is =
+    let first = first_completion_page h in
+    let own : is_among h.cq_pages (completion_page first slot) ≡ true =
+    ap (λ (ps : List ℕ). is_among ps (completion_page first slot)) is.half ∙ among-from first (half_pages s.host.entries Completion) (slot / 256) (page_below s.host.entries slot is.below) in
+    queue_page_in s world.sides q h (completion_page first slot) at (omega (arith, held_once (completion_page first slot) h.cq_pages own))
   where
     page_below : (n slot : ℕ) → slot < n → slot / 256 < half_pages n Completion
     page_below n slot l = omega arith
@@ -70,16 +82,17 @@ page_is_in s q slot h c world is =
 slot_place : (cq slot : ℕ) → completion_place cq slot ≡ 4096 * completion_page cq slot + slot_offset 16 slot
 slot_place cq slot = omega arith
 
-pages_forged : (s : Sides) (q slot : ℕ) (bytes : List ℕ) (h : HostQueue) (c : ControllerQueue) (pages : Pages) → IsWorld s → IsSlot s q slot h c → length bytes ≡ 16 → LeavesPages s.pages pages
-    → byte_at pages ≡ written (byte_at s.pages) (completion_place c.device.cq slot) bytes → pages ≡ with_page_bytes s.pages (slot_page h.cq_pages 16 slot) (slot_offset 16 slot) bytes
-pages_forged s q slot bytes h c pages world is count leaves wrote =
-    let page : slot_page h.cq_pages 16 slot ≡ completion_page c.device.cq slot = ap (λ (ps : List ℕ). slot_page ps 16 slot) (is.placed.completion is.has) ∙ completion_slot_page c.device.cq s.host.entries slot is.below in
-    page-written s.pages pages (completion_page c.device.cq slot) (slot_offset 16 slot) bytes (page_is_in s q slot h c world is) (omega (arith, count)) world.sides.over.pool leaves.whole leaves.count
-    (wrote ∙ ap (λ (place : ℕ). written (byte_at s.pages) place bytes) (slot_place c.device.cq slot))
+pages_forged : (s : Sides) (q slot : ℕ) (bytes : List ℕ) (h : HostQueue) (pages : Pages) → IsWorld s → slice_get s.host.host.queues q ≡ Some h → IsSlot s slot h → length bytes ≡ 16 → LeavesPages s.pages pages
+    → byte_at pages ≡ written (byte_at s.pages) (completion_place (first_completion_page h) slot) bytes → pages ≡ with_page_bytes s.pages (slot_page h.cq_pages 16 slot) (slot_offset 16 slot) bytes
+pages_forged s q slot bytes h pages world at is count leaves wrote =
+    let first = first_completion_page h in
+    let page : slot_page h.cq_pages 16 slot ≡ completion_page first slot = ap (λ (ps : List ℕ). slot_page ps 16 slot) is.half ∙ completion_slot_page first s.host.entries slot is.below in
+    page-written s.pages pages (completion_page first slot) (slot_offset 16 slot) bytes (page_is_in s q slot h world at is) (omega (arith, count)) world.sides.over.pool leaves.whole leaves.count
+    (wrote ∙ ap (λ (place : ℕ). written (byte_at s.pages) place bytes) (slot_place first slot))
     ∙ ap (λ (p : ℕ). with_page_bytes s.pages p (slot_offset 16 slot) bytes) (sym page)
 
 pub forged_stepped : forged_entries_step
-forged_stepped s q slot bytes c pages world count none at leaves wrote = (
+forged_stepped s q slot bytes h pages world count none at leaves wrote = (
   (
     count,
     into _ s.trusted false refl (none, tt),
@@ -96,24 +109,21 @@ forged_stepped s q slot bytes c pages world count none at leaves wrote = (
   record { sides = record { over = sides.over; sound = sides.sound; kept = sides.kept; provided = sides.provided; controller = sides.controller; queues = sides.queues }; tied = tt },
 )
   where
-    its : (h : HostQueue) × IsSlot s q slot h c
-    its = slot_of s q slot bytes c world none at
-
-    memory : pages ≡ with_page_bytes s.pages (slot_page its.0.cq_pages 16 slot) (slot_offset 16 slot) bytes
-    memory = pages_forged s q slot bytes its.0 c pages world its.1 count leaves wrote
+    memory : pages ≡ with_page_bytes s.pages (slot_page h.cq_pages 16 slot) (slot_offset 16 slot) bytes
+    memory = pages_forged s q slot bytes h pages world at (slot_of s q slot bytes h world none at) count leaves wrote
 
     forges_at : (u : State) (h : HostQueue) → host_queue u q ≡ Some h
         → after u (events.Forge q slot bytes) events.Accepted ≡ record (on_memory (λ m. with_page_bytes m (slot_page h.cq_pages 16 slot) (slot_offset 16 slot) bytes) u) { trusted = false }
     forges_at u h e = rw e refl
 
     due : after (state_of s) (events.Forge q slot bytes) events.Accepted
-        ≡ record (on_memory (λ m. with_page_bytes m (slot_page its.0.cq_pages 16 slot) (slot_offset 16 slot) bytes) (state_of s)) { trusted = false }
-    due = forges_at (state_of s) its.0 its.1.found
+        ≡ record (on_memory (λ m. with_page_bytes m (slot_page h.cq_pages 16 slot) (slot_offset 16 slot) bytes) (state_of s)) { trusted = false }
+    due = forges_at (state_of s) h at
 
     sides : AreSides (served s s.controller pages)
     sides = sides_served s s.controller pages world.sides (record {
       leaves = leaves;
-      in_store = ap (λ (m : Pages). map is_some m) memory ∙ in_store-with_bytes s.pages (slot_page its.0.cq_pages 16 slot) (slot_offset 16 slot) bytes;
+      in_store = ap (λ (m : Pages). map is_some m) memory ∙ in_store-with_bytes s.pages (slot_page h.cq_pages 16 slot) (slot_offset 16 slot) bytes;
       controller = world.sides.controller;
       queues = world.sides.queues;
       image = refl;

@@ -12,6 +12,7 @@ use Rattle.two_sides.specs.Sides.{Sides}
 use Rattle.two_sides.specs.Stepping.{StepsTo, hosts_step}
 use Rattle.two_sides.specs.Ties.{IsWorld}
 use Rattle.two_sides.proofs.Assembling.{host_stepped}
+use Rattle.two_sides.proofs.Creating.{create_cq_ties, create_sq_ties}
 use Rattle.two_sides.proofs.Posting.{abort_ties, delete_cq_ties, delete_sq_ties, submit_ties}
 use Rattle.two_sides.proofs.Quiet.{cancel_ties, collect_ties, release_ties, reserve_ties, ring_ties}
 use Rattle.two_sides.proofs.Reaps.{reap_refused, reap_ties}
@@ -38,6 +39,8 @@ hosts_stepped s (events.Release fin) events.Accepted host pages world c f step o
 hosts_stepped s (events.Abort q cid) (events.Sent id) host pages world c f step over = host_stepped s _ _ host pages world c f step over (λ t. abort_ties s q cid id host pages world t step)
 hosts_stepped s (events.DeleteSq q) (events.Sent id) host pages world c f step over = host_stepped s _ _ host pages world c f step over (λ t. delete_sq_ties s q id host pages world t step)
 hosts_stepped s (events.DeleteCq q) (events.Sent id) host pages world c f step over = host_stepped s _ _ host pages world c f step over (λ t. delete_cq_ties s q id host pages world t step)
+hosts_stepped s (events.CreateCq q) (events.Sent id) host pages world c f step over = host_stepped s _ _ host pages world c f step over (λ t. create_cq_ties s q id host pages world t step)
+hosts_stepped s (events.CreateSq q) (events.Sent id) host pages world c f step over = host_stepped s _ _ host pages world c f step over (λ t. create_sq_ties s q id host pages world t step)
 hosts_stepped s (events.Retire q) events.Accepted host pages world c f step over = host_stepped s _ _ host pages world c f step over (λ t. retire_ties s q host pages world t step)
 hosts_stepped s (events.Forge q slot bytes) reply host pages world c f step over = absurd (true≢false f)
 hosts_stepped s (events.Fetch q) reply host pages world c f step over = absurd (true≢false c)

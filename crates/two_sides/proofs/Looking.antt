@@ -1,8 +1,8 @@
--- The calls that look at a completion ring: what they leave of the host does not hang on the controller, and a queue's new state leaves its rings.
+-- The calls that look at a completion ring: what they leave of the host does not hang on the controller, and a queue's new state leaves its ring.
 use Rattle.std.proofs.Common.{◌≡◌, ℕ, zero, suc, Bool, true, false, ◌&&◌, Option, Some, None, List, [], ◌∷◌, map, slice_get, if◌then◌else◌, refl, ap, ap₂, sym, ◌∙◌, subst}
 use Rattle.std.specs.Option.{option_map, option_map_or}
 use Rattle.admin_commands.specs.declared.AdminKind.{AdminKind}
-use Rattle.admin_commands.specs.declared.AdminKind.TheVariants.{Abort, DeleteSq, DeleteCq}
+use Rattle.admin_commands.specs.declared.AdminKind.TheVariants.{Abort, DeleteSq, DeleteCq, CreateCq, CreateSq}
 use Rattle.controller_core.specs.declared.queue.ControllerQueue.{ControllerQueue}
 use Rattle.entry_codec.specs.declared.completion.ComEntry.{ComEntry}
 use Rattle.entry_codec.specs.declared.status.Status.{Status}
@@ -12,11 +12,10 @@ use Rattle.machine_model.specs.After as a
 use Rattle.machine_model.specs.After.{after, after_admin, after_reap, after_retire, after_work}
 use Rattle.machine_model.specs.Events.{Event, Reply}
 use Rattle.machine_model.specs.Memory.{memory_of}
-use Rattle.machine_model.specs.Refusals.{has_cq, has_sq, host_queue, is_retired, seen_entry}
+use Rattle.machine_model.specs.Refusals.{has_cq_alone, host_queue, seen_entry}
 use Rattle.machine_model.specs.State.{State, Device, HostQueue, Record, record_at, without_record}
 use Rattle.machine_model.specs.Step.{HostPart, LeavesByHost, Permits}
 use Rattle.machine_model.specs.Work.{Work}
-use Rattle.machine_model.specs.declared.words.HostState.{HostState}
 use Rattle.machine_model.specs.declared.words.Reaped.{Reaped}
 use Rattle.machine_model.specs.declared.words.Reaped.TheVariants as found
 use Rattle.machine_model.specs.declared.words.Work.TheVariants.{Io, Management}
@@ -28,7 +27,7 @@ use Rattle.queue_pair.specs.Rings.{knowing}
 use Rattle.two_sides.specs.Hearing.{heard}
 use Rattle.two_sides.specs.Laws.{behind}
 use Rattle.two_sides.specs.Sides.{Sides, state_of, device_of, device_queue_of, device_queues_of}
-use Rattle.two_sides.specs.Ties.{AllRingsStand, RingsStand, WalksStand}
+use Rattle.two_sides.specs.Ties.{AllQueuesStand, WalksStand}
 use Rattle.two_sides.proofs.Assembling.{Ties}
 use Rattle.two_sides.proofs.Seen.{told}
 
@@ -47,14 +46,26 @@ freed : (pages : HostQueue → List ℕ) (without : HostQueue → HostQueue) (q 
 freed pages without q u None = refl
 freed pages without q u (Some queue) = refl
 
+bare_freed : (pages : HostQueue → List ℕ) (without : HostQueue → HostQueue) (q : ℕ) (u : State) → a.half_freed pages without q (bare u) ≡ bare (a.half_freed pages without q u)
+bare_freed pages without q u = freed pages without q u (host_queue u q)
+
+-- one of two
+bare_if : (b : Bool) (t u t' u' : State) → t' ≡ bare t → u' ≡ bare u → (if b then t' else u') ≡ bare (if b then t else u)
+bare_if true t u t' u' e f = e
+bare_if false t u t' u' e f = f
+
 bare_admin : (adm : AdminKind) (st : Status) (u : State) → after_admin adm st (bare u) ≡ bare (after_admin adm st u)
 bare_admin (Abort q cid) st u = refl
 bare_admin (DeleteSq q) st u = refl
-bare_admin (DeleteCq q) st u = go (is_success st && option_map_or (λ queue. is_retired queue.state) (host_queue u q) false)
-  where
-    go : (b : Bool) → (if b then a.half_freed (λ queue. queue.cq_pages) a.gone q (bare u) else bare u) ≡ bare (if b then a.half_freed (λ queue. queue.cq_pages) a.gone q u else u)
-    go true = freed (λ queue. queue.cq_pages) a.gone q u (host_queue u q)
-    go false = refl
+bare_admin (DeleteCq q) st u =
+    bare_if (is_success st && option_map_or (λ queue. has_cq_alone queue.state) (host_queue u q) false) (a.half_freed (λ queue. queue.cq_pages) a.gone q u) u
+    (a.half_freed (λ queue. queue.cq_pages) a.gone q (bare u)) (bare u) (bare_freed (λ queue. queue.cq_pages) a.gone q u) refl
+bare_admin (CreateCq q n base) st u =
+    bare_if (is_success st) (a.on_host_queue q a.half_made u) (a.half_freed (λ queue. queue.cq_pages) a.gone q u)
+    (a.on_host_queue q a.half_made (bare u)) (a.half_freed (λ queue. queue.cq_pages) a.gone q (bare u)) refl (bare_freed (λ queue. queue.cq_pages) a.gone q u)
+bare_admin (CreateSq q n base) st u =
+    bare_if (is_success st) (a.on_host_queue q a.live u) (a.half_freed (λ queue. queue.sq_pages) a.unmade_sq q u)
+    (a.on_host_queue q a.live (bare u)) (a.half_freed (λ queue. queue.sq_pages) a.unmade_sq q (bare u)) refl (bare_freed (λ queue. queue.sq_pages) a.unmade_sq q u)
 
 bare_work : (w : Work) (q cid : ℕ) (st : Status) (u : State) → after_work w q cid st (bare u) ≡ bare (after_work w q cid st u)
 bare_work (Io request) q cid st u = refl
@@ -89,14 +100,14 @@ left_alone old next n host pages leaves same =
 
 pub record Leads (s : Sides) (e : Event) (reply : Reply) (host : HostView) (pages : Pages) (left : Device) : Type 0 where
   pub device : device_of (behind s e reply host pages) ≡ left
-  pub rings : AllRingsStand (byte_at pages) zero host.host.queues (heard e reply host s.controller).queues
+  pub queues : AllQueuesStand s.host.entries (byte_at pages) zero host.host.queues (heard e reply host s.controller).queues
   pub walks : WalksStand (memory_of pages) s.controller.commands
 
 pub leads_to_ties : (s : Sides) (e : Event) (reply : Reply) (host : HostView) (pages : Pages) (n : State) → Permits (state_of s) e reply → alone host pages ≡ bare n → n ≡ after (state_of s) e reply
     → Leads s e reply (view n) n.memory n.device → Ties s e reply host pages
 leads_to_ties s e reply host pages n permits same is leads =
     let here : Leads s e reply host pages n.device = subst (λ (x : State). Leads s e reply (view x) x.memory n.device) (sym same) leads in
-    record { permits = permits; device = here.device ∙ ap (λ (x : State). x.device) is; rings = here.rings; walks = here.walks }
+    record { permits = permits; device = here.device ∙ ap (λ (x : State). x.device) is; queues = here.queues; walks = here.walks }
 
 -- A queue in another state: the machine's queues are the same
 
@@ -114,27 +125,3 @@ head_kept zero zero f (h ∷ hs) same = ap (λ ring. Some ring.head) (same h)
 head_kept zero (suc q) f (h ∷ hs) same = refl
 head_kept (suc k) zero f (h ∷ hs) same = refl
 head_kept (suc k) (suc q) f (h ∷ hs) same = head_kept k q f hs same
-
--- and the rings stand, where it has the completion half only if it had that, and no answer once it lacks the submission half
-pub state_stands : (m : Memory) (q : ℕ) (h : HostQueue) (c : ControllerQueue) (st : HostState) (sq_pages cq_pages : List ℕ) → RingsStand m q h c
-    → (has_cq st ≡ true → has_cq h.state ≡ true) → (has_sq st ≡ false → h.ring.head ≡ c.device.ring.tail) → RingsStand m q (record h { state = st; sq_pages = sq_pages; cq_pages = cq_pages }) c
-state_stands m q h c st sq_pages cq_pages stands had drained =
-    record {
-      fetched = stands.fetched;
-      rung = stands.rung;
-      heard = stands.heard;
-      expected = stands.expected;
-      phases = λ live. stands.phases (had live);
-      owned = λ live. stands.owned (had live);
-      follow = λ live. stands.follow (had live);
-      drained = drained;
-    }
-
-pub all_stand : (m : Memory) (q k : ℕ) (f : HostQueue → HostQueue) (hs : List HostQueue) (cs : List ControllerQueue)
-    → ((i : ℕ) (h : HostQueue) (c : ControllerQueue) → slice_get hs k ≡ Some h → slice_get cs k ≡ Some c → RingsStand m i h c → RingsStand m i (f h) c)
-    → AllRingsStand m q hs cs → AllRingsStand m q (change k f hs) cs
-all_stand m q k f [] cs here rings = tt
-all_stand m q zero f (h ∷ hs) [] here rings = tt
-all_stand m q (suc k) f (h ∷ hs) [] here rings = tt
-all_stand m q zero f (h ∷ hs) (c ∷ cs) here rings = (here q h c refl refl rings.0, rings.1)
-all_stand m q (suc k) f (h ∷ hs) (c ∷ cs) here rings = (rings.0, all_stand m (suc q) k f hs cs here rings.1)

@@ -1,36 +1,39 @@
 -- What an admin entry does at its fetch is the machine's.
-use Rattle.std.proofs.Common.{◌≡◌, ℕ, zero, suc, ◌+◌, ◌<◌, ◌==◌, ◌&&◌, ◌||◌, not, Bool, true, false, Option, Some, None, is_none, List, [], ◌∷◌, ◌++◌, find, map, slice_get, if◌then◌else◌, refl, ap, ap₂, sym, ◌∙◌, arith, subst}
+use Rattle.std.proofs.Common.{◌≡◌, ℕ, zero, suc, ◌+◌, ◌-◌, ◌<◌, ◌==◌, ◌&&◌, nat_lt, nat_le, Bool, true, false, Option, Some, None, is_none, List, [], ◌∷◌, ◌++◌, length, find, map, slice_get, if◌then◌else◌, refl, ap, ap₂, sym, ◌∙◌, arith, subst, ltb-true, leb-true}
 use Rattle.std.specs.List.{AllByRecursion, count_by}
 use Rattle.std.specs.Option.{option_map, option_map_or}
-use Rattle.std.proofs.lemmas.Bool.{true≢false, and_parts, cond_both, or_parts, not-false}
+use Rattle.std.proofs.lemmas.Bool.{true≢false, and_parts, cond_both}
 use Rattle.admin_commands.specs.Entries.{named_queue, named_command}
-use Rattle.admin_commands.specs.Verdicts.{decision, is_absent, is_live}
+use Rattle.admin_commands.specs.Verdicts.{decision, is_live}
 use Rattle.admin_commands.specs.declared.AdminVerdict.{AdminVerdict}
-use Rattle.admin_commands.specs.declared.AdminVerdict.TheVariants.{Answer, AbortJob, StopQueue, DropCompletion}
-use Rattle.admin_commands.specs.declared.DeviceView.{DeviceView}
+use Rattle.admin_commands.specs.declared.AdminVerdict.TheVariants.{Answer, AbortJob, StopQueue, DropCompletion, MakeCompletion, MakeSubmission}
 use Rattle.admin_commands.specs.declared.SqState.TheVariants.{Absent, Stopping}
 use Rattle.controller_core.specs.Contents.{FetchedCommand, Work, is_command, verdict_of_work}
-use Rattle.controller_core.specs.Managing.{aborted, admin_work, command_of, commands_after, queues_after, stopped_with_queue, stopped_work, stopping, view_for, with_taken, without_completion}
+use Rattle.controller_core.specs.Managing.{aborted, admin_work, command_of, commands_after, queues_after, stopped_with_queue, stopped_work, stopping, view_for, with_completion, with_submission, with_taken, without_completion}
 use Rattle.controller_core.specs.declared.command.Work.TheVariants.{Io, Admin}
 use Rattle.controller_core.specs.declared.queue.ControllerQueue.{ControllerQueue}
 use Rattle.controller_core.proofs.Lists.{all-map, count-cons, one}
-use Rattle.entry_codec.specs.declared.admin_opcode.TheConstants.{ABORT, DELETE_IO_SQ, DELETE_IO_CQ}
 use Rattle.entry_codec.specs.declared.status.Status.{Status}
-use Rattle.entry_codec.specs.declared.status.TheConstants.Status.{SUCCESS, INVALID_OPCODE, INVALID_FIELD, INVALID_QUEUE_IDENTIFIER, INVALID_QUEUE_DELETION, ABORT_REQUESTED, ABORTED_SQ_DELETION}
+use Rattle.entry_codec.specs.declared.status.TheConstants.Status.{SUCCESS, ABORT_REQUESTED, ABORTED_SQ_DELETION}
 use Rattle.entry_codec.specs.declared.submission.SubEntry.{SubEntry}
 use Rattle.machine_model.specs.After as after
 use Rattle.machine_model.specs.After.{change}
+use Rattle.machine_model.specs.Refusals.{is_making_cq}
 use Rattle.machine_model.specs.Weights.{total}
 use Rattle.machine_model.specs.State.{State, HostQueue, DeviceQueue, Job}
 use Rattle.machine_model.proofs.Members.{all_in, all_of, only_found}
+use Rattle.machine_model.proofs.Tying.{length-change}
 use Rattle.page_memory.specs.Memory.{Memory}
 use Rattle.page_memory.specs.Pages.{byte_at}
-use Rattle.queue_pair.specs.Slots.{distance}
-use Rattle.two_sides.specs.Sides.{Sides, state_of, device_queue_of, device_queues_of, job_of, unfetched_between}
-use Rattle.two_sides.specs.Ties.{AllRingsStand, ShareQueues, WalkStands, WalksStand}
-use Rattle.two_sides.proofs.Changed.{devices_changed, rings_changed}
-use Rattle.two_sides.proofs.EntryTaking.{not_absent}
+use Rattle.queue_pair.specs.Rings.{fresh_host_ring}
+use Rattle.two_sides.specs.Sides.{Sides, state_of, device_queues_of, job_of}
+use Rattle.two_sides.specs.Ties.{AllQueuesStand, QueueStands, ShareQueue, ShareQueues, WalkStands, WalksStand}
+use Rattle.two_sides.proofs.Changed.{devices_changed, stands_changed}
+use Rattle.two_sides.proofs.Decisions.{same_decision}
+use Rattle.two_sides.proofs.Forged.{length-device}
 use Rattle.two_sides.proofs.Jobs.{job-at}
+use Rattle.two_sides.proofs.Known.{from_zero, share_of}
+use Rattle.two_sides.proofs.Making.{IsGranted, IsGrantedBeside, completion_seen, completion_shares, completion_stands, dropped_stands, stopping_seen, stopping_stands, submission_seen, submission_shares, submission_stands}
 use Rattle.two_sides.proofs.Places.{map-append}
 use Rattle.two_sides.proofs.Shared.{belled}
 
@@ -45,17 +48,38 @@ state_at m (h ∷ hs) [] n i q share = absurd share
 state_at m (h ∷ hs) (c ∷ cs) n i zero share = (refl, refl)
 state_at m (h ∷ hs) (c ∷ cs) n i (suc q) share = state_at m hs cs n (suc i) q share.1
 
-view_seen : (t : Sides) (e : SubEntry) → ShareQueues t.host.entries zero t.host.host.queues t.controller.queues → after.view_of (state_of t) e ≡ view_for t.controller.queues t.controller.commands e
+-- the machine's size of the rings is that of each queue
+view_seen : (t : Sides) (e : SubEntry) → ShareQueues t.host.entries zero t.host.host.queues t.controller.queues
+    → after.view_of (state_of t) e ≡ record (view_for (length t.pages) t.controller.queues t.controller.commands e) { entries = t.host.entries }
 view_seen t e share =
     let q = named_queue e in
-    let at = state_at (byte_at t.pages) t.host.host.queues t.controller.queues t.host.entries zero q share in
+    let m = byte_at t.pages in
+    let at = state_at m t.host.host.queues t.controller.queues t.host.entries zero q share in
     let walks : after.walks (state_of t) q (named_command e) ≡ option_map_or (λ k. is_none (verdict_of_work k.work)) (find (is_command q (named_command e)) t.controller.commands) false =
     ap (λ (o : Option Job). option_map_or (λ j. is_none j.verdict) o false) (job-at t q (named_command e)) ∙ by (find (is_command q (named_command e)) t.controller.commands) in
-    λ i. record { sq = at.0 i; cq_there = at.1 i; target_walks = walks i }
+    let many : length (device_queues_of m t.host.host.queues t.controller.queues) ≡ length t.controller.queues = length-device m t.host.entries zero t.host.host.queues t.controller.queues share in
+    λ i. record { sq = at.0 i; cq_there = at.1 i; target_walks = walks i; queues = many i - 1; entries = t.host.entries; pages = length t.pages }
   where
     by : (o : Option FetchedCommand) → option_map_or (λ j. is_none j.verdict) (option_map job_of o) false ≡ option_map_or (λ k. is_none (verdict_of_work k.work)) o false
     by None = refl
     by (Some k) = refl
+
+entries_at : (hs : List HostQueue) (cs : List ControllerQueue) (n i q : ℕ) → ShareQueues n i hs cs → q < length cs → option_map_or (λ queue. queue.device.entries) (slice_get cs q) 0 ≡ n
+entries_at hs [] n i q share l = absurd (omega (arith, l))
+entries_at [] (c ∷ cs) n i q share l = absurd share
+entries_at (h ∷ hs) (c ∷ cs) n i zero share l = share.0.entries
+entries_at (h ∷ hs) (c ∷ cs) n i (suc q) share l = entries_at hs cs n (suc i) q share.1 (omega (arith, l))
+
+below_queues : (q k : ℕ) → (nat_lt 0 q && nat_le q (k - 1)) ≡ true → q < k
+below_queues q k h = let parts = and_parts (nat_lt 0 q) (nat_le q (k - 1)) h in omega (arith, ltb-true 0 q parts.0, leb-true q (k - 1) parts.1)
+
+-- so both decide alike
+decides_alike : (t : Sides) (e : SubEntry) → ShareQueues t.host.entries zero t.host.host.queues t.controller.queues
+    → decision e (view_for (length t.pages) t.controller.queues t.controller.commands e) ≡ decision e (after.view_of (state_of t) e)
+decides_alike t e share =
+    same_decision e (view_for (length t.pages) t.controller.queues t.controller.commands e) t.host.entries
+    (λ io. entries_at t.host.host.queues t.controller.queues t.host.entries zero (named_queue e) share (below_queues (named_queue e) (length t.controller.queues) io))
+    ∙ ap (decision e) (sym (view_seen t e share))
 
 -- The commands that are stopped
 
@@ -92,7 +116,7 @@ counted : {A : Type 0} (p : A → Bool) (xs : List A) → total (λ x. one (p x)
 counted p [] = refl
 counted p (x ∷ xs) = ap (λ (n : ℕ). one (p x) + n) (counted p xs) ∙ sym (count-cons p x xs)
 
-abort_open : (commands : List FetchedCommand) (q cid : ℕ) → count_by (is_command q cid) commands < 2
+pub abort_open : (commands : List FetchedCommand) (q cid : ℕ) → count_by (is_command q cid) commands < 2
     → option_map_or (λ k. is_none (verdict_of_work k.work)) (find (is_command q cid) commands) false ≡ true → AllByRecursion (λ k. is_command q cid k ≡ true → is_none (verdict_of_work k.work) ≡ true) commands
 abort_open commands q cid few h = go (find (is_command q cid) commands) refl h
   where
@@ -119,6 +143,15 @@ acted e v t =
       };
     }
 
+-- what a verdict needs that was decided: the job that is stopped walks, the queue that is stopped runs, and what is made is as it was granted
+abbrev pub Suits : Sides → AdminVerdict → Type 0
+Suits t (Answer st dw0) = Unit {0}
+Suits t (AbortJob q cid) = AllByRecursion (λ k. is_command q cid k ≡ true → is_none (verdict_of_work k.work) ≡ true) t.controller.commands
+Suits t (StopQueue q) = (h : HostQueue) (c : ControllerQueue) → slice_get t.host.host.queues q ≡ Some h → slice_get t.controller.queues q ≡ Some c → is_live c.state ≡ true
+Suits t (DropCompletion q) = (h : HostQueue) (c : ControllerQueue) → slice_get t.host.host.queues q ≡ Some h → slice_get t.controller.queues q ≡ Some c → is_making_cq h.state ≡ true → h.ring ≡ fresh_host_ring
+Suits t (MakeCompletion q base) = (h : HostQueue) (c : ControllerQueue) → slice_get t.host.host.queues q ≡ Some h → slice_get t.controller.queues q ≡ Some c → IsGranted t.host.entries base h c
+Suits t (MakeSubmission q base) = (h : HostQueue) (c : ControllerQueue) → slice_get t.host.host.queues q ≡ Some h → slice_get t.controller.queues q ≡ Some c → IsGrantedBeside t.host.entries base h c
+
 abbrev IsActed : Sides → SubEntry → AdminVerdict → Type 0
 IsActed t e v = state_of (acted e v t) ≡ after.acted e v (state_of t)
 
@@ -135,17 +168,12 @@ aborts t e q cid walks =
     let jobs = jobs_by commands (aborted q cid e.cid) (λ (j : Job). if (j.q == q) && (j.entry.cid == cid) then marked e.cid j else j) (all_in _ _ commands (λ k among w. aborted_seen q cid e.cid k w) walks) in
     ap (with_device (state_of t) (state_of t).device.queues) (map-append job_of (map (aborted q cid e.cid) commands) (command_of zero (Admin e SUCCESS zero)) ∙ ap (λ js. js ++ job_of (command_of zero (Admin e SUCCESS zero)) ∷ []) jobs)
 
-stopping_seen : (m : Memory) (h : HostQueue) (c : ControllerQueue) → is_live c.state ≡ true → device_queue_of m h.ring (stopping c) ≡ record (device_queue_of m h.ring c) { state = Stopping }
-stopping_seen m h c live =
-    ap (λ (b : Bool). record (device_queue_of m h.ring (stopping c)) { unfetched = if b then [] else unfetched_between m h.ring c.device; rung = if b then zero else distance c.device.entries c.device.ring.head c.device.ring.bell })
-    (sym (not_absent c.state live))
-
-stops : (t : Sides) (e : SubEntry) (q : ℕ) → is_live (option_map_or (λ queue. queue.state) (slice_get t.controller.queues q) Absent) ≡ true → IsActed t e (StopQueue q)
+stops : (t : Sides) (e : SubEntry) (q : ℕ) → Suits t (StopQueue q) → IsActed t e (StopQueue q)
 stops t e q live =
     let commands = t.controller.commands in
     let m = byte_at t.pages in
     let queues = devices_changed m m q stopping (λ (at : DeviceQueue). record at { state = Stopping }) t.host.host.queues t.controller.queues
-    (λ h c i j. stopping_seen m h c (subst (λ (o : Option ControllerQueue). is_live (option_map_or (λ queue. queue.state) o Absent) ≡ true) j live)) (λ k h c far i j. refl) in
+    (λ h c i j. stopping_seen m h c (live h c i j)) (λ k h c far i j. refl) in
     let jobs = jobs_by commands (stopped_with_queue q) (after.stopped q) (all_of _ commands (λ k among. stopped_seen q k)) in
     ap₂ (with_device (state_of t)) queues
     (map-append job_of (map (stopped_with_queue q) commands) (command_of zero (Admin e SUCCESS zero)) ∙ ap (λ js. js ++ job_of (command_of zero (Admin e SUCCESS zero)) ∷ []) jobs)
@@ -153,52 +181,71 @@ stops t e q live =
 drops : (t : Sides) (e : SubEntry) (q : ℕ) → IsActed t e (DropCompletion q)
 drops t e q =
     ap₂ (with_device (state_of t))
-    (devices_changed (byte_at t.pages) (byte_at t.pages) q without_completion (λ (at : DeviceQueue). record at { cq_there = false }) t.host.host.queues t.controller.queues (λ h c i j. refl) (λ k h c far i j. refl))
+    (devices_changed (byte_at t.pages) (byte_at t.pages) q without_completion after.dropped t.host.host.queues t.controller.queues (λ h c i j. refl) (λ k h c far i j. refl))
     (map-append job_of t.controller.commands (command_of zero (Admin e SUCCESS zero)))
 
-decided : (t : Sides) (e : SubEntry) → ((q cid : ℕ) → count_by (is_command q cid) t.controller.commands < 2) → IsActed t e (decision e (view_for t.controller.queues t.controller.commands e))
-decided t e differ =
-    cond_both (not ((e.opcode == ABORT) || (e.opcode == DELETE_IO_SQ) || (e.opcode == DELETE_IO_CQ))) _ _ Q (λ c. plainly t e INVALID_OPCODE zero)
-    (λ c. cond_both (not (e.fuse == 0)) _ _ Q (λ d. plainly t e INVALID_FIELD zero)
-    (λ d. cond_both (e.opcode == ABORT) _ _ Q
-    (λ f. cond_both (view.target_walks && not (named_queue e == 0)) _ _ Q
-    (λ w. aborts t e (named_queue e) (named_command e) (abort_open t.controller.commands (named_queue e) (named_command e) (differ (named_queue e) (named_command e)) (and_parts view.target_walks (not (named_queue e == 0)) w).0))
-    (λ w. plainly t e SUCCESS 1))
-    (λ f. cond_both (e.opcode == DELETE_IO_SQ) _ _ Q
-    (λ g. cond_both ((named_queue e == 0) || not (is_live view.sq)) _ _ Q (λ w. plainly t e INVALID_QUEUE_IDENTIFIER zero)
-    (λ w. stops t e (named_queue e) (not-false (is_live view.sq) (or_parts (named_queue e == 0) (not (is_live view.sq)) w).1)))
-    (λ g. cond_both ((named_queue e == 0) || not view.cq_there) _ _ Q (λ w. plainly t e INVALID_QUEUE_IDENTIFIER zero)
-    (λ w. cond_both (not (is_absent view.sq)) _ _ Q (λ x. plainly t e INVALID_QUEUE_DELETION zero) (λ x. drops t e (named_queue e)))))))
-  where
-    view : DeviceView
-    view = view_for t.controller.queues t.controller.commands e
+acts : (t : Sides) (e : SubEntry) (v : AdminVerdict) → Suits t v → IsActed t e v
+acts t e (Answer st dw0) suits = plainly t e st dw0
+acts t e (AbortJob q cid) suits = aborts t e q cid suits
+acts t e (StopQueue q) suits = stops t e q suits
+acts t e (DropCompletion q) suits = drops t e q
+acts t e (MakeCompletion q base) suits =
+    ap₂ (with_device (state_of t))
+    (devices_changed (byte_at t.pages) (byte_at t.pages) q (with_completion base) after.completion_made t.host.host.queues t.controller.queues
+    (λ h c i j. completion_seen (byte_at t.pages) t.host.entries base h c (suits h c i j)) (λ k h c far i j. refl))
+    (map-append job_of t.controller.commands (command_of zero (Admin e SUCCESS zero)))
+acts t e (MakeSubmission q base) suits =
+    ap₂ (with_device (state_of t))
+    (devices_changed (byte_at t.pages) (byte_at t.pages) q (with_submission base) after.submission_made t.host.host.queues t.controller.queues
+    (λ h c i j. submission_seen (byte_at t.pages) t.host.entries base h c (suits h c i j)) (λ k h c far i j. refl))
+    (map-append job_of t.controller.commands (command_of zero (Admin e SUCCESS zero)))
 
-    Q : AdminVerdict → Type 0
-    Q v = IsActed t e v
-
-pub managed_is : (t : Sides) (e : SubEntry) → ShareQueues t.host.entries zero t.host.host.queues t.controller.queues → ((q cid : ℕ) → count_by (is_command q cid) t.controller.commands < 2)
-    → state_of (acted e (decision e (view_for t.controller.queues t.controller.commands e)) t) ≡ after.managed e (state_of t)
-managed_is t e share differ = decided t e differ ∙ ap (λ (view : DeviceView). after.acted e (decision e view) (state_of t)) (sym (view_seen t e share))
+pub managed_is : (t : Sides) (e : SubEntry) → ShareQueues t.host.entries zero t.host.host.queues t.controller.queues → Suits t (decision e (view_for (length t.pages) t.controller.queues t.controller.commands e))
+    → state_of (acted e (decision e (view_for (length t.pages) t.controller.queues t.controller.commands e)) t) ≡ after.managed e (state_of t)
+managed_is t e share suits =
+    let v = decision e (view_for (length t.pages) t.controller.queues t.controller.commands e) in
+    acts t e v suits ∙ ap (λ (v : AdminVerdict). after.acted e v (state_of t)) (decides_alike t e share)
 
 -- What it leaves: the queues where they lie, the rings, and the walks
 
 pub verdict_shares : (v : AdminVerdict) (n : ℕ) (hs : List HostQueue) (cs : List ControllerQueue) → ShareQueues n zero hs cs → ShareQueues n zero hs (queues_after v cs)
 verdict_shares (Answer st dw0) n hs cs share = share
 verdict_shares (AbortJob q cid) n hs cs share = share
-verdict_shares (StopQueue q) n hs cs share =
-    belled n zero q stopping hs cs (λ i h c x. record { number = x.number; entries = x.entries; side = x.side; submission = x.submission; completion = x.completion }) share
-verdict_shares (DropCompletion q) n hs cs share =
-    belled n zero q without_completion hs cs (λ i h c x. record { number = x.number; entries = x.entries; side = x.side; submission = x.submission; completion = x.completion }) share
+verdict_shares (StopQueue q) n hs cs share = belled n zero q stopping hs cs (λ i h c x. record { number = x.number; entries = x.entries; side = x.side }) share
+verdict_shares (DropCompletion q) n hs cs share = belled n zero q without_completion hs cs (λ i h c x. record { number = x.number; entries = x.entries; side = x.side }) share
+verdict_shares (MakeCompletion q base) n hs cs share = belled n zero q (with_completion base) hs cs (completion_shares n base) share
+verdict_shares (MakeSubmission q base) n hs cs share = belled n zero q (with_submission base) hs cs (submission_shares n base) share
 
-pub verdict_rings : (v : AdminVerdict) (m : Memory) (hs : List HostQueue) (cs : List ControllerQueue) → AllRingsStand m zero hs cs → AllRingsStand m zero hs (queues_after v cs)
-verdict_rings (Answer st dw0) m hs cs rings = rings
-verdict_rings (AbortJob q cid) m hs cs rings = rings
-verdict_rings (StopQueue q) m hs cs rings =
-    rings_changed m m q stopping hs cs
-    (λ h c e f r. record { fetched = r.fetched; rung = r.rung; heard = r.heard; expected = r.expected; phases = r.phases; owned = r.owned; follow = r.follow; drained = r.drained }) (λ i h c far e f r. r) rings
-verdict_rings (DropCompletion q) m hs cs rings =
-    rings_changed m m q without_completion hs cs
-    (λ h c e f r. record { fetched = r.fetched; rung = r.rung; heard = r.heard; expected = r.expected; phases = r.phases; owned = r.owned; follow = r.follow; drained = r.drained }) (λ i h c far e f r. r) rings
+pub verdict_stand : (v : AdminVerdict) (t : Sides) → Suits t v → ShareQueues t.host.entries zero t.host.host.queues t.controller.queues
+    → AllQueuesStand t.host.entries (byte_at t.pages) zero t.host.host.queues t.controller.queues → AllQueuesStand t.host.entries (byte_at t.pages) zero t.host.host.queues (queues_after v t.controller.queues)
+verdict_stand v t suits share all = go v suits
+  where
+    m : Memory
+    m = byte_at t.pages
+
+    n : ℕ
+    n = t.host.entries
+
+    hs : List HostQueue
+    hs = t.host.host.queues
+
+    cs : List ControllerQueue
+    cs = t.controller.queues
+
+    shared : (q : ℕ) (h : HostQueue) (c : ControllerQueue) → slice_get hs q ≡ Some h → slice_get cs q ≡ Some c → ShareQueue n q h c
+    shared q h c e f = subst (λ (k : ℕ). ShareQueue n k h c) (from_zero q) (share_of n 0 q hs cs h c share e f)
+
+    changed : (q : ℕ) (g : ControllerQueue → ControllerQueue)
+        → ((h : HostQueue) (c : ControllerQueue) → slice_get hs q ≡ Some h → slice_get cs q ≡ Some c → QueueStands n m q h c → QueueStands n m q h (g c)) → AllQueuesStand n m zero hs (change q g cs)
+    changed q g here = stands_changed n m m q g hs cs here (λ i h c far e f stands. stands) all
+
+    go : (v : AdminVerdict) → Suits t v → AllQueuesStand n m zero hs (queues_after v cs)
+    go (Answer st dw0) suits = all
+    go (AbortJob q cid) suits = all
+    go (StopQueue q) suits = changed q stopping (λ h c e f stands. stopping_stands n m q h c (suits h c e f) stands)
+    go (DropCompletion q) suits = changed q without_completion (λ h c e f stands. dropped_stands n m q h c (shared q h c e f) (suits h c e f) stands)
+    go (MakeCompletion q base) suits = changed q (with_completion base) (λ h c e f stands. completion_stands n m q base h c (shared q h c e f) (suits h c e f) stands)
+    go (MakeSubmission q base) suits = changed q (with_submission base) (λ h c e f stands. submission_stands n m q base h c (shared q h c e f) (suits h c e f) stands)
 
 -- a walk that is stopped has nothing to stand for
 stopped_stands : (m : Memory) (done : ℕ) (st : Status) (work : Work) → WalkStands m done work → WalkStands m done (stopped_work st work)
@@ -220,16 +267,22 @@ verdict_walks (StopQueue q) m abort commands h =
     all-map (Stands m) (stopped_with_queue q)
     (λ k s. cond_both (k.q == q) (record k { work = stopped_work ABORTED_SQ_DELETION k.work }) k (Stands m) (λ e. stopped_stands m k.units_done ABORTED_SQ_DELETION k.work s) (λ e. s)) commands h
 verdict_walks (DropCompletion q) m abort commands h = h
+verdict_walks (MakeCompletion q base) m abort commands h = h
+verdict_walks (MakeSubmission q base) m abort commands h = h
 
 -- Taking the entry changes nothing that the rule of an admin entry looks at.
 taken_at : (cs : List ControllerQueue) (q k : ℕ)
     → (option_map_or (λ queue. queue.state) (slice_get (change q with_taken cs) k) Absent ≡ option_map_or (λ queue. queue.state) (slice_get cs k) Absent)
     × (option_map_or (λ queue. queue.cq_there) (slice_get (change q with_taken cs) k) false ≡ option_map_or (λ queue. queue.cq_there) (slice_get cs k) false)
-taken_at [] q k = (refl, refl)
-taken_at (c ∷ cs) zero zero = (refl, refl)
-taken_at (c ∷ cs) zero (suc k) = (refl, refl)
-taken_at (c ∷ cs) (suc q) zero = (refl, refl)
+    × (option_map_or (λ queue. queue.device.entries) (slice_get (change q with_taken cs) k) 0 ≡ option_map_or (λ queue. queue.device.entries) (slice_get cs k) 0)
+taken_at [] q k = (refl, refl, refl)
+taken_at (c ∷ cs) zero zero = (refl, refl, refl)
+taken_at (c ∷ cs) zero (suc k) = (refl, refl, refl)
+taken_at (c ∷ cs) (suc q) zero = (refl, refl, refl)
 taken_at (c ∷ cs) (suc q) (suc k) = taken_at cs q k
 
-pub taken_view : (cs : List ControllerQueue) (commands : List FetchedCommand) (q : ℕ) (e : SubEntry) → view_for (change q with_taken cs) commands e ≡ view_for cs commands e
-taken_view cs commands q e = let at = taken_at cs q (named_queue e) in λ i. record (view_for cs commands e) { sq = at.0 i; cq_there = at.1 i }
+pub taken_view : (pages : ℕ) (cs : List ControllerQueue) (commands : List FetchedCommand) (q : ℕ) (e : SubEntry) → view_for pages (change q with_taken cs) commands e ≡ view_for pages cs commands e
+taken_view pages cs commands q e =
+    let at = taken_at cs q (named_queue e) in
+    let many : length (change q with_taken cs) ≡ length cs = length-change q with_taken cs in
+    λ i. record (view_for pages cs commands e) { sq = at.0 i; cq_there = at.1 i; entries = at.2 i; queues = many i - 1 }

@@ -1,6 +1,7 @@
 -- Both sides as they open are the machine's opening.
-use Rattle.std.proofs.Common.{◌≡◌, inr, ℕ, zero, suc, ◌+◌, ◌*◌, ◌<◌, ◌≤◌, nat_lt, ◌&&◌, lt-ltb, true, Option, Some, IfSome, List, [], ◌∷◌, length, replicate, slice_get, refl, ap, sym, arith, subst}
+use Rattle.std.proofs.Common.{◌≡◌, ℕ, zero, suc, ◌+◌, ◌*◌, ◌<◌, ◌≤◌, nat_lt, ◌&&◌, lt-ltb, true, false, Option, Some, IfSome, List, [], ◌∷◌, length, replicate, slice_get, refl, ap, sym, ◌∙◌, arith, subst}
 use Rattle.std.specs.Option.{option_and_then}
+use Rattle.std.proofs.lemmas.Bool.{true≢false}
 use Rattle.std.proofs.lemmas.List.{length-replicate}
 use Rattle.controller_core.specs.Opening.{fresh_queue, queues_from}
 use Rattle.host_core.proofs.Fresh.{limits}
@@ -8,6 +9,7 @@ use Rattle.machine_model.specs.Agreeing.{SidesAgree}
 use Rattle.machine_model.specs.Claims.{HasOneOwner, IsSound}
 use Rattle.machine_model.specs.Opening as machine
 use Rattle.machine_model.specs.Opening.{opening, device_queue}
+use Rattle.machine_model.specs.Refusals.{is_deleting}
 use Rattle.machine_model.specs.State.{State, HostQueue, DeviceQueue}
 use Rattle.machine_model.specs.declared.words.HostState.TheVariants.{Live}
 use Rattle.page_ledger.specs.Owners.{pages_from}
@@ -25,9 +27,10 @@ use Rattle.queue_pair.specs.Halves.{IsZero}
 use Rattle.queue_pair.specs.Memory.{half_pages}
 use Rattle.queue_pair.proofs.Halves.{zeros_stand}
 use Rattle.queue_pair.proofs.Pools.{pages_zero}
+use Rattle.two_sides.specs.Deletions.{CompletionsServe}
 use Rattle.two_sides.specs.Opening.{halves_from, opened_sides, openings_are_worlds}
 use Rattle.two_sides.specs.Sides.{state_of, device_queues_of}
-use Rattle.two_sides.specs.Ties.{ShareQueues, RingsStand, AllRingsStand}
+use Rattle.two_sides.specs.Ties.{ShareQueues, RingsStand, QueueStands, AllQueuesStand}
 
 device_queues : (m : Memory) (page n q count : ℕ) → device_queues_of m (machine.queues_from page n count) (queues_from n q (halves_from page n count)) ≡ replicate count device_queue
 device_queues m page n q zero = refl
@@ -40,8 +43,6 @@ shared page n q (suc count) least most = (
     number = refl;
     entries = refl;
     side = record { least = least; most = most; head = omega arith; bell = omega arith; tail = omega arith; known_head = omega arith };
-    submission = inr refl;
-    completion = inr refl;
   },
   shared (page + half_pages n Submission + half_pages n Completion) n (suc q) count least most,
 )
@@ -58,14 +59,19 @@ fresh_rings m page n q some zeros =
       rung = inside;
       heard = refl;
       expected = refl;
-      phases = λ e. zeros_stand m (page + half_pages n Submission) n zeros;
-      owned = λ e. tt;
-      follow = λ e. inside;
+      phases = zeros_stand m (page + half_pages n Submission) n zeros;
+      owned = tt;
+      follow = inside;
       drained = λ e. refl;
     }
   where
     inside : (nat_lt 0 n && true) ≡ true
     inside = rw (lt-ltb 0 n some) refl
+
+fresh_stands : (m : Memory) (page n q : ℕ) → 0 < n → IsZero m (page + half_pages n Submission) (half_pages n Completion)
+    → QueueStands n m q (fresh_host page n) (fresh_queue n q (record { sq = page; cq = page + half_pages n Submission }))
+fresh_stands m page n q some zeros =
+    record { halves = record { submission = λ e. refl; completion = λ e. refl }; rings = λ e. fresh_rings m page n q some zeros; granted = λ making. absurd cc }
 
 all_at : {X : Type 0} (n k : ℕ) (x : X) → k < n → slice_get (replicate n x) k ≡ Some x
 all_at zero k x l = absurd (omega arith)
@@ -81,20 +87,38 @@ next_fits page a b count all l = omega (arith, l)
 here_fits : (page a b count all p : ℕ) → page + suc count * (a + b) ≤ all → p < b → page + a + p < all
 here_fits page a b count all p l h = omega (arith, l, h)
 
-all_rings : (all page n q count : ℕ) → 0 < n → page + count * (half_pages n Submission + half_pages n Completion) ≤ all
-    → AllRingsStand (byte_at (replicate all (Some zero_page))) q (machine.queues_from page n count) (queues_from n q (halves_from page n count))
-all_rings all page n q zero some fits = tt
-all_rings all page n q (suc count) some fits = (
-  fresh_rings (byte_at (replicate all (Some zero_page))) page n q some
+all_stand : (all page n q count : ℕ) → 0 < n → page + count * (half_pages n Submission + half_pages n Completion) ≤ all
+    → AllQueuesStand n (byte_at (replicate all (Some zero_page))) q (machine.queues_from page n count) (queues_from n q (halves_from page n count))
+all_stand all page n q zero some fits = tt
+all_stand all page n q (suc count) some fits = (
+  fresh_stands (byte_at (replicate all (Some zero_page))) page n q some
       (pages_zero (replicate all (Some zero_page)) (page + half_pages n Submission) (half_pages n Completion)
       (λ p h. zero_at all (page + half_pages n Submission + p) (here_fits page (half_pages n Submission) (half_pages n Completion) count all p fits h))),
-  all_rings all (page + half_pages n Submission + half_pages n Completion) n (suc q) count some (next_fits page (half_pages n Submission) (half_pages n Completion) count all fits),
+  all_stand all (page + half_pages n Submission + half_pages n Completion) n (suc q) count some (next_fits page (half_pages n Submission) (half_pages n Completion) count all fits),
 )
 
 blank_pool : (n p : ℕ) → IfSome (page_at (replicate n (Some zero_page)) p) (λ page. length page ≡ 4096)
 blank_pool zero p = tt
 blank_pool (suc n) zero = length-zero_page
 blank_pool (suc n) (suc p) = blank_pool n p
+
+-- Each queue has its completion queue as it opens, and none is being deleted.
+all_same : {X : Type 0} (n k : ℕ) (x y : X) → slice_get (replicate n x) k ≡ Some y → x ≡ y
+all_same zero k x y e = cc
+all_same (suc n) zero x y e = cc
+all_same (suc n) (suc k) x y e = all_same n k x y e
+
+all_live : (page n count q : ℕ) (h : HostQueue) → slice_get (machine.queues_from page n count) q ≡ Some h → is_deleting h.state ≡ false
+all_live page n zero q h e = absurd cc
+all_live page n (suc count) zero h e = let same : fresh_host page n ≡ h = cc in ap (λ (x : HostQueue). is_deleting x.state) (sym same)
+all_live page n (suc count) (suc q) h e = all_live (page + half_pages n Submission + half_pages n Completion) n count q h e
+
+opening_serves : (pages queues n segment : ℕ) (image : List ℕ) → CompletionsServe (opening pages queues n segment image)
+opening_serves pages queues n segment image =
+    record {
+      serves = λ q h d e f live. sym (ap (λ (x : DeviceQueue). x.cq_there) (all_same (queues + 1) q device_queue d f));
+      order = λ q h e deleting. absurd (true≢false (sym deleting ∙ all_live 0 n (queues + 1) q h e));
+    }
 
 from_zero : (k all : ℕ) → k ≤ all → 0 + k ≤ all
 from_zero k all l = omega arith
@@ -123,6 +147,9 @@ opened_are_worlds c image opens =
             out = sound.out;
             works_fit = sound.works_fit;
             deletions = sound.deletions;
+            creations = sound.creations;
+            bare = sound.bare;
+            halves = sound.halves;
             admin = sound.admin;
           };
           provided = runs_provide c.pages c.queues c.entries c.segment image [] [] start opens refl;
@@ -130,9 +157,10 @@ opened_are_worlds c image opens =
           queues = shared 0 c.entries 0 (c.queues + 1) l.least_entries l.most_entries;
         };
         tied = record {
-          rings = all_rings c.pages 0 c.entries 0 (c.queues + 1) (omega (arith, l.least_entries)) (from_zero _ c.pages (fits_pool c.pages c.queues c.entries c.segment opens));
+          queues = all_stand c.pages 0 c.entries 0 (c.queues + 1) (omega (arith, l.least_entries)) (from_zero _ c.pages (fits_pool c.pages c.queues c.entries c.segment opens));
           walks = tt;
           agree = subst (λ (s : State). SidesAgree s) (sym same) (opening_agrees c.pages c.queues c.entries c.segment image opens);
+          serve = subst (λ (s : State). CompletionsServe s) (sym same) (opening_serves c.pages c.queues c.entries c.segment image);
         };
       },
     )

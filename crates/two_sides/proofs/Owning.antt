@@ -53,3 +53,11 @@ queue_page_in s sides q h p e some =
     within : (b : Bool) → nat_lt p (length s.pages) ≡ b → 0 < one b → p < length s.pages
     within true e l = ltb-true p (length s.pages) e
     within false e l = absurd (omega (arith, l))
+
+-- a free page is one of the pool
+pub free_below : (s : Sides) → AreSides s → (p : ℕ) → is_among s.host.host.free p ≡ true → p < length s.pages
+free_below s sides p free = within (nat_lt p (length s.pages)) refl (omega (arith, owned_as s sides p, held_once p s.host.host.free free))
+  where
+    within : (b : Bool) → nat_lt p (length s.pages) ≡ b → 0 < one b → p < length s.pages
+    within true e l = ltb-true p (length s.pages) e
+    within false e l = absurd (omega (arith, l))

@@ -1,5 +1,5 @@
--- The host posts an entry over a memory in which each half stands as it did: the machine's queues have it, and the rings stand behind it.
-use Rattle.std.proofs.Common.{◌≡◌, ◌≢◌, ℕ, zero, suc, ◌+◌, ◌*◌, ◌/◌, ◌<◌, ◌≤◌, ◌++◌, ◌∷◌, [], Bool, true, false, Option, Some, None, IsSome, IfSome, List, length, map, slice_get, if◌then◌else◌, refl, ap, ap₂, sym, ◌∙◌, subst, arith, length-append}
+-- The host posts an entry over a memory in which each half stands as it did: the machine's queues have it, and the queues stand behind it.
+use Rattle.std.proofs.Common.{◌≡◌, ◌≢◌, ℕ, zero, ◌+◌, ◌*◌, ◌/◌, ◌<◌, ◌≤◌, ◌++◌, ◌∷◌, [], Bool, true, false, Option, Some, None, IsSome, IfSome, List, length, map, slice_get, if◌then◌else◌, refl, ap, ap₂, sym, ◌∙◌, subst, arith, length-append}
 use Rattle.std.specs.List.{AllByRecursion}
 use Rattle.std.proofs.lemmas.Bool.{true≢false, OnTrue_at}
 use Rattle.std.proofs.lemmas.Bool.Decides.{nat_tests}
@@ -11,10 +11,9 @@ use Rattle.entry_codec.specs.declared.submission.SubEntry.{SubEntry}
 use Rattle.entry_codec.proofs.SubmissionLemmas.{round_trip}
 use Rattle.host_core.proofs.Pages.{among-from}
 use Rattle.machine_model.specs.Memory.{memory_of}
-use Rattle.machine_model.specs.Refusals.{has_sq, slot_page, slot_offset}
+use Rattle.machine_model.specs.Refusals.{slot_page, slot_offset}
 use Rattle.machine_model.specs.State.{HostQueue, DeviceQueue}
 use Rattle.machine_model.proofs.Elsewhere.{bytes_elsewhere}
-use Rattle.machine_model.proofs.Halves.{sq_with_cq}
 use Rattle.machine_model.proofs.Slots.{entry_pages, entries_written}
 use Rattle.page_ledger.specs.Owners.{is_among}
 use Rattle.page_memory.specs.Memory.{written}
@@ -31,9 +30,9 @@ use Rattle.queue_pair.proofs.Lists.{entries_posted, room}
 use Rattle.queue_pair.proofs.Order.{distance_grows, in_range_below, in_range_near, room_ahead}
 use Rattle.queue_pair.proofs.Pools.{pages_agree}
 use Rattle.two_sides.specs.Sides.{Sides, answer_of, completions_between, device_queue_of, device_queues_of, present, unfetched_between}
-use Rattle.two_sides.specs.Ties.{AllRingsStand, HeadsFollow, IsWorld, RingsStand, WalksStand}
-use Rattle.two_sides.proofs.Frames.{Spares, SparesQueue, SparesSubmitted, apart_from_queues, halves_apart, one_queue, one_ring, own_halves_apart, queue_stays, rings_stay, walks_stay}
-use Rattle.two_sides.proofs.Known.{IsKnown, known}
+use Rattle.two_sides.specs.Ties.{AllQueuesStand, HeadsFollow, IsWorld, QueueStands, RingsStand, WalksStand, has_ring}
+use Rattle.two_sides.proofs.Frames.{Spares, SparesQueue, SparesSubmitted, apart_from_queues, halves_apart, one_queue, one_stands, own_halves_apart, queue_stays, rings_stay, stands_still, unchanged, walks_stay}
+use Rattle.two_sides.proofs.Known.{IsKnown, known, queue_ring}
 use Rattle.two_sides.proofs.PostedEntries.{IsTyped}
 
 -- a queue whose tail moved on, and the machine's with an entry more
@@ -53,7 +52,6 @@ pub record CanPost (s : Sides) (mid : Pages) (q : ℕ) (h : HostQueue) (c : Cont
   pub trusted : s.trusted ≡ true
   pub at : slice_get s.host.host.queues q ≡ Some h
   pub beside : slice_get s.controller.queues q ≡ Some c
-  pub kept : has_sq h.state ≡ true
   pub there : is_absent c.state ≡ false
   pub room : is_full s.host.entries h.ring.known_head h.ring.tail ≡ false
   pub is : IsTyped entry
@@ -95,12 +93,6 @@ range_grows n from tail slot f l h free =
     in_range n from (next_slot n tail) slot (in_range_below n from tail slot h)
     (omega (arith, in_range_near n from tail slot h, distance_grows n from tail f l (room n from tail free)))
 
--- nothing changed
-unchanged : {A : Type 0} (k : ℕ) (xs : List A) → change k (λ x. x) xs ≡ xs
-unchanged k [] = refl
-unchanged zero (x ∷ xs) = refl
-unchanged (suc k) (x ∷ xs) = ap (λ l. x ∷ l) (unchanged k xs)
-
 module _ (s : Sides) (mid : Pages) (q : ℕ) (h : HostQueue) (c : ControllerQueue) (entry : SubEntry) (can : CanPost s mid q h c entry) where
   abbrev new : Pages
   new = slot_written h entry mid
@@ -108,21 +100,24 @@ module _ (s : Sides) (mid : Pages) (q : ℕ) (h : HostQueue) (c : ControllerQueu
   knows : IsKnown s q h c
   knows = known s can.world can.trusted q h c can.at can.beside
 
+  has : has_ring h c ≡ true
+  has = queue_ring s q h c knows can.there
+
   tail_below : h.ring.tail < c.device.entries
   tail_below = omega (arith, knows.placed.share.entries, knows.placed.ring.tail)
 
   -- the slot's page is one of the submission half
   page_is : slot_page h.sq_pages 64 h.ring.tail ≡ submission_page c.device.sq h.ring.tail
   page_is =
-      ap (λ (ps : List ℕ). slot_page ps 64 h.ring.tail) (knows.placed.submission can.kept)
+      ap (λ (ps : List ℕ). slot_page ps 64 h.ring.tail) (knows.submission can.there)
       ∙ entry_pages c.device.sq (half_pages s.host.entries Submission) h.ring.tail (omega (arith, knows.placed.ring.tail))
 
   own_page : is_among h.sq_pages (slot_page h.sq_pages 64 h.ring.tail) ≡ true
   own_page =
-      rw (page_is, knows.placed.submission can.kept)
+      rw (page_is, knows.submission can.there)
       (among-from c.device.sq (half_pages s.host.entries Submission) (h.ring.tail / 64) (omega (arith, knows.placed.ring.tail)))
 
-  elsewhere : (p : ℕ) → is_among h.sq_pages p ≡ false → page_at new p ≡ page_at mid p
+  pub elsewhere : (p : ℕ) → is_among h.sq_pages p ≡ false → page_at new p ≡ page_at mid p
   elsewhere p out =
       bytes_elsewhere mid (slot_page h.sq_pages 64 h.ring.tail) p (slot_offset 64 h.ring.tail) (submission_bytes entry)
       (λ same. true≢false (sym own_page ∙ ap (is_among h.sq_pages) same ∙ out))
@@ -133,9 +128,9 @@ module _ (s : Sides) (mid : Pages) (q : ℕ) (h : HostQueue) (c : ControllerQueu
       let many : ℕ = half_pages s.host.entries Submission in
       let l = knows.placed.ring.tail in
       let at : 4096 * c.device.sq + 4096 * (h.ring.tail / 64) ≡ 4096 * p + 0 = omega arith in
-      let found = page_of_byte s.pages p (subst (λ (place : ℕ). IsSome (byte_at s.pages place)) at ((knows.placed.submission_in can.kept).there (4096 * (h.ring.tail / 64)) (omega (arith, l)))) in
+      let found = page_of_byte s.pages p (subst (λ (place : ℕ). IsSome (byte_at s.pages place)) at ((knows.submission_in can.there).there (4096 * (h.ring.tail / 64)) (omega (arith, l)))) in
       let brought : page_at mid p ≡ Some found.0 = (can.spares q h can.at).submission p (subst (λ (k : ℕ). is_among h.sq_pages k ≡ true) page_is own_page) ∙ found.1 in
-      ap (λ (ps : List ℕ). byte_at (with_page_bytes mid (slot_page ps 64 h.ring.tail) (slot_offset 64 h.ring.tail) (submission_bytes entry))) (knows.placed.submission can.kept)
+      ap (λ (ps : List ℕ). byte_at (with_page_bytes mid (slot_page ps 64 h.ring.tail) (slot_offset 64 h.ring.tail) (submission_bytes entry))) (knows.submission can.there)
       ∙ entries_written mid c.device.sq many h.ring.tail found.0 (submission_bytes entry) (omega (arith, l)) brought (is_whole mid p found.0 can.whole brought) (submission_length entry can.is.typed)
 
   -- the halves of another queue, and the completion half of this one, stay
@@ -154,7 +149,7 @@ module _ (s : Sides) (mid : Pages) (q : ℕ) (h : HostQueue) (c : ControllerQueu
   completions_agree =
       let many : ℕ = half_pages s.host.entries Completion in
       let own : (k : ℕ) → k < many → is_among h.cq_pages (c.device.cq + k) ≡ true =
-      λ k l. subst (λ (ps : List ℕ). is_among ps (c.device.cq + k) ≡ true) (sym (knows.placed.completion (sq_with_cq h.state can.kept))) (among-from c.device.cq many k l) in
+      λ k l. subst (λ (ps : List ℕ). is_among ps (c.device.cq + k) ≡ true) (sym (knows.completion has)) (among-from c.device.cq many k l) in
       subst (λ (n : ℕ). Agree (byte_at mid) (byte_at new) c.device.cq (half_pages n Completion)) (sym knows.placed.share.entries)
       (pages_agree mid new c.device.cq many (λ k l. sym (elsewhere (c.device.cq + k) (not_submission (c.device.cq + k) _ refl (own k l)))))
 
@@ -167,7 +162,7 @@ module _ (s : Sides) (mid : Pages) (q : ℕ) (h : HostQueue) (c : ControllerQueu
   room_behind : is_full c.device.entries c.device.ring.head h.ring.tail ≡ false
   room_behind =
       let n = knows.placed.share.entries in
-      room_ahead c.device.entries h.ring.known_head c.device.ring.head h.ring.tail (omega (arith, n, knows.placed.ring.known_head)) tail_below knows.rings.fetched
+      room_ahead c.device.entries h.ring.known_head c.device.ring.head h.ring.tail (omega (arith, n, knows.placed.ring.known_head)) tail_below (knows.rings has).fetched
       (subst (λ (k : ℕ). is_full k h.ring.known_head h.ring.tail ≡ false) (sym n) can.room)
 
   completions_stay : completions_between (byte_at new) h.ring c.device ≡ completions_between (byte_at mid) h.ring c.device
@@ -194,13 +189,13 @@ module _ (s : Sides) (mid : Pages) (q : ℕ) (h : HostQueue) (c : ControllerQueu
         cq_there = c.cq_there;
         unfetched = if is_absent c.state then [] else es;
         rung = if is_absent c.state then 0 else distance c.device.entries c.device.ring.head c.device.ring.bell;
-        answers = map answer_of cs;
+        answers = if c.cq_there then map answer_of cs else [];
       }
 
   -- its rings stand
   rings_posted : RingsStand (byte_at new) q (tail_moved s.host.entries h) c
   rings_posted =
-      let stands = rings_stay s mid q h c knows (can.spares q h can.at) in
+      let stands = rings_stay s mid q h c knows (can.spares q h can.at) has in
       let n = knows.placed.share.entries in
       let known_below : h.ring.known_head < c.device.entries = omega (arith, n, knows.placed.ring.known_head) in
       let known_room : is_full c.device.entries h.ring.known_head h.ring.tail ≡ false = subst (λ (k : ℕ). is_full k h.ring.known_head h.ring.tail ≡ false) (sym n) can.room in
@@ -211,11 +206,18 @@ module _ (s : Sides) (mid : Pages) (q : ℕ) (h : HostQueue) (c : ControllerQueu
             (range_grows c.device.entries c.device.ring.head h.ring.tail c.device.ring.bell knows.placed.share.side.head tail_below stands.rung room_behind);
         heard = stands.heard;
         expected = stands.expected;
-        phases = λ e. phases_agree (byte_at mid) (byte_at new) c.device.cq c.device.entries c.device.ring.tail c.device.ring.phase completions_agree (stands.phases e);
-        owned = λ e. subst (λ (xs : List ComEntry). AllByRecursion (λ x. x.sqid ≡ q) xs) (sym completions_stay) (stands.owned e);
-        follow = λ e. subst (λ (xs : List ComEntry). HeadsFollow c.device.entries h.ring.known_head c.device.ring.head xs) (sym completions_stay) (stands.follow e);
+        phases = phases_agree (byte_at mid) (byte_at new) c.device.cq c.device.entries c.device.ring.tail c.device.ring.phase completions_agree stands.phases;
+        owned = subst (λ (xs : List ComEntry). AllByRecursion (λ x. x.sqid ≡ q) xs) (sym completions_stay) stands.owned;
+        follow = subst (λ (xs : List ComEntry). HeadsFollow c.device.entries h.ring.known_head c.device.ring.head xs) (sym completions_stay) stands.follow;
         drained = stands.drained;
       }
+
+  queue_stands : QueueStands s.host.entries (byte_at new) q (tail_moved s.host.entries h) c
+  queue_stands = record {
+    halves = record { submission = knows.submission; completion = knows.completion };
+    rings = λ x. rings_posted;
+    granted = λ making absent. absurd (true≢false (sym (knows.fits.half can.there) ∙ absent));
+  }
 
   -- All queues
 
@@ -235,12 +237,12 @@ module _ (s : Sides) (mid : Pages) (q : ℕ) (h : HostQueue) (c : ControllerQueu
       (subst (λ (x : HostQueue). device_queue_of (byte_at new) (next_tail s.host.entries x.ring) c ≡ with_entry entry (device_queue_of (byte_at s.pages) x.ring c)) same.0 queue_posted))
       (λ k x y far e f. queue_stays s new k x y (known s can.world can.trusted k x y e f) (spares_other k x far e))
 
-  pub post_rings : AllRingsStand (byte_at new) zero (change q (tail_moved s.host.entries) s.host.host.queues) s.controller.queues
-  post_rings =
-      subst (λ (cs : List ControllerQueue). AllRingsStand (byte_at new) zero (change q (tail_moved s.host.entries) s.host.host.queues) cs) (unchanged q s.controller.queues)
-      (one_ring (byte_at s.pages) (byte_at new) q (tail_moved s.host.entries) (λ y. y) s.host.host.queues s.controller.queues
+  pub post_stands : AllQueuesStand s.host.entries (byte_at new) zero (change q (tail_moved s.host.entries) s.host.host.queues) s.controller.queues
+  post_stands =
+      subst (λ (cs : List ControllerQueue). AllQueuesStand s.host.entries (byte_at new) zero (change q (tail_moved s.host.entries) s.host.host.queues) cs) (unchanged q s.controller.queues)
+      (one_stands s.host.entries (byte_at s.pages) (byte_at new) q (tail_moved s.host.entries) (λ y. y) s.host.host.queues s.controller.queues
       (λ x y e f stands. let same = this x y e f in
-      subst (λ (y : ControllerQueue). RingsStand (byte_at new) q (tail_moved s.host.entries x) y) same.1
-      (subst (λ (x : HostQueue). RingsStand (byte_at new) q (tail_moved s.host.entries x) c) same.0 rings_posted))
-      (λ k x y far e f stands. rings_stay s new k x y (known s can.world can.trusted k x y e f) (spares_other k x far e))
-      (OnTrue_at can.trusted can.world.tied).rings)
+      subst (λ (y : ControllerQueue). QueueStands s.host.entries (byte_at new) q (tail_moved s.host.entries x) y) same.1
+      (subst (λ (x : HostQueue). QueueStands s.host.entries (byte_at new) q (tail_moved s.host.entries x) c) same.0 queue_stands))
+      (λ k x y far e f stands. stands_still s new k x y (known s can.world can.trusted k x y e f) (spares_other k x far e))
+      (OnTrue_at can.trusted can.world.tied).queues)

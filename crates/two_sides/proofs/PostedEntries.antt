@@ -1,9 +1,9 @@
 -- The numbers of an entry that the host posts are those of its type: a built draft's entry, and an admin command's.
-use Rattle.std.proofs.Common.{◌≡◌, ℕ, zero, suc, ◌^◌, ◌<◌, ◌%◌, List, [], ◌∷◌, replicate, Some, refl, sym, arith, subst}
+use Rattle.std.proofs.Common.{◌≡◌, ℕ, zero, suc, ◌^◌, ◌<◌, ◌%◌, List, [], ◌∷◌, Some, refl, sym, arith, subst}
 use Rattle.std.specs.List.{AllByRecursion}
 use Rattle.std.specs.Prelude.{slice_index}
-use Rattle.admin_commands.specs.Entries.{admin_entry, named_by}
-use Rattle.admin_commands.specs.declared.AdminKind.TheVariants.{Abort, DeleteSq, DeleteCq}
+use Rattle.admin_commands.specs.Entries.{admin_entry, base_of, named_by, pointer_to, qualified_by}
+use Rattle.admin_commands.specs.declared.AdminKind.TheVariants.{Abort, DeleteSq, DeleteCq, CreateCq, CreateSq}
 use Rattle.admin_commands.specs.declared.AdminKind.{AdminKind}
 use Rattle.entry_codec.specs.Bytes.{IsBytes}
 use Rattle.entry_codec.specs.Submission.{FitsSubmission, IsSubEntry}
@@ -48,9 +48,14 @@ spelled_in_bytes (BitBucket len) = descriptor_is_bytes 0 len 0x10 (omega arith)
 spelled_in_bytes (Segment addr len) = descriptor_is_bytes addr len 0x20 (omega arith)
 spelled_in_bytes (LastSegment addr len) = descriptor_is_bytes addr len 0x30 (omega arith)
 
-zeros_below : (n : ℕ) → AllByRecursion (λ b. b < 256) (replicate {A = ℕ} n 0)
-zeros_below zero = tt
-zeros_below (suc n) = (omega arith, zeros_below n)
+pointer_is_bytes : (address : ℕ) → IsBytes 16 (pointer_to address)
+pointer_is_bytes address =
+    let zero_byte : 0 < 256 = omega arith in
+    record {
+      count = refl;
+      below = below_in (pointer_to address)
+          (byte _, (byte _, (byte _, (byte _, (byte _, (byte _, (byte _, (byte _, (zero_byte, (zero_byte, (zero_byte, (zero_byte, (zero_byte, (zero_byte, (zero_byte, (zero_byte, tt))))))))))))))));
+    }
 
 -- The entries
 
@@ -79,17 +84,17 @@ draft_typed d entry proper cid built =
       fits = record { fuse = omega arith; psdt = omega arith };
     })
 
-pub admin_typed : (kind : AdminKind) (cid : ℕ) → cid < 2 ^ 16 → named_by kind < 2 ^ 32 → IsTyped (admin_entry kind cid)
-admin_typed kind cid id named =
+pub admin_typed : (kind : AdminKind) (cid : ℕ) → cid < 2 ^ 16 → named_by kind < 2 ^ 32 → qualified_by kind < 2 ^ 32 → IsTyped (admin_entry kind cid)
+admin_typed kind cid id named qualified =
     record {
       typed = record {
         opcode = opcode kind;
         cid = id;
         nsid = omega arith;
         mptr = omega arith;
-        sgl1 = record { count = refl; below = below_in (replicate 16 0) (zeros_below 16) };
+        sgl1 = pointer_is_bytes (base_of kind);
         cdw10 = named;
-        cdw11 = omega arith;
+        cdw11 = qualified;
         cdw12 = omega arith;
         cdw13 = omega arith;
         cdw14 = omega arith;
@@ -102,3 +107,5 @@ admin_typed kind cid id named =
     opcode (Abort q c) = omega arith
     opcode (DeleteSq q) = omega arith
     opcode (DeleteCq q) = omega arith
+    opcode (CreateCq q n base) = omega arith
+    opcode (CreateSq q n base) = omega arith

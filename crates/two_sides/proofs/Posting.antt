@@ -5,14 +5,13 @@ use Rattle.std.specs.Option.{option_map_or}
 use Rattle.std.proofs.lemmas.Bool.{true≢false, not-false, and_parts, or_parts, OnTrue_at}
 use Rattle.std.proofs.lemmas.List.Folds.{find_at}
 use Rattle.std.proofs.lemmas.Option.{slice_get_within}
-use Rattle.admin_commands.specs.Entries.{admin_entry, named_by}
-use Rattle.admin_commands.specs.Verdicts.{is_absent}
+use Rattle.admin_commands.specs.Entries.{admin_entry, named_by, qualified_by}
 use Rattle.admin_commands.specs.declared.AdminKind.TheVariants.{Abort, DeleteSq, DeleteCq}
 use Rattle.admin_commands.specs.declared.AdminKind.{AdminKind}
 use Rattle.controller_core.specs.Contents.{Contents}
 use Rattle.controller_core.specs.declared.queue.ControllerQueue.{ControllerQueue}
 use Rattle.entry_codec.specs.declared.submission.SubEntry.{SubEntry}
-use Rattle.host_core.specs.Alone.{HostView, HostStep, alone}
+use Rattle.host_core.specs.Alone.{HostView, HostStep, alone, nothing}
 use Rattle.host_core.proofs.Ending.{joined-pages}
 use Rattle.host_core.proofs.Lists.{all-from}
 use Rattle.host_core.proofs.Pages.{pool-with}
@@ -23,19 +22,19 @@ use Rattle.machine_model.specs.Always.{IsProvided}
 use Rattle.machine_model.specs.Events as events
 use Rattle.machine_model.specs.Events.{Event, Reply}
 use Rattle.machine_model.specs.Memory.{memory_of, with_pages}
-use Rattle.machine_model.specs.Refusals.{has_cq, has_sq, host_queue, in_state, is_drafted, is_live, is_submitted, queue_full, refusal_of}
+use Rattle.machine_model.specs.Refusals.{has_cq, host_queue, in_service, in_state, is_drafted, is_live, is_submitted, queue_full, refusal_of}
+use Rattle.machine_model.specs.Placement.{first_of_run}
 use Rattle.machine_model.specs.Proper.{IsProperDraft}
 use Rattle.machine_model.specs.declared.words.HostState.{HostState}
+use Rattle.machine_model.specs.declared.words.HostState.TheVariants.{Deleting}
 use Rattle.machine_model.specs.State.{Device, DeviceQueue, HostQueue, Record, State, is_at, pages_of, record_at, with_record}
 use Rattle.machine_model.specs.Step.{HostPart, LeavesByHost, Permits}
-use Rattle.machine_model.proofs.Agreed.{agreed_there}
 use Rattle.machine_model.proofs.Elsewhere.{with_elsewhere}
-use Rattle.machine_model.proofs.Halves.{live_has_sq, sq_with_cq}
 use Rattle.machine_model.proofs.Members.{all_at_found}
 use Rattle.machine_model.proofs.Moves.{IsOf, draft_found, draft_lives, queue_found, sent_record}
 use Rattle.machine_model.proofs.Placed.{find_sound}
 use Rattle.machine_model.proofs.Refused.{found, unrefused}
-use Rattle.page_ledger.specs.Owners.{is_among}
+use Rattle.page_ledger.specs.Owners.{is_among, pages_from}
 use Rattle.page_memory.specs.Memory.{Memory}
 use Rattle.page_memory.specs.Pages.{IsWhole, Pages, byte_at, page_at}
 use Rattle.queue_pair.specs.Members.{change}
@@ -43,13 +42,15 @@ use Rattle.queue_pair.specs.Rings.{next_tail}
 use Rattle.queue_pair.specs.Slots.{is_full}
 use Rattle.two_sides.specs.Hearing.{heard}
 use Rattle.two_sides.specs.Sides.{Sides, state_of, device_of, device_queue_of, device_queues_of, job_of}
-use Rattle.two_sides.specs.Ties.{AllRingsStand, IsWorld, WalksStand}
+use Rattle.two_sides.specs.Ties.{AllQueuesStand, IsWorld, QueueStands, WalksStand}
 use Rattle.two_sides.proofs.Assembling.{Ties}
-use Rattle.two_sides.proofs.Frames.{Spares, SparesSubmitted, apart_from_commands, apart_from_queues}
-use Rattle.two_sides.proofs.Known.{controller_at, device_at, placed}
-use Rattle.two_sides.proofs.Posted.{CanPost, post_queues, post_rings, post_walks, slot_written, tail_moved, with_entry}
+use Rattle.two_sides.proofs.Frames.{Spares, SparesSubmitted, apart_from_commands, apart_from_queues, host_lists, host_stands, state_stands}
+use Rattle.two_sides.proofs.Granting.{granted_pool, granted_spares, granted_submitted, granted_whole}
+use Rattle.two_sides.proofs.Known.{controller_at, placed, reaped_ring, served_reaped}
+use Rattle.two_sides.proofs.Posted.{CanPost, post_queues, post_stands, post_walks, slot_written, tail_moved, with_entry}
 use Rattle.two_sides.proofs.PostedEntries.{IsTyped, admin_typed, draft_typed}
 use Rattle.two_sides.proofs.Refusing.{answer_as_machine}
+use Rattle.two_sides.proofs.Tokens.{known_live}
 
 -- A live queue with room can be posted to
 
@@ -63,8 +64,7 @@ can_post s mid q h entry world t at live room is whole spares =
         trusted = t;
         at = at;
         beside = c.1;
-        kept = live_has_sq h.state live;
-        there = sym (ap (λ (o : Option DeviceQueue). option_map_or (λ x. is_absent x.state) o true) (device_at s q h c.0 at c.1)) ∙ agreed_there (state_of s) q h (OnTrue_at t world.tied).agree at live;
+        there = known_live s world t q h c.0 at c.1 live;
         room = room;
         is = is;
         whole = whole;
@@ -95,16 +95,16 @@ record Posts (s : Sides) (e : Event) (reply : Reply) (q : ℕ) (h : HostQueue) (
   memory : (after (alone s.host s.pages) e reply).memory ≡ slot_written h entry mid
   device : (after (state_of s) e reply).device ≡ record (device_of s) { queues = change q (with_entry entry) (device_of s).queues }
 
--- Other queues of the host with the same rings and halves.
-record StaysAlike (cs : List ControllerQueue) (hs hs' : List HostQueue) : Type 0 where
-  lists : (m : Memory) → device_queues_of m hs' cs ≡ device_queues_of m hs cs
-  rings : (m : Memory) → AllRingsStand m zero hs cs → AllRingsStand m zero hs' cs
+-- Other queues of the host, which show the machine the same over a memory, and stand where those do.
+record StaysAlike (n : ℕ) (m : Memory) (cs : List ControllerQueue) (hs hs' : List HostQueue) : Type 0 where
+  lists : device_queues_of m hs' cs ≡ device_queues_of m hs cs
+  stands : AllQueuesStand n m zero hs cs → AllQueuesStand n m zero hs' cs
 
 -- a call that posts an entry, of which the controller hears nothing
 ties : (s : Sides) (e : Event) (reply : Reply) (host : HostView) (pages mid : Pages) (q : ℕ) (h : HostQueue) (c : ControllerQueue) (entry : SubEntry) (hs : List HostQueue)
     → CanPost s mid q h c entry → SparesSubmitted s mid → Permits (state_of s) e reply → heard e reply host s.controller ≡ s.controller
     → LeavesByHost (alone s.host s.pages) (after (alone s.host s.pages) e reply) (alone host pages)
-    → Posts s e reply q h entry mid hs → StaysAlike s.controller.queues (change q (tail_moved s.host.entries) s.host.host.queues) hs
+    → Posts s e reply q h entry mid hs → StaysAlike s.host.entries (byte_at (slot_written h entry mid)) s.controller.queues (change q (tail_moved s.host.entries) s.host.host.queues) hs
     → Ties s e reply host pages
 ties s e reply host pages mid q h c entry hs can spares permits unheard leaves posts stays =
     let new : Pages = slot_written h entry mid in
@@ -114,10 +114,10 @@ ties s e reply host pages mid q h c entry hs can spares permits unheard leaves p
       permits = permits;
       device = ap (shown pages host.host.queues) unheard
           ∙ (ap₂ (λ (ps : Pages) (xs : List HostQueue). shown ps xs s.controller) memory queues
-          ∙ (ap with_queues (stays.lists (byte_at new) ∙ post_queues s mid q h c entry can) ∙ sym posts.device));
-      rings = subst (λ (k : Contents). AllRingsStand (byte_at pages) zero host.host.queues k.queues) (sym unheard)
-          (subst (λ (xs : List HostQueue). AllRingsStand (byte_at pages) zero xs s.controller.queues) (sym queues)
-          (subst (λ (ps : Pages). AllRingsStand (byte_at ps) zero hs s.controller.queues) (sym memory) (stays.rings (byte_at new) (post_rings s mid q h c entry can))));
+          ∙ (ap with_queues (stays.lists ∙ post_queues s mid q h c entry can) ∙ sym posts.device));
+      queues = subst (λ (k : Contents). AllQueuesStand s.host.entries (byte_at pages) zero host.host.queues k.queues) (sym unheard)
+          (subst (λ (xs : List HostQueue). AllQueuesStand s.host.entries (byte_at pages) zero xs s.controller.queues) (sym queues)
+          (subst (λ (ps : Pages). AllQueuesStand s.host.entries (byte_at ps) zero hs s.controller.queues) (sym memory) (stays.stands (post_stands s mid q h c entry can))));
       walks = subst (λ (ps : Pages). WalksStand (memory_of ps) s.controller.commands) (sym memory) (post_walks s mid q h c entry can spares);
     }
   where
@@ -127,12 +127,12 @@ ties s e reply host pages mid q h c entry hs can spares permits unheard leaves p
     shown : Pages → List HostQueue → Contents → Device
     shown ps xs k = record { queues = device_queues_of (byte_at ps) xs k.queues; jobs = map job_of k.commands; image = k.image }
 
-same_queues : (cs : List ControllerQueue) (hs : List HostQueue) → StaysAlike cs hs hs
-same_queues cs hs = record { lists = λ m. refl; rings = λ m rings. rings }
+same_queues : (n : ℕ) (m : Memory) (cs : List ControllerQueue) (hs : List HostQueue) → StaysAlike n m cs hs hs
+same_queues n m cs hs = record { lists = refl; stands = λ stands. stands }
 
 -- Identifiers are small
 
-few_entries : (s : Sides) → IsWorld s → (q : ℕ) (h : HostQueue) → slice_get s.host.host.queues q ≡ Some h → s.host.entries ≤ 1024
+pub few_entries : (s : Sides) → IsWorld s → (q : ℕ) (h : HostQueue) → slice_get s.host.host.queues q ≡ Some h → s.host.entries ≤ 1024
 few_entries s world q h at =
     let c = controller_at s world q h at in
     let share = (placed s world q h c.0 at c.1).share in
@@ -220,7 +220,7 @@ submit_ties s d host pages world t step = go d.entry refl
         let can = can_post s (brought s d) d.q h entry world t live.1 live.2 room (draft_typed d entry step.0 small e) (brought_whole s d world step.0) (spares_halves s d r.0 world r.1) in
         ties s (events.Submit d) events.Accepted host pages (brought s d) d.q h can.0 entry (change d.q (tail_moved s.host.entries) s.host.host.queues) can.1 (spares_walks s d r.0 world r.1)
         (answer_as_machine s (events.Submit d) events.Accepted host pages refl refl step) refl step.2 (submitted_posts s d entry h e live.1)
-        (same_queues s.controller.queues (change d.q (tail_moved s.host.entries) s.host.host.queues))
+        (same_queues s.host.entries (byte_at (slot_written h entry (brought s d))) s.controller.queues (change d.q (tail_moved s.host.entries) s.host.host.queues))
 
 -- An admin command is sent
 
@@ -230,17 +230,17 @@ admin_live s world t h at = ap (λ (o : Option HostQueue). option_map_or (λ x. 
 
 -- the call leaves what a sending does, and the queues of the host that it makes of those
 sent_ties : (s : Sides) (e : Event) (kind : AdminKind) (id : ℕ) (host : HostView) (pages : Pages) (g : List HostQueue → List HostQueue) → IsWorld s → s.trusted ≡ true
-    → queue_full (state_of s) 0 ≡ false → id < s.host.entries - 1 → named_by kind < 2 ^ 32
+    → queue_full (state_of s) 0 ≡ false → id < s.host.entries - 1 → named_by kind < 2 ^ 32 → qualified_by kind < 2 ^ 32
     → ((x : State) → after x e (events.Sent id) ≡ a.on_host (λ h. record h { queues = g h.queues }) (a.sent kind id (admin_entry kind id) x))
     → Permits (state_of s) e (events.Sent id) → heard e (events.Sent id) host s.controller ≡ s.controller
     → LeavesByHost (alone s.host s.pages) (after (alone s.host s.pages) e (events.Sent id)) (alone host pages)
-    → StaysAlike s.controller.queues (change 0 (tail_moved s.host.entries) s.host.host.queues) (g (change 0 (tail_moved s.host.entries) s.host.host.queues))
+    → ((m : Memory) → StaysAlike s.host.entries m s.controller.queues (change 0 (tail_moved s.host.entries) s.host.host.queues) (g (change 0 (tail_moved s.host.entries) s.host.host.queues)))
     → Ties s e (events.Sent id) host pages
-sent_ties s e kind id host pages g world t free new named is permits unheard leaves stays =
+sent_ties s e kind id host pages g world t free new named qualified is permits unheard leaves stays =
     let room = room_found (state_of s) 0 free in
     let h : HostQueue = room.0 in
     let small : id < 2 ^ 16 = omega (arith, new, few_entries s world 0 h room.1) in
-    let can = can_post s s.pages 0 h (admin_entry kind id) world t room.1 (admin_live s world t h room.1) room.2 (admin_typed kind id small named) world.sides.over.pool.whole
+    let can = can_post s s.pages 0 h (admin_entry kind id) world t room.1 (admin_live s world t h room.1) room.2 (admin_typed kind id small named qualified) world.sides.over.pool.whole
     (λ q x at. record { submission = λ p among. refl; completion = λ p among. refl }) in
     ties s e (events.Sent id) host pages s.pages 0 h can.0 (admin_entry kind id) (g (change 0 (tail_moved s.host.entries) s.host.host.queues)) can.1 (λ i r at submitted p among. refl)
     permits unheard leaves
@@ -249,7 +249,7 @@ sent_ties s e kind id host pages g world t free new named is permits unheard lea
       memory = ap (λ (x : State). x.memory) (is (alone s.host s.pages)) ∙ ap (λ (x : State). x.memory) (posts h (alone s.host s.pages) room.1);
       device = ap (λ (x : State). x.device) (is (state_of s)) ∙ ap (λ (x : State). x.device) (posts h (state_of s) room.1);
     })
-    stays
+    (stays (byte_at (slot_written h (admin_entry kind id) s.pages)))
   where
     noted : State → State
     noted x = a.on_records (λ records. records ++ sent_record kind id ∷ []) x
@@ -259,7 +259,7 @@ sent_ties s e kind id host pages g world t free new named is permits unheard lea
     posts h x at = after_posts 0 (admin_entry kind id) h (noted x) at
 
 -- queues are few
-queue_below : (s : Sides) → IsWorld s → s.trusted ≡ true → (test : HostState → Bool) (q : ℕ) → in_state test (state_of s) q ≡ true → q < 65536
+pub queue_below : (s : Sides) → IsWorld s → s.trusted ≡ true → (test : HostState → Bool) (q : ℕ) → in_state test (state_of s) q ≡ true → q < 65536
 queue_below s world t test q there =
     let found = queue_found test (state_of s) q there in
     omega (arith, slice_get_within s.host.host.queues q found.0 found.1, (OnTrue_at t world.tied).agree.few_queues)
@@ -268,53 +268,33 @@ pub abort_ties : (s : Sides) (q cid id : ℕ) (host : HostView) (pages : Pages) 
     → Ties s (events.Abort q cid) (events.Sent id) host pages
 abort_ties s q cid id host pages world t step =
     let causes = unrefused (state_of s) (events.Abort q cid) step.1.0 in
-    let queue = queue_below s world t has_sq q (not-false _ (or_parts (q == 0) (not (in_state has_sq (state_of s) q)) causes.0).1) in
+    let queue = queue_below s world t in_service q (not-false _ (or_parts (q == 0) (not (in_state in_service (state_of s) q)) causes.0).1) in
     let r = found (λ r. is_submitted r.phase) (state_of s) q cid (not-false _ causes.1.1.0) in
     let room = room_found (state_of s) 0 causes.1.1.1.1.0 in
     let named : q + 65536 * cid < 2 ^ 32 = omega (arith, queue, small_identifier s world q cid r.0 r.1, few_entries s world 0 room.0 room.1) in
-    sent_ties s (events.Abort q cid) (Abort q cid) id host pages (λ hs. hs) world t causes.1.1.1.1.0 step.1.1.in_range named (λ x. refl)
+    sent_ties s (events.Abort q cid) (Abort q cid) id host pages (λ hs. hs) world t causes.1.1.1.1.0 step.1.1.in_range named (omega arith) (λ x. refl)
     (answer_as_machine s (events.Abort q cid) (events.Sent id) host pages refl refl step) refl step.2
-    (same_queues s.controller.queues (change 0 (tail_moved s.host.entries) s.host.host.queues))
+    (λ m. same_queues s.host.entries m s.controller.queues (change 0 (tail_moved s.host.entries) s.host.host.queues))
 
 pub delete_cq_ties : (s : Sides) (q id : ℕ) (host : HostView) (pages : Pages) → IsWorld s → s.trusted ≡ true → HostStep s.host s.pages (events.DeleteCq q) (events.Sent id) host pages
     → Ties s (events.DeleteCq q) (events.Sent id) host pages
 delete_cq_ties s q id host pages world t step =
     let causes = unrefused (state_of s) (events.DeleteCq q) step.1.0 in
     let queue = queue_below s world t has_cq q (not-false _ (or_parts (q == 0) (not (in_state has_cq (state_of s) q)) causes.0).1) in
-    sent_ties s (events.DeleteCq q) (DeleteCq q) id host pages (λ hs. hs) world t causes.1.1.1.0 step.1.1.in_range (omega (arith, queue)) (λ x. refl)
+    sent_ties s (events.DeleteCq q) (DeleteCq q) id host pages (λ hs. hs) world t causes.1.1.1.0 step.1.1.in_range (omega (arith, queue)) (omega arith) (λ x. refl)
     (answer_as_machine s (events.DeleteCq q) (events.Sent id) host pages refl refl step) refl step.2
-    (same_queues s.controller.queues (change 0 (tail_moved s.host.entries) s.host.host.queues))
+    (λ m. same_queues s.host.entries m s.controller.queues (change 0 (tail_moved s.host.entries) s.host.host.queues))
 
 -- the deletion of a submission queue is asked for: only the host's state of it changes
 
-deleting_lists : (m : Memory) (q : ℕ) (hs : List HostQueue) (cs : List ControllerQueue) → device_queues_of m (change q a.deleting hs) cs ≡ device_queues_of m hs cs
-deleting_lists m q [] cs = refl
-deleting_lists m zero (h ∷ hs) [] = refl
-deleting_lists m zero (h ∷ hs) (c ∷ cs) = refl
-deleting_lists m (suc q) (h ∷ hs) [] = refl
-deleting_lists m (suc q) (h ∷ hs) (c ∷ cs) = ap (λ (ds : List DeviceQueue). device_queue_of m h.ring c ∷ ds) (deleting_lists m q hs cs)
-
-deleting_rings : (m : Memory) (k q : ℕ) (hs : List HostQueue) (cs : List ControllerQueue) → ((h : HostQueue) → slice_get hs q ≡ Some h → has_cq h.state ≡ true)
-    → AllRingsStand m k hs cs → AllRingsStand m k (change q a.deleting hs) cs
-deleting_rings m k q [] cs has rings = tt
-deleting_rings m k zero (h ∷ hs) [] has rings = tt
-deleting_rings m k zero (h ∷ hs) (c ∷ cs) has rings =
-    let stands = rings.0 in
-    let there = has h refl in (
-      record {
-        fetched = stands.fetched;
-        rung = stands.rung;
-        heard = stands.heard;
-        expected = stands.expected;
-        phases = λ e. stands.phases there;
-        owned = λ e. stands.owned there;
-        follow = λ e. stands.follow there;
-        drained = λ e. absurd (true≢false e);
-      },
-      rings.1,
-    )
-deleting_rings m k (suc q) (h ∷ hs) [] has rings = tt
-deleting_rings m k (suc q) (h ∷ hs) (c ∷ cs) has rings = (rings.0, deleting_rings m (suc k) q hs cs has rings.1)
+deleting_stands : (n : ℕ) (m : Memory) (q : ℕ) (h : HostQueue) (c : ControllerQueue) → in_service h.state ≡ true → QueueStands n m q h c → QueueStands n m q (a.deleting h) c
+deleting_stands n m q h c serves stands =
+    let has = reaped_ring h c (served_reaped h.state serves) in
+    record {
+      halves = record { submission = stands.halves.submission; completion = λ x. stands.halves.completion has };
+      rings = λ x. state_stands m q h c (Deleting false) h.sq_pages h.cq_pages (stands.rings has) (λ e. absurd (true≢false e));
+      granted = λ making absent. absurd (true≢false (sym making));
+    }
 
 -- a queue of an I/O number is as it was
 past_first : (f : HostQueue → HostQueue) (q : ℕ) (hs : List HostQueue) → (q == 0) ≡ false → slice_get (change 0 f hs) q ≡ slice_get hs q
@@ -322,16 +302,87 @@ past_first f zero hs io = absurd (true≢false io)
 past_first f (suc q) [] io = refl
 past_first f (suc q) (h ∷ hs) io = refl
 
+-- what holds of the queue that is found there
+found_past_first : (P : HostQueue → Type 0) (f : HostQueue → HostQueue) (q : ℕ) (hs : List HostQueue) (h x : HostQueue) → (q == 0) ≡ false → slice_get hs q ≡ Some h → slice_get (change 0 f hs) q ≡ Some x → P h → P x
+found_past_first P f q hs h x io at at' p =
+    let same : Some h ≡ Some x = sym at ∙ sym (past_first f q hs io) ∙ at' in
+    let one : h ≡ x = cc in
+    subst P one p
+
 pub delete_sq_ties : (s : Sides) (q id : ℕ) (host : HostView) (pages : Pages) → IsWorld s → s.trusted ≡ true → HostStep s.host s.pages (events.DeleteSq q) (events.Sent id) host pages
     → Ties s (events.DeleteSq q) (events.Sent id) host pages
 delete_sq_ties s q id host pages world t step =
     let causes = unrefused (state_of s) (events.DeleteSq q) step.1.0 in
-    let io = or_parts (q == 0) (not (in_state has_sq (state_of s) q)) causes.0 in
-    let queue = queue_found has_sq (state_of s) q (not-false _ io.1) in
+    let io = or_parts (q == 0) (not (in_state in_service (state_of s) q)) causes.0 in
+    let queue = queue_found in_service (state_of s) q (not-false _ io.1) in
     let sent : List HostQueue = change 0 (tail_moved s.host.entries) s.host.host.queues in
-    let has : (h : HostQueue) → slice_get sent q ≡ Some h → has_cq h.state ≡ true =
-    λ h at. let same : Some queue.0 ≡ Some h = sym queue.1 ∙ sym (past_first (tail_moved s.host.entries) q s.host.host.queues io.0) ∙ at in
-    subst (λ (x : HostQueue). has_cq x.state ≡ true) (let one : queue.0 ≡ h = cc in one) (sq_with_cq queue.0.state queue.2) in
-    sent_ties s (events.DeleteSq q) (DeleteSq q) id host pages (change q a.deleting) world t causes.1.1.1.0 step.1.1.in_range (omega (arith, queue_below s world t has_sq q (not-false _ io.1))) (λ x. refl)
+    sent_ties s (events.DeleteSq q) (DeleteSq q) id host pages (change q a.deleting) world t causes.1.1.1.0 step.1.1.in_range (omega (arith, queue_below s world t in_service q (not-false _ io.1))) (omega arith) (λ x. refl)
     (answer_as_machine s (events.DeleteSq q) (events.Sent id) host pages refl refl step) refl step.2
-    (record { lists = λ m. deleting_lists m q sent s.controller.queues; rings = λ m rings. deleting_rings m zero q sent s.controller.queues has rings })
+    (λ m. record {
+      lists = host_lists m q a.deleting sent s.controller.queues (λ h c at there. refl);
+      stands = host_stands s.host.entries m q a.deleting sent s.controller.queues
+          (λ h c at there stands. deleting_stands s.host.entries m q h c
+          (found_past_first (λ (x : HostQueue). in_service x.state ≡ true) (tail_moved s.host.entries) q s.host.host.queues queue.0 h io.0 queue.1 at queue.2) stands);
+    })
+
+-- A queue gets a half
+
+-- the halves of other queues are changed before or after
+changed_past_first : (f g : HostQueue → HostQueue) (q : ℕ) (hs : List HostQueue) → (q == 0) ≡ false → change 0 f (change q g hs) ≡ change q g (change 0 f hs)
+changed_past_first f g zero hs io = absurd (true≢false io)
+changed_past_first f g (suc q) [] io = refl
+changed_past_first f g (suc q) (h ∷ hs) io = refl
+
+first_stays : (g : HostQueue → HostQueue) (q : ℕ) (hs : List HostQueue) → (q == 0) ≡ false → slice_get (change q g hs) 0 ≡ slice_get hs 0
+first_stays g zero hs io = absurd (true≢false io)
+first_stays g (suc q) [] io = refl
+first_stays g (suc q) (h ∷ hs) io = refl
+
+-- the state of either side, as the host has it
+abbrev pub seen_by : Sides → Device → Bool → State
+seen_by s d b = record (state_of s) { device = d; trusted = b }
+
+-- what a queue with its new half is over a memory with an entry of queue 0 written, and with the half's pages as zeros
+pub record IsMade (s : Sides) (m : Memory) (q : ℕ) (f : HostQueue → HostQueue) : Type 0 where
+  pub lists : (h : HostQueue) (c : ControllerQueue) → slice_get s.host.host.queues q ≡ Some h → slice_get s.controller.queues q ≡ Some c → device_queue_of m (f h).ring c ≡ device_queue_of m h.ring c
+  pub stands : (h : HostQueue) (c : ControllerQueue) → slice_get s.host.host.queues q ≡ Some h → slice_get s.controller.queues q ≡ Some c → QueueStands s.host.entries m q h c → QueueStands s.host.entries m q (f h) c
+
+pub made_ties : (s : Sides) (e : Event) (kind : AdminKind) (id : ℕ) (host : HostView) (pages : Pages) (q count first : ℕ) (f : HostQueue → HostQueue) → (world : IsWorld s) → s.trusted ≡ true → (q == 0) ≡ false
+    → (run : first_of_run s.host.host.free count ≡ Some first) → queue_full (state_of s) 0 ≡ false → id < s.host.entries - 1 → named_by kind < 2 ^ 32 → qualified_by kind < 2 ^ 32
+    → ((d : Device) (b : Bool) → after (seen_by s d b) e (events.Sent id) ≡ a.sent kind id (admin_entry kind id) (a.on_host_queue q f (a.half_granted (pages_from first count) (seen_by s d b))))
+    → Permits (state_of s) e (events.Sent id) → heard e (events.Sent id) host s.controller ≡ s.controller
+    → LeavesByHost (alone s.host s.pages) (after (alone s.host s.pages) e (events.Sent id)) (alone host pages)
+    → ((h : HostQueue) (c : ControllerQueue) → CanPost s (granted_pool s world count first run) 0 h c (admin_entry kind id) → IsMade s (byte_at (slot_written h (admin_entry kind id) (granted_pool s world count first run))) q f)
+    → Ties s e (events.Sent id) host pages
+made_ties s e kind id host pages q count first f world t io run free new named qualified is permits unheard leaves made =
+    let room = room_found (state_of s) 0 free in
+    let h : HostQueue = room.0 in
+    let entry : SubEntry = admin_entry kind id in
+    let small : id < 2 ^ 16 = omega (arith, new, few_entries s world 0 h room.1) in
+    let mid : Pages = granted_pool s world count first run in
+    let sent : List HostQueue = change 0 (tail_moved s.host.entries) s.host.host.queues in
+    let can = can_post s mid 0 h entry world t room.1 (admin_live s world t h room.1) room.2 (admin_typed kind id small named qualified) (granted_whole s world count first run) (granted_spares s world count first run) in
+    let its = made h can.0 can.1 in
+    ties s e (events.Sent id) host pages mid 0 h can.0 entry (change q f sent) can.1 (granted_submitted s world count first run) permits unheard leaves
+    (record {
+      queues = ap (λ (x : State). x.host.queues) (leaves_of h room.1 nothing false) ∙ changed_past_first (tail_moved s.host.entries) f q s.host.host.queues io;
+      memory = ap (λ (x : State). x.memory) (leaves_of h room.1 nothing false);
+      device = ap (λ (x : State). x.device) (leaves_of h room.1 (device_of s) s.trusted);
+    })
+    (record {
+      lists = host_lists (byte_at (slot_written h entry mid)) q f sent s.controller.queues
+          (λ x c at there. its.lists x c (sym (past_first (tail_moved s.host.entries) q s.host.host.queues io) ∙ at) there);
+      stands = host_stands s.host.entries (byte_at (slot_written h entry mid)) q f sent s.controller.queues
+          (λ x c at there. its.stands x c (sym (past_first (tail_moved s.host.entries) q s.host.host.queues io) ∙ at) there);
+    })
+  where
+    granted_to : Device → Bool → State
+    granted_to d b = a.on_host_queue q f (a.half_granted (pages_from first count) (seen_by s d b))
+
+    noted : State → State
+    noted x = a.on_records (λ records. records ++ sent_record kind id ∷ []) x
+
+    leaves_of : (h : HostQueue) → slice_get s.host.host.queues 0 ≡ Some h → (d : Device) (b : Bool)
+        → after (seen_by s d b) e (events.Sent id)
+        ≡ a.on_ring 0 (next_tail s.host.entries) (a.on_device_queue 0 (with_entry (admin_entry kind id)) (a.on_memory (slot_written h (admin_entry kind id)) (noted (granted_to d b))))
+    leaves_of h at d b = is d b ∙ after_posts 0 (admin_entry kind id) h (noted (granted_to d b)) (first_stays f q s.host.host.queues io ∙ at)

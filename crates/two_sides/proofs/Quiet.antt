@@ -1,5 +1,5 @@
 -- The host's calls that move the pages of commands alone, where nothing was forged, and its rings of a tail: no queue of the host changes.
-use Rattle.std.proofs.Common.{◌≡◌, ℕ, zero, suc, ◌<◌, Bool, true, false, ◌&&◌, ◌||◌, Option, Some, List, [], ◌∷◌, ◌++◌, length, slice_get, if◌then◌else◌, refl, ap, sym, ◌∙◌, arith, subst}
+use Rattle.std.proofs.Common.{◌≡◌, ℕ, zero, ◌<◌, Bool, true, false, ◌&&◌, ◌||◌, Option, Some, List, [], ◌++◌, length, slice_get, if◌then◌else◌, refl, ap, sym, ◌∙◌, arith, subst}
 use Rattle.std.specs.Option.{option_map, option_map_or}
 use Rattle.std.proofs.lemmas.Bool.{not-false, true≢false}
 use Rattle.std.proofs.lemmas.Bool.Decides.{nat_tests}
@@ -16,7 +16,7 @@ use Rattle.machine_model.specs.After.{after, collected, on_memory, on_records}
 use Rattle.machine_model.specs.Events as events
 use Rattle.machine_model.specs.Events.{Event, Reply}
 use Rattle.machine_model.specs.Memory.{memory_of, without_pages}
-use Rattle.machine_model.specs.Refusals.{has_sq, is_collected, is_drafted, is_held, is_submitted}
+use Rattle.machine_model.specs.Refusals.{in_service, is_collected, is_drafted, is_held, is_submitted}
 use Rattle.machine_model.specs.State.{State, HostQueue, DeviceQueue, Record, is_at, pages_of, record_at, with_record}
 use Rattle.machine_model.specs.Step.{IsController, forges, times}
 use Rattle.machine_model.proofs.Counting.{held_once}
@@ -33,12 +33,12 @@ use Rattle.queue_pair.specs.Slots.{distance, is_in_range}
 use Rattle.two_sides.specs.Hearing.{heard}
 use Rattle.two_sides.specs.Laws.{looks_at_completions}
 use Rattle.two_sides.specs.Sides.{Sides, state_of, device_of, device_queue_of, device_queues_of, unfetched_between}
-use Rattle.two_sides.specs.Ties.{AllRingsStand, IsWorld, RingsStand, WalksStand}
+use Rattle.two_sides.specs.Ties.{AllQueuesStand, IsWorld, QueueStands, WalksStand}
 use Rattle.two_sides.proofs.Alike.{left_alike}
 use Rattle.two_sides.proofs.Bells.{tails_heard}
 use Rattle.two_sides.proofs.Places.{in_ring, length-unfetched}
 use Rattle.two_sides.proofs.Assembling.{Ties, sees_alike}
-use Rattle.two_sides.proofs.Frames.{Spares, all_rings_stay, free_apart_from_queues, one_queue, one_ring, queues_stay, walks_after}
+use Rattle.two_sides.proofs.Frames.{Spares, all_stand_still, free_apart_from_queues, one_queue, one_stands, queues_stay, unchanged, walks_after}
 use Rattle.two_sides.proofs.Known.{known, tied_of}
 use Rattle.two_sides.proofs.Owning.{commands_apart}
 use Rattle.two_sides.proofs.Refusing.{answer_as_machine, answers}
@@ -66,8 +66,8 @@ quiet_ties s e reply host pages world t step c f looks unheard keeps device ok s
           ∙ ap (λ (hs : List HostQueue). record (device_of s) { queues = device_queues_of (byte_at pages) hs s.controller.queues }) queues
           ∙ ap (λ (ds : List DeviceQueue). record (device_of s) { queues = ds }) (queues_stay s pages world t spares)
           ∙ sym device;
-      rings = subst (λ (hs : List HostQueue). AllRingsStand (byte_at pages) zero hs (heard e reply host s.controller).queues) (sym queues)
-          (subst (λ (k : Contents). AllRingsStand (byte_at pages) zero s.host.host.queues k.queues) (sym unheard) (all_rings_stay s pages world t spares));
+      queues = subst (λ (hs : List HostQueue). AllQueuesStand s.host.entries (byte_at pages) zero hs (heard e reply host s.controller).queues) (sym queues)
+          (subst (λ (k : Contents). AllQueuesStand s.host.entries (byte_at pages) zero s.host.host.queues k.queues) (sym unheard) (all_stand_still s pages world t spares));
       walks = walks_behind s e reply host pages world t c f step ok seen;
     }
 
@@ -138,11 +138,6 @@ collect_ties s q cid f host pages world t step =
 
 -- The controller hears a tail.
 
-unchanged : {A : Type 0} (q : ℕ) (xs : List A) → change q (λ x. x) xs ≡ xs
-unchanged q [] = refl
-unchanged zero (x ∷ xs) = refl
-unchanged {A = A} (suc q) (x ∷ xs) = ap (λ (l : List A). x ∷ l) (unchanged q xs)
-
 abbrev with_rung : DeviceQueue → DeviceQueue
 with_rung at = record at { rung = length at.unfetched }
 
@@ -159,20 +154,25 @@ ends_in_range : (n from to : ℕ) → to < n → is_in_range n from to to ≡ tr
 ends_in_range n from to l = grind (arith, nat_tests, l)
 
 rung_stands : (s : Sides) (q : ℕ) (h : HostQueue) (c : ControllerQueue) → IsWorld s → s.trusted ≡ true → slice_get s.host.host.queues q ≡ Some h → slice_get s.controller.queues q ≡ Some c
-    → RingsStand (byte_at s.pages) q h (with_tail h.ring.tail c)
+    → QueueStands s.host.entries (byte_at s.pages) q h (with_tail h.ring.tail c)
 rung_stands s q h c world t e f =
     let known' = known s world t q h c e f in
-    let rings = known'.rings in
-    subst (RingsStand (byte_at s.pages) q h) (sym (tails_heard s q h c world.sides e f))
+    subst (QueueStands s.host.entries (byte_at s.pages) q h) (sym (tails_heard s q h c world.sides e f))
     (record {
-      fetched = rings.fetched;
-      rung = ends_in_range c.device.entries c.device.ring.head h.ring.tail (in_ring s q h c known').tail;
-      heard = rings.heard;
-      expected = rings.expected;
-      phases = λ has. record { stands = (rings.phases has).stands };
-      owned = rings.owned;
-      follow = rings.follow;
-      drained = rings.drained;
+      halves = record { submission = known'.submission; completion = known'.completion };
+      rings = λ has.
+          let rings = known'.rings has in
+          record {
+            fetched = rings.fetched;
+            rung = ends_in_range c.device.entries c.device.ring.head h.ring.tail (in_ring s q h c known').tail;
+            heard = rings.heard;
+            expected = rings.expected;
+            phases = record { stands = rings.phases.stands };
+            owned = rings.owned;
+            follow = rings.follow;
+            drained = rings.drained;
+          };
+      granted = known'.granted;
     })
 
 pub ring_ties : (s : Sides) (q : ℕ) (host : HostView) (pages : Pages) → IsWorld s → s.trusted ≡ true
@@ -184,8 +184,8 @@ ring_ties s q host pages world t step =
     m : Memory
     m = byte_at s.pages
 
-    its : (h : HostQueue) × (slice_get s.host.host.queues q ≡ Some h) × (has_sq h.state ≡ true)
-    its = queue_found has_sq (alone s.host s.pages) q (not-false _ (unrefused (alone s.host s.pages) (events.Ring q) step.1.0).0)
+    its : (h : HostQueue) × (slice_get s.host.host.queues q ≡ Some h) × (in_service h.state ≡ true)
+    its = queue_found in_service (alone s.host s.pages) q (not-false _ (unrefused (alone s.host s.pages) (events.Ring q) step.1.0).0)
 
     told : heard (events.Ring q) events.Accepted s.host s.controller ≡ tail_rung q its.0.ring.tail s.controller
     told = ap (λ (o : Option HostQueue). option_map_or (λ tail. tail_rung q tail s.controller) (option_map (λ h. h.ring.tail) o) s.controller) its.1
@@ -205,10 +205,10 @@ ring_ties s q host pages world t step =
     here = record {
       permits = answer_as_machine s (events.Ring q) events.Accepted host pages refl refl step;
       device = ap (λ (k : Contents). device_of (record s { controller = k })) told ∙ ap (λ (ds : List DeviceQueue). record (device_of s) { queues = ds }) queues;
-      rings = subst (λ (k : Contents). AllRingsStand m zero s.host.host.queues k.queues) (sym told)
-          (subst (λ (hs : List HostQueue). AllRingsStand m zero hs (change q (with_tail its.0.ring.tail) s.controller.queues)) (unchanged q s.host.host.queues)
-          (one_ring m m q (λ h. h) (with_tail its.0.ring.tail) s.host.host.queues s.controller.queues
-          (λ h c e f rings. same (λ x. RingsStand m q x (with_tail its.0.ring.tail c)) h e (rung_stands s q its.0 c world t its.1 f))
-          (λ i h c other e f rings. rings) (tied_of s world t).rings));
+      queues = subst (λ (k : Contents). AllQueuesStand s.host.entries m zero s.host.host.queues k.queues) (sym told)
+          (subst (λ (hs : List HostQueue). AllQueuesStand s.host.entries m zero hs (change q (with_tail its.0.ring.tail) s.controller.queues)) (unchanged q s.host.host.queues)
+          (one_stands s.host.entries m m q (λ h. h) (with_tail its.0.ring.tail) s.host.host.queues s.controller.queues
+          (λ h c e f stands. same (λ x. QueueStands s.host.entries m q x (with_tail its.0.ring.tail c)) h e (rung_stands s q its.0 c world t its.1 f))
+          (λ i h c other e f stands. stands) (tied_of s world t).queues));
       walks = (tied_of s world t).walks;
     }

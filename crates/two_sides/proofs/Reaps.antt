@@ -1,7 +1,9 @@
 -- A reap: its answer is the machine's, and the answer that it takes is gone on both sides.
-use Rattle.std.proofs.Common.{◌≡◌, ℕ, zero, suc, Bool, true, false, Option, Some, None, List, [], ◌∷◌, slice_get, if◌then◌else◌, refl, ap, sym, ◌∙◌, subst}
+use Rattle.std.proofs.Common.{◌≡◌, ℕ, zero, suc, ◌<◌, Bool, true, false, Option, Some, None, List, [], ◌∷◌, slice_get, if◌then◌else◌, refl, ap, sym, ◌∙◌, subst, arith}
 use Rattle.std.specs.Option.{option_map_or}
-use Rattle.std.proofs.lemmas.Bool.{OnTrue_at, not-false, true≢false}
+use Rattle.std.proofs.lemmas.Bool.{OnTrue_at, not-false}
+use Rattle.std.proofs.lemmas.Option.{slice_get_within}
+use Rattle.admin_commands.specs.Verdicts.{is_absent}
 use Rattle.controller_core.specs.Contents.{Contents}
 use Rattle.controller_core.specs.Doorbells as controller
 use Rattle.controller_core.specs.declared.queue.ControllerQueue.{ControllerQueue}
@@ -14,43 +16,48 @@ use Rattle.machine_model.specs.After as a
 use Rattle.machine_model.specs.After.{after, after_reap}
 use Rattle.machine_model.specs.Events as events
 use Rattle.machine_model.specs.Events.{Event, Reply}
-use Rattle.machine_model.specs.Refusals.{has_cq, is_retired, refusal_of, seen_entry}
+use Rattle.machine_model.specs.Refusals.{in_service, is_reaped, refusal_of, seen_entry}
 use Rattle.machine_model.specs.State.{State, HostQueue, Record, with_record}
-use Rattle.machine_model.specs.Step.{reaped, reaped_entry}
-use Rattle.machine_model.specs.declared.words.HostState.TheVariants.{Live, Deleting, Gone}
+use Rattle.machine_model.specs.Step.{host_part, reaped, reaped_entry}
+use Rattle.machine_model.specs.declared.words.HostState.TheVariants.{Live, Deleting}
 use Rattle.machine_model.specs.declared.words.Reaped.{Reaped}
 use Rattle.machine_model.specs.declared.words.Reaped.TheVariants as found
 use Rattle.machine_model.specs.declared.words.Refusal.{Refusal}
 use Rattle.machine_model.specs.declared.words.Refusal.TheVariants as refusal
 use Rattle.machine_model.specs.declared.words.RejectedFor.{RejectedFor}
 use Rattle.machine_model.specs.declared.words.Work.TheVariants.{Management}
-use Rattle.admin_commands.specs.declared.AdminKind.TheVariants.{DeleteSq}
+use Rattle.admin_commands.specs.declared.AdminKind.TheVariants.{DeleteSq, DeleteCq, CreateCq, CreateSq}
 use Rattle.machine_model.proofs.Agreeing.{stood_of}
-use Rattle.machine_model.proofs.Asked.{asked_note}
-use Rattle.machine_model.proofs.Halves.{asked_has_sq, retired_has_no_sq, sq_with_cq}
+use Rattle.machine_model.proofs.AwaitedKept.{asked_as_heard, making_cq_as_heard, making_sq_as_heard, ring_at}
 use Rattle.machine_model.proofs.Moves.{HostMoves, IsHeard, heard_without, host_moves, named, queue_found}
+use Rattle.machine_model.proofs.Owned.{HoldsPart}
 use Rattle.machine_model.proofs.Refused.{first_fails}
 use Rattle.machine_model.proofs.Steps.{Accepts}
 use Rattle.page_memory.specs.Pages.{Pages, byte_at}
 use Rattle.queue_pair.specs.Members.{change}
-use Rattle.queue_pair.specs.Rings.{knowing, next_head}
-use Rattle.queue_pair.specs.Slots.{next_slot}
+use Rattle.queue_pair.specs.Rings.{hearing_head, knowing, next_head}
+use Rattle.queue_pair.specs.Slots.{is_in_range, next_slot}
 use Rattle.two_sides.specs.Hearing.{heard}
 use Rattle.two_sides.specs.Laws.{behind}
 use Rattle.two_sides.specs.Sides.{Sides, state_of, device_of}
 use Rattle.two_sides.specs.Stepping.{StepsTo}
-use Rattle.two_sides.specs.Ties.{AllRingsStand, AreTied, IsWorld, RingsStand}
+use Rattle.two_sides.specs.Ties.{AllQueuesStand, AreTied, IsWorld, QueueStands}
 use Rattle.two_sides.proofs.Assembling.{Ties, host_refused}
-use Rattle.two_sides.proofs.Looking.{Leads, all_stand, bare, bare_reap, head_kept, leads_to_ties, left_alone, rings_kept, state_stands, view}
+use Rattle.two_sides.proofs.Frames.{host_stands}
+use Rattle.two_sides.proofs.Known.{known}
+use Rattle.two_sides.proofs.Looking.{Leads, bare, bare_reap, head_kept, leads_to_ties, left_alone, rings_kept, view}
 use Rattle.two_sides.proofs.Refusing.{into, refuses}
+use Rattle.two_sides.proofs.Restated.{comes_live, frees_half, makes_half, still_serves, unmakes_half}
 use Rattle.two_sides.proofs.Seen.{seen_alike, told}
 use Rattle.two_sides.proofs.Taking.{Follows, IsTaken, answer_follows, known_follows, sees, taken, takes}
+use Rattle.two_sides.proofs.Tokens.{absent_is, carried, completions_is, freed_not_there, made_there, unmade_absent, unmade_not_there}
+use Rattle.machine_model.specs.Agreeing.{has_completions_at}
 
 -- What is reaped
 
 -- the queue of a reap that is not refused
-reaped_queue : (s : Sides) (q : ℕ) → refusal_of (state_of s) (events.Reap q) ≡ None → (h : HostQueue) × (slice_get s.host.host.queues q ≡ Some h) × (has_cq h.state ≡ true)
-reaped_queue s q none = queue_found has_cq (state_of s) q (not-false _ (first_fails _ refusal.NoQueue [] none))
+reaped_queue : (s : Sides) (q : ℕ) → refusal_of (state_of s) (events.Reap q) ≡ None → (h : HostQueue) × (slice_get s.host.host.queues q ≡ Some h) × (is_reaped h.state ≡ true)
+reaped_queue s q none = queue_found is_reaped (state_of s) q (not-false _ (first_fails _ refusal.NoQueue [] none))
 
 reaped_told : (s : State) (q : ℕ) (o : Option ComEntry) → option_map_or (reaped_entry s q) o found.Empty ≡ option_map_or (reaped_entry s q) (told o) found.Empty
 reaped_told s q None = refl
@@ -77,7 +84,7 @@ reap_leads s tied q v what host some t =
     ap (λ (o : Option ℕ). option_map_or (λ head. controller.head_rung q head s.controller) o s.controller) (rung what q host some ∙ t.head) in
     record {
       device = ap (λ (c : Contents). device_of (record s { host = host; controller = c })) hears ∙ ap (λ queues. record (device_of s) { queues = queues }) t.device;
-      rings = subst (λ (c : Contents). AllRingsStand (byte_at s.pages) 0 host.host.queues c.queues) (sym hears) t.rings;
+      queues = subst (λ (c : Contents). AllQueuesStand s.host.entries (byte_at s.pages) 0 host.host.queues c.queues) (sym hears) t.queues;
       walks = tied.walks;
     }
 
@@ -90,12 +97,13 @@ change_twice {A = A} f g (suc q) (x ∷ xs) = ap (λ (l : List A). x ∷ l) (cha
 
 -- a queue's state is changed too
 restated : (s : Sides) (q v k : ℕ) (f : HostQueue → HostQueue) (hs : List HostQueue) → ((h : HostQueue) → (f h).ring ≡ h.ring)
-    → ((i : ℕ) (h : HostQueue) (c : ControllerQueue) → slice_get hs k ≡ Some h → RingsStand (byte_at s.pages) i h c → RingsStand (byte_at s.pages) i (f h) c)
+    → ((h : HostQueue) (c : ControllerQueue) → slice_get hs k ≡ Some h → slice_get (change q (controller.with_head v) s.controller.queues) k ≡ Some c
+    → QueueStands s.host.entries (byte_at s.pages) k h c → QueueStands s.host.entries (byte_at s.pages) k (f h) c)
     → IsTaken s q v hs → IsTaken s q v (change k f hs)
 restated s q v k f hs same here t =
     record {
       device = rings_kept (byte_at s.pages) k f hs (change q (controller.with_head v) s.controller.queues) same ∙ t.device;
-      rings = all_stand (byte_at s.pages) 0 k f hs (change q (controller.with_head v) s.controller.queues) (λ i h c at there stands. here i h c at stands) t.rings;
+      queues = host_stands s.host.entries (byte_at s.pages) k f hs (change q (controller.with_head v) s.controller.queues) here t.queues;
       head = head_kept k q f hs same ∙ t.head;
     }
 
@@ -127,23 +135,100 @@ consumes s world tied t q why none is = go (seen_entry (state_of s) q) refl is
         let n : ℕ = s.host.entries in
         (next_slot n h.0.ring.head, takes s world tied q h.0.ring.known_head h.0 x.0 (λ queue. record queue { ring = next_head n queue.ring }) x.1 (known_follows s q h.0 x.0 x.1) refl)
 
--- a queue whose deletion is heard of has both halves, and keeps them
-noted : (s : Sides) → AreTied s → (q cid : ℕ) (st : Status) (e : ComEntry) (r : Record) (k : ℕ) → IsHeard (state_of s) q cid st e r → r.work ≡ Management (DeleteSq k)
-    → (i : ℕ) (h : HostQueue) (c : ControllerQueue) → slice_get (a.heard q e (state_of s)).host.queues k ≡ Some h → RingsStand (byte_at s.pages) i h c
-    → RingsStand (byte_at s.pages) i (record h { state = if is_success st then Deleting true else Live }) c
-noted s tied q cid st e r k heard w i h c at stands =
-    let g = (stood_of (state_of s) tied.agree).grounds in
-    let has = asked_has_sq h.state (asked_note (state_of s) q cid st e r k g.stands.0 g.fit.asked heard w h at) in
-    go (is_success st) (sq_with_cq h.state has)
-  where
-    go : (b : Bool) → has_cq h.state ≡ true → RingsStand (byte_at s.pages) i (record h { state = if b then Deleting true else Live }) c
-    go true live = state_stands (byte_at s.pages) i h c (Deleting true) h.sq_pages h.cq_pages stands (λ z. live) (λ over. absurd (true≢false over))
-    go false live = state_stands (byte_at s.pages) i h c Live h.sq_pages h.cq_pages stands (λ z. live) (λ over. absurd (true≢false over))
+-- What an answer that is heard tells of the queues behind it
 
--- and a retired one gives back its completion half, in which nothing waits
-given_back : (s : Sides) (i : ℕ) (h : HostQueue) (c : ControllerQueue) → is_retired h.state ≡ true → RingsStand (byte_at s.pages) i h c → RingsStand (byte_at s.pages) i (a.gone h) c
-given_back s i h c retired stands =
-    state_stands (byte_at s.pages) i h c Gone h.sq_pages [] stands (λ live. absurd (true≢false (sym live))) (λ over. stands.drained (retired_has_no_sq h.state retired))
+-- a queue behind it, as it was before
+record Was (s : Sides) (k : ℕ) (h : HostQueue) (c : ControllerQueue) : Type 0 where
+  host : HostQueue
+  at : slice_get s.host.host.queues k ≡ Some host
+  queue : ControllerQueue
+  there : slice_get s.controller.queues k ≡ Some queue
+  state : c.state ≡ queue.state
+  completions : c.cq_there ≡ queue.cq_there
+
+head_keeps : (v : ℕ) (c : ControllerQueue) → ((controller.with_head v c).state ≡ c.state) × ((controller.with_head v c).cq_there ≡ c.cq_there)
+head_keeps v c = go (is_in_range c.device.entries c.device.ring.known_head c.device.ring.tail v)
+  where
+    go : (b : Bool) → (let d : ControllerQueue = (if b then controller.with_side (record c.device { ring = hearing_head v c.device.ring }) c else c) in (d.state ≡ c.state) × (d.cq_there ≡ c.cq_there))
+    go true = (refl, refl)
+    go false = (refl, refl)
+
+head_at : (q k v : ℕ) (cs : List ControllerQueue) (c : ControllerQueue) → slice_get (change q (controller.with_head v) cs) k ≡ Some c
+    → (d : ControllerQueue) × (slice_get cs k ≡ Some d) × (c.state ≡ d.state) × (c.cq_there ≡ d.cq_there)
+head_at q k v [] c e = absurd cc
+head_at zero zero v (x ∷ cs) c e =
+    let same : controller.with_head v x ≡ c = cc in
+    let keeps = head_keeps v x in
+    (x, refl, ap (λ (z : ControllerQueue). z.state) (sym same) ∙ keeps.0, ap (λ (z : ControllerQueue). z.cq_there) (sym same) ∙ keeps.1)
+head_at zero (suc k) v (x ∷ cs) c e = (c, e, refl, refl)
+head_at (suc q) zero v (x ∷ cs) c e = (c, e, refl, refl)
+head_at (suc q) (suc k) v (x ∷ cs) c e = head_at q k v cs c e
+
+was : (s : Sides) (q v k : ℕ) (e : ComEntry) (h : HostQueue) (c : ControllerQueue) → slice_get (a.heard q e (state_of s)).host.queues k ≡ Some h → slice_get (change q (controller.with_head v) s.controller.queues) k ≡ Some c → Was s k h c
+was s q v k e h c at there =
+    let known = ring_at q k (knowing e.sqhd) (a.consumed q (state_of s)).host.queues h at in
+    let next = ring_at q k (next_head s.host.entries) s.host.host.queues known.0 known.1 in
+    let d = head_at q k v s.controller.queues c there in
+    record { host = next.0; at = next.1; queue = d.0; there = d.1; state = d.2; completions = d.3 }
+
+module _ (s : Sides) (world : IsWorld s) (tied : AreTied s) (t : s.trusted ≡ true) (q v k cid : ℕ) (st : Status) (e : ComEntry) (r : Record) (heard : IsHeard (state_of s) q cid st e r) where
+  holds : HoldsPart (host_part (state_of s))
+  holds = (stood_of (state_of s) tied.agree).grounds.stands.0
+
+  few : (h : HostQueue) (c : ControllerQueue) → Was s k h c → k < 65536
+  few h c w = omega (arith, slice_get_within s.host.host.queues k w.host w.at, tied.agree.few_queues)
+
+  none_there : (h : HostQueue) (c : ControllerQueue) → (x : Was s k h c) → has_completions_at (state_of s).device.queues k ≡ false → c.cq_there ≡ false
+  none_there h c x none = x.completions ∙ completions_is s k x.host x.queue false x.at x.there none
+
+  -- a queue whose deletion is heard of is in service, and stays so
+  noted : r.work ≡ Management (DeleteSq k) → (h : HostQueue) (c : ControllerQueue) → slice_get (a.heard q e (state_of s)).host.queues k ≡ Some h
+      → QueueStands s.host.entries (byte_at s.pages) k h c → QueueStands s.host.entries (byte_at s.pages) k (record h { state = if is_success st then Deleting true else Live }) c
+  noted w h c at stands = go (is_success st)
+    where
+      served : in_service h.state ≡ true
+      served = ap in_service (asked_as_heard (state_of s) q cid st e r k holds heard w h at)
+
+      go : (b : Bool) → QueueStands s.host.entries (byte_at s.pages) k (record h { state = if b then Deleting true else Live }) c
+      go true = still_serves s.host.entries (byte_at s.pages) k h c (Deleting true) served refl refl stands
+      go false = still_serves s.host.entries (byte_at s.pages) k h c Live served refl refl stands
+
+  -- a completion half is given back that was deleted, or that was not made
+  freed : r.work ≡ Management (DeleteCq k) → is_success st ≡ true → (h : HostQueue) (c : ControllerQueue) → slice_get (a.heard q e (state_of s)).host.queues k ≡ Some h
+      → slice_get (change q (controller.with_head v) s.controller.queues) k ≡ Some c → QueueStands s.host.entries (byte_at s.pages) k h c → QueueStands s.host.entries (byte_at s.pages) k (a.gone h) c
+  freed w good h c at there stands =
+      let x = was s q v k e h c at there in
+      frees_half s.host.entries (byte_at s.pages) k h c
+      (none_there h c x (freed_not_there (state_of s) k (is_success st) tied.agree (few h c x) good (carried (state_of s) q cid st e r (DeleteCq k) t tied.agree heard w))) stands
+
+  unmade_cq : (n base : ℕ) → r.work ≡ Management (CreateCq k n base) → is_success st ≡ false → (h : HostQueue) (c : ControllerQueue) → slice_get (a.heard q e (state_of s)).host.queues k ≡ Some h
+      → slice_get (change q (controller.with_head v) s.controller.queues) k ≡ Some c → QueueStands s.host.entries (byte_at s.pages) k h c → QueueStands s.host.entries (byte_at s.pages) k (a.gone h) c
+  unmade_cq n base w bad h c at there stands =
+      let x = was s q v k e h c at there in
+      frees_half s.host.entries (byte_at s.pages) k h c
+      (none_there h c x (unmade_not_there (state_of s) k n base (is_success st) tied.agree (few h c x) bad (carried (state_of s) q cid st e r (CreateCq k n base) t tied.agree heard w))) stands
+
+  -- a completion queue is made
+  made_cq : (n base : ℕ) → r.work ≡ Management (CreateCq k n base) → (h : HostQueue) (c : ControllerQueue) → slice_get (a.heard q e (state_of s)).host.queues k ≡ Some h
+      → QueueStands s.host.entries (byte_at s.pages) k h c → QueueStands s.host.entries (byte_at s.pages) k (a.half_made h) c
+  made_cq n base w h c at stands =
+      makes_half s.host.entries (byte_at s.pages) k h c (ap in_service (making_cq_as_heard (state_of s) q cid st e r k n base holds heard w h at)) stands
+
+  -- a submission queue is made, or not
+  made_sq : (n base : ℕ) → r.work ≡ Management (CreateSq k n base) → is_success st ≡ true → (h : HostQueue) (c : ControllerQueue) → slice_get (a.heard q e (state_of s)).host.queues k ≡ Some h
+      → slice_get (change q (controller.with_head v) s.controller.queues) k ≡ Some c → QueueStands s.host.entries (byte_at s.pages) k h c → QueueStands s.host.entries (byte_at s.pages) k (a.live h) c
+  made_sq n base w good h c at there stands =
+      let x = was s q v k e h c at there in
+      let present = made_there (state_of s) k n base (is_success st) tied.agree (slice_get_within s.host.host.queues k x.host x.at) good (carried (state_of s) q cid st e r (CreateSq k n base) t tied.agree heard w) in
+      comes_live s.host.entries (byte_at s.pages) k h c (x.completions ∙ (known s world t k x.host x.queue x.at x.there).fits.half (absent_is s k x.host x.queue false x.at x.there present)) stands
+
+  unmade_sq : (n base : ℕ) → r.work ≡ Management (CreateSq k n base) → is_success st ≡ false → (h : HostQueue) (c : ControllerQueue) → slice_get (a.heard q e (state_of s)).host.queues k ≡ Some h
+      → slice_get (change q (controller.with_head v) s.controller.queues) k ≡ Some c → QueueStands s.host.entries (byte_at s.pages) k h c → QueueStands s.host.entries (byte_at s.pages) k (a.unmade_sq h) c
+  unmade_sq n base w bad h c at there stands =
+      let x = was s q v k e h c at there in
+      let gone = unmade_absent (state_of s) k n base (is_success st) tied.agree (few h c x) bad (carried (state_of s) q cid st e r (CreateSq k n base) t tied.agree heard w) in
+      unmakes_half s.host.entries (byte_at s.pages) k h c (ap in_service (making_sq_as_heard (state_of s) q cid st e r k n base holds heard w h at))
+      (ap is_absent x.state ∙ absent_is s k x.host x.queue true x.at x.there gone) stands
 
 -- Every answer of a reap
 
@@ -161,27 +246,44 @@ moves s world tied t =
       submits = λ d entry r none built its live. tt;
       cancels = λ d r its. tt;
       rings = λ q none. tt;
-      rests = λ q is none. record { device = refl; rings = tied.rings; walks = tied.walks };
+      rests = λ q is none. record { device = refl; queues = tied.queues; walks = tied.walks };
       rejects = λ q why is none. let x = consumes s world tied t q why none is in reap_leads s tied q x.0 (found.Rejected why) (view (a.consumed q (state_of s))) (λ e. absurd cc) x.1;
       tells = λ q cid st what e r request told heard w none.
           let x = hears s world tied t q e none heard.seen in reap_leads s tied q x.0 what (view (a.on_records (with_record q cid (a.held st)) (a.heard q e (state_of s)))) (some_named cid what told.names) x.1;
-      hears = λ q cid st what e r adm told heard w quiet none.
+      hears = λ q cid st what e r adm told heard w quiet unmade none.
           let x = hears s world tied t q e none heard.seen in reap_leads s tied q x.0 what (view (heard_without q cid e (state_of s))) (some_named cid what told.names) x.1;
       notes = λ q cid st what e r k told heard w none.
           let x = hears s world tied t q e none heard.seen in
           let f : HostQueue → HostQueue = λ queue. record queue { state = if is_success st then Deleting true else Live } in
           reap_leads s tied q x.0 what (view (a.on_host_queue k f (heard_without q cid e (state_of s)))) (some_named cid what told.names)
-          (restated s q x.0 k f (a.heard q e (state_of s)).host.queues (λ h. refl) (noted s tied q cid st e r k heard w) x.1);
-      frees = λ q cid st what e r k queue told heard w at retired good none.
+          (restated s q x.0 k f (a.heard q e (state_of s)).host.queues (λ h. refl) (λ h c at there. noted s world tied t q x.0 k cid st e r heard w h c at) x.1);
+      frees = λ q cid st what e r k queue told heard w at alone good none.
           let x = hears s world tied t q e none heard.seen in
           reap_leads s tied q x.0 what (view (a.on_host_queue k a.gone (a.given_back queue.cq_pages (heard_without q cid e (state_of s))))) (some_named cid what told.names)
-          (restated s q x.0 k a.gone (a.heard q e (state_of s)).host.queues (λ h. refl)
-          (λ i h c at' stands. let same : queue ≡ h = cc (at, at') in given_back s i h c (subst (λ (z : HostQueue). is_retired z.state ≡ true) same retired) stands) x.1);
+          (restated s q x.0 k a.gone (a.heard q e (state_of s)).host.queues (λ h. refl) (freed s world tied t q x.0 k cid st e r heard w good) x.1);
+      makes_cq = λ q cid st what e r k n base told heard w good none.
+          let x = hears s world tied t q e none heard.seen in
+          reap_leads s tied q x.0 what (view (a.on_host_queue k a.half_made (heard_without q cid e (state_of s)))) (some_named cid what told.names)
+          (restated s q x.0 k a.half_made (a.heard q e (state_of s)).host.queues (λ h. refl) (λ h c at there. made_cq s world tied t q x.0 k cid st e r heard n base w h c at) x.1);
+      unmakes_cq = λ q cid st what e r k n base queue told heard w at bad none.
+          let x = hears s world tied t q e none heard.seen in
+          reap_leads s tied q x.0 what (view (a.on_host_queue k a.gone (a.given_back queue.cq_pages (heard_without q cid e (state_of s))))) (some_named cid what told.names)
+          (restated s q x.0 k a.gone (a.heard q e (state_of s)).host.queues (λ h. refl) (unmade_cq s world tied t q x.0 k cid st e r heard n base w bad) x.1);
+      makes_sq = λ q cid st what e r k n base told heard w good none.
+          let x = hears s world tied t q e none heard.seen in
+          reap_leads s tied q x.0 what (view (a.on_host_queue k a.live (heard_without q cid e (state_of s)))) (some_named cid what told.names)
+          (restated s q x.0 k a.live (a.heard q e (state_of s)).host.queues (λ h. refl) (made_sq s world tied t q x.0 k cid st e r heard n base w good) x.1);
+      unmakes_sq = λ q cid st what e r k n base queue told heard w at bad none.
+          let x = hears s world tied t q e none heard.seen in
+          reap_leads s tied q x.0 what (view (a.on_host_queue k a.unmade_sq (a.given_back queue.sq_pages (heard_without q cid e (state_of s))))) (some_named cid what told.names)
+          (restated s q x.0 k a.unmade_sq (a.heard q e (state_of s)).host.queues (λ h. refl) (unmade_sq s world tied t q x.0 k cid st e r heard n base w bad) x.1);
       collects = λ q cid r f at held is. tt;
       releases = λ f r its. tt;
       aborts = λ q cid id none new. tt;
       asks = λ q id queue none new live. tt;
       drops = λ q id none new. tt;
+      creates_cqs = λ q id first queue none new granted. tt;
+      creates_sqs = λ q id first queue none new granted. tt;
       retires = λ q queue none at deleted. tt;
       forges = λ q slot bytes queue none at. tt;
     }

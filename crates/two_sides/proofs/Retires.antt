@@ -7,30 +7,43 @@ use Rattle.controller_core.specs.declared.queue.ControllerQueue.{ControllerQueue
 use Rattle.host_core.specs.Alone.{HostView, HostStep, alone}
 use Rattle.machine_model.specs.After as a
 use Rattle.machine_model.specs.After.{after_retire}
+use Rattle.machine_model.specs.Agreeing.{is_known_deleted}
 use Rattle.machine_model.specs.Events as events
-use Rattle.machine_model.specs.Refusals.{has_cq, in_state, is_deleted, refusal_of, seen_entry}
+use Rattle.machine_model.specs.Refusals.{in_service, in_state, is_deleted, is_reaped, refusal_of, seen_entry}
 use Rattle.machine_model.specs.State.{State, HostQueue}
-use Rattle.machine_model.specs.declared.words.HostState.TheVariants.{Retired}
+use Rattle.machine_model.specs.declared.words.HostState.{HostState}
+use Rattle.machine_model.specs.declared.words.HostState.TheVariants.{Deleting}
 use Rattle.machine_model.specs.declared.words.Refusal.{Refusal}
 use Rattle.machine_model.specs.declared.words.Refusal.TheVariants as refusal
-use Rattle.machine_model.proofs.Halves.{deleted_has_sq, sq_with_cq}
 use Rattle.machine_model.proofs.Moves.{queue_found}
 use Rattle.machine_model.proofs.Refused.{unrefused}
 use Rattle.page_memory.specs.Pages.{Pages, byte_at}
 use Rattle.two_sides.specs.Laws.{behind}
 use Rattle.two_sides.specs.Sides.{Sides, state_of, device_of}
 use Rattle.two_sides.specs.Stepping.{StepsTo}
-use Rattle.two_sides.specs.Ties.{AreTied, IsWorld}
+use Rattle.two_sides.specs.Ties.{AreTied, IsWorld, has_ring}
 use Rattle.two_sides.proofs.Assembling.{Ties, host_refused}
-use Rattle.two_sides.proofs.Known.{known}
-use Rattle.two_sides.proofs.Looking.{Leads, all_stand, bare, bare_retire, leads_to_ties, left_alone, rings_kept, state_stands, view}
+use Rattle.two_sides.proofs.Frames.{host_stands}
+use Rattle.two_sides.proofs.Known.{IsKnown, known, reaped_ring, served_reaped}
+use Rattle.two_sides.proofs.Looking.{Leads, bare, bare_retire, leads_to_ties, left_alone, rings_kept, view}
 use Rattle.two_sides.proofs.Refusing.{into, refuses}
-use Rattle.two_sides.proofs.Seen.{completions_seen, has_answer, seen_first}
+use Rattle.two_sides.proofs.Restated.{retires_half}
+use Rattle.two_sides.proofs.Seen.{answer_there, completions_seen, has_answer, seen_first}
+use Rattle.two_sides.proofs.Tokens.{known_absent}
 
 -- The refusal is the machine's, whatever was forged
 
-deleted_queue : (s : Sides) (q : ℕ) → in_state is_deleted (state_of s) q ≡ true → (h : HostQueue) × (slice_get s.host.host.queues q ≡ Some h) × (has_cq h.state ≡ true)
-deleted_queue s q deleted = let x = queue_found is_deleted (state_of s) q deleted in (x.0, x.1, sq_with_cq x.0.state (deleted_has_sq x.0.state x.2))
+-- a queue whose deletion was heard of is in service until it is retired, and the controller has no submission queue of it
+deleted_serves : (st : HostState) → is_deleted st ≡ true → in_service st ≡ true
+deleted_serves (Deleting noted) e = refl
+deleted_serves st e = absurd (true≢false (sym e))
+
+deleted_known : (st : HostState) → is_deleted st ≡ true → is_known_deleted st ≡ true
+deleted_known (Deleting noted) e = e
+deleted_known st e = absurd (true≢false (sym e))
+
+deleted_queue : (s : Sides) (q : ℕ) → in_state is_deleted (state_of s) q ≡ true → (h : HostQueue) × (slice_get s.host.host.queues q ≡ Some h) × (is_deleted h.state ≡ true)
+deleted_queue s q deleted = queue_found is_deleted (state_of s) q deleted
 
 retire_refusal : (s : Sides) → IsWorld s → (q : ℕ) → refusal_of (alone s.host s.pages) (events.Retire q) ≡ refusal_of (state_of s) (events.Retire q)
 retire_refusal s world q = go (in_state is_deleted (state_of s) q) refl
@@ -40,7 +53,7 @@ retire_refusal s world q = go (in_state is_deleted (state_of s) q) refl
         ≡ first_passing ((not b, refusal.NotDeleted) ∷ (is_some (seen_entry (state_of s) q), refusal.NotDrained) ∷ [])
     go true e =
         let h = deleted_queue s q e in
-        ap (λ (b : Bool). first_passing ((false, refusal.NotDeleted) ∷ (b, refusal.NotDrained) ∷ [])) (completions_seen s q h.0 world h.1 h.2)
+        ap (λ (b : Bool). first_passing ((false, refusal.NotDeleted) ∷ (b, refusal.NotDrained) ∷ [])) (completions_seen s q h.0 world h.1 (served_reaped h.0.state (deleted_serves h.0.state h.2)))
     go false e = refl
 
 pub retire_refused : (s : Sides) (q : ℕ) (why : Refusal) (touched : List ℕ) (host : HostView) (pages : Pages) → IsWorld s → HostStep s.host s.pages (events.Retire q) (events.Refused why touched) host pages
@@ -52,28 +65,35 @@ retire_refused s q why touched host pages world step =
 -- Where nothing was forged
 
 -- a ring at whose head nothing is seen is empty
-empty : (s : Sides) → IsWorld s → s.trusted ≡ true → (q : ℕ) (h : HostQueue) (c : ControllerQueue) → slice_get s.host.host.queues q ≡ Some h → slice_get s.controller.queues q ≡ Some c → has_cq h.state ≡ true
+empty : (s : Sides) → IsWorld s → s.trusted ≡ true → (q : ℕ) (h : HostQueue) (c : ControllerQueue) → slice_get s.host.host.queues q ≡ Some h → slice_get s.controller.queues q ≡ Some c → is_reaped h.state ≡ true
     → is_some (seen_entry (state_of s) q) ≡ false → h.ring.head ≡ c.device.ring.tail
-empty s world t q h c at there live none =
+empty s world t q h c at there reaped none =
     elim (cases_eq h.ring.head c.device.ring.tail) [
       | inl same ↦ same
-      | inr apart ↦ absurd (true≢false (sym (ap is_some (seen_first s q h c t at there (has_answer s q h c (known s world t q h c at there) live apart))) ∙ none))
+      | inr apart ↦ absurd (true≢false (sym (ap is_some (seen_first s q h c t at there (answer_there s q h c k has apart) (has_answer s q h c k has apart))) ∙ none))
     ]
+  where
+    k : IsKnown s q h c
+    k = known s world t q h c at there
+
+    has : has_ring h c ≡ true
+    has = reaped_ring h c reaped
 
 abbrev retired : ℕ → HostQueue → State → State
 retired q h s = a.on_host_queue q a.retired (a.given_back h.sq_pages (a.on_records (λ records. map (a.lost q) records) s))
 
-retire_leads : (s : Sides) → IsWorld s → AreTied s → s.trusted ≡ true → (q : ℕ) (h : HostQueue) → slice_get s.host.host.queues q ≡ Some h → has_cq h.state ≡ true → is_some (seen_entry (state_of s) q) ≡ false
+retire_leads : (s : Sides) → IsWorld s → AreTied s → s.trusted ≡ true → (q : ℕ) (h : HostQueue) → slice_get s.host.host.queues q ≡ Some h → is_deleted h.state ≡ true → is_some (seen_entry (state_of s) q) ≡ false
     → Leads s (events.Retire q) events.Accepted (view (retired q h (state_of s))) s.pages (device_of s)
-retire_leads s world tied t q h at live none =
+retire_leads s world tied t q h at deleted none =
     record {
       device = ap (λ queues. record (device_of s) { queues = queues }) (rings_kept (byte_at s.pages) q a.retired s.host.host.queues s.controller.queues (λ y. refl));
-      rings = all_stand (byte_at s.pages) 0 q a.retired s.host.host.queues s.controller.queues
-          (λ i y c at' there stands.
+      queues = host_stands s.host.entries (byte_at s.pages) q a.retired s.host.host.queues s.controller.queues
+          (λ y c at' there stands.
           let same : h ≡ y = cc (at, at') in
-          let has = subst (λ (z : HostQueue). has_cq z.state ≡ true) same live in
-          state_stands (byte_at s.pages) i y c Retired [] y.cq_pages stands (λ z. has) (λ z. empty s world t q y c at' there has none))
-          tied.rings;
+          let was = subst (λ (z : HostQueue). is_deleted z.state ≡ true) same deleted in
+          let serves = deleted_serves y.state was in
+          retires_half s.host.entries (byte_at s.pages) q y c serves (known_absent s world t q y c at' there (deleted_known y.state was)) (empty s world t q y c at' there (served_reaped y.state serves) none) stands)
+          tied.queues;
       walks = tied.walks;
     }
 

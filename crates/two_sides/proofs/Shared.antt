@@ -1,10 +1,10 @@
--- Every step of the host leaves the halves that it still has where the controller has them.
-use Rattle.std.proofs.Common.{◌≡◌, inl, inr, ℕ, zero, suc, ◌<◌, nat_lt, Bool, true, false, ◌&&◌, Option, Some, None, List, [], ◌∷◌, ◌++◌, map, if◌then◌else◌, refl, sym, ◌∙◌, arith, subst}
+-- Every step of the host leaves the queues where both sides have them.
+use Rattle.std.proofs.Common.{◌≡◌, ℕ, zero, suc, ◌<◌, nat_lt, Bool, true, false, ◌&&◌, Option, Some, None, List, [], ◌∷◌, ◌++◌, map, if◌then◌else◌, refl, sym, arith, subst}
 use Rattle.std.specs.Option.{option_map_or}
 use Rattle.std.proofs.lemmas.Bool.{true≢false}
 use Rattle.std.proofs.lemmas.Bool.Decides.{nat_tests}
 use Rattle.admin_commands.specs.Entries.{admin_entry}
-use Rattle.admin_commands.specs.declared.AdminKind.TheVariants.{Abort, DeleteSq, DeleteCq}
+use Rattle.admin_commands.specs.declared.AdminKind.TheVariants.{Abort, DeleteSq, DeleteCq, CreateCq, CreateSq}
 use Rattle.admin_commands.specs.declared.AdminKind.{AdminKind}
 use Rattle.controller_core.specs.Contents as controller
 use Rattle.controller_core.specs.Contents.{Contents}
@@ -21,18 +21,20 @@ use Rattle.machine_model.specs.After as a
 use Rattle.machine_model.specs.After.{change}
 use Rattle.machine_model.specs.Work.{Work}
 use Rattle.machine_model.specs.declared.words.Work.TheVariants.{Io, Management}
+use Rattle.machine_model.specs.declared.words.HostState.TheVariants.{Live, Deleting}
 use Rattle.machine_model.specs.declared.words.Phase.TheVariants.{Submitted}
 use Rattle.machine_model.specs.declared.words.Reaped.{Reaped}
 use Rattle.machine_model.specs.declared.words.Reaped.TheVariants as reaped
 use Rattle.machine_model.specs.Events as events
 use Rattle.machine_model.specs.Events.{Event, Reply}
 use Rattle.machine_model.specs.Memory.{with_pages, without_pages}
-use Rattle.machine_model.specs.Refusals.{host_queue, seen_entry, is_retired, slot_page, slot_offset}
+use Rattle.machine_model.specs.Refusals.{has_cq_alone, host_queue, seen_entry, slot_page, slot_offset}
 use Rattle.machine_model.specs.State.{State, HostQueue, Record, record_at, pages_of, with_record, without_record}
 use Rattle.machine_model.specs.Step.{HostPart, host_part, IsController}
 use Rattle.machine_model.proofs.Parts.{part-posted}
 use Rattle.machine_model.proofs.Steps.{Accepts, IsKept, each_step}
 use Rattle.page_memory.specs.Pages.{with_page_bytes}
+use Rattle.page_memory.specs.declared.page.Half.TheVariants.{Submission, Completion}
 use Rattle.queue_pair.specs.Rings.{HostRing, hearing_tail, hearing_head, next_tail, next_head, knowing}
 use Rattle.queue_pair.specs.Slots.{is_in_range}
 use Rattle.two_sides.specs.Hearing.{heard}
@@ -53,25 +55,15 @@ changed n q k f (x ∷ hs) [] keeps h = absurd h
 changed n q zero f (x ∷ hs) (c ∷ cs) keeps h = (keeps q x c h.0, h.1)
 changed n q (suc k) f (x ∷ hs) (c ∷ cs) keeps h = (h.0, changed n (suc q) k f hs cs keeps h.1)
 
--- a queue that keeps its halves, or gives one back
-same_halves : (n i : ℕ) (x y : HostQueue) (c : ControllerQueue) → y.sq_pages ≡ x.sq_pages → y.cq_pages ≡ x.cq_pages → ShareQueue n i x c → ShareQueue n i y c
-same_halves n i x y c e f h =
-    record {
-      number = h.number;
-      entries = h.entries;
-      side = h.side;
-      submission = elim h.submission [ inl g ↦ inl (e ∙ g) | inr g ↦ inr (e ∙ g) ];
-      completion = elim h.completion [ inl g ↦ inl (f ∙ g) | inr g ↦ inr (f ∙ g) ];
-    }
+-- the host's queue is changed: what is shared does not speak of it
+any_host : (n i : ℕ) (x y : HostQueue) (c : ControllerQueue) → ShareQueue n i x c → ShareQueue n i y c
+any_host n i x y c h = record { number = h.number; entries = h.entries; side = h.side }
 
-no_submission : (n i : ℕ) (x : HostQueue) (c : ControllerQueue) → ShareQueue n i x c → ShareQueue n i (a.retired x) c
-no_submission n i x c h = record { number = h.number; entries = h.entries; side = h.side; submission = inl refl; completion = h.completion }
-
-no_completion : (n i : ℕ) (x : HostQueue) (c : ControllerQueue) → ShareQueue n i x c → ShareQueue n i (a.gone x) c
-no_completion n i x c h = record { number = h.number; entries = h.entries; side = h.side; submission = h.submission; completion = inl refl }
+in-queue : (cs : List ControllerQueue) (q : ℕ) (f : HostQueue → HostQueue) (s : State) → In cs s → In cs (a.on_host_queue q f s)
+in-queue cs q f s h = changed s.entries 0 q f s.host.queues cs (λ i x c k. any_host s.entries i x (f x) c k) h
 
 in-ring : (cs : List ControllerQueue) (q : ℕ) (g : HostRing → HostRing) (s : State) → In cs s → In cs (a.on_ring q g s)
-in-ring cs q g s h = changed s.entries 0 q (λ queue. record queue { ring = g queue.ring }) s.host.queues cs (λ i x c k. same_halves s.entries i x (record x { ring = g x.ring }) c refl refl k) h
+in-ring cs q g s h = in-queue cs q (λ queue. record queue { ring = g queue.ring }) s h
 
 in-option : {A : Type 0} (cs : List ControllerQueue) (f : A → State) (o : Option A) (s : State) → In cs s → ((x : A) → In cs (f x)) → In cs (option_map_or f o s)
 in-option cs f None s h each = h
@@ -97,13 +89,20 @@ in-sent cs adm id entry s h =
 in-heard : (cs : List ControllerQueue) (q : ℕ) (e : ComEntry) (s : State) → In cs s → In cs (a.heard q e s)
 in-heard cs q e s h = in-ring cs q (knowing e.sqhd) (a.consumed q s) (in-ring cs q (next_head s.entries) s h)
 
+in-freed : (cs : List ControllerQueue) (pages : HostQueue → List ℕ) (without : HostQueue → HostQueue) (q : ℕ) (s : State) → In cs s → In cs (a.half_freed pages without q s)
+in-freed cs pages without q s h =
+    in-option cs (λ queue. a.on_host_queue q without (a.given_back (pages queue) s)) (host_queue s q) s h (λ queue. in-queue cs q without (a.given_back (pages queue) s) h)
+
 in-admin : (cs : List ControllerQueue) (adm : AdminKind) (st : Status) (s : State) → In cs s → In cs (a.after_admin adm st s)
 in-admin cs (Abort q cid) st s h = h
-in-admin cs (DeleteSq q) st s h = changed s.entries 0 q _ s.host.queues cs (λ i x c k. same_halves s.entries i x _ c refl refl k) h
+in-admin cs (DeleteSq q) st s h = in-queue cs q (λ queue. record queue { state = if is_success st then Deleting true else Live }) s h
 in-admin cs (DeleteCq q) st s h =
-    in-if cs (is_success st && option_map_or (λ queue. is_retired queue.state) (host_queue s q) false) (a.half_freed (λ queue. queue.cq_pages) a.gone q s) s
-    (in-option cs (λ queue. a.on_host_queue q a.gone (a.given_back queue.cq_pages s)) (host_queue s q) s h (λ queue. changed s.entries 0 q a.gone s.host.queues cs (λ i x c k. no_completion s.entries i x c k) h))
-    h
+    in-if cs (is_success st && option_map_or (λ queue. has_cq_alone queue.state) (host_queue s q) false) (a.half_freed (λ queue. queue.cq_pages) a.gone q s) s
+    (in-freed cs (λ queue. queue.cq_pages) a.gone q s h) h
+in-admin cs (CreateCq q n base) st s h =
+    in-if cs (is_success st) (a.on_host_queue q a.half_made s) (a.half_freed (λ queue. queue.cq_pages) a.gone q s) (in-queue cs q a.half_made s h) (in-freed cs (λ queue. queue.cq_pages) a.gone q s h)
+in-admin cs (CreateSq q n base) st s h =
+    in-if cs (is_success st) (a.on_host_queue q a.live s) (a.half_freed (λ queue. queue.sq_pages) a.unmade_sq q s) (in-queue cs q a.live s h) (in-freed cs (λ queue. queue.sq_pages) a.unmade_sq q s h)
 
 in-work : (cs : List ControllerQueue) (w : Work) (q cid : ℕ) (st : Status) (s : State) → In cs s → In cs (a.after_work w q cid st s)
 in-work cs (Io r) q cid st s h = h
@@ -134,13 +133,17 @@ event cs s (events.Collect q cid) (events.Collects f) ok c h =
 event cs s (events.Release f) events.Accepted ok c h = h
 event cs s (events.Abort q cid) (events.Sent id) ok c h = in-sent cs (Abort q cid) id (admin_entry (Abort q cid) id) s h
 event cs s (events.DeleteSq q) (events.Sent id) ok c h =
-    let sent = a.sent (DeleteSq q) id (admin_entry (DeleteSq q) id) s in
-    changed sent.entries 0 q a.deleting sent.host.queues cs (λ i x c k. same_halves sent.entries i x (a.deleting x) c refl refl k) (in-sent cs (DeleteSq q) id (admin_entry (DeleteSq q) id) s h)
+    in-queue cs q a.deleting (a.sent (DeleteSq q) id (admin_entry (DeleteSq q) id) s) (in-sent cs (DeleteSq q) id (admin_entry (DeleteSq q) id) s h)
 event cs s (events.DeleteCq q) (events.Sent id) ok c h = in-sent cs (DeleteCq q) id (admin_entry (DeleteCq q) id) s h
-event cs s (events.Retire q) events.Accepted ok c h =
-    let lost = a.on_records (λ records. map (a.lost q) records) s in
-    in-option cs (λ queue. a.on_host_queue q a.retired (a.given_back queue.sq_pages lost)) (host_queue s q) lost h
-    (λ queue. changed s.entries 0 q a.retired s.host.queues cs (λ i x c k. no_submission s.entries i x c k) h)
+event cs s (events.CreateCq q) (events.Sent id) ok c h =
+    let pages = a.half_run Completion s in
+    let kind : AdminKind = CreateCq q s.entries (a.base_of pages) in
+    in-sent cs kind id (admin_entry kind id) (a.on_host_queue q (a.making_cq pages) (a.half_granted pages s)) (in-queue cs q (a.making_cq pages) (a.half_granted pages s) h)
+event cs s (events.CreateSq q) (events.Sent id) ok c h =
+    let pages = a.half_run Submission s in
+    let kind : AdminKind = CreateSq q s.entries (a.base_of pages) in
+    in-sent cs kind id (admin_entry kind id) (a.on_host_queue q (a.making_sq pages) (a.half_granted pages s)) (in-queue cs q (a.making_sq pages) (a.half_granted pages s) h)
+event cs s (events.Retire q) events.Accepted ok c h = in-freed cs (λ queue. queue.sq_pages) a.retired q (a.on_records (λ records. map (a.lost q) records) s) h
 event cs s (events.Forge q slot bytes) events.Accepted ok c h =
     in-option cs (λ queue. record (a.on_memory (λ m. with_page_bytes m (slot_page queue.cq_pages 16 slot) (slot_offset 16 slot) bytes) s) { trusted = false }) (host_queue s q) s h (λ queue. h)
 event cs s (events.Fetch q) reply ok c h = absurd (true≢false c)
@@ -167,8 +170,6 @@ tail_heard v n i h c share = go (nat_lt v c.device.entries) refl
           number = share.number;
           entries = share.entries;
           side = record { least = share.side.least; most = share.side.most; head = share.side.head; bell = below; tail = share.side.tail; known_head = share.side.known_head };
-          submission = share.submission;
-          completion = share.completion;
         }
 
 range_below : (n from to slot : ℕ) → is_in_range n from to slot ≡ true → slot < n
@@ -184,8 +185,6 @@ head_heard v n i h c share = go (is_in_range c.device.entries c.device.ring.know
           number = share.number;
           entries = share.entries;
           side = record { least = share.side.least; most = share.side.most; head = share.side.head; bell = share.side.bell; tail = share.side.tail; known_head = range_below c.device.entries c.device.ring.known_head c.device.ring.tail v e };
-          submission = share.submission;
-          completion = share.completion;
         }
 
 hearing : (e : Event) (reply : Reply) (v : HostView) (n : ℕ) (hs : List HostQueue) (c : Contents) → ShareQueues n 0 hs c.queues → ShareQueues n 0 hs (heard e reply v c).queues

@@ -1,12 +1,12 @@
 -- A completion is taken from a ring, and its head is rung.
-use Rattle.std.proofs.Common.{◌≡◌, ◌≢◌, ℕ, zero, suc, ◌<◌, true, Some, None, List, [], ◌∷◌, map, drop, slice_get, refl, ap, sym, ◌∙◌, subst, arith}
+use Rattle.std.proofs.Common.{◌≡◌, ◌≢◌, ℕ, zero, suc, ◌<◌, Bool, true, Some, None, List, [], ◌∷◌, map, drop, slice_get, if◌then◌else◌, refl, ap, sym, ◌∙◌, subst, arith}
 use Rattle.std.specs.List.{AllByRecursion}
 use Rattle.std.specs.Option.{option_map}
 use Rattle.std.proofs.lemmas.Bool.Decides.{nat_tests}
 use Rattle.entry_codec.specs.declared.completion.ComEntry.{ComEntry}
 use Rattle.controller_core.specs.Doorbells.{with_side, with_head}
 use Rattle.controller_core.specs.declared.queue.ControllerQueue.{ControllerQueue}
-use Rattle.machine_model.specs.Refusals.{entry_of, has_cq, seen_entry}
+use Rattle.machine_model.specs.Refusals.{entry_of, is_reaped, seen_entry}
 use Rattle.machine_model.specs.State.{Answer, HostQueue, DeviceQueue}
 use Rattle.page_memory.specs.Memory.{Memory}
 use Rattle.page_memory.specs.Pages.{byte_at}
@@ -15,12 +15,12 @@ use Rattle.queue_pair.specs.Members.{change}
 use Rattle.queue_pair.specs.Rings.{hearing_head, knowing, next_head, next_phase}
 use Rattle.queue_pair.specs.Slots.{is_in_range, next_slot}
 use Rattle.queue_pair.proofs.Phases.{tie_kept_by_advance}
-use Rattle.two_sides.specs.Sides.{Sides, state_of, answer_of, device_queue_of, device_queues_of, present}
-use Rattle.two_sides.specs.Ties.{AllRingsStand, AreTied, HeadsFollow, IsWorld, RingsStand}
+use Rattle.two_sides.specs.Sides.{Sides, state_of, answer_of, completions_between, device_queue_of, device_queues_of, present}
+use Rattle.two_sides.specs.Ties.{AllQueuesStand, AreTied, HeadsFollow, IsWorld, QueueStands, RingsStand, has_ring}
 use Rattle.two_sides.proofs.Bells.{heads_heard}
-use Rattle.two_sides.proofs.Frames.{one_queue, one_ring}
-use Rattle.two_sides.proofs.Known.{IsKnown, controller_at, known}
-use Rattle.two_sides.proofs.Seen.{HasAnswer, has_answer, head_below, seen_first, seen_none}
+use Rattle.two_sides.proofs.Frames.{one_queue, one_stands}
+use Rattle.two_sides.proofs.Known.{IsKnown, controller_at, known, reaped_ring}
+use Rattle.two_sides.proofs.Seen.{HasAnswer, answer_there, has_answer, head_below, seen_first, seen_none}
 
 -- Positions: what is in range from a later position is so from an earlier one, and the other way round
 
@@ -44,7 +44,8 @@ follow_before n from mid to (e ∷ es) lf lt hm h = (range_before n from mid to 
 pub record Sees (s : Sides) (q : ℕ) (h : HostQueue) (c : ControllerQueue) : Type 0 where
   pub at : slice_get s.host.host.queues q ≡ Some h
   pub there : slice_get s.controller.queues q ≡ Some c
-  pub live : has_cq h.state ≡ true
+  pub has : has_ring h c ≡ true
+  pub cq : c.cq_there ≡ true
   pub known : IsKnown s q h c
   pub apart : h.ring.head ≢ c.device.ring.tail
   pub answer : HasAnswer (byte_at s.pages) h c
@@ -53,16 +54,18 @@ pub record Sees (s : Sides) (q : ℕ) (h : HostQueue) (c : ControllerQueue) : Ty
 abbrev pub behind : Memory → HostQueue → ControllerQueue → List ComEntry
 behind m h c = present (answers_between m c.device.cq c.device.entries (next_slot c.device.entries h.ring.head) c.device.ring.tail)
 
-pub sees : (s : Sides) → IsWorld s → s.trusted ≡ true → (q : ℕ) (h : HostQueue) (e : ComEntry) → slice_get s.host.host.queues q ≡ Some h → has_cq h.state ≡ true → seen_entry (state_of s) q ≡ Some e
+pub sees : (s : Sides) → IsWorld s → s.trusted ≡ true → (q : ℕ) (h : HostQueue) (e : ComEntry) → slice_get s.host.host.queues q ≡ Some h → is_reaped h.state ≡ true → seen_entry (state_of s) q ≡ Some e
     → (c : ControllerQueue) × (x : Sees s q h c) × (x.answer.entry.sqhd ≡ e.sqhd)
-sees s world t q h e at live seen =
+sees s world t q h e at reaped seen =
     let c = controller_at s world q h at in
     let k = known s world t q h c.0 at c.1 in
+    let has = reaped_ring h c.0 reaped in
     let apart : h.ring.head ≢ c.0.device.ring.tail = λ same. let none : None ≡ Some e = sym (seen_none s q h c.0 t at c.1 same) ∙ seen in absurd cc in
-    let answer = has_answer s q h c.0 k live apart in
-    let first : Some (entry_of q (answer_of answer.entry)) ≡ Some e = sym (seen_first s q h c.0 t at c.1 answer) ∙ seen in
+    let cq = answer_there s q h c.0 k has apart in
+    let answer = has_answer s q h c.0 k has apart in
+    let first : Some (entry_of q (answer_of answer.entry)) ≡ Some e = sym (seen_first s q h c.0 t at c.1 cq answer) ∙ seen in
     let same : entry_of q (answer_of answer.entry) ≡ e = cc in
-    (c.0, record { at = at; there = c.1; live = live; known = k; apart = apart; answer = answer }, ap (λ (x : ComEntry). x.sqhd) same)
+    (c.0, record { at = at; there = c.1; has = has; cq = cq; known = k; apart = apart; answer = answer }, ap (λ (x : ComEntry). x.sqhd) same)
 
 -- A submission head that the host may take for the controller's: the answers that are left follow from it.
 pub record Follows (h : HostQueue) (c : ControllerQueue) (m : Memory) (head : ℕ) : Type 0 where
@@ -71,7 +74,7 @@ pub record Follows (h : HostQueue) (c : ControllerQueue) (m : Memory) (head : �
 
 first_follows : (s : Sides) (q : ℕ) (h : HostQueue) (c : ControllerQueue) → (x : Sees s q h c)
     → HeadsFollow c.device.entries h.ring.known_head c.device.ring.head (x.answer.entry ∷ behind (byte_at s.pages) h c)
-first_follows s q h c x = subst (λ (es : List ComEntry). HeadsFollow c.device.entries h.ring.known_head c.device.ring.head es) x.answer.list (x.known.rings.follow x.live)
+first_follows s q h c x = subst (λ (es : List ComEntry). HeadsFollow c.device.entries h.ring.known_head c.device.ring.head es) x.answer.list (x.known.rings x.has).follow
 
 -- the head that it knows, and the one that the answer tells
 pub known_follows : (s : Sides) (q : ℕ) (h : HostQueue) (c : ControllerQueue) → Sees s q h c → Follows h c (byte_at s.pages) h.ring.known_head
@@ -79,7 +82,7 @@ known_follows s q h c x =
     let first = first_follows s q h c x in
     let known : h.ring.known_head < c.device.entries = subst (λ (n : ℕ). h.ring.known_head < n) (sym x.known.placed.share.entries) x.known.placed.ring.known_head in
     record {
-      fetched = x.known.rings.fetched;
+      fetched = (x.known.rings x.has).fetched;
       heads = follow_before c.device.entries h.ring.known_head x.answer.entry.sqhd c.device.ring.head (behind (byte_at s.pages) h c) known x.known.placed.share.side.head first.0 first.1;
     }
 
@@ -89,7 +92,7 @@ answer_follows s q h c x =
     let n : c.device.entries ≡ s.host.entries = x.known.placed.share.entries in
     let known : h.ring.known_head < c.device.entries = subst (λ (n : ℕ). h.ring.known_head < n) (sym n) x.known.placed.ring.known_head in
     let tail : h.ring.tail < c.device.entries = subst (λ (n : ℕ). h.ring.tail < n) (sym n) x.known.placed.ring.tail in
-    record { fetched = range_behind c.device.entries h.ring.known_head x.answer.entry.sqhd h.ring.tail c.device.ring.head known tail x.known.rings.fetched first.0; heads = first.1 }
+    record { fetched = range_behind c.device.entries h.ring.known_head x.answer.entry.sqhd h.ring.tail c.device.ring.head known tail (x.known.rings x.has).fetched first.0; heads = first.1 }
 
 -- The queue without that answer
 
@@ -103,9 +106,12 @@ one_fewer at = record at { answers = drop 1 at.answers }
 abbrev heard : ℕ → ControllerQueue → ControllerQueue
 heard v c = with_side (record c.device { ring = hearing_head v c.device.ring }) c
 
-taken_seen : (m : Memory) (head : ℕ) (h : HostQueue) (c : ControllerQueue) → HasAnswer m h c
+taken_seen : (m : Memory) (head : ℕ) (h : HostQueue) (c : ControllerQueue) → c.cq_there ≡ true → HasAnswer m h c
     → device_queue_of m (taken c.device.entries head h).ring (heard (next_slot c.device.entries h.ring.head) c) ≡ one_fewer (device_queue_of m h.ring c)
-taken_seen m head h c a = ap (λ (es : List ComEntry). with_answers (drop 1 (map answer_of es))) (sym a.list)
+taken_seen m head h c cq a =
+    ap (λ (b : Bool). with_answers (if b then map answer_of (behind m h c) else [])) cq
+    ∙ ap (λ (es : List ComEntry). with_answers (drop 1 (map answer_of es))) (sym a.list)
+    ∙ sym (ap (λ (b : Bool). with_answers (drop 1 (if b then map answer_of (completions_between m h.ring c.device) else []))) cq)
   where
     with_answers : List Answer → DeviceQueue
     with_answers answers = record (device_queue_of m h.ring c) { answers = answers }
@@ -113,23 +119,33 @@ taken_seen m head h c a = ap (λ (es : List ComEntry). with_answers (drop 1 (map
 taken_stands : (s : Sides) (q head : ℕ) (h : HostQueue) (c : ControllerQueue) → Sees s q h c → Follows h c (byte_at s.pages) head
     → RingsStand (byte_at s.pages) q (taken c.device.entries head h) (heard (next_slot c.device.entries h.ring.head) c)
 taken_stands s q head h c x follows =
+    let rings = x.known.rings x.has in
     record {
       fetched = follows.fetched;
-      rung = x.known.rings.rung;
+      rung = rings.rung;
       heard = refl;
-      expected = ap (next_phase c.device.entries h.ring.head) x.known.rings.expected
+      expected = ap (next_phase c.device.entries h.ring.head) rings.expected
           ∙ tie_kept_by_advance c.device.entries h.ring.head c.device.ring.tail c.device.ring.phase (head_below s q h c x.known.placed) x.known.placed.share.side.tail x.apart;
-      phases = x.known.rings.phases;
-      owned = λ live. (subst (λ (es : List ComEntry). AllByRecursion (λ e. e.sqid ≡ q) es) x.answer.list (x.known.rings.owned live)).1;
-      follow = λ live. follows.heads;
-      drained = λ over. absurd (x.apart (x.known.rings.drained over));
+      phases = rings.phases;
+      owned = (subst (λ (es : List ComEntry). AllByRecursion (λ e. e.sqid ≡ q) es) x.answer.list rings.owned).1;
+      follow = follows.heads;
+      drained = λ over. absurd (x.apart (rings.drained over));
+    }
+
+queue_taken : (s : Sides) (q head : ℕ) (h : HostQueue) (c : ControllerQueue) → Sees s q h c → Follows h c (byte_at s.pages) head
+    → QueueStands s.host.entries (byte_at s.pages) q (taken c.device.entries head h) (heard (next_slot c.device.entries h.ring.head) c)
+queue_taken s q head h c x follows =
+    record {
+      halves = record { submission = x.known.submission; completion = x.known.completion };
+      rings = λ has. taken_stands s q head h c x follows;
+      granted = x.known.granted;
     }
 
 -- All queues, once the answer is taken and its head is heard
 
 pub record IsTaken (s : Sides) (q v : ℕ) (hs : List HostQueue) : Type 0 where
   pub device : device_queues_of (byte_at s.pages) hs (change q (with_head v) s.controller.queues) ≡ change q one_fewer (device_queues_of (byte_at s.pages) s.host.host.queues s.controller.queues)
-  pub rings : AllRingsStand (byte_at s.pages) zero hs (change q (with_head v) s.controller.queues)
+  pub queues : AllQueuesStand s.host.entries (byte_at s.pages) zero hs (change q (with_head v) s.controller.queues)
   pub head : option_map (λ h. h.ring.head) (slice_get hs q) ≡ Some v
 
 -- what holds of one pair of queues holds of the pair at that number
@@ -153,14 +169,14 @@ takes s world tied q head h c f x follows is =
           (only (λ (y : HostQueue) (d : ControllerQueue). device_queue_of m (f y).ring (with_head v d) ≡ one_fewer (device_queue_of m y.ring d)) hs cs q h c x.at x.there
           (subst (λ (y : HostQueue). device_queue_of m y.ring (with_head v c) ≡ one_fewer (device_queue_of m h.ring c)) (sym is)
           (subst (λ (d : ControllerQueue). device_queue_of m (taken s.host.entries head h).ring d ≡ one_fewer (device_queue_of m h.ring c)) (sym heard_here)
-          (subst (λ (n : ℕ). device_queue_of m (taken n head h).ring (heard (next_slot n h.ring.head) c) ≡ one_fewer (device_queue_of m h.ring c)) n (taken_seen m head h c x.answer)))))
+          (subst (λ (n : ℕ). device_queue_of m (taken n head h).ring (heard (next_slot n h.ring.head) c) ≡ one_fewer (device_queue_of m h.ring c)) n (taken_seen m head h c x.cq x.answer)))))
           (λ i y d far at there. refl);
-      rings = one_ring m m q f (with_head v) hs cs
-          (only (λ (y : HostQueue) (d : ControllerQueue). RingsStand m q y d → RingsStand m q (f y) (with_head v d)) hs cs q h c x.at x.there
-          (λ stands. subst (λ (y : HostQueue). RingsStand m q y (with_head v c)) (sym is)
-          (subst (λ (d : ControllerQueue). RingsStand m q (taken s.host.entries head h) d) (sym heard_here)
-          (subst (λ (n : ℕ). RingsStand m q (taken n head h) (heard (next_slot n h.ring.head) c)) n (taken_stands s q head h c x follows)))))
-          (λ i y d far at there stands. stands) tied.rings;
+      queues = one_stands s.host.entries m m q f (with_head v) hs cs
+          (only (λ (y : HostQueue) (d : ControllerQueue). QueueStands s.host.entries m q y d → QueueStands s.host.entries m q (f y) (with_head v d)) hs cs q h c x.at x.there
+          (λ stands. subst (λ (y : HostQueue). QueueStands s.host.entries m q y (with_head v c)) (sym is)
+          (subst (λ (d : ControllerQueue). QueueStands s.host.entries m q (taken s.host.entries head h) d) (sym heard_here)
+          (subst (λ (n : ℕ). QueueStands s.host.entries m q (taken n head h) (heard (next_slot n h.ring.head) c)) n (queue_taken s q head h c x follows)))))
+          (λ i y d far at there stands. stands) tied.queues;
       head = ap (option_map (λ y. y.ring.head)) (at_changed f q hs h x.at) ∙ ap (λ (y : HostQueue). Some y.ring.head) is;
     }
   where
@@ -180,4 +196,4 @@ takes s world tied q head h c f x follows is =
     n = x.known.placed.share.entries
 
     heard_here : with_head v c ≡ heard v c
-    heard_here = heads_heard s q h c world.sides tied x.at x.there x.apart
+    heard_here = heads_heard s q h c world.sides tied x.at x.there x.has x.apart

@@ -40,9 +40,9 @@ use Rattle.sgl_descriptor.specs.declared.Direction.{Direction}
 use Rattle.two_sides.specs.Serving.{why_of}
 use Rattle.two_sides.specs.Sides.{Sides, state_of, device_queues_of, job_of}
 use Rattle.two_sides.specs.Stepping.{LeavesPages, StepsTo, served, walks_step, walks_refuse_alike}
-use Rattle.two_sides.specs.Ties.{IsWorld, ShareQueues, AllRingsStand, WalkStands, WalksStand}
+use Rattle.two_sides.specs.Ties.{IsWorld, ShareQueues, AllQueuesStand, WalkStands, WalksStand}
 use Rattle.two_sides.proofs.Assembling.{ServesOver, serve_refused, served_stepped}
-use Rattle.two_sides.proofs.Frames.{Spares, all_rings_stay, apart_from_queues, queues_stay}
+use Rattle.two_sides.proofs.Frames.{Spares, all_stand_still, apart_from_queues, queues_stay}
 use Rattle.two_sides.proofs.Jobs.{find_place, is_found, job-at, job-found, map_one, seen, seen_is}
 use Rattle.two_sides.proofs.Known.{tied_of}
 use Rattle.two_sides.proofs.ServeSteps.{either_by, same_pages, with_served}
@@ -207,8 +207,8 @@ module _ (s : Sides) (q cid : ℕ) (outcome : WalkState) (c : Contents) (pages :
     lists_stay : ListsStay (state_of s) pages
     lists_stay = subst (ListsStay (state_of s)) memory_walked (stay_walk (state_of s) q cid not_refused (stood s world t))
 
-    rings_walked : AllRingsStand (byte_at pages) 0 s.host.host.queues c.queues
-    rings_walked = subst (AllRingsStand (byte_at pages) 0 s.host.host.queues) (sym w.queues) (all_rings_stay s pages world t spared)
+    queues_walked : AllQueuesStand s.host.entries (byte_at pages) 0 s.host.host.queues c.queues
+    queues_walked = subst (AllQueuesStand s.host.entries (byte_at pages) 0 s.host.host.queues) (sym w.queues) (all_stand_still s pages world t spared)
 
     -- its walk stands one unit further
     further : w.among.job'.verdict ≡ None → job_course (memory_of s.pages) w.among.job' ≡ after_units (k.units_done + 1) (whole_course (memory_of s.pages) w.among.job')
@@ -241,7 +241,7 @@ module _ (s : Sides) (q cid : ℕ) (outcome : WalkState) (c : Contents) (pages :
 
   walk_done : IsController c → StepsTo s (events.Walk q cid) (events.Walked outcome touched) (served s c pages)
   walk_done is =
-      served_stepped s (events.Walk q cid) (events.Walked outcome touched) c pages world refl (serves is) (λ new. refl) permits (λ t. (state_walked t, rings_walked t, walks_walked t))
+      served_stepped s (events.Walk q cid) (events.Walked outcome touched) c pages world refl (serves is) (λ new. refl) permits (λ t. (state_walked t, queues_walked t, walks_walked t))
 
 pub walk_steps : walks_step
 walk_steps s q cid (Ok outcome) c pages touched world is leaves w = walk_done s q cid outcome c pages touched world leaves w.0 w.1 is

@@ -13,7 +13,7 @@ use Rattle.queue_pair.specs.Rings.{hearing_tail, hearing_head}
 use Rattle.queue_pair.specs.Slots.{next_slot}
 use Rattle.two_sides.specs.Hearing.{heard}
 use Rattle.two_sides.specs.Sides.{Sides, state_of}
-use Rattle.two_sides.specs.Ties.{AreSides, AreTied, ShareQueues}
+use Rattle.two_sides.specs.Ties.{AreSides, AreTied, ShareQueues, has_ring}
 
 -- both sides behind a call of the host
 abbrev pub behind : Sides → Event → Reply → HostView → Pages → Sides
@@ -62,10 +62,10 @@ tails_are_heard =
     → AreSides s → slice_get s.host.host.queues q ≡ Some h → slice_get s.controller.queues q ≡ Some c
     → with_tail h.ring.tail c ≡ with_side (record c.device { ring = hearing_tail h.ring.tail c.device.ring }) c
 
--- Where nothing was forged, and an answer waits in the completion ring of a queue, the head behind it is heard.
+-- Where nothing was forged, and an answer waits in the completion ring of a queue that is in use, the head behind it is heard.
 abbrev pub heads_are_heard : Type 0
 heads_are_heard =
     (s : Sides) (q : ℕ) (h : HostQueue) (c : ControllerQueue)
     → AreSides s → AreTied s → slice_get s.host.host.queues q ≡ Some h → slice_get s.controller.queues q ≡ Some c
-    → h.ring.head ≢ c.device.ring.tail
+    → has_ring h c ≡ true → h.ring.head ≢ c.device.ring.tail
     → with_head (next_slot s.host.entries h.ring.head) c ≡ with_side (record c.device { ring = hearing_head (next_slot s.host.entries h.ring.head) c.device.ring }) c

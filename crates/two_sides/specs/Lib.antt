@@ -1,4 +1,5 @@
 pub mod Sides
+pub mod Deletions
 pub mod Ties
 pub mod Hearing
 pub mod Opening

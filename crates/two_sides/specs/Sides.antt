@@ -40,7 +40,7 @@ unfetched_between m ring device = present (entries_between m device.sq device.en
 abbrev pub completions_between : Memory → HostRing → DeviceSide → List ComEntry
 completions_between m ring device = present (answers_between m device.cq device.entries ring.head device.ring.tail)
 
--- a queue of the controller as the machine has it; an absent queue has no entries
+-- a queue of the controller as the machine has it; an absent submission queue has no entries, and a completion queue that is not there no answers
 abbrev pub device_queue_of : Memory → HostRing → ControllerQueue → DeviceQueue
 device_queue_of m ring queue =
     record {
@@ -48,7 +48,7 @@ device_queue_of m ring queue =
       cq_there = queue.cq_there;
       unfetched = if is_absent queue.state then [] else unfetched_between m ring queue.device;
       rung = if is_absent queue.state then 0 else distance queue.device.entries queue.device.ring.head queue.device.ring.bell;
-      answers = map answer_of (completions_between m ring queue.device);
+      answers = if queue.cq_there then map answer_of (completions_between m ring queue.device) else [];
     }
 
 -- queue by queue, as long as both sides have one

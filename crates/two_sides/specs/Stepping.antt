@@ -5,13 +5,12 @@ use Rattle.controller_core.specs.Completing.{complete_refusal}
 use Rattle.controller_core.specs.Contents.{Contents, IsController}
 use Rattle.controller_core.specs.Fetching.{Fetches, fetch_refusal}
 use Rattle.controller_core.specs.Walking.{walk_refusal}
-use Rattle.controller_core.specs.declared.queue.ControllerQueue.{ControllerQueue}
 use Rattle.controller_core.specs.declared.refusal.Refusal as controller
 use Rattle.controller_walk.specs.declared.walk.WalkState.{WalkState}
 use Rattle.host_core.specs.Alone.{HostView, HostStep, IsOver, alone}
 use Rattle.machine_model.specs.Events as events
 use Rattle.machine_model.specs.Events.{Event, Reply}
-use Rattle.machine_model.specs.Refusals.{refusal_of, seen_entry, has_cq}
+use Rattle.machine_model.specs.Refusals.{refusal_of, seen_entry, is_reaped}
 use Rattle.machine_model.specs.State.{HostQueue}
 use Rattle.machine_model.specs.Step as machine
 use Rattle.machine_model.specs.Step.{Step, forges}
@@ -21,7 +20,7 @@ use Rattle.queue_pair.specs.Memory.{completion_place, completion_slot}
 use Rattle.two_sides.specs.Laws.{behind}
 use Rattle.two_sides.specs.Serving.{Walks, Completes, why_of, fetch_reply, walk_reply, complete_reply}
 use Rattle.two_sides.specs.Sides.{Sides, state_of}
-use Rattle.two_sides.specs.Ties.{IsWorld}
+use Rattle.two_sides.specs.Ties.{IsWorld, first_completion_page}
 
 -- A step of the machine, behind which both sides are tied as a world's are.
 abbrev pub StepsTo : Sides → Event → Reply → Sides → Type 0
@@ -37,7 +36,7 @@ hosts_step =
 -- whether the host finds a completion at a head, the machine has one there
 abbrev pub completions_are_seen : Type 0
 completions_are_seen =
-    (s : Sides) (q : ℕ) (h : HostQueue) → IsWorld s → slice_get s.host.host.queues q ≡ Some h → has_cq h.state ≡ true
+    (s : Sides) (q : ℕ) (h : HostQueue) → IsWorld s → slice_get s.host.host.queues q ≡ Some h → is_reaped h.state ≡ true
     → is_some (seen_entry (alone s.host s.pages) q) ≡ is_some (seen_entry (state_of s) q)
 
 -- The pages that a call of the controller leaves are as many, and in whole.
@@ -52,7 +51,7 @@ served s c pages = record s { controller = c; pages = pages }
 abbrev pub fetches_step : Type 0
 fetches_step =
     (s : Sides) (q : ℕ) (result : Result ℕ controller.Refusal) (c : Contents) (pages : Pages) (touched : List ℕ)
-    → IsWorld s → IsController c → LeavesPages s.pages pages → Fetches s.controller (byte_at s.pages) [] q result c (byte_at pages) touched
+    → IsWorld s → IsController c → LeavesPages s.pages pages → Fetches s.controller (length s.pages) (byte_at s.pages) [] q result c (byte_at pages) touched
     → StepsTo s (events.Fetch q) (fetch_reply result touched) (served s c pages)
 
 abbrev pub walks_step : Type 0
@@ -87,15 +86,15 @@ completes_refuse_alike =
 abbrev pub forged : Sides → Pages → Sides
 forged s pages = record s { pages = pages; trusted = false }
 
--- a slot of a completion ring that the host still has is in
+-- a slot of a completion ring that the host still has is in, where the host has it
 abbrev pub completion_slots_are_in : Type 0
 completion_slots_are_in =
-    (s : Sides) (q slot : ℕ) (bytes : List ℕ) (c : ControllerQueue) → IsWorld s → refusal_of (state_of s) (events.Forge q slot bytes) ≡ None
-    → slice_get s.controller.queues q ≡ Some c → completion_slot (byte_at s.pages) c.device.cq slot ≢ None
+    (s : Sides) (q slot : ℕ) (bytes : List ℕ) (h : HostQueue) → IsWorld s → refusal_of (state_of s) (events.Forge q slot bytes) ≡ None
+    → slice_get s.host.host.queues q ≡ Some h → completion_slot (byte_at s.pages) (first_completion_page h) slot ≢ None
 
 abbrev pub forged_entries_step : Type 0
 forged_entries_step =
-    (s : Sides) (q slot : ℕ) (bytes : List ℕ) (c : ControllerQueue) (pages : Pages)
-    → IsWorld s → length bytes ≡ 16 → refusal_of (state_of s) (events.Forge q slot bytes) ≡ None → slice_get s.controller.queues q ≡ Some c
-    → LeavesPages s.pages pages → byte_at pages ≡ written (byte_at s.pages) (completion_place c.device.cq slot) bytes
+    (s : Sides) (q slot : ℕ) (bytes : List ℕ) (h : HostQueue) (pages : Pages)
+    → IsWorld s → length bytes ≡ 16 → refusal_of (state_of s) (events.Forge q slot bytes) ≡ None → slice_get s.host.host.queues q ≡ Some h
+    → LeavesPages s.pages pages → byte_at pages ≡ written (byte_at s.pages) (completion_place (first_completion_page h) slot) bytes
     → StepsTo s (events.Forge q slot bytes) events.Accepted (forged s pages)

@@ -1,5 +1,6 @@
 -- What holds of a host and a controller over one pool of pages: always, and as long as nothing was forged.
-use Rattle.std.specs.Prelude.{◌≡◌, ◌⊎◌, ℕ, suc, true, false, None, List, [], ◌∷◌, IsTrue}
+use Rattle.std.specs.Prelude.{◌≡◌, ◌||◌, Bool, ℕ, suc, true, false, None, List, [], ◌∷◌, IsTrue, slice_index}
+use Rattle.admin_commands.specs.Verdicts.{is_absent}
 use Rattle.std.specs.Bool.{OnTrue}
 use Rattle.std.specs.List.{AllByRecursion}
 use Rattle.controller_core.specs.Contents.{FetchedCommand, IsController, Work}
@@ -14,29 +15,25 @@ use Rattle.machine_model.specs.Agreeing.{SidesAgree}
 use Rattle.machine_model.specs.Always.{IsHostProvided}
 use Rattle.machine_model.specs.Claims.{IsSound}
 use Rattle.machine_model.specs.Memory.{memory_of}
-use Rattle.machine_model.specs.Refusals.{has_sq, has_cq}
+use Rattle.machine_model.specs.Refusals.{in_service, is_making_cq, is_reaped}
 use Rattle.machine_model.specs.State.{HostQueue}
 use Rattle.page_ledger.specs.Owners.{pages_from}
 use Rattle.page_memory.specs.Memory.{Memory}
 use Rattle.page_memory.specs.Pages.{byte_at}
 use Rattle.page_memory.specs.declared.page.Half.TheVariants.{Submission, Completion}
-use Rattle.queue_pair.specs.Lists.{HasPhases, expected_phase}
+use Rattle.queue_pair.specs.Lists.{HasPhases, PhasesStand, expected_phase}
 use Rattle.queue_pair.specs.Memory.{half_pages}
 use Rattle.queue_pair.specs.Rings.{IsDeviceSide}
 use Rattle.queue_pair.specs.Slots.{is_in_range}
+use Rattle.two_sides.specs.Deletions.{CompletionsServe}
 use Rattle.two_sides.specs.Sides.{Sides, state_of, completions_between}
 
--- The pages of a half that the host still has, where the controller has it, or none once they are given back.
-abbrev pub IsHalfAt : ℕ → ℕ → List ℕ → Type 0
-IsHalfAt first many pages = (pages ≡ []) ⊎ (pages ≡ pages_from first many)
-
--- Both sides of queue q have n entries in each ring, and the halves that the host still has lie where the controller has them.
+-- The controller's side of queue q has n entries in each ring, as the host's has. Where its halves lie is said where nothing was forged: after a forged entry a
+-- controller may have fetched an old entry that makes a queue somewhere else.
 pub record ShareQueue (n q : ℕ) (h : HostQueue) (c : ControllerQueue) : Type 0 where
   pub number : c.device.q ≡ q
   pub entries : c.device.entries ≡ n
   pub side : IsDeviceSide c.device
-  pub submission : IsHalfAt c.device.sq (half_pages n Submission) h.sq_pages
-  pub completion : IsHalfAt c.device.cq (half_pages n Completion) h.cq_pages
 
 -- one after the other, from queue q on, and as many on either side
 abbrev pub ShareQueues : ℕ → ℕ → List HostQueue → List ControllerQueue → Type 0
@@ -59,22 +56,42 @@ abbrev pub HeadsFollow : ℕ → ℕ → ℕ → List ComEntry → Type 0
 HeadsFollow n from to [] = IsTrue (is_in_range n from to to)
 HeadsFollow n from to (e ∷ es) = IsTrue (is_in_range n from to e.sqhd) × HeadsFollow n e.sqhd to es
 
+-- whether a completion ring is in use on either side
+abbrev pub has_ring : HostQueue → ControllerQueue → Bool
+has_ring h c = is_reaped h.state || c.cq_there
+
+-- The halves of a queue lie where both sides have them: the submission half as long as the controller has it, the completion half as long as either side uses it.
+pub record ShareHalves (n : ℕ) (h : HostQueue) (c : ControllerQueue) : Type 0 where
+  pub submission : is_absent c.state ≡ false → h.sq_pages ≡ pages_from c.device.sq (half_pages n Submission)
+  pub completion : has_ring h c ≡ true → h.cq_pages ≡ pages_from c.device.cq (half_pages n Completion)
+
 -- The rings of queue q stand: what was posted, rung and taken on either side fits.
 pub record RingsStand (m : Memory) (q : ℕ) (h : HostQueue) (c : ControllerQueue) : Type 0 where
   pub fetched : is_in_range c.device.entries h.ring.known_head h.ring.tail c.device.ring.head ≡ true
   pub rung : is_in_range c.device.entries c.device.ring.head h.ring.tail c.device.ring.bell ≡ true
   pub heard : c.device.ring.known_head ≡ h.ring.head
   pub expected : h.ring.phase ≡ expected_phase h.ring.head c.device.ring.tail c.device.ring.phase
-  pub phases : has_cq h.state ≡ true → HasPhases m c.device
-  pub owned : has_cq h.state ≡ true → AllByRecursion (λ e. e.sqid ≡ q) (completions_between m h.ring c.device)
-  pub follow : has_cq h.state ≡ true → HeadsFollow c.device.entries h.ring.known_head c.device.ring.head (completions_between m h.ring c.device)
-  -- nothing waits in a completion ring once the submission half is given back
-  pub drained : has_sq h.state ≡ false → h.ring.head ≡ c.device.ring.tail
+  pub phases : HasPhases m c.device
+  pub owned : AllByRecursion (λ e. e.sqid ≡ q) (completions_between m h.ring c.device)
+  pub follow : HeadsFollow c.device.entries h.ring.known_head c.device.ring.head (completions_between m h.ring c.device)
+  -- nothing waits in the completion ring of a queue that is out of service
+  pub drained : in_service h.state ≡ false → h.ring.head ≡ c.device.ring.tail
 
-abbrev pub AllRingsStand : Memory → ℕ → List HostQueue → List ControllerQueue → Type 0
-AllRingsStand m q [] cs = Unit {0}
-AllRingsStand m q (h ∷ hs) [] = Unit {0}
-AllRingsStand m q (h ∷ hs) (c ∷ cs) = RingsStand m q h c × AllRingsStand m (suc q) hs cs
+-- where the completion half of a queue begins at the host
+abbrev pub first_completion_page : HostQueue → ℕ
+first_completion_page h = slice_index h.cq_pages 0
+
+-- A queue whose completion ring is in use has halves where both sides have them, and its rings stand. Of any other nothing is said, since its rings are made anew
+-- before they are used, but that a completion ring which the host has asked for and the controller has not made yet is as it was granted: no slot of it is new.
+pub record QueueStands (n : ℕ) (m : Memory) (q : ℕ) (h : HostQueue) (c : ControllerQueue) : Type 0 where
+  pub halves : ShareHalves n h c
+  pub rings : has_ring h c ≡ true → RingsStand m q h c
+  pub granted : is_making_cq h.state ≡ true → c.cq_there ≡ false → PhasesStand m (first_completion_page h) n 0 true
+
+abbrev pub AllQueuesStand : ℕ → Memory → ℕ → List HostQueue → List ControllerQueue → Type 0
+AllQueuesStand n m q [] cs = Unit {0}
+AllQueuesStand n m q (h ∷ hs) [] = Unit {0}
+AllQueuesStand n m q (h ∷ hs) (c ∷ cs) = QueueStands n m q h c × AllQueuesStand n m (suc q) hs cs
 
 -- As long as a command has no verdict, its walk has to do what is left of its list behind the units that it did, in the memory as it is now.
 abbrev pub WalkStands : Memory → ℕ → Work → Type 0
@@ -87,9 +104,10 @@ WalksStand m commands = AllByRecursion (λ k. WalkStands m k.units_done k.work) 
 
 -- What holds where nothing was forged.
 pub record AreTied (s : Sides) : Type 0 where
-  pub rings : AllRingsStand (byte_at s.pages) 0 s.host.host.queues s.controller.queues
+  pub queues : AllQueuesStand s.host.entries (byte_at s.pages) 0 s.host.host.queues s.controller.queues
   pub walks : WalksStand (memory_of s.pages) s.controller.commands
   pub agree : SidesAgree (state_of s)
+  pub serve : CompletionsServe (state_of s)
 
 -- both together
 pub record IsWorld (s : Sides) : Type 0 where
