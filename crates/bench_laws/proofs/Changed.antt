@@ -1,7 +1,6 @@
 -- Lists of which one element is changed, added or taken out: what is found in them.
-use Rattle.std.proofs.Common.{◌≡◌, Bool, true, false, ◌||◌, Some, None, List, [], ◌∷◌, ◌++◌, find, cond, if◌then◌else◌, refl, ap, sym, ◌∙◌, MatchBool}
+use Rattle.std.proofs.Common.{◌≡◌, Bool, true, false, ◌||◌, Some, List, [], ◌∷◌, find, cond, if◌then◌else◌, refl, ap, sym, ◌∙◌, MatchBool}
 use Rattle.std.specs.List.{list_any}
-use Rattle.std.proofs.lemmas.Bool.{true≢false}
 use Rattle.step_core.specs.Bench.{with_first, without_first}
 use Rattle.bench_laws.proofs.Lists.{Few}
 

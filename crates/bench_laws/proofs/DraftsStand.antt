@@ -1,28 +1,23 @@
 -- Each draft that a bench keeps is that of a drafted command, and it keeps one of each name at most.
-use Rattle.std.proofs.Common.{◌≡◌, ℕ, ◌==◌, Bool, true, false, ◌&&◌, ◌||◌, None, List, [], ◌∷◌, ◌++◌, refl, ap, sym, ◌∙◌, subst, eqb-true, eq-eqb, MatchBool}
+use Rattle.std.proofs.Common.{◌≡◌, ℕ, ◌==◌, Bool, true, false, ◌&&◌, List, [], ◌∷◌, ◌++◌, refl, ap, sym, ◌∙◌, subst, eqb-true}
 use Rattle.std.specs.List.{list_any}
-use Rattle.std.proofs.lemmas.Bool.{true≢false, and_parts, not-true}
+use Rattle.std.proofs.lemmas.Bool.{true≢false, and_parts}
 use Rattle.io_commands.specs.Asked.{Request}
 use Rattle.io_commands.specs.Drafts.{DraftContents, built}
-use Rattle.io_commands.specs.Values.{numbers_of}
 use Rattle.machine_model.specs.Events as events
 use Rattle.machine_model.specs.Events.{Event}
 use Rattle.machine_model.specs.Image.{is_draft}
-use Rattle.machine_model.specs.Refusals.{refusal_of}
 use Rattle.machine_model.specs.Script.{Table, table, filled_draft}
 use Rattle.machine_model.specs.State.{State, is_at}
-use Rattle.machine_model.specs.declared.words.Phase.TheVariants.{Drafted}
 use Rattle.machine_model.specs.Step as machine
 use Rattle.machine_model.specs.Step.{IsReserved, IsNewIdentifier, HostPart}
-use Rattle.machine_model.specs.declared.words.Work.TheVariants.{Io}
 use Rattle.machine_model.proofs.Moves.{drafted_record}
-use Rattle.host_core.proofs.Identifiers.{outstanding-among}
 use Rattle.step_core.specs.Values.{Reply}
 use Rattle.step_core.specs.Values.{Step}
 use Rattle.step_core.specs.Bench.{with_first, without_first}
 use Rattle.bench_laws.specs.Values.{Done, Goes}
 use Rattle.bench_laws.proofs.Changed.{any_with, few_with}
-use Rattle.step_core.proofs.Outstanding.{none_there, record_reserved, reserved_ok}
+use Rattle.step_core.proofs.Outstanding.{none_there, record_reserved}
 use Rattle.step_core.proofs.Records.{found_any}
 use Rattle.bench_laws.proofs.DraftMoves.{DraftMove, Rested, Stepped, Added, Filled, Built, Taken, moves}
 use Rattle.bench_laws.proofs.Lists.{Few, few_more, few_without, gone, any_without, any_of_more}

@@ -69,6 +69,8 @@ same_forgery t (step.Release k n) answer e r asks says = go (finished_at k n t.f
 same_forgery t (step.Abort k n) answer e r asks says = of_event (events.Abort k n) e r (inside asks)
 same_forgery t (step.DeleteSq k) answer e r asks says = of_event (events.DeleteSq k) e r (inside asks)
 same_forgery t (step.DeleteCq k) answer e r asks says = of_event (events.DeleteCq k) e r (inside asks)
+same_forgery t (step.CreateCq k) answer e r asks says = of_event (events.CreateCq k) e r (inside asks)
+same_forgery t (step.CreateSq k) answer e r asks says = of_event (events.CreateSq k) e r (inside asks)
 same_forgery t (step.Retire k) answer e r asks says = of_event (events.Retire k) e r (inside asks)
 same_forgery t (step.Forge k slot bytes) answer e r asks says = of_forge k slot bytes answer r says ∙ of_event (events.Forge k slot bytes) e r (inside asks)
 

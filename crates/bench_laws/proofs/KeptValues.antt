@@ -1,10 +1,7 @@
 -- What stands behind the tickets and the finished commands that a bench keeps, in the steps that the machine made.
-use Rattle.std.proofs.Common.{◌≡◌, ℕ, ◌==◌, Bool, true, false, ◌&&◌, ◌||◌, Option, Some, None, List, [], ◌∷◌, ◌++◌, refl, ap, sym, ◌∙◌, subst, eqb-true, append_assoc, MatchBool, eq-eqb}
+use Rattle.std.proofs.Common.{◌≡◌, ℕ, ◌==◌, Bool, true, false, ◌&&◌, ◌||◌, Some, List, [], ◌∷◌, ◌++◌, refl, ap, sym, ◌∙◌, subst, eqb-true, append_assoc, eq-eqb}
 use Rattle.std.specs.List.{AllByRecursion, list_any}
-use Rattle.std.specs.Option.{option_map, option_and_then}
 use Rattle.std.proofs.lemmas.Bool.{true≢false, and_parts, or_right}
-use Rattle.entry_codec.specs.declared.status.Status.{Status}
-use Rattle.io_commands.specs.Asked.{Request}
 use Rattle.io_commands.specs.Drafts.{DraftContents}
 use Rattle.io_commands.specs.Values.{FinishedContents}
 use Rattle.machine_model.specs.Events as events
@@ -12,11 +9,9 @@ use Rattle.machine_model.specs.Events.{Event}
 use Rattle.machine_model.specs.Image.{Made, is_draft, submitted_by}
 use Rattle.machine_model.specs.Laws.{collected_of}
 use Rattle.machine_model.specs.Script.{Table, is_ticket, is_finished}
-use Rattle.machine_model.specs.State.{State, Record, record_at}
-use Rattle.machine_model.specs.Refusals.{refusal_of}
+use Rattle.machine_model.specs.State.{State}
 use Rattle.machine_model.specs.Step as machine
 use Rattle.machine_model.specs.Step.{finished_from, asked_by, pages_with_bytes}
-use Rattle.machine_model.proofs.PlacesKept.{ids_of}
 use Rattle.host_core.proofs.Lists.{all-append}
 use Rattle.run_laws.specs.Submitted.{submits}
 use Rattle.step_core.specs.Bench.{without_first}

@@ -63,6 +63,8 @@ submits_at t draft (step.Release k n) e = absurd (never (finished_at k n t.finis
 submits_at t draft (step.Abort k n) e = absurd cc
 submits_at t draft (step.DeleteSq k) e = absurd cc
 submits_at t draft (step.DeleteCq k) e = absurd cc
+submits_at t draft (step.CreateCq k) e = absurd cc
+submits_at t draft (step.CreateSq k) e = absurd cc
 submits_at t draft (step.Retire k) e = absurd cc
 submits_at t draft (step.Forge k slot bytes) e = absurd cc
 
@@ -105,6 +107,8 @@ collects_at t q cid (step.Release k n) e = absurd (never (finished_at k n t.fini
 collects_at t q cid (step.Abort k n) e = absurd cc
 collects_at t q cid (step.DeleteSq k) e = absurd cc
 collects_at t q cid (step.DeleteCq k) e = absurd cc
+collects_at t q cid (step.CreateCq k) e = absurd cc
+collects_at t q cid (step.CreateSq k) e = absurd cc
 collects_at t q cid (step.Retire k) e = absurd cc
 collects_at t q cid (step.Forge k slot bytes) e = absurd cc
 

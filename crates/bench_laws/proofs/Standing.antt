@@ -1,6 +1,6 @@
 -- A drafted command stays so until it is submitted or cancelled, and a collected one until it is released, whatever else happens. A
 -- collected command is not collected again before.
-use Rattle.std.proofs.Common.{◌≡◌, ℕ, ◌==◌, nat_eq, Bool, true, false, not, ◌&&◌, ◌||◌, Option, Some, None, List, [], ◌∷◌, ◌++◌, map, filter, find, cond, is_none, if◌then◌else◌, refl, ap, sym, ◌∙◌, subst, eqb-true, eq-eqb, MatchBool}
+use Rattle.std.proofs.Common.{◌≡◌, ℕ, ◌==◌, nat_eq, Bool, true, false, not, ◌&&◌, ◌||◌, Option, Some, None, List, [], ◌∷◌, ◌++◌, map, find, is_none, if◌then◌else◌, refl, ap, sym, ◌∙◌, subst, MatchBool}
 use Rattle.std.specs.Option.{option_map_or}
 use Rattle.std.proofs.lemmas.Bool.{true≢false, not-false, and_parts, or_parts}
 use Rattle.std.specs.Cmp.Lexicographic.{pointwise}
@@ -19,7 +19,7 @@ use Rattle.machine_model.specs.After as a
 use Rattle.machine_model.specs.Events as events
 use Rattle.machine_model.specs.Events.{Event, Reply}
 use Rattle.machine_model.specs.declared.words.Refusal.TheVariants as refusals
-use Rattle.machine_model.proofs.Moves.{host_moves, sent_record}
+use Rattle.machine_model.proofs.Moves.{creates_cq, creates_sq, host_moves, sent_record}
 use Rattle.machine_model.proofs.Steps.{Accepts, part_left}
 use Rattle.machine_model.proofs.Refused.{first_fails, found}
 use Rattle.host_core.proofs.Lists.{found_is}
@@ -125,14 +125,20 @@ event_stands test rests q cid s e reply far ok c h =
       rests = λ k is far. h;
       rejects = λ k why is far. h;
       tells = λ k n st what e r request t heard w far. stands_with test q cid k n (a.held st) s.host.records (λ x. refl) h (sent k n r heard.found heard.submitted);
-      hears = λ k n st what e r adm t heard w quiet far. without k n r heard.found heard.submitted;
+      hears = λ k n st what e r adm t heard w quiet unmade far. without k n r heard.found heard.submitted;
       notes = λ k n st what e r m t heard w far. without k n r heard.found heard.submitted;
       frees = λ k n st what e r m queue t heard w at retired good far. without k n r heard.found heard.submitted;
+      makes_cq = λ k n st what e r m size base t heard w good far. without k n r heard.found heard.submitted;
+      unmakes_cq = λ k n st what e r m size base queue t heard w at bad far. without k n r heard.found heard.submitted;
+      makes_sq = λ k n st what e r m size base t heard w good far. without k n r heard.found heard.submitted;
+      unmakes_sq = λ k n st what e r m size base queue t heard w at bad far. without k n r heard.found heard.submitted;
       collects = λ k n r f at held is far. stands_with test q cid k n a.collected s.host.records (λ x. refl) h (other_name test is_held (unheld test rests) q cid k n s.host.records h r at held);
       releases = λ f r its far. stands_without test q cid f.q f.cid s.host.records far h;
       aborts = λ k n id none new far. more (sent_record (Abort k n) id ∷ []);
       asks = λ k id queue none new live far. more (sent_record (DeleteSq k) id ∷ []);
       drops = λ k id none new far. more (sent_record (DeleteCq k) id ∷ []);
+      creates_cqs = λ k id first queue none new granted far. more (sent_record (creates_cq k first s) id ∷ []);
+      creates_sqs = λ k id first queue none new granted far. more (sent_record (creates_sq k first s) id ∷ []);
       retires = λ k queue none at deleted far. stands_lost test rests q cid k s.host.records h;
       forges = λ k slot bytes queue none at far. h;
     })

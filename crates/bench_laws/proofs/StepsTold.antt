@@ -102,6 +102,8 @@ same_by t (step.Release k n) answer e reply asks says = go (finished_at k n t.fi
 same_by t (step.Abort k n) answer e reply asks says = by_other t (step.Abort k n) answer (events.Abort k n) e reply (inside asks) (λ ds image. refl) refl (λ ds image. refl) refl
 same_by t (step.DeleteSq k) answer e reply asks says = by_other t (step.DeleteSq k) answer (events.DeleteSq k) e reply (inside asks) (λ ds image. refl) refl (λ ds image. refl) refl
 same_by t (step.DeleteCq k) answer e reply asks says = by_other t (step.DeleteCq k) answer (events.DeleteCq k) e reply (inside asks) (λ ds image. refl) refl (λ ds image. refl) refl
+same_by t (step.CreateCq k) answer e reply asks says = by_other t (step.CreateCq k) answer (events.CreateCq k) e reply (inside asks) (λ ds image. refl) refl (λ ds image. refl) refl
+same_by t (step.CreateSq k) answer e reply asks says = by_other t (step.CreateSq k) answer (events.CreateSq k) e reply (inside asks) (λ ds image. refl) refl (λ ds image. refl) refl
 same_by t (step.Retire k) answer e reply asks says = by_other t (step.Retire k) answer (events.Retire k) e reply (inside asks) (λ ds image. refl) refl (λ ds image. refl) refl
 same_by t (step.Forge k slot bytes) answer e reply asks says = by_other t (step.Forge k slot bytes) answer (events.Forge k slot bytes) e reply (inside asks) (λ ds image. refl) refl (λ ds image. refl) refl
 
@@ -133,6 +135,8 @@ none_by t (step.Release k n) answer e = record { drafts = refl; image = λ draft
 none_by t (step.Abort k n) answer e = absurd cc
 none_by t (step.DeleteSq k) answer e = absurd cc
 none_by t (step.DeleteCq k) answer e = absurd cc
+none_by t (step.CreateCq k) answer e = absurd cc
+none_by t (step.CreateSq k) answer e = absurd cc
 none_by t (step.Retire k) answer e = absurd cc
 none_by t (step.Forge k slot bytes) answer e = absurd cc
 

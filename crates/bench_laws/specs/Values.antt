@@ -86,6 +86,8 @@ event_at t (step.Release q cid) = option_map events.Release (finished_at q cid t
 event_at t (step.Abort q cid) = Some (events.Abort q cid)
 event_at t (step.DeleteSq q) = Some (events.DeleteSq q)
 event_at t (step.DeleteCq q) = Some (events.DeleteCq q)
+event_at t (step.CreateCq q) = Some (events.CreateCq q)
+event_at t (step.CreateSq q) = Some (events.CreateSq q)
 event_at t (step.Retire q) = Some (events.Retire q)
 event_at t (step.Forge q slot bytes) = Some (events.Forge q slot bytes)
 

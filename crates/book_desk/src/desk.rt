@@ -107,6 +107,8 @@ impl<L: Driver, A: Allocator + Copy> Desk<L, A> {
             Step::Abort { q, cid } => sent(self.book.abort(q, cid)),
             Step::DeleteSq { q } => sent(self.book.delete_sq(q)),
             Step::DeleteCq { q } => sent(self.book.delete_cq(q)),
+            Step::CreateCq { q } => sent(self.book.create_cq(q)),
+            Step::CreateSq { q } => sent(self.book.create_sq(q)),
             Step::Retire { q } => done(self.book.retire(q)),
             Step::Forge { q, slot, bytes } => done(self.book.forge(q, slot, bytes)),
             _ => Reply::NoValue,

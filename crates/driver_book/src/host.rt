@@ -178,6 +178,40 @@ impl<L: Driver, A: Allocator + Copy> Book<L, A> {
         answer
     }
 
+    /// [`step_core::World::create_cq`].
+    ///
+    /// # Errors
+    ///
+    /// As there; `Memory` also where the log cannot grow.
+    pub fn create_cq(&mut self, q: u16) -> Result<u16, Refusal>
+        ensures step { Does self.old None (events.CreateCq q) (send_reply result) self.new }
+        ensures memory { WantsMemoryFor (IsLogFull self.old) (send_reply result) }
+    {
+        if self.log.reserve(1).is_err() {
+            return Err(Refusal::Memory);
+        }
+        let answer = self.world.create_cq(q);
+        note(&mut self.log, None, Step::CreateCq { q }, sent(&answer));
+        answer
+    }
+
+    /// [`step_core::World::create_sq`].
+    ///
+    /// # Errors
+    ///
+    /// As there; `Memory` also where the log cannot grow.
+    pub fn create_sq(&mut self, q: u16) -> Result<u16, Refusal>
+        ensures step { Does self.old None (events.CreateSq q) (send_reply result) self.new }
+        ensures memory { WantsMemoryFor (IsLogFull self.old) (send_reply result) }
+    {
+        if self.log.reserve(1).is_err() {
+            return Err(Refusal::Memory);
+        }
+        let answer = self.world.create_sq(q);
+        note(&mut self.log, None, Step::CreateSq { q }, sent(&answer));
+        answer
+    }
+
     /// [`step_core::World::retire`].
     ///
     /// # Errors

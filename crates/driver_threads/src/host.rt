@@ -159,6 +159,28 @@ impl<L: Driver, A: Allocator + Copy> Shared<L, A> {
         self.lock(rt).delete_cq(q)
     }
 
+    /// [`driver_book::Book::create_cq`].
+    ///
+    /// # Errors
+    ///
+    /// As there.
+    pub fn create_cq<R: Wait>(&self, rt: &R, q: u16) -> Result<u16, Refusal>
+        ensures { Made L.opening None (events.CreateCq q) (send_reply result) }
+    {
+        self.lock(rt).create_cq(q)
+    }
+
+    /// [`driver_book::Book::create_sq`].
+    ///
+    /// # Errors
+    ///
+    /// As there.
+    pub fn create_sq<R: Wait>(&self, rt: &R, q: u16) -> Result<u16, Refusal>
+        ensures { Made L.opening None (events.CreateSq q) (send_reply result) }
+    {
+        self.lock(rt).create_sq(q)
+    }
+
     /// [`driver_book::Book::retire`].
     ///
     /// # Errors

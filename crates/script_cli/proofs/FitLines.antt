@@ -154,6 +154,8 @@ queue_step_fits queue.Fetch q = tt
 queue_step_fits queue.Retire q = tt
 queue_step_fits queue.DeleteSq q = tt
 queue_step_fits queue.DeleteCq q = tt
+queue_step_fits queue.CreateCq q = tt
+queue_step_fits queue.CreateSq q = tt
 
 queue_fits : (verb : QueueVerb) (ws : Words) → IfOk (queue_line verb ws) IsFitLine
 queue_fits verb ws =

@@ -75,6 +75,8 @@ refusal_name refusal.WrongState = codes "WrongState"
 refusal_name refusal.NoSuchCommand = codes "NoSuchCommand"
 refusal_name refusal.NotDeleted = codes "NotDeleted"
 refusal_name refusal.NotDrained = codes "NotDrained"
+refusal_name refusal.Outstanding = codes "Outstanding"
+refusal_name (refusal.NoRun need) = codes "NoRun"
 refusal_name refusal.NoSlot = codes "NoSlot"
 refusal_name refusal.Idle = codes "Idle"
 refusal_name refusal.SlotOut = codes "SlotOut"
@@ -88,6 +90,7 @@ refusal_name refusal.Waits = codes "Waits"
 abbrev pub refusal_detail : Refusal → List ℕ
 refusal_detail (refusal.Bad why) = codes " " ++ request_fault_name why
 refusal_detail (refusal.NoPages need free) = codes " need " ++ (decimal need ++ (codes " free " ++ decimal free))
+refusal_detail (refusal.NoRun need) = codes " need " ++ decimal need
 refusal_detail why = []
 
 abbrev pub refusal_text : Refusal → List ℕ

@@ -17,6 +17,8 @@ queue_verb_text queue.Fetch = codes "fetch"
 queue_verb_text queue.Retire = codes "retire"
 queue_verb_text queue.DeleteSq = codes "delete_sq"
 queue_verb_text queue.DeleteCq = codes "delete_cq"
+queue_verb_text queue.CreateCq = codes "create_cq"
+queue_verb_text queue.CreateSq = codes "create_sq"
 
 abbrev pub command_verb_text : CommandVerb → List ℕ
 command_verb_text command.Build = codes "build"
@@ -41,8 +43,8 @@ abbrev pub all_verbs : List Verb
 all_verbs =
     Reserve ∷ Fill ∷ OnCommand command.Build ∷ OnCommand command.Submit ∷ OnCommand command.Cancel ∷ OnCommand command.Collect
     ∷ OnCommand command.Gather ∷ OnCommand command.Release ∷ OnQueue queue.Ring ∷ OnQueue queue.Reap ∷ OnQueue queue.Fetch
-    ∷ OnQueue queue.Retire ∷ OnQueue queue.DeleteSq ∷ OnQueue queue.DeleteCq ∷ OnCommand command.Walk ∷ OnCommand command.Complete
-    ∷ OnCommand command.Abort ∷ Forge ∷ Owners ∷ []
+    ∷ OnQueue queue.Retire ∷ OnQueue queue.DeleteSq ∷ OnQueue queue.DeleteCq ∷ OnQueue queue.CreateCq ∷ OnQueue queue.CreateSq
+    ∷ OnCommand command.Walk ∷ OnCommand command.Complete ∷ OnCommand command.Abort ∷ Forge ∷ Owners ∷ []
 
 -- the first of some verbs that a word names
 unfoldable pub first_named : List ℕ → List Verb → Option Verb
@@ -60,6 +62,8 @@ queue_step queue.Fetch q = step.Fetch q
 queue_step queue.Retire q = step.Retire q
 queue_step queue.DeleteSq q = step.DeleteSq q
 queue_step queue.DeleteCq q = step.DeleteCq q
+queue_step queue.CreateCq q = step.CreateCq q
+queue_step queue.CreateSq q = step.CreateSq q
 
 abbrev pub command_step : CommandVerb → ℕ → ℕ → Step
 command_step command.Build q cid = step.Build q cid
@@ -90,5 +94,7 @@ verb_of (step.Release q cid) = OnCommand command.Release
 verb_of (step.Abort q cid) = OnCommand command.Abort
 verb_of (step.DeleteSq q) = OnQueue queue.DeleteSq
 verb_of (step.DeleteCq q) = OnQueue queue.DeleteCq
+verb_of (step.CreateCq q) = OnQueue queue.CreateCq
+verb_of (step.CreateSq q) = OnQueue queue.CreateSq
 verb_of (step.Retire q) = OnQueue queue.Retire
 verb_of (step.Forge q slot bytes) = Forge

@@ -147,6 +147,8 @@ fn refusal_name(why: Refusal) -> &'static str
         Refusal::NoSuchCommand => "NoSuchCommand",
         Refusal::NotDeleted => "NotDeleted",
         Refusal::NotDrained => "NotDrained",
+        Refusal::Outstanding => "Outstanding",
+        Refusal::NoRun { .. } => "NoRun",
         Refusal::NoSlot => "NoSlot",
         Refusal::Idle => "Idle",
         Refusal::SlotOut => "SlotOut",
@@ -168,6 +170,7 @@ fn put_refusal_detail(out: &mut String, why: Refusal) -> Result<(), AllocError>
             write!(out, " {name}")
         }
         Refusal::NoPages { need, free } => write!(out, " need {need} free {free}"),
+        Refusal::NoRun { need } => write!(out, " need {need}"),
         _ => Ok(()),
     }
 }

@@ -21,6 +21,10 @@ pub enum QueueVerb {
     DeleteSq,
     /// `delete_cq`
     DeleteCq,
+    /// `create_cq`
+    CreateCq,
+    /// `create_sq`
+    CreateSq,
 }
 
 /// A verb that is told a command alone, by its queue and its identifier.
@@ -75,6 +79,8 @@ impl QueueVerb {
             QueueVerb::Retire => "retire",
             QueueVerb::DeleteSq => "delete_sq",
             QueueVerb::DeleteCq => "delete_cq",
+            QueueVerb::CreateCq => "create_cq",
+            QueueVerb::CreateSq => "create_sq",
         }
     }
 
@@ -89,6 +95,8 @@ impl QueueVerb {
             QueueVerb::Retire => Step::Retire { q },
             QueueVerb::DeleteSq => Step::DeleteSq { q },
             QueueVerb::DeleteCq => Step::DeleteCq { q },
+            QueueVerb::CreateCq => Step::CreateCq { q },
+            QueueVerb::CreateSq => Step::CreateSq { q },
         }
     }
 }
@@ -130,7 +138,7 @@ impl CommandVerb {
 }
 
 /// All verbs.
-const ALL: [Verb; 19] = [
+const ALL: [Verb; 21] = [
     Verb::Reserve,
     Verb::Fill,
     Verb::OnCommand(CommandVerb::Build),
@@ -145,6 +153,8 @@ const ALL: [Verb; 19] = [
     Verb::OnQueue(QueueVerb::Retire),
     Verb::OnQueue(QueueVerb::DeleteSq),
     Verb::OnQueue(QueueVerb::DeleteCq),
+    Verb::OnQueue(QueueVerb::CreateCq),
+    Verb::OnQueue(QueueVerb::CreateSq),
     Verb::OnCommand(CommandVerb::Walk),
     Verb::OnCommand(CommandVerb::Complete),
     Verb::OnCommand(CommandVerb::Abort),
@@ -234,6 +244,8 @@ impl Verb {
             Step::Abort { .. } => Verb::OnCommand(CommandVerb::Abort),
             Step::DeleteSq { .. } => Verb::OnQueue(QueueVerb::DeleteSq),
             Step::DeleteCq { .. } => Verb::OnQueue(QueueVerb::DeleteCq),
+            Step::CreateCq { .. } => Verb::OnQueue(QueueVerb::CreateCq),
+            Step::CreateSq { .. } => Verb::OnQueue(QueueVerb::CreateSq),
             Step::Retire { .. } => Verb::OnQueue(QueueVerb::Retire),
             Step::Forge { .. } => Verb::Forge,
         }

@@ -96,6 +96,8 @@ pub fn lines_are_steps()
     ensures fill { line_of (codes "fill 1 0 ABCD") ≡ Ok (line.Step (step.Fill 1 0 (171 ∷ 205 ∷ []))) }
     ensures abort { line_of (codes "abort 1 0") ≡ Ok (line.Step (step.Abort 1 0)) }
     ensures delete_cq { line_of (codes "delete_cq 1") ≡ Ok (line.Step (step.DeleteCq 1)) }
+    ensures create_cq { line_of (codes "create_cq 1") ≡ Ok (line.Step (step.CreateCq 1)) }
+    ensures create_sq { line_of (codes "create_sq 1") ≡ Ok (line.Step (step.CreateSq 1)) }
     ensures retire { line_of (codes "retire 1") ≡ Ok (line.Step (step.Retire 1)) }
     ensures forge { line_of (codes "forge 1 0 00000000000000000000010003000100") ≡ Ok (line.Step (step.Forge 1 0 (0 ∷ 0 ∷ 0 ∷ 0 ∷ 0 ∷ 0 ∷ 0 ∷ 0 ∷ 0 ∷ 0 ∷ 1 ∷ 0 ∷ 3 ∷ 0 ∷ 1 ∷ 0 ∷ []))) }
 {}

@@ -45,6 +45,7 @@ pub fn other_runs_print()
     ensures bucket { reply_line 1 Reserve (reply.Reserved 1 0 1 1) ≡ fed (codes "1 reserve q 1 cid 0 data 1 chain 1") }
     ensures mismatch { reply_line 1 Reserve (reply.Refused (refusal.Bad request.LengthMismatch) []) ≡ fed (codes "1 reserve refused Bad LengthMismatch") }
     ensures too_few { reply_line 1 Reserve (reply.Refused (refusal.NoPages 13 12) []) ≡ fed (codes "1 reserve refused NoPages need 13 free 12") }
+    ensures no_run { reply_line 9 (OnQueue queue.CreateSq) (reply.Refused (refusal.NoRun 2) []) ≡ fed (codes "9 create_sq refused NoRun need 2") }
     ensures nothing { reply_line 6 (OnCommand command.Walk) (reply.Refused refusal.Nothing []) ≡ fed (codes "6 walk refused Nothing") }
     ensures past_the_end { reply_line 8 (OnQueue queue.Reap) (reply.Reaps (reaped.Done 0 LBA_OUT_OF_RANGE)) ≡ fed (codes "8 reap done cid 0 status 0:80") }
     ensures two_touched { reply_line 8 (OnCommand command.Walk) (reply.Walked walk.More (5 ∷ 8 ∷ [])) ≡ fed (codes "8 walk more touched 5,8") }

@@ -1,27 +1,24 @@
 -- Where a forged completion goes.
-use Rattle.std.proofs.Common.{◌≡◌, ◌≢◌, ℕ, zero, suc, ◌+◌, ◌*◌, ◌<◌, ◌≤◌, Bool, true, false, ◌||◌, MatchBool, Option, Some, None, List, [], ◌∷◌, length, refl, ap, ap₂, sym, ◌∙◌, subst, arith, ◌⊎◌, inl, inr, get_or}
-use Rattle.std.specs.Prelude.{slice_get, option_and_then}
+use Rattle.std.proofs.Common.{◌≡◌, ◌≢◌, ℕ, ◌+◌, ◌*◌, ◌<◌, ◌≤◌, Bool, true, false, ◌||◌, MatchBool, Option, Some, None, List, [], ◌∷◌, length, refl, ap, ap₂, sym, ◌∙◌, subst, arith, ◌⊎◌, inl, inr, get_or}
+use Rattle.std.specs.Prelude.{slice_get, slice_index, option_and_then, if◌then◌else◌}
 use Rattle.std.specs.Option.{option_map}
 use Rattle.std.proofs.lemmas.Bool.{lt-leb, le-leb}
 use Rattle.std.proofs.lemmas.Option.{slice_get_cases}
-use Rattle.controller_core.specs.declared.queue.ControllerQueue.{ControllerQueue}
 use Rattle.host_core.specs.Alone.{alone}
 use Rattle.host_core.specs.Looks.{completion_base}
 use Rattle.machine_model.specs.Events as events
-use Rattle.machine_model.specs.Refusals.{refusal_of, in_state, has_cq}
+use Rattle.machine_model.specs.Refusals.{refusal_of, in_state, is_reaped}
 use Rattle.machine_model.specs.State.{State, HostQueue}
 use Rattle.machine_model.specs.Step.{Step, Refuses}
 use Rattle.machine_model.specs.declared.words.Refusal.{Refusal}
 use Rattle.machine_model.specs.declared.words.Refusal.TheVariants as refusal
-use Rattle.page_ledger.specs.Owners.{pages_from}
 use Rattle.page_memory.specs.Memory.{Memory, bytes_at, page_of, written}
 use Rattle.page_memory.specs.Pages.{Pages, byte_at, AreWhole, IsPool}
 use Rattle.page_memory.proofs.Reading.{none_at}
 use Rattle.queue_pair.specs.Memory.{completion_place, completion_slot}
 use Rattle.two_sides.specs.Sides.{Sides, state_of}
-use Rattle.two_sides.specs.Ties.{ShareQueue, ShareQueues}
 use Rattle.two_sides.specs.Stepping.{forged}
-use Rattle.two_sides.specs.Ties.{IsWorld}
+use Rattle.two_sides.specs.Ties.{IsWorld, first_completion_page}
 use Rattle.step_core.specs.World.{sides_of}
 use Rattle.step_core.proofs.Steps.{Goes, goes}
 use Rattle.two_sides.proofs.Forgery.{forged_stepped, slots_are_in}
@@ -36,50 +33,42 @@ in_pool pages place pool there = go (slice_get_cases pages (page_of place)).1
 
 -- what a forged completion's place is
 pub record IsSlot (s : Sides) (q slot place : ℕ) : Type 0 where
-  pub queue : ControllerQueue
-  pub here : slice_get s.controller.queues q ≡ Some queue
-  pub is : place ≡ completion_place queue.device.cq slot
-  pub there : completion_slot (byte_at s.pages) queue.device.cq slot ≢ None
+  pub queue : HostQueue
+  pub here : slice_get s.host.host.queues q ≡ Some queue
+  pub is : place ≡ completion_place (first_completion_page queue) slot
+  pub there : completion_slot (byte_at s.pages) (first_completion_page queue) slot ≢ None
   pub fits : place < 268435456
 
-share_from : (n k : ℕ) (hs : List HostQueue) (cs : List ControllerQueue) (i : ℕ) (h : HostQueue) → ShareQueues n k hs cs → slice_get hs i ≡ Some h
-    → (c : ControllerQueue) × (slice_get cs i ≡ Some c) × ((q : ℕ) × ShareQueue n q h c)
-share_from n k [] cs i h share at = absurd cc
-share_from n k (x ∷ hs) [] i h share at = absurd share
-share_from n k (x ∷ hs) (c ∷ cs) zero h share at = let same : x ≡ h = cc in (c, refl, (k, subst (λ (h : HostQueue). ShareQueue n k h c) same share.0))
-share_from n k (x ∷ hs) (c ∷ cs) (suc i) h share at = share_from n (suc k) hs cs i h share.1 at
+-- a ring begins at the first page of its half
+begins_at : (reaped : Bool) (pages : List ℕ) (base : ℕ) → (if reaped then option_map (λ page. 4096 * page) (slice_get pages 0) else None) ≡ Some base → base ≡ 4096 * slice_index pages 0
+begins_at false pages base is = absurd cc
+begins_at true [] base is = absurd cc
+begins_at true (page ∷ pages) base is = cc
 
-first_is : (cq many base : ℕ) (pages : List ℕ) → (pages ≡ []) ⊎ (pages ≡ pages_from cq many) → option_map (λ page. 4096 * page) (slice_get pages 0) ≡ Some base → base ≡ 4096 * cq
-first_is cq many base pages (inl none) at = let no : option_map (λ page. 4096 * page) (slice_get [] 0) ≡ Some base = subst (λ (pages : List ℕ). option_map (λ page. 4096 * page) (slice_get pages 0) ≡ Some base) none at in absurd cc
-first_is cq many base pages (inr is) at = go many (subst (λ (pages : List ℕ). option_map (λ page. 4096 * page) (slice_get pages 0) ≡ Some base) is at)
+pub forges_none : (s : Sides) (q slot : ℕ) (bytes : List ℕ) → in_state is_reaped (alone s.host []) q ≡ true → slot < s.host.entries → refusal_of (state_of s) (events.Forge q slot bytes) ≡ None
+forges_none s q slot bytes reaped below = rw (reaped, lt-leb s.host.entries slot below) refl
+
+pub slot_is : (s : Sides) (q slot base : ℕ) (bytes : List ℕ) → IsWorld s → Some base ≡ completion_base s.host q → in_state is_reaped (alone s.host []) q ≡ true → slot < s.host.entries → IsSlot s q slot (base + 16 * slot)
+slot_is s q slot base bytes l at reaped below = go (slice_get s.host.host.queues q) refl (sym at)
   where
-    go : (many : ℕ) → option_map (λ page. 4096 * page) (slice_get (pages_from cq many) 0) ≡ Some base → base ≡ 4096 * cq
-    go zero h = absurd cc
-    go (suc many) h = cc
-
-pub forges_none : (s : Sides) (q slot : ℕ) (bytes : List ℕ) → in_state has_cq (alone s.host []) q ≡ true → slot < s.host.entries → refusal_of (state_of s) (events.Forge q slot bytes) ≡ None
-forges_none s q slot bytes live below = rw (live, lt-leb s.host.entries slot below) refl
-
-pub slot_is : (s : Sides) (q slot base : ℕ) (bytes : List ℕ) → IsWorld s → Some base ≡ completion_base s.host q → in_state has_cq (alone s.host []) q ≡ true → slot < s.host.entries → IsSlot s q slot (base + 16 * slot)
-slot_is s q slot base bytes l at live below = go (slice_get s.host.host.queues q) refl (sym at)
-  where
-    go : (o : Option HostQueue) → slice_get s.host.host.queues q ≡ o → option_and_then (λ queue. option_map (λ page. 4096 * page) (slice_get queue.cq_pages 0)) o ≡ Some base → IsSlot s q slot (base + 16 * slot)
+    go : (o : Option HostQueue) → slice_get s.host.host.queues q ≡ o
+        → option_and_then (λ queue. if is_reaped queue.state then option_map (λ page. 4096 * page) (slice_get queue.cq_pages 0) else None) o ≡ Some base → IsSlot s q slot (base + 16 * slot)
     go None here is = absurd cc
     go (Some h) here is =
-        let (c, found, (k, share)) = share_from s.host.entries 0 s.host.host.queues s.controller.queues q h l.sides.queues here in
-        let place : base + 16 * slot ≡ completion_place c.device.cq slot = ap (λ (n : ℕ). n + 16 * slot) (first_is c.device.cq _ base h.cq_pages share.completion is) in
-        let there = slots_are_in s q slot bytes c l (forges_none s q slot bytes live below) found in
+        let first = first_completion_page h in
+        let place : base + 16 * slot ≡ completion_place first slot = ap (λ (n : ℕ). n + 16 * slot) (begins_at (is_reaped h.state) h.cq_pages base is) in
+        let there = slots_are_in s q slot bytes h l (forges_none s q slot bytes reaped below) here in
         record {
-          queue = c;
-          here = found;
+          queue = h;
+          here = here;
           is = place;
           there = there;
-          fits = subst (λ (n : ℕ). n < 268435456) (sym place) (in_pool s.pages (completion_place c.device.cq slot) l.sides.over.pool (λ none. there (none_at (byte_at s.pages) (completion_place c.device.cq slot) 16 none (omega arith))));
+          fits = subst (λ (n : ℕ). n < 268435456) (sym place) (in_pool s.pages (completion_place first slot) l.sides.over.pool (λ none. there (none_at (byte_at s.pages) (completion_place first slot) 16 none (omega arith))));
         }
 
 -- The call: its place, counted from where the ring begins, and what it leaves
 
-pub slot_at : (s : Sides) (q slot base from count : ℕ) → IsWorld s → Some base ≡ completion_base s.host q → true ≡ in_state has_cq (alone s.host []) q → slot < count → count ≡ s.host.entries → from ≡ slot
+pub slot_at : (s : Sides) (q slot base from count : ℕ) → IsWorld s → Some base ≡ completion_base s.host q → true ≡ in_state is_reaped (alone s.host []) q → slot < count → count ≡ s.host.entries → from ≡ slot
     → IsSlot s q slot (base + 16 * from)
 slot_at s q slot base from count l at live below entries same =
     subst (λ (from : ℕ). IsSlot s q slot (base + 16 * from)) (sym same) (slot_is s q slot base [] l at (sym live) (subst (λ (n : ℕ). slot < n) entries below))
@@ -88,7 +77,7 @@ pub never_out : (s : Sides) (q slot place : ℕ) (cleared : Pages) (bytes : List
 never_out s q slot place cleared bytes at same many out =
     at.there (sym (ap (λ (place : ℕ). bytes_at (byte_at s.pages) place 16) at.is) ∙ (sym (ap₂ (λ (m : Memory) (n : ℕ). bytes_at m place n) same many) ∙ out))
 
-pub forge_goes : (s : Sides) (q slot place count : ℕ) (bytes : List ℕ) (cleared new : Pages) → IsWorld s → true ≡ in_state has_cq (alone s.host []) q → slot < count → count ≡ s.host.entries → IsSlot s q slot place
+pub forge_goes : (s : Sides) (q slot place count : ℕ) (bytes : List ℕ) (cleared new : Pages) → IsWorld s → true ≡ in_state is_reaped (alone s.host []) q → slot < count → count ≡ s.host.entries → IsSlot s q slot place
     → length bytes ≡ 16 → byte_at cleared ≡ byte_at s.pages → length cleared ≡ length s.pages → AreWhole new → length new ≡ length cleared → byte_at new ≡ written (byte_at cleared) place bytes
     → Goes s (events.Forge q slot bytes) events.Accepted (sides_of s.host s.controller new false)
 forge_goes s q slot place count bytes cleared new l live below entries at many same size whole size' is =
@@ -106,10 +95,10 @@ refuse s old q slot bytes why is many refuses = subst (λ (old : State). Step ol
     either B true a = a
     either B false a = a
 
-pub refuses_no_queue : (s : Sides) (old : State) (q slot : ℕ) (bytes : List ℕ) → state_of s ≡ old → length bytes ≡ 16 → false ≡ in_state has_cq (alone s.host []) q → Step old (events.Forge q slot bytes) (events.Refused refusal.NoQueue []) old
+pub refuses_no_queue : (s : Sides) (old : State) (q slot : ℕ) (bytes : List ℕ) → state_of s ≡ old → length bytes ≡ 16 → false ≡ in_state is_reaped (alone s.host []) q → Step old (events.Forge q slot bytes) (events.Refused refusal.NoQueue []) old
 refuses_no_queue s old q slot bytes is many none = refuse s old q slot bytes refusal.NoQueue is many (rw (sym none) refl, refl)
 
-pub refuses_no_slot : (s : Sides) (old : State) (q slot count : ℕ) (bytes : List ℕ) → state_of s ≡ old → length bytes ≡ 16 → true ≡ in_state has_cq (alone s.host []) q → count ≤ slot → count ≡ s.host.entries
+pub refuses_no_slot : (s : Sides) (old : State) (q slot count : ℕ) (bytes : List ℕ) → state_of s ≡ old → length bytes ≡ 16 → true ≡ in_state is_reaped (alone s.host []) q → count ≤ slot → count ≡ s.host.entries
     → Step old (events.Forge q slot bytes) (events.Refused refusal.NoSlot []) old
 refuses_no_slot s old q slot count bytes is many live past entries =
     refuse s old q slot bytes refusal.NoSlot is many (rw (sym live, le-leb s.host.entries slot (subst (λ (n : ℕ). n ≤ slot) entries past)) refl, refl)

@@ -17,7 +17,7 @@ use Rattle.machine_model.specs.Step.{allocates, IsController}
 use Rattle.machine_model.specs.declared.words.Refusal.{Refusal}
 use Rattle.machine_model.specs.declared.words.Refusal.TheVariants as refusal
 use Rattle.host_core.proofs.Lists.{found_at, all-at}
-use Rattle.machine_model.proofs.Answered.{IsRefused, IsSent, refusable, fetch_refusable, acceptable, reap_answered, walk_answered, complete_answered, abort_answered, delete_sq_answered, delete_cq_answered}
+use Rattle.machine_model.proofs.Answered.{IsRefused, IsSent, refusable, fetch_refusable, acceptable, reap_answered, walk_answered, complete_answered, abort_answered, delete_sq_answered, delete_cq_answered, create_cq_answered, create_sq_answered}
 use Rattle.step_core.specs.Bench.{without_first, Does}
 use Rattle.step_core.specs.Going.{IsTableInOrder, GoesOn, benches_go_on}
 use Rattle.step_core.specs.Values.{Reply}
@@ -54,6 +54,14 @@ deletes_sq t q (inr h) = leaves t (step.DeleteSq q) (reply.Sent h.0) h.1 (h.2, r
 deletes_cq : (t : Table) (q : ℕ) → IsRefused t.world (events.DeleteCq q) ⊎ IsSent t.world (events.DeleteCq q) → GoesOn t (step.DeleteCq q)
 deletes_cq t q (inl h) = refused t (step.DeleteCq q) h.0 h.1 (h.2, refl)
 deletes_cq t q (inr h) = leaves t (step.DeleteCq q) (reply.Sent h.0) h.1 (h.2, refl)
+
+creates_cq : (t : Table) (q : ℕ) → IsRefused t.world (events.CreateCq q) ⊎ IsSent t.world (events.CreateCq q) → GoesOn t (step.CreateCq q)
+creates_cq t q (inl h) = refused t (step.CreateCq q) h.0 h.1 (h.2, refl)
+creates_cq t q (inr h) = leaves t (step.CreateCq q) (reply.Sent h.0) h.1 (h.2, refl)
+
+creates_sq : (t : Table) (q : ℕ) → IsRefused t.world (events.CreateSq q) ⊎ IsSent t.world (events.CreateSq q) → GoesOn t (step.CreateSq q)
+creates_sq t q (inl h) = refused t (step.CreateSq q) h.0 h.1 (h.2, refl)
+creates_sq t q (inr h) = leaves t (step.CreateSq q) (reply.Sent h.0) h.1 (h.2, refl)
 
 retires : (t : Table) (q : ℕ) → MayBeAccepted t.world (events.Retire q) → GoesOn t (step.Retire q)
 retires t q (inl h) = refused t (step.Retire q) h.0 h.1 (h.2, refl)
@@ -186,5 +194,7 @@ goes_on t (step.Release q cid) h fit = releases t q cid h
 goes_on t (step.Abort q cid) h fit = aborts t q cid (abort_answered t.world q cid)
 goes_on t (step.DeleteSq q) h fit = deletes_sq t q (delete_sq_answered t.world q)
 goes_on t (step.DeleteCq q) h fit = deletes_cq t q (delete_cq_answered t.world q)
+goes_on t (step.CreateCq q) h fit = creates_cq t q (create_cq_answered t.world q)
+goes_on t (step.CreateSq q) h fit = creates_sq t q (create_sq_answered t.world q)
 goes_on t (step.Retire q) h fit = retires t q (acceptable t.world (events.Retire q) tt refl)
 goes_on t (step.Forge q slot bytes) h fit = forges t q slot bytes (acceptable t.world (events.Forge q slot bytes) fit refl)

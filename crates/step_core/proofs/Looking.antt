@@ -14,7 +14,7 @@ use Rattle.controller_core.specs.Contents.{Contents}
 use Rattle.host_core.specs.Alone.{alone}
 use Rattle.host_core.specs.Looks.{completion_waits}
 use Rattle.machine_model.specs.Events as events
-use Rattle.machine_model.specs.Refusals.{refusal_of, has_cq}
+use Rattle.machine_model.specs.Refusals.{refusal_of, is_reaped}
 use Rattle.machine_model.specs.State.{State, HostQueue}
 use Rattle.page_memory.specs.Memory.{Memory}
 use Rattle.page_memory.specs.Pages.{byte_at}
@@ -36,9 +36,9 @@ waits_alike s q l = go (slice_get s.host.host.queues q) refl
   where
     go : (o : Option HostQueue) → slice_get s.host.host.queues q ≡ o → completion_waits (alone s.host s.pages) q ≡ has_completion (state_of s) q
     go None at = rw at refl
-    go (Some h) at = inner (has_cq h.state) refl
+    go (Some h) at = inner (is_reaped h.state) refl
       where
-        inner : (b : Bool) → has_cq h.state ≡ b → completion_waits (alone s.host s.pages) q ≡ has_completion (state_of s) q
+        inner : (b : Bool) → is_reaped h.state ≡ b → completion_waits (alone s.host s.pages) q ≡ has_completion (state_of s) q
         inner false live = rw (at, live) refl
         inner true live = ap (λ (b : Bool). is_none (refusal_of (state_of s) (events.Reap q)) && b) (completions_seen s q h l at live)
 

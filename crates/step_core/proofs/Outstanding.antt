@@ -3,7 +3,7 @@ use Rattle.std.proofs.Common.{◌≡◌, ℕ, ◌==◌, Bool, true, false, not, 
 use Rattle.std.proofs.lemmas.Bool.{true≢false, not-true}
 use Rattle.std.specs.List.{list_any}
 use Rattle.std.specs.Option.{option_and_then, option_map}
-use Rattle.admin_commands.specs.declared.AdminKind.TheVariants.{Abort, DeleteSq, DeleteCq}
+use Rattle.admin_commands.specs.declared.AdminKind.TheVariants.{Abort, DeleteSq, DeleteCq, CreateCq, CreateSq}
 use Rattle.admin_commands.specs.declared.AdminKind.{AdminKind}
 use Rattle.entry_codec.specs.declared.status.TheConstants.Status.{ABORTED_SQ_DELETION}
 use Rattle.io_commands.specs.Asked.{Request}
@@ -19,7 +19,7 @@ use Rattle.machine_model.specs.After as a
 use Rattle.machine_model.specs.Events as events
 use Rattle.machine_model.specs.Events.{Event, Reply}
 use Rattle.machine_model.proofs.Frames.{host_leaves}
-use Rattle.machine_model.proofs.Moves.{host_moves, drafted_record, sent_record}
+use Rattle.machine_model.proofs.Moves.{host_moves, drafted_record, sent_record, creates_cq, creates_sq}
 use Rattle.machine_model.proofs.PlacesKept.{ids_of}
 use Rattle.machine_model.proofs.Steps.{Accepts, part_controller, part_left}
 use Rattle.host_core.proofs.Identifiers.{outstanding-among}
@@ -85,14 +85,20 @@ event_keeps q cid s e reply far ok c h =
       rests = λ k is far. h;
       rejects = λ k why is far. h;
       tells = λ k n st what e r request t heard w far. changed q cid k n (a.held st) s.host.records (λ x. refl) (λ x. refl) h;
-      hears = λ k n st what e r adm t heard w quiet far. managed k n r adm heard.found w;
+      hears = λ k n st what e r adm t heard w quiet none far. managed k n r adm heard.found w;
       notes = λ k n st what e r m t heard w far. managed k n r (DeleteSq m) heard.found w;
       frees = λ k n st what e r m queue t heard w at retired good far. managed k n r (DeleteCq m) heard.found w;
+      makes_cq = λ k n st what e r m count base t heard w good far. managed k n r (CreateCq m count base) heard.found w;
+      unmakes_cq = λ k n st what e r m count base queue t heard w at bad far. managed k n r (CreateCq m count base) heard.found w;
+      makes_sq = λ k n st what e r m count base t heard w good far. managed k n r (CreateSq m count base) heard.found w;
+      unmakes_sq = λ k n st what e r m count base queue t heard w at bad far. managed k n r (CreateSq m count base) heard.found w;
       collects = λ k n r f at held is far. changed q cid k n a.collected s.host.records (λ x. refl) (λ x. refl) h;
       releases = λ f r its far. without f.q f.cid far;
       aborts = λ k n id none new far. more (sent_record (Abort k n) id ∷ []);
       asks = λ k id queue none new live far. more (sent_record (DeleteSq k) id ∷ []);
       drops = λ k id none new far. more (sent_record (DeleteCq k) id ∷ []);
+      creates_cqs = λ k id first queue none new granted far. more (sent_record (creates_cq k first s) id ∷ []);
+      creates_sqs = λ k id first queue none new granted far. more (sent_record (creates_sq k first s) id ∷ []);
       retires = λ k queue none at deleted far. lost q cid k s.host.records h;
       forges = λ k slot bytes queue none at far. h;
     })
@@ -178,14 +184,20 @@ counts s e reply ok c =
       rests = λ q is. refl;
       rejects = λ q why is. one q _ s.host.queues;
       tells = λ q cid st what e r request t heard w. two q q _ _;
-      hears = λ q cid st what e r adm t heard w quiet. two q q _ _;
+      hears = λ q cid st what e r adm t heard w quiet none. two q q _ _;
       notes = λ q cid st what e r k t heard w. one k _ _ ∙ two q q _ _;
       frees = λ q cid st what e r k queue t heard w at retired good. one k _ _ ∙ two q q _ _;
+      makes_cq = λ q cid st what e r k n base t heard w good. one k _ _ ∙ two q q _ _;
+      unmakes_cq = λ q cid st what e r k n base queue t heard w at bad. one k _ _ ∙ two q q _ _;
+      makes_sq = λ q cid st what e r k n base t heard w good. one k _ _ ∙ two q q _ _;
+      unmakes_sq = λ q cid st what e r k n base queue t heard w at bad. one k _ _ ∙ two q q _ _;
       collects = λ q cid r f at held is. refl;
       releases = λ f r its. refl;
       aborts = λ q cid id none new. one 0 _ s.host.queues;
       asks = λ q id queue none new live. two q 0 _ _;
       drops = λ q id none new. one 0 _ s.host.queues;
+      creates_cqs = λ q id first queue none new granted. two 0 q _ _;
+      creates_sqs = λ q id first queue none new granted. two 0 q _ _;
       retires = λ q queue none at deleted. one q _ s.host.queues;
       forges = λ q slot bytes queue none at. refl;
     })

@@ -139,6 +139,10 @@ made t (step.DeleteSq q) (reply.Sent id) new d = record { event = events.DeleteS
 made t (step.DeleteSq q) (reply.Refused why touched) new d = record { event = events.DeleteSq q; its_reply = events.Refused why touched; asks = refl; says = refl; step = d.0 }
 made t (step.DeleteCq q) (reply.Sent id) new d = record { event = events.DeleteCq q; its_reply = events.Sent id; asks = refl; says = refl; step = d.0 }
 made t (step.DeleteCq q) (reply.Refused why touched) new d = record { event = events.DeleteCq q; its_reply = events.Refused why touched; asks = refl; says = refl; step = d.0 }
+made t (step.CreateCq q) (reply.Sent id) new d = record { event = events.CreateCq q; its_reply = events.Sent id; asks = refl; says = refl; step = d.0 }
+made t (step.CreateCq q) (reply.Refused why touched) new d = record { event = events.CreateCq q; its_reply = events.Refused why touched; asks = refl; says = refl; step = d.0 }
+made t (step.CreateSq q) (reply.Sent id) new d = record { event = events.CreateSq q; its_reply = events.Sent id; asks = refl; says = refl; step = d.0 }
+made t (step.CreateSq q) (reply.Refused why touched) new d = record { event = events.CreateSq q; its_reply = events.Refused why touched; asks = refl; says = refl; step = d.0 }
 made t (step.Retire q) reply.Accepted new d = record { event = events.Retire q; its_reply = events.Accepted; asks = refl; says = refl; step = d.0 }
 made t (step.Retire q) (reply.Refused why touched) new d = record { event = events.Retire q; its_reply = events.Refused why touched; asks = refl; says = refl; step = d.0 }
 made t (step.Forge q slot bytes) reply.Accepted new d = record { event = events.Forge q slot bytes; its_reply = events.Accepted; asks = refl; says = refl; step = d.0 }

@@ -1,5 +1,5 @@
 -- Each call of a world is a step of the machine, behind which both sides are tied.
-use Rattle.std.proofs.Common.{◌≡◌, ℕ, Bool, true, false, Option, Some, List, [], Result, Ok, Err, OnErr, IfOk, length, refl, ap, sym, ◌∙◌, subst}
+use Rattle.std.proofs.Common.{◌≡◌, ℕ, Bool, true, false, Option, Some, List, [], Result, Ok, Err, OnErr, IfOk, length, refl, ap, sym, ◌∙◌, subst, rules}
 use Rattle.std.specs.Result.{result_err}
 use Rattle.std.specs.Option.{option_map_or}
 use Rattle.std.proofs.lemmas.Bool.{true≢false, OnTrue_at, OnTrue_from}
@@ -51,7 +51,7 @@ goes s e reply new l h =
 pub shown_sound : (s : Sides) → IsWorld s → IsSound (state_of s)
 shown_sound s l =
     let kept = l.sides.kept in
-    record { owners = kept.owners; counted = kept.counted; identifiers = kept.identifiers; out = kept.out; works_fit = kept.works_fit; deletions = kept.deletions; admin = kept.admin }
+    search (rules, kept)
 
 -- the same from the state that is seen of a world
 pub step_from : {s new : Sides} {e : Event} {reply : Reply} {old : State} → Goes s e reply new → state_of s ≡ old → Step old e reply (state_of new)
@@ -114,7 +114,7 @@ leaves old cleared new is whole count = record { whole = whole; count = count �
 
 pub fetch_goes : (host : HostView) (controller c : Contents) (old cleared new : store.Contents) (trusted : Bool) (q : ℕ) (result : Result ℕ refusing.Refusal)
     → IsWorld (sides_of host controller old.pages trusted) → cleared ≡ record old { touched = [] } → IsController c → AreWhole new.pages → length new.pages ≡ length cleared.pages
-    → Fetches controller (byte_at cleared.pages) cleared.touched q result c (byte_at new.pages) new.touched
+    → Fetches controller (length cleared.pages) (byte_at cleared.pages) cleared.touched q result c (byte_at new.pages) new.touched
     → (touched : List ℕ) (reply : Reply) → touched ≡ new.touched → reply ≡ fetch_reply result touched
     → Goes (sides_of host controller old.pages trusted) (events.Fetch q) reply (sides_of host c new.pages trusted)
 fetch_goes host controller c old cleared new trusted q result l is ok whole count f touched reply same says =
@@ -122,7 +122,7 @@ fetch_goes host controller c old cleared new trusted q result l is ok whole coun
     subst (λ (reply : Reply). Goes s (events.Fetch q) reply (sides_of host c new.pages trusted)) (sym (says ∙ ap (λ (touched : List ℕ). fetch_reply result touched) same))
     (goes s (events.Fetch q) (fetch_reply result new.touched) _ l
     (fetches s q result c new.pages new.touched l ok (leaves old cleared new is whole count)
-    (subst (λ (x : store.Contents). Fetches controller (byte_at x.pages) x.touched q result c (byte_at new.pages) new.touched) is f)))
+    (subst (λ (x : store.Contents). Fetches controller (length x.pages) (byte_at x.pages) x.touched q result c (byte_at new.pages) new.touched) is f)))
 
 -- what a call leaves that was refused
 abbrev pub Stays : Contents → Memory → List ℕ → Contents → Memory → List ℕ → Type 0

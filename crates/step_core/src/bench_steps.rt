@@ -286,6 +286,30 @@ impl<A: Allocator + Copy> Kept<A> {
         }
     }
 
+    /// Sends the creation of a completion queue.
+    fn create_cq(&mut self, q: u16) -> ReplyIn<A>
+        requires { IsBench self.old.world self.old.values }
+        ensures does { Does (table_of self.old) (Step.CreateCq q) result (table_of self.new) }
+        ensures kept { IsBench self.new.world self.new.values }
+    {
+        match self.world.create_cq(q) {
+            Ok(cid) => Reply::Sent { cid },
+            Err(why) => refused(why),
+        }
+    }
+
+    /// Sends the creation of a submission queue.
+    fn create_sq(&mut self, q: u16) -> ReplyIn<A>
+        requires { IsBench self.old.world self.old.values }
+        ensures does { Does (table_of self.old) (Step.CreateSq q) result (table_of self.new) }
+        ensures kept { IsBench self.new.world self.new.values }
+    {
+        match self.world.create_sq(q) {
+            Ok(cid) => Reply::Sent { cid },
+            Err(why) => refused(why),
+        }
+    }
+
     /// Retires a queue.
     fn retire(&mut self, q: u16) -> ReplyIn<A>
         requires { IsBench self.old.world self.old.values }
@@ -333,6 +357,8 @@ impl<A: Allocator + Copy> Kept<A> {
             Step::Abort { q, cid } => self.abort(q, cid),
             Step::DeleteSq { q } => self.delete_sq(q),
             Step::DeleteCq { q } => self.delete_cq(q),
+            Step::CreateCq { q } => self.create_cq(q),
+            Step::CreateSq { q } => self.create_sq(q),
             Step::Retire { q } => self.retire(q),
             Step::Forge { q, slot, bytes } => self.forge(q, slot, bytes),
         }

@@ -16,7 +16,8 @@ impl<A: Allocator + Copy> World<A> {
     ///
     /// # Errors
     ///
-    /// 1. `NoQueue` where there is no such queue, or its completion half was given back. 2. `NoSlot` where the ring has no such slot.
+    /// 1. `NoQueue` where there is no such queue, or its completion half was given back and the queue is not made again.
+    /// 2. `NoSlot` where the ring has no such slot.
     pub fn forge(&mut self, q: u16, slot: u16, bytes: [u8; 16]) -> Result<(), Refusal>
         ensures { Step self.old (events.Forge q slot bytes) (ring_reply result) self.new }
     {

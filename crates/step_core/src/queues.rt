@@ -14,7 +14,7 @@ impl<A: Allocator + Copy> World<A> {
     ///
     /// # Errors
     ///
-    /// `NoQueue` where there is no such queue, or its submission half was given back.
+    /// `NoQueue` where there is no such queue, or its submission half was given back and is not made again.
     pub fn ring(&mut self, q: u16) -> Result<(), Refusal>
         ensures { Step self.old (events.Ring q) (ring_reply result) self.new }
     {
@@ -31,7 +31,7 @@ impl<A: Allocator + Copy> World<A> {
     ///
     /// # Errors
     ///
-    /// `NoQueue` where there is no such queue, or its completion half was given back. Then nothing changed.
+    /// `NoQueue` where there is no such queue, or its completion half was given back and the queue is not made again. Then nothing changed.
     pub fn reap(&mut self, q: u16) -> Result<Reaped, Refusal>
         ensures { Step self.old (events.Reap q) (reap_reply result) self.new }
     {
@@ -47,8 +47,8 @@ impl<A: Allocator + Copy> World<A> {
     ///
     /// # Errors
     ///
-    /// Nothing changed. 1. `NoQueue` for queue 0, an unknown queue, and one whose submission half was given back. 2. `WrongState`
-    /// where it is being deleted. 3. `NoSuchCommand` where the queue has no submitted command of this identifier.
+    /// Nothing changed. 1. `NoQueue` for queue 0, an unknown queue, and one whose submission half was given back and is not made again.
+    /// 2. `WrongState` where it is being deleted. 3. `NoSuchCommand` where the queue has no submitted command of this identifier.
     /// 4. `NoIdentifier` where each identifier of queue 0 is outstanding. 5. `QueueFull` where the submission ring of queue 0 is full.
     pub fn abort(&mut self, q: u16, cid: u16) -> Result<u16, Refusal>
         ensures { Step self.old (events.Abort q cid) (send_reply result) self.new }
@@ -61,9 +61,9 @@ impl<A: Allocator + Copy> World<A> {
     ///
     /// # Errors
     ///
-    /// Nothing changed. 1. `NoQueue` for queue 0, an unknown queue, and one whose submission half was given back. 2. `WrongState`
-    /// where it is being deleted. 3. `NoIdentifier` where each identifier of queue 0 is outstanding. 4. `QueueFull` where the submission
-    /// ring of queue 0 is full.
+    /// Nothing changed. 1. `NoQueue` for queue 0, an unknown queue, and one whose submission half was given back and is not made again.
+    /// 2. `WrongState` where it is being deleted. 3. `NoIdentifier` where each identifier of queue 0 is outstanding. 4. `QueueFull` where the
+    /// submission ring of queue 0 is full.
     pub fn delete_sq(&mut self, q: u16) -> Result<u16, Refusal>
         ensures { Step self.old (events.DeleteSq q) (send_reply result) self.new }
     {
@@ -75,12 +75,41 @@ impl<A: Allocator + Copy> World<A> {
     /// # Errors
     ///
     /// Nothing changed. 1. `NoQueue` for queue 0, an unknown queue, and one whose completion half was given back. 2. `WrongState`
-    /// where its submission side is being deleted, or was given back with a deletion of its completion side outstanding.
+    /// where its submission side is being deleted or a half of it is being made, or it has its completion half alone and a deletion
+    /// of that is outstanding.
     /// 3. `NoIdentifier` where each identifier of queue 0 is outstanding. 4. `QueueFull` where the submission ring of queue 0 is full.
     pub fn delete_cq(&mut self, q: u16) -> Result<u16, Refusal>
         ensures { Step self.old (events.DeleteCq q) (send_reply result) self.new }
     {
         self.host.delete_cq(&mut self.store, q)
+    }
+
+    /// Makes the completion queue of a queue that is gone: its half is granted, in and zero, and the command that creates it stands
+    /// behind the tail of queue 0 under the identifier that is answered.
+    ///
+    /// # Errors
+    ///
+    /// Nothing changed. 1. `NoQueue` for queue 0 and an unknown queue. 2. `WrongState` where the queue is not gone. 3. `Outstanding` where a
+    /// command of the queue is outstanding. 4. `NoIdentifier` where each identifier of queue 0 is outstanding. 5. `NoRun` where no run of so
+    /// many consecutive pages is free. 6. `QueueFull` where the submission ring of queue 0 is full.
+    pub fn create_cq(&mut self, q: u16) -> Result<u16, Refusal>
+        ensures { Step self.old (events.CreateCq q) (send_reply result) self.new }
+    {
+        self.host.create_cq(&mut self.store, q)
+    }
+
+    /// Makes the submission queue of a queue that has its completion queue alone: its half is granted, in and zero, and the command
+    /// that creates it stands behind the tail of queue 0 under the identifier that is answered.
+    ///
+    /// # Errors
+    ///
+    /// Nothing changed. 1. `NoQueue` for queue 0 and an unknown queue. 2. `WrongState` where the queue is not half made, or the deletion of its
+    /// completion queue is outstanding. 3. `NoIdentifier` where each identifier of queue 0 is outstanding. 4. `NoRun` where no run of so
+    /// many consecutive pages is free. 5. `QueueFull` where the submission ring of queue 0 is full.
+    pub fn create_sq(&mut self, q: u16) -> Result<u16, Refusal>
+        ensures { Step self.old (events.CreateSq q) (send_reply result) self.new }
+    {
+        self.host.create_sq(&mut self.store, q)
     }
 
     /// Gives the submission half of a deleted queue back, and ends its commands that were never answered.

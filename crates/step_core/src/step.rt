@@ -154,6 +154,16 @@ pub enum Step<R = Request, B = Bytes> {
         /// The queue.
         q: u16,
     },
+    /// Send a creation of a completion queue.
+    CreateCq {
+        /// The queue.
+        q: u16,
+    },
+    /// Send a creation of a submission queue.
+    CreateSq {
+        /// The queue.
+        q: u16,
+    },
     /// Retire a queue whose submission queue is deleted.
     Retire {
         /// The queue.

@@ -10,6 +10,7 @@ returns c =
       bucket = refl;
       mismatch = refl;
       too_few = refl;
+      no_run = refl;
       nothing = refl;
       past_the_end = refl;
       two_touched = refl;

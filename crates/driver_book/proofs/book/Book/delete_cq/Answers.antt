@@ -2,8 +2,11 @@ use Rattle.std.proofs.Common.{◌-◌, vec_capacity, vec_len, None, refl, sym, �
 use Rattle.machine_model.specs.Events as events
 use Rattle.step_core.specs.Replies.{send_reply}
 use Rattle.driver_book.specs.Calls.{IsLogFull}
-use Rattle.driver_book.proofs.Runs.{does_in, has_room, keeps_book, takes_no_memory}
+use Rattle.driver_book.proofs.Runs.{does_in, has_room, keeps_book, no_room, takes_no_memory}
 use Rattle.driver_book.proofs.book.Book.delete_cq.Goals as goal
+
+pub returns-then-is_err-clause-memory : goal.returns-then-is_err-clause-memory
+returns-then-is_err-clause-memory g c = no_room c.self.view_is _ _ c.reserve.result (sym c.is_err.ensures.value ∙ c.if-is_err.true) c.reserve.ensures.full refl
 
 pub note-requires : goal.note-requires
 note-requires g c = has_room _ _ c.reserve.result (sym c.is_err.ensures.value ∙ c.if-is_err.false) c.reserve.ensures.ok
