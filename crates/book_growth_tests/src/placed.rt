@@ -34,6 +34,8 @@ pub(crate) fn placed<A: Allocator + Copy>(heap: A, step: &Step) -> Result<StepIn
         Step::Reap { q } => Step::Reap { q: *q },
         Step::DeleteSq { q } => Step::DeleteSq { q: *q },
         Step::DeleteCq { q } => Step::DeleteCq { q: *q },
+        Step::CreateCq { q } => Step::CreateCq { q: *q },
+        Step::CreateSq { q } => Step::CreateSq { q: *q },
         Step::Retire { q } => Step::Retire { q: *q },
     })
 }

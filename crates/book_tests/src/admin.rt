@@ -145,3 +145,52 @@ reap 0 => admin cid 0 status 0:00 dw0 0",
 fn a_queue_is_deleted(rt: HostRuntime) -> Result<(), Fail> {
     run(&rt, rt.alloc(), USUAL, DELETION)
 }
+
+/// A queue that is gone is made again, in the pages that are free then, and carries a Read.
+const CREATION: &[Part] = &[
+    Part::Sit,
+    Part::Steps(
+        "delete_sq 1 => cid 0
+ring 0 => ok
+fetch 0 => cid 0 touched 0
+complete 0 0 => ok touched 1
+reap 0 => admin cid 0 status 0:00 dw0 0
+retire 1 => ok
+delete_cq 1 => cid 0
+ring 0 => ok
+fetch 0 => cid 0 touched 0
+complete 0 0 => ok touched 1
+reap 0 => admin cid 0 status 0:00 dw0 0
+create_cq 1 => cid 0
+ring 0 => ok
+fetch 0 => cid 0 touched 0
+complete 0 0 => ok touched 1
+reap 0 => admin cid 0 status 0:00 dw0 0
+create_sq 1 => cid 0
+ring 0 => ok
+fetch 0 => cid 0 touched 0
+complete 0 0 => ok touched 1
+reap 0 => admin cid 0 status 0:00 dw0 0
+reserve 1 read 0 1 0+512 => q 1 cid 0 data 1 chain 0
+build 1 0 => ok
+submit 1 0 => ok
+ring 1 => ok
+fetch 1 => cid 0 touched 3
+walk 1 0 => more touched -
+walk 1 0 => end touched 4
+complete 1 0 => ok touched 2
+reap 1 => done cid 0 status 0:00
+collect 1 0 => status 0:00
+gather 1 0 => 00*512
+release 1 0 => ok
+create_cq 1 => refused WrongState",
+    ),
+    Part::HasReceipts(0, &[(0, 0, Some(Status::SUCCESS))]),
+    Part::HasPages(12, 4, 0),
+    Part::HasEntries(32),
+];
+
+#[test]
+fn a_queue_is_made_again(rt: HostRuntime) -> Result<(), Fail> {
+    run(&rt, rt.alloc(), USUAL, CREATION)
+}

@@ -8,6 +8,22 @@ const LIVE: DeviceView = DeviceView {
     sq: SqState::Live,
     cq_there: true,
     target_walks: true,
+    queues: 2,
+    entries: 4,
+    pages: 8,
+};
+
+/// No queue of the number is there, so that each can be made.
+const NEITHER: DeviceView = DeviceView {
+    sq: SqState::Absent,
+    cq_there: false,
+    ..LIVE
+};
+
+/// The completion queue of the number waits for its submission queue.
+const COMPLETION_ALONE: DeviceView = DeviceView {
+    sq: SqState::Absent,
+    ..LIVE
 };
 
 fn answered(sct: u8, sc: u8, dw0: u32) -> AdminVerdict {
@@ -30,6 +46,38 @@ fn entries_have_their_bytes(rt: HostRuntime) -> Result<(), Fail> {
     let abort = entry(AdminKind::Abort { q: 1, cid: 2 }, 7);
     assert_eq!(rt; abort.write(), bytes);
     assert_eq!(rt; (queue_of(&abort), command_of(&abort)), (1, 2));
+    Ok(())
+}
+
+#[test]
+fn creations_have_their_bytes(rt: HostRuntime) -> Result<(), Fail> {
+    let create_cq = entry(
+        AdminKind::CreateCq {
+            q: 1,
+            entries: 4,
+            base: 0x2000,
+        },
+        0,
+    );
+    let mut bytes = [0; 64];
+    bytes[0] = 5;
+    bytes[25] = 0x20;
+    bytes[40..46].copy_from_slice(&[1, 0, 3, 0, 1, 0]);
+    assert_eq!(rt; create_cq.write(), bytes);
+    let create_sq = entry(
+        AdminKind::CreateSq {
+            q: 1,
+            entries: 4,
+            base: 0x3000,
+        },
+        0,
+    );
+    let mut bytes = [0; 64];
+    bytes[0] = 1;
+    bytes[25] = 0x30;
+    bytes[40..48].copy_from_slice(&[1, 0, 3, 0, 1, 0, 1, 0]);
+    assert_eq!(rt; create_sq.write(), bytes);
+    assert_eq!(rt; queue_of(&create_sq), 1);
     Ok(())
 }
 
@@ -78,6 +126,79 @@ fn rules_hold_at_their_borders(rt: HostRuntime) -> Result<(), Fail> {
 }
 
 #[test]
+fn completion_queues_are_made_by_rule(rt: HostRuntime) -> Result<(), Fail> {
+    let made = |q, base| AdminVerdict::MakeCompletion { q, base };
+    let create = |q, entries, base| entry(AdminKind::CreateCq { q, entries, base }, 0);
+    let first = create(1, 4, 0x2000);
+    let scattered = SubEntry { cdw11: 0, ..first };
+    let fused = SubEntry { fuse: 1, ..first };
+    for (entry, view, want) in [
+        (first, NEITHER, made(1, 0x2000)),
+        (create(2, 4, 0x7000), NEITHER, made(2, 0x7000)),
+        (fused, NEITHER, answered(0, 0x02, 0)),
+        (create(0, 4, 0x2000), NEITHER, answered(1, 0x01, 0)),
+        (create(3, 4, 0x2000), NEITHER, answered(1, 0x01, 0)),
+        (create(1, 5, 0x2000), LIVE, answered(1, 0x01, 0)),
+        (create(1, 3, 0x2010), NEITHER, answered(1, 0x02, 0)),
+        (create(1, 5, 0x2010), NEITHER, answered(1, 0x02, 0)),
+        (scattered, NEITHER, answered(0, 0x02, 0)),
+        (create(1, 4, 0x2010), NEITHER, answered(0, 0x02, 0)),
+        (create(1, 4, 0x8000), NEITHER, answered(0, 0x02, 0)),
+        (create(1, 4, 1 << 63), NEITHER, answered(0, 0x02, 0)),
+    ] {
+        assert_eq!(rt; decide(&entry, &view), want, "{entry:?} at {view:?}");
+    }
+    Ok(())
+}
+
+#[test]
+fn submission_queues_are_made_by_rule(rt: HostRuntime) -> Result<(), Fail> {
+    let stopping = DeviceView {
+        sq: SqState::Stopping,
+        ..LIVE
+    };
+    let larger = DeviceView {
+        entries: 65,
+        ..COMPLETION_ALONE
+    };
+    let made = |q, base| AdminVerdict::MakeSubmission { q, base };
+    let create = |q, entries, base| entry(AdminKind::CreateSq { q, entries, base }, 0);
+    let to = |q: u32, entries| SubEntry {
+        cdw11: 1 + 0x1_0000 * q,
+        ..create(1, entries, 0x3000)
+    };
+    let scattered = SubEntry {
+        cdw11: 0x1_0000,
+        ..create(1, 4, 0x3000)
+    };
+    let whole = SubEntry {
+        cdw10: 0xFFFF_0001,
+        ..create(1, 4, 0x3000)
+    };
+    for (entry, view, want) in [
+        (create(1, 4, 0x3000), COMPLETION_ALONE, made(1, 0x3000)),
+        (create(2, 65, 0x6000), larger, made(2, 0x6000)),
+        (create(0, 4, 0x3000), COMPLETION_ALONE, answered(1, 0x01, 0)),
+        (create(3, 4, 0x3000), COMPLETION_ALONE, answered(1, 0x01, 0)),
+        (create(1, 4, 0x3000), LIVE, answered(1, 0x01, 0)),
+        (create(1, 4, 0x3000), stopping, answered(1, 0x01, 0)),
+        (to(0, 4), COMPLETION_ALONE, answered(1, 0x01, 0)),
+        (to(3, 4), NEITHER, answered(1, 0x01, 0)),
+        (to(2, 5), COMPLETION_ALONE, answered(1, 0x00, 0)),
+        (create(1, 5, 0x3000), NEITHER, answered(1, 0x00, 0)),
+        (create(1, 5, 0x3010), COMPLETION_ALONE, answered(1, 0x02, 0)),
+        (whole, COMPLETION_ALONE, answered(1, 0x02, 0)),
+        (scattered, COMPLETION_ALONE, answered(0, 0x02, 0)),
+        (create(1, 4, 0x3010), COMPLETION_ALONE, answered(0, 0x02, 0)),
+        (create(1, 4, 0x8000), COMPLETION_ALONE, answered(0, 0x02, 0)),
+        (create(2, 65, 0x7000), larger, answered(0, 0x02, 0)),
+    ] {
+        assert_eq!(rt; decide(&entry, &view), want, "{entry:?} at {view:?}");
+    }
+    Ok(())
+}
+
+#[test]
 fn only_named_bits_are_looked_at(rt: HostRuntime) -> Result<(), Fail> {
     let delete = entry(AdminKind::DeleteSq { q: 1 }, 0);
     let ignored = SubEntry {
@@ -96,7 +217,7 @@ fn only_named_bits_are_looked_at(rt: HostRuntime) -> Result<(), Fail> {
     assert_eq!(rt; decide(&ignored, &LIVE), AdminVerdict::StopQueue { q: 1 });
     let fused = SubEntry { fuse: 1, ..delete };
     assert_eq!(rt; decide(&fused, &LIVE), answered(0, 0x02, 0));
-    for opcode in [0x01, 0x02, 0x05, 0xFF] {
+    for opcode in [0x02, 0x03, 0x06, 0xFF] {
         let unknown = SubEntry { opcode, ..fused };
         assert_eq!(rt;
             decide(&unknown, &LIVE),

@@ -10,7 +10,7 @@ use std::test::Fail;
 
 /// What the driver or the emulator does, and what comes of it.
 #[derive(Drop)]
-enum Step {
+pub(crate) enum Step {
     /// The driver writes an entry of a queue.
     Submits(u16, [u8; 64]),
     /// The controller fetches.
@@ -25,7 +25,7 @@ enum Step {
 }
 
 /// Does these steps in turn.
-fn play(rt: &impl Abort, guest: &mut Guest, steps: &[Step]) {
+pub(crate) fn play(rt: &impl Abort, guest: &mut Guest, steps: &[Step]) {
     for (i, step) in steps.iter().enumerate() {
         match step {
             Step::Submits(q, entry) => guest.submit(rt, *q, entry),

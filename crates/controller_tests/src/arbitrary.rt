@@ -114,6 +114,6 @@ fn arbitrary_pages(rt: HostRuntime) -> Result<(), Fail> {
     }
     // How many calls were accepted, and what all of them left of the memory: as on the day when this was written, so that a change shows.
     let left = digest(&rt, &mut guest);
-    assert_eq!(rt; (done, left), (40_719, 14_402_293_619_527_674_103));
+    assert_eq!(rt; (done, left), (40_719, 4_980_191_164_238_362_873));
     Ok(())
 }

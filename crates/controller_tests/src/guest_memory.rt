@@ -95,6 +95,10 @@ impl Dma for GuestMemory {
 
     ghost page_count = { λ m. length m.bytes / 4096 };
 
+    fn pool_pages(&self) -> u32 {
+        (self.bytes.len() / 4096) as u32
+    }
+
     fn read(&mut self, addr: u64, into: &mut [u8]) -> Result<(), Unreadable> {
         let Some(at) = self.place(addr, into.len()) else {
             return Err(Unreadable);

@@ -8,6 +8,8 @@ mod arbitrary;
 #[cfg(test)]
 mod commands;
 #[cfg(test)]
+mod creations;
+#[cfg(test)]
 mod first_read;
 #[cfg(test)]
 mod guest;

@@ -5,6 +5,8 @@
 #[cfg(test)]
 mod aborts;
 #[cfg(test)]
+mod creations;
+#[cfg(test)]
 mod deletions;
 #[cfg(test)]
 mod drafts;

@@ -237,7 +237,7 @@ fn steps_on<'a>(
     Ok(left)
 }
 
-/// Whether a step is one of the five calls of a world that send, submit or reap: they take no memory.
+/// Whether a step is one of the seven calls of a world that send, submit or reap: they take no memory.
 fn takes_no_memory(step: &Step) -> bool {
     matches!(
         step,
@@ -246,6 +246,8 @@ fn takes_no_memory(step: &Step) -> bool {
             | Step::Abort { .. }
             | Step::DeleteSq { .. }
             | Step::DeleteCq { .. }
+            | Step::CreateCq { .. }
+            | Step::CreateSq { .. }
     )
 }
 

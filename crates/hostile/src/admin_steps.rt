@@ -1,4 +1,4 @@
-//! The steps that abort commands and delete queues.
+//! The steps that abort commands, delete queues and make them again.
 
 use crate::answer::Answer;
 use crate::fault::Halt;
@@ -58,6 +58,30 @@ impl Session {
         let q = self.queue_in(&mut course.random, HostState::Retired);
         let sent = self.world.delete_cq(q);
         self.note_sent(sent, AdminKind::DeleteCq { q })
+    }
+
+    /// Sends the creation of a completion queue.
+    pub fn create_cq(&mut self, course: &mut Course) -> Result<Answer, Halt> {
+        let q = self.queue_in(&mut course.random, HostState::Gone);
+        match self.world.create_cq(q) {
+            Ok(cid) => {
+                self.recount.created_cq(q, cid)?;
+                Ok(Answer::Sent { cid })
+            }
+            Err(why) => Ok(Answer::Refused(why)),
+        }
+    }
+
+    /// Sends the creation of a submission queue.
+    pub fn create_sq(&mut self, course: &mut Course) -> Result<Answer, Halt> {
+        let q = self.queue_in(&mut course.random, HostState::HalfMade);
+        match self.world.create_sq(q) {
+            Ok(cid) => {
+                self.recount.created_sq(q, cid)?;
+                Ok(Answer::Sent { cid })
+            }
+            Err(why) => Ok(Answer::Refused(why)),
+        }
     }
 
     /// Retires a queue.

@@ -35,6 +35,10 @@ pub enum StepKind {
     DeleteSq,
     /// Send the deletion of a completion queue.
     DeleteCq,
+    /// Send the creation of a completion queue.
+    CreateCq,
+    /// Send the creation of a submission queue.
+    CreateSq,
     /// Retire a queue.
     Retire,
     /// Forge a completion.
@@ -42,7 +46,7 @@ pub enum StepKind {
 }
 
 /// How many kinds there are.
-pub const KINDS: usize = 17;
+pub const KINDS: usize = 19;
 
 /// The kinds, in the order in which they are printed.
 pub const ALL: [StepKind; KINDS] = [
@@ -61,6 +65,8 @@ pub const ALL: [StepKind; KINDS] = [
     StepKind::Abort,
     StepKind::DeleteSq,
     StepKind::DeleteCq,
+    StepKind::CreateCq,
+    StepKind::CreateSq,
     StepKind::Retire,
     StepKind::Forge,
 ];
@@ -84,6 +90,8 @@ impl StepKind {
             StepKind::Abort => "abort",
             StepKind::DeleteSq => "delete_sq",
             StepKind::DeleteCq => "delete_cq",
+            StepKind::CreateCq => "create_cq",
+            StepKind::CreateSq => "create_sq",
             StepKind::Retire => "retire",
             StepKind::Forge => "forge",
         }
@@ -92,17 +100,19 @@ impl StepKind {
     /// How many of a thousand steps that forge nothing are of this kind.
     fn weight(self) -> u16 {
         match self {
-            StepKind::Walk => 170,
+            StepKind::Walk => 136,
             StepKind::Reap => 100,
-            StepKind::Ring | StepKind::Fetch => 85,
-            StepKind::Reserve | StepKind::Collect => 80,
+            StepKind::Ring | StepKind::Fetch => 80,
+            StepKind::Reserve | StepKind::Collect => 75,
             StepKind::Build | StepKind::Submit | StepKind::Complete => 75,
             StepKind::Release => 70,
             StepKind::Fill => 40,
             StepKind::Retire => 32,
             StepKind::Cancel => 17,
-            StepKind::Abort | StepKind::DeleteCq => 7,
-            StepKind::DeleteSq => 2,
+            StepKind::CreateCq | StepKind::CreateSq => 20,
+            StepKind::DeleteCq => 14,
+            StepKind::DeleteSq => 9,
+            StepKind::Abort => 7,
             StepKind::Forge => 0,
         }
     }

@@ -33,7 +33,7 @@ use tally::{Found, Tally};
 use values::Values;
 
 /// The steps over one world.
-const STEPS_OF_A_WORLD: u32 = 400;
+const STEPS_OF_A_WORLD: u32 = 1_200;
 
 /// In how many of sixteen steps of a world a completion is forged, world after world: in one of eight on average.
 const FORGERIES: [u16; 4] = [0, 1, 2, 5];

@@ -362,13 +362,66 @@ impl Recount {
             }
             AdminKind::DeleteCq { q } => {
                 let state = self.queue(q).ok_or(Difference::Queue { q })?.state;
-                if is_success && state == HostState::Retired {
+                if is_success && matches!(state, HostState::Retired | HostState::HalfMade) {
                     self.give_back(q, Half::Completion);
                     return self.set_state(q, HostState::Gone);
                 }
                 Ok(())
             }
+            AdminKind::CreateCq { q, .. } => {
+                if is_success {
+                    return self.set_state(q, HostState::HalfMade);
+                }
+                self.give_back(q, Half::Completion);
+                self.set_state(q, HostState::Gone)
+            }
+            AdminKind::CreateSq { q, .. } => {
+                if is_success {
+                    return self.set_state(q, HostState::Live);
+                }
+                self.give_back(q, Half::Submission);
+                self.set_state(q, HostState::HalfMade)
+            }
         }
+    }
+
+    /// Gives a queue the lowest run of free pages for a half, and answers its address. The rings are then as they open.
+    fn make(&mut self, q: u16, half: Half, state: HostState) -> Result<u64, Difference> {
+        let slots = match half {
+            Half::Submission => 64,
+            Half::Completion => 256,
+        };
+        let count = usize::from(self.entries.div_ceil(slots));
+        let wrong = Difference::Queue { q };
+        let first = self
+            .owners
+            .windows(count.max(1))
+            .position(|run| run.iter().all(|owner| owner.is_free()))
+            .ok_or(wrong)?;
+        for owner in self.owners.iter_mut().skip(first).take(count) {
+            *owner = Owner::Queue { q, half };
+        }
+        self.forged.retain(|of| of.0 != q);
+        let rings = self.queues.get_mut(usize::from(q)).ok_or(wrong)?;
+        *rings = Rings {
+            state,
+            ..Rings::EMPTY
+        };
+        Ok((first as u64).saturating_mul(4096))
+    }
+
+    /// The creation of a completion queue was sent.
+    pub fn created_cq(&mut self, q: u16, cid: u16) -> Result<(), Halt> {
+        let base = self.make(q, Half::Completion, HostState::MakingCq)?;
+        let entries = self.entries;
+        self.sent(cid, AdminKind::CreateCq { q, entries, base })
+    }
+
+    /// The creation of a submission queue was sent.
+    pub fn created_sq(&mut self, q: u16, cid: u16) -> Result<(), Halt> {
+        let base = self.make(q, Half::Submission, HostState::MakingSq)?;
+        let entries = self.entries;
+        self.sent(cid, AdminKind::CreateSq { q, entries, base })
     }
 
     /// A command of queue 0 was sent.
@@ -386,7 +439,10 @@ impl Recount {
             AdminKind::DeleteSq { q } => {
                 self.set_state(q, HostState::Deleting { noted: false })?;
             }
-            AdminKind::Abort { .. } | AdminKind::DeleteCq { .. } => {}
+            AdminKind::Abort { .. }
+            | AdminKind::DeleteCq { .. }
+            | AdminKind::CreateCq { .. }
+            | AdminKind::CreateSq { .. } => {}
         }
         Ok(())
     }

@@ -111,6 +111,8 @@ impl Session {
             StepKind::Abort => self.abort(course),
             StepKind::DeleteSq => self.delete_sq(course),
             StepKind::DeleteCq => self.delete_cq(course),
+            StepKind::CreateCq => self.create_cq(course),
+            StepKind::CreateSq => self.create_sq(course),
             StepKind::Retire => self.retire(course),
             StepKind::Forge => self.forge(course),
         }

@@ -133,6 +133,8 @@ fn step_alone<L: Driver, R: Wait>(rt: &R, shared: &Shared<L>, step: Step) -> Rep
         Step::Abort { q, cid } => sent(shared.abort(rt, q, cid)),
         Step::DeleteSq { q } => sent(shared.delete_sq(rt, q)),
         Step::DeleteCq { q } => sent(shared.delete_cq(rt, q)),
+        Step::CreateCq { q } => sent(shared.create_cq(rt, q)),
+        Step::CreateSq { q } => sent(shared.create_sq(rt, q)),
         Step::Retire { q } => done(shared.retire(rt, q)),
         Step::Forge { q, slot, bytes } => done(shared.forge(rt, q, slot, bytes)),
         _ => Reply::NoValue,

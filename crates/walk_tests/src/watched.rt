@@ -91,6 +91,10 @@ impl Dma for Watched {
 
     ghost page_count = { λ w. length w.store.pages };
 
+    fn pool_pages(&self) -> u32 {
+        self.store.pages()
+    }
+
     fn read(&mut self, addr: u64, into: &mut [u8]) -> Result<(), Unreadable> {
         let count = into.len();
         self.calls = self.calls.saturating_add(1);

@@ -6,6 +6,8 @@ mod admin;
 #[cfg(test)]
 mod chains;
 #[cfg(test)]
+mod creations;
+#[cfg(test)]
 mod cuts;
 #[cfg(test)]
 mod examples;
