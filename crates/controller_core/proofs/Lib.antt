@@ -11,6 +11,7 @@ pub mod Fetched
 pub mod Decided
 pub mod Managed
 pub mod Opened
+pub mod Resets
 pub mod OneWay
 pub mod FirstRead
 pub mod FirstCreations

@@ -6,6 +6,7 @@ pub mod Completing
 pub mod Managing
 pub mod Fetching
 pub mod Opening
+pub mod Resetting
 pub mod Looks
 pub mod Tables
 pub mod Laws

@@ -2,7 +2,7 @@
 -- image of one block of bytes 11h. The first slot of the I/O queue has the entry of a Read of that block to the page at 4000h.
 use Rattle.std.specs.Prelude.{ℕ, ◌∷◌, ◌++◌, [], List, Option, Some, None, true, replicate, slice_range}
 use Rattle.admin_commands.specs.Entries.{admin_entry}
-use Rattle.admin_commands.specs.declared.AdminKind.TheVariants.{CreateCq, CreateSq}
+use Rattle.admin_commands.specs.declared.AdminKind.TheVariants.{Abort, CreateCq, CreateSq}
 use Rattle.admin_commands.specs.declared.SqState.TheVariants.{Live}
 use Rattle.controller_walk.specs.Worked.{eight_pages}
 use Rattle.controller_walk.specs.declared.progress.State.{State}
@@ -23,6 +23,7 @@ use Rattle.controller_core.specs.Doorbells.{tail_rung}
 use Rattle.controller_core.specs.Fetching.{begun}
 use Rattle.controller_core.specs.Managing.{command_of, managed, without_completion}
 use Rattle.controller_core.specs.Opening.{opened}
+use Rattle.controller_core.specs.Resetting.{reset}
 use Rattle.controller_core.specs.declared.command.Work.TheVariants.{Io}
 use Rattle.controller_core.specs.declared.queue.ControllerQueue.{ControllerQueue}
 use Rattle.controller_core.specs.declared.queue.QueuePages.{QueuePages}
@@ -133,3 +134,14 @@ with_queue_made = managed 8 create_sq with_completion_made
 
 abbrev pub made_queue : ControllerQueue
 made_queue = record { state = Live; cq_there = true; device = record { q = 1; entries = 4; sq = 5; cq = 6; ring = fresh_device_ring } }
+
+-- The Read in the midst of its walk, and an Abort that stopped it. A reset ends both. Then the tail of queue 0 is rung behind the two
+-- creations.
+abbrev pub with_abort : Contents
+with_abort = managed 8 (admin_entry (Abort 1 0) 0) (tail_rung 0 1 with_read_halfway)
+
+abbrev pub with_reset : Contents
+with_reset = reset with_abort
+
+abbrev pub with_reset_rung : Contents
+with_reset_rung = tail_rung 0 2 with_reset

@@ -1,6 +1,6 @@
 //! The commands that were fetched and not completed.
 
-ghost use Rattle.std.specs.Prelude.{◌≡◌, ◌+◌, ◌<◌, ◌≤◌, ◌==◌, ◌++◌, ◌∷◌, [], ℕ, None, Some, IfOk, IfSome, OnOk, OnErr, false, is_some, map, find, length, slice_get};
+ghost use Rattle.std.specs.Prelude.{◌≡◌, ◌+◌, ◌<◌, ◌≤◌, ◌==◌, ◌++◌, ◌∷◌, [], ℕ, None, Some, IfOk, IfSome, OnOk, OnErr, false, is_some, map, find, get_or, length, slice_get};
 ghost use Rattle.std.specs.List.{list_any};
 ghost use Rattle.std.specs.Option.{option_copied};
 ghost use Rattle.controller_core.specs.Completing.{without_command};
@@ -37,6 +37,16 @@ impl<A: Allocator> Model for Commands<A> {
     ghost view = { λ c. record { queues = length c.counts.items; list = map (λ row. row.value) c.table } };
 
     ghost invariant = { λ c. AreNamed c.table × IsDistinct c.table × AreCounted c.counts.items (map (λ row. row.value) c.table) };
+}
+
+/// Makes each count zero.
+fn forget(counts: &mut [usize])
+    ensures zero { (q : ℕ) → get_or counts.new q 0 ≡ 0 }
+    ensures count { length counts.new ≡ length counts.old }
+{
+    for count in counts.iter_mut() {
+        *count = 0;
+    }
 }
 
 impl<A: Allocator + Copy> Commands<A> {
@@ -148,6 +158,14 @@ impl<A: Allocator> Commands<A> {
         let command = self.table.take(q, cid)?;
         self.counts[usize::from(q)] -= 1;
         Some(command)
+    }
+
+    /// Takes out all commands.
+    pub(crate) fn clear(&mut self)
+        ensures { self.new ≡ record self.old { list = [] } }
+    {
+        self.table.clear();
+        forget(&mut self.counts);
     }
 
     /// How many commands a queue has.

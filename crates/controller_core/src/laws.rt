@@ -1,6 +1,7 @@
 //! Laws of the definitions that the contracts cite. Each function does nothing, and its clause is the law.
 
 ghost use Rattle.controller_core.specs.Laws.{WalksOneWay, CompletesOneWay, FetchesOneWay, RefusesOneWay, ServedUnlessMemory};
+ghost use Rattle.controller_core.specs.Resetting.{ResetIsQuiet, QuietUntilTail, IdleUntilCreated, ResetKeepsImage, ResetOnce};
 
 /// The contract of a walk leaves nothing open of the answer, the memory and the touched pages, nor of the controller but how a walk keeps
 /// its place.
@@ -21,4 +22,15 @@ pub fn fetches_go_one_way()
     ensures served { FetchesOneWay }
     ensures refused { RefusesOneWay }
     ensures unless_memory { ServedUnlessMemory }
+{}
+
+/// Behind a reset nothing can be fetched, walked or completed, whatever the controller was, until a tail is rung; and that of an I/O queue
+/// does nothing until the queue is created. The image is as it was. A second reset changes nothing.
+#[tactic(auto, using(crate::proofs::Resets::reset_quiet, crate::proofs::Resets::quiet_until_tail, crate::proofs::Resets::idle_until_created, crate::proofs::Resets::reset_once))]
+pub fn a_reset_leaves_nothing_to_do()
+    ensures quiet { ResetIsQuiet }
+    ensures until_tail { QuietUntilTail }
+    ensures until_created { IdleUntilCreated }
+    ensures image { ResetKeepsImage }
+    ensures once { ResetOnce }
 {}

@@ -22,6 +22,7 @@ mod lookup;
 mod manage;
 mod queue;
 mod refusal;
+mod reset;
 mod walk;
 pub mod worked;
 

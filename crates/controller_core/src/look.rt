@@ -144,8 +144,7 @@ impl<A: Allocator + Copy> Controller<A> {
     }
 
     /// A call that the controller can make, if there is one: it is refused for want of memory at most, and `None` says that each call is
-    /// refused for another cause. It makes none. Today a fetch comes before the others, from the first queue that can, and then the
-    /// command that was fetched first and does not wait; no clause says so. The list of the touched pages is empty then.
+    /// refused for another cause. It makes none. The list of the touched pages is empty then.
     pub fn next_step<D: TouchRecord>(&self, dma: &mut D) -> Option<ControllerStep>
         ensures possible { IfSome result (λ step. refusal_by self.now (D.memory dma.old) step ≡ None) }
         ensures rest { IfNone result (IsAtRest self.now (D.memory dma.old)) }

@@ -1,7 +1,7 @@
 //! Worked runs of the definitions. Each function does nothing, and its clauses are the run.
 #![tactic(auto, unfolding(page_memory::specs::Memory::bytes_at, sgl_descriptor::specs::Spelling::descriptor_of, entry_codec::specs::Submission::submission_of, entry_codec::specs::Completion::completion_bytes, controller_walk::specs::Units::moving, controller_walk::specs::Units::from_place))]
 
-ghost use Rattle.std.specs.Prelude.{◌≡◌, ◌∷◌, [], None, Some, replicate, slice_get};
+ghost use Rattle.std.specs.Prelude.{◌≡◌, ◌∷◌, [], None, Some, length, replicate, slice_get};
 ghost use Rattle.admin_commands.specs.Entries.{admin_entry};
 ghost use Rattle.admin_commands.specs.declared.AdminKind.TheVariants.{Abort, CreateCq};
 ghost use Rattle.controller_walk.specs.declared.walk.WalkState.TheVariants.{More, End};
@@ -10,10 +10,10 @@ ghost use Rattle.entry_codec.specs.declared.status.TheConstants.Status.{SUCCESS,
 ghost use Rattle.page_memory.specs.Memory.{bytes_at};
 ghost use Rattle.controller_core.specs.Completing.{CompletesTo, complete_refusal};
 ghost use Rattle.controller_core.specs.Doorbells.{tail_rung, head_rung};
-ghost use Rattle.controller_core.specs.Fetching.{FetchesTo, look_refusal};
+ghost use Rattle.controller_core.specs.Fetching.{FetchesTo, fetch_refusal, look_refusal};
 ghost use Rattle.controller_core.specs.Managing.{command_of, managed};
 ghost use Rattle.controller_core.specs.Walking.{WalksTo, walk_refusal};
-ghost use Rattle.controller_core.specs.Worked.{fresh, rung, memory_with_entry, with_read_begun, with_read_halfway, with_read_walked, with_read_completed, memory_with_data, memory_with_completion, wrong_opcode, status_bytes, create_cq, create_sq, memory_with_creations, without_queue, with_completion_made, with_queue_made, made_queue};
+ghost use Rattle.controller_core.specs.Worked.{fresh, rung, memory_with_entry, with_read_begun, with_read_halfway, with_read_walked, with_read_completed, memory_with_data, memory_with_completion, wrong_opcode, status_bytes, create_cq, create_sq, memory_with_creations, without_queue, with_completion_made, with_queue_made, made_queue, with_abort, with_reset, with_reset_rung, block};
 ghost use Rattle.controller_core.specs.declared.command.Work.TheVariants.{Admin};
 ghost use Rattle.controller_core.specs.declared.refusal.Refusal.TheVariants as refusal;
 
@@ -66,6 +66,21 @@ pub fn worked_refused_creations()
     ensures inside { (managed 8 (admin_entry (CreateCq 1 4 0x6010) 0) without_queue).commands ≡ command_of 0 (Admin (admin_entry (CreateCq 1 4 0x6010) 0) INVALID_FIELD 0) ∷ [] }
     ensures behind { (managed 8 (admin_entry (CreateCq 1 4 0x8000) 0) without_queue).commands ≡ command_of 0 (Admin (admin_entry (CreateCq 1 4 0x8000) 0) INVALID_FIELD 0) ∷ [] }
     ensures unmade { slice_get (managed 8 (admin_entry (CreateCq 1 4 0x6010) 0) without_queue).queues 1 ≡ slice_get without_queue.queues 1 }
+{}
+
+/// A Read in the midst of its walk and the Abort that stopped it are gone after a reset, and nothing is fetched of what stands in the rings.
+/// The Read's queue is made again, from its entries in memory, as behind a deletion.
+pub fn worked_reset()
+    ensures before { length with_abort.commands ≡ 2 }
+    ensures admin_idle { fetch_refusal with_reset memory_with_creations 0 ≡ Some refusal.Idle }
+    ensures idle { fetch_refusal with_reset memory_with_entry 1 ≡ Some refusal.Idle }
+    ensures unwalked { walk_refusal with_reset 1 0 ≡ Some refusal.NoJob }
+    ensures uncompleted { complete_refusal with_reset memory_with_entry 0 0 ≡ Some refusal.NoJob }
+    ensures still_idle { fetch_refusal (tail_rung 1 1 with_reset) memory_with_entry 1 ≡ Some refusal.Idle }
+    ensures image { with_reset.image ≡ block }
+    ensures completion { FetchesTo with_reset_rung 8 memory_with_creations [] 0 0 with_completion_made memory_with_creations (0 ∷ []) }
+    ensures submission { FetchesTo with_completion_made 8 memory_with_creations (0 ∷ []) 0 1 with_queue_made memory_with_creations (0 ∷ 0 ∷ []) }
+    ensures queue { slice_get with_queue_made.queues 1 ≡ Some made_queue }
 {}
 
 /// The bytes that tell the guest of each fault of a walk, in the first pass of the ring.

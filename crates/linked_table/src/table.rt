@@ -106,6 +106,18 @@ impl<R, A: Allocator> LinkedTable<R, A> {
         self.nodes.map.get(&(q, cid))?.after
     }
 
+    /// Takes out all records. The table keeps the room of its map for the next ones.
+    pub fn clear(&mut self)
+    where
+        R: Drop,
+        ensures { self.new ≡ [] }
+    {
+        let Nodes { map, first, last } = &mut self.nodes;
+        map.clear();
+        *first = None;
+        *last = None;
+    }
+
     /// Takes the record out of a place. The others keep their order.
     pub fn take(&mut self, q: u16, cid: u16) -> Option<R>
         ensures value { result ≡ value_at self.old q cid }

@@ -85,11 +85,20 @@ impl<A: Allocator> HostPair<A> {
     {
         self.sq = sq;
         self.cq = cq;
+        self.restart();
+        self.free.fill(true);
+    }
+
+    /// Leaves both rings as [`HostPair::open`] makes them: nothing is posted, and the first completion is expected with phase 1. The halves
+    /// and the claimed identifiers stay.
+    pub fn restart(&mut self)
+        ensures restarted { self.new ≡ record self.old { ring = fresh_host_ring } }
+        ensures proper { IsHostSide self.new }
+    {
         self.head = 0;
         self.phase = true;
         self.known_head = 0;
         self.tail = 0;
-        self.free.fill(true);
     }
 
     /// Puts an entry into the slot at the tail and answers that slot. The controller sees it once the tail is rung.
