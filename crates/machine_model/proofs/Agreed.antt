@@ -1,12 +1,15 @@
 -- What follows where both sides agree.
-use Rattle.std.proofs.Common.{not, ap}
+use Rattle.std.proofs.Common.{refl, ◌≡◌, Option, Some, None, not, ap, sym, ◌∙◌}
 use Rattle.machine_model.specs.AgreeingLaws.{agreeing_sides_are_linked, agreed_live_queues_are_there, agreeing_sides_have_room, agreed_admin_commands_stand_once, agreed_jobs_stand, agreed_jobs_keep_their_lists, agreed_chains_stand, agreed_chains_stay, agreeing_steps_stay_allowed}
 use Rattle.machine_model.proofs.Agreeing.{stood_of, roomy_of}
 use Rattle.machine_model.proofs.TiedAll.{live_is_there}
 use Rattle.machine_model.proofs.JobLaws.{stood_has_chains, stood_has_jobs, stood_keeps_chains, stood_keeps_lists, stood_linked, stood_stays}
 use Rattle.machine_model.proofs.NeverFull.{reply_not_full}
 use Rattle.machine_model.proofs.Trusted.{stands_once}
-use Rattle.machine_model.proofs.NeverRestored.{trusted_before}
+use Rattle.machine_model.proofs.NeverRestored.{trusted_before, reset_leaves}
+use Rattle.machine_model.specs.Events as events
+use Rattle.machine_model.specs.State.{State, Job}
+use Rattle.machine_model.specs.Refusals.{job_at}
 
 pub agreed_linked : agreeing_sides_are_linked
 agreed_linked s agree = stood_linked s (stood_of s agree)
@@ -24,8 +27,10 @@ pub agreed_jobs : agreed_jobs_stand
 agreed_jobs s q cid j agree some found = stood_has_jobs s (stood_of s agree) q cid j some found
 
 pub agreed_lists : agreed_jobs_keep_their_lists
+agreed_lists old new events.Reset reply q cid before after agree step trusted some found still =
+    let none : ◌≡◌ {A = Option Job} None (Some after) = sym (ap (λ (s : State). job_at s q cid) (reset_leaves old reply new step)) ∙ still in absurd cc
 agreed_lists old new e reply q cid before after agree step trusted some found still =
-    stood_keeps_lists old new e reply q cid before after (stood_of old agree) (trusted_before old e reply new step trusted) step trusted some found still
+    stood_keeps_lists old new e reply q cid before after (stood_of old agree) (trusted_before old e reply new step refl trusted) step trusted some found still
 
 pub agreed_chains : agreed_chains_stand
 agreed_chains s q cid r agree found sub = stood_has_chains s (stood_of s agree) q cid r found sub

@@ -24,6 +24,8 @@ trusted_step_by Q old refused accepted e (events.Refused why touched) new step t
 trusted_step_by Q old refused accepted (events.Forge q slot bytes) reply new step t u =
     let ok = permitted _ old.trusted true t step.1 in
     absurd (true≢false (sym u ∙ (ap (λ (part : HostPart). part.trusted) (part_left old (events.Forge q slot bytes) reply new step.2) ∙ forged_untrusted old q slot bytes ok.0)))
+trusted_step_by Q old refused accepted events.Reset reply new step t u =
+    subst (Q events.Reset reply) (sym step.2) (accepted events.Reset reply step.0 (permitted _ old.trusted true t step.1))
 trusted_step_by Q old refused accepted e (events.Reserved d) new step t u =
     subst (Q e (events.Reserved d)) (sym (exact _ old.trusted t step.2)) (accepted e (events.Reserved d) step.0 (permitted _ old.trusted (not (IsController e)) t step.1))
 trusted_step_by Q old refused accepted e reply new step t u =

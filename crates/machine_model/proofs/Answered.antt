@@ -1,5 +1,5 @@
 -- Each event is answered, whatever was forged.
-use Rattle.std.proofs.Common.{◌≡◌, ◌⊎◌, inl, inr, ℕ, ◌<◌, ◌-◌, ◌==◌, nat_lt, Bool, true, false, not, ◌&&◌, ◌||◌, Option, Some, None, List, [], ◌∷◌, length, slice_get, is_some, is_none, get_or, MatchBool, if◌then◌else◌, refl, ap, sym, ◌∙◌, arith, subst, eqb-true}
+use Rattle.std.proofs.Common.{◌≡◌, ◌⊎◌, inl, inr, ℕ, ◌<◌, ◌-◌, ◌==◌, nat_lt, Bool, true, false, not, ◌||◌, Option, Some, None, List, [], ◌∷◌, length, slice_get, is_some, is_none, get_or, MatchBool, if◌then◌else◌, refl, ap, sym, ◌∙◌, arith, subst, eqb-true}
 use Rattle.std.specs.List.{list_all}
 use Rattle.std.specs.Option.{option_map_or}
 use Rattle.std.proofs.lemmas.Bool.{true≢false, or_parts, and_parts, not-true}
@@ -15,7 +15,7 @@ use Rattle.machine_model.specs.State.{State, Job, outstanding_on}
 use Rattle.machine_model.specs.Refusals.{causes, no_identifier, reserve_causes, refusal_of, is_job, job_at, job_is, post_page}
 use Rattle.machine_model.specs.Proper.{IsProper}
 use Rattle.machine_model.specs.After.{after, course_of, next_answer, next_unit}
-use Rattle.machine_model.specs.Step.{Step, Refuses, MayRefuse, Answers, AnswersAnything, IsController, LeavesByController, LeavesByHost, IsNewIdentifier, allocates, forges, reaped, touched_by_refusal, unit_answered}
+use Rattle.machine_model.specs.Step.{Step, Refuses, MayRefuse, Answers, AnswersAnything, IsController, LeavesByController, LeavesByHost, IsNewIdentifier, allocates, reaped, touched_by_refusal, unit_answered, is_exact}
 use Rattle.machine_model.specs.Events as events
 use Rattle.machine_model.specs.Events.{Event, Reaped, Refusal}
 use Rattle.machine_model.specs.InOrder.{IsInOrder, IsAnswered, every_event_is_answered}
@@ -132,6 +132,7 @@ is_plain (events.Ring q) = true
 is_plain (events.Release f) = true
 is_plain (events.Retire q) = true
 is_plain (events.Forge q slot bytes) = true
+is_plain events.Reset = true
 is_plain e = false
 
 plain_of_host : (e : Event) → is_plain e ≡ true → IsController e ≡ false
@@ -147,6 +148,7 @@ plain_answers s (events.Ring q) h = tt
 plain_answers s (events.Release f) h = tt
 plain_answers s (events.Retire q) h = tt
 plain_answers s (events.Forge q slot bytes) h = tt
+plain_answers s events.Reset h = tt
 plain_answers s e h = absurd (true≢false (sym h))
 
 -- what is left: the state that is due, and where that isn't exact, one with the controller's part as it was
@@ -165,7 +167,7 @@ acceptable s e proper plain = go (refusal_of s e) refl
     go : (o : Option Refusal) → refusal_of s e ≡ o → IsRefused s e ⊎ ((left : State) × Step s e events.Accepted left)
     go (Some why) h = inl (refused_for s e proper judged why h)
     go None h =
-        let left = left_by_host s (after s e events.Accepted) (not (forges e) && s.trusted) (IsController e) (plain_of_host e plain) in
+        let left = left_by_host s (after s e events.Accepted) (is_exact e s.trusted) (IsController e) (plain_of_host e plain) in
         inr (
           left.0,
           (proper, permits_judged (AnswersAnything s e events.Accepted) (s.trusted || not (IsController e)) judged (h, plain_answers s e plain), left.1),
@@ -311,7 +313,7 @@ sends s e proper host some answers = go (refusal_of s e) refl
     go (Some why) h = inl (refused_for s e proper (host_judged s e host) why h)
     go None h =
         let id = new_identifier s 0 (some h) in
-        let left = left_by_host s (after s e (events.Sent id.0)) (not (forges e) && s.trusted) (IsController e) host in
+        let left = left_by_host s (after s e (events.Sent id.0)) (is_exact e s.trusted) (IsController e) host in
         inr (id.0, left.0, (proper, permits_judged (AnswersAnything s e (events.Sent id.0)) (s.trusted || not (IsController e)) (host_judged s e host) (h, answers id.0 id.1), left.1))
 
 pub abort_answered : (s : State) (q cid : ℕ) → IsRefused s (events.Abort q cid) ⊎ IsSent s (events.Abort q cid)
@@ -363,6 +365,7 @@ answers_every_event s (events.Release f) order proper = answer_plain s (events.R
 answers_every_event s (events.Retire q) order proper = answer_plain s (events.Retire q) (acceptable s (events.Retire q) proper refl)
 answers_every_event s (events.Forge q slot bytes) order proper =
     answer_plain s (events.Forge q slot bytes) (acceptable s (events.Forge q slot bytes) proper refl)
+answers_every_event s events.Reset order proper = answer_plain s events.Reset (acceptable s events.Reset proper refl)
 answers_every_event s (events.Reserve q r) order proper = answer_refused s (events.Reserve q r) (refusable s (events.Reserve q r) proper refl refl)
 answers_every_event s (events.Collect q cid) order proper = answer_refused s (events.Collect q cid) (refusable s (events.Collect q cid) proper refl refl)
 answers_every_event s (events.Abort q cid) order proper = answer_sent s (events.Abort q cid) (abort_answered s q cid)

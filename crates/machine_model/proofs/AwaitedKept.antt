@@ -21,7 +21,8 @@ use Rattle.machine_model.specs.Events.{Event, Reply}
 use Rattle.machine_model.proofs.Counting.{one}
 use Rattle.machine_model.proofs.Steps.{Accepts}
 use Rattle.machine_model.proofs.Owned.{HoldsPart}
-use Rattle.machine_model.proofs.Awaited.{Awaited, length_awaits, awaited_same, awaited_more, awaited_less, awaited_starts, awaited_ends, was_awaited, awaited_is, with_awaits, lost_awaits}
+use Rattle.machine_model.proofs.Awaited.{Awaited, awaits, length_awaits, awaited_same, awaited_more, awaited_less, awaited_starts, awaited_ends, was_awaited, awaited_is, with_awaits, lost_awaits}
+use Rattle.machine_model.proofs.Resetting.{lost_keeps, admin_total, reset_state}
 use Rattle.machine_model.proofs.Moves.{host_moves, IsHeard, drafted_record, sent_record, sends, creates_cq, creates_sq, grants_cq, grants_sq, half_from, asked_is, making_cq_is, making_sq_is}
 
 -- as the public statements say it
@@ -178,8 +179,15 @@ awaited_event of test waits s e reply ok c holds h =
           awaited_same of test (map (a.lost q) s.host.records) a.retired q s.host.queues
           (λ y ey. let same : queue ≡ y = cc (at, ey) in waits.retired ∙ sym (ap (λ (x : HostQueue). test x.state) (sym same) ∙ ap test deleted ∙ waits.noted)) (λ z. lost_awaits of q s.host.records z ∙ h z);
       forges = λ q slot bytes queue none at. h;
+      resets = λ z.
+          admin_total (awaits of z) (λ r. ap (λ w. one (of z w)) (lost_keeps.work r)) (λ r io. quiet_io z r.work io) s.host.records ∙ ap one (sym (reset_state test waits.live waits.gone s.host.queues z));
     })
   where
+    -- no queue waits for an I/O command
+    quiet_io : (z : ℕ) (w : Work) → a.is_of_io w ≡ true → one (of z w) ≡ 0
+    quiet_io z (Io request) io = ap one (waits.io z request)
+    quiet_io z (Management adm) io = absurd (true≢false (sym io))
+
     with : (q cid : ℕ) (f : Record → Record) → ((r : Record) → (f r).work ≡ r.work) → Awaited of test (with_record q cid f s.host.records) s.host.queues
     with q cid f same z = with_awaits of q cid f same s.host.records z ∙ h z
 

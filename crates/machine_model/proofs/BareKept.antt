@@ -22,6 +22,7 @@ use Rattle.machine_model.proofs.Awaited.{awaited_at, at_other}
 use Rattle.machine_model.proofs.AwaitedKept.{making_cq_as_heard, making_sq_as_heard}
 use Rattle.machine_model.proofs.Counting.{one}
 use Rattle.machine_model.proofs.Halves.{service_in_use, live_in_use}
+use Rattle.machine_model.proofs.Resetting.{reset_state}
 use Rattle.machine_model.proofs.Moves.{host_moves, drafted_record, sent_record, half_from, creates_cq, creates_sq}
 use Rattle.machine_model.proofs.Owned.{HoldsPart}
 use Rattle.machine_model.proofs.Refused.{unrefused}
@@ -164,6 +165,7 @@ bare_of s e reply ok c holds =
           (λ x ex m. let same : queue ≡ x = cc (granted.there, ex) in ap (λ (y : HostQueue). is_making y.state) (sym same) ∙ ap is_making granted.state) h);
       retires = λ q queue none at deleted. bare_change _ q a.retired s.host.queues (λ x ex m. absurd (true≢false (sym m))) (bare_lost q s.host.records s.host.queues h);
       forges = λ q slot bytes queue none at. h;
+      resets = λ q making. absurd (true≢false (sym making ∙ reset_state is_making refl refl s.host.queues q));
     })
   where
     h : Bare s.host.records s.host.queues

@@ -144,6 +144,7 @@ seen_after s d d' (events.Forge q slot bytes) events.Accepted c ok =
     seen-option (λ queue. record (a.on_memory (λ m. with_page_bytes m (slot_page queue.cq_pages 16 slot) (slot_offset 16 slot) bytes) (over s d)) { trusted = false })
     (λ queue. record (a.on_memory (λ m. with_page_bytes m (slot_page queue.cq_pages 16 slot) (slot_offset 16 slot) bytes) (over s d')) { trusted = false })
     (host_queue s q) (over s d) (over s d') refl (λ queue. refl)
+seen_after s d d' events.Reset events.Accepted c ok = refl
 seen_after s d d' (events.Fetch q) reply c ok = absurd (true≢false c)
 seen_after s d d' (events.Walk q cid) reply c ok = absurd (true≢false c)
 seen_after s d d' (events.Complete q cid) reply c ok = absurd (true≢false c)
@@ -184,6 +185,7 @@ answers_same s d d' (events.CreateCq q) (events.Sent id) c h = new_same s d d' 0
 answers_same s d d' (events.CreateSq q) (events.Sent id) c h = new_same s d d' 0 id h
 answers_same s d d' (events.Retire q) events.Accepted c h = h
 answers_same s d d' (events.Forge q slot bytes) events.Accepted c h = h
+answers_same s d d' events.Reset events.Accepted c h = h
 answers_same s d d' (events.Fetch q) reply c h = absurd (true≢false c)
 answers_same s d d' (events.Walk q cid) reply c h = absurd (true≢false c)
 answers_same s d d' (events.Complete q cid) reply c h = absurd (true≢false c)

@@ -31,7 +31,7 @@ use Rattle.machine_model.proofs.Placements.{InHand, in_hand}
 use Rattle.io_commands.specs.Jobs as jobs
 use Rattle.page_memory.specs.Pages.{with_bytes}
 use Rattle.machine_model.specs.Refusals.{refusal_of}
-use Rattle.machine_model.specs.Step.{IsController}
+use Rattle.machine_model.specs.Step.{IsController, resets}
 use Rattle.machine_model.specs.After.{change}
 use Rattle.machine_model.proofs.Steps.{Accepts}
 use Rattle.machine_model.proofs.CommandsAll.{Walking, walking}
@@ -241,11 +241,11 @@ complete_keeps earlier s q cid m far stood h =
 
 -- Every step
 
-host_keeps : (earlier : List Made) (s : State) (e : Event) (reply : Reply) → IsController e ≡ false → Accepts s e reply → AllCaused earlier (a.image_blocks s) s.device.jobs
+host_keeps : (earlier : List Made) (s : State) (e : Event) (reply : Reply) → IsController e ≡ false → resets e ≡ false → Accepts s e reply → AllCaused earlier (a.image_blocks s) s.device.jobs
     → Keeps (earlier ++ record { before = s; event = e; reply = reply } ∷ []) s (a.after s e reply)
-host_keeps earlier s e reply c ok h = record {
+host_keeps earlier s e reply c other ok h = record {
   image = ap length (host_image s e reply ok c);
-  jobs = subst (AllCaused (earlier ++ record { before = s; event = e; reply = reply } ∷ []) (a.image_blocks s)) (sym (host_jobs s e reply ok c))
+  jobs = subst (AllCaused (earlier ++ record { before = s; event = e; reply = reply } ∷ []) (a.image_blocks s)) (sym (host_jobs s e reply ok c other))
       (not_fetched earlier (record { before = s; event = e; reply = reply }) s (λ k n. host_no_fetch e reply k n c) h);
 }
 
@@ -257,4 +257,6 @@ event_keeps earlier s (events.Complete q cid) (events.Completed touched) ok stoo
 event_keeps earlier s (events.Fetch q) reply ok stood h = absurd ok.1
 event_keeps earlier s (events.Walk q cid) reply ok stood h = absurd ok.1
 event_keeps earlier s (events.Complete q cid) reply ok stood h = absurd ok.1
-event_keeps earlier s e reply ok stood h = host_keeps earlier s e reply refl ok h
+event_keeps earlier s events.Reset events.Accepted ok stood h = record { image = refl; jobs = tt }
+event_keeps earlier s events.Reset reply ok stood h = absurd ok.1
+event_keeps earlier s e reply ok stood h = host_keeps earlier s e reply refl refl ok h

@@ -15,7 +15,7 @@ use Rattle.io_commands.specs.Jobs.{direction_of_entry}
 use Rattle.page_memory.specs.Memory.{page_of}
 use Rattle.page_memory.specs.Pages.{Pages, page_at, with_page_bytes}
 use Rattle.machine_model.specs.Proper.{IsProper}
-use Rattle.machine_model.specs.Memory.{with_pages, without_pages}
+use Rattle.machine_model.specs.Memory.{zeroed_pages, with_pages, without_pages}
 use Rattle.machine_model.specs.State.{State, DeviceQueue, Record, Held, Job, is_at, record_at, pages_of, with_record, without_record}
 use Rattle.machine_model.specs.Refusals.{is_submitted, refusal_of, job_at, job_is, slot_page, slot_offset}
 use Rattle.machine_model.specs.Step.{HostPart, IsController, times}
@@ -41,6 +41,8 @@ use Rattle.machine_model.proofs.Commanding.{Keeps, keeps_queue, keeps_fetch, kee
 use Rattle.machine_model.proofs.CommandsKept.{CommandsIn, SamePages, still, commands_reserve, commands_submit}
 use Rattle.machine_model.specs.Claims.{OwnsFit}
 use Rattle.machine_model.proofs.Members.{all_in}
+use Rattle.machine_model.proofs.Emptied.{reset_command, sized_of}
+use Rattle.machine_model.proofs.Resetting.{all_reset}
 use Rattle.machine_model.proofs.Moves.{host_moves, sends, sent_record, creates_cq, creates_sq, grants_cq, grants_sq}
 use Rattle.machine_model.proofs.DeviceMoves.{unit_memory, walk_by}
 use Rattle.machine_model.proofs.Refused.{unrefused}
@@ -126,6 +128,10 @@ commands_host s e reply pr ok c w h =
           all_map (CommandStands s.memory s.device.queues s.device.jobs) (CommandStands s.memory s.device.queues s.device.jobs) (a.lost q) s.host.records (λ r c. lose r ((r.q == q) && is_submitted r.phase) c) h.commands;
       forges = λ q slot bytes queue none at pr same.
           still s (with_page_bytes s.memory (slot_page queue.cq_pages 16 slot) (slot_offset 16 slot) bytes) s.device.queues s.device.jobs h.grounds same (nothing s.device.queues s.device.jobs) h.commands;
+      resets = λ pr same.
+          let m = with_pages (zeroed_pages (a.admin_pages s.host.queues)) s.memory in
+          all_reset (CommandStands s.memory s.device.queues s.device.jobs) (CommandStands m (a.reset_device_queues s.device.queues) [])
+          (λ r io p. reset_command m (a.reset_device_queues s.device.queues) [] r (sized_of s.memory s.device.queues s.device.jobs r p)) s.host.records h.commands;
     }) pr (same_pages s e reply ok w h.grounds)
   where
     without : (q cid : ℕ) → Commands s.memory (a.consumed q s).device.queues s.device.jobs (without_record q cid s.host.records)

@@ -20,6 +20,7 @@ use Rattle.machine_model.proofs.Owned.{HoldsPart}
 use Rattle.machine_model.proofs.AwaitedKept.{making_cq_as_heard}
 use Rattle.machine_model.proofs.Halves.{alone_has_no_sq}
 use Rattle.machine_model.proofs.Lists.{all_changed}
+use Rattle.machine_model.proofs.Resetting.{all_reset_queues}
 use Rattle.machine_model.proofs.Moves.{host_moves, half_from}
 
 abbrev Fit : List HostQueue → Type 0
@@ -73,6 +74,7 @@ halves_event s e reply ok c holds =
           (all_changed HasNoOtherPages q (a.making_sq (half_from Submission first s)) s.host.queues (λ x ex p. whole (a.making_sq (half_from Submission first s) x) refl refl) h);
       retires = λ q queue none at deleted. all_changed HasNoOtherPages q a.retired s.host.queues (λ x ex p. record { submission = λ no. refl; completion = λ no. absurd (true≢false no) }) h;
       forges = λ q slot bytes queue none at. h;
+      resets = all_reset_queues HasNoOtherPages HasNoOtherPages s.host.queues (λ x e p. whole (a.reset_admin x) refl refl) (record { submission = λ no. refl; completion = λ no. refl }) h;
     })
   where
     h : Fit s.host.queues

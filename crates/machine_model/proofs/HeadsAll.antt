@@ -41,6 +41,8 @@ use Rattle.machine_model.proofs.HeadsKept.{drafted_room, heads_less, ids_with, h
 use Rattle.queue_pair.specs.Rings.{HostRing, next_tail, next_head, knowing, fresh_host_ring}
 use Rattle.queue_pair.specs.Memory.{half_pages}
 use Rattle.page_memory.specs.declared.page.Half.TheVariants.{Submission, Completion}
+use Rattle.machine_model.proofs.Emptied.{reset_heads}
+use Rattle.machine_model.proofs.Resetting.{all_reset, lost_keeps}
 use Rattle.machine_model.proofs.Moves.{host_moves, sends, drafted_record, heard_without, half_from, creates_cq, creates_sq, grants_cq, grants_sq, IsHeard, answer_heard}
 use Rattle.machine_model.proofs.Asked.{still_live, asked_note}
 use Rattle.machine_model.proofs.AwaitedKept.{making_sq_as_heard, ring_at}
@@ -305,6 +307,9 @@ heads_host s e reply ok c t g h =
           heads_sent (creates_sq q first s) id (grants_sq q first s) new.in_range (unrefused s (events.CreateSq q) none).1.1.0 (zero_ring (a.making_sq pages) q granted.other) (heads_out s.entries q (a.making_sq pages) s.host.queues s.host.records s.device.queues (λ x. refl) h);
       retires = λ q queue none at deleted. heads_retire q s h;
       forges = λ q slot bytes queue none at. h;
+      resets =
+          reset_heads s.entries s.host.queues (a.reset_records s.host.records) s.device.queues
+          (all_reset (λ r. r.cid < s.entries - 1) (λ r. r.cid < s.entries - 1) (λ r io low. subst (λ (c : ℕ). c < s.entries - 1) (sym (lost_keeps.cid r)) low) s.host.records h.ids);
     })
   where
     ended : (q cid : ℕ) (r : Record) → record_at s.host q cid ≡ Some r → is_submitted r.phase ≡ false → Heads s.entries s.host.queues (without_record q cid s.host.records) s.device.queues

@@ -1,13 +1,19 @@
 -- The opening is in order, and each step from a state in order leads to one.
-use Rattle.std.proofs.Common.{◌≡◌, ℕ, ◌≤◌, true, false, [], refl, sym, subst}
+use Rattle.std.proofs.Common.{◌≡◌, ℕ, ◌≤◌, true, false, List, [], ◌∷◌, refl, sym, subst}
 use Rattle.page_memory.proofs.Whole.{zeros_pool}
-use Rattle.machine_model.specs.InOrder.{openings_are_in_order, steps_keep_order}
+use Rattle.machine_model.specs.InOrder.{IsInOrder, openings_are_in_order, steps_keep_order}
 use Rattle.machine_model.specs.Opening.{opening, is_config}
+use Rattle.machine_model.specs.Recovering.{every_run_recovers}
+use Rattle.machine_model.specs.Run.{Run}
 use Rattle.machine_model.specs.State.{State}
-use Rattle.machine_model.specs.Step.{IsController}
+use Rattle.machine_model.specs.Step.{Step, IsController}
 use Rattle.machine_model.specs.Events.{Event, Reply}
 use Rattle.machine_model.proofs.Headline.{steps_keep, runs_are_sound}
-use Rattle.machine_model.proofs.Agreeing.{stood_of, opening_agrees, step_keeps_agreement}
+use Rattle.machine_model.proofs.Agreeing.{stood_of, opening_agrees, step_keeps_agreement, reset_recovers}
+use Rattle.machine_model.proofs.NeverRestored.{trusted_before, reset_leaves}
+use Rattle.machine_model.proofs.Recovered.{openings_recover, recovery_kept}
+use Rattle.machine_model.specs.Agreeing.{SidesAgree}
+use Rattle.machine_model.specs.Events as events
 use Rattle.machine_model.proofs.Opening.{in_limits, limits_of}
 use Rattle.machine_model.proofs.Steps.{Accepts, IsKept, each_step}
 use Rattle.machine_model.proofs.WholePages.{stood_keeps_pages_whole}
@@ -35,7 +41,13 @@ opens_in_order pages queues n s image opens bytes =
       least_segment = limits.1.0;
       most_segment = limits.1.1;
       agree = λ trusted. opening_agrees pages queues n s image opens;
+      recovers = openings_recover pages queues n s image opens;
     }
+
+-- behind a reset both sides agree whatever was forged
+agree_kept : (old : State) (e : Event) (reply : Reply) (new : State) → IsInOrder old → Step old e reply new → new.trusted ≡ true → SidesAgree new
+agree_kept old events.Reset reply new order step trusted = subst SidesAgree (sym (reset_leaves old reply new step)) (reset_recovers old order.recovers)
+agree_kept old e reply new order step trusted = (step_keeps_agreement old e reply new step trusted).1 (order.agree (trusted_before old e reply new step refl trusted))
 
 pub order_kept : steps_keep_order
 order_kept old e reply new order step =
@@ -45,5 +57,16 @@ order_kept old e reply new order step =
       whole = stood_keeps_pages_whole old e reply new (λ trusted. stood_of old (order.agree trusted)) step order.whole;
       least_segment = limits.0;
       most_segment = limits.1;
-      agree = λ trusted. let before = step_keeps_agreement old e reply new step trusted in before.1 (order.agree before.0);
+      agree = λ trusted. agree_kept old e reply new order step trusted;
+      recovers = recovery_kept old e reply new step order.agree order.recovers;
     }
+
+run_in_order : (s : State) (es : List Event) (replies : List Reply) (end : State) → Run s es replies end → IsInOrder s → IsInOrder end
+run_in_order s [] [] end run order = subst IsInOrder (sym run) order
+run_in_order s [] (reply ∷ replies) end run order = absurd run
+run_in_order s (e ∷ es) [] end run order = absurd run
+run_in_order s (e ∷ es) (reply ∷ replies) end run order = run_in_order run.0 es replies end run.2 (order_kept s e reply run.0 order run.1)
+
+pub runs_recover : every_run_recovers
+runs_recover pages queues n s image es replies end opens bytes run =
+    reset_recovers end (run_in_order (opening pages queues n s image) es replies end run (opens_in_order pages queues n s image opens bytes)).recovers

@@ -63,6 +63,7 @@ step_is old (events.Forge q slot bytes) reply new step t =
       step.2.memory,
       λ u. absurd (true≢false (sym u ∙ (ap (λ (part : HostPart). part.trusted) (part_left old (events.Forge q slot bytes) reply new step.2) ∙ forged_untrusted old q slot bytes ok.0))),
     )
+step_is old events.Reset reply new step t = inr (step.0, permitted _ old.trusted true t step.1, ap (λ (s : State). s.memory) step.2, λ u. step.2)
 step_is old e (events.Reserved d) new step t =
     let is = exact _ old.trusted t step.2 in
     inr (step.0, permitted _ old.trusted (not (IsController e)) t step.1, ap (λ (s : State). s.memory) is, λ u. is)
@@ -169,7 +170,8 @@ same_entry s e (events.Refused why touched) ok q cid entry jobs has = jobs
 same_entry s (events.Fetch k) reply ok q cid entry jobs has = (keeps_fetch s k q cid entry has).fetched
 same_entry s (events.Walk k c) reply ok q cid entry jobs has = (keeps_walk s k c q cid entry has).fetched
 same_entry s (events.Complete k c) reply ok q cid entry jobs has = (keeps_complete s k c q cid entry has).fetched
-same_entry s e reply ok q cid entry jobs has = subst (AllByRecursion (λ j. j.q ≡ q → j.entry.cid ≡ cid → j.entry ≡ entry)) (sym (host_jobs s e reply ok refl)) jobs
+same_entry s events.Reset reply ok q cid entry jobs has = tt
+same_entry s e reply ok q cid entry jobs has = subst (AllByRecursion (λ j. j.q ≡ q → j.entry.cid ≡ cid → j.entry ≡ entry)) (sym (host_jobs s e reply ok refl refl)) jobs
 
 pub stood_keeps_lists : (old new : State) (e : Event) (reply : Reply) (q cid : ℕ) (before after : Job) → Stood old → old.trusted ≡ true → Step old e reply new → new.trusted ≡ true
     → nat_lt 0 q ≡ true → job_at old q cid ≡ Some before → job_at new q cid ≡ Some after → (after.entry ≡ before.entry) × (course_of new after ≡ course_of old before)

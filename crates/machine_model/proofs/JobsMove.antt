@@ -150,5 +150,7 @@ jobs_event P Q s (events.Complete q cid) (events.Completed touched) move ok stoo
 jobs_event P Q s (events.Fetch q) reply move ok stood h = absurd ok.1
 jobs_event P Q s (events.Walk q cid) reply move ok stood h = absurd ok.1
 jobs_event P Q s (events.Complete q cid) reply move ok stood h = absurd ok.1
+jobs_event P Q s events.Reset events.Accepted move ok stood h = tt
+jobs_event P Q s events.Reset reply move ok stood h = absurd ok.1
 jobs_event P Q s e reply move ok stood h =
-    subst (AllByRecursion Q) (sym (host_jobs s e reply ok refl)) (all_indexed P Q s.device.jobs (λ k j f p. move.stays k j f refl p) h)
+    subst (AllByRecursion Q) (sym (host_jobs s e reply ok refl refl)) (all_indexed P Q s.device.jobs (λ k j f p. move.stays k j f refl p) h)

@@ -28,6 +28,7 @@ pub mod Slots
 pub mod Built
 pub mod Out
 pub mod Awaited
+pub mod Resetting
 pub mod AwaitedKept
 mod BareKept
 pub mod Asked
@@ -51,6 +52,7 @@ pub mod TiedReap
 pub mod TiedAll
 pub mod Tokens
 pub mod TokensKept
+pub mod Emptied
 pub mod TokensDevice
 pub mod TokensHost
 pub mod TokensAll
@@ -102,6 +104,8 @@ pub mod Named
 pub mod Provided
 pub mod Agreeing
 pub mod Agreed
+pub mod Recovered
+pub mod Ended
 pub mod InOrders
 pub mod Answered
 pub mod MadeRuns

@@ -191,6 +191,7 @@ pub record HostMoves (P : Event → Reply → State → Type 0) (s : State) : Ty
       → P (events.Retire q) events.Accepted (a.on_host_queue q a.retired (a.given_back queue.sq_pages (a.on_records (λ records. map (a.lost q) records) s)))
   pub forges : (q slot : ℕ) (bytes : List ℕ) (queue : HostQueue) → refusal_of s (events.Forge q slot bytes) ≡ None → host_queue s q ≡ Some queue
       → P (events.Forge q slot bytes) events.Accepted (record (a.on_memory (λ m. with_page_bytes m (slot_page queue.cq_pages 16 slot) (slot_offset 16 slot) bytes) s) { trusted = false })
+  pub resets : P events.Reset events.Accepted (a.after_reset s)
 
 -- Finding it
 
@@ -519,6 +520,7 @@ host_moves P s (events.Forge q slot bytes) events.Accepted ok c move =
     let x = queue_found is_reaped s q (not-false _ (unrefused s (events.Forge q slot bytes) ok.0).0) in
     subst (λ (o : Option HostQueue). P (events.Forge q slot bytes) events.Accepted (option_map_or (λ queue. record (a.on_memory (λ m. with_page_bytes m (slot_page queue.cq_pages 16 slot) (slot_offset 16 slot) bytes) s) { trusted = false }) o s)) (sym x.1)
     (move.forges q slot bytes x.0 ok.0 x.1)
+host_moves P s events.Reset events.Accepted ok c move = move.resets
 host_moves P s (events.Fetch q) reply ok c move = absurd (true≢false c)
 host_moves P s (events.Walk q cid) reply ok c move = absurd (true≢false c)
 host_moves P s (events.Complete q cid) reply ok c move = absurd (true≢false c)

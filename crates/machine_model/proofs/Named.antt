@@ -1,5 +1,5 @@
 -- Every event of the host leaves each creation that is outstanding with the name of the half that was granted for it.
-use Rattle.std.proofs.Common.{◌≡◌, ℕ, zero, suc, ◌==◌, Bool, true, false, not, ◌&&◌, Some, List, [], ◌∷◌, ◌++◌, map, slice_get, slice_index, if◌then◌else◌, refl, ap, sym, ◌∙◌, arith, subst, eqb-true, eq-eqb}
+use Rattle.std.proofs.Common.{true≢false, ◌≡◌, ℕ, zero, suc, ◌==◌, Bool, true, false, not, ◌&&◌, Some, List, [], ◌∷◌, ◌++◌, map, slice_get, slice_index, if◌then◌else◌, refl, ap, sym, ◌∙◌, arith, subst, eqb-true, eq-eqb}
 use Rattle.std.specs.List.{AllByRecursion}
 use Rattle.std.proofs.lemmas.Bool.{eqb-false}
 use Rattle.admin_commands.specs.declared.AdminKind.TheVariants.{Abort, DeleteSq, DeleteCq, CreateCq, CreateSq}
@@ -29,6 +29,7 @@ use Rattle.machine_model.proofs.Members.{In, all_in, all_map, all_filter, all_ap
 use Rattle.machine_model.proofs.Awaited.{Awaited, awaits, at_found, at_changed}
 use Rattle.machine_model.proofs.AwaitedKept.{completions_awaited, submissions_awaited}
 use Rattle.machine_model.proofs.Asked.{creations_event}
+use Rattle.machine_model.proofs.Resetting.{all_reset, lost_keeps}
 use Rattle.machine_model.proofs.Moves.{host_moves, drafted_record, sent_record, half_from, creates_cq, creates_sq, grants_cq, grants_sq}
 
 abbrev pub Names : ℕ → List HostQueue → Record → Type 0
@@ -157,9 +158,14 @@ names_event s e reply ok c holds h =
           })
           (all_map (Names s.entries s.host.queues) (Names s.entries s.host.queues) (a.lost q) s.host.records (λ r p. lose r ((r.q == q) && is_submitted r.phase) p) h);
       forges = λ q slot bytes queue none at fit. h;
+      resets = λ fit. all_reset (Names s.entries s.host.queues) (Names s.entries (a.reset_queues s.host.queues)) (λ r io n. names_io (a.lost_anywhere r).work (ap a.is_of_io (lost_keeps.work r) ∙ io)) s.host.records h;
     })
     (completions_awaited (a.after s e reply).host fits, submissions_awaited (a.after s e reply).host fits)
   where
+    names_io : (w : Work) → a.is_of_io w ≡ true → NamesItsHalf s.entries (a.reset_queues s.host.queues) w
+    names_io (Io request) io = tt
+    names_io (Management adm) io = absurd (true≢false (sym io))
+
     fits : CreationsFit (a.after s e reply).host
     fits = creations_event s e reply ok c holds
 

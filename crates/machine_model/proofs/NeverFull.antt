@@ -231,6 +231,7 @@ no_cause s r (events.CreateSq q) =
     ((λ t. refl), λ there. ((λ t. refl), λ f. ((λ t. refl), λ room. ((λ t. refl), λ f. ((λ t. absurd (true≢false (sym t ∙ zero_room s r q (named_there s q there) room))), λ f. tt)))))
 no_cause s r (events.Retire q) = ((λ t. refl), λ f. ((λ t. refl), λ f. tt))
 no_cause s r (events.Forge q slot bytes) = ((λ t. refl), λ f. ((λ t. refl), λ f. tt))
+no_cause s r events.Reset = tt
 no_cause s r (events.Fetch q) = (
   (λ t. refl),
   λ rung. (

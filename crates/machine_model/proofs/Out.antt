@@ -25,6 +25,7 @@ use Rattle.machine_model.proofs.Steps.{Accepts, IsKept}
 use Rattle.machine_model.proofs.Owned.{in_record, HoldsPart}
 use Rattle.machine_model.proofs.Sound.{host_event}
 use Rattle.machine_model.proofs.Taken.{Taken, taken, is_out, none, none_here, some_here, taken_le, out_same, out_other, in_same, in_other}
+use Rattle.machine_model.proofs.Resetting.{reset_taken, admin_has}
 use Rattle.machine_model.proofs.Moves.{host_moves, posts, posted_bits, drafted_record, sent_record, sends, heard_of, Tells, half_from, creates_cq, creates_sq, grants_cq, grants_sq}
 use Rattle.machine_model.proofs.Runs.{run_times, zeroed_numbers}
 pub use Rattle.machine_model.proofs.Moves.{named, status_in}
@@ -94,6 +95,29 @@ zeroed_in s pages are holds h p l = go (is_among pages p) refl
     go : (b : Bool) → is_among pages p ≡ b → slice_get (in_store (with_pages (zeroed_pages pages) s.memory)) p ≡ Some (none (total (taken p) s.host.records))
     go true e = in_same (zeroed_pages pages) s.memory p (among ∙ e) l' ∙ ap Some (sym (none_here _ (untaken e)))
     go false e = in_other (zeroed_pages pages) s.memory p (among ∙ e) ∙ h p (omega (arith, l', length-in_store s.memory))
+
+-- the pages of queue 0 are in, and stay in as they are made zero; the admin commands that go had no page
+reset_in : (s : State) → HoldsPart (host_part s) → Fits s → Fits (a.after_reset s)
+reset_in s holds h p l = go (is_among pages p) refl
+  where
+    pages : List ℕ
+    pages = a.admin_pages s.host.queues
+
+    l' : p < length s.memory
+    l' = omega (arith, length-in_store (with_pages (zeroed_pages pages) s.memory), length-with_pages (zeroed_pages pages) s.memory)
+
+    among : is_among (numbers_of (zeroed_pages pages)) p ≡ is_among pages p
+    among = ap (λ (ps : List ℕ). is_among ps p) (zeroed_numbers pages)
+
+    untaken : is_among pages p ≡ true → total (taken p) (a.reset_records s.host.records) ≡ 0
+    untaken e =
+        reset_taken p s.host.records holds.admins
+        ∙ omega (arith, taken_le p s.host.records, holds.owner p, held_once p pages e, admin_has p s.host.queues, small (nat_lt p (length (in_store s.memory))))
+
+    go : (b : Bool) → is_among pages p ≡ b → slice_get (in_store (with_pages (zeroed_pages pages) s.memory)) p ≡ Some (none (total (taken p) (a.reset_records s.host.records)))
+    go true e = in_same (zeroed_pages pages) s.memory p (among ∙ e) l' ∙ ap Some (sym (none_here _ (untaken e)))
+    go false e =
+        in_other (zeroed_pages pages) s.memory p (among ∙ e) ∙ h p (omega (arith, l', length-in_store s.memory)) ∙ ap (λ n. Some (none n)) (sym (reset_taken p s.host.records holds.admins))
 
 -- records change and the store doesn't
 same_taken : (s : State) (records : List Record) → ((p : ℕ) → total (taken p) records ≡ total (taken p) s.host.records) → Fits s → Taken (in_store s.memory) records
@@ -195,6 +219,7 @@ fits_event s e reply ok c h =
           sent (creates_sq q first s) id (grants_sq q first s) (zeroed_in s (half_from Submission first s) (run_times s.host.free (half_pages s.entries Submission) first granted.run) h.0 h.1);
       retires = λ q queue none at deleted. same_taken s (map (a.lost q) s.host.records) (λ p. total-map (taken p) (a.lost q) (fits-lost p q) s.host.records) h.1;
       forges = λ q slot bytes queue none at. subst (λ bits. Taken bits s.host.records) (sym (in_store-with_bytes s.memory (slot_page queue.cq_pages 16 slot) (slot_offset 16 slot) bytes)) h.1;
+      resets = reset_in s h.0 h.1;
     })
   where
     ended : (q cid : ℕ) (r : Record) (pages : List (ℕ × List ℕ)) → record_at s.host q cid ≡ Some r → is_out r.phase ≡ true → numbers_of pages ≡ pages_of r → Taken (in_store (with_pages pages s.memory)) (without_record q cid s.host.records)

@@ -36,6 +36,7 @@ use Rattle.machine_model.proofs.Grounds.{Grounds, pair_at}
 use Rattle.machine_model.proofs.Served.{Places, past_at, answers_at, unfetched_count, job_weight}
 use Rattle.machine_model.proofs.Queues.{list_same, past_same, past_other, past_here}
 use Rattle.machine_model.proofs.Placements.{Lessens, InHand, places_less, places_hosts, places_records, lessens_state, lessens_fetch, lessens_walk, lessens_complete, posted_load, reaped_load, heard_load}
+use Rattle.machine_model.proofs.Emptied.{reset_places}
 use Rattle.machine_model.proofs.Moves.{Tells, heard_of, answer_heard}
 use Rattle.machine_model.proofs.Moves.{host_moves, posts, sends, sent_record, drafted_record, heard_without, IsHeard, making_sq_is, half_from, grants_cq, grants_sq, creates_cq, creates_sq}
 use Rattle.machine_model.proofs.Asked.{still_live, asked_note}
@@ -306,6 +307,7 @@ places_host s e reply pr ok c t g h =
       creates_sqs = λ q id first queue none new granted pr. places_sent (creates_sq q first s) id (grants_sq q first s) (places_out q (a.making_sq (half_from Submission first s)) s (λ x. refl) h);
       retires = λ q queue none at deleted pr. places_retire q queue s t none at deleted g h;
       forges = λ q slot bytes queue none at pr. h;
+      resets = λ pr. reset_places (a.reset_queues s.host.queues) (a.reset_records s.host.records) s.device.queues;
     }) pr
   where
     same_places : (rs : List Record) → ((k : ℕ) (w : ℕ → ℕ) → total (sent k w) s.host.records ≤ total (sent k w) rs) → Places s.host.queues rs s.device.queues s.device.jobs

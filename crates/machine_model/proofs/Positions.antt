@@ -1,5 +1,5 @@
 -- Every step leaves the host's positions in their rings.
-use Rattle.std.proofs.Common.{◌≡◌, ℕ, zero, suc, ◌+◌, ◌<◌, Bool, true, false, Option, Some, None, List, refl, sym, arith, subst}
+use Rattle.std.proofs.Common.{◌∷◌, [], ◌≡◌, ℕ, zero, suc, ◌+◌, ◌<◌, Bool, true, false, Option, Some, None, List, refl, sym, arith, subst}
 use Rattle.std.specs.Option.{option_map_or}
 use Rattle.std.specs.List.{AllByRecursion}
 use Rattle.std.proofs.lemmas.Bool.{true≢false}
@@ -21,6 +21,7 @@ use Rattle.queue_pair.specs.Memory.{half_pages}
 use Rattle.page_memory.specs.declared.page.Half.TheVariants.{Submission, Completion}
 use Rattle.machine_model.proofs.Lists.{all_changed}
 pub use Rattle.machine_model.proofs.Lists.{all_at}
+use Rattle.machine_model.proofs.Resetting.{all_reset_queues}
 use Rattle.machine_model.proofs.Moves.{host_moves, half_from}
 
 abbrev pub InRings : HostPart → Type 0
@@ -80,6 +81,7 @@ rings_event s e reply ok c h =
       creates_sqs = λ q id first queue none new granted. tail_moved 0 (change q (a.making_sq (half_from Submission first s)) s.host.queues) (granted_fresh q (a.making_sq (half_from Submission first s)) (λ x. refl));
       retires = λ q queue none at deleted. ring_left s.entries q a.retired s.host.queues (λ queue. refl) h;
       forges = λ q slot bytes queue none at. h;
+      resets = reset_fresh s.host.queues h;
     })
   where
     tail_moved : (q : ℕ) (hs : List HostQueue) → AllByRecursion (λ queue. IsInRing s.entries queue.ring) hs → AllByRecursion (λ queue. IsInRing s.entries queue.ring) (change q (λ queue. record queue { ring = next_tail s.entries queue.ring }) hs)
@@ -90,6 +92,13 @@ rings_event s e reply ok c h =
     granted_fresh q f fresh =
         all_changed (λ queue. IsInRing s.entries queue.ring) q f s.host.queues
         (λ x e r. let some : 0 < s.entries = omega (arith, r.tail) in subst (IsInRing s.entries) (sym (fresh x)) (record { head = some; known_head = some; tail = some })) h
+
+    reset_fresh : (hs : List HostQueue) → AllByRecursion (λ queue. IsInRing s.entries queue.ring) hs → AllByRecursion (λ queue. IsInRing s.entries queue.ring) (a.reset_queues hs)
+    reset_fresh [] r = tt
+    reset_fresh (x ∷ hs) r =
+        let some : 0 < s.entries = omega (arith, r.0.tail) in
+        let fresh : IsInRing s.entries fresh_host_ring = record { head = some; known_head = some; tail = some } in
+        all_reset_queues (λ queue. IsInRing s.entries queue.ring) (λ queue. IsInRing s.entries queue.ring) (x ∷ hs) (λ y e p. fresh) fresh r
 
     head_moved : (q : ℕ) → AllByRecursion (λ queue. IsInRing s.entries queue.ring) (change q (λ queue. record queue { ring = next_head s.entries queue.ring }) s.host.queues)
     head_moved q = ring_moved s.entries q (next_head s.entries) s.host.queues (λ ring r. record { head = next_below s.entries ring.head r.head; known_head = r.known_head; tail = r.tail }) h

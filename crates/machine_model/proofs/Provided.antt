@@ -38,6 +38,8 @@ use Rattle.machine_model.proofs.Opening.{fits_pool, holds_at_opening}
 use Rattle.machine_model.proofs.Owned.{HoldsPart, holds_from_sound}
 use Rattle.machine_model.proofs.Refused.{unrefused}
 use Rattle.machine_model.proofs.Sound.{host_event}
+use Rattle.machine_model.proofs.Emptied.{live_is}
+use Rattle.machine_model.proofs.Resetting.{all_reset_queues, all_reset, lost_by}
 use Rattle.machine_model.proofs.Moves.{host_moves, drafted_record, sent_record, half_from, creates_cq, creates_sq}
 use Rattle.machine_model.proofs.Halves.{alone_has_no_sq, live_in_use, reaped_in_use}
 
@@ -193,6 +195,17 @@ provided_host s e reply ok c holds h =
         all_map (IsProvided s.entries s.segment) (IsProvided s.entries s.segment) (a.lost q) s.host.records (λ r p. lose r ((r.q == q) && is_submitted r.phase) p) h.commands,
       );
       forges = λ q slot bytes queue none at n. (h.queues, h.commands);
+      resets = λ n. (
+        all_reset_queues (HasHalves s.entries) (HasHalves s.entries) s.host.queues
+            (λ x ex p. let live = live_is x.state (sym (ap (λ (o : Option HostQueue). option_map_or (λ queue. is_live queue.state) o true) ex) ∙ holds.admin) in record {
+              submission = half_same s.entries Submission (has_sq x.state) true x.sq_pages (ap has_sq live) p.submission;
+              completion = half_same s.entries Completion (has_cq x.state) true x.cq_pages (ap has_cq live) p.completion;
+              fresh = λ m. refl;
+            })
+            (record { submission = (0, refl); completion = (0, refl); fresh = λ m. refl }) h.queues,
+        all_reset (IsProvided s.entries s.segment) (IsProvided s.entries s.segment)
+            (λ r io p. lost_by (IsProvided s.entries s.segment) r (λ quiet. p) (λ sub. record { identifier = p.identifier; pages = p.pages })) s.host.records h.commands,
+      );
     })
     ok.0
   where

@@ -1,5 +1,5 @@
 -- What each event does to the lists of a queue at the controller: its entries and its answers.
-use Rattle.std.proofs.Common.{◌≡◌, ℕ, ◌-◌, false, Option, Some, List, [], ◌∷◌, ◌++◌, length, drop, is_some, refl, ap, sym, ◌∙◌, subst}
+use Rattle.std.proofs.Common.{map, zero, suc, ◌≡◌, ℕ, ◌-◌, false, Option, Some, List, [], ◌∷◌, ◌++◌, length, drop, is_some, refl, ap, sym, ◌∙◌, subst}
 use Rattle.std.specs.Option.{option_map_or}
 use Rattle.std.specs.List.{AllByRecursion}
 use Rattle.std.proofs.lemmas.Bool.{true≢false}
@@ -36,6 +36,7 @@ pub record QueueMove {B : Type 0} (get : DeviceQueue → List B) (Q : B → Type
   pub makes_completion : (at : DeviceQueue) → AllByRecursion Q (get at) → AllByRecursion Q (get (a.completion_made at))
   pub makes_submission : (at : DeviceQueue) → AllByRecursion Q (get at) → AllByRecursion Q (get (a.submission_made at))
   pub clears : (at : DeviceQueue) → AllByRecursion Q (get at) → AllByRecursion Q (get (record at { state = Absent; unfetched = []; rung = 0 }))
+  pub empties : AllByRecursion Q (get a.reset_device_admin) × AllByRecursion Q (get a.no_device_queue)
   pub completes : (cid : ℕ) (j : Job) (head : ℕ) (at : DeviceQueue) → e ≡ events.Complete n cid → job_at s n cid ≡ Some j → AllByRecursion Q (get at)
       → AllByRecursion Q (get (record at { answers = at.answers ++ record { cid = cid; status = a.final_status s j; dw0 = j.dw0; sq_head = head } ∷ [] }))
 
@@ -113,8 +114,19 @@ queues_event get Q n s e reply move ok stood h =
       creates_sqs = λ q id first queue none new granted move. sent (creates_sq q first s) id move;
       retires = λ q queue none at deleted move. h;
       forges = λ q slot bytes queue none at move. h;
+      resets = λ move. emptied s.device.queues n move.empties.0 move.empties.1;
     }) move
   where
+    emptied : (ds : List DeviceQueue) (n : ℕ) → AllByRecursion Q (get a.reset_device_admin) → AllByRecursion Q (get a.no_device_queue) → AllByRecursion Q (list_at get (a.reset_device_queues ds) n)
+    emptied [] n admin gone = tt
+    emptied (d ∷ ds) zero admin gone = admin
+    emptied (d ∷ ds) (suc n) admin gone = rest ds n
+      where
+        rest : (ds : List DeviceQueue) (n : ℕ) → AllByRecursion Q (list_at get (map (λ other. a.no_device_queue) ds) n)
+        rest [] n = tt
+        rest (d ∷ ds) zero = gone
+        rest (d ∷ ds) (suc n) = rest ds n
+
     reaped : {e : Event} (q : ℕ) → QueueMove get Q n s e → AllByRecursion Q (list_at get (change q (λ at. record at { answers = drop 1 at.answers }) s.device.queues) n)
     reaped q move = all_list Q get q (λ at. record at { answers = drop 1 at.answers }) s.device.queues n (λ at z all. move.reaps at all) h
 

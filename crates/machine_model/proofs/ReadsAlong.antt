@@ -122,7 +122,7 @@ submitted_reads s d events.Accepted x drafts at entry r request built found fits
   received = record { first = λ i p target lt. absurd (omega (arith, lt)); rest = λ i p target le. refl };
   long = λ some. absurd (omega (arith, some));
   unfetched = λ sub. all_of (UnreadEntry (a.submitted r) 0) (list_at (λ at. at.unfetched) (a.after_submit d s).device.queues r.q) (λ y within same. refl);
-  jobs = λ sub. subst (AllByRecursion (ReadingIf at (a.after_submit d s) (a.submitted r) request 0)) (sym (host_jobs s (events.Submit d) events.Accepted x.ok refl))
+  jobs = λ sub. subst (AllByRecursion (ReadingIf at (a.after_submit d s) (a.submitted r) request 0)) (sym (host_jobs s (events.Submit d) events.Accepted x.ok refl refl))
       (subst (λ (q : ℕ). AllByRecursion (λ (j : Job). j.q ≡ q → j.entry.cid ≡ r.cid → goes j) s.device.jobs) (sym ids.0) (subst (λ (c : ℕ). AllByRecursion (λ (j : Job). j.q ≡ d.q → j.entry.cid ≡ c → goes j) s.device.jobs) (sym ids.1)
       (no_job d.q d.cid goes s.device.jobs (omega (arith, x.stood.places d.q (λ n. one (n == d.cid)), none)))));
   answers = λ sub. queues_event (λ at. at.answers) (FullAnswer (a.after_submit d s) (a.submitted r) request 0) r.q s (events.Submit d) events.Accepted answers_move x.ok x.stood
@@ -170,6 +170,7 @@ submitted_reads s d events.Accepted x drafts at entry r request built found fits
       makes_completion = λ at all. tt;
       makes_submission = λ at all. tt;
       clears = λ at all. all;
+      empties = (tt, tt);
       completes = λ cid j head at is found all. absurd (other is);
     }
       where
@@ -195,7 +196,7 @@ reads_move drafts at s e reply x = record {
   reaps = λ q cid st request r is n status found w p stays.
       subst (ReadIfIo (submitted_by e reply ++ drafts) (fetched_in s e reply at) (a.after s e reply) (a.held st r)) (sym w)
       (λ kind. reap q cid st request r is n status found w p.0 kind (subst (ReadIfIo drafts at s r) w (p.1 (reaped_stays q cid r n found)) kind));
-  loses = λ q r is within same sub far p stays. lose r within sub far p.0 r.work refl (p.1 (stays_sub r.phase sub));
+  loses = λ r within sub far p stays. lose r within sub far p.0 r.work refl (p.1 (stays_sub r.phase sub));
   collects = λ r p stays. absurd (true≢false (sym stays));
 }
   where

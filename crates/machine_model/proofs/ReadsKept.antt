@@ -318,6 +318,7 @@ quiet_entries s e reply r request x k = record {
   makes_completion = λ at all. all;
   makes_submission = λ at all. tt;
   clears = λ at all. tt;
+  empties = (tt, tt);
   completes = λ cid j head at is found all. all;
 }
   where
@@ -340,6 +341,7 @@ quiet_answers s e reply r request x drafts at h sub = record {
   makes_completion = λ at all. tt;
   makes_submission = λ at all. tt;
   clears = λ at all. all;
+  empties = (tt, tt);
   completes = λ cid j head at' is found all.
       all_append (FullAnswer (a.after s e reply) r request h.k) at'.answers (record { cid = cid; status = a.final_status s j; dw0 = j.dw0; sq_head = head } ∷ []) all
       ((λ same ok. answered cid j is found same ok j.verdict refl), tt);

@@ -1,5 +1,5 @@
 -- What each event does to the host's records, one by one; a record is lost only as its own queue is retired.
-use Rattle.std.proofs.Common.{eqb-true, ◌≡◌, ℕ, ◌==◌, Bool, true, false, not, ◌&&◌, Some, None, [], ◌∷◌, ◌++◌, if◌then◌else◌, refl, ap, sym, ◌∙◌, subst}
+use Rattle.std.proofs.Common.{◌≡◌, ℕ, ◌==◌, Bool, true, false, not, ◌&&◌, Some, None, [], ◌∷◌, ◌++◌, if◌then◌else◌, refl, ap, sym, ◌∙◌, subst}
 use Rattle.std.specs.List.{AllByRecursion}
 use Rattle.std.proofs.lemmas.Bool.{true≢false, and_parts}
 use Rattle.admin_commands.specs.declared.AdminKind.TheVariants.{Abort, DeleteSq, DeleteCq}
@@ -21,6 +21,7 @@ use Rattle.machine_model.proofs.Steps.{Accepts, part_controller}
 pub use Rattle.machine_model.proofs.Out.{named, status_in}
 use Rattle.machine_model.proofs.Members.{In, all_in, all_map, all_filter, all_append, all_with}
 use Rattle.machine_model.proofs.Grounds.{Grounds}
+use Rattle.machine_model.proofs.Resetting.{all_reset, lost_by}
 use Rattle.machine_model.proofs.Moves.{host_moves, drafted_record, sent_record, creates_cq, creates_sq}
 
 -- the record that a collect takes
@@ -37,7 +38,7 @@ pub record RecordsMove (P Q : Record → Type 0) (s : State) (e : Event) : Type 
       → is_of is_drafted d.request (numbers_of d.data_pages) (numbers_of d.chain_pages) r ≡ true → P r → Q (a.submitted r)
   pub reaps : (q cid : ℕ) (st : Status) (request : Request) (r : Record) → e ≡ events.Reap q → named (reaped s q) ≡ Some cid → status_in (reaped s q) ≡ Some st → record_at s.host q cid ≡ Some r → r.work ≡ Io request
       → P r → Q (a.held st r)
-  pub loses : (q : ℕ) (r : Record) → e ≡ events.Retire q → In r s.host.records → r.q ≡ q → is_submitted r.phase ≡ true → takes e r ≡ false → P r → Q (record r { phase = Held; status = Some ABORTED_SQ_DELETION })
+  pub loses : (r : Record) → In r s.host.records → is_submitted r.phase ≡ true → takes e r ≡ false → P r → Q (record r { phase = Held; status = Some ABORTED_SQ_DELETION })
   pub collects : (r : Record) → P r → Q (a.collected r)
 
 abbrev Inside : State → (Record → Type 0) → Record → Type 0
@@ -65,7 +66,7 @@ records_event P Q s e reply move ok g h = by (IsController e) refl
     began e new move none own = all_append Q s.host.records (new ∷ []) (still e move none) (own, tt)
 
     one_lost : (q : ℕ) → RecordsMove P Q s (events.Retire q) → (r : Record) (b : Bool) → ((r.q == q) && is_submitted r.phase) ≡ b → Inside s P r → Q (if b then record r { phase = Held; status = Some ABORTED_SQ_DELETION } else r)
-    one_lost q move r true is p = let parts = and_parts (r.q == q) (is_submitted r.phase) is in move.loses q r refl p.0 (eqb-true r.q q parts.0) parts.1 refl p.1
+    one_lost q move r true is p = let parts = and_parts (r.q == q) (is_submitted r.phase) is in move.loses r p.0 parts.1 refl p.1
     one_lost q move r false is p = move.stays r p.0 refl p.1
 
     takes_none : (e : Event) → IsController e ≡ true → (r : Record) → takes e r ≡ false
@@ -103,4 +104,7 @@ records_event P Q s e reply move ok g h = by (IsController e) refl
           creates_sqs = λ q id first queue none new granted move. began (events.CreateSq q) (sent_record (creates_sq q first s) id) move (λ r. refl) (move.sends (creates_sq q first s) id);
           retires = λ q queue none at deleted move. all_map (Inside s P) Q (a.lost q) s.host.records (λ r p. one_lost q move r ((r.q == q) && is_submitted r.phase) refl p) inside;
           forges = λ q slot bytes queue none at move. still (events.Forge q slot bytes) move (λ r. refl);
+          resets = λ move.
+              all_reset (Inside s P) Q
+              (λ r io p. lost_by Q r (λ quiet. move.stays r p.0 refl p.1) (λ sub. move.loses r p.0 sub refl p.1)) s.host.records inside;
         }) move

@@ -34,6 +34,7 @@ use Rattle.machine_model.proofs.Steps.{Accepts, IsKept}
 use Rattle.machine_model.proofs.Refused.{first_fails, found_all}
 use Rattle.machine_model.proofs.Owned.{in_queue, in_record, Owns, OwnsPart, HoldsPart, owns_of, owns_queues, KeepsRecord, owns_map, owns_more, owns_less}
 use Rattle.queue_pair.specs.Rings.{HostRing, next_tail, next_head, knowing}
+use Rattle.machine_model.proofs.Resetting.{lost_keeps, all_reset, reset_fewer, reset_pages, reset_halves}
 use Rattle.machine_model.proofs.Moves.{host_moves, posts, posted_bytes, posted_bits, sent_record, sends, heard_without, half_from, creates_cq, creates_sq, grants_cq, grants_sq}
 use Rattle.machine_model.proofs.Asked.{deletions_event, creations_event}
 use Rattle.machine_model.proofs.BareKept.{bare_event}
@@ -170,6 +171,25 @@ ok-half_granted pages with q queue s e parts are h =
       admins = h.admins;
     })
 
+-- Resetting: the halves of the I/O queues are free, and the admin commands owned no page
+
+ok-reset : (s : State) → Ok s → Ok (a.after_reset s)
+ok-reset s h =
+    let count = length (in_store s.memory) in
+    let count' = length s.memory in
+    let memory = with_pages (zeroed_pages (a.admin_pages s.host.queues)) s.memory in
+    recount count (length (in_store memory)) (a.reset_host count' s.host)
+    (length-in_store s.memory ∙ sym (length-with_pages (zeroed_pages (a.admin_pages s.host.queues)) s.memory) ∙ sym (length-in_store memory))
+    (record {
+      owner = λ p.
+          let few : times p s.host.free + times p (a.io_pages s.host.queues) ≤ one (nat_lt p count) = omega (arith, h.owner p, reset_halves p s.host.queues) in
+          let few' : times p s.host.free + times p (a.io_pages s.host.queues) ≤ one (nat_lt p count') =
+          subst (λ (k : ℕ). times p s.host.free + times p (a.io_pages s.host.queues) ≤ one (nat_lt p k)) (length-in_store s.memory) few in
+          omega (arith, h.owner p, reset_halves p s.host.queues, reset_pages p s.host.records h.admins, times_joined p count' (a.io_pages s.host.queues) s.host.free few');
+      once = λ q cid. omega (arith, h.once q cid, reset_fewer (here q cid) (λ r. rw (lost_keeps.q r, lost_keeps.cid r) refl) s.host.records);
+      admins = all_reset (λ r. OwnsFit r.q r.work (pages_of r)) (λ r. OwnsFit r.q r.work (pages_of r)) (λ r io f. rw (lost_keeps.q r, lost_keeps.work r, lost_keeps.pages r) f) s.host.records h.admins;
+    })
+
 -- Every accepted event of the host
 
 -- a queue on which something is reserved is an I/O queue
@@ -232,6 +252,7 @@ owns_event s e reply ok c holds =
           h);
       forges = λ q slot bytes queue none at.
           ok-memory (λ m. with_page_bytes m (slot_page queue.cq_pages 16 slot) (slot_offset 16 slot) bytes) s (length-set s.memory (slot_page queue.cq_pages 16 slot) _) h;
+      resets = ok-reset s h;
     })
   where
     h : Ok s

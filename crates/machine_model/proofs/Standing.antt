@@ -30,6 +30,7 @@ use Rattle.machine_model.proofs.Placed.{Placed, Knows, find_more, find_map, find
 use Rattle.machine_model.proofs.Placing.{PlacedIn, waiting, answering, placed_other, placed_change, waiting_same, answering_same, ne_zero, placed_fetch, placed_walk, placed_complete}
 pub use Rattle.machine_model.proofs.Out.{named}
 pub use Rattle.machine_model.proofs.Moves.{seen_trusted}
+use Rattle.machine_model.proofs.Resetting.{no_waiting, no_answering, reset_admin_commands}
 use Rattle.machine_model.proofs.Moves.{host_moves, posts, sends, sent_record, drafted_record, heard_without, creates_cq, creates_sq, grants_cq, grants_sq, IsHeard, answer_heard}
 
 abbrev pub Stands : State → Type 0
@@ -193,6 +194,7 @@ stands_host s e reply ok c t h =
           (λ r. (elim ((r.q == q) && is_submitted r.phase) as (λ b. (if b then record r { phase = Held; status = Some ABORTED_SQ_DELETION } else r).cid ≡ r.cid) [ true ↦ refl | false ↦ refl ]))
           (λ r. (elim ((r.q == q) && is_submitted r.phase) as (λ b. (if b then record r { phase = Held; status = Some ABORTED_SQ_DELETION } else r).work ≡ r.work) [ true ↦ refl | false ↦ refl ])) h.1;
       forges = λ q slot bytes queue none at. h.1;
+      resets = record { placed = rw (no_waiting s.device.queues, no_answering s.device.queues) (reset_admin_commands (a.reset_records s.host.records)) };
     })
   where
     gone : (q cid : ℕ) (st : Status) (e : ComEntry) (r : Record) (adm : AdminKind) → IsHeard s q cid st e r → r.work ≡ Management adm → Stands (heard_without q cid e s)

@@ -1,11 +1,11 @@
 -- What every step keeps, if each accepted event of the host does.
-use Rattle.std.proofs.Common.{◌&&◌, ◌≡◌, Bool, true, false, not, ◌||◌, None, List, [], ◌∷◌, MatchBool, refl, ap, sym, subst}
+use Rattle.std.proofs.Common.{◌≡◌, Bool, true, false, not, ◌||◌, None, List, [], ◌∷◌, MatchBool, refl, ap, sym, subst}
 use Rattle.std.proofs.lemmas.Bool.{true≢false}
 use Rattle.machine_model.specs.Run.{Run}
 use Rattle.machine_model.specs.State.{State}
 use Rattle.machine_model.specs.Refusals.{refusal_of}
 use Rattle.machine_model.specs.After.{after}
-use Rattle.machine_model.specs.Step.{Step, Leaves, LeavesByController, LeavesByHost, Permits, Answers, IsController, HostPart, forges, host_part}
+use Rattle.machine_model.specs.Step.{Step, Leaves, LeavesByController, LeavesByHost, Permits, Answers, IsController, HostPart, is_exact, host_part}
 use Rattle.machine_model.specs.Events as events
 use Rattle.machine_model.specs.Events.{Event, Reply}
 use Rattle.machine_model.proofs.Parts.{part-fetch, part-walk, part-complete}
@@ -27,8 +27,8 @@ either_part false c s u t h = forged_part c s u t h
 
 pub part_left : (s : State) (e : Event) (reply : Reply) (new : State) → Leaves s e reply new → host_part new ≡ host_part (after s e reply)
 part_left s e (events.Refused why touched) new h = ap host_part h
-part_left s e (events.Reserved d) new h = either_part (not (forges e) && s.trusted) (IsController e) (after s e (events.Reserved d)) s new h
-part_left s e reply new h = either_part (not (forges e) && s.trusted) (IsController e) (after s e reply) s new h
+part_left s e (events.Reserved d) new h = either_part (is_exact e s.trusted) (IsController e) (after s e (events.Reserved d)) s new h
+part_left s e reply new h = either_part (is_exact e s.trusted) (IsController e) (after s e reply) s new h
 
 -- what is permitted, and what is left, where nothing was forged
 pub permitted : {A : Type 0} (B : Type 0) (t c : Bool) → t ≡ true → MatchBool (t || c) A B → A
@@ -42,7 +42,7 @@ exact B false e h = absurd (true≢false (sym e))
 abbrev pub Accepts : State → Event → Reply → Type 0
 Accepts s e reply = (refusal_of s e ≡ None) × Answers s e reply
 
-surely : {A : Type 0} (B : Type 0) (t c : Bool) → c ≡ false → MatchBool (t || not c) A B → A
+pub surely : {A : Type 0} (B : Type 0) (t c : Bool) → c ≡ false → MatchBool (t || not c) A B → A
 surely B true c e h = h
 surely B false true e h = absurd (true≢false e)
 surely B false false e h = h
@@ -51,7 +51,7 @@ surely B false false e h = h
 abbrev pub IsKept : (HostPart → Type 0) → State → Event → Reply → Type 0
 IsKept P s e reply = P (host_part s) → P (host_part (after s e reply))
 
-kept_anyway : (P : HostPart → Type 0) (s : State) (e : Event) (reply : Reply) → (b : Bool) → IsController e ≡ b → Permits s e reply
+pub kept_anyway : (P : HostPart → Type 0) (s : State) (e : Event) (reply : Reply) → (b : Bool) → IsController e ≡ b → Permits s e reply
     → (Accepts s e reply → IsController e ≡ false → IsKept P s e reply) → IsKept P s e reply
 kept_anyway P s e reply true c permits each = λ h. subst P (sym (part_controller s e reply c)) h
 kept_anyway P s e (events.Refused why touched) false c permits each = λ h. h

@@ -1,5 +1,5 @@
 -- Every event keeps the tie of both sides and the tokens, so it fetches and completes in what is allowed only.
-use Rattle.std.proofs.Common.{◌≡◌, ℕ, zero, suc, ◌+◌, ◌<◌, ◌≤◌, ◌==◌, Bool, true, false, not, ◌||◌, Option, Some, None, List, [], ◌∷◌, length, replicate, slice_get, is_some, is_none, if◌then◌else◌, eqb-true, refl, ap, sym, ◌∙◌, arith, subst}
+use Rattle.std.proofs.Common.{◌≡◌, ℕ, zero, suc, ◌+◌, ◌<◌, ◌≤◌, ◌==◌, Bool, true, false, not, ◌||◌, Option, Some, None, List, [], length, replicate, slice_get, is_some, is_none, if◌then◌else◌, eqb-true, refl, ap, sym, ◌∙◌, arith, subst}
 use Rattle.std.specs.Option.{option_map_or}
 use Rattle.std.proofs.lemmas.Bool.{true≢false, and_parts, or_parts}
 use Rattle.page_memory.specs.declared.page.Half.TheVariants.{Submission, Completion}
@@ -8,7 +8,7 @@ use Rattle.io_commands.specs.Jobs.{is_success}
 use Rattle.queue_pair.specs.Memory.{half_pages}
 use Rattle.queue_pair.specs.Rings.{next_tail, next_head, knowing}
 use Rattle.machine_model.specs.Claims.{AdminLives}
-use Rattle.machine_model.specs.State.{State, HostQueue, HostState, Live, Deleting, DeviceQueue, Job}
+use Rattle.machine_model.specs.State.{State, HostQueue, HostState, Live, Deleting, Job}
 use Rattle.machine_model.specs.Refusals.{is_live, is_gone, job_at, refusal_of}
 use Rattle.machine_model.specs.Step.{HostPart, host_part, IsController}
 use Rattle.machine_model.specs.After as a
@@ -33,6 +33,8 @@ use Rattle.machine_model.proofs.TiedHost.{TieS, Ground, tie_host_event}
 use Rattle.machine_model.proofs.TokensKept.{tokens_of, tokens_to}
 use Rattle.machine_model.proofs.TokensDevice.{KnowingP, TokensP, tokens_fetch, tokens_walk, tokens_complete}
 use Rattle.machine_model.proofs.TokensAll.{TokensS, tokens_host_event}
+use Rattle.machine_model.proofs.Emptied.{same_length}
+use Rattle.machine_model.proofs.Resetting.{reset_length}
 use Rattle.machine_model.proofs.Moves.{host_moves, half_from, grants_cq, grants_sq}
 use Rattle.machine_model.proofs.Opening.{in_limits, limits_say, length-range}
 use Rattle.machine_model.proofs.Trusted.{both_on}
@@ -47,12 +49,6 @@ live_is_there s h q x e live =
 
 ground : (s : State) → s.trusted ≡ true → AdminLives s.host.queues → HoldsPart (host_part s) → FitS s → Ground s
 ground s t zero' holds h = record { trusted = t; holds = holds; zero_live = zero'; live = live_is_there s h; over = deleted_is_gone s h }
-
-same_length : (n : ℕ) (hs : List HostQueue) (ds : List DeviceQueue) → Paired n hs ds → length ds ≡ length hs
-same_length n [] [] p = refl
-same_length n [] (d ∷ ds) p = absurd p
-same_length n (x ∷ hs) [] p = absurd p
-same_length n (x ∷ hs) (d ∷ ds) p = ap suc (same_length n hs ds p.1)
 
 known : (s : State) → StandsSound s → FitS s → KnowingP s.host.records s.host.queues s.device
 known s h f = record {
@@ -78,9 +74,9 @@ whole s pos few asked tie held = record {
 }
 
 -- how many queues and entries there are stays
-limits_stay : (s : State) (e : Event) (reply : Reply) → Accepts s e reply → IsController e ≡ false → (0 < s.entries) × (length s.host.queues ≤ 65536) → (0 < (a.after s e reply).entries) × (length (a.after s e reply).host.queues ≤ 65536)
-limits_stay s e reply ok c h =
-    host_moves (λ (e : Event) (reply : Reply) (t : State). (0 < t.entries) × (length t.host.queues ≤ 65536)) s e reply ok c
+pub limits_stay : (n : ℕ) (s : State) (e : Event) (reply : Reply) → Accepts s e reply → IsController e ≡ false → (0 < s.entries) × (length s.host.queues ≡ n) → (0 < (a.after s e reply).entries) × (length (a.after s e reply).host.queues ≡ n)
+limits_stay n s e reply ok c h =
+    host_moves (λ (e : Event) (reply : Reply) (t : State). (0 < t.entries) × (length t.host.queues ≡ n)) s e reply ok c
     (record {
       reserves = λ q request d none is. h;
       submits = λ d entry r none built its live. (h.0, few d.q (λ x. record x { ring = next_tail s.entries x.ring }) s.host.queues h.1);
@@ -92,10 +88,10 @@ limits_stay s e reply ok c h =
       hears = λ q cid st what e r adm told heard w quiet unmade. (h.0, heard_few q e);
       notes = λ q cid st what e r k told heard w. (h.0, few k (λ queue. record queue { state = if is_success st then Deleting true else Live }) (a.heard q e s).host.queues (heard_few q e));
       frees = λ q cid st what e r k queue told heard w at alone good. (h.0, few k a.gone (a.heard q e s).host.queues (heard_few q e));
-      makes_cq = λ q cid st what e r k n base told heard w good. (h.0, few k a.half_made (a.heard q e s).host.queues (heard_few q e));
-      unmakes_cq = λ q cid st what e r k n base queue told heard w at bad. (h.0, few k a.gone (a.heard q e s).host.queues (heard_few q e));
-      makes_sq = λ q cid st what e r k n base told heard w good. (h.0, few k a.live (a.heard q e s).host.queues (heard_few q e));
-      unmakes_sq = λ q cid st what e r k n base queue told heard w at bad. (h.0, few k a.unmade_sq (a.heard q e s).host.queues (heard_few q e));
+      makes_cq = λ q cid st what e r k size base told heard w good. (h.0, few k a.half_made (a.heard q e s).host.queues (heard_few q e));
+      unmakes_cq = λ q cid st what e r k size base queue told heard w at bad. (h.0, few k a.gone (a.heard q e s).host.queues (heard_few q e));
+      makes_sq = λ q cid st what e r k size base told heard w good. (h.0, few k a.live (a.heard q e s).host.queues (heard_few q e));
+      unmakes_sq = λ q cid st what e r k size base queue told heard w at bad. (h.0, few k a.unmade_sq (a.heard q e s).host.queues (heard_few q e));
       collects = λ q cid r f at held is. h;
       releases = λ f r its. h;
       aborts = λ q cid id none new. (h.0, few 0 (λ x. record x { ring = next_tail s.entries x.ring }) s.host.queues h.1);
@@ -105,13 +101,14 @@ limits_stay s e reply ok c h =
       creates_sqs = λ q id first queue none new granted. (h.0, few 0 (λ x. record x { ring = next_tail s.entries x.ring }) (grants_sq q first s).host.queues (few q (a.making_sq (half_from Submission first s)) s.host.queues h.1));
       retires = λ q queue none at deleted. (h.0, few q a.retired s.host.queues h.1);
       forges = λ q slot bytes queue none at. h;
+      resets = (h.0, reset_length s.host.queues ∙ h.1);
     })
   where
-    few : (k : ℕ) (f : HostQueue → HostQueue) (hs : List HostQueue) → length hs ≤ 65536 → length (change k f hs) ≤ 65536
-    few k f hs l = subst (λ (n : ℕ). n ≤ 65536) (sym (length-change k f hs)) l
+    few : (k : ℕ) (f : HostQueue → HostQueue) (hs : List HostQueue) → length hs ≡ n → length (change k f hs) ≡ n
+    few k f hs l = length-change k f hs ∙ l
 
-    heard_few : (q : ℕ) (e : ComEntry) → length (a.heard q e s).host.queues ≤ 65536
-    heard_few q e = subst (λ (n : ℕ). n ≤ 65536) (sym (length-change q (λ x. record x { ring = knowing e.sqhd x.ring }) (a.consumed q s).host.queues ∙ length-change q (λ x. record x { ring = next_head s.entries x.ring }) s.host.queues)) h.1
+    heard_few : (q : ℕ) (e : ComEntry) → length (a.heard q e s).host.queues ≡ n
+    heard_few q e = length-change q (λ x. record x { ring = knowing e.sqhd x.ring }) (a.consumed q s).host.queues ∙ length-change q (λ x. record x { ring = next_head s.entries x.ring }) s.host.queues ∙ h.1
 
 -- of the controller
 by_controller : (s : State) (e : Event) (reply : Reply) → IsController e ≡ true → FitS s → TieP (host_part s) (a.after s e reply).device → TokensP s.host.records s.host.queues (a.after s e reply).device → FitS (a.after s e reply)
@@ -132,9 +129,9 @@ by_host : (s : State) (e : Event) (reply : Reply) → Accepts s e reply → IsCo
 by_host s e reply ok c t zero' h f =
     let g = ground s t zero' h.0 f in
     let tie = tie_host_event s e reply ok c g (tie_of s.entries s.host.records s.host.queues s.device.queues s.device.jobs f) in
-    let held = tokens_host_event s e reply ok c t f.few h.0 h.1 (stands_event s e reply ok t h) (tokens_of s.host.records s.host.queues s.device.queues s.device.jobs f.tokens) in
-    let limits = limits_stay s e reply ok c (f.some_entries, f.few) in
-    whole (a.after s e reply) limits.0 limits.1 (asked_event s e reply ok c h.0 f.asked) tie held
+    let held = tokens_host_event s e reply ok c t f.few (same_length s.entries s.host.queues s.device.queues f.pairs) h.0 h.1 (stands_event s e reply ok t h) (tokens_of s.host.records s.host.queues s.device.queues s.device.jobs f.tokens) in
+    let limits = limits_stay (length s.host.queues) s e reply ok c (f.some_entries, refl) in
+    whole (a.after s e reply) limits.0 (subst (λ (k : ℕ). k ≤ 65536) (sym limits.1) f.few) (asked_event s e reply ok c h.0 f.asked) tie held
 
 -- a job that is walked is no admin command's
 walked : (s : State) (q cid : ℕ) → refusal_of s (events.Walk q cid) ≡ None → TokensP s.host.records s.host.queues s.device → TokensP s.host.records s.host.queues (a.after_walk q cid s).device

@@ -1,5 +1,5 @@
 -- The host's events keep the controller's queues tied to the host's.
-use Rattle.std.proofs.Common.{◌≡◌, ℕ, ◌==◌, Bool, true, false, not, Option, Some, None, List, [], ◌∷◌, ◌++◌, length, drop, slice_get, is_some, option_and_then, option_map, if◌then◌else◌, refl, ap, sym, ◌∙◌, subst}
+use Rattle.std.proofs.Common.{arith, ◌≡◌, ℕ, ◌==◌, Bool, true, false, not, Option, Some, None, List, [], ◌∷◌, ◌++◌, length, drop, slice_get, is_some, option_and_then, option_map, if◌then◌else◌, refl, ap, sym, ◌∙◌, subst}
 use Rattle.std.specs.Option.{option_map_or}
 use Rattle.std.proofs.lemmas.Bool.{true≢false, not-false, eqb-false}
 use Rattle.admin_commands.specs.Verdicts.{is_absent}
@@ -32,6 +32,7 @@ use Rattle.machine_model.proofs.Halves.{live_serves}
 use Rattle.machine_model.proofs.Lists.{get_other}
 use Rattle.machine_model.proofs.Asked.{still_live}
 use Rattle.machine_model.proofs.AwaitedKept.{ring_at, asked_as_heard, making_cq_as_heard, making_sq_as_heard}
+use Rattle.machine_model.proofs.Emptied.{same_length, halves_fit, reset_pairs}
 use Rattle.machine_model.proofs.Moves.{host_moves, seen_trusted, posts, sends, queue_found, half_from, grants_cq, grants_sq, creates_cq, creates_sq, sent_record}
 
 abbrev pub TieS : State → Type 0
@@ -216,6 +217,11 @@ tie_host_event s e reply ok c g h =
           })
           (λ x ex some o. absurd (true≢false (sym gone ∙ h.jobs q some))) h;
       forges = λ q slot bytes queue none at none'. h;
+      resets = λ none. record {
+        pairs = reset_pairs s.entries s.host.queues s.device.queues (same_length s.entries s.host.queues s.device.queues h.pairs) (halves_fit s.entries s.host.queues s.device.queues h.pairs g.zero_live);
+        jobs = λ q some. absurd (omega (arith, some));
+        service = λ q some. absurd (omega (arith, some));
+      };
     }) ok.0
   where
     sent : (adm : AdminKind) (id : ℕ) → TieS (sends adm id s)

@@ -26,6 +26,8 @@ use Rattle.machine_model.proofs.Steps.{Accepts}
 use Rattle.machine_model.proofs.Owned.{HoldsPart}
 use Rattle.machine_model.proofs.AwaitedKept.{making_cq_as_heard, ring_after}
 use Rattle.machine_model.proofs.Awaited.{at_same}
+use Rattle.machine_model.proofs.Emptied.{reset_tokens}
+use Rattle.machine_model.proofs.Resetting.{no_waiting, no_answering}
 use Rattle.machine_model.proofs.Moves.{host_moves, sends, sent_record, drafted_record, half_from, creates_cq, creates_sq, IsHeard, answer_heard}
 use Rattle.machine_model.proofs.Placed.{Placed, Knows, find_more, find_new, find_map}
 use Rattle.machine_model.proofs.Placing.{PlacedIn, waiting_same, answering_same, waiting_other, answering_other, ne_zero}
@@ -155,9 +157,9 @@ alone_known MakingCq h = absurd (true≢false (sym h))
 alone_known HalfMade h = refl
 alone_known MakingSq h = absurd (true≢false (sym h))
 
-pub tokens_host_event : (s : State) (e : Event) (reply : Reply) → Accepts s e reply → IsController e ≡ false → s.trusted ≡ true → length s.host.queues ≤ 65536 → HoldsPart (host_part s) → Stands s → Stands (a.after s e reply)
+pub tokens_host_event : (s : State) (e : Event) (reply : Reply) → Accepts s e reply → IsController e ≡ false → s.trusted ≡ true → length s.host.queues ≤ 65536 → length s.device.queues ≡ length s.host.queues → HoldsPart (host_part s) → Stands s → Stands (a.after s e reply)
     → TokensS s → TokensS (a.after s e reply)
-tokens_host_event s e reply ok c t few holds stands left h =
+tokens_host_event s e reply ok c t few long holds stands left h =
     host_moves (λ (e : Event) (reply : Reply) (u : State). Stands u → TokensS u) s e reply ok c
     (record {
       reserves = λ q request d none is left. tokens_fewer rs (rs ++ drafted_record d ∷ []) hs ds un un js js ans ans
@@ -232,6 +234,7 @@ tokens_host_event s e reply ok c t few holds stands left h =
           (alike_retired q hs (λ x ex. let same : queue ≡ x = cc (at, ex) in ap (λ (z : HostQueue). z.state) (sym same) ∙ deleted))
           (tokens_map rs (a.lost q) hs ds un js ans (keeps_lost q) stands.placed h);
       forges = λ q slot bytes queue none at left. h;
+      resets = λ left. rw (no_waiting s.device.queues, no_answering s.device.queues) (reset_tokens (a.reset_records s.host.records) s.host.queues s.device.queues long);
     }) left
   where
     rs : List Record

@@ -28,7 +28,7 @@ use Rattle.machine_model.specs.Events as events
 use Rattle.machine_model.specs.Events.{Event, Reply}
 use Rattle.machine_model.proofs.Touching.{is_walk, answer_inside, moved_below}
 use Rattle.machine_model.proofs.Managed.{managed_by}
-use Rattle.machine_model.proofs.Counting.{one}
+use Rattle.machine_model.proofs.Counting.{times-append, one}
 use Rattle.machine_model.proofs.Totals.{total}
 use Rattle.machine_model.proofs.Members.{In, in_found}
 use Rattle.machine_model.proofs.Steps.{Accepts}
@@ -237,6 +237,9 @@ untouched_kept s e reply ok w g p some away =
           let k = answers_there s g q p (λ x ex. reaped_has_cq x.state (sym (ap (λ (o : Option HostQueue). option_map_or (λ queue. is_reaped queue.state) o false) ex) ∙ not-false _ fails.0)) some queue at in
           bytes_elsewhere s.memory (slot_page queue.cq_pages 16 slot) p (slot_offset 16 slot) bytes
           (index_counts queue.cq_pages (slot * 16 / 4096) p (subst (λ (n : ℕ). slot * 16 / 4096 < n) (sym k.1) (answer_inside s.entries slot (below s.entries slot fails.1.0))) k.0);
+      resets = λ away.
+          with_elsewhere (zeroed_pages (a.admin_pages s.host.queues)) s.memory p
+          (ap (λ (ps : List ℕ). is_among ps p) (zeroed_numbers (a.admin_pages s.host.queues)) ∙ admin_elsewhere s.host.queues (λ queue e. some.queues 0 queue e));
     }) away
   where
     below : (n slot : ℕ) → nat_le n slot ≡ false → slot < n
@@ -244,6 +247,10 @@ untouched_kept s e reply ok w g p some away =
 
     ended : (q cid : ℕ) (r : Record) (pages : List (ℕ × List ℕ)) → record_at s.host q cid ≡ Some r → (is_drafted r.phase || is_collected r.phase) ≡ true → numbers_of pages ≡ pages_of r → Same (with_pages pages s.memory) s p
     ended q cid r pages at away same = with_elsewhere pages s.memory p (ap (λ (xs : List ℕ). is_among xs p) same ∙ others_elsewhere s q cid p r at away some)
+
+    admin_elsewhere : (hs : List HostQueue) → ((queue : HostQueue) → slice_get hs 0 ≡ Some queue → in_queue p queue ≡ 0) → is_among (a.admin_pages hs) p ≡ false
+    admin_elsewhere [] none = refl
+    admin_elsewhere (x ∷ hs) none = among_counts p (a.halves_of x) (omega (arith, none x refl, times-append p x.sq_pages x.cq_pages))
 
     sent : (adm : AdminKind) (id : ℕ) (s : State) → PostsElsewhere s 0 p → Same (sends adm id s).memory s p
     sent adm id s known = posts_elsewhere 0 (admin_entry adm id) (a.on_records (λ records. records ++ sent_record adm id ∷ []) s) p known

@@ -213,8 +213,9 @@ walks_event s e (events.Refused why touched) ok h = h.walks
 walks_event s (events.Fetch q) reply ok h = absurd ok.1
 walks_event s (events.Walk q cid) reply ok h = absurd ok.1
 walks_event s (events.Complete q cid) reply ok h = absurd ok.1
+walks_event s events.Reset reply ok h = tt
 walks_event s e reply ok h =
-    subst (AllByRecursion (HasUnitLeft (a.after s e reply))) (sym (host_jobs s e reply ok refl)) (walks_still s (a.after s e reply) h (stay_untouched s e reply ok refl h))
+    subst (AllByRecursion (HasUnitLeft (a.after s e reply))) (sym (host_jobs s e reply ok refl refl)) (walks_still s (a.after s e reply) h (stay_untouched s e reply ok refl h))
 
 -- The pool keeps its size
 

@@ -204,6 +204,7 @@ whole_after s e reply pr ok stood whole =
       creates_sqs = λ q id first queue none new granted pr. sent (creates_sq q first s) id (grants_sq q first s) (whole_zeroed (half_from Submission first s) s.memory whole);
       retires = λ q queue none at deleted pr. whole;
       forges = λ q slot bytes queue none at pr. whole_written s.memory (slot_page queue.cq_pages 16 slot) (slot_offset 16 slot) bytes (answer_fits slot bytes pr) whole;
+      resets = λ pr. whole_zeroed (a.admin_pages s.host.queues) s.memory whole;
     }) pr
   where
     sent : (adm : AdminKind) (id : ℕ) (s : State) → AreWhole s.memory → AreWhole (sends adm id s).memory
@@ -227,6 +228,8 @@ whole_forged false false false old next new untrusted due h = subst AreWhole (sy
 
 untrusted_step : (old : State) (e : Event) (reply : Reply) (new : State) → old.trusted ≡ false → Step old e reply new → AreWhole old.memory → AreWhole new.memory
 untrusted_step old e (events.Refused why touched) new untrusted step whole = subst (λ (s : State). AreWhole s.memory) (sym step.2) whole
+untrusted_step old events.Reset reply new untrusted step whole =
+    subst (λ (s : State). AreWhole s.memory) (sym step.2) (whole_after old events.Reset reply step.0 (of_host _ old.trusted false refl step.1) (λ is. absurd (true≢false (sym is))) whole)
 untrusted_step old e (events.Reserved d) new untrusted step whole =
     whole_forged old.trusted (forges e) (IsController e) old (a.after old e (events.Reserved d)) new untrusted
     (λ c. whole_after old e (events.Reserved d) step.0 (of_host _ old.trusted (IsController e) c step.1) (λ is. absurd (true≢false (sym is ∙ c))) whole) step.2

@@ -69,10 +69,15 @@ zero_host s e reply ok c holds =
           (zero_past q (a.making_sq (half_from Submission first s)) s.host.queues (λ x ex. let same : queue ≡ x = cc (granted.there, ex) in ap (λ (y : HostQueue). is_live y.state) (sym same) ∙ ap is_live granted.state) h);
       retires = λ q queue none at deleted. zero_past q a.retired s.host.queues (λ x ex. let same : queue ≡ x = cc (at, ex) in subst (λ (y : HostQueue). is_live y.state ≡ false) same (ap is_live deleted)) h;
       forges = λ q slot bytes queue none at. h;
+      resets = still s.host.queues;
     })
   where
     h : Zero s
     h = holds.admin
+
+    still : (hs : List HostQueue) → AdminLives (a.reset_queues hs)
+    still [] = refl
+    still (x ∷ hs) = refl
 
     told : (q : ℕ) (e : ComEntry) → Zero (a.heard q e s)
     told q e = zero_ring q (knowing e.sqhd) (change q (λ x. record x { ring = next_head s.entries x.ring }) s.host.queues) (zero_ring q (next_head s.entries) s.host.queues h)

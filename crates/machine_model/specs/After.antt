@@ -1,6 +1,7 @@
 -- What an accepted event leaves: the state is a function of the state before, the event and the reply, which names what was chosen.
 use Rattle.std.specs.Prelude.{ℕ, ◌+◌, ◌*◌, ◌-◌, ◌/◌, ◌%◌, ◌==◌, Bool, true, false, ◌&&◌, ◌||◌, not, Option, Some, None, List, [], ◌∷◌, ◌++◌, length, map, filter, take, drop, is_none, slice_get, slice_index, if◌then◌else◌, unwrap_or}
 use Rattle.std.specs.Option.{option_map_or}
+use Rattle.std.specs.List.{flat_map}
 use Rattle.page_ledger.specs.Owners.{is_among, pages_from}
 use Rattle.controller_walk.specs.Laws.{after_units}
 use Rattle.controller_walk.specs.Walks.{answer}
@@ -398,6 +399,71 @@ after_complete q cid s =
     (on_device (λ d. record d { image = image_completed j d.image }) (without_job q cid s))))
     (job_at s q cid) s
 
+-- The reset: the controller comes up with its admin queue alone, and the host has its I/O queues back
+
+-- an I/O command stays outstanding, and is lost where it was submitted; an admin command goes
+abbrev pub is_of_io : Work → Bool
+is_of_io (Io r) = true
+is_of_io (Management a) = false
+
+abbrev pub lost_anywhere : Record → Record
+lost_anywhere r = if is_submitted r.phase then record r { phase = Held; status = Some ABORTED_SQ_DELETION } else r
+
+abbrev pub reset_records : List Record → List Record
+reset_records records = map lost_anywhere (filter (λ r. is_of_io r.work) records)
+
+-- queue 0 is as it opened, with the same pages, and each other queue is gone
+abbrev pub reset_admin : HostQueue → HostQueue
+reset_admin queue = record queue { state = Live; ring = fresh_host_ring }
+
+abbrev pub no_queue : HostQueue
+no_queue = record { state = Gone; ring = fresh_host_ring; sq_pages = []; cq_pages = [] }
+
+abbrev pub reset_queues : List HostQueue → List HostQueue
+reset_queues [] = []
+reset_queues (queue ∷ queues) = reset_admin queue ∷ map (λ other. no_queue) queues
+
+-- the pages of queue 0, and those of the halves of all other queues
+abbrev pub halves_of : HostQueue → List ℕ
+halves_of queue = queue.sq_pages ++ queue.cq_pages
+
+abbrev pub admin_pages : List HostQueue → List ℕ
+admin_pages [] = []
+admin_pages (queue ∷ queues) = halves_of queue
+
+abbrev pub io_pages : List HostQueue → List ℕ
+io_pages [] = []
+io_pages (queue ∷ queues) = flat_map halves_of queues
+
+abbrev pub reset_host : ℕ → Host → Host
+reset_host count h = record { free = joined_in_order count (io_pages h.queues) h.free; queues = reset_queues h.queues; records = reset_records h.records }
+
+-- the controller: no job, no entry, no answer; of its queues the first alone is there
+abbrev pub reset_device_admin : DeviceQueue
+reset_device_admin = record { state = Running; cq_there = true; unfetched = []; rung = 0; answers = [] }
+
+abbrev pub no_device_queue : DeviceQueue
+no_device_queue = record { state = Absent; cq_there = false; unfetched = []; rung = 0; answers = [] }
+
+abbrev pub reset_device_queues : List DeviceQueue → List DeviceQueue
+reset_device_queues [] = []
+reset_device_queues (at ∷ ats) = reset_device_admin ∷ map (λ other. no_device_queue) ats
+
+abbrev pub reset_device : Device → Device
+reset_device d = record { queues = reset_device_queues d.queues; jobs = []; image = d.image }
+
+-- whatever was forged is gone with it, so the controller is trusted from now on
+abbrev pub after_reset : State → State
+after_reset s =
+    record {
+      entries = s.entries;
+      segment = s.segment;
+      memory = with_pages (zeroed_pages (admin_pages s.host.queues)) s.memory;
+      host = reset_host (length s.memory) s.host;
+      device = reset_device s.device;
+      trusted = true;
+    }
+
 -- every event
 
 abbrev pub after : State → Event → Reply → State
@@ -416,6 +482,7 @@ after s (events.CreateCq q) (events.Sent id) = after_create_cq q id s
 after s (events.CreateSq q) (events.Sent id) = after_create_sq q id s
 after s (events.Retire q) reply = after_retire q s
 after s (events.Forge q slot bytes) reply = after_forge q slot bytes s
+after s events.Reset reply = after_reset s
 after s (events.Fetch q) reply = after_fetch q s
 after s (events.Walk q cid) reply = after_walk q cid s
 after s (events.Complete q cid) reply = after_complete q cid s

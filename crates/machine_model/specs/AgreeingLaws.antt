@@ -1,5 +1,5 @@
 -- The laws of states whose sides agree: an opening has it, each step keeps it as long as nothing is forged, and what follows of it.
-use Rattle.std.specs.Prelude.{◌≡◌, ℕ, nat_lt, false, true, ◌&&◌, ◌≤◌, not, IsTrue, Some, List}
+use Rattle.std.specs.Prelude.{◌≡◌, ℕ, nat_lt, false, true, ◌&&◌, ◌||◌, ◌≤◌, not, IsTrue, Some, List}
 use Rattle.page_ledger.specs.Owners.{is_among}
 use Rattle.page_memory.specs.Pages.{page_at}
 use Rattle.machine_model.specs.After.{course_of}
@@ -12,7 +12,7 @@ use Rattle.machine_model.specs.Opening.{opening, Opens}
 use Rattle.machine_model.specs.Refusals.{host_queue, is_live, is_submitted, job_at}
 use Rattle.machine_model.specs.Standing.{JobStands}
 use Rattle.machine_model.specs.State.{State, HostQueue, Record, Job, record_at, outstanding_on}
-use Rattle.machine_model.specs.Step.{Step, times}
+use Rattle.machine_model.specs.Step.{Step, resets, times}
 use Rattle.machine_model.specs.Touch.{stays_allowed, stays_own}
 
 -- Where it holds
@@ -20,11 +20,11 @@ use Rattle.machine_model.specs.Touch.{stays_allowed, stays_own}
 abbrev pub openings_agree : Type 0
 openings_agree = (pages queues n s : ℕ) (image : List ℕ) → Opens pages queues n s → SidesAgree (opening pages queues n s image)
 
--- a step that leaves a trusted state came from one, and keeps it
+-- a step that leaves a trusted state came from one or is a reset, and keeps it; how a reset comes by it after a forgery, `resets_recover` says
 abbrev pub steps_keep_agreement : Type 0
 steps_keep_agreement =
     (old : State) (e : Event) (reply : Reply) (new : State) → Step old e reply new → IsTrue new.trusted
-    → IsTrue old.trusted × (SidesAgree old → SidesAgree new)
+    → IsTrue (old.trusted || resets e) × (SidesAgree old → SidesAgree new)
 
 -- so it holds behind each run in which nothing was forged
 abbrev pub trusted_runs_agree : Type 0

@@ -29,11 +29,13 @@ pub data Event : Type 0 where
   Walk : (q cid : ℕ) → Event
   Complete : (q cid : ℕ) → Event
   Forge : (q slot : ℕ) → List ℕ → Event
+  -- the controller is reset, and comes up again with its admin queue alone
+  Reset : Event
 
 pub data Reply : Type 0 where
   -- a reserved command's draft
   Reserved : DraftContents → Reply
-  -- submit, cancel, ring, release, retire, forge
+  -- submit, cancel, ring, release, retire, forge, reset
   Accepted : Reply
   Reaps : Reaped → Reply
   Collects : FinishedContents → Reply

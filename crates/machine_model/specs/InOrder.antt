@@ -1,5 +1,5 @@
 -- States in order: what holds of each state that steps from an opening lead to, and that each event is answered there.
-use Rattle.std.specs.Prelude.{◌≡◌, ◌≤◌, ℕ, IsTrue, List, map}
+use Rattle.std.specs.Prelude.{◌≡◌, ◌≤◌, ℕ, Bool, false, ◌||◌, IsTrue, not, List, [], ◌∷◌, map}
 use Rattle.block_image.specs.Blocks.{IsImage}
 use Rattle.io_commands.specs.Drafts.{DraftContents}
 use Rattle.io_commands.specs.Values.{FinishedContents}
@@ -10,9 +10,10 @@ use Rattle.machine_model.specs.Claims.{IsSound}
 use Rattle.machine_model.specs.Events as events
 use Rattle.machine_model.specs.Events.{Event, Reply}
 use Rattle.machine_model.specs.Image.{Made}
-use Rattle.machine_model.specs.Laws.{TrustedRun}
+use Rattle.machine_model.specs.Laws.{TrustedRun, forges_by}
 use Rattle.machine_model.specs.Opening.{opening, Opens}
 use Rattle.machine_model.specs.Proper.{IsProper, IsProperDraft}
+use Rattle.machine_model.specs.Recovering.{CanRecover}
 use Rattle.machine_model.specs.Run.{Run}
 use Rattle.machine_model.specs.State.{State}
 use Rattle.machine_model.specs.Step.{Step}
@@ -24,6 +25,8 @@ pub record IsInOrder (s : State) : Type 0 where
   pub least_segment : 2 ≤ s.segment
   pub most_segment : s.segment ≤ 256
   pub agree : IsTrue s.trusted → SidesAgree s
+  -- of which a reset makes one whose sides agree, whatever was forged
+  pub recovers : CanRecover s
 
 abbrev pub openings_are_in_order : Type 0
 openings_are_in_order =
@@ -58,8 +61,13 @@ pub record IsTrustedRunOf (image : List ℕ) (es : List Event) (replies : List R
   pub answered : map (λ m. m.reply) made ≡ replies
   pub run : TrustedRun image made end
 
--- a run from an opening that leads to a trusted state is one of which the laws of trusted runs speak
+-- whether a forgery among these events was accepted
+abbrev pub has_forgery : List Event → List Reply → Bool
+has_forgery (e ∷ es) (reply ∷ replies) = forges_by e reply || has_forgery es replies
+has_forgery es replies = false
+
+-- a run from an opening in which no forgery was accepted is one of which the laws of trusted runs speak
 abbrev pub runs_are_made : Type 0
 runs_are_made =
     (pages queues n s : ℕ) (image : List ℕ) (es : List Event) (replies : List Reply) (end : State)
-    → Opens pages queues n s → IsImage image → Run (opening pages queues n s image) es replies end → IsTrue end.trusted → IsTrustedRunOf image es replies end
+    → Opens pages queues n s → IsImage image → Run (opening pages queues n s image) es replies end → IsTrue (not (has_forgery es replies)) → IsTrustedRunOf image es replies end

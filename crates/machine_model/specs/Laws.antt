@@ -27,7 +27,7 @@ use Rattle.machine_model.specs.Refusals.{job_at, next_rung, is_submitted}
 use Rattle.machine_model.specs.After.{after, final_status, walks, image_blocks}
 use Rattle.block_image.specs.Blocks.{IsImage}
 use Rattle.machine_model.specs.Opening.{opening, Opens}
-use Rattle.machine_model.specs.Step.{Step, Permits, IsController, host_part, times}
+use Rattle.machine_model.specs.Step.{Step, Permits, IsController, resets, host_part, times}
 use Rattle.machine_model.specs.Image.{Made, image_after, read_of, draft_of, submitted_by}
 use Rattle.machine_model.specs.Events as events
 use Rattle.io_commands.specs.Drafts.{DraftContents}
@@ -49,6 +49,10 @@ forges_by e reply = false
 
 abbrev pub is_forgery : Made → Bool
 is_forgery m = forges_by m.event m.reply
+
+-- whether a step is a reset
+abbrev pub is_reset : Made → Bool
+is_reset m = resets m.event
 
 -- a run from an opening in which nothing was forged: none of its steps is an accepted forgery
 pub record TrustedRun (image : List ℕ) (made : List Made) (end : State) : Type 0 where

@@ -30,11 +30,13 @@ pub mod WorkedQueues
 pub mod WorkedAdmin
 pub mod WorkedCreations
 pub mod WorkedForged
+pub mod WorkedResets
 pub mod WorkedLaws
 pub mod WorkedSound
 pub mod Weights
 pub mod Agreeing
 pub mod Always
+pub mod Recovering
 pub mod AgreeingLaws
 pub mod InOrder
 pub mod Work

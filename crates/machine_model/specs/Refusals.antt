@@ -469,6 +469,7 @@ causes s (events.Forge q slot bytes) =
     (not (in_state is_reaped s q), events.NoQueue)
     ∷ (nat_le s.entries slot, events.NoSlot)
     ∷ []
+causes s events.Reset = []
 causes s (events.Fetch q) =
     (is_none (next_rung s q), events.Idle)
     ∷ (not (is_in s.memory (fetch_page s q)), events.SlotOut)

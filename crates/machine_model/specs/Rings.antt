@@ -116,7 +116,7 @@ complete_exactly b q cid j =
       script.completed (cq_page b q ∷ []),
     ))
 
--- the host's lines are the machine's, with its doorbells heard; each half has one page
+-- the host's lines are the machine's, with its doorbells heard, and a reset empties all rings; each half has one page
 abbrev pub line' : Bench → Line → Bench × Said
 line' b (script.fetch q) = fetch_exactly (option_map_or (λ page. page) (slice_get b.halves q) 0) b q
 line' b (script.complete q cid) = option_map_or (complete_exactly b q cid) (job_at (world_of b) q cid) (refuse b events.NoJob)
@@ -128,6 +128,8 @@ line' b (script.reap q) =
     let step = line b'.table (script.reap q) in
     let b'' : Bench = record b' { table = step.0 } in
     (on_ring_of q (head_bell (world_of b).entries (host_ring (λ queue. queue.ring.head) b'' q)) b'', step.1)
+line' b script.reset =
+    let step = line b.table script.reset in (record b { table = step.0; rings = map (λ r. fresh_device_ring) b.rings }, step.1)
 line' b l = let step = line b.table l in (record b { table = step.0 }, step.1)
 
 abbrev pub played_exactly : Bench → List Line → List Said

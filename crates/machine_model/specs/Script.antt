@@ -51,6 +51,7 @@ pub data Line : Type 0 where
   create_sq : (q : ℕ) → Line
   retire : (q : ℕ) → Line
   forge : (q slot : ℕ) → List ℕ → Line
+  reset : Line
 
 -- What a line prints. A reserve shows its pages where the printed line has their numbers
 
@@ -223,6 +224,7 @@ line t (create_sq q) =
     stepped t (events.CreateSq q) (events.Sent id) (sent id) same_table
 line t (retire q) = stepped t (events.Retire q) events.Accepted ok same_table
 line t (forge q slot bytes) = stepped t (events.Forge q slot bytes) events.Accepted ok same_table
+line t reset = stepped t events.Reset events.Accepted ok same_table
 
 abbrev pub played : Table → List Line → List Said
 played t [] = []

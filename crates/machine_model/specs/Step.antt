@@ -134,6 +134,7 @@ Answers s (events.CreateCq q) (events.Sent id) = IsNewIdentifier s 0 id
 Answers s (events.CreateSq q) (events.Sent id) = IsNewIdentifier s 0 id
 Answers s (events.Retire q) events.Accepted = Unit {0}
 Answers s (events.Forge q slot bytes) events.Accepted = Unit {0}
+Answers s events.Reset events.Accepted = Unit {0}
 Answers s (events.Fetch q) (events.Fetched cid touched) = (option_map (λ e. e.cid) (next_rung s q) ≡ Some cid) × (touched ≡ touched_by_fetch s q)
 Answers s (events.Walk q cid) (events.Walked outcome touched) = (j : Job) × (job_at s q cid ≡ Some j) × unit_answered (next_unit s j) (next_answer s j) outcome touched
 Answers s (events.Complete q cid) (events.Completed touched) = touched ≡ post_page s q ∷ []
@@ -203,10 +204,18 @@ abbrev pub forges : Event → Bool
 forges (events.Forge q slot bytes) = true
 forges e = false
 
--- the state that a reply leads to: exactly one where nothing was or is forged, else one with its host's part
+abbrev pub resets : Event → Bool
+resets events.Reset = true
+resets e = false
+
+-- whether an event leaves exactly one state: where nothing was or is forged, and a reset always
+abbrev pub is_exact : Event → Bool → Bool
+is_exact e trusted = resets e || (not (forges e) && trusted)
+
+-- the state that a reply leads to: exactly one, or after a forged entry one with its host's part
 abbrev pub Leaves : State → Event → Reply → State → Type 0
 Leaves s e (events.Refused why touched) new = new ≡ s
-Leaves s e reply new = MatchBool (not (forges e) && s.trusted) (new ≡ after s e reply) (MatchBool (IsController e) (LeavesByController s (after s e reply) new) (LeavesByHost s (after s e reply) new))
+Leaves s e reply new = MatchBool (is_exact e s.trusted) (new ≡ after s e reply) (MatchBool (IsController e) (LeavesByController s (after s e reply) new) (LeavesByHost s (after s e reply) new))
 
 abbrev pub Step : State → Event → Reply → State → Type 0
 Step old e reply new = IsProper e × Permits old e reply × Leaves old e reply new

@@ -2,7 +2,8 @@
 
 ghost use Rattle.machine_model.specs.AgreeingLaws.{openings_agree, steps_keep_agreement, trusted_runs_agree, agreeing_sides_are_linked, agreed_live_queues_are_there, agreeing_sides_have_room, agreed_admin_commands_stand_once, agreed_jobs_stand, agreed_jobs_keep_their_lists, agreed_chains_stand, agreed_chains_stay, agreeing_steps_stay_allowed};
 
-/// An opening's sides agree, and each step that leaves a trusted state came from one, and keeps them so.
+/// An opening's sides agree, and each step that leaves a trusted state came from one or is a reset, and keeps them so. That a reset
+/// makes them agree whatever was forged, `law_of_resets` says.
 ///
 /// So they agree behind each run in which nothing was forged.
 pub fn law_of_agreement()

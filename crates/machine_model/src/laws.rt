@@ -3,12 +3,13 @@
 ghost use Rattle.machine_model.specs.Always.{each_step_provides, every_run_provides};
 ghost use Rattle.machine_model.specs.Built.{built_drafts_spell_in_store};
 ghost use Rattle.machine_model.specs.Claims.{each_step_keeps, every_run_is_sound, every_run_takes_out, counts_add_up};
-ghost use Rattle.machine_model.specs.Histories.{openings_have_histories, steps_make_histories, unforged_runs_end_trusted, trusted_ends_are_unforged};
+ghost use Rattle.machine_model.specs.Histories.{openings_have_histories, steps_make_histories, unforged_runs_end_trusted, trusted_ends_are_unforged, resets_restore_trust};
 ghost use Rattle.machine_model.specs.InOrder.{openings_are_in_order, steps_keep_order, reserved_drafts_are_proper, collected_commands_are_proper, every_event_is_answered, runs_are_made};
 ghost use Rattle.machine_model.specs.Linked.{trusted_worlds_are_linked, live_queues_are_there};
 ghost use Rattle.machine_model.specs.Reached.{lists_keep_to_their_pages, lists_end_well, long_lists_end_well};
 ghost use Rattle.machine_model.specs.Memory.{walks_read_the_pool, walks_go_as_in_the_pool};
 ghost use Rattle.machine_model.specs.Positions.{each_step_stays_in_rings, every_run_stays_in_rings};
+ghost use Rattle.machine_model.specs.Recovering.{openings_can_recover, resets_recover, every_run_recovers, resets_leave_io_commands};
 ghost use Rattle.machine_model.specs.Standing.{jobs_stand, jobs_keep_their_lists};
 ghost use Rattle.machine_model.specs.Laws.{admin_commands_stand_once, trusted_steps_stay_allowed, hosts_need_no_controller, chains_stand, chains_stay, rings_are_never_full, every_status_has_its_cause, the_image_is_the_runs, compares_tell_equality, reads_give_their_blocks, stopped_reads_give_a_prefix};
 ghost use Rattle.machine_model.specs.Slots.{entries_lie_in_pages, answers_lie_in_pages, entries_stand_in_memory, answers_stand_in_memory, entries_are_written, answers_are_written};
@@ -115,10 +116,10 @@ pub fn law_of_live_queues()
     ensures { live_queues_are_there }
 {}
 
-/// An opening has a history, and each step that leaves a trusted state makes its history longer. So what holds of every trusted run
-/// holds of each state that steps lead to.
+/// An opening has a history, and each step that leaves a trusted state came from one or is a reset, and makes a history longer. So what
+/// holds of every trusted run holds of each state that steps lead to without a forgery.
 ///
-/// The events and replies of a run that leads from an opening to a trusted state are those of such a history.
+/// The events and replies of a run from an opening in which no forgery was accepted are those of such a history.
 pub fn law_of_histories()
     ensures openings { openings_have_histories }
     ensures steps { steps_make_histories }
@@ -126,14 +127,26 @@ pub fn law_of_histories()
 {}
 
 /// A run from an opening in which no forgery was accepted ends in a trusted state. And steps that lead to a trusted state, from
-/// wherever they began, accepted no forgery: no event restores the trust.
+/// wherever they began, accepted no forgery since the last reset among them: no other event restores the trust.
 pub fn law_of_trust()
     ensures ends { unforged_runs_end_trusted }
     ensures unforged { trusted_ends_are_unforged }
 {}
 
-/// Each step keeps a state in order, forged entries or not: sound, each page that is in whole, and both sides agreeing unless something
-/// was forged. An opening is in order.
+/// A reset leaves a trusted state whose sides agree, whatever was forged: what that takes holds in an opening, and each step keeps it
+/// (`law_of_order`). So behind it every law of `agreement` speaks of the machine again.
+///
+/// Each I/O command is outstanding as before, and held with status 0:08 where it was submitted.
+pub fn law_of_resets()
+    ensures trust { resets_restore_trust }
+    ensures agreement { resets_recover }
+    ensures openings { openings_can_recover }
+    ensures runs { every_run_recovers }
+    ensures commands { resets_leave_io_commands }
+{}
+
+/// Each step keeps a state in order, forged entries or not: sound, each page that is in whole, both sides agreeing unless something
+/// was forged since the last reset, and fit to agree behind a reset. An opening is in order.
 ///
 /// What it hands out is fit to be handed in again: the draft of a reserved command, and the pages of a collected one.
 pub fn law_of_order()

@@ -16,6 +16,7 @@ ghost use Rattle.machine_model.specs.WorkedCreations as creations;
 ghost use Rattle.machine_model.specs.WorkedForged as forged;
 ghost use Rattle.machine_model.specs.WorkedLaws as laws;
 ghost use Rattle.machine_model.specs.WorkedQueues as queues;
+ghost use Rattle.machine_model.specs.WorkedResets as resets;
 ghost use Rattle.machine_model.specs.WorkedReads.{ordinary, first_read, first_read_said, first_write, first_write_said, stopped_read, stopped_read_said};
 ghost use Rattle.machine_model.specs.WorkedSound as sound;
 ghost use Rattle.machine_model.specs.WorkedWalks as walks;
@@ -108,6 +109,22 @@ pub fn worked_forged()
     ensures head_held_back { played (left_by ordinary forged.three_submitted) forged.head_held_back ≡ forged.head_held_back_said }
     ensures identifier_of_a_job { played (left_by ordinary forged.three_submitted) forged.identifier_of_a_job ≡ forged.identifier_of_a_job_said }
     ensures forged_deletion { played forged.two_queues forged.forged_deletion ≡ forged.forged_deletion_said }
+{}
+
+/// A reset: with one command of each phase, a job, and entries that are not fetched; and behind a forged entry, where it makes
+/// the machine trusted again. A queue is made again behind it, the pages of all I/O queues are free, and each page has one owner
+/// in each state.
+pub fn worked_resets()
+    ensures reset_run { played forged.two_queues resets.reset_run ≡ resets.reset_run_said }
+    ensures reset_run_exactly { played_exactly (bench forged.two_queues) resets.reset_run ≡ resets.reset_run_said }
+    ensures free_after_reset { free_of (left_by forged.two_queues resets.one_of_each) ≡ 5 }
+    ensures free_after_all { free_of (left_by (left_by forged.two_queues resets.one_of_each) resets.after_all) ≡ 14 }
+    ensures forged_and_reset { played ordinary resets.forged_and_reset ≡ resets.forged_and_reset_said }
+    ensures forged_and_reset_exactly { played_exactly (bench ordinary) resets.forged_and_reset ≡ resets.forged_and_reset_said }
+    ensures trusted_again { resets.is_trusted (left_by ordinary resets.forged_and_reset) ≡ true }
+    ensures sound { sound.all_sound (made_by forged.two_queues resets.reset_run) ≡ true }
+    ensures forged_sound { sound.all_sound (made_by ordinary resets.forged_and_reset) ≡ true }
+    ensures touches { all_allowed (made_by forged.two_queues resets.reset_run) ≡ true }
 {}
 
 /// Two openings that are refused.

@@ -1,7 +1,7 @@
 -- An event that no cause refuses is accepted.
 use Rattle.std.proofs.Common.{◌≡◌, ℕ, ◌+◌, ◌-◌, ◌<◌, ◌≤◌, ◌==◌, nat_lt, nat_le, Bool, true, false, not, ◌&&◌, ◌||◌, Option, Some, None, List, [], ◌∷◌, ◌++◌, length, slice_get, is_some, is_none, get_or, MatchBool, if◌then◌else◌, refl, ap, ap₂, sym, ◌∙◌, arith, subst, eqb-true}
 use Rattle.std.specs.Option.{option_map, option_map_or, option_and_then}
-use Rattle.std.proofs.lemmas.Bool.{true≢false, or_parts, and_parts, not-false, not-true}
+use Rattle.std.proofs.lemmas.Bool.{true≢false, or_parts, or_right, and_parts, not-false, not-true}
 use Rattle.std.proofs.lemmas.Bool.Decides.{nat_tests}
 use Rattle.std.proofs.lemmas.Option.{slice_get-get_or}
 use Rattle.page_ledger.specs.Owners.{is_among}
@@ -18,6 +18,7 @@ use Rattle.machine_model.specs.Memory.{is_in, zeroed_pages}
 use Rattle.machine_model.specs.Placement.{data_placed, chain_placed, chain_wanted}
 use Rattle.machine_model.specs.declared.words.Phase.{Phase}
 use Rattle.machine_model.specs.declared.words.Phase.TheVariants.{Drafted, Submitted, Held, Collected}
+use Rattle.machine_model.specs.declared.words.Refusal.{Refusal}
 use Rattle.machine_model.specs.declared.words.Refusal.TheVariants as refusals
 use Rattle.machine_model.specs.State.{State, Record, Job, is_at, record_at, outstanding_on}
 use Rattle.machine_model.specs.Refusals.{refusal_of, host_queue, next_rung, job_at, job_is, post_page, fetch_page, conflicts, answers_full, record_is, is_submitted, is_held, no_identifier, pages_wanted}
@@ -25,17 +26,17 @@ use Rattle.machine_model.specs.Proper.{IsProper}
 use Rattle.machine_model.specs.Claims.{IsSound}
 use Rattle.machine_model.specs.InOrder.{IsInOrder}
 use Rattle.machine_model.specs.After.{after, course_of, next_answer, next_unit}
-use Rattle.machine_model.specs.Step.{Permits, Answers, AnswersAnything, IsController, IsReserved, IsNewIdentifier, LeavesByController, LeavesByHost, times, forges, reaped, touched_by_fetch, unit_answered, finished_from, asked_by, pages_with_bytes}
+use Rattle.machine_model.specs.Step.{Permits, Refuses, Leaves, Answers, AnswersAnything, IsController, IsReserved, IsNewIdentifier, LeavesByController, LeavesByHost, times, forges, resets, is_exact, reaped, touched_by_fetch, unit_answered, finished_from, asked_by, pages_with_bytes}
 use Rattle.machine_model.specs.Events as events
 use Rattle.machine_model.specs.Events.{Event, Reply}
-use Rattle.machine_model.proofs.Steps.{part_controller}
+use Rattle.machine_model.proofs.Steps.{part_controller, surely}
 use Rattle.machine_model.proofs.Owned.{holds_from_sound}
 use Rattle.machine_model.proofs.Elsewhere.{owned_once}
 use Rattle.machine_model.proofs.Refused.{first_fails, rest_fails, unrefused}
 use Rattle.machine_model.proofs.Placed.{is_job, find_sound}
 use Rattle.machine_model.proofs.Members.{all_at_found}
 use Rattle.machine_model.proofs.Agreed.{agreed_jobs}
-use Rattle.run_laws.specs.Accepted.{HasEnded, EndedIfHeld, IsReady, IsAccepted, is_refusal, every_event_is_accepted_or_has_a_cause, queue_of, forged_worlds_accept_the_controller, forged_worlds_know_their_queues}
+use Rattle.run_laws.specs.Accepted.{HasEnded, EndedIfHeld, IsReady, IsAccepted, is_refusal, every_event_is_accepted_or_has_a_cause, every_reset_is_accepted, IsAcceptedReset, resets_have_one_answer, queue_of, forged_worlds_accept_the_controller, forged_worlds_know_their_queues}
 use Rattle.machine_model.proofs.FreePages.{length_placed, length_chain, placement_times, room_for}
 use Rattle.run_laws.proofs.AcceptedFree.{free_number, counted_free, numbers_zeroed, both_zeroed, length_zeroed}
 
@@ -63,7 +64,7 @@ left_by_host s next false false c = (record next { device = s.device }, record {
 
 by_plain : (s : State) (e : Event) → IsProper e → IsController e ≡ false → refusal_of s e ≡ None → Answers s e events.Accepted → IsAccepted s e
 by_plain s e proper c none answers =
-    let left = left_by_host s (after s e events.Accepted) (not (forges e) && s.trusted) (IsController e) c in
+    let left = left_by_host s (after s e events.Accepted) (is_exact e s.trusted) (IsController e) c in
     record {
       reply = events.Accepted;
       left = left.0;
@@ -98,7 +99,7 @@ new_identifier s q h =
 by_sending : (s : State) (e : Event) → IsProper e → IsController e ≡ false → refusal_of s e ≡ None → ((id : ℕ) → IsNewIdentifier s 0 id → Answers s e (events.Sent id)) → no_identifier s 0 ≡ false → IsAccepted s e
 by_sending s e proper c none answers free =
     let x = new_identifier s 0 free in
-    let left = left_by_host s (after s e (events.Sent x.0)) (not (forges e) && s.trusted) (IsController e) c in
+    let left = left_by_host s (after s e (events.Sent x.0)) (is_exact e s.trusted) (IsController e) c in
     record {
       reply = events.Sent x.0;
       left = left.0;
@@ -250,8 +251,8 @@ by_collect s q cid ready none =
 by_controller : (s : State) (e : Event) (reply : Reply) → s.trusted ≡ true → IsProper e → forges e ≡ false → is_refusal reply ≡ false → refusal_of s e ≡ None → Answers s e reply → IsAccepted s e
 by_controller s e reply t proper no_forge accepts none answers = go reply accepts answers
   where
-    exactly : (B : Type 0) (next : State) → MatchBool (not (forges e) && s.trusted) (next ≡ next) B
-    exactly B next = permits_judged B (not (forges e) && s.trusted) (rw (no_forge, t) refl) refl
+    exactly : (B : Type 0) (next : State) → MatchBool (is_exact e s.trusted) (next ≡ next) B
+    exactly B next = permits_judged B (is_exact e s.trusted) (or_right (resets e) (not (forges e) && s.trusted) (rw (no_forge, t) refl)) refl
 
     judged : (s.trusted || not (IsController e)) ≡ true
     judged = rw t refl
@@ -331,6 +332,7 @@ all_accepted s (events.CreateCq q) ready proper judged none = by_create_cq s q n
 all_accepted s (events.CreateSq q) ready proper judged none = by_create_sq s q none
 all_accepted s (events.Retire q) ready proper judged none = by_plain s (events.Retire q) proper refl none tt
 all_accepted s (events.Forge q slot bytes) ready proper judged none = by_plain s (events.Forge q slot bytes) proper refl none tt
+all_accepted s events.Reset ready proper judged none = by_plain s events.Reset proper refl none tt
 all_accepted s (events.Fetch q) ready proper judged none = by_fetch s q (trusted_only s.trusted judged) none
   where
     trusted_only : (t : Bool) → (t || false) ≡ true → t ≡ true
@@ -346,6 +348,26 @@ all_accepted s (events.Complete q cid) ready proper judged none = by_controller 
     trusted_only : (t : Bool) → (t || false) ≡ true → t ≡ true
     trusted_only true h = refl
     trusted_only false h = h
+
+-- A reset
+
+pub reset_accepted : every_reset_is_accepted
+reset_accepted s = (tt, permits_judged (AnswersAnything s events.Reset events.Accepted) (s.trusted || true) (host_judged s.trusted false refl) (refl, tt), refl)
+
+pub reset_answered : resets_have_one_answer
+reset_answered s new reply step = go reply step.1 step.2
+  where
+    refused : (why : Refusal) (pages : List ℕ) → Refuses s events.Reset why pages → ⊥
+    refused refusals.Memory pages h = true≢false (sym h.0)
+    refused why pages h = none h.0
+      where
+        none : None ≡ Some why → ⊥
+        none e = cc
+
+    go : (reply : Reply) → Permits s events.Reset reply → Leaves s events.Reset reply new → IsAcceptedReset s reply new
+    go events.Accepted permits left = record { accepted = refl; left = left }
+    go (events.Refused why pages) permits left = absurd (refused why pages (surely _ s.trusted false refl permits))
+    go reply permits left = absurd (surely _ s.trusted false refl permits).1
 
 -- Once something was forged
 

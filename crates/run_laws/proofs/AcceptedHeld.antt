@@ -1,5 +1,5 @@
 -- A held command is an I/O command and has its status, after each step, whatever was forged.
-use Rattle.std.proofs.Common.{◌≡◌, ℕ, ◌==◌, Bool, true, false, not, ◌&&◌, ◌||◌, Option, Some, List, [], ◌∷◌, ◌++◌, map, is_some, MatchBool, if◌then◌else◌, refl, ap, sym, ◌∙◌, subst, eqb-true, eq-eqb}
+use Rattle.std.proofs.Common.{◌≡◌, ℕ, ◌==◌, Bool, true, false, not, ◌&&◌, Option, Some, List, [], ◌∷◌, ◌++◌, map, is_some, if◌then◌else◌, refl, ap, sym, ◌∙◌, subst, eqb-true, eq-eqb}
 use Rattle.std.specs.Option.{option_map_or}
 use Rattle.std.specs.List.{AllByRecursion}
 use Rattle.std.proofs.lemmas.Bool.{true≢false, and_parts}
@@ -19,10 +19,11 @@ use Rattle.machine_model.specs.Step.{Step, Permits, IsController, HostPart, aske
 use Rattle.machine_model.specs.After as a
 use Rattle.machine_model.specs.Events as events
 use Rattle.machine_model.specs.Events.{Event, Reply}
-use Rattle.machine_model.proofs.Steps.{Accepts, part_controller, part_left}
+use Rattle.machine_model.proofs.Steps.{Accepts, part_controller, part_left, surely}
 use Rattle.machine_model.proofs.Placed.{find_sound}
 use Rattle.machine_model.proofs.Members.{all_map, all_filter, all_append, all_at_found, all_in_both}
 use Rattle.machine_model.proofs.InOrders.{opens_in_order, order_kept}
+use Rattle.machine_model.proofs.Resetting.{all_reset, lost_by}
 use Rattle.machine_model.proofs.Moves.{host_moves, drafted_record, sent_record, creates_cq, creates_sq}
 use Rattle.run_laws.specs.Accepted.{EndedIfHeld, openings_are_ready, steps_keep_ready}
 
@@ -97,6 +98,7 @@ host_ended s e reply sound ok c h =
       creates_sqs = λ q id first queue none new granted. sent (creates_sq q first s) id;
       retires = λ q queue none at deleted. ended_lost q (deleted_other s q queue sound.admin at deleted) s.host.records (fine s sound h);
       forges = λ q slot bytes queue none at. h;
+      resets = all_reset EndedIfHeld EndedIfHeld (λ r io ended. lost_by EndedIfHeld r (λ quiet. ended) (λ sub held. record { is_io = asked r.work io; has_status = refl })) s.host.records h;
     })
   where
     began : (new : Record) → EndedIfHeld new → AllEnded (s.host.records ++ new ∷ [])
@@ -107,6 +109,10 @@ host_ended s e reply sound ok c h =
 
     sent : (adm : AdminKind) (id : ℕ) → AllEnded (s.host.records ++ sent_record adm id ∷ [])
     sent adm id = began (sent_record adm id) (λ held. absurd (true≢false (sym held)))
+
+    asked : (w : Work) → a.is_of_io w ≡ true → is_some (asked_by w) ≡ true
+    asked (Io request) io = refl
+    asked (Management adm) io = absurd (true≢false (sym io))
 
     io_queue : (q cid : ℕ) (r : Record) (request : Request) → r.work ≡ Io request → record_at s.host q cid ≡ Some r → (q == 0) ≡ false
     io_queue q cid r request w e =
@@ -121,11 +127,6 @@ host_ended s e reply sound ok c h =
     told q cid st r other false at p = p.1
 
 -- Steps
-
-surely : {A : Type 0} (B : Type 0) (t c : Bool) → c ≡ false → MatchBool (t || not c) A B → A
-surely B true c e h = h
-surely B false true e h = absurd (true≢false e)
-surely B false false e h = h
 
 permitted_ended : (s : State) (e : Event) (reply : Reply) → IsSound s → Permits s e reply → (b : Bool) → IsController e ≡ b → AllEnded s.host.records → AllEnded (a.after s e reply).host.records
 permitted_ended s e reply sound permits true c h = subst (λ (part : HostPart). AllEnded part.host.records) (sym (part_controller s e reply c)) h

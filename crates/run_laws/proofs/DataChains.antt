@@ -105,6 +105,7 @@ entry_on s e reply g q cid wanted other far = record {
   makes_completion = λ at all. all;
   makes_submission = λ at all. tt;
   clears = λ at all. tt;
+  empties = (tt, tt);
   completes = λ c j head at is found all. all;
 }
   where
@@ -120,7 +121,8 @@ jobs_keep s e (events.Refused why touched) ok q cid entry has = has.fetched
 jobs_keep s (events.Fetch k) reply ok q cid entry has = (keeps_fetch s k q cid entry has).fetched
 jobs_keep s (events.Walk k c) reply ok q cid entry has = (keeps_walk s k c q cid entry has).fetched
 jobs_keep s (events.Complete k c) reply ok q cid entry has = (keeps_complete s k c q cid entry has).fetched
-jobs_keep s e reply ok q cid entry has = subst (AllByRecursion (λ j. j.q ≡ q → j.entry.cid ≡ cid → j.entry ≡ entry)) (sym (host_jobs s e reply ok refl)) has.fetched
+jobs_keep s events.Reset reply ok q cid entry has = tt
+jobs_keep s e reply ok q cid entry has = subst (AllByRecursion (λ j. j.q ≡ q → j.entry.cid ≡ cid → j.entry ≡ entry)) (sym (host_jobs s e reply ok refl refl)) has.fetched
 
 entry_kept : (s : State) (e : Event) (reply : Reply) → Going s e reply → (q cid : ℕ) → (q == 0) ≡ false → ((d : DraftContents) → e ≡ events.Submit d → ((d.q == q) && (d.cid == cid)) ≡ false)
     → (wanted : SubEntry) → HasEntry s.device.queues s.device.jobs q cid wanted → HasEntry (a.after s e reply).device.queues (a.after s e reply).device.jobs q cid wanted
@@ -223,7 +225,7 @@ chains_move drafts s e reply g = record {
       subst (λ (x : Event). Going s x reply → CommandStands (a.after s x reply).memory (a.after s x reply).device.queues (a.after s x reply).device.jobs (a.submitted r) → ChainedIfIo (submitted_by x reply ++ drafts) (a.after s x reply) (a.submitted r) r.work) (sym is)
       (λ g' stands'. new d reply g' entry r built at fits r.work refl stands') g stands;
   reaps = λ q cid st request r is n x at w p stands sub. absurd (true≢false (sym sub));
-  loses = λ k r at within same is free p stands sub. absurd (true≢false (sym sub));
+  loses = λ r within sent free p stands sub. absurd (true≢false (sym sub));
   collects = λ r p stands sub. absurd (true≢false (sym sub));
 }
   where

@@ -119,7 +119,7 @@ follow_on d other s e reply g far = record {
   sends = λ adm id is on. absurd (not_sent d id other is);
   submits = λ x entry r is built found fits p at on. absurd (submit_clash s d e reply g far x r is found at);
   reaps = λ q cid st request r is n status found w p at on. again (a.held st r) r refl refl refl (p at (sub_goes r.phase (reaped_on s q cid r n found)));
-  loses = λ k r is within same sub free p at on. again (record r { phase = Held; status = Some ABORTED_SQ_DELETION }) r refl refl refl (p at (sub_goes r.phase sub));
+  loses = λ r within sub free p at on. again (record r { phase = Held; status = Some ABORTED_SQ_DELETION }) r refl refl refl (p at (sub_goes r.phase sub));
   collects = λ r p at on. absurd (true≢false (sym on));
 }
   where
@@ -167,7 +167,7 @@ follow_first d s reply g x = record {
   sends = λ adm id is on. absurd (not_sent d id x.other is);
   submits = λ y entry r is built found fits p at on. again (a.submitted r) r refl refl refl (subst (λ (z : DraftContents). IsOfDraft z r) (sym (drafts_same is)) (submits_of y r fits).0);
   reaps = λ q cid st request r is n status found w p at on. absurd (none is);
-  loses = λ k r is within same sub free only at on. absurd (only_drafted s d x r only at (sub_goes r.phase sub));
+  loses = λ r within sub free only at on. absurd (only_drafted s d x r only at (sub_goes r.phase sub));
   collects = λ r p at on. absurd (true≢false (sym on));
 }
   where

@@ -51,6 +51,7 @@ no_entry_on q cid other s e reply g far = record {
   makes_completion = λ at all. all;
   makes_submission = λ at all. tt;
   clears = λ at all. tt;
+  empties = (tt, tt);
   completes = λ c j head at is found all. all;
 }
   where

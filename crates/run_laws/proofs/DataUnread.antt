@@ -101,6 +101,7 @@ answers_on d s e none = record {
   makes_completion = λ at all. tt;
   makes_submission = λ at all. tt;
   clears = λ at all. all;
+  empties = (tt, tt);
   completes = λ cid j head at is found all. all_append (λ (an : Answer). an.cid ≡ d.cid → ⊥) at.answers (record { cid = cid; status = a.final_status s j; dw0 = j.dw0; sq_head = head } ∷ []) all ((λ same. no_job_at cid j found same), tt);
 }
   where
@@ -171,7 +172,7 @@ records_on d other s e reply g far h = record {
   sends = λ adm id is on. absurd (not_sent d id other is);
   submits = λ x entry r is built found fits p at on. absurd (submit_clash s d e reply g far x r is found at);
   reaps = λ q cid st request r is n status found w p at on. absurd (no_reap s d g.trusted h q cid r n found at);
-  loses = λ k r is within same sub free p at on.
+  loses = λ r within sub free p at on.
       let x = p at (sub_goes r.phase sub) in (
         again (record r { phase = Held; status = Some ABORTED_SQ_DELETION }) r refl refl refl x.0,
         record { stand = untouched_on s d e reply g h r within free at (sub_goes r.phase sub) x.0 x.1.stand; deleted = λ held. refl },
@@ -205,7 +206,7 @@ unread_first d s g x = record {
     record { stand = stand entry (ap (λ (z : DraftContents). z.entry) (drafts_same is) ∙ built); deleted = λ held. absurd (true≢false (sym held)) },
   );
   reaps = λ q cid st request r is n status found w p at on. absurd (none is);
-  loses = λ k r is within same sub free only at on. absurd (only_drafted s d x r only at (sub_goes r.phase sub));
+  loses = λ r within sub free only at on. absurd (only_drafted s d x r only at (sub_goes r.phase sub));
   collects = λ r p at on. absurd (true≢false (sym on));
 }
   where
@@ -225,7 +226,7 @@ unread_submit d s g =
     let none : total (sent d.q (λ n. one (n == d.cid))) s.host.records ≡ 0 = unsent s d g.stood.grounds x.command x.at (drafted_not x.command.phase x.drafted) in
     let no_jobs : AllByRecursion (λ (j : Job). j.q ≡ d.q → j.entry.cid ≡ d.cid → ⊥) s.device.jobs = no_job d.q d.cid (λ j. ⊥) s.device.jobs (omega (arith, g.stood.places d.q (λ n. one (n == d.cid)), none)) in
     record {
-      jobs = subst (AllByRecursion (λ (j : Job). j.q ≡ d.q → j.entry.cid ≡ d.cid → ⊥)) (sym (host_jobs s (events.Submit d) events.Accepted g.ok refl)) no_jobs;
+      jobs = subst (AllByRecursion (λ (j : Job). j.q ≡ d.q → j.entry.cid ≡ d.cid → ⊥)) (sym (host_jobs s (events.Submit d) events.Accepted g.ok refl refl)) no_jobs;
       answers = queues_event (λ at. at.answers) (λ (an : Answer). an.cid ≡ d.cid → ⊥) d.q s (events.Submit d) events.Accepted (answers_on d s (events.Submit d) no_jobs) g.ok g.stood
           (nobody (λ (an : Answer). an.cid) d.cid (λ an. ⊥) (answers_at s.device.queues d.q) (omega (arith, g.stood.places d.q (λ n. one (n == d.cid)), none)));
       records = records_event (λ r. is_at d.q d.cid r ≡ true → r ≡ x.command) (Waits d (a.after s (events.Submit d) events.Accepted)) s (events.Submit d) events.Accepted (unread_first d s g x) g.ok g.stood.grounds x.only;

@@ -4,7 +4,7 @@ use Rattle.std.specs.Option.{option_map_or, option_map}
 use Rattle.std.proofs.lemmas.Bool.{true≢false}
 use Rattle.std.proofs.lemmas.Bool.Decides.{nat_tests}
 use Rattle.queue_pair.specs.Slots.{distance, moved, is_full, is_in_range}
-use Rattle.queue_pair.specs.Rings.{next_tail, next_head, knowing}
+use Rattle.queue_pair.specs.Rings.{HostRing, next_tail, next_head, knowing}
 use Rattle.queue_pair.proofs.Order.{distance_below, distance_is}
 use Rattle.admin_commands.specs.Entries.{admin_entry, named_queue}
 use Rattle.admin_commands.specs.declared.AdminKind.TheVariants.{Abort, DeleteSq, DeleteCq}
@@ -45,6 +45,7 @@ use Rattle.queue_pair.specs.Rings.{fresh_host_ring}
 use Rattle.machine_model.proofs.Standing.{seen_trusted}
 use Rattle.machine_model.proofs.Members.{sent_found, all_at_found}
 use Rattle.machine_model.proofs.Along.{along_proper}
+use Rattle.machine_model.proofs.Emptied.{no_answers_at, no_unfetched}
 use Rattle.machine_model.proofs.Grounds.{Grounds, ring_in, pair_at}
 use Rattle.machine_model.proofs.Served.{Stood, answers_at}
 use Rattle.machine_model.proofs.PlacesKept.{ids_of}
@@ -146,6 +147,17 @@ fall_complete q cid s g h =
     rings : (queue : HostQueue) → host_queue s q ≡ Some queue → (queue.ring.known_head < s.entries) × (queue.ring.tail < s.entries)
     rings queue e = let r = ring_in s g q queue e in (r.known_head, r.tail)
 
+-- A reset leaves no answer and no entry
+
+reset_falls : (qs : List DeviceQueue) (q : ℕ) (at : DeviceQueue) (n : ℕ) (ring : HostRing) → slice_get (a.reset_device_queues qs) q ≡ Some at → FallsAt n ring at
+reset_falls qs q at n ring e = rw (answers, unfetched) (omega arith)
+  where
+    answers : at.answers ≡ []
+    answers = sym (ap (λ (o : Option DeviceQueue). option_map_or (λ at. at.answers) o []) e) ∙ no_answers_at qs q
+
+    unfetched : at.unfetched ≡ []
+    unfetched = sym (ap (λ (o : Option DeviceQueue). option_map_or (λ at. at.unfetched) o []) e) ∙ no_unfetched qs q
+
 -- Every event
 
 fall_host_event : (s : State) (e : Event) (reply : Reply) → Accepts s e reply → IsController e ≡ false → s.trusted ≡ true → Grounds s → Fall s → Fall (a.after s e reply)
@@ -183,6 +195,7 @@ fall_host_event s e reply ok c t g h =
           (fall_host_by s.entries q with_half s.host.queues s.device.queues (λ x at ex ea falls. fresh x at (served q queue x granted.there ex (ap in_service granted.state)) q ex ea) h);
       retires = λ q queue none at deleted. fall_host s.entries q a.retired s.host.queues s.device.queues (λ x. refl) h;
       forges = λ q slot bytes queue none at. h;
+      resets = λ q queue at eh eq. reset_falls s.device.queues q at s.entries queue.ring eq;
     })
   where
     -- an entry more, where the ring has room

@@ -1,5 +1,5 @@
 -- A submission queue that is in service at the host and absent at the controller was deleted: a Delete SQ of it was fetched since it was last
--- retired or asked for anew.
+-- retired or asked for anew, and since the controller was last reset.
 use Rattle.std.proofs.Common.{◌≡◌, ◌⊎◌, inl, inr, ℕ, ◌-◌, ◌%◌, ◌<◌, ◌==◌, Bool, true, false, ◌&&◌, ◌||◌, Option, Some, None, List, [], ◌∷◌, ◌++◌, length, drop, slice_get, is_some, if◌then◌else◌, refl, ap, sym, ◌∙◌, arith, subst, eqb-true, eq-eqb}
 use Rattle.std.specs.Option.{option_map_or}
 use Rattle.std.specs.List.{AllByRecursion, list_any}
@@ -20,7 +20,7 @@ use Rattle.machine_model.specs.declared.words.HostState.{HostState}
 use Rattle.machine_model.specs.declared.words.HostState.TheVariants.{Live, Deleting, Retired, Gone, MakingCq, HalfMade, MakingSq}
 use Rattle.machine_model.specs.Agreeing.{JobKnown, Knows}
 use Rattle.machine_model.specs.State.{State, HostQueue, DeviceQueue, Job}
-use Rattle.machine_model.specs.Step.{IsController, HostPart}
+use Rattle.machine_model.specs.Step.{IsController, HostPart, resets}
 use Rattle.machine_model.specs.Refusals.{host_queue, next_rung, job_at, is_live, is_deleting, is_deleted, is_half_made, is_asked, in_service}
 use Rattle.machine_model.specs.After as a
 use Rattle.machine_model.specs.After.{change}
@@ -34,7 +34,7 @@ use Rattle.machine_model.proofs.AwaitedKept.{asked_as_heard, ring_at}
 use Rattle.machine_model.proofs.Caused.{any_longer, any_last}
 use Rattle.machine_model.proofs.DeviceMoves.{answer_of, finished, cleared, clears, fetch_by, complete_by}
 use Rattle.machine_model.proofs.Heads.{changed_at}
-use Rattle.machine_model.proofs.JobsMove.{JobsMove}
+use Rattle.machine_model.proofs.JobsMove.{JobsMove, jobs_event}
 use Rattle.machine_model.proofs.Lists.{all_at}
 use Rattle.machine_model.proofs.Managed.{managed_by}
 use Rattle.machine_model.proofs.Members.{all_at_found}
@@ -43,6 +43,7 @@ use Rattle.machine_model.proofs.Owned.{HoldsPart}
 use Rattle.machine_model.proofs.Placed.{gone_at, is_job}
 use Rattle.machine_model.proofs.QueuesMove.{queues_walk}
 use Rattle.machine_model.proofs.Refused.{unrefused}
+use Rattle.machine_model.proofs.Resetting.{reset_state}
 use Rattle.machine_model.proofs.Served.{Stood}
 use Rattle.machine_model.proofs.Steps.{Accepts, part_controller}
 use Rattle.machine_model.proofs.Tied.{below}
@@ -107,9 +108,9 @@ deletion_asked s stood j known z is0 = let k = known z in of k.0 k.1 k.2
     of (CreateCq k n base) knows is = absurd (other (CreateCq k n base) refl is)
     of (CreateSq k n base) knows is = absurd (other (CreateSq k n base) refl is)
 
-deletion_stays : (s : State) (e : Event) (reply : Reply) → Accepts s e reply → Stood s → (k : ℕ) (j : Job) → slice_get s.device.jobs k ≡ Some j → j.q ≡ 0 → (j.entry.opcode == DELETE_IO_SQ) ≡ true
+deletion_stays : (s : State) (e : Event) (reply : Reply) → resets e ≡ false → Accepts s e reply → Stood s → (k : ℕ) (j : Job) → slice_get s.device.jobs k ≡ Some j → j.q ≡ 0 → (j.entry.opcode == DELETE_IO_SQ) ≡ true
     → renews_by (named_queue j.entry) e reply ≡ false
-deletion_stays s e reply ok stood k j at z is0 = by e reply ok
+deletion_stays s e reply other ok stood k j at z is0 = by e reply other ok
   where
     asked : asked_at s.host.queues (named_queue j.entry) ≡ true
     asked = deletion_asked s stood j (all_at (JobKnown s.host.records) s.device.jobs k j at stood.grounds.stands.1.placed.jobs) z is0
@@ -122,10 +123,11 @@ deletion_stays s e reply ok stood k j at z is0 = by e reply ok
     quiet_queue : (test : HostState → Bool) → ((st : HostState) → test st ≡ true → is_asked st ≡ false) → (n : ℕ) → option_map_or (λ x. test x.state) (host_queue s n) false ≡ true → (n == named_queue j.entry) ≡ false
     quiet_queue test quiet n is = ne_eqb n (named_queue j.entry) (λ e. apart test quiet (host_queue s n) is (subst (λ (m : ℕ). asked_at s.host.queues m ≡ true) (sym e) asked))
 
-    by : (e : Event) (reply : Reply) → Accepts s e reply → renews_by (named_queue j.entry) e reply ≡ false
-    by (events.Retire n) events.Accepted ok = quiet_queue is_deleted (λ st is. ap is_asked (deleted_is st is)) n (not-false _ (unrefused s (events.Retire n) ok.0).0)
-    by (events.CreateSq n) (events.Sent id) ok = quiet_queue is_half_made (λ st is. ap is_asked (half_made_is st is)) n (not-false _ (or_parts _ _ (unrefused s (events.CreateSq n) ok.0).1.0).0)
-    by e reply ok = refl
+    by : (e : Event) (reply : Reply) → resets e ≡ false → Accepts s e reply → renews_by (named_queue j.entry) e reply ≡ false
+    by (events.Retire n) events.Accepted other ok = quiet_queue is_deleted (λ st is. ap is_asked (deleted_is st is)) n (not-false _ (unrefused s (events.Retire n) ok.0).0)
+    by (events.CreateSq n) (events.Sent id) other ok = quiet_queue is_half_made (λ st is. ap is_asked (half_made_is st is)) n (not-false _ (or_parts _ _ (unrefused s (events.CreateSq n) ok.0).1.0).0)
+    by events.Reset reply other ok = absurd (true≢false other)
+    by e reply other ok = refl
 
 fetch_deletes : (s : State) (reply : Reply) (entry : SubEntry) → Accepts s (events.Fetch 0) reply → next_rung s 0 ≡ Some entry → (entry.opcode == DELETE_IO_SQ) ≡ true → deletes (named_queue entry) (made_of s (events.Fetch 0) reply) ≡ true
 fetch_deletes s (events.Fetched c touched) entry ok next is0 =
@@ -137,15 +139,23 @@ deletes_at : (s : State) (e : Event) (reply : Reply) (entry : SubEntry) → Acce
 deletes_at s e reply entry ok is next is0 =
     subst (λ (x : Event). deletes (named_queue entry) (made_of s x reply) ≡ true) (sym is) (fetch_deletes s reply entry (subst (λ (x : Event). Accepts s x reply) is ok) next is0)
 
-pub deletions_turn : (done : List Made) (s : State) (e : Event) (reply : Reply) → Accepts s e reply → Stood s → JobsMove (DeletionFetched done) (DeletionFetched (done ++ made_of s e reply ∷ [])) s e
-deletions_turn done s e reply ok stood = record {
-  stays = λ k j f far p z is0. deleted_longer (named_queue j.entry) done (made_of s e reply) (deletion_stays s e reply ok stood k j f z is0) (p z is0);
-  fails = λ k j st waiting f far lost none p z is0. deleted_longer (named_queue j.entry) done (made_of s e reply) (deletion_stays s e reply ok stood k j f z is0) (p z is0);
+deletions_turn : (done : List Made) (s : State) (e : Event) (reply : Reply) → resets e ≡ false → Accepts s e reply → Stood s → JobsMove (DeletionFetched done) (DeletionFetched (done ++ made_of s e reply ∷ [])) s e
+deletions_turn done s e reply other ok stood = record {
+  stays = λ k j f far p z is0. deleted_longer (named_queue j.entry) done (made_of s e reply) (deletion_stays s e reply other ok stood k j f z is0) (p z is0);
+  fails = λ k j st waiting f far lost none p z is0. deleted_longer (named_queue j.entry) done (made_of s e reply) (deletion_stays s e reply other ok stood k j f z is0) (p z is0);
   manages = λ entry st dw0 e' next free z is0.
       deleted_last (named_queue entry) done (made_of s e reply) (subst (λ (x : Event). renews_by (named_queue entry) x reply ≡ false) (sym e') refl) (deletes_at s e reply entry ok e' next is0);
-  begins = λ k entry e' next other free z is0. absurd (true≢false (sym (eq-eqb k 0 z) ∙ other));
+  begins = λ k entry e' next io free z is0. absurd (true≢false (sym (eq-eqb k 0 z) ∙ io));
   walks = λ k c j act e' w u p z is0. deleted_longer (named_queue j.entry) done (made_of s e reply) (subst (λ (x : Event). renews_by (named_queue j.entry) x reply ≡ false) (sym e') refl) (p z is0);
 }
+
+-- behind a reset there is no job
+pub deletions_on : (done : List Made) (s : State) (e : Event) (reply : Reply) → Accepts s e reply → Stood s → AllByRecursion (DeletionFetched done) s.device.jobs
+    → AllByRecursion (DeletionFetched (done ++ made_of s e reply ∷ [])) (a.after s e reply).device.jobs
+deletions_on done s events.Reset events.Accepted ok stood h = tt
+deletions_on done s events.Reset reply ok stood h = absurd ok.1
+deletions_on done s e reply ok stood h =
+    jobs_event (DeletionFetched done) (DeletionFetched (done ++ made_of s e reply ∷ [])) s e reply (deletions_turn done s e reply refl ok stood) ok stood h
 
 -- What is so of each absent queue of the controller, as one changes
 
@@ -190,34 +200,35 @@ absent_complete F s q cid told h =
     (absent_change F (named_queue j.entry) cleared s.device.queues (λ x ex no. told j at c) h))
     (λ j at c. absent_same F q (λ at. record at { answers = at.answers ++ answer_of q cid (a.final_status s j) j.dw0 (finished q cid j s) ∷ [] }) s.device.queues (λ at. refl) h)
 
-absent_host : (F : ℕ → Type 0) (s : State) (e : Event) (reply : Reply) → Accepts s e reply → IsController e ≡ false → AbsentSo F s.device.queues → AbsentSo F (a.after s e reply).device.queues
-absent_host F s e reply ok c h =
-    host_moves (λ (e : Event) (reply : Reply) (t : State). AbsentSo F t.device.queues) s e reply ok c
+absent_host : (F : ℕ → Type 0) (s : State) (e : Event) (reply : Reply) → Accepts s e reply → IsController e ≡ false → resets e ≡ false → AbsentSo F s.device.queues → AbsentSo F (a.after s e reply).device.queues
+absent_host F s e reply ok c other h =
+    host_moves (λ (e : Event) (reply : Reply) (t : State). resets e ≡ false → AbsentSo F t.device.queues) s e reply ok c
     (record {
-      reserves = λ q request d none is. h;
-      submits = λ d entry r none built its live. posts d.q entry;
-      cancels = λ d r its. h;
-      rings = λ q none. absent_same F q (λ at. record at { rung = length at.unfetched }) s.device.queues (λ at. refl) h;
-      rests = λ q is. h;
-      rejects = λ q why is. reaped q;
-      tells = λ q cid st what e r request t heard w. reaped q;
-      hears = λ q cid st what e r adm t heard w quiet unmade. reaped q;
-      notes = λ q cid st what e r k t heard w. reaped q;
-      frees = λ q cid st what e r k queue t heard w at alone good. reaped q;
-      makes_cq = λ q cid st what e r k n base t heard w good. reaped q;
-      unmakes_cq = λ q cid st what e r k n base queue t heard w at bad. reaped q;
-      makes_sq = λ q cid st what e r k n base t heard w good. reaped q;
-      unmakes_sq = λ q cid st what e r k n base queue t heard w at bad. reaped q;
-      collects = λ q cid r f at held is. h;
-      releases = λ f r its. h;
-      aborts = λ q cid id none new. posts 0 _;
-      asks = λ q id queue none new live. posts 0 _;
-      drops = λ q id none new. posts 0 _;
-      creates_cqs = λ q id first queue none new granted. posts 0 _;
-      creates_sqs = λ q id first queue none new granted. posts 0 _;
-      retires = λ q queue none at deleted. h;
-      forges = λ q slot bytes queue none at. h;
-    })
+      reserves = λ q request d none is other. h;
+      submits = λ d entry r none built its live other. posts d.q entry;
+      cancels = λ d r its other. h;
+      rings = λ q none other. absent_same F q (λ at. record at { rung = length at.unfetched }) s.device.queues (λ at. refl) h;
+      rests = λ q is other. h;
+      rejects = λ q why is other. reaped q;
+      tells = λ q cid st what e r request t heard w other. reaped q;
+      hears = λ q cid st what e r adm t heard w quiet unmade other. reaped q;
+      notes = λ q cid st what e r k t heard w other. reaped q;
+      frees = λ q cid st what e r k queue t heard w at alone good other. reaped q;
+      makes_cq = λ q cid st what e r k n base t heard w good other. reaped q;
+      unmakes_cq = λ q cid st what e r k n base queue t heard w at bad other. reaped q;
+      makes_sq = λ q cid st what e r k n base t heard w good other. reaped q;
+      unmakes_sq = λ q cid st what e r k n base queue t heard w at bad other. reaped q;
+      collects = λ q cid r f at held is other. h;
+      releases = λ f r its other. h;
+      aborts = λ q cid id none new other. posts 0 _;
+      asks = λ q id queue none new live other. posts 0 _;
+      drops = λ q id none new other. posts 0 _;
+      creates_cqs = λ q id first queue none new granted other. posts 0 _;
+      creates_sqs = λ q id first queue none new granted other. posts 0 _;
+      retires = λ q queue none at deleted other. h;
+      forges = λ q slot bytes queue none at other. h;
+      resets = λ other. absurd (true≢false other);
+    }) other
   where
     posts : (q : ℕ) (entry : SubEntry) → AbsentSo F (change q (λ at. record at { unfetched = at.unfetched ++ entry ∷ [] }) s.device.queues)
     posts q entry = absent_same F q (λ at. record at { unfetched = at.unfetched ++ entry ∷ [] }) s.device.queues (λ at. refl) h
@@ -225,15 +236,15 @@ absent_host F s e reply ok c h =
     reaped : (q : ℕ) → AbsentSo F (change q (λ at. record at { answers = drop 1 at.answers }) s.device.queues)
     reaped q = absent_same F q (λ at. record at { answers = drop 1 at.answers }) s.device.queues (λ at. refl) h
 
-absent_event : (F : ℕ → Type 0) (s : State) (e : Event) (reply : Reply) → Accepts s e reply → ((k cid : ℕ) (j : Job) → job_at s k cid ≡ Some j → clears s j ≡ true → F (named_queue j.entry))
+absent_event : (F : ℕ → Type 0) (s : State) (e : Event) (reply : Reply) → Accepts s e reply → resets e ≡ false → ((k cid : ℕ) (j : Job) → job_at s k cid ≡ Some j → clears s j ≡ true → F (named_queue j.entry))
     → AbsentSo F s.device.queues → AbsentSo F (a.after s e reply).device.queues
-absent_event F s (events.Fetch q) (events.Fetched c touched) ok told h = absent_fetch F s q h
-absent_event F s (events.Walk q cid) (events.Walked o touched) ok told h = subst (AbsentSo F) (sym (queues_walk s q cid)) h
-absent_event F s (events.Complete q cid) (events.Completed touched) ok told h = absent_complete F s q cid (told q cid) h
-absent_event F s (events.Fetch q) reply ok told h = absurd ok.1
-absent_event F s (events.Walk q cid) reply ok told h = absurd ok.1
-absent_event F s (events.Complete q cid) reply ok told h = absurd ok.1
-absent_event F s e reply ok told h = absent_host F s e reply ok refl h
+absent_event F s (events.Fetch q) (events.Fetched c touched) ok other told h = absent_fetch F s q h
+absent_event F s (events.Walk q cid) (events.Walked o touched) ok other told h = subst (AbsentSo F) (sym (queues_walk s q cid)) h
+absent_event F s (events.Complete q cid) (events.Completed touched) ok other told h = absent_complete F s q cid (told q cid) h
+absent_event F s (events.Fetch q) reply ok other told h = absurd ok.1
+absent_event F s (events.Walk q cid) reply ok other told h = absurd ok.1
+absent_event F s (events.Complete q cid) reply ok other told h = absurd ok.1
+absent_event F s e reply ok other told h = absent_host F s e reply ok refl other h
 
 -- Queues of the host whose deletion was asked for: they were in service before, and the event does not renew them
 
@@ -260,6 +271,15 @@ not_changed k f hs past q y e deleting = go (changed_at k f hs q y e)
     go : ((k ≡ q) × ((x : HostQueue) × (slice_get hs q ≡ Some x) × (y ≡ f x))) ⊎ ((k ≡ q → ⊥) × (slice_get hs q ≡ Some y)) → (k == q) ≡ false
     go (inl (same, (x, ex, is))) = absurd (true≢false (sym deleting ∙ ap (λ (z : HostQueue). is_deleting z.state) is ∙ past x))
     go (inr (far, ex)) = ne_eqb k q far
+
+-- behind a reset there is none
+reset_deletes_none : (s : State) (q : ℕ) (y : HostQueue) → host_queue (a.after_reset s) q ≡ Some y → is_deleting y.state ≡ false
+reset_deletes_none s q y e = sym (ap (λ (o : Option HostQueue). option_map_or (λ x. is_deleting x.state) o false) e) ∙ reset_state is_deleting refl refl s.host.queues q
+
+no_reset : (s : State) (e : Event) (reply : Reply) → Accepts s e reply → (q : ℕ) (y : HostQueue) → host_queue (a.after s e reply) q ≡ Some y → is_deleting y.state ≡ true → resets e ≡ false
+no_reset s events.Reset events.Accepted ok q y e deleting = absurd (true≢false (sym deleting ∙ reset_deletes_none s q y e))
+no_reset s events.Reset reply ok q y e deleting = absurd ok.1
+no_reset s e reply ok q y ey deleting = refl
 
 serves_deleting : (st : HostState) → is_deleting st ≡ true → in_service st ≡ true
 serves_deleting Live e = refl
@@ -317,6 +337,7 @@ serving_host s e reply ok c holds =
         not_changed q a.retired s.host.queues (λ x. refl) n y ey deleting,
       );
       forges = λ q slot bytes queue none at n y ey deleting. (own n y ey deleting, refl);
+      resets = λ n y ey deleting. absurd (true≢false (sym deleting ∙ reset_deletes_none s n y ey));
     })
   where
     own : Serving s s.host.queues
@@ -350,8 +371,9 @@ GoneTold done hs qs = (q : ℕ) (x : HostQueue) (at : DeviceQueue) → slice_get
 pub gone_on : (done : List Made) (s : State) (e : Event) (reply : Reply) → Accepts s e reply → Stood s → Stood (a.after s e reply) → AllByRecursion (DeletionFetched done) s.device.jobs → GoneTold done s.host.queues s.device.queues
     → GoneTold (done ++ made_of s e reply ∷ []) (a.after s e reply).host.queues (a.after s e reply).device.queues
 gone_on done s e reply ok stood stood' jobs h q y at ey serves eat absent =
-    let before = serving_event s e reply ok stood.grounds.stands.0 q y ey (deleting (is_live y.state) refl) in
-    let so = absent_event (λ k. (x : HostQueue) → host_queue s k ≡ Some x → in_service x.state ≡ true → DeletedSince k done) s e reply ok
+    let left = deleting (is_live y.state) refl in
+    let before = serving_event s e reply ok stood.grounds.stands.0 q y ey left in
+    let so = absent_event (λ k. (x : HostQueue) → host_queue s k ≡ Some x → in_service x.state ≡ true → DeletedSince k done) s e reply ok (no_reset s e reply ok q y ey left)
     (λ k cid j found c x ex serves. fetched k cid j found c) (λ k at' e' absent' x ex serves'. h k x at' ex serves' e' absent') q at eat absent in
     deleted_longer q done (made_of s e reply) before.1 (so before.0.0 before.0.1 before.0.2)
   where

@@ -33,7 +33,7 @@ use Rattle.machine_model.proofs.TiedReap.{told_entry}
 use Rattle.machine_model.proofs.Out.{named, status_in}
 use Rattle.machine_model.proofs.Members.{all_at_found}
 use Rattle.machine_model.proofs.PlacesKept.{reaped_answer, ids_of}
-use Rattle.run_laws.specs.Ends.{retires_by, WasCompleted, WasLost, CauseOfEnd, Succeeded, Aborted, Stopped, Lost, PastImage, Differed, ends_come_from_completions, retired_queues_were_deleted, collects_tell_how_commands_ended, every_collect_has_its_cause}
+use Rattle.run_laws.specs.Ends.{retires_by, WasCompleted, WasLost, WasLostByReset, CauseOfEnd, Succeeded, Aborted, Stopped, Lost, LostByReset, PastImage, Differed, ends_come_from_completions, retired_queues_were_deleted, collects_tell_how_commands_ended, every_collect_has_its_cause}
 use Rattle.machine_model.proofs.Along.{Before, keeps, run_before}
 use Rattle.machine_model.proofs.EveryStatus.{positive}
 use Rattle.machine_model.proofs.Steps.{permitted}
@@ -149,7 +149,7 @@ runs_tell_ends image earlier later m end q cid f run is_event is_reply = go told
     told : CollectTold earlier q cid f.status
     told = collect_at image earlier later m end q cid f run is_event is_reply
 
-    go : EndedIn earlier q cid f.status → WasCompleted earlier q cid f.status ⊎ WasLost earlier q cid f.status
+    go : EndedIn earlier q cid f.status → WasCompleted earlier q cid f.status ⊎ WasLost earlier q cid f.status ⊎ WasLostByReset earlier q cid f.status
     go (inl c) = inl (with_cause image earlier later m end q cid f.status run (above q told.io) c)
     go (inr c) = inr c
 
@@ -178,6 +178,7 @@ one_of_five earlier q cid st c =
 pub runs_have_causes : every_collect_has_its_cause
 runs_have_causes image earlier later m end q cid f run is_event is_reply = go (runs_tell_ends image earlier later m end q cid f run is_event is_reply)
   where
-    go : WasCompleted earlier q cid f.status ⊎ WasLost earlier q cid f.status → CauseOfEnd earlier q cid f.status
+    go : WasCompleted earlier q cid f.status ⊎ WasLost earlier q cid f.status ⊎ WasLostByReset earlier q cid f.status → CauseOfEnd earlier q cid f.status
     go (inl c) = one_of_five earlier q cid f.status c
-    go (inr c) = Lost c
+    go (inr (inl c)) = Lost c
+    go (inr (inr c)) = LostByReset c

@@ -69,7 +69,7 @@ phases_turn test l q cid other s e reply ok far = record {
   reaps = λ k c st request r e' n status at w p is.
       let sub = reaped_submitted s k c n in
       absurd (true≢false (sym (sent_in test l r.phase (subst (λ (x : Record). is_submitted x.phase ≡ true) (some_is (sym sub.1 ∙ at)) sub.2)) ∙ p is));
-  loses = λ k r e' within rq sub far p is. absurd (true≢false (sym (sent_in test l r.phase sub) ∙ p is));
+  loses = λ r within sub far p is. absurd (true≢false (sym (sent_in test l r.phase sub) ∙ p is));
   collects = λ r p is. l.collected;
 }
 

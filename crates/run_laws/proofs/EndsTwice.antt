@@ -1,22 +1,25 @@
--- Between two reaps that answer a command, and between two collects of it, it was submitted anew.
-use Rattle.std.proofs.Common.{◌≡◌, ℕ, ◌==◌, Bool, true, false, not, ◌||◌, Option, Some, None, List, [], ◌∷◌, ◌++◌, option_and_then, refl, ap, sym, ◌∙◌, subst, eq-eqb}
+-- Between two reaps that answer a command, between two collects of it, and between two steps that end it while it is submitted, it was
+-- submitted anew.
+use Rattle.std.proofs.Common.{◌≡◌, ℕ, ◌==◌, Bool, true, false, not, ◌&&◌, ◌||◌, Option, Some, None, List, [], ◌∷◌, ◌++◌, map, option_and_then, if◌then◌else◌, refl, ap, sym, ◌∙◌, subst, eqb-true, eq-eqb}
 use Rattle.std.specs.Option.{option_map, option_map_or}
 use Rattle.std.specs.List.{AllByRecursion, list_any}
-use Rattle.std.proofs.lemmas.Bool.{true≢false, not-false}
+use Rattle.std.proofs.lemmas.Bool.{true≢false, and_parts, not-false}
 use Rattle.std.proofs.lemmas.List.{append_assoc}
 use Rattle.entry_codec.specs.declared.status.Status.{Status}
+use Rattle.entry_codec.specs.declared.status.TheConstants.Status.{ABORTED_SQ_DELETION}
 use Rattle.io_commands.specs.Values.{FinishedContents}
 use Rattle.machine_model.specs.Work.{Work}
 use Rattle.machine_model.specs.declared.words.Work.TheVariants.{Io, Management}
 use Rattle.machine_model.specs.declared.words.Phase.{Phase}
+use Rattle.machine_model.specs.declared.words.Phase.TheVariants.{Held}
 use Rattle.machine_model.specs.declared.words.Refusal.{Refusal}
 use Rattle.machine_model.specs.declared.words.Refusal.TheVariants as refusal
 use Rattle.machine_model.specs.declared.words.Reaped.TheVariants.{Done}
 use Rattle.machine_model.specs.Claims.{OwnsFit}
 use Rattle.machine_model.specs.Memory.{without_pages}
 use Rattle.machine_model.specs.Opening.{opening}
-use Rattle.machine_model.specs.State.{State, Record, is_at, record_at, pages_of, with_record}
-use Rattle.machine_model.specs.Refusals.{is_submitted, is_held, record_is, seen_entry}
+use Rattle.machine_model.specs.State.{State, HostQueue, Record, is_at, record_at, pages_of, with_record}
+use Rattle.machine_model.specs.Refusals.{is_submitted, is_held, record_is, seen_entry, host_queue}
 use Rattle.machine_model.specs.Step.{Step, finished_from, asked_by, pages_with_bytes, reaped}
 use Rattle.machine_model.specs.After as a
 use Rattle.machine_model.specs.Events as events
@@ -27,11 +30,12 @@ use Rattle.machine_model.proofs.Steps.{Accepts}
 use Rattle.machine_model.proofs.Refused.{first_fails, found}
 use Rattle.machine_model.proofs.Out.{named, reaped_submitted}
 use Rattle.machine_model.proofs.Placed.{find_sound}
-use Rattle.machine_model.proofs.Members.{all_at_found}
+use Rattle.machine_model.proofs.Members.{all_at_found, all_of}
+use Rattle.machine_model.proofs.Resetting.{all_reset, lost_quiet}
 use Rattle.machine_model.proofs.Unforged.{Unforged, unforged_next, unforged_front, unforged_back, unforged_run}
 use Rattle.machine_model.proofs.Served.{Stood}
 use Rattle.machine_model.proofs.PlacesKept.{ids_of}
-use Rattle.run_laws.specs.Ends.{submits, ends_are_told_once, commands_are_collected_once}
+use Rattle.run_laws.specs.Ends.{submits, ends_by, ends_are_told_once, commands_are_collected_once, submitted_commands_end_once}
 use Rattle.machine_model.proofs.Along.{Before, keeps, cut, each_proper_step, trusted_step_by, before_step}
 use Rattle.machine_model.proofs.EveryStatus.{positive}
 use Rattle.machine_model.proofs.Steps.{permitted}
@@ -83,7 +87,7 @@ past_before test l q cid other between later second mid end steps u stood all =
 
 -- so it was submitted anew
 submitted_anew : (test : Phase → Bool) → IsLater test → (q cid : ℕ) → (q == 0) ≡ false → (first second : Made) (between later : List Made) (end : State) → (at : At first (between ++ second ∷ later) end)
-    → AllByRecursion (NotIn test q cid) at.mid.host.records → ((next : State) → Step second.before second.event second.reply next → second.before.trusted ≡ true → (r : Record) × (record_at second.before.host q cid ≡ Some r) × (test r.phase ≡ true))
+    → AllByRecursion (NotIn test q cid) at.mid.host.records → ((next : State) → Step second.before second.event second.reply next → second.before.trusted ≡ true → next.trusted ≡ true → (r : Record) × (record_at second.before.host q cid ≡ Some r) × (test r.phase ≡ true))
     → list_any (submits q cid) between ≡ true
 submitted_anew test l q cid other first second between later end at all finds = go (list_any (submits q cid) between) refl
   where
@@ -91,7 +95,7 @@ submitted_anew test l q cid other first second between later end at all finds = 
     go true e = e
     go false e =
         let b = past_before test l q cid other between later second at.mid end at.steps at.unforged at.fronted_mid.stood all in
-        let r = finds b.next b.step b.trusted in
+        let r = finds b.next b.step b.trusted b.trusted_next in
         let none = all_at_found (NotIn test q cid) (is_at q cid) second.before.host.records r.0 r.1 (b.holds.records e) (find_sound (is_at q cid) second.before.host.records r.0 r.1) in
         absurd (true≢false (sym r.2 ∙ none))
 
@@ -138,10 +142,74 @@ runs_tell_once image earlier first between second later end q cid st st' run io 
     let at = at_step image earlier first between later second end run in
     submitted_anew is_submitted submitted_later q cid (positive q io) first second between later end at
     (reaps_leave first at.mid q cid st at.step at.trusted at.unforged.trusted at.fronted.stood (positive q io) is_event is_reply)
-    (λ next step t.
+    (λ next step t u.
     let step' = subst (λ (r : Reply). Step second.before (events.Reap q) r next) is_reply' (subst (λ (e : Event). Step second.before e second.reply next) is_event' step) in
     let ok = permitted _ second.before.trusted true t step'.1 in
     reaped_submitted second.before q cid (ap named (sym ok.1)))
+
+-- Ending: a reap, a retirement or a reset
+
+-- behind it the command is submitted no more
+retire_leaves : (s : State) (q cid : ℕ) → AllByRecursion (NotIn is_submitted q cid) (a.after_retire q s).host.records
+retire_leaves s q cid = subst (AllByRecursion (NotIn is_submitted q cid)) (sym (records (host_queue s q))) (lost s.host.records)
+  where
+    records : (o : Option HostQueue)
+        → (option_map_or (λ queue. a.on_host_queue q a.retired (a.given_back queue.sq_pages (a.on_records (λ records. map (a.lost q) records) s))) o (a.on_records (λ records. map (a.lost q) records) s)).host.records ≡ map (a.lost q) s.host.records
+    records None = refl
+    records (Some queue) = refl
+
+    each : (r : Record) (b c : Bool) → (r.q == q) ≡ b → is_submitted r.phase ≡ c → NotIn is_submitted q cid (if b && c then record r { phase = Held; status = Some ABORTED_SQ_DELETION } else r)
+    each r true true its sub at = refl
+    each r true false its sub at = sub
+    each r false c its sub at = absurd (true≢false (sym (and_parts (r.q == q) (r.cid == cid) at).0 ∙ its))
+
+    lost : (rs : List Record) → AllByRecursion (NotIn is_submitted q cid) (map (a.lost q) rs)
+    lost [] = tt
+    lost (r ∷ rs) = (each r (r.q == q) (is_submitted r.phase) refl refl, lost rs)
+
+reset_leaves : (q cid : ℕ) (rs : List Record) → AllByRecursion (NotIn is_submitted q cid) (a.reset_records rs)
+reset_leaves q cid rs = all_reset (λ r. Unit {0}) (NotIn is_submitted q cid) (λ r io any at. lost_quiet r) rs (all_of (λ r. Unit {0}) rs (λ r within. tt))
+
+end_leaves : (s : State) (e : Event) (reply : Reply) (q cid : ℕ) → Accepts s e reply → Stood s → (q == 0) ≡ false → ends_by q cid s e reply ≡ true → AllByRecursion (NotIn is_submitted q cid) (a.after s e reply).host.records
+end_leaves s (events.Reap k) (events.Reaps (Done c st)) q cid ok stood other is =
+    let ids = and_parts (k == q) (c == cid) is in
+    subst (λ (n : ℕ). AllByRecursion (NotIn is_submitted n cid) (a.after_reap k (Done c st) s).host.records) (eqb-true k q ids.0)
+    (subst (λ (n : ℕ). AllByRecursion (NotIn is_submitted k n) (a.after_reap k (Done c st) s).host.records) (eqb-true c cid ids.1)
+    (reap_leaves s k c st stood (ap (λ (n : ℕ). n == 0) (eqb-true k q ids.0) ∙ other) (ap named (sym ok.1))))
+end_leaves s (events.Retire k) events.Accepted q cid ok stood other is =
+    subst (λ (n : ℕ). AllByRecursion (NotIn is_submitted n cid) (a.after_retire k s).host.records) (eqb-true k q (and_parts (k == q) (record_is (λ r. is_submitted r.phase) s q cid) is).0) (retire_leaves s k cid)
+end_leaves s events.Reset events.Accepted q cid ok stood other is = reset_leaves q cid s.host.records
+end_leaves s e reply q cid ok stood other is = absurd (true≢false (sym is))
+
+-- and before it, it was submitted
+end_finds : (s : State) (e : Event) (reply : Reply) (q cid : ℕ) → Accepts s e reply → ends_by q cid s e reply ≡ true → (r : Record) × (record_at s.host q cid ≡ Some r) × (is_submitted r.phase ≡ true)
+end_finds s (events.Reap k) (events.Reaps (Done c st)) q cid ok is =
+    let ids = and_parts (k == q) (c == cid) is in
+    let x = reaped_submitted s k c (ap named (sym ok.1)) in
+    (x.0, subst (λ (n : ℕ). record_at s.host n cid ≡ Some x.0) (eqb-true k q ids.0) (subst (λ (n : ℕ). record_at s.host k n ≡ Some x.0) (eqb-true c cid ids.1) x.1), x.2)
+end_finds s (events.Retire k) events.Accepted q cid ok is = found (λ r. is_submitted r.phase) s q cid (and_parts (k == q) (record_is (λ r. is_submitted r.phase) s q cid) is).1
+end_finds s events.Reset events.Accepted q cid ok is = found (λ r. is_submitted r.phase) s q cid is
+end_finds s e reply q cid ok is = absurd (true≢false (sym is))
+
+refusals_end_none : (s : State) (e : Event) (why : Refusal) (touched : List ℕ) (q cid : ℕ) → ends_by q cid s e (events.Refused why touched) ≡ false
+refusals_end_none s (events.Reap k) why touched q cid = refl
+refusals_end_none s (events.Retire k) why touched q cid = refl
+refusals_end_none s events.Reset why touched q cid = refl
+refusals_end_none s e why touched q cid = refl
+
+pub runs_end_once : submitted_commands_end_once
+runs_end_once image earlier first between second later end q cid run io ends ends' =
+    let at = at_step image earlier first between later second end run in
+    submitted_anew is_submitted submitted_later q cid (positive q io) first second between later end at
+    (trusted_step_by (λ (e : Event) (reply : Reply) (new : State). ends_by q cid first.before e reply ≡ true → AllByRecursion (NotIn is_submitted q cid) new.host.records) first.before
+    (λ e why touched is. absurd (true≢false (sym is ∙ refusals_end_none first.before e why touched q cid)))
+    (λ e reply proper ok is. end_leaves first.before e reply q cid ok at.fronted.stood (positive q io) is)
+    first.event first.reply at.mid at.step at.trusted at.unforged.trusted ends)
+    (λ next step t u.
+    trusted_step_by (λ (e : Event) (reply : Reply) (new : State). ends_by q cid second.before e reply ≡ true → (r : Record) × (record_at second.before.host q cid ≡ Some r) × (is_submitted r.phase ≡ true)) second.before
+    (λ e why touched is. absurd (true≢false (sym is ∙ refusals_end_none second.before e why touched q cid)))
+    (λ e reply proper ok is. end_finds second.before e reply q cid ok is)
+    second.event second.reply next step t u ends')
 
 -- Collecting
 
@@ -200,4 +268,4 @@ runs_collect_once image earlier first between second later end q cid f f' run is
     let step = subst (λ (r : Reply). Step first.before (events.Collect q cid) r at.mid) is_reply (subst (λ (e : Event). Step first.before e first.reply at.mid) is_event at.step) in
     submitted_anew lives lives_later q cid (collect_io first.before at.mid q cid f at.fronted.stood step at.trusted) first second between later end at
     (collects_leave first at.mid q cid f at.step at.trusted at.unforged.trusted is_event is_reply)
-    (λ next step t. collect_finds second.before next q cid f' (subst (λ (r : Reply). Step second.before (events.Collect q cid) r next) is_reply' (subst (λ (e : Event). Step second.before e second.reply next) is_event' step)) t)
+    (λ next step t u. collect_finds second.before next q cid f' (subst (λ (r : Reply). Step second.before (events.Collect q cid) r next) is_reply' (subst (λ (e : Event). Step second.before e second.reply next) is_event' step)) t)

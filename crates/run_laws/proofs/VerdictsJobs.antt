@@ -1,4 +1,4 @@
--- A job stays until it completes.
+-- A job stays until it completes, or the controller is reset.
 use Rattle.std.proofs.Common.{◌≡◌, ℕ, ◌+◌, ◌/◌, ◌%◌, ◌==◌, Bool, true, false, not, ◌&&◌, Option, Some, None, List, [], ◌∷◌, ◌++◌, map, filter, find, take, drop, is_some, is_none, if◌then◌else◌, refl, ap, sym, ◌∙◌, subst, eqb-true, eq-eqb}
 use Rattle.std.specs.Option.{option_map, option_map_or}
 use Rattle.std.proofs.lemmas.Bool.{true≢false, and_parts, not-true}
@@ -19,6 +19,7 @@ use Rattle.machine_model.specs.After as a
 use Rattle.machine_model.specs.Events as events
 use Rattle.machine_model.specs.Events.{Event, Reply}
 use Rattle.machine_model.specs.Laws.{status_by, forges_by}
+use Rattle.machine_model.specs.Step.{resets}
 use Rattle.machine_model.proofs.Managed.{managed_by}
 use Rattle.machine_model.proofs.Placing.{device-answered}
 use Rattle.machine_model.proofs.Placed.{is_job}
@@ -158,10 +159,10 @@ there_complete q cid k c s far h = go (job_at s k c)
 
 -- Every event
 
-there_event : (q cid : ℕ) (s : State) (e : Event) (reply : Reply) → Accepts s e reply → (job : Job) → job_at s q cid ≡ Some job → status_by s e reply q cid ≡ None → There q cid (a.after s e reply).device.jobs
-there_event q cid s (events.Fetch k) (events.Fetched c touched) ok job at none = there_fetch q cid k s (ap is_some at)
-there_event q cid s (events.Walk k c) (events.Walked o touched) ok job at none = there_walk q cid k c s (ap is_some at)
-there_event q cid s (events.Complete k c) (events.Completed touched) ok job at none = there_complete q cid k c s (go ((k == q) && (c == cid)) refl none) (ap is_some at)
+there_event : (q cid : ℕ) (s : State) (e : Event) (reply : Reply) → resets e ≡ false → Accepts s e reply → (job : Job) → job_at s q cid ≡ Some job → status_by s e reply q cid ≡ None → There q cid (a.after s e reply).device.jobs
+there_event q cid s (events.Fetch k) (events.Fetched c touched) other ok job at none = there_fetch q cid k s (ap is_some at)
+there_event q cid s (events.Walk k c) (events.Walked o touched) other ok job at none = there_walk q cid k c s (ap is_some at)
+there_event q cid s (events.Complete k c) (events.Completed touched) other ok job at none = there_complete q cid k c s (go ((k == q) && (c == cid)) refl none) (ap is_some at)
   where
     some_none : {x : Status} → Some x ≡ None → ⊥
     some_none e = cc
@@ -169,16 +170,16 @@ there_event q cid s (events.Complete k c) (events.Completed touched) ok job at n
     go : (b : Bool) → ((k == q) && (c == cid)) ≡ b → (if b then option_map (a.final_status s) (job_at s q cid) else None) ≡ None → ((k == q) && (c == cid)) ≡ false
     go true is none = absurd (some_none (sym (ap (option_map (a.final_status s)) at) ∙ none))
     go false is none = is
-there_event q cid s (events.Fetch k) reply ok job at none = absurd ok.1
-there_event q cid s (events.Walk k c) reply ok job at none = absurd ok.1
-there_event q cid s (events.Complete k c) reply ok job at none = absurd ok.1
-there_event q cid s e reply ok job at none = subst (There q cid) (sym (host_jobs s e reply ok refl)) (ap is_some at)
+there_event q cid s (events.Fetch k) reply other ok job at none = absurd ok.1
+there_event q cid s (events.Walk k c) reply other ok job at none = absurd ok.1
+there_event q cid s (events.Complete k c) reply other ok job at none = absurd ok.1
+there_event q cid s e reply other ok job at none = subst (There q cid) (sym (host_jobs s e reply ok refl other)) (ap is_some at)
 
 pub runs_keep_jobs : jobs_stay
-runs_keep_jobs image made old new e reply q cid job run step unforged at none =
-    trusted_step_by (λ (e : Event) (reply : Reply) (t : State). job_at old q cid ≡ Some job → status_by old e reply q cid ≡ None → There q cid t.device.jobs) old
-    (λ e why touched at none. ap is_some at) (λ e reply proper ok at none. there_event q cid old e reply ok job at none) e reply new step trusted
-    (stays_trusted old e reply new step (not-true (forges_by e reply) unforged) trusted) at none
+runs_keep_jobs image made old new e reply q cid job run step unforged other at none =
+    trusted_step_by (λ (e : Event) (reply : Reply) (t : State). resets e ≡ false → job_at old q cid ≡ Some job → status_by old e reply q cid ≡ None → There q cid t.device.jobs) old
+    (λ e why touched other at none. ap is_some at) (λ e reply proper ok other at none. there_event q cid old e reply other ok job at none) e reply new step trusted
+    (stays_trusted old e reply new step (not-true (forges_by e reply) unforged) trusted) (not-true (resets e) other) at none
   where
     trusted : old.trusted ≡ true
     trusted = trusted_end image made old run

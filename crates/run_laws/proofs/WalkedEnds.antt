@@ -2,7 +2,7 @@
 use Rattle.std.proofs.Common.{◌≡◌, ℕ, ◌+◌, ◌/◌, ◌%◌, ◌==◌, Bool, true, false, not, ◌&&◌, Option, Some, None, List, [], ◌∷◌, ◌++◌, map, filter, find, take, drop, is_some, is_none, MatchBool, if◌then◌else◌, refl, ap, sym, ◌∙◌, subst, eqb-true, eq-eqb}
 use Rattle.std.specs.Option.{option_map_or}
 use Rattle.std.specs.List.{list_any}
-use Rattle.std.proofs.lemmas.Bool.{true≢false, and_parts}
+use Rattle.std.proofs.lemmas.Bool.{true≢false, and_parts, or_parts}
 use Rattle.admin_commands.specs.Entries.{named_queue, named_command}
 use Rattle.admin_commands.specs.declared.SqState.TheVariants.{Absent}
 use Rattle.controller_walk.specs.Units.{Act, Stays, Reads, Moves}
@@ -20,7 +20,7 @@ use Rattle.machine_model.specs.State.{State, Device, Job}
 use Rattle.machine_model.specs.Refusals.{job_at, next_rung, conflicts}
 use Rattle.machine_model.specs.Opening.{opening}
 use Rattle.machine_model.specs.Laws.{Steps}
-use Rattle.machine_model.specs.Step.{Step, unit_answered}
+use Rattle.machine_model.specs.Step.{Step, resets, unit_answered}
 use Rattle.machine_model.specs.After as a
 use Rattle.machine_model.specs.Events as events
 use Rattle.machine_model.specs.Events.{Event, Reply}
@@ -34,7 +34,7 @@ use Rattle.machine_model.proofs.Placements.{in_hand}
 use Rattle.machine_model.proofs.CausedKept.{not_conflicting}
 use Rattle.machine_model.proofs.CommandsAll.{walking}
 use Rattle.machine_model.proofs.JobLaws.{stood_after}
-use Rattle.run_laws.specs.Walked.{is_more, HasJobSo, walks_go_on_without_a_verdict, walks_by, completes_by, completes, ends_walk_by, only_the_last_walk_ends}
+use Rattle.run_laws.specs.Walked.{is_more, HasJobSo, walks_go_on_without_a_verdict, walks_by, completes_by, ends_job, ends_walk_by, only_the_last_walk_ends}
 use Rattle.run_laws.proofs.DataAlong.{Going, stood_step, stood_along, along_steps}
 use Rattle.machine_model.proofs.Along.{cut}
 use Rattle.machine_model.proofs.Steps.{permitted}
@@ -224,20 +224,20 @@ no_walk s q cid outcome touched g h =
     let w = walking s q cid h.job g.ok.0 g.stood h.found in
     true≢false (sym h.over ∙ ap is_some w.verdict)
 
-decided_step : (q cid : ℕ) (s : State) (e : Event) (reply : Reply) → Going s e reply → completes_by q cid e reply ≡ false → Decided q cid s → Decided q cid (a.after s e reply)
-decided_step q cid s e (events.Refused why touched) g far h = h
-decided_step q cid s (events.Fetch n) reply g far h = of_list q cid (a.after_fetch n s) (fetch_decided s n g.stood q cid (decided_in q cid s h))
-decided_step q cid s (events.Walk k c) (events.Walked outcome touched) g far h = go ((k == q) && (c == cid)) refl
+decided_step : (q cid : ℕ) (s : State) (e : Event) (reply : Reply) → Going s e reply → completes_by q cid e reply ≡ false → resets e ≡ false → Decided q cid s → Decided q cid (a.after s e reply)
+decided_step q cid s e (events.Refused why touched) g far other h = h
+decided_step q cid s (events.Fetch n) reply g far other h = of_list q cid (a.after_fetch n s) (fetch_decided s n g.stood q cid (decided_in q cid s h))
+decided_step q cid s (events.Walk k c) (events.Walked outcome touched) g far other h = go ((k == q) && (c == cid)) refl
   where
     go : (b : Bool) → ((k == q) && (c == cid)) ≡ b → Decided q cid (a.after_walk k c s)
     go false e = of_list q cid (a.after_walk k c s) (walk_decided s k c q cid e (decided_in q cid s h))
     go true e =
         let ids = and_parts (k == q) (c == cid) e in
         absurd (no_walk s k c outcome touched g (subst (λ (n : ℕ). Decided n c s) (sym (eqb-true k q ids.0)) (subst (λ (n : ℕ). Decided q n s) (sym (eqb-true c cid ids.1)) h)))
-decided_step q cid s (events.Walk k c) reply g far h = absurd g.ok.1
-decided_step q cid s (events.Complete k c) (events.Completed touched) g far h = of_list q cid (a.after_complete k c s) (complete_decided s k c q cid far (decided_in q cid s h))
-decided_step q cid s (events.Complete k c) reply g far h = absurd g.ok.1
-decided_step q cid s e reply g far h = of_list q cid (a.after s e reply) (subst (DecidedIn q cid) (sym (host_jobs s e reply g.ok refl)) (decided_in q cid s h))
+decided_step q cid s (events.Walk k c) reply g far other h = absurd g.ok.1
+decided_step q cid s (events.Complete k c) (events.Completed touched) g far other h = of_list q cid (a.after_complete k c s) (complete_decided s k c q cid far (decided_in q cid s h))
+decided_step q cid s (events.Complete k c) reply g far other h = absurd g.ok.1
+decided_step q cid s e reply g far other h = of_list q cid (a.after s e reply) (subst (DecidedIn q cid) (sym (host_jobs s e reply g.ok refl other)) (decided_in q cid s h))
 
 -- What a walk step leaves its job
 
@@ -349,7 +349,7 @@ not_again s new e reply q cid step t stood is h =
     no_walk s q cid x.0 x.1 (record { proper = tt; ok = permitted _ s.trusted false t made.1; trusted = t; stood = stood }) h
 
 pub last_ends : only_the_last_walk_ends
-last_ends image before walked between again later end q cid run ends walks = go (list_any (completes q cid) between) refl
+last_ends image before walked between again later end q cid run ends walks = go (list_any (ends_job q cid) between) refl
   where
     s0 : State
     s0 = opening run.pages run.queues run.entries run.segment image
@@ -379,9 +379,9 @@ last_ends image before walked between again later end q cid run ends walks = go 
     stood_behind : Stood at_walked.2.1
     stood_behind = stood_step at_walked.0 walked.event walked.reply at_walked.2.1 at_walked.2.2 unforged_walked.trusted unforged_behind.trusted stood_walked
 
-    go : (b : Bool) → list_any (completes q cid) between ≡ b → b ≡ true
+    go : (b : Bool) → list_any (ends_job q cid) between ≡ b → b ≡ true
     go true e = refl
     go false e =
-        let kept = along_steps (Decided q cid) (completes q cid) (λ s e reply g far h. decided_step q cid s e reply g far h) between at_walked.2.1 at_again.0 at_walked.2.3 unforged_behind stood_behind e
+        let kept = along_steps (Decided q cid) (ends_job q cid) (λ s e reply g far h. let both = or_parts (completes_by q cid e reply) (resets e) far in decided_step q cid s e reply g both.0 both.1 h) between at_walked.2.1 at_again.0 at_walked.2.3 unforged_behind stood_behind e
         (ended at_walked.0 at_walked.2.1 walked.event walked.reply q cid at_walked.2.2 unforged_walked.trusted stood_walked ends) in
         absurd (not_again at_again.0 at_again.2.1 again.event again.reply q cid at_again.2.2 trusted_again kept.0 walks kept.1)

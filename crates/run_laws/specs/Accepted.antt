@@ -7,6 +7,7 @@ use Rattle.machine_model.specs.Refusals.{host_queue, is_held, refusal_of}
 use Rattle.machine_model.specs.InOrder.{IsInOrder}
 use Rattle.machine_model.specs.Opening.{opening, Opens}
 use Rattle.machine_model.specs.Proper.{IsProper}
+use Rattle.machine_model.specs.After.{after_reset}
 use Rattle.machine_model.specs.Step.{Step, IsController, asked_by}
 use Rattle.machine_model.specs.Events as events
 use Rattle.machine_model.specs.Events.{Event, Reply}
@@ -47,6 +48,18 @@ pub record IsAccepted (s : State) (e : Event) : Type 0 where
 abbrev pub every_event_is_accepted_or_has_a_cause : Type 0
 every_event_is_accepted_or_has_a_cause =
     (s : State) (e : Event) → IsReady s → IsProper e → IsTrue (s.trusted || not (IsController e)) → refusal_of s e ≡ None → IsAccepted s e
+
+-- A reset is never refused, whatever was forged: it is accepted in each state
+abbrev pub every_reset_is_accepted : Type 0
+every_reset_is_accepted = (s : State) → Step s events.Reset events.Accepted (after_reset s)
+
+-- and that is its one answer, which leaves one state
+pub record IsAcceptedReset (s : State) (reply : Reply) (new : State) : Type 0 where
+  pub accepted : reply ≡ events.Accepted
+  pub left : new ≡ after_reset s
+
+abbrev pub resets_have_one_answer : Type 0
+resets_have_one_answer = (s new : State) (reply : Reply) → Step s events.Reset reply new → IsAcceptedReset s reply new
 
 -- the queue of an event of the controller
 abbrev pub queue_of : Event → ℕ

@@ -1,5 +1,5 @@
 -- How commands end where nothing was forged: what a reap and a collect answer, and where that comes from.
-use Rattle.std.specs.Prelude.{◌≡◌, ◌⊎◌, ℕ, ◌==◌, nat_lt, Bool, false, ◌&&◌, not, IsTrue, Some, List, [], ◌∷◌, ◌++◌, if◌then◌else◌}
+use Rattle.std.specs.Prelude.{◌≡◌, ◌⊎◌, ℕ, ◌==◌, nat_lt, Bool, true, false, ◌&&◌, not, IsTrue, Some, List, [], ◌∷◌, ◌++◌, if◌then◌else◌}
 use Rattle.std.specs.List.{list_any}
 use Rattle.std.specs.Option.{option_map_or}
 use Rattle.entry_codec.specs.declared.status.Status.{Status}
@@ -9,7 +9,7 @@ use Rattle.machine_model.specs.State.{State, Answer}
 use Rattle.machine_model.specs.Refusals.{device_queue, conflicts, record_is, is_submitted}
 use Rattle.machine_model.specs.Step.{Step}
 use Rattle.machine_model.specs.Image.{Made}
-use Rattle.machine_model.specs.Laws.{TrustedRun, status_given, has_cause, since_fetch, aborts, deletes, passes_image, is_compare}
+use Rattle.machine_model.specs.Laws.{TrustedRun, is_reset, status_given, has_cause, since_fetch, aborts, deletes, passes_image, is_compare}
 use Rattle.machine_model.specs.Events as events
 use Rattle.machine_model.specs.Events.{Event, Reply}
 use Rattle.machine_model.specs.declared.words.Reaped.{Reaped}
@@ -47,16 +47,17 @@ retires_by q e reply = false
 abbrev pub retires : ℕ → Made → Bool
 retires q m = retires_by q m.event m.reply
 
--- A queue has another submission side once it is retired, and once it is asked for anew
+-- A queue has another submission side once it is retired, once it is asked for anew, and once the controller is reset
 abbrev pub renews_by : ℕ → Event → Reply → Bool
 renews_by q (events.Retire k) events.Accepted = k == q
 renews_by q (events.CreateSq k) (events.Sent id) = k == q
+renews_by q events.Reset events.Accepted = true
 renews_by q e reply = false
 
 abbrev pub renews : ℕ → Made → Bool
 renews q m = renews_by q m.event m.reply
 
--- the steps since then, and all of them where neither was
+-- the steps since then, and all of them where nothing of that was
 abbrev pub since_renewed : ℕ → List Made → List Made
 since_renewed q [] = []
 since_renewed q (m ∷ made) = if list_any (renews q) made then since_renewed q made else if renews q m then made else m ∷ made
@@ -84,31 +85,45 @@ pub record WasLost (earlier : List Made) (q cid : ℕ) (st : Status) : Type 0 wh
   pub since : IsTrue (not (list_any (submits q cid) between))
   pub deleted : IsTrue (list_any (deletes q) (since_renewed q before))
 
+-- A command was submitted as the controller was reset, and was not submitted anew since: it was lost
+pub record WasLostByReset (earlier : List Made) (q cid : ℕ) (st : Status) : Type 0 where
+  pub before : List Made
+  pub reset : Made
+  pub between : List Made
+  pub parts : earlier ≡ before ++ reset ∷ between
+  pub status : st ≡ ABORTED_SQ_DELETION
+  pub resets : IsTrue (is_reset reset)
+  pub submitted : IsTrue (record_is (λ r. is_submitted r.phase) reset.before q cid)
+  pub since : IsTrue (not (list_any (submits q cid) between))
+
 -- What a reap answers for a command of an I/O queue, its completion gave
 abbrev pub ends_come_from_completions : Type 0
 ends_come_from_completions =
     (image : List ℕ) (earlier later : List Made) (m : Made) (end : State) (q cid : ℕ) (st : Status) → TrustedRun image (earlier ++ m ∷ later) end
     → IsTrue (nat_lt 0 q) → m.event ≡ events.Reap q → m.reply ≡ events.Reaps (Done cid st) → WasCompleted earlier q cid st
 
--- A queue that is retired was deleted: a Delete SQ of it was fetched before, since it was last retired and since it was last asked for anew
+-- A queue that is retired was deleted: a Delete SQ of it was fetched before, since it was last retired, since it was last asked for anew, and
+-- since the controller was last reset
 abbrev pub retired_queues_were_deleted : Type 0
 retired_queues_were_deleted =
     (image : List ℕ) (earlier later : List Made) (m : Made) (end : State) (q : ℕ) → TrustedRun image (earlier ++ m ∷ later) end
     → IsTrue (retires q m) → IsTrue (list_any (deletes q) (since_renewed q earlier))
 
--- What a collect answers, the command's completion gave, or the command was lost
+-- What a collect answers, the command's completion gave, or the command was lost, with its queue or by a reset
 abbrev pub collects_tell_how_commands_ended : Type 0
 collects_tell_how_commands_ended =
     (image : List ℕ) (earlier later : List Made) (m : Made) (end : State) (q cid : ℕ) (f : FinishedContents) → TrustedRun image (earlier ++ m ∷ later) end
-    → m.event ≡ events.Collect q cid → m.reply ≡ events.Collects f → WasCompleted earlier q cid f.status ⊎ WasLost earlier q cid f.status
+    → m.event ≡ events.Collect q cid → m.reply ≡ events.Collects f → WasCompleted earlier q cid f.status ⊎ WasLost earlier q cid f.status ⊎ WasLostByReset earlier q cid f.status
 
 -- The five statuses of a command that was collected, each with its cause: it succeeded; an Abort of it, or a deletion of its queue, was
--- fetched while it was at the controller; it was lost with its queue; its blocks passed the image's end; a Compare found a difference
+-- fetched while it was at the controller; it was lost with its queue, or by a reset; its blocks passed the image's end; a Compare found a
+-- difference
 pub data CauseOfEnd (earlier : List Made) (q cid : ℕ) (st : Status) : Type 0 where
   Succeeded : WasCompleted earlier q cid st → st ≡ SUCCESS → CauseOfEnd earlier q cid st
   Aborted : (end : WasCompleted earlier q cid st) → st ≡ ABORT_REQUESTED → IsTrue (list_any (aborts q cid) (since_fetch q cid end.before)) → CauseOfEnd earlier q cid st
   Stopped : (end : WasCompleted earlier q cid st) → st ≡ ABORTED_SQ_DELETION → IsTrue (list_any (deletes q) (since_fetch q cid end.before)) → CauseOfEnd earlier q cid st
   Lost : WasLost earlier q cid st → CauseOfEnd earlier q cid st
+  LostByReset : WasLostByReset earlier q cid st → CauseOfEnd earlier q cid st
   PastImage : (end : WasCompleted earlier q cid st) → st ≡ LBA_OUT_OF_RANGE → IsTrue (passes_image end.completion q cid) → CauseOfEnd earlier q cid st
   Differed : (end : WasCompleted earlier q cid st) → st ≡ COMPARE_FAILURE → IsTrue (is_compare end.completion q cid) → CauseOfEnd earlier q cid st
 
@@ -138,3 +153,20 @@ commands_are_collected_once =
     → TrustedRun image (earlier ++ first ∷ between ++ second ∷ later) end
     → first.event ≡ events.Collect q cid → first.reply ≡ events.Collects f → second.event ≡ events.Collect q cid → second.reply ≡ events.Collects f'
     → IsTrue (list_any (submits q cid) between)
+
+-- A step ends a submitted command: a reap answers it, its queue is retired, or the controller is reset
+abbrev pub ends_by : ℕ → ℕ → State → Event → Reply → Bool
+ends_by q cid s (events.Reap k) (events.Reaps (Done c st)) = (k == q) && (c == cid)
+ends_by q cid s (events.Retire k) events.Accepted = (k == q) && record_is (λ r. is_submitted r.phase) s q cid
+ends_by q cid s events.Reset events.Accepted = record_is (λ r. is_submitted r.phase) s q cid
+ends_by q cid s e reply = false
+
+abbrev pub ends : ℕ → ℕ → Made → Bool
+ends q cid m = ends_by q cid m.before m.event m.reply
+
+-- and in one of these ways alone: between two such steps it was submitted anew
+abbrev pub submitted_commands_end_once : Type 0
+submitted_commands_end_once =
+    (image : List ℕ) (earlier : List Made) (first : Made) (between : List Made) (second : Made) (later : List Made) (end : State) (q cid : ℕ)
+    → TrustedRun image (earlier ++ first ∷ between ++ second ∷ later) end → IsTrue (nat_lt 0 q)
+    → IsTrue (ends q cid first) → IsTrue (ends q cid second) → IsTrue (list_any (submits q cid) between)

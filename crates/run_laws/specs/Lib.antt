@@ -5,4 +5,5 @@ pub mod Submitted
 pub mod Walked
 pub mod WorkedHeads
 pub mod WorkedRenewals
+pub mod WorkedResets
 pub mod Accepted

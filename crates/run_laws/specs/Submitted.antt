@@ -88,7 +88,7 @@ unfetched_commands_keep_their_data = (c : CollectedCommand) → IsTrue (not (was
 abbrev pub unfetched_commands_keep_the_drafts_bytes : Type 0
 unfetched_commands_keep_the_drafts_bytes = (c : CollectedCommand) → IsTrue (not (was_fetched c)) → bytes_collected c ≡ bytes_drafted c
 
--- its queue was deleted: no other status is given without a fetch
+-- its queue was deleted, or the controller reset: no other status is given without a fetch
 abbrev pub unfetched_commands_were_deleted : Type 0
 unfetched_commands_were_deleted = (c : CollectedCommand) → IsTrue (not (was_fetched c)) → c.finished.status ≡ ABORTED_SQ_DELETION
 

@@ -5,18 +5,18 @@ use Rattle.entry_codec.specs.declared.status.Status.{Status}
 use Rattle.entry_codec.specs.declared.status.TheConstants.Status.{SUCCESS, COMPARE_FAILURE}
 use Rattle.machine_model.specs.State.{State, Job}
 use Rattle.machine_model.specs.Refusals.{job_at}
-use Rattle.machine_model.specs.Step.{Step}
+use Rattle.machine_model.specs.Step.{Step, resets}
 use Rattle.machine_model.specs.Image.{Made}
 use Rattle.machine_model.specs.Laws.{TrustedRun, status_by, status_given, fetches, is_compare, forges_by}
 use Rattle.machine_model.specs.Events as events
 use Rattle.machine_model.specs.Events.{Event, Reply}
 use Rattle.machine_model.specs.declared.words.Refusal.TheVariants.{Nothing}
 
--- A job is there until it completes
+-- A job is there until it completes, or the controller is reset
 abbrev pub jobs_stay : Type 0
 jobs_stay =
     (image : List ℕ) (made : List Made) (old new : State) (e : Event) (reply : Reply) (q cid : ℕ) (job : Job)
-    → TrustedRun image made old → Step old e reply new → IsTrue (not (forges_by e reply))
+    → TrustedRun image made old → Step old e reply new → IsTrue (not (forges_by e reply)) → IsTrue (not (resets e))
     → job_at old q cid ≡ Some job → status_by old e reply q cid ≡ None → IsTrue (is_some (job_at new q cid))
 
 -- One that has a verdict keeps it as long: no Abort, no deletion and no walk gives it another, or moves its data on

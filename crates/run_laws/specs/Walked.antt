@@ -13,7 +13,7 @@ use Rattle.machine_model.specs.Status.{same_status}
 use Rattle.machine_model.specs.State.{State, Job}
 use Rattle.machine_model.specs.Refusals.{job_at}
 use Rattle.machine_model.specs.Image.{Made, draft_of}
-use Rattle.machine_model.specs.Laws.{TrustedRun, since_fetch, status_given, drafts_of, blocks_of_request}
+use Rattle.machine_model.specs.Laws.{TrustedRun, is_reset, since_fetch, status_given, drafts_of, blocks_of_request}
 use Rattle.machine_model.specs.Step.{Step}
 use Rattle.machine_model.specs.Events as events
 use Rattle.machine_model.specs.Events.{Event, Reply}
@@ -60,6 +60,10 @@ completes_by q cid e reply = false
 abbrev pub completes : ℕ → ℕ → Made → Bool
 completes q cid m = completes_by q cid m.event m.reply
 
+-- whether this command's job is there no more behind a step: it completes the command, or resets the controller
+abbrev pub ends_job : ℕ → ℕ → Made → Bool
+ends_job q cid m = completes q cid m || is_reset m
+
 abbrev pub ends_walk_by : ℕ → ℕ → Event → Reply → Bool
 ends_walk_by q cid (events.Walk q' cid') (events.Walked outcome touched) = (q' == q) && (cid' == cid) && not (is_more outcome)
 ends_walk_by q cid e reply = false
@@ -68,12 +72,12 @@ ends_walk_by q cid e reply = false
 abbrev pub ends_walk : ℕ → ℕ → Made → Bool
 ends_walk q cid m = ends_walk_by q cid m.event m.reply
 
--- between a walk step that ends the walk and a further walk step of its identifier, the command was completed
+-- between a walk step that ends the walk and a further walk step of its identifier, the command was completed, or the controller reset
 abbrev pub only_the_last_walk_ends : Type 0
 only_the_last_walk_ends =
     (image : List ℕ) (before : List Made) (walked : Made) (between : List Made) (again : Made) (later : List Made) (end : State) (q cid : ℕ)
     → TrustedRun image (before ++ walked ∷ between ++ again ∷ later) end
-    → IsTrue (ends_walk q cid walked) → IsTrue (walks_of q cid again) → IsTrue (list_any (completes q cid) between)
+    → IsTrue (ends_walk q cid walked) → IsTrue (walks_of q cid again) → IsTrue (list_any (ends_job q cid) between)
 
 -- a Compare, as its draft says, that ended by its data succeeds exactly where its blocks are then its draft's bytes
 abbrev pub compares_by_their_drafts : Type 0

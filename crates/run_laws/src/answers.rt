@@ -1,7 +1,7 @@
 //! What steps answer. Each function does nothing.
 
 ghost use Rattle.run_laws.specs.Walked.{units_done_count_the_walks, walks_go_on_without_a_verdict, only_the_last_walk_ends, compares_by_their_drafts, compare_failures_are_of_compares};
-ghost use Rattle.run_laws.specs.Accepted.{openings_are_ready, steps_keep_ready, every_event_is_accepted_or_has_a_cause, forged_worlds_accept_the_controller, forged_worlds_know_their_queues};
+ghost use Rattle.run_laws.specs.Accepted.{openings_are_ready, steps_keep_ready, every_event_is_accepted_or_has_a_cause, every_reset_is_accepted, resets_have_one_answer, forged_worlds_accept_the_controller, forged_worlds_know_their_queues};
 
 /// Where nothing was forged, a job of an I/O queue has done as many units as there were accepted walk steps of it since its
 /// fetch.
@@ -12,7 +12,7 @@ pub fn law_of_units()
 /// Where nothing was forged, a walk step answers that the walk goes on exactly where its job has no verdict then.
 ///
 /// Only the last walk step of a command answers an end or a fault: before a further one of its identifier the command was
-/// completed.
+/// completed, or the controller was reset.
 pub fn law_of_walks()
     ensures verdicts { walks_go_on_without_a_verdict }
     ensures ends { only_the_last_walk_ends }
@@ -36,10 +36,14 @@ pub fn law_of_ready_states()
 /// In a ready state an event that no cause refuses is accepted: want of memory alone can keep it back.
 ///
 /// So a free identifier and free pages exist wherever no cause says otherwise. That holds of the host's events whatever was forged,
-/// and of the controller's where nothing was. After a forged entry the causes don't decide on the controller: each of its events
-/// may be accepted, of a queue that the host has, and of no other.
+/// and of the controller's where nothing was. A reset is never refused, whatever was forged: it has one answer, and leaves one state.
+///
+/// After a forged entry the causes don't decide on the controller: each of its events may be accepted, of a queue that the host has,
+/// and of no other.
 pub fn law_of_acceptance()
     ensures events { every_event_is_accepted_or_has_a_cause }
+    ensures resets { every_reset_is_accepted }
+    ensures answer_of_resets { resets_have_one_answer }
     ensures forged { forged_worlds_accept_the_controller }
     ensures queues { forged_worlds_know_their_queues }
 {}

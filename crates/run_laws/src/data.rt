@@ -11,7 +11,7 @@ pub fn law_of_kept_commands()
 {}
 
 /// Where nothing was forged, a command that was never fetched comes back with its draft's data pages, byte for byte, and the
-/// status of a deleted queue. So one that ended with success was fetched.
+/// status of a deleted queue, which a reset gives too. So one that ended with success was fetched.
 ///
 /// The pages of a draft that was just reserved are zeros, and where they were submitted so, an unfetched command gathers zeros.
 pub fn law_of_unfetched_commands()

@@ -2,7 +2,8 @@
 //!
 //! There is no code here: each public function has an empty body, and its clauses are what is proved. In [`ends`] stands how commands
 //! end, in [`data`] what a command's pages and list hold between its submission and its collection, in [`answers`] what steps answer and
-//! which event is accepted. [`worked`], [`worked_heads`] and [`worked_renewals`] have whole runs, computed from the definitions.
+//! which event is accepted. [`worked`], [`worked_heads`], [`worked_renewals`] and [`worked_resets`] have whole runs, computed from the
+//! definitions.
 #![tactic(auto)]
 
 pub mod answers;
@@ -11,3 +12,4 @@ pub mod ends;
 pub mod worked;
 pub mod worked_heads;
 pub mod worked_renewals;
+pub mod worked_resets;
