@@ -1,12 +1,12 @@
 -- What a step of the host leaves, and why one is refused.
-use Rattle.std.proofs.Common.{◌≡◌, ◌&&◌, Bool, ℕ, ◌<◌, [], true, false, not, Some, None, MatchBool, refl, ap, sym, ◌∙◌, subst}
+use Rattle.std.proofs.Common.{◌≡◌, ◌&&◌, ◌||◌, Bool, ℕ, ◌<◌, [], true, false, not, Some, None, MatchBool, refl, ap, sym, ◌∙◌, subst}
 use Rattle.machine_model.specs.After.{after}
 use Rattle.machine_model.specs.Events as events
 use Rattle.machine_model.specs.Events.{Event, Reply}
 use Rattle.machine_model.specs.declared.words.Refusal.{Refusal}
 use Rattle.machine_model.specs.Refusals.{refusal_of}
 use Rattle.machine_model.specs.State.{State}
-use Rattle.machine_model.specs.Step.{IsController, HostPart, Leaves, LeavesByController, LeavesByHost, MayRefuse, Refuses, forges}
+use Rattle.machine_model.specs.Step.{IsController, HostPart, Leaves, LeavesByController, LeavesByHost, MayRefuse, Refuses, forges, resets}
 use Rattle.machine_model.specs.declared.words.Refusal.TheVariants as refusal
 use Rattle.page_memory.specs.Pages.{Pages}
 use Rattle.host_core.specs.Alone.{HostView, alone}
@@ -18,15 +18,16 @@ of_part part = record { entries = part.entries; segment = part.segment; host = p
 abbrev Just : State → HostView → Pages → Type 0
 Just next v pages = (v ≡ shown next) × (pages ≡ next.memory)
 
-by-leaving : (f c : Bool) (s next : State) (v : HostView) (pages : Pages) → c ≡ false
-    → MatchBool (not f && false) (alone v pages ≡ next) (MatchBool c (LeavesByController s next (alone v pages)) (LeavesByHost s next (alone v pages))) → Just next v pages
-by-leaving f true s next v pages e h = cc
-by-leaving true false s next v pages e h = (ap of_part h.part, h.memory)
-by-leaving false false s next v pages e h = (ap of_part h.part, h.memory)
+by-leaving : (r f c : Bool) (s next : State) (v : HostView) (pages : Pages) → c ≡ false
+    → MatchBool (r || (not f && false)) (alone v pages ≡ next) (MatchBool c (LeavesByController s next (alone v pages)) (LeavesByHost s next (alone v pages))) → Just next v pages
+by-leaving true f c s next v pages e h = (ap shown h, ap (λ (x : State). x.memory) h)
+by-leaving false f true s next v pages e h = cc
+by-leaving false true false s next v pages e h = (ap of_part h.part, h.memory)
+by-leaving false false false s next v pages e h = (ap of_part h.part, h.memory)
 
 just : (v v' : HostView) (pages pages' : Pages) (e : Event) (reply : Reply) → IsController e ≡ false → Leaves (alone v pages) e reply (alone v' pages') → Just (after (alone v pages) e reply) v' pages'
 just v v' pages pages' e (events.Refused why touched) c h = (ap shown h, ap (λ (s : State). s.memory) h)
-just v v' pages pages' e reply c h = by-leaving (forges e) (IsController e) (alone v pages) (after (alone v pages) e reply) v' pages' c h
+just v v' pages pages' e reply c h = by-leaving (resets e) (forges e) (IsController e) (alone v pages) (after (alone v pages) e reply) v' pages' c h
 
 pub leaves_just : LeavesJust
 leaves_just v v' pages pages' e reply c step = just v v' pages pages' e reply c step.2

@@ -5,8 +5,6 @@ use Rattle.std.specs.Option.{option_map, option_map_or}
 use Rattle.std.proofs.lemmas.Bool.{true≢false, cases_lt, ne_eqb}
 use Rattle.std.proofs.lemmas.Option.{slice_get-map, slice_get_within}
 use Rattle.machine_model.specs.Claims.{HasOneOwner}
-use Rattle.machine_model.specs.Refusals.{has_cq, has_sq}
-use Rattle.machine_model.specs.declared.words.HostState.{HostState}
 use Rattle.machine_model.specs.State.{Record}
 use Rattle.machine_model.specs.Step.{times}
 use Rattle.machine_model.proofs.Counting.{one}
@@ -21,17 +19,13 @@ use Rattle.page_ledger.specs.declared.owner.Role.{Role}
 use Rattle.page_memory.specs.declared.page.Half.{Half}
 use Rattle.page_memory.specs.declared.page.Half.TheVariants.{Submission, Completion}
 use Rattle.queue_pair.specs.Rings.{first_page_of}
-use Rattle.host_core.specs.Halves.{HasHalf}
+use Rattle.host_core.specs.Halves.{HasHalf, half_of, has_half}
 use Rattle.host_core.specs.Tables.{Tables, state_of, view_of, host_queue_of, sq_pages_of, cq_pages_of}
 use Rattle.host_core.specs.Whole.{IsHost, Tells, TellsCommand, TellsQueue}
 use Rattle.host_core.specs.Rows as declared
 use Rattle.host_core.proofs.Lists.{some_is, none_is_not}
 use Rattle.host_core.proofs.Owners.{command-owner, free-owner}
 use Rattle.host_core.proofs.Pages.{times-at, times-some}
-
-abbrev pub half_of : Half → declared.Queue → List ℕ
-half_of Submission x = sq_pages_of x
-half_of Completion x = cq_pages_of x
 
 -- the half of which a page is one
 record Stands (owners : List Owner) (queues : List declared.Queue) (first p : ℕ) : Type 0 where
@@ -88,9 +82,31 @@ self-half : (a : Half) → is_same_half a a ≡ true
 self-half Submission = refl
 self-half Completion = refl
 
-half-told : (owners : List Owner) (q : ℕ) (half : Half) (x : declared.Queue) → TellsQueue owners q x → (p : ℕ) → is_among (half_of half x) p ≡ true → owner_at owners p ≡ Some (Queue q half)
+pub half-told : (owners : List Owner) (q : ℕ) (half : Half) (x : declared.Queue) → TellsQueue owners q x → (p : ℕ) → is_among (half_of half x) p ≡ true → owner_at owners p ≡ Some (Queue q half)
 half-told owners q Submission x tells = tells.submission
 half-told owners q Completion x tells = tells.completion
+
+-- a page that the table gives to a half stands among the pages of that half
+pub half-standing : (t : Tables) (n : ℕ) → HasOneOwner n (view_of t).host → Tells t.owners t.queues t.records → (q : ℕ) (half : Half) (p : ℕ) → p < n → owner_at t.owners p ≡ Some (Queue q half)
+    → (x : declared.Queue) × (slice_get t.queues q ≡ Some x) × (is_among (half_of half x) p ≡ true)
+half-standing t n owned-by tells q half p l o = where-it-is (cases_lt 0 (times p (state_of t).host.free)) (cases_lt 0 (total (in_queue p) (state_of t).host.queues))
+  where
+    once : owned p (view_of t).host ≡ 1
+    once = sym (owned_is p (view_of t).host) ∙ (owned-by p ∙ ap one (lt-ltb p n l))
+
+    -- whoever has the page, the table tells it
+    where-it-is : (0 < times p (state_of t).host.free) ⊎ (times p (state_of t).host.free ≤ 0) → (0 < total (in_queue p) (state_of t).host.queues) ⊎ (total (in_queue p) (state_of t).host.queues ≤ 0)
+        → (x : declared.Queue) × (slice_get t.queues q ≡ Some x) × (is_among (half_of half x) p ≡ true)
+    where-it-is (inl f) c = let e : Queue q half ≡ Free = some_is (sym o ∙ free-owner t.owners p f) in absurd cc
+    where-it-is (inr f) (inl c) =
+        let s = half-at t.owners t.queues 0 p (λ k queue e. let same : k ≡ 0 + k = omega arith in subst (λ (j : ℕ). TellsQueue t.owners j queue) same (tells.queues_told k queue e)) c in
+        let e : Queue q half ≡ Queue (0 + s.place) s.half = some_is (sym o ∙ s.owner) in
+        let eh : s.half ≡ half = cc in
+        let eq : s.place ≡ q = let e' : q ≡ 0 + s.place = cc in omega (arith, e') in
+        (s.queue, ap (λ (j : ℕ). slice_get t.queues j) (sym eq) ∙ s.at, subst (λ (h : Half). is_among (half_of h s.queue) p ≡ true) eh s.among)
+    where-it-is (inr f) (inr c) =
+        let r = record-owner t.owners t.records tells.commands_told p (omega (arith, once)) in
+        let e : Queue q half ≡ Command r.0 r.1 r.2 = some_is (sym o ∙ r.3) in absurd cc
 
 pub half-owned : (t : Tables) (n : ℕ) → HasOneOwner n (view_of t).host → Tells t.owners t.queues t.records → (q : ℕ) (half : Half) (x : declared.Queue) → slice_get t.queues q ≡ Some x
     → OwnsHalf t.owners n q half x
@@ -99,30 +115,14 @@ half-owned t n owned-by tells q half x at p l = go (owner_at t.owners p) refl (i
     told : is_among (half_of half x) p ≡ true → owner_at t.owners p ≡ Some (Queue q half)
     told = half-told t.owners q half x (tells.queues_told q x at) p
 
-    once : owned p (view_of t).host ≡ 1
-    once = sym (owned_is p (view_of t).host) ∙ (owned-by p ∙ ap one (lt-ltb p n l))
-
     both : (u v : Bool) → u ≡ true → v ≡ true → (u && v) ≡ true
     both true v a b = b
     both false v a b = a
 
-    -- whoever has the page, the table tells it
     among : owner_at t.owners p ≡ Some (Queue q half) → is_among (half_of half x) p ≡ true
-    among o = where-it-is (cases_lt 0 (times p (state_of t).host.free)) (cases_lt 0 (total (in_queue p) (state_of t).host.queues))
-      where
-        where-it-is : (0 < times p (state_of t).host.free) ⊎ (times p (state_of t).host.free ≤ 0) → (0 < total (in_queue p) (state_of t).host.queues) ⊎ (total (in_queue p) (state_of t).host.queues ≤ 0)
-            → is_among (half_of half x) p ≡ true
-        where-it-is (inl f) c = let e : Queue q half ≡ Free = some_is (sym o ∙ free-owner t.owners p f) in absurd cc
-        where-it-is (inr f) (inl c) =
-            let s = half-at t.owners t.queues 0 p (λ k queue e. let same : k ≡ 0 + k = omega arith in subst (λ (j : ℕ). TellsQueue t.owners j queue) same (tells.queues_told k queue e)) c in
-            let e : Queue q half ≡ Queue (0 + s.place) s.half = some_is (sym o ∙ s.owner) in
-            let eh : s.half ≡ half = cc in
-            let eq : s.place ≡ q = let e' : q ≡ 0 + s.place = cc in omega (arith, e') in
-            let same : s.queue ≡ x = some_is (sym s.at ∙ (ap (λ (j : ℕ). slice_get t.queues j) eq ∙ at)) in
-            subst (λ (h : Half). is_among (half_of h x) p ≡ true) eh (subst (λ (y : declared.Queue). is_among (half_of s.half y) p ≡ true) same s.among)
-        where-it-is (inr f) (inr c) =
-            let r = record-owner t.owners t.records tells.commands_told p (omega (arith, once)) in
-            let e : Queue q half ≡ Command r.0 r.1 r.2 = some_is (sym o ∙ r.3) in absurd cc
+    among o =
+        let s = half-standing t n owned-by tells q half p l o in
+        subst (λ (y : declared.Queue). is_among (half_of half y) p ≡ true) (some_is (sym s.1 ∙ at)) s.2
 
     go : (o : Option Owner) → owner_at t.owners p ≡ o → (b : Bool) → is_among (half_of half x) p ≡ b → option_map_or (is_half q half) o false ≡ b
     go None o true e = absurd (none_is_not (sym o ∙ told e))
@@ -141,11 +141,7 @@ half-owned t n owned-by tells q half x at p l = go (owner_at t.owners p) refl (i
 
 -- A half that is there has the pages from its first on.
 
-abbrev pub has_half : Half → HostState → Bool
-has_half Submission state = has_sq state
-has_half Completion state = has_cq state
-
-half-from : (half : Half) (x : declared.Queue) → has_half half x.state ≡ true → half_of half x ≡ pages_from (first_page_of half x.host) (half_pages x.host.entries half)
+pub half-from : (half : Half) (x : declared.Queue) → has_half half x.state ≡ true → half_of half x ≡ pages_from (first_page_of half x.host) (half_pages x.host.entries half)
 half-from Submission x live = rw live refl
 half-from Completion x live = rw live refl
 

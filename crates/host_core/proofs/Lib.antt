@@ -42,4 +42,8 @@ pub mod Creations
 pub mod Calls
 pub mod Changing
 pub mod Sweeping
+pub mod ResetRecords
+pub mod ResetQueues
+pub mod ResetAdmin
+pub mod Resetting
 pub mod Exact

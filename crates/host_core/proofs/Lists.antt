@@ -63,6 +63,10 @@ all-at P [] i x e all = absurd (none_is_not e)
 all-at P (y ∷ xs) zero x e all = subst P (some_is e) all.0
 all-at P (y ∷ xs) (suc i) x e all = all-at P xs i x e all.1
 
+pub all-slots : {A : Type 0} (P : A → Type 0) (xs : List A) → ((i : ℕ) (x : A) → slice_get xs i ≡ Some x → P x) → AllByRecursion P xs
+all-slots P [] each = tt
+all-slots P (x ∷ xs) each = (each 0 x refl, all-slots P xs (λ i y at. each (suc i) y at))
+
 pub all-filter_by : {A : Type 0} (P Q : A → Type 0) (f : A → Bool) → ((x : A) → f x ≡ true → P x → Q x) → (xs : List A) → AllByRecursion P xs → AllByRecursion Q (filter f xs)
 all-filter_by P Q f more [] all = tt
 all-filter_by P Q f more (x ∷ xs) all = go (f x) refl (all-filter_by P Q f more xs all.1)

@@ -200,7 +200,7 @@ made-side Submission first x side =
       identifiers = omega (arith, length-replicate (x.host.entries - 1) false, side.least);
     }
 
-made-queue : (half : Half) (first n q : ℕ) (x : Queue) → IsQueue n q x → IsQueue n q (making half first x)
+pub made-queue : (half : Half) (first n q : ℕ) (x : Queue) → IsQueue n q x → IsQueue n q (making half first x)
 made-queue Completion first n q x is = record { number = is.number; entries = is.entries; host_side = made-side Completion first x is.host_side }
 made-queue Submission first n q x is = record { number = is.number; entries = is.entries; host_side = made-side Submission first x is.host_side }
 
@@ -215,7 +215,7 @@ made-claims : (half : Half) (first q : ℕ) (x : Queue) → (making half first x
 made-claims Completion first q x = refl
 made-claims Submission first q x = refl
 
-claims-none : (records : List Record) (q n : ℕ) → ((cid : ℕ) → is_outstanding records q cid ≡ false) → ClaimsIdentifiers records q (none_claimed n)
+pub claims-none : (records : List Record) (q n : ℕ) → ((cid : ℕ) → is_outstanding records q cid ≡ false) → ClaimsIdentifiers records q (none_claimed n)
 claims-none records q n none =
     record {
       told = λ cid l. replicate-at n cid (omega (arith, l, length-replicate n false)) ∙ ap Some (sym (none cid));
@@ -224,7 +224,7 @@ claims-none records q n none =
 
 -- What holds of the tables by themselves
 
-whole-zeros : (ps : List ℕ) → AllByRecursion (λ (page : ℕ × List ℕ). length page.1 ≡ 4096) (zeroed_pages ps)
+pub whole-zeros : (ps : List ℕ) → AllByRecursion (λ (page : ℕ × List ℕ). length page.1 ≡ 4096) (zeroed_pages ps)
 whole-zeros [] = tt
 whole-zeros (p ∷ ps) = (length-zero_page, whole-zeros ps)
 

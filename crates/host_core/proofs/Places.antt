@@ -63,7 +63,7 @@ any-found {A = A} test (y ∷ xs) h = go (test y) refl h (any-found test xs)
 at-own : (r : Record) → is_at r.q r.cid r ≡ true
 at-own r = ap₂ (λ (a b : Bool). a && b) (eq-eqb r.q r.q refl) (eq-eqb r.cid r.cid refl)
 
-queue-here : {A : Type 0} (xs : List A) (k : ℕ) → k < length xs → (x : A) × (slice_get xs k ≡ Some x)
+pub queue-here : {A : Type 0} (xs : List A) (k : ℕ) → k < length xs → (x : A) × (slice_get xs k ≡ Some x)
 queue-here [] k l = absurd (omega (arith, l))
 queue-here (x ∷ xs) zero l = (x, refl)
 queue-here (x ∷ xs) (suc k) l = queue-here xs k (omega (arith, l))

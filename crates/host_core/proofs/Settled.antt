@@ -149,7 +149,7 @@ settled-state t k state s new old =
 
 -- A queue of which a half is given back
 
-none-told : (owners : List Owner) (o : Owner) → HaveOwner owners o []
+pub none-told : (owners : List Owner) (o : Owner) → HaveOwner owners o []
 none-told owners o p h = cc
 
 gone-told : (owners : List Owner) (k : ℕ) (x : Queue) → TellsQueue owners k (with_state Gone x)

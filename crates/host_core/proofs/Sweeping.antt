@@ -1,14 +1,18 @@
 -- The commands of a queue that were never answered are lost, one identifier after the other.
-use Rattle.std.proofs.Common.{◌≡◌, ℕ, ◌+◌, ◌==◌, nat_lt, Bool, true, false, ◌&&◌, Some, List, [], ◌∷◌, map, if◌then◌else◌, refl, ap, ap₂, ◌∙◌, arith}
+use Rattle.std.proofs.Common.{◌≡◌, ℕ, ◌+◌, ◌-◌, ◌≤◌, ◌==◌, nat_lt, not, Bool, true, false, ◌&&◌, Some, List, [], ◌∷◌, length, map, if◌then◌else◌, refl, ap, ap₂, sym, ◌∙◌, arith, eq-eqb, lt-ltb}
 use Rattle.std.proofs.lemmas.Bool.Decides.{nat_tests}
 use Rattle.entry_codec.specs.declared.status.TheConstants.Status.{ABORTED_SQ_DELETION}
-use Rattle.machine_model.specs.After.{lost}
+use Rattle.machine_model.specs.After.{is_of_io, lost}
+use Rattle.machine_model.specs.Claims.{OwnsFit}
 use Rattle.machine_model.specs.Refusals.{is_submitted}
-use Rattle.machine_model.specs.State.{Record, is_at, with_record}
+use Rattle.machine_model.specs.State.{Record, is_at, pages_of, with_record}
+use Rattle.machine_model.specs.Work.{Work}
 use Rattle.machine_model.specs.declared.words.Phase.TheVariants.{Held}
+use Rattle.machine_model.specs.declared.words.Work.TheVariants.{Io, Management}
+use Rattle.host_core.specs.Resetting.{HasPlaces, IsPlaced}
 use Rattle.host_core.specs.Tables.{Tables}
-use Rattle.host_core.specs.Whole.{IsHost}
-use Rattle.host_core.proofs.Lists.{map-agree}
+use Rattle.host_core.specs.Whole.{IsHost, IsRecord}
+use Rattle.host_core.proofs.Lists.{all-at, all-slots, map-agree}
 use Rattle.host_core.proofs.Places.{record-inside}
 
 -- a record, lost if its identifier is below this one
@@ -73,9 +77,28 @@ one-lost q n [] = refl
 one-lost q n (r ∷ rs) = ap₂ (λ (x : Record) (xs : List Record). x ∷ xs) (next-lost q n r) (one-lost q n rs)
 
 -- each identifier lies below the last
-pub all-lost : (t : Tables) → IsHost t → (q n : ℕ) → n + 1 ≡ t.entries → map (lost_below n q) t.records ≡ map (lost q) t.records
+pub all-lost : (t : Tables) → HasPlaces t → (q n : ℕ) → t.entries - 1 ≤ n → map (lost_below n q) t.records ≡ map (lost q) t.records
 all-lost t h q n size =
     map-agree (lost_below n q) (lost q) t.records (λ i r at.
-    let inside = record-inside t h i r at in
-    let yes : nat_lt r.cid n ≡ true = grind (arith, nat_tests) in
+    let place = all-at (IsPlaced t.entries (length t.queues)) t.records i r at h.commands in
+    let yes : nat_lt r.cid n ≡ true = lt-ltb r.cid n (omega (arith, place.identifier, size)) in
     ap (λ b. if b then lost q r else r) yes)
+
+-- Each command of a host stands in its place.
+
+of-io : (q : ℕ) (w : Work) (pages : List ℕ) → OwnsFit q w pages → is_of_io w ≡ not (q == 0)
+of-io q (Io request) pages fit = ap not (sym fit)
+of-io q (Management kind) pages fit = ap not (sym (eq-eqb q 0 fit.0))
+
+pub places-of : (t : Tables) → IsHost t → HasPlaces t
+places-of t h =
+    record {
+      some_entries = omega (arith, h.limits.least_entries);
+      few_queues = h.limits.few_queues;
+      commands = all-slots (IsPlaced t.entries (length t.queues)) t.records (λ i r at.
+          record {
+            queue = (all-at (IsRecord (length t.queues)) t.records i r at h.table.records).queue;
+            identifier = record-inside t h i r at;
+            work = of-io r.q r.work (pages_of r) (all-at (λ (x : Record). OwnsFit x.q x.work (pages_of x)) t.records i r at h.sound.works_fit);
+          });
+    }

@@ -1,8 +1,9 @@
 -- The halves that a host gives back.
-use Rattle.std.specs.Prelude.{◌≡◌, ℕ, true, Some, slice_get}
+use Rattle.std.specs.Prelude.{◌≡◌, ℕ, Bool, true, Some, List, slice_get}
 use Rattle.admin_commands.specs.declared.AdminKind.{AdminKind}
 use Rattle.admin_commands.specs.declared.AdminKind.TheVariants.{Abort, DeleteSq, DeleteCq, CreateCq, CreateSq}
-use Rattle.machine_model.specs.Refusals.{has_cq_alone}
+use Rattle.machine_model.specs.Refusals.{has_cq, has_cq_alone, has_sq}
+use Rattle.machine_model.specs.declared.words.HostState.{HostState}
 use Rattle.page_ledger.specs.Lists.{ListsAll}
 use Rattle.page_ledger.specs.Owners.{is_half, pages_from}
 use Rattle.page_memory.specs.declared.page.Half.{Half}
@@ -11,7 +12,17 @@ use Rattle.queue_pair.specs.Memory.{half_pages}
 use Rattle.queue_pair.specs.Rings.{first_page_of}
 use Rattle.host_core.specs.Commands.{passes, state_at}
 use Rattle.host_core.specs.Rows.{Queue}
-use Rattle.host_core.specs.Tables.{Tables}
+use Rattle.host_core.specs.Tables.{Tables, cq_pages_of, sq_pages_of}
+
+-- whether the host has a half of a queue in this state
+abbrev pub has_half : Half → HostState → Bool
+has_half Submission state = has_sq state
+has_half Completion state = has_cq state
+
+-- the pages of a queue's half, and none where the host has not the half
+abbrev pub half_of : Half → Queue → List ℕ
+half_of Submission queue = sq_pages_of queue
+half_of Completion queue = cq_pages_of queue
 
 -- A queue's half is there: the pages from its first on are those that it owns.
 pub record HasHalf (t : Tables) (q : ℕ) (half : Half) : Type 0 where

@@ -11,6 +11,7 @@ pub mod Collecting
 pub mod Posting
 pub mod Reaping
 pub mod Retiring
+pub mod Resetting
 pub mod Ringing
 pub mod Looks
 pub mod Halves

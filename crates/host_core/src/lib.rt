@@ -31,6 +31,7 @@ mod record;
 mod records;
 mod refused;
 mod reserve;
+mod reset;
 mod retire;
 mod ring;
 mod send;

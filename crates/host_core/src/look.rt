@@ -67,8 +67,8 @@ impl<A: Allocator> Host<A> {
         }
     }
 
-    /// How an outstanding command ended: the status that a completion brought, or that it got as its queue was retired. The host keeps it
-    /// until the command is released. None where the command has not ended, or none is outstanding under this identifier.
+    /// How an outstanding command ended: the status that its record has. None where it has none, or no command is outstanding under this
+    /// identifier.
     pub fn status_of(&self, q: u16, cid: u16) -> Option<Status>
         ensures { result ≡ option_and_then (λ r. r.status) (record_at self.now.host q cid) }
     {

@@ -226,7 +226,8 @@ impl<A: Allocator> Parts<A> {
 }
 
 impl<A: Allocator> Host<A> {
-    /// Looks at the head of a queue's completion ring, and takes the completion there, if there is a new one.
+    /// Looks at the head of a queue's completion ring, and takes the completion there, if there is a new one (NVM Express Base
+    /// Specification 2.0, "Common Completion Queue Entry", section 3.3.3.2).
     ///
     /// What is found is `Empty` where there is none. A completion of a submitted command ends it: `Done` tells the identifier of an I/O
     /// command and how it ended, and its pages stay its own; `AdminDone` tells that of a command of queue 0, which is over. A
@@ -235,7 +236,7 @@ impl<A: Allocator> Host<A> {
     ///
     /// # Errors
     ///
-    /// `NoQueue` where there is no such queue, or its completion half was given back. Then nothing changed.
+    /// `NoQueue` where there is no such queue, or its completion half was given back and the queue is not made again. Then nothing changed.
     pub fn reap(&mut self, store: &mut Store<A>, q: u16) -> Result<Reap, Refusal>
         requires { IsOver self.old store.old.pages }
         ensures step { HostStep self.old store.old.pages (events.Reap q) (reap_reply result) self.new store.new.pages }

@@ -102,7 +102,7 @@ impl<A: Allocator> Record<A> {
         self.status = Some(status);
     }
 
-    /// Ends it, where it was never answered.
+    /// Ends it, where no completion did.
     pub(crate) fn lose(&mut self)
         ensures { (q cid : ℕ) → record_of q cid self.new ≡ lost q (record_of q cid self.old) }
     {

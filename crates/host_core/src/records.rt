@@ -70,7 +70,7 @@ impl<A: Allocator> Parts<A> {
         }
     }
 
-    /// Ends a command, where it was never answered.
+    /// Ends a command, where no completion did.
     pub(crate) fn lose(&mut self, q: u16, cid: u16)
         ensures { Becomes self.old (λ t. record t { records = with_record q cid (lost q) t.records }) self.new }
     {

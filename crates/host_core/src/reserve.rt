@@ -129,11 +129,11 @@ impl<A: Allocator + Copy> Host<A> {
     ///
     /// # Errors
     ///
-    /// The request is handed back, and nothing changed. 1. `NoQueue` for queue 0, an unknown queue, and one whose
-    /// submission half was given back. 2. `Deleting` where it is being deleted. 3. `Bad` for the first fault of the request.
-    /// 4. `NoIdentifier` where each identifier of the queue is outstanding. 5. `NoPages` where too few pages are free: `need` is
-    /// what this placement takes, and where even the data has no room the fewest pages that the request could take.
-    /// 6. `Memory` where memory is refused.
+    /// The request is handed back, and nothing changed. 1. `NoQueue` for queue 0, an unknown queue, and one whose submission half was
+    /// given back and is not made again. 2. `Deleting` where it is being deleted. 3. `Bad` for the first fault of the request.
+    /// 4. `NoIdentifier` where each identifier of the queue is outstanding. 5. `NoPages` where too few pages are free: `need` is what
+    /// this placement takes, and where even the data has no room the fewest pages that the request could take. 6. `Memory` where memory
+    /// is refused.
     pub fn reserve(
         &mut self,
         store: &mut Store<A>,

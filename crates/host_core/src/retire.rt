@@ -7,6 +7,7 @@ ghost use Rattle.host_core.specs.Halves.{HasHalf};
 ghost use Rattle.host_core.specs.Parts.{tables_of, Becomes};
 ghost use Rattle.host_core.specs.Reaping.{lacks_completion, seen_at, without_submission};
 ghost use Rattle.host_core.specs.Replies.{ring_reply};
+ghost use Rattle.host_core.specs.Resetting.{HasPlaces};
 ghost use Rattle.host_core.specs.Retiring.{retired, with_lost};
 ghost use Rattle.host_core.specs.Whole.{IsHost, IsWhole};
 
@@ -33,9 +34,9 @@ impl<A: Allocator> Parts<A> {
         seen
     }
 
-    /// Ends the commands of a queue that were never answered.
-    fn lose_commands(&mut self, q: u16)
-        requires { IsHost (tables_of self.old []) }
+    /// Ends the commands of a queue that no completion ended.
+    pub(crate) fn lose_commands(&mut self, q: u16)
+        requires { HasPlaces (tables_of self.old []) }
         ensures { Becomes self.old (with_lost q) self.new }
     {
         for cid in 0..self.entries - 1 {
@@ -68,7 +69,7 @@ impl<A: Allocator> Parts<A> {
 }
 
 impl<A: Allocator> Host<A> {
-    /// Gives the submission half of a deleted queue back, and ends its commands that were never answered.
+    /// Gives the submission half of a deleted queue back, and ends its commands that no completion ended.
     ///
     /// Each of those is held with the status "Command Aborted due to SQ Deletion", as if its completion had been reaped; its pages
     /// stay its own until it is collected and released. The pages of the submission half are free, and the queue is retired.

@@ -13,12 +13,12 @@ use machine_model::words::Refusal;
 use std::alloc::Allocator;
 
 impl<A: Allocator> Host<A> {
-    /// The value to ring for a queue's submission tail doorbell: then the controller may fetch all that was submitted to it. The host
-    /// stays as it is.
+    /// The value to ring for a queue's submission tail doorbell (NVM Express over PCIe Transport Specification 1.0, "Doorbell registers",
+    /// section 3.1.2): then the controller may fetch all that was submitted to it. The host stays as it is.
     ///
     /// # Errors
     ///
-    /// `NoQueue` where there is no such queue, or its submission half was given back.
+    /// `NoQueue` where there is no such queue, or its submission half was given back and is not made again.
     pub fn ring(&self, q: u16) -> Result<u16, Refusal>
         ensures step { (pages : Pages) → HostStep self.now pages (events.Ring q) (ring_reply result) self.now pages }
         ensures tail { IfOk result (λ tail. tail_of self.now q ≡ Some tail) }

@@ -221,12 +221,13 @@ impl<A: Allocator + Copy> Host<A> {
         Ok(cid)
     }
 
-    /// Sends an Abort of a submitted command. It stands behind the tail of queue 0 under the identifier that is answered.
+    /// Sends an Abort of a submitted command (NVM Express Base Specification 2.0, "Abort command", section 5.1). It stands behind the
+    /// tail of queue 0 under the identifier that is answered, the lowest that is free.
     ///
     /// # Errors
     ///
-    /// Nothing changed. 1. `NoQueue` for queue 0, an unknown queue, and one whose submission half was given back. 2. `WrongState`
-    /// where it is being deleted. 3. `NoSuchCommand` where the queue has no submitted command of this identifier.
+    /// Nothing changed. 1. `NoQueue` for queue 0, an unknown queue, and one whose submission half was given back and is not made again.
+    /// 2. `WrongState` where it is being deleted. 3. `NoSuchCommand` where the queue has no submitted command of this identifier.
     /// 4. `NoIdentifier` where each identifier of queue 0 is outstanding. 5. `QueueFull` where the submission ring of queue 0 is full.
     pub fn abort(&mut self, store: &mut Store<A>, q: u16, cid: u16) -> Result<u16, Refusal>
         requires { IsOver self.old store.old.pages }
@@ -237,14 +238,15 @@ impl<A: Allocator + Copy> Host<A> {
         self.send(store, AdminKind::Abort { q, cid })
     }
 
-    /// Sends the deletion of a submission queue, which takes no more commands. It stands behind the tail of queue 0 under the
-    /// identifier that is answered.
+    /// Sends the deletion of a submission queue, which takes no more commands (NVM Express Base Specification 2.0, "Delete I/O
+    /// Submission Queue command", section 5.7). It stands behind the tail of queue 0 under the identifier that is answered, the lowest that
+    /// is free.
     ///
     /// # Errors
     ///
-    /// Nothing changed. 1. `NoQueue` for queue 0, an unknown queue, and one whose submission half was given back. 2. `WrongState`
-    /// where it is being deleted. 3. `NoIdentifier` where each identifier of queue 0 is outstanding. 4. `QueueFull` where the submission
-    /// ring of queue 0 is full.
+    /// Nothing changed. 1. `NoQueue` for queue 0, an unknown queue, and one whose submission half was given back and is not made again.
+    /// 2. `WrongState` where it is being deleted. 3. `NoIdentifier` where each identifier of queue 0 is outstanding. 4. `QueueFull` where
+    /// the submission ring of queue 0 is full.
     pub fn delete_sq(&mut self, store: &mut Store<A>, q: u16) -> Result<u16, Refusal>
         requires { IsOver self.old store.old.pages }
         ensures step { HostStep self.old store.old.pages (events.DeleteSq q) (send_reply result) self.new store.new.pages }
@@ -254,12 +256,14 @@ impl<A: Allocator + Copy> Host<A> {
         self.send(store, AdminKind::DeleteSq { q })
     }
 
-    /// Sends the deletion of a completion queue. It stands behind the tail of queue 0 under the identifier that is answered.
+    /// Sends the deletion of a completion queue (NVM Express Base Specification 2.0, "Delete I/O Completion Queue command", section 5.6).
+    /// It stands behind the tail of queue 0 under the identifier that is answered, the lowest that is free.
     ///
     /// # Errors
     ///
     /// Nothing changed. 1. `NoQueue` for queue 0, an unknown queue, and one whose completion half was given back. 2. `WrongState`
-    /// where its submission side is being deleted, or was given back with a deletion of its completion side outstanding.
+    /// where its submission side is being deleted or a half of it is being made, or it has its completion half alone and a deletion of
+    /// that is outstanding.
     /// 3. `NoIdentifier` where each identifier of queue 0 is outstanding. 4. `QueueFull` where the submission ring of queue 0 is full.
     pub fn delete_cq(&mut self, store: &mut Store<A>, q: u16) -> Result<u16, Refusal>
         requires { IsOver self.old store.old.pages }

@@ -61,8 +61,9 @@ impl<A: Allocator> Parts<A> {
 }
 
 impl<A: Allocator> Host<A> {
-    /// Submits a draft that is built: its pages come in with their bytes, and its entry stands behind the tail of its queue. The
-    /// controller may fetch it once the queue is rung. The ticket is the draft's.
+    /// Submits a draft that is built: its pages come in with their bytes, and its entry stands behind the tail of its queue (NVM
+    /// Express Base Specification 2.0, "Memory-based transport queue model", section 3.3.1). The controller may fetch it once the queue
+    /// is rung. The ticket is the draft's.
     ///
     /// # Errors
     ///

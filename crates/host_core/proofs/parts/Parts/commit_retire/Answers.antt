@@ -4,7 +4,12 @@ use Rattle.machine_model.specs.declared.words.HostState.TheVariants.{Retired}
 use Rattle.host_core.specs.Halves.{HasHalf}
 use Rattle.host_core.specs.Reaping.{without_submission}
 use Rattle.host_core.specs.Tables.{Tables}
+use Rattle.host_core.specs.Parts.{tables_of}
+use Rattle.host_core.proofs.Sweeping.{places-of}
 use Rattle.host_core.proofs.parts.Parts.commit_retire.Goals as goal
+
+pub lose_commands-requires : goal.lose_commands-requires
+lose_commands-requires g c = places-of (tables_of c.args.self.now []) c.requires.host
 
 pub give_back_submission-requires : goal.give_back_submission-requires
 give_back_submission-requires g c =

@@ -27,4 +27,4 @@ returns g c = λ pages.
     let t : Tables = tables_of c.args.self.now pages in
     c.loop-cid.invariant.swept pages
     ∙ ap (λ (rs : List Record). record t { records = rs })
-    (all-lost (tables_of c.args.self.now []) c.requires c.args.q c.loop-cid.cid (omega (arith, c.loop-cid-test.false, c.loop-cid.auto.cid-end, c.requires.limits.least_entries)))
+    (all-lost (tables_of c.args.self.now []) c.requires c.args.q c.loop-cid.cid (omega (arith, c.loop-cid-test.false)))

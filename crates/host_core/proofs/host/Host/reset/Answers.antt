@@ -1,0 +1,55 @@
+use Rattle.std.proofs.Common.{◌≡◌, ◌∙◌, [], ap, subst, sym}
+use Rattle.machine_model.specs.After.{after_reset}
+use Rattle.page_memory.specs.Pages.{Pages}
+use Rattle.host_core.specs.Alone.{HostView, alone}
+use Rattle.host_core.specs.Laws.{shown}
+use Rattle.host_core.specs.Parts.{tables_of}
+use Rattle.host_core.specs.Resetting.{tables_reset, with_io_queues_gone, with_records_reset, HasPlaces, ListHalves}
+use Rattle.host_core.specs.Tables.{Tables, view_of}
+use Rattle.host_core.specs.Whole.{IsWhole}
+use Rattle.host_core.proofs.Calls.{whole_at}
+use Rattle.host_core.proofs.Keeping.{host_of, over_of, over_pages}
+use Rattle.host_core.proofs.Resetting.{halves-renewed, places-renewed, view-reset, whole-reset}
+use Rattle.host_core.proofs.host.Host.reset.Goals as goal
+
+pub renew_admin-requires : goal.renew_admin-requires
+renew_admin-requires g c = whole_at (tables_of c.self.inside.parts []) c.args.self.now c.args.store.now.pages c.self.view_is c.self.invariant c.requires
+
+pub reset_commands-requires : goal.reset_commands-requires
+reset_commands-requires g c =
+    let t : Tables = tables_of c.self.inside.parts c.args.store.now.pages in
+    let w : IsWhole t = whole_at (tables_of c.self.inside.parts []) c.args.self.now c.args.store.now.pages c.self.view_is c.self.invariant c.requires in
+    subst HasPlaces (sym (ap (λ (u : Tables). over_pages u []) c.renew_admin.ensures)) (places-renewed t [] w)
+
+pub lose_queues-requires : goal.lose_queues-requires
+lose_queues-requires g c =
+    let t : Tables = tables_of c.self.inside.parts c.args.store.now.pages in
+    let w : IsWhole t = whole_at (tables_of c.self.inside.parts []) c.args.self.now c.args.store.now.pages c.self.view_is c.self.invariant c.requires in
+    subst ListHalves (sym (c.reset_commands.ensures [] ∙ ap (λ (u : Tables). with_records_reset (over_pages u [])) c.renew_admin.ensures)) (halves-renewed t [] w)
+
+pub invariant_of-self : goal.invariant_of-self
+invariant_of-self g c =
+    let pages : Pages = c.renew_admin.new.store.pages in
+    let t : Tables = tables_of c.self.inside.parts c.args.store.now.pages in
+    let w : IsWhole t = whole_at (tables_of c.self.inside.parts []) c.args.self.now c.args.store.now.pages c.self.view_is c.self.invariant c.requires in
+    let left : tables_of c.lose_queues.new.self pages ≡ tables_reset t =
+    c.lose_queues.ensures pages ∙ ap with_io_queues_gone (c.reset_commands.ensures pages ∙ ap with_records_reset c.renew_admin.ensures) in
+    host_of (tables_of c.lose_queues.new.self []) pages (subst IsWhole (sym left) (whole-reset t w))
+
+pub returns-clause-host : goal.returns-clause-host
+returns-clause-host g c =
+    let pages : Pages = c.renew_admin.new.store.pages in
+    let t : Tables = tables_of c.self.inside.parts c.args.store.now.pages in
+    let w : IsWhole t = whole_at (tables_of c.self.inside.parts []) c.args.self.now c.args.store.now.pages c.self.view_is c.self.invariant c.requires in
+    let left : tables_of c.lose_queues.new.self pages ≡ tables_reset t =
+    c.lose_queues.ensures pages ∙ ap with_io_queues_gone (c.reset_commands.ensures pages ∙ ap with_records_reset c.renew_admin.ensures) in
+    ap view_of left ∙ (view-reset t w ∙ ap (λ (v : HostView). shown (after_reset (alone v c.args.store.now.pages))) c.self.view_is)
+
+pub returns-clause-over : goal.returns-clause-over
+returns-clause-over g c =
+    let pages : Pages = c.renew_admin.new.store.pages in
+    let t : Tables = tables_of c.self.inside.parts c.args.store.now.pages in
+    let w : IsWhole t = whole_at (tables_of c.self.inside.parts []) c.args.self.now c.args.store.now.pages c.self.view_is c.self.invariant c.requires in
+    let left : tables_of c.lose_queues.new.self pages ≡ tables_reset t =
+    c.lose_queues.ensures pages ∙ ap with_io_queues_gone (c.reset_commands.ensures pages ∙ ap with_records_reset c.renew_admin.ensures) in
+    over_of (tables_of c.lose_queues.new.self pages) (subst IsWhole (sym left) (whole-reset t w))

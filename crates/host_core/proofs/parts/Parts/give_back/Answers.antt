@@ -1,0 +1,19 @@
+use Rattle.std.proofs.Common.{◌≡◌, ◌∙◌, [], List, ap, sym}
+use Rattle.std.proofs.lemmas.Option.{slice_get_within}
+use Rattle.page_ledger.specs.declared.owner.Owner.{Owner}
+use Rattle.host_core.specs.Halves.{has_half}
+use Rattle.host_core.specs.Parts.{tables_of}
+use Rattle.host_core.specs.Rows.{Queue}
+use Rattle.host_core.specs.Tables.{Tables}
+use Rattle.host_core.proofs.Lists.{some_is}
+use Rattle.host_core.proofs.QueueLists.{queue-at}
+use Rattle.host_core.proofs.ResetQueues.{half-absent}
+use Rattle.host_core.proofs.parts.Parts.give_back.Goals as goal
+
+pub returns-else-has_half : goal.returns-else-has_half
+returns-else-has_half g c = λ pages.
+    let t : Tables = tables_of c.args.self.now [] in
+    let inside = slice_get_within t.queues c.args.q c.requires.queue c.requires.at in
+    let is : c.requires.queue ≡ c.index-queue.result.now = some_is (sym c.requires.at ∙ queue-at t c.args.q c.from.result c.index-queue.result.now inside c.from.ensures c.index-queue.ensures) in
+    ap (λ (owners : List Owner). record (tables_of c.args.self.now pages) { owners = owners }) (sym (half-absent t c.args.q c.args.half c.requires
+    (ap (λ (x : Queue). has_half c.args.half x.state) is ∙ (sym c.has_half.ensures ∙ c.if-has_half.false))))
