@@ -25,7 +25,7 @@ use Rattle.machine_model.specs.Events.{Event, Reply}
 use Rattle.machine_model.specs.Memory.{with_pages, without_pages}
 use Rattle.machine_model.specs.Refusals.{has_cq_alone, host_queue, seen_entry, slot_page, slot_offset}
 use Rattle.machine_model.specs.State.{State, Device, HostQueue, record_at, with_record, without_record, pages_of}
-use Rattle.machine_model.specs.Step.{Answers, IsController, forges}
+use Rattle.machine_model.specs.Step.{Answers, IsController, forges, resets}
 use Rattle.page_memory.specs.Pages.{Pages, with_page_bytes}
 use Rattle.page_memory.specs.declared.page.Half.TheVariants.{Submission, Completion}
 use Rattle.queue_pair.specs.Rings.{next_tail, knowing}
@@ -143,43 +143,44 @@ abbrev pub SeesAlike : State → State → Event → Type 0
 SeesAlike t u (events.Reap q) = option_map head_of_entry (seen_entry t q) ≡ option_map head_of_entry (seen_entry u q)
 SeesAlike t u e = Unit {0}
 
-alike_after : (s : State) (d d' : Device) (b b' : Bool) (e : Event) (reply : Reply) → IsController e ≡ false → forges e ≡ false → SeesAlike (over s d b) (over s d' b') e → Answers (over s d' b') e reply
+alike_after : (s : State) (d d' : Device) (b b' : Bool) (e : Event) (reply : Reply) → IsController e ≡ false → forges e ≡ false → resets e ≡ false → SeesAlike (over s d b) (over s d' b') e → Answers (over s d' b') e reply
     → Alike b (a.after (over s d b) e reply) (a.after (over s d' b') e reply)
-alike_after s d d' b b' e (events.Refused why touched) c f sees ok = refl
-alike_after s d d' b b' (events.Reserve q r) (events.Reserved dr) c f sees ok = refl
-alike_after s d d' b b' (events.Submit dr) events.Accepted c f sees ok = alike-submit dr s d d' b b'
-alike_after s d d' b b' (events.Cancel dr) events.Accepted c f sees ok = refl
-alike_after s d d' b b' (events.Ring q) events.Accepted c f sees ok = refl
-alike_after s d d' b b' (events.Reap q) (events.Reaps what) c f sees ok = alike-reap q what s d d' b b' sees
-alike_after s d d' b b' (events.Collect q cid) (events.Collects fin) c f sees ok =
+alike_after s d d' b b' e (events.Refused why touched) c f z sees ok = refl
+alike_after s d d' b b' (events.Reserve q r) (events.Reserved dr) c f z sees ok = refl
+alike_after s d d' b b' (events.Submit dr) events.Accepted c f z sees ok = alike-submit dr s d d' b b'
+alike_after s d d' b b' (events.Cancel dr) events.Accepted c f z sees ok = refl
+alike_after s d d' b b' (events.Ring q) events.Accepted c f z sees ok = refl
+alike_after s d d' b b' (events.Reap q) (events.Reaps what) c f z sees ok = alike-reap q what s d d' b b' sees
+alike_after s d d' b b' (events.Collect q cid) (events.Collects fin) c f z sees ok =
     alike-option b (λ r. a.on_records (with_record q cid a.collected) (a.on_memory (without_pages (pages_of r)) (over s d b)))
     (λ r. a.on_records (with_record q cid a.collected) (a.on_memory (without_pages (pages_of r)) (over s d' b')))
     (record_at s.host q cid) (over s d b) (over s d' b') refl (λ r. refl)
-alike_after s d d' b b' (events.Release fin) events.Accepted c f sees ok = refl
-alike_after s d d' b b' (events.Abort q cid) (events.Sent id) c f sees ok = alike-sent (Abort q cid) id (admin_entry (Abort q cid) id) s d d' b b'
-alike_after s d d' b b' (events.DeleteSq q) (events.Sent id) c f sees ok = ap (with_queue q a.deleting) (alike-sent (DeleteSq q) id (admin_entry (DeleteSq q) id) s d d' b b')
-alike_after s d d' b b' (events.DeleteCq q) (events.Sent id) c f sees ok = alike-sent (DeleteCq q) id (admin_entry (DeleteCq q) id) s d d' b b'
-alike_after s d d' b b' (events.CreateCq q) (events.Sent id) c f sees ok =
+alike_after s d d' b b' (events.Release fin) events.Accepted c f z sees ok = refl
+alike_after s d d' b b' (events.Abort q cid) (events.Sent id) c f z sees ok = alike-sent (Abort q cid) id (admin_entry (Abort q cid) id) s d d' b b'
+alike_after s d d' b b' (events.DeleteSq q) (events.Sent id) c f z sees ok = ap (with_queue q a.deleting) (alike-sent (DeleteSq q) id (admin_entry (DeleteSq q) id) s d d' b b')
+alike_after s d d' b b' (events.DeleteCq q) (events.Sent id) c f z sees ok = alike-sent (DeleteCq q) id (admin_entry (DeleteCq q) id) s d d' b b'
+alike_after s d d' b b' (events.CreateCq q) (events.Sent id) c f z sees ok =
     let pages = a.half_run Completion s in
     let kind : AdminKind = CreateCq q s.entries (a.base_of pages) in
     alike-sent kind id (admin_entry kind id) (a.on_host_queue q (a.making_cq pages) (a.half_granted pages s)) d d' b b'
-alike_after s d d' b b' (events.CreateSq q) (events.Sent id) c f sees ok =
+alike_after s d d' b b' (events.CreateSq q) (events.Sent id) c f z sees ok =
     let pages = a.half_run Submission s in
     let kind : AdminKind = CreateSq q s.entries (a.base_of pages) in
     alike-sent kind id (admin_entry kind id) (a.on_host_queue q (a.making_sq pages) (a.half_granted pages s)) d d' b b'
-alike_after s d d' b b' (events.Retire q) events.Accepted c f sees ok =
+alike_after s d d' b b' (events.Retire q) events.Accepted c f z sees ok =
     let lost : State → State = λ t. a.on_records (λ records. map (a.lost q) records) t in
     alike-option b (λ queue. a.on_host_queue q a.retired (a.given_back queue.sq_pages (lost (over s d b))))
     (λ queue. a.on_host_queue q a.retired (a.given_back queue.sq_pages (lost (over s d' b'))))
     (host_queue s q) (lost (over s d b)) (lost (over s d' b')) refl (λ queue. refl)
-alike_after s d d' b b' (events.Forge q slot bytes) reply c f sees ok = absurd (true≢false f)
-alike_after s d d' b b' (events.Fetch q) reply c f sees ok = absurd (true≢false c)
-alike_after s d d' b b' (events.Walk q cid) reply c f sees ok = absurd (true≢false c)
-alike_after s d d' b b' (events.Complete q cid) reply c f sees ok = absurd (true≢false c)
-alike_after s d d' b b' e reply c f sees ok = absurd ok
+alike_after s d d' b b' (events.Forge q slot bytes) reply c f z sees ok = absurd (true≢false f)
+alike_after s d d' b b' events.Reset reply c f z sees ok = absurd (true≢false z)
+alike_after s d d' b b' (events.Fetch q) reply c f z sees ok = absurd (true≢false c)
+alike_after s d d' b b' (events.Walk q cid) reply c f z sees ok = absurd (true≢false c)
+alike_after s d d' b b' (events.Complete q cid) reply c f z sees ok = absurd (true≢false c)
+alike_after s d d' b b' e reply c f z sees ok = absurd ok
 
 -- So a state is known behind an event by what the host alone leaves, and by the controller's part.
-pub left_alike : (s : State) (e : Event) (reply : Reply) → IsController e ≡ false → forges e ≡ false → SeesAlike s (bare s) e → Answers (bare s) e reply
+pub left_alike : (s : State) (e : Event) (reply : Reply) → IsController e ≡ false → forges e ≡ false → resets e ≡ false → SeesAlike s (bare s) e → Answers (bare s) e reply
     → a.after s e reply ≡ record (a.after (bare s) e reply) { device = (a.after s e reply).device; trusted = s.trusted }
-left_alike s e reply c f sees ok =
-    ap (λ (x : Seen). record x.0 { device = (a.after s e reply).device; trusted = x.1 }) (alike_after s s.device nothing s.trusted false e reply c f sees ok)
+left_alike s e reply c f z sees ok =
+    ap (λ (x : Seen). record x.0 { device = (a.after s e reply).device; trusted = x.1 }) (alike_after s s.device nothing s.trusted false e reply c f z sees ok)

@@ -1,5 +1,5 @@
 -- What each event has to show, so that it is a step of the machine and leaves both sides tied.
-use Rattle.std.proofs.Common.{◌≡◌, ℕ, zero, suc, ◌≤◌, Bool, true, false, not, ◌&&◌, MatchBool, Option, Some, None, List, [], ◌∷◌, length, map, is_some, slice_get, refl, ap, ap₂, sym, ◌∙◌, subst}
+use Rattle.std.proofs.Common.{◌≡◌, ℕ, zero, suc, ◌≤◌, Bool, true, false, not, ◌&&◌, ◌||◌, MatchBool, Option, Some, None, List, [], ◌∷◌, length, map, is_some, slice_get, refl, ap, ap₂, sym, ◌∙◌, subst}
 use Rattle.std.specs.Option.{option_map, option_map_or}
 use Rattle.std.proofs.lemmas.Bool.{OnTrue_from, true≢false}
 use Rattle.block_image.specs.Blocks.{block_count}
@@ -18,7 +18,7 @@ use Rattle.machine_model.specs.Proper.{IsProper}
 use Rattle.machine_model.specs.Step as machine
 use Rattle.machine_model.specs.Refusals.{is_reaped, host_queue, refusal_of, seen_entry}
 use Rattle.machine_model.specs.State.{State, Device, HostQueue}
-use Rattle.machine_model.specs.Step.{Answers, Leaves, LeavesByController, LeavesByHost, HostPart, Permits, Step, forges, host_part}
+use Rattle.machine_model.specs.Step.{Answers, Leaves, LeavesByController, LeavesByHost, HostPart, Permits, Step, forges, host_part, is_exact}
 use Rattle.machine_model.specs.declared.words.Refusal.{Refusal}
 use Rattle.machine_model.specs.declared.words.Refusal.TheVariants as refusal
 use Rattle.machine_model.proofs.Agreeing.{step_keeps_agreement}
@@ -28,6 +28,7 @@ use Rattle.machine_model.proofs.Out.{Both}
 use Rattle.machine_model.proofs.Owned.{holds_from_sound}
 use Rattle.machine_model.proofs.Positions.{steps_stay_in_rings}
 use Rattle.machine_model.proofs.Provided.{steps_provide}
+use Rattle.machine_model.proofs.Recovered.{recovery_kept}
 use Rattle.machine_model.proofs.Steps.{Accepts, part_controller}
 use Rattle.machine_model.proofs.Taken.{taken_from_out}
 use Rattle.page_memory.specs.Pages.{AreWhole, Pages, byte_at}
@@ -35,7 +36,8 @@ use Rattle.two_sides.specs.Hearing.{heard}
 use Rattle.two_sides.specs.Laws.{behind}
 use Rattle.two_sides.specs.Sides.{Sides, state_of, device_of}
 use Rattle.two_sides.specs.Stepping.{StepsTo, LeavesPages, served}
-use Rattle.two_sides.specs.Ties.{AreSides, IsWorld, AllQueuesStand, ShareQueues, WalksStand}
+use Rattle.two_sides.specs.Ties.{AreSides, IsWorld, AllQueuesStand, ShareQueues, SharesAdmin, WalksStand}
+use Rattle.two_sides.proofs.AdminKept.{admin_behind}
 use Rattle.two_sides.proofs.Alike.{SeesAlike, bare, head_of_entry, left_alike}
 use Rattle.two_sides.proofs.Refusing.{out_of}
 use Rattle.two_sides.proofs.Deletions.{step_keeps_serving}
@@ -43,6 +45,7 @@ use Rattle.two_sides.proofs.Forged.{refused_leaves, length-device, forged_step, 
 use Rattle.two_sides.proofs.Known.{tied_of}
 use Rattle.two_sides.proofs.Seen.{seen_alike, told}
 use Rattle.two_sides.proofs.Shared.{share_queues}
+use Rattle.two_sides.proofs.Unreset.{unreset}
 
 -- A controller that hears a doorbell
 
@@ -73,6 +76,7 @@ sides_behind s e reply host pages sides c step over =
       provided = steps_provide (alone s.host s.pages) e reply (alone host pages) step sides.kept sides.provided;
       controller = hears e reply host s.controller sides.controller;
       queues = share_queues s e reply host pages c step sides.queues;
+      admin = admin_behind s e reply host pages c step sides.kept sides.admin;
     }
 
 -- nothing changes
@@ -83,7 +87,7 @@ nothing_left false false s next whole same = record { part = ap host_part (sym s
 
 stays_left : (s : State) (e : Event) (reply : Reply) → AreWhole s.memory → after s e reply ≡ s → Leaves s e reply s
 stays_left s e (events.Refused why touched) whole same = refl
-stays_left s e reply whole same = nothing_left (not (forges e) && s.trusted) (machine.IsController e) s (after s e reply) whole same
+stays_left s e reply whole same = nothing_left (is_exact e s.trusted) (machine.IsController e) s (after s e reply) whole same
 
 -- a refused call, also Reap and Retire
 pub host_refused : (s : Sides) (e : Event) (reply : Reply) (host : HostView) (pages : Pages) → IsWorld s → alone host pages ≡ alone s.host s.pages
@@ -102,14 +106,15 @@ pub record Ties (s : Sides) (e : Event) (reply : Reply) (host : HostView) (pages
 exactly_left : (s : Sides) (e : Event) (reply : Reply) (host : HostView) (pages : Pages) → s.trusted ≡ true → forges e ≡ false
     → (state_of (behind s e reply host pages) ≡ after (state_of s) e reply) → Leaves (state_of s) e reply (state_of (behind s e reply host pages))
 exactly_left s e (events.Refused why touched) host pages t f same = same
-exactly_left s e reply host pages t f same = due (forges e) s.trusted f t
+exactly_left s e reply host pages t f same = due (machine.resets e) (forges e) s.trusted f t
   where
-    due : (b t' : Bool) → b ≡ false → t' ≡ true
-        → MatchBool (not b && t') (state_of (behind s e reply host pages) ≡ after (state_of s) e reply)
+    due : (z b t' : Bool) → b ≡ false → t' ≡ true
+        → MatchBool (z || (not b && t')) (state_of (behind s e reply host pages) ≡ after (state_of s) e reply)
         (MatchBool (machine.IsController e) (LeavesByController (state_of s) (after (state_of s) e reply) (state_of (behind s e reply host pages))) (LeavesByHost (state_of s) (after (state_of s) e reply) (state_of (behind s e reply host pages))))
-    due true t' x y = absurd (true≢false x)
-    due false true x y = same
-    due false false x y = absurd (true≢false (sym y))
+    due true b t' x y = same
+    due false true t' x y = absurd (true≢false x)
+    due false false true x y = same
+    due false false false x y = absurd (true≢false (sym y))
 
 -- the same completion stands at the head for the host and for the machine
 heads_alike : (o p : Option ComEntry) → told o ≡ told p → option_map head_of_entry p ≡ option_map head_of_entry o
@@ -138,7 +143,7 @@ pub left_bare : (s : Sides) (e : Event) (reply : Reply) (host : HostView) (pages
     → HostStep s.host s.pages e reply host pages → Accepts (alone s.host s.pages) e reply → alone host pages ≡ bare (after (state_of s) e reply)
 left_bare s e reply host pages world c f step ok =
     let just = leaves_just s.host host s.pages pages e reply c step in
-    ap₂ alone just.0 just.1 ∙ sym (ap bare (left_alike (state_of s) e reply c f (sees_alike s e world ok.0) ok.1))
+    ap₂ alone just.0 just.1 ∙ sym (ap bare (left_alike (state_of s) e reply c f (unreset s.host host s.pages pages e reply step) (sees_alike s e world ok.0) ok.1))
 
 accepted_due : (s : Sides) (e : Event) (reply : Reply) (host : HostView) (pages : Pages) → IsWorld s → machine.IsController e ≡ false → forges e ≡ false
     → HostStep s.host s.pages e reply host pages → device_of (behind s e reply host pages) ≡ (after (state_of s) e reply).device → Accepts (alone s.host s.pages) e reply
@@ -146,7 +151,7 @@ accepted_due : (s : Sides) (e : Event) (reply : Reply) (host : HostView) (pages 
 accepted_due s e reply host pages world c f step device ok =
     ap (λ (x : State). record x { device = device_of (behind s e reply host pages); trusted = s.trusted }) (left_bare s e reply host pages world c f step ok)
     ∙ ap₂ (λ (d : Device) (b : Bool). record (after (state_of s) e reply) { device = d; trusted = b }) device
-    (sym (ap (λ (x : State). x.trusted) (left_alike (state_of s) e reply c f (sees_alike s e world ok.0) ok.1)))
+    (sym (ap (λ (x : State). x.trusted) (left_alike (state_of s) e reply c f (unreset s.host host s.pages pages e reply step) (sees_alike s e world ok.0) ok.1)))
 
 left_due : (s : Sides) (e : Event) (reply : Reply) (host : HostView) (pages : Pages) → IsWorld s → machine.IsController e ≡ false → forges e ≡ false
     → HostStep s.host s.pages e reply host pages → device_of (behind s e reply host pages) ≡ (after (state_of s) e reply).device → state_of (behind s e reply host pages) ≡ after (state_of s) e reply
@@ -171,6 +176,7 @@ host_stepped s e reply host pages world c f step over ties = (
   go s.trusted refl,
   record {
     sides = sides_behind s e reply host pages world.sides c step over;
+    recovers = recovery_kept (state_of s) e reply (state_of (behind s e reply host pages)) (go s.trusted refl) (λ t. (tied_of s world t).agree) world.recovers;
     tied = OnTrue_from s.trusted _ (λ t.
         let tie = ties t in
         record {
@@ -192,6 +198,7 @@ pub record ServesOver (s : Sides) (c : Contents) (pages : Pages) : Type 0 where
   pub in_store : map is_some pages ≡ map is_some s.pages
   pub controller : IsController c
   pub queues : ShareQueues s.host.entries zero s.host.host.queues c.queues
+  pub admin : SharesAdmin s.host.entries s.host.host.queues c.queues
   pub image : length c.image ≡ length s.controller.image
 
 -- what is kept speaks of the host's part alone
@@ -213,6 +220,7 @@ sides_served s c pages sides serves =
       provided = sides.provided;
       controller = serves.controller;
       queues = serves.queues;
+      admin = serves.admin;
     }
 
 as_many : (n q : ℕ) (hs : List HostQueue) (cs : List ControllerQueue) → ShareQueues n q hs cs → length cs ≡ length hs
@@ -243,6 +251,7 @@ served_stepped s e reply c pages world is_controller serves accepted permits exa
   step,
   record {
     sides = sides_served s c pages world.sides serves;
+    recovers = recovery_kept (state_of s) e reply new step (λ t. (tied_of s world t).agree) world.recovers;
     tied = OnTrue_from s.trusted _ (λ t. record {
       queues = (exact t).1;
       walks = (exact t).2;

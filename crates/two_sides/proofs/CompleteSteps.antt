@@ -38,7 +38,8 @@ use Rattle.queue_pair.proofs.Halves.{completion_there}
 use Rattle.two_sides.specs.Serving.{why_of}
 use Rattle.two_sides.specs.Sides.{Sides, state_of, answer_of, device_of, device_queue_of, device_queues_of, job_of}
 use Rattle.two_sides.specs.Stepping.{LeavesPages, StepsTo, served, completes_step, completes_refuse_alike}
-use Rattle.two_sides.specs.Ties.{IsWorld, ShareQueues, AllQueuesStand, QueueStands, WalkStands, WalksStand, has_ring}
+use Rattle.two_sides.specs.Ties.{IsWorld, ShareQueues, SharesAdmin, AllQueuesStand, QueueStands, WalkStands, WalksStand, has_ring}
+use Rattle.two_sides.proofs.AdminKept.{admin_ended, places_left}
 use Rattle.two_sides.proofs.Answering.{CanAnswer, answer_is, answer_seen, answer_shares, answer_spares_commands, answer_spares_queues, answer_stands, length-completion_bytes, page_is_in, post_room, slot_is_in, slot_written, with_completion}
 use Rattle.two_sides.proofs.Assembling.{ServesOver, serve_refused, served_stepped}
 use Rattle.two_sides.proofs.Changed.{devices_changed, stands_changed}
@@ -199,6 +200,9 @@ module _ (s : Sides) (q cid : ℕ) (c : Contents) (pages : Pages) (touched : Lis
     queues =
         subst (λ (c : Contents). ShareQueues s.host.entries 0 hs c.queues) (sym w.leaves)
         (belled s.host.entries 0 q with_answer hs (queues_of_end k.work s.controller.queues) (answer_shares s.host.entries) (share_ended s.host.entries k.work hs s.controller.queues world.sides.queues));
+    admin =
+        subst (λ (c : Contents). SharesAdmin s.host.entries hs c.queues) (sym w.leaves)
+        (places_left s.host.entries q with_answer hs (queues_of_end k.work s.controller.queues) (λ x. (refl, refl)) (admin_ended s.host.entries k.work hs s.controller.queues world.sides.admin));
     image = w.as_long;
   }
 

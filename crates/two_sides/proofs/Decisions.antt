@@ -1,7 +1,7 @@
 -- What the rule of an admin entry saw where it decided so.
-use Rattle.std.proofs.Common.{◌≡◌, ℕ, ◌+◌, ◌/◌, ◌%◌, ◌==◌, nat_lt, Bool, true, false, not, ◌&&◌, ◌||◌, Option, refl, ap}
+use Rattle.std.proofs.Common.{◌≡◌, ℕ, zero, suc, ◌+◌, ◌/◌, ◌%◌, ◌==◌, nat_lt, Bool, true, false, not, ◌&&◌, ◌||◌, Option, refl, ap}
 use Rattle.std.specs.Option.{option_map_or}
-use Rattle.std.proofs.lemmas.Bool.{not-false, or_parts, and_parts, cond_both}
+use Rattle.std.proofs.lemmas.Bool.{not-false, or_parts, and_parts, cond_both, true≢false}
 use Rattle.admin_commands.specs.Entries.{named_queue, named_command, named_size, named_base, named_completion_queue, is_contiguous, is_opcode}
 use Rattle.admin_commands.specs.Verdicts.{abort_verdict, create_cq_verdict, create_sq_verdict, decision, delete_cq_verdict, delete_sq_verdict, half_fault, is_absent, is_io_queue, is_live}
 use Rattle.admin_commands.specs.declared.AdminVerdict.{AdminVerdict}
@@ -10,20 +10,23 @@ use Rattle.admin_commands.specs.declared.DeviceView.{DeviceView}
 use Rattle.entry_codec.specs.declared.admin_opcode.TheConstants.{ABORT, DELETE_IO_SQ, DELETE_IO_CQ, CREATE_IO_CQ, CREATE_IO_SQ}
 use Rattle.entry_codec.specs.declared.status.Status.{Status}
 use Rattle.entry_codec.specs.declared.submission.SubEntry.{SubEntry}
+use Rattle.machine_model.proofs.Placing.{ne_zero}
 use Rattle.page_memory.specs.declared.page.Half.{Half}
 use Rattle.page_memory.specs.declared.page.Half.TheVariants.{Submission, Completion}
 use Rattle.queue_pair.specs.Memory.{half_pages}
 
--- a creation of a completion queue that is not there, and one of a submission queue that is not there beside its completion queue
+-- a creation of a completion queue that is not there, and one of a submission queue that is not there beside its completion queue; neither is queue 0
 pub record MakesFree (e : SubEntry) (view : DeviceView) (q base : ℕ) : Type 0 where
   pub opcode : (e.opcode == CREATE_IO_CQ) ≡ true
   pub queue : q ≡ named_queue e
+  pub other : (q == 0) ≡ false
   pub begins : base ≡ named_base e
   pub free : view.cq_there ≡ false
 
 pub record MakesPaired (e : SubEntry) (view : DeviceView) (q base : ℕ) : Type 0 where
   pub opcode : (e.opcode == CREATE_IO_SQ) ≡ true
   pub queue : q ≡ named_queue e
+  pub other : (q == 0) ≡ false
   pub begins : base ≡ named_base e
   pub free : is_absent view.sq ≡ true
   pub there : view.cq_there ≡ true
@@ -40,6 +43,11 @@ Decides e view (MakeSubmission q base) = MakesPaired e view q base
 last : (u v w x y : Bool) → u ≡ false → v ≡ false → w ≡ false → x ≡ false → (u || v || w || x || y) ≡ true → y ≡ true
 last false false false false y eu ev ew ex h = h
 last u v w x y eu ev ew ex h = cc
+
+-- an I/O queue isn't queue 0
+not_admin : (q : ℕ) (view : DeviceView) → not (is_io_queue q view) ≡ false → (q == 0) ≡ false
+not_admin zero view e = absurd (true≢false e)
+not_admin (suc q) view e = ne_zero q
 
 pub decides : (e : SubEntry) (view : DeviceView) → Decides e view (decision e view)
 decides e view =
@@ -82,7 +90,13 @@ decides e view =
     completing : (e.opcode == CREATE_IO_CQ) ≡ true → Q (create_cq_verdict e view)
     completing is5 =
         cond_both (not (is_io_queue q view) || view.cq_there) _ _ Q (λ w. tt)
-        (λ w. halving Completion (MakeCompletion q (named_base e)) (record { opcode = is5; queue = refl; begins = refl; free = (or_parts (not (is_io_queue q view)) view.cq_there w).1 }))
+        (λ w. halving Completion (MakeCompletion q (named_base e)) (record {
+          opcode = is5;
+          queue = refl;
+          other = not_admin q view (or_parts (not (is_io_queue q view)) view.cq_there w).0;
+          begins = refl;
+          free = (or_parts (not (is_io_queue q view)) view.cq_there w).1;
+        }))
 
     submitting : (e.opcode == CREATE_IO_SQ) ≡ true → Q (create_sq_verdict e view)
     submitting is1 =
@@ -93,6 +107,7 @@ decides e view =
         (record {
           opcode = is1;
           queue = refl;
+          other = not_admin q view (or_parts (not (is_io_queue q view)) (not (is_absent view.sq)) w).0;
           begins = refl;
           free = not-false (is_absent view.sq) (or_parts (not (is_io_queue q view)) (not (is_absent view.sq)) w).1;
           there = not-false view.cq_there (or_parts (not view.cq_there) (not (named_completion_queue e == q)) v).0;

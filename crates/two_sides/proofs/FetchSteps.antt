@@ -8,7 +8,7 @@ use Rattle.block_image.specs.Blocks.{block_count}
 use Rattle.controller_core.specs.Answering.{answer_refusal, completion_by, page_posted, post_refusal, with_answer}
 use Rattle.controller_core.specs.Contents.{Contents, FetchedCommand, IsController, change}
 use Rattle.controller_core.specs.Fetching.{AnswersKnown, IsBegun, RefusedBy, RefusedEntry, Takes, TakesIn, begun, entry_refusal, is_known, look_refusal, side_refusal, live_side}
-use Rattle.controller_core.specs.Managing.{admin_work, command_of, commands_after, managed, verdict_for, with_taken}
+use Rattle.controller_core.specs.Managing.{admin_work, command_of, commands_after, managed, verdict_for, view_for, with_taken}
 use Rattle.controller_core.specs.declared.command.Work.TheVariants.{Io}
 use Rattle.controller_core.specs.declared.queue.ControllerQueue.{ControllerQueue}
 use Rattle.controller_core.specs.declared.refusal.Refusal as controller
@@ -37,7 +37,8 @@ use Rattle.queue_pair.specs.Slots.{is_full}
 use Rattle.two_sides.specs.Serving.{why_of}
 use Rattle.two_sides.specs.Sides.{Sides, state_of, job_of}
 use Rattle.two_sides.specs.Stepping.{LeavesPages, StepsTo, fetches_step, served}
-use Rattle.two_sides.specs.Ties.{AllQueuesStand, IsWorld, ShareQueues, WalkStands, WalksStand}
+use Rattle.two_sides.specs.Ties.{AllQueuesStand, IsWorld, ShareQueues, SharesAdmin, WalkStands, WalksStand}
+use Rattle.two_sides.proofs.AdminKept.{admin_verdict, places_left}
 use Rattle.two_sides.proofs.Answering.{answer_shares, length-completion_bytes, post_room, slot_is_in, slot_written}
 use Rattle.two_sides.proofs.Assembling.{ServesOver, serve_refused, served_stepped}
 use Rattle.two_sides.proofs.Changed.{devices_changed, stands_changed}
@@ -185,16 +186,20 @@ begun_is s q e job b =
     ∙ ap (λ (j : Job). after.with_job j (state_of (taken q s))) (λ i. record { q = q; entry = b.entry i; bytes = b.bytes i; units_done = 0; verdict = b.verdict i; dw0 = 0; waiting_abort = None })
 
 -- where no page is written
-serves_there : (s : Sides) (new : Contents) → IsWorld s → IsController new → ShareQueues s.host.entries zero s.host.host.queues new.queues → length new.image ≡ length s.controller.image → ServesOver s new s.pages
-serves_there s new world is share image = record { leaves = record { whole = world.sides.over.pool.whole; count = refl }; in_store = refl; controller = is; queues = share; image = image }
+serves_there : (s : Sides) (new : Contents) → IsWorld s → IsController new → ShareQueues s.host.entries zero s.host.host.queues new.queues → SharesAdmin s.host.entries s.host.host.queues new.queues → length new.image ≡ length s.controller.image
+    → ServesOver s new s.pages
+serves_there s new world is share admin image = record { leaves = record { whole = world.sides.over.pool.whole; count = refl }; in_store = refl; controller = is; queues = share; admin = admin; image = image }
 
 taken_share : (s : Sides) (q : ℕ) → IsWorld s → ShareQueues s.host.entries zero s.host.host.queues (change q with_taken s.controller.queues)
 taken_share s q world = belled s.host.entries zero q with_taken s.host.host.queues s.controller.queues (taken_shares s.host.entries) world.sides.queues
 
+taken_admin : (s : Sides) (q : ℕ) → IsWorld s → SharesAdmin s.host.entries s.host.host.queues (change q with_taken s.controller.queues)
+taken_admin s q world = places_left s.host.entries q with_taken s.host.host.queues s.controller.queues (λ x. (refl, refl)) world.sides.admin
+
 begins : (s : Sides) (q : ℕ) (c : ControllerQueue) (e : SubEntry) (job : JobContents) → IsWorld s → IsLooked s q c e → IsController (begun q job s.controller) → (q == 0) ≡ false → IsBegun s.controller.image e job
     → StepsTo s (events.Fetch q) (events.Fetched e.cid (page_of_head c ∷ [])) (served s (begun q job s.controller) s.pages)
 begins s q c e job world l is io b =
-    fetch_stepped s q c e (begun q job s.controller) s.pages (page_of_head c ∷ []) world l (serves_there s (begun q job s.controller) world is (taken_share s q world) refl) (omega arith)
+    fetch_stepped s q c e (begun q job s.controller) s.pages (page_of_head c ∷ []) world l (serves_there s (begun q job s.controller) world is (taken_share s q world) (taken_admin s q world) refl) (omega arith)
     (λ t seen. let tied = OnTrue_at t world.tied in (
       refl,
       begun_is s q e job b ∙ ap (after.begun q e) (taken_state s q c e l seen)
@@ -216,7 +221,8 @@ manages s c e world l is =
     let queues = change zero with_taken s.controller.queues in
     let share = taken_share s zero world in
     let same = taken_view many s.controller.queues s.controller.commands zero e in
-    fetch_stepped s zero c e (managed many e s.controller) s.pages (page_of_head c ∷ []) world l (serves_there s (managed many e s.controller) world is (verdict_shares v s.host.entries hosts queues share) refl) (omega arith)
+    fetch_stepped s zero c e (managed many e s.controller) s.pages (page_of_head c ∷ []) world l (serves_there s (managed many e s.controller) world is (verdict_shares v s.host.entries hosts queues share) (admin_verdict e (view_for many s.controller.queues s.controller.commands e) s.host.entries hosts queues (taken_admin s zero world)) refl)
+    (omega arith)
     (λ t seen. let tied = OnTrue_at t world.tied in
     let suits = suited s world t e seen.next in (
       refl,
@@ -250,6 +256,8 @@ answers s q c e new pages looked touched world l is leaves knows room one a imag
       controller = is;
       queues = subst (ShareQueues n zero s.host.host.queues) (sym a.leaves)
           (belled n zero q (λ queue. with_answer (with_taken queue)) s.host.host.queues s.controller.queues (λ i h x share. answer_shares n i h (with_taken x) (taken_shares n i h x share)) world.sides.queues);
+      admin = subst (SharesAdmin n s.host.host.queues) (sym a.leaves)
+          (places_left n q (λ queue. with_answer (with_taken queue)) s.host.host.queues s.controller.queues (λ x. (refl, refl)) world.sides.admin);
       image = ap length image;
     } in
     fetch_stepped s q c e new pages touched world l serves

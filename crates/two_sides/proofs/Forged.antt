@@ -1,5 +1,5 @@
 -- After a forged entry a step of the host is one of the machine.
-use Rattle.std.proofs.Common.{◌≡◌, ℕ, zero, suc, Bool, true, false, not, ◌&&◌, Option, Some, None, List, [], ◌∷◌, length, MatchBool, refl, ap, sym, ◌∙◌, subst}
+use Rattle.std.proofs.Common.{◌≡◌, ℕ, zero, suc, Bool, true, false, not, ◌&&◌, ◌||◌, Option, Some, None, List, [], ◌∷◌, length, MatchBool, refl, ap, sym, ◌∙◌, subst}
 use Rattle.std.specs.Option.{option_map_or}
 use Rattle.std.proofs.lemmas.Bool.{true≢false}
 use Rattle.controller_core.specs.Contents as controller
@@ -12,7 +12,7 @@ use Rattle.machine_model.specs.After.{after}
 use Rattle.machine_model.specs.Events as events
 use Rattle.machine_model.specs.Events.{Event, Reply}
 use Rattle.machine_model.specs.State.{State, HostQueue}
-use Rattle.machine_model.specs.Step.{IsController, KeepsDevice, Leaves, LeavesByController, LeavesByHost, Permits, forges, host_part}
+use Rattle.machine_model.specs.Step.{IsController, KeepsDevice, Leaves, LeavesByController, LeavesByHost, Permits, forges, resets, host_part}
 use Rattle.machine_model.proofs.Blind.{blind}
 use Rattle.page_memory.specs.Memory.{Memory}
 use Rattle.page_memory.specs.Pages.{Pages, byte_at}
@@ -21,6 +21,7 @@ use Rattle.two_sides.specs.Laws.{behind, forged_hosts_step}
 use Rattle.two_sides.specs.Sides.{Sides, state_of, device_of, device_queues_of}
 use Rattle.two_sides.specs.Ties.{ShareQueues}
 use Rattle.two_sides.proofs.Shared.{share_queues}
+use Rattle.two_sides.proofs.Unreset.{unreset}
 
 -- The controller keeps its queues and its image
 
@@ -89,16 +90,18 @@ keeps s e reply host pages share share' =
 
 -- What it leaves
 
-by_host : (f c : Bool) (s next new : State) → c ≡ false → MatchBool (not f && false) (new ≡ next) (MatchBool c (LeavesByController s next new) (LeavesByHost s next new)) → LeavesByHost s next new
-by_host f true s next new e h = absurd (true≢false e)
-by_host true false s next new e h = h
-by_host false false s next new e h = h
+by_host : (z f c : Bool) (s next new : State) → z ≡ false → c ≡ false → MatchBool (z || (not f && false)) (new ≡ next) (MatchBool c (LeavesByController s next new) (LeavesByHost s next new)) → LeavesByHost s next new
+by_host true f c s next new y e h = absurd (true≢false y)
+by_host false f true s next new y e h = absurd (true≢false e)
+by_host false true false s next new y e h = h
+by_host false false false s next new y e h = h
 
-to_host : (f t c : Bool) (s next new : State) → t ≡ false → c ≡ false → LeavesByHost s next new → MatchBool (not f && t) (new ≡ next) (MatchBool c (LeavesByController s next new) (LeavesByHost s next new))
-to_host f true c s next new e g h = absurd (true≢false e)
-to_host f false true s next new e g h = absurd (true≢false g)
-to_host true false false s next new e g h = h
-to_host false false false s next new e g h = h
+to_host : (z f t c : Bool) (s next new : State) → z ≡ false → t ≡ false → c ≡ false → LeavesByHost s next new → MatchBool (z || (not f && t)) (new ≡ next) (MatchBool c (LeavesByController s next new) (LeavesByHost s next new))
+to_host true f t c s next new y e g h = absurd (true≢false y)
+to_host false f true c s next new y e g h = absurd (true≢false e)
+to_host false f false true s next new y e g h = absurd (true≢false g)
+to_host false true false false s next new y e g h = h
+to_host false false false false s next new y e g h = h
 
 pub refused_leaves : (s : Sides) (host : HostView) (pages : Pages) → alone host pages ≡ alone s.host s.pages → state_of (record s { host = host; pages = pages }) ≡ state_of s
 refused_leaves s host pages same =
@@ -114,18 +117,18 @@ accepted_leaves s e reply host pages t device part memory leaves =
     ap (λ (b : Bool). record (host_part (alone host pages)) { trusted = b }) t in
     record { part = untold ∙ leaves.part ∙ sym part; memory = leaves.memory ∙ sym memory; device = device }
 
-left : (s : Sides) (e : Event) (reply : Reply) (host : HostView) (pages : Pages) → s.trusted ≡ false → IsController e ≡ false → KeepsDevice (state_of s) (state_of (behind s e reply host pages))
+left : (s : Sides) (e : Event) (reply : Reply) (host : HostView) (pages : Pages) → s.trusted ≡ false → IsController e ≡ false → resets e ≡ false → KeepsDevice (state_of s) (state_of (behind s e reply host pages))
     → host_part (after (state_of s) e reply) ≡ host_part (after (alone s.host s.pages) e reply)
     → (after (state_of s) e reply).memory ≡ (after (alone s.host s.pages) e reply).memory
     → Leaves (alone s.host s.pages) e reply (alone host pages)
     → Leaves (state_of s) e reply (state_of (behind s e reply host pages))
-left s e (events.Refused why touched) host pages t c device part memory leaves = refused_leaves s host pages leaves
-left s e (events.Reserved d) host pages t c device part memory leaves =
-    to_host (forges e) s.trusted (IsController e) (state_of s) _ _ t c
-    (accepted_leaves s e (events.Reserved d) host pages t device part memory (by_host (forges e) (IsController e) (alone s.host s.pages) _ _ c leaves))
-left s e reply host pages t c device part memory leaves =
-    to_host (forges e) s.trusted (IsController e) (state_of s) _ _ t c
-    (accepted_leaves s e reply host pages t device part memory (by_host (forges e) (IsController e) (alone s.host s.pages) _ _ c leaves))
+left s e (events.Refused why touched) host pages t c z device part memory leaves = refused_leaves s host pages leaves
+left s e (events.Reserved d) host pages t c z device part memory leaves =
+    to_host (resets e) (forges e) s.trusted (IsController e) (state_of s) _ _ z t c
+    (accepted_leaves s e (events.Reserved d) host pages t device part memory (by_host (resets e) (forges e) (IsController e) (alone s.host s.pages) _ _ z c leaves))
+left s e reply host pages t c z device part memory leaves =
+    to_host (resets e) (forges e) s.trusted (IsController e) (state_of s) _ _ z t c
+    (accepted_leaves s e reply host pages t device part memory (by_host (resets e) (forges e) (IsController e) (alone s.host s.pages) _ _ z c leaves))
 
 pub forged_step : forged_hosts_step
 forged_step s e reply host pages t c step share =
@@ -134,7 +137,7 @@ forged_step s e reply host pages t c step share =
     let device = keeps s e reply host pages share (share_queues s e reply host pages c step share) in (
       step.0,
       subst (λ (x : State). Permits x e reply) same both.0,
-      left s e reply host pages t c device
+      left s e reply host pages t c (unreset s.host host s.pages pages e reply step) device
           (subst (λ (x : State). host_part (after x e reply) ≡ host_part (after (alone s.host s.pages) e reply)) same both.1)
           (subst (λ (x : State). (after x e reply).memory ≡ (after (alone s.host s.pages) e reply).memory) same both.2)
           step.2,

@@ -12,10 +12,11 @@ use Rattle.machine_model.specs.Always.{HasHalves}
 use Rattle.machine_model.specs.State.{State, HostQueue}
 use Rattle.machine_model.specs.declared.words.HostState.{HostState}
 use Rattle.machine_model.specs.declared.words.HostState.TheVariants as states
-use Rattle.machine_model.specs.Step.{host_part}
+use Rattle.machine_model.specs.Step.{Step, host_part}
 use Rattle.machine_model.proofs.Counting.{held_once}
 use Rattle.machine_model.proofs.Members.{all_at}
 use Rattle.machine_model.proofs.Parts.{in_store-with_bytes}
+use Rattle.machine_model.proofs.Recovered.{recovery_kept}
 use Rattle.machine_model.proofs.Refused.{unrefused}
 use Rattle.page_ledger.specs.Owners.{is_among, pages_from}
 use Rattle.page_memory.specs.Memory.{written}
@@ -28,7 +29,7 @@ use Rattle.two_sides.specs.Stepping.{LeavesPages, completion_slots_are_in, forge
 use Rattle.two_sides.specs.Ties.{AreSides, IsWorld, first_completion_page}
 use Rattle.two_sides.proofs.Assembling.{sides_served}
 use Rattle.two_sides.proofs.Forged.{length-device}
-use Rattle.two_sides.proofs.Known.{half_in, half_lies}
+use Rattle.two_sides.proofs.Known.{half_in, half_lies, tied_of}
 use Rattle.two_sides.proofs.Owning.{queue_page_in}
 use Rattle.two_sides.proofs.Places.{completion_slot_page}
 use Rattle.two_sides.proofs.Refusing.{into}
@@ -93,20 +94,12 @@ pages_forged s q slot bytes h pages world at is count leaves wrote =
 
 pub forged_stepped : forged_entries_step
 forged_stepped s q slot bytes h pages world count none at leaves wrote = (
-  (
-    count,
-    into _ s.trusted false refl (none, tt),
-    record {
-      part = ap (λ (m : Pages). host_part (state_of (forged s m))) memory ∙ sym (ap host_part due);
-      memory = memory ∙ sym (ap (λ (x : State). x.memory) due);
-      device = record {
-        image = refl;
-        queues = length-device (byte_at pages) s.host.entries 0 s.host.host.queues s.controller.queues world.sides.queues
-            ∙ sym (length-device (byte_at s.pages) s.host.entries 0 s.host.host.queues s.controller.queues world.sides.queues);
-      };
-    },
-  ),
-  record { sides = record { over = sides.over; sound = sides.sound; kept = sides.kept; provided = sides.provided; controller = sides.controller; queues = sides.queues }; tied = tt },
+  step,
+  record {
+    sides = record { over = sides.over; sound = sides.sound; kept = sides.kept; provided = sides.provided; controller = sides.controller; queues = sides.queues; admin = sides.admin };
+    recovers = recovery_kept (state_of s) (events.Forge q slot bytes) events.Accepted (state_of (forged s pages)) step (λ t. (tied_of s world t).agree) world.recovers;
+    tied = tt;
+  },
 )
   where
     memory : pages ≡ with_page_bytes s.pages (slot_page h.cq_pages 16 slot) (slot_offset 16 slot) bytes
@@ -126,5 +119,21 @@ forged_stepped s q slot bytes h pages world count none at leaves wrote = (
       in_store = ap (λ (m : Pages). map is_some m) memory ∙ in_store-with_bytes s.pages (slot_page h.cq_pages 16 slot) (slot_offset 16 slot) bytes;
       controller = world.sides.controller;
       queues = world.sides.queues;
+      admin = world.sides.admin;
       image = refl;
     })
+
+    step : Step (state_of s) (events.Forge q slot bytes) events.Accepted (state_of (forged s pages))
+    step = (
+      count,
+      into _ s.trusted false refl (none, tt),
+      record {
+        part = ap (λ (m : Pages). host_part (state_of (forged s m))) memory ∙ sym (ap host_part due);
+        memory = memory ∙ sym (ap (λ (x : State). x.memory) due);
+        device = record {
+          image = refl;
+          queues = length-device (byte_at pages) s.host.entries 0 s.host.host.queues s.controller.queues world.sides.queues
+              ∙ sym (length-device (byte_at s.pages) s.host.entries 0 s.host.host.queues s.controller.queues world.sides.queues);
+        };
+      },
+    )

@@ -29,7 +29,7 @@ set_in [] p x l = absurd (omega (arith, l))
 set_in (z ∷ m) zero x l = refl
 set_in (z ∷ m) (suc p) x l = set_in m p x (omega (arith, l))
 
-zeroed_there : (ps : List ℕ) (m : Pages) (p : ℕ) → p < length m → (is_among ps p ≡ false → page_at m p ≡ Some zero_page) → page_at (with_pages (zeroed_pages ps) m) p ≡ Some zero_page
+pub zeroed_there : (ps : List ℕ) (m : Pages) (p : ℕ) → p < length m → (is_among ps p ≡ false → page_at m p ≡ Some zero_page) → page_at (with_pages (zeroed_pages ps) m) p ≡ Some zero_page
 zeroed_there [] m p l before = before refl
 zeroed_there (x ∷ ps) m p l before =
     zeroed_there ps (slice_set m x (Some zero_page)) p (subst (λ (n : ℕ). p < n) (sym (length-set m x (Some zero_page))) l) (λ none. go (x == p) refl none)

@@ -18,6 +18,7 @@ use Rattle.two_sides.proofs.Quiet.{cancel_ties, collect_ties, release_ties, rese
 use Rattle.two_sides.proofs.Reaps.{reap_refused, reap_ties}
 use Rattle.two_sides.proofs.Refusing.{refuse_as_machine}
 use Rattle.two_sides.proofs.Retires.{retire_refused, retire_ties}
+use Rattle.two_sides.proofs.Unreset.{never_alone}
 
 refused : (s : Sides) (e : Event) (why : Refusal) (touched : List ℕ) (host : HostView) (pages : Pages) → IsWorld s → IsController e ≡ false → looks_at_completions e ≡ false
     → HostStep s.host s.pages e (events.Refused why touched) host pages → StepsTo s e (events.Refused why touched) (behind s e (events.Refused why touched) host pages)
@@ -43,6 +44,7 @@ hosts_stepped s (events.CreateCq q) (events.Sent id) host pages world c f step o
 hosts_stepped s (events.CreateSq q) (events.Sent id) host pages world c f step over = host_stepped s _ _ host pages world c f step over (λ t. create_sq_ties s q id host pages world t step)
 hosts_stepped s (events.Retire q) events.Accepted host pages world c f step over = host_stepped s _ _ host pages world c f step over (λ t. retire_ties s q host pages world t step)
 hosts_stepped s (events.Forge q slot bytes) reply host pages world c f step over = absurd (true≢false f)
+hosts_stepped s events.Reset reply host pages world c f step over = absurd (never_alone s.host host s.pages pages reply step)
 hosts_stepped s (events.Fetch q) reply host pages world c f step over = absurd (true≢false c)
 hosts_stepped s (events.Walk q cid) reply host pages world c f step over = absurd (true≢false c)
 hosts_stepped s (events.Complete q cid) reply host pages world c f step over = absurd (true≢false c)

@@ -23,6 +23,8 @@ pub mod Posted
 pub mod Posting
 pub mod Creating
 pub mod Places
+pub mod AdminKept
+pub mod Unreset
 pub mod Alike
 pub mod Assembling
 pub mod Units
@@ -45,3 +47,5 @@ pub mod NamedHalves
 pub mod Suited
 pub mod FetchLooks
 pub mod FetchSteps
+pub mod ResetQueues
+pub mod Resets

@@ -88,7 +88,7 @@ base_back : (base : ℕ) → base < 2 ^ 64 → from_le_bytes w64 (to_le_bytes w6
 base_back base few = from_le_bytes-to_le_bytes_8 base few
 
 -- A page of the pool has a number that an address can begin with.
-page_below : (pages : Pages) (p : ℕ) → is_in pages p ≡ true → p < length pages
+pub page_below : (pages : Pages) (p : ℕ) → is_in pages p ≡ true → p < length pages
 page_below [] p e = absurd (true≢false (sym e))
 page_below (x ∷ pages) zero e = omega arith
 page_below (x ∷ pages) (suc p) e = omega (arith, page_below pages p e)

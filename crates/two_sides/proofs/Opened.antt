@@ -9,6 +9,7 @@ use Rattle.machine_model.specs.Agreeing.{SidesAgree}
 use Rattle.machine_model.specs.Claims.{HasOneOwner, IsSound}
 use Rattle.machine_model.specs.Opening as machine
 use Rattle.machine_model.specs.Opening.{opening, device_queue}
+use Rattle.machine_model.specs.Recovering.{CanRecover}
 use Rattle.machine_model.specs.Refusals.{is_deleting}
 use Rattle.machine_model.specs.State.{State, HostQueue, DeviceQueue}
 use Rattle.machine_model.specs.declared.words.HostState.TheVariants.{Live}
@@ -19,6 +20,7 @@ use Rattle.machine_model.proofs.Headline.{runs_are_sound}
 use Rattle.machine_model.proofs.Opening.{fits_pool}
 use Rattle.machine_model.proofs.Positions.{rings_at_opening}
 use Rattle.machine_model.proofs.Provided.{runs_provide}
+use Rattle.machine_model.proofs.Recovered.{openings_recover}
 use Rattle.page_memory.specs.Memory.{Memory}
 use Rattle.page_memory.specs.Pages.{byte_at, page_at, zero_page}
 use Rattle.page_memory.specs.declared.page.Half.TheVariants.{Submission, Completion}
@@ -30,7 +32,7 @@ use Rattle.queue_pair.proofs.Pools.{pages_zero}
 use Rattle.two_sides.specs.Deletions.{CompletionsServe}
 use Rattle.two_sides.specs.Opening.{halves_from, opened_sides, openings_are_worlds}
 use Rattle.two_sides.specs.Sides.{state_of, device_queues_of}
-use Rattle.two_sides.specs.Ties.{ShareQueues, RingsStand, QueueStands, AllQueuesStand}
+use Rattle.two_sides.specs.Ties.{ShareQueues, SharesAdmin, RingsStand, QueueStands, AllQueuesStand}
 
 device_queues : (m : Memory) (page n q count : ℕ) → device_queues_of m (machine.queues_from page n count) (queues_from n q (halves_from page n count)) ≡ replicate count device_queue
 device_queues m page n q zero = refl
@@ -46,6 +48,10 @@ shared page n q (suc count) least most = (
   },
   shared (page + half_pages n Submission + half_pages n Completion) n (suc q) count least most,
 )
+
+admin_shared : (page n q count : ℕ) → SharesAdmin n (machine.queues_from page n count) (queues_from n q (halves_from page n count))
+admin_shared page n q zero = tt
+admin_shared page n q (suc count) = record { submission = refl; completion = refl }
 
 abbrev fresh_host : ℕ → ℕ → HostQueue
 fresh_host page n =
@@ -155,7 +161,9 @@ opened_are_worlds c image opens =
           provided = runs_provide c.pages c.queues c.entries c.segment image [] [] start opens refl;
           controller = record { commands = record { each = tt; differ = λ q cid. omega arith }; awaited = tt };
           queues = shared 0 c.entries 0 (c.queues + 1) l.least_entries l.most_entries;
+          admin = admin_shared 0 c.entries 0 (c.queues + 1);
         };
+        recovers = subst (λ (s : State). CanRecover s) (sym same) (openings_recover c.pages c.queues c.entries c.segment image opens);
         tied = record {
           queues = all_stand c.pages 0 c.entries 0 (c.queues + 1) (omega (arith, l.least_entries)) (from_zero _ c.pages (fits_pool c.pages c.queues c.entries c.segment opens));
           walks = tt;

@@ -42,13 +42,14 @@ use Rattle.two_sides.proofs.Frames.{Spares, all_stand_still, free_apart_from_que
 use Rattle.two_sides.proofs.Known.{known, tied_of}
 use Rattle.two_sides.proofs.Owning.{commands_apart}
 use Rattle.two_sides.proofs.Refusing.{answer_as_machine, answers}
+use Rattle.two_sides.proofs.Unreset.{unreset}
 
 -- The walks stand behind each accepted call.
 pub walks_behind : (s : Sides) (e : Event) (reply : Reply) (host : HostView) (pages : Pages) → IsWorld s → s.trusted ≡ true → IsController e ≡ false → forges e ≡ false
     → HostStep s.host s.pages e reply host pages → Accepts (alone s.host s.pages) e reply → Accepts (state_of s) e reply → WalksStand (memory_of pages) s.controller.commands
 walks_behind s e reply host pages world t c f step ok seen =
     let same : pages ≡ (after (state_of s) e reply).memory =
-    (leaves_just s.host host s.pages pages e reply c step).1 ∙ sym (ap (λ (x : State). x.memory) (left_alike (state_of s) e reply c f (sees_alike s e world ok.0) ok.1)) in
+    (leaves_just s.host host s.pages pages e reply c step).1 ∙ sym (ap (λ (x : State). x.memory) (left_alike (state_of s) e reply c f (unreset s.host host s.pages pages e reply step) (sees_alike s e world ok.0) ok.1)) in
     subst (λ (m : Pages). WalksStand (memory_of m) s.controller.commands) (sym same) (walks_after s e reply world t seen)
 
 -- A call that spares the queues' pages, and leaves the host's queues and the controller as they are.

@@ -286,6 +286,7 @@ moves s world tied t =
       creates_sqs = λ q id first queue none new granted. tt;
       retires = λ q queue none at deleted. tt;
       forges = λ q slot bytes queue none at. tt;
+      resets = tt;
     }
 
 -- The step

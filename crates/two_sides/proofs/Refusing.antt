@@ -48,6 +48,7 @@ answers s (events.CreateCq q) (events.Sent id) c l h = new_same s 0 id h
 answers s (events.CreateSq q) (events.Sent id) c l h = new_same s 0 id h
 answers s (events.Retire q) events.Accepted c l h = absurd (true≢false l)
 answers s (events.Forge q slot bytes) events.Accepted c l h = h
+answers s events.Reset events.Accepted c l h = h
 answers s (events.Fetch q) reply c l h = absurd (true≢false c)
 answers s (events.Walk q cid) reply c l h = absurd (true≢false c)
 answers s (events.Complete q cid) reply c l h = absurd (true≢false c)

@@ -25,6 +25,7 @@ use Rattle.machine_model.proofs.Moves.{creates_cq, creates_sq, half_from, host_m
 use Rattle.machine_model.proofs.Owned.{HoldsPart, holds_from_sound}
 use Rattle.machine_model.proofs.Placing.{waiting}
 use Rattle.machine_model.proofs.Refused.{unrefused}
+use Rattle.machine_model.proofs.Resetting.{reset_state}
 use Rattle.machine_model.proofs.Standing.{io_other}
 use Rattle.machine_model.proofs.Steps.{Accepts}
 use Rattle.two_sides.specs.Deletions.{AreBefore, asks_cq_deletion, asks_sq_deletion}
@@ -54,6 +55,14 @@ differ x y b same stays = go (x == y) refl
     go : (c : Bool) → (x == y) ≡ c → c ≡ false
     go true e = absurd (true≢false (sym (same (eqb-true x y e)) ∙ stays))
     go false e = refl
+
+-- behind a reset no queue is being deleted
+pub serve_reset : (hs : List HostQueue) (ds : List DeviceQueue) → Serve (a.reset_queues hs) (a.reset_device_queues ds) (waiting (a.reset_device_queues ds))
+serve_reset hs ds =
+    record {
+      keeps = λ q deleting. absurd (true≢false (sym deleting ∙ reset_state is_deleting refl refl hs q));
+      order = λ q deleting. absurd (true≢false (sym deleting ∙ reset_state is_deleting refl refl hs q));
+    }
 
 pub serve_host_event : (s : State) (e : Event) (reply : Reply) → Accepts s e reply → IsController e ≡ false → SidesAgree s → ServeS s → ServeS (a.after s e reply)
 serve_host_event s e reply ok c agree h =
@@ -91,6 +100,7 @@ serve_host_event s e reply ok c agree h =
           (serve_posted (admin_entry (creates_sq q first s) id) hs ds (λ z w. refl) h));
       retires = λ q queue none at deleted. serve_host a.retired q hs ds (waiting ds) (λ x ex deleting. absurd (true≢false (sym deleting))) h;
       forges = λ q slot bytes queue none at. h;
+      resets = serve_reset hs ds;
     })
   where
     hs : List HostQueue

@@ -146,6 +146,17 @@ event cs s (events.CreateSq q) (events.Sent id) ok c h =
 event cs s (events.Retire q) events.Accepted ok c h = in-freed cs (λ queue. queue.sq_pages) a.retired q (a.on_records (λ records. map (a.lost q) records) s) h
 event cs s (events.Forge q slot bytes) events.Accepted ok c h =
     in-option cs (λ queue. record (a.on_memory (λ m. with_page_bytes m (slot_page queue.cq_pages 16 slot) (slot_offset 16 slot) bytes) s) { trusted = false }) (host_queue s q) s h (λ queue. h)
+event cs s events.Reset events.Accepted ok c h = in-reset s.host.queues cs h
+  where
+    others : (n q : ℕ) (hs : List HostQueue) (cs : List ControllerQueue) → ShareQueues n q hs cs → ShareQueues n q (map (λ other. a.no_queue) hs) cs
+    others n q [] cs h = h
+    others n q (x ∷ hs) [] h = absurd h
+    others n q (x ∷ hs) (c ∷ cs) h = (any_host n q x a.no_queue c h.0, others n (suc q) hs cs h.1)
+
+    in-reset : (hs : List HostQueue) (cs : List ControllerQueue) → ShareQueues s.entries 0 hs cs → ShareQueues s.entries 0 (a.reset_queues hs) cs
+    in-reset [] cs h = h
+    in-reset (x ∷ hs) [] h = absurd h
+    in-reset (x ∷ hs) (c ∷ cs) h = (any_host s.entries 0 x (a.reset_admin x) c h.0, others s.entries 1 hs cs h.1)
 event cs s (events.Fetch q) reply ok c h = absurd (true≢false c)
 event cs s (events.Walk q cid) reply ok c h = absurd (true≢false c)
 event cs s (events.Complete q cid) reply ok c h = absurd (true≢false c)

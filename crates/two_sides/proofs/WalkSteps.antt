@@ -40,7 +40,7 @@ use Rattle.sgl_descriptor.specs.declared.Direction.{Direction}
 use Rattle.two_sides.specs.Serving.{why_of}
 use Rattle.two_sides.specs.Sides.{Sides, state_of, device_queues_of, job_of}
 use Rattle.two_sides.specs.Stepping.{LeavesPages, StepsTo, served, walks_step, walks_refuse_alike}
-use Rattle.two_sides.specs.Ties.{IsWorld, ShareQueues, AllQueuesStand, WalkStands, WalksStand}
+use Rattle.two_sides.specs.Ties.{IsWorld, ShareQueues, SharesAdmin, AllQueuesStand, WalkStands, WalksStand}
 use Rattle.two_sides.proofs.Assembling.{ServesOver, serve_refused, served_stepped}
 use Rattle.two_sides.proofs.Frames.{Spares, all_stand_still, apart_from_queues, queues_stay}
 use Rattle.two_sides.proofs.Jobs.{find_place, is_found, job-at, job-found, map_one, seen, seen_is}
@@ -136,6 +136,7 @@ module _ (s : Sides) (q cid : ℕ) (outcome : WalkState) (c : Contents) (pages :
     in_store = ap in_store told.0 ∙ unit_stays (state_of s) j dir unit.act;
     controller = is;
     queues = subst (ShareQueues s.host.entries 0 s.host.host.queues) (sym w.queues) world.sides.queues;
+    admin = subst (SharesAdmin s.host.entries s.host.host.queues) (sym w.queues) world.sides.admin;
     image = ap length w.image;
   }
 

@@ -4,10 +4,12 @@ use Rattle.std.specs.Option.{option_map}
 use Rattle.controller_core.specs.Completing.{complete_refusal}
 use Rattle.controller_core.specs.Contents.{Contents, IsController}
 use Rattle.controller_core.specs.Fetching.{Fetches, fetch_refusal}
+use Rattle.controller_core.specs.Resetting.{reset as controller_reset}
 use Rattle.controller_core.specs.Walking.{walk_refusal}
 use Rattle.controller_core.specs.declared.refusal.Refusal as controller
 use Rattle.controller_walk.specs.declared.walk.WalkState.{WalkState}
 use Rattle.host_core.specs.Alone.{HostView, HostStep, IsOver, alone}
+use Rattle.host_core.specs.Resetting.{host_reset, pages_reset}
 use Rattle.machine_model.specs.Events as events
 use Rattle.machine_model.specs.Events.{Event, Reply}
 use Rattle.machine_model.specs.Refusals.{refusal_of, seen_entry, is_reaped}
@@ -98,3 +100,19 @@ forged_entries_step =
     → IsWorld s → length bytes ≡ 16 → refusal_of (state_of s) (events.Forge q slot bytes) ≡ None → slice_get s.host.host.queues q ≡ Some h
     → LeavesPages s.pages pages → byte_at pages ≡ written (byte_at s.pages) (completion_place (first_completion_page h) slot) bytes
     → StepsTo s (events.Forge q slot bytes) events.Accepted (forged s pages)
+
+-- A reset: the host's call and the controller's, over the same pages. From then on the machine is trusted.
+abbrev pub reset_sides : Sides → Sides
+reset_sides s =
+    record {
+      host = host_reset s.host s.pages;
+      controller = controller_reset s.controller;
+      pages = pages_reset s.host s.pages;
+      trusted = true;
+    }
+
+-- Whatever was forged before, it is a step of the machine, and ties both sides.
+abbrev pub resets_step : Type 0
+resets_step =
+    (s : Sides) → IsWorld s → IsController (controller_reset s.controller) → IsOver (host_reset s.host s.pages) (pages_reset s.host s.pages)
+    → StepsTo s events.Reset events.Accepted (reset_sides s)

@@ -15,6 +15,7 @@ use Rattle.machine_model.specs.Agreeing.{SidesAgree}
 use Rattle.machine_model.specs.Always.{IsHostProvided}
 use Rattle.machine_model.specs.Claims.{IsSound}
 use Rattle.machine_model.specs.Memory.{memory_of}
+use Rattle.machine_model.specs.Recovering.{CanRecover}
 use Rattle.machine_model.specs.Refusals.{in_service, is_making_cq, is_reaped}
 use Rattle.machine_model.specs.State.{HostQueue}
 use Rattle.page_ledger.specs.Owners.{pages_from}
@@ -28,8 +29,8 @@ use Rattle.queue_pair.specs.Slots.{is_in_range}
 use Rattle.two_sides.specs.Deletions.{CompletionsServe}
 use Rattle.two_sides.specs.Sides.{Sides, state_of, completions_between}
 
--- The controller's side of queue q has n entries in each ring, as the host's has. Where its halves lie is said where nothing was forged: after a forged entry a
--- controller may have fetched an old entry that makes a queue somewhere else.
+-- The controller's side of queue q has n entries in each ring, as the host's has. Where the halves of an I/O queue lie is said where nothing was forged: after a
+-- forged entry a controller may have fetched an old entry that makes a queue somewhere else.
 pub record ShareQueue (n q : ℕ) (h : HostQueue) (c : ControllerQueue) : Type 0 where
   pub number : c.device.q ≡ q
   pub entries : c.device.entries ≡ n
@@ -42,6 +43,17 @@ ShareQueues n q [] (c ∷ cs) = ⊥
 ShareQueues n q (h ∷ hs) [] = ⊥
 ShareQueues n q (h ∷ hs) (c ∷ cs) = ShareQueue n q h c × ShareQueues n (suc q) hs cs
 
+-- Queue 0 has its halves where both sides have them, and keeps them whatever was forged: no command deletes it or makes it again.
+pub record ShareAdmin (n : ℕ) (h : HostQueue) (c : ControllerQueue) : Type 0 where
+  pub submission : h.sq_pages ≡ pages_from c.device.sq (half_pages n Submission)
+  pub completion : h.cq_pages ≡ pages_from c.device.cq (half_pages n Completion)
+
+-- it is the first on either side
+abbrev pub SharesAdmin : ℕ → List HostQueue → List ControllerQueue → Type 0
+SharesAdmin n [] cs = Unit {0}
+SharesAdmin n (h ∷ hs) [] = Unit {0}
+SharesAdmin n (h ∷ hs) (c ∷ cs) = ShareAdmin n h c
+
 -- What holds whatever was forged.
 pub record AreSides (s : Sides) : Type 0 where
   pub over : IsOver s.host s.pages
@@ -50,6 +62,7 @@ pub record AreSides (s : Sides) : Type 0 where
   pub provided : IsHostProvided s.host.entries s.host.segment s.host.host
   pub controller : IsController s.controller
   pub queues : ShareQueues s.host.entries 0 s.host.host.queues s.controller.queues
+  pub admin : SharesAdmin s.host.entries s.host.host.queues s.controller.queues
 
 -- The submission heads of the answers in a completion ring follow each other from the head that the host knows to the controller's.
 abbrev pub HeadsFollow : ℕ → ℕ → ℕ → List ComEntry → Type 0
@@ -109,7 +122,8 @@ pub record AreTied (s : Sides) : Type 0 where
   pub agree : SidesAgree (state_of s)
   pub serve : CompletionsServe (state_of s)
 
--- both together
+-- both together, and that a reset makes the machine's sides agree, whatever was forged
 pub record IsWorld (s : Sides) : Type 0 where
   pub sides : AreSides s
+  pub recovers : CanRecover (state_of s)
   pub tied : OnTrue s.trusted (AreTied s)

@@ -1,4 +1,5 @@
-//! A host and a controller over one pool of pages are the machine, step by step. Each function does nothing.
+//! A host and a controller over one pool of pages are the machine, step by step, and a reset of both ties them again, whatever was forged.
+//! Each function does nothing.
 #![tactic(auto)]
 
 mod completing;
@@ -7,6 +8,7 @@ mod fetching;
 mod forging;
 mod hosts;
 mod opening;
+mod resetting;
 mod seeing;
 mod walking;
 
@@ -19,5 +21,6 @@ pub use hosts::{
     hosts_keep_their_queues, hosts_refuse_as_the_machine,
 };
 pub use opening::opened_sides_are_the_machine;
+pub use resetting::resets_are_the_machines;
 pub use seeing::completions_are_seen_alike;
 pub use walking::{walks_are_the_machines, walks_refuse_as_the_machine};

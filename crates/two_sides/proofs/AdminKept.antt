@@ -1,0 +1,225 @@
+-- Queue 0 keeps its halves on both sides, whatever was forged: no event of the host gives them back, and no entry makes it anew at the controller.
+use Rattle.std.proofs.Common.{◌≡◌, ℕ, zero, suc, ◌==◌, nat_lt, Bool, true, false, Option, Some, None, List, [], ◌∷◌, slice_get, if◌then◌else◌, refl, ap, sym, ◌∙◌, subst}
+use Rattle.std.specs.Option.{option_map_or}
+use Rattle.std.proofs.lemmas.Bool.{cond_both, true≢false}
+use Rattle.admin_commands.specs.Entries.{named_queue}
+use Rattle.admin_commands.specs.Verdicts.{decision}
+use Rattle.admin_commands.specs.declared.AdminVerdict.{AdminVerdict}
+use Rattle.admin_commands.specs.declared.AdminVerdict.TheVariants.{Answer, AbortJob, StopQueue, DropCompletion, MakeCompletion, MakeSubmission}
+use Rattle.admin_commands.specs.declared.DeviceView.{DeviceView}
+use Rattle.controller_core.specs.Completing.{queues_of_end, without_submission}
+use Rattle.controller_core.specs.Contents.{Contents, Work, is_deletion}
+use Rattle.controller_core.specs.Doorbells.{with_side, with_tail, with_head}
+use Rattle.controller_core.specs.Managing.{queues_after, stopping, with_completion, with_submission, without_completion}
+use Rattle.controller_core.specs.declared.command.Work.TheVariants.{Io, Admin}
+use Rattle.controller_core.specs.declared.queue.ControllerQueue.{ControllerQueue}
+use Rattle.entry_codec.specs.declared.completion.ComEntry.{ComEntry}
+use Rattle.entry_codec.specs.declared.submission.SubEntry.{SubEntry}
+use Rattle.host_core.specs.Alone.{HostView, HostStep, alone}
+use Rattle.host_core.specs.Ringing.{tail_of, head_rung}
+use Rattle.machine_model.specs.After as a
+use Rattle.machine_model.specs.After.{change}
+use Rattle.machine_model.specs.Claims.{AdminLives, IsSound}
+use Rattle.machine_model.specs.Events as events
+use Rattle.machine_model.specs.Events.{Event, Reply}
+use Rattle.machine_model.specs.Refusals.{has_cq_alone, is_live}
+use Rattle.machine_model.specs.State.{State, HostQueue}
+use Rattle.machine_model.specs.Step.{HostPart, IsController, host_part}
+use Rattle.machine_model.specs.declared.words.HostState.{HostState}
+use Rattle.machine_model.specs.declared.words.HostState.TheVariants as states
+use Rattle.machine_model.proofs.AwaitedKept.{making_cq_as_heard, making_sq_as_heard}
+use Rattle.machine_model.proofs.Moves.{half_from, host_moves}
+use Rattle.machine_model.proofs.Owned.{HoldsPart, holds_from_sound}
+use Rattle.machine_model.proofs.Steps.{Accepts, kept_anyway, part_left}
+use Rattle.page_ledger.specs.Owners.{pages_from}
+use Rattle.page_memory.specs.Pages.{Pages}
+use Rattle.page_memory.specs.declared.page.Half.TheVariants.{Submission, Completion}
+use Rattle.queue_pair.specs.Memory.{half_pages}
+use Rattle.queue_pair.specs.Rings.{HostRing, hearing_head, hearing_tail, knowing, next_head, next_tail}
+use Rattle.queue_pair.specs.Slots.{is_in_range}
+use Rattle.two_sides.specs.Hearing.{heard}
+use Rattle.two_sides.specs.Sides.{Sides}
+use Rattle.two_sides.specs.Ties.{SharesAdmin}
+use Rattle.two_sides.proofs.Decisions.{Decides, decides}
+
+-- The host's queues
+
+-- queue 0 lives, and has its halves where the controller has them
+record AdminStands (n : ℕ) (hs : List HostQueue) (cs : List ControllerQueue) : Type 0 where
+  lives : AdminLives hs
+  shares : SharesAdmin n hs cs
+
+-- a change that leaves the pages of the queue
+abbrev LeavesHalves : (HostQueue → HostQueue) → Type 0
+LeavesHalves f = (x : HostQueue) → ((f x).sq_pages ≡ x.sq_pages) × ((f x).cq_pages ≡ x.cq_pages)
+
+shares_left : (n k : ℕ) (f : HostQueue → HostQueue) (hs : List HostQueue) (cs : List ControllerQueue) → LeavesHalves f → SharesAdmin n hs cs → SharesAdmin n (change k f hs) cs
+shares_left n k f [] cs leaves h = h
+shares_left n zero f (x ∷ hs) [] leaves h = h
+shares_left n zero f (x ∷ hs) (c ∷ cs) leaves h = record { submission = (leaves x).0 ∙ h.submission; completion = (leaves x).1 ∙ h.completion }
+shares_left n (suc k) f (x ∷ hs) [] leaves h = h
+shares_left n (suc k) f (x ∷ hs) (c ∷ cs) leaves h = h
+
+-- or a change of a queue that is not live, so it isn't queue 0
+shares_past : (n k : ℕ) (f : HostQueue → HostQueue) (hs : List HostQueue) (cs : List ControllerQueue) → ((x : HostQueue) → slice_get hs k ≡ Some x → is_live x.state ≡ false)
+    → AdminStands n hs cs → SharesAdmin n (change k f hs) cs
+shares_past n k f [] cs past h = h.shares
+shares_past n zero f (x ∷ hs) cs past h = absurd (true≢false (sym h.lives ∙ past x refl))
+shares_past n (suc k) f (x ∷ hs) [] past h = tt
+shares_past n (suc k) f (x ∷ hs) (c ∷ cs) past h = h.shares
+
+lives_ring : (k : ℕ) (g : HostRing → HostRing) (hs : List HostQueue) → AdminLives hs → AdminLives (change k (λ x. record x { ring = g x.ring }) hs)
+lives_ring k g [] h = h
+lives_ring zero g (x ∷ hs) h = h
+lives_ring (suc k) g (x ∷ hs) h = h
+
+stands_ring : (n k : ℕ) (g : HostRing → HostRing) (hs : List HostQueue) (cs : List ControllerQueue) → AdminStands n hs cs → AdminStands n (change k (λ x. record x { ring = g x.ring }) hs) cs
+stands_ring n k g hs cs h = record { lives = lives_ring k g hs h.lives; shares = shares_left n k (λ x. record x { ring = g x.ring }) hs cs (λ x. (refl, refl)) h.shares }
+
+alone_past : (st : HostState) → has_cq_alone st ≡ true → is_live st ≡ false
+alone_past states.Live e = absurd (true≢false (sym e))
+alone_past st e = refl
+
+event : (cs : List ControllerQueue) (s : State) (e : Event) (reply : Reply) → Accepts s e reply → IsController e ≡ false → HoldsPart (host_part s)
+    → SharesAdmin s.entries s.host.queues cs → SharesAdmin (a.after s e reply).entries (a.after s e reply).host.queues cs
+event cs s e reply ok c holds share =
+    host_moves (λ (e : Event) (reply : Reply) (t : State). SharesAdmin t.entries t.host.queues cs) s e reply ok c
+    (record {
+      reserves = λ q request d none is. share;
+      submits = λ d entry r none built its live. (stands_ring n d.q (next_tail n) hs cs h).shares;
+      cancels = λ d r its. share;
+      rings = λ q none. share;
+      rests = λ q is. share;
+      rejects = λ q why is. (stands_ring n q (next_head n) hs cs h).shares;
+      tells = λ q cid st what e r request t heard w. (told q e).shares;
+      hears = λ q cid st what e r adm t heard w quiet unmade. (told q e).shares;
+      notes = λ q cid st what e r k t heard w. shares_left n k (λ x. record x { state = _ }) (a.heard q e s).host.queues cs (λ x. (refl, refl)) (told q e).shares;
+      frees = λ q cid st what e r k queue t heard w at alone good. behind q e k a.gone (λ x ex. same at ex (alone_past queue.state alone));
+      makes_cq = λ q cid st what e r k size base t heard w good. shares_left n k a.half_made (a.heard q e s).host.queues cs (λ x. (refl, refl)) (told q e).shares;
+      unmakes_cq = λ q cid st what e r k size base queue t heard w at bad. behind q e k a.gone (λ x ex. ap is_live (making_cq_as_heard s q cid st e r k size base holds heard w x ex));
+      makes_sq = λ q cid st what e r k size base t heard w good. shares_left n k a.live (a.heard q e s).host.queues cs (λ x. (refl, refl)) (told q e).shares;
+      unmakes_sq = λ q cid st what e r k size base queue t heard w at bad. behind q e k a.unmade_sq (λ x ex. ap is_live (making_sq_as_heard s q cid st e r k size base holds heard w x ex));
+      collects = λ q cid r f at held is. share;
+      releases = λ f r its. share;
+      aborts = λ q cid id none new. sent.shares;
+      asks = λ q id queue none new live. shares_left n q a.deleting (change 0 (λ x. record x { ring = next_tail n x.ring }) hs) cs (λ x. (refl, refl)) sent.shares;
+      drops = λ q id none new. sent.shares;
+      creates_cqs = λ q id first queue none new granted.
+          shares_left n 0 (λ x. record x { ring = next_tail n x.ring }) (change q (a.making_cq (half_from Completion first s)) hs) cs (λ x. (refl, refl))
+          (shares_past n q (a.making_cq (half_from Completion first s)) hs cs (λ x ex. same granted.there ex (ap is_live granted.state)) h);
+      creates_sqs = λ q id first queue none new granted.
+          shares_left n 0 (λ x. record x { ring = next_tail n x.ring }) (change q (a.making_sq (half_from Submission first s)) hs) cs (λ x. (refl, refl))
+          (shares_past n q (a.making_sq (half_from Submission first s)) hs cs (λ x ex. same granted.there ex (ap is_live granted.state)) h);
+      retires = λ q queue none at deleted. shares_past n q a.retired hs cs (λ x ex. same at ex (ap is_live deleted)) h;
+      forges = λ q slot bytes queue none at. share;
+      resets = reset hs cs share;
+    })
+  where
+    n : ℕ
+    n = s.entries
+
+    hs : List HostQueue
+    hs = s.host.queues
+
+    h : AdminStands n hs cs
+    h = record { lives = holds.admin; shares = share }
+
+    told : (q : ℕ) (e : ComEntry) → AdminStands n (a.heard q e s).host.queues cs
+    told q e = stands_ring n q (knowing e.sqhd) (change q (λ x. record x { ring = next_head n x.ring }) hs) cs (stands_ring n q (next_head n) hs cs h)
+
+    sent : AdminStands n (change 0 (λ x. record x { ring = next_tail n x.ring }) hs) cs
+    sent = stands_ring n 0 (next_tail n) hs cs h
+
+    same : {o : Option HostQueue} {x y : HostQueue} → o ≡ Some x → o ≡ Some y → is_live x.state ≡ false → is_live y.state ≡ false
+    same {o} {x} {y} at ex past = let is : x ≡ y = cc (at, ex) in subst (λ (z : HostQueue). is_live z.state ≡ false) is past
+
+    behind : (q : ℕ) (e : ComEntry) (k : ℕ) (f : HostQueue → HostQueue) → ((x : HostQueue) → slice_get (a.heard q e s).host.queues k ≡ Some x → is_live x.state ≡ false)
+        → SharesAdmin n (change k f (a.heard q e s).host.queues) cs
+    behind q e k f past = shares_past n k f (a.heard q e s).host.queues cs past (told q e)
+
+    reset : (hs : List HostQueue) (cs : List ControllerQueue) → SharesAdmin n hs cs → SharesAdmin n (a.reset_queues hs) cs
+    reset [] cs share = share
+    reset (x ∷ hs) [] share = share
+    reset (x ∷ hs) (c ∷ cs) share = record { submission = share.submission; completion = share.completion }
+
+-- The controller's queues
+
+-- a change that leaves where the halves begin, or one of another queue
+abbrev LeavesPlaces : (ControllerQueue → ControllerQueue) → Type 0
+LeavesPlaces g = (c : ControllerQueue) → ((g c).device.sq ≡ c.device.sq) × ((g c).device.cq ≡ c.device.cq)
+
+pub places_left : (n k : ℕ) (g : ControllerQueue → ControllerQueue) (hs : List HostQueue) (cs : List ControllerQueue) → LeavesPlaces g → SharesAdmin n hs cs → SharesAdmin n hs (change k g cs)
+places_left n k g [] cs leaves h = tt
+places_left n k g (x ∷ hs) [] leaves h = h
+places_left n zero g (x ∷ hs) (c ∷ cs) leaves h =
+    record {
+      submission = h.submission ∙ ap (λ (p : ℕ). pages_from p (half_pages n Submission)) (sym (leaves c).0);
+      completion = h.completion ∙ ap (λ (p : ℕ). pages_from p (half_pages n Completion)) (sym (leaves c).1);
+    }
+places_left n (suc k) g (x ∷ hs) (c ∷ cs) leaves h = h
+
+places_past : (n k : ℕ) (g : ControllerQueue → ControllerQueue) (hs : List HostQueue) (cs : List ControllerQueue) → (k == 0) ≡ false → SharesAdmin n hs cs → SharesAdmin n hs (change k g cs)
+places_past n k g [] cs other h = tt
+places_past n k g (x ∷ hs) [] other h = h
+places_past n zero g (x ∷ hs) (c ∷ cs) other h = absurd (true≢false other)
+places_past n (suc k) g (x ∷ hs) (c ∷ cs) other h = h
+
+-- it hears a doorbell
+
+tail_leaves : (v : ℕ) → LeavesPlaces (with_tail v)
+tail_leaves v c =
+    cond_both (nat_lt v c.device.entries) (with_side (record c.device { ring = hearing_tail v c.device.ring }) c) c (λ x. (x.device.sq ≡ c.device.sq) × (x.device.cq ≡ c.device.cq)) (λ e. (refl, refl)) (λ e. (refl, refl))
+
+head_leaves : (v : ℕ) → LeavesPlaces (with_head v)
+head_leaves v c =
+    cond_both (is_in_range c.device.entries c.device.ring.known_head c.device.ring.tail v) (with_side (record c.device { ring = hearing_head v c.device.ring }) c) c (λ x. (x.device.sq ≡ c.device.sq) × (x.device.cq ≡ c.device.cq))
+    (λ e. (refl, refl)) (λ e. (refl, refl))
+
+hearing : (e : Event) (reply : Reply) (v : HostView) (n : ℕ) (hs : List HostQueue) (c : Contents) → SharesAdmin n hs c.queues → SharesAdmin n hs (heard e reply v c).queues
+hearing e (events.Refused why touched) v n hs c h = h
+hearing (events.Ring q) events.Accepted v n hs c h = go (tail_of v q)
+  where
+    go : (o : Option ℕ) → SharesAdmin n hs (option_map_or (λ tail. record c { queues = change q (with_tail tail) c.queues }) o c).queues
+    go None = h
+    go (Some tail) = places_left n q (with_tail tail) hs c.queues (tail_leaves tail) h
+hearing (events.Reap q) (events.Reaps what) v n hs c h = go (head_rung v q what)
+  where
+    go : (o : Option ℕ) → SharesAdmin n hs (option_map_or (λ head. record c { queues = change q (with_head head) c.queues }) o c).queues
+    go None = h
+    go (Some head) = places_left n q (with_head head) hs c.queues (head_leaves head) h
+hearing e reply v n hs c h = h
+
+-- a step of the host, and what the controller hears of it
+pub admin_behind : (s : Sides) (e : Event) (reply : Reply) (host : HostView) (pages : Pages) → IsController e ≡ false → HostStep s.host s.pages e reply host pages → IsSound (alone s.host s.pages)
+    → SharesAdmin s.host.entries s.host.host.queues s.controller.queues → SharesAdmin host.entries host.host.queues (heard e reply host s.controller).queues
+admin_behind s e reply host pages c step sound share =
+    hearing e reply host host.entries host.host.queues s.controller
+    (subst Shares (sym (part_left before e reply (alone host pages) step.2))
+    (kept_anyway Shares before e reply (IsController e) refl step.1 (λ ok c'. event s.controller.queues before e reply ok c' (holds_from_sound before sound)) share))
+  where
+    before : State
+    before = alone s.host s.pages
+
+    Shares : HostPart → Type 0
+    Shares part = SharesAdmin part.entries part.host.queues s.controller.queues
+
+-- What an entry of queue 0 decides, and what the end of a command leaves
+
+pub admin_verdict : (e : SubEntry) (view : DeviceView) (n : ℕ) (hs : List HostQueue) (cs : List ControllerQueue) → SharesAdmin n hs cs → SharesAdmin n hs (queues_after (decision e view) cs)
+admin_verdict e view n hs cs share = go (decision e view) (decides e view)
+  where
+    go : (v : AdminVerdict) → Decides e view v → SharesAdmin n hs (queues_after v cs)
+    go (Answer st dw0) d = share
+    go (AbortJob q cid) d = share
+    go (StopQueue q) d = places_left n q stopping hs cs (λ c. (refl, refl)) share
+    go (DropCompletion q) d = places_left n q without_completion hs cs (λ c. (refl, refl)) share
+    go (MakeCompletion q base) d = places_past n q (with_completion base) hs cs d.other share
+    go (MakeSubmission q base) d = places_past n q (with_submission base) hs cs d.other share
+
+pub admin_ended : (n : ℕ) (work : Work) (hs : List HostQueue) (cs : List ControllerQueue) → SharesAdmin n hs cs → SharesAdmin n hs (queues_of_end work cs)
+admin_ended n (Io job) hs cs share = share
+admin_ended n (Admin entry status dw0) hs cs share = go (is_deletion entry status)
+  where
+    go : (b : Bool) → SharesAdmin n hs (if b then change (named_queue entry) without_submission cs else cs)
+    go true = places_left n (named_queue entry) without_submission hs cs (λ c. (refl, refl)) share
+    go false = share
