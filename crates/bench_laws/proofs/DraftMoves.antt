@@ -140,4 +140,5 @@ moves t (step.Retire q) reply.Accepted new d = passes t new (step.Retire q) repl
 moves t (step.Retire q) (reply.Refused why touched) new d = passes t new (step.Retire q) (reply.Refused why touched) (events.Retire q) (events.Refused why touched) (λ x y. refl) (λ x y. (refl, refl)) d
 moves t (step.Forge q slot bytes) reply.Accepted new d = passes t new (step.Forge q slot bytes) reply.Accepted (events.Forge q slot bytes) events.Accepted (λ x y. refl) (λ x y. (refl, refl)) d
 moves t (step.Forge q slot bytes) (reply.Refused why touched) new d = passes t new (step.Forge q slot bytes) (reply.Refused why touched) (events.Forge q slot bytes) (events.Refused why touched) (λ x y. refl) (λ x y. (refl, refl)) d
+moves t step.Reset reply.Accepted new d = passes t new step.Reset reply.Accepted events.Reset events.Accepted (λ x y. refl) (λ x y. (refl, refl)) d
 moves t what answer new d = absurd d

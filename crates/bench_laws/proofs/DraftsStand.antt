@@ -39,7 +39,7 @@ none_named t new q request d step h = go (list_any (is_draft d.q d.cid) t.drafts
         absurd (true≢false (sym (found_any (is_at d.q d.cid) t.world.host.records s.0 s.1) ∙ none_there t.world new q request d step))
 
 reserved_drafted : (s new : State) (q : ℕ) (request : Request) (d : DraftContents) → machine.Step s (events.Reserve q request) (events.Reserved d) new → Drafts d.q d.cid new.host.records
-reserved_drafted s new q request d step = (drafted_record d, record_reserved s new q request d step, refl)
+reserved_drafted s new q request d step = (drafted_record d, record_reserved s new q request d step, record { phase = refl; request = d.request; work = refl })
 
 -- One step
 

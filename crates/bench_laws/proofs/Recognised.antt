@@ -67,6 +67,7 @@ submits_at t draft (step.CreateCq k) e = absurd cc
 submits_at t draft (step.CreateSq k) e = absurd cc
 submits_at t draft (step.Retire k) e = absurd cc
 submits_at t draft (step.Forge k slot bytes) e = absurd cc
+submits_at t draft step.Reset e = absurd cc
 
 pub submission_is : (e : Event) (r : events.Reply) (draft : DraftContents) → submitted_by e r ≡ draft ∷ [] → e ≡ events.Submit draft
 submission_is (events.Submit x) events.Accepted draft is = cc
@@ -111,6 +112,7 @@ collects_at t q cid (step.CreateCq k) e = absurd cc
 collects_at t q cid (step.CreateSq k) e = absurd cc
 collects_at t q cid (step.Retire k) e = absurd cc
 collects_at t q cid (step.Forge k slot bytes) e = absurd cc
+collects_at t q cid step.Reset e = absurd cc
 
 pub collection_is : (e : Event) (r : events.Reply) (f : FinishedContents) → collected_of e r ≡ Some f → r ≡ events.Collects f
 collection_is (events.Collect q cid) (events.Collects x) f is = cc

@@ -1,5 +1,6 @@
 -- The steps of a bench make a trusted run with the values that it keeps.
 use Rattle.std.proofs.Common.{◌≡◌, ℕ, Bool, true, false, not, is_none, List, [], ◌∷◌, ◌++◌, refl, ap, sym, ◌∙◌, subst, append-nil, append_assoc}
+use Rattle.machine_model.specs.Histories as histories
 use Rattle.machine_model.specs.Image.{Made}
 use Rattle.machine_model.specs.Laws.{Steps, TrustedRun}
 use Rattle.machine_model.specs.Script.{Table, table}
@@ -8,9 +9,9 @@ use Rattle.machine_model.specs.Step as machine
 use Rattle.step_core.specs.Values.{Reply}
 use Rattle.step_core.specs.Values.{Step}
 use Rattle.step_core.specs.Opening.{opening_of}
-use Rattle.bench_laws.specs.Values.{Done, Goes, benches_have_tables, TrustedBench, event_at, MadeBy, benches_make_runs_of_their_values, benches_of_trusted_worlds_are_unforged}
+use Rattle.bench_laws.specs.Values.{Done, Goes, benches_have_tables, TrustedBench, event_at, MadeBy, since_reset, benches_make_runs_of_their_values, benches_of_trusted_worlds_are_unforged}
 use Rattle.machine_model.proofs.NeverRestored.{ends_unforged}
-use Rattle.bench_laws.proofs.Forgeries.{same_forgeries}
+use Rattle.bench_laws.proofs.Forgeries.{same_forgeries, same_since}
 use Rattle.bench_laws.proofs.KeptValues.{AreFrom}
 use Rattle.bench_laws.proofs.StepsMade.{InRun, stepped}
 
@@ -95,4 +96,4 @@ makes_run image done end b =
 pub unforged_where_trusted : benches_of_trusted_worlds_are_unforged
 unforged_where_trusted config image done end goes trusted =
     let r = ran [] (table (opening_of config image)) done end nothing_kept goes in
-    ap not (same_forgeries done r.made r.values) ∙ ends_unforged r.made (opening_of config image) end.world r.steps trusted
+    ap not (same_forgeries (since_reset done) (histories.since_reset r.made) (same_since done r.made r.values)) ∙ ends_unforged r.made (opening_of config image) end.world r.steps trusted

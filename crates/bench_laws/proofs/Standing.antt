@@ -1,24 +1,27 @@
 -- A drafted command stays so until it is submitted or cancelled, and a collected one until it is released, whatever else happens. A
 -- collected command is not collected again before.
 use Rattle.std.proofs.Common.{◌≡◌, ℕ, ◌==◌, nat_eq, Bool, true, false, not, ◌&&◌, ◌||◌, Option, Some, None, List, [], ◌∷◌, ◌++◌, map, find, is_none, if◌then◌else◌, refl, ap, sym, ◌∙◌, subst, MatchBool}
-use Rattle.std.specs.Option.{option_map_or}
+use Rattle.std.specs.Option.{option_and_then, option_map, option_map_or}
 use Rattle.std.proofs.lemmas.Bool.{true≢false, not-false, and_parts, or_parts}
 use Rattle.std.specs.Cmp.Lexicographic.{pointwise}
 use Rattle.io_commands.specs.Asked.{Request}
 use Rattle.admin_commands.specs.declared.AdminKind.TheVariants.{Abort, DeleteSq, DeleteCq}
+use Rattle.entry_codec.specs.declared.status.Status.{Status}
 use Rattle.entry_codec.specs.declared.status.TheConstants.Status.{ABORTED_SQ_DELETION}
 use Rattle.io_commands.specs.Values.{FinishedContents, numbers_of}
 use Rattle.machine_model.specs.Memory.{without_pages}
-use Rattle.machine_model.specs.declared.words.Work.TheVariants.{Io}
+use Rattle.machine_model.specs.Commands.{Work}
+use Rattle.machine_model.specs.declared.words.Work.TheVariants.{Io, Management}
 use Rattle.machine_model.specs.declared.words.Phase.{Phase}
 use Rattle.machine_model.specs.declared.words.Phase.TheVariants.{Drafted, Submitted, Held, Collected}
 use Rattle.machine_model.specs.State.{State, Record, is_at, record_at, pages_of, with_record, without_record}
 use Rattle.machine_model.specs.Refusals.{asks_for, is_submitted, is_drafted, is_held, is_collected, is_live, refusal_of, record_is, is_of, in_state, queue_full}
-use Rattle.machine_model.specs.Step.{Step, HostPart, IsController}
+use Rattle.machine_model.specs.Step.{Step, HostPart, IsController, asked_by, finished_from, pages_with_bytes}
 use Rattle.machine_model.specs.After as a
 use Rattle.machine_model.specs.Events as events
 use Rattle.machine_model.specs.Events.{Event, Reply}
 use Rattle.machine_model.specs.declared.words.Refusal.TheVariants as refusals
+use Rattle.machine_model.proofs.Ended.{io_left}
 use Rattle.machine_model.proofs.Moves.{creates_cq, creates_sq, host_moves, sent_record}
 use Rattle.machine_model.proofs.Steps.{Accepts, part_left}
 use Rattle.machine_model.proofs.Refused.{first_fails, found}
@@ -26,9 +29,15 @@ use Rattle.host_core.proofs.Lists.{found_is}
 use Rattle.step_core.proofs.Outstanding.{one_step}
 use Rattle.step_core.proofs.Records.{find_more, find_changed, other_than, off_name, apart, found_with, found_without}
 
--- the record of a name is in a phase that passes a test
+-- an I/O command in a phase that passes a test
+pub record IsIn (test : Phase → Bool) (r : Record) : Type 0 where
+  pub phase : test r.phase ≡ true
+  pub request : Request
+  pub work : r.work ≡ Io request
+
+-- the record of a name is that of one
 abbrev pub StandsIn : (Phase → Bool) → ℕ → ℕ → List Record → Type 0
-StandsIn test q cid rs = (r : Record) × (find (is_at q cid) rs ≡ Some r) × (test r.phase ≡ true)
+StandsIn test q cid rs = (r : Record) × (find (is_at q cid) rs ≡ Some r) × IsIn test r
 
 abbrev pub Drafts : ℕ → ℕ → List Record → Type 0
 Drafts q cid rs = StandsIn is_drafted q cid rs
@@ -63,7 +72,7 @@ unheld test rests ph e = (or_parts (is_submitted ph) (is_held ph) (rests ph e)).
 -- a record in another phase is of another name
 other_name : (test other : Phase → Bool) → ((ph : Phase) → test ph ≡ true → other ph ≡ false) → (q cid k n : ℕ) (rs : List Record) (s : StandsIn test q cid rs) (x : Record) → find (is_at k n) rs ≡ Some x → other x.phase ≡ true → is_at k n s.0 ≡ false
 other_name test other none q cid k n rs (r, at, is) x there in_phase =
-    other_than q cid k n rs r at x there (λ same. true≢false (sym in_phase ∙ ap (λ (y : Record). other y.phase) same ∙ none r.phase is))
+    other_than q cid k n rs r at x there (λ same. true≢false (sym in_phase ∙ ap (λ (y : Record). other y.phase) same ∙ none r.phase is.phase))
 
 -- What changes records
 
@@ -82,8 +91,13 @@ stands_lost test rests q cid k rs (r, at, is) =
     each x false = refl
 
     stays : (b : Bool) → (b && is_submitted r.phase) ≡ false
-    stays true = unsubmitted test rests r.phase is
+    stays true = unsubmitted test rests r.phase is.phase
     stays false = refl
+
+-- a reset loses what is submitted, and the commands of the admin queue
+stands_reset : (test : Phase → Bool) → Rests test → (q cid : ℕ) (s : State) → StandsIn test q cid s.host.records → StandsIn test q cid (a.reset_records s.host.records)
+stands_reset test rests q cid s (r, at, is) =
+    (r, io_left s q cid r is.request at is.work ∙ ap (λ (b : Bool). Some (if b then record r { phase = Held; status = Some ABORTED_SQ_DELETION } else r)) (unsubmitted test rests r.phase is.phase), is)
 
 -- One event
 
@@ -141,6 +155,7 @@ event_stands test rests q cid s e reply far ok c h =
       creates_sqs = λ k id first queue none new granted far. more (sent_record (creates_sq k first s) id ∷ []);
       retires = λ k queue none at deleted far. stands_lost test rests q cid k s.host.records h;
       forges = λ k slot bytes queue none at far. h;
+      resets = λ far. stands_reset test rests q cid s h;
     })
     far
   where
@@ -231,12 +246,33 @@ not_again q cid k n s new f step h =
     let ok : Accepts s (events.Collect k n) (events.Collects f) = accepted _ s.trusted step.1 in
     apart q cid k n s.host.records h.0 h.1 (collect_far is_collected collected_rests q cid k n s ok.0 h)
 
+-- a finished command is an I/O command's
+asked_io : (s : State) (r : Record) (f : FinishedContents) → finished_from s r ≡ Some f → (request : Request) × (r.work ≡ Io request)
+asked_io s r f is = go r.work refl (asked_by r.work) refl is
+  where
+    go : (w : Work) → r.work ≡ w → (o : Option Request) → asked_by r.work ≡ o
+        → option_and_then
+        (λ (asked : Request). option_map
+        (λ (st : Status). record { q = r.q; cid = r.cid; request = asked; status = st; data_pages = pages_with_bytes s.memory r.data_pages; chain_pages = pages_with_bytes s.memory r.chain_pages })
+        r.status)
+        o ≡ Some f
+        → (request : Request) × (r.work ≡ Io request)
+    go (Io request) work o asked is = (request, work)
+    go (Management adm) work None asked is = absurd cc
+    go (Management adm) work (Some request) asked is = let none : asked_by r.work ≡ None = ap asked_by work in absurd cc
+
 pub collected_stands : (k n : ℕ) (s new : State) (f : FinishedContents) → Step s (events.Collect k n) (events.Collects f) new → Stands k n new.host.records
 collected_stands k n s new f step =
     subst (λ (part : HostPart). Stands k n part.host.records) (sym (part_left s (events.Collect k n) (events.Collects f) new step.2)) (go (record_at s.host k n) x.is)
   where
+    ok : Accepts s (events.Collect k n) (events.Collects f)
+    ok = accepted _ s.trusted step.1
+
     x : IsKnown s k n
-    x = known s k n (accepted _ s.trusted step.1).0
+    x = known s k n ok.0
+
+    io : (request : Request) × (x.command.work ≡ Io request)
+    io = asked_io s x.command f (ap (option_and_then (finished_from s)) (sym x.is) ∙ ok.1)
 
     go : (o : Option Record) → o ≡ Some x.command → Stands k n (option_map_or (λ r. a.on_records (with_record k n a.collected) (a.on_memory (without_pages (pages_of r)) s)) o s).host.records
     go None e = absurd cc
@@ -244,5 +280,5 @@ collected_stands k n s new f step =
       a.collected x.command,
       found_with k n k n s.host.records x.command x.is a.collected (λ y. refl)
           ∙ ap (λ (b : Bool). Some (if b then a.collected x.command else x.command)) (found_is (is_at k n) s.host.records x.command x.is),
-      refl,
+      record { phase = refl; request = io.0; work = io.1 },
     )

@@ -220,4 +220,5 @@ stepped past t (step.Retire q) reply.Accepted new h d = passes past t new (step.
 stepped past t (step.Retire q) (reply.Refused why touched) new h d = passes past t new (step.Retire q) (reply.Refused why touched) (events.Retire q) (events.Refused why touched) refl refl tt (λ x y. refl) (λ x y. refl) d h
 stepped past t (step.Forge q slot bytes) reply.Accepted new h d = passes past t new (step.Forge q slot bytes) reply.Accepted (events.Forge q slot bytes) events.Accepted refl refl tt (λ x y. refl) (λ x y. refl) d h
 stepped past t (step.Forge q slot bytes) (reply.Refused why touched) new h d = passes past t new (step.Forge q slot bytes) (reply.Refused why touched) (events.Forge q slot bytes) (events.Refused why touched) refl refl tt (λ x y. refl) (λ x y. refl) d h
+stepped past t step.Reset reply.Accepted new h d = passes past t new step.Reset reply.Accepted events.Reset events.Accepted refl refl tt (λ x y. refl) (λ x y. refl) d h
 stepped past t what answer new h d = absurd d

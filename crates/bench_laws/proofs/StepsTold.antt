@@ -106,6 +106,7 @@ same_by t (step.CreateCq k) answer e reply asks says = by_other t (step.CreateCq
 same_by t (step.CreateSq k) answer e reply asks says = by_other t (step.CreateSq k) answer (events.CreateSq k) e reply (inside asks) (λ ds image. refl) refl (λ ds image. refl) refl
 same_by t (step.Retire k) answer e reply asks says = by_other t (step.Retire k) answer (events.Retire k) e reply (inside asks) (λ ds image. refl) refl (λ ds image. refl) refl
 same_by t (step.Forge k slot bytes) answer e reply asks says = by_other t (step.Forge k slot bytes) answer (events.Forge k slot bytes) e reply (inside asks) (λ ds image. refl) refl (λ ds image. refl) refl
+same_by t step.Reset answer e reply asks says = by_other t step.Reset answer events.Reset e reply (inside asks) (λ ds image. refl) refl (λ ds image. refl) refl
 
 -- a step outside the machine
 
@@ -139,6 +140,7 @@ none_by t (step.CreateCq k) answer e = absurd cc
 none_by t (step.CreateSq k) answer e = absurd cc
 none_by t (step.Retire k) answer e = absurd cc
 none_by t (step.Forge k slot bytes) answer e = absurd cc
+none_by t step.Reset answer e = absurd cc
 
 -- Steps
 

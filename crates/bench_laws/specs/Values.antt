@@ -10,9 +10,9 @@ use Rattle.machine_model.specs.Laws.{TrustedRun}
 use Rattle.machine_model.specs.Script.{Table, table, is_ticket, finished_at}
 use Rattle.machine_model.specs.State.{State}
 use Rattle.step_core.specs.Bench.{Does, DoesAll}
+use Rattle.step_core.specs.Going.{forges_by}
 use Rattle.step_core.specs.Laws.{Says}
 use Rattle.step_core.specs.Values.{Reply}
-use Rattle.step_core.specs.declared.step.Reply.TheVariants as reply
 use Rattle.step_core.specs.Values.{Step}
 use Rattle.step_core.specs.declared.step.Step.TheVariants as step
 use Rattle.host_core.specs.Opening.{refusal_of_config}
@@ -44,14 +44,24 @@ abbrev pub benches_have_tables : Type 0
 benches_have_tables = (t end : Table) (steps : List Step) (answers : List Reply) → DoesAll t steps answers end → HasTables t steps answers end
 
 -- whether a step forged an entry
-abbrev pub forges_by : Step → Reply → Bool
-forges_by (step.Forge q slot bytes) reply.Accepted = true
-forges_by what answer = false
-
 abbrev pub is_forgery : Done → Bool
 is_forgery d = forges_by d.what d.answer
 
--- a bench that was opened and did these steps, and in which nothing was forged: none of the steps is an accepted forgery
+-- whether a step is a reset
+abbrev pub resets_by : Step → Bool
+resets_by step.Reset = true
+resets_by what = false
+
+abbrev pub is_reset : Done → Bool
+is_reset d = resets_by d.what
+
+-- the steps behind the last reset, and all of them where there is none
+abbrev pub since_reset : List Done → List Done
+since_reset [] = []
+since_reset (d ∷ done) = if list_any is_reset done then since_reset done else if is_reset d then done else d ∷ done
+
+-- a bench that was opened and did these steps, resets among them or not, and in which nothing was forged: none of the steps is an accepted
+-- forgery
 pub record TrustedBench (image : List ℕ) (done : List Done) (end : Table) : Type 0 where
   pub config : Config
   pub opens : refusal_of_config config ≡ None
@@ -59,11 +69,12 @@ pub record TrustedBench (image : List ℕ) (done : List Done) (end : Table) : Ty
   pub goes : Goes (table (opening_of config image)) done end
   pub unforged : IsTrue (not (list_any is_forgery done))
 
--- in a bench whose world is trusted nothing was forged since it opened: no step restores the trust
+-- in a bench whose world is trusted nothing was forged since the last reset, or since it opened where there was none: no other step restores
+-- the trust
 abbrev pub benches_of_trusted_worlds_are_unforged : Type 0
 benches_of_trusted_worlds_are_unforged =
     (config : Config) (image : List ℕ) (done : List Done) (end : Table) → Goes (table (opening_of config image)) done end → IsTrue end.world.trusted
-    → IsTrue (not (list_any is_forgery done))
+    → IsTrue (not (list_any is_forgery (since_reset done)))
 
 -- The machine's steps
 
@@ -90,6 +101,7 @@ event_at t (step.CreateCq q) = Some (events.CreateCq q)
 event_at t (step.CreateSq q) = Some (events.CreateSq q)
 event_at t (step.Retire q) = Some (events.Retire q)
 event_at t (step.Forge q slot bytes) = Some (events.Forge q slot bytes)
+event_at t step.Reset = Some events.Reset
 
 -- what the bench keeps of the machine's reply: a reserved command's draft, and a collected command
 abbrev pub Keeps : Table → events.Reply → Table → Type 0

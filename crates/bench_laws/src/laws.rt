@@ -11,7 +11,8 @@ ghost use Rattle.bench_laws.specs.Values.{benches_have_tables, benches_make_runs
 /// Each step that is an event makes one step of the run: a submission with the draft that the bench keeps under that name, filled and built
 /// as its steps said, and a collection with the finished command that the bench keeps from there on.
 ///
-/// That nothing was forged is said of the steps: none of them is an accepted forgery. Of a bench whose world is trusted it is so.
+/// That nothing was forged is said of the steps: none of them is an accepted forgery. Resets may be among them. Of a bench whose world is
+/// trusted it is so of the steps behind the last reset, and of all of them where there is none.
 pub fn law_of_values()
     ensures tables { benches_have_tables }
     ensures runs { benches_make_runs_of_their_values }
@@ -25,7 +26,7 @@ pub fn law_of_values()
 /// Nothing else of its data pages differs from those of the reservation.
 ///
 /// And so it is of each submission: a draft that a bench keeps was reserved in a step since it opened, and neither submitted nor
-/// cancelled since.
+/// cancelled since. A reset takes none.
 pub fn law_of_submitted_drafts()
     ensures reservation { submitted_drafts_were_reserved }
     ensures contents { benches_submit_what_they_reserved_and_filled }
@@ -36,21 +37,22 @@ pub fn law_of_submitted_drafts()
 ///
 /// A Read that ended with success gathers its blocks' bytes but for the discarded ones, from the image of the run at its fetch. One
 /// that was fetched gathers so many of their first bytes, and its draft's own bytes behind them; one that was not, its draft's own bytes
-/// alone.
+/// alone. One that was lost, with its queue or by a reset, may be either of these two.
 pub fn law_of_gathering()
     ensures commands { gathered_bytes_are_of_collected_commands }
     ensures reads { gathered_reads_have_their_blocks }
 {}
 
 /// Where nothing was forged, the image is the opening's, changed by each Write that a step completed with success, in the order of those
-/// steps: the bytes of the draft that the bench kept as it submitted it, over just its blocks.
+/// steps: the bytes of the draft that the bench kept as it submitted it, over just its blocks. So a Write that a reset lost changed it only
+/// where a step had completed it before with success.
 pub fn law_of_writes()
     ensures { benches_write_their_blocks }
 {}
 
-/// Where nothing was forged, a Compare that ended neither by an Abort or a deletion nor for blocks beyond the image succeeds exactly where its
-/// blocks are then the bytes of the draft that the bench kept as it submitted it, and else fails as a Compare. The image is then the
-/// opening's, changed by the Writes before.
+/// Where nothing was forged, a Compare that a step completes, neither by an Abort or a deletion nor for blocks beyond the image, succeeds
+/// exactly where its blocks are then the bytes of the draft that the bench kept as it submitted it, and else fails as a Compare. The image is
+/// then the opening's, changed by the Writes before.
 pub fn law_of_compares()
     ensures { benches_compare_their_blocks }
 {}

@@ -1,15 +1,17 @@
 -- Each step of a bench has an answer.
-use Rattle.std.proofs.Common.{◌≡◌, ◌⊎◌, inl, inr, ℕ, Bool, true, false, Option, Some, None, List, [], ◌∷◌, ◌++◌, refl}
+use Rattle.std.proofs.Common.{◌≡◌, ◌⊎◌, inl, inr, ℕ, Bool, true, false, ◌||◌, Option, Some, None, List, [], ◌∷◌, ◌++◌, MatchBool, refl}
 use Rattle.std.specs.List.{list_any}
 use Rattle.controller_walk.specs.declared.walk.WalkState.{WalkState}
 use Rattle.io_commands.specs.Drafts.{DraftContents}
 use Rattle.io_commands.specs.Values.{FinishedContents}
 use Rattle.io_commands.specs.declared.draft.FillFault.{FillFault}
+use Rattle.machine_model.specs.After.{after_reset}
 use Rattle.machine_model.specs.Events as events
 use Rattle.machine_model.specs.Events.{Event}
 use Rattle.machine_model.specs.declared.words.Reaped.{Reaped}
 use Rattle.machine_model.specs.Image.{is_draft, draft_of}
 use Rattle.machine_model.specs.Proper.{IsProper, IsProperDraft}
+use Rattle.machine_model.specs.Refusals.{refusal_of}
 use Rattle.machine_model.specs.Script.{Table, is_finished, finished_at, is_ticket, fill_fault}
 use Rattle.machine_model.specs.State.{State}
 use Rattle.machine_model.specs.Step as machine
@@ -70,6 +72,14 @@ retires t q (inr h) = leaves t (step.Retire q) reply.Accepted h.0 (h.1, refl)
 forges : (t : Table) (q slot : ℕ) (bytes : List ℕ) → MayBeAccepted t.world (events.Forge q slot bytes) → GoesOn t (step.Forge q slot bytes)
 forges t q slot bytes (inl h) = refused t (step.Forge q slot bytes) h.0 h.1 (h.2, refl)
 forges t q slot bytes (inr h) = leaves t (step.Forge q slot bytes) reply.Accepted h.0 (h.1, refl)
+
+-- a reset is never refused
+resets : (t : Table) → GoesOn t step.Reset
+resets t = leaves t step.Reset reply.Accepted (after_reset t.world) ((tt, permits t.world.trusted, refl), refl)
+  where
+    permits : (trusted : Bool) → MatchBool (trusted || true) ((refusal_of t.world events.Reset ≡ None) × Unit {0}) ⊥
+    permits true = (refl, tt)
+    permits false = (refl, tt)
 
 reaps : (t : Table) (q : ℕ)
     → IsRefused t.world (events.Reap q) ⊎ ((what : Reaped) × (left : State) × machine.Step t.world (events.Reap q) (events.Reaps what) left)
@@ -198,3 +208,4 @@ goes_on t (step.CreateCq q) h fit = creates_cq t q (create_cq_answered t.world q
 goes_on t (step.CreateSq q) h fit = creates_sq t q (create_sq_answered t.world q)
 goes_on t (step.Retire q) h fit = retires t q (acceptable t.world (events.Retire q) tt refl)
 goes_on t (step.Forge q slot bytes) h fit = forges t q slot bytes (acceptable t.world (events.Forge q slot bytes) fit refl)
+goes_on t step.Reset h fit = resets t

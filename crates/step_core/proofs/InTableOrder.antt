@@ -157,6 +157,7 @@ keeps_order keep fresh held t (step.Retire q) reply.Accepted new h is = passes k
 keeps_order keep fresh held t (step.Retire q) (reply.Refused why touched) new h is = passes keep t (events.Retire q) (events.Refused why touched) new h is
 keeps_order keep fresh held t (step.Forge q slot bytes) reply.Accepted new h is = passes keep t (events.Forge q slot bytes) events.Accepted new h is
 keeps_order keep fresh held t (step.Forge q slot bytes) (reply.Refused why touched) new h is = passes keep t (events.Forge q slot bytes) (events.Refused why touched) new h is
+keeps_order keep fresh held t step.Reset reply.Accepted new h is = passes keep t events.Reset events.Accepted new h is
 keeps_order keep fresh held t what answer new h is = absurd is
 
 pub bench_opens : benches_open_in_order

@@ -11,5 +11,6 @@ pub mod Forging
 pub mod Opening
 pub mod Outstanding
 pub mod Records
+pub mod Resetting
 pub mod Rows
 pub mod Benches

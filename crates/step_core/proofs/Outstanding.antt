@@ -18,9 +18,11 @@ use Rattle.machine_model.specs.Step.{Step, HostPart, IsController, IsReserved, I
 use Rattle.machine_model.specs.After as a
 use Rattle.machine_model.specs.Events as events
 use Rattle.machine_model.specs.Events.{Event, Reply}
+use Rattle.machine_model.proofs.Ended.{io_left}
 use Rattle.machine_model.proofs.Frames.{host_leaves}
 use Rattle.machine_model.proofs.Moves.{host_moves, drafted_record, sent_record, creates_cq, creates_sq}
 use Rattle.machine_model.proofs.PlacesKept.{ids_of}
+use Rattle.machine_model.proofs.Resetting.{reset_length}
 use Rattle.machine_model.proofs.Steps.{Accepts, part_controller, part_left}
 use Rattle.host_core.proofs.Identifiers.{outstanding-among}
 use Rattle.host_core.proofs.Lists.{length-change, some_is}
@@ -65,6 +67,13 @@ lost q cid k rs (r, at, asked, is) = (a.lost k r, find_changed (is_at q cid) (a.
     its true = refl
     its false = refl
 
+reset : (q cid : ℕ) (s : State) → IsOutstanding q cid s.host.records → IsOutstanding q cid (a.reset_records s.host.records)
+reset q cid s (r, at, asked, is) = (a.lost_anywhere r, io_left s q cid r asked at is, asked, its (is_submitted r.phase) ∙ is)
+  where
+    its : (b : Bool) → (if b then record r { phase = Held; status = Some ABORTED_SQ_DELETION } else r).work ≡ r.work
+    its true = refl
+    its false = refl
+
 -- One event
 
 -- whether a step cancels or releases a command of this name
@@ -101,6 +110,7 @@ event_keeps q cid s e reply far ok c h =
       creates_sqs = λ k id first queue none new granted far. more (sent_record (creates_sq k first s) id ∷ []);
       retires = λ k queue none at deleted far. lost q cid k s.host.records h;
       forges = λ k slot bytes queue none at far. h;
+      resets = λ far. reset q cid s h;
     })
     far
   where
@@ -200,6 +210,7 @@ counts s e reply ok c =
       creates_sqs = λ q id first queue none new granted. two 0 q _ _;
       retires = λ q queue none at deleted. one q _ s.host.queues;
       forges = λ q slot bytes queue none at. refl;
+      resets = reset_length s.host.queues;
     })
   where
     one : (k : ℕ) (f : HostQueue → HostQueue) (queues : List HostQueue) → length (a.change k f queues) ≡ length queues

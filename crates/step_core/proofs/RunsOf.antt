@@ -147,6 +147,7 @@ made t (step.Retire q) reply.Accepted new d = record { event = events.Retire q; 
 made t (step.Retire q) (reply.Refused why touched) new d = record { event = events.Retire q; its_reply = events.Refused why touched; asks = refl; says = refl; step = d.0 }
 made t (step.Forge q slot bytes) reply.Accepted new d = record { event = events.Forge q slot bytes; its_reply = events.Accepted; asks = refl; says = refl; step = d.0 }
 made t (step.Forge q slot bytes) (reply.Refused why touched) new d = record { event = events.Forge q slot bytes; its_reply = events.Refused why touched; asks = refl; says = refl; step = d.0 }
+made t step.Reset reply.Accepted new d = record { event = events.Reset; its_reply = events.Accepted; asks = refl; says = refl; step = d.0 }
 made t what answer new d = absurd d
 
 -- Steps

@@ -132,6 +132,7 @@ Does t (step.Retire q) reply.Accepted new = Passes t (events.Retire q) events.Ac
 Does t (step.Retire q) (reply.Refused why touched) new = Passes t (events.Retire q) (events.Refused why touched) new
 Does t (step.Forge q slot bytes) reply.Accepted new = Passes t (events.Forge q slot bytes) events.Accepted new
 Does t (step.Forge q slot bytes) (reply.Refused why touched) new = Passes t (events.Forge q slot bytes) (events.Refused why touched) new
+Does t step.Reset reply.Accepted new = Passes t events.Reset events.Accepted new
 Does t what answer new = ⊥
 
 -- Steps and answers of which each is what a step does from where the one before led

@@ -1,5 +1,5 @@
 -- Benches go on: each step has an answer, from each table that steps of a bench lead to; and what they tell of its controller.
-use Rattle.std.specs.Prelude.{◌≡◌, ℕ, ◌&&◌, IsTrue, None, List, length, map}
+use Rattle.std.specs.Prelude.{◌≡◌, ℕ, Bool, true, false, ◌&&◌, ◌||◌, not, IsTrue, None, List, ◌∷◌, length, map}
 use Rattle.std.specs.List.{AllByRecursion}
 use Rattle.block_image.specs.Blocks.{IsImage}
 use Rattle.io_commands.specs.Requests.{FitsRequest}
@@ -17,6 +17,7 @@ use Rattle.step_core.specs.Laws.{Asks, Says, AreOf}
 use Rattle.step_core.specs.Values.{Reply}
 use Rattle.step_core.specs.Values.{Step}
 use Rattle.step_core.specs.declared.step.Step.TheVariants as step
+use Rattle.step_core.specs.declared.step.Reply.TheVariants as reply
 use Rattle.host_core.specs.Opening.{refusal_of_config}
 use Rattle.step_core.specs.Opening.{opening_of}
 use Rattle.host_core.specs.declared.config.Config.{Config}
@@ -50,7 +51,7 @@ pub record GoesOn (t : Table) (what : Step) : Type 0 where
 abbrev pub benches_go_on : Type 0
 benches_go_on = (t : Table) (what : Step) → IsTableInOrder t → IsFitStep what → GoesOn t what
 
--- where nothing was forged, what a step's answer tells of the machine's reply names allowed pages alone, and only those of its own queue or
+-- in a trusted world, what a step's answer tells of the machine's reply names allowed pages alone, and only those of its own queue or
 -- command
 abbrev pub benches_touch_what_they_may : Type 0
 benches_touch_what_they_may =
@@ -64,9 +65,19 @@ pub record IsTrustedRunOfBench (steps : List Step) (answers : List Reply) (image
   pub are_of : AreOf steps answers (map (λ m. m.event) made) (map (λ m. m.reply) made)
   pub run : TrustedRun image made end
 
--- what a bench did since it opened, if nothing was forged, is a run of which the machine's laws speak
+-- whether a step forged an entry
+abbrev pub forges_by : Step → Reply → Bool
+forges_by (step.Forge q slot bytes) reply.Accepted = true
+forges_by what answer = false
+
+-- whether a forgery among these steps was accepted
+abbrev pub has_forgery : List Step → List Reply → Bool
+has_forgery (what ∷ steps) (answer ∷ answers) = forges_by what answer || has_forgery steps answers
+has_forgery steps answers = false
+
+-- what a bench did since it opened, if none of its steps is an accepted forgery, is a run of which the machine's laws speak, resets and all
 abbrev pub benches_make_trusted_runs : Type 0
 benches_make_trusted_runs =
     (config : Config) (image : List ℕ) (steps : List Step) (answers : List Reply) (new : Table)
-    → refusal_of_config config ≡ None → IsImage image → DoesAll (table (opening_of config image)) steps answers new → IsTrue new.world.trusted
+    → refusal_of_config config ≡ None → IsImage image → DoesAll (table (opening_of config image)) steps answers new → IsTrue (not (has_forgery steps answers))
     → IsTrustedRunOfBench steps answers image new.world

@@ -38,6 +38,7 @@ Asks (step.CreateCq q) e = e ≡ events.CreateCq q
 Asks (step.CreateSq q) e = e ≡ events.CreateSq q
 Asks (step.Retire q) e = e ≡ events.Retire q
 Asks (step.Forge q slot bytes) e = e ≡ events.Forge q slot bytes
+Asks step.Reset e = e ≡ events.Reset
 Asks what e = ⊥
 
 -- what an answer says of the machine's reply: all of it, but for a draft's and a finished command's contents

@@ -1,4 +1,4 @@
--- What a step of the controller may touch, where nothing was forged.
+-- What a step of the controller may touch, where the world is trusted.
 use Rattle.std.specs.Prelude.{◌&&◌, IsTrue}
 use Rattle.std.specs.Bool.{OnTrue}
 use Rattle.machine_model.specs.Events.{Event, Reply}

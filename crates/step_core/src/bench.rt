@@ -141,7 +141,7 @@ impl<A: Allocator + Copy> Bench<A> {
         self.kept.world.pages()
     }
 
-    /// Whether nothing was forged.
+    /// Whether nothing was forged since the opening or the last reset.
     pub fn trusted(&self) -> bool
         ensures { result ≡ self.now.world.trusted }
     {

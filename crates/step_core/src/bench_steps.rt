@@ -334,6 +334,16 @@ impl<A: Allocator + Copy> Kept<A> {
         }
     }
 
+    /// Resets the controller.
+    fn reset(&mut self) -> ReplyIn<A>
+        requires { IsBench self.old.world self.old.values }
+        ensures does { Does (table_of self.old) Step.Reset result (table_of self.new) }
+        ensures kept { IsBench self.new.world self.new.values }
+    {
+        self.world.reset();
+        Reply::Accepted
+    }
+
     /// Does a step.
     pub(crate) fn step(&mut self, step: StepIn<A>) -> ReplyIn<A>
         requires { IsBench self.old.world self.old.values }
@@ -361,6 +371,7 @@ impl<A: Allocator + Copy> Kept<A> {
             Step::CreateSq { q } => self.create_sq(q),
             Step::Retire { q } => self.retire(q),
             Step::Forge { q, slot, bytes } => self.forge(q, slot, bytes),
+            Step::Reset => self.reset(),
         }
     }
 }

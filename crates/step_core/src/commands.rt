@@ -12,7 +12,7 @@ use std::alloc::Allocator;
 
 impl<A: Allocator + Copy> World<A> {
     /// Reserves for a request an identifier of the queue that no outstanding command has, and free pages: one for each data piece, and
-    /// those of its chain. They are out of the store, and hold zeros. Today both are the lowest that are free, which no clause says.
+    /// those of its chain. They are out of the store, and hold zeros.
     ///
     /// # Errors
     ///
@@ -27,8 +27,9 @@ impl<A: Allocator + Copy> World<A> {
         self.host.reserve(&mut self.store, q, request)
     }
 
-    /// Submits a draft that is built: its pages come in with their bytes, and its entry stands behind the tail of its queue. The
-    /// controller may fetch it once the queue is rung. The ticket is the draft's.
+    /// Submits a draft that is built: its pages come in with their bytes, and its entry stands behind the tail of its queue (NVM
+    /// Express Base Specification 2.0, "Memory-based transport queue model", section 3.3.1). The controller may fetch it once the queue
+    /// is rung. The ticket is the draft's.
     ///
     /// # Errors
     ///

@@ -9,8 +9,8 @@ ghost use Rattle.step_core.specs.Laws.{benches_run_the_machine};
 /// Filling, building and gathering are steps of a kept value alone, and a step that finds no value changes nothing: these are
 /// no part of the run.
 ///
-/// Where nothing was forged since it opened, that run is one of which the machine's laws of trusted runs speak: of what a Read
-/// gathers, a Write changes, a Compare answers, and of the statuses.
+/// Where none of the steps is an accepted forgery, that run is one of which the machine's laws of trusted runs speak, resets and all: of
+/// what a Read gathers, a Write changes, a Compare answers, and of the statuses.
 pub fn law_of_benches()
     ensures run { benches_run_the_machine }
     ensures lawful { benches_make_trusted_runs }
@@ -24,7 +24,7 @@ pub fn law_of_order()
     ensures goes_on { benches_go_on }
 {}
 
-/// Where nothing was forged, what a step of a bench tells of the controller names allowed pages alone, and only those of its own queue
+/// Where the world is trusted, what a step of a bench tells of the controller names allowed pages alone, and only those of its own queue
 /// or command.
 pub fn law_of_touches()
     ensures { benches_touch_what_they_may }

@@ -1,10 +1,13 @@
 //! The machine runs: every event is one call.
 //!
 //! A [`World`] is a driver and its modelled controller over one pool of pages. Contracts see it as the state of the machine that
-//! `machine_model` defines, and each call has one clause: it is a `Step` of that machine, with its reply, or with the first refusal that
-//! holds, and then nothing changed and every moved value is handed back. Between calls each page has one owner, the counts add up and
-//! identifiers are distinct, whatever was forged ([`World::check`]); where nothing was, [`World::fetch`], [`World::walk`] and
-//! [`World::complete`] touch only pages that they may.
+//! `machine_model` defines, and each call is a `Step` of that machine. Where it is refused nothing changed, and every moved value is handed
+//! back; the refusal is the first that holds, but for the controller's steps once something was forged. Between calls each page has one
+//! owner, the counts add up and identifiers are distinct, whatever was forged ([`World::check`]). Where nothing was since
+//! the last [`World::reset`], [`World::fetch`], [`World::walk`] and [`World::complete`] touch only pages that they may.
+//!
+//! Commands, entries, statuses, lists and queues are those of the NVM Express Base Specification 2.0 and the NVM Command Set Specification
+//! 1.0, cut down to a profile.
 //!
 //! A [`Bench`] is a world with the drafts, tickets and finished commands that are about; it runs lists of [`Step`]s, and what it does is a
 //! run of the machine ([`laws`]).
@@ -26,6 +29,7 @@ mod look;
 mod open;
 mod queues;
 mod refused;
+mod reset;
 mod serve;
 mod step;
 mod view;

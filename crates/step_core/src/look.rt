@@ -44,8 +44,8 @@ impl<A: Allocator + Copy> World<A> {
         self.host.collect_refusal(q, cid)
     }
 
-    /// How an outstanding command ended: the status that a completion brought, or that it got as its queue was retired. The world keeps it
-    /// until the command is released. None where the command has not ended, or none is outstanding under this identifier.
+    /// How an outstanding command ended: the status that its record has. None where it has none, or no command is outstanding under this
+    /// identifier.
     pub fn status_of(&self, q: u16, cid: u16) -> Option<Status>
         ensures { result ≡ option_and_then (λ r. r.status) (record_at self.now.host q cid) }
     {
@@ -67,7 +67,7 @@ impl<A: Allocator + Copy> World<A> {
         self.host.completion_waits(&mut self.store, q)
     }
 
-    /// The first queue from which [`World::reap`] would take a completion. It makes no step, and looks once at each queue at most.
+    /// The first queue from which [`World::reap`] would take a completion. It makes no step.
     pub fn next_completion(&mut self) -> Option<u16>
         ensures some { IfSome result (λ q. spec_has_completion self.old q ≡ true) }
         ensures first { IfSome result (λ q. (p : ℕ) → p < q → spec_has_completion self.old p ≡ false) }
@@ -83,9 +83,8 @@ impl<A: Allocator + Copy> World<A> {
         None
     }
 
-    /// A step that the controller can do, if there is one. It makes no step. Where nothing was forged, the answer is exact: what is answered
-    /// is not refused, but for want of memory, and `None` says that each step of the controller is. Today a fetch comes before the others,
-    /// from the first queue that can, and then the command that was fetched first and does not wait; no clause says so.
+    /// A step that the controller can do, if there is one. It makes no step. Where the world is trusted, the answer is exact: what is answered
+    /// is not refused, but for want of memory, and `None` says that each step of the controller is.
     pub fn next_step(&mut self) -> Option<ControllerStep>
         ensures possible { IfSome result (λ step. IsTrue self.old.trusted → refusal_of self.old (event_of step) ≡ None) }
         ensures rest { IfNone result (IsTrue self.old.trusted → IsAtRest self.old) }

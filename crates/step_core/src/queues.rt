@@ -10,7 +10,8 @@ use machine_model::words::{Reaped, Refusal};
 use std::alloc::Allocator;
 
 impl<A: Allocator + Copy> World<A> {
-    /// Rings the tail doorbell of a queue: the controller may fetch all that was submitted to it.
+    /// Rings the tail doorbell of a queue (NVM Express over PCIe Transport Specification 1.0, "Doorbell registers", section 3.1.2): the
+    /// controller may fetch all that was submitted to it.
     ///
     /// # Errors
     ///
@@ -23,7 +24,8 @@ impl<A: Allocator + Copy> World<A> {
         Ok(())
     }
 
-    /// Looks at the head of a queue's completion ring, and takes the completion there, if there is a new one.
+    /// Looks at the head of a queue's completion ring, and takes the completion there, if there is a new one (NVM Express Base
+    /// Specification 2.0, "Common Completion Queue Entry", section 3.3.3.2).
     ///
     /// The answer is `Empty` where there is none. A completion of a submitted command ends it: `Done` tells the identifier of an I/O
     /// command and how it ended, and its pages stay its own; `AdminDone` tells that of a command of queue 0, which is over. A
@@ -43,7 +45,8 @@ impl<A: Allocator + Copy> World<A> {
         Ok(reap.found)
     }
 
-    /// Sends an Abort of a submitted command. It stands behind the tail of queue 0 under the identifier that is answered.
+    /// Sends an Abort of a submitted command (NVM Express Base Specification 2.0, "Abort command", section 5.1). It stands behind the
+    /// tail of queue 0 under the identifier that is answered.
     ///
     /// # Errors
     ///
@@ -56,8 +59,8 @@ impl<A: Allocator + Copy> World<A> {
         self.host.abort(&mut self.store, q, cid)
     }
 
-    /// Sends the deletion of a submission queue, which takes no more commands. It stands behind the tail of queue 0 under the
-    /// identifier that is answered.
+    /// Sends the deletion of a submission queue, which takes no more commands (NVM Express Base Specification 2.0, "Delete I/O
+    /// Submission Queue command", section 5.7). It stands behind the tail of queue 0 under the identifier that is answered.
     ///
     /// # Errors
     ///
@@ -70,7 +73,8 @@ impl<A: Allocator + Copy> World<A> {
         self.host.delete_sq(&mut self.store, q)
     }
 
-    /// Sends the deletion of a completion queue. It stands behind the tail of queue 0 under the identifier that is answered.
+    /// Sends the deletion of a completion queue (NVM Express Base Specification 2.0, "Delete I/O Completion Queue command", section 5.6).
+    /// It stands behind the tail of queue 0 under the identifier that is answered.
     ///
     /// # Errors
     ///
@@ -84,8 +88,9 @@ impl<A: Allocator + Copy> World<A> {
         self.host.delete_cq(&mut self.store, q)
     }
 
-    /// Makes the completion queue of a queue that is gone: its half is granted, in and zero, and the command that creates it stands
-    /// behind the tail of queue 0 under the identifier that is answered.
+    /// Makes the completion queue of a queue that is gone (NVM Express Base Specification 2.0, "Create I/O Completion Queue command",
+    /// section 5.4): its half is granted, in and zero, and the command that creates it stands behind the tail of queue 0 under the
+    /// identifier that is answered.
     ///
     /// # Errors
     ///
@@ -98,8 +103,9 @@ impl<A: Allocator + Copy> World<A> {
         self.host.create_cq(&mut self.store, q)
     }
 
-    /// Makes the submission queue of a queue that has its completion queue alone: its half is granted, in and zero, and the command
-    /// that creates it stands behind the tail of queue 0 under the identifier that is answered.
+    /// Makes the submission queue of a queue that has its completion queue alone (NVM Express Base Specification 2.0, "Create I/O
+    /// Submission Queue command", section 5.5): its half is granted, in and zero, and the command that creates it stands behind the tail
+    /// of queue 0 under the identifier that is answered.
     ///
     /// # Errors
     ///
@@ -112,7 +118,7 @@ impl<A: Allocator + Copy> World<A> {
         self.host.create_sq(&mut self.store, q)
     }
 
-    /// Gives the submission half of a deleted queue back, and ends its commands that were never answered.
+    /// Gives the submission half of a deleted queue back, and ends its commands that no completion ended.
     ///
     /// Each of those is held with the status "Command Aborted due to SQ Deletion", as if its completion had been reaped; its pages
     /// stay its own until it is collected and released. The pages of the submission half are free, and the queue is retired.

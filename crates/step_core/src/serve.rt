@@ -81,17 +81,20 @@ fn completed(
 }
 
 impl<A: Allocator + Copy> World<A> {
-    /// The controller fetches the entry at the head of a submission queue. An entry of an I/O queue begins a job: where a field
-    /// check fails, that is its verdict, and a Read takes its blocks from the image as it is now. An entry of queue 0 is decided
-    /// here: an Abort stops its command, the deletion of a submission queue stops that queue and its commands, and the deletion of
-    /// a completion queue drops it. An identifier that is fetched from the queue and not completed is answered at once, with
-    /// Command Identifier Conflict.
+    /// The controller fetches the entry at the head of a submission queue (NVM Express Base Specification 2.0, "Submission Queue Entry",
+    /// section 3.3.3.1).
+    ///
+    /// Where nothing was forged, an entry of an I/O queue begins a job: where a field check fails, that is its verdict, and a Read takes
+    /// its blocks from the image as it is now. An entry of queue 0 is decided here: an Abort stops its command, the deletion of a
+    /// submission queue stops that queue and its commands, the deletion of a completion queue drops it, and a creation makes its queue.
+    /// An identifier that is fetched from the queue and not completed gets its completion at once, with Command ID Conflict.
     ///
     /// # Errors
     ///
-    /// 1. `Idle`: there is no such queue, nothing is fetched from it any more, or nothing is rung. 2. `SlotOut`: the page of
-    /// the entry's slot is out. Where the identifier is answered at once: 3. `Full`: the completion ring is full. 4. `SlotOut`: the
-    /// page of the completion's slot is out. 5. `Memory` where memory is refused. Then nothing changed.
+    /// Nothing changed. Where nothing was forged, it is the first of these that holds, else any of them: 1. `Idle`: there is no such
+    /// queue, nothing is fetched from it any more, or nothing is rung. 2. `SlotOut`: the page of the entry's slot is out. Where the
+    /// completion is posted at once: 3. `Full`: the completion ring is full. 4. `SlotOut`: the page of the completion's slot is out.
+    /// 5. `Memory` where memory is refused.
     pub fn fetch(&mut self, q: u16) -> Result<Fetched, StepRefused>
         ensures step { Step self.old (events.Fetch q) (fetch_reply result) self.new }
         ensures touches { StaysAllowed self.old (events.Fetch q) (fetch_reply result) }
@@ -102,13 +105,14 @@ impl<A: Allocator + Copy> World<A> {
         fetched(answer, touched_by(&self.store))
     }
 
-    /// The controller does the next unit of the list of a fetched command: it takes a descriptor, or moves the bytes of one page. With
-    /// the last unit it answers `End` or a fault, which is then the command's verdict. No memory is taken.
+    /// The controller does the next unit of the list of a fetched command (NVM Express Base Specification 2.0, "SGL", section 4.1.2): it
+    /// takes a descriptor, or moves the bytes of one page. Where nothing was forged, it answers `End` or a fault with the last unit,
+    /// which is then the command's verdict. No memory is taken.
     ///
     /// # Errors
     ///
-    /// 1. `NoJob`: the controller has no such command. 2. `Nothing`: it has its verdict already, as each admin command has. Then
-    /// nothing changed, and no page was touched.
+    /// Nothing changed, and no page was touched. Where nothing was forged, it is the first of these that holds, else either:
+    /// 1. `NoJob`: the controller has no such command. 2. `Nothing`: it has its verdict already, as each admin command has.
     pub fn walk(&mut self, q: u16, cid: u16) -> Result<Walked, StepRefused>
         ensures step { Step self.old (events.Walk q cid) (walk_reply result) self.new }
         ensures touches { StaysAllowed self.old (events.Walk q cid) (walk_reply result) }
@@ -119,14 +123,15 @@ impl<A: Allocator + Copy> World<A> {
         walked(answer, touched_by(&self.store))
     }
 
-    /// The controller posts the completion of a fetched command, and forgets the command. A Write that ends well changes the image
-    /// here, and a deletion of a submission queue leaves nothing of it.
+    /// The controller posts the completion of a fetched command, and forgets the command (NVM Express Base Specification 2.0, "Common
+    /// Completion Queue Entry", section 3.3.3.2). Where nothing was forged, a Write that ends well changes the image here, and a deletion
+    /// of a submission queue leaves nothing of it.
     ///
     /// # Errors
     ///
-    /// 1. `NoJob`: the controller has no such command. 2. `Walking`: its list isn't walked to the end. 3. `Waits`: an Abort waits
-    /// for the command that it stopped, a deletion for the commands of its queue. 4. `Full`: the completion ring is full.
-    /// 5. `SlotOut`: the page of the slot is out. Then nothing changed.
+    /// Nothing changed. Where nothing was forged, it is the first of these that holds, else any of them: 1. `NoJob`: the controller has
+    /// no such command. 2. `Walking`: its list isn't walked to the end. 3. `Waits`: an Abort waits for the command that it stopped, a
+    /// deletion for the commands of its queue. 4. `Full`: the completion ring is full. 5. `SlotOut`: the page of the slot is out.
     pub fn complete(&mut self, q: u16, cid: u16) -> Result<Completed, StepRefused>
         ensures step { Step self.old (events.Complete q cid) (complete_reply result) self.new }
         ensures touches { StaysAllowed self.old (events.Complete q cid) (complete_reply result) }

@@ -178,6 +178,8 @@ pub enum Step<R = Request, B = Bytes> {
         /// The 16 bytes.
         bytes: [u8; 16],
     },
+    /// Reset the controller.
+    Reset,
 }
 
 /// A step whose request and bytes stand in the memory of one allocator.

@@ -43,7 +43,7 @@ impl<A: Allocator> World<A> {
         self.host.is_idle()
     }
 
-    /// Whether nothing was forged.
+    /// Whether nothing was forged since the opening or the last reset.
     pub fn trusted(&self) -> bool
         ensures { result ≡ self.now.trusted }
     {

@@ -15,7 +15,7 @@ pub struct World<A: Allocator = Global> {
     pub(crate) controller: Controller<A>,
     /// The pages of the pool that are in.
     pub(crate) store: Store<A>,
-    /// Whether nothing was forged.
+    /// Whether nothing was forged since the opening or the last reset.
     pub(crate) trusted: bool,
 }
 
