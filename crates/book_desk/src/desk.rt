@@ -111,6 +111,7 @@ impl<L: Driver, A: Allocator + Copy> Desk<L, A> {
             Step::CreateSq { q } => sent(self.book.create_sq(q)),
             Step::Retire { q } => done(self.book.retire(q)),
             Step::Forge { q, slot, bytes } => done(self.book.forge(q, slot, bytes)),
+            Step::Reset => done(self.book.reset()),
             _ => Reply::NoValue,
         }
     }

@@ -1,15 +1,19 @@
 -- Logs, and the runs that they tell of.
-use Rattle.std.proofs.Common.{◌≡◌, List, [], ◌∷◌, ◌++◌, map, refl, sym, subst}
+use Rattle.std.proofs.Common.{◌≡◌, Bool, not, IsTrue, List, [], ◌∷◌, ◌++◌, map, refl, sym, subst}
+use Rattle.std.specs.List.{list_any}
+use Rattle.machine_model.specs.Events as events
+use Rattle.machine_model.specs.Events.{Event, Reply}
 use Rattle.machine_model.specs.Image.{Made}
 use Rattle.machine_model.specs.InOrder.{IsInOrder}
+use Rattle.machine_model.specs.Laws as laws
 use Rattle.machine_model.specs.Laws.{Steps}
 use Rattle.machine_model.specs.State.{State}
 use Rattle.machine_model.proofs.InOrders.{opens_in_order, order_kept}
 use Rattle.machine_model.proofs.Agreed.{agreed_stays}
-use Rattle.machine_model.proofs.NeverRestored.{ends_unforged}
+use Rattle.step_core.specs.Going.{forges_by}
 use Rattle.step_core.specs.Opening.{opening_of}
 use Rattle.driver_book.specs.History.{asked, told, TellsOf, LeadsTo}
-use Rattle.driver_book.specs.Laws.{IsEntryOf, entries_name_allowed_pages, logs_are_trusted_runs}
+use Rattle.driver_book.specs.Laws.{IsEntryOf, is_forgery, entries_name_allowed_pages, logs_are_trusted_runs}
 use Rattle.driver_book.specs.Values.{Entry}
 
 -- one step more
@@ -59,8 +63,17 @@ told_by : (old new : State) (log : List Entry) (leads : LeadsTo old log new) →
 told_by old new [] same = refl
 told_by old new (e ∷ log) (next, tells, rest) = rw (tells.tells, told_by next new log rest) refl
 
+same_forgery : (e : Event) (r : Reply) → forges_by (asked e) (told r) ≡ laws.forges_by e r
+same_forgery (events.Forge q slot bytes) events.Accepted = refl
+same_forgery e r = refl
+
+-- an entry is an accepted forgery where the step is of which it tells
+forged_by : (old new : State) (log : List Entry) (leads : LeadsTo old log new) → list_any is_forgery log ≡ list_any laws.is_forgery (made_by old new log leads)
+forged_by old new [] same = refl
+forged_by old new (e ∷ log) (next, tells, rest) = rw (tells.asks, tells.tells, same_forgery tells.event tells.answer, forged_by next new log rest) refl
+
 pub logs_are_runs : logs_are_trusted_runs
-logs_are_runs config image log world opens is_image leads trusted =
+logs_are_runs config image log world opens is_image leads unforged =
     record {
       made = made_by (opening_of config image) world log leads;
       happened = asked_by (opening_of config image) world log leads;
@@ -73,6 +86,6 @@ logs_are_runs config image log world opens is_image leads trusted =
         opens = opens;
         is_image = is_image;
         steps = steps_by (opening_of config image) world log leads;
-        unforged = ends_unforged (made_by (opening_of config image) world log leads) (opening_of config image) world (steps_by (opening_of config image) world log leads) trusted;
+        unforged = subst (λ (b : Bool). IsTrue (not b)) (forged_by (opening_of config image) world log leads) unforged;
       };
     }

@@ -20,10 +20,11 @@ use Rattle.step_core.specs.declared.step.Step.TheVariants as step
 
 -- How the log says that a command ended
 
--- the status with which a step made a submitted command of a queue held: its completion was reaped, or its queue retired
+-- the status with which a step made a submitted command of a queue held: its completion was reaped, its queue retired, or the controller reset
 abbrev pub status_by : ℕ → ℕ → Step → Reply → Option Status
 status_by q cid (step.Reap of) (reply.Reaps (Done ended status)) = if (of == q) && (ended == cid) then Some status else None
 status_by q cid (step.Retire of) reply.Accepted = if of == q then Some ABORTED_SQ_DELETION else None
+status_by q cid step.Reset reply.Accepted = Some ABORTED_SQ_DELETION
 status_by q cid what answer = None
 
 abbrev pub first_of : Option Status → Option Status → Option Status

@@ -30,6 +30,7 @@ asked (events.Fetch q) = step.Fetch q
 asked (events.Walk q cid) = step.Walk q cid
 asked (events.Complete q cid) = step.Complete q cid
 asked (events.Forge q slot bytes) = step.Forge q slot bytes
+asked events.Reset = step.Reset
 
 abbrev pub told : events.Reply → Reply
 told (events.Reserved d) = reply.Reserved d.q d.cid (length d.data_pages) (length d.chain_pages)

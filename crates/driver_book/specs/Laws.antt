@@ -1,17 +1,19 @@
 -- What holds of every log that leads from an opening.
-use Rattle.std.specs.Prelude.{◌≡◌, ℕ, ◌&&◌, IsTrue, None, List, ◌∷◌, ◌++◌, map}
+use Rattle.std.specs.Prelude.{◌≡◌, ℕ, Bool, ◌&&◌, not, IsTrue, None, List, ◌∷◌, ◌++◌, map}
+use Rattle.std.specs.List.{list_any}
 use Rattle.block_image.specs.Blocks.{IsImage}
 use Rattle.machine_model.specs.Image.{Made}
 use Rattle.machine_model.specs.Laws.{TrustedRun}
 use Rattle.machine_model.specs.State.{State}
 use Rattle.machine_model.specs.Touch.{stays_allowed, stays_own}
 use Rattle.host_core.specs.Opening.{refusal_of_config}
+use Rattle.step_core.specs.Going.{forges_by}
 use Rattle.step_core.specs.Opening.{opening_of}
 use Rattle.host_core.specs.declared.config.Config.{Config}
 use Rattle.driver_book.specs.History.{asked, told, TellsOf, LeadsTo}
 use Rattle.driver_book.specs.Values.{Entry}
 
--- the states before and behind an entry of a log, and what it tells of: where nothing was forged before it, it names allowed pages alone
+-- the states before and behind an entry of a log, and what it tells of: in a trusted world it names allowed pages alone
 pub record IsEntryOf (opening : State) (before : List Entry) (e : Entry) (after : List Entry) (world : State) : Type 0 where
   pub old : State
   pub new : State
@@ -26,14 +28,17 @@ entries_name_allowed_pages =
     → refusal_of_config config ≡ None → IsImage image → LeadsTo (opening_of config image) (before ++ e ∷ after) world
     → IsEntryOf (opening_of config image) before e after world
 
--- a log that leads to a trusted world is a run of which the machine's laws speak
+-- a log in which no forgery was accepted is a run of which the machine's laws speak, resets and all
 pub record IsTrustedLog (image : List ℕ) (log : List Entry) (world : State) : Type 0 where
   pub made : List Made
   pub happened : map (λ e. e.step) log ≡ map (λ m. asked m.event) made
   pub answered : map (λ e. e.answer) log ≡ map (λ m. told m.reply) made
   pub run : TrustedRun image made world
 
+abbrev pub is_forgery : Entry → Bool
+is_forgery e = forges_by e.step e.answer
+
 abbrev pub logs_are_trusted_runs : Type 0
 logs_are_trusted_runs =
     (config : Config) (image : List ℕ) (log : List Entry) (world : State)
-    → refusal_of_config config ≡ None → IsImage image → LeadsTo (opening_of config image) log world → IsTrue world.trusted → IsTrustedLog image log world
+    → refusal_of_config config ≡ None → IsImage image → LeadsTo (opening_of config image) log world → IsTrue (not (list_any is_forgery log)) → IsTrustedLog image log world

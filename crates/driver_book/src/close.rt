@@ -89,6 +89,10 @@ fn status_of_step<A: Allocator>(
             Reply::Accepted if *of == q => Some(Status::ABORTED_SQ_DELETION),
             _ => None,
         },
+        Step::Reset => match answer {
+            Reply::Accepted => Some(Status::ABORTED_SQ_DELETION),
+            _ => None,
+        },
         _ => None,
     }
 }

@@ -28,7 +28,7 @@ impl<L: Driver, A: Allocator + Copy> Book<L, A> {
     ///
     /// # Errors
     ///
-    /// As there; `Memory` also where the log cannot grow. The book is then as it was.
+    /// As there, and `Memory` where the log cannot grow: of the book only the spare room of its log may differ then.
     pub fn fetch(&mut self, q: u16) -> Result<Fetched, StepRefused>
         ensures step { Does self.old None (events.Fetch q) (fetch_reply result) self.new }
         ensures touches { StaysAllowed self.old.world (events.Fetch q) (fetch_reply result) }
@@ -46,7 +46,7 @@ impl<L: Driver, A: Allocator + Copy> Book<L, A> {
     ///
     /// # Errors
     ///
-    /// As there; `Memory` where the log cannot grow. The book is then as it was.
+    /// As there, and `Memory` where the log cannot grow: of the book only the spare room of its log may differ then.
     pub fn walk(&mut self, q: u16, cid: u16) -> Result<Walked, StepRefused>
         ensures step { Does self.old None (events.Walk q cid) (walk_reply result) self.new }
         ensures touches { StaysAllowed self.old.world (events.Walk q cid) (walk_reply result) }
@@ -64,7 +64,7 @@ impl<L: Driver, A: Allocator + Copy> Book<L, A> {
     ///
     /// # Errors
     ///
-    /// As there; `Memory` where the log cannot grow. The book is then as it was.
+    /// As there, and `Memory` where the log cannot grow: of the book only the spare room of its log may differ then.
     pub fn complete(&mut self, q: u16, cid: u16) -> Result<Completed, StepRefused>
         ensures step { Does self.old None (events.Complete q cid) (complete_reply result) self.new }
         ensures touches { StaysAllowed self.old.world (events.Complete q cid) (complete_reply result) }

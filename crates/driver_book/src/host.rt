@@ -1,6 +1,8 @@
-//! The host's steps that need no seat, each written down.
+//! The host's steps that need no seat, each written down, but for one that answers `Memory`: of the book only the spare room of its log may
+//! differ then.
 
-ghost use Rattle.std.specs.Prelude.{◌≡◌, ◌⊎◌, None, IfErr};
+ghost use Rattle.std.specs.Prelude.{◌≡◌, ◌⊎◌, None, IfErr, OnOk};
+ghost use Rattle.machine_model.specs.Agreeing.{SidesAgree};
 ghost use Rattle.machine_model.specs.Events as events;
 ghost use Rattle.step_core.specs.Replies.{reserve_reply, accept_reply, collect_reply, ring_reply, reap_reply, send_reply};
 ghost use Rattle.driver_book.specs.Calls.{Does, WantsMemoryFor, IsLogFull, MayWorldWant};
@@ -10,7 +12,7 @@ use crate::note::{collected, done, ended, note, reaped, reserved, sent};
 use io_commands::{Draft, Finished, Request, Ticket};
 use machine_model::words::{Reaped, Refusal};
 use std::alloc::Allocator;
-use step_core::{Refused, Step};
+use step_core::{Refused, Reply, Step};
 
 /// A value that is handed back, as the log did not grow.
 pub(crate) fn unlogged<T>(value: T) -> Refused<T>
@@ -28,7 +30,7 @@ impl<L: Driver, A: Allocator + Copy> Book<L, A> {
     ///
     /// # Errors
     ///
-    /// As there; `Memory` also where the log cannot grow. The request is handed back, and the book is as it was.
+    /// As there, and `Memory` also where the log cannot grow or the request cannot be copied for it. The request is handed back.
     pub fn reserve(&mut self, q: u16, request: Request<A>) -> Result<Draft<A>, Refused<Request<A>>>
         ensures step { Does self.old None (events.Reserve q request) (reserve_reply result) self.new }
         ensures back { IfErr result (λ r. r.value ≡ request) }
@@ -53,7 +55,7 @@ impl<L: Driver, A: Allocator + Copy> Book<L, A> {
     ///
     /// # Errors
     ///
-    /// As there; `Memory` where the log cannot grow. The draft is handed back.
+    /// As there, and `Memory` where the log cannot grow. The draft is handed back.
     pub fn cancel(&mut self, draft: Draft<A>) -> Result<(), Refused<Draft<A>>>
         ensures step { Does self.old None (events.Cancel draft) (accept_reply result) self.new }
         ensures back { IfErr result (λ r. r.value ≡ draft) }
@@ -75,7 +77,7 @@ impl<L: Driver, A: Allocator + Copy> Book<L, A> {
     ///
     /// # Errors
     ///
-    /// As there; `Memory` where the log cannot grow.
+    /// As there, and `Memory` where the log cannot grow.
     pub fn ring(&mut self, q: u16) -> Result<(), Refusal>
         ensures step { Does self.old None (events.Ring q) (ring_reply result) self.new }
         ensures memory { WantsMemoryFor (IsLogFull self.old) (ring_reply result) }
@@ -92,7 +94,7 @@ impl<L: Driver, A: Allocator + Copy> Book<L, A> {
     ///
     /// # Errors
     ///
-    /// As there; `Memory` also where the log cannot grow.
+    /// As there, and `Memory` where the log cannot grow.
     pub fn reap(&mut self, q: u16) -> Result<Reaped, Refusal>
         ensures step { Does self.old None (events.Reap q) (reap_reply result) self.new }
         ensures memory { WantsMemoryFor (IsLogFull self.old) (reap_reply result) }
@@ -109,7 +111,7 @@ impl<L: Driver, A: Allocator + Copy> Book<L, A> {
     ///
     /// # Errors
     ///
-    /// As there; `Memory` also where the log cannot grow. The ticket is handed back.
+    /// As there, and `Memory` where the log cannot grow. The ticket is handed back.
     pub fn collect(&mut self, ticket: Ticket) -> Result<Finished<A>, Refused<Ticket>>
         ensures step { Does self.old None (events.Collect ticket.q ticket.cid) (collect_reply result) self.new }
         ensures back { IfErr result (λ r. r.value ≡ ticket) }
@@ -131,7 +133,7 @@ impl<L: Driver, A: Allocator + Copy> Book<L, A> {
     ///
     /// # Errors
     ///
-    /// As there; `Memory` also where the log cannot grow.
+    /// As there, and `Memory` where the log cannot grow.
     pub fn abort(&mut self, q: u16, cid: u16) -> Result<u16, Refusal>
         ensures step { Does self.old None (events.Abort q cid) (send_reply result) self.new }
         ensures memory { WantsMemoryFor (IsLogFull self.old) (send_reply result) }
@@ -148,7 +150,7 @@ impl<L: Driver, A: Allocator + Copy> Book<L, A> {
     ///
     /// # Errors
     ///
-    /// As there; `Memory` also where the log cannot grow.
+    /// As there, and `Memory` where the log cannot grow.
     pub fn delete_sq(&mut self, q: u16) -> Result<u16, Refusal>
         ensures step { Does self.old None (events.DeleteSq q) (send_reply result) self.new }
         ensures memory { WantsMemoryFor (IsLogFull self.old) (send_reply result) }
@@ -165,7 +167,7 @@ impl<L: Driver, A: Allocator + Copy> Book<L, A> {
     ///
     /// # Errors
     ///
-    /// As there; `Memory` also where the log cannot grow.
+    /// As there, and `Memory` where the log cannot grow.
     pub fn delete_cq(&mut self, q: u16) -> Result<u16, Refusal>
         ensures step { Does self.old None (events.DeleteCq q) (send_reply result) self.new }
         ensures memory { WantsMemoryFor (IsLogFull self.old) (send_reply result) }
@@ -182,7 +184,7 @@ impl<L: Driver, A: Allocator + Copy> Book<L, A> {
     ///
     /// # Errors
     ///
-    /// As there; `Memory` also where the log cannot grow.
+    /// As there, and `Memory` where the log cannot grow.
     pub fn create_cq(&mut self, q: u16) -> Result<u16, Refusal>
         ensures step { Does self.old None (events.CreateCq q) (send_reply result) self.new }
         ensures memory { WantsMemoryFor (IsLogFull self.old) (send_reply result) }
@@ -199,7 +201,7 @@ impl<L: Driver, A: Allocator + Copy> Book<L, A> {
     ///
     /// # Errors
     ///
-    /// As there; `Memory` also where the log cannot grow.
+    /// As there, and `Memory` where the log cannot grow.
     pub fn create_sq(&mut self, q: u16) -> Result<u16, Refusal>
         ensures step { Does self.old None (events.CreateSq q) (send_reply result) self.new }
         ensures memory { WantsMemoryFor (IsLogFull self.old) (send_reply result) }
@@ -216,7 +218,7 @@ impl<L: Driver, A: Allocator + Copy> Book<L, A> {
     ///
     /// # Errors
     ///
-    /// As there; `Memory` where the log cannot grow.
+    /// As there, and `Memory` where the log cannot grow.
     pub fn retire(&mut self, q: u16) -> Result<(), Refusal>
         ensures step { Does self.old None (events.Retire q) (ring_reply result) self.new }
         ensures memory { WantsMemoryFor (IsLogFull self.old) (ring_reply result) }
@@ -233,7 +235,7 @@ impl<L: Driver, A: Allocator + Copy> Book<L, A> {
     ///
     /// # Errors
     ///
-    /// As there; `Memory` where the log cannot grow.
+    /// As there, and `Memory` where the log cannot grow.
     pub fn forge(&mut self, q: u16, slot: u16, bytes: [u8; 16]) -> Result<(), Refusal>
         ensures step { Does self.old None (events.Forge q slot bytes) (ring_reply result) self.new }
         ensures memory { WantsMemoryFor (IsLogFull self.old) (ring_reply result) }
@@ -249,5 +251,23 @@ impl<L: Driver, A: Allocator + Copy> Book<L, A> {
             done(&answer),
         );
         answer
+    }
+
+    /// [`step_core::World::reset`]. The receipts of seats stay.
+    ///
+    /// # Errors
+    ///
+    /// `Memory` where the log cannot grow.
+    pub fn reset(&mut self) -> Result<(), Refusal>
+        ensures step { Does self.old None events.Reset (ring_reply result) self.new }
+        ensures recovers { OnOk result (SidesAgree self.new.world) }
+        ensures memory { IfErr result (λ why. (why ≡ Refusal.Memory) × IsLogFull self.old) }
+    {
+        if self.log.reserve(1).is_err() {
+            return Err(Refusal::Memory);
+        }
+        self.world.reset();
+        note(&mut self.log, None, Step::Reset, Some(Reply::Accepted));
+        Ok(())
     }
 }

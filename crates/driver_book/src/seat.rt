@@ -101,8 +101,8 @@ impl<L: Driver, A: Allocator + Copy> Book<L, A> {
     ///
     /// # Errors
     ///
-    /// As there; the draft is handed back. `Memory` where the log or the seat's receipts cannot grow; book and seat are then as they
-    /// were.
+    /// As there; the draft is handed back. `Memory` where the log or the seat's receipts cannot grow: of book and seat only the spare room
+    /// of these lists may differ then.
     pub fn submit(
         &mut self,
         seat: &mut Seat<L, A>,
@@ -146,7 +146,7 @@ impl<L: Driver, A: Allocator + Copy> Book<L, A> {
     ///
     /// # Errors
     ///
-    /// As there; the command is handed back. `Memory` where the log cannot grow; book and seat are then as they were.
+    /// As there; the command is handed back. `Memory` where the log cannot grow: of the book only the spare room of its log may differ then.
     pub fn release(
         &mut self,
         seat: &mut Seat<L, A>,

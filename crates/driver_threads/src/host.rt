@@ -36,7 +36,7 @@ impl<L: Driver, A: Allocator + Copy> Shared<L, A> {
     ///
     /// # Errors
     ///
-    /// As there; the draft is handed back, and the seat is as it was.
+    /// As there; the draft is handed back, and of the seat only the spare room of its receipts may differ.
     pub fn submit<R: Wait>(
         &self,
         rt: &R,
@@ -203,6 +203,19 @@ impl<L: Driver, A: Allocator + Copy> Shared<L, A> {
         ensures { Made L.opening None (events.Forge q slot bytes) (ring_reply result) }
     {
         let answer = self.lock(rt).forge(q, slot, bytes);
+        self.wake();
+        answer
+    }
+
+    /// [`driver_book::Book::reset`]. Whoever waits is woken: a submitter whose command the reset ended goes on as behind a reap.
+    ///
+    /// # Errors
+    ///
+    /// As there.
+    pub fn reset<R: Wait>(&self, rt: &R) -> Result<(), Refusal>
+        ensures { Made L.opening None events.Reset (ring_reply result) }
+    {
+        let answer = self.lock(rt).reset();
         self.wake();
         answer
     }

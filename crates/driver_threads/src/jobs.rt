@@ -118,7 +118,7 @@ pub enum RunFault {
     /// A thread could not be made.
     #[error("a thread could not be made")]
     NoThread,
-    /// A gate was closed to a worker: the least of those to whom one was.
+    /// A gate was closed to a worker.
     #[error("the gate was closed to worker {worker}")]
     GateClosed {
         /// The worker.

@@ -236,10 +236,9 @@ fn run_over<
 ///
 /// # Errors
 ///
-/// `Open` where no book is opened, and then nothing else. `NoThread` where a thread cannot be made. `GateClosed` where a gate was closed to a
-/// worker, and then the least. `Close` where the book is not closed. `Memory` where memory is refused to the opening, to the run, to a
-/// worker or to the closing; a worker to whom it is refused tells the others to stop, so that jobs have no end. What was moved in is
-/// dropped.
+/// `Open` names why no book is opened. Every other fault comes only where no number of the configuration is at fault; no clause says which
+/// of them comes: `NoThread` where a thread cannot be made, `GateClosed` where a gate was closed to a worker, `Close` where the book is not
+/// closed, `Memory` where memory is refused to the opening, to the run, to a worker or to the closing. What was moved in is dropped.
 pub fn run_threads<
     L: Driver + Send + Sync,
     A: Allocator + Copy + Send + Sync,

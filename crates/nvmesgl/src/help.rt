@@ -39,7 +39,9 @@ pub const STEPS_AFTER: &str = "A script has one step on each line; `#` begins a 
   abort Q CID                          asks the controller to stop a command, on queue 0
   delete_sq Q  |  delete_cq Q          asks it to drop a queue's halves, on queue 0
   retire Q                             gives up a queue whose submission half is deleted
+  create_cq Q  |  create_sq Q          asks it to make a queue again that is gone, on queue 0
   forge Q SLOT HEX                     overwrites a completion slot with 16 bytes
+  reset                                resets the controller: queue 0 alone is left
   owners                               prints who owns which page
 
 Example:

@@ -24,7 +24,8 @@ use Rattle.script_cli.specs.declared.verb.CommandVerb.TheVariants as command
 use Rattle.script_cli.specs.declared.verb.QueueVerb.{QueueVerb}
 use Rattle.script_cli.specs.declared.verb.QueueVerb.TheVariants as queue
 use Rattle.script_cli.specs.declared.verb.Verb.{Verb}
-use Rattle.script_cli.specs.declared.verb.Verb.TheVariants.{Reserve, Fill, Forge, Owners, OnQueue, OnCommand}
+use Rattle.script_cli.specs.declared.verb.Verb.TheVariants.{Reserve, Fill, Forge, Reset, Owners, OnQueue, OnCommand}
+use Rattle.step_core.specs.declared.step.Step.TheVariants as step
 
 -- Single words
 
@@ -183,6 +184,7 @@ verb_fits : (ws : Words) (verb : Verb) → IfOk (verb_line ws verb) IsFitLine
 verb_fits ws Reserve = reserve_fits ws
 verb_fits ws Fill = fill_fits ws
 verb_fits ws Forge = forge_fits ws
+verb_fits ws Reset = no_more_fits ws (line.Step step.Reset) tt
 verb_fits ws Owners = no_more_fits ws line.Owners tt
 verb_fits ws (OnQueue verb) = queue_fits verb ws
 verb_fits ws (OnCommand verb) = command_fits verb ws

@@ -16,7 +16,7 @@ use Rattle.script_cli.specs.declared.script.Line.TheVariants as line
 use Rattle.script_cli.specs.declared.verb.CommandVerb.{CommandVerb}
 use Rattle.script_cli.specs.declared.verb.QueueVerb.{QueueVerb}
 use Rattle.script_cli.specs.declared.verb.Verb.{Verb}
-use Rattle.script_cli.specs.declared.verb.Verb.TheVariants.{Reserve, Fill, Forge, Owners, OnQueue, OnCommand}
+use Rattle.script_cli.specs.declared.verb.Verb.TheVariants.{Reserve, Fill, Forge, Reset, Owners, OnQueue, OnCommand}
 use Rattle.step_core.specs.declared.step.Step.TheVariants as step
 
 abbrev pub Words : Type 0
@@ -105,6 +105,7 @@ abbrev pub verb_line : Words → Verb → Result Line LineFault
 verb_line ws Reserve = reserve_line ws
 verb_line ws Fill = fill_line ws
 verb_line ws Forge = forge_line ws
+verb_line ws Reset = nothing_more ws (line.Step step.Reset)
 verb_line ws Owners = nothing_more ws line.Owners
 verb_line ws (OnQueue verb) = queue_line verb ws
 verb_line ws (OnCommand verb) = command_line verb ws

@@ -6,7 +6,7 @@ use Rattle.script_cli.specs.declared.verb.CommandVerb.TheVariants as command
 use Rattle.script_cli.specs.declared.verb.QueueVerb.{QueueVerb}
 use Rattle.script_cli.specs.declared.verb.QueueVerb.TheVariants as queue
 use Rattle.script_cli.specs.declared.verb.Verb.{Verb}
-use Rattle.script_cli.specs.declared.verb.Verb.TheVariants.{Reserve, Fill, Forge, Owners, OnQueue, OnCommand}
+use Rattle.script_cli.specs.declared.verb.Verb.TheVariants.{Reserve, Fill, Forge, Reset, Owners, OnQueue, OnCommand}
 use Rattle.step_core.specs.Values.{Step}
 use Rattle.step_core.specs.declared.step.Step.TheVariants as step
 
@@ -35,6 +35,7 @@ abbrev pub verb_text : Verb → List ℕ
 verb_text Reserve = codes "reserve"
 verb_text Fill = codes "fill"
 verb_text Forge = codes "forge"
+verb_text Reset = codes "reset"
 verb_text Owners = codes "owners"
 verb_text (OnQueue verb) = queue_verb_text verb
 verb_text (OnCommand verb) = command_verb_text verb
@@ -44,7 +45,7 @@ all_verbs =
     Reserve ∷ Fill ∷ OnCommand command.Build ∷ OnCommand command.Submit ∷ OnCommand command.Cancel ∷ OnCommand command.Collect
     ∷ OnCommand command.Gather ∷ OnCommand command.Release ∷ OnQueue queue.Ring ∷ OnQueue queue.Reap ∷ OnQueue queue.Fetch
     ∷ OnQueue queue.Retire ∷ OnQueue queue.DeleteSq ∷ OnQueue queue.DeleteCq ∷ OnQueue queue.CreateCq ∷ OnQueue queue.CreateSq
-    ∷ OnCommand command.Walk ∷ OnCommand command.Complete ∷ OnCommand command.Abort ∷ Forge ∷ Owners ∷ []
+    ∷ OnCommand command.Walk ∷ OnCommand command.Complete ∷ OnCommand command.Abort ∷ Forge ∷ Reset ∷ Owners ∷ []
 
 -- the first of some verbs that a word names
 unfoldable pub first_named : List ℕ → List Verb → Option Verb
@@ -98,3 +99,4 @@ verb_of (step.CreateCq q) = OnQueue queue.CreateCq
 verb_of (step.CreateSq q) = OnQueue queue.CreateSq
 verb_of (step.Retire q) = OnQueue queue.Retire
 verb_of (step.Forge q slot bytes) = Forge
+verb_of step.Reset = Reset

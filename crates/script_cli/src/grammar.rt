@@ -2,7 +2,7 @@
 
 ghost use Rattle.std.specs.Prelude.{◌≡◌, IfOk, Ok, Err, MatchResult, []};
 ghost use Rattle.std.specs.List.{list_any};
-ghost use Rattle.script_cli.specs.declared.verb.Verb.TheVariants.{Owners};
+ghost use Rattle.script_cli.specs.declared.verb.Verb.TheVariants.{Owners, Reset};
 ghost use Rattle.script_cli.specs.Grammar.{pieces_from, reserve_line as spec_reserve_line, fill_line as spec_fill_line, forge_line as spec_forge_line, queue_line as spec_queue_line, command_line as spec_command_line, verb_line as spec_verb_line, line_of_words, begins_comment as spec_begins_comment, is_high, words_of as spec_words_of, line_of};
 
 use crate::fault::LineFault;
@@ -57,6 +57,14 @@ fn owners_line(words: &mut Words<'_>) -> Result<Line, LineFault>
 {
     words.end()?;
     Ok(Line::Owners)
+}
+
+/// What follows `reset`.
+fn reset_line(words: &mut Words<'_>) -> Result<Line, LineFault>
+    ensures { result ≡ spec_verb_line words.old Reset }
+{
+    words.end()?;
+    Ok(Line::Step(Step::Reset))
 }
 
 /// What follows `fill`. The outer error is that memory was refused.
@@ -148,6 +156,7 @@ fn verb_line(
         Verb::Reserve => reserve_line(alloc, words),
         Verb::Fill => fill_line(alloc, words),
         Verb::Forge => forge_line(alloc, words),
+        Verb::Reset => Ok(reset_line(words)),
         Verb::Owners => Ok(owners_line(words)),
         Verb::OnQueue(verb) => Ok(queue_line(verb, words)),
         Verb::OnCommand(verb) => Ok(command_line(verb, words)),

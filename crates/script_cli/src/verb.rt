@@ -59,6 +59,8 @@ pub enum Verb {
     Fill,
     /// `forge`
     Forge,
+    /// `reset`
+    Reset,
     /// `owners`
     Owners,
     /// A verb of a queue.
@@ -138,7 +140,7 @@ impl CommandVerb {
 }
 
 /// All verbs.
-const ALL: [Verb; 21] = [
+const ALL: [Verb; 22] = [
     Verb::Reserve,
     Verb::Fill,
     Verb::OnCommand(CommandVerb::Build),
@@ -159,6 +161,7 @@ const ALL: [Verb; 21] = [
     Verb::OnCommand(CommandVerb::Complete),
     Verb::OnCommand(CommandVerb::Abort),
     Verb::Forge,
+    Verb::Reset,
     Verb::Owners,
 ];
 
@@ -209,6 +212,7 @@ impl Verb {
             Verb::Reserve => "reserve",
             Verb::Fill => "fill",
             Verb::Forge => "forge",
+            Verb::Reset => "reset",
             Verb::Owners => "owners",
             Verb::OnQueue(verb) => verb.name(),
             Verb::OnCommand(verb) => verb.name(),
@@ -248,6 +252,7 @@ impl Verb {
             Step::CreateSq { .. } => Verb::OnQueue(QueueVerb::CreateSq),
             Step::Retire { .. } => Verb::OnQueue(QueueVerb::Retire),
             Step::Forge { .. } => Verb::Forge,
+            Step::Reset => Verb::Reset,
         }
     }
 }

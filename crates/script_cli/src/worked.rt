@@ -99,6 +99,7 @@ pub fn lines_are_steps()
     ensures create_cq { line_of (codes "create_cq 1") ≡ Ok (line.Step (step.CreateCq 1)) }
     ensures create_sq { line_of (codes "create_sq 1") ≡ Ok (line.Step (step.CreateSq 1)) }
     ensures retire { line_of (codes "retire 1") ≡ Ok (line.Step (step.Retire 1)) }
+    ensures reset { line_of (codes "reset") ≡ Ok (line.Step step.Reset) }
     ensures forge { line_of (codes "forge 1 0 00000000000000000000010003000100") ≡ Ok (line.Step (step.Forge 1 0 (0 ∷ 0 ∷ 0 ∷ 0 ∷ 0 ∷ 0 ∷ 0 ∷ 0 ∷ 0 ∷ 0 ∷ 1 ∷ 0 ∷ 3 ∷ 0 ∷ 1 ∷ 0 ∷ []))) }
 {}
 

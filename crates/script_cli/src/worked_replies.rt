@@ -12,7 +12,7 @@ ghost use Rattle.script_cli.specs.Replies.{reply_line, gathered_text};
 ghost use Rattle.script_cli.specs.Worked.{fed, all_fed, first_owners};
 ghost use Rattle.script_cli.specs.declared.verb.CommandVerb.TheVariants as command;
 ghost use Rattle.script_cli.specs.declared.verb.QueueVerb.TheVariants as queue;
-ghost use Rattle.script_cli.specs.declared.verb.Verb.TheVariants.{Reserve, Forge, OnQueue, OnCommand};
+ghost use Rattle.script_cli.specs.declared.verb.Verb.TheVariants.{Reserve, Forge, Reset, OnQueue, OnCommand};
 ghost use Rattle.step_core.specs.declared.step.Reply.TheVariants as reply;
 
 /// The lines of the first script's replies.
@@ -59,6 +59,7 @@ pub fn other_runs_print()
     ensures bad_head { reply_line 4 (OnQueue queue.Reap) (reply.Reaps (reaped.Rejected rejected.BadHead)) ≡ fed (codes "4 reap rejected BadHead") }
     ensures wrong_queue { reply_line 6 (OnQueue queue.Reap) (reply.Reaps (reaped.Rejected rejected.WrongQueue)) ≡ fed (codes "6 reap rejected WrongQueue") }
     ensures empty { reply_line 7 (OnQueue queue.Reap) (reply.Reaps reaped.Empty) ≡ fed (codes "7 reap empty") }
+    ensures reset { reply_line 7 Reset reply.Accepted ≡ fed (codes "7 reset ok") }
     ensures no_slot { reply_line 8 Forge (reply.Refused refusal.NoSlot []) ≡ fed (codes "8 forge refused NoSlot") }
     ensures compare { reply_line 9 (OnCommand command.Collect) (reply.Collected COMPARE_FAILURE) ≡ fed (codes "9 collect status 2:85") }
     ensures no_value { reply_line 9 (OnCommand command.Build) reply.NoValue ≡ fed (codes "9 build refused NoValue") }

@@ -24,6 +24,7 @@ returns c =
       bad_head = refl;
       wrong_queue = refl;
       empty = refl;
+      reset = refl;
       no_slot = refl;
       compare = refl;
       no_value = refl;
