@@ -13,6 +13,8 @@ mod placed;
 #[cfg(test)]
 mod refusals;
 #[cfg(test)]
+mod resets;
+#[cfg(test)]
 mod standing;
 #[cfg(test)]
 mod sweep;

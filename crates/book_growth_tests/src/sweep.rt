@@ -30,6 +30,14 @@ pub(crate) const USUAL: Config = Config {
     segment: 256,
 };
 
+/// Rings of eight entries.
+pub(crate) const EIGHT_ENTRIES: Config = Config {
+    pages: 16,
+    queues: 1,
+    entries: 8,
+    segment: 256,
+};
+
 /// Segments of two descriptors.
 pub(crate) const SHORT_SEGMENTS: Config = Config {
     pages: 16,

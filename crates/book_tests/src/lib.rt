@@ -18,4 +18,6 @@ mod opening;
 #[cfg(test)]
 mod part;
 #[cfg(test)]
+mod resets;
+#[cfg(test)]
 mod steps;

@@ -17,3 +17,5 @@ mod guest;
 mod guest_memory;
 #[cfg(test)]
 mod memory_refused;
+#[cfg(test)]
+mod resets;

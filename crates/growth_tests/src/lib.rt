@@ -21,6 +21,8 @@ mod openings;
 #[cfg(test)]
 mod placed;
 #[cfg(test)]
+mod resets;
+#[cfg(test)]
 mod runs;
 #[cfg(test)]
 mod scripts;

@@ -37,5 +37,6 @@ pub(crate) fn placed<A: Allocator + Copy>(heap: A, step: &Step) -> Result<StepIn
         Step::CreateCq { q } => Step::CreateCq { q: *q },
         Step::CreateSq { q } => Step::CreateSq { q: *q },
         Step::Retire { q } => Step::Retire { q: *q },
+        Step::Reset => Step::Reset,
     })
 }

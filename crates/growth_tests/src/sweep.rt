@@ -237,7 +237,7 @@ fn steps_on<'a>(
     Ok(left)
 }
 
-/// Whether a step is one of the seven calls of a world that send, submit or reap: they take no memory.
+/// Whether a step is one of the eight calls of a world that send, submit, reap or reset: they take no memory.
 fn takes_no_memory(step: &Step) -> bool {
     matches!(
         step,
@@ -248,6 +248,7 @@ fn takes_no_memory(step: &Step) -> bool {
             | Step::DeleteCq { .. }
             | Step::CreateCq { .. }
             | Step::CreateSq { .. }
+            | Step::Reset
     )
 }
 

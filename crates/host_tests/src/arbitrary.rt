@@ -1,10 +1,14 @@
 //! A hundred thousand arbitrary calls of a host, with arbitrary bytes in its completion rings before each.
 
+ghost use Rattle.std.specs.Prelude.{◌<◌};
+
+use crate::calls::{SUCCESS, completion};
 use crate::driver::{Driver, HeldDraft, HeldFinished};
 use crate::numbers::Numbers;
 use crate::requests::of_blocks;
 use admin_commands::AdminKind;
-use host_core::{Config, Refused};
+use entry_codec::Status;
+use host_core::{Config, Reap, Refused};
 use io_commands::Kind;
 use machine_model::words::{Reaped, Refusal};
 use std::alloc::Global;
@@ -26,6 +30,7 @@ struct Seen {
     done: u32,
     admin_done: u32,
     rejected: u32,
+    resets: u32,
 }
 
 /// A host, and all that its driver holds.
@@ -77,7 +82,9 @@ impl Run {
                     ring[16 * slot..16 * slot + 16].copy_from_slice(&entry);
                 }
             }
-            self.driver.scribble(2 * u32::from(q) + 1, 0, &ring);
+            if let Some(page) = self.driver.completion_ring(u16::from(q)) {
+                self.driver.scribble(page, 0, &ring);
+            }
         }
     }
 
@@ -175,35 +182,105 @@ impl Run {
         Some(refused.why)
     }
 
-    /// Sends an admin command, seldom a deletion.
+    /// Sends an admin command, mostly an Abort or a creation.
     fn send(&mut self, rt: &impl Abort) -> Option<Refusal> {
         let q = self.queue();
         let cid = (self.numbers.next() % 4) as u16;
+        let (entries, base) = (4, 0);
         let kind = match self.numbers.next() % 32 {
             0 => AdminKind::DeleteSq { q },
             1 => AdminKind::DeleteCq { q },
+            2..=9 => AdminKind::CreateCq { q, entries, base },
+            10..=17 => AdminKind::CreateSq { q, entries, base },
             _ => AdminKind::Abort { q, cid },
         };
         self.driver.send(rt, kind).err()
     }
 
+    /// Gives back all that is left behind a reset.
+    fn give_back(&mut self, rt: &impl Abort) {
+        for _ in 0..self.drafts.len() {
+            if let Some(held) = self.drafts.pop() {
+                let _cancelled = self.driver.cancel(rt, held);
+            }
+        }
+        for _ in 0..self.finished.len() {
+            if let Some(held) = self.finished.pop() {
+                let _released = self.driver.release(rt, held);
+            }
+        }
+        for q in 1..3 {
+            for cid in 0..3 {
+                if let Ok(held) = self.driver.collect(rt, q, cid) {
+                    assert!(rt; self.driver.release(rt, held).is_ok());
+                }
+            }
+        }
+        assert!(rt; self.driver.host().is_idle());
+    }
+
+    /// Makes a half of a queue, with a completion of a sound controller in a slot of queue 0.
+    fn make(&mut self, rt: &impl Abort, kind: AdminKind, slot: u8)
+        requires { slot < 4 }
+    {
+        assert_eq!(rt; self.driver.send(rt, kind), Ok(0));
+        let head = (slot + 1) % 4;
+        let entry = completion(0, head, 0, SUCCESS);
+        self.driver.scribble(1, 16 * usize::from(slot), &entry);
+        let found = Reaped::AdminDone {
+            cid: 0,
+            status: Status::SUCCESS,
+            dw0: 0,
+        };
+        let head = Some(u16::from(head));
+        assert_eq!(rt; self.driver.reap(rt, 0), Ok(Reap { found, head }));
+    }
+
+    /// Makes both halves of a queue, with completions in this slot of queue 0 and in the next.
+    fn make_queue(&mut self, rt: &impl Abort, q: u16, slot: u8)
+        requires { slot < 3 }
+    {
+        let (entries, base) = (4, 0);
+        self.make(rt, AdminKind::CreateCq { q, entries, base }, slot);
+        self.make(rt, AdminKind::CreateSq { q, entries, base }, slot + 1);
+    }
+
+    /// Resets, in one of 16 cases. In three of four of these all commands that are left are given back then, and the queues are made again.
+    fn reset(&mut self, rt: &impl Abort) {
+        let number = self.numbers.next() % 64;
+        if number > 3 {
+            return;
+        }
+        self.driver.reset(rt);
+        self.seen.resets = self.seen.resets.wrapping_add(1);
+        if number > 0 {
+            self.give_back(rt);
+            self.make_queue(rt, 1, 0);
+            self.make_queue(rt, 2, 2);
+        }
+    }
+
     /// Does a call with arbitrary arguments: why it was refused.
     fn call(&mut self, rt: &impl Abort, alloc: Global) -> Result<Option<Refusal>, Fail> {
-        match self.numbers.next() % 17 {
+        match self.numbers.next() % 20 {
             0..=2 => self.reserve(rt, alloc),
             3..=5 => self.submit(rt, alloc),
             6..=9 => Ok(self.reap(rt)),
             10 | 11 => self.collect(rt),
             12 => Ok(self.release(rt)),
-            13 => Ok(self.send(rt)),
-            14 => {
+            13..=15 => Ok(self.send(rt)),
+            16 => {
                 let q = self.queue();
                 Ok(self.driver.host().ring(q).err())
             }
-            15 => self.cancel(rt),
-            _ => {
+            17 => self.cancel(rt),
+            18 => {
                 let q = self.queue();
                 Ok(self.driver.retire(rt, q).err())
+            }
+            _ => {
+                self.reset(rt);
+                Ok(None)
             }
         }
     }
@@ -230,10 +307,11 @@ fn arbitrary_calls(rt: HostRuntime) -> Result<(), Fail> {
     }
     // What each step must keep is compared behind each call. These counts are as on the day when this was written, so that a change shows.
     let seen = Seen {
-        accepted: 54_567,
-        done: 989,
-        admin_done: 631,
-        rejected: 7_349,
+        accepted: 49_670,
+        done: 614,
+        admin_done: 453,
+        rejected: 5_533,
+        resets: 332,
     };
     assert_eq!(rt; run.seen, seen);
     Ok(())

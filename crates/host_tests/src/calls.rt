@@ -60,6 +60,8 @@ enum Row {
     Reap(u16, Reaped, u16),
     /// A queue is retired.
     Retire(u16),
+    /// The controller is reset.
+    Reset,
     /// A command of queue 1 is collected and released: how it ended.
     End(u16, Status),
     /// How many pages are free, and how many are of queues.
@@ -132,6 +134,7 @@ fn play(rt: &impl Abort, driver: &mut Driver, alloc: Global, row: Row) -> Result
             assert_eq!(rt; driver.reap(rt, q), Ok(Reap { found, head }));
         }
         Row::Retire(q) => assert_eq!(rt; driver.retire(rt, q), Ok(())),
+        Row::Reset => driver.reset(rt),
         Row::End(cid, status) => end(rt, driver, cid, status),
         Row::Pages(free_pages, queue_pages) => {
             let counts = driver.host().counts();
@@ -212,6 +215,64 @@ fn a_queue_ends(rt: HostRuntime) -> Result<(), Fail> {
         play(&rt, &mut driver, rt.alloc(), row)?;
     }
     assert_eq!(rt; driver.reap(&rt, 1), Err(Refusal::NoQueue));
+    Ok(())
+}
+
+/// The creation of the completion half of queue 1 in page 2.
+const CREATE_CQ: AdminKind = AdminKind::CreateCq {
+    q: 1,
+    entries: 4,
+    base: 8_192,
+};
+
+/// The creation of its submission half in page 3.
+const CREATE_SQ: AdminKind = AdminKind::CreateSq {
+    q: 1,
+    entries: 4,
+    base: 12_288,
+};
+
+/// How either of them ends, as the first command of queue 0.
+const MADE: Reaped = Reaped::AdminDone {
+    cid: 0,
+    status: Status::SUCCESS,
+    dw0: 0,
+};
+
+/// One Read has ended and another waits, an Abort of it is sent, and the controller is reset: both Reads are collected, the Abort is over, and
+/// queue 1 is made again.
+#[test]
+fn a_reset(rt: HostRuntime) -> Result<(), Fail> {
+    let status = Status::SUCCESS;
+    let abort = AdminKind::Abort { q: 1, cid: 1 };
+    let mut driver = Driver::open(rt.alloc(), SMALL)?;
+    for row in [
+        Row::Submit(0),
+        Row::Submit(1),
+        Row::Post(1, 0, completion(1, 1, 0, SUCCESS)),
+        Row::Reap(1, Reaped::Done { cid: 0, status }, 1),
+        Row::Send(abort, 0, 0, [0x08, 0, 0, 0], [1, 0, 1, 0]),
+        Row::Post(0, 0, completion(0, 1, 0, SUCCESS)),
+        Row::Reset,
+        Row::Pages(12, 2),
+        Row::Ring(0, Ok(0)),
+        Row::Ring(1, Err(Refusal::NoQueue)),
+        Row::End(0, status),
+        Row::End(1, Status::ABORTED_SQ_DELETION),
+        Row::Pages(14, 2),
+        Row::Send(CREATE_CQ, 0, 0, [0x05, 0, 0, 0], [1, 0, 3, 0]),
+        Row::Post(0, 0, completion(0, 1, 0, SUCCESS)),
+        Row::Reap(0, MADE, 1),
+        Row::Send(CREATE_SQ, 0, 1, [0x01, 0, 0, 0], [1, 0, 3, 0]),
+        Row::Post(0, 1, completion(0, 2, 0, SUCCESS)),
+        Row::Reap(0, MADE, 2),
+        Row::Pages(12, 4),
+        Row::Submit(0),
+        Row::Ring(1, Ok(1)),
+    ] {
+        play(&rt, &mut driver, rt.alloc(), row)?;
+    }
+    assert_eq!(rt; driver.completion_ring(1), Some(2));
     Ok(())
 }
 

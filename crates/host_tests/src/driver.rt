@@ -9,7 +9,7 @@ use host_core::{Config, Host, Opened, Reap, Refused};
 use io_commands::{Draft, Finished, Request, Ticket};
 use machine_model::words::{OpenRefusal, Refusal};
 use page_ledger::{Counts, Owner, Role};
-use page_memory::{PageNo, Store};
+use page_memory::{Half, PageNo, Store};
 use std::alloc::{Allocator, Global};
 use std::marker::Model;
 use std::process::Abort;
@@ -155,6 +155,17 @@ impl<A: Allocator + Copy> Driver<A> {
         } else {
             None
         }
+    }
+
+    /// The first page of a queue's completion ring, where it has one.
+    pub(crate) fn completion_ring(&self, q: u16) -> Option<u32> {
+        let half = Half::Completion;
+        for p in 0..self.host.pages() {
+            if self.host.owner(PageNo(p)) == (Owner::Queue { q, half }) {
+                return Some(p);
+            }
+        }
+        None
     }
 
     /// The entry in a slot of the submission ring that begins with a page.
@@ -368,5 +379,13 @@ impl<A: Allocator + Copy> Driver<A> {
         let answer = self.host.retire(&mut self.store, q);
         self.recount(rt);
         answer
+    }
+
+    /// Resets: queue 0 alone has pages, and no completion waits in it.
+    pub(crate) fn reset(&mut self, rt: &impl Abort) {
+        self.host.reset(&mut self.store);
+        assert_eq!(rt; self.host.counts().queue_pages, 2);
+        assert!(rt; !self.host.completion_waits(&mut self.store, 0));
+        self.recount(rt);
     }
 }

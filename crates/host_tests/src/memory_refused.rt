@@ -1,5 +1,6 @@
 //! The calls that want memory, each with every one of its growths refused in turn: the answer is want of memory, nothing changed, no byte
-//! leaked, and the same call then succeeds. And those that send an admin command, with every growth refused: they want none.
+//! leaked, and the same call then succeeds. And those that send an admin command, and the
+//! reset, with every growth refused: they want none.
 
 use crate::calls::{SUCCESS, completion, submit};
 use crate::driver::Driver;
@@ -132,6 +133,21 @@ fn deletions(rt: HostRuntime) -> Result<(), Fail> {
         let mut driver = Driver::open(&heap, SMALL)?;
         send_without_memory(&rt, &heap, &mut driver, kind);
     }
+    Ok(())
+}
+
+/// A Read waits and an Abort of it is sent; a reset ends both where each growth is refused: none is asked for.
+#[test]
+fn a_reset(rt: HostRuntime) -> Result<(), Fail> {
+    let heap = Refusing::new(rt.alloc());
+    let mut driver = Driver::open(&heap, SMALL)?;
+    submit(&rt, &mut driver, &heap, 0)?;
+    send_without_memory(&rt, &heap, &mut driver, AdminKind::Abort { q: 1, cid: 0 });
+    heap.refuse(refusing::Refusal::NthOn(1));
+    driver.reset(&rt);
+    assert_eq!(rt; heap.tally().refused, 0);
+    heap.refuse(refusing::Refusal::Never);
+    assert!(rt; driver.collect(&rt, 1, 0).is_ok());
     Ok(())
 }
 

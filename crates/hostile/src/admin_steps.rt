@@ -1,4 +1,4 @@
-//! The steps that abort commands, delete queues and make them again.
+//! The steps that abort commands, delete queues and make them again, and the reset.
 
 use crate::answer::Answer;
 use crate::fault::Halt;
@@ -95,5 +95,12 @@ impl Session {
             }
             Err(why) => Ok(Answer::Refused(why)),
         }
+    }
+
+    /// Resets the controller.
+    pub fn reset(&mut self) -> Answer {
+        self.world.reset();
+        self.recount.reset();
+        Answer::Done
     }
 }

@@ -43,10 +43,12 @@ pub enum StepKind {
     Retire,
     /// Forge a completion.
     Forge,
+    /// Reset the controller.
+    Reset,
 }
 
 /// How many kinds there are.
-pub const KINDS: usize = 19;
+pub const KINDS: usize = 20;
 
 /// The kinds, in the order in which they are printed.
 pub const ALL: [StepKind; KINDS] = [
@@ -69,6 +71,7 @@ pub const ALL: [StepKind; KINDS] = [
     StepKind::CreateSq,
     StepKind::Retire,
     StepKind::Forge,
+    StepKind::Reset,
 ];
 
 impl StepKind {
@@ -94,13 +97,14 @@ impl StepKind {
             StepKind::CreateSq => "create_sq",
             StepKind::Retire => "retire",
             StepKind::Forge => "forge",
+            StepKind::Reset => "reset",
         }
     }
 
     /// How many of a thousand steps that forge nothing are of this kind.
     fn weight(self) -> u16 {
         match self {
-            StepKind::Walk => 136,
+            StepKind::Walk => 135,
             StepKind::Reap => 100,
             StepKind::Ring | StepKind::Fetch => 80,
             StepKind::Reserve | StepKind::Collect => 75,
@@ -113,6 +117,7 @@ impl StepKind {
             StepKind::DeleteCq => 14,
             StepKind::DeleteSq => 9,
             StepKind::Abort => 7,
+            StepKind::Reset => 1,
             StepKind::Forge => 0,
         }
     }

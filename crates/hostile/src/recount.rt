@@ -461,13 +461,42 @@ impl Recount {
         if self.queue(q).ok_or(wrong)?.state != (HostState::Deleting { noted: true }) {
             return Err(wrong);
         }
+        self.lose(Some(q));
+        self.give_back(q, Half::Submission);
+        self.set_state(q, HostState::Retired)
+    }
+
+    /// The submitted commands of a queue, or of all queues, have ended without an answer.
+    fn lose(&mut self, of: Option<u16>) {
         for command in self.commands.iter_mut() {
-            if command.q == q && command.phase == Phase::Submitted {
+            let named = match of {
+                Some(q) => command.q == q,
+                None => true,
+            };
+            if named && command.phase == Phase::Submitted {
                 command.phase = Phase::Held;
                 command.status = Some(Status::ABORTED_SQ_DELETION);
             }
         }
-        self.give_back(q, Half::Submission);
-        self.set_state(q, HostState::Retired)
+    }
+
+    /// The controller was reset: queue 0 alone is left, as it opened, and nothing that was forged.
+    pub fn reset(&mut self) {
+        self.lose(None);
+        self.sent.clear();
+        self.jobs.clear();
+        self.forged.clear();
+        self.trusted = true;
+        for (q, rings) in self.queues.iter_mut().enumerate() {
+            *rings = Rings::EMPTY;
+            if q > 0 {
+                rings.state = HostState::Gone;
+            }
+        }
+        for owner in self.owners.iter_mut() {
+            if let Owner::Queue { q: 1.., .. } = owner {
+                *owner = Owner::Free;
+            }
+        }
     }
 }

@@ -115,6 +115,7 @@ impl Session {
             StepKind::CreateSq => self.create_sq(course),
             StepKind::Retire => self.retire(course),
             StepKind::Forge => self.forge(course),
+            StepKind::Reset => Ok(self.reset()),
         }
     }
 }

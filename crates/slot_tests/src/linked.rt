@@ -2,6 +2,8 @@
 
 use linked_table::LinkedTable;
 use refusing::{Refusal, Refusing};
+use std::alloc::Allocator;
+use std::process::Abort;
 use std::test::Fail;
 
 /// The next of a sequence of numbers that looks random.
@@ -89,5 +91,29 @@ fn a_refused_put_hands_the_record_back(rt: HostRuntime) -> Result<(), Fail> {
     assert_eq!(rt; (table.len(), table.first()), (1, Some((1, 2))));
     drop(table);
     assert_eq!(rt; heap.tally().blocks, 0);
+    Ok(())
+}
+
+/// Puts a record for each of so many identifiers.
+fn fill<A: Allocator + Clone>(rt: &impl Abort, table: &mut LinkedTable<u32, A>, count: u16) {
+    for cid in 0..count {
+        assert!(rt; table.get(1, cid).is_none());
+        assert_eq!(rt; table.put(1, cid, 70), Ok(()));
+    }
+}
+
+/// A cleared table is as a new one, and takes no memory for as many records as it had.
+#[test]
+fn a_cleared_table_keeps_its_room(rt: HostRuntime) -> Result<(), Fail> {
+    let heap = Refusing::new(rt.alloc());
+    let mut table = LinkedTable::new(&heap);
+    fill(&rt, &mut table, 100);
+    heap.refuse(Refusal::NthOn(1));
+    table.clear();
+    assert_eq!(rt; (table.len(), table.first()), (0, None));
+    assert!(rt; table.get(1, 0).is_none() && table.next(1, 0).is_none());
+    fill(&rt, &mut table, 100);
+    assert_eq!(rt; (table.len(), table.first()), (100, Some((1, 0))));
+    assert_eq!(rt; (table.next(1, 0), table.next(1, 99)), (Some((1, 1)), None));
     Ok(())
 }

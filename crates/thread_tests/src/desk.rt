@@ -137,6 +137,7 @@ fn step_alone<L: Driver, R: Wait>(rt: &R, shared: &Shared<L>, step: Step) -> Rep
         Step::CreateSq { q } => sent(shared.create_sq(rt, q)),
         Step::Retire { q } => done(shared.retire(rt, q)),
         Step::Forge { q, slot, bytes } => done(shared.forge(rt, q, slot, bytes)),
+        Step::Reset => done(shared.reset(rt)),
         _ => Reply::NoValue,
     }
 }

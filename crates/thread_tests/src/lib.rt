@@ -2,7 +2,7 @@
 #![tactic(auto)]
 
 #[cfg(test)]
-mod admin_rows;
+mod admin;
 #[cfg(test)]
 mod closes;
 #[cfg(test)]
@@ -12,13 +12,15 @@ mod crowd;
 #[cfg(test)]
 mod desk;
 #[cfg(test)]
-mod forged_rows;
+mod forgeries;
+#[cfg(test)]
+mod jobs;
 #[cfg(test)]
 mod looks;
 #[cfg(test)]
 mod part;
 #[cfg(test)]
-mod rows;
+mod resets;
 #[cfg(test)]
 mod runs;
 #[cfg(test)]

@@ -1,4 +1,4 @@
-//! Rows in which completions are forged, through a shared book: what the host believes and rejects, and what the controller then does.
+//! Steps in which completions are forged, through a shared book: what the host believes and rejects, and what the controller then does.
 
 use crate::looks::{Told, USUAL};
 use crate::part::{Part, run};

@@ -116,7 +116,7 @@ fn opened(alloc: Global) -> Result<World, Fail> {
 }
 
 /// Sees whose a page is.
-fn see_owner(rt: &impl Abort, world: &World, p: u32, wanted: Owner) {
+pub(crate) fn see_owner(rt: &impl Abort, world: &World, p: u32, wanted: Owner) {
     assert!(rt; p < world.pages());
     assert!(rt; world.owner(PageNo(p)) == wanted, "page {p}");
 }

@@ -21,11 +21,14 @@ pub(crate) enum Call {
     Abort(u16, u16),
     DeleteSq(u16),
     DeleteCq(u16),
+    CreateCq(u16),
+    CreateSq(u16),
     Retire(u16),
     /// Forge a completion of success with phase 1 in a slot of queue 1, with this submission head, queue and identifier.
     Forge(u16, u8, u8, u8),
     /// Overwrite a slot of a queue with one byte throughout.
     Overwrite(u16, u16, u8),
+    Reset,
 }
 
 /// What a call answers.
@@ -125,9 +128,15 @@ pub(crate) fn called(world: &mut World, alloc: Global, call: Call) -> Result<Tol
         Call::Abort(q, cid) => sent(world.abort(q, cid)),
         Call::DeleteSq(q) => sent(world.delete_sq(q)),
         Call::DeleteCq(q) => sent(world.delete_cq(q)),
+        Call::CreateCq(q) => sent(world.create_cq(q)),
+        Call::CreateSq(q) => sent(world.create_sq(q)),
         Call::Retire(q) => done(world.retire(q)),
         Call::Forge(slot, head, q, cid) => done(world.forge(1, slot, completion(head, q, cid))),
         Call::Overwrite(q, slot, byte) => done(world.forge(q, slot, [byte; 16])),
+        Call::Reset => {
+            world.reset();
+            Told::Done
+        }
     };
     Ok(told)
 }

@@ -18,6 +18,8 @@ mod forged;
 #[cfg(test)]
 mod playing;
 #[cfg(test)]
+mod resets;
+#[cfg(test)]
 mod runs;
 #[cfg(test)]
 mod texts;

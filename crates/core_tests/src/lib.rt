@@ -19,6 +19,8 @@ mod opening;
 #[cfg(test)]
 mod reaping;
 #[cfg(test)]
+mod resetting;
+#[cfg(test)]
 mod retiring;
 #[cfg(test)]
 mod sending;

@@ -2,6 +2,8 @@
 #![tactic(auto)]
 
 #[cfg(test)]
+mod carried_through;
+#[cfg(test)]
 mod faults;
 #[cfg(test)]
 mod lines;
@@ -9,5 +11,3 @@ mod lines;
 mod playing;
 #[cfg(test)]
 mod refusals;
-#[cfg(test)]
-mod rows;

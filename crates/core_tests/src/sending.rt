@@ -6,7 +6,7 @@ use std::test::Fail;
 use step_core::*;
 
 /// How the first command of queue 0 ended with success.
-const FIRST_DONE: Reaped = Reaped::AdminDone {
+pub(crate) const FIRST_DONE: Reaped = Reaped::AdminDone {
     cid: 0,
     status: Status::SUCCESS,
     dw0: 0,

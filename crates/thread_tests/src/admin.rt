@@ -1,4 +1,4 @@
-//! Two worked rows of steps through a shared book: commands that are aborted, and a queue that is deleted while its commands are about.
+//! Steps through a shared book: commands that are aborted, and a queue that is deleted while its commands are about.
 
 use crate::looks::{Told, USUAL};
 use crate::part::{Part, run};
