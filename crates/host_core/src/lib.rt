@@ -6,9 +6,9 @@
 //! [`Host::ring`] and [`Host::reap`] answer (NVM Express Base Specification 2.0, "Memory-based transport queue model", section 3.3.1).
 //!
 //! The contract of each call holds against any controller, whatever bytes stand in the pages: the call is a step of the machine that
-//! `machine_model` defines, with no controller in it. A refusal is the first cause that holds, and then nothing changed and every moved
-//! value is handed back; else the answer, the host and the pages are the machine's. Between calls each page has one owner, the counts add
-//! up, and identifiers are distinct ([`Host::pages`]).
+//! `machine_model` defines, with no controller in it, and [`Host::reset`] leaves exactly what a reset leaves of that machine. A refusal is
+//! the first cause that holds, and then nothing changed and every moved value is handed back; else the answer, the host and the pages are
+//! the machine's. Between calls each page has one owner, the counts add up, and identifiers are distinct ([`Host::pages`]).
 #![tactic(auto)]
 
 mod collect;
