@@ -18,6 +18,7 @@ use Rattle.step_core.specs.Values.{Reply}
 use Rattle.step_core.specs.declared.step.Reply.TheVariants as reply
 use Rattle.step_core.specs.Values.{Step}
 use Rattle.step_core.specs.declared.step.Step.TheVariants as step
+use Rattle.step_core.proofs.Lawful.{of_forge}
 use Rattle.bench_laws.specs.Values.{Done, IsOf, MadeBy, BeginsWith, event_at, is_forgery, is_reset, resets_by, since_reset}
 
 -- One step
@@ -29,18 +30,6 @@ inside e = cc
 record SameKind (what : Step) (answer : Reply) (e : Event) (r : events.Reply) : Type 0 where
   forgery : forges_by what answer ≡ laws.forges_by e r
   reset : resets_by what ≡ resets e
-
-of_forge : (k slot : ℕ) (bytes : List ℕ) (answer : Reply) (r : events.Reply) → Says answer r → forges_by (step.Forge k slot bytes) answer ≡ laws.forges_by (events.Forge k slot bytes) r
-of_forge k slot bytes reply.Accepted r says = sym (ap (laws.forges_by (events.Forge k slot bytes)) says)
-of_forge k slot bytes (reply.Reserved q cid front back) (events.Reserved d) says = refl
-of_forge k slot bytes (reply.Fetched cid touched) r says = sym (ap (laws.forges_by (events.Forge k slot bytes)) says)
-of_forge k slot bytes (reply.Walked state touched) r says = sym (ap (laws.forges_by (events.Forge k slot bytes)) says)
-of_forge k slot bytes (reply.Completed touched) r says = sym (ap (laws.forges_by (events.Forge k slot bytes)) says)
-of_forge k slot bytes (reply.Reaps what) r says = sym (ap (laws.forges_by (events.Forge k slot bytes)) says)
-of_forge k slot bytes (reply.Collected status) (events.Collects f) says = refl
-of_forge k slot bytes (reply.Sent cid) r says = sym (ap (laws.forges_by (events.Forge k slot bytes)) says)
-of_forge k slot bytes (reply.Refused why touched) r says = sym (ap (laws.forges_by (events.Forge k slot bytes)) says)
-of_forge k slot bytes answer r says = absurd says
 
 of_event : (what : Step) (answer : Reply) (x e : Event) (r : events.Reply) → x ≡ e → forges_by what answer ≡ laws.forges_by x r → resets_by what ≡ resets x → SameKind what answer e r
 of_event what answer x e r is forgery reset = subst (λ (y : Event). SameKind what answer y r) is (record { forgery = forgery; reset = reset })
@@ -82,7 +71,7 @@ same_kind t (step.CreateCq k) answer e r asks says = of_event (step.CreateCq k) 
 same_kind t (step.CreateSq k) answer e r asks says = of_event (step.CreateSq k) answer (events.CreateSq k) e r (inside asks) refl refl
 same_kind t (step.Retire k) answer e r asks says = of_event (step.Retire k) answer (events.Retire k) e r (inside asks) refl refl
 same_kind t (step.Forge k slot bytes) answer e r asks says =
-    of_event (step.Forge k slot bytes) answer (events.Forge k slot bytes) e r (inside asks) (of_forge k slot bytes answer r says) refl
+    of_event (step.Forge k slot bytes) answer (events.Forge k slot bytes) e r (inside asks) (sym (of_forge k slot bytes answer r says)) refl
 same_kind t step.Reset answer e r asks says = of_event step.Reset answer events.Reset e r (inside asks) refl refl
 
 kind_of : (d : Done) (m : Made) → IsOf d m → SameKind d.what d.answer m.event m.reply

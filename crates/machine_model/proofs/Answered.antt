@@ -217,7 +217,7 @@ walks_on s q cid j act t none found unit =
     )
 
 -- where no cause refuses a walk there is a job of an I/O queue without a verdict
-walk_allowed : (s : State) (q cid : ℕ) → refusal_of s (events.Walk q cid) ≡ None
+pub walk_allowed : (s : State) (q cid : ℕ) → refusal_of s (events.Walk q cid) ≡ None
     → (j : Job) × (job_at s q cid ≡ Some j) × (j.verdict ≡ None) × ((j.q == 0) ≡ false)
 walk_allowed s q cid none =
     let rows = (job_is (λ j. is_some j.verdict || (j.q == 0)) s q cid, events.Nothing) ∷ [] in
@@ -235,10 +235,10 @@ walk_allowed s q cid none =
         let both = or_parts (is_some j.verdict) (j.q == 0) unfinished in
         (j, e, undecided j.verdict both.0, both.1)
 
-above_zero : (q : ℕ) → (q == 0) ≡ false → nat_lt 0 q ≡ true
+pub above_zero : (q : ℕ) → (q == 0) ≡ false → nat_lt 0 q ≡ true
 above_zero q h = grind (arith, nat_tests)
 
-has_unit : (s : State) (q cid : ℕ) (j : Job) → s.trusted ≡ true → IsInOrder s → job_at s q cid ≡ Some j → j.verdict ≡ None → (j.q == 0) ≡ false
+pub has_unit : (s : State) (q cid : ℕ) (j : Job) → s.trusted ≡ true → IsInOrder s → job_at s q cid ≡ Some j → j.verdict ≡ None → (j.q == 0) ≡ false
     → (act : Act) × (next_unit s j ≡ Some act)
 has_unit s q cid j t order found unfinished io =
     let ids = and_parts (j.q == q) (j.entry.cid == cid) (find_sound (is_job q cid) s.device.jobs j found) in

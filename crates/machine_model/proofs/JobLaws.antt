@@ -73,7 +73,7 @@ step_is old e reply new step t =
 
 -- Chains
 
-all_of : {A : Type 0} (P : A → Type 0) (xs : List A) → AllByRecursion P xs → All P xs
+pub all_of : {A : Type 0} (P : A → Type 0) (xs : List A) → AllByRecursion P xs → All P xs
 all_of P [] h = All-nil P
 all_of P (x ∷ xs) h = All-cons P x xs h.0 (all_of P xs h.1)
 
@@ -90,7 +90,7 @@ of_entry cid entry (x ∷ xs) h = go (x.cid == cid) refl (of_entry cid entry xs 
     go true e ih = (ap (λ (y : SubEntry). y.sgl1) (h.0 (eqb-true x.cid cid e)), ih)
     go false e ih = ih
 
-entries_named : (s : State) (q cid : ℕ) (entry : SubEntry) → HasEntry s.device.queues s.device.jobs q cid entry → AllByRecursion (λ e. e.sgl1 ≡ entry.sgl1) (entries_of s q cid)
+pub entries_named : (s : State) (q cid : ℕ) (entry : SubEntry) → HasEntry s.device.queues s.device.jobs q cid entry → AllByRecursion (λ e. e.sgl1 ≡ entry.sgl1) (entries_of s q cid)
 entries_named s q cid entry has =
     joined (λ e. e.sgl1 ≡ entry.sgl1) (option_map_or (λ at. filter (λ e. e.cid == cid) at.unfetched) (slice_get s.device.queues q) []) (option_map_or (λ j. j.entry ∷ []) (job_at s q cid) [])
     (waiting (slice_get s.device.queues q) has.unfetched) (running (job_at s q cid) refl)

@@ -80,32 +80,33 @@ found_record s q cid r f found held (Io request) w (Some v) st e =
     inside : {a b : FinishedContents} → Some a ≡ Some b → a ≡ b
     inside e = cc
 
+-- where a collection is not refused, its command's record is held
+pub held_where_collected : (s : State) (q cid : ℕ) → refusal_of s (events.Collect q cid) ≡ None → (r : Record) → record_at s.host q cid ≡ Some r → is_held r.phase ≡ true
+held_where_collected s q cid none r e =
+    by r.phase (sym (ap (λ (o : Option Record). option_map_or (λ r. is_submitted r.phase || is_held r.phase) o false) e) ∙ known) (sym (ap (λ (o : Option Record). option_map_or (λ r. is_submitted r.phase) o false) e) ∙ ended)
+  where
+    known : record_is (λ r. is_submitted r.phase || is_held r.phase) s q cid ≡ true
+    known = not-false _ (first_fails (not (record_is (λ r. is_submitted r.phase || is_held r.phase) s q cid)) events.Stranger ((record_is (λ r. is_submitted r.phase) s q cid, events.NotYet) ∷ []) none)
+
+    ended : record_is (λ r. is_submitted r.phase) s q cid ≡ false
+    ended = first_fails (record_is (λ r. is_submitted r.phase) s q cid) events.NotYet []
+        (rest_fails (not (record_is (λ r. is_submitted r.phase || is_held r.phase) s q cid)) events.Stranger ((record_is (λ r. is_submitted r.phase) s q cid, events.NotYet) ∷ []) none)
+
+    by : (ph : Phase) → (is_submitted ph || is_held ph) ≡ true → is_submitted ph ≡ false → is_held ph ≡ true
+    by Drafted h g = h
+    by Submitted h g = absurd (true≢false g)
+    by Held h g = refl
+    by Collected h g = h
+
 found_in : (s : State) (e : Event) (reply : Reply) (new : State) (f : FinishedContents) → Step s e reply new → s.trusted ≡ true → collected_of e reply ≡ Some f → Found s f
 found_in s (events.Collect q cid) (events.Collects g) new f step t is = go (record_at s.host q cid) refl (ok.1 ∙ is)
   where
     ok : (refusal_of s (events.Collect q cid) ≡ None) × (option_and_then (finished_from s) (record_at s.host q cid) ≡ Some g)
     ok = permitted _ s.trusted true t step.1
 
-    known : record_is (λ r. is_submitted r.phase || is_held r.phase) s q cid ≡ true
-    known = not-false _ (first_fails (not (record_is (λ r. is_submitted r.phase || is_held r.phase) s q cid)) events.Stranger ((record_is (λ r. is_submitted r.phase) s q cid, events.NotYet) ∷ []) ok.0)
-
-    ended : record_is (λ r. is_submitted r.phase) s q cid ≡ false
-    ended = first_fails (record_is (λ r. is_submitted r.phase) s q cid) events.NotYet []
-        (rest_fails (not (record_is (λ r. is_submitted r.phase || is_held r.phase) s q cid)) events.Stranger ((record_is (λ r. is_submitted r.phase) s q cid, events.NotYet) ∷ []) ok.0)
-
-    is_held' : (r : Record) → record_at s.host q cid ≡ Some r → is_held r.phase ≡ true
-    is_held' r e =
-        by r.phase (sym (ap (λ (o : Option Record). option_map_or (λ r. is_submitted r.phase || is_held r.phase) o false) e) ∙ known) (sym (ap (λ (o : Option Record). option_map_or (λ r. is_submitted r.phase) o false) e) ∙ ended)
-      where
-        by : (ph : Phase) → (is_submitted ph || is_held ph) ≡ true → is_submitted ph ≡ false → is_held ph ≡ true
-        by Drafted h g = h
-        by Submitted h g = absurd (true≢false g)
-        by Held h g = refl
-        by Collected h g = h
-
     go : (o : Option Record) → record_at s.host q cid ≡ o → option_and_then (finished_from s) o ≡ Some f → Found s f
     go None e h = absurd cc
-    go (Some r) e h = found_record s q cid r f e (is_held' r e) r.work refl r.status refl h
+    go (Some r) e h = found_record s q cid r f e (held_where_collected s q cid ok.0 r e) r.work refl r.status refl h
 found_in s e reply new f step t is = absurd cc
 
 reads_kind : (f : FinishedContents) → is_read f ≡ true → f.request.kind ≡ Read

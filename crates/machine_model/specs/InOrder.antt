@@ -1,5 +1,5 @@
 -- States in order: what holds of each state that steps from an opening lead to, and that each event is answered there.
-use Rattle.std.specs.Prelude.{◌≡◌, ◌≤◌, ℕ, Bool, false, ◌||◌, IsTrue, not, List, [], ◌∷◌, map}
+use Rattle.std.specs.Prelude.{◌≡◌, ◌≤◌, ℕ, Bool, false, ◌||◌, IsTrue, not, List, ◌∷◌, map}
 use Rattle.block_image.specs.Blocks.{IsImage}
 use Rattle.io_commands.specs.Drafts.{DraftContents}
 use Rattle.io_commands.specs.Values.{FinishedContents}

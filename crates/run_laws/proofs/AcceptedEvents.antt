@@ -1,13 +1,12 @@
 -- An event that no cause refuses is accepted.
-use Rattle.std.proofs.Common.{◌≡◌, ℕ, ◌+◌, ◌-◌, ◌<◌, ◌≤◌, ◌==◌, nat_lt, nat_le, Bool, true, false, not, ◌&&◌, ◌||◌, Option, Some, None, List, [], ◌∷◌, ◌++◌, length, slice_get, is_some, is_none, get_or, MatchBool, if◌then◌else◌, refl, ap, ap₂, sym, ◌∙◌, arith, subst, eqb-true}
+use Rattle.std.proofs.Common.{◌≡◌, ℕ, ◌+◌, ◌-◌, ◌<◌, ◌≤◌, nat_lt, nat_le, Bool, true, false, not, ◌&&◌, ◌||◌, Option, Some, None, List, [], ◌∷◌, ◌++◌, length, is_some, is_none, MatchBool, if◌then◌else◌, refl, ap, ap₂, sym, ◌∙◌, arith, subst}
 use Rattle.std.specs.Option.{option_map, option_map_or, option_and_then}
-use Rattle.std.proofs.lemmas.Bool.{true≢false, or_parts, or_right, and_parts, not-false, not-true}
+use Rattle.std.proofs.lemmas.Bool.{true≢false, or_right, not-false, not-true}
 use Rattle.std.proofs.lemmas.Bool.Decides.{nat_tests}
-use Rattle.std.proofs.lemmas.Option.{slice_get-get_or}
 use Rattle.page_ledger.specs.Owners.{is_among}
 use Rattle.sgl_chain.specs.Chains.{pages_needed}
 use Rattle.controller_walk.specs.declared.walk.WalkState.TheVariants.{More}
-use Rattle.controller_walk.specs.Units.{Act, touched, units}
+use Rattle.controller_walk.specs.Units.{Act, touched}
 use Rattle.entry_codec.specs.declared.status.Status.{Status}
 use Rattle.entry_codec.specs.declared.submission.SubEntry.{SubEntry}
 use Rattle.io_commands.specs.Asked.{Request}
@@ -20,12 +19,12 @@ use Rattle.machine_model.specs.declared.words.Phase.{Phase}
 use Rattle.machine_model.specs.declared.words.Phase.TheVariants.{Drafted, Submitted, Held, Collected}
 use Rattle.machine_model.specs.declared.words.Refusal.{Refusal}
 use Rattle.machine_model.specs.declared.words.Refusal.TheVariants as refusals
-use Rattle.machine_model.specs.State.{State, Record, Job, is_at, record_at, outstanding_on}
-use Rattle.machine_model.specs.Refusals.{refusal_of, host_queue, next_rung, job_at, job_is, post_page, fetch_page, conflicts, answers_full, record_is, is_submitted, is_held, no_identifier, pages_wanted}
+use Rattle.machine_model.specs.State.{State, Record, is_at, record_at, outstanding_on}
+use Rattle.machine_model.specs.Refusals.{refusal_of, host_queue, next_rung, post_page, fetch_page, conflicts, answers_full, record_is, is_submitted, is_held, no_identifier, pages_wanted}
 use Rattle.machine_model.specs.Proper.{IsProper}
 use Rattle.machine_model.specs.Claims.{IsSound}
 use Rattle.machine_model.specs.InOrder.{IsInOrder}
-use Rattle.machine_model.specs.After.{after, course_of, next_answer, next_unit}
+use Rattle.machine_model.specs.After.{after, next_answer}
 use Rattle.machine_model.specs.Step.{Permits, Refuses, Leaves, Answers, AnswersAnything, IsController, IsReserved, IsNewIdentifier, LeavesByController, LeavesByHost, times, forges, resets, is_exact, reaped, touched_by_fetch, unit_answered, finished_from, asked_by, pages_with_bytes}
 use Rattle.machine_model.specs.Events as events
 use Rattle.machine_model.specs.Events.{Event, Reply}
@@ -33,9 +32,8 @@ use Rattle.machine_model.proofs.Steps.{part_controller, surely}
 use Rattle.machine_model.proofs.Owned.{holds_from_sound}
 use Rattle.machine_model.proofs.Elsewhere.{owned_once}
 use Rattle.machine_model.proofs.Refused.{first_fails, rest_fails, unrefused}
-use Rattle.machine_model.proofs.Placed.{is_job, find_sound}
 use Rattle.machine_model.proofs.Members.{all_at_found}
-use Rattle.machine_model.proofs.Agreed.{agreed_jobs}
+use Rattle.machine_model.proofs.Answered.{walk_allowed, has_unit}
 use Rattle.run_laws.specs.Accepted.{HasEnded, EndedIfHeld, IsReady, IsAccepted, is_refusal, every_event_is_accepted_or_has_a_cause, every_reset_is_accepted, IsAcceptedReset, resets_have_one_answer, queue_of, forged_worlds_accept_the_controller, forged_worlds_know_their_queues}
 use Rattle.machine_model.proofs.FreePages.{length_placed, length_chain, placement_times, room_for}
 use Rattle.run_laws.proofs.AcceptedFree.{free_number, counted_free, numbers_zeroed, both_zeroed, length_zeroed}
@@ -274,39 +272,6 @@ by_fetch s q t none = go (next_rung s q) refl some
     go None e h = absurd (true≢false h)
     go (Some entry) e h =
         by_controller s (events.Fetch q) (events.Fetched entry.cid (touched_by_fetch s q)) t tt refl refl none (ap (option_map (λ (x : SubEntry). x.cid)) e, refl)
-
--- where no cause refuses a walk there is a job of an I/O queue without a verdict
-walk_allowed : (s : State) (q cid : ℕ) → refusal_of s (events.Walk q cid) ≡ None
-    → (j : Job) × (job_at s q cid ≡ Some j) × (j.verdict ≡ None) × ((j.q == 0) ≡ false)
-walk_allowed s q cid none =
-    let rows = (job_is (λ j. is_some j.verdict || (j.q == 0)) s q cid, refusals.Nothing) ∷ [] in
-    go (job_at s q cid) refl (first_fails (is_none (job_at s q cid)) refusals.NoJob rows none)
-    (first_fails (job_is (λ j. is_some j.verdict || (j.q == 0)) s q cid) refusals.Nothing [] (rest_fails (is_none (job_at s q cid)) refusals.NoJob rows none))
-  where
-    undecided : (o : Option Status) → is_some o ≡ false → o ≡ None
-    undecided None h = refl
-    undecided (Some st) h = absurd (true≢false h)
-
-    go : (o : Option Job) → job_at s q cid ≡ o → is_none o ≡ false → option_map_or (λ j. is_some j.verdict || (j.q == 0)) o false ≡ false
-        → (j : Job) × (job_at s q cid ≡ Some j) × (j.verdict ≡ None) × ((j.q == 0) ≡ false)
-    go None e some unfinished = absurd (true≢false some)
-    go (Some j) e some unfinished =
-        let both = or_parts (is_some j.verdict) (j.q == 0) unfinished in
-        (j, e, undecided j.verdict both.0, both.1)
-
-above_zero : (q : ℕ) → (q == 0) ≡ false → nat_lt 0 q ≡ true
-above_zero q h = grind (arith, nat_tests)
-
-has_unit : (s : State) (q cid : ℕ) (j : Job) → s.trusted ≡ true → IsInOrder s → job_at s q cid ≡ Some j → j.verdict ≡ None → (j.q == 0) ≡ false
-    → (act : Act) × (next_unit s j ≡ Some act)
-has_unit s q cid j t order found unfinished io =
-    let ids = and_parts (j.q == q) (j.entry.cid == cid) (find_sound (is_job q cid) s.device.jobs j found) in
-    let stands = agreed_jobs s q cid j (order.agree t) (above_zero q (ap (λ (k : ℕ). k == 0) (sym (eqb-true j.q q ids.0)) ∙ io)) found in
-    there (units (course_of s j)) j.units_done (stands.unit_left unfinished)
-  where
-    there : (acts : List Act) (k : ℕ) → k < length acts → (act : Act) × (slice_get acts k ≡ Some act)
-    there [] k l = absurd (omega arith)
-    there (act ∷ acts) k l = (get_or (act ∷ acts) k act, slice_get-get_or (act ∷ acts) k act l)
 
 by_walk : (s : State) (q cid : ℕ) → s.trusted ≡ true → IsInOrder s → refusal_of s (events.Walk q cid) ≡ None → IsAccepted s (events.Walk q cid)
 by_walk s q cid t order none =

@@ -1,10 +1,9 @@
 -- The list of a submitted command is its draft's, from its submission to its completion.
-use Rattle.std.proofs.Common.{◌≡◌, ℕ, zero, suc, ◌%◌, ◌<◌, ◌==◌, Bool, true, false, not, ◌&&◌, Option, Some, None, All, is_some, is_none, List, [], ◌∷◌, ◌++◌, slice_get, filter, if◌then◌else◌, refl, ap, sym, ◌∙◌, arith, subst, eqb-true, eq-eqb, append-nil, append_assoc}
+use Rattle.std.proofs.Common.{◌≡◌, ℕ, zero, suc, ◌%◌, ◌<◌, ◌==◌, Bool, true, false, not, ◌&&◌, Option, Some, None, All, is_some, is_none, List, [], ◌∷◌, ◌++◌, slice_get, if◌then◌else◌, refl, ap, sym, ◌∙◌, arith, subst, eqb-true, eq-eqb, append-nil, append_assoc}
 use Rattle.std.specs.Option.{option_map_or, option_and_then}
 use Rattle.page_memory.specs.Memory.{Memory, page_of}
 use Rattle.std.specs.List.{AllByRecursion}
 use Rattle.std.proofs.lemmas.Bool.{true≢false, and_parts, not-false}
-use Rattle.std.proofs.lemmas.List.Elements.{All-nil, All-cons}
 use Rattle.page_ledger.specs.Owners.{is_among}
 use Rattle.page_memory.specs.Pages.{Pages, page_at, byte_at}
 use Rattle.sgl_descriptor.specs.declared.Descriptor.{Descriptor}
@@ -25,7 +24,7 @@ use Rattle.machine_model.specs.Reached.{only, on_pages}
 use Rattle.machine_model.specs.Claims.{OwnsFit}
 use Rattle.machine_model.specs.Standing.{unfetched_at, HasEntry, ListStands, StandsAs, CommandStands}
 use Rattle.machine_model.specs.State.{State, Device, HostQueue, DeviceQueue, Record, Job, is_at, record_at, with_record, pages_of}
-use Rattle.machine_model.specs.Refusals.{host_queue, is_submitted, is_drafted, is_live, in_state, is_of, job_at, queue_full, record_is}
+use Rattle.machine_model.specs.Refusals.{host_queue, is_submitted, is_drafted, is_live, in_state, is_of, queue_full, record_is}
 use Rattle.machine_model.specs.Image.{Made, draft_of, submitted_by}
 use Rattle.machine_model.specs.Laws.{Steps, drafts_of, entries_of}
 use Rattle.machine_model.specs.Opening.{opening}
@@ -39,7 +38,6 @@ use Rattle.machine_model.specs.declared.words.Refusal.TheVariants as refusals
 use Rattle.machine_model.proofs.Counting.{one}
 use Rattle.machine_model.proofs.Steps.{Accepts}
 use Rattle.machine_model.proofs.Refused.{first_fails, rest_fails}
-use Rattle.machine_model.proofs.Placed.{is_job, find_sound}
 use Rattle.machine_model.proofs.Placing.{device-posted}
 use Rattle.machine_model.proofs.Members.{In, in_found, all_at_found, all_append, all_drop_one, all_in_both, sent}
 use Rattle.machine_model.proofs.Grounds.{pair_at}
@@ -49,7 +47,7 @@ use Rattle.machine_model.proofs.PlacesKept.{ids_of, drafted_not}
 use Rattle.machine_model.proofs.Commanding.{keeps_fetch, keeps_walk, keeps_complete}
 use Rattle.machine_model.proofs.Submitting.{first_read}
 use Rattle.machine_model.proofs.WalksKept.{host_jobs, stood_on, stood_at_opening}
-use Rattle.machine_model.proofs.JobLaws.{stay_after}
+use Rattle.machine_model.proofs.JobLaws.{stay_after, all_of, entries_named}
 use Rattle.machine_model.proofs.Known.{unsent, same_draft}
 use Rattle.machine_model.proofs.RecordsMove.{RecordsMove, records_event}
 use Rattle.machine_model.proofs.QueuesMove.{QueueMove, queues_event}
@@ -302,38 +300,6 @@ chained_along (m ∷ made) s end drafts (is, mid, step, rest) u stood h =
     (chained_step s m.event m.reply mid drafts step u.trusted next.trusted stood h))
 
 -- The law
-
-all_of : {A : Type 0} (P : A → Type 0) (xs : List A) → AllByRecursion P xs → All P xs
-all_of P [] h = All-nil P
-all_of P (x ∷ xs) h = All-cons P x xs h.0 (all_of P xs h.1)
-
-joined : {A : Type 0} (P : A → Type 0) (xs ys : List A) → AllByRecursion P xs → AllByRecursion P ys → AllByRecursion P (xs ++ ys)
-joined P [] ys a b = b
-joined P (x ∷ xs) ys a b = (a.0, joined P xs ys a.1 b)
-
-of_entry : (cid : ℕ) (entry : SubEntry) (xs : List SubEntry) → AllByRecursion (λ e. e.cid ≡ cid → e ≡ entry) xs → AllByRecursion (λ e. e.sgl1 ≡ entry.sgl1) (filter (λ e. e.cid == cid) xs)
-of_entry cid entry [] h = tt
-of_entry cid entry (x ∷ xs) h = go (x.cid == cid) refl (of_entry cid entry xs h.1)
-  where
-    go : (b : Bool) → (x.cid == cid) ≡ b → AllByRecursion (λ e. e.sgl1 ≡ entry.sgl1) (filter (λ e. e.cid == cid) xs)
-        → AllByRecursion (λ e. e.sgl1 ≡ entry.sgl1) (if b then x ∷ filter (λ e. e.cid == cid) xs else filter (λ e. e.cid == cid) xs)
-    go true e ih = (ap (λ (y : SubEntry). y.sgl1) (h.0 (eqb-true x.cid cid e)), ih)
-    go false e ih = ih
-
-entries_named : (s : State) (q cid : ℕ) (entry : SubEntry) → HasEntry s.device.queues s.device.jobs q cid entry → AllByRecursion (λ e. e.sgl1 ≡ entry.sgl1) (entries_of s q cid)
-entries_named s q cid entry has =
-    joined (λ e. e.sgl1 ≡ entry.sgl1) (option_map_or (λ at. filter (λ e. e.cid == cid) at.unfetched) (slice_get s.device.queues q) []) (option_map_or (λ j. j.entry ∷ []) (job_at s q cid) [])
-    (waiting (slice_get s.device.queues q) has.unfetched) (running (job_at s q cid) refl)
-  where
-    waiting : (o : Option DeviceQueue) → AllByRecursion (λ e. e.cid ≡ cid → e ≡ entry) (option_map_or (λ at. at.unfetched) o []) → AllByRecursion (λ e. e.sgl1 ≡ entry.sgl1) (option_map_or (λ at. filter (λ e. e.cid == cid) at.unfetched) o [])
-    waiting None h = tt
-    waiting (Some queue) h = of_entry cid entry queue.unfetched h
-
-    running : (o : Option Job) → job_at s q cid ≡ o → AllByRecursion (λ e. e.sgl1 ≡ entry.sgl1) (option_map_or (λ j. j.entry ∷ []) o [])
-    running None e = tt
-    running (Some j) e =
-        let ids = and_parts (j.q == q) (j.entry.cid == cid) (find_sound (is_job q cid) s.device.jobs j e) in
-        (ap (λ (y : SubEntry). y.sgl1) (all_at_found (λ j. j.q ≡ q → j.entry.cid ≡ cid → j.entry ≡ entry) (is_job q cid) s.device.jobs j e has.fetched (eqb-true j.q q ids.0) (eqb-true j.entry.cid cid ids.1)), tt)
 
 more_than_only : (at : ℕ → Bool) (m : Memory) → HasBytesOf m (only at m)
 more_than_only at m place byte e = go (at place) e

@@ -1,8 +1,8 @@
 -- What a collection finds: the command's held record, and its pages as they stand.
-use Rattle.std.proofs.Common.{◌≡◌, ℕ, Bool, true, false, not, ◌||◌, Option, Some, None, List, [], ◌∷◌, ◌++◌, MatchBool, refl, ap, sym, ◌∙◌, subst, eq-eqb}
-use Rattle.std.specs.Option.{option_map_or, option_map, option_and_then}
+use Rattle.std.proofs.Common.{◌≡◌, ℕ, Bool, true, false, not, Option, Some, None, List, [], ◌∷◌, ◌++◌, MatchBool, refl, ap, sym, ◌∙◌, subst, eq-eqb}
+use Rattle.std.specs.Option.{option_map, option_and_then}
 use Rattle.std.specs.List.{list_any}
-use Rattle.std.proofs.lemmas.Bool.{true≢false, not-false}
+use Rattle.std.proofs.lemmas.Bool.{true≢false}
 use Rattle.page_memory.specs.Pages.{Pages}
 use Rattle.entry_codec.specs.declared.status.Status.{Status}
 use Rattle.io_commands.specs.Asked.{Request}
@@ -10,19 +10,15 @@ use Rattle.io_commands.specs.Drafts.{DraftContents}
 use Rattle.io_commands.specs.Values.{FinishedContents, numbers_of}
 use Rattle.machine_model.specs.Work.{Work}
 use Rattle.machine_model.specs.declared.words.Work.TheVariants.{Io, Management}
-use Rattle.machine_model.specs.declared.words.Phase.{Phase}
-use Rattle.machine_model.specs.declared.words.Phase.TheVariants.{Drafted, Submitted, Held, Collected}
 use Rattle.machine_model.specs.State.{State, Record, is_at, record_at}
-use Rattle.machine_model.specs.Refusals.{is_submitted, is_held, record_is, refusal_of}
+use Rattle.machine_model.specs.Refusals.{is_held, refusal_of}
 use Rattle.machine_model.specs.Image.{Made, submitted_by}
 use Rattle.machine_model.specs.Laws.{Steps, collected_of}
 use Rattle.machine_model.specs.Opening.{opening}
 use Rattle.machine_model.specs.Step.{Step, finished_from, asked_by, pages_with_bytes}
 use Rattle.machine_model.specs.After as a
 use Rattle.machine_model.specs.Events as events
-use Rattle.machine_model.specs.declared.words.Refusal.TheVariants as refusals
 use Rattle.machine_model.specs.Events.{Event, Reply}
-use Rattle.machine_model.proofs.Refused.{first_fails, rest_fails}
 use Rattle.machine_model.proofs.Unforged.{Unforged, unforged_next, unforged_front, unforged_back, unforged_run, unforged_end}
 use Rattle.machine_model.proofs.Members.{all_at_found}
 use Rattle.machine_model.proofs.Served.{Stood}
@@ -32,6 +28,7 @@ use Rattle.run_laws.specs.Submitted.{CollectedCommand, submits}
 use Rattle.run_laws.proofs.DataAlong.{Going, stood_step, stood_along, along_steps}
 use Rattle.machine_model.proofs.Along.{cut}
 use Rattle.machine_model.proofs.Steps.{permitted}
+use Rattle.machine_model.proofs.ReadLaws.{held_where_collected}
 use Rattle.run_laws.proofs.DataKept.{IsOfDraft, Follows, AllFollow, found_draft, follow_submit, follow_step, held_goes}
 
 pub record Collects (s : State) (f : FinishedContents) : Type 0 where
@@ -73,26 +70,9 @@ collects_held s (events.Collect q cid) (events.Collects g) new f step t is = go 
     ok : (refusal_of s (events.Collect q cid) ≡ None) × (option_and_then (finished_from s) (record_at s.host q cid) ≡ Some g)
     ok = permitted _ s.trusted true t step.1
 
-    known : record_is (λ r. is_submitted r.phase || is_held r.phase) s q cid ≡ true
-    known = not-false _ (first_fails (not (record_is (λ r. is_submitted r.phase || is_held r.phase) s q cid)) refusals.Stranger ((record_is (λ r. is_submitted r.phase) s q cid, refusals.NotYet) ∷ []) ok.0)
-
-    ended : record_is (λ r. is_submitted r.phase) s q cid ≡ false
-    ended = first_fails (record_is (λ r. is_submitted r.phase) s q cid) refusals.NotYet []
-        (rest_fails (not (record_is (λ r. is_submitted r.phase || is_held r.phase) s q cid)) refusals.Stranger ((record_is (λ r. is_submitted r.phase) s q cid, refusals.NotYet) ∷ []) ok.0)
-
-    is_held' : (r : Record) → record_at s.host q cid ≡ Some r → is_held r.phase ≡ true
-    is_held' r e =
-        by r.phase (sym (ap (λ (o : Option Record). option_map_or (λ r. is_submitted r.phase || is_held r.phase) o false) e) ∙ known) (sym (ap (λ (o : Option Record). option_map_or (λ r. is_submitted r.phase) o false) e) ∙ ended)
-      where
-        by : (ph : Phase) → (is_submitted ph || is_held ph) ≡ true → is_submitted ph ≡ false → is_held ph ≡ true
-        by Drafted h g = h
-        by Submitted h g = absurd (true≢false g)
-        by Held h g = refl
-        by Collected h g = h
-
     go : (o : Option Record) → record_at s.host q cid ≡ o → option_and_then (finished_from s) o ≡ Some f → Collects s f
     go None e h = absurd cc
-    go (Some r) e h = found_record s q cid r f e (is_held' r e) r.work refl r.status refl h
+    go (Some r) e h = found_record s q cid r f e (held_where_collected s q cid ok.0 r e) r.work refl r.status refl h
 collects_held s e reply new f step t is = absurd cc
 
 -- The states of a collected command: before its submission, behind it, and at its collection
