@@ -47,7 +47,7 @@ pub(crate) fn drop_row<A: Allocator>(values: &mut Values<A>, q: u16, cid: u16)
     ensures rest { values.new ≡ record values.old { rows = without values.old.rows q cid } }
     ensures gone { value_at values.new.rows q cid ≡ None }
 {
-    let _row = values.take(q, cid);
+    drop(values.take(q, cid));
 }
 
 /// Puts a command's next value behind all others, in place of the one that was taken out of its row.
