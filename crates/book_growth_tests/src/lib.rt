@@ -3,20 +3,10 @@
 #![tactic(auto)]
 
 #[cfg(test)]
-mod aborts;
-#[cfg(test)]
-mod deletions;
-#[cfg(test)]
-mod forgeries;
-#[cfg(test)]
-mod placed;
-#[cfg(test)]
-mod refusals;
-#[cfg(test)]
-mod resets;
-#[cfg(test)]
 mod standing;
+#[cfg(test)]
+mod strangers;
 #[cfg(test)]
 mod sweep;
 #[cfg(test)]
-mod transfers;
+mod worked;

@@ -3,68 +3,24 @@
 ghost use Rattle.std.specs.Prelude.{◌≡◌};
 ghost use Rattle.step_core.specs.Opening.{opening_of};
 
-use crate::placed::placed;
 use crate::standing::{Holdings, Standing};
 use book_desk::Desk;
 use driver_book::*;
 use refusing::Refusing;
-use script_cli::{Line, Script, read_script, run_steps};
+use script_cli::{Line, Script, read_script};
 use std::alloc::{Allocator, Global};
 use std::marker::Brand;
 use std::process::Abort;
 use std::sync::ledger::Blank;
 use std::test::Fail;
 use step_core::{Bench, Config, Image, OpenRefusal, Refusal, Reply, ReplyIn, Step};
+use worked_scripts::{WorkedScript, placed};
 
 /// A heap that refuses on purpose.
-type Heap = Refusing<Global>;
+pub(crate) type Heap = Refusing<Global>;
 
 /// More growths than any script here has.
-const MANY: u64 = 1_000;
-
-/// One I/O queue of four entries over 16 pages, and whole segments.
-pub(crate) const USUAL: Config = Config {
-    pages: 16,
-    queues: 1,
-    entries: 4,
-    segment: 256,
-};
-
-/// Rings of eight entries.
-pub(crate) const EIGHT_ENTRIES: Config = Config {
-    pages: 16,
-    queues: 1,
-    entries: 8,
-    segment: 256,
-};
-
-/// Segments of two descriptors.
-pub(crate) const SHORT_SEGMENTS: Config = Config {
-    pages: 16,
-    queues: 1,
-    entries: 4,
-    segment: 2,
-};
-
-/// Two I/O queues of four entries over 24 pages, and segments of four descriptors.
-pub(crate) const TWO_QUEUES: Config = Config {
-    pages: 24,
-    queues: 2,
-    entries: 4,
-    segment: 4,
-};
-
-/// A script, what it shows on a bench, how many submissions its seat has where the book is then closed, or why it is not, and how many growths
-/// there are from the opening to that.
-#[derive(Clone, Copy)]
-pub(crate) struct Row {
-    pub(crate) config: Config,
-    pub(crate) script: &'static str,
-    /// Lines that it prints, in this order; others stand between them.
-    pub(crate) shows: &'static str,
-    pub(crate) closes: Result<u64, CloseFault>,
-    pub(crate) growths: u64,
-}
+pub(crate) const MANY: u64 = 1_000;
 
 /// What the steps of a script answer on a bench, whose each page is at the end, and what closing the book then answers.
 #[derive(Drop)]
@@ -75,33 +31,15 @@ struct Wanted {
 }
 
 /// An image of 64 zero blocks.
-fn zeros<A: Allocator>(alloc: A) -> Result<Image<A>, Fail> {
+pub(crate) fn zeros<A: Allocator>(alloc: A) -> Result<Image<A>, Fail> {
     match Image::zeroed(alloc, 64) {
         Ok(image) => Ok(image),
         Err(_) => Err(Fail::from("no image")),
     }
 }
 
-/// Sees that a script prints the lines that it shows, in this order.
-fn look_at(rt: &impl Abort, alloc: Global, row: Row) -> Result<(), Fail> {
-    let mut printed = Vec::new(alloc);
-    let mut reader = row.script.as_bytes();
-    let image = zeros(alloc)?;
-    if run_steps(alloc, row.config, image, &mut reader, &mut printed).is_err() {
-        return Err(Fail::from("no run"));
-    }
-    let Ok(printed) = String::from_utf8(printed) else {
-        return Err(Fail::from("no text"));
-    };
-    let mut lines = printed.as_str().lines();
-    for wanted in row.shows.lines() {
-        assert!(rt; lines.any(|line| line == wanted));
-    }
-    Ok(())
-}
-
 /// Reads a script.
-fn read(alloc: Global, text: &str) -> Result<Script, Fail> {
+pub(crate) fn read(alloc: Global, text: &str) -> Result<Script, Fail> {
     match read_script(alloc, text.as_bytes()) {
         Ok(script) => Ok(script),
         Err(_) => Err(Fail::from("no script")),
@@ -109,7 +47,11 @@ fn read(alloc: Global, text: &str) -> Result<Script, Fail> {
 }
 
 /// What the steps of a script answer on a bench.
-fn answers_of(alloc: Global, bench: &mut Bench, script: &Script) -> Result<Vec<String>, Fail> {
+pub(crate) fn answers_of(
+    alloc: Global,
+    bench: &mut Bench,
+    script: &Script,
+) -> Result<Vec<String>, Fail> {
     let mut answers = Vec::new(alloc);
     for numbered in script.lines() {
         if let Line::Step(step) = &numbered.line {
@@ -120,9 +62,14 @@ fn answers_of(alloc: Global, bench: &mut Bench, script: &Script) -> Result<Vec<S
     Ok(answers)
 }
 
-/// What a script must answer.
-fn wanted_of(alloc: Global, row: Row, script: &Script) -> Result<Wanted, Fail> {
-    let Ok(mut bench) = Bench::open(alloc, row.config, zeros(alloc)?) else {
+/// What a script must answer, where closing the book then answers so.
+fn wanted_of(
+    alloc: Global,
+    config: Config,
+    script: &Script,
+    closes: Result<u64, CloseFault>,
+) -> Result<Wanted, Fail> {
+    let Ok(mut bench) = Bench::open(alloc, config, zeros(alloc)?) else {
         return Err(Fail::from("no bench"));
     };
     let answers = answers_of(alloc, &mut bench, script);
@@ -131,12 +78,12 @@ fn wanted_of(alloc: Global, row: Row, script: &Script) -> Result<Wanted, Fail> {
     Ok(Wanted {
         answers: answers?,
         end: end?,
-        closes: row.closes,
+        closes,
     })
 }
 
 /// Opens a book, once more where memory was refused.
-fn opened<L: Driver, A: Allocator + Copy, R: Abort>(
+pub(crate) fn opened<L: Driver, A: Allocator + Copy, R: Abort>(
     rt: &R,
     heap: A,
     config: Config,
@@ -160,7 +107,7 @@ fn opened<L: Driver, A: Allocator + Copy, R: Abort>(
 }
 
 /// A desk with a book and its first seat.
-fn seated<'a, L: Driver>(
+pub(crate) fn seated<'a, L: Driver>(
     alloc: Global,
     heap: &'a Heap,
     book: Book<L, &'a Heap>,
@@ -180,7 +127,7 @@ fn is_memory<A: Allocator>(reply: &ReplyIn<A>) -> bool {
 
 /// Does a step with one growth refused, and answers how many growths it had until then. Where the step wants memory nothing has
 /// changed, and once more it answers as it must.
-fn step_on<'a, L: Driver, R: Abort>(
+pub(crate) fn step_on<'a, L: Driver, R: Abort>(
     rt: &R,
     heap: &'a Heap,
     desk: &mut Desk<L, &'a Heap>,
@@ -333,18 +280,24 @@ fn play<R: Abort>(
     Ok(left? == 0)
 }
 
-/// Sees what a script shows, and plays it through a book once for each growth that it has.
-pub(crate) fn sweep(rt: &impl Abort, alloc: Global, row: Row) -> Result<(), Fail> {
-    look_at(rt, alloc, row)?;
-    let script = read(alloc, row.script)?;
-    let wanted = wanted_of(alloc, row, &script)?;
-    let mut growths: u64 = 0;
+/// Plays a script through a book once for each growth that there is from the opening to the end. Its seat has so many submissions where the
+/// book is then closed, or the book is not, for that cause.
+pub(crate) fn sweep(
+    rt: &impl Abort,
+    alloc: Global,
+    worked: WorkedScript,
+    closes: Result<u64, CloseFault>,
+    growths: u64,
+) -> Result<(), Fail> {
+    let script = read(alloc, worked.script)?;
+    let wanted = wanted_of(alloc, worked.config, &script, closes)?;
+    let mut met: u64 = 0;
     for growth in 1..MANY {
-        if !play(rt, alloc, row.config, &script, &wanted, growth)? {
+        if !play(rt, alloc, worked.config, &script, &wanted, growth)? {
             break;
         }
-        growths = growth;
+        met = growth;
     }
-    assert_eq!(rt; growths, row.growths);
+    assert_eq!(rt; met, growths, "{}", worked.script);
     Ok(())
 }

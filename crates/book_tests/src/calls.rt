@@ -1,8 +1,9 @@
 //! A run through a book on two seats, and each other call of a book on its good path.
 
-use crate::part::{Part, Told, USUAL, run};
+use crate::part::{Part, Told, run};
 use entry_codec::Status;
 use std::test::Fail;
+use worked_scripts::pools::USUAL;
 
 /// A Write of one seat and a Read of another, of the same block.
 const WRITE_AND_READ: &[Part] = &[

@@ -4,7 +4,7 @@ ghost use Rattle.std.specs.Prelude.{◌≡◌};
 ghost use Rattle.step_core.specs.Opening.{opening_of};
 
 use crate::closes::close;
-use crate::part::{Part, Told, USUAL, opened, play, run};
+use crate::part::{Part, Told, opened, play, run};
 use block_image::Image;
 use book_desk::Desk;
 use driver_book::*;
@@ -15,6 +15,7 @@ use std::process::Abort;
 use std::sync::ledger::Blank;
 use std::test::Fail;
 use step_core::Config;
+use worked_scripts::pools::USUAL;
 
 /// The receipts of two Reads that ended well, the second before the first.
 const TWO: [Told; 2] = [(1, 0, Some(Status::SUCCESS)), (0, 0, Some(Status::SUCCESS))];

@@ -1,211 +1,91 @@
-//! Runs through a book in which completion entries are forged: what the host believes, what it rejects, and what the controller does.
+//! Scripts through a book in which completion entries are forged: what the host believes, what it rejects, and what the controller does.
 
-use crate::part::{Part, Told, USUAL, run};
+use crate::part::{Part, Told, run};
 use entry_codec::Status;
 use std::test::Fail;
-use step_core::Config;
+use worked_scripts::forgeries;
+use worked_scripts::pools::{SMALL_TWO_QUEUES, USUAL};
 
-/// 16 pages and two I/O queues of 4 entries: pages 6 to 15 are free.
-const TWO_QUEUES: Config = Config {
-    pages: 16,
-    queues: 2,
-    entries: 4,
-    segment: 256,
-};
-
-/// Forged entries of an unknown command, with a head outside the ring, and of another queue. Each is taken, and changes nothing else.
-const THREE_FORGED: &[Part] = &[
-    Part::Steps(
-        "forge 1 0 00000000000000000000010003000100 => ok
-reap 1 => rejected UnknownId
-forge 1 1 00000000000000000100010000000100 => ok
-reap 1 => rejected BadHead
-forge 1 2 00000000000000000000000000000100 => ok
-reap 1 => rejected WrongQueue
-reap 1 => empty
-forge 1 4 00000000000000000000000000000100 => refused NoSlot",
-    ),
-    Part::HasPages(12, 4, 0),
-    Part::HasEntries(8),
-];
+/// Each is taken, and changes nothing else.
+const REJECTED: &[Part] = &[Part::Plays(forgeries::REJECTED), Part::HasEntries(8)];
 
 #[test]
 fn forged_entries_are_rejected(rt: HostRuntime) -> Result<(), Fail> {
-    run(&rt, rt.alloc(), USUAL, THREE_FORGED)
+    run(&rt, rt.alloc(), USUAL, REJECTED)
 }
 
-/// A Read whose completion is forged while its list is walked: the walk finds its page out, and its own completion comes to nobody.
-const FORGED_IN_THE_WALK: &[Part] = &[
+/// A walk finds its page out, and the command's own completion comes to nobody.
+const PAGES_GONE: &[Part] = &[
     Part::Sit,
-    Part::Steps(
-        "reserve 1 read 0 1 0+512 => q 1 cid 0 data 1 chain 0
-build 1 0 => ok
-submit 1 0 => ok
-ring 1 => ok
-fetch 1 => cid 0 touched 2
-walk 1 0 => more touched -
-forge 1 0 00000000000000000100010000000100 => ok
-reap 1 => done cid 0 status 0:00
-collect 1 0 => status 0:00
-walk 1 0 => fault 0:04 touched -
-release 1 0 => ok
-complete 1 0 => ok touched 3
-reap 1 => empty",
-    ),
-    Part::HasPages(12, 4, 0),
+    Part::Plays(forgeries::PAGES_GONE),
+    Part::HasReceipts(0, &[(0, 0, Some(Status::SUCCESS))]),
+    Part::HasEntries(12),
 ];
 
 #[test]
 fn a_walk_finds_its_page_out(rt: HostRuntime) -> Result<(), Fail> {
-    run(&rt, rt.alloc(), USUAL, FORGED_IN_THE_WALK)
+    run(&rt, rt.alloc(), USUAL, PAGES_GONE)
 }
 
-/// The receipts of three Reads, once the host believes that the first ended.
-const BELIEVED: [Told; 3] = [(0, 0, Some(Status::SUCCESS)), (1, 1, None), (2, 2, None)];
-
-/// Three Reads, and a forged completion of the first that tells of no entry taken: the identifier is free again, and the ring still full.
-const FORGED_BEFORE_THE_FETCH: &[Part] = &[
+/// The host believes that the first of three Reads ended; its identifier is free again, and the ring still full.
+const FULL_RING: &[Part] = &[
     Part::Sit,
-    Part::Steps(
-        "reserve 1 read 0 1 0+512 => q 1 cid 0 data 1 chain 0
-build 1 0 => ok
-submit 1 0 => ok
-reserve 1 read 0 1 0+512 => q 1 cid 1 data 1 chain 0
-build 1 1 => ok
-submit 1 1 => ok
-reserve 1 read 0 1 0+512 => q 1 cid 2 data 1 chain 0
-build 1 2 => ok
-submit 1 2 => ok
-ring 1 => ok
-forge 1 0 00000000000000000000010000000100 => ok
-reap 1 => done cid 0 status 0:00
-collect 1 0 => status 0:00
-release 1 0 => ok",
+    Part::Plays(forgeries::FULL_RING),
+    Part::HasReceipts(
+        0,
+        &[(0, 0, Some(Status::SUCCESS)), (1, 1, None), (2, 2, None)],
     ),
-    Part::HasReceipts(0, &BELIEVED),
-    Part::Steps(
-        "reserve 1 read 0 1 0+512 => q 1 cid 0 data 1 chain 0
-build 1 0 => ok",
-    ),
-    Part::HasPage(4),
-    Part::Steps(
-        "submit 1 0 => refused QueueFull
-cancel 1 0 => ok",
-    ),
+    Part::HasEntries(14),
 ];
 
 #[test]
 fn the_ring_is_still_full(rt: HostRuntime) -> Result<(), Fail> {
-    run(&rt, rt.alloc(), USUAL, FORGED_BEFORE_THE_FETCH)
+    run(&rt, rt.alloc(), USUAL, FULL_RING)
 }
 
-/// Three Reads, and a forged completion of the first, which the controller has: its identifier comes again, and is refused there while the
-/// first is about.
-const FORGED_BEHIND_THE_WALKS: &[Part] = &[
+/// The receipts of four Reads, of which the host believes that the first ended; the fourth has its identifier.
+const SUBMITTED_ANEW: [Told; 4] = [
+    (0, 0, Some(Status::SUCCESS)),
+    (1, 1, None),
+    (2, 2, None),
+    (3, 0, None),
+];
+
+/// The controller has the first Read: its identifier comes again, and is refused there while the first is about.
+const FETCHED_TWICE: &[Part] = &[
     Part::Sit,
-    Part::Steps(
-        "reserve 1 read 0 1 0+512 => q 1 cid 0 data 1 chain 0
-build 1 0 => ok
-submit 1 0 => ok
-reserve 1 read 0 1 0+512 => q 1 cid 1 data 1 chain 0
-build 1 1 => ok
-submit 1 1 => ok
-reserve 1 read 0 1 0+512 => q 1 cid 2 data 1 chain 0
-build 1 2 => ok
-submit 1 2 => ok
-ring 1 => ok
-fetch 1 => cid 0 touched 2
-walk 1 0 => more touched -
-walk 1 0 => end touched 4
-fetch 1 => cid 1 touched 2
-walk 1 1 => more touched -
-walk 1 1 => end touched 5
-fetch 1 => cid 2 touched 2
-walk 1 2 => more touched -
-walk 1 2 => end touched 6
-forge 1 0 00000000000000000300010000000100 => ok
-reap 1 => done cid 0 status 0:00
-collect 1 0 => status 0:00
-release 1 0 => ok",
-    ),
-    Part::HasReceipts(0, &BELIEVED),
-    Part::Steps(
-        "reserve 1 read 0 1 0+512 => q 1 cid 0 data 1 chain 0
-build 1 0 => ok
-submit 1 0 => ok
-ring 1 => ok
-fetch 1 => cid 0 touched 2,3
-complete 1 0 => ok touched 3
-complete 1 1 => ok touched 3
-complete 1 2 => refused Full
-reap 1 => done cid 0 status 0:00
-complete 1 2 => ok touched 3",
-    ),
+    Part::Plays(forgeries::FETCHED_TWICE),
+    Part::HasReceipts(0, &SUBMITTED_ANEW),
+    Part::HasEntries(29),
 ];
 
 #[test]
 fn an_identifier_comes_again(rt: HostRuntime) -> Result<(), Fail> {
-    run(&rt, rt.alloc(), USUAL, FORGED_BEHIND_THE_WALKS)
+    run(&rt, rt.alloc(), USUAL, FETCHED_TWICE)
 }
 
-/// Three Reads, and a forged completion of the first that tells of entries never taken: the tail comes back to where the controller's head is,
-/// and it sees no entry.
-const FORGED_HEAD: &[Part] = &[
+/// A forged head comes back to where the controller's is, which then sees no entry.
+const RUNG_AGAIN: &[Part] = &[
     Part::Sit,
-    Part::Steps(
-        "reserve 1 read 0 1 0+512 => q 1 cid 0 data 1 chain 0
-build 1 0 => ok
-submit 1 0 => ok
-reserve 1 read 0 1 0+512 => q 1 cid 1 data 1 chain 0
-build 1 1 => ok
-submit 1 1 => ok
-reserve 1 read 0 1 0+512 => q 1 cid 2 data 1 chain 0
-build 1 2 => ok
-submit 1 2 => ok
-ring 1 => ok
-forge 1 0 00000000000000000300010000000100 => ok
-reap 1 => done cid 0 status 0:00
-collect 1 0 => status 0:00
-release 1 0 => ok",
-    ),
-    Part::HasReceipts(0, &BELIEVED),
-    Part::Steps(
-        "reserve 1 read 0 1 0+512 => q 1 cid 0 data 1 chain 0
-build 1 0 => ok
-submit 1 0 => ok
-ring 1 => ok
-fetch 1 => refused Idle",
-    ),
+    Part::Plays(forgeries::RUNG_AGAIN),
+    Part::HasReceipts(0, &SUBMITTED_ANEW),
+    Part::HasEntries(15),
 ];
 
 #[test]
 fn the_controller_sees_no_entry(rt: HostRuntime) -> Result<(), Fail> {
-    run(&rt, rt.alloc(), USUAL, FORGED_HEAD)
+    run(&rt, rt.alloc(), USUAL, RUNG_AGAIN)
 }
 
 /// A forged answer to a deletion: the page of the submission ring goes to another command, and the controller finds its slot out.
 const FORGED_DELETION: &[Part] = &[
     Part::Sit,
-    Part::Steps(
-        "reserve 1 read 0 1 0+512 => q 1 cid 0 data 1 chain 0
-build 1 0 => ok
-submit 1 0 => ok
-ring 1 => ok
-delete_sq 1 => cid 0
-forge 0 0 00000000000000000000000000000100 => ok
-reap 0 => admin cid 0 status 0:00 dw0 0
-retire 1 => ok
-reserve 2 read 0 1 0+512 => q 2 cid 0 data 1 chain 0",
-    ),
-    Part::HasPage(2),
-    Part::Steps(
-        "fetch 1 => refused SlotOut
-cancel 2 0 => ok
-fetch 1 => cid 0 touched 2",
-    ),
+    Part::Plays(forgeries::FORGED_DELETION),
+    Part::HasReceipts(0, &[(0, 0, Some(Status::ABORTED_SQ_DELETION))]),
+    Part::HasEntries(13),
 ];
 
 #[test]
 fn a_slot_is_out(rt: HostRuntime) -> Result<(), Fail> {
-    run(&rt, rt.alloc(), TWO_QUEUES, FORGED_DELETION)
+    run(&rt, rt.alloc(), SMALL_TWO_QUEUES, FORGED_DELETION)
 }

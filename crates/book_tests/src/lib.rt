@@ -21,3 +21,5 @@ mod part;
 mod resets;
 #[cfg(test)]
 mod steps;
+#[cfg(test)]
+mod worked;

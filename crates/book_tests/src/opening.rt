@@ -4,7 +4,7 @@ ghost use Rattle.std.specs.Prelude.{◌≡◌};
 ghost use Rattle.step_core.specs.Opening.{opening_of};
 
 use crate::looks::see;
-use crate::part::{Part, USUAL, counts, opened, play};
+use crate::part::{Part, counts, opened, play};
 use block_image::Image;
 use book_desk::Desk;
 use driver_book::*;
@@ -16,6 +16,7 @@ use std::process::Abort;
 use std::sync::ledger::Blank;
 use std::test::Fail;
 use step_core::{Config, OpenRefusal};
+use worked_scripts::pools::USUAL;
 
 /// A new book has 16 pages, of which 12 are free, 4 are of queues, and page 4 is free, and its log is empty.
 fn see_new<L: Driver, R: Abort>(rt: &R, book: &Book<L>) {

@@ -5,7 +5,7 @@ ghost use Rattle.step_core.specs.Opening.{opening_of};
 
 use crate::closes::{close, stay_open};
 use crate::looks::{alter, fill_last, has_page, has_receipts, see};
-use crate::steps::play_steps;
+use crate::steps::{play_steps, play_worked};
 use block_image::Image;
 use book_desk::Desk;
 use driver_book::*;
@@ -17,14 +17,7 @@ use std::process::Abort;
 use std::sync::ledger::Blank;
 use std::test::Fail;
 use step_core::{Config, Leftover};
-
-/// 16 pages and one I/O queue of 4 entries: pages 4 to 15 are free.
-pub(crate) const USUAL: Config = Config {
-    pages: 16,
-    queues: 1,
-    entries: 4,
-    segment: 256,
-};
+use worked_scripts::WorkedScript;
 
 /// What a receipt of queue 1 tells: its number, and the identifier and the status of its command.
 pub(crate) type Told = (u64, u16, Option<Status>);
@@ -40,6 +33,8 @@ pub(crate) enum Part {
     Lose,
     /// Steps of a script, each with what it must answer behind an arrow.
     Steps(&'static str),
+    /// A worked script, which prints just what it says.
+    Plays(WorkedScript),
     /// The draft that came about last is filled with a block of one byte.
     FillLast(u8),
     /// The draft that came about last has this page alone.
@@ -75,6 +70,7 @@ fn play_part<L: Driver, R: Abort>(rt: &R, desk: &mut Desk<L>, part: Part) -> Res
         Part::Turn => desk.seats.reverse(),
         Part::Lose => assert!(rt; desk.seats.pop().is_some()),
         Part::Steps(text) => play_steps(rt, desk, text)?,
+        Part::Plays(worked) => play_worked(rt, desk, worked)?,
         Part::FillLast(byte) => fill_last(rt, &mut desk.values, byte)?,
         Part::HasPage(page) => has_page(rt, &desk.values, page),
         Part::Alter(status) => alter(rt, &mut desk.values, status)?,

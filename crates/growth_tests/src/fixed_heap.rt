@@ -1,13 +1,13 @@
 //! A host, its controller and sixteen outstanding commands in a heap of fixed size.
 
-use crate::placed::placed;
-use crate::sweep::{Wanted, is_memory, look_at, read, unrefused};
+use crate::sweep::{Wanted, is_memory, read, unrefused, zeros};
 use linked_list_allocator::LocalHeap;
-use script_cli::{Line, Script};
+use script_cli::{Line, Script, run_steps};
 use std::alloc::{AllocError, Global};
 use std::process::Abort;
 use std::test::Fail;
 use step_core::{Bench, Config, Image, OpenRefusal};
+use worked_scripts::placed;
 
 /// How many commands are outstanding at once.
 const COMMANDS: u16 = 16;
@@ -149,6 +149,29 @@ fn fits(
     };
     assert_eq!(rt; heap.used(), 0);
     fit
+}
+
+/// Sees that a script prints the lines that it shows, in this order.
+fn look_at(
+    rt: &impl Abort,
+    alloc: Global,
+    config: Config,
+    script: &str,
+    shows: &str,
+) -> Result<(), Fail> {
+    let mut printed = Vec::new(alloc);
+    let mut reader = script.as_bytes();
+    if run_steps(alloc, config, zeros(alloc)?, &mut reader, &mut printed).is_err() {
+        return Err(Fail::from("no run"));
+    }
+    let Ok(printed) = String::from_utf8(printed) else {
+        return Err(Fail::from("no text"));
+    };
+    let mut lines = printed.as_str().lines();
+    for wanted in shows.lines() {
+        assert!(rt; lines.any(|line| line == wanted), "{wanted}");
+    }
+    Ok(())
 }
 
 /// Sixteen commands at once are carried through in a heap; in one that is a step smaller memory is refused, and it is empty at the end.

@@ -3,30 +3,14 @@
 #![tactic(auto)]
 
 #[cfg(test)]
-mod aborts;
-#[cfg(test)]
-mod creations;
-#[cfg(test)]
-mod deletions;
-#[cfg(test)]
-mod drafts;
-#[cfg(test)]
 mod fixed_heap;
-#[cfg(test)]
-mod forgeries;
-#[cfg(test)]
-mod lists;
 #[cfg(test)]
 mod openings;
 #[cfg(test)]
-mod placed;
-#[cfg(test)]
-mod resets;
-#[cfg(test)]
 mod runs;
 #[cfg(test)]
-mod scripts;
+mod strangers;
 #[cfg(test)]
 mod sweep;
 #[cfg(test)]
-mod transfers;
+mod worked;

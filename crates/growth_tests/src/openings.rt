@@ -1,11 +1,12 @@
 //! Openings with one growth refused.
 
-use crate::sweep::{Heap, MANY, TWO_QUEUES, USUAL, zeros};
+use crate::sweep::{Heap, MANY, zeros};
 use refusing::{Refusal, Refusing};
 use std::alloc::Global;
 use std::process::Abort;
 use std::test::Fail;
 use step_core::{Bench, Config, Image, OpenRefusal};
+use worked_scripts::pools::{TWO_QUEUES, USUAL};
 
 /// Opens a bench over an image and ends it. Where memory is refused the image comes back.
 fn open_and_end<'a>(

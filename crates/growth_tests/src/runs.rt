@@ -1,13 +1,15 @@
 //! Lists of steps that are run at once, with one growth refused.
 
-use crate::placed::placed;
-use crate::sweep::{Heap, MANY, Standing, USUAL, Wanted, is_memory, opened, read, unrefused};
+use crate::sweep::{Heap, MANY, Standing, Wanted, is_memory, opened, read, unrefused};
 use refusing::{Refusal, Refusing};
 use script_cli::{Line, Script};
 use std::alloc::{AllocError, Global};
 use std::process::Abort;
 use std::test::Fail;
 use step_core::{Bench, ReplyIn, StepIn};
+use worked_scripts::placed;
+use worked_scripts::pools::USUAL;
+use worked_scripts::transfers::TWO_PAGES;
 
 /// What came of a run with one growth refused.
 #[derive(Clone, Copy, PartialEq)]
@@ -104,25 +106,7 @@ fn run(
 #[test]
 fn a_list_of_steps_is_run_or_none_is_done(rt: HostRuntime) -> Result<(), Fail> {
     let alloc = rt.alloc();
-    let script = read(
-        alloc,
-        "reserve 1 read 0 2 0+512 0+512
-build 1 0
-submit 1 0
-ring 1
-fetch 1
-walk 1 0
-walk 1 0
-walk 1 0
-walk 1 0
-walk 1 0
-complete 1 0
-reap 1
-collect 1 0
-gather 1 0
-release 1 0
-",
-    )?;
+    let script = read(alloc, TWO_PAGES.script)?;
     let wanted = unrefused(alloc, USUAL, &script)?;
     let (mut not_run, mut wanting): (u64, u64) = (0, 0);
     for growth in 1..MANY {

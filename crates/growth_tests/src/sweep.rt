@@ -1,78 +1,20 @@
 //! A script is played once for each growth that it has.
 
-use crate::placed::placed;
 use page_ledger::{Counts, Owner};
 use page_memory::PageNo;
 use refusing::{Refusal, Refusing};
-use script_cli::{Line, Script, read_script, run_steps};
+use script_cli::{Line, Script, read_script};
 use std::alloc::{AllocError, Allocator, Global};
 use std::process::Abort;
 use std::test::Fail;
 use step_core::{Bench, Config, Image, Reply, ReplyIn, Step};
+use worked_scripts::{WorkedScript, placed};
 
 /// A heap that refuses on purpose.
 pub(crate) type Heap = Refusing<Global>;
 
 /// More growths than any script here has.
 pub(crate) const MANY: u64 = 5_000;
-
-/// One I/O queue of four entries over 16 pages, and whole segments.
-pub(crate) const USUAL: Config = Config {
-    pages: 16,
-    queues: 1,
-    entries: 4,
-    segment: 256,
-};
-
-/// Rings of two entries.
-pub(crate) const TWO_ENTRIES: Config = Config {
-    pages: 16,
-    queues: 1,
-    entries: 2,
-    segment: 256,
-};
-
-/// Rings of eight entries.
-pub(crate) const EIGHT_ENTRIES: Config = Config {
-    pages: 16,
-    queues: 1,
-    entries: 8,
-    segment: 256,
-};
-
-/// Rings of eight entries over nine pages, of which five are free.
-pub(crate) const NINE_PAGES: Config = Config {
-    pages: 9,
-    queues: 1,
-    entries: 8,
-    segment: 256,
-};
-
-/// Segments of two descriptors.
-pub(crate) const SHORT_SEGMENTS: Config = Config {
-    pages: 16,
-    queues: 1,
-    entries: 4,
-    segment: 2,
-};
-
-/// Two I/O queues of four entries over 24 pages, and segments of four descriptors.
-pub(crate) const TWO_QUEUES: Config = Config {
-    pages: 24,
-    queues: 2,
-    entries: 4,
-    segment: 4,
-};
-
-/// A script, what it shows, and how many growths its steps have.
-#[derive(Clone, Copy)]
-pub(crate) struct Row {
-    pub(crate) config: Config,
-    pub(crate) script: &'static str,
-    /// Lines that it prints, in this order; others stand between them.
-    pub(crate) shows: &'static str,
-    pub(crate) growths: u64,
-}
 
 /// What the steps of a script answer where nothing is refused, and how the bench stands at the end.
 #[derive(Drop)]
@@ -129,29 +71,6 @@ pub(crate) fn read(alloc: Global, text: &str) -> Result<Script, Fail> {
         Ok(script) => Ok(script),
         Err(_) => Err(Fail::from("no script")),
     }
-}
-
-/// Sees that a script prints the lines that it shows, in this order.
-pub(crate) fn look_at(
-    rt: &impl Abort,
-    alloc: Global,
-    config: Config,
-    script: &str,
-    shows: &str,
-) -> Result<(), Fail> {
-    let mut printed = Vec::new(alloc);
-    let mut reader = script.as_bytes();
-    if run_steps(alloc, config, zeros(alloc)?, &mut reader, &mut printed).is_err() {
-        return Err(Fail::from("no run"));
-    }
-    let Ok(printed) = String::from_utf8(printed) else {
-        return Err(Fail::from("no text"));
-    };
-    let mut lines = printed.as_str().lines();
-    for wanted in shows.lines() {
-        assert!(rt; lines.any(|line| line == wanted), "{wanted}");
-    }
-    Ok(())
 }
 
 /// What each step of a script answers on a bench whose heap refuses nothing.
@@ -313,19 +232,23 @@ fn play(
     Ok(left? == 0)
 }
 
-/// Sees what a script shows, plays it once for each growth that its steps have, and once with no memory for those that take none.
-pub(crate) fn sweep(rt: &impl Abort, alloc: Global, row: Row) -> Result<(), Fail> {
-    look_at(rt, alloc, row.config, row.script, row.shows)?;
-    let script = read(alloc, row.script)?;
-    let wanted = unrefused(alloc, row.config, &script)?;
-    play_without_memory(rt, alloc, row.config, &script, &wanted)?;
-    let mut growths: u64 = 0;
+/// Plays a script once for each growth that its steps have, and once with no memory for those that take none.
+pub(crate) fn sweep(
+    rt: &impl Abort,
+    alloc: Global,
+    worked: WorkedScript,
+    growths: u64,
+) -> Result<(), Fail> {
+    let script = read(alloc, worked.script)?;
+    let wanted = unrefused(alloc, worked.config, &script)?;
+    play_without_memory(rt, alloc, worked.config, &script, &wanted)?;
+    let mut met: u64 = 0;
     for growth in 1..MANY {
-        if !play(rt, alloc, row.config, &script, &wanted, growth)? {
+        if !play(rt, alloc, worked.config, &script, &wanted, growth)? {
             break;
         }
-        growths = growth;
+        met = growth;
     }
-    assert_eq!(rt; growths, row.growths);
+    assert_eq!(rt; met, growths, "{}", worked.script);
     Ok(())
 }

@@ -1,6 +1,6 @@
 //! The first script, cut after each byte, read by a reader that fails after each byte, and written to a writer that fails after each.
 
-use crate::playing::{READ_OUTPUT, READ_SCRIPT, USUAL, zeros};
+use crate::playing::zeros;
 use crate::runs::{Narrow, Slow};
 use script_cli::{RunFault, run_steps};
 use std::alloc::Global;
@@ -8,6 +8,8 @@ use std::io;
 use std::io::{ErrorKind, Write};
 use std::process::Abort;
 use std::test::Fail;
+use worked_scripts::examples::READ;
+use worked_scripts::pools::USUAL;
 
 /// How a run of a script's front ends, and how many bytes it wrote.
 fn ended(
@@ -71,14 +73,14 @@ fn without_counts(text: &str) -> &str {
 #[test]
 fn a_script_is_cut_after_each_byte(rt: HostRuntime) -> Result<(), Fail> {
     let mut ends = Ends::default();
-    let script = READ_SCRIPT.as_bytes();
+    let script = READ.script.as_bytes();
     for cut in 0..=script.len() {
         let (end, written) = ended(rt.alloc(), &script[..cut], false, 10_000)?;
         let Ok(text) = String::from_utf8(written) else {
             panic!(rt; "text that is not ASCII");
         };
         let Err(fault) = end else {
-            if READ_OUTPUT.starts_with(without_counts(&text)) {
+            if READ.prints.starts_with(without_counts(&text)) {
                 ends.runs = ends.runs.saturating_add(1);
             } else {
                 assert!(rt;
@@ -108,7 +110,7 @@ fn a_script_is_cut_after_each_byte(rt: HostRuntime) -> Result<(), Fail> {
 
 #[test]
 fn a_reader_fails_after_each_byte(rt: HostRuntime) -> Result<(), Fail> {
-    let script = READ_SCRIPT.as_bytes();
+    let script = READ.script.as_bytes();
     for cut in 0..=script.len() {
         let (end, written) = ended(rt.alloc(), &script[..cut], true, 10_000)?;
         assert_eq!(rt; end, Err(RunFault::Unreadable), "cut {cut}");
@@ -119,14 +121,14 @@ fn a_reader_fails_after_each_byte(rt: HostRuntime) -> Result<(), Fail> {
 
 #[test]
 fn a_writer_fails_after_each_byte(rt: HostRuntime) -> Result<(), Fail> {
-    for room in 0..READ_OUTPUT.len() {
-        let (end, written) = ended(rt.alloc(), READ_SCRIPT.as_bytes(), false, room)?;
+    for room in 0..READ.prints.len() {
+        let (end, written) = ended(rt.alloc(), READ.script.as_bytes(), false, room)?;
         assert_eq!(rt; end, Err(RunFault::OutputFailed), "room {room}");
-        assert_eq!(rt; written.as_slice(), &READ_OUTPUT.as_bytes()[..room]);
+        assert_eq!(rt; written.as_slice(), &READ.prints.as_bytes()[..room]);
     }
-    let (end, written) = ended(rt.alloc(), READ_SCRIPT.as_bytes(), false, READ_OUTPUT.len())?;
+    let (end, written) = ended(rt.alloc(), READ.script.as_bytes(), false, READ.prints.len())?;
     assert_eq!(rt; end, Ok(()));
-    assert_eq!(rt; written.as_slice(), READ_OUTPUT.as_bytes());
+    assert_eq!(rt; written.as_slice(), READ.prints.as_bytes());
     Ok(())
 }
 
@@ -178,7 +180,7 @@ fn bytes_of(writes: usize) -> usize {
         lines = writes.saturating_add(5);
     }
     let mut bytes = 0usize;
-    for line in READ_OUTPUT.lines().take(lines) {
+    for line in READ.prints.lines().take(lines) {
         bytes = bytes.saturating_add(line.len()).saturating_add(1);
     }
     bytes
@@ -191,7 +193,7 @@ fn ends_over(
     (writes, failing, flushes): (usize, Failing, bool),
     wanted: Result<(), RunFault>,
 ) -> Result<(), Fail> {
-    let mut reader = READ_SCRIPT.as_bytes();
+    let mut reader = READ.script.as_bytes();
     let mut writer = Whole {
         writes,
         failing,
@@ -200,7 +202,7 @@ fn ends_over(
     };
     let end = run_steps(alloc, USUAL, zeros(alloc)?, &mut reader, &mut writer);
     assert_eq!(rt; end, wanted, "{writes} {failing:?}");
-    let front = READ_OUTPUT.as_bytes().get(..bytes_of(writes));
+    let front = READ.prints.as_bytes().get(..bytes_of(writes));
     assert_eq!(rt;
         Some(writer.taken.as_slice()),
         front,

@@ -2,24 +2,14 @@
 #![tactic(auto)]
 
 #[cfg(test)]
-mod admin;
-#[cfg(test)]
-mod chains;
-#[cfg(test)]
-mod creations;
-#[cfg(test)]
 mod cuts;
 #[cfg(test)]
-mod examples;
-#[cfg(test)]
-mod first;
-#[cfg(test)]
-mod forged;
+mod images;
 #[cfg(test)]
 mod playing;
-#[cfg(test)]
-mod resets;
 #[cfg(test)]
 mod runs;
 #[cfg(test)]
 mod texts;
+#[cfg(test)]
+mod worked;

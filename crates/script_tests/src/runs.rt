@@ -7,14 +7,7 @@ use std::io;
 use std::io::{ErrorKind, Read, Write};
 use std::test::Fail;
 use step_core::Config;
-
-/// The configuration of most runs.
-const USUAL: Config = Config {
-    pages: 16,
-    queues: 1,
-    entries: 4,
-    segment: 256,
-};
+use worked_scripts::pools::USUAL;
 
 /// Gives one byte at a time, and then ends or fails.
 #[derive(Drop)]

@@ -1,6 +1,5 @@
 //! The printed names, and a whole script through the public calls.
 
-use crate::playing::READ_SCRIPT;
 use entry_codec::Status;
 use io_commands::{FillFault, Kind, Piece};
 use page_ledger::{Counts, Owner, Role};
@@ -9,6 +8,7 @@ use script_cli::*;
 use std::alloc::Global;
 use std::test::Fail;
 use step_core::{Bytes, Reaped, Reply, Step};
+use worked_scripts::examples::READ;
 
 /// The first fault of a text, as it is printed.
 fn fault_of(alloc: Global, text: &str) -> Result<String, Fail> {
@@ -58,7 +58,7 @@ fn long_texts(rt: HostRuntime) -> Result<(), Fail> {
 
 #[test]
 fn thirteen_lines(rt: HostRuntime) -> Result<(), Fail> {
-    let Ok(script) = read_script(rt.alloc(), READ_SCRIPT.as_bytes()) else {
+    let Ok(script) = read_script(rt.alloc(), READ.script.as_bytes()) else {
         panic!(rt; "a script without faults");
     };
     assert_eq!(rt; script.lines().len(), 13);

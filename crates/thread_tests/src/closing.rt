@@ -4,7 +4,7 @@ ghost use Rattle.std.specs.Prelude.{◌≡◌};
 ghost use Rattle.step_core.specs.Opening.{opening_of};
 
 use crate::desk::{Desk, end, opened};
-use crate::looks::{USUAL, see};
+use crate::looks::see;
 use crate::part::{Part, run};
 use block_image::Image;
 use driver_book::{CloseFault, Driver};
@@ -19,6 +19,7 @@ use std::sync::Wait;
 use std::sync::ledger::Blank;
 use std::test::Fail;
 use step_core::Config;
+use worked_scripts::pools::USUAL;
 
 /// Each of two seats submits once. One is kept back, then both are handed in too early, and at last in time.
 const KEPT_BACK: &[Part] = &[
@@ -65,7 +66,7 @@ collect 1 0 => status 0:00",
 
 #[test]
 fn a_seat_with_a_submission_is_missed(rt: HostRuntime) -> Result<(), Fail> {
-    run(&rt, rt.alloc(), USUAL, KEPT_BACK, 19)
+    run(&rt, rt.alloc(), USUAL, KEPT_BACK, Some(19))
 }
 
 /// A seat that submitted nothing is kept back, and then handed in.
@@ -78,7 +79,7 @@ const KEPT_BACK_IDLE: &[Part] = &[
 
 #[test]
 fn an_idle_seat_is_out(rt: HostRuntime) -> Result<(), Fail> {
-    run(&rt, rt.alloc(), USUAL, KEPT_BACK_IDLE, 0)
+    run(&rt, rt.alloc(), USUAL, KEPT_BACK_IDLE, Some(0))
 }
 
 /// Whose some pages are: one of a queue, a free one, and one that is not there.

@@ -8,7 +8,7 @@ use book_desk::answers::{
     cancelled, collected, completed, done, fetched, reaped, released, reserved, sent, submitted,
     walked,
 };
-use book_desk::steps::build;
+use book_desk::steps::{build, fill, gather};
 use book_desk::values::{draft_of, finished_of, ticket_of};
 use book_desk::{Answer, Value};
 use driver_book::{Book, Driver, Seat};
@@ -88,20 +88,18 @@ fn submit<L: Driver, R: Wait>(rt: &R, desk: &mut Desk<L>, q: u16, cid: u16) -> A
     }
 }
 
-/// Releases a finished command of the last seat, which has a receipt of it.
-fn release<L: Driver, R: Abort + Wait>(
-    rt: &R,
-    desk: &mut Desk<L>,
-    q: u16,
-    cid: u16,
-) -> Answer<Global> {
+/// Releases a finished command of the last seat, where it has a receipt of it.
+fn release<L: Driver, R: Wait>(rt: &R, desk: &mut Desk<L>, q: u16, cid: u16) -> Answer<Global> {
     let Some(seat) = desk.seats.last_mut() else {
         return Ok(Reply::NoValue);
     };
     let Some(finished) = finished_of(&mut desk.values, q, cid) else {
         return Ok(Reply::NoValue);
     };
-    assert!(rt; seat.awaits(finished.q(), finished.cid()));
+    if !seat.awaits(finished.q(), finished.cid()) {
+        desk.values.push(Value::Finished(finished))?;
+        return Ok(Reply::NoValue);
+    }
     let answer = desk.shared.release(rt, seat, finished);
     released(&mut desk.values, answer)
 }
@@ -152,7 +150,11 @@ pub(crate) fn step<L: Driver, R: Abort + Wait>(
         Step::Reserve { q, request } => {
             reserved(&mut desk.values, desk.shared.reserve(rt, q, request))
         }
+        Step::Fill { q, cid, bytes } => {
+            fill(desk.alloc, &mut desk.values, q, cid, bytes.as_slice())
+        }
         Step::Build { q, cid } => build(desk.alloc, &mut desk.values, q, cid),
+        Step::Gather { q, cid } => gather(desk.alloc, &mut desk.values, q, cid),
         Step::Submit { q, cid } => submit(rt, desk, q, cid),
         Step::Cancel { q, cid } => cancel(rt, desk, q, cid),
         Step::Collect { q, cid } => collect(rt, desk, q, cid),

@@ -3,7 +3,7 @@
 
 ghost use Rattle.std.specs.Prelude.{◌≡◌, ◌≤◌, vec_len, IfOk};
 
-use crate::looks::{USUAL, counts, see};
+use crate::looks::{counts, see};
 use crate::runs::{Outcome, is_done, job, play};
 use driver_book::Report;
 use driver_threads::{Gate, GateClosed, Job, JobEnd, JobRefusal, Open, Point, RunFault};
@@ -19,6 +19,7 @@ use std::test::Fail;
 use std::thread;
 use std::thread::Threads;
 use step_core::{Config, OpenRefusal};
+use worked_scripts::pools::USUAL;
 
 /// Holds the first job of each of two submitters at a point until the other is there.
 #[derive(Drop)]

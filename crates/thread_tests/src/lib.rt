@@ -2,8 +2,6 @@
 #![tactic(auto)]
 
 #[cfg(test)]
-mod admin;
-#[cfg(test)]
 mod closes;
 #[cfg(test)]
 mod closing;
@@ -11,8 +9,6 @@ mod closing;
 mod crowd;
 #[cfg(test)]
 mod desk;
-#[cfg(test)]
-mod forgeries;
 #[cfg(test)]
 mod jobs;
 #[cfg(test)]
@@ -27,3 +23,5 @@ mod runs;
 mod steps;
 #[cfg(test)]
 mod turned_away;
+#[cfg(test)]
+mod worked;

@@ -6,15 +6,6 @@ use entry_codec::Status;
 use page_ledger::Counts;
 use std::fmt::Debug;
 use std::process::Abort;
-use step_core::Config;
-
-/// 16 pages and one I/O queue of 4 entries: pages 4 to 15 are free.
-pub(crate) const USUAL: Config = Config {
-    pages: 16,
-    queues: 1,
-    entries: 4,
-    segment: 256,
-};
 
 /// What a receipt of queue 1 tells: its number, and the identifier and the status of its command.
 pub(crate) type Told = (u64, u16, Option<Status>);

@@ -6,7 +6,7 @@ ghost use Rattle.step_core.specs.Opening.{opening_of};
 use crate::closes::{close, keep_back, stay_open};
 use crate::desk::{Desk, end, opened, sit};
 use crate::looks::{Told, counts, has_page, has_receipts, see};
-use crate::steps::play_steps;
+use crate::steps::{play_steps, play_worked};
 use block_image::Image;
 use driver_book::{CloseFault, Driver};
 use std::alloc::Global;
@@ -16,6 +16,7 @@ use std::sync::Wait;
 use std::sync::ledger::Blank;
 use std::test::Fail;
 use step_core::Config;
+use worked_scripts::WorkedScript;
 
 /// A part of a run at a desk. The last seat acts: it submits and releases.
 #[derive(Clone, Copy)]
@@ -26,6 +27,8 @@ pub(crate) enum Part {
     Turn,
     /// Steps of a script, each with what it must answer behind an arrow.
     Steps(&'static str),
+    /// A worked script, which prints just what it says.
+    Plays(WorkedScript),
     /// The draft that came about last has this page alone.
     HasPage(u32),
     /// The seat that acts has these receipts.
@@ -50,6 +53,7 @@ fn play_part<L: Driver, R: Abort + Wait>(
         Part::Sit => sit(rt, desk),
         Part::Turn => desk.seats.reverse(),
         Part::Steps(text) => play_steps(rt, desk, text)?,
+        Part::Plays(worked) => play_worked(rt, desk, worked)?,
         Part::HasPage(page) => has_page(rt, &desk.values, page),
         Part::HasReceipts(told) => has_receipts(rt, &desk.seats, told),
         Part::HasPages(free, queue, data) => {
@@ -62,7 +66,7 @@ fn play_part<L: Driver, R: Abort + Wait>(
     Ok(())
 }
 
-/// Does the parts of a run at a new desk, and ends its book, whose log has so many entries.
+/// Does the parts of a run at a new desk, and ends its book, whose log has so many entries where that is told.
 fn play_anew<L: Driver, R: Abort + Wait>(
     rt: &R,
     alloc: Global,
@@ -70,7 +74,7 @@ fn play_anew<L: Driver, R: Abort + Wait>(
     image: Image,
     blank: Blank,
     run: &[Part],
-    entries: usize,
+    entries: Option<usize>,
 ) -> Result<(), Fail>
     requires name { blank.name ≡ L.name }
     requires parts { blank.parts ≡ L.parts }
@@ -81,17 +85,19 @@ fn play_anew<L: Driver, R: Abort + Wait>(
     for part in run {
         play_part(rt, &mut desk, *part)?;
     }
-    see(rt, &end(desk), &entries);
+    let ended = end(desk);
+    see(rt, &ended, &entries.unwrap_or(ended));
     Ok(())
 }
 
-/// Does the parts of a run at a new desk over an image of 64 zero blocks, and ends its book, whose log has so many entries.
+/// Does the parts of a run at a new desk over an image of 64 zero blocks, and ends its book, whose log has so many entries where that is
+/// told.
 pub(crate) fn run<R: Abort + Wait>(
     rt: &R,
     alloc: Global,
     config: Config,
     parts: &[Part],
-    entries: usize,
+    entries: Option<usize>,
 ) -> Result<(), Fail> {
     let image = Image::zeroed(alloc, 64)?;
     let blank = Blank::new(65536);

@@ -2,12 +2,15 @@
 
 use crate::desk::{Desk, step};
 use driver_book::Driver;
-use script_cli::{Line, Verb, append_reply, read_script};
-use std::alloc::Global;
+use page_ledger::Owner;
+use page_memory::PageNo;
+use script_cli::{Line, Numbered, Verb, append_counts, append_owners, append_reply, read_script};
+use std::alloc::{AllocError, Global};
 use std::process::Abort;
 use std::sync::Wait;
 use std::test::Fail;
 use step_core::{Reply, Step};
+use worked_scripts::WorkedScript;
 
 /// The step of a line.
 fn step_of(alloc: Global, line: &str) -> Result<Step, Fail> {
@@ -60,5 +63,59 @@ pub(crate) fn play_steps<L: Driver, R: Abort + Wait>(
             None => panic!(rt; "{line}: it has no arrow"),
         }
     }
+    Ok(())
+}
+
+/// The owner of each page of a shared book.
+fn owners_of<L: Driver, R: Wait>(rt: &R, desk: &Desk<L>) -> Result<Vec<Owner>, AllocError> {
+    let mut owners = Vec::new(desk.alloc);
+    for p in 0..65_536 {
+        match desk.shared.owner(rt, PageNo(p)) {
+            Some(owner) => owners.push(owner)?,
+            None => break,
+        }
+    }
+    Ok(owners)
+}
+
+/// Prints what a line of a script answers.
+fn print_line<L: Driver, R: Abort + Wait>(
+    rt: &R,
+    desk: &mut Desk<L>,
+    numbered: Numbered,
+    out: &mut String,
+) -> Result<(), Fail> {
+    let Numbered { number, line } = numbered;
+    match line {
+        Line::Step(made) => {
+            let verb = Verb::of(&made);
+            let reply = step(rt, desk, made)?;
+            append_reply(out, number, verb, &reply)?;
+        }
+        Line::Owners => {
+            let owners = owners_of(rt, desk)?;
+            assert!(rt; owners.len() <= 65_536);
+            append_owners(out, &owners)?;
+        }
+        Line::Nothing => {}
+    }
+    Ok(())
+}
+
+/// Plays a worked script, and sees that it prints just what it says.
+pub(crate) fn play_worked<L: Driver, R: Abort + Wait>(
+    rt: &R,
+    desk: &mut Desk<L>,
+    worked: WorkedScript,
+) -> Result<(), Fail> {
+    let Ok(script) = read_script(desk.alloc, worked.script.as_bytes()) else {
+        return Err(Fail::from("no script"));
+    };
+    let mut out = String::new(desk.alloc);
+    for numbered in script.into_lines() {
+        print_line(rt, desk, numbered, &mut out)?;
+    }
+    append_counts(&mut out, desk.shared.counts(rt))?;
+    assert!(rt; out.as_str() == worked.prints, "{out}");
     Ok(())
 }

@@ -4,7 +4,7 @@ ghost use Rattle.std.specs.Prelude.{◌≡◌};
 ghost use Rattle.step_core.specs.Opening.{opening_of};
 
 use crate::desk::{Desk, end, opened};
-use crate::looks::{USUAL, counts, see};
+use crate::looks::{counts, see};
 use crate::runs::job;
 use block_image::Image;
 use driver_book::Driver;
@@ -19,6 +19,7 @@ use std::sync::Wait;
 use std::sync::ledger::Blank;
 use std::test::Fail;
 use step_core::Config;
+use worked_scripts::pools::USUAL;
 
 /// What a submitter leaves whose only job is a Read of one block on queue 1.
 fn worked<L: Driver, R: Abort + Wait>(rt: &R, shared: &Shared<L>, alloc: Global) -> Worked<L> {

@@ -1,12 +1,12 @@
-//! The scripts of `examples/`, and what they print: the same texts as in its files.
+//! The scripts of `examples/`: the same texts as in its files.
 
-use crate::playing::{USUAL, played, zeros};
-use std::test::Fail;
-use step_core::Config;
+use crate::WorkedScript;
+use crate::pools::{SHORT_SEGMENTS, USUAL};
 
-const READ: &str =
-    "# Block 0 is read through one Data Block. Play it by: nvmesgl steps < examples/read.script
-reserve 1 read 0 1 0+512
+/// Block 0 is read through one Data Block (`examples/read.script`).
+pub const READ: WorkedScript = WorkedScript {
+    config: USUAL,
+    script: "reserve 1 read 0 1 0+512
 build 1 0
 submit 1 0
 ring 1
@@ -19,31 +19,33 @@ collect 1 0
 gather 1 0
 owners
 release 1 0
-";
-
-const READ_PRINTS: &str = "2 reserve q 1 cid 0 data 1 chain 0
-3 build ok
-4 submit ok
-5 ring ok
-6 fetch cid 0 touched 2
-7 walk more touched -
-8 walk end touched 4
-9 complete ok touched 3
-10 reap done cid 0 status 0:00
-11 collect status 0:00
-12 gather 00*512
+",
+    prints: "1 reserve q 1 cid 0 data 1 chain 0
+2 build ok
+3 submit ok
+4 ring ok
+5 fetch cid 0 touched 2
+6 walk more touched -
+7 walk end touched 4
+8 complete ok touched 3
+9 reap done cid 0 status 0:00
+10 collect status 0:00
+11 gather 00*512
 0-0 queue 0 sq
 1-1 queue 0 cq
 2-2 queue 1 sq
 3-3 queue 1 cq
 4-4 command 1 0 data
 5-15 free
-14 release ok
+13 release ok
 counts free 12 queue 4 chain 0 data 0
-";
+",
+};
 
-const WRITE_AND_COMPARE: &str =
-    "# Two bytes are written to block 5; then the block is compared with them, and with others.
+/// Two bytes are written to a block, which is then compared with them, and with others (`examples/write_and_compare.script`).
+pub const WRITE_AND_COMPARE: WorkedScript = WorkedScript {
+    config: USUAL,
+    script: "# Two bytes are written to block 5; then the block is compared with them, and with others.
 # Play it by: nvmesgl steps < examples/write_and_compare.script
 reserve 1 write 5 1 0+512
 fill 1 0 ABCD
@@ -86,9 +88,8 @@ reap 1
 collect 1 0
 gather 1 0
 release 1 0
-";
-
-const WRITE_AND_COMPARE_PRINTS: &str = "3 reserve q 1 cid 0 data 1 chain 0
+",
+    prints: "3 reserve q 1 cid 0 data 1 chain 0
 4 fill ok
 5 build ok
 6 submit ok
@@ -128,10 +129,13 @@ const WRITE_AND_COMPARE_PRINTS: &str = "3 reserve q 1 cid 0 data 1 chain 0
 42 gather -
 43 release ok
 counts free 12 queue 4 chain 0 data 0
-";
+",
+};
 
-const CHAIN: &str =
-    "# A list of three Data Blocks in segments of two descriptors: two pages hold the chain.
+/// A list of three Data Blocks in segments of two descriptors (`examples/chain.script`).
+pub const CHAIN: WorkedScript = WorkedScript {
+    config: SHORT_SEGMENTS,
+    script: "# A list of three Data Blocks in segments of two descriptors: two pages hold the chain.
 # Play it by: nvmesgl steps --segment 2 < examples/chain.script
 reserve 1 read 0 3 0+512 0+512 0+512
 owners
@@ -152,9 +156,8 @@ reap 1
 collect 1 0
 gather 1 0
 release 1 0
-";
-
-const CHAIN_PRINTS: &str = "3 reserve q 1 cid 0 data 3 chain 2
+",
+    prints: "3 reserve q 1 cid 0 data 3 chain 2
 0-0 queue 0 sq
 1-1 queue 0 cq
 2-2 queue 1 sq
@@ -180,10 +183,13 @@ const CHAIN_PRINTS: &str = "3 reserve q 1 cid 0 data 3 chain 2
 20 gather 00*1536
 21 release ok
 counts free 12 queue 4 chain 0 data 0
-";
+",
+};
 
-const ABORT: &str =
-    "# A Read of two blocks is aborted after its first page was moved. The Abort waits until the Read has completed.
+/// A Read of two blocks is aborted after its first page was moved (`examples/abort.script`).
+pub const ABORT: WorkedScript = WorkedScript {
+    config: USUAL,
+    script: "# A Read of two blocks is aborted after its first page was moved. The Abort waits until the Read has completed.
 # Play it by: nvmesgl steps < examples/abort.script
 reserve 1 read 0 2 0+512 0+512
 build 1 0
@@ -206,9 +212,8 @@ collect 1 0
 gather 1 0
 owners
 release 1 0
-";
-
-const ABORT_PRINTS: &str = "3 reserve q 1 cid 0 data 2 chain 1
+",
+    prints: "3 reserve q 1 cid 0 data 2 chain 1
 4 build ok
 5 submit ok
 6 ring ok
@@ -236,48 +241,8 @@ const ABORT_PRINTS: &str = "3 reserve q 1 cid 0 data 2 chain 1
 7-15 free
 23 release ok
 counts free 12 queue 4 chain 0 data 0
-";
+",
+};
 
-/// A Read of one block.
-#[test]
-fn the_read_example(rt: HostRuntime) -> Result<(), Fail> {
-    let image = zeros(rt.alloc())?;
-    let output = played(rt.alloc(), USUAL, image, READ)?;
-    assert_eq!(rt; output.as_str(), READ_PRINTS);
-    Ok(())
-}
-
-/// A Write, and Compares with it.
-#[test]
-fn the_write_and_compare_example(rt: HostRuntime) -> Result<(), Fail> {
-    let image = zeros(rt.alloc())?;
-    let output = played(rt.alloc(), USUAL, image, WRITE_AND_COMPARE)?;
-    assert_eq!(rt; output.as_str(), WRITE_AND_COMPARE_PRINTS);
-    Ok(())
-}
-
-/// A chain of several segments.
-#[test]
-fn the_chain_example(rt: HostRuntime) -> Result<(), Fail> {
-    let image = zeros(rt.alloc())?;
-    let output = played(
-        rt.alloc(),
-        Config {
-            segment: 2,
-            ..USUAL
-        },
-        image,
-        CHAIN,
-    )?;
-    assert_eq!(rt; output.as_str(), CHAIN_PRINTS);
-    Ok(())
-}
-
-/// A Read that is aborted.
-#[test]
-fn the_abort_example(rt: HostRuntime) -> Result<(), Fail> {
-    let image = zeros(rt.alloc())?;
-    let output = played(rt.alloc(), USUAL, image, ABORT)?;
-    assert_eq!(rt; output.as_str(), ABORT_PRINTS);
-    Ok(())
-}
+/// All of these.
+pub const ALL: [WorkedScript; 4] = [READ, WRITE_AND_COMPARE, CHAIN, ABORT];

@@ -1,11 +1,12 @@
 //! Queues that are made again.
 
-use crate::playing::{USUAL, played, zeros};
-use std::test::Fail;
-use step_core::Config;
+use crate::WorkedScript;
+use crate::pools::{LONG_RINGS, USUAL};
 
-/// Queue 1 is deleted, both its halves; it is made again, and carries a Read.
-const CREATION: &str = "delete_sq 1
+/// Both halves of a queue are deleted; it is made again in the pages that are free then, and carries a Read.
+pub const CREATION: WorkedScript = WorkedScript {
+    config: USUAL,
+    script: "delete_sq 1
 ring 0
 fetch 0
 complete 0 0
@@ -40,10 +41,8 @@ collect 1 0
 gather 1 0
 release 1 0
 create_cq 1
-";
-
-/// What this prints.
-const CREATION_OUTPUT: &str = "1 delete_sq cid 0
+",
+    prints: "1 delete_sq cid 0
 2 ring ok
 3 fetch cid 0 touched 0
 4 complete ok touched 1
@@ -83,19 +82,91 @@ const CREATION_OUTPUT: &str = "1 delete_sq cid 0
 34 release ok
 35 create_cq refused WrongState
 counts free 12 queue 4 chain 0 data 0
-";
+",
+};
 
-/// A queue that is gone is made again, in the pages that are free then.
-#[test]
-fn a_queue_is_made_again(rt: HostRuntime) -> Result<(), Fail> {
-    let image = zeros(rt.alloc())?;
-    let output = played(rt.alloc(), USUAL, image, CREATION)?;
-    assert_eq!(rt; output.as_str(), CREATION_OUTPUT);
-    Ok(())
-}
+/// A queue is deleted and made again, refuses to be made too soon, and carries a Read through.
+pub const MADE_AGAIN: WorkedScript = WorkedScript {
+    config: USUAL,
+    script: "delete_sq 1
+ring 0
+fetch 0
+complete 0 0
+reap 0
+retire 1
+create_cq 1
+delete_cq 1
+ring 0
+fetch 0
+complete 0 0
+reap 0
+create_sq 1
+create_cq 1
+ring 0
+fetch 0
+complete 0 0
+reap 0
+create_sq 1
+ring 0
+fetch 0
+complete 0 0
+reap 0
+reserve 1 read 0 1 0+512
+build 1 0
+submit 1 0
+ring 1
+fetch 1
+walk 1 0
+walk 1 0
+complete 1 0
+reap 1
+collect 1 0
+gather 1 0
+release 1 0
+",
+    prints: "1 delete_sq cid 0
+2 ring ok
+3 fetch cid 0 touched 0
+4 complete ok touched 1
+5 reap admin cid 0 status 0:00 dw0 0
+6 retire ok
+7 create_cq refused WrongState
+8 delete_cq cid 0
+9 ring ok
+10 fetch cid 0 touched 0
+11 complete ok touched 1
+12 reap admin cid 0 status 0:00 dw0 0
+13 create_sq refused WrongState
+14 create_cq cid 0
+15 ring ok
+16 fetch cid 0 touched 0
+17 complete ok touched 1
+18 reap admin cid 0 status 0:00 dw0 0
+19 create_sq cid 0
+20 ring ok
+21 fetch cid 0 touched 0
+22 complete ok touched 1
+23 reap admin cid 0 status 0:00 dw0 0
+24 reserve q 1 cid 0 data 1 chain 0
+25 build ok
+26 submit ok
+27 ring ok
+28 fetch cid 0 touched 3
+29 walk more touched -
+30 walk end touched 4
+31 complete ok touched 2
+32 reap done cid 0 status 0:00
+33 collect status 0:00
+34 gather 00*512
+35 release ok
+counts free 12 queue 4 chain 0 data 0
+",
+};
 
-/// What is refused while queue 1 is being made, which is given up in the end.
-const HALF_MADE: &str = "delete_sq 1
+/// A queue that has a completion queue alone takes no I/O commands; it is given up in the end.
+pub const HALF_MADE: WorkedScript = WorkedScript {
+    config: USUAL,
+    script: "delete_sq 1
 ring 0
 fetch 0
 complete 0 0
@@ -135,10 +206,8 @@ delete_cq 1
 create_cq 0
 create_cq 2
 owners
-";
-
-/// What this prints.
-const HALF_MADE_OUTPUT: &str = "1 delete_sq cid 0
+",
+    prints: "1 delete_sq cid 0
 2 ring ok
 3 fetch cid 0 touched 0
 4 complete ok touched 1
@@ -181,20 +250,14 @@ const HALF_MADE_OUTPUT: &str = "1 delete_sq cid 0
 1-1 queue 0 cq
 2-15 free
 counts free 14 queue 2 chain 0 data 0
-";
+",
+};
 
-/// A queue that has a completion queue alone takes no I/O commands; its completion queue may be deleted.
-#[test]
-fn a_half_made_queue_is_given_up(rt: HostRuntime) -> Result<(), Fail> {
-    let image = zeros(rt.alloc())?;
-    let output = played(rt.alloc(), USUAL, image, HALF_MADE)?;
-    assert_eq!(rt; output.as_str(), HALF_MADE_OUTPUT);
-    Ok(())
-}
-
-/// A pool of ten pages, of which queue 1 with its 128 entries had two for its submission half; commands of queue 2 leave no two
-/// neighbours free.
-const SCATTERED: &str = "delete_sq 1
+/// A pool of nine pages, of which each half of queue 1 with its 128 entries had two for its submission half; a command of queue 2 leaves no
+/// two neighbours free.
+pub const NO_RUN: WorkedScript = WorkedScript {
+    config: LONG_RINGS,
+    script: "delete_sq 1
 ring 0
 fetch 0
 complete 0 0
@@ -214,10 +277,8 @@ reap 0
 create_sq 1
 cancel 2 0
 create_sq 1
-";
-
-/// What this prints.
-const SCATTERED_OUTPUT: &str = "1 delete_sq cid 0
+",
+    prints: "1 delete_sq cid 0
 2 ring ok
 3 fetch cid 0 touched 0
 4 complete ok touched 2
@@ -238,19 +299,8 @@ const SCATTERED_OUTPUT: &str = "1 delete_sq cid 0
 19 cancel ok
 20 create_sq refused NoRun need 2
 counts free 2 queue 7 chain 0 data 0
-";
+",
+};
 
-/// A half lies in consecutive pages: where no run of them is free, none is made.
-#[test]
-fn a_half_wants_a_run_of_pages(rt: HostRuntime) -> Result<(), Fail> {
-    let config = Config {
-        pages: 9,
-        queues: 2,
-        entries: 128,
-        segment: 256,
-    };
-    let image = zeros(rt.alloc())?;
-    let output = played(rt.alloc(), config, image, SCATTERED)?;
-    assert_eq!(rt; output.as_str(), SCATTERED_OUTPUT);
-    Ok(())
-}
+/// All of these.
+pub const ALL: [WorkedScript; 4] = [CREATION, MADE_AGAIN, HALF_MADE, NO_RUN];

@@ -1,10 +1,10 @@
 //! Scripts in which several ways meet.
 
-use crate::sweep::{Row, TWO_QUEUES, sweep};
-use std::test::Fail;
+use crate::WorkedScript;
+use crate::pools::TWO_QUEUES;
 
-/// A Read of three pages with a chain of its own, gathered.
-const READ_WITH_A_CHAIN_AND_A_BUCKET: Row = Row {
+/// A Read of four pages with a chain of its own, and a bucket.
+pub const CHAIN_AND_BUCKET: WorkedScript = WorkedScript {
     config: TWO_QUEUES,
     script: "reserve 1 read 0 5 0+512 x512 8+512 0+512 100+512
 build 1 0
@@ -28,21 +28,33 @@ collect 1 0
 gather 1 0
 release 1 0
 ",
-    shows: "1 reserve q 1 cid 0 data 4 chain 2
+    prints: "1 reserve q 1 cid 0 data 4 chain 2
+2 build ok
+3 submit ok
+4 ring ok
+5 fetch cid 0 touched 2
+6 walk more touched -
+7 walk more touched 10
+8 walk more touched 6
+9 walk more touched 10
+10 walk more touched 10
+11 walk more touched 7
+12 walk more touched 10
+13 walk more touched 11
+14 walk more touched 8
+15 walk more touched 11
 16 walk end touched 9
+17 complete ok touched 3
+18 reap done cid 0 status 0:00
+19 collect status 0:00
 20 gather 00*2048
+21 release ok
 counts free 18 queue 6 chain 0 data 0
 ",
-    growths: 18,
 };
 
-#[test]
-fn a_read_with_a_chain(rt: HostRuntime) -> Result<(), Fail> {
-    sweep(&rt, rt.alloc(), READ_WITH_A_CHAIN_AND_A_BUCKET)
-}
-
 /// A Write and a Compare of two pages each, side by side; the Compare is fetched after the Write ended.
-const SIDE_BY_SIDE: Row = Row {
+pub const SIDE_BY_SIDE: WorkedScript = WorkedScript {
     config: TWO_QUEUES,
     script: "reserve 1 write 3 2 0+512 4+512
 reserve 2 compare 3 2 0+1024
@@ -72,74 +84,39 @@ collect 2 0
 release 1 0
 release 2 0
 ",
-    shows: "1 reserve q 1 cid 0 data 2 chain 1
+    prints: "1 reserve q 1 cid 0 data 2 chain 1
+2 reserve q 2 cid 0 data 1 chain 0
+3 fill ok
+4 fill ok
+5 build ok
+6 build ok
+7 submit ok
+8 submit ok
+9 ring ok
+10 ring ok
+11 fetch cid 0 touched 2
+12 walk more touched -
+13 walk more touched 8
+14 walk more touched 6
+15 walk more touched 8
 16 walk end touched 7
+17 complete ok touched 3
+18 fetch cid 0 touched 4
+19 walk more touched -
+20 walk end touched 9
+21 complete ok touched 5
 22 reap done cid 0 status 0:00
 23 reap done cid 0 status 0:00
+24 collect status 0:00
+25 collect status 0:00
+26 release ok
+27 release ok
 counts free 18 queue 6 chain 0 data 0
 ",
-    growths: 25,
 };
-
-#[test]
-fn a_write_and_a_compare(rt: HostRuntime) -> Result<(), Fail> {
-    sweep(&rt, rt.alloc(), SIDE_BY_SIDE)
-}
-
-/// A command is aborted, another is ended by the deletion of its queue, a third is never fetched; the queue is retired and given back.
-const QUEUE_WITH_COMMANDS: Row = Row {
-    config: TWO_QUEUES,
-    script: "reserve 1 read 0 1 0+512
-reserve 1 read 1 1 0+512
-build 1 0
-build 1 1
-submit 1 0
-submit 1 1
-ring 1
-fetch 1
-abort 1 0
-ring 0
-fetch 0
-complete 1 0
-complete 0 0
-fetch 1
-delete_sq 1
-ring 0
-fetch 0
-complete 1 1
-complete 0 1
-reap 0
-reap 0
-reap 1
-reap 1
-retire 1
-delete_cq 1
-ring 0
-fetch 0
-complete 0 0
-reap 0
-collect 1 0
-collect 1 1
-release 1 0
-release 1 1
-",
-    shows: "20 reap admin cid 0 status 0:00 dw0 0
-21 reap admin cid 1 status 0:00 dw0 0
-22 reap done cid 0 status 0:07
-23 reap done cid 1 status 0:08
-29 reap admin cid 0 status 0:00 dw0 0
-counts free 20 queue 4 chain 0 data 0
-",
-    growths: 20,
-};
-
-#[test]
-fn a_queue_with_commands_is_deleted(rt: HostRuntime) -> Result<(), Fail> {
-    sweep(&rt, rt.alloc(), QUEUE_WITH_COMMANDS)
-}
 
 /// Steps that are refused, and a completion that no controller posted.
-const REFUSED_STEPS: Row = Row {
+pub const REFUSED_STEPS: WorkedScript = WorkedScript {
     config: TWO_QUEUES,
     script: "reserve 9 read 0 1 0+512
 reserve 1 read 0 1 0+511
@@ -162,20 +139,29 @@ walk 1 0
 retire 1
 delete_cq 1
 ",
-    shows: "1 reserve refused NoQueue
+    prints: "1 reserve refused NoQueue
 2 reserve refused Bad LengthMismatch
+3 reserve q 1 cid 0 data 8 chain 0
 4 reserve refused NoPages need 32 free 10
 5 submit refused NotBuilt
+6 build ok
+7 cancel ok
+8 reserve q 1 cid 0 data 1 chain 0
+9 build ok
+10 submit ok
+11 forge ok
 12 reap done cid 0 status 0:00
+13 collect status 0:00
+14 gather 00*512
+15 release ok
+16 collect refused NoValue
 17 fetch refused Idle
 18 walk refused NoJob
 19 retire refused NotDeleted
+20 delete_cq cid 0
 counts free 18 queue 6 chain 0 data 0
 ",
-    growths: 13,
 };
 
-#[test]
-fn refused_and_forged_steps(rt: HostRuntime) -> Result<(), Fail> {
-    sweep(&rt, rt.alloc(), REFUSED_STEPS)
-}
+/// All of these.
+pub const ALL: [WorkedScript; 3] = [CHAIN_AND_BUCKET, SIDE_BY_SIDE, REFUSED_STEPS];

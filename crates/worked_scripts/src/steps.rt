@@ -4,7 +4,7 @@ use std::alloc::{AllocError, Allocator};
 use step_core::{Bytes, Step, StepIn};
 
 /// The step once more, in a heap.
-pub(crate) fn placed<A: Allocator + Copy>(heap: A, step: &Step) -> Result<StepIn<A>, AllocError> {
+pub fn placed<A: Allocator + Copy>(heap: A, step: &Step) -> Result<StepIn<A>, AllocError> {
     Ok(match step {
         Step::Reserve { q, request } => Step::Reserve {
             q: *q,

@@ -1,0 +1,16 @@
+//! Each worked script prints just what it says.
+
+use crate::playing::{played, zeros};
+use std::test::Fail;
+
+#[test]
+fn each_script_prints_what_it_says(rt: HostRuntime) -> Result<(), Fail> {
+    let alloc = rt.alloc();
+    for scripts in worked_scripts::ALL {
+        for worked in scripts {
+            let output = played(alloc, worked.config, zeros(alloc)?, worked.script)?;
+            assert_eq!(rt; output.as_str(), worked.prints);
+        }
+    }
+    Ok(())
+}
