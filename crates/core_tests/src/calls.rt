@@ -82,20 +82,17 @@ fn reaped(answer: Result<Reaped, Refusal>) -> Told {
 
 /// A request to read so many blocks from block 0 on, with a piece for each.
 pub(crate) fn read(alloc: Global, blocks: u32) -> Result<Request, AllocError> {
-    let mut pieces = Pieces::new(alloc);
-    for _ in 0..blocks {
-        pieces.push(BLOCK)?;
-    }
+    let pieces = vec![in alloc; BLOCK; blocks as usize]?;
     Ok(asked(blocks, pieces))
 }
 
 /// A request to read so many blocks from block 0 on.
-pub(crate) fn asked(blocks: u32, pieces: Pieces) -> Request {
+pub(crate) fn asked(blocks: u32, pieces: Vec<Piece>) -> Request {
     Request {
         kind: Kind::Read,
         slba: 0,
         blocks,
-        pieces,
+        pieces: Pieces::from_vec(pieces),
     }
 }
 

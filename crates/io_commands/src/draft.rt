@@ -91,6 +91,7 @@ impl<A: Allocator> Draft<A> {
           entry = None;
         } }
     {
+        request.read();
         Draft {
             q,
             cid,

@@ -9,12 +9,12 @@ use step_core::Bytes;
 
 /// One piece of a block.
 fn piece<A: Allocator + Copy>(alloc: A) -> Result<Pieces<A>, AllocError> {
-    let mut pieces = Pieces::new(alloc);
+    let mut pieces = Vec::new(alloc);
     pieces.push(Piece::Data {
         offset: 0,
         len: 512,
     })?;
-    Ok(pieces)
+    Ok(Pieces::from_vec(pieces))
 }
 
 /// A job of one block on queue 1.
