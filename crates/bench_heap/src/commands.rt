@@ -12,7 +12,7 @@ use step_core::{Bench, Reply, Step, StepIn};
 
 /// Reserves a Read of one block.
 fn reserve<'a>(heap: &'a LocalHeap, block: u16) -> Result<StepIn<&'a LocalHeap>, AllocError> {
-    let mut pieces = Vec::new(heap);
+    let mut pieces = Pieces::new(heap);
     pieces.push(Piece::Data {
         offset: 0,
         len: 512,
@@ -23,7 +23,7 @@ fn reserve<'a>(heap: &'a LocalHeap, block: u16) -> Result<StepIn<&'a LocalHeap>,
             kind: Kind::Read,
             slba: u64::from(block),
             blocks: 1,
-            pieces: Pieces::from_vec(pieces),
+            pieces,
         },
     })
 }

@@ -45,7 +45,7 @@ pub struct Done {
 
 /// A submitter's Read of so many blocks, in pieces of whole pages and a rest. Submitters read different blocks.
 pub fn request(alloc: Global, worker: u16, blocks: u32) -> Result<Request, AllocError> {
-    let mut pieces = Vec::new(alloc);
+    let mut pieces = Pieces::new(alloc);
     for _ in 0..blocks / 8 {
         pieces.push(Piece::Data {
             offset: 0,
@@ -62,6 +62,6 @@ pub fn request(alloc: Global, worker: u16, blocks: u32) -> Result<Request, Alloc
         kind: Kind::Read,
         slba: u64::from(worker) * u64::from(MOST_BLOCKS),
         blocks,
-        pieces: Pieces::from_vec(pieces),
+        pieces,
     })
 }

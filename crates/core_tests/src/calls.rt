@@ -82,17 +82,20 @@ fn reaped(answer: Result<Reaped, Refusal>) -> Told {
 
 /// A request to read so many blocks from block 0 on, with a piece for each.
 pub(crate) fn read(alloc: Global, blocks: u32) -> Result<Request, AllocError> {
-    let pieces = vec![in alloc; BLOCK; blocks as usize]?;
+    let mut pieces = Pieces::new(alloc);
+    for _ in 0..blocks {
+        pieces.push(BLOCK)?;
+    }
     Ok(asked(blocks, pieces))
 }
 
 /// A request to read so many blocks from block 0 on.
-pub(crate) fn asked(blocks: u32, pieces: Vec<Piece>) -> Request {
+pub(crate) fn asked(blocks: u32, pieces: Pieces) -> Request {
     Request {
         kind: Kind::Read,
         slba: 0,
         blocks,
-        pieces: Pieces::from_vec(pieces),
+        pieces,
     }
 }
 

@@ -4,7 +4,7 @@ use crate::calls::{asked, open_with};
 use crate::steps::BLOCK;
 use controller_walk::WalkState;
 use entry_codec::SubEntry;
-use io_commands::{Draft, Finished, Piece};
+use io_commands::{Draft, Finished, Piece, Pieces};
 use page_memory::{Page, PageNo};
 use std::alloc::Global;
 use std::process::Abort;
@@ -24,7 +24,7 @@ fn built(alloc: Global, mut draft: Draft) -> Result<Draft, Fail> {
 
 /// A Read of so many blocks from block 0 on that is reserved and built.
 fn drafted(world: &mut World, alloc: Global, blocks: u32, pieces: &[Piece]) -> Result<Draft, Fail> {
-    let request = asked(blocks, Vec::from_slice(alloc, pieces)?);
+    let request = asked(blocks, Pieces::from_slice(alloc, pieces)?);
     match world.reserve(1, request) {
         Ok(draft) => built(alloc, draft),
         Err(_) => Err(Fail::from("it was not reserved")),

@@ -97,7 +97,7 @@ fn reserve(
     blocks: u32,
     runs: &[(Piece, u16)],
 ) -> Result<Step, AllocError> {
-    let mut pieces = Vec::new(alloc);
+    let mut pieces = Pieces::new(alloc);
     for (piece, times) in runs {
         for _ in 0..*times {
             pieces.push(*piece)?;
@@ -109,7 +109,7 @@ fn reserve(
             kind,
             slba,
             blocks,
-            pieces: Pieces::from_vec(pieces),
+            pieces,
         },
     })
 }

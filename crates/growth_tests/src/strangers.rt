@@ -28,7 +28,7 @@ fn request(heap: &Heap) -> Result<Request<&Heap>, AllocError> {
         kind: Kind::Read,
         slba: 0,
         blocks: 1,
-        pieces: Pieces::from_vec(vec![in heap; block]?),
+        pieces: Pieces::from_slice(heap, &[block])?,
     })
 }
 

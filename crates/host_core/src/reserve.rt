@@ -147,7 +147,6 @@ impl<A: Allocator + Copy> Host<A> {
         ensures over { IsOver self.new store.new.pages }
         ensures back { IfErr result (λ r. r.value ≡ request) }
     {
-        request.read();
         let grant = match self.parts.check_reserve(q, &request) {
             Ok(grant) => grant,
             Err(why) => {

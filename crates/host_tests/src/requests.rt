@@ -9,7 +9,7 @@ pub(crate) fn of_blocks<A: Allocator>(
     kind: Kind,
     blocks: u32,
 ) -> Result<Request<A>, AllocError> {
-    let mut pieces = Vec::new(alloc);
+    let mut pieces = Pieces::new(alloc);
     for _ in 0..blocks {
         pieces.push(Piece::Data {
             offset: 0,
@@ -20,6 +20,6 @@ pub(crate) fn of_blocks<A: Allocator>(
         kind,
         slba: 0,
         blocks,
-        pieces: Pieces::from_vec(pieces),
+        pieces,
     })
 }

@@ -65,7 +65,7 @@ fn pieces(
     kind: Kind,
     bytes: u16,
 ) -> Result<Pieces, AllocError> {
-    let mut pieces = Vec::new(alloc);
+    let mut pieces = Pieces::new(alloc);
     let mut left = bytes;
     for _ in 0..4u8 {
         if left == 0 {
@@ -86,7 +86,7 @@ fn pieces(
         let len = random.up_to(1);
         pieces.push(piece(random, kind, len))?;
     }
-    Ok(Pieces::from_vec(pieces))
+    Ok(pieces)
 }
 
 /// A request.

@@ -91,7 +91,6 @@ impl<A: Allocator> Draft<A> {
           entry = None;
         } }
     {
-        request.read();
         Draft {
             q,
             cid,

@@ -1,6 +1,6 @@
 //! What a host asks for.
 
-ghost use Rattle.std.specs.Prelude.{◌≡◌, ◌≤◌, length, sum_by, All, IfOk, Ok};
+ghost use Rattle.std.specs.Prelude.{◌≡◌, ◌≤◌, ◌∷◌, ◌++◌, [], length, sum_by, All, IfOk, OnOk, OnErr, Ok};
 ghost use Rattle.std.specs.Result.{result_err};
 ghost use Rattle.io_commands.specs.DataBytes.{data_length};
 ghost use Rattle.io_commands.specs.Requests.{direction_of, opcode_of, is_empty_piece, crosses_page as spec_crosses_page, is_data as spec_is_data, counted_length, data_count, fault_of, FitsPiece, FitsRequest};
@@ -123,20 +123,53 @@ pub struct Pieces<A: Allocator = Global> {
 }
 
 impl<A: Allocator> Model for Pieces<A> {
-    ghost use Rattle.std.specs.Prelude.{List};
+    ghost use Rattle.std.specs.Prelude.{List, All};
     ghost use Rattle.io_commands.specs.declared.request.Piece.{Piece};
+    ghost use Rattle.io_commands.specs.Requests.{FitsPiece};
 
     ghost Value = { List Piece };
 
     ghost view = { λ p. p.pieces.items };
+
+    ghost invariant = { λ p. All FitsPiece p.pieces.items };
 }
 
 impl<A: Allocator> Pieces<A> {
-    /// The pieces of a vector, in order.
-    pub fn from_vec(pieces: Vec<Piece, A>) -> Self
-        ensures { result ≡ pieces.items }
+    /// No piece yet.
+    pub fn new(alloc: A) -> Self
+        ensures { result ≡ [] }
     {
-        Pieces { pieces }
+        Pieces {
+            pieces: Vec::new(alloc),
+        }
+    }
+
+    /// Puts a piece behind the others.
+    ///
+    /// # Errors
+    ///
+    /// Where memory is refused; the pieces are then as they were.
+    pub fn push(&mut self, piece: Piece) -> Result<(), AllocError>
+        ensures pushed { OnOk result (self.new ≡ self.old ++ piece ∷ []) }
+        ensures refused { OnErr result (self.new ≡ self.old) }
+    {
+        self.pieces.push(piece)?;
+        Ok(())
+    }
+
+    /// The pieces of a list, in order.
+    ///
+    /// # Errors
+    ///
+    /// Where memory is refused.
+    pub fn from_slice(alloc: A, pieces: &[Piece]) -> Result<Self, AllocError>
+        ensures { IfOk result (λ made. made ≡ pieces.now) }
+    {
+        let mut made = Pieces::new(alloc);
+        for piece in pieces {
+            made.push(*piece)?;
+        }
+        Ok(made)
     }
 
     /// The pieces.
@@ -178,29 +211,6 @@ impl<A: Allocator> Pieces<A> {
             .iter()
             .map(|piece| u64::from(piece.data_len()))
             .sum()
-    }
-}
-
-/// Reads a piece. That its numbers fit their types is then known.
-fn read_piece(piece: Piece)
-    ensures { FitsPiece piece }
-{
-    match piece {
-        Piece::Data { offset, len } => {
-            let _read = (offset, len);
-        }
-        Piece::Bucket { len } => {
-            let _read = len;
-        }
-    }
-}
-
-/// Reads each piece.
-fn read_all(pieces: &[Piece])
-    ensures { All FitsPiece pieces.now }
-{
-    for piece in pieces {
-        read_piece(*piece);
     }
 }
 
@@ -278,15 +288,6 @@ impl<A: Allocator> Request<A> {
         ensures { result ≡ sum_by data_length self.now.pieces }
     {
         self.pieces.data_bytes()
-    }
-
-    /// Reads the request. That each of its numbers fits its type is then known to contracts.
-    pub fn read(&self)
-        ensures { FitsRequest self.now }
-    {
-        let _slba = self.slba;
-        let _blocks = self.blocks;
-        read_all(self.pieces.as_slice());
     }
 
     /// Checks the request. It may pass the end of the image: that is answered by the controller.

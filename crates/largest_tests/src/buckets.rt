@@ -26,7 +26,7 @@ fn around_a_bucket(alloc: Global) -> Result<Request, AllocError> {
         kind: Kind::Read,
         slba: 1,
         blocks: 3,
-        pieces: Pieces::from_vec(Vec::from_slice(alloc, &pieces)?),
+        pieces: Pieces::from_slice(alloc, &pieces)?,
     })
 }
 

@@ -21,12 +21,12 @@ pub(crate) fn blocks(alloc: Global, count: usize) -> Result<Vec<u8>, AllocError>
 /// The most pieces, of 1,024 bytes each, at three places of their pages. None begins its page behind one that fills its own, so
 /// that none joins another.
 fn most_pieces(alloc: Global) -> Result<Pieces, AllocError> {
-    let mut pieces = Vec::new(alloc);
+    let mut pieces = Pieces::new(alloc);
     for piece in 0..1_024 {
         let offset = 1_536 * (2 * piece % 3);
         pieces.push(Piece::Data { offset, len: 1_024 })?;
     }
-    Ok(Pieces::from_vec(pieces))
+    Ok(pieces)
 }
 
 /// A command of the most blocks in the most pieces, from block 0 on.

@@ -37,8 +37,8 @@ pub(crate) struct Asked {
 
 impl Asked {
     /// The pieces, one by one.
-    pub(crate) fn pieces(&self, alloc: Global) -> Result<Vec<Piece>, AllocError> {
-        let mut pieces = Vec::new(alloc);
+    pub(crate) fn pieces(&self, alloc: Global) -> Result<Pieces, AllocError> {
+        let mut pieces = Pieces::new(alloc);
         for (piece, times) in self.pieces {
             for _ in 0..*times {
                 pieces.push(*piece)?;
@@ -53,7 +53,7 @@ impl Asked {
             kind: self.kind,
             slba: 0,
             blocks: self.blocks,
-            pieces: Pieces::from_vec(self.pieces(alloc)?),
+            pieces: self.pieces(alloc)?,
         })
     }
 }

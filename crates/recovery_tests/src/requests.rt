@@ -69,7 +69,7 @@ pub(crate) fn request(
         kind,
         slba: u64::from(slba),
         blocks: u32::from(shape.blocks),
-        pieces: Pieces::from_vec(Vec::from_slice(alloc, shape.pieces)?),
+        pieces: Pieces::from_slice(alloc, shape.pieces)?,
     })
 }
 

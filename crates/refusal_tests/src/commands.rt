@@ -20,7 +20,7 @@ fn three_blocks(alloc: Global, kind: Kind) -> Result<Request, AllocError> {
         kind,
         slba: 0,
         blocks: 3,
-        pieces: Pieces::from_vec(vec![in alloc; piece; 3]?),
+        pieces: Pieces::from_slice(alloc, &[piece; 3])?,
     })
 }
 

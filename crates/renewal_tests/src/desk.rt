@@ -70,7 +70,7 @@ fn read(alloc: Global) -> Result<Request, AllocError> {
         kind: Kind::Read,
         slba: 0,
         blocks: 1,
-        pieces: Pieces::from_vec(vec![in alloc; block; 1]?),
+        pieces: Pieces::from_slice(alloc, &[block])?,
     })
 }
 

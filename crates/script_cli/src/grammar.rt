@@ -22,14 +22,14 @@ const MAX_LINE: usize = 16_384;
 pub fn pieces(alloc: Global, words: &mut Words<'_>) -> Result<Result<Pieces, LineFault>, AllocError>
     ensures { IfOk result (λ r. r ≡ pieces_from [] words.old) }
 {
-    let mut pieces = Vec::new(alloc);
+    let mut pieces = Pieces::new(alloc);
     while let Some(word) = words.take_first() {
         let Some(next) = piece(word) else {
             return Ok(Err(LineFault::BadPiece));
         };
         pieces.push(next)?;
     }
-    Ok(Ok(Pieces::from_vec(pieces)))
+    Ok(Ok(pieces))
 }
 
 /// A verb of a queue and the words after it.

@@ -9,12 +9,12 @@ use step_core::Bytes;
 
 /// One piece of a block.
 fn piece<A: Allocator + Copy>(alloc: A) -> Result<Pieces<A>, AllocError> {
-    let mut pieces = Vec::new(alloc);
+    let mut pieces = Pieces::new(alloc);
     pieces.push(Piece::Data {
         offset: 0,
         len: 512,
     })?;
-    Ok(Pieces::from_vec(pieces))
+    Ok(pieces)
 }
 
 /// A job of one block on queue 1.

@@ -97,14 +97,14 @@ pub(crate) fn play<G: Gate + Sync, R: Threads + Wait + Sync>(
 
 /// So many pieces of one block each.
 fn pieces(alloc: Global, blocks: u32) -> Result<Pieces, AllocError> {
-    let mut pieces = Vec::new(alloc);
+    let mut pieces = Pieces::new(alloc);
     for _ in 0..blocks {
         pieces.push(Piece::Data {
             offset: 0,
             len: 512,
         })?;
     }
-    Ok(Pieces::from_vec(pieces))
+    Ok(pieces)
 }
 
 /// A job of so many blocks, each in a piece of its own.

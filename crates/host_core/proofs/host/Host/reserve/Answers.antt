@@ -1,7 +1,8 @@
-use Rattle.std.proofs.Common.{ap, ℕ, [], refl, sym, subst, arith}
+use Rattle.std.proofs.Common.{rules, ap, ℕ, [], refl, sym, subst, arith}
 use Rattle.machine_model.specs.Events as events
 use Rattle.machine_model.specs.declared.words.Refusal.TheVariants as refusal
 use Rattle.io_commands.specs.Drafts.{DraftContents}
+use Rattle.io_commands.specs.Requests.{FitsRequest}
 use Rattle.host_core.specs.Alone.{HasPlacedPages, HostView, IsLowest}
 use Rattle.host_core.specs.Commands.{Grants}
 use Rattle.host_core.specs.Parts.{tables_of}
@@ -16,10 +17,11 @@ use Rattle.host_core.proofs.host.Host.reserve.Goals as goal
 
 pub returns-in-Err-clause-step : goal.returns-in-Err-clause-step
 returns-in-Err-clause-step g c =
+    let fits : FitsRequest c.args.request = search rules in
     let t : Tables = tables_of c.self.inside.parts c.args.store.now.pages in
     let w : IsWhole t = whole_at (tables_of c.self.inside.parts []) c.args.self.now c.args.store.now.pages c.self.view_is c.self.invariant c.requires in
     stays_at t c.args.self.now (events.Reserve c.args.q c.args.request) (events.Refused c.in-Err.why []) c.self.view_is
-    (host_step t t (events.Reserve c.args.q c.args.request) (events.Refused c.in-Err.why []) refl c.read.ensures (c.in-Err.ensures.refused c.args.store.now.pages w, refl))
+    (host_step t t (events.Reserve c.args.q c.args.request) (events.Refused c.in-Err.why []) refl fits (c.in-Err.ensures.refused c.args.store.now.pages w, refl))
 
 pub make_room-requires : goal.make_room-requires
 make_room-requires g c =
@@ -30,11 +32,12 @@ make_room-requires g c =
 
 pub returns-in-Err-make_room-clause-step : goal.returns-in-Err-make_room-clause-step
 returns-in-Err-make_room-clause-step g c =
+    let fits : FitsRequest c.args.request = search rules in
     let t : Tables = tables_of c.self.inside.parts c.args.store.now.pages in
     let w : IsWhole t = whole_at (tables_of c.self.inside.parts []) c.args.self.now c.args.store.now.pages c.self.view_is c.self.invariant c.requires in
     let grants : Grants t c.args.q c.args.request c.in-Ok.grant.cid c.in-Ok.grant.front c.in-Ok.grant.back = c.in-Ok.ensures.granted c.args.store.now.pages w in
     stays_at t c.args.self.now (events.Reserve c.args.q c.args.request) (events.Refused refusal.Memory []) c.self.view_is
-    (host_step t t (events.Reserve c.args.q c.args.request) (events.Refused refusal.Memory []) refl c.read.ensures (refuses-memory (state_of t) c.args.q c.args.request grants.none, refl))
+    (host_step t t (events.Reserve c.args.q c.args.request) (events.Refused refusal.Memory []) refl fits (refuses-memory (state_of t) c.args.q c.args.request grants.none, refl))
 
 pub commit_reserve-requires-clause-whole : goal.commit_reserve-requires-clause-whole
 commit_reserve-requires-clause-whole g c =
@@ -48,29 +51,32 @@ commit_reserve-requires-clause-granted g c =
 
 pub invariant_of-self : goal.invariant_of-self
 invariant_of-self g c =
+    let fits : FitsRequest c.args.request = search rules in
     let t : Tables = tables_of c.self.inside.parts c.args.store.now.pages in
     let w : IsWhole t = whole_at (tables_of c.self.inside.parts []) c.args.self.now c.args.store.now.pages c.self.view_is c.self.invariant c.requires in
     let grants : Grants t c.args.q c.args.request c.in-Ok.grant.cid c.in-Ok.grant.front c.in-Ok.grant.back = c.in-Ok.ensures.granted c.args.store.now.pages w in
     let new : Tables = tables_of c.commit_reserve.new.self c.commit_reserve.new.store.pages in
-    let made = reserve_made t new c.args.q c.in-Ok.grant.cid c.args.request c.in-Ok.grant.front c.in-Ok.grant.back c.commit_reserve.result w c.read.ensures grants c.commit_reserve.ensures.draft c.commit_reserve.ensures.new in
+    let made = reserve_made t new c.args.q c.in-Ok.grant.cid c.args.request c.in-Ok.grant.front c.in-Ok.grant.back c.commit_reserve.result w fits grants c.commit_reserve.ensures.draft c.commit_reserve.ensures.new in
     host_of (tables_of c.commit_reserve.new.self []) c.commit_reserve.new.store.pages made.whole
 
 pub returns-clause-step : goal.returns-clause-step
 returns-clause-step g c =
+    let fits : FitsRequest c.args.request = search rules in
     let t : Tables = tables_of c.self.inside.parts c.args.store.now.pages in
     let w : IsWhole t = whole_at (tables_of c.self.inside.parts []) c.args.self.now c.args.store.now.pages c.self.view_is c.self.invariant c.requires in
     let grants : Grants t c.args.q c.args.request c.in-Ok.grant.cid c.in-Ok.grant.front c.in-Ok.grant.back = c.in-Ok.ensures.granted c.args.store.now.pages w in
     let new : Tables = tables_of c.commit_reserve.new.self c.commit_reserve.new.store.pages in
-    let made = reserve_made t new c.args.q c.in-Ok.grant.cid c.args.request c.in-Ok.grant.front c.in-Ok.grant.back c.commit_reserve.result w c.read.ensures grants c.commit_reserve.ensures.draft c.commit_reserve.ensures.new in
+    let made = reserve_made t new c.args.q c.in-Ok.grant.cid c.args.request c.in-Ok.grant.front c.in-Ok.grant.back c.commit_reserve.result w fits grants c.commit_reserve.ensures.draft c.commit_reserve.ensures.new in
     step_at t new c.args.self.now (events.Reserve c.args.q c.args.request) (events.Reserved c.commit_reserve.result) c.self.view_is made.step
 
 pub returns-clause-over : goal.returns-clause-over
 returns-clause-over g c =
+    let fits : FitsRequest c.args.request = search rules in
     let t : Tables = tables_of c.self.inside.parts c.args.store.now.pages in
     let w : IsWhole t = whole_at (tables_of c.self.inside.parts []) c.args.self.now c.args.store.now.pages c.self.view_is c.self.invariant c.requires in
     let grants : Grants t c.args.q c.args.request c.in-Ok.grant.cid c.in-Ok.grant.front c.in-Ok.grant.back = c.in-Ok.ensures.granted c.args.store.now.pages w in
     let new : Tables = tables_of c.commit_reserve.new.self c.commit_reserve.new.store.pages in
-    let made = reserve_made t new c.args.q c.in-Ok.grant.cid c.args.request c.in-Ok.grant.front c.in-Ok.grant.back c.commit_reserve.result w c.read.ensures grants c.commit_reserve.ensures.draft c.commit_reserve.ensures.new in
+    let made = reserve_made t new c.args.q c.in-Ok.grant.cid c.args.request c.in-Ok.grant.front c.in-Ok.grant.back c.commit_reserve.result w fits grants c.commit_reserve.ensures.draft c.commit_reserve.ensures.new in
     over_of new made.whole
 
 pub returns-clause-identifier : goal.returns-clause-identifier
