@@ -3,6 +3,7 @@
 ghost use Rattle.std.specs.Prelude.{◌≡◌};
 ghost use Rattle.step_core.specs.Opening.{opening_of};
 
+use crate::expecting::same;
 use crate::sweep::{Heap, MANY, answers_of, opened, read, seated, step_on, zeros};
 use book_desk::Desk;
 use book_desk::answers::refused;
@@ -168,6 +169,6 @@ fn strangers_want_memory(rt: HostRuntime) -> Result<(), Fail> {
         }
         growths = growth;
     }
-    assert_eq!(rt; growths, 10);
+    same(&rt, growths, 10);
     Ok(())
 }

@@ -3,6 +3,7 @@
 ghost use Rattle.std.specs.Prelude.{◌≡◌};
 ghost use Rattle.step_core.specs.Opening.{opening_of};
 
+use crate::expecting::same_at;
 use crate::standing::{Holdings, Standing};
 use book_desk::Desk;
 use driver_book::*;
@@ -298,6 +299,6 @@ pub(crate) fn sweep(
         }
         met = growth;
     }
-    assert_eq!(rt; met, growths, "{}", worked.script);
+    same_at(rt, worked.script, met, growths);
     Ok(())
 }

@@ -1,5 +1,6 @@
 //! The rules at their borders, and the bytes of the entries.
 
+use crate::expecting::{same, same_at};
 use admin_commands::*;
 use entry_codec::{Status, SubEntry};
 use std::test::Fail;
@@ -37,15 +38,15 @@ fn answered(sct: u8, sc: u8, dw0: u32) -> AdminVerdict {
 fn entries_have_their_bytes(rt: HostRuntime) -> Result<(), Fail> {
     let mut bytes = [0; 64];
     bytes[40] = 1;
-    assert_eq!(rt; entry(AdminKind::DeleteSq { q: 1 }, 0).write(), bytes);
+    same(&rt, entry(AdminKind::DeleteSq { q: 1 }, 0).write(), bytes);
     bytes[0] = 4;
     bytes[2] = 7;
-    assert_eq!(rt; entry(AdminKind::DeleteCq { q: 1 }, 7).write(), bytes);
+    same(&rt, entry(AdminKind::DeleteCq { q: 1 }, 7).write(), bytes);
     bytes[0] = 8;
     bytes[42] = 2;
     let abort = entry(AdminKind::Abort { q: 1, cid: 2 }, 7);
-    assert_eq!(rt; abort.write(), bytes);
-    assert_eq!(rt; (queue_of(&abort), command_of(&abort)), (1, 2));
+    same(&rt, abort.write(), bytes);
+    same(&rt, (queue_of(&abort), command_of(&abort)), (1, 2));
     Ok(())
 }
 
@@ -63,7 +64,7 @@ fn creations_have_their_bytes(rt: HostRuntime) -> Result<(), Fail> {
     bytes[0] = 5;
     bytes[25] = 0x20;
     bytes[40..46].copy_from_slice(&[1, 0, 3, 0, 1, 0]);
-    assert_eq!(rt; create_cq.write(), bytes);
+    same(&rt, create_cq.write(), bytes);
     let create_sq = entry(
         AdminKind::CreateSq {
             q: 1,
@@ -76,8 +77,8 @@ fn creations_have_their_bytes(rt: HostRuntime) -> Result<(), Fail> {
     bytes[0] = 1;
     bytes[25] = 0x30;
     bytes[40..48].copy_from_slice(&[1, 0, 3, 0, 1, 0, 1, 0]);
-    assert_eq!(rt; create_sq.write(), bytes);
-    assert_eq!(rt; queue_of(&create_sq), 1);
+    same(&rt, create_sq.write(), bytes);
+    same(&rt, queue_of(&create_sq), 1);
     Ok(())
 }
 
@@ -116,11 +117,7 @@ fn rules_hold_at_their_borders(rt: HostRuntime) -> Result<(), Fail> {
         (delete_cq(1), gone, answered(1, 0x01, 0)),
         (delete_cq(0), absent, answered(1, 0x01, 0)),
     ] {
-        assert_eq!(rt;
-            decide(&entry(kind, 0), &view),
-            want,
-            "{kind:?} at {view:?}"
-        );
+        same_at(&rt, (kind, view), decide(&entry(kind, 0), &view), want);
     }
     Ok(())
 }
@@ -146,7 +143,7 @@ fn completion_queues_are_made_by_rule(rt: HostRuntime) -> Result<(), Fail> {
         (create(1, 4, 0x8000), NEITHER, answered(0, 0x02, 0)),
         (create(1, 4, 1 << 63), NEITHER, answered(0, 0x02, 0)),
     ] {
-        assert_eq!(rt; decide(&entry, &view), want, "{entry:?} at {view:?}");
+        same_at(&rt, (entry, view), decide(&entry, &view), want);
     }
     Ok(())
 }
@@ -193,7 +190,7 @@ fn submission_queues_are_made_by_rule(rt: HostRuntime) -> Result<(), Fail> {
         (create(1, 4, 0x8000), COMPLETION_ALONE, answered(0, 0x02, 0)),
         (create(2, 65, 0x7000), larger, answered(0, 0x02, 0)),
     ] {
-        assert_eq!(rt; decide(&entry, &view), want, "{entry:?} at {view:?}");
+        same_at(&rt, (entry, view), decide(&entry, &view), want);
     }
     Ok(())
 }
@@ -214,16 +211,16 @@ fn only_named_bits_are_looked_at(rt: HostRuntime) -> Result<(), Fail> {
         cdw15: 9,
         ..delete
     };
-    assert_eq!(rt; decide(&ignored, &LIVE), AdminVerdict::StopQueue { q: 1 });
+    same(
+        &rt,
+        decide(&ignored, &LIVE),
+        AdminVerdict::StopQueue { q: 1 },
+    );
     let fused = SubEntry { fuse: 1, ..delete };
-    assert_eq!(rt; decide(&fused, &LIVE), answered(0, 0x02, 0));
+    same(&rt, decide(&fused, &LIVE), answered(0, 0x02, 0));
     for opcode in [0x02, 0x03, 0x06, 0xFF] {
         let unknown = SubEntry { opcode, ..fused };
-        assert_eq!(rt;
-            decide(&unknown, &LIVE),
-            answered(0, 0x01, 0),
-            "at {opcode}"
-        );
+        same_at(&rt, opcode, decide(&unknown, &LIVE), answered(0, 0x01, 0));
     }
     Ok(())
 }

@@ -2,6 +2,7 @@
 
 ghost use Rattle.std.specs.Prelude.{◌<◌};
 
+use crate::expecting::same;
 use entry_codec::Status;
 use entry_codec::completion::*;
 use std::test::Fail;
@@ -33,8 +34,8 @@ fn first_completion_both_ways(rt: HostRuntime) {
         status: Status::SUCCESS,
     };
     let bytes = [0, 0, 0, 0, 0, 0, 0, 0, 1, 0, 1, 0, 0, 0, 1, 0];
-    assert_eq!(rt; entry.write(), bytes);
-    assert_eq!(rt; ComEntry::read(&bytes), entry);
+    same(&rt, entry.write(), bytes);
+    same(&rt, ComEntry::read(&bytes), entry);
 }
 
 #[test]
@@ -43,8 +44,8 @@ fn ignored_bits_are_ignored(rt: HostRuntime) {
     let marked = [
         0, 0, 0, 0, 0xFF, 0xFF, 0xFF, 0xFF, 1, 0, 1, 0, 0, 0, 0x0B, 0xF5,
     ];
-    assert_eq!(rt; ComEntry::read(&plain).status, Status::COMPARE_FAILURE);
-    assert_eq!(rt; ComEntry::read(&marked), ComEntry::read(&plain));
+    same(&rt, ComEntry::read(&plain).status, Status::COMPARE_FAILURE);
+    same(&rt, ComEntry::read(&marked), ComEntry::read(&plain));
 }
 
 #[test]
@@ -60,38 +61,63 @@ fn largest_fields(rt: HostRuntime) {
     let bytes = [
         0xFF, 0xFF, 0xFF, 0xFF, 0, 0, 0, 0, 0xFF, 0xFF, 0xFF, 0xFF, 0xFF, 0xFF, 0xFF, 0x0F,
     ];
-    assert_eq!(rt; entry.write(), bytes);
-    assert_eq!(rt; ComEntry::read(&bytes), entry);
-    assert_eq!(rt; ComEntry::read(&[0xFF; 16]), entry);
+    same(&rt, entry.write(), bytes);
+    same(&rt, ComEntry::read(&bytes), entry);
+    same(&rt, ComEntry::read(&[0xFF; 16]), entry);
 }
 
 #[test]
 fn least_significant_byte_first(rt: HostRuntime) {
     let bytes = [0, 1, 2, 3, 4, 5, 6, 7, 8, 9, 10, 11, 12, 13, 14, 15];
-    assert_eq!(rt; dw0(&bytes), 0x0302_0100);
-    assert_eq!(rt; sqhd(&bytes), 0x0908);
-    assert_eq!(rt; sqid(&bytes), 0x0B0A);
-    assert_eq!(rt; cid(&bytes), 0x0D0C);
-    assert_eq!(rt; phase(&bytes), false);
-    assert_eq!(rt; status(&bytes), Status { sct: 7, sc: 0x87 });
+    same(&rt, dw0(&bytes), 0x0302_0100);
+    same(&rt, sqhd(&bytes), 0x0908);
+    same(&rt, sqid(&bytes), 0x0B0A);
+    same(&rt, cid(&bytes), 0x0D0C);
+    same(&rt, phase(&bytes), false);
+    same(&rt, status(&bytes), Status { sct: 7, sc: 0x87 });
 }
 
 #[test]
 fn last_halfwords(rt: HostRuntime) {
-    assert_eq!(rt; last_bytes(Status::SUCCESS, false), [0x00, 0x00]);
-    assert_eq!(rt; last_bytes(Status::SUCCESS, true), [0x01, 0x00]);
-    assert_eq!(rt; last_bytes(Status::DATA_TRANSFER_ERROR, true), [0x09, 0x00]);
-    assert_eq!(rt; last_bytes(Status::ABORT_REQUESTED, true), [0x0F, 0x00]);
-    assert_eq!(rt; last_bytes(Status::ABORTED_SQ_DELETION, true), [0x11, 0x00]);
-    assert_eq!(rt; last_bytes(Status::INVALID_SGL_SEGMENT, true), [0x1B, 0x00]);
-    assert_eq!(rt; last_bytes(Status::INVALID_SGL_COUNT, true), [0x1D, 0x00]);
-    assert_eq!(rt;
-        last_bytes(Status::DATA_SGL_LENGTH_INVALID, true),
-        [0x1F, 0x00]
+    same(&rt, last_bytes(Status::SUCCESS, false), [0x00, 0x00]);
+    same(&rt, last_bytes(Status::SUCCESS, true), [0x01, 0x00]);
+    same(
+        &rt,
+        last_bytes(Status::DATA_TRANSFER_ERROR, true),
+        [0x09, 0x00],
     );
-    assert_eq!(rt; last_bytes(Status::SGL_TYPE_INVALID, true), [0x23, 0x00]);
-    assert_eq!(rt; last_bytes(Status::LBA_OUT_OF_RANGE, true), [0x01, 0x01]);
-    assert_eq!(rt; last_bytes(Status::COMPARE_FAILURE, true), [0x0B, 0x05]);
+    same(&rt, last_bytes(Status::ABORT_REQUESTED, true), [0x0F, 0x00]);
+    same(
+        &rt,
+        last_bytes(Status::ABORTED_SQ_DELETION, true),
+        [0x11, 0x00],
+    );
+    same(
+        &rt,
+        last_bytes(Status::INVALID_SGL_SEGMENT, true),
+        [0x1B, 0x00],
+    );
+    same(
+        &rt,
+        last_bytes(Status::INVALID_SGL_COUNT, true),
+        [0x1D, 0x00],
+    );
+    same(
+        &rt,
+        last_bytes(Status::DATA_SGL_LENGTH_INVALID, true),
+        [0x1F, 0x00],
+    );
+    same(
+        &rt,
+        last_bytes(Status::SGL_TYPE_INVALID, true),
+        [0x23, 0x00],
+    );
+    same(
+        &rt,
+        last_bytes(Status::LBA_OUT_OF_RANGE, true),
+        [0x01, 0x01],
+    );
+    same(&rt, last_bytes(Status::COMPARE_FAILURE, true), [0x0B, 0x05]);
 }
 
 #[test]
@@ -102,7 +128,7 @@ fn texts(rt: HostRuntime) -> Result<(), Fail> {
         (Status::INVALID_QUEUE_DELETION, "1:0C"),
         (Status::COMPARE_FAILURE, "2:85"),
     ] {
-        assert_eq!(rt; format!(in rt.alloc(); "{status}")?.as_str(), text);
+        same(&rt, format!(in rt.alloc(); "{status}")?.as_str(), text);
     }
     Ok(())
 }

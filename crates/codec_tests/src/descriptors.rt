@@ -1,5 +1,6 @@
 //! Descriptors of known bytes, both ways.
 
+use crate::expecting::{same, same_at};
 use sgl_descriptor::*;
 use std::test::Fail;
 
@@ -52,25 +53,27 @@ fn writes_and_reads_known_bytes(rt: HostRuntime) {
         ),
     ];
     for (descriptor, bytes) in rows {
-        assert_eq!(rt; descriptor.write(), bytes);
-        assert_eq!(rt; Descriptor::read(&bytes), Ok(descriptor));
+        same(&rt, descriptor.write(), bytes);
+        same(&rt, Descriptor::read(&bytes), Ok(descriptor));
     }
 }
 
 #[test]
 fn reserved_bytes_are_free(rt: HostRuntime) {
     let bucket = [1, 2, 3, 4, 5, 6, 7, 8, 0, 2, 0, 0, 0xaa, 0xbb, 0xff, 0x10];
-    assert_eq!(rt;
+    same(
+        &rt,
         Descriptor::read(&bucket),
-        Ok(Descriptor::BitBucket { len: 512 })
+        Ok(Descriptor::BitBucket { len: 512 }),
     );
     let block = [0, 0x40, 0, 0, 0, 0, 0, 0, 0, 2, 0, 0, 1, 2, 0xff, 0];
-    assert_eq!(rt;
+    same(
+        &rt,
         Descriptor::read(&block),
         Ok(Descriptor::DataBlock {
             addr: 0x4000,
-            len: 512
-        })
+            len: 512,
+        }),
     );
 }
 
@@ -78,7 +81,7 @@ fn reserved_bytes_are_free(rt: HostRuntime) {
 fn other_types_and_subtypes_are_refused(rt: HostRuntime) {
     for last in [0x40, 0x01, 0x11, 0x2f, 0x38, 0xff] {
         let bytes = [0, 0x40, 0, 0, 0, 0, 0, 0, 0, 2, 0, 0, 0, 0, 0, last];
-        assert_eq!(rt; Descriptor::read(&bytes), Err(TypeInvalid), "at {last}");
+        same_at(&rt, last, Descriptor::read(&bytes), Err(TypeInvalid));
     }
 }
 
@@ -89,15 +92,16 @@ fn parts_have_descriptors(rt: HostRuntime) {
         len: 512,
     }
     .descriptor();
-    assert_eq!(rt;
+    same(
+        &rt,
         data,
         Descriptor::DataBlock {
             addr: 0x4000,
-            len: 512
-        }
+            len: 512,
+        },
     );
     let bucket = Part::Bucket { len: 512 }.descriptor();
-    assert_eq!(rt; bucket, Descriptor::BitBucket { len: 512 });
+    same(&rt, bucket, Descriptor::BitBucket { len: 512 });
     assert!(rt;
         Descriptor::Segment {
             addr: 0x7000,
@@ -118,9 +122,10 @@ fn parts_have_descriptors(rt: HostRuntime) {
 #[test]
 fn the_fault_has_a_text(rt: HostRuntime) -> Result<(), Fail> {
     let text = TypeInvalid.to_string(rt.alloc())?;
-    assert_eq!(rt;
+    same(
+        &rt,
         text.as_str(),
-        "the SGL descriptor's type is above 3, or its subtype is not 0"
+        "the SGL descriptor's type is above 3, or its subtype is not 0",
     );
     Ok(())
 }

@@ -1,5 +1,6 @@
 //! Borders and one worked image. The expected values are those of the commands' rules.
 
+use crate::expecting::{same, same_at};
 use block_image::{Image, ImageError};
 use std::alloc::Global;
 use std::test::Fail;
@@ -14,14 +15,15 @@ fn two_blocks(alloc: Global) -> Result<Image, Fail> {
 #[test]
 fn zeroed_at_its_borders(rt: HostRuntime) -> Result<(), Fail> {
     for blocks in [0, 65_537, u32::MAX] {
-        assert_eq!(rt;
+        same_at(
+            &rt,
+            blocks,
             Image::zeroed(rt.alloc(), blocks).err(),
             Some(ImageError::BadLength),
-            "{blocks} blocks"
         );
     }
     for blocks in [1, 65_536] {
-        assert_eq!(rt; Image::zeroed(rt.alloc(), blocks)?.blocks(), blocks);
+        same(&rt, Image::zeroed(rt.alloc(), blocks)?.blocks(), blocks);
     }
     Ok(())
 }
@@ -29,7 +31,7 @@ fn zeroed_at_its_borders(rt: HostRuntime) -> Result<(), Fail> {
 #[test]
 fn the_last_block_of_the_largest_image(rt: HostRuntime) -> Result<(), Fail> {
     let mut image = Image::zeroed(rt.alloc(), 65_536)?;
-    assert_eq!(rt; image.blocks(), 65_536);
+    assert!(rt; image.blocks() == 65_536);
     image.copy_in(65_535, &[0x77; 512]);
     assert!(rt; image.equal(65_535, &[0x77; 512]));
     assert!(rt; image.equal(65_534, &[0; 512]));
@@ -43,12 +45,12 @@ fn from_bytes_at_its_borders(rt: HostRuntime) -> Result<(), Fail> {
             &rt,
             "a bad length",
         );
-        assert_eq!(rt; refused.bytes.len(), len);
+        same(&rt, refused.bytes.len(), len);
         assert!(rt; refused.bytes.iter().all(|byte| *byte == 0x5a));
     }
     for (len, blocks) in [(512, 1), (1_024, 2), (33_554_432, 65_536)] {
         let image = Image::from_bytes(vec![in rt.alloc(); 0x5a; len]?)?;
-        assert_eq!(rt; image.blocks(), blocks);
+        same(&rt, image.blocks(), blocks);
     }
     Ok(())
 }
@@ -56,21 +58,21 @@ fn from_bytes_at_its_borders(rt: HostRuntime) -> Result<(), Fail> {
 #[test]
 fn block_one_of_two(rt: HostRuntime) -> Result<(), Fail> {
     let image = two_blocks(rt.alloc())?;
-    assert_eq!(rt; image.blocks(), 2);
+    assert!(rt; image.blocks() == 2);
     let mut block = [0; 512];
     image.copy_out(1, &mut block);
-    assert_eq!(rt; block, [0x22; 512]);
+    same(&rt, block, [0x22; 512]);
     image.copy_out(0, &mut block);
-    assert_eq!(rt; block, [0x11; 512]);
+    same(&rt, block, [0x11; 512]);
     Ok(())
 }
 
 #[test]
 fn a_put_changes_its_block_alone(rt: HostRuntime) -> Result<(), Fail> {
     let mut image = two_blocks(rt.alloc())?;
-    assert_eq!(rt; image.blocks(), 2);
+    assert!(rt; image.blocks() == 2);
     image.copy_in(0, &[0x33; 512]);
-    assert_eq!(rt; image.blocks(), 2);
+    assert!(rt; image.blocks() == 2);
     assert!(rt; image.equal(0, &[0x33; 512]));
     assert!(rt; image.equal(1, &[0x22; 512]));
     assert!(rt; !image.equal(1, &[0x33; 512]));
@@ -80,7 +82,7 @@ fn a_put_changes_its_block_alone(rt: HostRuntime) -> Result<(), Fail> {
 #[test]
 fn a_difference_in_the_last_byte_counts(rt: HostRuntime) -> Result<(), Fail> {
     let image = two_blocks(rt.alloc())?;
-    assert_eq!(rt; image.blocks(), 2);
+    assert!(rt; image.blocks() == 2);
     let mut block = [0x22; 512];
     block[511] = 0x23;
     assert!(rt; !image.equal(1, &block));
@@ -90,9 +92,9 @@ fn a_difference_in_the_last_byte_counts(rt: HostRuntime) -> Result<(), Fail> {
 #[test]
 fn an_empty_range_names_no_block(rt: HostRuntime) -> Result<(), Fail> {
     let mut image = two_blocks(rt.alloc())?;
-    assert_eq!(rt; image.blocks(), 2);
+    assert!(rt; image.blocks() == 2);
     image.copy_in(2, &[]);
-    assert_eq!(rt; image.blocks(), 2);
+    assert!(rt; image.blocks() == 2);
     assert!(rt; image.equal(2, &[]));
     assert!(rt; image.equal(0, &[0x11; 512]));
     Ok(())
@@ -103,11 +105,16 @@ fn refusals_in_words(rt: HostRuntime) -> Result<(), Fail> {
     let alloc = rt.alloc();
     let refused = Image::from_bytes(Vec::new(alloc)).expect_err(&rt, "no byte");
     let text = format!(in alloc; "{refused}")?;
-    assert_eq!(rt; text.as_str(), "an image is 1 to 65536 blocks of 512 bytes");
-    let text = format!(in alloc; "{}; {}", ImageError::BadLength, ImageError::Memory)?;
-    assert_eq!(rt;
+    same(
+        &rt,
         text.as_str(),
-        "an image has 1 to 65536 blocks; out of memory"
+        "an image is 1 to 65536 blocks of 512 bytes",
+    );
+    let text = format!(in alloc; "{}; {}", ImageError::BadLength, ImageError::Memory)?;
+    same(
+        &rt,
+        text.as_str(),
+        "an image has 1 to 65536 blocks; out of memory",
     );
     Ok(())
 }

@@ -9,6 +9,8 @@ mod completion;
 #[cfg(test)]
 mod descriptors;
 #[cfg(test)]
+mod expecting;
+#[cfg(test)]
 mod images;
 #[cfg(test)]
 mod memory;

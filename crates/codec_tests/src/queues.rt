@@ -2,6 +2,7 @@
 
 ghost use Rattle.std.specs.Prelude.{◌≡◌, ◌≢◌, ◌<◌, ◌≤◌, IfOk, IsSome};
 
+use crate::expecting::{same, same_at};
 use entry_codec::{ComEntry, Status, SubEntry};
 use page_memory::{Dma, Half, PageNo, Store, TouchRecord};
 use queue_pair::*;
@@ -136,13 +137,13 @@ impl Bench {
 fn identifiers_are_the_lowest_free(rt: HostRuntime) -> Result<(), Fail> {
     let mut host = HostPair::open(rt.alloc(), 1, 4, PageNo(0), PageNo(16))?;
     let first = host.claim().expect(&rt, "no identifier is claimed");
-    assert_eq!(rt; first, 0);
+    same(&rt, first, 0);
     host.free(first);
-    assert_eq!(rt; host.claim(), Some(0));
-    assert_eq!(rt; host.claim(), Some(1));
+    same(&rt, host.claim(), Some(0));
+    same(&rt, host.claim(), Some(1));
     let last = host.claim().expect(&rt, "one identifier is free");
-    assert_eq!(rt; last, 2);
-    assert_eq!(rt; host.claim(), None);
+    same(&rt, last, 2);
+    same(&rt, host.claim(), None);
     Ok(())
 }
 
@@ -154,9 +155,9 @@ fn rings_wrap_three_times(rt: HostRuntime) -> Result<(), Fail> {
             let slot = Some(k % entries);
             let reaped = Some(((k + 1) % entries, k, k / entries % 2 == 0, true));
             let want = (slot, Some((k, true)), reaped);
-            assert_eq!(rt; bench.round(k)?, want, "{entries} entries");
+            same_at(&rt, entries, bench.round(k)?, want);
         }
-        assert_eq!(rt; bench.host.ring_value(), 1);
+        same(&rt, bench.host.ring_value(), 1);
     }
     Ok(())
 }
@@ -265,7 +266,7 @@ fn played(
     let mut bench = Bench::open(alloc, entries)?;
     for (call, want) in rows {
         let answer = bench.told(alloc, *call)?;
-        assert_eq!(rt; answer.as_str(), *want, "{call:?}");
+        same_at(rt, call, answer.as_str(), *want);
     }
     Ok(())
 }
@@ -356,8 +357,8 @@ fn slots_of_pages_that_are_out(rt: HostRuntime) -> Result<(), Fail> {
 
 #[test]
 fn doorbells_and_pages(rt: HostRuntime) {
-    assert_eq!(rt; doorbell(1, Half::Submission), 0x1008);
-    assert_eq!(rt; doorbell(1, Half::Completion), 0x100C);
+    same(&rt, doorbell(1, Half::Submission), 0x1008);
+    same(&rt, doorbell(1, Half::Completion), 0x100C);
     for (entries, submission, completion) in [
         (2, 1, 1),
         (64, 1, 1),
@@ -367,7 +368,7 @@ fn doorbells_and_pages(rt: HostRuntime) {
         (257, 5, 2),
         (1024, 16, 4),
     ] {
-        assert_eq!(rt; half_pages(entries, Half::Submission), submission);
-        assert_eq!(rt; half_pages(entries, Half::Completion), completion);
+        same(&rt, half_pages(entries, Half::Submission), submission);
+        same(&rt, half_pages(entries, Half::Completion), completion);
     }
 }

@@ -1,5 +1,6 @@
 //! Submission entries of known bytes, both ways.
 
+use crate::expecting::same;
 use entry_codec::submission::*;
 
 /// A Read of block 0 to the page at 4000h.
@@ -34,8 +35,8 @@ const NUMBERED: [u8; 64] = [
 
 #[test]
 fn first_read_both_ways(rt: HostRuntime) {
-    assert_eq!(rt; FIRST_READ.write(), FIRST_READ_BYTES);
-    assert_eq!(rt; SubEntry::read(&FIRST_READ_BYTES), FIRST_READ);
+    same(&rt, FIRST_READ.write(), FIRST_READ_BYTES);
+    same(&rt, SubEntry::read(&FIRST_READ_BYTES), FIRST_READ);
 }
 
 #[test]
@@ -43,7 +44,7 @@ fn reserved_bits_are_ignored(rt: HostRuntime) {
     let mut bytes = FIRST_READ_BYTES;
     bytes[1] = 0x7C;
     bytes[8..16].copy_from_slice(&[0xFF; 8]);
-    assert_eq!(rt; SubEntry::read(&bytes), FIRST_READ);
+    same(&rt, SubEntry::read(&bytes), FIRST_READ);
 }
 
 #[test]
@@ -66,29 +67,30 @@ fn largest_fields(rt: HostRuntime) {
     let mut bytes = [0xFF; 64];
     bytes[1] = 0xC3;
     bytes[8..16].copy_from_slice(&[0; 8]);
-    assert_eq!(rt; entry.write(), bytes);
-    assert_eq!(rt; SubEntry::read(&bytes), entry);
-    assert_eq!(rt; SubEntry::read(&[0xFF; 64]), entry);
+    same(&rt, entry.write(), bytes);
+    same(&rt, SubEntry::read(&bytes), entry);
+    same(&rt, SubEntry::read(&[0xFF; 64]), entry);
 }
 
 #[test]
 fn least_significant_byte_first(rt: HostRuntime) {
-    assert_eq!(rt; opcode(&NUMBERED), 0);
-    assert_eq!(rt; fuse(&NUMBERED), 1);
-    assert_eq!(rt; psdt(&NUMBERED), 0);
-    assert_eq!(rt; cid(&NUMBERED), 0x0302);
-    assert_eq!(rt; nsid(&NUMBERED), 0x0706_0504);
-    assert_eq!(rt; mptr(&NUMBERED), 0x1716_1514_1312_1110);
-    assert_eq!(rt;
+    same(&rt, opcode(&NUMBERED), 0);
+    same(&rt, fuse(&NUMBERED), 1);
+    same(&rt, psdt(&NUMBERED), 0);
+    same(&rt, cid(&NUMBERED), 0x0302);
+    same(&rt, nsid(&NUMBERED), 0x0706_0504);
+    same(&rt, mptr(&NUMBERED), 0x1716_1514_1312_1110);
+    same(
+        &rt,
         sgl1(&NUMBERED),
         [
-            24, 25, 26, 27, 28, 29, 30, 31, 32, 33, 34, 35, 36, 37, 38, 39
-        ]
+            24, 25, 26, 27, 28, 29, 30, 31, 32, 33, 34, 35, 36, 37, 38, 39,
+        ],
     );
-    assert_eq!(rt; cdw10(&NUMBERED), 0x2B2A_2928);
-    assert_eq!(rt; cdw11(&NUMBERED), 0x2F2E_2D2C);
-    assert_eq!(rt; cdw12(&NUMBERED), 0x3332_3130);
-    assert_eq!(rt; cdw13(&NUMBERED), 0x3736_3534);
-    assert_eq!(rt; cdw14(&NUMBERED), 0x3B3A_3938);
-    assert_eq!(rt; cdw15(&NUMBERED), 0x3F3E_3D3C);
+    same(&rt, cdw10(&NUMBERED), 0x2B2A_2928);
+    same(&rt, cdw11(&NUMBERED), 0x2F2E_2D2C);
+    same(&rt, cdw12(&NUMBERED), 0x3332_3130);
+    same(&rt, cdw13(&NUMBERED), 0x3736_3534);
+    same(&rt, cdw14(&NUMBERED), 0x3B3A_3938);
+    same(&rt, cdw15(&NUMBERED), 0x3F3E_3D3C);
 }

@@ -1,5 +1,6 @@
 //! Commands of the admin queue, and what becomes of the commands that they stop.
 
+use crate::expecting::same_at;
 use crate::guest::{DATA, Guest, io_entry};
 use admin_commands::{AdminKind, SqState, entry};
 use controller_core::Refusal;
@@ -29,15 +30,15 @@ pub(crate) fn play(rt: &impl Abort, guest: &mut Guest, steps: &[Step]) {
     for (i, step) in steps.iter().enumerate() {
         match step {
             Step::Submits(q, entry) => guest.submit(rt, *q, entry),
-            Step::Fetches(q, said) => assert_eq!(rt; &guest.fetch(*q), said, "step {i}"),
-            Step::Walks(q, cid, said) => assert_eq!(rt; &guest.walk(*q, *cid), said, "step {i}"),
+            Step::Fetches(q, said) => same_at(rt, i, &guest.fetch(*q), said),
+            Step::Walks(q, cid, said) => same_at(rt, i, &guest.walk(*q, *cid), said),
             Step::Completes(q, cid, said) => {
-                assert_eq!(rt; &guest.complete(*q, *cid), said, "step {i}");
+                same_at(rt, i, &guest.complete(*q, *cid), said);
             }
             Step::Finds(q, slot, dw0, status) => {
                 let bytes = guest.completion(rt, *q, *slot);
-                assert_eq!(rt; bytes[0], *dw0, "step {i}");
-                assert_eq!(rt; &[bytes[14], bytes[15]], status, "step {i}");
+                same_at(rt, i, bytes[0], *dw0);
+                same_at(rt, i, &[bytes[14], bytes[15]], status);
             }
         }
     }

@@ -1,5 +1,6 @@
 //! Commands of the I/O queue from the driver's entry to the completion that the driver reads.
 
+use crate::expecting::{same, same_at};
 use crate::guest::{DATA, Guest, io_entry};
 use entry_codec::io_opcode::{COMPARE, READ, WRITE};
 use page_memory::{Dma, TouchRecord};
@@ -14,16 +15,16 @@ fn a_write_is_read_back(rt: HostRuntime) -> Result<(), Fail> {
     let other = DATA + 0x1000;
     for (slot, opcode, addr) in [(0, WRITE, DATA), (1, READ, other), (2, COMPARE, other)] {
         let ended = guest.serve(&rt, slot, &io_entry(opcode, slot, 5, 1, addr, 512));
-        assert_eq!(rt; ended, [0x01, 0x00], "at {slot}");
+        same_at(&rt, slot, ended, [0x01, 0x00]);
     }
     let mut bytes = [0; 512];
     guest.memory.clear();
     guest.memory.read(other, &mut bytes)?;
-    assert_eq!(rt; bytes, [0xAB; 512]);
+    same(&rt, bytes, [0xAB; 512]);
     let image = guest.controller.image();
     assert!(rt; image.blocks() == 64);
     image.copy_out(5, &mut bytes);
-    assert_eq!(rt; bytes, [0xAB; 512]);
+    same(&rt, bytes, [0xAB; 512]);
     Ok(())
 }
 
@@ -61,7 +62,7 @@ fn commands_that_fail(rt: HostRuntime) -> Result<(), Fail> {
         let mut guest = Guest::open(&rt)?;
         guest.memory.clear();
         guest.memory.write(DATA, &[1])?;
-        assert_eq!(rt; guest.serve(&rt, 0, &entry), status, "{what}");
+        same_at(&rt, what, guest.serve(&rt, 0, &entry), status);
     }
     Ok(())
 }

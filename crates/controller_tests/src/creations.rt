@@ -1,6 +1,7 @@
 //! Queues that are made again once they were deleted, and creations that are refused.
 
 use crate::admin::{Step, play};
+use crate::expecting::{same, same_at};
 use crate::guest::{DATA, Guest, io_entry};
 use admin_commands::{AdminKind, entry};
 use controller_core::Refusal;
@@ -86,16 +87,21 @@ fn a_queue_is_made_again(rt: HostRuntime) -> Result<(), Fail> {
         Step::Completes(1, 7, Ok(())),
     ];
     play(&rt, &mut guest, &read);
-    assert_eq!(rt; guest.memory.touched().as_slice(), [PageNo(6)].as_slice());
+    same(
+        &rt,
+        guest.memory.touched().as_slice(),
+        [PageNo(6)].as_slice(),
+    );
     let completion = guest.completion(&rt, 1, 0);
-    assert_eq!(rt;
+    same(
+        &rt,
         completion,
-        [0, 0, 0, 0, 0, 0, 0, 0, 1, 0, 1, 0, 7, 0, 0x01, 0x00]
+        [0, 0, 0, 0, 0, 0, 0, 0, 1, 0, 1, 0, 7, 0, 0x01, 0x00],
     );
     let mut block = [0xEE; 512];
     guest.memory.clear();
     guest.memory.read(DATA, &mut block)?;
-    assert_eq!(rt; block, [0; 512]);
+    same(&rt, block, [0; 512]);
     Ok(())
 }
 
@@ -103,7 +109,7 @@ fn a_queue_is_made_again(rt: HostRuntime) -> Result<(), Fail> {
 fn ends(rt: &impl Abort, guest: &mut Guest, entry: &[u8; 64]) -> [u8; 2] {
     guest.submit(rt, 0, entry);
     let cid = guest.fetch(0).expect(rt, "it is fetched");
-    assert_eq!(rt; guest.complete(0, cid), Ok(()));
+    same(rt, guest.complete(0, cid), Ok(()));
     let bytes = guest.completion(rt, 0, 2);
     [bytes[14], bytes[15]]
 }
@@ -169,7 +175,7 @@ fn creations_are_refused(rt: HostRuntime) -> Result<(), Fail> {
     for (i, (entry, status)) in cases.iter().enumerate() {
         let mut guest = Guest::open(&rt)?;
         delete_queue(&rt, &mut guest);
-        assert_eq!(rt; &ends(&rt, &mut guest, entry), status, "case {i}");
+        same_at(&rt, i, &ends(&rt, &mut guest, entry), status);
     }
     Ok(())
 }
@@ -193,11 +199,11 @@ fn halves_that_are_there(rt: HostRuntime) -> Result<(), Fail> {
         let mut guest = Guest::open(&rt)?;
         for cid in 0..2 {
             guest.submit(&rt, 0, &entry(half, cid).write());
-            assert_eq!(rt; guest.fetch(0), Ok(cid));
-            assert_eq!(rt; guest.complete(0, cid), Ok(()));
+            same(&rt, guest.fetch(0), Ok(cid));
+            same(&rt, guest.complete(0, cid), Ok(()));
         }
         let third = entry(half, 2).write();
-        assert_eq!(rt; ends(&rt, &mut guest, &third), IDENTIFIER);
+        same(&rt, ends(&rt, &mut guest, &third), IDENTIFIER);
     }
     Ok(())
 }
@@ -208,6 +214,6 @@ fn the_last_page(rt: HostRuntime) -> Result<(), Fail> {
     let mut guest = Guest::open(&rt)?;
     delete_queue(&rt, &mut guest);
     let last = create_cq(1, 4, 0x7000);
-    assert_eq!(rt; ends(&rt, &mut guest, &last), [0x01, 0x00]);
+    same(&rt, ends(&rt, &mut guest, &last), [0x01, 0x00]);
     Ok(())
 }

@@ -4,6 +4,7 @@
 //! its rings and values to the doorbells. All else is the emulator's: when it fetches an entry, how far it walks a list before it turns to
 //! another command, and when it posts a completion.
 
+use crate::expecting::same;
 use crate::guest_memory::GuestMemory;
 use block_image::Image;
 use controller_core::{Controller, QueuePages};
@@ -64,31 +65,31 @@ fn first_read(rt: HostRuntime) -> Result<(), Fail> {
     // The emulator has the entry fetched. Before each call it clears the list of the touched pages, so that this call has room, and behind
     // the call the list has what this call touched: here the page of the slot.
     memory.clear();
-    assert_eq!(rt; controller.fetch(1, &mut memory), Ok(7));
-    assert_eq!(rt; memory.touched().as_slice(), [PageNo(2)].as_slice());
+    same(&rt, controller.fetch(1, &mut memory), Ok(7));
+    same(&rt, memory.touched().as_slice(), [PageNo(2)].as_slice());
 
     // It walks the list, one unit a call. The first unit is the entry's own descriptor, for which no memory is touched. The second one
     // moves the bytes, and is the last.
     memory.clear();
-    assert_eq!(rt; controller.walk(1, 7, &mut memory), Ok(WalkState::More));
+    same(&rt, controller.walk(1, 7, &mut memory), Ok(WalkState::More));
     assert!(rt; memory.touched().is_empty());
-    assert_eq!(rt; controller.walk(1, 7, &mut memory), Ok(WalkState::End));
-    assert_eq!(rt; memory.touched().as_slice(), [PageNo(4)].as_slice());
+    same(&rt, controller.walk(1, 7, &mut memory), Ok(WalkState::End));
+    same(&rt, memory.touched().as_slice(), [PageNo(4)].as_slice());
 
     // It posts the completion, and the controller forgets the command.
     memory.clear();
-    assert_eq!(rt; controller.complete(1, 7, &mut memory), Ok(()));
-    assert_eq!(rt; memory.touched().as_slice(), [PageNo(3)].as_slice());
-    assert_eq!(rt; controller.command_count(), 0);
+    same(&rt, controller.complete(1, 7, &mut memory), Ok(()));
+    same(&rt, memory.touched().as_slice(), [PageNo(3)].as_slice());
+    same(&rt, controller.command_count(), 0);
 
     // The driver finds the completion in the first slot of its ring, and the block at its address. It says that it has read the completion.
     let mut completion = [0; 16];
     memory.clear();
     memory.read(0x3000, &mut completion)?;
-    assert_eq!(rt; completion, COMPLETION);
+    same(&rt, completion, COMPLETION);
     let mut block = [0; 512];
     memory.read(0x4000, &mut block)?;
-    assert_eq!(rt; block, [0x11; 512]);
+    same(&rt, block, [0x11; 512]);
     controller.head_doorbell(1, 1);
     Ok(())
 }

@@ -1,6 +1,7 @@
 //! A guest with an admin queue and one I/O queue of four entries each, in a memory of eight pages: queue 0 has the pages 0 and 1, queue
 //! 1 the pages 2 and 3.
 
+use crate::expecting::same;
 use crate::guest_memory::GuestMemory;
 use block_image::Image;
 use controller_core::{Controller, QueuePages, Refusal};
@@ -129,7 +130,7 @@ impl Guest {
                 break;
             }
         }
-        assert_eq!(rt; self.complete(1, cid), Ok(()));
+        same(rt, self.complete(1, cid), Ok(()));
         let bytes = self.completion(rt, 1, slot);
         [bytes[14], bytes[15]]
     }

@@ -10,6 +10,8 @@ mod commands;
 #[cfg(test)]
 mod creations;
 #[cfg(test)]
+mod expecting;
+#[cfg(test)]
 mod first_read;
 #[cfg(test)]
 mod guest;

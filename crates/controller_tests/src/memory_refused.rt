@@ -1,5 +1,6 @@
 //! The calls that want memory, each with every one of its growths refused in turn: nothing changed, and the same call then succeeds.
 
+use crate::expecting::{same, same_at};
 use crate::guest::{DATA, ENTRIES, QUEUES, io_entry};
 use crate::guest_memory::GuestMemory;
 use block_image::Image;
@@ -42,13 +43,13 @@ fn a_fetch(rt: HostRuntime) -> Result<(), Fail> {
         heap.refuse(refusing::Refusal::Nth(growth));
         memory.clear();
         let fetched = controller.fetch(1, &mut memory);
-        assert_eq!(rt; fetched, Err(Refusal::Memory), "growth {growth}");
-        assert_eq!(rt; controller.command_count(), 0, "growth {growth}");
+        same_at(&rt, growth, fetched, Err(Refusal::Memory));
+        same_at(&rt, growth, controller.command_count(), 0);
     }
     heap.refuse(refusing::Refusal::Nth(5));
     memory.clear();
-    assert_eq!(rt; controller.fetch(1, &mut memory), Ok(7));
+    same(&rt, controller.fetch(1, &mut memory), Ok(7));
     drop(controller);
-    assert_eq!(rt; heap.tally().blocks, 0);
+    same(&rt, heap.tally().blocks, 0);
     Ok(())
 }

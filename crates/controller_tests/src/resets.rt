@@ -1,6 +1,7 @@
 //! A controller reset, at any time.
 
 use crate::admin::{Step, play};
+use crate::expecting::same;
 use crate::guest::{DATA, Guest, io_entry};
 use admin_commands::{AdminKind, SqState, entry};
 use controller_core::Refusal;
@@ -64,8 +65,8 @@ fn begin(rt: &impl Abort, guest: &mut Guest) {
 
 /// None of them is left, and an entry of the I/O queue is not fetched.
 fn find_nothing(rt: &impl Abort, guest: &mut Guest) {
-    assert_eq!(rt; guest.controller.command_count(), 0);
-    assert_eq!(rt; guest.controller.next_step(&mut guest.memory), None);
+    same(rt, guest.controller.command_count(), 0);
+    same(rt, guest.controller.next_step(&mut guest.memory), None);
     let steps = [
         Step::Walks(1, 0, Err(Refusal::NoJob)),
         Step::Completes(1, 1, Err(Refusal::NoJob)),
@@ -98,16 +99,21 @@ fn a_reset_in_the_midst_of_a_walk(rt: HostRuntime) -> Result<(), Fail> {
         Step::Completes(1, 0, Ok(())),
     ];
     play(&rt, &mut guest, &read);
-    assert_eq!(rt; guest.memory.touched().as_slice(), [PageNo(3)].as_slice());
+    same(
+        &rt,
+        guest.memory.touched().as_slice(),
+        [PageNo(3)].as_slice(),
+    );
     let completion = guest.completion(&rt, 1, 0);
-    assert_eq!(rt;
+    same(
+        &rt,
         completion,
-        [0, 0, 0, 0, 0, 0, 0, 0, 1, 0, 1, 0, 0, 0, 0x01, 0x00]
+        [0, 0, 0, 0, 0, 0, 0, 0, 1, 0, 1, 0, 0, 0, 0x01, 0x00],
     );
     let mut block = [0xEE; 512];
     guest.memory.clear();
     guest.memory.read(DATA, &mut block)?;
-    assert_eq!(rt; block, [0; 512]);
+    same(&rt, block, [0; 512]);
     Ok(())
 }
 
@@ -117,20 +123,22 @@ fn a_reset_keeps_the_image(rt: HostRuntime) -> Result<(), Fail> {
     let mut guest = Guest::open(&rt)?;
     guest.memory.clear();
     guest.memory.write(DATA, &[0xEE; 512])?;
-    assert_eq!(rt;
+    same(
+        &rt,
         guest.serve(&rt, 0, &io_entry(WRITE, 0, 7, 1, DATA, 512)),
-        [0x01, 0x00]
+        [0x01, 0x00],
     );
     reset(&rt, &mut guest);
     create_queue(&rt, &mut guest, 0x5000, 0x6000);
-    assert_eq!(rt;
+    same(
+        &rt,
         guest.serve(&rt, 0, &io_entry(READ, 0, 7, 1, 0x7000, 512)),
-        [0x01, 0x00]
+        [0x01, 0x00],
     );
     let mut block = [0; 512];
     guest.memory.clear();
     guest.memory.read(0x7000, &mut block)?;
-    assert_eq!(rt; block, [0xEE; 512]);
+    same(&rt, block, [0xEE; 512]);
     Ok(())
 }
 

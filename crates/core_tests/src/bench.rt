@@ -1,5 +1,6 @@
 //! Lists of steps on a bench: values that are about and values that are not, and steps that are refused.
 
+use crate::expecting::same;
 use crate::steps::{AS_OPENED, Act, Answer, BLOCK, READ_ONE, Row, USUAL, run};
 use block_image::Image;
 use io_commands::{FillFault, Kind, Piece, RequestFault};
@@ -49,7 +50,7 @@ static NOT_ABOUT: [Row; 9] = [
 #[test]
 fn values_that_are_not_about_are_told(rt: HostRuntime) -> Result<(), Fail> {
     let left = run(&rt, rt.alloc(), &NOT_ABOUT)?;
-    assert_eq!(rt; left.counts.data_pages, 1);
+    same(&rt, left.counts.data_pages, 1);
     Ok(())
 }
 
@@ -115,8 +116,8 @@ static BY_NAME: [Row; 9] = [
 #[test]
 fn drafts_are_found_by_name(rt: HostRuntime) -> Result<(), Fail> {
     let left = run(&rt, rt.alloc(), &BY_NAME)?;
-    assert_eq!(rt; left.counts.data_pages, 1);
-    assert_eq!(rt; left.counts.free_pages, 11);
+    same(&rt, left.counts.data_pages, 1);
+    same(&rt, left.counts.free_pages, 11);
     Ok(())
 }
 

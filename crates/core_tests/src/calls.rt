@@ -1,5 +1,6 @@
 //! Calls of a world with what each must answer, as the tests write them.
 
+use crate::expecting::same;
 use crate::steps::{BLOCK, USUAL, completion};
 use block_image::Image;
 use io_commands::{Draft, Kind, Piece, Pieces, Request};
@@ -153,7 +154,7 @@ pub(crate) fn see_calls(
 ) -> Result<(), Fail> {
     for (call, wanted) in rows {
         let told = called(world, alloc, *call)?;
-        assert_eq!(rt; told, *wanted);
+        same(rt, told, *wanted);
     }
     Ok(())
 }
@@ -191,5 +192,5 @@ pub(crate) fn see_counts(rt: &impl Abort, world: &World, free: u32, chain: u32, 
         chain_pages: chain,
         data_pages: data,
     };
-    assert_eq!(rt; world.counts(), wanted);
+    same(rt, world.counts(), wanted);
 }

@@ -1,6 +1,7 @@
 //! Commands reserved, cancelled, submitted and rung, an entry forged, and queues that are not retired.
 
 use crate::calls::{Call, Told, called_world, noted, open, read, see_calls, see_counts};
+use crate::expecting::same;
 use io_commands::{Draft, RequestFault, Ticket};
 use std::alloc::Global;
 use std::test::Fail;
@@ -188,8 +189,8 @@ fn a_draft_that_another_world_refused_is_submitted_by_its_own(rt: HostRuntime) -
     let (refused, ticket) = submitted_after(&mut world, &mut other, draft);
     assert!(rt; refused == Some(Refusal::Stranger));
     assert!(rt; ticket == Ok((1, 0)));
-    assert_eq!(rt; other.counts().free_pages, 12);
-    assert_eq!(rt; world.counts().free_pages, 11);
+    same(&rt, other.counts().free_pages, 12);
+    same(&rt, world.counts().free_pages, 11);
     Ok(())
 }
 

@@ -9,6 +9,8 @@ mod calls;
 #[cfg(test)]
 mod command;
 #[cfg(test)]
+mod expecting;
+#[cfg(test)]
 mod fetching;
 #[cfg(test)]
 mod heads;

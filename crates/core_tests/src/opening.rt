@@ -1,5 +1,6 @@
 //! Openings at their borders, what a world shows as it opens, and its end.
 
+use crate::expecting::same;
 use block_image::Image;
 use io_commands::Ticket;
 use page_ledger::{Counts, Owner};
@@ -100,10 +101,10 @@ fn a_pool_may_just_fit(rt: HostRuntime) -> Result<(), Fail> {
     let least = refusal(&rt, rt.alloc(), LEAST)?;
     let greatest = refusal(&rt, rt.alloc(), GREATEST)?;
     let few = refusal(&rt, rt.alloc(), TOO_FEW)?;
-    assert_eq!(rt; least, None);
-    assert_eq!(rt; greatest, None);
+    same(&rt, least, None);
+    same(&rt, greatest, None);
     let (need, free) = (1_300, 1_299);
-    assert_eq!(rt; few, Some(OpenRefusal::NoPages { need, free }));
+    same(&rt, few, Some(OpenRefusal::NoPages { need, free }));
     Ok(())
 }
 

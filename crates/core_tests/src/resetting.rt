@@ -1,6 +1,7 @@
 //! The controller is reset, and what a world shows then.
 
 use crate::calls::{Call, Told, called_world, see_calls};
+use crate::expecting::same;
 use crate::opening::see_owner;
 use crate::sending::FIRST_DONE;
 use page_ledger::{Counts, Owner, Role};
@@ -20,9 +21,9 @@ struct Shown {
 /// Sees what a world shows.
 fn see(rt: &impl Abort, world: &World, wanted: &Shown) {
     world.check();
-    assert_eq!(rt; world.trusted(), wanted.trusted);
-    assert_eq!(rt; world.is_idle(), wanted.idle);
-    assert_eq!(rt; world.counts(), wanted.counts);
+    same(rt, world.trusted(), wanted.trusted);
+    same(rt, world.is_idle(), wanted.idle);
+    same(rt, world.counts(), wanted.counts);
     for (p, owner) in wanted.owners {
         see_owner(rt, world, *p, *owner);
     }

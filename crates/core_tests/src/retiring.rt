@@ -1,5 +1,6 @@
 //! A queue that is deleted and retired.
 
+use crate::expecting::same;
 use crate::steps::{Act, Answer, READ_ONE, Row, run};
 use std::test::Fail;
 use step_core::*;
@@ -26,8 +27,8 @@ static NEVER_FETCHED: [Row; 15] = [
 fn what_was_never_fetched_ends_with_its_queue(rt: HostRuntime) -> Result<(), Fail> {
     let left = run(&rt, rt.alloc(), &NEVER_FETCHED)?;
     assert!(rt; left.trusted);
-    assert_eq!(rt; left.counts.free_pages, 13);
-    assert_eq!(rt; left.counts.queue_pages, 3);
+    same(&rt, left.counts.free_pages, 13);
+    same(&rt, left.counts.queue_pages, 3);
     Ok(())
 }
 
@@ -90,6 +91,6 @@ static IN_THE_WAY: [Row; 9] = [
 fn a_completion_at_the_head_is_in_the_way(rt: HostRuntime) -> Result<(), Fail> {
     let left = run(&rt, rt.alloc(), &IN_THE_WAY)?;
     assert!(rt; !left.trusted);
-    assert_eq!(rt; left.counts.free_pages, 13);
+    same(&rt, left.counts.free_pages, 13);
     Ok(())
 }

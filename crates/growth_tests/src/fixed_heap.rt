@@ -1,5 +1,6 @@
 //! A host, its controller and sixteen outstanding commands in a heap of fixed size.
 
+use crate::expecting::{same, same_at};
 use crate::sweep::{Wanted, is_memory, read, unrefused, zeros};
 use linked_list_allocator::LocalHeap;
 use script_cli::{Line, Script, run_steps};
@@ -96,8 +97,8 @@ fn open_in<'a>(rt: &impl Abort, heap: &'a LocalHeap) -> Result<Option<Bench<&'a 
     match Bench::open(heap, TWENTY_PAGES, image) {
         Ok(bench) => Ok(Some(bench)),
         Err(refused) => {
-            assert_eq!(rt; refused.why, OpenRefusal::Memory);
-            assert_eq!(rt; refused.image.blocks(), BLOCKS);
+            same(rt, refused.why, OpenRefusal::Memory);
+            same(rt, refused.image.blocks(), BLOCKS);
             Ok(None)
         }
     }
@@ -125,7 +126,7 @@ fn steps_in<'a>(
             return Ok(false);
         }
         let text = format!(in alloc; "{answer:?}")?;
-        assert_eq!(rt; Some(&text), wanted.next());
+        same(rt, Some(&text), wanted.next());
     }
     Ok(true)
 }
@@ -147,7 +148,7 @@ fn fits(
             fit
         }
     };
-    assert_eq!(rt; heap.used(), 0);
+    same(rt, heap.used(), 0);
     fit
 }
 
@@ -200,8 +201,8 @@ fn a_bench_opens_in_a_heap(rt: HostRuntime) -> Result<(), Fail> {
                 true
             }
         };
-        assert_eq!(rt; opened, opens, "{bytes}");
-        assert_eq!(rt; heap.used(), 0, "{bytes}");
+        same_at(&rt, bytes, opened, opens);
+        same_at(&rt, bytes, heap.used(), 0);
     }
     Ok(())
 }

@@ -1,5 +1,6 @@
 //! Openings with one growth refused.
 
+use crate::expecting::{same, same_at};
 use crate::sweep::{Heap, MANY, zeros};
 use refusing::{Refusal, Refusing};
 use std::alloc::Global;
@@ -21,8 +22,8 @@ fn open_and_end<'a>(
             None
         }
         Err(refused) => {
-            assert_eq!(rt; refused.why, OpenRefusal::Memory);
-            assert_eq!(rt; refused.image.blocks(), 64);
+            same(rt, refused.why, OpenRefusal::Memory);
+            same(rt, refused.image.blocks(), 64);
             Some(refused.image)
         }
     }
@@ -35,12 +36,12 @@ fn open_twice(rt: &impl Abort, alloc: Global, config: Config, growth: u64) -> Re
     heap.refuse(Refusal::Nth(growth));
     let back = open_and_end(rt, &heap, config, image);
     let refused = heap.tally().refused > 0;
-    assert_eq!(rt; back.is_some(), refused, "growth {growth}");
+    same_at(rt, growth, back.is_some(), refused);
     heap.refuse(Refusal::Never);
     if let Some(image) = back {
         assert!(rt; open_and_end(rt, &heap, config, image).is_none());
     }
-    assert_eq!(rt; heap.tally().blocks, 0, "growth {growth}");
+    same_at(rt, growth, heap.tally().blocks, 0);
     Ok(refused)
 }
 
@@ -55,7 +56,7 @@ fn an_opening_wants_memory(rt: HostRuntime) -> Result<(), Fail> {
             }
             growths = growth;
         }
-        assert_eq!(rt; growths, wanted);
+        same(&rt, growths, wanted);
     }
     Ok(())
 }

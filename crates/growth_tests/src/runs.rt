@@ -1,5 +1,6 @@
 //! Lists of steps that are run at once, with one growth refused.
 
+use crate::expecting::{same, same_at};
 use crate::sweep::{Heap, MANY, Standing, Wanted, is_memory, opened, read, unrefused};
 use refusing::{Refusal, Refusing};
 use script_cli::{Line, Script};
@@ -43,13 +44,13 @@ fn are_wanted(
     replies: &[ReplyIn<&Heap>],
     wanted: &Wanted,
 ) -> Result<bool, Fail> {
-    assert_eq!(rt; replies.len(), wanted.answers.len());
+    same(rt, replies.len(), wanted.answers.len());
     for (reply, answer) in replies.iter().zip(wanted.answers.iter()) {
         if is_memory(reply) {
             return Ok(false);
         }
         let text = format!(in alloc; "{reply:?}")?;
-        assert_eq!(rt; text.as_str(), answer.as_str());
+        same(rt, text.as_str(), answer.as_str());
     }
     Ok(true)
 }
@@ -73,11 +74,11 @@ fn run_on<'a>(
     match ran {
         Ok(replies) => {
             let whole = are_wanted(rt, alloc, replies.as_slice(), wanted)?;
-            assert_eq!(rt; whole, !refused, "growth {growth}");
+            same_at(rt, growth, whole, !refused);
             Ok(if whole { Came::Whole } else { Came::Wanting })
         }
         Err(AllocError) => {
-            assert_eq!(rt; Standing::of(alloc, bench)?, before, "growth {growth}");
+            same_at(rt, growth, Standing::of(alloc, bench)?, before);
             let replies = bench.run(steps_of(heap, script)?)?;
             assert!(rt; are_wanted(rt, alloc, replies.as_slice(), wanted)?);
             Ok(Came::NotRun)
@@ -97,7 +98,7 @@ fn run(
     let mut bench = opened(&heap, USUAL)?;
     let came = run_on(rt, alloc, &heap, &mut bench, script, wanted, growth);
     let _ended = bench.end();
-    assert_eq!(rt; heap.tally().blocks, 0, "growth {growth}");
+    same_at(rt, growth, heap.tally().blocks, 0);
     came
 }
 
@@ -116,6 +117,6 @@ fn a_list_of_steps_is_run_or_none_is_done(rt: HostRuntime) -> Result<(), Fail> {
             Came::Whole => break,
         }
     }
-    assert_eq!(rt; (not_run, wanting), (1, 16));
+    same(&rt, (not_run, wanting), (1, 16));
     Ok(())
 }

@@ -1,5 +1,6 @@
 //! A draft of one world that another refuses, with one growth refused.
 
+use crate::expecting::same;
 use crate::sweep::{Heap, MANY, zeros};
 use io_commands::{Kind, Piece, Pieces};
 use page_ledger::Counts;
@@ -127,6 +128,6 @@ fn a_stranger_is_told_without_memory(rt: HostRuntime) -> Result<(), Fail> {
         }
         growths = growth;
     }
-    assert_eq!(rt; growths, 5);
+    same(&rt, growths, 5);
     Ok(())
 }

@@ -1,5 +1,6 @@
 //! A script is played once for each growth that it has.
 
+use crate::expecting::{same, same_at};
 use page_ledger::{Counts, Owner};
 use page_memory::PageNo;
 use refusing::{Refusal, Refusing};
@@ -122,11 +123,11 @@ fn step_on<'a>(
     let tally = heap.tally();
     heap.refuse(Refusal::Never);
     if tally.refused > 0 && is_memory(&answer) {
-        assert_eq!(rt; Standing::of(alloc, bench)?, before, "{wanted}");
+        same_at(rt, wanted, Standing::of(alloc, bench)?, before);
         answer = bench.step(placed(heap, step)?);
     }
     let text = format!(in alloc; "{answer:?}")?;
-    assert_eq!(rt; text.as_str(), wanted);
+    same(rt, text.as_str(), wanted);
     Ok(tally.calls)
 }
 
@@ -152,7 +153,7 @@ fn steps_on<'a>(
         let calls = step_on(rt, alloc, heap, bench, (step, answer.as_str()), left)?;
         left = left.saturating_sub(calls);
     }
-    assert_eq!(rt; Standing::of(alloc, bench)?, wanted.end);
+    same(rt, Standing::of(alloc, bench)?, wanted.end);
     Ok(left)
 }
 
@@ -191,12 +192,12 @@ fn steps_without_memory<'a>(
             heap.refuse(Refusal::NthOn(1));
         }
         let answer = bench.step(made);
-        assert_eq!(rt; heap.tally().refused, 0);
+        same(rt, heap.tally().refused, 0);
         heap.refuse(Refusal::Never);
         let text = format!(in alloc; "{answer:?}")?;
-        assert_eq!(rt; Some(&text), answers.next());
+        same(rt, Some(&text), answers.next());
     }
-    assert_eq!(rt; Standing::of(alloc, bench)?, wanted.end);
+    same(rt, Standing::of(alloc, bench)?, wanted.end);
     Ok(())
 }
 
@@ -228,7 +229,7 @@ fn play(
     let mut bench = opened(&heap, config)?;
     let left = steps_on(rt, alloc, &heap, &mut bench, script, wanted, growth);
     let _ended = bench.end();
-    assert_eq!(rt; heap.tally().blocks, 0, "growth {growth}");
+    same_at(rt, growth, heap.tally().blocks, 0);
     Ok(left? == 0)
 }
 
@@ -249,6 +250,6 @@ pub(crate) fn sweep(
         }
         met = growth;
     }
-    assert_eq!(rt; met, growths, "{}", worked.script);
+    same_at(rt, worked.script, met, growths);
     Ok(())
 }

@@ -4,6 +4,7 @@ ghost use Rattle.std.specs.Prelude.{◌<◌};
 
 use crate::calls::{SUCCESS, completion};
 use crate::driver::{Driver, HeldDraft, HeldFinished};
+use crate::expecting::same;
 use crate::numbers::Numbers;
 use crate::requests::of_blocks;
 use admin_commands::AdminKind;
@@ -178,7 +179,7 @@ impl Run {
     fn release(&mut self, rt: &impl Abort) -> Option<Refusal> {
         let held = pick(&mut self.finished, self.numbers.next())?;
         let refused = self.driver.release(rt, held).err()?;
-        assert_eq!(rt; refused.why, Refusal::Stranger);
+        same(rt, refused.why, Refusal::Stranger);
         Some(refused.why)
     }
 
@@ -223,7 +224,7 @@ impl Run {
     fn make(&mut self, rt: &impl Abort, kind: AdminKind, slot: u8)
         requires { slot < 4 }
     {
-        assert_eq!(rt; self.driver.send(rt, kind), Ok(0));
+        same(rt, self.driver.send(rt, kind), Ok(0));
         let head = (slot + 1) % 4;
         let entry = completion(0, head, 0, SUCCESS);
         self.driver.scribble(1, 16 * usize::from(slot), &entry);
@@ -233,7 +234,7 @@ impl Run {
             dw0: 0,
         };
         let head = Some(u16::from(head));
-        assert_eq!(rt; self.driver.reap(rt, 0), Ok(Reap { found, head }));
+        same(rt, self.driver.reap(rt, 0), Ok(Reap { found, head }));
     }
 
     /// Makes both halves of a queue, with completions in this slot of queue 0 and in the next.
@@ -313,6 +314,6 @@ fn arbitrary_calls(rt: HostRuntime) -> Result<(), Fail> {
         rejected: 5_533,
         resets: 332,
     };
-    assert_eq!(rt; run.seen, seen);
+    same(&rt, run.seen, seen);
     Ok(())
 }

@@ -2,6 +2,7 @@
 //! completions are bytes that stand in this file.
 
 use crate::driver::Driver;
+use crate::expecting::same;
 use crate::hostile_memory::SMALL;
 use crate::requests::of_blocks;
 use admin_commands::AdminKind;
@@ -76,23 +77,23 @@ pub(crate) fn submit<A: Allocator + Copy>(
     cid: u16,
 ) -> Result<(), Fail> {
     let request = of_blocks(alloc, Kind::Read, 1)?;
-    assert_eq!(rt; driver.host().reserve_refusal(1, &request), None);
+    same(rt, driver.host().reserve_refusal(1, &request), None);
     let Ok(mut held) = driver.reserve(rt, 1, request) else {
         panic!(rt; "{cid} is reserved");
     };
     held.draft.build(alloc)?;
-    assert_eq!(rt; driver.submit(rt, held).ok(), Some((1, cid)));
+    same(rt, driver.submit(rt, held).ok(), Some((1, cid)));
     Ok(())
 }
 
 /// Collects a command and releases it.
 fn end(rt: &impl Abort, driver: &mut Driver, cid: u16, status: Status) {
-    assert_eq!(rt; driver.host().status_of(1, cid), Some(status));
-    assert_eq!(rt; driver.host().collect_refusal(1, cid), None);
+    same(rt, driver.host().status_of(1, cid), Some(status));
+    same(rt, driver.host().collect_refusal(1, cid), None);
     let Ok(held) = driver.collect(rt, 1, cid) else {
         panic!(rt; "{cid} is collected");
     };
-    assert_eq!(rt; held.finished.status(), status);
+    same(rt, held.finished.status(), status);
     assert!(rt; driver.release(rt, held).is_ok());
 }
 
@@ -104,7 +105,7 @@ fn send(
     cid: u16,
     slot: usize,
 ) -> ([u8; 4], [u8; 4]) {
-    assert_eq!(rt; driver.send(rt, kind), Ok(cid));
+    same(rt, driver.send(rt, kind), Ok(cid));
     assert!(rt; slot < 4);
     let entry = driver.entry_at(0, slot).unwrap_or([0; 64]);
     (
@@ -118,9 +119,9 @@ fn play(rt: &impl Abort, driver: &mut Driver, alloc: Global, row: Row) -> Result
     match row {
         Row::Submit(cid) => submit(rt, driver, alloc, cid)?,
         Row::Send(kind, cid, slot, first, word) => {
-            assert_eq!(rt; send(rt, driver, kind, cid, slot), (first, word));
+            same(rt, send(rt, driver, kind, cid, slot), (first, word));
         }
-        Row::Ring(q, answer) => assert_eq!(rt; driver.host().ring(q), answer),
+        Row::Ring(q, answer) => same(rt, driver.host().ring(q), answer),
         Row::Post(q, slot, entry) => {
             assert!(rt; slot < 4);
             driver.scribble(
@@ -131,16 +132,17 @@ fn play(rt: &impl Abort, driver: &mut Driver, alloc: Global, row: Row) -> Result
         }
         Row::Reap(q, found, head) => {
             let head = Some(head);
-            assert_eq!(rt; driver.reap(rt, q), Ok(Reap { found, head }));
+            same(rt, driver.reap(rt, q), Ok(Reap { found, head }));
         }
-        Row::Retire(q) => assert_eq!(rt; driver.retire(rt, q), Ok(())),
+        Row::Retire(q) => same(rt, driver.retire(rt, q), Ok(())),
         Row::Reset => driver.reset(rt),
         Row::End(cid, status) => end(rt, driver, cid, status),
         Row::Pages(free_pages, queue_pages) => {
             let counts = driver.host().counts();
-            assert_eq!(rt;
+            same(
+                rt,
                 (counts.free_pages, counts.queue_pages),
-                (free_pages, queue_pages)
+                (free_pages, queue_pages),
             );
         }
     }
@@ -214,7 +216,7 @@ fn a_queue_ends(rt: HostRuntime) -> Result<(), Fail> {
     ] {
         play(&rt, &mut driver, rt.alloc(), row)?;
     }
-    assert_eq!(rt; driver.reap(&rt, 1), Err(Refusal::NoQueue));
+    same(&rt, driver.reap(&rt, 1), Err(Refusal::NoQueue));
     Ok(())
 }
 
@@ -272,7 +274,7 @@ fn a_reset(rt: HostRuntime) -> Result<(), Fail> {
     ] {
         play(&rt, &mut driver, rt.alloc(), row)?;
     }
-    assert_eq!(rt; driver.completion_ring(1), Some(2));
+    same(&rt, driver.completion_ring(1), Some(2));
     Ok(())
 }
 
@@ -281,23 +283,28 @@ fn a_reset(rt: HostRuntime) -> Result<(), Fail> {
 fn a_read(rt: HostRuntime) -> Result<(), Fail> {
     let mut driver = Driver::open(rt.alloc(), SMALL)?;
     play(&rt, &mut driver, rt.alloc(), Row::Submit(0))?;
-    assert_eq!(rt; driver.entry_at(2, 0), Some(READ));
-    assert_eq!(rt; driver.host().ring(1), Ok(1));
-    assert_eq!(rt; driver.host().collect_refusal(1, 0), Some(Refusal::NotYet));
+    same(&rt, driver.entry_at(2, 0), Some(READ));
+    same(&rt, driver.host().ring(1), Ok(1));
+    same(
+        &rt,
+        driver.host().collect_refusal(1, 0),
+        Some(Refusal::NotYet),
+    );
     let (found, head) = (Reaped::Empty, None);
-    assert_eq!(rt; driver.reap(&rt, 1), Ok(Reap { found, head }));
+    same(&rt, driver.reap(&rt, 1), Ok(Reap { found, head }));
     // The controller writes the block, and its completion.
     driver.scribble(4, 0, &[0x11; 512]);
     driver.scribble(3, 0, &completion(1, 1, 0, SUCCESS));
     let status = Status::SUCCESS;
     let (found, head) = (Reaped::Done { cid: 0, status }, Some(1));
-    assert_eq!(rt; driver.reap(&rt, 1), Ok(Reap { found, head }));
+    same(&rt, driver.reap(&rt, 1), Ok(Reap { found, head }));
     let Ok(held) = driver.collect(&rt, 1, 0) else {
         panic!(rt; "it is collected");
     };
-    assert_eq!(rt;
+    same(
+        &rt,
         held.finished.gather(rt.alloc())?.as_slice(),
-        [0x11; 512].as_slice()
+        [0x11; 512].as_slice(),
     );
     assert!(rt; driver.release(&rt, held).is_ok());
     assert!(rt; driver.host().is_idle());
@@ -308,25 +315,25 @@ fn a_read(rt: HostRuntime) -> Result<(), Fail> {
 #[test]
 fn a_write_is_cancelled(rt: HostRuntime) -> Result<(), Fail> {
     let mut driver = Driver::open(rt.alloc(), SMALL)?;
-    assert_eq!(rt; driver.host().pages(), 16);
+    same(&rt, driver.host().pages(), 16);
     let half = Half::Completion;
-    assert_eq!(rt; driver.owner(3), Some(Owner::Queue { q: 1, half }));
+    same(&rt, driver.owner(3), Some(Owner::Queue { q: 1, half }));
     let Ok(mut held) = driver.reserve(&rt, 1, of_blocks(rt.alloc(), Kind::Write, 3)?) else {
         panic!(rt; "it is reserved");
     };
-    assert_eq!(rt; held.draft.fill(&[0x22; 1536]), Ok(()));
+    same(&rt, held.draft.fill(&[0x22; 1536]), Ok(()));
     let role = Role::Chain;
     let owner = Owner::Command { q: 1, cid: 0, role };
-    assert_eq!(rt; driver.owner(7), Some(owner));
+    same(&rt, driver.owner(7), Some(owner));
     let counts = Counts {
         free_pages: 7,
         queue_pages: 4,
         chain_pages: 2,
         data_pages: 3,
     };
-    assert_eq!(rt; driver.host().counts(), counts);
+    same(&rt, driver.host().counts(), counts);
     assert!(rt; !driver.host().is_idle());
     assert!(rt; driver.cancel(&rt, held).is_ok());
-    assert_eq!(rt; driver.owner(7), Some(Owner::Free));
+    same(&rt, driver.owner(7), Some(Owner::Free));
     Ok(())
 }

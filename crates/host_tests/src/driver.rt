@@ -3,6 +3,7 @@
 ghost use Rattle.std.specs.Prelude.{◌+◌, ◌<◌, ◌≤◌, length};
 ghost use Rattle.host_tests.specs.Pages.{AreSameIn};
 
+use crate::expecting::{same, same_at};
 use admin_commands::AdminKind;
 use arrayvec::ArrayVec;
 use host_core::{Config, Host, Opened, Reap, Refused};
@@ -197,9 +198,9 @@ impl<A: Allocator + Copy> Driver<A> {
                 Owner::Command { q, cid, .. } => self.is_out(rt, q, cid),
                 Owner::Free | Owner::Queue { .. } => false,
             };
-            assert_eq!(rt; self.store.is_in(PageNo(p)), !is_out, "page {p}");
+            same_at(rt, p, self.store.is_in(PageNo(p)), !is_out);
         }
-        assert_eq!(rt; counted, self.host.counts());
+        same(rt, counted, self.host.counts());
     }
 
     /// The place of a command in the driver's list.
@@ -320,7 +321,7 @@ impl<A: Allocator + Copy> Driver<A> {
                 Ok(HeldFinished { finished })
             }
             Err(Refused { value, why }) => {
-                assert_eq!(rt; value.apart(), (q, cid));
+                same(rt, value.apart(), (q, cid));
                 Err(why)
             }
         };
@@ -355,7 +356,7 @@ impl<A: Allocator + Copy> Driver<A> {
         let waits = self.host.completion_waits(&mut self.store, q);
         let answer = self.host.reap(&mut self.store, q);
         let taken = answer.ok().and_then(|reap| reap.head).is_some();
-        assert_eq!(rt; waits, taken);
+        same(rt, waits, taken);
         self.recount(rt);
         answer
     }
@@ -384,7 +385,7 @@ impl<A: Allocator + Copy> Driver<A> {
     /// Resets: queue 0 alone has pages, and no completion waits in it.
     pub(crate) fn reset(&mut self, rt: &impl Abort) {
         self.host.reset(&mut self.store);
-        assert_eq!(rt; self.host.counts().queue_pages, 2);
+        same(rt, self.host.counts().queue_pages, 2);
         assert!(rt; !self.host.completion_waits(&mut self.store, 0));
         self.recount(rt);
     }

@@ -6,6 +6,7 @@
 //! drafted or collected, that the four classes are what the host counts, and that no identifier is outstanding twice.
 
 use crate::driver::Driver;
+use crate::expecting::same;
 use crate::numbers::Numbers;
 use crate::requests::of_blocks;
 use host_core::Config;
@@ -59,29 +60,29 @@ fn a_hostile_memory(rt: HostRuntime) -> Result<(), Fail> {
     let Ok(mut held) = driver.reserve(&rt, 1, of_blocks(rt.alloc(), Kind::Read, 1)?) else {
         panic!(rt; "it is reserved");
     };
-    assert_eq!(rt; (held.draft.q(), held.draft.cid()), (1, 0));
+    same(&rt, (held.draft.q(), held.draft.cid()), (1, 0));
     let owner = Owner::Command {
         q: 1,
         cid: 0,
         role: Role::Data,
     };
-    assert_eq!(rt; driver.owner(4), Some(owner));
+    same(&rt, driver.owner(4), Some(owner));
 
     // It builds the entry, which is no call of the host, and submits it: the page is in again, and the host answers who it is.
     held.draft.build(rt.alloc())?;
     forge(&mut driver, &mut numbers);
-    assert_eq!(rt; driver.submit(&rt, held).ok(), Some((1, 0)));
+    same(&rt, driver.submit(&rt, held).ok(), Some((1, 0)));
 
     // The value for the tail doorbell. Whoever wrote into the memory has no say in it.
     forge(&mut driver, &mut numbers);
-    assert_eq!(rt; driver.host().ring(1), Ok(1));
+    same(&rt, driver.host().ring(1), Ok(1));
 
     // Now the driver reaps. Bytes with the phase that the host waits for are an entry, and it takes that off the ring; but it is of another
     // queue, or its head is none, or no command waits under its identifier. So it is rejected, and the Read still waits.
     let rejected = reap_arbitrary_bytes(&rt, &mut driver, &mut numbers);
     assert!(rt; rejected > 0 && rejected < 100);
     forge(&mut driver, &mut numbers);
-    assert_eq!(rt; driver.collect(&rt, 1, 0).err(), Some(Refusal::NotYet));
-    assert_eq!(rt; driver.host().status_of(1, 0), None);
+    same(&rt, driver.collect(&rt, 1, 0).err(), Some(Refusal::NotYet));
+    same(&rt, driver.host().status_of(1, 0), None);
     Ok(())
 }

@@ -9,6 +9,8 @@ mod calls;
 #[cfg(test)]
 mod driver;
 #[cfg(test)]
+mod expecting;
+#[cfg(test)]
 mod hostile_memory;
 #[cfg(test)]
 mod memory_refused;

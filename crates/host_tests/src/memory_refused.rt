@@ -4,6 +4,7 @@
 
 use crate::calls::{SUCCESS, completion, submit};
 use crate::driver::Driver;
+use crate::expecting::{same, same_at};
 use crate::hostile_memory::SMALL;
 use crate::requests::of_blocks;
 use admin_commands::AdminKind;
@@ -43,7 +44,7 @@ fn attempt<'a>(
         Call::Reserve => match driver.reserve(rt, 1, request) {
             Ok(_) => Ok(None),
             Err(refused) => {
-                assert_eq!(rt; refused.value.pieces().len(), 2);
+                same(rt, refused.value.pieces().len(), 2);
                 Ok(Some(refused.why))
             }
         },
@@ -63,12 +64,12 @@ fn refused_in_turn<'a>(
         let bytes = heap.tally().bytes;
         let refusal = attempt(rt, heap, driver, call, growth)?;
         if heap.tally().refused == 0 {
-            assert_eq!(rt; refusal, None);
+            same(rt, refusal, None);
             return Ok(growth - 1);
         }
-        assert_eq!(rt; refusal, Some(Refusal::Memory), "growth {growth}");
-        assert_eq!(rt; heap.tally().bytes, bytes, "growth {growth}");
-        assert_eq!(rt; driver.host().counts(), before, "growth {growth}");
+        same_at(rt, growth, refusal, Some(Refusal::Memory));
+        same_at(rt, growth, heap.tally().bytes, bytes);
+        same_at(rt, growth, driver.host().counts(), before);
     }
     Ok(0)
 }
@@ -80,12 +81,12 @@ fn an_opening(rt: HostRuntime) {
     for growth in 1..MANY {
         heap.refuse(refusing::Refusal::Nth(growth));
         let why = Driver::open(&heap, SMALL).err();
-        assert_eq!(rt; heap.tally().blocks, 0, "growth {growth}");
+        same_at(&rt, growth, heap.tally().blocks, 0);
         if heap.tally().refused == 0 {
-            assert_eq!(rt; why, None);
+            same(&rt, why, None);
             break;
         }
-        assert_eq!(rt; why, Some(OpenRefusal::Memory), "growth {growth}");
+        same_at(&rt, growth, why, Some(OpenRefusal::Memory));
         refused = growth;
     }
     assert!(rt; refused > 16);
@@ -108,7 +109,7 @@ fn send_without_memory<'a>(
 ) {
     heap.refuse(refusing::Refusal::NthOn(1));
     assert!(rt; driver.send(rt, kind).is_ok());
-    assert_eq!(rt; heap.tally().refused, 0);
+    same(rt, heap.tally().refused, 0);
     heap.refuse(refusing::Refusal::Never);
 }
 
@@ -145,7 +146,7 @@ fn a_reset(rt: HostRuntime) -> Result<(), Fail> {
     send_without_memory(&rt, &heap, &mut driver, AdminKind::Abort { q: 1, cid: 0 });
     heap.refuse(refusing::Refusal::NthOn(1));
     driver.reset(&rt);
-    assert_eq!(rt; heap.tally().refused, 0);
+    same(&rt, heap.tally().refused, 0);
     heap.refuse(refusing::Refusal::Never);
     assert!(rt; driver.collect(&rt, 1, 0).is_ok());
     Ok(())

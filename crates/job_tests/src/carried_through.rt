@@ -1,5 +1,6 @@
 //! Runs whose jobs are carried through.
 
+use crate::expecting::same;
 use crate::playing::{USUAL, USUAL_END, played, usual};
 use std::test::Fail;
 use step_core::Config;
@@ -24,7 +25,8 @@ job 1 1 read 10 1 0+512
 ";
     for _ in 0..20 {
         let output = played(&rt, alloc, USUAL, 2, script)?;
-        assert_eq!(rt;
+        same(
+            &rt,
             output.as_str(),
             "1 seat 0 write status 0:00 -
 2 seat 0 write status 0:00 -
@@ -44,7 +46,7 @@ job 1 1 read 10 1 0+512
 3-3 queue 1 cq
 4-15 free
 counts free 12 queue 4 chain 0 data 0
-"
+",
         );
     }
     Ok(())
@@ -72,7 +74,7 @@ job 1 1 read 8 1 0+512
 6 seat 1 read status 0:00 B1*1,00*511
 ",
     )?;
-    assert_eq!(rt; output.as_str(), expected.as_str());
+    same(&rt, output.as_str(), expected.as_str());
     Ok(())
 }
 
@@ -98,7 +100,7 @@ job 0 1 read 63 2 0+1024
 6 seat 0 read status 0:80 00*1024
 ",
     )?;
-    assert_eq!(rt; output.as_str(), expected.as_str());
+    same(&rt, output.as_str(), expected.as_str());
     Ok(())
 }
 
@@ -112,7 +114,7 @@ fn scripts_without_jobs(rt: HostRuntime) -> Result<(), Fail> {
         " \t\r\n\n  # nothing",
     ] {
         let output = played(&rt, rt.alloc(), USUAL, 2, script.as_bytes())?;
-        assert_eq!(rt; output.as_str(), USUAL_END);
+        same(&rt, output.as_str(), USUAL_END);
     }
     Ok(())
 }
@@ -127,7 +129,7 @@ fn lines_are_counted(rt: HostRuntime) -> Result<(), Fail> {
         alloc,
         "3 seat 0 read status 0:00 00*512\n6 seat 1 read status 0:00 00*512\n",
     )?;
-    assert_eq!(rt; output.as_str(), expected.as_str());
+    same(&rt, output.as_str(), expected.as_str());
     Ok(())
 }
 
@@ -155,7 +157,7 @@ counts free 4 queue 4 chain 0 data 0
     )?;
     let small = Config { pages: 8, ..USUAL };
     let output = played(&rt, alloc, small, 16, script.as_bytes())?;
-    assert_eq!(rt; output.as_str(), expected.as_str());
+    same(&rt, output.as_str(), expected.as_str());
     Ok(())
 }
 
@@ -169,7 +171,8 @@ job 0 1 read 3 1 0+512
 job 1 2 read 4 1 0+512
 ";
     let output = played(&rt, rt.alloc(), two, 2, script)?;
-    assert_eq!(rt;
+    same(
+        &rt,
         output.as_str(),
         "1 seat 0 write status 0:00 -
 2 seat 1 write status 0:00 -
@@ -183,7 +186,7 @@ job 1 2 read 4 1 0+512
 5-5 queue 2 cq
 6-15 free
 counts free 10 queue 6 chain 0 data 0
-"
+",
     );
     Ok(())
 }

@@ -1,5 +1,6 @@
 //! Runs that end with a fault, with readers and writers that fail.
 
+use crate::expecting::same;
 use crate::playing::{Narrow, Slow, USUAL, end_of, played};
 use block_image::Image;
 use job_cli::run_jobs;
@@ -32,7 +33,7 @@ fn scripts_at_fault(rt: HostRuntime) -> Result<(), Fail> {
         let alloc = rt.alloc();
         for config in [USUAL, bad] {
             let output = played(&rt, alloc, config, 2, script.as_bytes())?;
-            assert_eq!(rt; output.as_str(), end);
+            same(&rt, output.as_str(), end);
         }
     }
     Ok(())
@@ -48,7 +49,7 @@ fn long_scripts(rt: HostRuntime) -> Result<(), Fail> {
     ] {
         let script = vec![in rt.alloc(); byte; len]?;
         let output = played(&rt, rt.alloc(), USUAL, 1, &script)?;
-        assert_eq!(rt; output.as_str(), end);
+        same(&rt, output.as_str(), end);
     }
     Ok(())
 }
@@ -62,7 +63,7 @@ fn a_reader_without_end(rt: HostRuntime) -> Result<(), Fail> {
     let mut out = Vec::new(rt.alloc());
     let mut reader = io::repeat(b'#');
     let end = run_jobs(&rt, rt.alloc(), USUAL, image, 2, &mut reader, &mut out);
-    assert_eq!(rt; end, Err(RunFault::TooLong));
+    same(&rt, end, Err(RunFault::TooLong));
     assert!(rt; out.is_empty());
     Ok(())
 }
@@ -80,7 +81,7 @@ fn openings_are_refused(rt: HostRuntime) -> Result<(), Fail> {
         ),
     ] {
         let output = played(&rt, rt.alloc(), config, 2, b"job 0 1 read 0 1 0+512")?;
-        assert_eq!(rt; output.as_str(), end);
+        same(&rt, output.as_str(), end);
     }
     Ok(())
 }
@@ -137,8 +138,8 @@ counts free 12 queue 4 chain 0 data 0
         };
         let ended = run_jobs(&rt, alloc, USUAL, image, 2, &mut reader, &mut writer);
         let ended = end_of(alloc, ended)?;
-        assert_eq!(rt; ended.as_str(), end);
-        assert_eq!(rt; writer.taken.as_slice(), written.as_bytes());
+        same(&rt, ended.as_str(), end);
+        same(&rt, writer.taken.as_slice(), written.as_bytes());
     }
     Ok(())
 }

@@ -4,6 +4,8 @@
 #[cfg(test)]
 mod carried_through;
 #[cfg(test)]
+mod expecting;
+#[cfg(test)]
 mod faults;
 #[cfg(test)]
 mod lines;

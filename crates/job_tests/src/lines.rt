@@ -1,5 +1,6 @@
 //! Scripts of jobs through the public call, and the lines of how jobs ended.
 
+use crate::expecting::same;
 use driver_threads::{JobEnd, JobRefusal};
 use entry_codec::Status;
 use io_commands::{Kind, Piece, RequestFault};
@@ -35,7 +36,7 @@ fn faults_of_jobs_have_names(rt: HostRuntime) -> Result<(), Fail> {
         ("# \u{e9}", "line 1: NotAscii"),
         ("job 0 1 read 0 1", "none"),
     ] {
-        assert_eq!(rt; fault_of(rt.alloc(), text.as_bytes())?.as_str(), name);
+        same(&rt, fault_of(rt.alloc(), text.as_bytes())?.as_str(), name);
     }
     Ok(())
 }
@@ -50,7 +51,7 @@ fn long_texts_of_jobs(rt: HostRuntime) -> Result<(), Fail> {
         (b'\n', 1_048_577, "script: too long"),
     ] {
         let text = vec![in rt.alloc(); byte; len]?;
-        assert_eq!(rt; fault_of(rt.alloc(), &text)?.as_str(), name);
+        same(&rt, fault_of(rt.alloc(), &text)?.as_str(), name);
     }
     Ok(())
 }
@@ -61,14 +62,18 @@ fn a_write_and_a_read(rt: HostRuntime) -> Result<(), Fail> {
     let Ok(script) = read_jobs(rt.alloc(), text, 2) else {
         panic!(rt; "a script without faults");
     };
-    assert_eq!(rt; script.jobs().len(), 2);
+    same(&rt, script.jobs().len(), 2);
     let jobs = script.into_jobs();
-    assert_eq!(rt; jobs.len(), 2);
+    assert!(rt; jobs.len() == 2);
     let (write, read) = (&jobs[0], &jobs[1]);
-    assert_eq!(rt; (write.number, write.submitter, write.job.q), (1, 0, 1));
-    assert_eq!(rt; (write.job.request.slba, write.job.request.blocks), (2, 1));
-    assert_eq!(rt; write.job.request.kind, Kind::Write);
-    assert_eq!(rt; write.job.bytes.as_slice(), [162, 176].as_slice());
+    same(&rt, (write.number, write.submitter, write.job.q), (1, 0, 1));
+    same(
+        &rt,
+        (write.job.request.slba, write.job.request.blocks),
+        (2, 1),
+    );
+    same(&rt, write.job.request.kind, Kind::Write);
+    same(&rt, write.job.bytes.as_slice(), [162, 176].as_slice());
     let pieces = [
         Piece::Bucket { len: 8 },
         Piece::Data {
@@ -76,10 +81,10 @@ fn a_write_and_a_read(rt: HostRuntime) -> Result<(), Fail> {
             len: 504,
         },
     ];
-    assert_eq!(rt; write.job.request.pieces.as_slice(), pieces.as_slice());
-    assert_eq!(rt; (read.number, read.submitter, read.job.q), (3, 1, 1));
-    assert_eq!(rt; read.job.request.kind, Kind::Read);
-    assert_eq!(rt; read.job.bytes.as_slice().len(), 0);
+    same(&rt, write.job.request.pieces.as_slice(), pieces.as_slice());
+    same(&rt, (read.number, read.submitter, read.job.q), (3, 1, 1));
+    same(&rt, read.job.request.kind, Kind::Read);
+    same(&rt, read.job.bytes.as_slice().len(), 0);
     Ok(())
 }
 
@@ -120,9 +125,10 @@ fn lines_of_jobs(rt: HostRuntime) -> Result<(), Fail> {
         append_job_line(&mut out, number, 1, *kind, end)?;
         number = number.wrapping_add(1);
     }
-    assert_eq!(rt;
+    same(
+        &rt,
         out.as_str(),
-        "1 seat 1 write status 0:00 -\n2 seat 1 read status 0:00 B2*1,00*511\n3 seat 1 read refused NoQueue\n4 seat 1 read refused QueueGone\n5 seat 1 compare refused Bad LengthMismatch\n6 seat 1 read refused NoPages need 13 pool 12\n7 seat 1 compare refused WrongLength\n"
+        "1 seat 1 write status 0:00 -\n2 seat 1 read status 0:00 B2*1,00*511\n3 seat 1 read refused NoQueue\n4 seat 1 read refused QueueGone\n5 seat 1 compare refused Bad LengthMismatch\n6 seat 1 read refused NoPages need 13 pool 12\n7 seat 1 compare refused WrongLength\n",
     );
     Ok(())
 }

@@ -1,5 +1,6 @@
 //! Jobs that are refused: the others are done, and nothing is left of them.
 
+use crate::expecting::same;
 use crate::playing::{USUAL, played, usual};
 use std::alloc::{AllocError, Global};
 use std::test::Fail;
@@ -42,7 +43,7 @@ fn jobs_are_refused(rt: HostRuntime) -> Result<(), Fail> {
         let output = played(&rt, alloc, USUAL, 2, script.as_bytes())?;
         let lines = format!(in alloc; "1 seat 1 {answer}\n2 seat 0 read status 0:00 00*512\n")?;
         let expected = usual(alloc, lines.as_str())?;
-        assert_eq!(rt; output.as_str(), expected.as_str());
+        same(&rt, output.as_str(), expected.as_str());
     }
     Ok(())
 }
@@ -75,7 +76,7 @@ fn jobs_of_many_pieces(rt: HostRuntime) -> Result<(), Fail> {
         let output = played(&rt, alloc, USUAL, 1, script.as_bytes())?;
         let lines = format!(in alloc; "1 seat 0 {answer}\n")?;
         let expected = usual(alloc, lines.as_str())?;
-        assert_eq!(rt; output.as_str(), expected.as_str());
+        same(&rt, output.as_str(), expected.as_str());
     }
     Ok(())
 }
@@ -105,6 +106,6 @@ job 0 1 read 3 1 0+512
 5 seat 0 read status 0:00 5A*512
 ",
     )?;
-    assert_eq!(rt; output.as_str(), expected.as_str());
+    same(&rt, output.as_str(), expected.as_str());
     Ok(())
 }

@@ -1,5 +1,6 @@
 //! A Read with a Bucket in its middle, over an image whose blocks differ.
 
+use crate::expecting::same;
 use crate::making::blocks;
 use crate::serving::{drafted, gathered, served};
 use block_image::Image;
@@ -38,13 +39,13 @@ fn a_bucket_discards_its_own_block(rt: HostRuntime) -> Result<(), Fail> {
     let mut store = Store::open(rt.alloc(), 8)?;
     let request = around_a_bucket(rt.alloc())?;
     let (entry, request, needed) = drafted(&rt, rt.alloc(), &mut store, request, None)?;
-    assert_eq!(rt; needed, 4);
+    same(&rt, needed, 4);
     let status = served(&rt, rt.alloc(), &mut store, &mut image, &entry)?;
-    assert_eq!(rt; status, Status::SUCCESS);
+    same(&rt, status, Status::SUCCESS);
     let read = gathered(&rt, rt.alloc(), &mut store, request, status, needed)?;
     let mut want = Vec::new(rt.alloc());
     want.extend_from_slice(bytes.get(512..1_024).ok_or("block 1")?)?;
     want.extend_from_slice(bytes.get(1_536..2_048).ok_or("block 3")?)?;
-    assert_eq!(rt; read.as_slice(), want.as_slice());
+    same(&rt, read.as_slice(), want.as_slice());
     Ok(())
 }

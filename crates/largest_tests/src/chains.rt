@@ -2,6 +2,7 @@
 
 ghost use Rattle.std.specs.Prelude.{◌≡◌, ◌<◌, ◌≤◌, IfOk, length};
 
+use crate::expecting::same;
 use page_memory::PageNo;
 use sgl_chain::{Chain, Part, pages_needed};
 use std::alloc::{AllocError, AllocGlobal, Global};
@@ -51,9 +52,9 @@ fn comes_back(
     let parts = numbered_parts(rt.alloc(), count)?;
     let pages = numbered_pages(rt.alloc(), needed)?;
     let chain = Chain::build(rt.alloc(), parts.as_slice(), pages.as_slice(), segment_size)?;
-    assert_eq!(rt; chain.segments(), needed);
+    same(rt, chain.segments(), needed);
     let again = chain.flatten(rt.alloc())?;
-    assert_eq!(rt; again.as_slice(), parts.as_slice());
+    same(rt, again.as_slice(), parts.as_slice());
     Ok(())
 }
 

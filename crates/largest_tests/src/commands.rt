@@ -1,5 +1,6 @@
 //! Commands of 1,024 pieces and 2,048 blocks, with two descriptors a segment: 1,024 data pages and 1,023 of the chain.
 
+use crate::expecting::same;
 use crate::making::{BLOCKS, blocks, largest};
 use crate::serving::{drafted, gathered, served};
 use block_image::Image;
@@ -16,9 +17,9 @@ fn the_largest_read_gathers_each_byte(rt: HostRuntime) -> Result<(), Fail> {
     let mut store = Store::open(rt.alloc(), 2_048)?;
     let request = largest(rt.alloc(), Kind::Read)?;
     let (entry, request, needed) = drafted(&rt, rt.alloc(), &mut store, request, None)?;
-    assert_eq!(rt; needed, 2_047);
+    same(&rt, needed, 2_047);
     let status = served(&rt, rt.alloc(), &mut store, &mut image, &entry)?;
-    assert_eq!(rt; status, Status::SUCCESS);
+    same(&rt, status, Status::SUCCESS);
     let read = gathered(&rt, rt.alloc(), &mut store, request, status, needed)?;
     assert!(rt; read.as_slice() == bytes.as_slice());
     Ok(())
@@ -38,9 +39,9 @@ fn the_largest_write_replaces_each_byte(rt: HostRuntime) -> Result<(), Fail> {
         Some(bytes.as_slice()),
     )?;
     let status = served(&rt, rt.alloc(), &mut store, &mut image, &entry)?;
-    assert_eq!(rt; status, Status::SUCCESS);
-    assert_eq!(rt; image.blocks(), BLOCKS);
-    assert_eq!(rt; bytes.len(), 512 * BLOCKS as usize);
+    same(&rt, status, Status::SUCCESS);
+    assert!(rt; image.blocks() == BLOCKS);
+    assert!(rt; bytes.len() == 512 * BLOCKS as usize);
     assert!(rt; image.equal(0, bytes.as_slice()));
     let read = gathered(&rt, rt.alloc(), &mut store, request, status, needed)?;
     assert!(rt; read.is_empty());
@@ -64,7 +65,7 @@ fn the_largest_compare_sees_the_last_byte(rt: HostRuntime) -> Result<(), Fail> {
         let request = largest(rt.alloc(), Kind::Compare)?;
         let (entry, _request, _needed) = drafted(&rt, rt.alloc(), &mut store, request, Some(data))?;
         let status = served(&rt, rt.alloc(), &mut store, &mut image, &entry)?;
-        assert_eq!(rt; status, want);
+        same(&rt, status, want);
     }
     Ok(())
 }

@@ -9,6 +9,8 @@ mod chains;
 #[cfg(test)]
 mod commands;
 #[cfg(test)]
+mod expecting;
+#[cfg(test)]
 mod making;
 #[cfg(test)]
 mod missing;

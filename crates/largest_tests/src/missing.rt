@@ -1,5 +1,6 @@
 //! Walks that move 512 bytes over a memory in which one byte is missing.
 
+use crate::expecting::same;
 use controller_walk::{Walk, WalkState};
 use entry_codec::Status;
 use page_memory::{FlatMemory, TouchRecord};
@@ -18,13 +19,13 @@ fn fault_of(
     let mut walk = Walk::begin(sgl1.write(), direction, 512);
     for steps in 0..8 {
         assert!(rt; !walk.is_over());
-        assert_eq!(rt; walk.need(), 512);
+        same(rt, walk.need(), 512);
         memory.clear();
         match walk.step(memory, staging) {
             WalkState::More => {}
             WalkState::End => return Err(Fail::from("it ends well")),
             WalkState::Fault(status) => {
-                assert_eq!(rt; memory.touched().len(), 0);
+                same(rt, memory.touched().len(), 0);
                 return Ok((steps, status));
             }
         }
@@ -41,13 +42,13 @@ fn a_missing_byte_of_the_data_is_met(rt: HostRuntime) -> Result<(), Fail> {
     for place in [0x2000, 0x2100, 0x21FF] {
         for direction in [Direction::Destination, Direction::Source] {
             let mut memory = FlatMemory::zeroed(rt.alloc(), 8)?;
-            assert_eq!(rt; memory.pages(), 8);
+            same(&rt, memory.pages(), 8);
             memory.remove(place, 1);
             let mut staging = [7; 512];
             let met = fault_of(&rt, &mut memory, block, direction, &mut staging)?;
-            assert_eq!(rt; met, (1, Status { sct: 0, sc: 0x04 }));
-            assert_eq!(rt; staging, [7; 512]);
-            assert_eq!(rt; memory.byte(0x2080), Some(0));
+            same(&rt, met, (1, Status { sct: 0, sc: 0x04 }));
+            same(&rt, staging, [7; 512]);
+            same(&rt, memory.byte(0x2080), Some(0));
         }
     }
     Ok(())
@@ -61,12 +62,12 @@ fn a_missing_byte_of_a_descriptor_is_met(rt: HostRuntime) -> Result<(), Fail> {
     };
     for place in [0x1000, 0x1007, 0x100F] {
         let mut memory = FlatMemory::zeroed(rt.alloc(), 8)?;
-        assert_eq!(rt; memory.pages(), 8);
+        same(&rt, memory.pages(), 8);
         memory.remove(place, 1);
         let mut staging = [7; 512];
         let met = fault_of(&rt, &mut memory, link, Direction::Source, &mut staging)?;
-        assert_eq!(rt; met, (1, Status { sct: 0, sc: 0x04 }));
-        assert_eq!(rt; staging, [7; 512]);
+        same(&rt, met, (1, Status { sct: 0, sc: 0x04 }));
+        same(&rt, staging, [7; 512]);
     }
     Ok(())
 }
@@ -78,20 +79,21 @@ fn a_missing_byte_beside_the_data_is_not_met(rt: HostRuntime) -> Result<(), Fail
         len: 512,
     };
     let mut memory = FlatMemory::zeroed(rt.alloc(), 8)?;
-    assert_eq!(rt; memory.pages(), 8);
+    same(&rt, memory.pages(), 8);
     memory.remove(0x2000, 1);
-    assert_eq!(rt; memory.pages(), 8);
+    same(&rt, memory.pages(), 8);
     memory.remove(0x2201, 1);
     let mut staging = [7; 512];
     let mut walk = Walk::begin(block.write(), Direction::Destination, 512);
-    assert_eq!(rt; walk.step(&mut memory, &mut staging), WalkState::More);
+    same(&rt, walk.step(&mut memory, &mut staging), WalkState::More);
     assert!(rt; !walk.is_over());
-    assert_eq!(rt; walk.need(), 512);
+    same(&rt, walk.need(), 512);
     memory.clear();
-    assert_eq!(rt; walk.step(&mut memory, &mut staging), WalkState::End);
-    assert_eq!(rt;
+    same(&rt, walk.step(&mut memory, &mut staging), WalkState::End);
+    same(
+        &rt,
         (memory.byte(0x2001), memory.byte(0x2200)),
-        (Some(7), Some(7))
+        (Some(7), Some(7)),
     );
     Ok(())
 }

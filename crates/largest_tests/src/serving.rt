@@ -2,6 +2,7 @@
 
 ghost use Rattle.std.specs.Prelude.{◌≤◌};
 
+use crate::expecting::same;
 use block_image::Image;
 use entry_codec::{Status, SubEntry};
 use io_commands::{Draft, DraftParts, Finished, Job, Request, begin_job, finish_job};
@@ -52,10 +53,10 @@ pub(crate) fn drafted(
     let count = request.data_pages();
     let needed = count + pages_needed(request.pieces().len(), 2);
     let pages = taken(alloc, store, needed)?;
-    assert_eq!(rt; pages.len(), needed);
+    same(rt, pages.len(), needed);
     let (front, _) = pages.split_at(count);
     let parts = request.parts_in(alloc, front)?;
-    assert_eq!(rt; parts.len(), request.pieces().len());
+    same(rt, parts.len(), request.pieces().len());
     let mut draft = Draft::make(1, 3, request, pages, 2);
     let filled = match bytes {
         Some(bytes) => draft.fill(bytes),
@@ -95,7 +96,7 @@ pub(crate) fn served(
     let mut job = begin_job(alloc, entry, image)?;
     walk(rt, store, &mut job);
     assert!(rt; job.verdict().is_some());
-    assert_eq!(rt; job.blocks(), image.blocks());
+    same(rt, job.blocks(), image.blocks());
     Ok(finish_job(job, image))
 }
 
@@ -115,6 +116,6 @@ pub(crate) fn gathered(
     let kind = finished.kind();
     let bytes = finished.gather(alloc);
     let parts = finished.apart();
-    assert_eq!(rt; parts.request.kind, kind);
+    same(rt, parts.request.kind, kind);
     Ok(bytes?)
 }

@@ -1,5 +1,6 @@
 //! The largest world: 65,536 pages, 64 queues of 1,024 entries, and a Read of the most blocks in the most pieces.
 
+use crate::expecting::same;
 use crate::making::{BLOCKS, blocks, largest};
 use block_image::Image;
 use controller_walk::WalkState;
@@ -109,7 +110,7 @@ fn the_largest_world_reads_each_byte(rt: HostRuntime) -> Result<(), Fail> {
     let copy = Vec::from_slice(rt.alloc(), bytes.as_slice())?;
     let image = Image::from_bytes(copy).ok().ok_or("an image")?;
     let mut world = open(rt.alloc(), image)?;
-    assert_eq!(rt; world.counts(), AS_OPENED);
+    same(&rt, world.counts(), AS_OPENED);
     let request = largest(rt.alloc(), Kind::Read)?;
     let draft = built(&mut world, rt.alloc(), request)?;
     let ticket = submitted(&mut world, draft)?;
@@ -117,15 +118,16 @@ fn the_largest_world_reads_each_byte(rt: HostRuntime) -> Result<(), Fail> {
     let reaped = world.reap(LAST);
     let finished = collected(&mut world, ticket)?;
     let read = gathered(&mut world, rt.alloc(), finished)?;
-    assert_eq!(rt; steps, Some(1_024 + 1_023 + 1_024));
-    assert_eq!(rt;
+    same(&rt, steps, Some(1_024 + 1_023 + 1_024));
+    same(
+        &rt,
         reaped.ok(),
         Some(Reaped::Done {
             cid: 0,
-            status: Status::SUCCESS
-        })
+            status: Status::SUCCESS,
+        }),
     );
     assert!(rt; read.as_slice() == bytes.as_slice());
-    assert_eq!(rt; world.counts(), AS_OPENED);
+    same(&rt, world.counts(), AS_OPENED);
     Ok(())
 }

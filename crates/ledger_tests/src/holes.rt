@@ -4,6 +4,7 @@ ghost use Rattle.std.specs.Prelude.{◌≡◌, ◌<◌, ◌++◌};
 ghost use Rattle.page_ledger.specs.Lists.{ListsAll};
 ghost use Rattle.page_ledger.specs.Owners.{is_among as spec_is_among, is_command as spec_is_command, is_half as spec_is_half, pages_from};
 
+use crate::expecting::{same, same_at};
 use page_ledger::{Ledger, Owner, Role};
 use page_memory::{Half, PageNo};
 use std::alloc::{AllocError, Global};
@@ -259,14 +260,14 @@ impl Pool {
     /// Sees that each page has the owner of the plain list.
     fn see(&self, rt: &impl Abort) {
         let pages = self.ledger.pages();
-        assert_eq!(rt; pages as usize, self.plain.len());
+        assert!(rt; pages as usize == self.plain.len());
         let mut free = 0u32;
         for p in 0..pages {
             let owner = self.ledger.owner(PageNo(p));
-            assert_eq!(rt; owner, self.plain[p as usize], "page {p}");
+            same_at(rt, p, owner, self.plain[p as usize]);
             free = free.wrapping_add(u32::from(owner.is_free()));
         }
-        assert_eq!(rt; self.ledger.counts().free_pages, free);
+        same(rt, self.ledger.counts().free_pages, free);
     }
 
     /// Looks for pages: the lowest run of so many, and so many of the lowest that are free.
@@ -274,7 +275,7 @@ impl Pool {
         assert!(rt; 0 < k);
         assert!(rt; k <= 1_024);
         let first = self.ledger.lowest_run(k).map(|p| p.0);
-        assert_eq!(rt; first, lowest_run(&self.plain, k));
+        same(rt, first, lowest_run(&self.plain, k));
         let lowest = lowest_free(self.alloc, &self.plain, k)?;
         let free = self.ledger.lowest_free(k);
         assert!(rt; free.as_slice() == lowest.as_slice());
@@ -304,7 +305,7 @@ impl Pool {
         assert!(rt; 0 < k);
         let lowest = lowest_run(&self.plain, k);
         let first = self.ledger.grant_run(owner, k).map(|p| p.0);
-        assert_eq!(rt; first, lowest);
+        same(rt, first, lowest);
         if let Some(first) = first {
             for i in 0..k {
                 give(&mut self.plain, first.wrapping_add(i), owner);
@@ -322,7 +323,7 @@ impl Pool {
             self.ledger.give_back_pages(q, cid, &data, &chain);
         } else {
             let freed = self.ledger.give_back(q, cid);
-            assert_eq!(rt; freed as usize, data.len() + chain.len());
+            same(rt, freed as usize, data.len() + chain.len());
         }
         give_all(&mut self.plain, &data, Owner::Free);
         give_all(&mut self.plain, &chain, Owner::Free);
@@ -337,7 +338,7 @@ impl Pool {
             self.ledger.give_back_run(q, half, PageNo(first), k);
         } else {
             let freed = self.ledger.give_back_half(q, half);
-            assert_eq!(rt; freed as usize, pages.len());
+            same(rt, freed as usize, pages.len());
         }
         give_all(&mut self.plain, &pages, Owner::Free);
         Ok(())
@@ -348,7 +349,7 @@ impl Pool {
         let first = pages_of_half(self.alloc, &self.plain, q, Half::Submission)?;
         let second = pages_of_half(self.alloc, &self.plain, q, Half::Completion)?;
         let freed = self.ledger.give_back_queue(q);
-        assert_eq!(rt; freed as usize, first.len() + second.len());
+        same(rt, freed as usize, first.len() + second.len());
         give_all(&mut self.plain, &first, Owner::Free);
         give_all(&mut self.plain, &second, Owner::Free);
         Ok(())
@@ -411,14 +412,14 @@ fn ten_thousand_calls_beside_a_plain_list(rt: HostRuntime) -> Result<(), Fail> {
 fn pools_are_granted_to_their_last_page(rt: HostRuntime) -> Result<(), Fail> {
     for pages in [63, 64, 65, 127, 128, 129] {
         let mut pool = Pool::open(rt.alloc(), pages)?;
-        assert_eq!(rt; pool.grant_run(&rt, FIRST, pages + 1), None);
-        assert_eq!(rt; pool.grant_run(&rt, FIRST, pages), Some(0));
+        same(&rt, pool.grant_run(&rt, FIRST, pages + 1), None);
+        same(&rt, pool.grant_run(&rt, FIRST, pages), Some(0));
         pool.grant(&rt, SECOND, 1)?;
         pool.see(&rt);
         pool.give_back(&rt, 1, 1, true)?;
         pool.grant(&rt, FIRST, pages - 1)?;
-        assert_eq!(rt; pool.grant_run(&rt, SECOND, 1), Some(pages - 1));
-        assert_eq!(rt; pool.grant_run(&rt, SECOND, 1), None);
+        same(&rt, pool.grant_run(&rt, SECOND, 1), Some(pages - 1));
+        same(&rt, pool.grant_run(&rt, SECOND, 1), None);
         pool.see(&rt);
     }
     Ok(())
@@ -431,15 +432,15 @@ fn runs_of_many_pages(rt: HostRuntime) -> Result<(), Fail> {
     pool.look(&rt, 401)?;
     pool.grant(&rt, FIRST, 60)?;
     // pages 60 to 68
-    assert_eq!(rt; pool.grant_run(&rt, SECOND, 9), Some(60));
+    same(&rt, pool.grant_run(&rt, SECOND, 9), Some(60));
     pool.grant(&rt, FIRST, 1)?;
-    assert_eq!(rt; pool.grant_run(&rt, FIRST, 331), None);
-    assert_eq!(rt; pool.grant_run(&rt, FIRST, 130), Some(70));
+    same(&rt, pool.grant_run(&rt, FIRST, 331), None);
+    same(&rt, pool.grant_run(&rt, FIRST, 130), Some(70));
     pool.give_back(&rt, 1, 2, true)?;
     // free are 60 to 68, and from 200 on
-    assert_eq!(rt; pool.grant_run(&rt, SECOND, 10), Some(200));
-    assert_eq!(rt; pool.grant_run(&rt, SECOND, 9), Some(60));
-    assert_eq!(rt; pool.grant_run(&rt, SECOND, 190), Some(210));
+    same(&rt, pool.grant_run(&rt, SECOND, 10), Some(200));
+    same(&rt, pool.grant_run(&rt, SECOND, 9), Some(60));
+    same(&rt, pool.grant_run(&rt, SECOND, 190), Some(210));
     pool.see(&rt);
     Ok(())
 }
@@ -455,8 +456,8 @@ fn the_greatest_pool_has_one_free_page(rt: HostRuntime) -> Result<(), Fail> {
         pool.give_back(&rt, 1, 2, false)?;
         pool.look(&rt, 1)?;
         pool.look(&rt, 1_024)?;
-        assert_eq!(rt; pool.grant_run(&rt, SECOND, 2), None);
-        assert_eq!(rt; pool.grant_run(&rt, SECOND, 1), Some(page));
+        same(&rt, pool.grant_run(&rt, SECOND, 2), None);
+        same(&rt, pool.grant_run(&rt, SECOND, 1), Some(page));
         pool.see(&rt);
     }
     Ok(())

@@ -1,6 +1,7 @@
 //! A ledger through its calls: pools of the least and of the greatest size, a fragmented one, and a script that is compared with
 //! a plain array of owners.
 
+use crate::expecting::{same, same_at};
 use page_ledger::{Counts, Ledger, NoPages, OpenFault, Owner, Role};
 use page_memory::{Half, PageNo};
 use std::process::Abort;
@@ -71,10 +72,11 @@ fn owner(rt: &impl Abort, ledger: &Ledger, p: u32) -> Owner {
 #[test]
 fn opens_within_its_limits(rt: HostRuntime) -> Result<(), Fail> {
     for pages in [0, 7, 65_537] {
-        assert_eq!(rt;
+        same_at(
+            &rt,
+            pages,
             Ledger::open(rt.alloc(), pages).err(),
             Some(OpenFault::BadSize),
-            "at {pages}"
         );
     }
     for pages in [8, 65_536] {
@@ -85,9 +87,9 @@ fn opens_within_its_limits(rt: HostRuntime) -> Result<(), Fail> {
             chain_pages: 0,
             data_pages: 0,
         };
-        assert_eq!(rt; ledger.pages(), pages);
-        assert_eq!(rt; ledger.counts(), free);
-        assert_eq!(rt; owner(&rt, &ledger, pages - 1), Owner::Free);
+        same(&rt, ledger.pages(), pages);
+        same(&rt, ledger.counts(), free);
+        same(&rt, owner(&rt, &ledger, pages - 1), Owner::Free);
     }
     Ok(())
 }
@@ -99,30 +101,31 @@ fn grants_until_nothing_is_left(rt: HostRuntime) -> Result<(), Fail> {
         let mut granted = Vec::with_capacity(rt.alloc(), pages as usize + 4)?;
         grant(&rt, &mut ledger, DATA, pages - 3, &mut granted)?;
         let refused = NoPages { need: 4, free: 3 };
-        assert_eq!(rt;
+        same(
+            &rt,
             grant(&rt, &mut ledger, CHAIN, 4, &mut granted),
-            Err(refused)
+            Err(refused),
         );
-        assert_eq!(rt; granted.len(), pages as usize - 3);
+        same(&rt, granted.len(), pages as usize - 3);
         grant(&rt, &mut ledger, SUBMISSION, 3, &mut granted)?;
         for (i, page) in granted.iter().enumerate() {
-            assert_eq!(rt; page.0 as usize, i);
+            same(&rt, page.0 as usize, i);
         }
-        assert_eq!(rt; owner(&rt, &ledger, pages - 4), DATA);
-        assert_eq!(rt; owner(&rt, &ledger, pages - 3), SUBMISSION);
+        same(&rt, owner(&rt, &ledger, pages - 4), DATA);
+        same(&rt, owner(&rt, &ledger, pages - 3), SUBMISSION);
         let full = Counts {
             free_pages: 0,
             queue_pages: 3,
             chain_pages: 0,
             data_pages: pages - 3,
         };
-        assert_eq!(rt; ledger.counts(), full);
-        assert_eq!(rt; grant(&rt, &mut ledger, CHAIN, 0, &mut granted), Ok(()));
-        assert_eq!(rt; grant_run(&rt, &mut ledger, CHAIN, 1), None);
+        same(&rt, ledger.counts(), full);
+        same(&rt, grant(&rt, &mut ledger, CHAIN, 0, &mut granted), Ok(()));
+        same(&rt, grant_run(&rt, &mut ledger, CHAIN, 1), None);
     }
     let refused = NoPages { need: 4, free: 3 };
     let text = format!(in rt.alloc(); "{refused}")?;
-    assert_eq!(rt; text.as_str(), "4 pages are needed, and 3 are free");
+    same(&rt, text.as_str(), "4 pages are needed, and 3 are free");
     Ok(())
 }
 
@@ -145,10 +148,10 @@ fn finds_runs_in_a_fragmented_pool(rt: HostRuntime) -> Result<(), Fail> {
         (Call::Run(OTHER, 1), Some(4)),
     ] {
         let answer = ledger_step(&rt, &mut ledger, &mut granted, call);
-        assert_eq!(rt; answer, want);
+        same(&rt, answer, want);
     }
-    assert_eq!(rt; owner(&rt, &ledger, 2), DATA);
-    assert_eq!(rt; owner(&rt, &ledger, 4), OTHER);
+    same(&rt, owner(&rt, &ledger, 2), DATA);
+    same(&rt, owner(&rt, &ledger, 4), OTHER);
     Ok(())
 }
 
@@ -167,12 +170,12 @@ fn grants_the_lowest_pages_after_a_give_back(rt: HostRuntime) -> Result<(), Fail
         (Call::Back(1, 9), 4),
     ] {
         let answer = ledger_step(&rt, &mut ledger, &mut granted, call);
-        assert_eq!(rt; answer, Some(want));
+        same(&rt, answer, Some(want));
     }
     let mut again = Vec::with_capacity(rt.alloc(), 8)?;
     grant(&rt, &mut ledger, OTHER, 8, &mut again)?;
     for (i, page) in again.iter().enumerate() {
-        assert_eq!(rt; page.0 as usize, i);
+        same(&rt, page.0 as usize, i);
     }
     Ok(())
 }
@@ -327,14 +330,15 @@ fn agrees_with_a_plain_array(rt: HostRuntime) -> Result<(), Fail> {
     let mut granted = Vec::with_capacity(rt.alloc(), 64)?;
     for (i, call) in script.iter().enumerate() {
         let answer = ledger_step(&rt, &mut ledger, &mut granted, *call);
-        assert_eq!(rt; answer, plain_step(&mut plain, *call), "call {i}");
+        same_at(&rt, i, answer, plain_step(&mut plain, *call));
         for (p, is) in plain.iter().enumerate() {
-            assert_eq!(rt; owner(&rt, &ledger, p as u32), *is, "call {i}, page {p}");
+            same_at(&rt, (i, p), owner(&rt, &ledger, p as u32), *is);
         }
-        assert_eq!(rt;
+        same_at(
+            &rt,
+            i,
             ledger.counts().free_pages as usize,
             plain_free(&plain),
-            "call {i}"
         );
     }
     Ok(())

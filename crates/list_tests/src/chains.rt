@@ -3,6 +3,7 @@
 ghost use Rattle.std.specs.Prelude.{◌<◌, length};
 
 use crate::building::{built, in_heap, needed, numbered_parts};
+use crate::expecting::same;
 use page_memory::{PageNo, Store};
 use sgl_chain::{BuildFault, Chain, Part, join_parts};
 use std::alloc::{AllocError, Global};
@@ -22,8 +23,8 @@ fn see_round_trip(
     let segments = chain.segments();
     let again = chain.flatten(alloc)?;
     assert!(rt; again.as_slice() == parts.as_slice());
-    assert_eq!(rt; segments, wanted);
-    assert_eq!(rt; needed(rt, parts.len(), segment), wanted);
+    same(rt, segments, wanted);
+    same(rt, needed(rt, parts.len(), segment), wanted);
     Ok(())
 }
 
@@ -57,8 +58,8 @@ fn refused(rt: &impl Abort, alloc: Global, count: u32) -> Result<Option<BuildFau
 fn one_part_more_is_too_many(rt: HostRuntime) -> Result<(), Fail> {
     let most = refused(&rt, rt.alloc(), 1_024)?;
     let more = refused(&rt, rt.alloc(), 1_025)?;
-    assert_eq!(rt; most, None);
-    assert_eq!(rt; more, Some(BuildFault::TooManyParts));
+    same(&rt, most, None);
+    same(&rt, more, Some(BuildFault::TooManyParts));
     Ok(())
 }
 
@@ -190,8 +191,8 @@ fn data_and_bucket_stand_on_one_page(rt: HostRuntime) -> Result<(), Fail> {
 fn a_refused_chain_leaves_its_heap_empty(rt: HostRuntime) -> Result<(), Fail> {
     let small = in_heap(&rt, rt.alloc(), 64, 100, 256)?;
     let middle = in_heap(&rt, rt.alloc(), 1_024, 100, 2)?;
-    assert_eq!(rt; small, Some(BuildFault::Memory));
-    assert_eq!(rt; middle, Some(BuildFault::Memory));
+    same(&rt, small, Some(BuildFault::Memory));
+    same(&rt, middle, Some(BuildFault::Memory));
     Ok(())
 }
 
@@ -199,7 +200,7 @@ fn a_refused_chain_leaves_its_heap_empty(rt: HostRuntime) -> Result<(), Fail> {
 fn a_dropped_chain_leaves_its_heap_empty(rt: HostRuntime) -> Result<(), Fail> {
     for segment in [256, 2] {
         let fault = in_heap(&rt, rt.alloc(), 65_536, 100, segment)?;
-        assert_eq!(rt; fault, None);
+        same(&rt, fault, None);
     }
     Ok(())
 }

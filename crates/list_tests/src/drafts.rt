@@ -1,6 +1,7 @@
 //! Drafts and finished commands that are made, used and taken apart.
 
 use crate::asked::{Asked, BLOCK, BUCKET, PAGE, Pages, drafted, joined};
+use crate::expecting::{same, same_at};
 use entry_codec::{Status, SubEntry};
 use io_commands::*;
 use page_memory::{PageNo, Store};
@@ -60,10 +61,10 @@ fn finished(rt: &impl Abort, alloc: Global) -> Result<Finished, Fail> {
 
 /// Sees that bytes are 256 of one page and 256 of the other.
 fn see_halves(rt: &impl Abort, bytes: &[u8]) {
-    assert_eq!(rt; bytes.len(), 512);
+    same(rt, bytes.len(), 512);
     for (i, byte) in bytes.iter().enumerate() {
         let wanted = if i < 256 { 0xA0 } else { 0xB0 };
-        assert_eq!(rt; *byte, wanted, "at {i}");
+        same_at(rt, i, *byte, wanted);
     }
 }
 
@@ -83,15 +84,15 @@ fn a_finished_command_keeps_what_it_is_made_of(rt: HostRuntime) -> Result<(), Fa
     let named = (done.q(), done.cid(), done.status());
     let pages = done.pages().len();
     let parts = done.apart();
-    assert_eq!(rt; named, (1, 3, Status::SUCCESS));
-    assert_eq!(rt; (pages, parts.q, parts.pages.len()), (2, 1, 2));
+    same(&rt, named, (1, 3, Status::SUCCESS));
+    same(&rt, (pages, parts.q, parts.pages.len()), (2, 1, 2));
     Ok(())
 }
 
 #[test]
 fn a_ticket_names_its_command(rt: HostRuntime) {
     let named = Ticket::make(1, 3).apart();
-    assert_eq!(rt; named, (1, 3));
+    same(&rt, named, (1, 3));
 }
 
 /// Three blocks, each on a page of its own.
@@ -123,8 +124,8 @@ fn a_draft_is_filled_with_the_bytes_of_its_data(rt: HostRuntime) -> Result<(), F
     let filled = draft.fill(&[0xCD; 1_536]);
     let _parts = draft.apart();
     filled?;
-    assert_eq!(rt; unbuilt, None);
-    assert_eq!(rt; short, Err(FillFault::WrongLength));
+    same(&rt, unbuilt, None);
+    same(&rt, short, Err(FillFault::WrongLength));
     Ok(())
 }
 
@@ -143,15 +144,17 @@ fn built_of_three(rt: &impl Abort, alloc: Global) -> Result<(SubEntry, Pages), F
 #[test]
 fn a_built_draft_names_its_chain(rt: HostRuntime) -> Result<(), Fail> {
     let (entry, pages) = built_of_three(&rt, rt.alloc())?;
-    assert_eq!(rt;
+    same(
+        &rt,
         entry.sgl1,
-        [0, 0x70, 0, 0, 0, 0, 0, 0, 0x20, 0, 0, 0, 0, 0, 0, 0x20]
+        [0, 0x70, 0, 0, 0, 0, 0, 0, 0x20, 0, 0, 0, 0, 0, 0, 0x20],
     );
-    assert_eq!(rt;
+    same(
+        &rt,
         (entry.opcode, entry.psdt, entry.nsid, entry.cdw12),
-        (1, 1, 1, 2)
+        (1, 1, 1, 2),
     );
-    assert_eq!(rt; pages.len(), 5);
+    same(&rt, pages.len(), 5);
     assert!(rt; begins_with(&pages, 3, &FIRST_SEGMENT));
     Ok(())
 }
@@ -170,7 +173,7 @@ fn whole_pages_that_join_are_one_part(rt: HostRuntime) -> Result<(), Fail> {
         addr: 0x4000,
         len: 0x4000,
     };
-    assert_eq!(rt; joined.as_slice(), [whole].as_slice());
+    same(&rt, joined.as_slice(), [whole].as_slice());
     Ok(())
 }
 
@@ -181,10 +184,11 @@ fn whole_pages_that_join_take_no_chain(rt: HostRuntime) -> Result<(), Fail> {
     let entry = draft.entry();
     let parts = draft.apart();
     built?;
-    assert_eq!(rt; parts.pages.len(), 4);
-    assert_eq!(rt;
+    same(&rt, parts.pages.len(), 4);
+    same(
+        &rt,
         entry.ok_or("built")?.sgl1,
-        [0, 0x40, 0, 0, 0, 0, 0, 0, 0, 0x40, 0, 0, 0, 0, 0, 0]
+        [0, 0x40, 0, 0, 0, 0, 0, 0, 0, 0x40, 0, 0, 0, 0, 0, 0],
     );
     Ok(())
 }

@@ -1,5 +1,6 @@
 //! Commands from their fetch to their completion, over an image of two blocks and a store of eight pages.
 
+use crate::expecting::same;
 use block_image::Image;
 use entry_codec::{Status, SubEntry, io_opcode};
 use io_commands::{Job, begin_job, finish_job};
@@ -71,7 +72,7 @@ fn see_served(
 ) -> Result<(), Fail> {
     for (opcode, slba, len, status) in commands {
         let ended = serve(rt, alloc, store, image, &entry(*opcode, *slba, *len))?;
-        assert_eq!(rt; ended, *status);
+        same(rt, ended, *status);
     }
     Ok(())
 }
@@ -103,7 +104,7 @@ fn see_read(rt: &impl Abort, store: &mut Store) {
     store.clear();
     assert!(rt; store.read(8_192, &mut bytes).is_ok());
     assert!(rt; bytes.starts_with(&[0; 512]));
-    assert_eq!(rt; bytes[512], 0x5A);
+    same(rt, bytes[512], 0x5A);
 }
 
 /// A block is compared in vain, written and compared.
@@ -169,7 +170,7 @@ fn a_stopped_command_leaves_the_image(rt: HostRuntime) -> Result<(), Fail> {
     assert!(rt; job.verdict() == None && job.blocks() == image.blocks());
     job.stop(Status::ABORT_REQUESTED);
     let ended = finish_job(job, &mut image);
-    assert_eq!(rt; ended, Status { sct: 0, sc: 0x07 });
+    same(&rt, ended, Status { sct: 0, sc: 0x07 });
     assert!(rt; is_block_of(&rt, &image, 1, 0));
     Ok(())
 }

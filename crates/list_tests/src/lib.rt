@@ -11,6 +11,8 @@ mod chains;
 #[cfg(test)]
 mod drafts;
 #[cfg(test)]
+mod expecting;
+#[cfg(test)]
 mod heaps;
 #[cfg(test)]
 mod jobs;

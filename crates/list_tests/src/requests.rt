@@ -3,6 +3,7 @@
 ghost use Rattle.std.specs.Prelude.{◌≤◌};
 
 use crate::asked::{Asked, BLOCK, BUCKET, PAGE};
+use crate::expecting::{same, same_at};
 use io_commands::*;
 use page_memory::PageNo;
 use sgl_chain::pages_needed;
@@ -156,12 +157,7 @@ fn see_fault(
     wanted: Option<RequestFault>,
 ) -> Result<(), Fail> {
     let fault = asked.request(alloc)?.check().err();
-    assert_eq!(rt;
-        fault,
-        wanted,
-        "{:?} of {} blocks",
-        asked.kind, asked.blocks
-    );
+    same_at(rt, (asked.kind, asked.blocks), fault, wanted);
     Ok(())
 }
 
@@ -190,8 +186,8 @@ fn see_chain_pages(
     let request = FOUR_PAGES.request(alloc)?;
     assert!(rt; request.check().is_ok());
     let pages = numbers.map(|number| PageNo(number));
-    assert_eq!(rt; request.data_pages(), pages.len());
-    assert_eq!(rt; request.chain_pages(&pages, 2), wanted);
+    same(rt, request.data_pages(), pages.len());
+    same(rt, request.chain_pages(&pages, 2), wanted);
     Ok(())
 }
 
@@ -253,8 +249,8 @@ fn see_fewest(
     let request = asked.request(alloc)?;
     assert!(rt; request.check().is_ok());
     let least = request.least_pages(segment);
-    assert_eq!(rt; least as usize, fewest_plainly(&request, segment));
-    assert_eq!(rt; least, wanted);
+    same(rt, least as usize, fewest_plainly(&request, segment));
+    same(rt, least, wanted);
     Ok(())
 }
 

@@ -2,6 +2,7 @@
 
 ghost use Rattle.std.specs.Prelude.{◌<◌, ◌≤◌, length};
 
+use crate::expecting::same;
 use controller_walk::{Direction, Walk, WalkState};
 use entry_codec::Status;
 use page_memory::{FlatMemory, PageNo, Store, TouchRecord};
@@ -141,9 +142,9 @@ fn see_step<D: TouchRecord>(
     (answer, pages): &Step,
 ) {
     assert!(rt; !walk.is_over());
-    assert_eq!(rt; walk.need() as usize, staging.len());
+    same(rt, walk.need() as usize, staging.len());
     memory.clear();
-    assert_eq!(rt; walk.step(memory, staging), *answer);
+    same(rt, walk.step(memory, staging), *answer);
     assert!(rt; has_pages(memory.touched(), pages));
 }
 
@@ -157,7 +158,7 @@ fn follow<D: TouchRecord>(rt: &impl Abort, memory: &mut D, staging: &mut [u8], r
         see_step(rt, memory, &mut walk, staging, step);
     }
     assert!(rt; walk.is_over());
-    assert_eq!(rt; walk.left(), 0);
+    same(rt, walk.left(), 0);
 }
 
 /// Walks a route over memory, and sees what it gives.
@@ -181,7 +182,7 @@ fn see_refused<D: TouchRecord>(rt: &impl Abort, memory: &mut D, last: u8) {
     let mut walk = Walk::begin(sgl1, Direction::Destination, 512);
     let mut staging = [7; 512];
     memory.clear();
-    assert_eq!(rt; walk.step(memory, &mut staging), BAD_TYPE);
+    same(rt, walk.step(memory, &mut staging), BAD_TYPE);
 }
 
 /// Does what events say with a memory.
@@ -303,7 +304,7 @@ fn blocks_have_the_wanted_length(rt: HostRuntime) -> Result<(), Fail> {
 fn next<D: TouchRecord>(rt: &impl Abort, memory: &mut D, walk: &mut Walk) -> WalkState {
     let mut staging = [0; 512];
     assert!(rt; !walk.is_over());
-    assert_eq!(rt; walk.need(), 512);
+    same(rt, walk.need(), 512);
     memory.clear();
     walk.step(memory, &mut staging)
 }
@@ -316,11 +317,11 @@ fn cycle_over<D: TouchRecord>(rt: &impl Abort, memory: &mut D) {
     };
     put(rt, memory, 0x1000, link);
     let mut walk = Walk::begin(link.write(), Direction::Destination, 512);
-    assert_eq!(rt; walk.left(), 12_289);
+    same(rt, walk.left(), 12_289);
     for _ in 0..4096 {
-        assert_eq!(rt; next(rt, memory, &mut walk), MORE);
+        same(rt, next(rt, memory, &mut walk), MORE);
     }
-    assert_eq!(rt; next(rt, memory, &mut walk), BAD_COUNT);
+    same(rt, next(rt, memory, &mut walk), BAD_COUNT);
     assert!(rt; memory.touched().is_empty());
 }
 
@@ -686,7 +687,7 @@ fn a_page_with_a_missing_byte_ends_the_walk(rt: HostRuntime) -> Result<(), Fail>
     let mut flat = FlatMemory::zeroed(rt.alloc(), 8)?;
     flat.remove(0x5800, 1);
     play(&rt, rt.alloc(), &mut flat, &MISSING_PAGE)?;
-    assert_eq!(rt; flat.byte(0x5000), Some(0));
+    same(&rt, flat.byte(0x5000), Some(0));
     Ok(())
 }
 
@@ -716,7 +717,7 @@ static SHORT_DESCRIPTOR: [Event; 1] = [Event::Walk(Route {
 fn a_descriptor_with_a_missing_byte_ends_the_walk(rt: HostRuntime) -> Result<(), Fail> {
     let mut flat = FlatMemory::zeroed(rt.alloc(), 8)?;
     play(&rt, rt.alloc(), &mut flat, &ONE_BLOCK)?;
-    assert_eq!(rt; flat.pages(), 8);
+    same(&rt, flat.pages(), 8);
     flat.remove(0x100F, 1);
     play(&rt, rt.alloc(), &mut flat, &SHORT_DESCRIPTOR)
 }

@@ -1,5 +1,6 @@
 //! A bench of a small pool whose pages are recounted after each step, and what its answers tell.
 
+use crate::expecting::same;
 use crate::requests::BLOCKS;
 use crate::rings::{ENTRIES, Rings, Stage};
 use block_image::Image;
@@ -121,9 +122,9 @@ impl Desk {
                 counts = counted(counts, self.bench.owner(PageNo(p)));
             }
         }
-        assert_eq!(rt; self.bench.pages(), PAGES);
-        assert_eq!(rt; counts, self.bench.counts());
-        assert_eq!(rt; self.bench.trusted(), self.trusted);
+        same(rt, self.bench.pages(), PAGES);
+        same(rt, counts, self.bench.counts());
+        same(rt, self.bench.trusted(), self.trusted);
     }
 
     /// Does a step, and recounts.

@@ -5,6 +5,8 @@
 #[cfg(test)]
 mod desk;
 #[cfg(test)]
+mod expecting;
+#[cfg(test)]
 mod forging;
 #[cfg(test)]
 mod moves;

@@ -1,5 +1,6 @@
 //! Steps of scripts on a bench, each with what it must answer behind an arrow.
 
+use crate::expecting::same;
 use block_image::Image;
 use page_ledger::Counts;
 use script_cli::{Line, Verb, append_reply, read_script};
@@ -80,6 +81,6 @@ pub(crate) fn see_rest(rt: &impl Abort, bench: &Bench, queue_pages: u32) {
         chain_pages: 0,
         data_pages: 0,
     };
-    assert_eq!(rt; bench.counts(), wanted);
+    same(rt, bench.counts(), wanted);
     assert!(rt; bench.trusted());
 }

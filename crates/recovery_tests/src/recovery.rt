@@ -1,6 +1,7 @@
 //! Two hundred times ten thousand arbitrary steps, with forged completions among them, and then a reset.
 
 use crate::desk::{Desk, Seen, at_rest};
+use crate::expecting::same;
 use crate::moves::{any_step, cancel, collect, release};
 use crate::numbers::Numbers;
 use crate::rings::{COMMANDS, Rings, Stage};
@@ -29,7 +30,7 @@ fn give_back(rt: &impl Abort, desk: &mut Desk, q: u16, cid: u16, stage: Stage) {
         }
         Stage::Waiting => {
             match collect(rt, desk, q, cid) {
-                Reply::Collected(status) => assert_eq!(rt; status, Status::ABORTED_SQ_DELETION),
+                Reply::Collected(status) => same(rt, status, Status::ABORTED_SQ_DELETION),
                 _ => panic!(rt; "a command was not collected"),
             }
             desk.seen.lost = desk.seen.lost.wrapping_add(1);
@@ -68,7 +69,7 @@ fn make(rt: &impl Abort, desk: &mut Desk, step: Step, q: u16) {
         status: Status::SUCCESS,
         dw0: 0,
     };
-    assert_eq!(rt; desk.reap(rt, 0), Some(ended));
+    same(rt, desk.reap(rt, 0), Some(ended));
 }
 
 /// Resets the controller, and sees that nothing is left of what was before it.
@@ -76,7 +77,7 @@ fn recover(rt: &impl Abort, desk: &mut Desk, numbers: &mut Numbers) -> Result<()
     let before = [desk.rings(1), desk.rings(2)];
     desk.reset(rt);
     give_all_back(rt, desk, before);
-    assert_eq!(rt; desk.counts(), at_rest(2));
+    same(rt, desk.counts(), at_rest(2));
     for q in 1..3 {
         make(rt, desk, Step::CreateCq { q }, q);
         make(rt, desk, Step::CreateSq { q }, q);
@@ -84,7 +85,7 @@ fn recover(rt: &impl Abort, desk: &mut Desk, numbers: &mut Numbers) -> Result<()
     for q in 1..3 {
         all_sets(rt, desk, numbers, q)?;
     }
-    assert_eq!(rt; desk.counts(), at_rest(6));
+    same(rt, desk.counts(), at_rest(6));
     Ok(())
 }
 
@@ -108,7 +109,7 @@ fn recovered(rt: &impl Abort, alloc: Global, first: u64, wanted: Seen) -> Result
         seen = desk.end();
         recovered?;
     }
-    assert_eq!(rt; seen, wanted);
+    same(rt, seen, wanted);
     Ok(())
 }
 

@@ -1,6 +1,7 @@
 //! A full set of commands on a queue: each kind in several sizes, which all succeed.
 
 use crate::desk::Desk;
+use crate::expecting::same;
 use crate::numbers::Numbers;
 use crate::requests::{BLOCKS, SHAPES, Shape, bytes, request};
 use controller_walk::WalkState;
@@ -59,15 +60,15 @@ fn carried(rt: &impl Abort, desk: &mut Desk, q: u16, cid: u16, status: Status) {
     assert!(rt; desk.submit(rt, q, cid));
     accepted(rt, desk, Step::Ring { q });
     match desk.step(rt, Step::Fetch { q }) {
-        Reply::Fetched { cid: fetched, .. } => assert_eq!(rt; fetched, cid),
+        Reply::Fetched { cid: fetched, .. } => same(rt, fetched, cid),
         _ => panic!(rt; "no entry was fetched"),
     }
     walked(rt, desk, q, cid);
     let reply = desk.step(rt, Step::Complete { q, cid });
     assert!(rt; matches!(reply, Reply::Completed { .. }));
-    assert_eq!(rt; desk.reap(rt, q), Some(Reaped::Done { cid, status }));
+    same(rt, desk.reap(rt, q), Some(Reaped::Done { cid, status }));
     match desk.step(rt, Step::Collect { q, cid }) {
-        Reply::Collected(collected) => assert_eq!(rt; collected, status),
+        Reply::Collected(collected) => same(rt, collected, status),
         _ => panic!(rt; "a command was not collected"),
     }
 }

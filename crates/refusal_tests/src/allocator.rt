@@ -1,5 +1,6 @@
 //! The allocator under a list that grows.
 
+use crate::expecting::same;
 use refusing::{Refusal, Refusing};
 use std::alloc::{AllocError, Allocator};
 use std::test::Fail;
@@ -18,19 +19,20 @@ fn four<A: Allocator>(alloc: A) -> Result<Vec<u64, A>, AllocError> {
 fn counts_what_is_out(rt: HostRuntime) -> Result<(), Fail> {
     let heap = Refusing::new(rt.alloc());
     let list = four(&heap)?;
-    assert_eq!(rt; list.as_slice(), [1, 2, 3, 4].as_slice());
+    same(&rt, list.as_slice(), [1, 2, 3, 4].as_slice());
     let tally = heap.tally();
-    assert_eq!(rt;
+    same(
+        &rt,
         (tally.calls, tally.refused, tally.blocks, tally.bytes),
-        (4, 0, 1, 32)
+        (4, 0, 1, 32),
     );
     let boxed = Box::new(&heap, 7u8)?;
     let tally = heap.tally();
-    assert_eq!(rt; (tally.calls, tally.blocks, tally.bytes), (5, 2, 33));
+    same(&rt, (tally.calls, tally.blocks, tally.bytes), (5, 2, 33));
     drop(boxed);
     drop(list);
     let tally = heap.tally();
-    assert_eq!(rt; (tally.calls, tally.blocks, tally.bytes), (5, 0, 0));
+    same(&rt, (tally.calls, tally.blocks, tally.bytes), (5, 0, 0));
     Ok(())
 }
 
@@ -41,15 +43,16 @@ fn refuses_one_call(rt: HostRuntime) {
         heap.refuse(Refusal::Nth(refused));
         assert!(rt; four(&heap).is_err(), "call {refused}");
         let tally = heap.tally();
-        assert_eq!(rt;
+        same(
+            &rt,
             (tally.calls, tally.refused, tally.blocks, tally.bytes),
-            (refused, 1, 0, 0)
+            (refused, 1, 0, 0),
         );
         assert!(rt; four(&heap).is_ok(), "call {refused}");
     }
     heap.refuse(Refusal::Nth(5));
     assert!(rt; four(&heap).is_ok());
-    assert_eq!(rt; heap.tally().refused, 0);
+    same(&rt, heap.tally().refused, 0);
 }
 
 #[test]
@@ -59,10 +62,10 @@ fn refuses_all_later_calls(rt: HostRuntime) {
     assert!(rt; four(&heap).is_ok());
     assert!(rt; four(&heap).is_err());
     assert!(rt; four(&heap).is_err());
-    assert_eq!(rt; heap.tally().refused, 2);
+    same(&rt, heap.tally().refused, 2);
     heap.refuse(Refusal::Never);
     assert!(rt; four(&heap).is_ok());
-    assert_eq!(rt; (heap.tally().calls, heap.tally().refused), (4, 0));
+    same(&rt, (heap.tally().calls, heap.tally().refused), (4, 0));
 }
 
 #[test]
@@ -72,10 +75,11 @@ fn counts_no_block_that_the_other_refused(rt: HostRuntime) {
     let outer = Refusing::new(&inner);
     assert!(rt; four(&outer).is_err());
     let tally = outer.tally();
-    assert_eq!(rt;
+    same(
+        &rt,
         (tally.calls, tally.refused, tally.blocks, tally.bytes),
-        (3, 0, 0, 0)
+        (3, 0, 0, 0),
     );
-    assert_eq!(rt; inner.tally().refused, 1);
-    assert_eq!(rt; (inner.tally().blocks, inner.tally().bytes), (0, 0));
+    same(&rt, inner.tally().refused, 1);
+    same(&rt, (inner.tally().blocks, inner.tally().bytes), (0, 0));
 }

@@ -1,5 +1,6 @@
 //! Chains that are built and flattened, and parts that are joined.
 
+use crate::expecting::{same, same_at};
 use crate::heap::{MANY, is_empty_after_refusal};
 use page_memory::PageNo;
 use refusing::{Refusal, Refusing};
@@ -19,10 +20,10 @@ fn a_chain_takes_lists_and_links(rt: HostRuntime) {
         heap.refuse(Refusal::Nth(growth));
         let built = Chain::build(&heap, &PARTS, &PAGES, 2).err();
         if heap.tally().refused == 0 {
-            assert_eq!(rt; built, None);
+            same(&rt, built, None);
             break;
         }
-        assert_eq!(rt; built, Some(BuildFault::Memory), "growth {growth}");
+        same_at(&rt, growth, built, Some(BuildFault::Memory));
         is_empty_after_refusal(&rt, &heap);
         assert!(rt;
             Chain::build(&heap, &PARTS, &PAGES, 2).is_ok(),
@@ -30,7 +31,7 @@ fn a_chain_takes_lists_and_links(rt: HostRuntime) {
         );
         refused = growth;
     }
-    assert_eq!(rt; refused, 7);
+    same(&rt, refused, 7);
 }
 
 #[test]
@@ -42,7 +43,7 @@ fn a_flattened_chain_takes_a_list(rt: HostRuntime) -> Result<(), BuildFault> {
         heap.refuse(Refusal::Nth(growth));
         let parts = chain.flatten(&heap);
         if heap.tally().refused == 0 {
-            assert_eq!(rt; parts?.as_slice(), PARTS.as_slice());
+            same(&rt, parts?.as_slice(), PARTS.as_slice());
             break;
         }
         assert!(rt; parts.is_err(), "growth {growth}");
@@ -61,13 +62,13 @@ fn joined_parts_take_one_list(rt: HostRuntime) -> Result<(), BuildFault> {
         heap.refuse(Refusal::Nth(growth));
         let parts = join_parts(&heap, &PARTS);
         if heap.tally().refused == 0 {
-            assert_eq!(rt; parts?.as_slice(), PARTS.as_slice());
+            same(&rt, parts?.as_slice(), PARTS.as_slice());
             break;
         }
         assert!(rt; parts.is_err(), "growth {growth}");
         is_empty_after_refusal(&rt, &heap);
         refused = growth;
     }
-    assert_eq!(rt; refused, 1);
+    same(&rt, refused, 1);
     Ok(())
 }

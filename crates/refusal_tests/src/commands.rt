@@ -1,5 +1,6 @@
 //! Requests, drafts, finished commands and jobs.
 
+use crate::expecting::same;
 use crate::heap::{Heap, MANY, is_empty_after_refusal};
 use block_image::Image;
 use entry_codec::{Status, SubEntry};
@@ -47,9 +48,9 @@ fn a_copied_request_takes_one_block(rt: HostRuntime) -> Result<(), Fail> {
     assert!(rt; request.pieces.copied(&heap).is_err());
     is_empty_after_refusal(&rt, &heap);
     heap.refuse(Refusal::Nth(3));
-    assert_eq!(rt; request.pieces.copied(&heap)?.as_slice().len(), 3);
-    assert_eq!(rt; request.copied(&heap)?.pieces().len(), 3);
-    assert_eq!(rt; (heap.tally().calls, heap.tally().blocks), (2, 0));
+    same(&rt, request.pieces.copied(&heap)?.as_slice().len(), 3);
+    same(&rt, request.copied(&heap)?.pieces().len(), 3);
+    same(&rt, (heap.tally().calls, heap.tally().blocks), (2, 0));
     Ok(())
 }
 
@@ -90,16 +91,17 @@ fn a_draft_is_built_once_no_growth_is_refused(rt: HostRuntime) -> Result<(), Fai
     assert!(rt; count <= pages.len());
     let (front, _) = pages.split_at(count);
     let joined = request.parts_in(rt.alloc(), front)?;
-    assert_eq!(rt;
+    same(
+        &rt,
         count + sgl_chain::pages_needed(joined.len(), 2),
-        pages.len()
+        pages.len(),
     );
     let mut draft = Draft::make(1, 0, request, pages, 2);
     let refused = builds_refused(&rt, &heap, &mut draft);
     let parts = draft.apart();
     assert!(rt; refused > 0);
-    assert_eq!(rt; parts.pages.len(), 5);
-    assert_eq!(rt; (heap.tally().blocks, heap.tally().bytes), (0, 0));
+    same(&rt, parts.pages.len(), 5);
+    same(&rt, (heap.tally().blocks, heap.tally().bytes), (0, 0));
     Ok(())
 }
 
@@ -110,7 +112,7 @@ fn gathers_refused(rt: &impl Abort, heap: &Heap, finished: &Finished) -> (u64, u
         heap.refuse(Refusal::Nth(growth));
         let gathered = finished.gather(heap).ok().map(|bytes| bytes.len());
         if let Some(bytes) = gathered {
-            assert_eq!(rt; heap.tally().refused, 0);
+            same(rt, heap.tally().refused, 0);
             return (refused, bytes);
         }
         is_empty_after_refusal(rt, heap);
@@ -130,7 +132,7 @@ fn a_read_is_gathered_once_no_growth_is_refused(rt: HostRuntime) -> Result<(), F
     let (refused, bytes) = gathers_refused(&rt, &heap, &finished);
     let parts = finished.apart();
     assert!(rt; refused > 0);
-    assert_eq!(rt; (bytes, parts.pages.len()), (1_536, 3));
+    same(&rt, (bytes, parts.pages.len()), (1_536, 3));
     Ok(())
 }
 
@@ -162,7 +164,7 @@ fn a_job_takes_one_block(rt: HostRuntime) -> Result<(), Fail> {
     let verdict = begin_job(&heap, &READ, &image)
         .ok()
         .map(|job| job.verdict());
-    assert_eq!(rt; verdict, Some(None));
-    assert_eq!(rt; (heap.tally().calls, heap.tally().blocks), (1, 0));
+    same(&rt, verdict, Some(None));
+    same(&rt, (heap.tally().calls, heap.tally().blocks), (1, 0));
     Ok(())
 }

@@ -1,5 +1,6 @@
 //! The heap of these tests.
 
+use crate::expecting::same;
 use refusing::Refusing;
 use std::alloc::Global;
 use std::process::Abort;
@@ -12,6 +13,6 @@ pub(crate) const MANY: u64 = 100;
 /// Sees that the heap refused one call and that nothing is out.
 pub(crate) fn is_empty_after_refusal(rt: &impl Abort, heap: &Heap) {
     let tally = heap.tally();
-    assert_eq!(rt; tally.refused, 1);
-    assert_eq!(rt; (tally.blocks, tally.bytes), (0, 0));
+    same(rt, tally.refused, 1);
+    same(rt, (tally.blocks, tally.bytes), (0, 0));
 }

@@ -9,6 +9,8 @@ mod chains;
 #[cfg(test)]
 mod commands;
 #[cfg(test)]
+mod expecting;
+#[cfg(test)]
 mod heap;
 #[cfg(test)]
 mod opening;

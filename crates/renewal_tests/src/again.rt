@@ -3,6 +3,7 @@
 ghost use Rattle.std.specs.Prelude.{◌<◌};
 
 use crate::desk::{Desk, Seen};
+use crate::expecting::same;
 use crate::numbers::Numbers;
 use machine_model::words::Refusal;
 use page_ledger::Counts;
@@ -64,7 +65,7 @@ fn make(rt: &impl Abort, desk: &mut Desk, q: u16, half: Half)
     match desk.admin(rt, creation(q, half), q) {
         None => return,
         Some(Refusal::NoRun { need }) => {
-            assert_eq!(rt; need, 1);
+            same(rt, need, 1);
         }
         Some(_) => panic!(rt; "a creation was refused"),
     }
@@ -72,7 +73,7 @@ fn make(rt: &impl Abort, desk: &mut Desk, q: u16, half: Half)
     let other = 3 - q;
     desk.serve(rt, other);
     desk.give_back(rt, other);
-    assert_eq!(rt; desk.admin(rt, creation(q, half), q), None);
+    same(rt, desk.admin(rt, creation(q, half), q), None);
 }
 
 /// Deletes a queue and makes it again, with commands between.
@@ -80,19 +81,19 @@ fn renew(rt: &impl Abort, desk: &mut Desk, numbers: &mut Numbers, q: u16) -> Res
     requires { q < 3 }
 {
     command(rt, desk, numbers)?;
-    assert_eq!(rt; desk.admin(rt, Step::DeleteSq { q }, q), None);
+    same(rt, desk.admin(rt, Step::DeleteSq { q }, q), None);
     command(rt, desk, numbers)?;
     desk.reap_all(rt, q);
     let _retired = desk.step(rt, Step::Retire { q });
     desk.give_back(rt, q);
-    assert_eq!(rt; desk.admin(rt, Step::DeleteCq { q }, q), None);
+    same(rt, desk.admin(rt, Step::DeleteCq { q }, q), None);
     command(rt, desk, numbers)?;
     make(rt, desk, q, Half::Completion);
     command(rt, desk, numbers)?;
     make(rt, desk, q, Half::Submission);
     let (_, submission) = desk.half(rt, q, Half::Submission);
     let (_, completion) = desk.half(rt, q, Half::Completion);
-    assert_eq!(rt; (submission, completion), (1, 1));
+    same(rt, (submission, completion), (1, 1));
     desk.seen.made = desk.seen.made.wrapping_add(1);
     Ok(())
 }
@@ -114,8 +115,8 @@ fn made_again(rt: &impl Abort, alloc: Global, state: u64, wanted: Seen) -> Resul
         desk.give_back(rt, q);
     }
     let counts = desk.end();
-    assert_eq!(rt; seen, wanted);
-    assert_eq!(rt; counts, AT_THE_END);
+    same(rt, seen, wanted);
+    same(rt, counts, AT_THE_END);
     Ok(())
 }
 

@@ -1,5 +1,6 @@
 //! A bench of a small pool whose pages are recounted after each step.
 
+use crate::expecting::same;
 use block_image::Image;
 use io_commands::{Kind, Piece, Pieces, Request};
 use machine_model::words::{Reaped, Refusal};
@@ -104,8 +105,8 @@ impl Desk {
                 counts = counted(counts, self.bench.owner(PageNo(p)));
             }
         }
-        assert_eq!(rt; self.bench.pages(), PAGES);
-        assert_eq!(rt; counts, self.bench.counts());
+        same(rt, self.bench.pages(), PAGES);
+        same(rt, counts, self.bench.counts());
     }
 
     /// The first page of a queue's half, and how many pages it has; they must stand together.
@@ -117,7 +118,7 @@ impl Desk {
                 if count == 0 {
                     first = p;
                 }
-                assert_eq!(rt; first.wrapping_add(count), p);
+                same(rt, first.wrapping_add(count), p);
                 count = count.wrapping_add(1);
             }
         }

@@ -6,4 +6,6 @@ mod again;
 #[cfg(test)]
 mod desk;
 #[cfg(test)]
+mod expecting;
+#[cfg(test)]
 mod numbers;

@@ -1,5 +1,6 @@
 //! The first script, cut after each byte, read by a reader that fails after each byte, and written to a writer that fails after each.
 
+use crate::expecting::{same, same_at};
 use crate::playing::zeros;
 use crate::runs::{Narrow, Slow};
 use script_cli::{RunFault, run_steps};
@@ -95,15 +96,16 @@ fn a_script_is_cut_after_each_byte(rt: HostRuntime) -> Result<(), Fail> {
         let is_known = ends.count_fault(&said);
         assert!(rt; is_known, "cut {cut}");
     }
-    assert_eq!(rt;
+    same(
+        &rt,
         ends,
         Ends {
             runs: 27,
             mismatches: 4,
             verbs: 60,
             words: 46,
-            values: 5
-        }
+            values: 5,
+        },
     );
     Ok(())
 }
@@ -113,7 +115,7 @@ fn a_reader_fails_after_each_byte(rt: HostRuntime) -> Result<(), Fail> {
     let script = READ.script.as_bytes();
     for cut in 0..=script.len() {
         let (end, written) = ended(rt.alloc(), &script[..cut], true, 10_000)?;
-        assert_eq!(rt; end, Err(RunFault::Unreadable), "cut {cut}");
+        same_at(&rt, cut, end, Err(RunFault::Unreadable));
         assert!(rt; written.is_empty(), "cut {cut}");
     }
     Ok(())
@@ -123,12 +125,12 @@ fn a_reader_fails_after_each_byte(rt: HostRuntime) -> Result<(), Fail> {
 fn a_writer_fails_after_each_byte(rt: HostRuntime) -> Result<(), Fail> {
     for room in 0..READ.prints.len() {
         let (end, written) = ended(rt.alloc(), READ.script.as_bytes(), false, room)?;
-        assert_eq!(rt; end, Err(RunFault::OutputFailed), "room {room}");
-        assert_eq!(rt; written.as_slice(), &READ.prints.as_bytes()[..room]);
+        same_at(&rt, room, end, Err(RunFault::OutputFailed));
+        same(&rt, written.as_slice(), &READ.prints.as_bytes()[..room]);
     }
     let (end, written) = ended(rt.alloc(), READ.script.as_bytes(), false, READ.prints.len())?;
-    assert_eq!(rt; end, Ok(()));
-    assert_eq!(rt; written.as_slice(), READ.prints.as_bytes());
+    same(&rt, end, Ok(()));
+    same(&rt, written.as_slice(), READ.prints.as_bytes());
     Ok(())
 }
 
@@ -201,13 +203,9 @@ fn ends_over(
         taken: Vec::new(alloc),
     };
     let end = run_steps(alloc, USUAL, zeros(alloc)?, &mut reader, &mut writer);
-    assert_eq!(rt; end, wanted, "{writes} {failing:?}");
+    same_at(rt, (writes, failing), end, wanted);
     let front = READ.prints.as_bytes().get(..bytes_of(writes));
-    assert_eq!(rt;
-        Some(writer.taken.as_slice()),
-        front,
-        "{writes} {failing:?}"
-    );
+    same_at(rt, (writes, failing), Some(writer.taken.as_slice()), front);
     Ok(())
 }
 

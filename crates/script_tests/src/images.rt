@@ -1,5 +1,6 @@
 //! An image that is read from its bytes.
 
+use crate::expecting::{same, same_at};
 use crate::playing::{played, striped};
 use std::test::Fail;
 use worked_scripts::pools::USUAL;
@@ -8,11 +9,11 @@ use worked_scripts::pools::USUAL;
 #[test]
 fn an_image_has_its_bytes(rt: HostRuntime) -> Result<(), Fail> {
     let image = striped(rt.alloc())?;
-    assert_eq!(rt; image.blocks(), 2);
+    assert!(rt; image.blocks() == 2);
     let mut bytes = [0; 1024];
     image.copy_out(0, &mut bytes);
     for (at, byte) in bytes.iter().enumerate() {
-        assert_eq!(rt; *byte, if at < 512 { 0x11 } else { 0x22 }, "byte {at}");
+        same_at(&rt, at, *byte, if at < 512 { 0x11 } else { 0x22 });
     }
     Ok(())
 }
@@ -50,7 +51,8 @@ gather 1 0
 release 1 0
 ",
     )?;
-    assert_eq!(rt;
+    same(
+        &rt,
         output.as_str(),
         "1 reserve q 1 cid 0 data 1 chain 0
 2 build ok
@@ -76,7 +78,7 @@ release 1 0
 22 gather 00*512
 23 release ok
 counts free 12 queue 4 chain 0 data 0
-"
+",
     );
     Ok(())
 }
@@ -119,7 +121,8 @@ gather 1 0
 release 1 0
 ",
     )?;
-    assert_eq!(rt;
+    same(
+        &rt,
         output.as_str(),
         "1 reserve q 1 cid 0 data 1 chain 1
 2 build ok
@@ -150,7 +153,7 @@ release 1 0
 27 gather 22*512
 28 release ok
 counts free 12 queue 4 chain 0 data 0
-"
+",
     );
     Ok(())
 }

@@ -4,6 +4,8 @@
 #[cfg(test)]
 mod cuts;
 #[cfg(test)]
+mod expecting;
+#[cfg(test)]
 mod images;
 #[cfg(test)]
 mod playing;

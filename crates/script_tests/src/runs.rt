@@ -1,5 +1,6 @@
 //! Faults of runs and of images, with readers and writers that fail.
 
+use crate::expecting::same;
 use block_image::Image;
 use script_cli::{ImageFault, RunFault, read_image, run_steps};
 use std::alloc::Global;
@@ -125,8 +126,8 @@ fn runs_end(rt: HostRuntime) -> Result<(), Fail> {
             asked: 0,
         };
         let (ended, taken) = said(rt.alloc(), config, &mut reader, room)?;
-        assert_eq!(rt; ended.as_str(), end);
-        assert_eq!(rt; taken.as_slice(), written.as_bytes());
+        same(&rt, ended.as_str(), end);
+        same(&rt, taken.as_slice(), written.as_bytes());
         assert!(rt; reader.asked <= text.len() + 1);
     }
     Ok(())
@@ -139,7 +140,7 @@ fn readers_without_end(rt: HostRuntime) -> Result<(), Fail> {
     };
     let mut out = Vec::new(rt.alloc());
     let end = run_steps(rt.alloc(), USUAL, image, &mut io::repeat(b'#'), &mut out);
-    assert_eq!(rt; end, Err(RunFault::TooLong));
+    same(&rt, end, Err(RunFault::TooLong));
     assert!(rt; out.is_empty());
     let read = read_image(rt.alloc(), &mut io::repeat(0));
     assert!(rt; matches!(read, Err(ImageFault::BadLength)));
@@ -182,8 +183,8 @@ fn readers_of_the_most_bytes(rt: HostRuntime) -> Result<(), Fail> {
         let mut reader = Comments { given: 0, most };
         let mut out = Vec::new(rt.alloc());
         let ended = run_steps(rt.alloc(), USUAL, image, &mut reader, &mut out);
-        assert_eq!(rt; (ended, reader.given), (end, most));
-        assert_eq!(rt; out.as_slice(), written.as_bytes());
+        same(&rt, (ended, reader.given), (end, most));
+        same(&rt, out.as_slice(), written.as_bytes());
     }
     Ok(())
 }
@@ -218,7 +219,7 @@ fn images(rt: HostRuntime) -> Result<(), Fail> {
                 format!(in rt.alloc(); "{fault}, {status}")?
             }
         };
-        assert_eq!(rt; ended.as_str(), end);
+        same(&rt, ended.as_str(), end);
         assert!(rt; reader.asked.saturating_sub(1) <= len);
     }
     Ok(())

@@ -1,5 +1,6 @@
 //! The printed names, and a whole script through the public calls.
 
+use crate::expecting::same;
 use entry_codec::Status;
 use io_commands::{FillFault, Kind, Piece};
 use page_ledger::{Counts, Owner, Role};
@@ -32,7 +33,7 @@ fn faults_have_names(rt: HostRuntime) -> Result<(), Fail> {
         ("# \u{e9}", "line 1: NotAscii"),
         ("reserve 1 read 0 1", "none"),
     ] {
-        assert_eq!(rt; fault_of(rt.alloc(), text)?.as_str(), name);
+        same(&rt, fault_of(rt.alloc(), text)?.as_str(), name);
     }
     Ok(())
 }
@@ -51,7 +52,7 @@ fn long_texts(rt: HostRuntime) -> Result<(), Fail> {
             Ok(_) => String::from_str(rt.alloc(), "none")?,
             Err(fault) => format!(in rt.alloc(); "{fault}")?,
         };
-        assert_eq!(rt; said.as_str(), name);
+        same(&rt, said.as_str(), name);
     }
     Ok(())
 }
@@ -61,7 +62,7 @@ fn thirteen_lines(rt: HostRuntime) -> Result<(), Fail> {
     let Ok(script) = read_script(rt.alloc(), READ.script.as_bytes()) else {
         panic!(rt; "a script without faults");
     };
-    assert_eq!(rt; script.lines().len(), 13);
+    same(&rt, script.lines().len(), 13);
     let mut text = String::new(rt.alloc());
     for numbered in script.into_lines() {
         let number = numbered.number;
@@ -74,9 +75,10 @@ fn thirteen_lines(rt: HostRuntime) -> Result<(), Fail> {
             Line::Nothing => write!(text, "{number},")?,
         }
     }
-    assert_eq!(rt;
+    same(
+        &rt,
         text.as_str(),
-        "1 reserve,2 build,3 submit,4 ring,5 fetch,6 walk,7 walk,8 complete,9 reap,10 collect,11 gather,12 owners,13 release,"
+        "1 reserve,2 build,3 submit,4 ring,5 fetch,6 walk,7 walk,8 complete,9 reap,10 collect,11 gather,12 owners,13 release,",
     );
     Ok(())
 }
@@ -89,8 +91,8 @@ fn a_reserve(rt: HostRuntime) -> Result<(), Fail> {
     let mut seen = false;
     for numbered in script.lines() {
         if let Line::Step(Step::Reserve { q, request }) = &numbered.line {
-            assert_eq!(rt; (*q, request.slba, request.blocks), (1, 5, 2));
-            assert_eq!(rt; request.kind, Kind::Write);
+            same(&rt, (*q, request.slba, request.blocks), (1, 5, 2));
+            same(&rt, request.kind, Kind::Write);
             let pieces = [
                 Piece::Data {
                     offset: 0,
@@ -98,7 +100,7 @@ fn a_reserve(rt: HostRuntime) -> Result<(), Fail> {
                 },
                 Piece::Bucket { len: 512 },
             ];
-            assert_eq!(rt; request.pieces.as_slice(), pieces.as_slice());
+            same(&rt, request.pieces.as_slice(), pieces.as_slice());
             seen = true;
         }
     }
@@ -157,9 +159,10 @@ fn replies_and_counts(rt: HostRuntime) -> Result<(), Fail> {
             data_pages: 0,
         },
     )?;
-    assert_eq!(rt;
+    same(
+        &rt,
         out.as_str(),
-        "1 reserve q 1 cid 0 data 1 chain 0\n2 build ok\n3 reap done cid 7 status 2:85\n4 gather 00*512\n5 fill refused WrongLength\ncounts free 12 queue 4 chain 0 data 0\n"
+        "1 reserve q 1 cid 0 data 1 chain 0\n2 build ok\n3 reap done cid 7 status 2:85\n4 gather 00*512\n5 fill refused WrongLength\ncounts free 12 queue 4 chain 0 data 0\n",
     );
     Ok(())
 }
@@ -177,29 +180,33 @@ fn owners(rt: HostRuntime) -> Result<(), Fail> {
         role: Role::Chain,
     };
     append_owners(&mut out, &[queue, queue, command, Owner::Free, Owner::Free])?;
-    assert_eq!(rt;
+    same(
+        &rt,
         out.as_str(),
-        "0-1 queue 1 cq\n2-2 command 1 2 chain\n3-4 free\n"
+        "0-1 queue 1 cq\n2-2 command 1 2 chain\n3-4 free\n",
     );
     Ok(())
 }
 
 #[test]
 fn verbs_by_name(rt: HostRuntime) -> Result<(), Fail> {
-    assert_eq!(rt;
+    same(
+        &rt,
         Verb::named(b"delete_cq"),
-        Some(Verb::OnQueue(QueueVerb::DeleteCq))
+        Some(Verb::OnQueue(QueueVerb::DeleteCq)),
     );
-    assert_eq!(rt; Verb::named(b"job"), None);
-    assert_eq!(rt; QueueVerb::Retire.name(), "retire");
-    assert_eq!(rt; CommandVerb::Collect.name(), "collect");
-    assert_eq!(rt;
+    same(&rt, Verb::named(b"job"), None);
+    same(&rt, QueueVerb::Retire.name(), "retire");
+    same(&rt, CommandVerb::Collect.name(), "collect");
+    same(
+        &rt,
         Verb::of(&QueueVerb::Ring.step(1)),
-        Verb::OnQueue(QueueVerb::Ring)
+        Verb::OnQueue(QueueVerb::Ring),
     );
-    assert_eq!(rt;
+    same(
+        &rt,
         Verb::of(&CommandVerb::Abort.step(1, 0)),
-        Verb::OnCommand(CommandVerb::Abort)
+        Verb::OnCommand(CommandVerb::Abort),
     );
     Ok(())
 }

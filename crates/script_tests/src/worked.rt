@@ -1,5 +1,6 @@
 //! Each worked script prints just what it says.
 
+use crate::expecting::same;
 use crate::playing::{played, zeros};
 use std::test::Fail;
 
@@ -9,7 +10,7 @@ fn each_script_prints_what_it_says(rt: HostRuntime) -> Result<(), Fail> {
     for scripts in worked_scripts::ALL {
         for worked in scripts {
             let output = played(alloc, worked.config, zeros(alloc)?, worked.script)?;
-            assert_eq!(rt; output.as_str(), worked.prints);
+            same(&rt, output.as_str(), worked.prints);
         }
     }
     Ok(())

@@ -3,6 +3,8 @@
 #![tactic(auto)]
 
 #[cfg(test)]
+mod expecting;
+#[cfg(test)]
 mod linked;
 #[cfg(test)]
 mod opening;

@@ -1,5 +1,6 @@
 //! Calls of a linked table beside a plain list of rows, which a walk meets after each of them.
 
+use crate::expecting::{same, same_at};
 use linked_table::LinkedTable;
 use refusing::{Refusal, Refusing};
 use std::alloc::Allocator;
@@ -43,7 +44,7 @@ fn a_linked_table_answers_as_a_plain_list(rt: HostRuntime) -> Result<(), Fail> {
             Some(i) => rows.get(i).map(|row| row.2),
             None => None,
         };
-        assert_eq!(rt; table.get(q, cid).copied(), expected, "call {call}");
+        same_at(&rt, call, table.get(q, cid).copied(), expected);
         if let Some(i) = at {
             if seed >> 31 == 0 {
                 if let Some(row) = rows.get_mut(i) {
@@ -55,20 +56,20 @@ fn a_linked_table_answers_as_a_plain_list(rt: HostRuntime) -> Result<(), Fail> {
             } else {
                 assert!(rt; i < rows.len(), "call {call}");
                 rows.remove(i);
-                assert_eq!(rt; table.take(q, cid), expected, "call {call}");
+                same_at(&rt, call, table.take(q, cid), expected);
             }
         } else if seed >> 31 == 0 {
             assert!(rt; table.get(q, cid).is_none(), "call {call}");
             rows.push((q, cid, call))?;
-            assert_eq!(rt; table.put(q, cid, call), Ok(()), "call {call}");
+            same_at(&rt, call, table.put(q, cid, call), Ok(()));
         } else {
-            assert_eq!(rt; table.take(q, cid), None, "call {call}");
+            same_at(&rt, call, table.take(q, cid), None);
         }
-        assert_eq!(rt; table.len(), rows.len(), "call {call}");
-        assert_eq!(rt; table.is_empty(), rows.is_empty(), "call {call}");
+        same_at(&rt, call, table.len(), rows.len());
+        same_at(&rt, call, table.is_empty(), rows.is_empty());
         assert!(rt; walk_meets(&table, &rows), "call {call}");
         if position(&rows, q, cid).is_none() {
-            assert_eq!(rt; table.next(q, cid), None, "call {call}");
+            same_at(&rt, call, table.next(q, cid), None);
         }
     }
     Ok(())
@@ -85,12 +86,12 @@ fn a_refused_put_hands_the_record_back(rt: HostRuntime) -> Result<(), Fail> {
         Ok(()) => panic!(rt; "memory was refused"),
         Err(back) => back,
     };
-    assert_eq!(rt; (*back, table.len(), table.first()), (70, 0, None));
+    same(&rt, (*back, table.len(), table.first()), (70, 0, None));
     assert!(rt; table.get(1, 2).is_none());
     assert!(rt; table.put(1, 2, back).is_ok());
-    assert_eq!(rt; (table.len(), table.first()), (1, Some((1, 2))));
+    same(&rt, (table.len(), table.first()), (1, Some((1, 2))));
     drop(table);
-    assert_eq!(rt; heap.tally().blocks, 0);
+    same(&rt, heap.tally().blocks, 0);
     Ok(())
 }
 
@@ -98,7 +99,7 @@ fn a_refused_put_hands_the_record_back(rt: HostRuntime) -> Result<(), Fail> {
 fn fill<A: Allocator + Clone>(rt: &impl Abort, table: &mut LinkedTable<u32, A>, count: u16) {
     for cid in 0..count {
         assert!(rt; table.get(1, cid).is_none());
-        assert_eq!(rt; table.put(1, cid, 70), Ok(()));
+        same(rt, table.put(1, cid, 70), Ok(()));
     }
 }
 
@@ -110,10 +111,14 @@ fn a_cleared_table_keeps_its_room(rt: HostRuntime) -> Result<(), Fail> {
     fill(&rt, &mut table, 100);
     heap.refuse(Refusal::NthOn(1));
     table.clear();
-    assert_eq!(rt; (table.len(), table.first()), (0, None));
+    same(&rt, (table.len(), table.first()), (0, None));
     assert!(rt; table.get(1, 0).is_none() && table.next(1, 0).is_none());
     fill(&rt, &mut table, 100);
-    assert_eq!(rt; (table.len(), table.first()), (100, Some((1, 0))));
-    assert_eq!(rt; (table.next(1, 0), table.next(1, 99)), (Some((1, 1)), None));
+    same(&rt, (table.len(), table.first()), (100, Some((1, 0))));
+    same(
+        &rt,
+        (table.next(1, 0), table.next(1, 99)),
+        (Some((1, 1)), None),
+    );
     Ok(())
 }

@@ -1,5 +1,6 @@
 //! Tables that are opened.
 
+use crate::expecting::{same, same_at};
 use refusing::{Refusal, Refusing};
 use slot_table::SlotTable;
 use std::alloc::AllocError;
@@ -22,13 +23,13 @@ fn a_table_takes_two_lists(rt: HostRuntime) {
         let refused: Result<SlotTable<u64, &Refusing<_>>, AllocError> = SlotTable::open(
             &heap, 2, 4,
         );
-        assert_eq!(rt; refused.err(), Some(AllocError), "growth {growth}");
-        assert_eq!(rt; (heap.tally().refused, heap.tally().blocks), (1, 0));
+        same_at(&rt, growth, refused.err(), Some(AllocError));
+        same(&rt, (heap.tally().refused, heap.tally().blocks), (1, 0));
     }
     heap.refuse(Refusal::Nth(3));
     let opened: Result<SlotTable<u64, &Refusing<_>>, AllocError> = SlotTable::open(&heap, 2, 4);
     assert!(rt; opened.is_ok());
-    assert_eq!(rt; heap.tally().calls, 2);
+    same(&rt, heap.tally().calls, 2);
 }
 
 /// What 64 queues of 1,023 identifiers cost: a link of 8 bytes and a record for each of 65,472 places, and a link for the list's end.
@@ -38,7 +39,7 @@ fn a_large_table_takes_so_many_bytes(rt: HostRuntime) {
     let table: Result<SlotTable<u64, &Refusing<_>>, AllocError> = SlotTable::open(&heap, 64, 1_024);
     assert!(rt; table.is_ok());
     let places = 64 * 1_023;
-    assert_eq!(rt; heap.tally().bytes, places * 16 + (places + 1) * 8);
+    same(&rt, heap.tally().bytes, places * 16 + (places + 1) * 8);
     drop(table);
-    assert_eq!(rt; (heap.tally().bytes, heap.tally().blocks), (0, 0));
+    same(&rt, (heap.tally().bytes, heap.tally().blocks), (0, 0));
 }

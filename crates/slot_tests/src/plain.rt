@@ -1,5 +1,6 @@
 //! Calls beside a plain list of rows, which a walk meets after each of them.
 
+use crate::expecting::same_at;
 use slot_table::SlotTable;
 use std::test::Fail;
 
@@ -48,7 +49,7 @@ fn answers_as_a_plain_list(rt: HostRuntime) -> Result<(), Fail> {
             Some(i) => rows.get(i).map(|row| row.2),
             None => None,
         };
-        assert_eq!(rt; table.get(q, cid).copied(), expected, "call {call}");
+        same_at(&rt, call, table.get(q, cid).copied(), expected);
         if let Some(i) = at {
             if seed >> 31 == 0 {
                 if let Some(row) = rows.get_mut(i) {
@@ -60,20 +61,20 @@ fn answers_as_a_plain_list(rt: HostRuntime) -> Result<(), Fail> {
             } else {
                 assert!(rt; i < rows.len(), "call {call}");
                 rows.remove(i);
-                assert_eq!(rt; table.take(q, cid), expected, "call {call}");
+                same_at(&rt, call, table.take(q, cid), expected);
             }
         } else if q < QUEUES && cid < ENTRIES - 1 {
             assert!(rt; table.get(q, cid).is_none(), "call {call}");
             rows.push((q, cid, call))?;
             table.put(q, cid, call);
         } else {
-            assert_eq!(rt; table.take(q, cid), None, "call {call}");
+            same_at(&rt, call, table.take(q, cid), None);
         }
-        assert_eq!(rt; table.len(), rows.len(), "call {call}");
-        assert_eq!(rt; table.is_empty(), rows.is_empty(), "call {call}");
+        same_at(&rt, call, table.len(), rows.len());
+        same_at(&rt, call, table.is_empty(), rows.is_empty());
         assert!(rt; walk_meets(&table, &rows), "call {call}");
         if position(&rows, q, cid).is_none() {
-            assert_eq!(rt; table.next(q, cid), None, "call {call}");
+            same_at(&rt, call, table.next(q, cid), None);
         }
     }
     Ok(())

@@ -1,5 +1,6 @@
 //! Records that own memory: they come back by a take, and those that stay go with the table.
 
+use crate::expecting::same;
 use refusing::Refusing;
 use slot_table::SlotTable;
 use std::test::Fail;
@@ -12,25 +13,26 @@ fn records_come_back_or_go_with_the_table(rt: HostRuntime) -> Result<(), Fail> {
         assert!(rt; table.get(1, cid).is_none());
         table.put(1, cid, Box::new(&heap, u32::from(cid))?);
     }
-    assert_eq!(rt; heap.tally().blocks, 3);
-    assert_eq!(rt; table.take(1, 1).map(|record| *record), Some(1));
-    assert_eq!(rt;
+    same(&rt, heap.tally().blocks, 3);
+    same(&rt, table.take(1, 1).map(|record| *record), Some(1));
+    same(
+        &rt,
         (table.first(), table.next(1, 0), table.next(1, 2)),
-        (Some((1, 0)), Some((1, 2)), None)
+        (Some((1, 0)), Some((1, 2)), None),
     );
-    assert_eq!(rt; heap.tally().blocks, 2);
+    same(&rt, heap.tally().blocks, 2);
     drop(table);
-    assert_eq!(rt; heap.tally().blocks, 0);
+    same(&rt, heap.tally().blocks, 0);
     Ok(())
 }
 
 #[test]
 fn a_place_that_is_taken_hands_the_record_back(rt: HostRuntime) -> Result<(), Fail> {
     let mut table: SlotTable<u32> = SlotTable::open(rt.alloc(), 1, 3)?;
-    assert_eq!(rt; table.try_put(0, 1, 70), Ok(()));
-    assert_eq!(rt; table.try_put(0, 1, 71), Err(71));
-    assert_eq!(rt; table.try_put(0, 2, 72), Err(72));
-    assert_eq!(rt; table.try_put(1, 0, 73), Err(73));
-    assert_eq!(rt; (table.len(), table.get(0, 1).copied()), (1, Some(70)));
+    same(&rt, table.try_put(0, 1, 70), Ok(()));
+    same(&rt, table.try_put(0, 1, 71), Err(71));
+    same(&rt, table.try_put(0, 2, 72), Err(72));
+    same(&rt, table.try_put(1, 0, 73), Err(73));
+    same(&rt, (table.len(), table.get(0, 1).copied()), (1, Some(70)));
     Ok(())
 }

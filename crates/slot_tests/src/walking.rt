@@ -2,6 +2,7 @@
 
 ghost use Rattle.std.specs.Prelude.{◌≡◌, ◌==◌, count_by};
 
+use crate::expecting::same;
 use slot_table::SlotTable;
 use std::test::Fail;
 
@@ -25,16 +26,17 @@ fn records_in(table: &SlotTable<u32>, queue: u16) -> usize
 #[test]
 fn a_walk_counts(rt: HostRuntime) -> Result<(), Fail> {
     let mut table: SlotTable<u32> = SlotTable::open(rt.alloc(), 2, 4)?;
-    assert_eq!(rt; table.try_put(1, 2, 70), Ok(()));
-    assert_eq!(rt; table.try_put(0, 2, 71), Ok(()));
-    assert_eq!(rt; table.try_put(1, 0, 72), Ok(()));
-    assert_eq!(rt;
+    same(&rt, table.try_put(1, 2, 70), Ok(()));
+    same(&rt, table.try_put(0, 2, 71), Ok(()));
+    same(&rt, table.try_put(1, 0, 72), Ok(()));
+    same(
+        &rt,
         (
             records_in(&table, 0),
             records_in(&table, 1),
-            records_in(&table, 2)
+            records_in(&table, 2),
         ),
-        (1, 2, 0)
+        (1, 2, 0),
     );
     Ok(())
 }

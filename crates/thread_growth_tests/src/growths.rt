@@ -1,5 +1,6 @@
 //! Two submitters over a heap that refuses one growth, each in turn.
 
+use crate::expecting::{same, same_at};
 use crate::jobs::two_lists;
 use crate::left::see_outcome;
 use crate::runs::play;
@@ -45,7 +46,7 @@ fn run_without<R: Abort + Threads + Wait + Sync>(
     if let Some(fault) = fault {
         assert!(rt; refused && fault == RunFault::Memory, "growth {growth}");
     }
-    assert_eq!(rt; tally.blocks, 0, "growth {growth}");
+    same_at(rt, growth, tally.blocks, 0);
     Ok(refused)
 }
 
@@ -58,6 +59,6 @@ fn each_growth_of_two_submitters_is_refused(rt: HostRuntime) -> Result<(), Fail>
         }
         growths = growth;
     }
-    assert_eq!(rt; growths, 178);
+    same(&rt, growths, 178);
     Ok(())
 }

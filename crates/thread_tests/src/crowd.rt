@@ -1,5 +1,6 @@
 //! Sixteen submitters over a pool so small that they wait for pages and for identifiers.
 
+use crate::expecting::same;
 use crate::looks::{counts, see};
 use crate::runs::{Outcome, is_done, job, play};
 use driver_threads::{Job, JobEnd, Open};
@@ -104,7 +105,7 @@ fn lists(alloc: Global) -> Result<Vec<Vec<Job>>, AllocError> {
 fn sixteen_submitters_wait_for_pages_and_identifiers(rt: HostRuntime) -> Result<(), Fail> {
     let alloc = rt.alloc();
     let jobs = lists(alloc)?;
-    assert_eq!(rt; jobs.len(), 16);
+    assert!(rt; jobs.len() == 16);
     let outcome = play(&rt, alloc, SMALL, 64, jobs, &Open)?;
     see_ends(&rt, &outcome);
     see_outcome(&rt, &outcome);

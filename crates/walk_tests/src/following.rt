@@ -3,6 +3,7 @@
 ghost use Rattle.std.specs.Prelude.{◌≡◌, ◌<◌, ◌≤◌, length, false};
 ghost use Rattle.controller_walk.specs.Walks.{is_over, need_of};
 
+use crate::expecting::{same, same_at};
 use crate::numbers::Numbers;
 use crate::watched::Watched;
 use controller_walk::{Direction, Walk, WalkState};
@@ -55,7 +56,7 @@ impl Ends {
             all = all.saturating_add(count);
         }
         assert!(rt; self.well > 0, "{self:?}");
-        assert_eq!(rt; all, walks, "{self:?}");
+        same_at(rt, self, all, walks);
     }
 }
 
@@ -73,7 +74,7 @@ fn see_record(rt: &impl Abort, memory: &Watched) {
     }
     let mut touched = memory.touched().iter();
     for number in wanted {
-        assert_eq!(rt; touched.next().map(|page| u64::from(page.0)), number);
+        same(rt, touched.next().map(|page| u64::from(page.0)), number);
         if let Some(number) = number {
             assert!(rt; memory.has(number));
         }
@@ -92,7 +93,7 @@ fn step(rt: &impl Abort, memory: &mut Watched, walk: &mut Walk, staging: &mut [u
     see_record(rt, memory);
     match answer {
         WalkState::More => assert!(rt; walk.left() < left),
-        WalkState::End => assert_eq!(rt; walk.left(), 0),
+        WalkState::End => same(rt, walk.left(), 0),
         WalkState::Fault(status) => assert!(rt; FAULTS.contains(&status), "{status:?}"),
     }
     answer
@@ -135,10 +136,10 @@ pub(crate) fn follow(
     let mut walk = Walk::begin(sgl1, direction, need);
     memory.sixteens = 0;
     let left = walk.left();
-    assert_eq!(rt; left, 12_289 + need / 4_096);
+    same(rt, left, 12_289 + need / 4_096);
     for _ in 0..=left {
         assert!(rt; !walk.is_over());
-        assert_eq!(rt; walk.need() as usize, staging.len());
+        same(rt, walk.need() as usize, staging.len());
         if let Some(numbers) = &mut unrest {
             memory.stir(numbers);
         }

@@ -5,6 +5,8 @@
 #[cfg(test)]
 mod arbitrary;
 #[cfg(test)]
+mod expecting;
+#[cfg(test)]
 mod following;
 #[cfg(test)]
 mod longest;

@@ -2,6 +2,7 @@
 
 ghost use Rattle.std.specs.Prelude.{◌<◌, ◌≤◌};
 
+use crate::expecting::same_at;
 use crate::following::follow;
 use crate::watched::Watched;
 use controller_walk::{Direction, WalkState};
@@ -84,7 +85,7 @@ fn the_longest_lists(rt: HostRuntime) -> Result<(), Fail> {
             (4_500, too_many, 4_095),
         ] {
             let found = end_of(&rt, &mut memory, count, size);
-            assert_eq!(rt; found, (end, looked), "{count} in segments of {size}");
+            same_at(&rt, (count, size), found, (end, looked));
         }
     }
     Ok(())

@@ -2,6 +2,7 @@
 
 ghost use Rattle.std.specs.Prelude.{◌<◌, ◌≤◌};
 
+use crate::expecting::same;
 use crate::following::{Ends, either, follow};
 use crate::numbers::Numbers;
 use crate::watched::Watched;
@@ -164,7 +165,7 @@ fn see_gathered(rt: &impl Abort, memory: &mut Watched, chain: &Chain, gathered: 
     for (addr, len) in &chain.blocks {
         for k in 0..*len {
             let byte = memory.byte(addr.saturating_add(u64::from(k)));
-            assert_eq!(rt; gathered.next().copied(), byte);
+            same(rt, gathered.next().copied(), byte);
         }
     }
     assert!(rt; gathered.next().is_none());
@@ -192,7 +193,7 @@ fn walk_chains(
         let (end, looked) = follow(rt, memory, bytes, direction, chain.sgl1, unrest);
         ends.count(end, looked);
         if chain.is_whole && !is_stirred && direction == Direction::Source {
-            assert_eq!(rt; end, WalkState::End);
+            same(rt, end, WalkState::End);
             see_gathered(rt, memory, &chain, bytes);
         }
     }
@@ -205,7 +206,7 @@ fn chains_of_many_shapes(rt: HostRuntime) -> Result<(), Fail> {
     let mut numbers = Numbers { state: 2026 };
     let ends = walk_chains(&rt, &mut memory, &mut numbers, false);
     ends.see(&rt, CHAINS);
-    assert_eq!(rt; ends.deepest, 4_095);
+    same(&rt, ends.deepest, 4_095);
     Ok(())
 }
 
