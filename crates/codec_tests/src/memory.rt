@@ -92,7 +92,7 @@ fn any_memory_copies(rt: HostRuntime) -> Result<(), Fail> {
     copy_sixteen(&mut store, 100, 4090)?;
     same(&rt, copy_sixteen(&mut store, 100, 32_760), Err(Unreadable));
     let mut flat = FlatMemory::zeroed(rt.alloc(), 8)?;
-    same(&rt, flat.pages(), 8);
+    assert!(rt; flat.pages() == 8);
     flat.remove(4100, 1);
     flat.write(100, &[3; 16])?;
     same(&rt, copy_sixteen(&mut flat, 100, 4090), Err(Unreadable));

@@ -315,7 +315,7 @@ fn a_read(rt: HostRuntime) -> Result<(), Fail> {
 #[test]
 fn a_write_is_cancelled(rt: HostRuntime) -> Result<(), Fail> {
     let mut driver = Driver::open(rt.alloc(), SMALL)?;
-    same(&rt, driver.host().pages(), 16);
+    assert!(rt; driver.host().pages() == 16);
     let half = Half::Completion;
     same(&rt, driver.owner(3), Some(Owner::Queue { q: 1, half }));
     let Ok(mut held) = driver.reserve(&rt, 1, of_blocks(rt.alloc(), Kind::Write, 3)?) else {

@@ -19,7 +19,7 @@ fn fault_of(
     let mut walk = Walk::begin(sgl1.write(), direction, 512);
     for steps in 0..8 {
         assert!(rt; !walk.is_over());
-        same(rt, walk.need(), 512);
+        assert!(rt; walk.need() == 512);
         memory.clear();
         match walk.step(memory, staging) {
             WalkState::More => {}
@@ -42,7 +42,7 @@ fn a_missing_byte_of_the_data_is_met(rt: HostRuntime) -> Result<(), Fail> {
     for place in [0x2000, 0x2100, 0x21FF] {
         for direction in [Direction::Destination, Direction::Source] {
             let mut memory = FlatMemory::zeroed(rt.alloc(), 8)?;
-            same(&rt, memory.pages(), 8);
+            assert!(rt; memory.pages() == 8);
             memory.remove(place, 1);
             let mut staging = [7; 512];
             let met = fault_of(&rt, &mut memory, block, direction, &mut staging)?;
@@ -62,7 +62,7 @@ fn a_missing_byte_of_a_descriptor_is_met(rt: HostRuntime) -> Result<(), Fail> {
     };
     for place in [0x1000, 0x1007, 0x100F] {
         let mut memory = FlatMemory::zeroed(rt.alloc(), 8)?;
-        same(&rt, memory.pages(), 8);
+        assert!(rt; memory.pages() == 8);
         memory.remove(place, 1);
         let mut staging = [7; 512];
         let met = fault_of(&rt, &mut memory, link, Direction::Source, &mut staging)?;
@@ -79,15 +79,15 @@ fn a_missing_byte_beside_the_data_is_not_met(rt: HostRuntime) -> Result<(), Fail
         len: 512,
     };
     let mut memory = FlatMemory::zeroed(rt.alloc(), 8)?;
-    same(&rt, memory.pages(), 8);
+    assert!(rt; memory.pages() == 8);
     memory.remove(0x2000, 1);
-    same(&rt, memory.pages(), 8);
+    assert!(rt; memory.pages() == 8);
     memory.remove(0x2201, 1);
     let mut staging = [7; 512];
     let mut walk = Walk::begin(block.write(), Direction::Destination, 512);
     same(&rt, walk.step(&mut memory, &mut staging), WalkState::More);
     assert!(rt; !walk.is_over());
-    same(&rt, walk.need(), 512);
+    assert!(rt; walk.need() == 512);
     memory.clear();
     same(&rt, walk.step(&mut memory, &mut staging), WalkState::End);
     same(

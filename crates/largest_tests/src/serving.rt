@@ -53,10 +53,10 @@ pub(crate) fn drafted(
     let count = request.data_pages();
     let needed = count + pages_needed(request.pieces().len(), 2);
     let pages = taken(alloc, store, needed)?;
-    same(rt, pages.len(), needed);
+    assert!(rt; pages.len() == needed);
     let (front, _) = pages.split_at(count);
     let parts = request.parts_in(alloc, front)?;
-    same(rt, parts.len(), request.pieces().len());
+    assert!(rt; parts.len() == request.pieces().len());
     let mut draft = Draft::make(1, 3, request, pages, 2);
     let filled = match bytes {
         Some(bytes) => draft.fill(bytes),
@@ -96,7 +96,7 @@ pub(crate) fn served(
     let mut job = begin_job(alloc, entry, image)?;
     walk(rt, store, &mut job);
     assert!(rt; job.verdict().is_some());
-    same(rt, job.blocks(), image.blocks());
+    assert!(rt; job.blocks() == image.blocks());
     Ok(finish_job(job, image))
 }
 

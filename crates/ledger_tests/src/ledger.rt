@@ -87,7 +87,7 @@ fn opens_within_its_limits(rt: HostRuntime) -> Result<(), Fail> {
             chain_pages: 0,
             data_pages: 0,
         };
-        same(&rt, ledger.pages(), pages);
+        assert!(rt; ledger.pages() == pages);
         same(&rt, ledger.counts(), free);
         same(&rt, owner(&rt, &ledger, pages - 1), Owner::Free);
     }
@@ -106,7 +106,7 @@ fn grants_until_nothing_is_left(rt: HostRuntime) -> Result<(), Fail> {
             grant(&rt, &mut ledger, CHAIN, 4, &mut granted),
             Err(refused),
         );
-        same(&rt, granted.len(), pages as usize - 3);
+        assert!(rt; granted.len() == pages as usize - 3);
         grant(&rt, &mut ledger, SUBMISSION, 3, &mut granted)?;
         for (i, page) in granted.iter().enumerate() {
             same(&rt, page.0 as usize, i);

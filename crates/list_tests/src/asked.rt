@@ -2,7 +2,6 @@
 
 ghost use Rattle.std.specs.Prelude.{◌≤◌};
 
-use crate::expecting::same;
 use io_commands::{Draft, Kind, Piece, Pieces, Request};
 use page_memory::{Page, PageNo, Store};
 use sgl_chain::{Part, pages_needed};
@@ -103,6 +102,6 @@ pub(crate) fn drafted(
     assert!(rt; count <= pages.len());
     let (front, _) = pages.split_at(count);
     let joined = request.parts_in(alloc, front)?;
-    same(rt, count + pages_needed(joined.len(), segment), pages.len());
+    assert!(rt; count + pages_needed(joined.len(), segment) == pages.len());
     Ok(Draft::make(1, 0, request, pages, segment))
 }

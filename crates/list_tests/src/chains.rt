@@ -23,7 +23,7 @@ fn see_round_trip(
     let segments = chain.segments();
     let again = chain.flatten(alloc)?;
     assert!(rt; again.as_slice() == parts.as_slice());
-    same(rt, segments, wanted);
+    assert!(rt; segments == wanted);
     same(rt, needed(rt, parts.len(), segment), wanted);
     Ok(())
 }

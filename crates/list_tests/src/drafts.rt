@@ -154,7 +154,7 @@ fn a_built_draft_names_its_chain(rt: HostRuntime) -> Result<(), Fail> {
         (entry.opcode, entry.psdt, entry.nsid, entry.cdw12),
         (1, 1, 1, 2),
     );
-    same(&rt, pages.len(), 5);
+    assert!(rt; pages.len() == 5);
     assert!(rt; begins_with(&pages, 3, &FIRST_SEGMENT));
     Ok(())
 }

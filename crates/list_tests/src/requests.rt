@@ -186,7 +186,7 @@ fn see_chain_pages(
     let request = FOUR_PAGES.request(alloc)?;
     assert!(rt; request.check().is_ok());
     let pages = numbers.map(|number| PageNo(number));
-    same(rt, request.data_pages(), pages.len());
+    assert!(rt; request.data_pages() == pages.len());
     same(rt, request.chain_pages(&pages, 2), wanted);
     Ok(())
 }

@@ -142,7 +142,7 @@ fn see_step<D: TouchRecord>(
     (answer, pages): &Step,
 ) {
     assert!(rt; !walk.is_over());
-    same(rt, walk.need() as usize, staging.len());
+    assert!(rt; walk.need() as usize == staging.len());
     memory.clear();
     same(rt, walk.step(memory, staging), *answer);
     assert!(rt; has_pages(memory.touched(), pages));
@@ -304,7 +304,7 @@ fn blocks_have_the_wanted_length(rt: HostRuntime) -> Result<(), Fail> {
 fn next<D: TouchRecord>(rt: &impl Abort, memory: &mut D, walk: &mut Walk) -> WalkState {
     let mut staging = [0; 512];
     assert!(rt; !walk.is_over());
-    same(rt, walk.need(), 512);
+    assert!(rt; walk.need() == 512);
     memory.clear();
     walk.step(memory, &mut staging)
 }
@@ -717,7 +717,7 @@ static SHORT_DESCRIPTOR: [Event; 1] = [Event::Walk(Route {
 fn a_descriptor_with_a_missing_byte_ends_the_walk(rt: HostRuntime) -> Result<(), Fail> {
     let mut flat = FlatMemory::zeroed(rt.alloc(), 8)?;
     play(&rt, rt.alloc(), &mut flat, &ONE_BLOCK)?;
-    same(&rt, flat.pages(), 8);
+    assert!(rt; flat.pages() == 8);
     flat.remove(0x100F, 1);
     play(&rt, rt.alloc(), &mut flat, &SHORT_DESCRIPTOR)
 }

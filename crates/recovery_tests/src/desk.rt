@@ -122,7 +122,7 @@ impl Desk {
                 counts = counted(counts, self.bench.owner(PageNo(p)));
             }
         }
-        same(rt, self.bench.pages(), PAGES);
+        assert!(rt; self.bench.pages() == PAGES);
         same(rt, counts, self.bench.counts());
         same(rt, self.bench.trusted(), self.trusted);
     }

@@ -105,7 +105,7 @@ impl Desk {
                 counts = counted(counts, self.bench.owner(PageNo(p)));
             }
         }
-        same(rt, self.bench.pages(), PAGES);
+        assert!(rt; self.bench.pages() == PAGES);
         same(rt, counts, self.bench.counts());
     }
 

@@ -1,6 +1,5 @@
 //! Sixteen submitters over a pool so small that they wait for pages and for identifiers.
 
-use crate::expecting::same;
 use crate::looks::{counts, see};
 use crate::runs::{Outcome, is_done, job, play};
 use driver_threads::{Job, JobEnd, Open};

@@ -10,8 +10,6 @@ mod crowd;
 #[cfg(test)]
 mod desk;
 #[cfg(test)]
-mod expecting;
-#[cfg(test)]
 mod jobs;
 #[cfg(test)]
 mod looks;

@@ -139,7 +139,7 @@ pub(crate) fn follow(
     same(rt, left, 12_289 + need / 4_096);
     for _ in 0..=left {
         assert!(rt; !walk.is_over());
-        same(rt, walk.need() as usize, staging.len());
+        assert!(rt; walk.need() as usize == staging.len());
         if let Some(numbers) = &mut unrest {
             memory.stir(numbers);
         }
