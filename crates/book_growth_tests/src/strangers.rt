@@ -4,7 +4,7 @@ ghost use Rattle.std.specs.Prelude.{◌≡◌};
 ghost use Rattle.step_core.specs.Opening.{opening_of};
 
 use crate::expecting::same;
-use crate::sweep::{Heap, MANY, answers_of, opened, read, seated, step_on, zeros};
+use crate::sweep::{Heap, MANY, answers_of, end, opened, read, seated, step_on, zeros};
 use book_desk::Desk;
 use book_desk::answers::refused;
 use driver_book::*;
@@ -102,9 +102,9 @@ fn play_away<'a, L: Driver, M: Driver, R: Abort>(
     requires opening { M.opening ≡ opening_of config image }
 {
     let book: Book<M, &'a Heap> = opened(rt, heap, config, image, blank);
-    let mut away = seated(home.alloc, heap, book)?;
+    let mut away = seated(rt, home.alloc, heap, book);
     let left = visit_on(rt, heap, (home, &mut away), visit, growth);
-    let _ended = away.book.end();
+    end(away);
     left
 }
 
@@ -124,10 +124,10 @@ fn play_home<'a, L: Driver, R: Abort>(
     requires number { blank.parts ≡ 65536 }
     requires opening { L.opening ≡ opening_of config image }
 {
-    let book: Book<L, &'a Heap> = opened(rt, heap, config, image, blank);
-    let mut home = seated(alloc, heap, book)?;
     let other_image = zeros(heap)?;
     let other_blank = Blank::new(65536);
+    let book: Book<L, &'a Heap> = opened(rt, heap, config, image, blank);
+    let mut home = seated(rt, alloc, heap, book);
     let left = play_away::<L, Brand, R>(
         rt,
         heap,
@@ -138,7 +138,7 @@ fn play_home<'a, L: Driver, R: Abort>(
         visit,
         growth,
     );
-    let _ended = home.book.end();
+    end(home);
     left
 }
 

@@ -11,6 +11,7 @@ use refusing::Refusing;
 use script_cli::{Line, Script, read_script};
 use std::alloc::{Allocator, Global};
 use std::marker::Brand;
+use std::mem;
 use std::process::Abort;
 use std::sync::ledger::Blank;
 use std::test::Fail;
@@ -108,17 +109,15 @@ pub(crate) fn opened<L: Driver, A: Allocator + Copy, R: Abort>(
 }
 
 /// A desk with a book and its first seat.
-pub(crate) fn seated<'a, L: Driver>(
+pub(crate) fn seated<'a, L: Driver, R: Abort>(
+    rt: &R,
     alloc: Global,
     heap: &'a Heap,
     book: Book<L, &'a Heap>,
-) -> Result<Desk<L, &'a Heap>, Fail> {
+) -> Desk<L, &'a Heap> {
     let mut desk = Desk::new(alloc, heap, book);
-    if desk.sit()? {
-        Ok(desk)
-    } else {
-        Err(Fail::from("no seat was made"))
-    }
+    assert!(rt; desk.sit() == Ok(true));
+    desk
 }
 
 /// Whether a reply is want of memory.
@@ -150,7 +149,8 @@ pub(crate) fn step_on<'a, L: Driver, R: Abort>(
     Ok(tally.calls)
 }
 
-/// Does the steps of a script with one of their growths refused, and answers how many growths are left to that one.
+/// Does the steps of a script with one of their growths refused, sees whose each page is then, and answers how many growths are left to
+/// that one.
 fn steps_on<'a, L: Driver, R: Abort>(
     rt: &R,
     heap: &'a Heap,
@@ -171,19 +171,21 @@ fn steps_on<'a, L: Driver, R: Abort>(
         let calls = step_on(rt, heap, desk, (made, answer.as_str()), left)?;
         left = left.saturating_sub(calls);
     }
+    assert!(rt; Holdings::of_book(desk.alloc, &desk.book)? == wanted.end);
     Ok(left)
 }
 
 /// The seats of a book, in a list in its heap.
-fn listed<'a, L: Driver>(
+fn listed<'a, L: Driver, R: Abort>(
+    rt: &R,
     heap: &'a Heap,
     seats: Vec<Seat<L, &'a Heap>>,
-) -> Result<Vec<Seat<L, &'a Heap>, &'a Heap>, Fail> {
+) -> Vec<Seat<L, &'a Heap>, &'a Heap> {
     let mut listed = Vec::new(heap);
     for seat in seats {
-        listed.push(seat)?;
+        assert!(rt; listed.push(seat).is_ok());
     }
-    Ok(listed)
+    listed
 }
 
 /// What closing a book answers: how many submissions there were. Where memory is refused nothing has changed, and once more it answers so.
@@ -210,29 +212,27 @@ fn closed<'a, L: Driver, R: Abort>(
     }
 }
 
-/// Closes a book with one growth refused, ends it, and answers how many growths are left to that one.
+/// Closes a book with one growth refused, and answers how many growths are left to that one.
 fn close_on<'a, L: Driver, R: Abort>(
     rt: &R,
     heap: &'a Heap,
-    desk: Desk<L, &'a Heap>,
+    desk: &mut Desk<L, &'a Heap>,
     wanted: &Wanted,
     growth: u64,
 ) -> Result<u64, Fail> {
-    let Desk {
-        alloc,
-        heap: _,
-        mut book,
-        seats,
-        values: _,
-    } = desk;
-    let seats = listed(heap, seats)?;
+    let seats = mem::replace(&mut desk.seats, Vec::new(desk.alloc));
+    let seats = listed(rt, heap, seats);
     heap.refuse(refusing::Refusal::Nth(growth));
-    let closes = closed(rt, alloc, &mut book, seats)?;
+    let closes = closed(rt, desk.alloc, &mut desk.book, seats)?;
     let calls = heap.tally().calls;
     heap.refuse(refusing::Refusal::Never);
     assert!(rt; closes == wanted.closes, "{closes:?}");
-    let _ended = book.end();
     Ok(growth.saturating_sub(calls))
+}
+
+/// Ends the book of a desk.
+pub(crate) fn end<L: Driver>(desk: Desk<L, &Heap>) {
+    let _ended = desk.book.end();
 }
 
 /// Plays a script through a new book with one growth refused, and answers how many growths are left to that one.
@@ -256,10 +256,13 @@ fn play_on<'a, L: Driver, R: Abort>(
     let book: Book<L, &'a Heap> = opened(rt, heap, config, image, blank);
     let left = growth.saturating_sub(heap.tally().calls);
     heap.refuse(refusing::Refusal::Never);
-    let mut desk = seated(alloc, heap, book)?;
-    let left = steps_on(rt, heap, &mut desk, script, wanted, left)?;
-    assert!(rt; Holdings::of_book(alloc, &desk.book)? == wanted.end);
-    close_on(rt, heap, desk, wanted, left)
+    let mut desk = seated(rt, alloc, heap, book);
+    let left = match steps_on(rt, heap, &mut desk, script, wanted, left) {
+        Ok(left) => close_on(rt, heap, &mut desk, wanted, left),
+        Err(fail) => Err(fail),
+    };
+    end(desk);
+    left
 }
 
 /// Plays a script with one growth refused, and answers whether there was such a growth. At the end the heap is empty.

@@ -122,7 +122,7 @@ fn reserve(world: &mut World, q: u16, request: Request) -> Told {
 }
 
 /// Makes a call.
-pub(crate) fn called(world: &mut World, alloc: Global, call: Call) -> Result<Told, Fail> {
+pub(crate) fn called(world: &mut World, alloc: Global, call: Call) -> Result<Told, AllocError> {
     let told = match call {
         Call::Reserve(q, blocks) => reserve(world, q, read(alloc, blocks)?),
         Call::Ring(q) => done(world.ring(q)),
@@ -146,17 +146,11 @@ pub(crate) fn called(world: &mut World, alloc: Global, call: Call) -> Result<Tol
 }
 
 /// Makes calls, each of which must answer what stands beside it.
-pub(crate) fn see_calls(
-    rt: &impl Abort,
-    alloc: Global,
-    world: &mut World,
-    rows: &[(Call, Told)],
-) -> Result<(), Fail> {
+pub(crate) fn see_calls(rt: &impl Abort, alloc: Global, world: &mut World, rows: &[(Call, Told)]) {
     for (call, wanted) in rows {
-        let told = called(world, alloc, *call)?;
+        let told = called(world, alloc, *call).expect(rt, "memory for a request");
         same(rt, told, *wanted);
     }
-    Ok(())
 }
 
 /// A usual world, with segments of so many descriptors.
@@ -180,9 +174,12 @@ pub(crate) fn called_world(
     rows: &[(Call, Told)],
 ) -> Result<World, Fail> {
     let mut world = open(alloc)?;
-    see_calls(rt, alloc, &mut world, rows)?;
+    see_calls(rt, alloc, &mut world, rows);
     Ok(world)
 }
+
+/// Lets a world go. A test that lets one go at each of its ends takes long to prove.
+pub(crate) fn let_go(_world: World) {}
 
 /// Sees how many pages are free, of chains and of data in a usual world.
 pub(crate) fn see_counts(rt: &impl Abort, world: &World, free: u32, chain: u32, data: u32) {

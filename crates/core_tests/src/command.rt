@@ -1,9 +1,10 @@
 //! Commands reserved, cancelled, submitted and rung, an entry forged, and queues that are not retired.
 
-use crate::calls::{Call, Told, called_world, noted, open, read, see_calls, see_counts};
+use crate::calls::{Call, Told, called_world, let_go, noted, open, read, see_calls, see_counts};
 use crate::expecting::same;
 use io_commands::{Draft, RequestFault, Ticket};
 use std::alloc::Global;
+use std::process::Abort;
 use std::test::Fail;
 use step_core::*;
 
@@ -18,6 +19,7 @@ static LOWEST: [(Call, Told); 4] = [
 fn the_lowest_identifiers_and_pages_are_taken(rt: HostRuntime) -> Result<(), Fail> {
     let world = called_world(&rt, rt.alloc(), &LOWEST)?;
     see_counts(&rt, &world, 9, 0, 3);
+    let_go(world);
     Ok(())
 }
 
@@ -33,6 +35,7 @@ static TOO_FEW: [(Call, Told); 2] = [
 fn too_few_pages_are_told_with_their_numbers(rt: HostRuntime) -> Result<(), Fail> {
     let world = called_world(&rt, rt.alloc(), &TOO_FEW)?;
     see_counts(&rt, &world, 0, 1, 11);
+    let_go(world);
     Ok(())
 }
 
@@ -52,14 +55,24 @@ static NONE_SUCH: [(Call, Told); 6] = [
 fn queues_and_requests_that_are_none_are_refused(rt: HostRuntime) -> Result<(), Fail> {
     let world = called_world(&rt, rt.alloc(), &NONE_SUCH)?;
     assert!(rt; world.trusted());
+    let_go(world);
     Ok(())
 }
 
 /// A Read of so many blocks that is reserved on queue 1.
-fn reserved(world: &mut World, alloc: Global, blocks: u32) -> Result<Draft, Fail> {
-    match world.reserve(1, read(alloc, blocks)?) {
-        Ok(draft) => Ok(draft),
-        Err(_) => Err(Fail::from("it was not reserved")),
+fn reserved(rt: &impl Abort, world: &mut World, alloc: Global, blocks: u32) -> Draft {
+    let request = read(alloc, blocks).expect(rt, "memory for a request");
+    match world.reserve(1, request) {
+        Ok(draft) => draft,
+        Err(_) => panic!(rt; "it was not reserved"),
+    }
+}
+
+/// A usual world beside another one.
+fn opened(rt: &impl Abort, alloc: Global) -> World {
+    match open(alloc) {
+        Ok(world) => world,
+        Err(_) => panic!(rt; "it was not opened"),
     }
 }
 
@@ -77,22 +90,21 @@ static NEXT: [(Call, Told); 1] = [(Call::Reserve(1, 1), Told::Reserved(0, 1, Som
 #[test]
 fn a_cancelled_command_gives_all_back(rt: HostRuntime) -> Result<(), Fail> {
     let mut world = open(rt.alloc())?;
-    let draft = reserved(&mut world, rt.alloc(), 2)?;
+    let draft = reserved(&rt, &mut world, rt.alloc(), 2);
     let refused = cancelled(&mut world, draft);
     assert!(rt; refused == None);
     see_counts(&rt, &world, 12, 0, 0);
-    see_calls(&rt, rt.alloc(), &mut world, &NEXT)
+    see_calls(&rt, rt.alloc(), &mut world, &NEXT);
+    let_go(world);
+    Ok(())
 }
 
-/// Builds a draft, or spends it.
-fn built(alloc: Global, mut draft: Draft) -> Result<Draft, Fail> {
-    match draft.build(alloc) {
-        Ok(()) => Ok(draft),
-        Err(_) => {
-            noted(draft);
-            Err(Fail::from("it was not built"))
-        }
-    }
+/// A Read of one block that is reserved on queue 1 and built.
+fn built(rt: &impl Abort, world: &mut World, alloc: Global) -> Draft {
+    let mut draft = reserved(rt, world, alloc, 1);
+    let done = draft.build(alloc);
+    assert!(rt; done.is_ok());
+    draft
 }
 
 /// Submits a draft: its ticket, or what is against it.
@@ -141,31 +153,36 @@ static RUNG: [(Call, Told); 1] = [(Call::Ring(1), Told::Done)];
 #[test]
 fn a_built_draft_is_submitted(rt: HostRuntime) -> Result<(), Fail> {
     let mut world = open(rt.alloc())?;
-    let draft = built(rt.alloc(), reserved(&mut world, rt.alloc(), 1)?)?;
+    let draft = built(&rt, &mut world, rt.alloc());
     let told = submitted_and_collected(&mut world, draft);
     assert!(rt; told == Ok(Some((Refusal::NotYet, (1, 0)))));
-    see_calls(&rt, rt.alloc(), &mut world, &RUNG)
+    see_calls(&rt, rt.alloc(), &mut world, &RUNG);
+    let_go(world);
+    Ok(())
 }
 
 #[test]
 fn a_draft_that_is_not_built_is_not_submitted(rt: HostRuntime) -> Result<(), Fail> {
     let mut world = open(rt.alloc())?;
-    let draft = built(rt.alloc(), reserved(&mut world, rt.alloc(), 1)?)?;
+    let draft = built(&rt, &mut world, rt.alloc());
     let first = named(&mut world, draft);
-    let draft = reserved(&mut world, rt.alloc(), 1)?;
+    let draft = reserved(&rt, &mut world, rt.alloc(), 1);
     let second = named(&mut world, draft);
     assert!(rt; first == Ok((1, 0)));
     assert!(rt; second == Err(Refusal::NotBuilt));
+    let_go(world);
     Ok(())
 }
 
 #[test]
 fn a_draft_of_another_world_is_a_stranger(rt: HostRuntime) -> Result<(), Fail> {
     let mut world = open(rt.alloc())?;
-    let mut other = open(rt.alloc())?;
-    let draft = reserved(&mut world, rt.alloc(), 1)?;
+    let mut other = opened(&rt, rt.alloc());
+    let draft = reserved(&rt, &mut world, rt.alloc(), 1);
     let refused = cancelled(&mut other, draft);
     assert!(rt; refused == Some((Refusal::Stranger, (0, 1, Some(4)))));
+    let_go(world);
+    let_go(other);
     Ok(())
 }
 
@@ -184,13 +201,15 @@ fn submitted_after(
 #[test]
 fn a_draft_that_another_world_refused_is_submitted_by_its_own(rt: HostRuntime) -> Result<(), Fail> {
     let mut world = open(rt.alloc())?;
-    let mut other = open(rt.alloc())?;
-    let draft = built(rt.alloc(), reserved(&mut world, rt.alloc(), 1)?)?;
+    let mut other = opened(&rt, rt.alloc());
+    let draft = built(&rt, &mut world, rt.alloc());
     let (refused, ticket) = submitted_after(&mut world, &mut other, draft);
     assert!(rt; refused == Some(Refusal::Stranger));
     assert!(rt; ticket == Ok((1, 0)));
     same(&rt, other.counts().free_pages, 12);
     same(&rt, world.counts().free_pages, 11);
+    let_go(world);
+    let_go(other);
     Ok(())
 }
 
@@ -205,9 +224,11 @@ static OVERWRITTEN: [(Call, Told); 1] = [(Call::Overwrite(1, 3, 255), Told::Done
 fn a_forged_entry_ends_the_trust(rt: HostRuntime) -> Result<(), Fail> {
     let mut world = called_world(&rt, rt.alloc(), &NO_SLOT)?;
     assert!(rt; world.trusted());
-    see_calls(&rt, rt.alloc(), &mut world, &OVERWRITTEN)?;
+    see_calls(&rt, rt.alloc(), &mut world, &OVERWRITTEN);
     assert!(rt; !world.trusted());
-    see_calls(&rt, rt.alloc(), &mut world, &NEXT)
+    see_calls(&rt, rt.alloc(), &mut world, &NEXT);
+    let_go(world);
+    Ok(())
 }
 
 static NOT_RETIRED: [(Call, Told); 4] = [
@@ -220,10 +241,11 @@ static NOT_RETIRED: [(Call, Told); 4] = [
 #[test]
 fn a_queue_that_is_not_deleted_is_not_retired(rt: HostRuntime) -> Result<(), Fail> {
     let mut world = open(rt.alloc())?;
-    let draft = built(rt.alloc(), reserved(&mut world, rt.alloc(), 1)?)?;
+    let draft = built(&rt, &mut world, rt.alloc());
     let ticket = named(&mut world, draft);
     assert!(rt; ticket == Ok((1, 0)));
-    see_calls(&rt, rt.alloc(), &mut world, &NOT_RETIRED)?;
+    see_calls(&rt, rt.alloc(), &mut world, &NOT_RETIRED);
     see_counts(&rt, &world, 11, 0, 1);
+    let_go(world);
     Ok(())
 }

@@ -1,6 +1,6 @@
 //! The bytes of commands in a world: the entry and the descriptors of a draft, and the same descriptors once the command has ended.
 
-use crate::calls::{asked, open_with};
+use crate::calls::{asked, let_go, open_with};
 use crate::steps::BLOCK;
 use controller_walk::WalkState;
 use entry_codec::SubEntry;
@@ -112,13 +112,20 @@ fn entry_bytes() -> [u8; 64] {
     bytes
 }
 
+/// The entry of a Read of block 0, which is drafted for it.
+fn entry_of(world: &mut World, alloc: Global) -> Result<Option<SubEntry>, Fail> {
+    let draft = drafted(world, alloc, 1, &[BLOCK])?;
+    let entry = draft.entry();
+    draft.apart();
+    Ok(entry)
+}
+
 #[test]
 fn the_entry_of_one_block_is_what_its_bytes_spell(rt: HostRuntime) -> Result<(), Fail> {
     let mut world = open_with(rt.alloc(), 256)?;
-    let draft = drafted(&mut world, rt.alloc(), 1, &[BLOCK])?;
-    let entry = draft.entry();
-    draft.apart();
-    assert!(rt; entry == Some(SubEntry::read(&entry_bytes())));
+    let entry = entry_of(&mut world, rt.alloc());
+    let_go(world);
+    assert!(rt; entry? == Some(SubEntry::read(&entry_bytes())));
     Ok(())
 }
 
@@ -140,8 +147,26 @@ fn sgl1(draft: &Draft) -> Option<[u8; 16]> {
     }
 }
 
-/// Reads so many blocks in segments of so many descriptors: SGL1, and the lists from a page of the draft on, which are the same once
-/// the command has ended.
+/// Reads so many blocks: SGL1, and the lists from a page of the draft on, which are the same once the command has ended.
+fn shown_in(
+    rt: &impl Abort,
+    world: &mut World,
+    alloc: Global,
+    blocks: u32,
+    pieces: &[Piece],
+    place: usize,
+) -> Result<(Option<[u8; 16]>, Lists), Fail> {
+    let draft = drafted(world, alloc, blocks, pieces)?;
+    let sgl1 = sgl1(&draft);
+    let laid = lists(draft.pages(), place);
+    let finished = ended(world, draft)?;
+    let stand = lists(finished.pages(), place);
+    finished.apart();
+    assert!(rt; stand == laid);
+    Ok((sgl1, laid))
+}
+
+/// The same in a new world with segments of so many descriptors.
 fn shown(
     rt: &impl Abort,
     alloc: Global,
@@ -151,14 +176,9 @@ fn shown(
     place: usize,
 ) -> Result<(Option<[u8; 16]>, Lists), Fail> {
     let mut world = open_with(alloc, segment)?;
-    let draft = drafted(&mut world, alloc, blocks, pieces)?;
-    let sgl1 = sgl1(&draft);
-    let laid = lists(draft.pages(), place);
-    let finished = ended(&mut world, draft)?;
-    let stand = lists(finished.pages(), place);
-    finished.apart();
-    assert!(rt; stand == laid);
-    Ok((sgl1, laid))
+    let told = shown_in(rt, &mut world, alloc, blocks, pieces, place);
+    let_go(world);
+    told
 }
 
 /// A Data Block of page 4, and the link to the last segment on page 8.

@@ -1,5 +1,6 @@
 //! Openings at their borders, what a world shows as it opens, and its end.
 
+use crate::calls::let_go;
 use crate::expecting::same;
 use block_image::Image;
 use io_commands::Ticket;
@@ -21,7 +22,10 @@ const SMALL: Config = Config {
 /// Why a world over an image of one block is not opened, if it is not. The image is as it was.
 fn refusal(rt: &impl Abort, alloc: Global, config: Config) -> Result<Option<OpenRefusal>, Fail> {
     match World::open(alloc, config, Image::zeroed(alloc, 1)?) {
-        Ok(_) => Ok(None),
+        Ok(world) => {
+            let_go(world);
+            Ok(None)
+        }
         Err(refused) => {
             assert!(rt; refused.image.blocks() == 1);
             Ok(Some(refused.why))
@@ -184,6 +188,7 @@ fn a_world_shows_its_pages(rt: HostRuntime) -> Result<(), Fail> {
     for (p, wanted) in &OWNERS {
         see_owner(&rt, &world, *p, *wanted);
     }
+    let_go(world);
     Ok(())
 }
 

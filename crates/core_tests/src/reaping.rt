@@ -1,6 +1,6 @@
 //! Completions reaped that no command waits for.
 
-use crate::calls::{Call, Told, called_world};
+use crate::calls::{Call, Told, called_world, let_go};
 use std::test::Fail;
 use step_core::*;
 
@@ -14,6 +14,7 @@ static NOTHING: [(Call, Told); 3] = [
 fn nothing_is_reaped_of_a_new_world(rt: HostRuntime) -> Result<(), Fail> {
     let world = called_world(&rt, rt.alloc(), &NOTHING)?;
     assert!(rt; world.trusted());
+    let_go(world);
     Ok(())
 }
 
@@ -43,6 +44,6 @@ static FORGED: [(Call, Told); 9] = [
 
 #[test]
 fn forged_completions_are_taken_and_rejected(rt: HostRuntime) -> Result<(), Fail> {
-    let _world = called_world(&rt, rt.alloc(), &FORGED)?;
+    let_go(called_world(&rt, rt.alloc(), &FORGED)?);
     Ok(())
 }

@@ -1,6 +1,6 @@
 //! The controller is reset, and what a world shows then.
 
-use crate::calls::{Call, Told, called_world, see_calls};
+use crate::calls::{Call, Told, called_world, let_go, see_calls};
 use crate::expecting::same;
 use crate::opening::see_owner;
 use crate::sending::FIRST_DONE;
@@ -110,8 +110,9 @@ const SHOWN_RESET: Shown = Shown {
 fn a_reset_leaves_the_admin_queue_alone(rt: HostRuntime) -> Result<(), Fail> {
     let mut world = called_world(&rt, rt.alloc(), &FORGED)?;
     see(&rt, &world, &SHOWN_FORGED);
-    see_calls(&rt, rt.alloc(), &mut world, &RESET)?;
+    see_calls(&rt, rt.alloc(), &mut world, &RESET);
     see(&rt, &world, &SHOWN_RESET);
+    let_go(world);
     Ok(())
 }
 
@@ -172,6 +173,7 @@ const SHOWN_MADE_AGAIN: Shown = Shown {
 fn a_queue_is_made_again_behind_a_reset(rt: HostRuntime) -> Result<(), Fail> {
     let world = called_world(&rt, rt.alloc(), &MADE_AGAIN)?;
     see(&rt, &world, &SHOWN_MADE_AGAIN);
+    let_go(world);
     Ok(())
 }
 
@@ -218,5 +220,6 @@ const SHOWN_RESERVED: Shown = Shown {
 fn a_reserved_command_stays_behind_a_reset(rt: HostRuntime) -> Result<(), Fail> {
     let world = called_world(&rt, rt.alloc(), &RESERVED)?;
     see(&rt, &world, &SHOWN_RESERVED);
+    let_go(world);
     Ok(())
 }

@@ -1,6 +1,6 @@
 //! Admin commands that are sent, and what is against them.
 
-use crate::calls::{Call, Told, called_world};
+use crate::calls::{Call, Told, called_world, let_go};
 use entry_codec::Status;
 use std::test::Fail;
 use step_core::*;
@@ -26,6 +26,7 @@ static DELETED: [(Call, Told); 7] = [
 fn a_submission_queue_is_deleted(rt: HostRuntime) -> Result<(), Fail> {
     let world = called_world(&rt, rt.alloc(), &DELETED)?;
     assert!(rt; world.trusted());
+    let_go(world);
     Ok(())
 }
 
@@ -43,6 +44,6 @@ static CAUSES: [(Call, Told); 9] = [
 
 #[test]
 fn each_cause_is_told(rt: HostRuntime) -> Result<(), Fail> {
-    let _world = called_world(&rt, rt.alloc(), &CAUSES)?;
+    let_go(called_world(&rt, rt.alloc(), &CAUSES)?);
     Ok(())
 }

@@ -1,14 +1,14 @@
 //! A draft of one world that another refuses, with one growth refused.
 
 use crate::expecting::same;
-use crate::sweep::{Heap, MANY, zeros};
+use crate::sweep::{Heap, MANY};
 use io_commands::{Kind, Piece, Pieces};
 use page_ledger::Counts;
 use refusing::{Refusal, Refusing};
 use std::alloc::{AllocError, Global};
 use std::process::Abort;
 use std::test::Fail;
-use step_core::{Draft, Refused, Request, World};
+use step_core::{Draft, Image, Refused, Request, World};
 use worked_scripts::pools::USUAL;
 
 /// The pool of a world in which a Read of one block is out: one page of twelve.
@@ -34,11 +34,19 @@ fn request(heap: &Heap) -> Result<Request<&Heap>, AllocError> {
 }
 
 /// A world over an image of zeros.
-fn opened(heap: &Heap) -> Result<World<&Heap>, Fail> {
-    match World::open(heap, USUAL, zeros(heap)?) {
-        Ok(world) => Ok(world),
-        Err(_) => Err(Fail::from("no world")),
+fn opened<'a>(rt: &impl Abort, heap: &'a Heap) -> World<&'a Heap> {
+    let Ok(image) = Image::zeroed(heap, 64) else {
+        panic!(rt; "no image");
+    };
+    match World::open(heap, USUAL, image) {
+        Ok(world) => world,
+        Err(_) => panic!(rt; "no world"),
     }
+}
+
+/// Ends a world.
+fn end(world: World<&Heap>) {
+    let _ended = world.end();
 }
 
 /// Reserves a command, once more where memory was refused: then nothing had changed.
@@ -112,18 +120,24 @@ fn visit<'a>(
     Ok(met)
 }
 
+/// Opens two worlds, and lets a draft of one visit the other with one growth refused. Answers whether there was such a growth.
+fn visited(rt: &impl Abort, alloc: Global, growth: u64) -> Result<bool, Fail> {
+    let heap = Refusing::new(alloc);
+    let mut world = opened(rt, &heap);
+    let mut other = opened(rt, &heap);
+    let met = visit(rt, &heap, (&mut world, &mut other), growth);
+    end(world);
+    end(other);
+    assert!(rt; heap.tally().blocks == 0, "growth {growth}");
+    met
+}
+
 /// Another world refuses a draft whatever memory there is, and its own one submits it.
 #[test]
 fn a_stranger_is_told_without_memory(rt: HostRuntime) -> Result<(), Fail> {
     let mut growths: u64 = 0;
     for growth in 1..MANY {
-        let heap = Refusing::new(rt.alloc());
-        let mut world = opened(&heap)?;
-        let mut other = opened(&heap)?;
-        let met = visit(&rt, &heap, (&mut world, &mut other), growth)?;
-        let _ended = (world.end(), other.end());
-        assert!(rt; heap.tally().blocks == 0, "growth {growth}");
-        if !met {
+        if !visited(&rt, rt.alloc(), growth)? {
             break;
         }
         growths = growth;

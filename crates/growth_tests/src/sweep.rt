@@ -153,7 +153,7 @@ fn steps_on<'a>(
         let calls = step_on(rt, alloc, heap, bench, (step, answer.as_str()), left)?;
         left = left.saturating_sub(calls);
     }
-    same(rt, Standing::of(alloc, bench)?, wanted.end);
+    same(rt, &Standing::of(alloc, bench)?, &wanted.end);
     Ok(left)
 }
 
@@ -197,7 +197,7 @@ fn steps_without_memory<'a>(
         let text = format!(in alloc; "{answer:?}")?;
         same(rt, Some(&text), answers.next());
     }
-    same(rt, Standing::of(alloc, bench)?, wanted.end);
+    same(rt, &Standing::of(alloc, bench)?, &wanted.end);
     Ok(())
 }
 

@@ -1,7 +1,9 @@
 //! Bytes, pieces and requests of the largest commands.
 
+use block_image::Image;
 use io_commands::{Kind, Piece, Pieces, Request};
 use std::alloc::{AllocError, Global};
+use std::process::Abort;
 
 /// The most blocks that a command moves.
 pub(crate) const BLOCKS: u32 = 2_048;
@@ -16,6 +18,15 @@ pub(crate) fn blocks(alloc: Global, count: usize) -> Result<Vec<u8>, AllocError>
         }
     }
     Ok(bytes)
+}
+
+/// An image of these bytes.
+pub(crate) fn image_of(rt: &impl Abort, alloc: Global, bytes: &[u8]) -> Image {
+    let copy = Vec::from_slice(alloc, bytes).expect(rt, "memory");
+    match Image::from_bytes(copy) {
+        Ok(image) => image,
+        Err(_) => panic!(rt; "no image"),
+    }
 }
 
 /// The most pieces, of 1,024 bytes each, at three places of their pages. None begins its page behind one that fills its own, so

@@ -10,7 +10,6 @@ use page_memory::{Page, PageNo, Store, TouchRecord};
 use sgl_chain::pages_needed;
 use std::alloc::{AllocError, Global};
 use std::process::Abort;
-use std::test::Fail;
 
 /// The most steps of a walk over the most bytes.
 const STEPS: u32 = 12_546;
@@ -48,14 +47,14 @@ pub(crate) fn drafted(
     store: &mut Store,
     request: Request,
     bytes: Option<&[u8]>,
-) -> Result<(SubEntry, Request, usize), Fail> {
+) -> (SubEntry, Request, usize) {
     assert!(rt; request.check().is_ok());
     let count = request.data_pages();
     let needed = count + pages_needed(request.pieces().len(), 2);
-    let pages = taken(alloc, store, needed)?;
+    let pages = taken(alloc, store, needed).expect(rt, "memory");
     assert!(rt; pages.len() == needed);
     let (front, _) = pages.split_at(count);
-    let parts = request.parts_in(alloc, front)?;
+    let parts = request.parts_in(alloc, front).expect(rt, "memory");
     assert!(rt; parts.len() == request.pieces().len());
     let mut draft = Draft::make(1, 3, request, pages, 2);
     let filled = match bytes {
@@ -65,12 +64,11 @@ pub(crate) fn drafted(
     let built = draft.build(alloc);
     let entry = draft.entry();
     let parts = draft.apart();
-    filled?;
-    built?;
+    assert!(rt; filled.is_ok() && built.is_ok());
     for (number, page) in parts.pages {
         put_in(rt, store, number, page);
     }
-    Ok((entry.ok_or("it is built")?, parts.request, needed))
+    (entry.expect(rt, "an entry"), parts.request, needed)
 }
 
 /// Walks a job to its verdict.
@@ -92,12 +90,12 @@ pub(crate) fn served(
     store: &mut Store,
     image: &mut Image,
     entry: &SubEntry,
-) -> Result<Status, Fail> {
-    let mut job = begin_job(alloc, entry, image)?;
+) -> Status {
+    let mut job = begin_job(alloc, entry, image).expect(rt, "memory");
     walk(rt, store, &mut job);
     assert!(rt; job.verdict().is_some());
     assert!(rt; job.blocks() == image.blocks());
-    Ok(finish_job(job, image))
+    finish_job(job, image)
 }
 
 /// What a command gathers that ended so, with its pages in the store.
@@ -108,8 +106,8 @@ pub(crate) fn gathered(
     request: Request,
     status: Status,
     needed: usize,
-) -> Result<Vec<u8>, Fail> {
-    let pages = taken(alloc, store, needed)?;
+) -> Vec<u8> {
+    let pages = taken(alloc, store, needed).expect(rt, "memory");
     assert!(rt; request.check().is_ok());
     assert!(rt; request.data_pages() <= pages.len());
     let finished = Finished::make(1, 3, request, status, pages);
@@ -117,5 +115,5 @@ pub(crate) fn gathered(
     let bytes = finished.gather(alloc);
     let parts = finished.apart();
     same(rt, parts.request.kind, kind);
-    Ok(bytes?)
+    bytes.expect(rt, "memory")
 }

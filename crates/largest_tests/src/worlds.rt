@@ -1,13 +1,13 @@
 //! The largest world: 65,536 pages, 64 queues of 1,024 entries, and a Read of the most blocks in the most pieces.
 
 use crate::expecting::same;
-use crate::making::{BLOCKS, blocks, largest};
-use block_image::Image;
+use crate::making::{BLOCKS, blocks, image_of, largest};
 use controller_walk::WalkState;
 use entry_codec::Status;
 use io_commands::{Draft, Finished, Kind, Request, Ticket};
 use page_ledger::Counts;
 use std::alloc::Global;
+use std::process::Abort;
 use std::test::Fail;
 use step_core::*;
 
@@ -30,35 +30,38 @@ const AS_OPENED: Counts = Counts {
     data_pages: 0,
 };
 
-/// A world over an image.
-fn open(alloc: Global, image: Image) -> Result<World, Fail> {
-    match World::open(alloc, LARGEST, image) {
-        Ok(world) => Ok(world),
-        Err(_) => Err(Fail::from("it was not opened")),
+/// A world over an image of these bytes.
+fn open(rt: &impl Abort, alloc: Global, bytes: &[u8]) -> World {
+    match World::open(alloc, LARGEST, image_of(rt, alloc, bytes)) {
+        Ok(world) => world,
+        Err(_) => panic!(rt; "it was not opened"),
     }
 }
 
+/// Ends a world.
+fn end(world: World) {
+    let _ended = world.end();
+}
+
 /// Reserves a command on the last queue, and builds it.
-fn built(world: &mut World, alloc: Global, request: Request) -> Result<Draft, Fail> {
+fn built(rt: &impl Abort, world: &mut World, alloc: Global, request: Request) -> Draft {
     match world.reserve(LAST, request) {
-        Ok(mut draft) => match draft.build(alloc) {
-            Ok(()) => Ok(draft),
-            Err(_) => {
-                draft.apart();
-                Err(Fail::from("it was not built"))
-            }
-        },
-        Err(_) => Err(Fail::from("it was not reserved")),
+        Ok(mut draft) => {
+            let done = draft.build(alloc);
+            assert!(rt; done.is_ok());
+            draft
+        }
+        Err(_) => panic!(rt; "it was not reserved"),
     }
 }
 
 /// Submits a draft.
-fn submitted(world: &mut World, draft: Draft) -> Result<Ticket, Fail> {
+fn submitted(rt: &impl Abort, world: &mut World, draft: Draft) -> Ticket {
     match world.submit(draft) {
-        Ok(ticket) => Ok(ticket),
+        Ok(ticket) => ticket,
         Err(refused) => {
             refused.value.apart();
-            Err(Fail::from("it was not submitted"))
+            panic!(rt; "it was not submitted")
         }
     }
 }
@@ -82,52 +85,51 @@ fn carried(world: &mut World) -> Option<u32> {
 }
 
 /// Collects a command.
-fn collected(world: &mut World, ticket: Ticket) -> Result<Finished, Fail> {
+fn collected(rt: &impl Abort, world: &mut World, ticket: Ticket) -> Finished {
     match world.collect(ticket) {
-        Ok(finished) => Ok(finished),
+        Ok(finished) => finished,
         Err(refused) => {
             refused.value.apart();
-            Err(Fail::from("it was not collected"))
+            panic!(rt; "it was not collected")
         }
     }
 }
 
 /// Gathers what a command brought, and releases it.
-fn gathered(world: &mut World, alloc: Global, finished: Finished) -> Result<Vec<u8>, Fail> {
+fn gathered(rt: &impl Abort, world: &mut World, alloc: Global, finished: Finished) -> Vec<u8> {
     let bytes = finished.gather(alloc);
     match world.release(finished) {
-        Ok(()) => Ok(bytes?),
+        Ok(()) => bytes.expect(rt, "memory"),
         Err(refused) => {
             refused.value.apart();
-            Err(Fail::from("it was not released"))
+            panic!(rt; "it was not released")
         }
     }
+}
+
+/// Reads the most blocks in the most pieces, and sees how it went: what is gathered.
+fn read_in(rt: &impl Abort, world: &mut World, alloc: Global) -> Vec<u8> {
+    let request = largest(alloc, Kind::Read).expect(rt, "memory");
+    let draft = built(rt, world, alloc, request);
+    let ticket = submitted(rt, world, draft);
+    same(rt, carried(world), Some(1_024 + 1_023 + 1_024));
+    let done = Reaped::Done {
+        cid: 0,
+        status: Status::SUCCESS,
+    };
+    same(rt, world.reap(LAST), Ok(done));
+    let finished = collected(rt, world, ticket);
+    gathered(rt, world, alloc, finished)
 }
 
 #[test]
 fn the_largest_world_reads_each_byte(rt: HostRuntime) -> Result<(), Fail> {
     let bytes = blocks(rt.alloc(), BLOCKS as usize)?;
-    let copy = Vec::from_slice(rt.alloc(), bytes.as_slice())?;
-    let image = Image::from_bytes(copy).ok().ok_or("an image")?;
-    let mut world = open(rt.alloc(), image)?;
+    let mut world = open(&rt, rt.alloc(), bytes.as_slice());
     same(&rt, world.counts(), AS_OPENED);
-    let request = largest(rt.alloc(), Kind::Read)?;
-    let draft = built(&mut world, rt.alloc(), request)?;
-    let ticket = submitted(&mut world, draft)?;
-    let steps = carried(&mut world);
-    let reaped = world.reap(LAST);
-    let finished = collected(&mut world, ticket)?;
-    let read = gathered(&mut world, rt.alloc(), finished)?;
-    same(&rt, steps, Some(1_024 + 1_023 + 1_024));
-    same(
-        &rt,
-        reaped.ok(),
-        Some(Reaped::Done {
-            cid: 0,
-            status: Status::SUCCESS,
-        }),
-    );
+    let read = read_in(&rt, &mut world, rt.alloc());
+    same(&rt, world.counts(), AS_OPENED);
+    end(world);
     assert!(rt; read.as_slice() == bytes.as_slice());
-    same(&rt, world.counts(), AS_OPENED);
     Ok(())
 }
