@@ -1,7 +1,7 @@
 //! A host, its controller and sixteen outstanding commands in a heap of fixed size.
 
 use crate::expecting::{same, same_at};
-use crate::sweep::{Wanted, is_memory, read, unrefused, zeros};
+use crate::sweep::{Wanted, end, is_memory, read, told, unrefused};
 use linked_list_allocator::LocalHeap;
 use script_cli::{Line, Script, run_steps};
 use std::alloc::{AllocError, Global};
@@ -125,7 +125,7 @@ fn steps_in<'a>(
         if is_memory(&answer) {
             return Ok(false);
         }
-        let text = format!(in alloc; "{answer:?}")?;
+        let text = told(alloc, answer)?;
         same(rt, Some(&text), wanted.next());
     }
     Ok(true)
@@ -144,7 +144,7 @@ fn fits(
         None => Ok(false),
         Some(mut bench) => {
             let fit = steps_in(rt, alloc, &heap, &mut bench, script, wanted);
-            let _ended = bench.end();
+            end(bench);
             fit
         }
     };
@@ -152,40 +152,43 @@ fn fits(
     fit
 }
 
-/// Sees that a script prints the lines that it shows, in this order.
-fn look_at(
-    rt: &impl Abort,
-    alloc: Global,
-    config: Config,
-    script: &str,
-    shows: &str,
-) -> Result<(), Fail> {
+/// All that a script prints.
+fn printed(rt: &impl Abort, alloc: Global, config: Config, script: &str) -> String {
+    let image = Image::zeroed(alloc, 64).expect(rt, "an image");
     let mut printed = Vec::new(alloc);
     let mut reader = script.as_bytes();
-    if run_steps(alloc, config, zeros(alloc)?, &mut reader, &mut printed).is_err() {
-        return Err(Fail::from("no run"));
+    let ran = run_steps(alloc, config, image, &mut reader, &mut printed);
+    assert!(rt; ran.is_ok());
+    match String::from_utf8(printed) {
+        Ok(printed) => printed,
+        Err(_) => panic!(rt; "no text"),
     }
-    let Ok(printed) = String::from_utf8(printed) else {
-        return Err(Fail::from("no text"));
-    };
+}
+
+/// Sees that a script prints the lines that it shows, in this order.
+fn look_at(rt: &impl Abort, alloc: Global, config: Config, script: &str, shows: &str) {
+    let printed = printed(rt, alloc, config, script);
     let mut lines = printed.as_str().lines();
     for wanted in shows.lines() {
         assert!(rt; lines.any(|line| line == wanted), "{wanted}");
     }
-    Ok(())
+}
+
+/// Whether sixteen commands are carried through in a heap of so many bytes, or memory is refused.
+fn carries(rt: &impl Abort, alloc: Global, bytes: usize, text: &str) -> Result<bool, Fail> {
+    let script = read(alloc, text)?;
+    let wanted = unrefused(alloc, TWENTY_PAGES, &script)?;
+    fits(rt, alloc, bytes, &script, &wanted)
 }
 
 /// Sixteen commands at once are carried through in a heap; in one that is a step smaller memory is refused, and it is empty at the end.
 #[test]
 fn sixteen_commands_fit_a_heap(rt: HostRuntime) -> Result<(), Fail> {
-    let alloc = rt.alloc();
-    let text = commands(alloc)?;
-    let shows = gathered(alloc)?;
-    look_at(&rt, alloc, TWENTY_PAGES, text.as_str(), shows.as_str())?;
-    let script = read(alloc, text.as_str())?;
-    let wanted = unrefused(alloc, TWENTY_PAGES, &script)?;
-    assert!(rt; fits(&rt, alloc, CARRIES, &script, &wanted)?);
-    assert!(rt; !fits(&rt, alloc, CARRIES - STEP, &script, &wanted)?);
+    let text = commands(rt.alloc())?;
+    let shows = gathered(rt.alloc())?;
+    look_at(&rt, rt.alloc(), TWENTY_PAGES, text.as_str(), shows.as_str());
+    assert!(rt; carries(&rt, rt.alloc(), CARRIES, text.as_str())?);
+    assert!(rt; !carries(&rt, rt.alloc(), CARRIES - STEP, text.as_str())?);
     Ok(())
 }
 
@@ -197,7 +200,7 @@ fn a_bench_opens_in_a_heap(rt: HostRuntime) -> Result<(), Fail> {
         let opened = match open_in(&rt, &heap)? {
             None => false,
             Some(bench) => {
-                let _ended = bench.end();
+                end(bench);
                 true
             }
         };

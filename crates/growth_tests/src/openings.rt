@@ -1,7 +1,7 @@
 //! Openings with one growth refused.
 
 use crate::expecting::{same, same_at};
-use crate::sweep::{Heap, MANY, zeros};
+use crate::sweep::{Heap, MANY, end, zeros};
 use refusing::{Refusal, Refusing};
 use std::alloc::Global;
 use std::process::Abort;
@@ -18,7 +18,7 @@ fn open_and_end<'a>(
 ) -> Option<Image<&'a Heap>> {
     match Bench::open(heap, config, image) {
         Ok(bench) => {
-            let _ended = bench.end();
+            end(bench);
             None
         }
         Err(refused) => {

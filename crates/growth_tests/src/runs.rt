@@ -1,7 +1,7 @@
 //! Lists of steps that are run at once, with one growth refused.
 
 use crate::expecting::{same, same_at};
-use crate::sweep::{Heap, MANY, Standing, Wanted, is_memory, opened, read, unrefused};
+use crate::sweep::{Heap, MANY, Standing, Wanted, end, is_memory, opened, read, unrefused};
 use refusing::{Refusal, Refusing};
 use script_cli::{Line, Script};
 use std::alloc::{AllocError, Global};
@@ -97,7 +97,7 @@ fn run(
     let heap = Refusing::new(alloc);
     let mut bench = opened(&heap, USUAL)?;
     let came = run_on(rt, alloc, &heap, &mut bench, script, wanted, growth);
-    let _ended = bench.end();
+    end(bench);
     same_at(rt, growth, heap.tally().blocks, 0);
     came
 }

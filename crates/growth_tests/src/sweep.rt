@@ -6,6 +6,7 @@ use page_memory::PageNo;
 use refusing::{Refusal, Refusing};
 use script_cli::{Line, Script, read_script};
 use std::alloc::{AllocError, Allocator, Global};
+use std::fmt::Debug;
 use std::process::Abort;
 use std::test::Fail;
 use step_core::{Bench, Config, Image, Reply, ReplyIn, Step};
@@ -74,6 +75,19 @@ pub(crate) fn read(alloc: Global, text: &str) -> Result<Script, Fail> {
     }
 }
 
+/// What a reply says. It is let go.
+pub(crate) fn told<A: Allocator + Debug>(
+    alloc: Global,
+    reply: ReplyIn<A>,
+) -> Result<String, AllocError> {
+    format!(in alloc; "{reply:?}")
+}
+
+/// Ends a bench.
+pub(crate) fn end<A: Allocator + Copy>(bench: Bench<A>) {
+    let _ended = bench.end();
+}
+
 /// What each step of a script answers on a bench whose heap refuses nothing.
 fn answers_on<'a>(
     alloc: Global,
@@ -85,7 +99,7 @@ fn answers_on<'a>(
     for numbered in script.lines() {
         if let Line::Step(step) = &numbered.line {
             let reply = bench.step(placed(heap, step)?);
-            answers.push(format!(in alloc; "{reply:?}")?)?;
+            answers.push(told(alloc, reply)?)?;
         }
     }
     let end = Standing::of(alloc, bench)?;
@@ -97,7 +111,7 @@ pub(crate) fn unrefused(alloc: Global, config: Config, script: &Script) -> Resul
     let heap = Refusing::new(alloc);
     let mut bench = opened(&heap, config)?;
     let wanted = answers_on(alloc, &heap, &mut bench, script);
-    let _ended = bench.end();
+    end(bench);
     wanted
 }
 
@@ -126,7 +140,7 @@ fn step_on<'a>(
         same_at(rt, wanted, Standing::of(alloc, bench)?, before);
         answer = bench.step(placed(heap, step)?);
     }
-    let text = format!(in alloc; "{answer:?}")?;
+    let text = told(alloc, answer)?;
     same(rt, text.as_str(), wanted);
     Ok(tally.calls)
 }
@@ -194,7 +208,7 @@ fn steps_without_memory<'a>(
         let answer = bench.step(made);
         same(rt, heap.tally().refused, 0);
         heap.refuse(Refusal::Never);
-        let text = format!(in alloc; "{answer:?}")?;
+        let text = told(alloc, answer)?;
         same(rt, Some(&text), answers.next());
     }
     same(rt, &Standing::of(alloc, bench)?, &wanted.end);
@@ -212,7 +226,7 @@ fn play_without_memory(
     let heap = Refusing::new(alloc);
     let mut bench = opened(&heap, config)?;
     let played = steps_without_memory(rt, alloc, &heap, &mut bench, script, wanted);
-    let _ended = bench.end();
+    end(bench);
     played
 }
 
@@ -228,7 +242,7 @@ fn play(
     let heap = Refusing::new(alloc);
     let mut bench = opened(&heap, config)?;
     let left = steps_on(rt, alloc, &heap, &mut bench, script, wanted, growth);
-    let _ended = bench.end();
+    end(bench);
     same_at(rt, growth, heap.tally().blocks, 0);
     Ok(left? == 0)
 }
