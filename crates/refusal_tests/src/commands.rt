@@ -164,3 +164,21 @@ fn a_job_takes_one_block(rt: HostRuntime) -> Result<(), Fail> {
     same(&rt, (heap.tally().calls, heap.tally().blocks), (1, 0));
     Ok(())
 }
+
+/// Pieces that are taken one by one: the first takes a block, and where it is refused there is none; the same piece then comes in.
+#[test]
+fn pieces_are_taken_once_no_growth_is_refused(rt: HostRuntime) {
+    let heap = Refusing::new(rt.alloc());
+    let bucket = Piece::Bucket { len: 512 };
+    heap.refuse(Refusal::Nth(1));
+    assert!(rt; Pieces::from_slice(&heap, &[bucket]).is_err());
+    is_empty_after_refusal(&rt, &heap);
+    let mut pieces = Pieces::new(&heap);
+    heap.refuse(Refusal::Nth(1));
+    assert!(rt; pieces.push(bucket).is_err());
+    assert!(rt; pieces.as_slice().is_empty());
+    is_empty_after_refusal(&rt, &heap);
+    heap.refuse(Refusal::Never);
+    assert!(rt; pieces.push(bucket).is_ok());
+    assert!(rt; pieces.as_slice() == [bucket].as_slice());
+}
