@@ -3,7 +3,7 @@
 use crate::expecting::{same, same_at};
 use admin_commands::*;
 use entry_codec::{Status, SubEntry};
-use std::test::Fail;
+use std::process::Abort;
 
 const LIVE: DeviceView = DeviceView {
     sq: SqState::Live,
@@ -35,7 +35,7 @@ fn answered(sct: u8, sc: u8, dw0: u32) -> AdminVerdict {
 }
 
 #[test]
-fn entries_have_their_bytes(rt: HostRuntime) -> Result<(), Fail> {
+fn entries_have_their_bytes(rt: HostRuntime) {
     let mut bytes = [0; 64];
     bytes[40] = 1;
     same(&rt, entry(AdminKind::DeleteSq { q: 1 }, 0).write(), bytes);
@@ -47,11 +47,10 @@ fn entries_have_their_bytes(rt: HostRuntime) -> Result<(), Fail> {
     let abort = entry(AdminKind::Abort { q: 1, cid: 2 }, 7);
     same(&rt, abort.write(), bytes);
     same(&rt, (queue_of(&abort), command_of(&abort)), (1, 2));
-    Ok(())
 }
 
 #[test]
-fn creations_have_their_bytes(rt: HostRuntime) -> Result<(), Fail> {
+fn creations_have_their_bytes(rt: HostRuntime) {
     let create_cq = entry(
         AdminKind::CreateCq {
             q: 1,
@@ -79,11 +78,53 @@ fn creations_have_their_bytes(rt: HostRuntime) -> Result<(), Fail> {
     bytes[40..48].copy_from_slice(&[1, 0, 3, 0, 1, 0, 1, 0]);
     same(&rt, create_sq.write(), bytes);
     same(&rt, queue_of(&create_sq), 1);
-    Ok(())
+}
+
+/// Sees that each entry, in its view, is decided so.
+fn decided(rt: &impl Abort, rows: &[(SubEntry, DeviceView, AdminVerdict)]) {
+    for (entry, view, want) in rows {
+        same_at(rt, (entry, view), decide(entry, view), *want);
+    }
+}
+
+fn abort(q: u16) -> SubEntry {
+    entry(AdminKind::Abort { q, cid: 3 }, 0)
+}
+
+fn delete_sq(q: u16) -> SubEntry {
+    entry(AdminKind::DeleteSq { q }, 0)
+}
+
+fn delete_cq(q: u16) -> SubEntry {
+    entry(AdminKind::DeleteCq { q }, 0)
+}
+
+fn create_cq(q: u16, entries: u16, base: u64) -> SubEntry {
+    entry(AdminKind::CreateCq { q, entries, base }, 0)
+}
+
+fn create_sq(q: u16, entries: u16, base: u64) -> SubEntry {
+    entry(AdminKind::CreateSq { q, entries, base }, 0)
+}
+
+/// The creation of submission queue 1 whose completions go to a queue.
+fn completed_in(q: u16, entries: u16) -> SubEntry {
+    SubEntry {
+        cdw11: 1 + 0x1_0000 * u32::from(q),
+        ..create_sq(1, entries, 0x3000)
+    }
+}
+
+fn made_cq(q: u16, base: u64) -> AdminVerdict {
+    AdminVerdict::MakeCompletion { q, base }
+}
+
+fn made_sq(q: u16, base: u64) -> AdminVerdict {
+    AdminVerdict::MakeSubmission { q, base }
 }
 
 #[test]
-fn rules_hold_at_their_borders(rt: HostRuntime) -> Result<(), Fail> {
+fn rules_hold_at_their_borders(rt: HostRuntime) {
     let absent = DeviceView {
         sq: SqState::Absent,
         ..LIVE
@@ -100,56 +141,51 @@ fn rules_hold_at_their_borders(rt: HostRuntime) -> Result<(), Fail> {
         target_walks: false,
         ..LIVE
     };
-    let abort = |q| AdminKind::Abort { q, cid: 3 };
-    let delete_sq = |q| AdminKind::DeleteSq { q };
-    let delete_cq = |q| AdminKind::DeleteCq { q };
-    for (kind, view, want) in [
-        (abort(1), LIVE, AdminVerdict::AbortJob { q: 1, cid: 3 }),
-        (abort(1), late, answered(0, 0x00, 1)),
-        (abort(0), LIVE, answered(0, 0x00, 1)),
-        (delete_sq(1), LIVE, AdminVerdict::StopQueue { q: 1 }),
-        (delete_sq(1), stopping, answered(1, 0x01, 0)),
-        (delete_sq(1), absent, answered(1, 0x01, 0)),
-        (delete_sq(0), LIVE, answered(1, 0x01, 0)),
-        (delete_cq(1), absent, AdminVerdict::DropCompletion { q: 1 }),
-        (delete_cq(1), LIVE, answered(1, 0x0C, 0)),
-        (delete_cq(1), stopping, answered(1, 0x0C, 0)),
-        (delete_cq(1), gone, answered(1, 0x01, 0)),
-        (delete_cq(0), absent, answered(1, 0x01, 0)),
-    ] {
-        same_at(&rt, (kind, view), decide(&entry(kind, 0), &view), want);
-    }
-    Ok(())
+    decided(
+        &rt,
+        &[
+            (abort(1), LIVE, AdminVerdict::AbortJob { q: 1, cid: 3 }),
+            (abort(1), late, answered(0, 0x00, 1)),
+            (abort(0), LIVE, answered(0, 0x00, 1)),
+            (delete_sq(1), LIVE, AdminVerdict::StopQueue { q: 1 }),
+            (delete_sq(1), stopping, answered(1, 0x01, 0)),
+            (delete_sq(1), absent, answered(1, 0x01, 0)),
+            (delete_sq(0), LIVE, answered(1, 0x01, 0)),
+            (delete_cq(1), absent, AdminVerdict::DropCompletion { q: 1 }),
+            (delete_cq(1), LIVE, answered(1, 0x0C, 0)),
+            (delete_cq(1), stopping, answered(1, 0x0C, 0)),
+            (delete_cq(1), gone, answered(1, 0x01, 0)),
+            (delete_cq(0), absent, answered(1, 0x01, 0)),
+        ],
+    );
 }
 
 #[test]
-fn completion_queues_are_made_by_rule(rt: HostRuntime) -> Result<(), Fail> {
-    let made = |q, base| AdminVerdict::MakeCompletion { q, base };
-    let create = |q, entries, base| entry(AdminKind::CreateCq { q, entries, base }, 0);
-    let first = create(1, 4, 0x2000);
+fn completion_queues_are_made_by_rule(rt: HostRuntime) {
+    let first = create_cq(1, 4, 0x2000);
     let scattered = SubEntry { cdw11: 0, ..first };
     let fused = SubEntry { fuse: 1, ..first };
-    for (entry, view, want) in [
-        (first, NEITHER, made(1, 0x2000)),
-        (create(2, 4, 0x7000), NEITHER, made(2, 0x7000)),
-        (fused, NEITHER, answered(0, 0x02, 0)),
-        (create(0, 4, 0x2000), NEITHER, answered(1, 0x01, 0)),
-        (create(3, 4, 0x2000), NEITHER, answered(1, 0x01, 0)),
-        (create(1, 5, 0x2000), LIVE, answered(1, 0x01, 0)),
-        (create(1, 3, 0x2010), NEITHER, answered(1, 0x02, 0)),
-        (create(1, 5, 0x2010), NEITHER, answered(1, 0x02, 0)),
-        (scattered, NEITHER, answered(0, 0x02, 0)),
-        (create(1, 4, 0x2010), NEITHER, answered(0, 0x02, 0)),
-        (create(1, 4, 0x8000), NEITHER, answered(0, 0x02, 0)),
-        (create(1, 4, 1 << 63), NEITHER, answered(0, 0x02, 0)),
-    ] {
-        same_at(&rt, (entry, view), decide(&entry, &view), want);
-    }
-    Ok(())
+    decided(
+        &rt,
+        &[
+            (first, NEITHER, made_cq(1, 0x2000)),
+            (create_cq(2, 4, 0x7000), NEITHER, made_cq(2, 0x7000)),
+            (fused, NEITHER, answered(0, 0x02, 0)),
+            (create_cq(0, 4, 0x2000), NEITHER, answered(1, 0x01, 0)),
+            (create_cq(3, 4, 0x2000), NEITHER, answered(1, 0x01, 0)),
+            (create_cq(1, 5, 0x2000), LIVE, answered(1, 0x01, 0)),
+            (create_cq(1, 3, 0x2010), NEITHER, answered(1, 0x02, 0)),
+            (create_cq(1, 5, 0x2010), NEITHER, answered(1, 0x02, 0)),
+            (scattered, NEITHER, answered(0, 0x02, 0)),
+            (create_cq(1, 4, 0x2010), NEITHER, answered(0, 0x02, 0)),
+            (create_cq(1, 4, 0x8000), NEITHER, answered(0, 0x02, 0)),
+            (create_cq(1, 4, 1 << 63), NEITHER, answered(0, 0x02, 0)),
+        ],
+    );
 }
 
 #[test]
-fn submission_queues_are_made_by_rule(rt: HostRuntime) -> Result<(), Fail> {
+fn submission_queues_are_made_by_rule(rt: HostRuntime) {
     let stopping = DeviceView {
         sq: SqState::Stopping,
         ..LIVE
@@ -158,45 +194,63 @@ fn submission_queues_are_made_by_rule(rt: HostRuntime) -> Result<(), Fail> {
         entries: 65,
         ..COMPLETION_ALONE
     };
-    let made = |q, base| AdminVerdict::MakeSubmission { q, base };
-    let create = |q, entries, base| entry(AdminKind::CreateSq { q, entries, base }, 0);
-    let to = |q: u32, entries| SubEntry {
-        cdw11: 1 + 0x1_0000 * q,
-        ..create(1, entries, 0x3000)
-    };
     let scattered = SubEntry {
         cdw11: 0x1_0000,
-        ..create(1, 4, 0x3000)
+        ..create_sq(1, 4, 0x3000)
     };
     let whole = SubEntry {
         cdw10: 0xFFFF_0001,
-        ..create(1, 4, 0x3000)
+        ..create_sq(1, 4, 0x3000)
     };
-    for (entry, view, want) in [
-        (create(1, 4, 0x3000), COMPLETION_ALONE, made(1, 0x3000)),
-        (create(2, 65, 0x6000), larger, made(2, 0x6000)),
-        (create(0, 4, 0x3000), COMPLETION_ALONE, answered(1, 0x01, 0)),
-        (create(3, 4, 0x3000), COMPLETION_ALONE, answered(1, 0x01, 0)),
-        (create(1, 4, 0x3000), LIVE, answered(1, 0x01, 0)),
-        (create(1, 4, 0x3000), stopping, answered(1, 0x01, 0)),
-        (to(0, 4), COMPLETION_ALONE, answered(1, 0x01, 0)),
-        (to(3, 4), NEITHER, answered(1, 0x01, 0)),
-        (to(2, 5), COMPLETION_ALONE, answered(1, 0x00, 0)),
-        (create(1, 5, 0x3000), NEITHER, answered(1, 0x00, 0)),
-        (create(1, 5, 0x3010), COMPLETION_ALONE, answered(1, 0x02, 0)),
-        (whole, COMPLETION_ALONE, answered(1, 0x02, 0)),
-        (scattered, COMPLETION_ALONE, answered(0, 0x02, 0)),
-        (create(1, 4, 0x3010), COMPLETION_ALONE, answered(0, 0x02, 0)),
-        (create(1, 4, 0x8000), COMPLETION_ALONE, answered(0, 0x02, 0)),
-        (create(2, 65, 0x7000), larger, answered(0, 0x02, 0)),
-    ] {
-        same_at(&rt, (entry, view), decide(&entry, &view), want);
-    }
-    Ok(())
+    decided(
+        &rt,
+        &[
+            (
+                create_sq(1, 4, 0x3000),
+                COMPLETION_ALONE,
+                made_sq(1, 0x3000),
+            ),
+            (create_sq(2, 65, 0x6000), larger, made_sq(2, 0x6000)),
+            (
+                create_sq(0, 4, 0x3000),
+                COMPLETION_ALONE,
+                answered(1, 0x01, 0),
+            ),
+            (
+                create_sq(3, 4, 0x3000),
+                COMPLETION_ALONE,
+                answered(1, 0x01, 0),
+            ),
+            (create_sq(1, 4, 0x3000), LIVE, answered(1, 0x01, 0)),
+            (create_sq(1, 4, 0x3000), stopping, answered(1, 0x01, 0)),
+            (completed_in(0, 4), COMPLETION_ALONE, answered(1, 0x01, 0)),
+            (completed_in(3, 4), NEITHER, answered(1, 0x01, 0)),
+            (completed_in(2, 5), COMPLETION_ALONE, answered(1, 0x00, 0)),
+            (create_sq(1, 5, 0x3000), NEITHER, answered(1, 0x00, 0)),
+            (
+                create_sq(1, 5, 0x3010),
+                COMPLETION_ALONE,
+                answered(1, 0x02, 0),
+            ),
+            (whole, COMPLETION_ALONE, answered(1, 0x02, 0)),
+            (scattered, COMPLETION_ALONE, answered(0, 0x02, 0)),
+            (
+                create_sq(1, 4, 0x3010),
+                COMPLETION_ALONE,
+                answered(0, 0x02, 0),
+            ),
+            (
+                create_sq(1, 4, 0x8000),
+                COMPLETION_ALONE,
+                answered(0, 0x02, 0),
+            ),
+            (create_sq(2, 65, 0x7000), larger, answered(0, 0x02, 0)),
+        ],
+    );
 }
 
 #[test]
-fn only_named_bits_are_looked_at(rt: HostRuntime) -> Result<(), Fail> {
+fn only_named_bits_are_looked_at(rt: HostRuntime) {
     let delete = entry(AdminKind::DeleteSq { q: 1 }, 0);
     let ignored = SubEntry {
         psdt: 3,
@@ -222,5 +276,4 @@ fn only_named_bits_are_looked_at(rt: HostRuntime) -> Result<(), Fail> {
         let unknown = SubEntry { opcode, ..fused };
         same_at(&rt, opcode, decide(&unknown, &LIVE), answered(0, 0x01, 0));
     }
-    Ok(())
 }

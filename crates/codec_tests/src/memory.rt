@@ -1,11 +1,11 @@
 //! A store through its calls, and the same transfers over a second memory, through a bound alone: `Dma`, and `TouchRecord` to clear the list of touched pages.
 
-ghost use Rattle.std.specs.Prelude.{◌≡◌, ℕ, List, Some, OnErr, OnOk};
+ghost use Rattle.std.specs.Prelude.{◌≡◌, ◌<◌, ◌≤◌, ℕ, List, Some, OnErr, OnOk};
 ghost use Rattle.page_memory.specs.Memory.{bytes_at, written};
 
 use crate::expecting::{same, same_at};
 use page_memory::{Dma, FlatMemory, OpenFault, PageNo, Store, TouchRecord, Unreadable};
-use std::test::Fail;
+use std::process::Abort;
 
 /// Copies 16 bytes, as any memory does it: this is proved from the bound alone.
 fn copy_sixteen<D: TouchRecord>(dma: &mut D, from: u64, to: u64) -> Result<(), Unreadable>
@@ -20,7 +20,7 @@ fn copy_sixteen<D: TouchRecord>(dma: &mut D, from: u64, to: u64) -> Result<(), U
 }
 
 #[test]
-fn opens_within_its_limits(rt: HostRuntime) -> Result<(), Fail> {
+fn opens_within_its_limits(rt: HostRuntime) {
     for pages in [0, 7, 65_537] {
         same_at(
             &rt,
@@ -30,79 +30,96 @@ fn opens_within_its_limits(rt: HostRuntime) -> Result<(), Fail> {
         );
     }
     for pages in [8, 65_536] {
-        let store = Store::open(rt.alloc(), pages)?;
+        let store = Store::open(rt.alloc(), pages).expect(&rt, "it opens");
         same(&rt, store.pages(), pages);
         assert!(rt; store.is_in(PageNo(pages - 1)));
         assert!(rt; !store.is_in(PageNo(pages)));
+        drop(store);
     }
-    Ok(())
+}
+
+/// Reads at an address.
+fn read_at<const N: usize, D: TouchRecord>(rt: &impl Abort, dma: &mut D, addr: u64) -> [u8; N]
+    requires some { 0 < N }
+    requires few { N ≤ 4096 }
+{
+    let mut bytes = [0; N];
+    dma.clear();
+    assert!(rt; dma.read(addr, &mut bytes).is_ok());
+    bytes
+}
+
+/// Writes 16 bytes at an address.
+fn write_at<D: TouchRecord>(rt: &impl Abort, dma: &mut D, addr: u64, byte: u8) {
+    dma.clear();
+    assert!(rt; dma.write(addr, &[byte; 16]).is_ok());
 }
 
 #[test]
-fn takes_puts_and_zeroes_a_page(rt: HostRuntime) -> Result<(), Fail> {
-    let mut store = Store::open(rt.alloc(), 8)?;
+fn takes_puts_and_zeroes_a_page(rt: HostRuntime) {
+    let mut store = Store::open(rt.alloc(), 8).expect(&rt, "it opens");
     let mut page = store.take(PageNo(3)).expect(&rt, "page 3 is in");
     assert!(rt; !store.is_in(PageNo(3)));
     page.set(4094, &[7, 9]);
     same(&rt, &page.bytes()[4092..], [0, 0, 7, 9].as_slice());
     store.put(PageNo(3), page);
-    let mut bytes = [1; 4];
-    store.read(3 * 4096 + 4093, &mut bytes[..3])?;
-    same(&rt, bytes, [0, 7, 9, 1]);
+    same(&rt, read_at(&rt, &mut store, 3 * 4096 + 4093), [0, 7, 9]);
     assert!(rt; store.is_in(PageNo(3)));
     store.zero(PageNo(3));
-    store.read(3 * 4096 + 4092, &mut bytes)?;
-    same(&rt, bytes, [0; 4]);
-    Ok(())
+    same(&rt, read_at(&rt, &mut store, 3 * 4096 + 4092), [0; 4]);
+    drop(store);
+}
+
+/// Nothing is read or written at an address, and no page is touched.
+fn see_refused(rt: &impl Abort, store: &mut Store, addr: u64) {
+    store.clear();
+    same_at(rt, addr, store.read(addr, &mut [0; 16]), Err(Unreadable));
+    store.clear();
+    same_at(rt, addr, store.write(addr, &[1; 16]), Err(Unreadable));
+    same(rt, store.touched().len(), 0);
 }
 
 #[test]
-fn transfers_reach_one_page_or_two(rt: HostRuntime) -> Result<(), Fail> {
-    let mut store = Store::open(rt.alloc(), 8)?;
-    store.write(2 * 4096 - 8, &[5; 16])?;
+fn transfers_reach_one_page_or_two(rt: HostRuntime) {
+    let mut store = Store::open(rt.alloc(), 8).expect(&rt, "it opens");
+    write_at(&rt, &mut store, 2 * 4096 - 8, 5);
     same(
         &rt,
         store.touched().as_slice(),
         [PageNo(1), PageNo(2)].as_slice(),
     );
-    store.clear();
-    let mut bytes = [0; 16];
-    store.read(2 * 4096 - 8, &mut bytes)?;
-    same(&rt, bytes, [5; 16]);
+    same(&rt, read_at(&rt, &mut store, 2 * 4096 - 8), [5; 16]);
     for addr in [8 * 4096 - 8, 8 * 4096, u64::MAX, u64::MAX - 15] {
-        store.clear();
-        same_at(&rt, addr, store.read(addr, &mut bytes), Err(Unreadable));
-        store.clear();
-        same_at(&rt, addr, store.write(addr, &[1; 16]), Err(Unreadable));
-        same(&rt, store.touched().len(), 0);
+        see_refused(&rt, &mut store, addr);
     }
-    let page = store.take(PageNo(2));
-    assert!(rt; page.is_some());
-    store.clear();
-    same(&rt, store.write(2 * 4096 - 8, &[6; 16]), Err(Unreadable));
-    store.read(2 * 4096 - 16, &mut bytes)?;
-    same(&rt, bytes, [0, 0, 0, 0, 0, 0, 0, 0, 5, 5, 5, 5, 5, 5, 5, 5]);
-    Ok(())
+    assert!(rt; store.take(PageNo(2)).is_some());
+    see_refused(&rt, &mut store, 2 * 4096 - 8);
+    let bytes = [0, 0, 0, 0, 0, 0, 0, 0, 5, 5, 5, 5, 5, 5, 5, 5];
+    same(&rt, read_at(&rt, &mut store, 2 * 4096 - 16), bytes);
+    drop(store);
 }
 
 #[test]
-fn any_memory_copies(rt: HostRuntime) -> Result<(), Fail> {
-    let mut store = Store::open(rt.alloc(), 8)?;
-    store.write(100, &[3; 16])?;
-    copy_sixteen(&mut store, 100, 4090)?;
+fn a_store_copies(rt: HostRuntime) {
+    let mut store = Store::open(rt.alloc(), 8).expect(&rt, "it opens");
+    write_at(&rt, &mut store, 100, 3);
+    same(&rt, copy_sixteen(&mut store, 100, 4090), Ok(()));
     same(&rt, copy_sixteen(&mut store, 100, 32_760), Err(Unreadable));
-    let mut flat = FlatMemory::zeroed(rt.alloc(), 8)?;
+    same(&rt, read_at(&rt, &mut store, 4090), [3; 16]);
+    drop(store);
+}
+
+#[test]
+fn a_flat_memory_copies(rt: HostRuntime) {
+    let mut flat = FlatMemory::zeroed(rt.alloc(), 8).expect(&rt, "it opens");
     assert!(rt; flat.pages() == 8);
     flat.remove(4100, 1);
-    flat.write(100, &[3; 16])?;
+    write_at(&rt, &mut flat, 100, 3);
     same(&rt, copy_sixteen(&mut flat, 100, 4090), Err(Unreadable));
-    copy_sixteen(&mut flat, 100, 4074)?;
-    let mut bytes = [0; 16];
-    flat.clear();
-    flat.read(4074, &mut bytes)?;
-    same(&rt, bytes, [3; 16]);
+    same(&rt, copy_sixteen(&mut flat, 100, 4074), Ok(()));
+    same(&rt, read_at(&rt, &mut flat, 4074), [3; 16]);
     same(&rt, flat.byte(4101), Some(0));
     same(&rt, flat.byte(4100), None);
     same(&rt, flat.byte(32_768), None);
-    Ok(())
+    drop(flat);
 }

@@ -7,8 +7,8 @@ use entry_codec::{ComEntry, Status, SubEntry};
 use page_memory::{Dma, Half, PageNo, Store, TouchRecord};
 use queue_pair::*;
 use std::alloc::Global;
+use std::fmt::Debug;
 use std::process::Abort;
-use std::test::Fail;
 
 /// A queue pair with number 1, whose submission half begins at page 0 and whose completion half at page 16.
 #[derive(Drop)]
@@ -57,30 +57,30 @@ fn completion(sqhd: u16, cid: u16, phase: bool) -> ComEntry
 }
 
 impl Bench {
-    fn open(alloc: Global, entries: u16) -> Result<Bench, Fail>
+    fn open(rt: &impl Abort, alloc: Global, entries: u16) -> Bench
         requires least { 2 ≤ entries }
         requires most { entries ≤ 1024 }
     {
-        Ok(Bench {
-            host: HostPair::open(alloc, 1, entries, PageNo(0), PageNo(16))?,
+        Bench {
+            host: HostPair::open(alloc, 1, entries, PageNo(0), PageNo(16)).expect(rt, "a host"),
             device: DevicePair::open(1, entries, PageNo(0), PageNo(16)),
-            store: Store::open(alloc, 20)?,
-        })
+            store: Store::open(alloc, 20).expect(rt, "a store"),
+        }
     }
 
     /// Posts an entry and answers its slot.
-    fn post(&mut self, cid: u16) -> Result<Result<u16, QueueFull>, Fail> {
+    fn post(&mut self, rt: &impl Abort, cid: u16) -> Result<u16, QueueFull> {
         self.store.clear();
-        self.store
-            .read(64 * u64::from(self.host.ring_value()), &mut [0; 64])?;
+        let addr = 64 * u64::from(self.host.ring_value());
+        assert!(rt; self.store.read(addr, &mut [0; 64]).is_ok());
         self.store.clear();
-        Ok(self.host.post(&mut self.store, entry(cid)))
+        self.host.post(&mut self.store, entry(cid))
     }
 
     /// Rings the tail.
-    fn ring(&mut self) -> Result<(), Fail> {
-        self.device.tail_bell(self.host.ring_value())?;
-        Ok(())
+    fn ring(&mut self, rt: &impl Abort) {
+        let rung = self.device.tail_bell(self.host.ring_value());
+        same(rt, rung, Ok(()));
     }
 
     /// Looks at the next entry.
@@ -100,42 +100,37 @@ impl Bench {
     }
 
     /// Takes the next entry and posts its completion; answers the entry.
-    fn serve(&mut self) -> Result<Option<SubEntry>, Fail> {
-        let Some(entry) = self.look()? else {
-            return Ok(None);
-        };
+    fn serve(&mut self, rt: &impl Abort) -> Option<SubEntry> {
+        let entry = self.look().expect(rt, "its page is in")?;
         self.device.take();
         let posted = completion(self.device.head(), entry.cid, false);
-        self.answer(posted)?;
-        Ok(Some(entry))
+        same(rt, self.answer(posted), Ok(()));
+        Some(entry)
     }
 
     /// Looks at the completion ring.
-    fn peek(&mut self) -> Result<Option<ComEntry>, Fail> {
+    fn peek(&mut self, rt: &impl Abort) -> Option<ComEntry> {
         self.store.clear();
-        self.store.read(
-            65_536 + 16 * u64::from(self.host.head_value()),
-            &mut [0; 16],
-        )?;
+        let addr = 65_536 + 16 * u64::from(self.host.head_value());
+        assert!(rt; self.store.read(addr, &mut [0; 16]).is_ok());
         self.store.clear();
-        Ok(self.host.peek(&mut self.store))
+        self.host.peek(&mut self.store)
     }
 
     /// Takes the completion at the head, and rings the head.
-    fn reap(&mut self) -> Result<Option<ComEntry>, Fail> {
-        let Some(reaped) = self.peek()? else {
-            return Ok(None);
-        };
-        self.host.accept_head(reaped.sqhd)?;
+    fn reap(&mut self, rt: &impl Abort) -> Option<ComEntry> {
+        let reaped = self.peek(rt)?;
+        same(rt, self.host.accept_head(reaped.sqhd), Ok(()));
         self.host.advance();
-        self.device.head_bell(self.host.head_value())?;
-        Ok(Some(reaped))
+        let rung = self.device.head_bell(self.host.head_value());
+        same(rt, rung, Ok(()));
+        Some(reaped)
     }
 }
 
 #[test]
-fn identifiers_are_the_lowest_free(rt: HostRuntime) -> Result<(), Fail> {
-    let mut host = HostPair::open(rt.alloc(), 1, 4, PageNo(0), PageNo(16))?;
+fn identifiers_are_the_lowest_free(rt: HostRuntime) {
+    let mut host = HostPair::open(rt.alloc(), 1, 4, PageNo(0), PageNo(16)).expect(&rt, "a host");
     let first = host.claim().expect(&rt, "no identifier is claimed");
     same(&rt, first, 0);
     host.free(first);
@@ -144,22 +139,22 @@ fn identifiers_are_the_lowest_free(rt: HostRuntime) -> Result<(), Fail> {
     let last = host.claim().expect(&rt, "one identifier is free");
     same(&rt, last, 2);
     same(&rt, host.claim(), None);
-    Ok(())
+    drop(host);
 }
 
 #[test]
-fn rings_wrap_three_times(rt: HostRuntime) -> Result<(), Fail> {
+fn rings_wrap_three_times(rt: HostRuntime) {
     for entries in [2, 65, 257, 1024] {
-        let mut bench = Bench::open(rt.alloc(), entries)?;
+        let mut bench = Bench::open(&rt, rt.alloc(), entries);
         for k in 0..3 * entries + 1 {
             let slot = Some(k % entries);
             let reaped = Some(((k + 1) % entries, k, k / entries % 2 == 0, true));
             let want = (slot, Some((k, true)), reaped);
-            same_at(&rt, entries, bench.round(k)?, want);
+            same_at(&rt, entries, bench.round(&rt, k), want);
         }
         same(&rt, bench.host.ring_value(), 1);
+        drop(bench);
     }
-    Ok(())
 }
 
 /// A call of either side.
@@ -195,54 +190,49 @@ enum Call {
     Touched,
 }
 
+/// A value as text.
+fn text(rt: &impl Abort, alloc: Global, value: impl Debug + Drop) -> String {
+    format!(in alloc; "{value:?}").expect(rt, "its text")
+}
+
 impl Bench {
     /// What a call answers, as text.
-    fn told(&mut self, alloc: Global, call: Call) -> Result<String, Fail> {
+    fn told(&mut self, rt: &impl Abort, alloc: Global, call: Call) -> String {
         match call {
-            Call::Post(cid) => Ok(format!(in alloc; "{:?}", self.post(cid)?)?),
-            Call::Ring => {
-                self.ring()?;
-                Ok(format!(in alloc; "rung")?)
-            }
-            Call::Head(sqhd) => Ok(format!(in alloc; "{:?}", self.host.accept_head(sqhd))?),
-            Call::Peek => Ok(format!(in alloc; "{:?}", self.peek()?.map(posted))?),
-            Call::Reap => Ok(format!(in alloc; "{:?}", self.reap()?.map(posted))?),
-            Call::HeadValue => Ok(format!(in alloc; "{}", self.host.head_value())?),
-            Call::Fits(sqhd) => Ok(format!(in alloc; "{}", self.host.head_fits(sqhd))?),
-            _ => self.told_by_device(alloc, call),
+            Call::Post(cid) => text(rt, alloc, self.post(rt, cid)),
+            Call::Ring => text(rt, alloc, self.ring(rt)),
+            Call::Head(sqhd) => text(rt, alloc, self.host.accept_head(sqhd)),
+            Call::Peek => text(rt, alloc, self.peek(rt).map(posted)),
+            Call::Reap => text(rt, alloc, self.reap(rt).map(posted)),
+            Call::HeadValue => text(rt, alloc, self.host.head_value()),
+            Call::Fits(sqhd) => text(rt, alloc, self.host.head_fits(sqhd)),
+            _ => self.told_by_device(rt, alloc, call),
         }
     }
 
-    /// What a call of the device or of the store answers, as text; `none` for another.
-    fn told_by_device(&mut self, alloc: Global, call: Call) -> Result<String, Fail> {
+    /// What a call of the device or of the store answers, as text; `()` for another.
+    fn told_by_device(&mut self, rt: &impl Abort, alloc: Global, call: Call) -> String {
         match call {
-            Call::Serve => Ok(format!(in alloc; "{:?}", self.serve()?.map(fetched))?),
-            Call::Look => match self.look() {
-                Ok(found) => Ok(format!(in alloc; "{:?}", found.map(fetched))?),
-                Err(why) => Ok(format!(in alloc; "{why:?}")?),
-            },
+            Call::Serve => text(rt, alloc, self.serve(rt).map(fetched)),
+            Call::Look => text(rt, alloc, self.look().map(|found| found.map(fetched))),
             Call::Answer(sqhd, cid, phase) => {
-                let answer = self.answer(completion(sqhd, cid, phase));
-                Ok(format!(in alloc; "{answer:?}")?)
+                text(rt, alloc, self.answer(completion(sqhd, cid, phase)))
             }
-            Call::TailBell(value) => Ok(format!(in alloc; "{:?}", self.device.tail_bell(value))?),
-            Call::HeadBell(value) => Ok(format!(in alloc; "{:?}", self.device.head_bell(value))?),
-            Call::Take(page) => {
-                let taken = self.store.take(PageNo(page)).is_some();
-                Ok(format!(in alloc; "{taken}")?)
-            }
-            Call::Touched => Ok(format!(in alloc; "{}", self.store.touched().len())?),
-            _ => Ok(format!(in alloc; "none")?),
+            Call::TailBell(value) => text(rt, alloc, self.device.tail_bell(value)),
+            Call::HeadBell(value) => text(rt, alloc, self.device.head_bell(value)),
+            Call::Take(page) => text(rt, alloc, self.store.take(PageNo(page)).is_some()),
+            Call::Touched => text(rt, alloc, self.store.touched().len()),
+            _ => text(rt, alloc, ()),
         }
     }
 
     /// Posts an entry, rings, serves it and reaps its completion.
-    fn round(&mut self, cid: u16) -> Result<Round, Fail> {
-        let slot = self.post(cid)?.ok();
-        self.ring()?;
-        let served = self.serve()?.map(fetched);
-        let reaped = self.reap()?.map(posted);
-        Ok((slot, served, reaped))
+    fn round(&mut self, rt: &impl Abort, cid: u16) -> Round {
+        let slot = self.post(rt, cid).ok();
+        self.ring(rt);
+        let served = self.serve(rt).map(fetched);
+        let reaped = self.reap(rt).map(posted);
+        (slot, served, reaped)
     }
 }
 
@@ -254,21 +244,16 @@ type Round = (
 );
 
 /// Plays calls over a new pair of so many entries, each of which must answer what stands beside it.
-fn played(
-    rt: &impl Abort,
-    alloc: Global,
-    entries: u16,
-    rows: &[(Call, &'static str)],
-) -> Result<(), Fail>
+fn played(rt: &impl Abort, alloc: Global, entries: u16, rows: &[(Call, &'static str)])
     requires least { 2 ≤ entries }
     requires most { entries ≤ 1024 }
 {
-    let mut bench = Bench::open(alloc, entries)?;
+    let mut bench = Bench::open(rt, alloc, entries);
     for (call, want) in rows {
-        let answer = bench.told(alloc, *call)?;
+        let answer = bench.told(rt, alloc, *call);
         same_at(rt, call, answer.as_str(), *want);
     }
-    Ok(())
+    drop(bench);
 }
 
 /// The identifier of an entry, and whether the rest of it is as it was posted.
@@ -283,11 +268,11 @@ fn posted(found: ComEntry) -> (u16, u16, bool, bool) {
 }
 
 #[test]
-fn two_entries_wrap(rt: HostRuntime) -> Result<(), Fail> {
+fn two_entries_wrap(rt: HostRuntime) {
     let rows = [
         (Call::HeadValue, "0"),
         (Call::Post(0), "Ok(0)"),
-        (Call::Ring, "rung"),
+        (Call::Ring, "()"),
         (Call::Peek, "None"),
         (Call::Serve, "Some((0, true))"),
         (Call::Fits(1), "true"),
@@ -295,7 +280,7 @@ fn two_entries_wrap(rt: HostRuntime) -> Result<(), Fail> {
         (Call::Peek, "None"),
         (Call::HeadValue, "1"),
         (Call::Post(0), "Ok(1)"),
-        (Call::Ring, "rung"),
+        (Call::Ring, "()"),
         (Call::Peek, "None"),
         (Call::Serve, "Some((0, true))"),
         (Call::Fits(0), "true"),
@@ -303,24 +288,24 @@ fn two_entries_wrap(rt: HostRuntime) -> Result<(), Fail> {
         (Call::Peek, "None"),
         (Call::HeadValue, "0"),
         (Call::Post(0), "Ok(0)"),
-        (Call::Ring, "rung"),
+        (Call::Ring, "()"),
         (Call::Peek, "None"),
         (Call::Serve, "Some((0, true))"),
         (Call::Fits(1), "true"),
         (Call::Reap, "Some((1, 0, false, true))"),
         (Call::Peek, "None"),
     ];
-    played(&rt, rt.alloc(), 2, &rows)
+    played(&rt, rt.alloc(), 2, &rows);
 }
 
 #[test]
-fn full_rings_refuse(rt: HostRuntime) -> Result<(), Fail> {
+fn full_rings_refuse(rt: HostRuntime) {
     let rows = [
         (Call::Post(0), "Ok(0)"),
         (Call::Post(1), "Ok(1)"),
         (Call::Post(2), "Ok(2)"),
         (Call::Post(3), "Err(QueueFull)"),
-        (Call::Ring, "rung"),
+        (Call::Ring, "()"),
         (Call::Serve, "Some((0, true))"),
         (Call::Serve, "Some((1, true))"),
         (Call::Serve, "Some((2, true))"),
@@ -331,28 +316,28 @@ fn full_rings_refuse(rt: HostRuntime) -> Result<(), Fail> {
         (Call::Head(4), "Err(BadHead)"),
         (Call::Post(3), "Ok(3)"),
         (Call::TailBell(4), "Err(BadBell)"),
-        (Call::Ring, "rung"),
+        (Call::Ring, "()"),
         (Call::Answer(3, 2, true), "Err(Full)"),
         (Call::HeadBell(1), "Ok(())"),
         (Call::HeadBell(0), "Err(BadBell)"),
         (Call::Serve, "Some((3, true))"),
     ];
-    played(&rt, rt.alloc(), 4, &rows)
+    played(&rt, rt.alloc(), 4, &rows);
 }
 
 #[test]
-fn slots_of_pages_that_are_out(rt: HostRuntime) -> Result<(), Fail> {
+fn slots_of_pages_that_are_out(rt: HostRuntime) {
     let rows = [
         (Call::Post(0), "Ok(0)"),
-        (Call::Ring, "rung"),
+        (Call::Ring, "()"),
         (Call::Take(0), "true"),
-        (Call::Look, "SlotOut"),
+        (Call::Look, "Err(SlotOut)"),
         (Call::Answer(0, 0, false), "Ok(())"),
         (Call::Take(16), "true"),
         (Call::Answer(0, 0, false), "Err(SlotOut)"),
         (Call::Touched, "0"),
     ];
-    played(&rt, rt.alloc(), 65, &rows)
+    played(&rt, rt.alloc(), 65, &rows);
 }
 
 #[test]

@@ -14,7 +14,6 @@ use io_commands::Kind;
 use machine_model::words::{Reaped, Refusal};
 use std::alloc::Global;
 use std::process::Abort;
-use std::test::Fail;
 
 /// Two I/O queues, and so few pages that not every command gets some: the rings take the pages 0 to 5.
 const CONFIG: Config = Config {
@@ -54,6 +53,31 @@ fn pick<T>(list: &mut Vec<T>, number: u32) -> Option<T> {
 }
 
 impl Run {
+    /// A run of a new host.
+    fn begun(rt: &impl Abort, alloc: Global) -> Run {
+        Run {
+            driver: Driver::open(alloc, CONFIG).expect(rt, "it opens"),
+            numbers: Numbers { state: 2026 },
+            drafts: Vec::new(alloc),
+            finished: Vec::new(alloc),
+            seen: Seen::default(),
+        }
+    }
+
+    /// Goes on with a new host, and with what was held of the one before.
+    fn begin_anew(&mut self, rt: &impl Abort, alloc: Global) {
+        self.driver = Driver::open(alloc, CONFIG).expect(rt, "it opens");
+    }
+
+    /// Forges, and does one call.
+    fn go_on(&mut self, rt: &impl Abort, alloc: Global) {
+        self.forge();
+        match self.call(rt, alloc) {
+            None => self.seen.accepted = self.seen.accepted.wrapping_add(1),
+            Some(why) => assert!(rt; why != Refusal::Memory),
+        }
+    }
+
     /// Fills each completion ring: with any bytes, or with an entry that may be one.
     fn forge(&mut self) {
         for q in 0..3u8 {
@@ -95,57 +119,47 @@ impl Run {
     }
 
     /// Reserves for a request that may be bad.
-    fn reserve(&mut self, rt: &impl Abort, alloc: Global) -> Result<Option<Refusal>, Fail> {
+    fn reserve(&mut self, rt: &impl Abort, alloc: Global) -> Option<Refusal> {
         let kind = [Kind::Read, Kind::Write, Kind::Compare][self.numbers.next() as usize % 3];
-        let mut request = of_blocks(alloc, kind, self.numbers.next() % 4)?;
+        let mut request = of_blocks(alloc, kind, self.numbers.next() % 4).expect(rt, "a request");
         if self.numbers.next() % 8 == 0 {
             request.blocks = self.numbers.next() % 4;
         }
         let q = self.queue();
         match self.driver.reserve(rt, q, request) {
             Ok(held) => {
-                self.drafts.push(held)?;
-                Ok(None)
+                assert!(rt; self.drafts.push(held).is_ok());
+                None
             }
-            Err(refused) => Ok(Some(refused.why)),
+            Err(refused) => Some(refused.why),
         }
     }
 
     /// Keeps a draft that was refused; one of an earlier host is dropped.
-    fn keep(&mut self, refused: Refused<HeldDraft>) -> Result<Option<Refusal>, Fail> {
+    fn keep(&mut self, rt: &impl Abort, refused: Refused<HeldDraft>) -> Option<Refusal> {
         let Refused { value, why } = refused;
         match why {
             Refusal::Stranger => {}
-            _ => self.drafts.push(value)?,
+            _ => assert!(rt; self.drafts.push(value).is_ok()),
         }
-        Ok(Some(why))
+        Some(why)
     }
 
     /// Submits a draft that may be not built.
-    fn submit(&mut self, rt: &impl Abort, alloc: Global) -> Result<Option<Refusal>, Fail> {
-        let number = self.numbers.next();
-        let Some(mut held) = pick(&mut self.drafts, number) else {
-            return Ok(None);
-        };
+    fn submit(&mut self, rt: &impl Abort, alloc: Global) -> Option<Refusal> {
+        let mut held = pick(&mut self.drafts, self.numbers.next())?;
         if self.numbers.next() % 4 != 0 {
-            held.draft.build(alloc)?;
+            assert!(rt; held.draft.build(alloc).is_ok());
         }
-        match self.driver.submit(rt, held) {
-            Ok(_) => Ok(None),
-            Err(refused) => self.keep(refused),
-        }
+        let refused = self.driver.submit(rt, held).err()?;
+        self.keep(rt, refused)
     }
 
     /// Cancels a draft.
-    fn cancel(&mut self, rt: &impl Abort) -> Result<Option<Refusal>, Fail> {
-        let number = self.numbers.next();
-        let Some(held) = pick(&mut self.drafts, number) else {
-            return Ok(None);
-        };
-        match self.driver.cancel(rt, held) {
-            Ok(()) => Ok(None),
-            Err(refused) => self.keep(refused),
-        }
+    fn cancel(&mut self, rt: &impl Abort) -> Option<Refusal> {
+        let held = pick(&mut self.drafts, self.numbers.next())?;
+        let refused = self.driver.cancel(rt, held).err()?;
+        self.keep(rt, refused)
     }
 
     /// Reaps.
@@ -163,15 +177,15 @@ impl Run {
     }
 
     /// Collects by an arbitrary ticket.
-    fn collect(&mut self, rt: &impl Abort) -> Result<Option<Refusal>, Fail> {
+    fn collect(&mut self, rt: &impl Abort) -> Option<Refusal> {
         let q = self.queue();
         let cid = (self.numbers.next() % 4) as u16;
         match self.driver.collect(rt, q, cid) {
             Ok(held) => {
-                self.finished.push(held)?;
-                Ok(None)
+                assert!(rt; self.finished.push(held).is_ok());
+                None
             }
-            Err(why) => Ok(Some(why)),
+            Err(why) => Some(why),
         }
     }
 
@@ -262,49 +276,39 @@ impl Run {
     }
 
     /// Does a call with arbitrary arguments: why it was refused.
-    fn call(&mut self, rt: &impl Abort, alloc: Global) -> Result<Option<Refusal>, Fail> {
+    fn call(&mut self, rt: &impl Abort, alloc: Global) -> Option<Refusal> {
         match self.numbers.next() % 20 {
             0..=2 => self.reserve(rt, alloc),
             3..=5 => self.submit(rt, alloc),
-            6..=9 => Ok(self.reap(rt)),
+            6..=9 => self.reap(rt),
             10 | 11 => self.collect(rt),
-            12 => Ok(self.release(rt)),
-            13..=15 => Ok(self.send(rt)),
+            12 => self.release(rt),
+            13..=15 => self.send(rt),
             16 => {
                 let q = self.queue();
-                Ok(self.driver.host().ring(q).err())
+                self.driver.host().ring(q).err()
             }
             17 => self.cancel(rt),
             18 => {
                 let q = self.queue();
-                Ok(self.driver.retire(rt, q).err())
+                self.driver.retire(rt, q).err()
             }
             _ => {
                 self.reset(rt);
-                Ok(None)
+                None
             }
         }
     }
 }
 
 #[test]
-fn arbitrary_calls(rt: HostRuntime) -> Result<(), Fail> {
-    let mut run = Run {
-        driver: Driver::open(rt.alloc(), CONFIG)?,
-        numbers: Numbers { state: 2026 },
-        drafts: Vec::new(rt.alloc()),
-        finished: Vec::new(rt.alloc()),
-        seen: Seen::default(),
-    };
+fn arbitrary_calls(rt: HostRuntime) {
+    let mut run = Run::begun(&rt, rt.alloc());
     for step in 0..100_000u32 {
         if step % 1_000 == 0 {
-            run.driver = Driver::open(rt.alloc(), CONFIG)?;
+            run.begin_anew(&rt, rt.alloc());
         }
-        run.forge();
-        match run.call(&rt, rt.alloc())? {
-            None => run.seen.accepted = run.seen.accepted.wrapping_add(1),
-            Some(why) => assert!(rt; why != Refusal::Memory),
-        }
+        run.go_on(&rt, rt.alloc());
     }
     // What each step must keep is compared behind each call. These counts are as on the day when this was written, so that a change shows.
     let seen = Seen {
@@ -315,5 +319,5 @@ fn arbitrary_calls(rt: HostRuntime) -> Result<(), Fail> {
         resets: 332,
     };
     same(&rt, run.seen, seen);
-    Ok(())
+    drop(run);
 }

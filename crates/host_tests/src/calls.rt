@@ -1,20 +1,19 @@
 //! Each call of a host on its good path, with what the standard's rules say that it answers. The controller is played by hand: its
 //! completions are bytes that stand in this file.
 
-use crate::driver::Driver;
+use crate::driver::{Driver, HeldDraft};
 use crate::expecting::same;
 use crate::hostile_memory::SMALL;
 use crate::requests::of_blocks;
 use admin_commands::AdminKind;
 use entry_codec::Status;
 use host_core::Reap;
-use io_commands::Kind;
+use io_commands::{Kind, Request};
 use machine_model::words::{Reaped, Refusal};
 use page_ledger::{Counts, Owner, Role};
 use page_memory::Half;
 use std::alloc::{Allocator, Global};
 use std::process::Abort;
-use std::test::Fail;
 
 /// A Read of block 0 into the 512 bytes at address 4000h (NVM Express Base Specification 2.0, "Submission Queue Entry", and NVM Command Set
 /// Specification 1.0, "Read command").
@@ -69,21 +68,35 @@ enum Row {
     Pages(u32, u32),
 }
 
+/// Opens a driver over the small pool.
+pub(crate) fn opened<A: Allocator + Copy>(rt: &impl Abort, alloc: A) -> Driver<A> {
+    Driver::open(alloc, SMALL).expect(rt, "it opens")
+}
+
+/// Reserves for a request on queue 1.
+pub(crate) fn reserved<A: Allocator + Copy>(
+    rt: &impl Abort,
+    driver: &mut Driver<A>,
+    request: Request<A>,
+) -> HeldDraft<A> {
+    match driver.reserve(rt, 1, request) {
+        Ok(held) => held,
+        Err(refused) => panic!(rt; "it is reserved: {:?}", refused.why),
+    }
+}
+
 /// Submits a Read of one block.
 pub(crate) fn submit<A: Allocator + Copy>(
     rt: &impl Abort,
     driver: &mut Driver<A>,
     alloc: A,
     cid: u16,
-) -> Result<(), Fail> {
-    let request = of_blocks(alloc, Kind::Read, 1)?;
+) {
+    let request = of_blocks(alloc, Kind::Read, 1).expect(rt, "a request");
     same(rt, driver.host().reserve_refusal(1, &request), None);
-    let Ok(mut held) = driver.reserve(rt, 1, request) else {
-        panic!(rt; "{cid} is reserved");
-    };
-    held.draft.build(alloc)?;
+    let mut held = reserved(rt, driver, request);
+    assert!(rt; held.draft.build(alloc).is_ok());
     same(rt, driver.submit(rt, held).ok(), Some((1, cid)));
-    Ok(())
 }
 
 /// Collects a command and releases it.
@@ -115,9 +128,9 @@ fn send(
 }
 
 /// Does what a row says.
-fn play(rt: &impl Abort, driver: &mut Driver, alloc: Global, row: Row) -> Result<(), Fail> {
+fn play(rt: &impl Abort, driver: &mut Driver, alloc: Global, row: Row) {
     match row {
-        Row::Submit(cid) => submit(rt, driver, alloc, cid)?,
+        Row::Submit(cid) => submit(rt, driver, alloc, cid),
         Row::Send(kind, cid, slot, first, word) => {
             same(rt, send(rt, driver, kind, cid, slot), (first, word));
         }
@@ -146,12 +159,18 @@ fn play(rt: &impl Abort, driver: &mut Driver, alloc: Global, row: Row) -> Result
             );
         }
     }
-    Ok(())
+}
+
+/// Does what each of some rows says.
+fn play_all(rt: &impl Abort, driver: &mut Driver, alloc: Global, rows: &[Row]) {
+    for row in rows {
+        play(rt, driver, alloc, *row);
+    }
 }
 
 /// A Read waits; it is aborted, and ends with that status.
 #[test]
-fn a_command_is_aborted(rt: HostRuntime) -> Result<(), Fail> {
+fn a_command_is_aborted(rt: HostRuntime) {
     let abort = AdminKind::Abort { q: 1, cid: 0 };
     let status = Status::ABORT_REQUESTED;
     let over = Reaped::AdminDone {
@@ -159,8 +178,8 @@ fn a_command_is_aborted(rt: HostRuntime) -> Result<(), Fail> {
         status: Status::SUCCESS,
         dw0: 0,
     };
-    let mut driver = Driver::open(rt.alloc(), SMALL)?;
-    for row in [
+    let mut driver = opened(&rt, rt.alloc());
+    let rows = [
         Row::Submit(0),
         Row::Send(abort, 0, 0, [0x08, 0, 0, 0], [1, 0, 0, 0]),
         Row::Ring(0, Ok(1)),
@@ -170,23 +189,22 @@ fn a_command_is_aborted(rt: HostRuntime) -> Result<(), Fail> {
         Row::Reap(1, Reaped::Done { cid: 0, status }, 1),
         Row::End(0, status),
         Row::Pages(12, 4),
-    ] {
-        play(&rt, &mut driver, rt.alloc(), row)?;
-    }
+    ];
+    play_all(&rt, &mut driver, rt.alloc(), &rows);
     assert!(rt; driver.host().is_idle());
-    Ok(())
+    drop(driver);
 }
 
 /// A queue is deleted while a Read waits in it: the Read ends with the status of such a command, and each half of the queue is given back.
 #[test]
-fn a_queue_ends(rt: HostRuntime) -> Result<(), Fail> {
+fn a_queue_ends(rt: HostRuntime) {
     let over = Reaped::AdminDone {
         cid: 0,
         status: Status::SUCCESS,
         dw0: 0,
     };
-    let mut driver = Driver::open(rt.alloc(), SMALL)?;
-    for row in [
+    let mut driver = opened(&rt, rt.alloc());
+    let rows = [
         Row::Submit(0),
         Row::Send(
             AdminKind::DeleteSq { q: 1 },
@@ -213,11 +231,10 @@ fn a_queue_ends(rt: HostRuntime) -> Result<(), Fail> {
         Row::Post(0, 1, completion(0, 2, 0, SUCCESS)),
         Row::Reap(0, over, 2),
         Row::Pages(14, 2),
-    ] {
-        play(&rt, &mut driver, rt.alloc(), row)?;
-    }
+    ];
+    play_all(&rt, &mut driver, rt.alloc(), &rows);
     same(&rt, driver.reap(&rt, 1), Err(Refusal::NoQueue));
-    Ok(())
+    drop(driver);
 }
 
 /// The creation of the completion half of queue 1 in page 2.
@@ -244,11 +261,11 @@ const MADE: Reaped = Reaped::AdminDone {
 /// One Read has ended and another waits, an Abort of it is sent, and the controller is reset: both Reads are collected, the Abort is over, and
 /// queue 1 is made again.
 #[test]
-fn a_reset(rt: HostRuntime) -> Result<(), Fail> {
+fn a_reset(rt: HostRuntime) {
     let status = Status::SUCCESS;
     let abort = AdminKind::Abort { q: 1, cid: 1 };
-    let mut driver = Driver::open(rt.alloc(), SMALL)?;
-    for row in [
+    let mut driver = opened(&rt, rt.alloc());
+    let rows = [
         Row::Submit(0),
         Row::Submit(1),
         Row::Post(1, 0, completion(1, 1, 0, SUCCESS)),
@@ -271,18 +288,27 @@ fn a_reset(rt: HostRuntime) -> Result<(), Fail> {
         Row::Pages(12, 4),
         Row::Submit(0),
         Row::Ring(1, Ok(1)),
-    ] {
-        play(&rt, &mut driver, rt.alloc(), row)?;
-    }
+    ];
+    play_all(&rt, &mut driver, rt.alloc(), &rows);
     same(&rt, driver.completion_ring(1), Some(2));
-    Ok(())
+    drop(driver);
+}
+
+/// Collects a Read, which gathers these bytes, and releases it.
+fn end_read(rt: &impl Abort, driver: &mut Driver, alloc: Global, bytes: &[u8]) {
+    let Ok(held) = driver.collect(rt, 1, 0) else {
+        panic!(rt; "it is collected");
+    };
+    let gathered = held.finished.gather(alloc).expect(rt, "its bytes");
+    same(rt, gathered.as_slice(), bytes);
+    assert!(rt; driver.release(rt, held).is_ok());
 }
 
 /// A Read from its request to its bytes.
 #[test]
-fn a_read(rt: HostRuntime) -> Result<(), Fail> {
-    let mut driver = Driver::open(rt.alloc(), SMALL)?;
-    play(&rt, &mut driver, rt.alloc(), Row::Submit(0))?;
+fn a_read(rt: HostRuntime) {
+    let mut driver = opened(&rt, rt.alloc());
+    submit(&rt, &mut driver, rt.alloc(), 0);
     same(&rt, driver.entry_at(2, 0), Some(READ));
     same(&rt, driver.host().ring(1), Ok(1));
     same(
@@ -298,29 +324,20 @@ fn a_read(rt: HostRuntime) -> Result<(), Fail> {
     let status = Status::SUCCESS;
     let (found, head) = (Reaped::Done { cid: 0, status }, Some(1));
     same(&rt, driver.reap(&rt, 1), Ok(Reap { found, head }));
-    let Ok(held) = driver.collect(&rt, 1, 0) else {
-        panic!(rt; "it is collected");
-    };
-    same(
-        &rt,
-        held.finished.gather(rt.alloc())?.as_slice(),
-        [0x11; 512].as_slice(),
-    );
-    assert!(rt; driver.release(&rt, held).is_ok());
+    end_read(&rt, &mut driver, rt.alloc(), &[0x11; 512]);
     assert!(rt; driver.host().is_idle());
-    Ok(())
+    drop(driver);
 }
 
 /// A Write with a chain gets four data pages and what its chain takes, and is cancelled. What the host shows, before and behind it.
 #[test]
-fn a_write_is_cancelled(rt: HostRuntime) -> Result<(), Fail> {
-    let mut driver = Driver::open(rt.alloc(), SMALL)?;
+fn a_write_is_cancelled(rt: HostRuntime) {
+    let mut driver = opened(&rt, rt.alloc());
     assert!(rt; driver.host().pages() == 16);
     let half = Half::Completion;
     same(&rt, driver.owner(3), Some(Owner::Queue { q: 1, half }));
-    let Ok(mut held) = driver.reserve(&rt, 1, of_blocks(rt.alloc(), Kind::Write, 3)?) else {
-        panic!(rt; "it is reserved");
-    };
+    let request = of_blocks(rt.alloc(), Kind::Write, 3).expect(&rt, "a request");
+    let mut held = reserved(&rt, &mut driver, request);
     same(&rt, held.draft.fill(&[0x22; 1536]), Ok(()));
     let role = Role::Chain;
     let owner = Owner::Command { q: 1, cid: 0, role };
@@ -335,5 +352,5 @@ fn a_write_is_cancelled(rt: HostRuntime) -> Result<(), Fail> {
     assert!(rt; !driver.host().is_idle());
     assert!(rt; driver.cancel(&rt, held).is_ok());
     same(&rt, driver.owner(7), Some(Owner::Free));
-    Ok(())
+    drop(driver);
 }

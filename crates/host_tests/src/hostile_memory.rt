@@ -5,6 +5,7 @@
 //! Behind every call the driver takes the owner of each page again, and counts: that each page that is out is one of a command that is
 //! drafted or collected, that the four classes are what the host counts, and that no identifier is outstanding twice.
 
+use crate::calls::{opened, reserved};
 use crate::driver::Driver;
 use crate::expecting::same;
 use crate::numbers::Numbers;
@@ -14,7 +15,6 @@ use io_commands::Kind;
 use machine_model::words::{Reaped, Refusal};
 use page_ledger::{Owner, Role};
 use std::process::Abort;
-use std::test::Fail;
 
 /// A pool of 16 pages, queue 0 and one I/O queue of 4 entries. The rings take the pages 0 to 3, so 12 pages are free.
 pub(crate) const SMALL: Config = Config {
@@ -49,17 +49,16 @@ fn reap_arbitrary_bytes(rt: &impl Abort, driver: &mut Driver, numbers: &mut Numb
 }
 
 #[test]
-fn a_hostile_memory(rt: HostRuntime) -> Result<(), Fail> {
+fn a_hostile_memory(rt: HostRuntime) {
     let mut numbers = Numbers { state: 2026 };
-    let mut driver = Driver::open(rt.alloc(), SMALL)?;
+    let mut driver = opened(&rt, rt.alloc());
     driver.recount(&rt);
 
     // The driver reserves a Read of one block. It gets the lowest identifier, and the lowest page that is free, which is now out of the
     // pool: it is in the draft, and no controller reaches it.
     forge(&mut driver, &mut numbers);
-    let Ok(mut held) = driver.reserve(&rt, 1, of_blocks(rt.alloc(), Kind::Read, 1)?) else {
-        panic!(rt; "it is reserved");
-    };
+    let request = of_blocks(rt.alloc(), Kind::Read, 1).expect(&rt, "a request");
+    let mut held = reserved(&rt, &mut driver, request);
     same(&rt, (held.draft.q(), held.draft.cid()), (1, 0));
     let owner = Owner::Command {
         q: 1,
@@ -69,7 +68,7 @@ fn a_hostile_memory(rt: HostRuntime) -> Result<(), Fail> {
     same(&rt, driver.owner(4), Some(owner));
 
     // It builds the entry, which is no call of the host, and submits it: the page is in again, and the host answers who it is.
-    held.draft.build(rt.alloc())?;
+    assert!(rt; held.draft.build(rt.alloc()).is_ok());
     forge(&mut driver, &mut numbers);
     same(&rt, driver.submit(&rt, held).ok(), Some((1, 0)));
 
@@ -84,5 +83,5 @@ fn a_hostile_memory(rt: HostRuntime) -> Result<(), Fail> {
     forge(&mut driver, &mut numbers);
     same(&rt, driver.collect(&rt, 1, 0).err(), Some(Refusal::NotYet));
     same(&rt, driver.host().status_of(1, 0), None);
-    Ok(())
+    drop(driver);
 }

@@ -2,7 +2,7 @@
 //! leaked, and the same call then succeeds. And those that send an admin command, and the
 //! reset, with every growth refused: they want none.
 
-use crate::calls::{SUCCESS, completion, submit};
+use crate::calls::{SUCCESS, completion, opened, submit};
 use crate::driver::Driver;
 use crate::expecting::{same, same_at};
 use crate::hostile_memory::SMALL;
@@ -13,7 +13,6 @@ use machine_model::words::{OpenRefusal, Refusal};
 use refusing::Refusing;
 use std::alloc::Global;
 use std::process::Abort;
-use std::test::Fail;
 
 type Heap = Refusing<Global>;
 
@@ -29,6 +28,21 @@ enum Call {
     Collect(u16),
 }
 
+/// Reserves a Read of two blocks with one growth refused: why it was refused.
+fn attempt_reserve<'a>(
+    rt: &impl Abort,
+    heap: &'a Heap,
+    driver: &mut Driver<&'a Heap>,
+    growth: u64,
+) -> Option<Refusal> {
+    heap.refuse(refusing::Refusal::Never);
+    let request = of_blocks(heap, Kind::Read, 2).expect(rt, "a request");
+    heap.refuse(refusing::Refusal::Nth(growth));
+    let refused = driver.reserve(rt, 1, request).err()?;
+    same(rt, refused.value.pieces().len(), 2);
+    Some(refused.why)
+}
+
 /// Does a call with one growth refused: why it was refused.
 fn attempt<'a>(
     rt: &impl Abort,
@@ -36,19 +50,13 @@ fn attempt<'a>(
     driver: &mut Driver<&'a Heap>,
     call: Call,
     growth: u64,
-) -> Result<Option<Refusal>, Fail> {
-    heap.refuse(refusing::Refusal::Never);
-    let request = of_blocks(heap, Kind::Read, 2)?;
-    heap.refuse(refusing::Refusal::Nth(growth));
+) -> Option<Refusal> {
     match call {
-        Call::Reserve => match driver.reserve(rt, 1, request) {
-            Ok(_) => Ok(None),
-            Err(refused) => {
-                same(rt, refused.value.pieces().len(), 2);
-                Ok(Some(refused.why))
-            }
-        },
-        Call::Collect(cid) => Ok(driver.collect(rt, 1, cid).err()),
+        Call::Reserve => attempt_reserve(rt, heap, driver, growth),
+        Call::Collect(cid) => {
+            heap.refuse(refusing::Refusal::Nth(growth));
+            driver.collect(rt, 1, cid).err()
+        }
     }
 }
 
@@ -58,20 +66,20 @@ fn refused_in_turn<'a>(
     heap: &'a Heap,
     driver: &mut Driver<&'a Heap>,
     call: Call,
-) -> Result<u64, Fail> {
+) -> u64 {
     let before = driver.host().counts();
     for growth in 1..MANY {
         let bytes = heap.tally().bytes;
-        let refusal = attempt(rt, heap, driver, call, growth)?;
+        let refusal = attempt(rt, heap, driver, call, growth);
         if heap.tally().refused == 0 {
             same(rt, refusal, None);
-            return Ok(growth - 1);
+            return growth - 1;
         }
         same_at(rt, growth, refusal, Some(Refusal::Memory));
         same_at(rt, growth, heap.tally().bytes, bytes);
         same_at(rt, growth, driver.host().counts(), before);
     }
-    Ok(0)
+    0
 }
 
 #[test]
@@ -93,11 +101,11 @@ fn an_opening(rt: HostRuntime) {
 }
 
 #[test]
-fn a_reservation(rt: HostRuntime) -> Result<(), Fail> {
+fn a_reservation(rt: HostRuntime) {
     let heap = Refusing::new(rt.alloc());
-    let mut driver = Driver::open(&heap, SMALL)?;
-    assert!(rt; refused_in_turn(&rt, &heap, &mut driver, Call::Reserve)? > 0);
-    Ok(())
+    let mut driver = opened(&rt, &heap);
+    assert!(rt; refused_in_turn(&rt, &heap, &mut driver, Call::Reserve) > 0);
+    drop(driver);
 }
 
 /// Sends an admin command where each growth is refused: none is asked for.
@@ -115,50 +123,50 @@ fn send_without_memory<'a>(
 
 /// Three Reads wait, and each is aborted.
 #[test]
-fn aborts(rt: HostRuntime) -> Result<(), Fail> {
+fn aborts(rt: HostRuntime) {
     let heap = Refusing::new(rt.alloc());
-    let mut driver = Driver::open(&heap, SMALL)?;
+    let mut driver = opened(&rt, &heap);
     for cid in 0..3 {
-        submit(&rt, &mut driver, &heap, cid)?;
+        submit(&rt, &mut driver, &heap, cid);
     }
     for cid in 0..3 {
         send_without_memory(&rt, &heap, &mut driver, AdminKind::Abort { q: 1, cid });
     }
-    Ok(())
+    drop(driver);
 }
 
 #[test]
-fn deletions(rt: HostRuntime) -> Result<(), Fail> {
+fn deletions(rt: HostRuntime) {
     for kind in [AdminKind::DeleteSq { q: 1 }, AdminKind::DeleteCq { q: 1 }] {
         let heap = Refusing::new(rt.alloc());
-        let mut driver = Driver::open(&heap, SMALL)?;
+        let mut driver = opened(&rt, &heap);
         send_without_memory(&rt, &heap, &mut driver, kind);
+        drop(driver);
     }
-    Ok(())
 }
 
 /// A Read waits and an Abort of it is sent; a reset ends both where each growth is refused: none is asked for.
 #[test]
-fn a_reset(rt: HostRuntime) -> Result<(), Fail> {
+fn a_reset(rt: HostRuntime) {
     let heap = Refusing::new(rt.alloc());
-    let mut driver = Driver::open(&heap, SMALL)?;
-    submit(&rt, &mut driver, &heap, 0)?;
+    let mut driver = opened(&rt, &heap);
+    submit(&rt, &mut driver, &heap, 0);
     send_without_memory(&rt, &heap, &mut driver, AdminKind::Abort { q: 1, cid: 0 });
     heap.refuse(refusing::Refusal::NthOn(1));
     driver.reset(&rt);
     same(&rt, heap.tally().refused, 0);
     heap.refuse(refusing::Refusal::Never);
     assert!(rt; driver.collect(&rt, 1, 0).is_ok());
-    Ok(())
+    drop(driver);
 }
 
 #[test]
-fn a_collecting(rt: HostRuntime) -> Result<(), Fail> {
+fn a_collecting(rt: HostRuntime) {
     let heap = Refusing::new(rt.alloc());
-    let mut driver = Driver::open(&heap, SMALL)?;
-    submit(&rt, &mut driver, &heap, 0)?;
+    let mut driver = opened(&rt, &heap);
+    submit(&rt, &mut driver, &heap, 0);
     driver.scribble(3, 0, &completion(1, 1, 0, SUCCESS));
     assert!(rt; driver.reap(&rt, 1).is_ok());
-    assert!(rt; refused_in_turn(&rt, &heap, &mut driver, Call::Collect(0))? > 0);
-    Ok(())
+    assert!(rt; refused_in_turn(&rt, &heap, &mut driver, Call::Collect(0)) > 0);
+    drop(driver);
 }
