@@ -7,10 +7,9 @@ use controller_core::Refusal;
 use controller_walk::WalkState;
 use entry_codec::io_opcode::READ;
 use std::process::Abort;
-use std::test::Fail;
 
 /// What the driver or the emulator does, and what comes of it.
-#[derive(Drop)]
+#[derive(Clone, Copy)]
 pub(crate) enum Step {
     /// The driver writes an entry of a queue.
     Submits(u16, [u8; 64]),
@@ -47,7 +46,7 @@ pub(crate) fn play(rt: &impl Abort, guest: &mut Guest, steps: &[Step]) {
 /// An Abort stops a Read in the midst of its walk, and completes behind it. Where there is no such command any more, it says so in the
 /// double word that is specific to the command.
 #[test]
-fn an_abort_waits_for_its_command(rt: HostRuntime) -> Result<(), Fail> {
+fn an_abort_waits_for_its_command(rt: HostRuntime) {
     let abort = AdminKind::Abort { q: 1, cid: 0 };
     let steps = [
         Step::Submits(1, io_entry(READ, 0, 0, 1, DATA, 512)),
@@ -66,13 +65,14 @@ fn an_abort_waits_for_its_command(rt: HostRuntime) -> Result<(), Fail> {
         Step::Completes(0, 1, Ok(())),
         Step::Finds(0, 1, 1, [0x01, 0x00]),
     ];
-    play(&rt, &mut Guest::open(&rt)?, &steps);
-    Ok(())
+    let mut guest = Guest::open(&rt, rt.alloc());
+    play(&rt, &mut guest, &steps);
+    drop(guest);
 }
 
 /// The deletion of a submission queue stops its commands and waits for them. What is not fetched is lost. Its completion queue goes only then.
 #[test]
-fn a_queue_is_deleted(rt: HostRuntime) -> Result<(), Fail> {
+fn a_queue_is_deleted(rt: HostRuntime) {
     let delete_sq = AdminKind::DeleteSq { q: 1 };
     let delete_cq = AdminKind::DeleteCq { q: 1 };
     let steps = [
@@ -97,7 +97,7 @@ fn a_queue_is_deleted(rt: HostRuntime) -> Result<(), Fail> {
         Step::Completes(0, 2, Ok(())),
         Step::Finds(0, 2, 0, [0x01, 0x00]),
     ];
-    let mut guest = Guest::open(&rt)?;
+    let mut guest = Guest::open(&rt, rt.alloc());
     play(&rt, &mut guest, &steps);
     let queue = guest
         .controller
@@ -105,5 +105,5 @@ fn a_queue_is_deleted(rt: HostRuntime) -> Result<(), Fail> {
         .get(1)
         .expect(&rt, "it has two queues");
     assert!(rt; matches!(queue.state, SqState::Absent) && !queue.cq_there);
-    Ok(())
+    drop(guest);
 }

@@ -5,7 +5,6 @@ use crate::guest::{Guest, io_entry};
 use controller_core::Refusal;
 use page_memory::{Dma, TouchRecord};
 use std::process::Abort;
-use std::test::Fail;
 
 /// A generator of numbers that is the same in each run: the upper half of a linear congruence modulo 2^64.
 #[derive(Drop)]
@@ -99,8 +98,8 @@ fn digest(rt: &impl Abort, guest: &mut Guest) -> u64 {
 }
 
 #[test]
-fn arbitrary_pages(rt: HostRuntime) -> Result<(), Fail> {
-    let mut guest = Guest::open(&rt)?;
+fn arbitrary_pages(rt: HostRuntime) {
+    let mut guest = Guest::open(&rt, rt.alloc());
     let mut numbers = Numbers { state: 2026 };
     let mut done = 0u32;
     for step in 0..100_000u32 {
@@ -116,5 +115,5 @@ fn arbitrary_pages(rt: HostRuntime) -> Result<(), Fail> {
     // How many calls were accepted, and what all of them left of the memory: as on the day when this was written, so that a change shows.
     let left = digest(&rt, &mut guest);
     same(&rt, (done, left), (40_719, 4_980_191_164_238_362_873));
-    Ok(())
+    drop(guest);
 }

@@ -3,34 +3,29 @@
 use crate::expecting::{same, same_at};
 use crate::guest::{DATA, Guest, io_entry};
 use entry_codec::io_opcode::{COMPARE, READ, WRITE};
-use page_memory::{Dma, TouchRecord};
-use std::test::Fail;
 
 /// What a Write puts into a block a Read of the block gets, and a Compare finds equal. The image has it.
 #[test]
-fn a_write_is_read_back(rt: HostRuntime) -> Result<(), Fail> {
-    let mut guest = Guest::open(&rt)?;
-    guest.memory.clear();
-    guest.memory.write(DATA, &[0xAB; 512])?;
+fn a_write_is_read_back(rt: HostRuntime) {
+    let mut guest = Guest::open(&rt, rt.alloc());
+    guest.put(&rt, DATA, &[0xAB; 512]);
     let other = DATA + 0x1000;
     for (slot, opcode, addr) in [(0, WRITE, DATA), (1, READ, other), (2, COMPARE, other)] {
         let ended = guest.serve(&rt, slot, &io_entry(opcode, slot, 5, 1, addr, 512));
         same_at(&rt, slot, ended, [0x01, 0x00]);
     }
-    let mut bytes = [0; 512];
-    guest.memory.clear();
-    guest.memory.read(other, &mut bytes)?;
+    let mut bytes = guest.block_at(&rt, other);
     same(&rt, bytes, [0xAB; 512]);
     let image = guest.controller.image();
     assert!(rt; image.blocks() == 64);
     image.copy_out(5, &mut bytes);
     same(&rt, bytes, [0xAB; 512]);
-    Ok(())
+    drop(guest);
 }
 
 /// The status of a command that fails, as the driver reads it (NVM Express Base Specification 2.0, "Status Field Definition").
 #[test]
-fn commands_that_fail(rt: HostRuntime) -> Result<(), Fail> {
+fn commands_that_fail(rt: HostRuntime) {
     let rows = [
         (
             "an opcode that is none",
@@ -59,10 +54,9 @@ fn commands_that_fail(rt: HostRuntime) -> Result<(), Fail> {
         ),
     ];
     for (what, entry, status) in rows {
-        let mut guest = Guest::open(&rt)?;
-        guest.memory.clear();
-        guest.memory.write(DATA, &[1])?;
+        let mut guest = Guest::open(&rt, rt.alloc());
+        guest.put(&rt, DATA, &[1]);
         same_at(&rt, what, guest.serve(&rt, 0, &entry), status);
+        drop(guest);
     }
-    Ok(())
 }

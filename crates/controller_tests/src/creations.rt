@@ -7,9 +7,8 @@ use admin_commands::{AdminKind, entry};
 use controller_core::Refusal;
 use controller_walk::WalkState;
 use entry_codec::io_opcode::READ;
-use page_memory::{Dma, PageNo, TouchRecord};
+use page_memory::{PageNo, TouchRecord};
 use std::process::Abort;
-use std::test::Fail;
 
 /// Create I/O Completion Queue, as the driver writes it (NVM Express Base Specification 2.0, "Create I/O Completion Queue command").
 const CREATE_CQ: [u8; 64] = [
@@ -59,11 +58,10 @@ fn delete_queue(rt: &impl Abort, guest: &mut Guest) {
 /// Both halves of a queue that was deleted are made again, elsewhere. Nothing is fetched from it until then, nor what stood in its old
 /// ring. A Read goes through the new rings.
 #[test]
-fn a_queue_is_made_again(rt: HostRuntime) -> Result<(), Fail> {
-    let mut guest = Guest::open(&rt)?;
+fn a_queue_is_made_again(rt: HostRuntime) {
+    let mut guest = Guest::open(&rt, rt.alloc());
     delete_queue(&rt, &mut guest);
-    guest.memory.clear();
-    guest.memory.write(DATA, &[0xEE; 512])?;
+    guest.put(&rt, DATA, &[0xEE; 512]);
     let creations = [
         Step::Submits(0, CREATE_CQ),
         Step::Fetches(0, Ok(2)),
@@ -98,11 +96,8 @@ fn a_queue_is_made_again(rt: HostRuntime) -> Result<(), Fail> {
         completion,
         [0, 0, 0, 0, 0, 0, 0, 0, 1, 0, 1, 0, 7, 0, 0x01, 0x00],
     );
-    let mut block = [0xEE; 512];
-    guest.memory.clear();
-    guest.memory.read(DATA, &mut block)?;
-    same(&rt, block, [0; 512]);
-    Ok(())
+    same(&rt, guest.block_at(&rt, DATA), [0; 512]);
+    drop(guest);
 }
 
 /// The status and the phase that the driver finds for an entry of queue 0, where it is the third one that is completed there.
@@ -151,7 +146,7 @@ const SIZE: [u8; 2] = [0x05, 0x02];
 
 /// A creation where both halves of the queue are deleted, and what the driver finds.
 #[test]
-fn creations_are_refused(rt: HostRuntime) -> Result<(), Fail> {
+fn creations_are_refused(rt: HostRuntime) {
     let cases = [
         // Fused.
         (fused(create_cq(1, 4, 0x6000)), FIELD),
@@ -173,16 +168,16 @@ fn creations_are_refused(rt: HostRuntime) -> Result<(), Fail> {
         (create_sq(1, 4, 0x5000), COMPLETION_QUEUE),
     ];
     for (i, (entry, status)) in cases.iter().enumerate() {
-        let mut guest = Guest::open(&rt)?;
+        let mut guest = Guest::open(&rt, rt.alloc());
         delete_queue(&rt, &mut guest);
         same_at(&rt, i, &ends(&rt, &mut guest, entry), status);
+        drop(guest);
     }
-    Ok(())
 }
 
 /// What is there is not made.
 #[test]
-fn halves_that_are_there(rt: HostRuntime) -> Result<(), Fail> {
+fn halves_that_are_there(rt: HostRuntime) {
     let halves = [
         AdminKind::CreateCq {
             q: 1,
@@ -196,7 +191,7 @@ fn halves_that_are_there(rt: HostRuntime) -> Result<(), Fail> {
         },
     ];
     for half in halves {
-        let mut guest = Guest::open(&rt)?;
+        let mut guest = Guest::open(&rt, rt.alloc());
         for cid in 0..2 {
             guest.submit(&rt, 0, &entry(half, cid).write());
             same(&rt, guest.fetch(0), Ok(cid));
@@ -204,16 +199,16 @@ fn halves_that_are_there(rt: HostRuntime) -> Result<(), Fail> {
         }
         let third = entry(half, 2).write();
         same(&rt, ends(&rt, &mut guest, &third), IDENTIFIER);
+        drop(guest);
     }
-    Ok(())
 }
 
 /// The last page of the memory may be a ring's.
 #[test]
-fn the_last_page(rt: HostRuntime) -> Result<(), Fail> {
-    let mut guest = Guest::open(&rt)?;
+fn the_last_page(rt: HostRuntime) {
+    let mut guest = Guest::open(&rt, rt.alloc());
     delete_queue(&rt, &mut guest);
     let last = create_cq(1, 4, 0x7000);
     same(&rt, ends(&rt, &mut guest, &last), [0x01, 0x00]);
-    Ok(())
+    drop(guest);
 }

@@ -10,7 +10,6 @@ use block_image::Image;
 use controller_core::{Controller, QueuePages};
 use controller_walk::WalkState;
 use page_memory::{Dma, PageNo, TouchRecord};
-use std::test::Fail;
 
 /// A Read of block 0 into the 512 bytes at address 4000h, as the driver writes it (NVM Express Base Specification 2.0, "Submission Queue
 /// Entry", and NVM Command Set Specification 1.0, "Read command").
@@ -50,16 +49,16 @@ const QUEUES: [QueuePages; 2] = [
 ];
 
 #[test]
-fn first_read(rt: HostRuntime) -> Result<(), Fail> {
+fn first_read(rt: HostRuntime) {
     // The guest has 32 KiB of memory, and its disk one block of bytes 11h.
-    let mut memory = GuestMemory::zeroed(rt.alloc(), 0x8000)?;
-    let mut image = Image::zeroed(rt.alloc(), 1)?;
+    let mut memory = GuestMemory::zeroed(rt.alloc(), 0x8000).expect(&rt, "a memory");
+    let mut image = Image::zeroed(rt.alloc(), 1).expect(&rt, "an image");
     image.copy_in(0, &[0x11; 512]);
-    let mut controller = Controller::open(rt.alloc(), 4, &QUEUES, image)?;
+    let mut controller = Controller::open(rt.alloc(), 4, &QUEUES, image).expect(&rt, "it opens");
 
     // The driver writes its entry into the first slot of the I/O queue, and the slot behind it to the doorbell. Nothing else tells the
     // controller of it.
-    memory.write(0x2000, &READ)?;
+    assert!(rt; memory.write(0x2000, &READ).is_ok());
     controller.tail_doorbell(1, 1);
 
     // The emulator has the entry fetched. Before each call it clears the list of the touched pages, so that this call has room, and behind
@@ -85,11 +84,11 @@ fn first_read(rt: HostRuntime) -> Result<(), Fail> {
     // The driver finds the completion in the first slot of its ring, and the block at its address. It says that it has read the completion.
     let mut completion = [0; 16];
     memory.clear();
-    memory.read(0x3000, &mut completion)?;
+    assert!(rt; memory.read(0x3000, &mut completion).is_ok());
     same(&rt, completion, COMPLETION);
     let mut block = [0; 512];
-    memory.read(0x4000, &mut block)?;
+    assert!(rt; memory.read(0x4000, &mut block).is_ok());
     same(&rt, block, [0x11; 512]);
     controller.head_doorbell(1, 1);
-    Ok(())
+    drop(controller);
 }

@@ -1,6 +1,8 @@
 //! A guest with an admin queue and one I/O queue of four entries each, in a memory of eight pages: queue 0 has the pages 0 and 1, queue
 //! 1 the pages 2 and 3.
 
+ghost use Rattle.std.specs.Prelude.{◌<◌, ◌≤◌, length};
+
 use crate::expecting::same;
 use crate::guest_memory::GuestMemory;
 use block_image::Image;
@@ -9,8 +11,8 @@ use controller_walk::WalkState;
 use entry_codec::SubEntry;
 use page_memory::{Dma, PageNo, TouchRecord};
 use sgl_descriptor::Descriptor;
+use std::alloc::Global;
 use std::process::Abort;
-use std::test::Fail;
 
 /// The entries of each ring.
 pub(crate) const ENTRIES: u16 = 4;
@@ -51,11 +53,11 @@ pub(crate) struct Guest {
 
 impl Guest {
     /// A guest whose disk has 64 blocks of zeros.
-    pub(crate) fn open(rt: &HostRuntime) -> Result<Guest, Fail> {
-        let image = Image::zeroed(rt.alloc(), 64)?;
-        Ok(Guest {
-            memory: GuestMemory::zeroed(rt.alloc(), 0x8000)?,
-            controller: Controller::open(rt.alloc(), ENTRIES, &QUEUES, image)?,
+    pub(crate) fn open(rt: &impl Abort, alloc: Global) -> Guest {
+        let image = Image::zeroed(alloc, 64).expect(rt, "an image");
+        Guest {
+            controller: Controller::open(alloc, ENTRIES, &QUEUES, image).expect(rt, "it opens"),
+            memory: GuestMemory::zeroed(alloc, 0x8000).expect(rt, "a memory"),
             rings: [
                 Rings {
                     sq: 0x0000,
@@ -68,7 +70,24 @@ impl Guest {
                     tail: 0,
                 },
             ],
-        })
+        }
+    }
+
+    /// The driver puts bytes at an address.
+    pub(crate) fn put(&mut self, rt: &impl Abort, addr: u64, bytes: &[u8])
+        requires some { 0 < length bytes.now }
+        requires few { length bytes.now ≤ 4096 }
+    {
+        self.memory.clear();
+        assert!(rt; self.memory.write(addr, bytes).is_ok());
+    }
+
+    /// The block that the driver finds at an address.
+    pub(crate) fn block_at(&mut self, rt: &impl Abort, addr: u64) -> [u8; 512] {
+        let mut block = [0; 512];
+        self.memory.clear();
+        assert!(rt; self.memory.read(addr, &mut block).is_ok());
+        block
     }
 
     /// The rings of a queue.

@@ -8,13 +8,12 @@ use controller_core::{Controller, Refusal};
 use entry_codec::io_opcode::WRITE;
 use page_memory::{Dma, TouchRecord};
 use refusing::Refusing;
-use std::test::Fail;
 
 /// An opening takes two lists, of the queues and of the counts of their commands, and hands its image back.
 #[test]
-fn an_opening(rt: HostRuntime) -> Result<(), Fail> {
+fn an_opening(rt: HostRuntime) {
     let heap = Refusing::new(rt.alloc());
-    let mut image = Image::zeroed(&heap, 1)?;
+    let mut image = Image::zeroed(&heap, 1).expect(&rt, "an image");
     for growth in 1..3 {
         heap.refuse(refusing::Refusal::Nth(growth));
         image = match Controller::open(&heap, ENTRIES, &QUEUES, image) {
@@ -24,20 +23,20 @@ fn an_opening(rt: HostRuntime) -> Result<(), Fail> {
     }
     heap.refuse(refusing::Refusal::Nth(3));
     assert!(rt; Controller::open(&heap, ENTRIES, &QUEUES, image).is_ok());
-    Ok(())
 }
 
 /// The fetch of a Write takes its bytes, and room for one command more: the two columns of the map, and its index. Room that was got stays, also where the
 /// rest is refused.
 #[test]
-fn a_fetch(rt: HostRuntime) -> Result<(), Fail> {
+fn a_fetch(rt: HostRuntime) {
     let heap = Refusing::new(rt.alloc());
-    let image = Image::zeroed(&heap, 1)?;
+    let image = Image::zeroed(&heap, 1).expect(&rt, "an image");
     let Ok(mut controller) = Controller::open(&heap, ENTRIES, &QUEUES, image) else {
         panic!(rt; "it opens");
     };
-    let mut memory = GuestMemory::zeroed(rt.alloc(), 0x8000)?;
-    memory.write(0x2000, &io_entry(WRITE, 7, 0, 1, DATA, 512))?;
+    let mut memory = GuestMemory::zeroed(rt.alloc(), 0x8000).expect(&rt, "a memory");
+    let entry = io_entry(WRITE, 7, 0, 1, DATA, 512);
+    assert!(rt; memory.write(0x2000, &entry).is_ok());
     controller.tail_doorbell(1, 1);
     for growth in 1..5 {
         heap.refuse(refusing::Refusal::Nth(growth));
@@ -51,5 +50,4 @@ fn a_fetch(rt: HostRuntime) -> Result<(), Fail> {
     same(&rt, controller.fetch(1, &mut memory), Ok(7));
     drop(controller);
     same(&rt, heap.tally().blocks, 0);
-    Ok(())
 }

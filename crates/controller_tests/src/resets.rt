@@ -7,9 +7,8 @@ use admin_commands::{AdminKind, SqState, entry};
 use controller_core::Refusal;
 use controller_walk::WalkState;
 use entry_codec::io_opcode::{READ, WRITE};
-use page_memory::{Dma, PageNo, TouchRecord};
+use page_memory::{PageNo, TouchRecord};
 use std::process::Abort;
-use std::test::Fail;
 
 /// The guest resets its controller. It has the rings of both queues where they were, and they are empty.
 fn reset(rt: &impl Abort, guest: &mut Guest) {
@@ -82,10 +81,9 @@ fn find_nothing(rt: &impl Abort, guest: &mut Guest) {
 /// A reset in the midst of a walk. Once its queue is created, a Read goes through it from the first slots on, and finds the disk as the
 /// reset left it.
 #[test]
-fn a_reset_in_the_midst_of_a_walk(rt: HostRuntime) -> Result<(), Fail> {
-    let mut guest = Guest::open(&rt)?;
-    guest.memory.clear();
-    guest.memory.write(DATA, &[0xEE; 512])?;
+fn a_reset_in_the_midst_of_a_walk(rt: HostRuntime) {
+    let mut guest = Guest::open(&rt, rt.alloc());
+    guest.put(&rt, DATA, &[0xEE; 512]);
     begin(&rt, &mut guest);
     reset(&rt, &mut guest);
     find_nothing(&rt, &mut guest);
@@ -110,19 +108,15 @@ fn a_reset_in_the_midst_of_a_walk(rt: HostRuntime) -> Result<(), Fail> {
         completion,
         [0, 0, 0, 0, 0, 0, 0, 0, 1, 0, 1, 0, 0, 0, 0x01, 0x00],
     );
-    let mut block = [0xEE; 512];
-    guest.memory.clear();
-    guest.memory.read(DATA, &mut block)?;
-    same(&rt, block, [0; 512]);
-    Ok(())
+    same(&rt, guest.block_at(&rt, DATA), [0; 512]);
+    drop(guest);
 }
 
 /// The image has what was written before a reset.
 #[test]
-fn a_reset_keeps_the_image(rt: HostRuntime) -> Result<(), Fail> {
-    let mut guest = Guest::open(&rt)?;
-    guest.memory.clear();
-    guest.memory.write(DATA, &[0xEE; 512])?;
+fn a_reset_keeps_the_image(rt: HostRuntime) {
+    let mut guest = Guest::open(&rt, rt.alloc());
+    guest.put(&rt, DATA, &[0xEE; 512]);
     same(
         &rt,
         guest.serve(&rt, 0, &io_entry(WRITE, 0, 7, 1, DATA, 512)),
@@ -135,17 +129,14 @@ fn a_reset_keeps_the_image(rt: HostRuntime) -> Result<(), Fail> {
         guest.serve(&rt, 0, &io_entry(READ, 0, 7, 1, 0x7000, 512)),
         [0x01, 0x00],
     );
-    let mut block = [0; 512];
-    guest.memory.clear();
-    guest.memory.read(0x7000, &mut block)?;
-    same(&rt, block, [0xEE; 512]);
-    Ok(())
+    same(&rt, guest.block_at(&rt, 0x7000), [0xEE; 512]);
+    drop(guest);
 }
 
 /// Behind a reset the admin queue is live and the I/O queue is not there, over the pages that they have; each reset finds it so again.
 #[test]
-fn resets_leave_the_admin_queue(rt: HostRuntime) -> Result<(), Fail> {
-    let mut guest = Guest::open(&rt)?;
+fn resets_leave_the_admin_queue(rt: HostRuntime) {
+    let mut guest = Guest::open(&rt, rt.alloc());
     for _ in 0..3 {
         reset(&rt, &mut guest);
         let queues = guest.controller.queues();
@@ -154,5 +145,5 @@ fn resets_leave_the_admin_queue(rt: HostRuntime) -> Result<(), Fail> {
         assert!(rt; states.eq(expected.iter().copied()));
         create_queue(&rt, &mut guest, 0x2000, 0x3000);
     }
-    Ok(())
+    drop(guest);
 }

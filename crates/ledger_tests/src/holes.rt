@@ -7,9 +7,8 @@ ghost use Rattle.page_ledger.specs.Owners.{is_among as spec_is_among, is_command
 use crate::expecting::{same, same_at};
 use page_ledger::{Ledger, Owner, Role};
 use page_memory::{Half, PageNo};
-use std::alloc::{AllocError, Global};
+use std::alloc::Global;
 use std::process::Abort;
-use std::test::Fail;
 
 /// A generator of numbers that is the same in each run: the upper half of a linear congruence modulo 2^64.
 #[derive(Drop)]
@@ -144,16 +143,16 @@ fn see_half(rt: &impl Abort, ledger: &Ledger, q: u16, half: Half, first: u32, k:
 }
 
 /// The lowest free pages of a plain list, and no more than `k`.
-fn lowest_free(alloc: Global, plain: &[Owner], k: u32) -> Result<Vec<PageNo>, AllocError> {
+fn lowest_free(rt: &impl Abort, alloc: Global, plain: &[Owner], k: u32) -> Vec<PageNo> {
     let mut pages = Vec::new(alloc);
     let mut p = 0u32;
     for owner in plain {
         if pages.len() < k as usize && owner.is_free() {
-            pages.push(PageNo(p))?;
+            assert!(rt; pages.push(PageNo(p)).is_ok());
         }
         p = p.wrapping_add(1);
     }
-    Ok(pages)
+    pages
 }
 
 /// The first page of the lowest run of a plain list.
@@ -174,39 +173,41 @@ fn lowest_run(plain: &[Owner], k: u32) -> Option<u32> {
 
 /// The pages in a plain list that are for a command's data, or for its chain.
 fn pages_of_command(
+    rt: &impl Abort,
     alloc: Global,
     plain: &[Owner],
     q: u16,
     cid: u16,
     role: Role,
-) -> Result<Vec<PageNo>, AllocError> {
+) -> Vec<PageNo> {
     let mut pages = Vec::new(alloc);
     let mut p = 0u32;
     for owner in plain {
         if *owner == (Owner::Command { q, cid, role }) {
-            pages.push(PageNo(p))?;
+            assert!(rt; pages.push(PageNo(p)).is_ok());
         }
         p = p.wrapping_add(1);
     }
-    Ok(pages)
+    pages
 }
 
 /// The pages of half of a queue in a plain list.
 fn pages_of_half(
+    rt: &impl Abort,
     alloc: Global,
     plain: &[Owner],
     q: u16,
     half: Half,
-) -> Result<Vec<PageNo>, AllocError> {
+) -> Vec<PageNo> {
     let mut pages = Vec::new(alloc);
     let mut p = 0u32;
     for owner in plain {
         if is_half(*owner, q, half) {
-            pages.push(PageNo(p))?;
+            assert!(rt; pages.push(PageNo(p)).is_ok());
         }
         p = p.wrapping_add(1);
     }
-    Ok(pages)
+    pages
 }
 
 /// The first page and the number of pages that follow one another.
@@ -249,12 +250,12 @@ struct Pool {
 
 impl Pool {
     /// A pool that is free.
-    fn open(alloc: Global, pages: u32) -> Result<Pool, Fail> {
-        Ok(Pool {
-            ledger: Ledger::open(alloc, pages)?,
-            plain: Vec::from_elem(alloc, Owner::Free, pages as usize)?,
+    fn open(rt: &impl Abort, alloc: Global, pages: u32) -> Pool {
+        Pool {
+            ledger: Ledger::open(alloc, pages).expect(rt, "it opens"),
+            plain: Vec::from_elem(alloc, Owner::Free, pages as usize).expect(rt, "a list"),
             alloc,
-        })
+        }
     }
 
     /// Sees that each page has the owner of the plain list.
@@ -271,32 +272,30 @@ impl Pool {
     }
 
     /// Looks for pages: the lowest run of so many, and so many of the lowest that are free.
-    fn look(&self, rt: &impl Abort, k: u32) -> Result<(), Fail> {
+    fn look(&self, rt: &impl Abort, k: u32) {
         assert!(rt; 0 < k);
         assert!(rt; k <= 1_024);
         let first = self.ledger.lowest_run(k).map(|p| p.0);
         same(rt, first, lowest_run(&self.plain, k));
-        let lowest = lowest_free(self.alloc, &self.plain, k)?;
+        let lowest = lowest_free(rt, self.alloc, &self.plain, k);
         let free = self.ledger.lowest_free(k);
         assert!(rt; free.as_slice() == lowest.as_slice());
-        Ok(())
     }
 
     /// Grants pages: the lowest that are free, or none where there are too few.
-    fn grant(&mut self, rt: &impl Abort, owner: Owner, k: u32) -> Result<(), Fail> {
+    fn grant(&mut self, rt: &impl Abort, owner: Owner, k: u32) {
         assert!(rt; !owner.is_free());
-        let lowest = lowest_free(self.alloc, &self.plain, k)?;
-        let mut granted = Vec::with_capacity(self.alloc, k as usize)?;
+        let lowest = lowest_free(rt, self.alloc, &self.plain, k);
+        let mut granted = Vec::with_capacity(self.alloc, k as usize).expect(rt, "room");
         let answer = self.ledger.grant(owner, k, &mut granted);
         if lowest.len() < k as usize {
             assert!(rt; answer.is_err());
             assert!(rt; granted.is_empty());
-            return Ok(());
+            return;
         }
         assert!(rt; answer.is_ok());
         assert!(rt; granted.as_slice() == lowest.as_slice());
         give_all(&mut self.plain, &lowest, owner);
-        Ok(())
     }
 
     /// Grants a run of pages: the lowest, or none where there is none.
@@ -315,9 +314,9 @@ impl Pool {
     }
 
     /// Gives a command's pages back, as they are listed or as they are found.
-    fn give_back(&mut self, rt: &impl Abort, q: u16, cid: u16, listed: bool) -> Result<(), Fail> {
-        let data = pages_of_command(self.alloc, &self.plain, q, cid, Role::Data)?;
-        let chain = pages_of_command(self.alloc, &self.plain, q, cid, Role::Chain)?;
+    fn give_back(&mut self, rt: &impl Abort, q: u16, cid: u16, listed: bool) {
+        let data = pages_of_command(rt, self.alloc, &self.plain, q, cid, Role::Data);
+        let chain = pages_of_command(rt, self.alloc, &self.plain, q, cid, Role::Chain);
         if listed {
             see_command(rt, &self.ledger, q, cid, &data, &chain);
             self.ledger.give_back_pages(q, cid, &data, &chain);
@@ -327,12 +326,11 @@ impl Pool {
         }
         give_all(&mut self.plain, &data, Owner::Free);
         give_all(&mut self.plain, &chain, Owner::Free);
-        Ok(())
     }
 
     /// Gives the pages of half of a queue back, as a run where they are one.
-    fn give_back_half(&mut self, rt: &impl Abort, q: u16, half: Half) -> Result<(), Fail> {
-        let pages = pages_of_half(self.alloc, &self.plain, q, half)?;
+    fn give_back_half(&mut self, rt: &impl Abort, q: u16, half: Half) {
+        let pages = pages_of_half(rt, self.alloc, &self.plain, q, half);
         if let Some((first, k)) = run_of(&pages) {
             see_half(rt, &self.ledger, q, half, first, k);
             self.ledger.give_back_run(q, half, PageNo(first), k);
@@ -341,40 +339,37 @@ impl Pool {
             same(rt, freed as usize, pages.len());
         }
         give_all(&mut self.plain, &pages, Owner::Free);
-        Ok(())
     }
 
     /// Gives the pages of both halves of a queue back.
-    fn give_back_queue(&mut self, rt: &impl Abort, q: u16) -> Result<(), Fail> {
-        let first = pages_of_half(self.alloc, &self.plain, q, Half::Submission)?;
-        let second = pages_of_half(self.alloc, &self.plain, q, Half::Completion)?;
+    fn give_back_queue(&mut self, rt: &impl Abort, q: u16) {
+        let first = pages_of_half(rt, self.alloc, &self.plain, q, Half::Submission);
+        let second = pages_of_half(rt, self.alloc, &self.plain, q, Half::Completion);
         let freed = self.ledger.give_back_queue(q);
         same(rt, freed as usize, first.len() + second.len());
         give_all(&mut self.plain, &first, Owner::Free);
         give_all(&mut self.plain, &second, Owner::Free);
-        Ok(())
     }
 
     /// A call that the numbers choose.
-    fn call(&mut self, rt: &impl Abort, numbers: &mut Numbers) -> Result<(), Fail> {
+    fn call(&mut self, rt: &impl Abort, numbers: &mut Numbers) {
         let owner = numbers.owner();
         let q = (numbers.next() % 2) as u16;
         let cid = (numbers.next() % 3) as u16;
         match numbers.next() {
-            0..=4 => self.grant(rt, owner, numbers.next())?,
+            0..=4 => self.grant(rt, owner, numbers.next()),
             5..=8 => {
                 let _ = self.grant_run(rt, owner, numbers.next() + 1);
             }
             9 => {
                 let _ = self.grant_run(rt, owner, 16 * numbers.next() + 1);
             }
-            10 => self.give_back(rt, q, cid, false)?,
-            11..=12 => self.give_back(rt, q, cid, true)?,
-            13 => self.give_back_half(rt, q, Half::Submission)?,
-            14 => self.give_back_half(rt, q, Half::Completion)?,
-            _ => self.give_back_queue(rt, q)?,
+            10 => self.give_back(rt, q, cid, false),
+            11..=12 => self.give_back(rt, q, cid, true),
+            13 => self.give_back_half(rt, q, Half::Submission),
+            14 => self.give_back_half(rt, q, Half::Completion),
+            _ => self.give_back_queue(rt, q),
         }
-        Ok(())
     }
 }
 
@@ -394,71 +389,71 @@ const SECOND: Owner = Owner::Command {
 
 /// Two thousand calls over each of five pools, and looks after each.
 #[test]
-fn ten_thousand_calls_beside_a_plain_list(rt: HostRuntime) -> Result<(), Fail> {
+fn ten_thousand_calls_beside_a_plain_list(rt: HostRuntime) {
     let mut numbers = Numbers { state: 7 };
     for pages in [8, 63, 64, 65, 200] {
-        let mut pool = Pool::open(rt.alloc(), pages)?;
+        let mut pool = Pool::open(&rt, rt.alloc(), pages);
         for _ in 0..2000 {
-            pool.call(&rt, &mut numbers)?;
+            pool.call(&rt, &mut numbers);
             pool.see(&rt);
-            pool.look(&rt, numbers.next() + 1)?;
-            pool.look(&rt, 16 * numbers.next() + 1)?;
+            pool.look(&rt, numbers.next() + 1);
+            pool.look(&rt, 16 * numbers.next() + 1);
         }
+        drop(pool);
     }
-    Ok(())
 }
 
 #[test]
-fn pools_are_granted_to_their_last_page(rt: HostRuntime) -> Result<(), Fail> {
+fn pools_are_granted_to_their_last_page(rt: HostRuntime) {
     for pages in [63, 64, 65, 127, 128, 129] {
-        let mut pool = Pool::open(rt.alloc(), pages)?;
+        let mut pool = Pool::open(&rt, rt.alloc(), pages);
         same(&rt, pool.grant_run(&rt, FIRST, pages + 1), None);
         same(&rt, pool.grant_run(&rt, FIRST, pages), Some(0));
-        pool.grant(&rt, SECOND, 1)?;
+        pool.grant(&rt, SECOND, 1);
         pool.see(&rt);
-        pool.give_back(&rt, 1, 1, true)?;
-        pool.grant(&rt, FIRST, pages - 1)?;
+        pool.give_back(&rt, 1, 1, true);
+        pool.grant(&rt, FIRST, pages - 1);
         same(&rt, pool.grant_run(&rt, SECOND, 1), Some(pages - 1));
         same(&rt, pool.grant_run(&rt, SECOND, 1), None);
         pool.see(&rt);
+        drop(pool);
     }
-    Ok(())
 }
 
 #[test]
-fn runs_of_many_pages(rt: HostRuntime) -> Result<(), Fail> {
-    let mut pool = Pool::open(rt.alloc(), 400)?;
-    pool.look(&rt, 400)?;
-    pool.look(&rt, 401)?;
-    pool.grant(&rt, FIRST, 60)?;
+fn runs_of_many_pages(rt: HostRuntime) {
+    let mut pool = Pool::open(&rt, rt.alloc(), 400);
+    pool.look(&rt, 400);
+    pool.look(&rt, 401);
+    pool.grant(&rt, FIRST, 60);
     // pages 60 to 68
     same(&rt, pool.grant_run(&rt, SECOND, 9), Some(60));
-    pool.grant(&rt, FIRST, 1)?;
+    pool.grant(&rt, FIRST, 1);
     same(&rt, pool.grant_run(&rt, FIRST, 331), None);
     same(&rt, pool.grant_run(&rt, FIRST, 130), Some(70));
-    pool.give_back(&rt, 1, 2, true)?;
+    pool.give_back(&rt, 1, 2, true);
     // free are 60 to 68, and from 200 on
     same(&rt, pool.grant_run(&rt, SECOND, 10), Some(200));
     same(&rt, pool.grant_run(&rt, SECOND, 9), Some(60));
     same(&rt, pool.grant_run(&rt, SECOND, 190), Some(210));
     pool.see(&rt);
-    Ok(())
+    drop(pool);
 }
 
 #[test]
-fn the_greatest_pool_has_one_free_page(rt: HostRuntime) -> Result<(), Fail> {
+fn the_greatest_pool_has_one_free_page(rt: HostRuntime) {
     for page in [0, 63, 64, 4095, 4096, 40_000, 65_535] {
-        let mut pool = Pool::open(rt.alloc(), 65_536)?;
-        pool.grant(&rt, FIRST, page)?;
-        pool.grant(&rt, SECOND, 1)?;
-        pool.grant(&rt, FIRST, 65_535 - page)?;
-        pool.grant(&rt, FIRST, 1)?;
-        pool.give_back(&rt, 1, 2, false)?;
-        pool.look(&rt, 1)?;
-        pool.look(&rt, 1_024)?;
+        let mut pool = Pool::open(&rt, rt.alloc(), 65_536);
+        pool.grant(&rt, FIRST, page);
+        pool.grant(&rt, SECOND, 1);
+        pool.grant(&rt, FIRST, 65_535 - page);
+        pool.grant(&rt, FIRST, 1);
+        pool.give_back(&rt, 1, 2, false);
+        pool.look(&rt, 1);
+        pool.look(&rt, 1_024);
         same(&rt, pool.grant_run(&rt, SECOND, 2), None);
         same(&rt, pool.grant_run(&rt, SECOND, 1), Some(page));
         pool.see(&rt);
+        drop(pool);
     }
-    Ok(())
 }

@@ -4,6 +4,7 @@
 use crate::expecting::{same, same_at};
 use page_ledger::{Counts, Ledger, NoPages, OpenFault, Owner, Role};
 use page_memory::{Half, PageNo};
+use std::alloc::Global;
 use std::process::Abort;
 use std::test::Fail;
 
@@ -69,8 +70,18 @@ fn owner(rt: &impl Abort, ledger: &Ledger, p: u32) -> Owner {
     ledger.owner(PageNo(p))
 }
 
+/// Opens a ledger.
+fn opened(rt: &impl Abort, alloc: Global, pages: u32) -> Ledger {
+    Ledger::open(alloc, pages).expect(rt, "it opens")
+}
+
+/// An empty list with room for so many pages.
+fn room(rt: &impl Abort, alloc: Global, pages: usize) -> Vec<PageNo> {
+    Vec::with_capacity(alloc, pages).expect(rt, "room")
+}
+
 #[test]
-fn opens_within_its_limits(rt: HostRuntime) -> Result<(), Fail> {
+fn opens_within_its_limits(rt: HostRuntime) {
     for pages in [0, 7, 65_537] {
         same_at(
             &rt,
@@ -80,7 +91,7 @@ fn opens_within_its_limits(rt: HostRuntime) -> Result<(), Fail> {
         );
     }
     for pages in [8, 65_536] {
-        let ledger = Ledger::open(rt.alloc(), pages)?;
+        let ledger = opened(&rt, rt.alloc(), pages);
         let free = Counts {
             free_pages: pages,
             queue_pages: 0,
@@ -90,50 +101,80 @@ fn opens_within_its_limits(rt: HostRuntime) -> Result<(), Fail> {
         assert!(rt; ledger.pages() == pages);
         same(&rt, ledger.counts(), free);
         same(&rt, owner(&rt, &ledger, pages - 1), Owner::Free);
+        drop(ledger);
     }
-    Ok(())
+}
+
+/// Counts without a page of a chain.
+fn counts(free_pages: u32, queue_pages: u32, data_pages: u32) -> Counts {
+    Counts {
+        free_pages,
+        queue_pages,
+        chain_pages: 0,
+        data_pages,
+    }
+}
+
+/// Grants all of a pool: all but three pages, and then these.
+fn grant_all(rt: &impl Abort, ledger: &mut Ledger, granted: &mut Vec<PageNo>) {
+    let pages = ledger.pages();
+    assert!(rt; pages > 3);
+    same(rt, grant(rt, ledger, DATA, pages - 3, granted), Ok(()));
+    let refused = NoPages { need: 4, free: 3 };
+    same(rt, grant(rt, ledger, CHAIN, 4, granted), Err(refused));
+    assert!(rt; granted.len() == pages as usize - 3);
+    same(rt, grant(rt, ledger, SUBMISSION, 3, granted), Ok(()));
+    for (i, page) in granted.iter().enumerate() {
+        same(rt, page.0 as usize, i);
+    }
+}
+
+/// Nothing is left of a pool.
+fn see_full(rt: &impl Abort, ledger: &mut Ledger, granted: &mut Vec<PageNo>) {
+    let pages = ledger.pages();
+    assert!(rt; pages > 3);
+    same(rt, owner(rt, ledger, pages - 4), DATA);
+    same(rt, owner(rt, ledger, pages - 3), SUBMISSION);
+    same(rt, ledger.counts(), counts(0, 3, pages - 3));
+    same(rt, grant(rt, ledger, CHAIN, 0, granted), Ok(()));
+    same(rt, grant_run(rt, ledger, CHAIN, 1), None);
 }
 
 #[test]
-fn grants_until_nothing_is_left(rt: HostRuntime) -> Result<(), Fail> {
+fn grants_until_nothing_is_left(rt: HostRuntime) {
     for pages in [8, 65_536] {
-        let mut ledger = Ledger::open(rt.alloc(), pages)?;
-        let mut granted = Vec::with_capacity(rt.alloc(), pages as usize + 4)?;
-        grant(&rt, &mut ledger, DATA, pages - 3, &mut granted)?;
-        let refused = NoPages { need: 4, free: 3 };
-        same(
-            &rt,
-            grant(&rt, &mut ledger, CHAIN, 4, &mut granted),
-            Err(refused),
-        );
-        assert!(rt; granted.len() == pages as usize - 3);
-        grant(&rt, &mut ledger, SUBMISSION, 3, &mut granted)?;
-        for (i, page) in granted.iter().enumerate() {
-            same(&rt, page.0 as usize, i);
-        }
-        same(&rt, owner(&rt, &ledger, pages - 4), DATA);
-        same(&rt, owner(&rt, &ledger, pages - 3), SUBMISSION);
-        let full = Counts {
-            free_pages: 0,
-            queue_pages: 3,
-            chain_pages: 0,
-            data_pages: pages - 3,
-        };
-        same(&rt, ledger.counts(), full);
-        same(&rt, grant(&rt, &mut ledger, CHAIN, 0, &mut granted), Ok(()));
-        same(&rt, grant_run(&rt, &mut ledger, CHAIN, 1), None);
+        let mut ledger = opened(&rt, rt.alloc(), pages);
+        let mut granted = room(&rt, rt.alloc(), pages as usize + 4);
+        grant_all(&rt, &mut ledger, &mut granted);
+        see_full(&rt, &mut ledger, &mut granted);
+        drop(granted);
+        drop(ledger);
     }
+}
+
+#[test]
+fn a_refusal_has_a_text(rt: HostRuntime) -> Result<(), Fail> {
     let refused = NoPages { need: 4, free: 3 };
     let text = format!(in rt.alloc(); "{refused}")?;
     same(&rt, text.as_str(), "4 pages are needed, and 3 are free");
     Ok(())
 }
 
+/// Does calls over a new pool of eight pages, each of which must answer what stands beside it.
+fn played(rt: &impl Abort, alloc: Global, calls: &[(Call, Option<usize>)]) -> Ledger {
+    let mut ledger = opened(rt, alloc, 8);
+    let mut granted = room(rt, alloc, 8);
+    for (call, want) in calls {
+        let answer = ledger_step(rt, &mut ledger, &mut granted, *call);
+        same(rt, answer, *want);
+    }
+    drop(granted);
+    ledger
+}
+
 #[test]
-fn finds_runs_in_a_fragmented_pool(rt: HostRuntime) -> Result<(), Fail> {
-    let mut ledger = Ledger::open(rt.alloc(), 8)?;
-    let mut granted = Vec::with_capacity(rt.alloc(), 8)?;
-    for (call, want) in [
+fn finds_runs_in_a_fragmented_pool(rt: HostRuntime) {
+    let calls = [
         (Call::Grant(DATA, 1), Some(1)),
         (Call::Grant(OTHER, 2), Some(2)),
         (Call::Grant(SUBMISSION, 1), Some(1)),
@@ -146,38 +187,33 @@ fn finds_runs_in_a_fragmented_pool(rt: HostRuntime) -> Result<(), Fail> {
         (Call::Run(DATA, 3), Some(0)),
         (Call::Run(OTHER, 2), None),
         (Call::Run(OTHER, 1), Some(4)),
-    ] {
-        let answer = ledger_step(&rt, &mut ledger, &mut granted, call);
-        same(&rt, answer, want);
-    }
+    ];
+    let ledger = played(&rt, rt.alloc(), &calls);
     same(&rt, owner(&rt, &ledger, 2), DATA);
     same(&rt, owner(&rt, &ledger, 4), OTHER);
-    Ok(())
+    drop(ledger);
 }
 
 #[test]
-fn grants_the_lowest_pages_after_a_give_back(rt: HostRuntime) -> Result<(), Fail> {
-    let mut ledger = Ledger::open(rt.alloc(), 8)?;
-    let mut granted = Vec::with_capacity(rt.alloc(), 8)?;
-    for (call, want) in [
-        (Call::Grant(DATA, 3), 3),
-        (Call::Grant(SUBMISSION, 2), 2),
-        (Call::Grant(COMPLETION, 1), 1),
-        (Call::Grant(CHAIN, 1), 1),
-        (Call::BackHalf(1, Half::Submission), 2),
-        (Call::BackQueue(1), 1),
-        (Call::BackQueue(1), 0),
-        (Call::Back(1, 9), 4),
-    ] {
-        let answer = ledger_step(&rt, &mut ledger, &mut granted, call);
-        same(&rt, answer, Some(want));
-    }
-    let mut again = Vec::with_capacity(rt.alloc(), 8)?;
-    grant(&rt, &mut ledger, OTHER, 8, &mut again)?;
+fn grants_the_lowest_pages_after_a_give_back(rt: HostRuntime) {
+    let calls = [
+        (Call::Grant(DATA, 3), Some(3)),
+        (Call::Grant(SUBMISSION, 2), Some(2)),
+        (Call::Grant(COMPLETION, 1), Some(1)),
+        (Call::Grant(CHAIN, 1), Some(1)),
+        (Call::BackHalf(1, Half::Submission), Some(2)),
+        (Call::BackQueue(1), Some(1)),
+        (Call::BackQueue(1), Some(0)),
+        (Call::Back(1, 9), Some(4)),
+    ];
+    let mut ledger = played(&rt, rt.alloc(), &calls);
+    let mut again = room(&rt, rt.alloc(), 8);
+    same(&rt, grant(&rt, &mut ledger, OTHER, 8, &mut again), Ok(()));
     for (i, page) in again.iter().enumerate() {
         same(&rt, page.0 as usize, i);
     }
-    Ok(())
+    drop(again);
+    drop(ledger);
 }
 
 /// A call of the script.
@@ -301,8 +337,17 @@ fn ledger_step(
     }
 }
 
+/// Each page has the owner of the array behind this call, and as many are free.
+fn see_owners(rt: &impl Abort, call: usize, ledger: &Ledger, plain: &[Owner; 16]) {
+    for (p, is) in plain.iter().enumerate() {
+        same_at(rt, (call, p), owner(rt, ledger, p as u32), *is);
+    }
+    let free = ledger.counts().free_pages;
+    same_at(rt, call, free as usize, plain_free(plain));
+}
+
 #[test]
-fn agrees_with_a_plain_array(rt: HostRuntime) -> Result<(), Fail> {
+fn agrees_with_a_plain_array(rt: HostRuntime) {
     let script = [
         Call::Grant(SUBMISSION, 2),
         Call::Grant(COMPLETION, 1),
@@ -325,21 +370,14 @@ fn agrees_with_a_plain_array(rt: HostRuntime) -> Result<(), Fail> {
         Call::Run(COMPLETION, 2),
         Call::Grant(CHAIN, 1),
     ];
-    let mut ledger = Ledger::open(rt.alloc(), 16)?;
+    let mut ledger = opened(&rt, rt.alloc(), 16);
     let mut plain = [Owner::Free; 16];
-    let mut granted = Vec::with_capacity(rt.alloc(), 64)?;
+    let mut granted = room(&rt, rt.alloc(), 64);
     for (i, call) in script.iter().enumerate() {
         let answer = ledger_step(&rt, &mut ledger, &mut granted, *call);
         same_at(&rt, i, answer, plain_step(&mut plain, *call));
-        for (p, is) in plain.iter().enumerate() {
-            same_at(&rt, (i, p), owner(&rt, &ledger, p as u32), *is);
-        }
-        same_at(
-            &rt,
-            i,
-            ledger.counts().free_pages as usize,
-            plain_free(&plain),
-        );
+        see_owners(&rt, i, &ledger, &plain);
     }
-    Ok(())
+    drop(granted);
+    drop(ledger);
 }
