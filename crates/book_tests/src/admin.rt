@@ -2,7 +2,6 @@
 
 use crate::part::{Part, Told, run};
 use entry_codec::Status;
-use std::test::Fail;
 use worked_scripts::pools::USUAL;
 use worked_scripts::{aborts, creations, deletions};
 
@@ -37,8 +36,8 @@ release 1 2 => ok",
 ];
 
 #[test]
-fn commands_are_aborted(rt: HostRuntime) -> Result<(), Fail> {
-    run(&rt, rt.alloc(), USUAL, ABORTS)
+fn commands_are_aborted(rt: HostRuntime) {
+    run(&rt, rt.alloc(), USUAL, ABORTS);
 }
 
 /// The receipts of the two Reads that the deletion ends.
@@ -57,8 +56,8 @@ const DELETION: &[Part] = &[
 ];
 
 #[test]
-fn a_queue_is_deleted(rt: HostRuntime) -> Result<(), Fail> {
-    run(&rt, rt.alloc(), USUAL, DELETION)
+fn a_queue_is_deleted(rt: HostRuntime) {
+    run(&rt, rt.alloc(), USUAL, DELETION);
 }
 
 /// A queue that is gone is made again, in the pages that are free then, and carries a Read.
@@ -70,6 +69,6 @@ const CREATION: &[Part] = &[
 ];
 
 #[test]
-fn a_queue_is_made_again(rt: HostRuntime) -> Result<(), Fail> {
-    run(&rt, rt.alloc(), USUAL, CREATION)
+fn a_queue_is_made_again(rt: HostRuntime) {
+    run(&rt, rt.alloc(), USUAL, CREATION);
 }

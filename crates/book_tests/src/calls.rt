@@ -2,7 +2,6 @@
 
 use crate::part::{Part, Told, run};
 use entry_codec::Status;
-use std::test::Fail;
 use worked_scripts::pools::USUAL;
 
 /// A Write of one seat and a Read of another, of the same block.
@@ -55,8 +54,8 @@ gather 1 1 => AB*512",
 ];
 
 #[test]
-fn two_seats(rt: HostRuntime) -> Result<(), Fail> {
-    run(&rt, rt.alloc(), USUAL, WRITE_AND_READ)
+fn two_seats(rt: HostRuntime) {
+    run(&rt, rt.alloc(), USUAL, WRITE_AND_READ);
 }
 
 /// The receipt of a Read that the deletion of its queue ends.
@@ -91,8 +90,8 @@ reap 0 => admin cid 0 status 0:00 dw0 0",
 ];
 
 #[test]
-fn a_queue_ends(rt: HostRuntime) -> Result<(), Fail> {
-    run(&rt, rt.alloc(), USUAL, END_OF_A_QUEUE)
+fn a_queue_ends(rt: HostRuntime) {
+    run(&rt, rt.alloc(), USUAL, END_OF_A_QUEUE);
 }
 
 /// A command that is aborted before it is fetched, a draft that is cancelled and one that is left over, and a forged entry.
@@ -117,6 +116,6 @@ reserve 1 write 2 1 0+512 => q 1 cid 1 data 1 chain 0",
 ];
 
 #[test]
-fn commands_are_given_up(rt: HostRuntime) -> Result<(), Fail> {
-    run(&rt, rt.alloc(), USUAL, GIVEN_UP)
+fn commands_are_given_up(rt: HostRuntime) {
+    run(&rt, rt.alloc(), USUAL, GIVEN_UP);
 }

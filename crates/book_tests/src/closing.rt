@@ -4,16 +4,15 @@ ghost use Rattle.std.specs.Prelude.{◌≡◌};
 ghost use Rattle.step_core.specs.Opening.{opening_of};
 
 use crate::closes::close;
-use crate::part::{Part, Told, opened, play, run};
+use crate::part::{Part, Told, end, opened, play, run};
 use block_image::Image;
 use book_desk::Desk;
 use driver_book::*;
 use entry_codec::Status;
-use std::alloc::{AllocError, Global};
+use std::alloc::Global;
 use std::marker::Brand;
 use std::process::Abort;
 use std::sync::ledger::Blank;
-use std::test::Fail;
 use step_core::Config;
 use worked_scripts::pools::USUAL;
 
@@ -58,8 +57,8 @@ release 1 0 => ok",
 ];
 
 #[test]
-fn a_report_of_two_seats(rt: HostRuntime) -> Result<(), Fail> {
-    run(&rt, rt.alloc(), USUAL, TWO_SEATS)
+fn a_report_of_two_seats(rt: HostRuntime) {
+    run(&rt, rt.alloc(), USUAL, TWO_SEATS);
 }
 
 /// The receipt of a Read that ended well.
@@ -87,8 +86,8 @@ collect 1 0 => status 0:00",
 ];
 
 #[test]
-fn a_status_is_kept(rt: HostRuntime) -> Result<(), Fail> {
-    run(&rt, rt.alloc(), USUAL, RELEASED_ANEW)
+fn a_status_is_kept(rt: HostRuntime) {
+    run(&rt, rt.alloc(), USUAL, RELEASED_ANEW);
 }
 
 /// A Read of a new seat, from its reservation to its release.
@@ -110,12 +109,13 @@ release 1 0 => ok",
 ];
 
 /// The receipts of so many submissions that ended well, each the only one of its seat.
-fn receipts(alloc: Global, count: u64) -> Result<Vec<Told>, AllocError> {
+fn receipts<R: Abort>(rt: &R, alloc: Global, count: u64) -> Vec<Told> {
     let mut receipts = Vec::new(alloc);
     for number in 0..count {
-        receipts.push((number, 0, Some(Status::SUCCESS)))?;
+        let told = (number, 0, Some(Status::SUCCESS));
+        assert!(rt; receipts.push(told).is_ok());
     }
-    Ok(receipts)
+    receipts
 }
 
 /// Forty seats, each with a command, handed in as they were made.
@@ -125,26 +125,26 @@ fn close_many<L: Driver, R: Abort>(
     config: Config,
     image: Image,
     blank: Blank,
-) -> Result<(), Fail>
+)
     requires name { blank.name ≡ L.name }
     requires parts { blank.parts ≡ L.parts }
     requires number { blank.parts ≡ 65536 }
     requires opening { L.opening ≡ opening_of config image }
 {
-    let receipts = receipts(alloc, 40)?;
+    let receipts = receipts(rt, alloc, 40);
     let mut desk: Desk<L> = opened(rt, alloc, config, image, blank);
     for _ in 0..40 {
-        play(rt, &mut desk, CARRIED_THROUGH)?;
+        play(rt, &mut desk, CARRIED_THROUGH);
     }
     close(rt, &mut desk, &receipts);
-    Ok(())
+    end(desk);
 }
 
 #[test]
-fn many_seats(rt: HostRuntime) -> Result<(), Fail> {
+fn many_seats(rt: HostRuntime) {
     let alloc = rt.alloc();
-    let image = Image::zeroed(alloc, 64)?;
-    close_many::<Brand, HostRuntime>(&rt, alloc, USUAL, image, Blank::new(65536))
+    let image = Image::zeroed(alloc, 64).expect(&rt, "an image");
+    close_many::<Brand, HostRuntime>(&rt, alloc, USUAL, image, Blank::new(65536));
 }
 
 /// The receipt that was not handed in.
@@ -172,8 +172,8 @@ submit 1 1 => ok",
 ];
 
 #[test]
-fn a_receipt_is_missing(rt: HostRuntime) -> Result<(), Fail> {
-    run(&rt, rt.alloc(), USUAL, LOST_RECEIPT)
+fn a_receipt_is_missing(rt: HostRuntime) {
+    run(&rt, rt.alloc(), USUAL, LOST_RECEIPT);
 }
 
 /// A seat without receipts, which is lost.
@@ -184,8 +184,8 @@ const LOST_SEAT: &[Part] = &[
 ];
 
 #[test]
-fn a_seat_is_out(rt: HostRuntime) -> Result<(), Fail> {
-    run(&rt, rt.alloc(), USUAL, LOST_SEAT)
+fn a_seat_is_out(rt: HostRuntime) {
+    run(&rt, rt.alloc(), USUAL, LOST_SEAT);
 }
 
 /// A command that was collected, and not released.
@@ -207,8 +207,8 @@ collect 1 0 => status 0:00",
 ];
 
 #[test]
-fn a_command_is_not_released(rt: HostRuntime) -> Result<(), Fail> {
-    run(&rt, rt.alloc(), USUAL, HELD_COMMAND)
+fn a_command_is_not_released(rt: HostRuntime) {
+    run(&rt, rt.alloc(), USUAL, HELD_COMMAND);
 }
 
 /// An admin command that was sent, and not reaped.
@@ -218,14 +218,14 @@ const AWAITED_ANSWER: &[Part] = &[
 ];
 
 #[test]
-fn an_admin_command_is_outstanding(rt: HostRuntime) -> Result<(), Fail> {
-    run(&rt, rt.alloc(), USUAL, AWAITED_ANSWER)
+fn an_admin_command_is_outstanding(rt: HostRuntime) {
+    run(&rt, rt.alloc(), USUAL, AWAITED_ANSWER);
 }
 
 /// A book of which nobody has a seat.
 const NO_SEATS: &[Part] = &[Part::Close(&[])];
 
 #[test]
-fn a_report_of_nothing(rt: HostRuntime) -> Result<(), Fail> {
-    run(&rt, rt.alloc(), USUAL, NO_SEATS)
+fn a_report_of_nothing(rt: HostRuntime) {
+    run(&rt, rt.alloc(), USUAL, NO_SEATS);
 }

@@ -2,7 +2,6 @@
 
 use crate::part::{Part, Told, run};
 use entry_codec::Status;
-use std::test::Fail;
 use worked_scripts::forgeries;
 use worked_scripts::pools::{SMALL_TWO_QUEUES, USUAL};
 
@@ -10,8 +9,8 @@ use worked_scripts::pools::{SMALL_TWO_QUEUES, USUAL};
 const REJECTED: &[Part] = &[Part::Plays(forgeries::REJECTED), Part::HasEntries(8)];
 
 #[test]
-fn forged_entries_are_rejected(rt: HostRuntime) -> Result<(), Fail> {
-    run(&rt, rt.alloc(), USUAL, REJECTED)
+fn forged_entries_are_rejected(rt: HostRuntime) {
+    run(&rt, rt.alloc(), USUAL, REJECTED);
 }
 
 /// A walk finds its page out, and the command's own completion comes to nobody.
@@ -23,8 +22,8 @@ const PAGES_GONE: &[Part] = &[
 ];
 
 #[test]
-fn a_walk_finds_its_page_out(rt: HostRuntime) -> Result<(), Fail> {
-    run(&rt, rt.alloc(), USUAL, PAGES_GONE)
+fn a_walk_finds_its_page_out(rt: HostRuntime) {
+    run(&rt, rt.alloc(), USUAL, PAGES_GONE);
 }
 
 /// The host believes that the first of three Reads ended; its identifier is free again, and the ring still full.
@@ -39,8 +38,8 @@ const FULL_RING: &[Part] = &[
 ];
 
 #[test]
-fn the_ring_is_still_full(rt: HostRuntime) -> Result<(), Fail> {
-    run(&rt, rt.alloc(), USUAL, FULL_RING)
+fn the_ring_is_still_full(rt: HostRuntime) {
+    run(&rt, rt.alloc(), USUAL, FULL_RING);
 }
 
 /// The receipts of four Reads, of which the host believes that the first ended; the fourth has its identifier.
@@ -60,8 +59,8 @@ const FETCHED_TWICE: &[Part] = &[
 ];
 
 #[test]
-fn an_identifier_comes_again(rt: HostRuntime) -> Result<(), Fail> {
-    run(&rt, rt.alloc(), USUAL, FETCHED_TWICE)
+fn an_identifier_comes_again(rt: HostRuntime) {
+    run(&rt, rt.alloc(), USUAL, FETCHED_TWICE);
 }
 
 /// A forged head comes back to where the controller's is, which then sees no entry.
@@ -73,8 +72,8 @@ const RUNG_AGAIN: &[Part] = &[
 ];
 
 #[test]
-fn the_controller_sees_no_entry(rt: HostRuntime) -> Result<(), Fail> {
-    run(&rt, rt.alloc(), USUAL, RUNG_AGAIN)
+fn the_controller_sees_no_entry(rt: HostRuntime) {
+    run(&rt, rt.alloc(), USUAL, RUNG_AGAIN);
 }
 
 /// A forged answer to a deletion: the page of the submission ring goes to another command, and the controller finds its slot out.
@@ -86,6 +85,6 @@ const FORGED_DELETION: &[Part] = &[
 ];
 
 #[test]
-fn a_slot_is_out(rt: HostRuntime) -> Result<(), Fail> {
-    run(&rt, rt.alloc(), SMALL_TWO_QUEUES, FORGED_DELETION)
+fn a_slot_is_out(rt: HostRuntime) {
+    run(&rt, rt.alloc(), SMALL_TWO_QUEUES, FORGED_DELETION);
 }

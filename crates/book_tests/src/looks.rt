@@ -9,7 +9,6 @@ use entry_codec::Status;
 use io_commands::Finished;
 use std::fmt::Debug;
 use std::process::Abort;
-use std::test::Fail;
 
 /// Sees that an answer is the one that is wanted.
 pub(crate) fn see<T: PartialEq + Debug, R: Abort>(rt: &R, answer: &T, want: &T) {
@@ -17,14 +16,13 @@ pub(crate) fn see<T: PartialEq + Debug, R: Abort>(rt: &R, answer: &T, want: &T) 
 }
 
 /// Fills the draft that came about last with a block of one byte.
-pub(crate) fn fill_last<R: Abort>(rt: &R, values: &mut Vec<Value>, byte: u8) -> Result<(), Fail> {
+pub(crate) fn fill_last<R: Abort>(rt: &R, values: &mut Vec<Value>, byte: u8) {
     let Some(mut draft) = values.pop().and_then(Value::into_draft) else {
         panic!(rt; "it is no draft");
     };
     let filled = draft.fill(&[byte; 512]).is_ok();
-    values.push(Value::Draft(draft))?;
+    assert!(rt; values.push(Value::Draft(draft)).is_ok());
     assert!(rt; filled);
-    Ok(())
 }
 
 /// The command that came about last has this page alone.
@@ -50,15 +48,14 @@ fn made_anew<R: Abort>(rt: &R, finished: Finished, status: Status) -> Finished {
 }
 
 /// Makes the command that was collected last anew with another status, which it then has.
-pub(crate) fn alter<R: Abort>(rt: &R, values: &mut Vec<Value>, status: Status) -> Result<(), Fail> {
+pub(crate) fn alter<R: Abort>(rt: &R, values: &mut Vec<Value>, status: Status) {
     let Some(finished) = values.pop().and_then(Value::into_finished) else {
         panic!(rt; "it is not finished");
     };
     let finished = made_anew(rt, finished, status);
     let told = finished.status();
-    values.push(Value::Finished(finished))?;
+    assert!(rt; values.push(Value::Finished(finished)).is_ok());
     see(rt, &told, &status);
-    Ok(())
 }
 
 /// Whether these receipts tell so.

@@ -4,7 +4,7 @@ ghost use Rattle.std.specs.Prelude.{◌≡◌};
 ghost use Rattle.step_core.specs.Opening.{opening_of};
 
 use crate::looks::see;
-use crate::part::{Part, counts, opened, play};
+use crate::part::{Part, counts, end, opened, play};
 use block_image::Image;
 use book_desk::Desk;
 use driver_book::*;
@@ -14,7 +14,6 @@ use std::alloc::Global;
 use std::marker::Brand;
 use std::process::Abort;
 use std::sync::ledger::Blank;
-use std::test::Fail;
 use step_core::{Config, OpenRefusal};
 use worked_scripts::pools::USUAL;
 
@@ -43,23 +42,17 @@ const TWO_SEATS: &[Part] = &[
 ];
 
 /// What a book shows, and what it is told, without a step.
-fn look<L: Driver, R: Abort>(
-    rt: &R,
-    alloc: Global,
-    config: Config,
-    image: Image,
-    blank: Blank,
-) -> Result<(), Fail>
+fn look<L: Driver, R: Abort>(rt: &R, alloc: Global, config: Config, image: Image, blank: Blank)
     requires name { blank.name ≡ L.name }
     requires parts { blank.parts ≡ L.parts }
     requires number { blank.parts ≡ 65536 }
     requires opening { L.opening ≡ opening_of config image }
 {
     let mut desk: Desk<L> = opened(rt, alloc, config, image, blank);
-    play(rt, &mut desk, TWO_SEATS)?;
+    play(rt, &mut desk, TWO_SEATS);
     see_stop(rt, &mut desk.book);
     see_new(rt, &desk.book);
-    Ok(())
+    end(desk);
 }
 
 /// A book that is not opened: why, and the image and the ledger, which come back.
@@ -104,21 +97,21 @@ fn open_again<K: Driver, L: Driver, R: Abort>(
     see(rt, &refused.why, &OpenRefusal::BadConfig);
     let desk: Desk<L> = opened(rt, alloc, config, refused.image, refused.blank);
     see(rt, &desk.book.counts(), &counts(12, 4, 0));
+    end(desk);
 }
 
 #[test]
-fn a_book_shows_itself(rt: HostRuntime) -> Result<(), Fail> {
+fn a_book_shows_itself(rt: HostRuntime) {
     let alloc = rt.alloc();
-    let image = Image::zeroed(alloc, 64)?;
-    look::<Brand, HostRuntime>(&rt, alloc, USUAL, image, Blank::new(65536))
+    let image = Image::zeroed(alloc, 64).expect(&rt, "an image");
+    look::<Brand, HostRuntime>(&rt, alloc, USUAL, image, Blank::new(65536));
 }
 
 #[test]
-fn a_book_is_not_opened(rt: HostRuntime) -> Result<(), Fail> {
+fn a_book_is_not_opened(rt: HostRuntime) {
     let alloc = rt.alloc();
-    let image = Image::zeroed(alloc, 64)?;
+    let image = Image::zeroed(alloc, 64).expect(&rt, "an image");
     let small = Config { pages: 7, ..USUAL };
     let blank = Blank::new(65536);
     open_again::<Brand, Brand, HostRuntime>(&rt, alloc, small, USUAL, image, blank);
-    Ok(())
 }

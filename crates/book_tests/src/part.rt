@@ -15,7 +15,6 @@ use std::alloc::Global;
 use std::marker::Brand;
 use std::process::Abort;
 use std::sync::ledger::Blank;
-use std::test::Fail;
 use step_core::{Config, Leftover};
 use worked_scripts::WorkedScript;
 
@@ -64,16 +63,16 @@ pub(crate) fn counts(free_pages: u32, queue_pages: u32, data_pages: u32) -> Coun
 }
 
 /// Does a part of a run.
-fn play_part<L: Driver, R: Abort>(rt: &R, desk: &mut Desk<L>, part: Part) -> Result<(), Fail> {
+fn play_part<L: Driver, R: Abort>(rt: &R, desk: &mut Desk<L>, part: Part) {
     match part {
-        Part::Sit => assert!(rt; desk.sit()?),
+        Part::Sit => assert!(rt; desk.sit().expect(rt, "no memory is refused")),
         Part::Turn => desk.seats.reverse(),
         Part::Lose => assert!(rt; desk.seats.pop().is_some()),
-        Part::Steps(text) => play_steps(rt, desk, text)?,
-        Part::Plays(worked) => play_worked(rt, desk, worked)?,
-        Part::FillLast(byte) => fill_last(rt, &mut desk.values, byte)?,
+        Part::Steps(text) => play_steps(rt, desk, text),
+        Part::Plays(worked) => play_worked(rt, desk, worked),
+        Part::FillLast(byte) => fill_last(rt, &mut desk.values, byte),
         Part::HasPage(page) => has_page(rt, &desk.values, page),
-        Part::Alter(status) => alter(rt, &mut desk.values, status)?,
+        Part::Alter(status) => alter(rt, &mut desk.values, status),
         Part::HasReceipts(number, told) => has_receipts(rt, &desk.seats, number, told),
         Part::HasPages(free, queue, data) => {
             see(rt, &desk.book.counts(), &counts(free, queue, data))
@@ -82,11 +81,10 @@ fn play_part<L: Driver, R: Abort>(rt: &R, desk: &mut Desk<L>, part: Part) -> Res
         Part::Close(told) => close(rt, desk, told),
         Part::StayOpen(why, seats) => stay_open(rt, desk, why, seats),
     }
-    Ok(())
 }
 
 /// Ends a book, and spends the commands that it left over.
-fn end<L: Driver>(desk: Desk<L>) {
+pub(crate) fn end<L: Driver>(desk: Desk<L>) {
     let Desk {
         alloc: _,
         heap: _,
@@ -101,15 +99,10 @@ fn end<L: Driver>(desk: Desk<L>) {
 }
 
 /// Does the parts of a run.
-pub(crate) fn play<L: Driver, R: Abort>(
-    rt: &R,
-    desk: &mut Desk<L>,
-    parts: &[Part],
-) -> Result<(), Fail> {
+pub(crate) fn play<L: Driver, R: Abort>(rt: &R, desk: &mut Desk<L>, parts: &[Part]) {
     for part in parts {
-        play_part(rt, desk, *part)?;
+        play_part(rt, desk, *part);
     }
-    Ok(())
 }
 
 /// A desk with a new book, without a seat.
@@ -139,25 +132,19 @@ fn play_anew<L: Driver, R: Abort>(
     image: Image,
     blank: Blank,
     run: &[Part],
-) -> Result<(), Fail>
+)
     requires name { blank.name ≡ L.name }
     requires parts { blank.parts ≡ L.parts }
     requires number { blank.parts ≡ 65536 }
     requires opening { L.opening ≡ opening_of config image }
 {
     let mut desk: Desk<L> = opened(rt, alloc, config, image, blank);
-    play(rt, &mut desk, run)?;
+    play(rt, &mut desk, run);
     end(desk);
-    Ok(())
 }
 
 /// Does the parts of a run at a new desk over an image of 64 zero blocks, and ends its book.
-pub(crate) fn run<R: Abort>(
-    rt: &R,
-    alloc: Global,
-    config: Config,
-    parts: &[Part],
-) -> Result<(), Fail> {
-    let image = Image::zeroed(alloc, 64)?;
-    play_anew::<Brand, R>(rt, alloc, config, image, Blank::new(65536), parts)
+pub(crate) fn run<R: Abort>(rt: &R, alloc: Global, config: Config, parts: &[Part]) {
+    let image = Image::zeroed(alloc, 64).expect(rt, "an image");
+    play_anew::<Brand, R>(rt, alloc, config, image, Blank::new(65536), parts);
 }

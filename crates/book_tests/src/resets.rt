@@ -2,7 +2,6 @@
 
 use crate::part::{Part, run};
 use entry_codec::Status;
-use std::test::Fail;
 use worked_scripts::pools::USUAL;
 use worked_scripts::resets;
 
@@ -18,8 +17,8 @@ const RECOVERY: &[Part] = &[
 ];
 
 #[test]
-fn a_reset_recovers(rt: HostRuntime) -> Result<(), Fail> {
-    run(&rt, rt.alloc(), USUAL, RECOVERY)
+fn a_reset_recovers(rt: HostRuntime) {
+    run(&rt, rt.alloc(), USUAL, RECOVERY);
 }
 
 /// Three Reads, of which one is reaped, one submitted and one drafted, and a reset.
@@ -37,6 +36,6 @@ const PHASES: &[Part] = &[
 ];
 
 #[test]
-fn a_reset_loses_what_was_submitted(rt: HostRuntime) -> Result<(), Fail> {
-    run(&rt, rt.alloc(), USUAL, PHASES)
+fn a_reset_loses_what_was_submitted(rt: HostRuntime) {
+    run(&rt, rt.alloc(), USUAL, PHASES);
 }

@@ -1,15 +1,13 @@
 //! Each worked script through a book prints what it does on a bench.
 
 use crate::part::{Part, run};
-use std::test::Fail;
 
 #[test]
-fn each_script_prints_the_same_through_a_book(rt: HostRuntime) -> Result<(), Fail> {
+fn each_script_prints_the_same_through_a_book(rt: HostRuntime) {
     for scripts in worked_scripts::ALL {
         for worked in scripts {
             let parts = [Part::Sit, Part::Plays(*worked)];
-            run(&rt, rt.alloc(), worked.config, &parts)?;
+            run(&rt, rt.alloc(), worked.config, &parts);
         }
     }
-    Ok(())
 }
