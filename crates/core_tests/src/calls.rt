@@ -3,7 +3,7 @@
 use crate::expecting::same;
 use crate::steps::{BLOCK, USUAL, completion};
 use block_image::Image;
-use io_commands::{Draft, Kind, Piece, Pieces, Request};
+use io_commands::{Draft, Kind, Pieces, Request};
 use page_ledger::Counts;
 use std::alloc::{AllocError, Global};
 use std::process::Abort;

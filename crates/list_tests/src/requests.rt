@@ -7,7 +7,7 @@ use crate::expecting::{same, same_at};
 use io_commands::*;
 use page_memory::PageNo;
 use sgl_chain::pages_needed;
-use std::alloc::{AllocError, Global};
+use std::alloc::Global;
 use std::process::Abort;
 use std::test::Fail;
 
