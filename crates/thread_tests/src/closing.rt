@@ -65,8 +65,8 @@ collect 1 0 => status 0:00",
 ];
 
 #[test]
-fn a_seat_with_a_submission_is_missed(rt: HostRuntime) -> Result<(), Fail> {
-    run(&rt, rt.alloc(), USUAL, KEPT_BACK, Some(19))
+fn a_seat_with_a_submission_is_missed(rt: HostRuntime) {
+    run(&rt, rt.alloc(), USUAL, KEPT_BACK, Some(19));
 }
 
 /// A seat that submitted nothing is kept back, and then handed in.
@@ -78,8 +78,8 @@ const KEPT_BACK_IDLE: &[Part] = &[
 ];
 
 #[test]
-fn an_idle_seat_is_out(rt: HostRuntime) -> Result<(), Fail> {
-    run(&rt, rt.alloc(), USUAL, KEPT_BACK_IDLE, Some(0))
+fn an_idle_seat_is_out(rt: HostRuntime) {
+    run(&rt, rt.alloc(), USUAL, KEPT_BACK_IDLE, Some(0));
 }
 
 /// Whose some pages are: one of a queue, a free one, and one that is not there.

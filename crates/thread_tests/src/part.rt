@@ -14,7 +14,6 @@ use std::marker::Brand;
 use std::process::Abort;
 use std::sync::Wait;
 use std::sync::ledger::Blank;
-use std::test::Fail;
 use step_core::Config;
 use worked_scripts::WorkedScript;
 
@@ -44,16 +43,12 @@ pub(crate) enum Part {
 }
 
 /// Does a part of a run.
-fn play_part<L: Driver, R: Abort + Wait>(
-    rt: &R,
-    desk: &mut Desk<L>,
-    part: Part,
-) -> Result<(), Fail> {
+fn play_part<L: Driver, R: Abort + Wait>(rt: &R, desk: &mut Desk<L>, part: Part) {
     match part {
         Part::Sit => sit(rt, desk),
         Part::Turn => desk.seats.reverse(),
-        Part::Steps(text) => play_steps(rt, desk, text)?,
-        Part::Plays(worked) => play_worked(rt, desk, worked)?,
+        Part::Steps(text) => play_steps(rt, desk, text),
+        Part::Plays(worked) => play_worked(rt, desk, worked),
         Part::HasPage(page) => has_page(rt, &desk.values, page),
         Part::HasReceipts(told) => has_receipts(rt, &desk.seats, told),
         Part::HasPages(free, queue, data) => {
@@ -63,7 +58,6 @@ fn play_part<L: Driver, R: Abort + Wait>(
         Part::StayOpen(why) => stay_open(rt, desk, why),
         Part::KeepBack(why) => keep_back(rt, desk, why),
     }
-    Ok(())
 }
 
 /// Does the parts of a run at a new desk, and ends its book, whose log has so many entries where that is told.
@@ -75,7 +69,7 @@ fn play_anew<L: Driver, R: Abort + Wait>(
     blank: Blank,
     run: &[Part],
     entries: Option<usize>,
-) -> Result<(), Fail>
+)
     requires name { blank.name ≡ L.name }
     requires parts { blank.parts ≡ L.parts }
     requires number { blank.parts ≡ 65536 }
@@ -83,11 +77,10 @@ fn play_anew<L: Driver, R: Abort + Wait>(
 {
     let mut desk: Desk<L> = opened(rt, alloc, config, image, blank);
     for part in run {
-        play_part(rt, &mut desk, *part)?;
+        play_part(rt, &mut desk, *part);
     }
     let ended = end(desk);
     see(rt, &ended, &entries.unwrap_or(ended));
-    Ok(())
 }
 
 /// Does the parts of a run at a new desk over an image of 64 zero blocks, and ends its book, whose log has so many entries where that is
@@ -98,8 +91,8 @@ pub(crate) fn run<R: Abort + Wait>(
     config: Config,
     parts: &[Part],
     entries: Option<usize>,
-) -> Result<(), Fail> {
-    let image = Image::zeroed(alloc, 64)?;
+) {
+    let image = Image::zeroed(alloc, 64).expect(rt, "an image");
     let blank = Blank::new(65536);
-    play_anew::<Brand, R>(rt, alloc, config, image, blank, parts, entries)
+    play_anew::<Brand, R>(rt, alloc, config, image, blank, parts, entries);
 }
