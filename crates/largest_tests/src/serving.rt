@@ -5,7 +5,7 @@ ghost use Rattle.std.specs.Prelude.{◌≤◌};
 use crate::expecting::same;
 use block_image::Image;
 use entry_codec::{Status, SubEntry};
-use io_commands::{Draft, DraftParts, Finished, Job, Request, begin_job, finish_job};
+use io_commands::{Draft, Finished, Job, Request, begin_job, finish_job};
 use page_memory::{Page, PageNo, Store, TouchRecord};
 use sgl_chain::pages_needed;
 use std::alloc::{AllocError, Global};
