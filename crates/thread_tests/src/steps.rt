@@ -37,7 +37,7 @@ fn see_reply<R: Abort>(rt: &R, alloc: Global, verb: Verb, reply: &Reply, wanted:
     assert!(rt; append_reply(&mut text, 1, verb, reply).is_ok());
     let name = verb.name();
     let wanted = format!(in alloc; "1 {name} {wanted}\n").expect(rt, "its text");
-    assert!(rt; text == wanted, "{text}");
+    assert!(rt; text == wanted, "{text}in place of {wanted}");
 }
 
 /// Does the step of a line, and sees that it answers so.
