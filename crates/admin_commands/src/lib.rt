@@ -132,8 +132,9 @@ pub enum AdminVerdict {
 
 /// The entry that the driver sends for an admin command, under an identifier of queue 0.
 ///
-/// What no table names is zero (own): NSID, PSDT, FUSE, MPTR, CDW12 to CDW15, and DPTR and CDW11 but for a creation's base address,
-/// its bit "physically contiguous" and its completion queue. A ring of 0 entries, which is none, is written as one of 1.
+/// What the profile names nothing for is zero (own): NSID, PSDT, FUSE, MPTR, CDW12 to CDW15, bits 31:16 of a deletion's CDW10, and DPTR and
+/// CDW11 but for a creation's base address, its bit "physically contiguous" and its completion queue. A ring of 0 entries, which is none,
+/// is written as one of 1.
 pub fn entry(kind: AdminKind, cid: u16) -> SubEntry
     ensures entry { result ≡ admin_entry kind cid }
     ensures fits { FitsSubmission result }

@@ -23,7 +23,7 @@ pub(crate) fn all_below<A: Allocator>(alloc: A, bound: u32) -> Result<Vec<u64, A
     Ok(words)
 }
 
-/// Puts all numbers below a bound into a set that has no others, or takes all out.
+/// Makes a set the one of all numbers below a bound, or the empty one, whatever it was.
 pub(crate) fn fill_below(words: &mut [u64], bound: u32, inside: bool)
     requires { length words.old ≡ (bound + 63) / 64 }
     ensures size { length words.new ≡ length words.old }

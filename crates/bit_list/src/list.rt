@@ -32,7 +32,7 @@ impl<A: Allocator + Clone> BitList<A> {
     ///
     /// # Errors
     ///
-    /// `AllocError` where memory for the words or for their summary is refused.
+    /// Where memory is refused.
     pub fn open(alloc: A, len: u32) -> Result<Self, AllocError>
         requires { len ≤ 65536 }
         ensures { IfOk result (λ list. list ≡ replicate len true) }

@@ -42,7 +42,7 @@ pub struct BadLength<A: Allocator = Global> {
 /// The blocks of the namespace, 1 to [`MAX_BLOCKS`] of [`BLOCK_SIZE`] bytes each.
 ///
 /// A range of blocks is named by its first, the Starting LBA or SLBA of a Compare, Read or Write (NVM Command Set
-/// Specification 1.0, sections 3.2.1, 3.2.4 and 3.2.6). The buffer that goes with it says how many blocks it has.
+/// Specification 1.0, sections 3.2.1, 3.2.4 and 3.2.6). How many blocks it has is said by a count, or by the buffer that goes with it.
 #[derive(Debug, Drop)]
 pub struct Image<A: Allocator = Global> {
     bytes: Vec<u8, A>,
@@ -136,7 +136,7 @@ impl<A: Allocator> Image<A> {
     }
 }
 
-/// The laws of the definitions: blocks that were put are read back, and all else stays.
+/// The laws of the definitions: n blocks are 512 n bytes, blocks that were put are read back, and all else stays.
 pub fn laws_of_blocks()
     ensures whole { BlocksAreWhole }
     ensures read_back { PutIsRead }
@@ -144,7 +144,7 @@ pub fn laws_of_blocks()
     ensures length { PutKeepsLength }
 {}
 
-/// Runs of the definitions over an image of two blocks, one of bytes 11h and one of bytes 22h.
+/// Runs of the definitions over an image of two blocks, one of bytes 11h and one of bytes 22h, and over the first of them alone.
 pub fn worked_blocks()
     ensures count { block_count (replicate 512 0x11 ++ replicate 512 0x22) ≡ 2 }
     ensures first { blocks_at (replicate 512 0x11 ++ replicate 512 0x22) 0 1 ≡ replicate 512 0x11 }

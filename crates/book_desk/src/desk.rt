@@ -13,7 +13,7 @@ use step_core::{Reply, ReplyIn, Step, StepIn};
 /// A book with seats, and the commands that are about. The last seat acts: it submits and releases.
 #[derive(Drop)]
 pub struct Desk<L: Driver, A: Allocator = Global> {
-    /// Where the lists of the seats and of the commands stand.
+    /// Where the lists of the seats and of the commands stand, and the bytes of a fill.
     pub alloc: Global,
     /// Where all else stands.
     pub heap: A,
@@ -21,7 +21,7 @@ pub struct Desk<L: Driver, A: Allocator = Global> {
     pub book: Book<L, A>,
     /// The seats in the order in which they were made, but for turns.
     pub seats: Vec<Seat<L, A>>,
-    /// The commands, the one that came about last behind the others.
+    /// The commands, the one that was put last behind the others.
     pub values: Vec<Value<A>>,
 }
 

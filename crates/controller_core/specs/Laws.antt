@@ -1,5 +1,5 @@
--- Nothing of what a call leaves, answers and touches is open: it hangs on the controller, the memory and the pages touched before alone. How a walk keeps its place is
--- its own matter.
+-- Nothing of what a call leaves, answers and touches is open: it hangs on the controller, the memory, the size of the pool
+-- and the pages touched before alone, want of memory left aside. How a walk keeps its place is its own matter.
 use Rattle.std.specs.Prelude.{◌≡◌, ℕ, None, List, map}
 use Rattle.controller_walk.specs.declared.walk.WalkState.{WalkState}
 use Rattle.page_memory.specs.Memory.{Memory}

@@ -54,7 +54,8 @@ impl<A: Allocator> Work<Job<A>> {
     }
 }
 
-/// Does what a command does at its end: a Write puts its bytes over its blocks, and a deletion leaves nothing of its queue.
+/// Does what a command does at its end: a Write that ended well puts its bytes over its blocks, and a successful deletion of a submission
+/// queue leaves nothing of that queue's submission side.
 fn settle<A: Allocator>(
     queues: &mut Vec<ControllerQueue, A>,
     image: &mut Image<A>,
@@ -102,13 +103,13 @@ impl<A: Allocator> Controller<A> {
     }
 
     /// Posts the completion of a fetched command, and forgets the command. A Write that ends well changes the image here, and a
-    /// deletion of a submission queue leaves nothing of it (NVM Express Base Specification 2.0, "Common Completion Queue Entry",
+    /// successful deletion of a submission queue leaves nothing of it (NVM Express Base Specification 2.0, "Common Completion Queue Entry",
     /// section 3.3.3.2). The list of the touched pages has two pages at most before, and gets that of the slot.
     ///
     /// # Errors
     ///
     /// 1. `NoJob`: there is no such command. 2. `Walking`: its list isn't walked to the end. 3. `Waits`: an Abort waits for the
-    /// command that it stopped, a deletion for the commands of its queue. 4. `Full`: the completion ring is full. 5. `SlotOut`: a
+    /// command that it stopped, a successful deletion of a submission queue for the queue's commands. 4. `Full`: the completion ring is full. 5. `SlotOut`: a
     /// byte of the slot is missing. Then nothing changed, and no page was touched.
     pub fn complete<D: Dma>(&mut self, q: u16, cid: u16, dma: &mut D) -> Result<(), Refusal>
         requires room { length (D.reached dma.old) ≤ 2 }

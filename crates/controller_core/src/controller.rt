@@ -153,7 +153,7 @@ impl<A: Allocator> Controller<A> {
         self.commands.first()
     }
 
-    /// The queue and the identifier of the command that was fetched next after the one of this name.
+    /// The queue and the identifier of the command that was fetched next after the one of this name, of those that are not completed.
     pub fn next_command(&self, q: u16, cid: u16) -> Option<(u16, u16)>
         ensures { (n : ℕ) → name_at self.now.commands n ≡ Some (q, cid) → result ≡ name_at self.now.commands (n + 1) }
     {

@@ -1,12 +1,13 @@
 //! The controller alone: the device's side of its queues, the commands that it fetched, and the image of its namespace.
 //!
-//! A [`Controller`] is a library for an emulator: each call is lent the memory, as [`page_memory::Dma`], which is the guest's.
-//! Nothing of a host is known here. What crosses is memory, and the values that are written to the two doorbells of a queue
+//! A [`Controller`] is a library for an emulator: a call that reaches memory is lent it, as [`page_memory::Dma`], which is the guest's.
+//! Nothing of a host is known here. What crosses is memory, the values that are written to the two doorbells of a queue, and a reset
 //! (NVM Express Base Specification 2.0, "Memory-based transport queue model", section 3.3.1).
 //!
 //! The contract of each call holds for every memory, whatever stands there: for what it is refused, what it answers, which pages it
 //! touches, and what it leaves of the controller and of the memory. A call appends the pages that it touches to the touched list, behind
 //! those that stand there, and asks for room: who wants to see what one call touched clears the list before it.
+//! [`Controller::next_step`] alone empties it, and leaves it empty.
 #![tactic(auto)]
 
 mod answer;

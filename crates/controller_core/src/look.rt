@@ -1,4 +1,4 @@
-//! What the controller can do: a look that changes nothing, for an emulator that asks before it calls.
+//! What the controller can do: a look that changes nothing but the touched list, for an emulator that asks before it calls.
 
 ghost use Rattle.std.specs.Prelude.{◌≡◌, ◌<◌, ◌≤◌, ℕ, [], false, is_none, None, IfSome, IfNone, length};
 ghost use Rattle.controller_core.specs.Answering.{answer_refusal, post_refusal};
@@ -122,7 +122,7 @@ impl<A: Allocator + Copy> Controller<A> {
         }
     }
 
-    /// What can be done of the first command that does not wait.
+    /// What can be done of the first command of which anything can be done.
     fn next_of_commands<D: TouchRecord>(&self, dma: &mut D) -> Option<ControllerStep>
         ensures some { IfSome result (λ step. refusal_by self.now (D.memory dma.old) step ≡ None) }
         ensures none { IfNone result ((q cid : ℕ) → IsStuck self.now (D.memory dma.old) q cid) }

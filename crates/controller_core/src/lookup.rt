@@ -14,7 +14,7 @@ use entry_codec::{Status, SubEntry};
 use io_commands::Job;
 use std::alloc::Allocator;
 
-/// Whether a command waits for the Abort of this identifier.
+/// Whether the Abort of this identifier waits for a command, by what waits for that command.
 fn is_abort(waiting: Option<u16>, cid: u16) -> bool
     ensures { result ≡ is_abort_of cid waiting }
 {
@@ -54,7 +54,8 @@ impl<A: Allocator> Commands<A> {
         }
     }
 
-    /// Whether a command waits: an Abort for the command that it stopped, and a successful deletion for the commands of its queue.
+    /// Whether a command waits: an Abort for the command that it stopped, and a successful deletion of a submission queue for
+    /// the queue's commands.
     pub(crate) fn is_waiting(&self, command: &FetchedCommand<Job<A>>) -> bool
         requires there { find (is_command command.now.q (entry_of_work command.now.work).cid) self.now.list ≡ Some command.now }
         requires awaited { AreAwaited self.now.list }

@@ -95,7 +95,7 @@ fn drop_completion<A: Allocator>(queues: &mut Vec<ControllerQueue, A>, q: u16)
     }
 }
 
-/// Makes the completion side of a queue, where there is such a queue: its ring begins at an address, and is empty.
+/// Makes the completion side of a queue, where there is such a queue: its ring begins at an address, and both rings are empty.
 fn make_completion<A: Allocator>(queues: &mut Vec<ControllerQueue, A>, q: u16, base: u64)
     requires { base < 4096 * 2 ^ 32 }
     ensures { queues.new.items ≡ change q (with_completion base) queues.old.items }
@@ -105,7 +105,7 @@ fn make_completion<A: Allocator>(queues: &mut Vec<ControllerQueue, A>, q: u16, b
     }
 }
 
-/// Makes the submission side of a queue, where there is such a queue: its ring begins at an address, and is empty.
+/// Makes the submission side of a queue, where there is such a queue: its ring begins at an address, and both rings are empty.
 fn make_submission<A: Allocator>(queues: &mut Vec<ControllerQueue, A>, q: u16, base: u64)
     requires { base < 4096 * 2 ^ 32 }
     ensures { queues.new.items ≡ change q (with_submission base) queues.old.items }

@@ -57,7 +57,7 @@ impl ControllerQueue {
         }
     }
 
-    /// Makes the completion side anew: its ring begins at an address, and is empty.
+    /// Makes the completion side anew: its ring begins at an address, and both rings are empty.
     pub(crate) fn renew_completion(&mut self, base: u64)
         requires { base < 4096 * 2 ^ 32 }
         ensures { self.new ≡ with_completion base self.old }
@@ -67,7 +67,7 @@ impl ControllerQueue {
         self.cq_there = true;
     }
 
-    /// Makes the submission side anew: its ring begins at an address, and is empty.
+    /// Makes the submission side anew: its ring begins at an address, and both rings are empty.
     pub(crate) fn renew_submission(&mut self, base: u64)
         requires { base < 4096 * 2 ^ 32 }
         ensures { self.new ≡ with_submission base self.old }

@@ -55,8 +55,8 @@ impl<A: Allocator> Commands<A> {
 
 impl<A: Allocator> Controller<A> {
     /// Does the next unit of the list of a fetched command: takes a descriptor, or moves the bytes of one page. With the last unit it
-    /// answers `End` or a fault, which is then the command's verdict (NVM Express Base Specification 2.0, "SGL", section 4.1.2). The list of
-    /// the touched pages has two pages at most before, and gets those of the unit.
+    /// answers `End` or a fault, which is then the command's verdict (NVM Express Base Specification 2.0, "Scatter Gather List
+    /// (SGL)", section 4.1.2). The list of the touched pages has two pages at most before, and gets those of the unit.
     ///
     /// # Errors
     ///

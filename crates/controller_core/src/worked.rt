@@ -61,7 +61,8 @@ pub fn worked_creations()
     ensures ends { with_queue_made.commands ≡ command_of 0 (Admin create_cq SUCCESS 0) ∷ command_of 0 (Admin create_sq SUCCESS 0) ∷ [] }
 {}
 
-/// A completion queue that would begin inside a page, and one that would begin where the pool ends: invalid field, and nothing is made.
+/// A completion queue that would begin inside a page, and one that would begin where the pool ends: invalid field; of the first
+/// it is said that nothing is made.
 pub fn worked_refused_creations()
     ensures inside { (managed 8 (admin_entry (CreateCq 1 4 0x6010) 0) without_queue).commands ≡ command_of 0 (Admin (admin_entry (CreateCq 1 4 0x6010) 0) INVALID_FIELD 0) ∷ [] }
     ensures behind { (managed 8 (admin_entry (CreateCq 1 4 0x8000) 0) without_queue).commands ≡ command_of 0 (Admin (admin_entry (CreateCq 1 4 0x8000) 0) INVALID_FIELD 0) ∷ [] }

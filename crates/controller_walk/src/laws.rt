@@ -27,13 +27,14 @@ pub fn walks_hang_on_what_they_reach()
     ensures { (m other : Memory) → SameWhereServed m other }
 {}
 
-/// A walk that begins stands at the first unit of its list, and stays there while nobody writes the list's descriptors.
+/// A walk that begins stands at the first unit of its list, and stays there while nobody writes the list's descriptors or changes
+/// which bytes are missing.
 pub fn walks_begin_at_the_first_unit()
     ensures { (at : ℕ → Bool) (m : Memory) (sgl1 : List ℕ) (dir : Direction) (need : ℕ) (w : Walk) → StandsAtFirst at m sgl1 dir need w }
 {}
 
 /// A walk's step number t, counted from 0, does unit number t of its list and answers `More`, or, as it does the last, the
-/// list's verdict. This holds while nobody else writes the list's descriptors or makes a byte missing, and the
+/// list's verdict. This holds while nobody else writes the list's descriptors or changes which bytes are missing, and the
 /// list itself moves no byte onto them.
 pub fn steps_do_units()
     ensures { (at : ℕ → Bool) (m : Memory) (c : Course) (t : ℕ) (w next : Walk) (answer : WalkState) → StepDoesUnit at m c t w next answer }

@@ -16,8 +16,8 @@ pub fn worked_pages()
 {}
 
 /// Lists of the entry's one descriptor, for 512 bytes. A block of 511 is moved, and the list ends too early; of one of
-/// 513 the wanted front is moved. One that ends above 2^64 is refused, also where its wanted front ends below. So is a type
-/// above 3 and a subtype that isn't 0.
+/// 513 the wanted front is moved. One that ends above 2^64 is refused, also where only a front of 256 bytes is wanted, which ends
+/// at 2^64. So is a type above 3 and a subtype that isn't 0.
 #[tactic(auto, unfolding(crate::specs::Units::moving, sgl_descriptor::specs::Spelling::descriptor_of, page_memory::specs::Memory::bytes_at))]
 pub fn worked_entries()
     ensures short { units_of_list eight_pages (spelling (DataBlock 0x2000 511)) Destination 512 ≡ Stays ∷ Moves 0x2000 511 0 ∷ [] }
@@ -26,7 +26,7 @@ pub fn worked_entries()
     ensures long_verdict { verdict_of_list eight_pages (spelling (DataBlock 0x2000 513)) Destination 512 ≡ End }
     ensures past_end { units_of_list eight_pages (spelling (DataBlock 0xFFFFFFFFFFFFFF00 512)) Source 512 ≡ Stays ∷ [] }
     ensures past_end_verdict { verdict_of_list eight_pages (spelling (DataBlock 0xFFFFFFFFFFFFFF00 512)) Source 512 ≡ Fault (record { sct = 0; sc = 0x0F }) }
-    ensures front_below_end { verdict_of_list eight_pages (spelling (DataBlock 0xFFFFFFFFFFFFFF00 512)) Source 256 ≡ Fault (record { sct = 0; sc = 0x0F }) }
+    ensures front_at_end { verdict_of_list eight_pages (spelling (DataBlock 0xFFFFFFFFFFFFFF00 512)) Source 256 ≡ Fault (record { sct = 0; sc = 0x0F }) }
     ensures type_four { verdict_of_list eight_pages (0 ∷ 0x20 ∷ 0 ∷ 0 ∷ 0 ∷ 0 ∷ 0 ∷ 0 ∷ 0 ∷ 2 ∷ 0 ∷ 0 ∷ 0 ∷ 0 ∷ 0 ∷ 0x40 ∷ []) Destination 512
         ≡ Fault (record { sct = 0; sc = 0x11 }) }
     ensures subtype_one { verdict_of_list eight_pages (0 ∷ 0x20 ∷ 0 ∷ 0 ∷ 0 ∷ 0 ∷ 0 ∷ 0 ∷ 0 ∷ 2 ∷ 0 ∷ 0 ∷ 0 ∷ 0 ∷ 0 ∷ 0x01 ∷ []) Destination 512
@@ -66,8 +66,8 @@ pub fn worked_buckets()
         ≡ Fault (record { sct = 0; sc = 0x0F }) }
 {}
 
-/// Lists that are longer than the data: the descriptor behind the wanted bytes is not read, be it a block, a bucket or a link that
-/// would be a fault, and a block that crosses the end of the wanted bytes is moved as far as they go.
+/// Lists that are longer than the data: the descriptor behind the wanted bytes is not read, be it a block, behind a block or a bucket, or a
+/// link that would be a fault, and a block that crosses the end of the wanted bytes is moved as far as they go.
 #[tactic(auto, unfolding(crate::specs::Units::moving, crate::specs::Units::from_place, sgl_descriptor::specs::Spelling::descriptor_of, page_memory::specs::Memory::bytes_at))]
 pub fn worked_longer_lists()
     ensures block { units_of_list (with_descriptors 0x1000 (DataBlock 0x2F00 512 ∷ DataBlock 0x4000 512 ∷ [])) (spelling (LastSegment 0x1000 32)) Source 512

@@ -1,4 +1,4 @@
--- What the calls of a book do: each makes one step of the world, and writes it down.
+-- What the calls of a book do: each makes one step of the world, and writes it down, but for one that answers `Memory`.
 use Rattle.std.specs.Prelude.{◌≡◌, ℕ, ◌==◌, ◌&&◌, Bool, is_none, Option, Some, None, option_and_then, Result, Ok, Err, List, [], ◌∷◌, ◌++◌, position, slice_set, slice_index_or}
 use Rattle.entry_codec.specs.declared.status.Status.{Status}
 use Rattle.io_commands.specs.Drafts.{DraftContents}

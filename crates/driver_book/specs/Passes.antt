@@ -1,4 +1,5 @@
--- How the first submission is found that stands in no receipt: the log is gone through once for each seat.
+-- How the first submission is found that stands in no receipt: the log is gone through once for the seats' numbers, and
+-- then once for each seat.
 use Rattle.std.specs.Prelude.{◌≡◌, ℕ, ◌<◌, Bool, true, false, Option, Some, List, slice_get}
 use Rattle.std.specs.List.{list_any}
 use Rattle.driver_book.specs.History.{is_accepted}

@@ -1,4 +1,4 @@
-//! The controller's steps, each written down.
+//! The controller's steps, each written down, but for one that answers `Memory`.
 
 ghost use Rattle.std.specs.Prelude.{◌≡◌, ◌⊎◌, [], None};
 ghost use Rattle.machine_model.specs.Events as events;

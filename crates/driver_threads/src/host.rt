@@ -167,7 +167,9 @@ impl<L: Driver, A: Allocator + Copy> Shared<L, A> {
     pub fn create_cq<R: Wait>(&self, rt: &R, q: u16) -> Result<u16, Refusal>
         ensures { Made L.opening None (events.CreateCq q) (send_reply result) }
     {
-        self.lock(rt).create_cq(q)
+        let answer = self.lock(rt).create_cq(q);
+        self.wake();
+        answer
     }
 
     /// [`driver_book::Book::create_sq`].
@@ -178,7 +180,9 @@ impl<L: Driver, A: Allocator + Copy> Shared<L, A> {
     pub fn create_sq<R: Wait>(&self, rt: &R, q: u16) -> Result<u16, Refusal>
         ensures { Made L.opening None (events.CreateSq q) (send_reply result) }
     {
-        self.lock(rt).create_sq(q)
+        let answer = self.lock(rt).create_sq(q);
+        self.wake();
+        answer
     }
 
     /// [`driver_book::Book::retire`].

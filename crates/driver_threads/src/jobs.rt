@@ -45,10 +45,11 @@ pub type JobEndIn<A> = JobEnd<Bytes<A>>;
 /// Why a job was refused.
 #[derive(Clone, Copy, Debug, PartialEq, Eq, Error)]
 pub enum JobRefusal {
-    /// There is no such I/O queue, or its submission half was given back.
+    /// There is no such I/O queue, or it is neither live nor being deleted.
     #[error("there is no such queue")]
     NoQueue,
-    /// The queue takes no more commands: it is being deleted.
+    /// The queue takes no more commands: it is being deleted, or, since the job's draft was reserved, it was deleted or reset, or its ring is
+    /// full.
     #[error("the queue takes no more commands")]
     QueueGone,
     /// The request has a fault.

@@ -1,11 +1,12 @@
 //! A book under a lock, and the threads that work on it.
 //!
 //! [`Shared`] has a [`Book`](driver_book::Book) under one lock. Whoever takes the lock finds a book of the opening: its log tells of a run of the
-//! machine that leads to the world as it is. Each call makes one step of it, or looks at it.
+//! machine that leads to the world as it is. Each call makes one step of it, looks at it, makes a seat, or stops or
+//! closes it.
 //!
 //! [`submitter`]s carry jobs through, one after the other; a [`poller`] takes completions, a [`controller`] serves. Data is filled, lists are
 //! built and bytes are gathered outside the lock. Who waits sleeps on a condition variable and looks at the book as it wakes: a wait makes no
-//! step and writes nothing down, so the log of a run is as long as its jobs make it, whatever the schedule.
+//! step and writes nothing down, so no wait lengthens the log.
 //!
 //! All of it stands in the memory of the allocator with which the book was opened, from which threads take memory side by side: it is
 //! `Send` and `Sync` where threads are started, and [`Global`](std::alloc::Global) where none is named.

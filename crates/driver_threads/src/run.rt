@@ -133,7 +133,7 @@ fn run_workers<
     })
 }
 
-/// The least worker to whom a gate was closed.
+/// The least worker to whom a gate was closed, where none was left out for want of memory.
 fn first_closed<L: Driver, A: Allocator>(workers: &[Worked<L, A>]) -> Option<u16> {
     (0..16u16)
         .zip(workers)
@@ -148,8 +148,8 @@ struct HandedIn<L: Driver, A: Allocator> {
     lists: Vec<Vec<JobEndIn<A>, A>, A>,
 }
 
-/// Takes what the submitters hand in, whose lists of jobs are so long. A job without an end is one before which the workers were told to
-/// stop, as memory was refused to one of them.
+/// Takes what the submitters hand in, whose lists of jobs are so long. A job without an end was cut off or not begun, as
+/// memory was refused to a worker.
 fn handed_in<L: Driver, A: Allocator + Copy>(
     alloc: A,
     work: Work<L, A>,
@@ -236,7 +236,7 @@ fn run_over<
 ///
 /// # Errors
 ///
-/// `Open` names why no book is opened. Every other fault comes only where no number of the configuration is at fault; no clause says which
+/// `Open` names why no book is opened. Every other fault comes only where the configuration is not refused; no clause says which
 /// of them comes: `NoThread` where a thread cannot be made, `GateClosed` where a gate was closed to a worker, `Close` where the book is not
 /// closed, `Memory` where memory is refused to the opening, to the run, to a worker or to the closing. What was moved in is dropped.
 pub fn run_threads<

@@ -11,7 +11,7 @@ use page_memory::PageNo;
 use std::alloc::{Allocator, Global};
 use std::sync::{Condvar, Mutex, MutexGuard, Wait};
 
-/// A book under the driver's lock. Each call makes one step of it, or looks at it, while it has the lock.
+/// A book under the driver's lock. Each call makes one step of it, looks at it, makes a seat, or stops or closes it, while it has the lock.
 ///
 /// Who waits sleeps on a condition variable, looks at the book as it wakes, and makes its step once it would be answered otherwise.
 #[derive(Drop)]
@@ -19,7 +19,7 @@ pub struct Shared<L: Driver, A: Allocator = Global> {
     book: Mutex<Book<L, A>>,
     /// Submitters wait here: for identifiers, for pages, and for the end of their commands.
     pub(crate) freed: Condvar,
-    /// The poller and the controller wait here: for completions, and for entries to fetch.
+    /// The poller and the controller wait here: for completions, and for something that the controller can do.
     pub(crate) work: Condvar,
 }
 

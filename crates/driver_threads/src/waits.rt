@@ -33,8 +33,8 @@ enum Turn {
     Never(Halt),
 }
 
-/// What a request on a queue is answered now. It waits for pages only where those that no queue owns are as many as the fewest that the
-/// request could take.
+/// What a request on a queue is answered now. It waits for pages only where those that no queue owns are at least as many as the
+/// fewest that the request could take.
 fn turn_of<L: Driver, A: Allocator + Copy>(
     book: &Book<L, A>,
     q: u16,

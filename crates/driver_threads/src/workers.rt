@@ -20,7 +20,8 @@ use step_core::{Bytes, Refusal};
 pub struct Worked<L: Ledger, A: Allocator = Global> {
     /// Its seat; none where no more seats were to be had.
     pub seat: Option<Seat<L, A>>,
-    /// How its jobs ended, in their order. It has fewer than there were jobs where the workers were told to stop.
+    /// How its jobs ended, in their order. It has fewer than there were jobs where the workers were told to stop, somebody else collected
+    /// one of its commands, or it got no seat.
     pub ends: Vec<JobEndIn<A>, A>,
     /// Whether a gate was closed to it.
     pub closed: bool,
@@ -203,7 +204,8 @@ fn carry<L: Driver, A: Allocator + Copy, G: Gate, R: Wait>(
 ///
 /// # Errors
 ///
-/// Where the workers are told to stop, or memory is refused. The job and those behind it have no end then.
+/// Where the workers are told to stop, somebody else has collected the job's command, or memory is refused. The job and those behind it
+/// have no end then.
 fn carry_all<L: Driver, A: Allocator + Copy, G: Gate, R: Wait>(
     rt: &R,
     alloc: A,

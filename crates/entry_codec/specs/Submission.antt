@@ -1,5 +1,6 @@
 -- The 64 bytes of a submission queue entry (NVM Express Base Specification 2.0, "Submission Queue Entry", section 3.3.3.1).
--- Numbers are little-endian. Bits 5:2 of byte 1 (bits 13:10 of the first word) and bytes 15:8 are reserved.
+-- Numbers are little-endian. Bits 5:2 of byte 1 (bits 13:10 of the first doubleword), which are reserved, and bytes 15:8
+-- (CDW2 and CDW3) are ignored. "Reserved" below means both.
 use Rattle.std.specs.Prelude.{◌≡◌, ◌<◌, ◌+◌, ◌*◌, ◌/◌, ◌%◌, ◌^◌, ◌++◌, ◌∷◌, [], ℕ, List, drop, replicate, slice_index, slice_range}
 use Rattle.std.specs.Int.{w16, w32, w64, to_le_bytes, from_le_bytes}
 use Rattle.entry_codec.specs.Bytes.{IsBytes}
@@ -32,7 +33,7 @@ submission_head entry =
     ++ to_le_bytes w32 entry.nsid
     ++ replicate 8 0
 
--- bytes 63:40: the command specific words
+-- bytes 63:40: the command specific doublewords
 abbrev pub command_words : SubEntry → List ℕ
 command_words entry =
     to_le_bytes w32 entry.cdw10

@@ -13,8 +13,8 @@ use crate::status::Status;
 
 /// A completion queue entry (NVM Express Base Specification 2.0, "Common Completion Queue Entry", section 3.3.3.2).
 ///
-/// Its 16 bytes are little-endian. The reserved bytes 7:4 and the bits Command Retry Delay, More and Do Not Retry, 15:12
-/// of the last halfword, are no part of the entry: they are written as zero and ignored on reading (own).
+/// Its 16 bytes are little-endian. Bytes 7:4, DW1, and the bits Command Retry Delay, More and Do Not Retry, 15:12 of the
+/// last halfword, are no part of the entry: they are written as zero and ignored on reading (own).
 #[derive(Clone, Copy, Debug, PartialEq, Eq)]
 pub struct ComEntry {
     /// Command specific: bytes 3:0.
@@ -27,14 +27,14 @@ pub struct ComEntry {
     pub cid: u16,
     /// Phase tag: bit 0 of the last halfword.
     pub phase: bool,
-    /// Status: bits 11:1 of the last halfword, so its type is below 8.
+    /// Status: bits 11:1 of the last halfword. Its type is below 8 in what is read, and a writer owes that.
     pub status: Status,
 }
 
 impl ComEntry {
-    /// The entry's bytes, with zeros in what is reserved or ignored. The caller sees to it that the status code type is below
-    /// 8: no value is cut off to fit its bits. The entry's numbers are those of a value of its type, which the laws of this
-    /// module ask for.
+    /// The entry's bytes, with zeros in what is ignored. The caller sees to it that the status code type is below
+    /// 8: no value is cut off to fit its bits. The entry's numbers are those of a value of its type, which [`round_trip`]
+    /// asks for.
     #[tactic(auto, unfolding(crate::specs::Completion::completion_bytes))]
     pub fn write(self) -> [u8; 16]
         requires fits { FitsCompletion self }
@@ -50,7 +50,7 @@ impl ComEntry {
         bytes
     }
 
-    /// The entry that the bytes spell, whatever stands in what is reserved or ignored.
+    /// The entry that the bytes spell, whatever stands in what is ignored.
     #[tactic(auto)]
     pub fn read(bytes: &[u8; 16]) -> ComEntry
         ensures spelled { IsCompletion result bytes.now }

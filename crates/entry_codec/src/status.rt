@@ -105,7 +105,7 @@ pub fn worked_halfwords()
     ensures success_of_other_phase { status_halfword Status.SUCCESS false ≡ 0x0000 }
 {}
 
-/// The texts of some of these codes.
+/// The texts of some of these codes, and of the largest numbers.
 pub fn worked_texts()
     ensures success { status_text Status.SUCCESS ≡ codes "0:00" }
     ensures invalid_sgl_segment { status_text Status.INVALID_SGL_SEGMENT ≡ codes "0:0D" }

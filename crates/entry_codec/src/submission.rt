@@ -9,17 +9,18 @@ ghost use Rattle.entry_codec.specs.declared.submission.SubEntry.{SubEntry};
 
 /// A submission queue entry (NVM Express Base Specification 2.0, "Submission Queue Entry", section 3.3.3.1).
 ///
-/// Its 64 bytes are little-endian. What the standard reserves, bits 13:10 of the first word and bytes 15:8, is no part of
-/// the entry: it is written as zero and ignored on reading (own).
+/// Its 64 bytes are little-endian. Bits 13:10 of the first doubleword, which the standard reserves, and bytes 15:8, CDW2 and
+/// CDW3, are no part of the entry: they are written as zero and ignored on reading (own). Fields of two bits are below 4 in
+/// what is read, and a writer owes that.
 #[derive(Clone, Copy, Debug, PartialEq, Eq)]
 pub struct SubEntry {
-    /// The command's opcode: bits 7:0 of the first word.
+    /// The command's opcode: bits 7:0 of the first doubleword.
     pub opcode: u8,
-    /// Fused operation: bits 9:8 of the first word, so below 4.
+    /// Fused operation: bits 9:8 of the first doubleword.
     pub fuse: u8,
-    /// PRP or SGL for data transfer: bits 15:14 of the first word, so below 4.
+    /// PRP or SGL for data transfer: bits 15:14 of the first doubleword.
     pub psdt: u8,
-    /// Command identifier: bits 31:16 of the first word.
+    /// Command identifier: bits 31:16 of the first doubleword.
     pub cid: u16,
     /// Namespace identifier: bytes 7:4.
     pub nsid: u32,
@@ -42,8 +43,8 @@ pub struct SubEntry {
 }
 
 impl SubEntry {
-    /// The entry's bytes, with zeros in what is reserved. The caller sees to it that FUSE and PSDT are below 4: no value is
-    /// cut off to fit its bits. The entry's numbers are those of a value of its type, which the laws of this module ask for.
+    /// The entry's bytes, with zeros in what is ignored. The caller sees to it that FUSE and PSDT are below 4: no value is
+    /// cut off to fit its bits. The entry's numbers are those of a value of its type, which [`round_trip`] asks for.
     #[tactic(auto, unfolding(crate::specs::Submission::submission_bytes))]
     pub fn write(self) -> [u8; 64]
         requires fits { FitsSubmission self }
@@ -58,7 +59,7 @@ impl SubEntry {
         bytes
     }
 
-    /// The entry that the bytes spell, whatever stands in what is reserved.
+    /// The entry that the bytes spell, whatever stands in what is ignored.
     #[tactic(auto)]
     pub fn read(bytes: &[u8; 64]) -> SubEntry
         ensures spelled { IsSubmission result bytes.now }
@@ -82,7 +83,7 @@ impl SubEntry {
         }
     }
 
-    /// Bytes 15:0: the first word, the namespace and zeros.
+    /// Bytes 15:0: the first doubleword, the namespace and zeros.
     #[tactic(auto)]
     fn head(self) -> [u8; 16]
         requires fits { FitsSubmission self }
@@ -104,7 +105,7 @@ impl SubEntry {
         self.psdt << 6 | self.fuse
     }
 
-    /// Bytes 63:40: the command specific words.
+    /// Bytes 63:40: the command specific doublewords.
     #[tactic(auto)]
     fn command_words(self) -> [u8; 24]
         ensures { result ≡ command_words self }

@@ -96,7 +96,7 @@ state_at queues q = option_map (λ queue. queue.state) (slice_get queues q)
 abbrev pub passes : (HostState → Bool) → Option HostState → Bool
 passes test state = option_map_or test state false
 
--- whether a queue of this number, in this state, takes no I/O commands
+-- whether no I/O queue of this number, in this state, is in service
 abbrev pub takes_no_io : ℕ → Option HostState → Bool
 takes_no_io q state = (q == 0) || not (passes in_service state)
 

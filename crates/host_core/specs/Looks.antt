@@ -1,4 +1,4 @@
--- What looks at a host tell: what would be answered, want of memory left aside.
+-- What looks at a host tell: what would be answered, want of memory left aside, and where a completion ring begins.
 use Rattle.std.specs.Prelude.{ℕ, ◌*◌, Bool, ◌&&◌, is_none, is_some, Option, Some, None, option_and_then, option_map, slice_get, if◌then◌else◌}
 use Rattle.machine_model.specs.Events as events
 use Rattle.machine_model.specs.Refusals.{refusal_of, seen_entry, is_reaped}

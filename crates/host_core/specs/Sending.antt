@@ -144,6 +144,6 @@ pub record CanCreate (t : Tables) (half : Half) (q cid first : ℕ) : Type 0 whe
   pub slot : HasSlot t cid
   pub run : run_for (state_of t) half ≡ Some first
 
--- whether no queue of this number, in this state, has a completion half that can be deleted
+-- whether no I/O queue of this number, in this state, has a completion half
 abbrev pub lacks_queue : ℕ → Option HostState → Bool
 lacks_queue q state = (q == 0) || not (passes has_cq state)

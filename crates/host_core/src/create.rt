@@ -231,8 +231,8 @@ impl<A: Allocator + Copy> Host<A> {
         self.create(store, q, Half::Completion)
     }
 
-    /// Makes the submission queue of a queue that has its completion queue alone (NVM Express Base Specification 2.0, "Create I/O
-    /// Submission Queue command", section 5.5): its half is granted, in and zero, and the command that creates it stands behind the tail
+    /// Makes the submission queue of a queue that is half made (NVM Express Base Specification 2.0, "Create I/O Submission Queue
+    /// command", section 5.5): its half is granted, in and zero, and the command that creates it stands behind the tail
     /// of queue 0 under the identifier that is answered, the lowest that is free.
     ///
     /// # Errors

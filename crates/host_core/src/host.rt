@@ -1,4 +1,4 @@
-//! The host: one call is one step of the machine with no controller.
+//! The host: each event but a reset is one step of the machine with no controller.
 
 use crate::parts::Parts;
 use std::alloc::{Allocator, Global};

@@ -1,4 +1,4 @@
-//! What would be answered: looks that change nothing, for those who wait until the answer is another.
+//! What would be answered, and what the host knows: looks that change neither the host nor a page.
 
 ghost use Rattle.std.specs.Prelude.{◌≡◌, ℕ, true, false, Some, IfOk, IfSome, IfNone, [], is_some, length, option_and_then, option_map, slice_get};
 ghost use Rattle.std.specs.Result.{result_err};
@@ -92,7 +92,7 @@ impl<A: Allocator> Host<A> {
         self.parts.entries
     }
 
-    /// The address at which a queue's completion ring begins, as long as the host has it.
+    /// The address at which a queue's completion ring begins, as long as its completions are reaped.
     pub fn completion_base(&self, q: u16) -> Option<u64>
         ensures base { result ≡ spec_completion_base self.now q }
         ensures there { is_some result ≡ in_state is_reaped (alone self.now []) q }
@@ -110,7 +110,7 @@ impl<A: Allocator> Host<A> {
         host_state(&self.parts.queues, q)
     }
 
-    /// Whether [`Host::reap`] would take a completion from the queue. Nothing changes.
+    /// Whether [`Host::reap`] would take a completion from the queue. No page changes.
     pub fn completion_waits(&self, store: &mut Store<A>, q: u16) -> bool
         requires { IsOver self.now store.old.pages }
         ensures answer { result ≡ spec_completion_waits (alone self.now store.old.pages) q }

@@ -23,7 +23,7 @@ pub(crate) fn host_state<A: Allocator>(queues: &[Queue<HostPair<A>>], q: u16) ->
     }
 }
 
-/// Whether a queue of this number, in this state, takes no I/O commands.
+/// Whether no I/O queue of this number, in this state, is in service.
 pub(crate) fn takes_no_io(q: u16, state: Option<HostState>) -> bool
     ensures { result ≡ spec_takes_no_io q state }
 {
@@ -46,7 +46,7 @@ pub(crate) fn is_deleting(state: Option<HostState>) -> bool
     }
 }
 
-/// Whether the host waits for the end of a deletion or a creation of a queue in this state.
+/// Whether a queue in this state is being deleted, or a half of it is being made.
 pub(crate) fn is_changing(state: Option<HostState>) -> bool
     ensures { result ≡ passes spec_is_changing state }
 {
@@ -56,7 +56,7 @@ pub(crate) fn is_changing(state: Option<HostState>) -> bool
     }
 }
 
-/// Whether the deletion of a queue's submission side was reaped with success, and the queue was not retired since.
+/// Whether the deletion of a queue's submission side was reaped with success, and the queue was neither retired nor reset since.
 pub(crate) fn is_deleted(state: Option<HostState>) -> bool
     ensures { result ≡ passes spec_is_deleted state }
 {
@@ -79,7 +79,7 @@ pub(crate) fn is_live<A: Allocator>(queues: &[Queue<HostPair<A>>], q: u16) -> bo
     }
 }
 
-/// Whether a queue in this state has its completion half alone, and waits for nothing.
+/// Whether a queue in this state has its completion half alone, and no half of it is being made.
 pub(crate) fn has_cq_alone(state: Option<HostState>) -> bool
     ensures { result ≡ passes spec_has_cq_alone state }
 {

@@ -1,4 +1,4 @@
-//! How calls answer that they were refused.
+//! How a call answers that it was refused, where a value was handed in.
 
 use machine_model::words::Refusal;
 

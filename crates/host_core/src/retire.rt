@@ -21,7 +21,7 @@ use queue_pair::half_pages;
 use std::alloc::Allocator;
 
 impl<A: Allocator> Parts<A> {
-    /// The completion at the head of a queue, where it is new. Nothing changes.
+    /// The completion at the head of a queue, where it is new. No page changes.
     pub(crate) fn see(&self, store: &mut Store<A>, q: u16) -> Option<ComEntry>
         requires whole { IsWhole (tables_of self.now store.old.pages) }
         requires there { lacks_completion (slice_get self.now.queues.items q) ≡ false }
@@ -69,15 +69,15 @@ impl<A: Allocator> Parts<A> {
 }
 
 impl<A: Allocator> Host<A> {
-    /// Gives the submission half of a deleted queue back, and ends its commands that no completion ended.
+    /// Gives the submission half of a deleted queue back, and ends its submitted commands.
     ///
     /// Each of those is held with the status "Command Aborted due to SQ Deletion", as if its completion had been reaped; its pages
     /// stay its own until it is collected and released. The pages of the submission half are free, and the queue is retired.
     ///
     /// # Errors
     ///
-    /// 1. `NotDeleted` where there is no such queue, or the success of its deletion was not reaped, or it was retired before.
-    /// 2. `NotDrained` where a new completion stands at the head of its completion ring. Then nothing changed.
+    /// Neither the host nor a page changed. 1. `NotDeleted` where there is no such queue, or the success of its deletion was not reaped, or
+    /// the queue was retired or the host reset since. 2. `NotDrained` where a new completion stands at the head of its completion ring.
     pub fn retire(&mut self, store: &mut Store<A>, q: u16) -> Result<(), Refusal>
         requires { IsOver self.old store.old.pages }
         ensures step { HostStep self.old store.old.pages (events.Retire q) (ring_reply result) self.new store.new.pages }

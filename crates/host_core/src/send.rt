@@ -30,7 +30,7 @@ use machine_model::words::{HostState, Phase, Refusal, Work};
 use page_memory::Store;
 use std::alloc::Allocator;
 
-/// Whether no queue of a number, in this state, has a completion half that can be deleted.
+/// Whether no I/O queue of a number, in this state, has a completion half.
 fn lacks_queue(q: u16, state: Option<HostState>) -> bool
     ensures { result ≡ spec_lacks_queue q state }
 {
@@ -261,7 +261,7 @@ impl<A: Allocator + Copy> Host<A> {
     ///
     /// # Errors
     ///
-    /// Nothing changed. 1. `NoQueue` for queue 0, an unknown queue, and one whose completion half was given back. 2. `WrongState`
+    /// Nothing changed. 1. `NoQueue` for queue 0, an unknown queue, and one that is gone. 2. `WrongState`
     /// where its submission side is being deleted or a half of it is being made, or it has its completion half alone and a deletion of
     /// that is outstanding.
     /// 3. `NoIdentifier` where each identifier of queue 0 is outstanding. 4. `QueueFull` where the submission ring of queue 0 is full.

@@ -15,7 +15,7 @@ ghost use Rattle.host_core.specs.Laws.{shown};
 ghost use Rattle.host_core.specs.Ringing.{head_of, tail_of};
 ghost use Rattle.host_core.specs.Worked.{blank, completion, pages_with, waiting};
 
-/// A Read waits for its completion: none is there, it cannot be collected yet, and the tail is rung.
+/// A Read waits for its completion: none is there, it cannot be collected yet, and the tail to ring is 1.
 pub fn worked_waiting()
     ensures none { reaped (alone waiting blank) 1 ≡ Empty }
     ensures not_yet { refusal_of (alone waiting blank) (events.Collect 1 0) ≡ Some refusal.NotYet }

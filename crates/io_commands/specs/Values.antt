@@ -1,4 +1,4 @@
--- What drafts, tickets and finished commands are.
+-- What tickets and finished commands are.
 use Rattle.std.specs.Prelude.{◌≡◌, ℕ, None, List, [], map, take, drop, sum_by}
 use Rattle.entry_codec.specs.declared.status.Status.{Status}
 use Rattle.io_commands.specs.Asked.{Request}

@@ -149,7 +149,8 @@ impl<A: Allocator> Draft<A> {
     ///
     /// # Errors
     ///
-    /// 1. `NotASource` exactly for a Read. 2. `WrongLength` exactly where the bytes are not as many as the data pieces take.
+    /// The draft is then as it was. 1. `NotASource` exactly for a Read. 2. `WrongLength` exactly where it is no Read and the bytes
+    /// are not as many as the data pieces take.
     pub fn fill(&mut self, bytes: &[u8]) -> Result<(), FillFault>
         ensures filled { OnOk result (self.new ≡ record self.old { data_pages = filled self.old.request.pieces self.old.data_pages bytes.now }) }
         ensures length { OnOk result (length bytes.now ≡ sum_by data_length self.old.request.pieces) }

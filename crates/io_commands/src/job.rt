@@ -18,8 +18,8 @@ use std::marker::Model;
 
 /// A fetched command of an I/O queue, which waits for its walk or for its completion.
 ///
-/// A controller that is reset may drop it. Contracts see its entry, the blocks of its image, its bytes, its walk, if it has
-/// one, and its verdict, once it has one.
+/// A controller that is reset may drop it. Contracts see its entry, how many blocks its image had, its bytes, its walk, if it
+/// has one, and its verdict, once it has one.
 #[derive(Drop)]
 pub struct Job<A: Allocator = Global> {
     entry: SubEntry,
@@ -39,7 +39,7 @@ impl<A: Allocator> Model for Job<A> {
     ghost invariant = { λ job. IsJobBy job.blocks job.entry job.bytes.items job.verdict job.walk };
 }
 
-/// The command of an opcode, if it is one of an I/O queue.
+/// The command of an opcode, if it is a Read, a Write or a Compare.
 fn kind_of(opcode: u8) -> Option<Kind>
     ensures { result ≡ kind_of_opcode opcode }
 {
@@ -202,7 +202,7 @@ impl<A: Allocator> Job<A> {
         self.verdict = Some(status);
     }
 
-    /// How the command ends, once that is known.
+    /// The verdict, once there is one. How the command ends is [`Job::final_status`].
     pub fn verdict(&self) -> Option<Status>
         ensures verdict { result ≡ self.now.verdict }
         ensures job { IsJob self.now }

@@ -245,7 +245,7 @@ fn write_run<W: Write>(
 ///
 /// A fault of the script, and then one of the opening; nothing is written then. [`RunFault::NoThread`] where a thread cannot be made and
 /// [`RunFault::Close`] where the book is not closed; nothing is written then either. [`RunFault::Memory`] where memory is refused, to a
-/// submitter too; [`RunFault::OutputFailed`] where a write fails. What was written by then is the front of a run's text.
+/// submitter too; [`RunFault::OutputFailed`] where a write or the flush fails. What was written by then is the front of a run's text.
 pub fn run_jobs<R: Threads + Wait + Sync, I: Read, W: Write>(
     rt: &R,
     alloc: Global,

@@ -225,7 +225,8 @@ fn read_job_lines(alloc: Global, text: &[u8], submitters: u16) -> Result<JobScri
 ///
 /// # Errors
 ///
-/// [`ScriptFault::TooLong`] before any line is looked at, else the first fault of the first line that has one.
+/// [`ScriptFault::TooLong`] before any line is looked at, else the first fault of the first line that has one; and
+/// [`ScriptFault::Memory`] where memory is refused.
 #[tactic(auto, using(crate::proofs::JobReading::jobs_are_read))]
 pub fn read_jobs(alloc: Global, text: &[u8], submitters: u16) -> Result<JobScript, ScriptFault>
     ensures script { IsReadAs (jobs_of submitters text.now) result }

@@ -24,7 +24,7 @@ pub fn lines_are_jobs()
     ensures empty { job_of_line 2 1 [] ≡ Ok None }
 {}
 
-/// The first fault of a line, where there are two submitters.
+/// The first fault of a line, where there are two submitters, and once where there are 16.
 #[tactic(auto, unfolding(script_cli::specs::Grammar::number_word, script_cli::specs::Grammar::kind_word, script_cli::specs::Grammar::hex_word, script_cli::specs::Grammar::pieces_from, crate::specs::Jobs::head_words, crate::specs::Jobs::data_words, crate::specs::Jobs::job_words))]
 pub fn job_lines_have_first_faults()
     ensures step { job_of_line 2 1 (codes "ring 1") ≡ Err fault.UnknownVerb }

@@ -399,7 +399,7 @@ after_complete q cid s =
     (on_device (λ d. record d { image = image_completed j d.image }) (without_job q cid s))))
     (job_at s q cid) s
 
--- The reset: the controller comes up with its admin queue alone, and the host has its I/O queues back
+-- The reset: the controller comes up with its admin queue alone, and the host has the pages of its I/O queues back
 
 -- an I/O command stays outstanding, and is lost where it was submitted; an admin command goes
 abbrev pub is_of_io : Work → Bool

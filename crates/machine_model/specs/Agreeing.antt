@@ -243,7 +243,7 @@ CommandsStand m qs js rs = AllByRecursion (CommandStands m qs js) rs
 abbrev pub sent_count : ℕ → List Record → ℕ
 sent_count q rs = total (sent q (λ c. 1)) rs
 
--- Each answer's head is a slot, and fewer slots behind the tail than commands are submitted that this answer and those before it don't end.
+-- Each answer's head is a slot, and no more slots behind the tail than commands are submitted that this answer and those before it don't end.
 abbrev pub AreAnswersBehind : (n tail k : ℕ) → List Answer → Type 0
 AreAnswersBehind n tail k [] = Unit {0}
 AreAnswersBehind n tail k (an ∷ ans) = (an.sq_head < n) × (distance n an.sq_head tail < k) × AreAnswersBehind n tail (k - 1) ans

@@ -40,7 +40,7 @@ abbrev pub agreed_live_queues_are_there : Type 0
 agreed_live_queues_are_there =
     (s : State) (q : ℕ) (queue : HostQueue) → SidesAgree s → host_queue s q ≡ Some queue → is_live queue.state ≡ true → absent s q ≡ false
 
--- no ring is full and no slot's page is out
+-- where nothing was forged, no step is refused because a ring is full or a slot's page is out
 abbrev pub agreeing_sides_have_room : Type 0
 agreeing_sides_have_room =
     (old : State) (e : Event) (reply : Reply) (new : State) → SidesAgree old → IsTrue old.trusted → Step old e reply new → IsTrue (not (is_full reply))
@@ -53,7 +53,7 @@ agreed_admin_commands_stand_once = (s : State) (cid : ℕ) → SidesAgree s → 
 abbrev pub agreed_jobs_stand : Type 0
 agreed_jobs_stand = (s : State) (q cid : ℕ) (j : Job) → SidesAgree s → IsTrue (nat_lt 0 q) → job_at s q cid ≡ Some j → JobStands s j
 
--- a step that forges nothing and leaves a job there leaves its list the same list
+-- a step behind which nothing is forged, and that leaves a job there, leaves its list the same list
 abbrev pub agreed_jobs_keep_their_lists : Type 0
 agreed_jobs_keep_their_lists =
     (old new : State) (e : Event) (reply : Reply) (q cid : ℕ) (before after : Job)
@@ -65,7 +65,7 @@ abbrev pub agreed_chains_stand : Type 0
 agreed_chains_stand =
     (s : State) (q cid : ℕ) (r : Record) → SidesAgree s → record_at s.host q cid ≡ Some r → IsTrue (is_submitted r.phase) → HasChainIfIo s r r.work
 
--- no step changes a byte of a chain page of a record that is submitted
+-- where nothing was forged, no step changes a byte of a chain page of a record that is submitted
 abbrev pub agreed_chains_stay : Type 0
 agreed_chains_stay =
     (old : State) (e : Event) (reply : Reply) (new : State) (q cid : ℕ) (r : Record) (p : ℕ)
@@ -73,7 +73,7 @@ agreed_chains_stay =
     → record_at old.host q cid ≡ Some r → IsTrue (is_submitted r.phase) → IsTrue (is_among r.chain_pages p)
     → page_at new.memory p ≡ page_at old.memory p
 
--- each step of the controller stays in what is allowed, and in its own queue or command
+-- where nothing was forged, each step of the controller stays in what is allowed, and in its own queue or command
 abbrev pub agreeing_steps_stay_allowed : Type 0
 agreeing_steps_stay_allowed =
     (old new : State) (e : Event) (reply : Reply)

@@ -251,7 +251,7 @@ abbrev pub carried : (steps q cid : ℕ) → List Line
 carried steps q cid =
     build q cid ∷ submit q cid ∷ ring q ∷ fetch q ∷ walks steps q cid ++ complete q cid ∷ reap q ∷ collect q cid ∷ []
 
--- the opening of most worked runs: 16 pages, one I/O queue, 4 entries, 64 zero blocks
+-- an opening over 64 zero blocks; most worked runs have 16 pages, one I/O queue and 4 entries
 abbrev pub defaults : ℕ → ℕ → ℕ → ℕ → Table
 defaults pages queues entries segment = table (opening pages queues entries segment (replicate 32768 0))
 

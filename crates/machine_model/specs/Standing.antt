@@ -1,5 +1,5 @@
--- What stands while nothing is forged: a submitted command's list stands in its chain pages, its entry is in one place at the
--- controller, and a job's walk is within its list.
+-- What stands while nothing is forged: a submitted command's list stands in its chain pages, wherever the controller has an entry of
+-- its identifier, it is its own, and a job's walk is within its list.
 use Rattle.std.specs.Prelude.{◌≡◌, ◌<◌, ◌==◌, nat_lt, not, IsTrue, ℕ, true, false, Some, None, List, [], length, slice_get}
 use Rattle.std.specs.List.{AllByRecursion}
 use Rattle.std.specs.Option.{option_map_or}
@@ -30,7 +30,7 @@ pub record IsSized (r : Record) (request : Request) : Type 0 where
   pub good : IsGood request
   pub pages : length r.data_pages ≡ data_count request.pieces
 
--- the entries of a queue that are not fetched, and its completions that are not reaped
+-- the entries of a queue that are not fetched
 abbrev pub unfetched_at : List DeviceQueue → ℕ → List SubEntry
 unfetched_at queues q = option_map_or (λ at. at.unfetched) (slice_get queues q) []
 

@@ -65,7 +65,7 @@ abort_of_reused_identifier_said =
     ∷ fetched 0 (2 ∷ []) ∷ walked More [] ∷ walked End (4 ∷ []) ∷ completed (3 ∷ []) ∷ reaps (events.Done 0 SUCCESS) ∷ held SUCCESS ∷ ok
     ∷ said_block 0 4 ∷ ok ∷ ok ∷ ok ∷ fetched 0 (2 ∷ []) ∷ walked More [] ∷ ok ∷ fetched 0 (0 ∷ []) ∷ completed (3 ∷ []) ∷ reaps (events.Done 0 ABORT_REQUESTED) ∷ []
 
--- two Delete CQs sent to a live queue: both are decided against, and the queue stays live
+-- two Delete CQs sent to a live queue: both are decided against, and the completion queue stays as the submission queue is deleted and retired
 abbrev pub two_cq_deletions : List Line
 two_cq_deletions =
     delete_cq 1 ∷ delete_cq 1 ∷ delete_sq 1 ∷ delete_cq 1 ∷ ring 0 ∷ fetch 0 ∷ fetch 0 ∷ fetch 0 ∷ complete 0 2 ∷ complete 0 0 ∷ complete 0 1

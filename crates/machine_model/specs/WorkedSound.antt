@@ -1,4 +1,4 @@
--- One owner for each page, the counts and the identifiers, computed in each state of worked runs, and the two machines on a longer script.
+-- One owner for each page, the counts and the identifiers, computed in each state before a step of worked runs, and the two machines on a longer script.
 use Rattle.std.specs.Prelude.{ℕ, Bool, true, false, ◌==◌, ◌&&◌, not, List, [], ◌∷◌, ◌++◌, map, filter, length, if◌then◌else◌}
 use Rattle.machine_model.specs.State.{State}
 use Rattle.machine_model.specs.Events as events

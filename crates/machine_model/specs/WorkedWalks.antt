@@ -55,7 +55,7 @@ empty_block_and_bucket = outcomes (course_of_list (memory_of (two_at (DataBlock 
 abbrev pub empty_block_and_bucket_said : List (WalkState × List ℕ)
 empty_block_and_bucket_said = (More, []) ∷ (More, 1 ∷ []) ∷ (Fault DATA_SGL_LENGTH_INVALID, 1 ∷ []) ∷ []
 
--- the order of the faults: each list meets two of them
+-- the order of the faults: some lists meet two of them
 abbrev pub store_at : Descriptor → Pages
 store_at d = with_page_bytes store 1 0 (spelling d)
 
@@ -80,7 +80,7 @@ orders =
     ∷ walk_of store (spelling (LastSegment 18446744073709551600 16)) 512
     -- j: the first of two pages is moved
     ∷ walk_of (pool_without_2 store) (spelling (DataBlock 8000 512)) 512
-    -- b: one byte of a descriptor is unreadable, and no page of it is named
+    -- b: half of a descriptor is unreadable, and no page of it is named
     ∷ walk_of (pool_without_2 straddling) (spelling (LastSegment 8184 16)) 512
     -- a bucket of a read counts, as far as it is wanted
     ∷ walk_of store (spelling (BitBucket 512)) 512
@@ -108,7 +108,7 @@ orders_said =
     ∷ ((More, []) ∷ (More, 1 ∷ []) ∷ (End, 2 ∷ []) ∷ [])
     ∷ []
 
--- lists that are longer than their data: the front of a block of 513, in one page and in two; behind the wanted bytes a bucket, a link
+-- lists that are longer than their data: the front of a block of 513 in one page, and of one of 9,999 in two; behind the wanted bytes a bucket, a link
 -- that would be a fault, and a descriptor on a page that is out
 abbrev pub longer : List (List (WalkState × List ℕ))
 longer =

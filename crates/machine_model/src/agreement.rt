@@ -19,7 +19,7 @@ pub fn law_of_agreed_queues()
     ensures live { agreed_live_queues_are_there }
 {}
 
-/// Where both sides agree, no ring is full and no page of a queue is out, so no event is refused for want of room in a ring.
+/// Where nothing was forged and both sides agree, no step is refused because a ring is full or a page of a queue is out.
 pub fn law_of_agreed_room()
     ensures { agreeing_sides_have_room }
 {}
@@ -32,20 +32,20 @@ pub fn law_of_agreed_places()
 /// Where both sides agree, each job of an I/O queue is that of a submitted command, and its walk keeps to the command's pages and
 /// would end well.
 ///
-/// A step that forges nothing and leaves the job there leaves its list the same list.
+/// Where nothing was forged, a step that forges nothing and leaves the job there leaves its list the same list.
 pub fn law_of_agreed_jobs()
     ensures stand { agreed_jobs_stand }
     ensures keep { agreed_jobs_keep_their_lists }
 {}
 
-/// Where both sides agree, the chain of each submitted command spells its parts, from the descriptor of its entry, and no step
-/// changes a byte of its chain pages.
+/// Where both sides agree, the chain of each submitted command spells its parts, from the descriptor of its entry, and where nothing
+/// was forged no step changes a byte of its chain pages.
 pub fn law_of_agreed_chains()
     ensures stand { agreed_chains_stand }
     ensures stay { agreed_chains_stay }
 {}
 
-/// Where both sides agree, each step of the controller, accepted or refused, touches only allowed pages: a `fetch` and a `complete`
+/// Where nothing was forged and both sides agree, each step of the controller, accepted or refused, touches only allowed pages: a `fetch` and a `complete`
 /// pages of their own queue, and a `walk` pages of its own command.
 pub fn law_of_agreed_touches()
     ensures { agreeing_steps_stay_allowed }

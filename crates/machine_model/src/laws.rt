@@ -85,8 +85,8 @@ pub fn law_of_memory()
     ensures courses { walks_go_as_in_the_pool }
 {}
 
-/// A walk of a list whose segments lie in chain pages and spell parts that lie in data pages reads in the chain pages alone,
-/// and moves in the data pages alone.
+/// A walk of a list whose segments lie in chain pages and spell parts that lie in data pages, where no page is of both kinds, reads in
+/// the chain pages alone, and moves in the data pages alone.
 pub fn law_of_lists()
     ensures { lists_keep_to_their_pages }
 {}
@@ -110,8 +110,8 @@ pub fn law_of_links()
 
 /// Where nothing was forged, a submission queue that is live at the host is there at the controller.
 ///
-/// The controller gives a queue up only as a deletion that the host asked for succeeds, and of that deletion the host reaps the
-/// success alone, so it never takes the queue for live again.
+/// The controller gives a queue up only as a deletion that the host asked for succeeds, or at a reset, behind which the host has no I/O
+/// queue. Of that deletion the host reaps the success alone, so it never takes the queue for live until it is made again.
 pub fn law_of_live_queues()
     ensures { live_queues_are_there }
 {}
@@ -162,7 +162,7 @@ pub fn law_of_answers()
 {}
 
 /// Where nothing was forged, the chain of each submitted command spells its parts, from the descriptor of its entry, and no
-/// step changes a byte of its chain pages.
+/// step that leaves it submitted changes a byte of its chain pages.
 pub fn law_of_chains()
     ensures stand { chains_stand }
     ensures stay { chains_stay }

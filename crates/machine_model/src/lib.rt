@@ -1,7 +1,7 @@
-//! The machine, defined: host, memory and controller of this project as one state of lists, what each of its fifteen
+//! The machine, defined: host, memory and controller of this project as one state of lists, what each of its eighteen
 //! events may answer and leave, and laws of every run.
 //!
-//! There is no code here but the types of [`words`]. Each public function has an empty body, and its clauses are what is proved: in [`laws`] laws of
+//! There is no code here but the types of [`words`]. Each public function does nothing, and its clauses are what is proved: in [`laws`] laws of
 //! every step or run, in [`agreement`] laws of states whose sides agree, in [`worked`] whole runs that are computed from the definitions. A reader
 //! begins with `docs/MACHINE.md`.
 //!

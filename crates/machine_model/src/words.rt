@@ -84,7 +84,7 @@ pub enum Refusal {
     WrongState,
     /// There is no such submitted command.
     NoSuchCommand,
-    /// The submission queue is not deleted.
+    /// No deleted submission queue waits to be retired.
     NotDeleted,
     /// A completion waits to be reaped.
     NotDrained,

@@ -113,11 +113,11 @@ pub fn worked_forged()
 
 /// A reset: with one command of each phase, a job, and entries that are not fetched; and behind a forged entry, where it makes
 /// the machine trusted again. A queue is made again behind it, the pages of all I/O queues are free, and each page has one owner
-/// in each state.
+/// in each state before a step.
 pub fn worked_resets()
     ensures reset_run { played forged.two_queues resets.reset_run ≡ resets.reset_run_said }
     ensures reset_run_exactly { played_exactly (bench forged.two_queues) resets.reset_run ≡ resets.reset_run_said }
-    ensures free_after_reset { free_of (left_by forged.two_queues resets.one_of_each) ≡ 5 }
+    ensures free_before_reset { free_of (left_by forged.two_queues resets.one_of_each) ≡ 5 }
     ensures free_after_all { free_of (left_by (left_by forged.two_queues resets.one_of_each) resets.after_all) ≡ 14 }
     ensures forged_and_reset { played ordinary resets.forged_and_reset ≡ resets.forged_and_reset_said }
     ensures forged_and_reset_exactly { played_exactly (bench ordinary) resets.forged_and_reset ≡ resets.forged_and_reset_said }
@@ -193,7 +193,7 @@ pub fn worked_rings()
     ensures turns_by_lists { played sound.three_entries sound.turns ≡ sound.said_turns }
 {}
 
-/// In each state of these runs every page has one owner, the counts add up, identifiers differ, and pages are out with
+/// In each state before a step of these runs every page has one owner, the counts add up, identifiers differ, and pages are out with
 /// their commands.
 pub fn worked_owners()
     ensures three_aborts { sound.all_sound (made_by ordinary admin.three_aborts) ≡ true }

@@ -136,7 +136,7 @@ pub fn command<'a>(alloc: Global) -> Result<Command<'a>, AllocError> {
 ///
 /// # Errors
 ///
-/// `Arguments` where a word is not UTF-8, and `Memory` where memory is refused.
+/// `Arguments` where a word is not UTF-8, and `Run(Memory)` where memory is refused or the words cannot be had.
 pub fn words<R: Env + AllocGlobal>(rt: &R) -> Result<Vec<String>, Fault> {
     let alloc = rt.alloc();
     match std::env::args(rt) {
@@ -168,7 +168,7 @@ impl<'a> Options<'a> {
 ///
 /// # Errors
 ///
-/// `Arguments` where they are not 1 to 16, and `Memory` where memory is refused.
+/// `Arguments` where they are not 1 to 16, and `Run(Memory)` where memory is refused.
 pub fn submitters(alloc: Global, given: &ArgMatches<'_>) -> Result<u16, Fault>
     ensures least { IfOk result (λ n. 1 ≤ n) }
     ensures most { IfOk result (λ n. n ≤ 16) }

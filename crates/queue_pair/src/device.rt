@@ -191,8 +191,8 @@ impl DevicePair {
     ///
     /// # Errors
     ///
-    /// 1. `Full` exactly where n - 1 slots lie from the known head to the tail. 2. `SlotOut` exactly where a byte of the slot is
-    /// missing from the memory. Then nothing changed.
+    /// 1. `Full` exactly where n - 1 slots lie from the known head to the tail. 2. `SlotOut` exactly where there is room and a byte of
+    /// the slot is missing from the memory. Then nothing changed.
     pub fn post<D: Dma>(&mut self, dma: &mut D, completion: ComEntry) -> Result<(), PostFault>
         requires fits { FitsCompletion completion }
         requires room { length (D.reached dma.old) ≤ 2 }

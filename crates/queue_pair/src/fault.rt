@@ -12,7 +12,8 @@ pub struct QueueFull;
 #[error("the submission head pointer is outside the queue")]
 pub struct BadHead;
 
-/// A doorbell value lies outside its ring. The controller then ignores it (own).
+/// A tail that is no slot of its ring, or a head outside the known head to the tail, in ring order. The controller then ignores
+/// it (own).
 #[derive(Clone, Copy, Debug, PartialEq, Eq, Error)]
 #[error("the doorbell value is outside the queue")]
 pub struct BadBell;

@@ -7,8 +7,8 @@ use std::sync::atomic::{AtomicU64, Ordering};
 
 /// An allocator that passes each call on to another, but for the calls for memory that it was told to refuse.
 ///
-/// A growth of a block counts as one call for memory, and as the return of the block that it was. Threads may share it where they may
-/// share the other one.
+/// A growth of a block, or its shrinking, counts as one call for memory, and, where a new block is given, as the return of the one that it
+/// was. Threads may share it where they may share the other one.
 #[derive(Debug)]
 pub struct Refusing<A: Allocator> {
     inner: A,
@@ -55,7 +55,7 @@ impl<A: Allocator> Refusing<A> {
     }
 
     /// What was asked for since `refuse` was last called, and what is given out. Its counts are of one time where no other thread asks for
-    /// memory meanwhile.
+    /// memory or gives some back meanwhile.
     pub fn tally(&self) -> Tally {
         Tally {
             calls: self.account.calls.load(Ordering::SeqCst),

@@ -95,7 +95,7 @@ unfetched_commands_were_deleted = (c : CollectedCommand) → IsTrue (not (was_fe
 abbrev pub successful_commands_were_fetched : Type 0
 successful_commands_were_fetched = (c : CollectedCommand) → IsTrue (is_success c.finished.status) → IsTrue (was_fetched c)
 
--- the pages of a draft that was just reserved are zeros, and where a draft was submitted so, the command gathers zeros
+-- the data pages of a draft that was just reserved are zeros, and where a draft was submitted so, the command gathers zeros
 abbrev pub AreZeros : List ℕ → Type 0
 AreZeros bytes = All (λ b. b ≡ 0) bytes
 

@@ -13,7 +13,7 @@ pub fn law_of_kept_commands()
 /// Where nothing was forged, a command that was never fetched comes back with its draft's data pages, byte for byte, and the
 /// status of a deleted queue, which a reset gives too. So one that ended with success was fetched.
 ///
-/// The pages of a draft that was just reserved are zeros, and where they were submitted so, an unfetched command gathers zeros.
+/// The data pages of a draft that was just reserved are zeros, and where they were submitted so, an unfetched command gathers zeros.
 pub fn law_of_unfetched_commands()
     ensures pages { unfetched_commands_keep_their_data }
     ensures bytes { unfetched_commands_keep_the_drafts_bytes }

@@ -1,4 +1,4 @@
--- What single words stand for: numbers, bytes, kinds and pieces.
+-- What single words stand for: numbers, bytes and kinds.
 use Rattle.std.specs.Prelude.{ℕ, ◌+◌, ◌-◌, ◌*◌, ◌==◌, nat_lt, nat_le, ◌&&◌, Bool, Option, Some, None, List, [], ◌∷◌, ◌++◌, length, codes, option_and_then, if◌then◌else◌}
 use Rattle.std.specs.Str.{bytes_eq}
 use Rattle.io_commands.specs.declared.request.Kind.{Kind}
@@ -59,5 +59,3 @@ kind word =
     else if bytes_eq word (codes "write") then Some Write
     else if bytes_eq word (codes "compare") then Some Compare
     else None
-
--- a number of 32 bits

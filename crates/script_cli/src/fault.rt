@@ -112,10 +112,10 @@ pub enum RunFault {
     /// The book of the threads was not closed.
     #[error("close: {0}")]
     Close(NotClosed),
-    /// Memory was refused, and not inside a step.
+    /// Memory was refused; in a run of steps, not inside a step.
     #[error("memory")]
     Memory,
-    /// A write failed. After it nothing more was written.
+    /// A write or the flush failed. After it nothing more was written.
     #[error("output failed")]
     OutputFailed,
 }

@@ -1,7 +1,7 @@
 //! Scripts as text, and replies as text.
 //!
 //! [`read_script`] reads a script to its lines that do something, or to its first fault; [`append_reply`], [`append_owners`] and
-//! [`append_counts`] write what its steps answered. The grammar and the lines are this project's own.
+//! [`append_counts`] write what a run of it prints. The grammar and the lines are this project's own.
 //! Lines, words, readers and writers are public too, for scripts that are made of them.
 //!
 //! `specs/Lines.antt` cuts a text into lines and words, `specs/Numbers.antt` and `specs/Pieces.antt` say what single words stand for,

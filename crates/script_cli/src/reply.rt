@@ -229,7 +229,7 @@ fn put_touched_word(out: &mut String, touched: &Touched) -> Result<(), AllocErro
     put_touched(out, touched)
 }
 
-/// Puts the answer of a step of the controller.
+/// Puts the answer of a walk, and the pages that it touched.
 fn put_device_answer(
     out: &mut String,
     state: WalkState,

@@ -121,7 +121,7 @@ fn play<W: Write>(
 /// # Errors
 ///
 /// A fault of the script, and then one of the opening; nothing is written then. [`RunFault::Memory`] where memory is refused, and
-/// not inside a step; [`RunFault::OutputFailed`] where a write fails. What was written by then is the front of a run's text.
+/// not inside a step; [`RunFault::OutputFailed`] where a write or the flush fails. What was written by then is the front of a run's text.
 pub fn run_steps<R: Read, W: Write>(
     alloc: Global,
     config: Config,

@@ -127,7 +127,8 @@ fn read_lines(alloc: Global, text: &[u8]) -> Result<Script, ScriptFault>
 ///
 /// # Errors
 ///
-/// [`ScriptFault::TooLong`] before any line is looked at, else the first fault of the first line that has one.
+/// [`ScriptFault::TooLong`] before any line is looked at, else the first fault of the first line that has one; and
+/// [`ScriptFault::Memory`] where memory is refused.
 #[tactic(auto, using(crate::proofs::Reading::lines_are_read))]
 pub fn read_script(alloc: Global, text: &[u8]) -> Result<Script, ScriptFault>
     ensures { IsReading text.now result }

@@ -44,7 +44,7 @@ pub fn words_stand_for_values()
     ensures no_digits { hex [] ≡ None }
 {}
 
-/// The first fault of a line.
+/// The first fault of a line, and some lines without one.
 #[tactic(auto, unfolding(crate::specs::Grammar::number_word, crate::specs::Grammar::kind_word, crate::specs::Grammar::hex_word, crate::specs::Grammar::sixteen_bytes_word, crate::specs::Grammar::pieces_from, crate::specs::Grammar::nothing_more, crate::specs::Verbs::first_named))]
 pub fn lines_have_first_faults()
     ensures unknown_verb { line_of (codes "raed 1") ≡ Err fault.UnknownVerb }

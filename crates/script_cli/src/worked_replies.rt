@@ -15,7 +15,7 @@ ghost use Rattle.script_cli.specs.declared.verb.QueueVerb.TheVariants as queue;
 ghost use Rattle.script_cli.specs.declared.verb.Verb.TheVariants.{Reserve, Forge, Reset, OnQueue, OnCommand};
 ghost use Rattle.step_core.specs.declared.step.Reply.TheVariants as reply;
 
-/// The lines of the first script's replies.
+/// What the first script prints, but for line 11.
 pub fn first_run_prints()
     ensures line1 { reply_line 1 Reserve (reply.Reserved 1 0 1 0) ≡ fed (codes "1 reserve q 1 cid 0 data 1 chain 0") }
     ensures line2 { reply_line 2 (OnCommand command.Build) reply.Accepted ≡ fed (codes "2 build ok") }

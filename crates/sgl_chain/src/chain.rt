@@ -122,9 +122,9 @@ impl<A: Allocator> Model for Chain<A> {
 
 impl<A: Allocator + Clone> Chain<A> {
     /// Builds the chain of 1 to 1,024 parts, with a segment on each of the pages and up to `segment_size` descriptors,
-    /// 2 to 256, in each. The allocator is cloned for each segment.
+    /// 2 to 256, in each. The allocator is cloned for each segment, and once more for each behind the first.
     ///
-    /// Two segments on one page can't both be laid, so a caller gives distinct pages. What is proved of the chain needs
+    /// On one page one segment is laid over the other, so a caller gives distinct pages. What is proved of the chain needs
     /// no such premise. A chain that is not built gives back what was taken of memory.
     ///
     /// # Errors
@@ -237,6 +237,10 @@ impl<A: Allocator> Chain<A> {
     }
 
     /// The parts that the chain was built of, in order.
+    ///
+    /// # Errors
+    ///
+    /// Where memory is refused.
     pub fn flatten<B: Allocator>(&self, alloc: B) -> Result<Vec<Part, B>, AllocError>
         ensures { IfOk result (λ parts. parts.items ≡ parts_of self.now) }
     {

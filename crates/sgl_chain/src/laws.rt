@@ -1,4 +1,4 @@
-//! Laws of the definitions that the contracts cite. Each function does nothing, and its clause is the law.
+//! Laws of the definitions that the contracts cite. Each function does nothing, and its clauses are the laws.
 
 ghost use Rattle.std.specs.Prelude.{◌≡◌, ◌≤◌, ℕ, List, length};
 ghost use Rattle.sgl_descriptor.specs.declared.Direction.{Direction};
@@ -9,7 +9,7 @@ ghost use Rattle.page_memory.specs.Pages.{Pages, AreWhole};
 ghost use Rattle.sgl_chain.specs.Joining.{joined, NoneJoin};
 ghost use Rattle.sgl_chain.specs.Laws.{LaidChainsSpell, OneList, SpelledInMore, PartsComeBack, PagesHoldSegments, LaidByNumber};
 
-/// The segments of parts, laid in their pages, spell exactly these parts from the first descriptor.
+/// The segments of 1 to 1,024 parts, laid in their pages, spell exactly these parts from the first descriptor.
 pub fn laid_chains_spell()
     ensures { (s : ℕ) → LaidChainsSpell s }
 {}
@@ -19,7 +19,7 @@ pub fn spells_one_list()
     ensures { (m : Memory) → OneList m }
 {}
 
-/// What a descriptor spells hangs on the bytes of its segments alone: it spells the same over every memory that has them.
+/// What a descriptor spells over a memory it spells over every memory that has each of its bytes, and perhaps more.
 pub fn spells_in_more_memory()
     ensures { (m larger : Memory) → SpelledInMore m larger }
 {}

@@ -1,4 +1,4 @@
-//! Scatter-gather lists as chains of segments (NVM Express Base Specification 2.0, "SGL descriptors", section 4.1.2):
+//! Scatter-gather lists as chains of segments (NVM Express Base Specification 2.0, "Scatter Gather List (SGL)", section 4.1.2):
 //! built of a list of parts under any allocator, laid in pages of memory, and flattened back into the parts.
 //!
 //! A segment holds up to a number of descriptors, the segment size, of 2 to 256, and stands at the start of a page of
@@ -10,8 +10,8 @@
 //! [`join_parts`] makes one part of neighbours that join, before a chain is built of them: `specs/Joining.antt`.
 //!
 //! `specs/Chains.antt` says which descriptors each segment has, and `specs/Spells.antt` what a list of segments says
-//! over a memory. [`Chain::build`] ensures that a chain, wherever its segments are laid, spells exactly the parts that
-//! it was built of. The laws in [`laws`] say the same of the definitions, and [`worked`] runs them on known parts.
+//! over a memory. [`Chain::build`] ensures that a chain whose segments are laid in its pages, in whatever memory, spells exactly
+//! the parts that it was built of. The laws in [`laws`] say the same of the definitions, and [`worked`] runs them on known parts.
 #![tactic(auto)]
 
 mod chain;

@@ -27,7 +27,7 @@ pub record ReadAlike (a b : List ℕ) : Type 0 where
   pub valid : HasValidType a → (descriptor_of a ≡ descriptor_of b) ↔ AgreeOutsideReserved a b
   pub invalid : HasInvalidType a → (descriptor_of a ≡ descriptor_of b) ↔ HasInvalidType b
 
--- The targets of joined parts are those of the first and then those of the others, and there is one for each counted byte.
+-- The targets of joined parts are those of the first and then those of the others, and the bytes that they count add up.
 pub record TargetsJoin (dir : Direction) (a b : List Part) : Type 0 where
   pub joined : targets dir (a ++ b) ≡ targets dir a ++ targets dir b
   pub counted : counted_in dir (a ++ b) ≡ counted_in dir a + counted_in dir b

@@ -1,4 +1,4 @@
--- SGL descriptors as 16 bytes (NVM Express Base Specification 2.0, "SGL descriptors", section 4.1.2), least significant byte first.
+-- SGL descriptors as 16 bytes (NVM Express Base Specification 2.0, "Scatter Gather List (SGL)", section 4.1.2), least significant byte first.
 use Rattle.std.specs.Prelude.{if◌then◌else◌, nat_eq, ◌≡◌, ◌≢◌, ◌⊎◌, ◌<◌, ◌≤◌, ◌/◌, ◌%◌, ◌^◌, ◌++◌, ◌∷◌, [], ℕ, Bool, true, false, IsTrue, List, Option, Some, None, take, drop, slice_index}
 use Rattle.std.specs.Int.{w32, w64, to_le_bytes, from_le_bytes}
 use Rattle.sgl_descriptor.specs.declared.Descriptor.{Descriptor}

@@ -1,4 +1,4 @@
-//! Laws of the definitions that the contracts cite. Each function does nothing, and its clause is the law.
+//! Laws of the definitions that the contracts cite. Each function does nothing, and its clauses are the laws.
 
 ghost use Rattle.std.specs.Prelude.{◌≡◌, ℕ, List, length};
 ghost use Rattle.sgl_descriptor.specs.declared.Descriptor.{Descriptor};
@@ -8,7 +8,7 @@ ghost use Rattle.sgl_descriptor.specs.Spelling.{Fits};
 ghost use Rattle.sgl_descriptor.specs.Targets.{targets, counted_in};
 ghost use Rattle.sgl_descriptor.specs.Laws.{IsSixteenBytes, RoundTrip, OneSpelling, ReadAlike, TargetsJoin};
 
-/// What is written of a descriptor whose fields fit is read as that descriptor.
+/// What is written of a descriptor whose fields fit is 16 bytes, spells it, and is read as that descriptor.
 pub fn round_trip()
     ensures { (d : Descriptor) → Fits d → RoundTrip d }
 {}
@@ -18,8 +18,8 @@ pub fn one_spelling()
     ensures { (bytes : List ℕ) → OneSpelling bytes }
 {}
 
-/// Two strings of 16 bytes are read alike exactly where they agree outside the reserved bytes. All those whose type
-/// or subtype is invalid are read alike, whatever else stands there.
+/// Two strings of 16 bytes, the first of a valid type and subtype, are read alike exactly where they agree outside the
+/// reserved bytes. One whose type or subtype is invalid is read alike with just those that are invalid too.
 pub fn read_alike()
     ensures { (a b : List ℕ) → IsSixteenBytes a → IsSixteenBytes b → ReadAlike a b }
 {}

@@ -1,9 +1,9 @@
-//! SGL descriptors (NVM Express Base Specification 2.0, "SGL descriptors", section 4.1.2): their 16 bytes, the
-//! parts of a data transfer, and where the bytes of parts go to or come from.
+//! SGL descriptors (NVM Express Base Specification 2.0, "Scatter Gather List (SGL)", section 4.1.2):
+//! their 16 bytes, the parts of a data transfer, and where the bytes of parts go to or come from.
 //!
 //! `specs/Spelling.antt` says which bytes spell a descriptor, `specs/Targets.antt` where each byte of a list of
 //! parts goes to or comes from. The laws in [`laws`] tie the definitions to one another, and [`worked`] runs them
-//! on known bytes. Nothing here takes memory.
+//! on known bytes and parts. Nothing here takes memory.
 #![tactic(auto)]
 
 pub mod laws;

@@ -1,4 +1,4 @@
-//! Worked runs of the definitions, on bytes whose meaning is known. Each function does nothing.
+//! Worked runs of the definitions, on bytes and parts whose meaning is known. Each function does nothing.
 
 ghost use Rattle.std.specs.Prelude.{◌≡◌, ◌∷◌, [], Some, None};
 ghost use Rattle.sgl_descriptor.specs.declared.Descriptor.TheVariants.{DataBlock, BitBucket, Segment, LastSegment};

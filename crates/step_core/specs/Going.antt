@@ -1,4 +1,5 @@
--- Benches go on: each step has an answer, from each table that steps of a bench lead to; and what they tell of its controller.
+-- Benches go on: each step whose numbers fit has an answer, from each table that steps of a bench lead to; what they tell of its controller;
+-- and which of their runs are trusted.
 use Rattle.std.specs.Prelude.{◌≡◌, ℕ, Bool, true, false, ◌&&◌, ◌||◌, not, IsTrue, None, List, ◌∷◌, length, map}
 use Rattle.std.specs.List.{AllByRecursion}
 use Rattle.block_image.specs.Blocks.{IsImage}

@@ -9,8 +9,8 @@ ghost use Rattle.step_core.specs.Laws.{benches_run_the_machine};
 /// Filling, building and gathering are steps of a kept value alone, and a step that finds no value changes nothing: these are
 /// no part of the run.
 ///
-/// Where none of the steps is an accepted forgery, that run is one of which the machine's laws of trusted runs speak, resets and all: of
-/// what a Read gathers, a Write changes, a Compare answers, and of the statuses.
+/// Where none of the steps since the bench opened is an accepted forgery, their run is one of which the machine's laws of trusted runs
+/// speak, resets and all: of what a Read gathers, a Write changes, a Compare answers, and of the statuses.
 pub fn law_of_benches()
     ensures run { benches_run_the_machine }
     ensures lawful { benches_make_trusted_runs }

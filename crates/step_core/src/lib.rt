@@ -1,7 +1,7 @@
 //! The machine runs: every event is one call.
 //!
 //! A [`World`] is a driver and its modelled controller over one pool of pages. Contracts see it as the state of the machine that
-//! `machine_model` defines, and each call is a `Step` of that machine. Where it is refused nothing changed, and every moved value is handed
+//! `machine_model` defines, and each call that is an event is a `Step` of that machine. Where it is refused nothing changed, and every moved value is handed
 //! back; the refusal is the first that holds, but for the controller's steps once something was forged. Between calls each page has one
 //! owner, the counts add up and identifiers are distinct, whatever was forged ([`World::check`]). Where nothing was since
 //! the last [`World::reset`], [`World::fetch`], [`World::walk`] and [`World::complete`] touch only pages that they may.
@@ -12,8 +12,9 @@
 //! A [`Bench`] is a world with the drafts, tickets and finished commands that are about; it runs lists of [`Step`]s, and what it does is a
 //! run of the machine ([`laws`]).
 //!
-//! A world is a [`host_core::Host`] and a [`controller_core::Controller`] over one [`page_memory::Store`]: each call is one of either side,
-//! with the doorbell that the other hears. That both are the machine is what `two_sides` proves; nothing is kept twice.
+//! A world is a [`host_core::Host`] and a [`controller_core::Controller`] over one [`page_memory::Store`]: each event but a forgery and a
+//! reset is a call of either side, with the doorbell that the other hears, and a reset is one of both. That both are the
+//! machine is what `two_sides` proves; nothing is kept twice.
 #![tactic(auto)]
 
 mod bench;

@@ -27,9 +27,11 @@ impl<A: Allocator + Copy> World<A> {
     /// Looks at the head of a queue's completion ring, and takes the completion there, if there is a new one (NVM Express Base
     /// Specification 2.0, "Common Completion Queue Entry", section 3.3.3.2).
     ///
-    /// The answer is `Empty` where there is none. A completion of a submitted command ends it: `Done` tells the identifier of an I/O
-    /// command and how it ended, and its pages stay its own; `AdminDone` tells that of a command of queue 0, which is over. A
-    /// completion of no submitted command is `Rejected`: it is taken, the head is rung, and nothing else changes.
+    /// The answer is `Empty` where there is none. A completion that names another queue, a submission head that is not between the known
+    /// head and the tail, or no submitted command is `Rejected`: it is taken, the head is rung, and nothing else changes. Any other ends
+    /// its command: `Done` tells the identifier of an I/O command and how it ended, and its pages stay its own; `AdminDone` tells the same
+    /// of a command of queue 0, with its double word, and that command is over: the queue that it names takes the state that this end
+    /// means, and a half that it has no longer, or does not get, is given back.
     ///
     /// # Errors
     ///
@@ -78,7 +80,7 @@ impl<A: Allocator + Copy> World<A> {
     ///
     /// # Errors
     ///
-    /// Nothing changed. 1. `NoQueue` for queue 0, an unknown queue, and one whose completion half was given back. 2. `WrongState`
+    /// Nothing changed. 1. `NoQueue` for queue 0, an unknown queue, and one that is gone. 2. `WrongState`
     /// where its submission side is being deleted or a half of it is being made, or it has its completion half alone and a deletion
     /// of that is outstanding.
     /// 3. `NoIdentifier` where each identifier of queue 0 is outstanding. 4. `QueueFull` where the submission ring of queue 0 is full.
@@ -103,8 +105,8 @@ impl<A: Allocator + Copy> World<A> {
         self.host.create_cq(&mut self.store, q)
     }
 
-    /// Makes the submission queue of a queue that has its completion queue alone (NVM Express Base Specification 2.0, "Create I/O
-    /// Submission Queue command", section 5.5): its half is granted, in and zero, and the command that creates it stands behind the tail
+    /// Makes the submission queue of a queue that is half made (NVM Express Base Specification 2.0, "Create I/O Submission Queue
+    /// command", section 5.5): its half is granted, in and zero, and the command that creates it stands behind the tail
     /// of queue 0 under the identifier that is answered.
     ///
     /// # Errors
@@ -118,15 +120,15 @@ impl<A: Allocator + Copy> World<A> {
         self.host.create_sq(&mut self.store, q)
     }
 
-    /// Gives the submission half of a deleted queue back, and ends its commands that no completion ended.
+    /// Gives the submission half of a deleted queue back, and ends its submitted commands.
     ///
     /// Each of those is held with the status "Command Aborted due to SQ Deletion", as if its completion had been reaped; its pages
     /// stay its own until it is collected and released. The pages of the submission half are free, and the queue is retired.
     ///
     /// # Errors
     ///
-    /// 1. `NotDeleted` where there is no such queue, or the success of its deletion was not reaped, or it was retired before.
-    /// 2. `NotDrained` where a new completion stands at the head of its completion ring. Then nothing changed.
+    /// Nothing changed. 1. `NotDeleted` where there is no such queue, or the success of its deletion was not reaped, or it was retired or
+    /// reset since. 2. `NotDrained` where a new completion stands at the head of its completion ring.
     pub fn retire(&mut self, q: u16) -> Result<(), Refusal>
         ensures { Step self.old (events.Retire q) (ring_reply result) self.new }
     {

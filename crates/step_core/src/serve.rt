@@ -94,7 +94,7 @@ impl<A: Allocator + Copy> World<A> {
     /// Nothing changed. Where nothing was forged, it is the first of these that holds, else any of them: 1. `Idle`: there is no such
     /// queue, nothing is fetched from it any more, or nothing is rung. 2. `SlotOut`: the page of the entry's slot is out. Where the
     /// completion is posted at once: 3. `Full`: the completion ring is full. 4. `SlotOut`: the page of the completion's slot is out.
-    /// 5. `Memory` where memory is refused.
+    /// Else 5. `Memory`, where memory is refused.
     pub fn fetch(&mut self, q: u16) -> Result<Fetched, StepRefused>
         ensures step { Step self.old (events.Fetch q) (fetch_reply result) self.new }
         ensures touches { StaysAllowed self.old (events.Fetch q) (fetch_reply result) }

@@ -123,7 +123,7 @@ pub enum Step<R = Request, B = Bytes> {
         /// Its identifier.
         cid: u16,
     },
-    /// Gather a Read's bytes from a finished command.
+    /// Gather a Read's bytes from a finished command; of a Write or a Compare there are none.
     Gather {
         /// The command's queue.
         q: u16,
@@ -224,7 +224,7 @@ pub enum Reply<B = Bytes> {
     Reaps(Reaped),
     /// A command was collected, which ended so.
     Collected(Status),
-    /// A Read's bytes.
+    /// A Read's bytes, and none of a Write or a Compare.
     Gathered(B),
     /// An admin command was sent, under this identifier of queue 0.
     Sent {

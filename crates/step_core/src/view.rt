@@ -1,4 +1,4 @@
-//! What a world shows: whose each page is, how many pages each class has, and whether something was forged.
+//! What a world shows: its pages and whose each is, whether it is idle, whether something was forged, and that it is sound.
 
 ghost use Rattle.std.specs.Prelude.{◌≡◌, ◌==◌, ◌<◌, ◌≤◌, length};
 ghost use Rattle.std.specs.List.{Contains};
@@ -51,8 +51,8 @@ impl<A: Allocator> World<A> {
     }
 
     /// Shows that the world is sound, whatever was forged: each page has one owner, the counts add up to the pool, no identifier
-    /// of a queue is outstanding twice, a page is out just where a drafted or collected command has it, and queue 0 is live. It does
-    /// nothing.
+    /// of a queue is outstanding twice, a page is out just where a drafted or collected command has it, queue 0 is live, and all else that
+    /// `IsSound` says. It does nothing.
     pub fn check(&self)
         ensures { IsSound self.now }
     {

@@ -19,7 +19,7 @@ use Rattle.two_sides.specs.Ties.{AreSides, AreTied, ShareQueues, has_ring}
 abbrev pub behind : Sides → Event → Reply → HostView → Pages → Sides
 behind s e reply host pages = record s { host = host; pages = pages; controller = heard e reply host s.controller }
 
--- Whatever was forged, a step of the host leaves the queues where both sides have them.
+-- Whatever was forged, a step of the host leaves both sides as many queues, with their numbers and as many entries.
 abbrev pub hosts_share_queues : Type 0
 hosts_share_queues =
     (s : Sides) (e : Event) (reply : Reply) (host : HostView) (pages : Pages)

@@ -88,7 +88,7 @@ completes_refuse_alike =
 abbrev pub forged : Sides → Pages → Sides
 forged s pages = record s { pages = pages; trusted = false }
 
--- a slot of a completion ring that the host still has is in, where the host has it
+-- a slot of a completion ring that the host reaps is in, where the host has it
 abbrev pub completion_slots_are_in : Type 0
 completion_slots_are_in =
     (s : Sides) (q slot : ℕ) (bytes : List ℕ) (h : HostQueue) → IsWorld s → refusal_of (state_of s) (events.Forge q slot bytes) ≡ None

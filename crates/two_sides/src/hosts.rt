@@ -3,7 +3,7 @@
 ghost use Rattle.two_sides.specs.Laws.{hosts_share_queues, forged_hosts_step, hosts_answer, hosts_refuse};
 ghost use Rattle.two_sides.specs.Stepping.{hosts_step};
 
-/// Whatever was forged, a step of the host leaves the queues where both sides have them.
+/// Whatever was forged, a step of the host leaves both sides as many queues, with their numbers and as many entries.
 pub fn hosts_keep_their_queues()
     ensures { hosts_share_queues }
 {}

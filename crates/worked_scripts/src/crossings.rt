@@ -53,7 +53,7 @@ counts free 18 queue 6 chain 0 data 0
 ",
 };
 
-/// A Write and a Compare of two pages each, side by side; the Compare is fetched after the Write ended.
+/// A Write and a Compare of two blocks each, side by side; the Compare is fetched after the Write ended.
 pub const SIDE_BY_SIDE: WorkedScript = WorkedScript {
     config: TWO_QUEUES,
     script: "reserve 1 write 3 2 0+512 4+512

@@ -102,7 +102,7 @@ counts free 14 queue 2 chain 0 data 0
 ",
 };
 
-/// Each call on each state of a queue, from Live to Gone.
+/// Calls on a queue in its states, from Live to Gone, most of them refused.
 pub const STATES: WorkedScript = WorkedScript {
     config: USUAL,
     script: "reserve 1 read 0 1 0+512
@@ -352,7 +352,7 @@ counts free 20 queue 4 chain 0 data 0
 ",
 };
 
-/// A command is aborted, another is ended by the deletion of its queue, a third is never fetched; the queue is retired and given back.
+/// A command is aborted, another is ended by the deletion of its queue; the queue is retired and given back.
 pub const QUEUE_WITH_COMMANDS: WorkedScript = WorkedScript {
     config: TWO_QUEUES,
     script: "reserve 1 read 0 1 0+512

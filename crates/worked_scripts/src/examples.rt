@@ -1,4 +1,4 @@
-//! The scripts of `examples/`: the same texts as in its files.
+//! The four scripts of steps of `examples/`: the same texts as in its files.
 
 use crate::WorkedScript;
 use crate::pools::{SHORT_SEGMENTS, USUAL};

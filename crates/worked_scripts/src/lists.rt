@@ -47,7 +47,7 @@ counts free 12 queue 4 chain 0 data 0
 ",
 };
 
-/// Four blocks are written by a list of three segments, and read by another one.
+/// Four blocks are written by a list of three segments, and read by one of four.
 pub const THREE_SEGMENTS: WorkedScript = WorkedScript {
     config: SHORT_SEGMENTS,
     script: "reserve 1 write 4 4 0+512 0+512 0+512 0+512

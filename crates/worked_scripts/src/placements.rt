@@ -41,7 +41,8 @@ counts free 12 queue 4 chain 0 data 0
 ",
 };
 
-/// Two whole pages in a run are one descriptor, of a Write and of a Read; a piece behind them makes a list.
+/// Two whole pages in a run are one descriptor, of a Write and of a Read; a piece behind them joins them where it starts with its page, and
+/// else makes a list.
 pub const JOINED_PAGES: WorkedScript = WorkedScript {
     config: USUAL,
     script: "reserve 1 write 0 16 0+4096 0+4096

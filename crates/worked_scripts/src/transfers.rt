@@ -123,7 +123,7 @@ counts free 12 queue 4 chain 0 data 0
 ",
 };
 
-/// A block is compared with what was written to it, then with another byte, and so is the block behind it.
+/// A block is compared with what was written to it, then with another byte, and the block behind it with the first bytes.
 pub const COMPARES: WorkedScript = WorkedScript {
     config: USUAL,
     script: "reserve 1 write 3 1 0+512
@@ -377,7 +377,7 @@ counts free 12 queue 4 chain 0 data 0
 ",
 };
 
-/// Two blocks are written from three pages, and read to three others, which cut them elsewhere.
+/// Two blocks are written from three pages, and read to three pieces that cut them elsewhere.
 pub const THREE_PAGES: WorkedScript = WorkedScript {
     config: USUAL,
     script: "reserve 1 write 8 2 4093+3 0+5 100+1016
