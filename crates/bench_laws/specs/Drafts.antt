@@ -86,8 +86,8 @@ pub record IsReservedDraft (c : ReservedCommand) (draft : DraftContents) : Type 
 abbrev pub bytes_left : ReservedCommand → List ℕ
 bytes_left c = written_over (data_bytes c.request) (replicate (data_bytes c.request) 0) (fills_of c.q c.cid c.between)
 
--- And the one that the machine's submission gets. Its data has those bytes, and in its pages nothing else differs from those of the
--- reservation.
+-- And the one that the machine's submission gets. Its data has those bytes, and in its data pages nothing else differs from those of
+-- the reservation.
 pub record SubmitsFilled (c : ReservedCommand) : Type 0 where
   pub reserved : DraftContents
   pub is_reserved : IsReservedDraft c reserved

@@ -11,7 +11,7 @@ is_true_at list i = slice_index_or list i false
 abbrev pub bools_of : List ℕ → ℕ → List Bool
 bools_of words len = map (is_set words) (range_with_len 0 len)
 
--- The words have a bit for each place, and no other bit is 1. The summary has a bit for each word, which is 1 where the word has a 1.
+-- There are 65,536 places at most. The words have a bit for each, and no other bit is 1. The summary has a bit for each word, which is 1 where the word has a 1.
 pub record IsSummed (words summary : List ℕ) (len : ℕ) : Type 0 where
   pub most : len ≤ 65536
   pub size : length words ≡ (len + 63) / 64

@@ -56,7 +56,7 @@ abbrev pub image_of_end : List ℕ → Work → List ℕ
 image_of_end image (Io job) = finished_image image job
 image_of_end image (Admin entry status dw0) = image
 
--- a successful deletion leaves nothing of the queue's submission side
+-- behind a successful deletion the submission queue is not there
 abbrev pub without_submission : ControllerQueue → ControllerQueue
 without_submission queue = record queue { state = Absent }
 

@@ -44,8 +44,8 @@ dw0_of_work (Admin entry status dw0) = dw0
 abbrev pub is_command : ℕ → ℕ → FetchedCommand → Bool
 is_command q cid k = (k.q == q) && ((entry_of_work k.work).cid == cid)
 
--- A command of an I/O queue was checked over an image of so many blocks, and its walk ends after 12,545 units at most. Only I/O queues
--- are deleted.
+-- A command of an I/O queue was checked over an image of so many blocks, and its walk ends after 12,545 units at most. All others are of
+-- queue 0, and only I/O queues are deleted. A completion can carry the status of each.
 abbrev pub FitsWork : ℕ → ℕ → ℕ → Work → Type 0
 FitsWork blocks q done (Io job) = ((q == 0) ≡ false) × (job.blocks ≡ blocks) × FitsVerdict job.verdict × (done + left_of_walk job.walk ≤ 12545)
 FitsWork blocks q done (Admin entry status dw0) = (q ≡ 0) × (status.sct < 8) × (is_deletion entry status ≡ true → (named_queue entry == 0) ≡ false)
@@ -53,7 +53,7 @@ FitsWork blocks q done (Admin entry status dw0) = (q ≡ 0) × (status.sct < 8) 
 abbrev pub FitsCommand : ℕ → ℕ → FetchedCommand → Type 0
 FitsCommand blocks queues k = (k.q < queues) × FitsWork blocks k.q k.units_done k.work
 
--- Each command is one of a queue that is there, and no two commands of a queue have the same identifier.
+-- Each command fits a queue number that the controller has, and no two commands of a queue have the same identifier.
 pub record AreCommands (blocks queues : ℕ) (commands : List FetchedCommand) : Type 0 where
   pub each : AllByRecursion (FitsCommand blocks queues) commands
   pub differ : (q cid : ℕ) → count_by (is_command q cid) commands < 2
@@ -62,13 +62,13 @@ pub record AreCommands (blocks queues : ℕ) (commands : List FetchedCommand) : 
 abbrev pub entry_of : List FetchedCommand → ℕ → ℕ → Option SubEntry
 entry_of commands q cid = option_map (λ k. entry_of_work k.work) (find (is_command q cid) commands)
 
--- The Abort of this identifier is there, and its entry names the command.
+-- A command of queue 0 has this identifier, and its entry names the command.
 pub record IsNamedBy (commands : List FetchedCommand) (k : FetchedCommand) (abort : ℕ) : Type 0 where
   pub entry : SubEntry
   pub there : entry_of commands 0 abort ≡ Some entry
   pub names : is_command (named_queue entry) (named_command entry) k ≡ true
 
--- Where an Abort waits for a command, it is there, and names that command.
+-- Where a command is awaited for an Abort, queue 0 has a command of that identifier, and its entry names the one that is awaited.
 abbrev pub AreAwaited : List FetchedCommand → Type 0
 AreAwaited commands = AllByRecursion (λ k. IfSome k.waiting_abort (IsNamedBy commands k)) commands
 

@@ -21,7 +21,7 @@ use Rattle.controller_core.specs.declared.refusal.Refusal.TheVariants as refusal
 abbrev pub live_side : Option ControllerQueue → Option DeviceSide
 live_side queue = option_and_then (λ queue. if is_live queue.state then Some queue.device else None) queue
 
--- the entry at the head, where one was rung and no byte of its slot is missing
+-- what a look at the entry at the head is refused for: none was rung, or a byte of its slot is missing
 abbrev pub side_refusal : Memory → DeviceSide → Option Refusal
 side_refusal m device =
     if device.ring.head == device.ring.bell then Some refusal.Idle
@@ -37,10 +37,11 @@ is_known c q e = is_some (find (is_command q e.cid) c.commands)
 abbrev pub entry_refusal : Contents → Memory → ℕ → SubEntry → Option Refusal
 entry_refusal c m q e = if is_known c q e then answer_refusal c.queues m q else None
 
--- what a fetch is refused for where memory is not wanted: the first that holds
+-- the entry at the head of a live queue, rung or not, where no byte of its slot is missing
 abbrev pub rung_entry : Contents → Memory → ℕ → Option SubEntry
 rung_entry c m q = option_and_then (λ device. entry_at m device.sq device.ring.head) (live_side (slice_get c.queues q))
 
+-- what a fetch is refused for where memory is not wanted: the first that holds
 abbrev pub fetch_refusal : Contents → Memory → ℕ → Option Refusal
 fetch_refusal c m q =
     if is_some (look_refusal c m q) then look_refusal c m q else option_and_then (entry_refusal c m q) (rung_entry c m q)

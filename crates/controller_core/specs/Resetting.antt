@@ -38,7 +38,7 @@ ResetIsQuiet = (c : Contents) → IsQuiet (reset c)
 abbrev pub QuietUntilTail : Type 0
 QuietUntilTail = (c : Contents) (q v : ℕ) → IsQuiet (head_rung q v (reset c))
 
--- An I/O queue waits for its creation: a tail that is rung there is of no use.
+-- An I/O queue waits for its creation: a tail that is rung, there or at any other queue, is of no use to it.
 abbrev pub IdleUntilCreated : Type 0
 IdleUntilCreated = (c : Contents) (m : Memory) (q r v : ℕ) → (q == 0) ≡ false → fetch_refusal (tail_rung r v (reset c)) m q ≡ Some refusal.Idle
 

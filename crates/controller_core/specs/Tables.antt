@@ -4,7 +4,7 @@ use Rattle.std.specs.List.{count_by}
 use Rattle.linked_table.specs.Table.{Row}
 use Rattle.controller_core.specs.Contents.{FetchedCommand, entry_of_work}
 
--- how many queues there are, and the commands that were fetched from them, in the order of the fetches
+-- how many queues there are, and the commands that were fetched from them and not completed, in the order of the fetches
 pub record Outstanding : Type 0 where
   pub queues : ℕ
   pub list : List FetchedCommand

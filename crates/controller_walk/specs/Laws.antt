@@ -38,7 +38,7 @@ pub record IsApart (at : ℕ → Bool) (dir : Direction) (c : Course) : Type 0 w
   pub reads : ReadsWithin at c
   pub moves : OverwritesNothing at dir c
 
--- memories that agree on the descriptors that a list reads give one course
+-- memories that miss the same bytes and agree on the descriptors that a list reads give one course
 abbrev pub SameCourse : Memory → Memory → Type 0
 SameCourse m m' =
     (at : ℕ → Bool) (sgl1 : List ℕ) (dir : Direction) (need : ℕ) → Agree at m m' → ReadsWithin at (course_of_list m sgl1 dir need)

@@ -8,7 +8,7 @@ use Rattle.controller_walk.specs.declared.progress.State.{State}
 use Rattle.controller_walk.specs.declared.progress.State.TheVariants.{First, Next, Data, Over}
 use Rattle.controller_walk.specs.declared.progress.Progress.{Progress}
 
--- the descriptors that are left in a segment lie below 2 ^ 64
+-- one descriptor or more is left in a segment, and all that are left lie below 2 ^ 64
 abbrev pub IsCursor : Cursor → Type 0
 IsCursor c = (0 < c.left) × (c.place + 16 * c.left ≤ 2 ^ 64)
 

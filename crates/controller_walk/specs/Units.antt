@@ -1,4 +1,4 @@
--- What each step of a walk does, and how the walk ends (NVM Express Base Specification 2.0, "SGL", section 4.1.2).
+-- What each step of a walk does, and how the walk ends (NVM Express Base Specification 2.0, "Scatter Gather List (SGL)", section 4.1.2).
 use Rattle.std.specs.Prelude.{◌+◌, ◌-◌, ◌/◌, ◌%◌, ◌^◌, ◌&&◌, ◌||◌, ◌∷◌, [], ℕ, Bool, true, false, not, List, Option, Some, None, if◌then◌else◌, nat_eq, nat_le, nat_lt, zero, suc, min, is_some}
 use Rattle.entry_codec.specs.declared.status.Status.{Status}
 use Rattle.entry_codec.specs.declared.status.TheConstants.Status.{DATA_TRANSFER_ERROR, INVALID_SGL_SEGMENT, INVALID_SGL_COUNT, DATA_SGL_LENGTH_INVALID, SGL_TYPE_INVALID}

@@ -96,7 +96,7 @@ left_in w Over = 0
 abbrev pub left_of : Walk → ℕ
 left_of w = left_in w w.state
 
--- how many descriptors a walk may still read from memory, whatever becomes of that memory between its steps
+-- how many descriptors a walk may still read from memory, at most, whatever becomes of that memory between its steps
 abbrev pub reads_left : Walk → ℕ
 reads_left w = w.allowed
 

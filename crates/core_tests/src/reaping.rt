@@ -1,4 +1,4 @@
-//! Completions reaped that no command waits for.
+//! Completions reaped that fit no submitted command.
 
 use crate::calls::{Call, Told, called_world, let_go};
 use std::test::Fail;

@@ -48,7 +48,7 @@ IsLogFull book = book.spare ≡ 0
 abbrev pub AreReceiptsFull : SeatContents → Type 0
 AreReceiptsFull seat = seat.spare ≡ 0
 
--- the event takes memory of the world's own, and nothing else stands in its way
+-- the event takes memory of the world's own, and nothing else stands in its way; of a fetch after a forged entry the second is not said
 abbrev pub MayWorldWant : BookContents → Event → Type 0
 MayWorldWant book e = (touched : List ℕ) × machine.Permits book.world e (events.Refused refusal.Memory touched)
 

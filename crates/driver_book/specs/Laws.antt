@@ -13,7 +13,8 @@ use Rattle.host_core.specs.declared.config.Config.{Config}
 use Rattle.driver_book.specs.History.{asked, told, TellsOf, LeadsTo}
 use Rattle.driver_book.specs.Values.{Entry}
 
--- the states before and behind an entry of a log, and what it tells of: in a trusted world it names allowed pages alone
+-- the states before and behind an entry of a log, and what it tells of: in a trusted world it names allowed
+-- pages alone, and only those of its own queue or command
 pub record IsEntryOf (opening : State) (before : List Entry) (e : Entry) (after : List Entry) (world : State) : Type 0 where
   pub old : State
   pub new : State

@@ -22,7 +22,7 @@ abbrev pub IsAfterOpening : RunFault → Type 0
 IsAfterOpening (Open why) = ⊥
 IsAfterOpening why = Unit {0}
 
--- A run is refused for its opening where that is refused, and then for nothing else: want of memory for the opening is its own fault.
+-- A run is refused for its opening where that is refused, and then for nothing else: want of memory for the opening may be told either way.
 abbrev pub RefusesRun : Config → RunFault → Type 0
 RefusesRun config (Open why) = RefusesOpening config why
 RefusesRun config why = refusal_of_config config ≡ None

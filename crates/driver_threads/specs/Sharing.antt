@@ -55,7 +55,7 @@ pub record GivesNoSeat (opening : State) : Type 0 where
   pub of : IsBookOf opening book
   pub all : book.made ≡ 65535
 
--- some book of this opening says whose a page is; it has no such page
+-- some book of this opening says whose a page is, or that it has no such page
 pub record Tells (opening : State) (p : ℕ) (answer : Option Owner) : Type 0 where
   pub book : BookContents
   pub of : IsBookOf opening book

@@ -10,7 +10,7 @@ use Rattle.entry_codec.specs.declared.completion.ComEntry.{ComEntry}
 pub record FitsCompletion (entry : ComEntry) : Type 0 where
   pub sct : entry.status.sct < 8
 
--- the numbers are those of a value of the type `ComEntry`
+-- the numbers but the status code type are those of a value of the type `ComEntry`
 pub record IsComEntry (entry : ComEntry) : Type 0 where
   pub dw0 : entry.dw0 < 2 ^ 32
   pub sqhd : entry.sqhd < 2 ^ 16

@@ -11,7 +11,7 @@ pub record FitsSubmission (entry : SubEntry) : Type 0 where
   pub fuse : entry.fuse < 4
   pub psdt : entry.psdt < 4
 
--- the numbers are those of a value of the type `SubEntry`
+-- the numbers but FUSE and PSDT are those of a value of the type `SubEntry`
 pub record IsSubEntry (entry : SubEntry) : Type 0 where
   pub opcode : entry.opcode < 2 ^ 8
   pub cid : entry.cid < 2 ^ 16

@@ -38,14 +38,15 @@ pub record IsOver (v : HostView) (pages : Pages) : Type 0 where
   pub size : length pages ≡ total (counts_of v.host)
   pub out : IsOutWithItsCommand (alone v pages)
 
--- What holds of each host, against any controller at all: each page has one owner, and no identifier of a queue is outstanding twice.
+-- What holds of each host, against any controller at all: each page has one owner, no identifier of a queue is outstanding twice, and each
+-- position is a slot of its ring.
 pub record IsSoundHost (v : HostView) : Type 0 where
   pub owners : HasOneOwner (total (counts_of v.host)) v.host
   pub identifiers : IdentifiersDiffer v.host
   pub positions : AllByRecursion (λ queue. IsInRing v.entries queue.ring) v.host.queues
 
--- What the machine leaves to its host, and this host chooses: the lowest identifier of a queue that is not outstanding, and pages that
--- are placed, first those of its data and then those of its chain.
+-- What the machine leaves to its host, and this host chooses: an identifier below which all of the queue are outstanding, and pages
+-- that are placed, first those of its data and then those of its chain.
 abbrev pub IsLowest : Host → ℕ → ℕ → Type 0
 IsLowest h q cid = (lower : ℕ) → lower < cid → is_among (outstanding_on h q) lower ≡ true
 

@@ -49,7 +49,7 @@ record_of_draft d =
       status = None;
     }
 
--- a draft's pages are its command's, and out; its identifier is claimed
+-- a draft's pages are its command's, and out; its identifier is claimed, and its record stands behind the others
 abbrev pub reserved : DraftContents → Tables → Tables
 reserved d t =
     record t {
@@ -59,7 +59,7 @@ reserved d t =
       queues = change d.q (with_claim d.cid) t.queues;
     }
 
--- a command's pages come in with these bytes, and are free, and so is its identifier
+-- a command's pages come in with these bytes, and are free, and so is its identifier; its record is gone
 abbrev pub ended : ℕ → ℕ → PagesOut → Tables → Tables
 ended q cid pages t =
     record t {
@@ -69,7 +69,7 @@ ended q cid pages t =
       queues = change q (without_claim cid) t.queues;
     }
 
--- a command's pages are out again
+-- a command's pages are out again, and it is collected
 abbrev pub taken_out : ℕ → ℕ → List ℕ → Tables → Tables
 taken_out q cid pages t = record t { pages = without_pages pages t.pages; records = with_record q cid collected t.records }
 
@@ -83,7 +83,7 @@ abbrev pub CanPut : PagesOut → Pages → Type 0
 CanPut [] m = Unit {0}
 CanPut (page ∷ pages) m = (slice_get m page.0 ≡ Some None) × CanPut pages (slice_set m page.0 (Some page.1))
 
--- each page is in, and is one of zeros behind the others
+-- each page is in, once those before it are made zero
 abbrev pub CanZero : List ℕ → Pages → Type 0
 CanZero [] m = Unit {0}
 CanZero (p ∷ ps) m = IsSome (page_at m p) × CanZero ps (slice_set m p (Some zero_page))

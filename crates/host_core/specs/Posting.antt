@@ -29,7 +29,7 @@ tail_place queue = submission_place queue.host.sq queue.host.ring.tail
 abbrev pub posted : ℕ → Queue → SubEntry → Tables → Tables
 posted q queue entry t = record (overwritten (tail_place queue) (submission_bytes entry) t) { queues = change q with_tail_moved t.queues }
 
--- An entry can be posted: the queue has its submission half, which is in, and there is room.
+-- An entry can be posted: the queue has its submission half, which is in, there is room, and the entry fits its slot.
 pub record CanPost (t : Tables) (q : ℕ) (queue : Queue) (entry : SubEntry) : Type 0 where
   pub at : slice_get t.queues q ≡ Some queue
   pub kept : has_sq queue.state ≡ true

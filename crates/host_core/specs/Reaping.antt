@@ -31,7 +31,7 @@ use Rattle.host_core.specs.Rows.{Queue}
 abbrev pub lacks_completion : Option Queue → Bool
 lacks_completion o = not (option_map_or (λ queue. is_reaped queue.state) o false)
 
--- the place of a completion slot of a queue that has its completion half
+-- the place of a completion slot of a queue whose completions are reaped
 pub record IsCompletionSlot (t : Tables) (q slot place : ℕ) : Type 0 where
   pub queue : Queue
   pub at : slice_get t.queues q ≡ Some queue
@@ -73,7 +73,7 @@ with_state state queue = record queue { state = state }
 abbrev pub state_deleted : Status → HostState
 state_deleted status = if is_success status then Deleting true else Live
 
--- a queue's completion half is given back
+-- a queue's completion half is given back, and the queue is gone then
 abbrev pub without_completion : ℕ → Tables → Tables
 without_completion q t = record t { owners = given_back (is_half q Completion) t.owners; queues = change q (with_state Gone) t.queues }
 
@@ -112,7 +112,8 @@ abbrev pub FitsHead : List Queue → ℕ → ℕ → Type 0
 FitsHead queues q sqhd =
     (queue : Queue) → slice_get queues q ≡ Some queue → is_in_range queue.host.entries queue.host.ring.known_head queue.host.ring.tail sqhd ≡ true
 
--- The submitted command that a completion is for, and which command of queue 0 that is, if it is one.
+-- The submitted command that a completion is for, and which command of queue 0 that is, if it is one. The completion names this queue, and a
+-- head that fits.
 pub record Answered (t : Tables) (q : ℕ) (e : ComEntry) (kind : Option AdminKind) : Type 0 where
   pub entry : Record
   pub was : find (is_at q e.cid) t.records ≡ Some entry

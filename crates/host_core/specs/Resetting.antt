@@ -28,7 +28,7 @@ pages_reset v pages = (after_reset (alone v pages)).memory
 
 -- The tables
 
--- queue 0 is as it opened, over the same halves, and none of its identifiers is claimed
+-- both rings of queue 0 are as they open, over the same halves, and none of its identifiers is claimed; its state stays
 abbrev pub admin_reset : Queue → Queue
 admin_reset queue = record queue { host = renewed queue.host.sq queue.host.cq queue.host }
 
@@ -44,7 +44,7 @@ with_admin_renewed t =
 abbrev pub with_records_reset : Tables → Tables
 with_records_reset t = record t { records = reset_records t.records }
 
--- an I/O queue is gone, and both rings are as they open; an identifier stays claimed as long as its command is outstanding
+-- an I/O queue is gone, and both rings are as they open; the claimed identifiers stay claimed
 abbrev pub gone : Queue → Queue
 gone queue = record queue { state = Gone; host = record queue.host { ring = fresh_host_ring } }
 

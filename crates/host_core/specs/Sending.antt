@@ -65,7 +65,7 @@ asked (DeleteCq q) t = t
 asked (CreateCq q n base) t = t
 asked (CreateSq q n base) t = t
 
--- a queue's side made anew over other halves
+-- a queue's side made anew over these halves
 abbrev pub renewed : (sq cq : ℕ) → HostSide → HostSide
 renewed sq cq side = record side { sq = sq; cq = cq; ring = fresh_host_ring; claimed = none_claimed (side.entries - 1) }
 
@@ -138,7 +138,7 @@ pub record CanSend (t : Tables) (kind : AdminKind) (cid : ℕ) : Type 0 where
   pub none : refusal_of (state_of t) (sending kind) ≡ None
   pub slot : HasSlot t cid
 
--- Nothing is against the making of a half, and from this page on its pages are free.
+-- Nothing is against the making of a half, and the lowest run of free pages for it begins at this page.
 pub record CanCreate (t : Tables) (half : Half) (q cid first : ℕ) : Type 0 where
   pub none : refusal_of (state_of t) (creating half q) ≡ None
   pub slot : HasSlot t cid

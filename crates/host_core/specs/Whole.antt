@@ -58,7 +58,7 @@ pub record Tells (owners : List Owner) (queues : List Queue) (records : List Rec
   pub queues_told : (q : ℕ) (queue : Queue) → slice_get queues q ≡ Some queue → TellsQueue owners q queue
   pub commands_told : AllByRecursion (TellsCommand owners) records
 
--- An outstanding command is one of a queue that there is; the request of an I/O command passed its check, and its pages are there.
+-- The request of an I/O command passed its check, and it has as many data pages as its pieces take.
 abbrev pub FitsWork : Work → Record → Type 0
 FitsWork (Io request) r = IsGood request × (length r.data_pages ≡ data_count request.pieces)
 FitsWork (Management kind) r = Unit {0}
@@ -72,6 +72,7 @@ FitsPhase Held (Io request) (Some status) = Unit {0}
 FitsPhase Held (Management kind) status = ⊥
 FitsPhase Collected work status = Unit {0}
 
+-- An outstanding command is one of a queue that there is, and fits its work.
 pub record IsRecord (queues : ℕ) (r : Record) : Type 0 where
   pub queue : r.q < queues
   pub work : FitsWork r.work r

@@ -382,7 +382,7 @@ impl<A: Allocator + Copy> Driver<A> {
         answer
     }
 
-    /// Resets: queue 0 alone has pages, and no completion waits in it.
+    /// Resets: of the queues queue 0 alone has pages, and no completion waits in it.
     pub(crate) fn reset(&mut self, rt: &impl Abort) {
         self.host.reset(&mut self.store);
         same(rt, self.host.counts().queue_pages, 2);

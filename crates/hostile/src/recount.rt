@@ -480,7 +480,7 @@ impl Recount {
         }
     }
 
-    /// The controller was reset: queue 0 alone is left, as it opened, and nothing that was forged.
+    /// The controller was reset: of the queues queue 0 alone is left, as it opened, and nothing that was forged.
     pub fn reset(&mut self) {
         self.lose(None);
         self.sent.clear();

@@ -56,7 +56,7 @@ draft_segments d = segments_on d.segment (numbers_of d.chain_pages) (draft_parts
 abbrev pub draft_entry : DraftContents → SubEntry
 draft_entry d = io_entry d.cid d.request (spelling (draft_first d))
 
--- pages with a segment's bytes at the start of each
+-- pages with the bytes of segments at their starts, one segment in each as far as there are segments
 abbrev pub laid : List (List Descriptor) → PagesOut → PagesOut
 laid [] pages = pages
 laid (segment ∷ segments) [] = []
@@ -74,7 +74,8 @@ abbrev pub IsBuiltIfAny : DraftContents → Option SubEntry → Type 0
 IsBuiltIfAny d None = Unit {0}
 IsBuiltIfAny d (Some entry) = IsBuilt d
 
--- its request passes its check, it has the pages that its pieces and the chain of its joined parts take, and where it has an entry it is built
+-- its request passes its check, its segments have up to 2 to 256 descriptors, it has the pages that its pieces and the chain of its joined
+-- parts take, and where it has an entry it is built
 pub record IsDraft (d : DraftContents) : Type 0 where
   pub good : IsGood d.request
   pub low : 2 ≤ d.segment

@@ -9,6 +9,6 @@ use Rattle.io_commands.specs.Jobs.{is_success}
 abbrev pub FitsVerdict : Option Status → Type 0
 FitsVerdict verdict = IfSome verdict (λ st. st.sct < 8)
 
--- whether an admin command that ends so leaves nothing of a submission queue
+-- whether an admin command that ends so has deleted a submission queue
 abbrev pub is_deletion : SubEntry → Status → Bool
 is_deletion entry status = (entry.opcode == DELETE_IO_SQ) && is_success status

@@ -89,7 +89,7 @@ pub record JobContents : Type 0 where
 abbrev pub StandsAtStart : SubEntry → Walk → Type 0
 StandsAtStart e w = (m : Memory) → walks.course m w ≡ course_of_list m e.sgl1 (direction_of_entry e) (need_of_entry e)
 
--- Where the field checks are passed there is a walk, which stands at the start.
+-- Just where the field checks are passed there is a walk, which stands at the start.
 abbrev pub BeginsWalk : SubEntry → Option Status → Option Walk → Type 0
 BeginsWalk e (Some fault) None = Unit {0}
 BeginsWalk e (Some fault) (Some w) = ⊥

@@ -30,7 +30,7 @@ LeastAnywhere = (request : Request) (segment first : ℕ) → IsGood request →
 abbrev pub AreDistinct : List ℕ → Type 0
 AreDistinct pages = (i j : ℕ) → i < j → j < length pages → slice_index pages i ≢ slice_index pages j
 
--- No pages make it fewer, consecutive ones or others.
+-- No distinct pages make it fewer, consecutive ones or others.
 abbrev pub LeastOfAll : Type 0
 LeastOfAll = (request : Request) (segment : ℕ) (pages : List ℕ) → IsGood request → 2 ≤ segment → length pages ≡ data_count request.pieces → AreDistinct pages →
     least_pages request.pieces segment ≤ pages_with request.pieces segment (joined_parts request.pieces pages)

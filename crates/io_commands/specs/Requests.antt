@@ -75,7 +75,7 @@ fault_of kind blocks pieces =
     ∷ (not (counted_lengths kind pieces == 512 * blocks), LengthMismatch)
     ∷ [])
 
--- The numbers of a request fit their types.
+-- The numbers of a piece, and those of a request, fit their types.
 abbrev pub FitsPiece : Piece → Type 0
 FitsPiece (Data offset len) = (offset < 2 ^ 32) × (len < 2 ^ 32)
 FitsPiece (Bucket len) = len < 2 ^ 32

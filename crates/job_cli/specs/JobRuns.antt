@@ -106,7 +106,7 @@ IsNoJobs told submitters run.Unreadable = Unit {0}
 IsNoJobs told submitters run.Memory = Unit {0}
 IsNoJobs told submitters other = ⊥
 
--- why no threads ran to their end: the opening is refused, or else something was wanting
+-- why a run of threads left no owners and counts: the opening is refused, or else something was wanting
 abbrev pub IsNoRun : Config → RunFault → Type 0
 IsNoRun config run.BadConfig = refusal_of_config config ≡ Some opening.BadConfig
 IsNoRun config (run.NoPages need free) = refusal_of_config config ≡ Some (opening.NoPages need free)
@@ -120,7 +120,7 @@ abbrev pub WritesJobs : Option (List ℕ) → ℕ → Config → List ℕ → Op
 WritesJobs told submitters config image before after Holds =
     (lines : List JobLine) × HasJobs told submitters lines × Gains before after (Holds (opening_of config image) lines)
 
--- a reader has a script without faults, whose run ended so before anything was written
+-- a reader has a script without faults, the configuration has this refusal or none, and nothing was written
 abbrev pub EndsUnwritten : Option (List ℕ) → ℕ → Config → Option OpenRefusal → Option (List ℕ) → Option (List ℕ) → Type 0
 EndsUnwritten told submitters config refusal before after =
     (lines : List JobLine) × HasJobs told submitters lines × (refusal_of_config config ≡ refusal) × Keeps before after

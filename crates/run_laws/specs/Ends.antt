@@ -73,7 +73,7 @@ pub record WasCompleted (earlier : List Made) (q cid : ℕ) (st : Status) : Type
   pub cause : IsTrue (has_cause before completion q cid st)
 
 -- A command was submitted as its queue was retired, after a deletion of that queue had been fetched, and of no queue of its number that was
--- there before: it was lost
+-- there before, and was not submitted anew since: it was lost
 pub record WasLost (earlier : List Made) (q cid : ℕ) (st : Status) : Type 0 where
   pub before : List Made
   pub retirement : Made

@@ -62,7 +62,7 @@ collected_commands_were_submitted =
 abbrev pub was_fetched : CollectedCommand → Bool
 was_fetched c = list_any (fetches c.finished.q c.finished.cid) c.between
 
--- what its draft gathered as it was submitted, and what it gathers now
+-- what its draft gathered as it was submitted, and what it gathers as it was collected
 abbrev pub bytes_drafted : CollectedCommand → List ℕ
 bytes_drafted c = gathered c.draft.request.pieces c.draft.data_pages
 
@@ -88,7 +88,7 @@ unfetched_commands_keep_their_data = (c : CollectedCommand) → IsTrue (not (was
 abbrev pub unfetched_commands_keep_the_drafts_bytes : Type 0
 unfetched_commands_keep_the_drafts_bytes = (c : CollectedCommand) → IsTrue (not (was_fetched c)) → bytes_collected c ≡ bytes_drafted c
 
--- its queue was deleted, or the controller reset: no other status is given without a fetch
+-- its status is that of a deleted queue or a reset: no other is given without a fetch
 abbrev pub unfetched_commands_were_deleted : Type 0
 unfetched_commands_were_deleted = (c : CollectedCommand) → IsTrue (not (was_fetched c)) → c.finished.status ≡ ABORTED_SQ_DELETION
 

@@ -49,7 +49,7 @@ abbrev pub owners_text : List Owner → List ℕ
 owners_text [] = []
 owners_text (owner ∷ rest) = owner_lines 0 0 owner rest
 
--- the last line of every run, with its line feed
+-- the last line of the text of a run, with its line feed
 abbrev pub counts_line : Counts → List ℕ
 counts_line counts =
     codes "counts free " ++ (decimal counts.free_pages ++ (codes " queue " ++ (decimal counts.queue_pages

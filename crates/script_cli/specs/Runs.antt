@@ -28,7 +28,7 @@ use Rattle.host_core.specs.Opening.{refusal_of_config}
 use Rattle.step_core.specs.Opening.{opening_of}
 use Rattle.host_core.specs.declared.config.Config.{Config}
 
--- Lines whose numbers fit, as those of each script without faults do
+-- Lines whose numbers fit, a request's and the 16 bytes of an entry, as those of each script without faults do
 
 abbrev pub IsFitLine : Line → Type 0
 IsFitLine (line.Step what) = IsFitStep what

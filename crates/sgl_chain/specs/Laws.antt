@@ -52,7 +52,7 @@ abbrev pub PagesHoldSegments : Pages → Type 0
 PagesHoldSegments pages = (p : ℕ) (page : List ℕ) (descriptors : List Descriptor) →
     page_at pages p ≡ Some (with_bytes page 0 (segment_bytes descriptors)) → Holds (byte_at pages) (4096 * p) (segment_bytes descriptors)
 
--- Segments are laid in their pages exactly where the memory holds the bytes of each, by its number, in the page of that number.
+-- Segments are laid in their pages exactly where the memory holds the bytes of each, by its place among them, in the page at that place.
 abbrev pub LaidByNumber : Memory → Type 0
 LaidByNumber m = (pages : List ℕ) (segments : List (List Descriptor)) → length segments ≤ length pages →
     (IsLaid m pages segments) ↔ ((i : ℕ) → i < length segments → Holds m (4096 * slice_index pages i) (segment_bytes (segment_at segments i)))

@@ -145,7 +145,7 @@ impl Part {
     }
 }
 
-/// Which way an SGL's data goes (Base 2.0, "SGL", destination and source data buffers).
+/// Which way an SGL's data goes (Base 2.0, "Scatter Gather List (SGL)", destination and source data buffers).
 #[derive(Clone, Copy, Debug, PartialEq, Eq)]
 pub enum Direction {
     /// The data goes to host memory, as a Read's does.

@@ -48,7 +48,7 @@ pub record GoesOn (t : Table) (what : Step) : Type 0 where
   pub left : Table
   pub does : Does t what answer left
 
--- whatever was forged, each step has an answer
+-- whatever was forged, each step whose numbers fit has an answer
 abbrev pub benches_go_on : Type 0
 benches_go_on = (t : Table) (what : Step) → IsTableInOrder t → IsFitStep what → GoesOn t what
 

@@ -21,7 +21,7 @@ event_of (Fetch q) = events.Fetch q
 event_of (Walk q cid) = events.Walk q cid
 event_of (Complete q cid) = events.Complete q cid
 
--- the controller can do nothing
+-- the controller can do nothing, where the world is trusted
 pub record IsAtRest (s : State) : Type 0 where
   pub fetches : (q : ℕ) → is_possible s (events.Fetch q) ≡ false
   pub walks : (q cid : ℕ) → is_possible s (events.Walk q cid) ≡ false

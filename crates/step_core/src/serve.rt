@@ -105,9 +105,9 @@ impl<A: Allocator + Copy> World<A> {
         fetched(answer, touched_by(&self.store))
     }
 
-    /// The controller does the next unit of the list of a fetched command (NVM Express Base Specification 2.0, "SGL", section 4.1.2): it
-    /// takes a descriptor, or moves the bytes of one page. Where nothing was forged, it answers `End` or a fault with the last unit,
-    /// which is then the command's verdict. No memory is taken.
+    /// The controller does the next unit of the list of a fetched command (NVM Express Base Specification 2.0, "Scatter Gather
+    /// List (SGL)", section 4.1.2): it takes a descriptor, or moves the bytes of one page. Where nothing was forged, it answers `End` or a
+    /// fault with the last unit, which is then the command's verdict. No memory is taken.
     ///
     /// # Errors
     ///

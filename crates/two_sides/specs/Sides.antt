@@ -16,7 +16,7 @@ use Rattle.queue_pair.specs.Lists.{entries_between, answers_between}
 use Rattle.queue_pair.specs.Rings.{HostRing, DeviceSide}
 use Rattle.queue_pair.specs.Slots.{distance}
 
--- both sides, the pages that they share, and whether nothing was forged
+-- both sides, the pages that they share, and whether nothing was forged since the last reset
 pub record Sides : Type 0 where
   pub host : HostView
   pub controller : Contents

@@ -35,7 +35,7 @@ hosts_step =
     → IsWorld s → machine.IsController e ≡ false → forges e ≡ false → HostStep s.host s.pages e reply host pages → IsOver host pages
     → StepsTo s e reply (behind s e reply host pages)
 
--- whether the host finds a completion at a head, the machine has one there
+-- the host finds a completion at a head, of a queue that is reaped, exactly where the machine has one
 abbrev pub completions_are_seen : Type 0
 completions_are_seen =
     (s : Sides) (q : ℕ) (h : HostQueue) → IsWorld s → slice_get s.host.host.queues q ≡ Some h → is_reaped h.state ≡ true
@@ -84,7 +84,7 @@ completes_refuse_alike =
     (s : Sides) (q cid : ℕ) → IsWorld s → s.trusted ≡ true
     → refusal_of (state_of s) (events.Complete q cid) ≡ option_map why_of (complete_refusal s.controller (byte_at s.pages) q cid)
 
--- A forged entry: any bytes in a completion slot. Nothing is trusted from then on.
+-- A forged entry: any bytes in a completion slot. Nothing is trusted from then on, until a reset.
 abbrev pub forged : Sides → Pages → Sides
 forged s pages = record s { pages = pages; trusted = false }
 
