@@ -57,7 +57,8 @@ fn bytes_of(jobs: &JobEnds) -> Option<u64> {
 ///
 /// # Errors
 ///
-/// `Refused` where the run fails or a Read does not end well, `Usage` where there are not 1 to 16 submitters, and `Memory`.
+/// `Refused` where the run fails or a Read does not end well, `Usage` where there is no submitter, and `Memory` where it is
+/// refused for the jobs.
 pub fn read_in_threads<L: Driver + Send + Sync, R: Threads + Wait + Sync>(
     rt: &R,
     alloc: Global,

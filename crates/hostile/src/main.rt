@@ -1,6 +1,6 @@
 //! A host that is as hostile as its controller: random steps over worlds, with forged completions among them.
 //!
-//! Each step is a call of a `World` of `step_core`, with arguments that are mostly sensible and sometimes not. After each step the world is
+//! Each step is a call of a `World` of `step_core` or of a draft, with arguments that are mostly sensible and sometimes not. After each step the world is
 //! compared with a recount of its pages, commands and queues that is made of the answers alone; a difference ends the program with exit
 //! status 1. It prints how many steps of each kind were accepted and refused, what reaps found, and a digest of all answers.
 #![tactic(auto)]

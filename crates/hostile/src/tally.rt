@@ -51,9 +51,9 @@ impl Found {
 #[derive(Drop)]
 pub struct Tally {
     lines: [Line; KINDS],
-    /// What the reaps of completions that the controller posted found.
+    /// What the reaps at slots that were not forged found.
     pub posted: Found,
-    /// What the reaps of forged completions found.
+    /// What the reaps at slots that were forged found.
     pub forged: Found,
 }
 
