@@ -1,7 +1,8 @@
-//! A run through a book on two seats, and each other call of a book on its good path.
+//! A run through a book on two seats, what its looks tell, and most other calls of a book on their good paths.
 
 use crate::part::{Part, Told, run};
 use entry_codec::Status;
+use step_core::{ControllerStep, Refusal};
 use worked_scripts::pools::USUAL;
 
 /// A Write of one seat and a Read of another, of the same block.
@@ -118,4 +119,37 @@ reserve 1 write 2 1 0+512 => q 1 cid 1 data 1 chain 0",
 #[test]
 fn commands_are_given_up(rt: HostRuntime) {
     run(&rt, rt.alloc(), USUAL, GIVEN_UP);
+}
+
+/// A Read, and between its steps what the controller can do, whether a completion waits, and whether it can be collected.
+const LOOKED_AT: &[Part] = &[
+    Part::Sit,
+    Part::CanDo(None, None),
+    Part::Steps(
+        "reserve 1 read 0 1 0+512 => q 1 cid 0 data 1 chain 0
+build 1 0 => ok
+submit 1 0 => ok",
+    ),
+    Part::WouldCollect(Some(Refusal::NotYet)),
+    Part::CanDo(None, None),
+    Part::Steps("ring 1 => ok"),
+    Part::CanDo(Some(ControllerStep::Fetch { q: 1 }), None),
+    Part::Steps("fetch 1 => cid 0 touched 2"),
+    Part::CanDo(Some(ControllerStep::Walk { q: 1, cid: 0 }), None),
+    Part::Steps(
+        "walk 1 0 => more touched -
+walk 1 0 => end touched 4",
+    ),
+    Part::CanDo(Some(ControllerStep::Complete { q: 1, cid: 0 }), None),
+    Part::Steps("complete 1 0 => ok touched 3"),
+    Part::CanDo(None, Some(1)),
+    Part::Steps("reap 1 => done cid 0 status 0:00"),
+    Part::CanDo(None, None),
+    Part::WouldCollect(None),
+    Part::HasEntries(8),
+];
+
+#[test]
+fn looks_make_no_step(rt: HostRuntime) {
+    run(&rt, rt.alloc(), USUAL, LOOKED_AT);
 }

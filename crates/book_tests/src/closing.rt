@@ -147,7 +147,7 @@ fn many_seats(rt: HostRuntime) {
     close_many::<Brand, HostRuntime>(&rt, alloc, USUAL, image, Blank::new(65536));
 }
 
-/// The receipt that was not handed in.
+/// The receipt of the seat that was handed in, which comes back.
 const OPEN: [Told; 1] = [(0, 0, None)];
 
 /// Two seats with a submitted command each, the second of which is lost: that comes before the commands that are outstanding.

@@ -5,7 +5,7 @@ use entry_codec::Status;
 use worked_scripts::forgeries;
 use worked_scripts::pools::{SMALL_TWO_QUEUES, USUAL};
 
-/// Each is taken, and changes nothing else.
+/// Three are taken, and change nothing else; one is refused.
 const REJECTED: &[Part] = &[Part::Plays(forgeries::REJECTED), Part::HasEntries(8)];
 
 #[test]

@@ -25,17 +25,6 @@ pub(crate) fn fill_last<R: Abort>(rt: &R, values: &mut Vec<Value>, byte: u8) {
     assert!(rt; filled);
 }
 
-/// The command that came about last has this page alone.
-pub(crate) fn has_page<R: Abort>(rt: &R, values: &[Value], want: u32) {
-    match values.last() {
-        Some(value) => match value.pages() {
-            [(page, _)] => see(rt, &page.0, &want),
-            _ => panic!(rt; "it does not have one page"),
-        },
-        None => panic!(rt; "no command is about"),
-    }
-}
-
 /// A finished command that is taken apart, and made anew with another status.
 fn made_anew<R: Abort>(rt: &R, finished: Finished, status: Status) -> Finished {
     let parts = finished.apart();

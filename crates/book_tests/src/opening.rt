@@ -8,13 +8,14 @@ use crate::part::{Part, counts, end, opened, play};
 use block_image::Image;
 use book_desk::Desk;
 use driver_book::*;
+use io_commands::{Kind, Piece, Pieces, Request};
 use page_ledger::Owner;
 use page_memory::PageNo;
 use std::alloc::Global;
 use std::marker::Brand;
 use std::process::Abort;
 use std::sync::ledger::Blank;
-use step_core::{Config, OpenRefusal};
+use step_core::{Config, OpenRefusal, Refusal};
 use worked_scripts::pools::USUAL;
 
 /// A new book has 16 pages, of which 12 are free, 4 are of queues, and page 4 is free, and its log is empty.
@@ -24,6 +25,22 @@ fn see_new<L: Driver, R: Abort>(rt: &R, book: &Book<L>) {
     see(rt, &book.counts(), &counts(12, 4, 0));
     book.check();
     assert!(rt; book.log().is_empty());
+}
+
+/// A Read of one block would be reserved on queue 1, and takes one page at least.
+fn see_request<L: Driver, R: Abort>(rt: &R, alloc: Global, book: &Book<L>) {
+    let mut pieces = Pieces::new(alloc);
+    let piece = Piece::Data { offset: 0, len: 512 };
+    pieces.push(piece).expect(rt, "a piece");
+    let request = Request {
+        kind: Kind::Read,
+        slba: 0,
+        blocks: 1,
+        pieces,
+    };
+    see(rt, &book.reserve_refusal(1, &request), &None);
+    see(rt, &book.reserve_refusal(2, &request), &Some(Refusal::NoQueue));
+    see(rt, &book.least_pages(&request), &Ok(1));
 }
 
 /// A book tells that it is stopped once it is told so.
@@ -51,6 +68,7 @@ fn look<L: Driver, R: Abort>(rt: &R, alloc: Global, config: Config, image: Image
     let mut desk: Desk<L> = opened(rt, alloc, config, image, blank);
     play(rt, &mut desk, TWO_SEATS);
     see_stop(rt, &mut desk.book);
+    see_request(rt, alloc, &desk.book);
     see_new(rt, &desk.book);
     end(desk);
 }

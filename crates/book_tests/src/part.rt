@@ -4,7 +4,7 @@ ghost use Rattle.std.specs.Prelude.{◌≡◌};
 ghost use Rattle.step_core.specs.Opening.{opening_of};
 
 use crate::closes::{close, stay_open};
-use crate::looks::{alter, fill_last, has_page, has_receipts, see};
+use crate::looks::{alter, fill_last, has_receipts, see};
 use crate::steps::{play_steps, play_worked};
 use block_image::Image;
 use book_desk::Desk;
@@ -15,7 +15,7 @@ use std::alloc::Global;
 use std::marker::Brand;
 use std::process::Abort;
 use std::sync::ledger::Blank;
-use step_core::{Config, Leftover};
+use step_core::{Config, ControllerStep, Leftover, Refusal};
 use worked_scripts::WorkedScript;
 
 /// What a receipt of queue 1 tells: its number, and the identifier and the status of its command.
@@ -36,8 +36,6 @@ pub(crate) enum Part {
     Plays(WorkedScript),
     /// The draft that came about last is filled with a block of one byte.
     FillLast(u8),
-    /// The draft that came about last has this page alone.
-    HasPage(u32),
     /// The command that was collected last is made anew with another status.
     Alter(Status),
     /// The seat that acts has this number and these receipts.
@@ -46,6 +44,10 @@ pub(crate) enum Part {
     HasPages(u32, u32, u32),
     /// The log has so many entries.
     HasEntries(usize),
+    /// What the controller can do next, and the first queue with a completion.
+    CanDo(Option<ControllerStep>, Option<u16>),
+    /// What collecting command 0 of queue 1 would be refused for.
+    WouldCollect(Option<Refusal>),
     /// All seats are handed in, and the book is closed: the only receipt of each is this one.
     Close(&'static [Told]),
     /// All seats are handed in, and come back, so many of them, as the book is not closed.
@@ -71,13 +73,17 @@ fn play_part<L: Driver, R: Abort>(rt: &R, desk: &mut Desk<L>, part: Part) {
         Part::Steps(text) => play_steps(rt, desk, text),
         Part::Plays(worked) => play_worked(rt, desk, worked),
         Part::FillLast(byte) => fill_last(rt, &mut desk.values, byte),
-        Part::HasPage(page) => has_page(rt, &desk.values, page),
         Part::Alter(status) => alter(rt, &mut desk.values, status),
         Part::HasReceipts(number, told) => has_receipts(rt, &desk.seats, number, told),
         Part::HasPages(free, queue, data) => {
             see(rt, &desk.book.counts(), &counts(free, queue, data))
         }
         Part::HasEntries(count) => see(rt, &desk.book.log().len(), &count),
+        Part::CanDo(step, q) => {
+            see(rt, &desk.book.next_step(), &step);
+            see(rt, &desk.book.next_completion(), &q);
+        }
+        Part::WouldCollect(why) => see(rt, &desk.book.collect_refusal(1, 0), &why),
         Part::Close(told) => close(rt, desk, told),
         Part::StayOpen(why, seats) => stay_open(rt, desk, why, seats),
     }

@@ -14,7 +14,7 @@ const LIVE: DeviceView = DeviceView {
     pages: 8,
 };
 
-/// No queue of the number is there, so that each can be made.
+/// Neither half of the queue is there, so that its completion half can be made.
 const NEITHER: DeviceView = DeviceView {
     sq: SqState::Absent,
     cq_there: false,

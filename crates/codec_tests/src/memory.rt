@@ -70,7 +70,7 @@ fn takes_puts_and_zeroes_a_page(rt: HostRuntime) {
     drop(store);
 }
 
-/// Nothing is read or written at an address, and no page is touched.
+/// A read and a write at an address are refused, and the write touches no page.
 fn see_refused(rt: &impl Abort, store: &mut Store, addr: u64) {
     store.clear();
     same_at(rt, addr, store.read(addr, &mut [0; 16]), Err(Unreadable));

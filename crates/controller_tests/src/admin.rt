@@ -19,8 +19,8 @@ pub(crate) enum Step {
     Walks(u16, u16, Result<WalkState, Refusal>),
     /// It completes a command.
     Completes(u16, u16, Result<(), Refusal>),
-    /// The driver finds this in a slot of a completion queue: the double word that is specific to the command, and the two bytes of status
-    /// and phase.
+    /// The driver finds this in a slot of a completion queue: the lowest byte of the double word that is specific to the command, and the two
+    /// bytes of status and phase.
     Finds(u16, u16, u8, [u8; 2]),
 }
 

@@ -32,8 +32,8 @@ fn scramble(rt: &impl Abort, guest: &mut Guest, numbers: &mut Numbers) {
     }
 }
 
-/// Puts an entry into a slot of a submission queue: one over few blocks, with a list that begins somewhere in the memory, so that many walks
-/// get beyond their first unit. One in four has a byte that is wrong.
+/// Puts an entry into a slot of a submission queue: one over few blocks, with a Data Block that begins somewhere in the memory, so that many
+/// walks get beyond their first unit. One in four has a byte that is wrong.
 fn put_entry(rt: &impl Abort, guest: &mut Guest, numbers: &mut Numbers) {
     let opcode = [0x02, 0x01, 0x05, 0x00, 0x04, 0x08][numbers.next() as usize % 6];
     let blocks = 1 + (numbers.next() % 3) as u16;

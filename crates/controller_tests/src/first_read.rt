@@ -61,8 +61,8 @@ fn first_read(rt: HostRuntime) {
     assert!(rt; memory.write(0x2000, &READ).is_ok());
     controller.tail_doorbell(1, 1);
 
-    // The emulator has the entry fetched. Before each call it clears the list of the touched pages, so that this call has room, and behind
-    // the call the list has what this call touched: here the page of the slot.
+    // The emulator has the entry fetched. Before a call it clears the list of the touched pages, where that has pages, so that this call has
+    // room, and behind the call the list has what this call touched: here the page of the slot.
     memory.clear();
     same(&rt, controller.fetch(1, &mut memory), Ok(7));
     same(&rt, memory.touched().as_slice(), [PageNo(2)].as_slice());

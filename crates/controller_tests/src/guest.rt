@@ -140,7 +140,7 @@ impl Guest {
         bytes
     }
 
-    /// Carries the first entry of the I/O queue from its slot to its completion: the two bytes of status and phase there.
+    /// Carries an entry of the I/O queue from the slot that is next to its completion, in this slot: the two bytes of status and phase there.
     pub(crate) fn serve(&mut self, rt: &impl Abort, slot: u16, entry: &[u8; 64]) -> [u8; 2] {
         self.submit(rt, 1, entry);
         let cid = self.fetch(1).expect(rt, "it is fetched");

@@ -1,4 +1,5 @@
-//! A memory as an emulator may have it, and what makes it one that the controller can be lent: it meets [`Dma`]. That it meets [`TouchRecord`] is for the emulator.
+//! A memory as an emulator may have it, and what makes it one that the controller can be lent: it meets [`Dma`], and for
+//! `next_step` [`TouchRecord`], which the emulator uses too.
 
 ghost use Rattle.std.specs.Prelude.{◌≡◌, ◌+◌, ◌<◌, ◌≤◌, ◌++◌, [], length, replicate, IfOk, IfNone, IfSome};
 ghost use Rattle.page_memory.specs.Memory.{pages_reached};

@@ -1,4 +1,4 @@
-//! A controller reset, at any time.
+//! Controller resets: in the midst of a walk, behind a Write, one after another.
 
 use crate::admin::{Step, play};
 use crate::expecting::same;
@@ -133,7 +133,7 @@ fn a_reset_keeps_the_image(rt: HostRuntime) {
     drop(guest);
 }
 
-/// Behind a reset the admin queue is live and the I/O queue is not there, over the pages that they have; each reset finds it so again.
+/// Behind a reset the admin queue is live and the I/O queue is not there; each reset leaves them so again.
 #[test]
 fn resets_leave_the_admin_queue(rt: HostRuntime) {
     let mut guest = Guest::open(&rt, rt.alloc());

@@ -19,7 +19,7 @@ const SMALL: Config = Config {
     segment: 256,
 };
 
-/// Why a world over an image of one block is not opened, if it is not. The image is as it was.
+/// Why a world over an image of one block is not opened, if it is not. The image comes back with its block.
 fn refusal(rt: &impl Abort, alloc: Global, config: Config) -> Result<Option<OpenRefusal>, Fail> {
     match World::open(alloc, config, Image::zeroed(alloc, 1)?) {
         Ok(world) => {

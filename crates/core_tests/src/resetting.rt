@@ -10,7 +10,7 @@ use std::process::Abort;
 use std::test::Fail;
 use step_core::*;
 
-/// What a world shows: whether nothing was forged, whether no command is outstanding, its counts, and whose some pages are.
+/// What a world shows: whether nothing was forged since it opened or was reset, whether no command is outstanding, its counts, and whose some pages are.
 struct Shown {
     trusted: bool,
     idle: bool,

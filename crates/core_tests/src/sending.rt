@@ -43,7 +43,7 @@ static CAUSES: [(Call, Told); 9] = [
 ];
 
 #[test]
-fn each_cause_is_told(rt: HostRuntime) -> Result<(), Fail> {
+fn causes_are_told(rt: HostRuntime) -> Result<(), Fail> {
     let_go(called_world(&rt, rt.alloc(), &CAUSES)?);
     Ok(())
 }

@@ -1,4 +1,4 @@
-//! A hundred thousand arbitrary calls of a host, with arbitrary bytes in its completion rings before each.
+//! A hundred thousand arbitrary turns of a host, each a call or none, with arbitrary bytes in its completion rings before each.
 
 ghost use Rattle.std.specs.Prelude.{◌<◌};
 
@@ -69,7 +69,7 @@ impl Run {
         self.driver = Driver::open(alloc, CONFIG).expect(rt, "it opens");
     }
 
-    /// Forges, and does one call.
+    /// Forges, and does one call, or none.
     fn go_on(&mut self, rt: &impl Abort, alloc: Global) {
         self.forge();
         match self.call(rt, alloc) {

@@ -1,4 +1,4 @@
-//! Each call of a host on its good path, with what the standard's rules say that it answers. The controller is played by hand: its
+//! Each call of a host on its good path, and what it tells of itself, with what the standard's rules say that it answers. The controller is played by hand: its
 //! completions are bytes that stand in this file.
 
 use crate::driver::{Driver, HeldDraft};
@@ -9,7 +9,7 @@ use admin_commands::AdminKind;
 use entry_codec::Status;
 use host_core::Reap;
 use io_commands::{Kind, Request};
-use machine_model::words::{Reaped, Refusal};
+use machine_model::words::{HostState, Reaped, Refusal};
 use page_ledger::{Counts, Owner, Role};
 use page_memory::Half;
 use std::alloc::{Allocator, Global};
@@ -238,14 +238,14 @@ fn a_queue_ends(rt: HostRuntime) {
 }
 
 /// The creation of the completion half of queue 1 in page 2.
-const CREATE_CQ: AdminKind = AdminKind::CreateCq {
+pub(crate) const CREATE_CQ: AdminKind = AdminKind::CreateCq {
     q: 1,
     entries: 4,
     base: 8_192,
 };
 
 /// The creation of its submission half in page 3.
-const CREATE_SQ: AdminKind = AdminKind::CreateSq {
+pub(crate) const CREATE_SQ: AdminKind = AdminKind::CreateSq {
     q: 1,
     entries: 4,
     base: 12_288,
@@ -294,6 +294,21 @@ fn a_reset(rt: HostRuntime) {
     drop(driver);
 }
 
+/// What a host tells of its queues, and the fewest pages of a request: three of data, and two of a list in segments of two.
+#[test]
+fn a_host_tells_what_it_has(rt: HostRuntime) {
+    let driver = opened(&rt, rt.alloc());
+    let host = driver.host();
+    same(&rt, (host.queue_count(), host.entries()), (2, 4));
+    same(&rt, host.completion_base(1), Some(0x3000));
+    same(&rt, host.completion_base(2), None);
+    same(&rt, host.queue_state(1), Some(HostState::Live));
+    same(&rt, host.queue_state(2), None);
+    let request = of_blocks(rt.alloc(), Kind::Read, 3).expect(&rt, "a request");
+    same(&rt, host.least_pages(&request), Ok(5));
+    drop(driver);
+}
+
 /// Collects a Read, which gathers these bytes, and releases it.
 fn end_read(rt: &impl Abort, driver: &mut Driver, alloc: Global, bytes: &[u8]) {
     let Ok(held) = driver.collect(rt, 1, 0) else {
@@ -329,7 +344,7 @@ fn a_read(rt: HostRuntime) {
     drop(driver);
 }
 
-/// A Write with a chain gets four data pages and what its chain takes, and is cancelled. What the host shows, before and behind it.
+/// A Write with a chain gets three data pages and what its chain takes, and is cancelled. What the host shows, before and behind it.
 #[test]
 fn a_write_is_cancelled(rt: HostRuntime) {
     let mut driver = opened(&rt, rt.alloc());

@@ -2,7 +2,7 @@
 //!
 //! A driver has the host and the pages. It lends the pages to the host at each call, and between the calls anyone writes in them: the
 //! controller, and whatever passes for one. Here that is arbitrary bytes, over each slot of each completion ring, before every call.
-//! Behind every call the driver takes the owner of each page again, and counts: that each page that is out is one of a command that is
+//! Behind every call that is lent the pages the driver takes the owner of each page again, and counts: that each page that is out is one of a command that is
 //! drafted or collected, that the four classes are what the host counts, and that no identifier is outstanding twice.
 
 use crate::calls::{opened, reserved};

@@ -1,8 +1,7 @@
 //! The calls that want memory, each with every one of its growths refused in turn: the answer is want of memory, nothing changed, no byte
-//! leaked, and the same call then succeeds. And those that send an admin command, and the
-//! reset, with every growth refused: they want none.
+//! leaked, and the same call then succeeds. And those that send an admin command, and the reset, with every growth refused: they want none.
 
-use crate::calls::{SUCCESS, completion, opened, submit};
+use crate::calls::{CREATE_CQ, CREATE_SQ, SUCCESS, completion, opened, submit};
 use crate::driver::Driver;
 use crate::expecting::{same, same_at};
 use crate::hostile_memory::SMALL;
@@ -143,6 +142,19 @@ fn deletions(rt: HostRuntime) {
         send_without_memory(&rt, &heap, &mut driver, kind);
         drop(driver);
     }
+}
+
+/// Behind a reset the halves of queue 1 are made again.
+#[test]
+fn creations(rt: HostRuntime) {
+    let heap = Refusing::new(rt.alloc());
+    let mut driver = opened(&rt, &heap);
+    driver.reset(&rt);
+    send_without_memory(&rt, &heap, &mut driver, CREATE_CQ);
+    driver.scribble(1, 0, &completion(0, 1, 0, SUCCESS));
+    assert!(rt; driver.reap(&rt, 0).is_ok());
+    send_without_memory(&rt, &heap, &mut driver, CREATE_SQ);
+    drop(driver);
 }
 
 /// A Read waits and an Abort of it is sent; a reset ends both where each growth is refused: none is asked for.

@@ -9,7 +9,7 @@ use std::io;
 use std::test::Fail;
 use step_core::Config;
 
-/// Each fault of a script comes before anything is written, and before those of the opening.
+/// Each fault of a script but of its lengths comes before anything is written, and before those of the opening.
 #[test]
 fn scripts_at_fault(rt: HostRuntime) -> Result<(), Fail> {
     let bad = Config { pages: 7, ..USUAL };
@@ -54,7 +54,7 @@ fn long_scripts(rt: HostRuntime) -> Result<(), Fail> {
     Ok(())
 }
 
-/// A reader without end is asked until it gave one byte more than a script may have.
+/// A reader without end ends in `TooLong`, with nothing written.
 #[test]
 fn a_reader_without_end(rt: HostRuntime) -> Result<(), Fail> {
     let Ok(image) = Image::zeroed(rt.alloc(), 1) else {

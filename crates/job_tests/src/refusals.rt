@@ -19,7 +19,7 @@ fn with_pieces(
     Ok(line)
 }
 
-/// Each cause of a refusal, and where two causes hold the first of them.
+/// Five causes of a refusal, and where two hold the first of them.
 #[test]
 fn jobs_are_refused(rt: HostRuntime) -> Result<(), Fail> {
     for (job, answer) in [

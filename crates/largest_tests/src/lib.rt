@@ -1,5 +1,5 @@
-//! The largest cases: the longest chains, the commands with the most pieces and blocks, and the largest world, each from its request to
-//! its last byte. No clause says that these get the memory that they take. It has tests alone.
+//! The largest cases: the longest chains, and, each from its request to its last byte, the commands with the most pieces and blocks, and the
+//! largest world. No clause says that these get the memory that they take. It has tests alone.
 #![tactic(auto)]
 
 #[cfg(test)]

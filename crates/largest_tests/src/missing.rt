@@ -1,4 +1,4 @@
-//! Walks that move 512 bytes over a memory in which one byte is missing.
+//! Walks of 512 bytes over a memory in which a byte is missing, or one on either side of the data.
 
 use crate::expecting::same;
 use controller_walk::{Walk, WalkState};

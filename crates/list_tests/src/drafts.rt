@@ -10,7 +10,7 @@ use std::alloc::Global;
 use std::process::Abort;
 use std::test::Fail;
 
-/// Two quarters of a page with a bucket between them.
+/// Two halves of a block with a bucket between them.
 const HALVES: Asked = Asked {
     kind: Kind::Read,
     blocks: 2,

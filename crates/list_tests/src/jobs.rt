@@ -118,7 +118,7 @@ static WRITTEN: [Served; 3] = [
 static READ: [Served; 1] = [(io_opcode::READ, 0, 512, SUCCESS)];
 
 #[test]
-fn a_write_is_compared_and_read(rt: HostRuntime) -> Result<(), Fail> {
+fn a_write_is_compared_and_the_other_block_read(rt: HostRuntime) -> Result<(), Fail> {
     let mut store = filled(&rt, rt.alloc())?;
     let mut image = Image::zeroed(rt.alloc(), 2)?;
     see_served(&rt, rt.alloc(), &mut store, &mut image, &WRITTEN)?;
@@ -129,7 +129,7 @@ fn a_write_is_compared_and_read(rt: HostRuntime) -> Result<(), Fail> {
     Ok(())
 }
 
-/// A block is written, compared and read by lists of 600 bytes.
+/// A block is written and compared, and the other one is read, by lists of 600 bytes.
 static LONGER: [Served; 3] = [
     (io_opcode::WRITE, 0, 600, SUCCESS),
     (io_opcode::COMPARE, 0, 600, SUCCESS),

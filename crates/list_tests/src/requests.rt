@@ -169,7 +169,7 @@ fn requests_are_checked_at_their_borders(rt: HostRuntime) -> Result<(), Fail> {
     Ok(())
 }
 
-/// A Read of three whole pages and half a one, the last block of which it discards.
+/// A Read of three whole pages and two blocks, the last of which it discards.
 const FOUR_PAGES: Asked = Asked {
     kind: Kind::Read,
     blocks: 26,

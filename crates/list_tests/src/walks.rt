@@ -355,7 +355,7 @@ fn a_missing_byte_ends_the_walk_at_its_page(rt: HostRuntime) -> Result<(), Fail>
     play_on_both(&rt, rt.alloc(), 8, &MISSING_BYTE)
 }
 
-/// Ranges that end at 2^64 exactly are ordinary missing places.
+/// Ranges that end at 2^64 exactly are ordinary missing places, as is one over the last page's end; one that ends behind 2^64 has a bad length.
 static LAST_RANGES: [Event; 4] = [
     Event::Walk(Route {
         direction: Direction::Source,

@@ -22,7 +22,7 @@ fn status(numbers: &mut Numbers) -> Status
     }
 }
 
-/// A completion of a command that waits, mostly with the right phase, submission head and queue.
+/// A completion, mostly of a command that waits, and mostly with the right phase, submission head and queue.
 fn almost_right(numbers: &mut Numbers, q: u16, rings: Rings) -> [u8; 16] {
     let cid = rings.awaited(numbers.below(COMMANDS));
     let sqhd = if numbers.below(4) == 0 {

@@ -1,4 +1,4 @@
-//! A full set of commands on a queue: each kind in several sizes, which all succeed.
+//! A full set of commands on a queue: each kind in several sizes, which all end as they must.
 
 use crate::desk::Desk;
 use crate::expecting::same;

@@ -1,4 +1,4 @@
-//! Whole scripts and all that they print, played through `run_steps`. It has tests alone.
+//! Whole scripts and all that they print, played through `run_steps`, and the calls under it. It has tests alone.
 #![tactic(auto)]
 
 #[cfg(test)]

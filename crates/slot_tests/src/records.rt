@@ -1,4 +1,5 @@
-//! Records that own memory: they come back by a take, and those that stay go with the table.
+//! Records that own memory: they come back by a take, and those that stay go with the table; a place that is taken, or that the
+//! table has not, hands the record back.
 
 use crate::expecting::same;
 use refusing::Refusing;

@@ -72,7 +72,7 @@ impl Gate for Closed {
     }
 }
 
-/// Three jobs of one block each, from block `first` on; where they are Writes, of these bytes and the two behind it.
+/// Three jobs of one block each, from block `first` on; where they are Writes, of this byte and the two behind it.
 fn put_three(
     alloc: Global,
     jobs: &mut Vec<Job>,

@@ -1,6 +1,5 @@
 //! Looks at a desk.
 
-use book_desk::Value;
 use driver_book::{Driver, Receipt, Seat};
 use entry_codec::Status;
 use page_ledger::Counts;
@@ -23,17 +22,6 @@ pub(crate) fn counts(free_pages: u32, queue_pages: u32, data_pages: u32) -> Coun
 /// Sees that an answer is the one that is wanted.
 pub(crate) fn see<T: PartialEq + Debug, R: Abort>(rt: &R, answer: &T, want: &T) {
     assert!(rt; answer == want, "{answer:?} in place of {want:?}");
-}
-
-/// The command that came about last has this page alone.
-pub(crate) fn has_page<R: Abort>(rt: &R, values: &[Value], want: u32) {
-    match values.last() {
-        Some(value) => match value.pages() {
-            [(page, _)] => see(rt, &page.0, &want),
-            _ => panic!(rt; "it does not have one page"),
-        },
-        None => panic!(rt; "no command is about"),
-    }
 }
 
 /// Whether these receipts tell so.

@@ -5,7 +5,7 @@ ghost use Rattle.step_core.specs.Opening.{opening_of};
 
 use crate::closes::{close, keep_back, stay_open};
 use crate::desk::{Desk, end, opened, sit};
-use crate::looks::{Told, counts, has_page, has_receipts, see};
+use crate::looks::{Told, counts, has_receipts, see};
 use crate::steps::{play_steps, play_worked};
 use block_image::Image;
 use driver_book::{CloseFault, Driver};
@@ -28,8 +28,6 @@ pub(crate) enum Part {
     Steps(&'static str),
     /// A worked script, which prints just what it says.
     Plays(WorkedScript),
-    /// The draft that came about last has this page alone.
-    HasPage(u32),
     /// The seat that acts has these receipts.
     HasReceipts(&'static [Told]),
     /// So many pages are free, are of queues and are of data; none is of a chain.
@@ -49,7 +47,6 @@ fn play_part<L: Driver, R: Abort + Wait>(rt: &R, desk: &mut Desk<L>, part: Part)
         Part::Turn => desk.seats.reverse(),
         Part::Steps(text) => play_steps(rt, desk, text),
         Part::Plays(worked) => play_worked(rt, desk, worked),
-        Part::HasPage(page) => has_page(rt, &desk.values, page),
         Part::HasReceipts(told) => has_receipts(rt, &desk.seats, told),
         Part::HasPages(free, queue, data) => {
             see(rt, &desk.shared.counts(rt), &counts(free, queue, data))

@@ -137,7 +137,7 @@ pub(crate) fn follow(
     memory.sixteens = 0;
     let left = walk.left();
     same(rt, left, 12_289 + need / 4_096);
-    for _ in 0..=left {
+    for _ in 0..left {
         assert!(rt; !walk.is_over());
         assert!(rt; walk.need() as usize == staging.len());
         if let Some(numbers) = &mut unrest {
