@@ -30,7 +30,10 @@ fn see_new<L: Driver, R: Abort>(rt: &R, book: &Book<L>) {
 /// A Read of one block would be reserved on queue 1, and takes one page at least.
 fn see_request<L: Driver, R: Abort>(rt: &R, alloc: Global, book: &Book<L>) {
     let mut pieces = Pieces::new(alloc);
-    let piece = Piece::Data { offset: 0, len: 512 };
+    let piece = Piece::Data {
+        offset: 0,
+        len: 512,
+    };
     pieces.push(piece).expect(rt, "a piece");
     let request = Request {
         kind: Kind::Read,
@@ -39,7 +42,11 @@ fn see_request<L: Driver, R: Abort>(rt: &R, alloc: Global, book: &Book<L>) {
         pieces,
     };
     see(rt, &book.reserve_refusal(1, &request), &None);
-    see(rt, &book.reserve_refusal(2, &request), &Some(Refusal::NoQueue));
+    see(
+        rt,
+        &book.reserve_refusal(2, &request),
+        &Some(Refusal::NoQueue),
+    );
     see(rt, &book.least_pages(&request), &Ok(1));
 }
 
