@@ -52,7 +52,7 @@ fn fill_heap(heap: &LocalHeap, shape: Shape, used: &mut Used) -> Result<(), Faul
 ///
 /// # Errors
 ///
-/// `Memory` where the heap has no room for itself, the image or a request; `NotOpened` or `Refused` where it is too small otherwise, or the shape
+/// `Memory` where the heap cannot be had, or has no room for the image or a request; `NotOpened` or `Refused` where it is too small otherwise, or the shape
 /// is none.
 pub fn use_heap(alloc: Global, shape: Shape) -> Result<Used, Fault> {
     let heap = LocalHeap::new(alloc, shape.heap)?;

@@ -13,7 +13,7 @@ use step_core::{Reply, ReplyIn, Step, StepIn};
 /// A book with seats, and the commands that are about. The last seat acts: it submits and releases.
 #[derive(Drop)]
 pub struct Desk<L: Driver, A: Allocator = Global> {
-    /// Where the lists of the seats and of the commands stand, and the bytes of a fill.
+    /// Where the lists of the seats and of the commands stand, and the padded copy of a fill's bytes.
     pub alloc: Global,
     /// Where all else stands.
     pub heap: A,

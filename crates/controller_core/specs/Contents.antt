@@ -53,7 +53,8 @@ FitsWork blocks q done (Admin entry status dw0) = (q ≡ 0) × (status.sct < 8) 
 abbrev pub FitsCommand : ℕ → ℕ → FetchedCommand → Type 0
 FitsCommand blocks queues k = (k.q < queues) × FitsWork blocks k.q k.units_done k.work
 
--- Each command fits a queue number that the controller has, and no two commands of a queue have the same identifier.
+-- Each command is of a queue number that the controller has, and fits that queue and the blocks of the image; no two commands of a queue have
+-- the same identifier.
 pub record AreCommands (blocks queues : ℕ) (commands : List FetchedCommand) : Type 0 where
   pub each : AllByRecursion (FitsCommand blocks queues) commands
   pub differ : (q cid : ℕ) → count_by (is_command q cid) commands < 2

@@ -23,7 +23,7 @@ use io_commands::{Job, finish_job};
 use page_memory::Dma;
 use std::alloc::Allocator;
 
-/// Whether an admin command that ends so leaves nothing of a submission queue.
+/// Whether an admin command that ends so has deleted a submission queue.
 fn deletes(entry: &SubEntry, status: Status) -> bool
     ensures { result ≡ is_deletion entry.now status }
 {
@@ -54,8 +54,8 @@ impl<A: Allocator> Work<Job<A>> {
     }
 }
 
-/// Does what a command does at its end: a Write that ended well puts its bytes over its blocks, and a successful deletion of a submission
-/// queue leaves nothing of that queue's submission side.
+/// Does what a command does at its end: a Write that ended well puts its bytes over its blocks, and behind a successful deletion of a
+/// submission queue that queue is not there.
 fn settle<A: Allocator>(
     queues: &mut Vec<ControllerQueue, A>,
     image: &mut Image<A>,
@@ -102,8 +102,8 @@ impl<A: Allocator> Controller<A> {
         Ok(())
     }
 
-    /// Posts the completion of a fetched command, and forgets the command. A Write that ends well changes the image here, and a
-    /// successful deletion of a submission queue leaves nothing of it (NVM Express Base Specification 2.0, "Common Completion Queue Entry",
+    /// Posts the completion of a fetched command, and forgets the command. A Write that ends well changes the image here, and
+    /// behind a successful deletion of a submission queue that is not there (NVM Express Base Specification 2.0, "Common Completion Queue Entry",
     /// section 3.3.3.2). The list of the touched pages has two pages at most before, and gets that of the slot.
     ///
     /// # Errors

@@ -28,7 +28,8 @@ fn hear_head_of<A: Allocator>(queues: &mut Vec<ControllerQueue, A>, q: u16, valu
 
 impl<A: Allocator> Controller<A> {
     /// A value is written to the tail doorbell of submission queue `q` (NVM Express over PCIe Transport Specification 1.0, "Submission
-    /// Queue y Tail Doorbell"). One that is no slot of the ring is ignored, as is one of a queue number above those that it has (own).
+    /// Queue y Tail Doorbell"). One that is no slot of the ring is ignored, as is one of a queue number above those that the
+    /// controller has (own).
     pub fn tail_doorbell(&mut self, q: u16, value: u16)
         ensures { self.new ≡ tail_rung q value self.old }
     {
@@ -37,7 +38,7 @@ impl<A: Allocator> Controller<A> {
 
     /// A value is written to the head doorbell of completion queue `q` (NVM Express over PCIe Transport Specification 1.0, "Completion
     /// Queue y Head Doorbell"). One outside the head that was heard last to the tail is ignored, as is one of a queue number above those
-    /// that it has (own).
+    /// that the controller has (own).
     pub fn head_doorbell(&mut self, q: u16, value: u16)
         ensures { self.new ≡ head_rung q value self.old }
     {

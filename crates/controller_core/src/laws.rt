@@ -24,8 +24,8 @@ pub fn fetches_go_one_way()
     ensures unless_memory { ServedUnlessMemory }
 {}
 
-/// Behind a reset nothing can be fetched, walked or completed, whatever the controller was, until a tail is rung; and behind one tail that
-/// is rung then, still nothing can be fetched from an I/O queue. The image is as it was. A second reset changes nothing.
+/// Behind a reset, and behind one head that is rung then, nothing can be fetched, walked or completed, whatever the controller was; and behind
+/// one tail that is rung then, still nothing can be fetched from an I/O queue. The image is as it was. A second reset changes nothing.
 #[tactic(auto, using(crate::proofs::Resets::reset_quiet, crate::proofs::Resets::quiet_until_tail, crate::proofs::Resets::idle_until_created, crate::proofs::Resets::reset_once))]
 pub fn a_reset_leaves_nothing_to_do()
     ensures quiet { ResetIsQuiet }

@@ -2,7 +2,7 @@
 //!
 //! A [`Controller`] is a library for an emulator: a call that reaches memory is lent it, as [`page_memory::Dma`], which is the guest's.
 //! Nothing of a host is known here. What crosses is memory, the values that are written to the two doorbells of a queue, and a reset
-//! (NVM Express Base Specification 2.0, "Memory-based transport queue model", section 3.3.1).
+//! (NVM Express Base Specification 2.0, "Memory-based transport queue model", section 3.3.1, and "Controller Level Reset", section 3.7.2).
 //!
 //! The contract of each call holds for every memory, whatever stands there: for what it is refused, what it answers, which pages it
 //! touches, and what it leaves of the controller and of the memory. A call appends the pages that it touches to the touched list, behind

@@ -1,5 +1,6 @@
 -- What holds of every list: its course hangs on the descriptors that it reads and on which bytes are missing, so
--- each step of a walk does the next unit of one list while those descriptors, and which bytes are missing, stay.
+-- each step of a walk does the next unit of one list while nobody changes those descriptors or which bytes
+-- are missing.
 use Rattle.std.specs.Prelude.{◌≡◌, ◌<◌, ◌+◌, ℕ, zero, suc, Bool, true, false, is_some, List, [], ◌∷◌, Option, Some, None, length, slice_get, if◌then◌else◌, nat_lt}
 use Rattle.sgl_descriptor.specs.declared.Direction.{Direction}
 use Rattle.sgl_descriptor.specs.declared.Direction.TheVariants.{Destination, Source}

@@ -35,7 +35,7 @@ pub fn walks_begin_at_the_first_unit()
 
 /// A walk's step number t, counted from 0, does unit number t of its list and answers `More`, or, as it does the last, the
 /// list's verdict. This holds while nobody else writes the list's descriptors or changes which bytes are missing, and the
-/// list itself moves no byte onto them.
+/// list itself moves no byte onto its descriptors.
 pub fn steps_do_units()
     ensures { (at : ℕ → Bool) (m : Memory) (c : Course) (t : ℕ) (w next : Walk) (answer : WalkState) → StepDoesUnit at m c t w next answer }
 {}

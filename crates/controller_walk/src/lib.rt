@@ -11,7 +11,7 @@
 //! `specs/Units.antt` defines, for any memory, the units of a list and its verdict, with the table of faults. A step's
 //! contract is that it does the first of what is left and leaves the others, and [`laws::steps_do_units`] says that the
 //! t-th step does the t-th unit while nobody else writes the list's descriptors or changes which bytes are missing, and the list moves no
-//! byte onto them. [`laws::lists_move_along_targets`] and [`laws::lists_move_all_bytes`] tie the units to the targets of the list's parts.
+//! byte onto its descriptors. [`laws::lists_move_along_targets`] and [`laws::lists_move_all_bytes`] tie the units to the targets of the list's parts.
 //! Whatever the memory holds, each step returns, a list takes at most 4,096 descriptors, and each `More` lessens [`Walk::left`].
 //!
 //! Nothing here takes memory. The order of the faults is this project's own, as is the limit of 4,096 descriptors.

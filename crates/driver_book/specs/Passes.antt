@@ -1,4 +1,4 @@
--- How the first submission is found that stands in no receipt: the log is gone through once for the seats' numbers, and
+-- How the first submission is found that stands in no receipt: apart from the search for statuses, the log is gone through once for the seats' numbers, and
 -- then once for each seat.
 use Rattle.std.specs.Prelude.{◌≡◌, ℕ, ◌<◌, Bool, true, false, Option, Some, List, slice_get}
 use Rattle.std.specs.List.{list_any}

@@ -45,8 +45,8 @@ pub struct BookRefused<A: Allocator = Global> {
     pub blank: Blank,
 }
 
-/// A world, and the log of all its steps since it opened, in the memory of one allocator. Contracts see both, and what was made,
-/// handed out and taken back (`BookContents`).
+/// A world, and the log of all its steps since it opened, in the memory of one allocator. Contracts see both, and the
+/// rest of `BookContents`.
 #[derive(Drop)]
 pub struct Book<L: Driver, A: Allocator = Global> {
     pub(crate) alloc: A,

@@ -270,8 +270,8 @@ fn known_until<L: Ledger, A: Allocator>(log: &[EntryIn<A>], seats: &[Seat<L, A>]
     log.len()
 }
 
-/// The first accepted submission that stands in no receipt: its seat and its number. The log is gone through once for the seats'
-/// numbers, and then once for each seat, up to the first that is missing so far.
+/// The first accepted submission that stands in no receipt: its seat and its number. Apart from the search for statuses, the log is gone
+/// through once for the seats' numbers, and then once for each seat, up to the first that is missing so far.
 fn missing<L: Ledger, A: Allocator>(log: &[EntryIn<A>], seats: &[Seat<L, A>]) -> Option<(u16, u64)>
     requires { AreSeated log.now }
     ensures { MatchOption result (AllStand log.now seats.now) (λ m. IsMissing log.now seats.now m.0 m.1) }

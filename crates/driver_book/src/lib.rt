@@ -2,14 +2,14 @@
 //!
 //! [`Book`] is the value that a driver keeps under its one lock. Each step of the world is one method, which makes the step and writes it
 //! down, but for one that answers `Memory`. The log, from the opening on, is a run of the machine that leads to the world as it is
-//! ([`Book::check`]). Who submits has a [`Seat`], which keeps a receipt for each accepted submission. [`Book::close`] compares the log with the receipts: an answer means that
-//! the receipts handed in are the accepted submissions of the log, all of them and no more.
+//! ([`Book::check`]). Who submits has a [`Seat`], which keeps a receipt for each accepted submission. [`Book::close`] compares the log with the receipts: an
+//! answer means that the receipts handed in are the accepted submissions of the log, all of them and no more.
 //!
 //! A ledger of the standard library (`std::sync::ledger`) counts the submissions on either side. It is the type parameter of a book and
 //! of its seats, so a seat is always one of its own book.
 //!
 //! World, log, receipts and report stand in the memory of the allocator with which the book was opened, and so does all that is handed in and
-//! out, but for a request that is only looked at. It is [`Global`](std::alloc::Global) where none is named.
+//! out, but for the request of [`Book::least_pages`]. It is [`Global`](std::alloc::Global) where none is named.
 //!
 //! `specs/History.antt` says where a log leads, `specs/Calls.antt` what the calls do, `specs/Close.antt` what it is to close a book.
 #![tactic(auto)]

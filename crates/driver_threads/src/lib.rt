@@ -1,7 +1,7 @@
 //! A book under a lock, and the threads that work on it.
 //!
 //! [`Shared`] has a [`Book`](driver_book::Book) under one lock. Whoever takes the lock finds a book of the opening: its log tells of a run of the
-//! machine that leads to the world as it is. Each call makes one step of it, looks at it, makes a seat, or stops or
+//! machine that leads to the world as it is. Each call but [`Shared::new`] and [`Shared::end`] makes one step of it, looks at it, makes a seat, or stops or
 //! closes it.
 //!
 //! [`submitter`]s carry jobs through, one after the other; a [`poller`] takes completions, a [`controller`] serves. Data is filled, lists are

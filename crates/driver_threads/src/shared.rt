@@ -11,7 +11,8 @@ use page_memory::PageNo;
 use std::alloc::{Allocator, Global};
 use std::sync::{Condvar, Mutex, MutexGuard, Wait};
 
-/// A book under the driver's lock. Each call makes one step of it, looks at it, makes a seat, or stops or closes it, while it has the lock.
+/// A book under the driver's lock. Each call but [`Shared::new`] and [`Shared::end`] makes one step of it, looks at it, makes a seat, or stops
+/// or closes it, while it has the lock.
 ///
 /// Who waits sleeps on a condition variable, looks at the book as it wakes, and makes its step once it would be answered otherwise.
 #[derive(Drop)]

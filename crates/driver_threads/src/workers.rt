@@ -20,7 +20,7 @@ use step_core::{Bytes, Refusal};
 pub struct Worked<L: Ledger, A: Allocator = Global> {
     /// Its seat; none where no more seats were to be had.
     pub seat: Option<Seat<L, A>>,
-    /// How its jobs ended, in their order. It has fewer than there were jobs where the workers were told to stop, somebody else collected
+    /// How its jobs ended, in their order. It has fewer than there were jobs only where the workers were told to stop, somebody else collected
     /// one of its commands, or it got no seat.
     pub ends: Vec<JobEndIn<A>, A>,
     /// Whether a gate was closed to it.

@@ -45,7 +45,7 @@ pub record IsSoundHost (v : HostView) : Type 0 where
   pub identifiers : IdentifiersDiffer v.host
   pub positions : AllByRecursion (λ queue. IsInRing v.entries queue.ring) v.host.queues
 
--- What the machine leaves to its host, and this host chooses: an identifier below which all of the queue are outstanding, and pages
+-- What the machine leaves to its host, and this host chooses: an identifier below which each identifier of the queue is outstanding, and pages
 -- that are placed, first those of its data and then those of its chain.
 abbrev pub IsLowest : Host → ℕ → ℕ → Type 0
 IsLowest h q cid = (lower : ℕ) → lower < cid → is_among (outstanding_on h q) lower ≡ true

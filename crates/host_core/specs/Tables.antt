@@ -11,7 +11,8 @@ use Rattle.host_core.specs.Alone.{HostView, alone}
 use Rattle.host_core.specs.Rows.{Queue}
 
 -- the tables of a host: who owns each page, the outstanding commands, with how many queues they have places for and how many places of
--- each, and the queues; beside them the limits of rings and segments, and the pages, in or out
+-- each, and the queues; beside them how many entries each ring and how many descriptors a full segment
+-- has, and the pages, in or out
 pub record Tables : Type 0 where
   pub entries : ℕ
   pub segment : ℕ

@@ -72,7 +72,7 @@ FitsPhase Held (Io request) (Some status) = Unit {0}
 FitsPhase Held (Management kind) status = ⊥
 FitsPhase Collected work status = Unit {0}
 
--- An outstanding command is one of a queue that there is, and fits its work.
+-- An outstanding command is one of a queue that there is, and its record fits its work and its phase.
 pub record IsRecord (queues : ℕ) (r : Record) : Type 0 where
   pub queue : r.q < queues
   pub work : FitsWork r.work r

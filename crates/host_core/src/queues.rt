@@ -56,7 +56,8 @@ pub(crate) fn is_changing(state: Option<HostState>) -> bool
     }
 }
 
-/// Whether the deletion of a queue's submission side was reaped with success, and the queue was neither retired nor reset since.
+/// Whether the deletion of a queue's submission side was reaped with success, and since then neither was the queue retired nor the
+/// host reset.
 pub(crate) fn is_deleted(state: Option<HostState>) -> bool
     ensures { result ≡ passes spec_is_deleted state }
 {

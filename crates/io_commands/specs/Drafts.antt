@@ -74,7 +74,7 @@ abbrev pub IsBuiltIfAny : DraftContents → Option SubEntry → Type 0
 IsBuiltIfAny d None = Unit {0}
 IsBuiltIfAny d (Some entry) = IsBuilt d
 
--- its request passes its check, its segments have up to 2 to 256 descriptors, it has the pages that its pieces and the chain of its joined
+-- its request passes its check, its segment size is 2 to 256, it has the pages that its pieces and the chain of its joined
 -- parts take, and where it has an entry it is built
 pub record IsDraft (d : DraftContents) : Type 0 where
   pub good : IsGood d.request

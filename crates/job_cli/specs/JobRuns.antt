@@ -120,7 +120,7 @@ abbrev pub WritesJobs : Option (List ℕ) → ℕ → Config → List ℕ → Op
 WritesJobs told submitters config image before after Holds =
     (lines : List JobLine) × HasJobs told submitters lines × Gains before after (Holds (opening_of config image) lines)
 
--- a reader has a script without faults, the configuration has this refusal or none, and nothing was written
+-- a reader has a script without faults, the configuration's refusal is exactly this, and nothing was written
 abbrev pub EndsUnwritten : Option (List ℕ) → ℕ → Config → Option OpenRefusal → Option (List ℕ) → Option (List ℕ) → Type 0
 EndsUnwritten told submitters config refusal before after =
     (lines : List JobLine) × HasJobs told submitters lines × (refusal_of_config config ≡ refusal) × Keeps before after

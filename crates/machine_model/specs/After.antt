@@ -383,7 +383,7 @@ final_status s j =
 abbrev pub image_completed : Job → List ℕ → List ℕ
 image_completed j image = if j.q == 0 then image else jobs.image_after image j.entry j.bytes j.verdict
 
--- a successful deletion leaves nothing of the queue's submission side
+-- behind a successful deletion the submission queue is not there
 abbrev pub deletion_done : Job → Status → State → State
 deletion_done j st s =
     if (j.q == 0) && (j.entry.opcode == DELETE_IO_SQ) && is_success st

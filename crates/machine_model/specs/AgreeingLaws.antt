@@ -53,7 +53,7 @@ agreed_admin_commands_stand_once = (s : State) (cid : ℕ) → SidesAgree s → 
 abbrev pub agreed_jobs_stand : Type 0
 agreed_jobs_stand = (s : State) (q cid : ℕ) (j : Job) → SidesAgree s → IsTrue (nat_lt 0 q) → job_at s q cid ≡ Some j → JobStands s j
 
--- a step behind which nothing is forged, and that leaves a job there, leaves its list the same list
+-- a step behind which nothing is forged, and that leaves a job of an I/O queue there, leaves its list the same list
 abbrev pub agreed_jobs_keep_their_lists : Type 0
 agreed_jobs_keep_their_lists =
     (old new : State) (e : Event) (reply : Reply) (q cid : ℕ) (before after : Job)

@@ -1,5 +1,5 @@
--- What stands while nothing is forged: a submitted command's list stands in its chain pages, wherever the controller has an entry of
--- its identifier, it is its own, and a job's walk is within its list.
+-- What stands while nothing is forged: a submitted I/O command's list stands in its chain pages; wherever the controller has an entry of its
+-- queue and identifier, that entry is the command's own; and a job's walk is within its list.
 use Rattle.std.specs.Prelude.{◌≡◌, ◌<◌, ◌==◌, nat_lt, not, IsTrue, ℕ, true, false, Some, None, List, [], length, slice_get}
 use Rattle.std.specs.List.{AllByRecursion}
 use Rattle.std.specs.Option.{option_map_or}

@@ -140,7 +140,7 @@ Answers s (events.Walk q cid) (events.Walked outcome touched) = (j : Job) × (jo
 Answers s (events.Complete q cid) (events.Completed touched) = touched ≡ post_page s q ∷ []
 Answers s e reply = ⊥
 
--- after a forged entry the controller may answer anything of its own, of a queue that the host has, and touches two pages at most
+-- after a forged entry the controller may answer anything of its own, of a queue number that the host knows, and touches two pages at most
 abbrev pub AnswersAnything : State → Event → Reply → Type 0
 AnswersAnything s (events.Fetch q) (events.Fetched cid touched) = IsTrue (is_some (host_queue s q)) × (length touched < 3)
 AnswersAnything s (events.Walk q cid) (events.Walked outcome touched) = IsTrue (is_some (host_queue s q)) × (length touched < 3)

@@ -84,7 +84,7 @@ pub enum Refusal {
     WrongState,
     /// There is no such submitted command.
     NoSuchCommand,
-    /// No deleted submission queue waits to be retired.
+    /// No deleted submission queue of this number waits to be retired.
     NotDeleted,
     /// A completion waits to be reaped.
     NotDrained,

@@ -72,8 +72,8 @@ pub record WasCompleted (earlier : List Made) (q cid : ℕ) (st : Status) : Type
   pub since : IsTrue (not (list_any (submits q cid) between))
   pub cause : IsTrue (has_cause before completion q cid st)
 
--- A command was submitted as its queue was retired, after a deletion of that queue had been fetched, and of no queue of its number that was
--- there before, and was not submitted anew since: it was lost
+-- A command was submitted as its queue was retired, and was not submitted anew since; a deletion of that queue, and of no queue of its number
+-- that was there before, had been fetched: it was lost
 pub record WasLost (earlier : List Made) (q cid : ℕ) (st : Status) : Type 0 where
   pub before : List Made
   pub retirement : Made

@@ -62,7 +62,7 @@ collected_commands_were_submitted =
 abbrev pub was_fetched : CollectedCommand → Bool
 was_fetched c = list_any (fetches c.finished.q c.finished.cid) c.between
 
--- what its draft gathered as it was submitted, and what it gathers as it was collected
+-- what its draft gathered as it was submitted, and what it gathered as it was collected
 abbrev pub bytes_drafted : CollectedCommand → List ℕ
 bytes_drafted c = gathered c.draft.request.pieces c.draft.data_pages
 

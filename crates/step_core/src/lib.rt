@@ -13,7 +13,7 @@
 //! run of the machine ([`laws`]).
 //!
 //! A world is a [`host_core::Host`] and a [`controller_core::Controller`] over one [`page_memory::Store`]: each event but a forgery and a
-//! reset is a call of either side, with the doorbell that the other hears, and a reset is one of both. That both are the
+//! reset is a call of one side, with at most one doorbell that the other hears, and a reset is a call of each. That both are the
 //! machine is what `two_sides` proves; nothing is kept twice.
 #![tactic(auto)]
 

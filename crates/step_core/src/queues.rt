@@ -27,11 +27,12 @@ impl<A: Allocator + Copy> World<A> {
     /// Looks at the head of a queue's completion ring, and takes the completion there, if there is a new one (NVM Express Base
     /// Specification 2.0, "Common Completion Queue Entry", section 3.3.3.2).
     ///
-    /// The answer is `Empty` where there is none. A completion that names another queue, a submission head that is not between the known
-    /// head and the tail, or no submitted command is `Rejected`: it is taken, the head is rung, and nothing else changes. Any other ends
+    /// The answer is `Empty` where there is none. A completion that names another queue, a submission head that does not lie from the known
+    /// head to the tail, or no submitted command is `Rejected`: it is taken, the head is rung, and nothing else changes. Any other ends
     /// its command: `Done` tells the identifier of an I/O command and how it ended, and its pages stay its own; `AdminDone` tells the same
-    /// of a command of queue 0, with its double word, and that command is over: the queue that it names takes the state that this end
-    /// means, and a half that it has no longer, or does not get, is given back.
+    /// of a command of queue 0, with its double word, and that command is over: a queue that it deletes or makes takes the state that
+    /// this end means; the completion half of a deleted completion queue that was left alone, and the half of a failed creation, are given
+    /// back. The submission head that it tells is known from then on, of an I/O command too.
     ///
     /// # Errors
     ///

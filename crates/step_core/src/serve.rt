@@ -124,8 +124,8 @@ impl<A: Allocator + Copy> World<A> {
     }
 
     /// The controller posts the completion of a fetched command, and forgets the command (NVM Express Base Specification 2.0, "Common
-    /// Completion Queue Entry", section 3.3.3.2). Where nothing was forged, a Write that ends well changes the image here, and a deletion
-    /// of a submission queue leaves nothing of it.
+    /// Completion Queue Entry", section 3.3.3.2). Where nothing was forged, a Write that ends well changes the image here, and behind a
+    /// successful deletion of a submission queue that is not there.
     ///
     /// # Errors
     ///

@@ -1,4 +1,5 @@
-//! What a world shows: its pages and whose each is, whether it is idle, whether something was forged, and that it is sound.
+//! What a world shows: its pages, whose each is and how many each class has, whether it is idle, whether something was forged, and that it is
+//! sound.
 
 ghost use Rattle.std.specs.Prelude.{◌≡◌, ◌==◌, ◌<◌, ◌≤◌, length};
 ghost use Rattle.std.specs.List.{Contains};

@@ -19,7 +19,8 @@ use Rattle.two_sides.specs.Ties.{AreSides, AreTied, ShareQueues, has_ring}
 abbrev pub behind : Sides → Event → Reply → HostView → Pages → Sides
 behind s e reply host pages = record s { host = host; pages = pages; controller = heard e reply host s.controller }
 
--- Whatever was forged, a step of the host leaves both sides as many queues, with their numbers and as many entries.
+-- Whatever was forged: where both sides have equally many queues, and each at the controller has its number, as many entries as the host's and
+-- a side that fits them, a step of the host leaves it so.
 abbrev pub hosts_share_queues : Type 0
 hosts_share_queues =
     (s : Sides) (e : Event) (reply : Reply) (host : HostView) (pages : Pages)

@@ -3,7 +3,8 @@
 ghost use Rattle.two_sides.specs.Laws.{hosts_share_queues, forged_hosts_step, hosts_answer, hosts_refuse};
 ghost use Rattle.two_sides.specs.Stepping.{hosts_step};
 
-/// Whatever was forged, a step of the host leaves both sides as many queues, with their numbers and as many entries.
+/// Whatever was forged: where both sides have equally many queues, and each at the controller has its number, as many entries as the host's
+/// and a side that fits them, a step of the host leaves it so.
 pub fn hosts_keep_their_queues()
     ensures { hosts_share_queues }
 {}

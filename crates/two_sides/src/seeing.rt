@@ -2,7 +2,7 @@
 
 ghost use Rattle.two_sides.specs.Stepping.{completions_are_seen};
 
-/// Whether the host finds a completion at a head, the machine has one there, whatever was forged.
+/// The host finds a completion at a head, of a queue that is reaped, exactly where the machine has one, whatever was forged.
 pub fn completions_are_seen_alike()
     ensures { completions_are_seen }
 {}

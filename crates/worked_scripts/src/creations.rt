@@ -254,7 +254,7 @@ counts free 14 queue 2 chain 0 data 0
 };
 
 /// A pool of nine pages, of which queue 1 with its 128 entries had two for its submission half and one for the other. A command of queue 2
-/// and the new completion half leave no two neighbours free, and its cancellation does not either.
+/// and the new completion half leave no two neighbours free, not even once the command is cancelled.
 pub const NO_RUN: WorkedScript = WorkedScript {
     config: LONG_RINGS,
     script: "delete_sq 1

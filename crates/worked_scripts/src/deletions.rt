@@ -102,7 +102,7 @@ counts free 14 queue 2 chain 0 data 0
 ",
 };
 
-/// Calls on a queue in its states, from Live to Gone, most of them refused.
+/// Calls on queue 0, on an unknown queue, and on a queue in its states from Live to Gone, most of them refused.
 pub const STATES: WorkedScript = WorkedScript {
     config: USUAL,
     script: "reserve 1 read 0 1 0+512
