@@ -6,6 +6,7 @@ use Rattle.std.proofs.lemmas.Bool.{true≢false, and_parts, or_parts}
 use Rattle.admin_commands.specs.Entries.{named_queue, named_command}
 use Rattle.admin_commands.specs.declared.SqState.TheVariants.{Absent}
 use Rattle.controller_walk.specs.Units.{Act, Stays, Reads, Moves}
+use Rattle.controller_walk.specs.Walks.{is_more}
 use Rattle.controller_walk.specs.declared.walk.WalkState.{WalkState}
 use Rattle.controller_walk.specs.declared.walk.WalkState.TheVariants.{More, End, Fault}
 use Rattle.sgl_descriptor.specs.declared.Direction.{Direction}
@@ -34,7 +35,7 @@ use Rattle.machine_model.proofs.Placements.{in_hand}
 use Rattle.machine_model.proofs.CausedKept.{not_conflicting}
 use Rattle.machine_model.proofs.CommandsAll.{walking}
 use Rattle.machine_model.proofs.JobLaws.{stood_after}
-use Rattle.run_laws.specs.Walked.{is_more, HasJobSo, walks_go_on_without_a_verdict, walks_by, completes_by, ends_job, ends_walk_by, only_the_last_walk_ends}
+use Rattle.run_laws.specs.Walked.{HasJobSo, walks_go_on_without_a_verdict, walks_by, completes_by, ends_job, ends_walk_by, only_the_last_walk_ends}
 use Rattle.run_laws.proofs.DataAlong.{Going, stood_step, stood_along, along_steps}
 use Rattle.machine_model.proofs.Along.{cut}
 use Rattle.machine_model.proofs.Steps.{permitted}

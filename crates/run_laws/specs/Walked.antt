@@ -2,8 +2,8 @@
 use Rattle.std.specs.Prelude.{◌≡◌, ℕ, nat_lt, ◌==◌, Bool, true, false, ◌&&◌, ◌||◌, not, IsTrue, Some, List, ◌∷◌, ◌++◌, length, filter, is_none, if◌then◌else◌}
 use Rattle.std.specs.List.{list_any}
 use Rattle.std.specs.Str.{bytes_eq}
+use Rattle.controller_walk.specs.Walks.{is_more}
 use Rattle.controller_walk.specs.declared.walk.WalkState.{WalkState}
-use Rattle.controller_walk.specs.declared.walk.WalkState.TheVariants.{More, End, Fault}
 use Rattle.entry_codec.specs.declared.status.Status.{Status}
 use Rattle.entry_codec.specs.declared.status.TheConstants.Status.{SUCCESS, ABORT_REQUESTED, ABORTED_SQ_DELETION, LBA_OUT_OF_RANGE, COMPARE_FAILURE}
 use Rattle.io_commands.specs.declared.request.Kind.TheVariants.{Compare}
@@ -34,12 +34,6 @@ abbrev pub units_done_count_the_walks : Type 0
 units_done_count_the_walks =
     (image : List ℕ) (made : List Made) (end : State) (q cid : ℕ) (j : Job) → TrustedRun image made end → IsTrue (nat_lt 0 q)
     → job_at end q cid ≡ Some j → j.units_done ≡ times_walked q cid made
-
--- the walk goes on
-abbrev pub is_more : WalkState → Bool
-is_more More = true
-is_more End = false
-is_more (Fault status) = false
 
 -- the job behind a walk step has no verdict exactly where the step answers that the walk goes on
 pub record HasJobSo (s : State) (q cid : ℕ) (outcome : WalkState) : Type 0 where
