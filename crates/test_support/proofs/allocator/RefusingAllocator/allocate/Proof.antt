@@ -38,16 +38,16 @@ use denote.Triple.Table.{entered, cited}
 use denote.Triple.Walked.{Stays, stay_dropped, walk_of, ends_at, walked, Goes-dropped, walk_Meets}
 use Rattle.std.proofs.alloc.Calls.{Al, α, seen, token, Answer, answer_val, Answer-typed, Answer-Ok, Answer-err, takes_key, Takes, at_takes, Answered, Takes-goes, Takes-gives, answers}
 use Rattle.std.proofs.VecSteps.Shapes.{after, head, arm_body}
-use Rattle.refusing.proofs.Accounts.{then_runs, some_account, Kept, kept_laws, Ask, at_ask, Ask-goes, Ask-gives, Block, at_block, Block-goes, Block-gives}
-use Rattle.refusing.proofs.allocator.refuses_call.Symbol as ask_sym
-use Rattle.refusing.proofs.allocator.refuses_call.Met as ask_met
-use Rattle.refusing.proofs.allocator.count_block.Symbol as block_sym
-use Rattle.refusing.proofs.allocator.count_block.Met as block_met
-use Rattle.refusing.specs.contracts.allocator.Refusing as wrapper
-use Rattle.refusing.specs.contracts.allocator.RefusingAllocator.allocate as F
-use Rattle.refusing.specs.contracts.allocator.RefusingAllocator.allocate.Key as key
-use Rattle.refusing.proofs.allocator.RefusingAllocator.allocate.Statement as stated
-use Rattle.refusing.proofs.allocator.RefusingAllocator.allocate.Code as code
+use Rattle.test_support.proofs.Accounts.{then_runs, some_account, Kept, kept_laws, Ask, at_ask, Ask-goes, Ask-gives, Block, at_block, Block-goes, Block-gives}
+use Rattle.test_support.proofs.allocator.refuses_call.Symbol as ask_sym
+use Rattle.test_support.proofs.allocator.refuses_call.Met as ask_met
+use Rattle.test_support.proofs.allocator.count_block.Symbol as block_sym
+use Rattle.test_support.proofs.allocator.count_block.Met as block_met
+use Rattle.test_support.specs.contracts.allocator.Refusing as wrapper
+use Rattle.test_support.specs.contracts.allocator.RefusingAllocator.allocate as F
+use Rattle.test_support.specs.contracts.allocator.RefusingAllocator.allocate.Key as key
+use Rattle.test_support.proofs.allocator.RefusingAllocator.allocate.Statement as stated
+use Rattle.test_support.proofs.allocator.RefusingAllocator.allocate.Code as code
 
 module _ (Z : Al) where
   abbrev args : Args
@@ -152,6 +152,6 @@ allocate_spec 𝓤 𝓛 𝓜 𝓡 wired Y L g d d' met _ =
     (walk_Meets 𝓛 (ended Z) (stayed Z) (Goes-dropped 𝓛 2 (self Z) yes (λ κs x f. refl), (Goes-dropped 𝓛 2 (plain (λ _. usize)) yes (λ κs x f. refl), (Goes-dropped 𝓛 2 (plain (λ _. usize)) yes (λ κs x f. refl), tt))) c (WpFn 𝓤 𝓛.H 𝓣.C 𝓣.Λ (here Z)) (WpFn-mono 𝓤 𝓛.H 𝓛.laws 𝓣 (here Z))
     (walked 𝓛 (ended Z) (stayed Z) c (WpFn 𝓤 𝓛.H 𝓣.C 𝓣.Λ (here Z)) (λ κs. (shr_vals, (uint_vals w64, (uint_vals w64, tt)))) (λ κs. ((λ r vs s. s.0), (uint_Tells w64, (uint_Tells w64, tt))))
     (λ κs qs bounds a τ are. walk Z 𝓛 𝓜.mem 𝓡.returns 𝓣 (met.allocate d')
-    (cited 𝓤 𝓛.H _ 𝓜 𝓡 𝓡.env ask_sym.name (𝓡.env ask_sym.name) refl (ask_met.met 𝓤 𝓛 𝓜 𝓡 (code.calls-refusing::allocator::refuses_call 𝓡.env wired)))
-    (cited 𝓤 𝓛.H _ 𝓜 𝓡 𝓡.env block_sym.name (𝓡.env block_sym.name) refl (block_met.met 𝓤 𝓛 𝓜 𝓡 (code.calls-refusing::allocator::count_block 𝓡.env wired)))
+    (cited 𝓤 𝓛.H _ 𝓜 𝓡 𝓡.env ask_sym.name (𝓡.env ask_sym.name) refl (ask_met.met 𝓤 𝓛 𝓜 𝓡 (code.calls-test_support::allocator::refuses_call 𝓡.env wired)))
+    (cited 𝓤 𝓛.H _ 𝓜 𝓡 𝓡.env block_sym.name (𝓡.env block_sym.name) refl (block_met.met 𝓤 𝓛 𝓜 𝓡 (code.calls-test_support::allocator::count_block 𝓡.env wired)))
     κs.0 κs.1.0 qs.0 qs.1.0 bounds.0 a.0 a.1.0 a.1.1.0 τ are.1.0.1 are.1.1.0.1)))

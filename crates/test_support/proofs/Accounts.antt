@@ -18,11 +18,11 @@ use denote.Steps.{nothing, only}
 use denote.RattleType.{RowLaws}
 use denote.Triple.Statement.{Contract}
 use denote.Triple.Spec.{triple_of}
-use Rattle.refusing.proofs.allocator.Account.TheLaws as account_laws
-use Rattle.refusing.specs.contracts.allocator.Account as account
-use Rattle.refusing.specs.contracts.allocator.refuses_call as ask
-use Rattle.refusing.specs.contracts.allocator.count_block as block
-use Rattle.refusing.specs.contracts.allocator.count_return as returned
+use Rattle.test_support.proofs.allocator.Account.TheLaws as account_laws
+use Rattle.test_support.specs.contracts.allocator.Account as account
+use Rattle.test_support.specs.contracts.allocator.refuses_call as ask
+use Rattle.test_support.specs.contracts.allocator.count_block as block
+use Rattle.test_support.specs.contracts.allocator.count_return as returned
 
 abbrev pub Kept : RattleType
 Kept = account.the_row

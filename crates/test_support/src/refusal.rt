@@ -1,6 +1,6 @@
 //! Which calls are refused.
 
-ghost use Rattle.refusing.specs.Refusals.{IsSpanOf};
+ghost use Rattle.test_support.specs.Refusals.{IsSpanOf};
 
 /// Which calls for memory are refused. Calls are counted from 1.
 #[derive(Clone, Copy, PartialEq, Eq, Debug)]
