@@ -53,6 +53,21 @@ impl<A: Allocator> Model for Store<A> {
     ghost invariant = { λ s. IsPool s.pages.items };
 }
 
+/// Pages of zeros, all in.
+fn zeroed_pages<A: Allocator + Clone>(
+    alloc: A,
+    pages: u32,
+) -> Result<Vec<Option<Page<A>>, A>, AllocError>
+    ensures { IfOk result (λ all. all.items ≡ replicate pages (Some zero_page)) }
+{
+    let mut all = Vec::with_capacity(alloc.clone()?, pages as usize)?;
+    for _ in 0..pages {
+        let page = Page::zeroed(alloc.clone()?)?;
+        all.push(Some(page)).map_err(AllocError::from)?;
+    }
+    Ok(all)
+}
+
 impl<A: Allocator + Clone> Store<A> {
     /// Opens a pool of so many pages, all in and all zero, with nothing touched.
     ///
@@ -67,11 +82,7 @@ impl<A: Allocator + Clone> Store<A> {
         if !(8..=65_536).contains(&pages) {
             return Err(OpenFault::BadSize);
         }
-        let mut all = Vec::with_capacity(alloc.clone()?, pages as usize)?;
-        for _ in 0..pages {
-            let page = Page::zeroed(alloc.clone()?)?;
-            all.push(Some(page)).map_err(AllocError::from)?;
-        }
+        let all = zeroed_pages(alloc, pages)?;
         Ok(Store {
             pages: all,
             touched: ArrayVec::new(),
