@@ -49,10 +49,7 @@ impl<A: Allocator + Clone> Ledger<A> {
         if !(8..=65_536).contains(&pages) {
             return Err(OpenFault::BadSize);
         }
-        let mut owners = Vec::with_capacity(alloc.clone()?, pages as usize)?;
-        for _ in 0..pages {
-            owners.push_reserved(Owner::Free);
-        }
+        let owners = Vec::from_elem(alloc.clone()?, Owner::Free, pages as usize)?;
         Ok(Ledger {
             owners,
             counts: Counts {
