@@ -13,7 +13,6 @@ pub mod Step
 pub mod Run
 pub mod Positions
 pub mod Slots
-pub mod Built
 pub mod Claims
 pub mod Touch
 pub mod Image

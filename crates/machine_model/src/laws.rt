@@ -1,20 +1,17 @@
 //! Laws of the machine, of every step and of every run. Each function does nothing.
 
 ghost use Rattle.machine_model.specs.Always.{each_step_provides, every_run_provides};
-ghost use Rattle.machine_model.specs.Built.{built_drafts_spell_in_store};
 ghost use Rattle.machine_model.specs.Claims.{each_step_keeps, every_run_is_sound, every_run_takes_out, counts_add_up};
-ghost use Rattle.machine_model.specs.Histories.{openings_have_histories, steps_make_histories, unforged_runs_end_trusted, trusted_ends_are_unforged, resets_restore_trust};
-ghost use Rattle.machine_model.specs.InOrder.{openings_are_in_order, steps_keep_order, reserved_drafts_are_proper, collected_commands_are_proper, every_event_is_answered, runs_are_made};
+ghost use Rattle.machine_model.specs.Histories.{unforged_runs_end_trusted, trusted_ends_are_unforged, resets_restore_trust};
+ghost use Rattle.machine_model.specs.InOrder.{openings_are_in_order, steps_keep_order, reserved_drafts_are_proper, collected_commands_are_proper, every_event_is_answered};
 ghost use Rattle.machine_model.specs.Linked.{trusted_worlds_are_linked, live_queues_are_there};
 ghost use Rattle.machine_model.specs.Reached.{lists_keep_to_their_pages, lists_end_well, long_lists_end_well};
 ghost use Rattle.machine_model.specs.Memory.{walks_read_the_pool, walks_go_as_in_the_pool};
 ghost use Rattle.machine_model.specs.Positions.{each_step_stays_in_rings, every_run_stays_in_rings};
 ghost use Rattle.machine_model.specs.Recovering.{openings_can_recover, resets_recover, every_run_recovers, resets_leave_io_commands};
 ghost use Rattle.machine_model.specs.Standing.{jobs_stand, jobs_keep_their_lists};
-ghost use Rattle.machine_model.specs.Laws.{admin_commands_stand_once, trusted_steps_stay_allowed, hosts_need_no_controller, chains_stand, chains_stay, rings_are_never_full, every_status_has_its_cause, the_image_is_the_runs, compares_tell_equality, reads_give_their_blocks, stopped_reads_give_a_prefix};
+ghost use Rattle.machine_model.specs.Laws.{admin_commands_stand_once, trusted_steps_stay_allowed, hosts_need_no_controller, chains_stand, chains_stay, rings_are_never_full};
 ghost use Rattle.machine_model.specs.Slots.{entries_lie_in_pages, answers_lie_in_pages, entries_stand_in_memory, answers_stand_in_memory, entries_are_written, answers_are_written};
-
-use io_commands::laws::laws_of_built_drafts;
 
 /// Whatever a step does, forged entries or not: where each page had exactly one owner, each page has one again.
 ///
@@ -116,16 +113,6 @@ pub fn law_of_live_queues()
     ensures { live_queues_are_there }
 {}
 
-/// An opening has a history, and each step that leaves a trusted state came from one or is a reset, and makes a history longer. So what
-/// holds of every trusted run holds of each state that steps lead to without a forgery.
-///
-/// The events and replies of a run from an opening in which no forgery was accepted are those of such a history.
-pub fn law_of_histories()
-    ensures openings { openings_have_histories }
-    ensures steps { steps_make_histories }
-    ensures runs { runs_are_made }
-{}
-
 /// A run from an opening in which no forgery was accepted ends in a trusted state. And steps that lead to a trusted state, from
 /// wherever they began, accepted no forgery since the last reset among them: no other event restores the trust.
 pub fn law_of_trust()
@@ -188,45 +175,7 @@ pub fn law_of_slots()
     ensures answers_written { answers_are_written }
 {}
 
-/// Once the chain pages of a built draft are in the store, the descriptor of its entry spells its parts there.
-pub fn law_of_built_drafts()
-    ensures { built_drafts_spell_in_store }
-{
-    laws_of_built_drafts();
-}
-
 /// Where nothing was forged, no event is refused because a ring is full, or because a page of a queue is out.
 pub fn law_of_room()
     ensures { rings_are_never_full }
-{}
-
-/// Where nothing was forged, each status of an I/O command has its cause.
-///
-/// It is success; or an Abort of the command, or the deletion of its queue, fetched since the command was; or blocks beyond
-/// the image; or a Compare that found a difference.
-pub fn law_of_statuses()
-    ensures { every_status_has_its_cause }
-{}
-
-/// Where nothing was forged, the image is the opening's, changed by each Write whose completion gave success, in the order of those
-/// steps.
-///
-/// Such a Write puts just its draft's bytes over just its blocks. Nothing else changes the image.
-pub fn law_of_images()
-    ensures { the_image_is_the_runs }
-{}
-
-/// Where nothing was forged, a Compare that ended neither by an Abort or a deletion nor for blocks beyond the image succeeds exactly
-/// where its blocks are then its draft's bytes, and else fails as a Compare.
-pub fn law_of_compares()
-    ensures { compares_tell_equality }
-{}
-
-/// Where nothing was forged, a Read that ended with success gathers its blocks' bytes but for the discarded ones, from the image
-/// of the run at its fetch.
-///
-/// One that ended otherwise gathers so many of their first bytes, and its draft's own bytes behind them.
-pub fn law_of_reads()
-    ensures blocks { reads_give_their_blocks }
-    ensures stopped { stopped_reads_give_a_prefix }
 {}

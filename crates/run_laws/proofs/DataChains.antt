@@ -48,9 +48,9 @@ use Rattle.machine_model.proofs.Commanding.{keeps_fetch, keeps_walk, keeps_compl
 use Rattle.machine_model.proofs.Submitting.{first_read}
 use Rattle.machine_model.proofs.WalksKept.{host_jobs, stood_on, stood_at_opening}
 use Rattle.machine_model.proofs.JobLaws.{stay_after, all_of, entries_named}
-use Rattle.machine_model.proofs.Known.{unsent, same_draft}
-use Rattle.machine_model.proofs.RecordsMove.{RecordsMove, records_event}
-use Rattle.machine_model.proofs.QueuesMove.{QueueMove, queues_event}
+use Rattle.run_laws.proofs.Known.{unsent, same_draft}
+use Rattle.run_laws.proofs.RecordsMove.{RecordsMove, records_event}
+use Rattle.run_laws.proofs.QueuesMove.{QueueMove, queues_event}
 use Rattle.run_laws.specs.Submitted.{HasListOf, chains_are_the_drafts}
 use Rattle.run_laws.proofs.DataAlong.{Going, left_step, stood_step}
 use Rattle.run_laws.proofs.DataKept.{IsOfDraft, Found, found_draft, submits_of}

@@ -11,7 +11,8 @@ use Rattle.machine_model.specs.State.{State, DeviceQueue, Record}
 use Rattle.machine_model.specs.Refusals.{is_submitted, next_rung, job_at, conflicts}
 use Rattle.machine_model.specs.Standing.{unfetched_at}
 use Rattle.machine_model.specs.Image.{Made}
-use Rattle.machine_model.specs.Laws.{Steps, fetches, fetches_by}
+use Rattle.machine_model.specs.Laws.{Steps}
+use Rattle.run_laws.specs.Statuses.{fetches, fetches_by}
 use Rattle.machine_model.specs.Proper.{IsProper}
 use Rattle.machine_model.specs.Step.{Step}
 use Rattle.machine_model.specs.After as a
@@ -27,8 +28,8 @@ use Rattle.machine_model.proofs.Queues.{list_at, less_at}
 use Rattle.machine_model.proofs.Placements.{InHand, in_hand, first_is}
 use Rattle.machine_model.proofs.PlacesKept.{running_not_past}
 use Rattle.machine_model.proofs.CommandsKept.{nobody}
-use Rattle.machine_model.proofs.CausedKept.{not_conflicting}
-use Rattle.machine_model.proofs.QueuesMove.{QueueMove, queues_event}
+use Rattle.run_laws.proofs.CausedKept.{not_conflicting}
+use Rattle.run_laws.proofs.QueuesMove.{QueueMove, queues_event}
 use Rattle.run_laws.specs.Submitted.{submits}
 use Rattle.run_laws.proofs.DataAlong.{Going, one_step, stood_step}
 use Rattle.machine_model.proofs.Steps.{permitted}

@@ -18,7 +18,7 @@ use Rattle.machine_model.proofs.Members.{all_at_found}
 use Rattle.machine_model.proofs.PlacesKept.{ids_of}
 use Rattle.machine_model.proofs.Served.{Stood}
 use Rattle.machine_model.proofs.WalksKept.{stood_at_opening}
-use Rattle.machine_model.proofs.RecordsMove.{RecordsMove, records_event}
+use Rattle.run_laws.proofs.RecordsMove.{RecordsMove, records_event}
 use Rattle.run_laws.specs.Submitted.{submits, collected_commands_were_submitted}
 use Rattle.run_laws.proofs.DataAlong.{Going, left_step, stood_step, stood_along}
 use Rattle.machine_model.proofs.Along.{cut}

@@ -18,7 +18,8 @@ use Rattle.machine_model.specs.Refusals.{job_at, next_rung, conflicts}
 use Rattle.machine_model.specs.After as a
 use Rattle.machine_model.specs.Events as events
 use Rattle.machine_model.specs.Events.{Event, Reply}
-use Rattle.machine_model.specs.Laws.{status_by, forges_by}
+use Rattle.run_laws.specs.Statuses.{status_by}
+use Rattle.machine_model.specs.Laws.{forges_by}
 use Rattle.machine_model.specs.Step.{resets}
 use Rattle.machine_model.proofs.Managed.{managed_by}
 use Rattle.machine_model.proofs.Placing.{device-answered}

@@ -23,7 +23,7 @@ use Rattle.machine_model.specs.Step.{Step, Refuses}
 use Rattle.run_laws.specs.Verdicts.{KeepsVerdict, IsRefusedWalk, verdicts_stay, verdicts_end_walks}
 use Rattle.machine_model.proofs.Along.{along_proper, trusted_step_by}
 use Rattle.machine_model.proofs.Steps.{permitted}
-use Rattle.machine_model.proofs.JobsMove.{JobsMove, jobs_event}
+use Rattle.run_laws.proofs.JobsMove.{JobsMove, jobs_event}
 
 -- what is so of each job before, and after
 abbrev Is : ℕ → ℕ → Job → Job → Type 0

@@ -32,7 +32,7 @@ use Rattle.machine_model.proofs.Unforged.{Unforged, unforged_next, unforged_fron
 use Rattle.machine_model.proofs.Served.{Stood}
 use Rattle.machine_model.proofs.WalksKept.{host_jobs, stood_at_opening}
 use Rattle.machine_model.proofs.Placements.{in_hand}
-use Rattle.machine_model.proofs.CausedKept.{not_conflicting}
+use Rattle.run_laws.proofs.CausedKept.{not_conflicting}
 use Rattle.machine_model.proofs.CommandsAll.{walking}
 use Rattle.machine_model.proofs.JobLaws.{stood_after}
 use Rattle.run_laws.specs.Walked.{HasJobSo, walks_go_on_without_a_verdict, walks_by, completes_by, ends_job, ends_walk_by, only_the_last_walk_ends}

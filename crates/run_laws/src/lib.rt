@@ -9,6 +9,7 @@
 pub mod answers;
 pub mod data;
 pub mod ends;
+pub mod laws;
 pub mod worked;
 pub mod worked_heads;
 pub mod worked_renewals;
