@@ -33,13 +33,13 @@ use Rattle.run_laws.specs.Statuses.{fetches, aborts, deletes, since_fetch}
 use Rattle.machine_model.specs.Standing.{unfetched_at, HasEntry, StandsAs, CommandStands}
 use Rattle.machine_model.specs.Weights.{one, total}
 use Rattle.machine_model.proofs.Placed.{find_sound}
-use Rattle.machine_model.proofs.Members.{all_at_found, sent_found}
-use Rattle.machine_model.proofs.Served.{Stood}
+use Rattle.machine_agreement.proofs.Members.{all_at_found, sent_found}
+use Rattle.machine_agreement.proofs.Served.{Stood}
 use Rattle.machine_model.specs.Agreeing.{unfetched_count}
-use Rattle.machine_model.proofs.Placements.{InHand, first_is}
-use Rattle.machine_model.proofs.PlacesKept.{running_not_past}
-use Rattle.machine_model.proofs.Commanding.{in_hand_is}
-use Rattle.machine_model.proofs.Entered.{good_is}
+use Rattle.machine_agreement.proofs.Placements.{InHand, first_is}
+use Rattle.machine_agreement.proofs.PlacesKept.{running_not_past}
+use Rattle.machine_agreement.proofs.Commanding.{in_hand_is}
+use Rattle.machine_agreement.proofs.Entered.{good_is}
 
 -- Lists of steps, one longer
 

@@ -25,21 +25,21 @@ use Rattle.run_laws.specs.Statuses.{fetches, fetches_by, aborts, deletes, manage
 use Rattle.machine_model.specs.Events as events
 use Rattle.machine_model.specs.Events.{Event, Reply}
 use Rattle.machine_model.specs.declared.words.Refusal.{Refusal}
-use Rattle.machine_model.proofs.Members.{all_at_found, all_map, all_append, all_filter, all_of, all_in_both, only_found}
-use Rattle.machine_model.proofs.Served.{Stood, course_ends}
-use Rattle.machine_model.proofs.Placements.{InHand, in_hand}
+use Rattle.machine_agreement.proofs.Members.{all_at_found, all_map, all_append, all_filter, all_of, all_in_both, only_found}
+use Rattle.machine_agreement.proofs.Served.{Stood, course_ends}
+use Rattle.machine_agreement.proofs.Placements.{InHand, in_hand}
 use Rattle.io_commands.specs.Jobs as jobs
 use Rattle.page_memory.specs.Pages.{with_bytes}
 use Rattle.machine_model.specs.Step.{IsController, resets}
 use Rattle.machine_model.proofs.Steps.{Accepts}
-use Rattle.machine_model.proofs.CommandsAll.{Walking, walking}
-use Rattle.machine_model.proofs.WalksKept.{one_job}
-use Rattle.machine_model.proofs.Frames.{host_jobs, host_image}
-use Rattle.machine_model.proofs.Lengths.{moved_length, blocks_put}
+use Rattle.machine_agreement.proofs.CommandsAll.{Walking, walking}
+use Rattle.machine_agreement.proofs.WalksKept.{one_job}
+use Rattle.machine_agreement.proofs.Frames.{host_jobs, host_image}
+use Rattle.machine_agreement.proofs.Lengths.{moved_length, blocks_put}
 use Rattle.run_laws.proofs.Caused.{cause, goes_well, Caused, CausedIfIo, AllCaused, caused_on, all_on, caused_abort, caused_stop, hand_good, caused_begun, answers_well}
-pub use Rattle.machine_model.proofs.HeadsAll.{no_conflict as not_conflicting}
+pub use Rattle.machine_agreement.proofs.HeadsAll.{no_conflict as not_conflicting}
 use Rattle.machine_model.proofs.Managed.{managed_by}
-use Rattle.machine_model.proofs.DeviceMoves.{unit_bytes, unit_done, finished, fetch_of, walk_by, complete_by}
+use Rattle.machine_agreement.proofs.DeviceMoves.{unit_bytes, unit_done, finished, fetch_of, walk_by, complete_by}
 
 -- What a step leaves: an image as long, and each verdict with its cause
 pub record Keeps (earlier : List Made) (s t : State) : Type 0 where

@@ -25,7 +25,7 @@ use Rattle.machine_model.specs.Refusals.{refusal_of, job_at, is_job}
 use Rattle.machine_model.specs.Step.{Step}
 use Rattle.machine_model.specs.Image.{Made, draft_of}
 use Rattle.run_laws.specs.Statuses.{status_by, aborts, deletes, since_fetch}
-use Rattle.machine_model.specs.Laws.{drafts_of}
+use Rattle.machine_model.specs.Trusted.{drafts_of}
 use Rattle.run_laws.specs.Blocks.{blocks_of_request, compares_tell_equality}
 use Rattle.machine_model.specs.After as a
 use Rattle.machine_model.specs.After.{final_status}
@@ -33,8 +33,8 @@ use Rattle.machine_model.specs.Events as events
 use Rattle.machine_model.specs.Events.{Event, Reply}
 use Rattle.machine_model.proofs.Refused.{same_lists}
 use Rattle.machine_model.proofs.Placed.{find_sound}
-use Rattle.machine_model.proofs.Members.{all_at_found}
-use Rattle.machine_model.proofs.Entered.{good_is}
+use Rattle.machine_agreement.proofs.Members.{all_at_found}
+use Rattle.machine_agreement.proofs.Entered.{good_is}
 use Rattle.run_laws.proofs.Caused.{cause, CausedIfIo}
 use Rattle.run_laws.proofs.EveryStatus.{Traced, traced_before, has_verdict}
 use Rattle.run_laws.proofs.Known.{Known}

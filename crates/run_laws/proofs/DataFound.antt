@@ -12,21 +12,21 @@ use Rattle.machine_model.specs.declared.words.Work.TheVariants.{Io, Management}
 use Rattle.machine_model.specs.State.{State, Record, is_at, record_at}
 use Rattle.machine_model.specs.Refusals.{is_held, refusal_of}
 use Rattle.machine_model.specs.Image.{Made, submitted_by}
-use Rattle.machine_model.specs.Laws.{Steps}
+use Rattle.machine_model.specs.Trusted.{Steps}
 use Rattle.run_laws.specs.Blocks.{collected_of}
 use Rattle.machine_model.specs.Opening.{opening}
 use Rattle.machine_model.specs.Step.{Step, finished_from, asked_by, pages_with_bytes}
 use Rattle.machine_model.specs.After as a
 use Rattle.machine_model.specs.Events as events
 use Rattle.machine_model.specs.Events.{Event, Reply}
-use Rattle.machine_model.proofs.Unforged.{Unforged, unforged_next, unforged_front, unforged_back, unforged_run, unforged_end}
-use Rattle.machine_model.proofs.Members.{all_at_found}
-use Rattle.machine_model.proofs.Served.{Stood}
-use Rattle.machine_model.proofs.PlacesKept.{ids_of}
-use Rattle.machine_model.proofs.WalksKept.{stood_at_opening}
+use Rattle.machine_agreement.proofs.Unforged.{Unforged, unforged_next, unforged_front, unforged_back, unforged_run, unforged_end}
+use Rattle.machine_agreement.proofs.Members.{all_at_found}
+use Rattle.machine_agreement.proofs.Served.{Stood}
+use Rattle.machine_agreement.proofs.PlacesKept.{ids_of}
+use Rattle.machine_agreement.proofs.WalksKept.{stood_at_opening}
 use Rattle.run_laws.specs.Submitted.{CollectedCommand, submits}
 use Rattle.run_laws.proofs.DataAlong.{Going, stood_step, stood_along, along_steps}
-use Rattle.machine_model.proofs.Along.{cut}
+use Rattle.machine_agreement.proofs.Along.{cut}
 use Rattle.machine_model.proofs.Steps.{permitted}
 use Rattle.run_laws.proofs.ReadLaws.{held_where_collected, with_numbers}
 use Rattle.run_laws.proofs.DataKept.{IsOfDraft, Follows, AllFollow, found_draft, follow_submit, follow_step, held_goes}

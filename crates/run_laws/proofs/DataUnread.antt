@@ -20,12 +20,12 @@ use Rattle.machine_model.proofs.Counting.{one}
 use Rattle.machine_model.proofs.Totals.{total}
 use Rattle.machine_model.proofs.Placed.{is_job, find_sound}
 use Rattle.machine_model.proofs.Out.{named}
-use Rattle.machine_model.proofs.Members.{In, all_at_found, all_append, sent}
-use Rattle.machine_model.proofs.Served.{answers_at}
-use Rattle.machine_model.proofs.Queues.{list_at}
-use Rattle.machine_model.proofs.PlacesKept.{ids_of, drafted_not, reaped_answer}
-use Rattle.machine_model.proofs.CommandsKept.{nobody, no_job}
-use Rattle.machine_model.proofs.WalksKept.{host_jobs}
+use Rattle.machine_agreement.proofs.Members.{In, all_at_found, all_append, sent}
+use Rattle.machine_agreement.proofs.Served.{answers_at}
+use Rattle.machine_agreement.proofs.Queues.{list_at}
+use Rattle.machine_agreement.proofs.PlacesKept.{ids_of, drafted_not, reaped_answer}
+use Rattle.machine_agreement.proofs.CommandsKept.{nobody, no_job}
+use Rattle.machine_agreement.proofs.WalksKept.{host_jobs}
 use Rattle.run_laws.proofs.Gathered.{Stands}
 use Rattle.run_laws.proofs.Known.{unsent, submitted_stand, stand_still}
 use Rattle.run_laws.proofs.Reading.{pages_stay, walks_it}

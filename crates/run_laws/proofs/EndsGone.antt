@@ -28,26 +28,26 @@ use Rattle.machine_model.specs.Events as events
 use Rattle.machine_model.specs.Events.{Event, Reply}
 use Rattle.machine_model.specs.Image.{Made}
 use Rattle.run_laws.specs.Statuses.{deletes}
-use Rattle.machine_model.proofs.Along.{made_of}
+use Rattle.machine_agreement.proofs.Along.{made_of}
 use Rattle.machine_model.proofs.Asked.{asked_at, was_asked}
 use Rattle.machine_model.proofs.AwaitedKept.{asked_as_heard, ring_at}
 use Rattle.run_laws.proofs.Caused.{any_longer, any_last}
-use Rattle.machine_model.proofs.DeviceMoves.{answer_of, finished, cleared, clears, fetch_by, complete_by}
-use Rattle.machine_model.proofs.Heads.{changed_at}
+use Rattle.machine_agreement.proofs.DeviceMoves.{answer_of, finished, cleared, clears, fetch_by, complete_by}
+use Rattle.machine_agreement.proofs.Heads.{changed_at}
 use Rattle.run_laws.proofs.JobsMove.{JobsMove, jobs_event}
 use Rattle.machine_model.proofs.Lists.{all_at}
 use Rattle.machine_model.proofs.Managed.{managed_by}
-use Rattle.machine_model.proofs.Members.{all_at_found}
+use Rattle.machine_agreement.proofs.Members.{all_at_found}
 use Rattle.machine_model.proofs.Moves.{host_moves, deleted_is, half_made_is, half_from}
 use Rattle.machine_model.proofs.Owned.{HoldsPart}
 use Rattle.machine_model.proofs.Placed.{gone_at, is_job}
 use Rattle.run_laws.proofs.QueuesMove.{queues_walk}
 use Rattle.machine_model.proofs.Refused.{unrefused}
 use Rattle.machine_model.proofs.Resetting.{reset_state}
-use Rattle.machine_model.proofs.Served.{Stood}
+use Rattle.machine_agreement.proofs.Served.{Stood}
 use Rattle.machine_model.proofs.Steps.{Accepts, part_controller}
-use Rattle.machine_model.proofs.Tied.{below}
-use Rattle.machine_model.proofs.TiedAll.{live_is_there}
+use Rattle.machine_agreement.proofs.Tied.{below}
+use Rattle.machine_agreement.proofs.TiedAll.{live_is_there}
 use Rattle.run_laws.specs.Ends.{renews_by, renews, since_renewed}
 
 -- Steps since a queue was renewed

@@ -17,13 +17,13 @@ use Rattle.machine_model.specs.After as a
 use Rattle.machine_model.specs.After.{course_of, walks, final_status}
 use Rattle.machine_model.specs.Image.{Made}
 use Rattle.run_laws.specs.Statuses.{aborts, deletes, since_fetch, status_by, has_cause, passes_image, is_compare, every_status_has_its_cause}
-use Rattle.machine_model.specs.Laws.{TrustedRun}
+use Rattle.machine_model.specs.Trusted.{TrustedRun}
 use Rattle.machine_model.specs.Events as events
 use Rattle.machine_model.specs.declared.words.Refusal.TheVariants as refusal
 use Rattle.machine_model.specs.Events.{Event, Reply}
 use Rattle.machine_model.proofs.Placed.{find_sound}
-use Rattle.machine_model.proofs.Members.{all_at_found}
-use Rattle.machine_model.proofs.Served.{Stood}
+use Rattle.machine_agreement.proofs.Members.{all_at_found}
+use Rattle.machine_agreement.proofs.Served.{Stood}
 use Rattle.entry_codec.specs.declared.io_opcode.TheConstants.{READ, WRITE, COMPARE}
 use Rattle.block_image.specs.Blocks.{blocks_at}
 use Rattle.io_commands.specs.Jobs as jobs
@@ -32,12 +32,12 @@ use Rattle.machine_model.specs.Memory.{is_in}
 use Rattle.machine_model.specs.Step.{Step}
 use Rattle.machine_model.proofs.Steps.{Accepts, permitted}
 use Rattle.machine_model.proofs.Refused.{first_fails, rest_fails}
-use Rattle.machine_model.proofs.WalksKept.{stood_on, stood_at_opening}
+use Rattle.machine_agreement.proofs.WalksKept.{stood_on, stood_at_opening}
 use Rattle.run_laws.proofs.Caused.{cause, Caused, CausedIfIo, AllCaused}
 use Rattle.std.specs.Str.{bytes_eq}
 use Rattle.std.specs.Prelude.{unwrap_or}
 use Rattle.run_laws.proofs.CausedKept.{event_keeps, not_fetched, refused_no_fetch}
-use Rattle.machine_model.proofs.Along.{Carried, Before, keeps, made_of, run_before}
+use Rattle.machine_agreement.proofs.Along.{Carried, Before, keeps, made_of, run_before}
 
 pub record Traced (earlier : List Made) (s : State) : Type 0 where
   pub stood : Stood s

@@ -25,7 +25,7 @@ use Rattle.machine_model.specs.Proper.{IsProper}
 use Rattle.machine_model.specs.State.{State, Device, Job, is_at}
 use Rattle.machine_model.specs.Refusals.{refusal_of, job_at, is_job}
 use Rattle.machine_model.specs.Image.{Made, is_write, draft_of, submitted_by, written_by, succeeds, image_by, image_from}
-use Rattle.machine_model.specs.Laws.{TrustedRun, drafts_of}
+use Rattle.machine_model.specs.Trusted.{TrustedRun, drafts_of}
 use Rattle.run_laws.specs.Blocks.{the_image_is_the_runs}
 use Rattle.machine_model.specs.After as a
 use Rattle.machine_model.specs.After.{final_status}
@@ -33,20 +33,20 @@ use Rattle.machine_model.specs.Events as events
 use Rattle.machine_model.specs.Events.{Event, Reply}
 use Rattle.machine_model.specs.declared.words.Refusal.{Refusal}
 use Rattle.machine_model.proofs.Managed.{managed_by}
-use Rattle.machine_model.proofs.Placing.{device-answered}
+use Rattle.machine_agreement.proofs.Placing.{device-answered}
 use Rattle.machine_model.proofs.Placed.{find_sound}
 use Rattle.machine_model.proofs.Steps.{Accepts}
-use Rattle.machine_model.proofs.Members.{in_found, all_at_found}
-use Rattle.machine_model.proofs.PlacesKept.{ids_of}
-use Rattle.machine_model.proofs.Served.{Stood, JobList, job_list}
-use Rattle.machine_model.proofs.WalksKept.{stood_on, stood_at_opening}
-use Rattle.machine_model.proofs.Frames.{host_image}
+use Rattle.machine_agreement.proofs.Members.{in_found, all_at_found}
+use Rattle.machine_agreement.proofs.PlacesKept.{ids_of}
+use Rattle.machine_agreement.proofs.Served.{Stood, JobList, job_list}
+use Rattle.machine_agreement.proofs.WalksKept.{stood_on, stood_at_opening}
+use Rattle.machine_agreement.proofs.Frames.{host_image}
 use Rattle.run_laws.proofs.Caused.{goes_well}
 use Rattle.run_laws.proofs.EveryStatus.{has_verdict}
 use Rattle.run_laws.proofs.Known.{OfDraft, OfDraftIfIo, JobKnown, RecordKnown, Known}
 use Rattle.run_laws.proofs.KnownJobs.{known_on, all_carried}
-use Rattle.machine_model.proofs.DeviceMoves.{fetch_by, walk_by}
-use Rattle.machine_model.proofs.Along.{Carried, AtOpenings, Before, keeps, made_of, run_along, run_before}
+use Rattle.machine_agreement.proofs.DeviceMoves.{fetch_by, walk_by}
+use Rattle.machine_agreement.proofs.Along.{Carried, AtOpenings, Before, keeps, made_of, run_along, run_before}
 
 -- The entry of a request
 

@@ -17,16 +17,16 @@ use Rattle.machine_model.specs.Step.{unit_answered}
 use Rattle.machine_model.specs.After as a
 use Rattle.machine_model.specs.Events as events
 use Rattle.machine_model.specs.Events.{Event, Reply}
-use Rattle.machine_model.proofs.HeadsAll.{no_conflict}
-use Rattle.machine_model.proofs.Placements.{in_hand}
+use Rattle.machine_agreement.proofs.HeadsAll.{no_conflict}
+use Rattle.machine_agreement.proofs.Placements.{in_hand}
 use Rattle.machine_model.proofs.Steps.{Accepts}
-use Rattle.machine_model.proofs.Members.{all_indexed, all_map, all_filter, all_append, only_found}
+use Rattle.machine_agreement.proofs.Members.{all_indexed, all_map, all_filter, all_append, only_found}
 use Rattle.machine_model.proofs.Lists.{all_at}
-use Rattle.machine_model.proofs.Served.{Stood}
-use Rattle.machine_model.proofs.CommandsAll.{Walking, walking}
-use Rattle.machine_model.proofs.WalksKept.{one_job}
-use Rattle.machine_model.proofs.Frames.{host_jobs}
-use Rattle.machine_model.proofs.DeviceMoves.{unit_bytes, unit_done, walk_is, fetch_by, complete_by}
+use Rattle.machine_agreement.proofs.Served.{Stood}
+use Rattle.machine_agreement.proofs.CommandsAll.{Walking, walking}
+use Rattle.machine_agreement.proofs.WalksKept.{one_job}
+use Rattle.machine_agreement.proofs.Frames.{host_jobs}
+use Rattle.machine_agreement.proofs.DeviceMoves.{unit_bytes, unit_done, walk_is, fetch_by, complete_by}
 use Rattle.machine_model.proofs.Managed.{managed_by}
 
 -- the bytes that a walk step leaves a job

@@ -32,26 +32,26 @@ use Rattle.machine_model.specs.Events as events
 use Rattle.machine_model.specs.Events.{Event, Reply}
 use Rattle.machine_model.specs.Weights.{one, total, sent}
 use Rattle.machine_model.proofs.Counting.{held_once}
-use Rattle.machine_model.proofs.Touching.{is_walk}
+use Rattle.machine_agreement.proofs.Touching.{is_walk}
 use Rattle.machine_model.proofs.Steps.{Accepts}
 use Rattle.machine_model.proofs.Refused.{pages_match, same_lists}
 use Rattle.machine_model.proofs.Owned.{in_record}
-use Rattle.machine_model.proofs.Members.{In, sent_found}
-use Rattle.machine_model.proofs.Elsewhere.{owned_once}
-use Rattle.machine_model.proofs.Grounds.{Grounds}
-use Rattle.machine_model.proofs.Untouched.{untouched}
-use Rattle.machine_model.proofs.PlacesKept.{ids_of, drafted_not}
-use Rattle.machine_model.proofs.Submitting.{requests_same}
-use Rattle.machine_model.proofs.Entered.{entry_direction}
-use Rattle.machine_model.proofs.Served.{Stood, counts_sent, data_of}
-use Rattle.machine_model.proofs.CommandsAll.{walk_writes_to, Walking}
-use Rattle.machine_model.proofs.WalksKept.{ListsStay, stay_untouched, stay_walk}
+use Rattle.machine_agreement.proofs.Members.{In, sent_found}
+use Rattle.machine_agreement.proofs.Elsewhere.{owned_once}
+use Rattle.machine_agreement.proofs.Grounds.{Grounds}
+use Rattle.machine_agreement.proofs.Untouched.{untouched}
+use Rattle.machine_agreement.proofs.PlacesKept.{ids_of, drafted_not}
+use Rattle.machine_agreement.proofs.Submitting.{requests_same}
+use Rattle.machine_agreement.proofs.Entered.{entry_direction}
+use Rattle.machine_agreement.proofs.Served.{Stood, counts_sent, data_of}
+use Rattle.machine_agreement.proofs.CommandsAll.{walk_writes_to, Walking}
+use Rattle.machine_agreement.proofs.WalksKept.{ListsStay, stay_untouched, stay_walk}
 use Rattle.run_laws.proofs.Caused.{goes_well}
 use Rattle.run_laws.proofs.Carried.{carried}
 use Rattle.run_laws.proofs.Gathered.{Stands}
 use Rattle.run_laws.proofs.RecordsMove.{RecordsMove}
 use Rattle.machine_model.proofs.Moves.{draft_found, draft_lives, posts, posted_is}
-use Rattle.machine_model.proofs.CommandsKept.{submitted_pages}
+use Rattle.machine_agreement.proofs.CommandsKept.{submitted_pages}
 
 -- What is known
 

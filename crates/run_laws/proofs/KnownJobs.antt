@@ -40,11 +40,11 @@ use Rattle.machine_model.specs.After.{course_of}
 use Rattle.machine_model.specs.Events as events
 use Rattle.machine_model.specs.Events.{Event, Reply}
 use Rattle.machine_model.proofs.Steps.{Accepts}
-use Rattle.machine_model.proofs.Members.{in_at, all_at_found}
+use Rattle.machine_agreement.proofs.Members.{in_at, all_at_found}
 use Rattle.machine_model.proofs.Lists.{all_at}
-use Rattle.machine_model.proofs.PlacesKept.{ids_of}
-use Rattle.machine_model.proofs.Entered.{entry_direction, good_is}
-use Rattle.machine_model.proofs.Served.{Stood, JobList, job_list, same_list, course_in, CourseWhole, course_whole}
+use Rattle.machine_agreement.proofs.PlacesKept.{ids_of}
+use Rattle.machine_agreement.proofs.Entered.{entry_direction, good_is}
+use Rattle.machine_agreement.proofs.Served.{Stood, JobList, job_list, same_list, course_in, CourseWhole, course_whole}
 use Rattle.run_laws.proofs.Caused.{goes_well}
 use Rattle.run_laws.proofs.Carried.{did, carried, carried_more, carried_same, MovesTo, moves_to, carried_length, carried_byte}
 use Rattle.run_laws.proofs.Gathered.{Gathers, IsPlace, Stands, gathers_pieces, all_stand, none_discarded, source_places}

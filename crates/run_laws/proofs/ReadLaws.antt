@@ -24,7 +24,7 @@ use Rattle.machine_model.specs.declared.words.Phase.{Phase}
 use Rattle.machine_model.specs.declared.words.Phase.TheVariants.{Drafted, Submitted, Held, Collected}
 use Rattle.machine_model.specs.Refusals.{is_submitted, is_held, record_is, refusal_of}
 use Rattle.machine_model.specs.Image.{Made, draft_of, image_after, undiscarded}
-use Rattle.machine_model.specs.Laws.{TrustedRun, drafts_of}
+use Rattle.machine_model.specs.Trusted.{TrustedRun, drafts_of}
 use Rattle.run_laws.specs.Statuses.{fetches}
 use Rattle.run_laws.specs.Blocks.{collected_of, is_read, blocks_of_request, partly, reads_give_their_blocks, stopped_reads_give_a_prefix}
 use Rattle.machine_model.specs.Step.{Step, finished_from, asked_by, pages_with_bytes}
@@ -32,10 +32,10 @@ use Rattle.machine_model.specs.Events as events
 use Rattle.machine_model.specs.declared.words.Refusal.TheVariants as refusal
 use Rattle.machine_model.specs.Events.{Event, Reply}
 use Rattle.machine_model.proofs.Refused.{first_fails, rest_fails}
-use Rattle.machine_model.proofs.Members.{all_at_found}
-use Rattle.machine_model.proofs.Entered.{good_is}
-use Rattle.machine_model.proofs.Served.{Stood}
-use Rattle.machine_model.proofs.Along.{Before}
+use Rattle.machine_agreement.proofs.Members.{all_at_found}
+use Rattle.machine_agreement.proofs.Entered.{good_is}
+use Rattle.machine_agreement.proofs.Served.{Stood}
+use Rattle.machine_agreement.proofs.Along.{Before}
 use Rattle.run_laws.proofs.Images.{imaged_before}
 use Rattle.run_laws.proofs.Gathered.{Gathers, Stands, gathers_pieces, all_stand, some_stand}
 use Rattle.run_laws.proofs.Reading.{Images, fetched_in, read_targets, read_blocks, ReadSoFar, ReadIfIo, ReadRecord, Member, members, sized_of}

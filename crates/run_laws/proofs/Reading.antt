@@ -37,15 +37,15 @@ use Rattle.machine_model.specs.Weights.{total}
 use Rattle.machine_model.proofs.Steps.{Accepts}
 use Rattle.machine_model.proofs.Owned.{in_record, in_queue}
 use Rattle.machine_model.proofs.Placed.{find_sound}
-use Rattle.machine_model.proofs.Members.{In, in_at, in_found, is_found}
+use Rattle.machine_agreement.proofs.Members.{In, in_at, in_found, is_found}
 use Rattle.machine_model.proofs.Lists.{all_at}
-use Rattle.machine_model.proofs.Elsewhere.{owned_once, among_counts}
-use Rattle.machine_model.proofs.Grounds.{Grounds}
-use Rattle.machine_model.proofs.Untouched.{Kept, untouched_kept}
-use Rattle.machine_model.proofs.Entered.{good_is}
-use Rattle.machine_model.proofs.Served.{Stood, data_of}
-use Rattle.machine_model.proofs.Queues.{list_at}
-use Rattle.machine_model.proofs.CommandsAll.{Walking, walk_writes}
+use Rattle.machine_agreement.proofs.Elsewhere.{owned_once, among_counts}
+use Rattle.machine_agreement.proofs.Grounds.{Grounds}
+use Rattle.machine_agreement.proofs.Untouched.{Kept, untouched_kept}
+use Rattle.machine_agreement.proofs.Entered.{good_is}
+use Rattle.machine_agreement.proofs.Served.{Stood, data_of}
+use Rattle.machine_agreement.proofs.Queues.{list_at}
+use Rattle.machine_agreement.proofs.CommandsAll.{Walking, walk_writes}
 use Rattle.run_laws.proofs.Caused.{goes_well}
 use Rattle.run_laws.proofs.Gathered.{Stands}
 use Rattle.run_laws.proofs.Ordered.{reach, target_in}

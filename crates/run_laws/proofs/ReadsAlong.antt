@@ -23,7 +23,7 @@ use Rattle.machine_model.specs.declared.words.Phase.{Phase}
 use Rattle.machine_model.specs.declared.words.Phase.TheVariants.{Held}
 use Rattle.machine_model.specs.Refusals.{is_submitted, is_drafted, is_held, is_of, asks_for, entry_of, first_answer, device_queue}
 use Rattle.machine_model.specs.Image.{Made, submitted_by}
-use Rattle.machine_model.specs.Laws.{TrustedRun, drafts_of}
+use Rattle.machine_model.specs.Trusted.{TrustedRun, drafts_of}
 use Rattle.run_laws.specs.Statuses.{fetches_by}
 use Rattle.machine_model.specs.Step.{reaped, reaped_entry, reaped_as, submitted_at, fits_ring}
 use Rattle.machine_model.specs.After as a
@@ -37,14 +37,14 @@ use Rattle.machine_model.proofs.Steps.{Accepts}
 use Rattle.machine_model.proofs.Refused.{pages_match, same_lists}
 use Rattle.machine_model.proofs.Moves.{named, status_in}
 use Rattle.machine_model.proofs.Out.{reaped_submitted}
-use Rattle.machine_model.proofs.Members.{In, in_found, all_of, all_in_both}
-use Rattle.machine_model.proofs.PlacesKept.{ids_of, drafted_not, reaped_answer}
-use Rattle.machine_model.proofs.CommandsKept.{nobody, no_job}
-use Rattle.machine_model.proofs.Submitting.{requests_same}
-use Rattle.machine_model.proofs.Served.{Stood}
+use Rattle.machine_agreement.proofs.Members.{In, in_found, all_of, all_in_both}
+use Rattle.machine_agreement.proofs.PlacesKept.{ids_of, drafted_not, reaped_answer}
+use Rattle.machine_agreement.proofs.CommandsKept.{nobody, no_job}
+use Rattle.machine_agreement.proofs.Submitting.{requests_same}
+use Rattle.machine_agreement.proofs.Served.{Stood}
 use Rattle.machine_model.specs.Agreeing.{answers_at}
-use Rattle.machine_model.proofs.Queues.{list_at}
-use Rattle.machine_model.proofs.Frames.{host_jobs}
+use Rattle.machine_agreement.proofs.Queues.{list_at}
+use Rattle.machine_agreement.proofs.Frames.{host_jobs}
 use Rattle.run_laws.proofs.Caused.{goes_well}
 use Rattle.run_laws.proofs.Gathered.{Stands}
 use Rattle.run_laws.proofs.EveryStatus.{Traced, traced_carried}
@@ -56,9 +56,9 @@ use Rattle.run_laws.proofs.QueuesMove.{QueueMove, queues_event}
 use Rattle.run_laws.proofs.Reading.{Images, fetched_in, read_targets, Full, InImage, Reading, ReadingIf, UnreadEntry, FullAnswer, ReadSoFar, ReadIfIo, ReadRecord, Member, members}
 use Rattle.run_laws.proofs.ReadsKept.{quiet_on}
 use Rattle.run_laws.proofs.ReadsWalk.{walk_on}
-use Rattle.machine_model.proofs.Along.{Carried, Before, keeps, made_of, run_before}
+use Rattle.machine_agreement.proofs.Along.{Carried, Before, keeps, made_of, run_before}
 use Rattle.run_laws.proofs.Images.{drafts_more}
-use Rattle.machine_model.proofs.WalksKept.{stood_at_opening}
+use Rattle.machine_agreement.proofs.WalksKept.{stood_at_opening}
 
 -- What an event is taken for
 record Taken (s : State) (e : Event) (reply : Reply) : Type 0 where

@@ -43,18 +43,18 @@ use Rattle.machine_model.specs.Events.{Event, Reply}
 use Rattle.machine_model.specs.Weights.{one, total}
 use Rattle.machine_model.proofs.Steps.{Accepts}
 use Rattle.machine_model.proofs.Placed.{find_sound}
-use Rattle.machine_model.proofs.Members.{In, in_at, in_found, all_at_found, all_in, all_drop_one, all_append, sent_found}
+use Rattle.machine_agreement.proofs.Members.{In, in_at, in_found, all_at_found, all_in, all_drop_one, all_append, sent_found}
 use Rattle.machine_model.proofs.Lists.{all_at}
-use Rattle.machine_model.proofs.PlacesKept.{running_not_past}
-use Rattle.machine_model.proofs.Placements.{InHand, in_hand, first_is}
+use Rattle.machine_agreement.proofs.PlacesKept.{running_not_past}
+use Rattle.machine_agreement.proofs.Placements.{InHand, in_hand, first_is}
 use Rattle.machine_model.proofs.Refused.{pages_match}
-use Rattle.machine_model.proofs.Commanding.{in_hand_is}
-use Rattle.machine_model.proofs.Entered.{entry_direction, parts_count}
-use Rattle.machine_model.proofs.Served.{Stood, JobList, job_list, course_whole}
+use Rattle.machine_agreement.proofs.Commanding.{in_hand_is}
+use Rattle.machine_agreement.proofs.Entered.{entry_direction, parts_count}
+use Rattle.machine_agreement.proofs.Served.{Stood, JobList, job_list, course_whole}
 use Rattle.machine_model.specs.Agreeing.{unfetched_count}
-use Rattle.machine_model.proofs.Queues.{list_at}
+use Rattle.machine_agreement.proofs.Queues.{list_at}
 use Rattle.run_laws.proofs.Caused.{goes_well}
-use Rattle.machine_model.proofs.HeadsAll.{no_conflict as not_conflicting}
+use Rattle.machine_agreement.proofs.HeadsAll.{no_conflict as not_conflicting}
 use Rattle.run_laws.proofs.CausedKept.{none_found}
 use Rattle.run_laws.proofs.EveryStatus.{has_verdict}
 use Rattle.run_laws.proofs.Images.{entry_kind, entry_block}

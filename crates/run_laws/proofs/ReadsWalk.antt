@@ -39,14 +39,14 @@ use Rattle.machine_model.proofs.Steps.{Accepts}
 use Rattle.machine_model.proofs.Owned.{in_record}
 use Rattle.machine_model.proofs.Placed.{find_sound}
 use Rattle.machine_model.specs.Agreeing.{on_queue, is_out_of_service_at as past_at, unfetched_count, job_weight}
-use Rattle.machine_model.proofs.Members.{In, in_found, all_in, all_at_found}
-use Rattle.machine_model.proofs.Elsewhere.{owned_once, bytes_elsewhere}
-use Rattle.machine_model.proofs.Grounds.{Grounds}
-use Rattle.machine_model.proofs.CommandsKept.{nobody}
-use Rattle.machine_model.proofs.Entered.{entry_direction, good_is}
-use Rattle.machine_model.proofs.Served.{Stood, course_in, course_whole}
-use Rattle.machine_model.proofs.Queues.{list_at}
-use Rattle.machine_model.proofs.CommandsAll.{Walking, walking}
+use Rattle.machine_agreement.proofs.Members.{In, in_found, all_in, all_at_found}
+use Rattle.machine_agreement.proofs.Elsewhere.{owned_once, bytes_elsewhere}
+use Rattle.machine_agreement.proofs.Grounds.{Grounds}
+use Rattle.machine_agreement.proofs.CommandsKept.{nobody}
+use Rattle.machine_agreement.proofs.Entered.{entry_direction, good_is}
+use Rattle.machine_agreement.proofs.Served.{Stood, course_in, course_whole}
+use Rattle.machine_agreement.proofs.Queues.{list_at}
+use Rattle.machine_agreement.proofs.CommandsAll.{Walking, walking}
 use Rattle.run_laws.proofs.Caused.{goes_well}
 use Rattle.run_laws.proofs.Carried.{MoveTo, MovesTo, moves_to, length_with}
 use Rattle.run_laws.proofs.KnownJobs.{course_stays, over_units}
@@ -57,7 +57,7 @@ use Rattle.run_laws.proofs.JobsMove.{JobsMove, jobs_event, walked, walked_bytes}
 use Rattle.run_laws.proofs.QueuesMove.{queues_walk}
 use Rattle.run_laws.proofs.Reading.{Images, read_targets, read_blocks, Reading, ReadingIf, UnreadEntry, FullAnswer, ReadSoFar, Member, sized_of, queue_of}
 use Rattle.run_laws.proofs.ReadsKept.{job_request}
-use Rattle.machine_model.proofs.DeviceMoves.{unit_memory, walk_is}
+use Rattle.machine_agreement.proofs.DeviceMoves.{unit_memory, walk_is}
 
 -- What a walk writes
 

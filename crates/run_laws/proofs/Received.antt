@@ -8,7 +8,7 @@ use Rattle.std.proofs.lemmas.Option.{slice_get_within}
 use Rattle.page_memory.specs.Memory.{page_of}
 use Rattle.page_memory.specs.Pages.{Pages, page_at, byte_at, with_bytes, with_page_bytes}
 use Rattle.sgl_descriptor.specs.Targets.{Target, Place}
-use Rattle.machine_model.proofs.Elsewhere.{bytes_elsewhere}
+use Rattle.machine_agreement.proofs.Elsewhere.{bytes_elsewhere}
 use Rattle.run_laws.proofs.Carried.{MoveTo, get_take, get_drop, get_below, get_within, get_above}
 
 set_there : (m : Pages) (p : ℕ) (x : List ℕ) (y : Option (List ℕ)) → page_at m p ≡ Some x → page_at (slice_set m p y) p ≡ y

@@ -21,16 +21,16 @@ use Rattle.machine_model.specs.After.{final_status}
 use Rattle.machine_model.specs.Events as events
 use Rattle.machine_model.specs.Events.{Event, Reply}
 use Rattle.machine_model.specs.Image.{Made}
-use Rattle.machine_model.specs.Laws.{TrustedRun, Steps}
+use Rattle.machine_model.specs.Trusted.{TrustedRun, Steps}
 use Rattle.run_laws.specs.Statuses.{status_by, fetches, fetches_by}
 use Rattle.machine_model.proofs.Placed.{is_job, find_sound}
 use Rattle.machine_model.proofs.Steps.{Accepts}
-use Rattle.machine_model.proofs.Members.{all_at_found, all_in, only_found}
-use Rattle.machine_model.proofs.Unforged.{Unforged, unforged_front, unforged_back, unforged_run}
-use Rattle.machine_model.proofs.Served.{Stood}
-use Rattle.machine_model.proofs.WalksKept.{one_job, stood_on, stood_at_opening}
+use Rattle.machine_agreement.proofs.Members.{all_at_found, all_in, only_found}
+use Rattle.machine_agreement.proofs.Unforged.{Unforged, unforged_front, unforged_back, unforged_run}
+use Rattle.machine_agreement.proofs.Served.{Stood}
+use Rattle.machine_agreement.proofs.WalksKept.{one_job, stood_on, stood_at_opening}
 use Rattle.run_laws.specs.Verdicts.{FoundDifference, first_verdicts_count}
-use Rattle.machine_model.proofs.Along.{Carried, keeps, made_of, cut, along_proper, before_step}
+use Rattle.machine_agreement.proofs.Along.{Carried, keeps, made_of, cut, along_proper, before_step}
 use Rattle.run_laws.proofs.EndsPhases.{none_parts}
 use Rattle.run_laws.proofs.JobsMove.{JobsMove, jobs_event}
 use Rattle.run_laws.proofs.EveryStatus.{compare_opcode}

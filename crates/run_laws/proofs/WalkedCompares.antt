@@ -14,11 +14,11 @@ use Rattle.machine_model.specs.Refusals.{job_at}
 use Rattle.machine_model.specs.After.{final_status}
 use Rattle.machine_model.specs.Image.{Made, draft_of}
 use Rattle.run_laws.specs.Statuses.{status_by, has_cause, is_compare}
-use Rattle.machine_model.specs.Laws.{drafts_of}
+use Rattle.machine_model.specs.Trusted.{drafts_of}
 use Rattle.machine_model.specs.Events as events
 use Rattle.machine_model.specs.Events.{Event, Reply}
 use Rattle.machine_model.proofs.Placed.{is_job, find_sound}
-use Rattle.machine_model.proofs.Served.{Stood}
+use Rattle.machine_agreement.proofs.Served.{Stood}
 use Rattle.run_laws.proofs.Known.{Known}
 use Rattle.run_laws.proofs.Images.{job_draft, imaged_before}
 use Rattle.run_laws.proofs.Compares.{compares_tell, compare_kind}

@@ -18,7 +18,7 @@ use Rattle.io_commands.specs.Drafts.{DraftContents}
 use Rattle.machine_model.specs.Events.{Event, Reply}
 use Rattle.io_commands.specs.Jobs.{is_success}
 use Rattle.std.specs.Str.{bytes_eq}
-use Rattle.machine_model.specs.Laws.{TrustedRun, drafts_of}
+use Rattle.machine_model.specs.Trusted.{TrustedRun, drafts_of}
 use Rattle.run_laws.specs.Statuses.{status_given, fetches, is_compare}
 use Rattle.machine_model.specs.Events as events
 

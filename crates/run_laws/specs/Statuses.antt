@@ -15,7 +15,7 @@ use Rattle.machine_model.specs.Events.{Event, Reply}
 use Rattle.io_commands.specs.Jobs.{first_block, block_number, is_success}
 use Rattle.entry_codec.specs.declared.admin_opcode.TheConstants.{ABORT, DELETE_IO_SQ}
 use Rattle.entry_codec.specs.declared.io_opcode.TheConstants.{COMPARE}
-use Rattle.machine_model.specs.Laws.{TrustedRun}
+use Rattle.machine_model.specs.Trusted.{TrustedRun}
 use Rattle.machine_model.specs.Events as events
 
 -- What a step is

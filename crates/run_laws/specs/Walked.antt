@@ -13,7 +13,7 @@ use Rattle.machine_model.specs.Status.{same_status}
 use Rattle.machine_model.specs.State.{State, Job}
 use Rattle.machine_model.specs.Refusals.{job_at}
 use Rattle.machine_model.specs.Image.{Made, draft_of}
-use Rattle.machine_model.specs.Laws.{TrustedRun, is_reset, drafts_of}
+use Rattle.machine_model.specs.Trusted.{TrustedRun, is_reset, drafts_of}
 use Rattle.run_laws.specs.Statuses.{since_fetch, status_given}
 use Rattle.run_laws.specs.Blocks.{blocks_of_request}
 use Rattle.machine_model.specs.Step.{Step}
