@@ -8,7 +8,7 @@ use crate::sweep::{Heap, MANY, answers_of, end, opened, read, seated, step_on, z
 use book_desk::Desk;
 use book_desk::answers::refused;
 use driver_book::*;
-use refusing::Refusing;
+use test_support::Refusing;
 use script_cli::{Line, Script};
 use std::alloc::{AllocError, Global};
 use std::marker::Brand;

@@ -7,7 +7,7 @@ use crate::expecting::same_at;
 use crate::standing::{Holdings, Standing};
 use book_desk::Desk;
 use driver_book::*;
-use refusing::Refusing;
+use test_support::Refusing;
 use script_cli::{Line, Script, read_script};
 use std::alloc::{Allocator, Global};
 use std::marker::Brand;
@@ -136,10 +136,10 @@ pub(crate) fn step_on<'a, L: Driver, R: Abort>(
 ) -> Result<u64, Fail> {
     let first = placed(heap, made)?;
     let before = Standing::of(desk)?;
-    heap.refuse(refusing::Refusal::Nth(growth));
+    heap.refuse(test_support::Refusal::Nth(growth));
     let mut answer = desk.step(first)?;
     let tally = heap.tally();
-    heap.refuse(refusing::Refusal::Never);
+    heap.refuse(test_support::Refusal::Never);
     if tally.refused > 0 && is_memory(&answer) {
         assert!(rt; Standing::of(desk)? == before, "{wanted}");
         answer = desk.step(placed(heap, made)?)?;
@@ -222,10 +222,10 @@ fn close_on<'a, L: Driver, R: Abort>(
 ) -> Result<u64, Fail> {
     let seats = mem::replace(&mut desk.seats, Vec::new(desk.alloc));
     let seats = listed(rt, heap, seats);
-    heap.refuse(refusing::Refusal::Nth(growth));
+    heap.refuse(test_support::Refusal::Nth(growth));
     let closes = closed(rt, desk.alloc, &mut desk.book, seats)?;
     let calls = heap.tally().calls;
-    heap.refuse(refusing::Refusal::Never);
+    heap.refuse(test_support::Refusal::Never);
     assert!(rt; closes == wanted.closes, "{closes:?}");
     Ok(growth.saturating_sub(calls))
 }
@@ -252,10 +252,10 @@ fn play_on<'a, L: Driver, R: Abort>(
     requires number { blank.parts ≡ 65536 }
     requires opening { L.opening ≡ opening_of config image }
 {
-    heap.refuse(refusing::Refusal::Nth(growth));
+    heap.refuse(test_support::Refusal::Nth(growth));
     let book: Book<L, &'a Heap> = opened(rt, heap, config, image, blank);
     let left = growth.saturating_sub(heap.tally().calls);
-    heap.refuse(refusing::Refusal::Never);
+    heap.refuse(test_support::Refusal::Never);
     let mut desk = seated(rt, alloc, heap, book);
     let left = match steps_on(rt, heap, &mut desk, script, wanted, left) {
         Ok(left) => close_on(rt, heap, &mut desk, wanted, left),

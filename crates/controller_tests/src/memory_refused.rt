@@ -7,7 +7,7 @@ use block_image::Image;
 use controller_core::{Controller, Refusal};
 use entry_codec::io_opcode::WRITE;
 use page_memory::{Dma, TouchRecord};
-use refusing::Refusing;
+use test_support::Refusing;
 
 /// An opening takes two lists, of the queues and of the counts of their commands, and hands its image back.
 #[test]
@@ -15,13 +15,13 @@ fn an_opening(rt: HostRuntime) {
     let heap = Refusing::new(rt.alloc());
     let mut image = Image::zeroed(&heap, 1).expect(&rt, "an image");
     for growth in 1..3 {
-        heap.refuse(refusing::Refusal::Nth(growth));
+        heap.refuse(test_support::Refusal::Nth(growth));
         image = match Controller::open(&heap, ENTRIES, &QUEUES, image) {
             Ok(_) => panic!(rt; "memory was refused at growth {growth}"),
             Err(refused) => refused.image,
         };
     }
-    heap.refuse(refusing::Refusal::Nth(3));
+    heap.refuse(test_support::Refusal::Nth(3));
     assert!(rt; Controller::open(&heap, ENTRIES, &QUEUES, image).is_ok());
 }
 
@@ -39,13 +39,13 @@ fn a_fetch(rt: HostRuntime) {
     assert!(rt; memory.write(0x2000, &entry).is_ok());
     controller.tail_doorbell(1, 1);
     for growth in 1..5 {
-        heap.refuse(refusing::Refusal::Nth(growth));
+        heap.refuse(test_support::Refusal::Nth(growth));
         memory.clear();
         let fetched = controller.fetch(1, &mut memory);
         same_at(&rt, growth, fetched, Err(Refusal::Memory));
         same_at(&rt, growth, controller.command_count(), 0);
     }
-    heap.refuse(refusing::Refusal::Nth(5));
+    heap.refuse(test_support::Refusal::Nth(5));
     memory.clear();
     same(&rt, controller.fetch(1, &mut memory), Ok(7));
     drop(controller);

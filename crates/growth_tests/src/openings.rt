@@ -2,7 +2,7 @@
 
 use crate::expecting::{same, same_at};
 use crate::sweep::{Heap, MANY, end, zeros};
-use refusing::{Refusal, Refusing};
+use test_support::{Refusal, Refusing};
 use std::alloc::Global;
 use std::process::Abort;
 use std::test::Fail;

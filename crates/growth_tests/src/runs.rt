@@ -2,7 +2,7 @@
 
 use crate::expecting::{same, same_at};
 use crate::sweep::{Heap, MANY, Standing, Wanted, end, is_memory, opened, read, unrefused};
-use refusing::{Refusal, Refusing};
+use test_support::{Refusal, Refusing};
 use script_cli::{Line, Script};
 use std::alloc::{AllocError, Global};
 use std::process::Abort;

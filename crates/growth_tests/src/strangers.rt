@@ -4,7 +4,7 @@ use crate::expecting::same;
 use crate::sweep::{Heap, MANY};
 use io_commands::{Kind, Piece, Pieces};
 use page_ledger::Counts;
-use refusing::{Refusal, Refusing};
+use test_support::{Refusal, Refusing};
 use std::alloc::{AllocError, Global};
 use std::process::Abort;
 use std::test::Fail;

@@ -3,7 +3,7 @@
 use crate::expecting::{same, same_at};
 use page_ledger::{Counts, Owner};
 use page_memory::PageNo;
-use refusing::{Refusal, Refusing};
+use test_support::{Refusal, Refusing};
 use script_cli::{Line, Script, read_script};
 use std::alloc::{AllocError, Allocator, Global};
 use std::fmt::Debug;

@@ -9,7 +9,7 @@ use crate::requests::of_blocks;
 use admin_commands::AdminKind;
 use io_commands::Kind;
 use machine_model::words::{OpenRefusal, Refusal};
-use refusing::Refusing;
+use test_support::Refusing;
 use std::alloc::Global;
 use std::process::Abort;
 
@@ -34,9 +34,9 @@ fn attempt_reserve<'a>(
     driver: &mut Driver<&'a Heap>,
     growth: u64,
 ) -> Option<Refusal> {
-    heap.refuse(refusing::Refusal::Never);
+    heap.refuse(test_support::Refusal::Never);
     let request = of_blocks(heap, Kind::Read, 2).expect(rt, "a request");
-    heap.refuse(refusing::Refusal::Nth(growth));
+    heap.refuse(test_support::Refusal::Nth(growth));
     let refused = driver.reserve(rt, 1, request).err()?;
     same(rt, refused.value.pieces().len(), 2);
     Some(refused.why)
@@ -53,7 +53,7 @@ fn attempt<'a>(
     match call {
         Call::Reserve => attempt_reserve(rt, heap, driver, growth),
         Call::Collect(cid) => {
-            heap.refuse(refusing::Refusal::Nth(growth));
+            heap.refuse(test_support::Refusal::Nth(growth));
             driver.collect(rt, 1, cid).err()
         }
     }
@@ -86,7 +86,7 @@ fn an_opening(rt: HostRuntime) {
     let heap = Refusing::new(rt.alloc());
     let mut refused = 0;
     for growth in 1..MANY {
-        heap.refuse(refusing::Refusal::Nth(growth));
+        heap.refuse(test_support::Refusal::Nth(growth));
         let why = Driver::open(&heap, SMALL).err();
         same_at(&rt, growth, heap.tally().blocks, 0);
         if heap.tally().refused == 0 {
@@ -114,10 +114,10 @@ fn send_without_memory<'a>(
     driver: &mut Driver<&'a Heap>,
     kind: AdminKind,
 ) {
-    heap.refuse(refusing::Refusal::NthOn(1));
+    heap.refuse(test_support::Refusal::NthOn(1));
     assert!(rt; driver.send(rt, kind).is_ok());
     same(rt, heap.tally().refused, 0);
-    heap.refuse(refusing::Refusal::Never);
+    heap.refuse(test_support::Refusal::Never);
 }
 
 /// Three Reads wait, and each is aborted.
@@ -164,10 +164,10 @@ fn a_reset(rt: HostRuntime) {
     let mut driver = opened(&rt, &heap);
     submit(&rt, &mut driver, &heap, 0);
     send_without_memory(&rt, &heap, &mut driver, AdminKind::Abort { q: 1, cid: 0 });
-    heap.refuse(refusing::Refusal::NthOn(1));
+    heap.refuse(test_support::Refusal::NthOn(1));
     driver.reset(&rt);
     same(&rt, heap.tally().refused, 0);
-    heap.refuse(refusing::Refusal::Never);
+    heap.refuse(test_support::Refusal::Never);
     assert!(rt; driver.collect(&rt, 1, 0).is_ok());
     drop(driver);
 }

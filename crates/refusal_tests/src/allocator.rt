@@ -1,7 +1,7 @@
 //! The allocator under a list that grows.
 
 use crate::expecting::same;
-use refusing::{Refusal, Refusing};
+use test_support::{Refusal, Refusing};
 use std::alloc::{AllocError, Allocator};
 use std::test::Fail;
 

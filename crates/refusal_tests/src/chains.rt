@@ -3,7 +3,7 @@
 use crate::expecting::{same, same_at};
 use crate::heap::{MANY, is_empty_after_refusal};
 use page_memory::PageNo;
-use refusing::{Refusal, Refusing};
+use test_support::{Refusal, Refusing};
 use sgl_chain::{BuildFault, Chain, join_parts};
 use sgl_descriptor::Part;
 

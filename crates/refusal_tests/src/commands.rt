@@ -6,7 +6,7 @@ use block_image::Image;
 use entry_codec::{Status, SubEntry};
 use io_commands::{Draft, Finished, Kind, Piece, Pieces, Request, begin_job};
 use page_memory::{Page, PageNo, Store};
-use refusing::{Refusal, Refusing};
+use test_support::{Refusal, Refusing};
 use std::alloc::{AllocError, Global};
 use std::process::Abort;
 use std::test::Fail;

@@ -1,7 +1,7 @@
 //! The heap of these tests.
 
 use crate::expecting::same;
-use refusing::Refusing;
+use test_support::Refusing;
 use std::alloc::Global;
 use std::process::Abort;
 

@@ -6,7 +6,7 @@ use block_image::{Image, ImageError};
 use page_ledger::Ledger;
 use page_memory::{FlatMemory, OpenFault, PageNo, Store};
 use queue_pair::HostPair;
-use refusing::{Refusal, Refusing};
+use test_support::{Refusal, Refusing};
 use std::alloc::AllocError;
 
 #[test]

@@ -2,7 +2,7 @@
 
 use crate::expecting::{same, same_at};
 use linked_table::LinkedTable;
-use refusing::{Refusal, Refusing};
+use test_support::{Refusal, Refusing};
 use std::alloc::Allocator;
 use std::process::Abort;
 use std::test::Fail;

@@ -1,7 +1,7 @@
 //! Tables that are opened.
 
 use crate::expecting::{same, same_at};
-use refusing::{Refusal, Refusing};
+use test_support::{Refusal, Refusing};
 use slot_table::SlotTable;
 use std::alloc::AllocError;
 

@@ -2,7 +2,7 @@
 //! table has not, hands the record back.
 
 use crate::expecting::same;
-use refusing::Refusing;
+use test_support::Refusing;
 use slot_table::SlotTable;
 use std::test::Fail;
 

@@ -5,7 +5,7 @@ use crate::jobs::two_lists;
 use crate::left::see_outcome;
 use crate::runs::play;
 use driver_threads::RunFault;
-use refusing::{Refusal, Refusing};
+use test_support::{Refusal, Refusing};
 use std::alloc::Global;
 use std::process::Abort;
 use std::sync::Wait;
