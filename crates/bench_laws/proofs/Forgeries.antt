@@ -7,16 +7,15 @@ use Rattle.io_commands.specs.Drafts.{DraftContents}
 use Rattle.io_commands.specs.Values.{FinishedContents}
 use Rattle.machine_model.specs.Events as events
 use Rattle.machine_model.specs.Events.{Event}
-use Rattle.machine_model.specs.Histories as histories
-use Rattle.machine_model.specs.Laws as laws
+use Rattle.machine_agreement.specs.Histories as histories
+use Rattle.machine_model.specs.Trusted as laws
 use Rattle.machine_model.specs.Image.{Made, draft_of}
 use Rattle.machine_model.specs.Script.{Table, finished_at, is_ticket}
 use Rattle.machine_model.specs.Step.{resets}
 use Rattle.step_core.specs.Going.{forges_by}
 use Rattle.step_core.specs.Laws.{Says}
-use Rattle.step_core.specs.Values.{Reply}
+use Rattle.step_core.specs.Values.{Reply, Step}
 use Rattle.step_core.specs.declared.step.Reply.TheVariants as reply
-use Rattle.step_core.specs.Values.{Step}
 use Rattle.step_core.specs.declared.step.Step.TheVariants as step
 use Rattle.step_core.proofs.Lawful.{of_forge}
 use Rattle.bench_laws.specs.Values.{Done, IsOf, MadeBy, BeginsWith, event_at, is_forgery, is_reset, resets_by, since_reset}

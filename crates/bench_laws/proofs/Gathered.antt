@@ -7,9 +7,11 @@ use Rattle.io_commands.specs.Values.{FinishedContents, gathered_from, gathered_b
 use Rattle.io_commands.specs.declared.request.Kind.{Kind}
 use Rattle.io_commands.specs.declared.request.Kind.TheVariants.{Read, Write, Compare}
 use Rattle.machine_model.specs.Image.{Made, draft_of}
-use Rattle.machine_model.specs.Laws.{TrustedRun, fetches, is_read}
+use Rattle.machine_model.specs.Trusted.{TrustedRun}
+use Rattle.run_laws.specs.Statuses.{fetches}
+use Rattle.run_laws.specs.Blocks.{is_read}
 use Rattle.machine_model.specs.Script.{Table, table, finished_at, is_finished}
-use Rattle.machine_model.proofs.Members.{all_at_found}
+use Rattle.machine_agreement.proofs.Members.{all_at_found}
 use Rattle.host_core.proofs.Lists.{found_is}
 use Rattle.step_core.specs.Opening.{opening_of}
 use Rattle.run_laws.specs.Submitted.{CollectedCommand, FetchedCommand, was_fetched, bytes_collected}

@@ -7,7 +7,7 @@ use Rattle.io_commands.specs.Values.{FinishedContents}
 use Rattle.machine_model.specs.Events as events
 use Rattle.machine_model.specs.Events.{Event}
 use Rattle.machine_model.specs.Image.{Made, is_draft, submitted_by}
-use Rattle.machine_model.specs.Laws.{collected_of}
+use Rattle.run_laws.specs.Blocks.{collected_of}
 use Rattle.machine_model.specs.Script.{Table, is_ticket, is_finished}
 use Rattle.machine_model.specs.State.{State}
 use Rattle.machine_model.specs.Step as machine

@@ -7,12 +7,11 @@ use Rattle.io_commands.specs.Values.{FinishedContents}
 use Rattle.machine_model.specs.Events as events
 use Rattle.machine_model.specs.Events.{Event}
 use Rattle.machine_model.specs.Image.{Made, draft_of, submitted_by}
-use Rattle.machine_model.specs.Laws.{collected_of}
+use Rattle.run_laws.specs.Blocks.{collected_of}
 use Rattle.machine_model.specs.Script.{Table, finished_at, is_ticket}
 use Rattle.step_core.specs.Laws.{Says}
-use Rattle.step_core.specs.Values.{Reply}
+use Rattle.step_core.specs.Values.{Reply, Step}
 use Rattle.step_core.specs.declared.step.Reply.TheVariants as reply
-use Rattle.step_core.specs.Values.{Step}
 use Rattle.step_core.specs.declared.step.Step.TheVariants as step
 use Rattle.bench_laws.specs.Values.{Done, IsOf, MadeBy, BeginsWith, event_at}
 use Rattle.bench_laws.proofs.StepsMade.{named_draft}

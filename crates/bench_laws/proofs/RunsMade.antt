@@ -1,16 +1,15 @@
 -- The steps of a bench make a trusted run with the values that it keeps.
 use Rattle.std.proofs.Common.{◌≡◌, ℕ, Bool, true, false, not, is_none, List, [], ◌∷◌, ◌++◌, refl, ap, sym, ◌∙◌, subst, append-nil, append_assoc}
-use Rattle.machine_model.specs.Histories as histories
+use Rattle.machine_agreement.specs.Histories as histories
 use Rattle.machine_model.specs.Image.{Made}
-use Rattle.machine_model.specs.Laws.{Steps, TrustedRun}
+use Rattle.machine_model.specs.Trusted.{Steps, TrustedRun}
 use Rattle.machine_model.specs.Script.{Table, table}
 use Rattle.machine_model.specs.State.{State}
 use Rattle.machine_model.specs.Step as machine
-use Rattle.step_core.specs.Values.{Reply}
-use Rattle.step_core.specs.Values.{Step}
+use Rattle.step_core.specs.Values.{Reply, Step}
 use Rattle.step_core.specs.Opening.{opening_of}
 use Rattle.bench_laws.specs.Values.{Done, Goes, benches_have_tables, TrustedBench, event_at, MadeBy, since_reset, benches_make_runs_of_their_values, benches_of_trusted_worlds_are_unforged}
-use Rattle.machine_model.proofs.NeverRestored.{ends_unforged}
+use Rattle.machine_agreement.proofs.NeverRestored.{ends_unforged}
 use Rattle.bench_laws.proofs.Forgeries.{same_forgeries, same_since}
 use Rattle.bench_laws.proofs.KeptValues.{AreFrom}
 use Rattle.bench_laws.proofs.StepsMade.{InRun, stepped}

@@ -21,7 +21,7 @@ use Rattle.machine_model.specs.After as a
 use Rattle.machine_model.specs.Events as events
 use Rattle.machine_model.specs.Events.{Event, Reply}
 use Rattle.machine_model.specs.declared.words.Refusal.TheVariants as refusals
-use Rattle.machine_model.proofs.Ended.{io_left}
+use Rattle.machine_agreement.proofs.Ended.{io_left}
 use Rattle.machine_model.proofs.Moves.{creates_cq, creates_sq, host_moves, sent_record}
 use Rattle.machine_model.proofs.Steps.{Accepts, part_left}
 use Rattle.machine_model.proofs.Refused.{first_fails, found}

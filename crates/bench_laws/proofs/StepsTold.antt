@@ -7,13 +7,12 @@ use Rattle.io_commands.specs.Values.{FinishedContents}
 use Rattle.machine_model.specs.Events as events
 use Rattle.machine_model.specs.Events.{Event}
 use Rattle.machine_model.specs.Image.{Made, draft_of, submitted_by, image_by, image_from}
-use Rattle.machine_model.specs.Laws.{drafts_of}
+use Rattle.machine_model.specs.Trusted.{drafts_of}
 use Rattle.machine_model.specs.Script.{Table, finished_at, is_ticket}
 use Rattle.machine_model.specs.State.{State}
 use Rattle.step_core.specs.Laws.{Says}
-use Rattle.step_core.specs.Values.{Reply}
+use Rattle.step_core.specs.Values.{Reply, Step}
 use Rattle.step_core.specs.declared.step.Reply.TheVariants as reply
-use Rattle.step_core.specs.Values.{Step}
 use Rattle.step_core.specs.declared.step.Step.TheVariants as step
 use Rattle.bench_laws.specs.Values.{Done, IsOf, MadeBy, BeginsWith, event_at}
 use Rattle.bench_laws.specs.Blocks.{draft_submitted, drafts_submitted, image_by_step, image_from_steps}

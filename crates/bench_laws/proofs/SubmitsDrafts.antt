@@ -12,14 +12,13 @@ use Rattle.machine_model.specs.Image.{draft_of, is_draft}
 use Rattle.machine_model.specs.Proper.{IsProperDraft}
 use Rattle.machine_model.specs.Script.{Table, table}
 use Rattle.machine_model.specs.Step.{zeroed, IsReserved}
-use Rattle.machine_model.proofs.Entered.{good_is}
-use Rattle.machine_model.proofs.Members.{all_at_found}
+use Rattle.machine_agreement.proofs.Entered.{good_is}
+use Rattle.machine_agreement.proofs.Members.{all_at_found}
 use Rattle.step_core.specs.Opening.{opening_of}
 use Rattle.step_core.specs.Bench.{Does, Reserves}
 use Rattle.step_core.specs.Going.{IsTableInOrder}
-use Rattle.step_core.specs.Values.{Reply}
+use Rattle.step_core.specs.Values.{Reply, Step}
 use Rattle.step_core.specs.declared.step.Reply.TheVariants as reply
-use Rattle.step_core.specs.Values.{Step}
 use Rattle.step_core.specs.declared.step.Step.TheVariants as step
 use Rattle.step_core.proofs.InTableOrder.{bench_opens, bench_keeps}
 use Rattle.bench_laws.specs.Drafts.{ReservedCommand, benches_submit_what_they_reserved_and_filled, takes_draft, fills_of, data_bytes, written_over}

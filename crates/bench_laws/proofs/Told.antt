@@ -11,17 +11,18 @@ use Rattle.machine_model.specs.After.{final_status}
 use Rattle.machine_model.specs.Events as events
 use Rattle.machine_model.specs.Events.{Event}
 use Rattle.machine_model.specs.Image.{Made, draft_of, image_after}
-use Rattle.machine_model.specs.Laws.{TrustedRun, status_by, status_given, blocks_of_request}
+use Rattle.machine_model.specs.Trusted.{TrustedRun}
+use Rattle.run_laws.specs.Statuses.{status_by, status_given}
+use Rattle.run_laws.specs.Blocks.{blocks_of_request}
 use Rattle.machine_model.specs.Refusals.{job_at}
 use Rattle.machine_model.specs.State.{State}
 use Rattle.machine_model.specs.Opening.{opening}
-use Rattle.machine_model.proofs.Unforged.{unforged_front, unforged_run}
-use Rattle.machine_model.proofs.Images.{images_are_runs}
-use Rattle.machine_model.proofs.Along.{cut}
+use Rattle.machine_agreement.proofs.Unforged.{unforged_front, unforged_run}
+use Rattle.run_laws.proofs.Images.{images_are_runs}
+use Rattle.machine_agreement.proofs.Along.{cut}
 use Rattle.run_laws.proofs.WalkedCompares.{compares_told}
 use Rattle.step_core.specs.Laws.{Says}
-use Rattle.step_core.specs.Values.{Reply}
-use Rattle.step_core.specs.Values.{Step}
+use Rattle.step_core.specs.Values.{Reply, Step}
 use Rattle.bench_laws.specs.Values.{Done, IsOf, MadeBy, event_at, BeginsWith}
 use Rattle.bench_laws.specs.Blocks.{CompletesCompare, benches_write_their_blocks, benches_compare_their_blocks}
 use Rattle.bench_laws.proofs.RunsMade.{makes_run}

@@ -14,13 +14,12 @@ use Rattle.io_commands.proofs.Filling.{numbers_of-filled}
 use Rattle.machine_model.specs.Image.{draft_of, is_draft}
 use Rattle.machine_model.specs.Proper.{IsProperDraft, IsPage}
 use Rattle.machine_model.specs.Script.{Table, fill_fault, filled_draft, is_source}
-use Rattle.machine_model.proofs.Entered.{good_is}
+use Rattle.machine_agreement.proofs.Entered.{good_is}
 use Rattle.machine_model.proofs.Refused.{first_fails, rest_fails}
 use Rattle.host_core.proofs.Lists.{all-from}
 use Rattle.step_core.proofs.KeptDrafts.{filled_stays_proper, built_stays_proper}
 use Rattle.step_core.specs.Bench.{with_first}
-use Rattle.step_core.specs.Values.{Reply}
-use Rattle.step_core.specs.Values.{Step}
+use Rattle.step_core.specs.Values.{Reply, Step}
 use Rattle.bench_laws.specs.Drafts.{takes_by, takes_draft, fill_by, fills_of, data_bytes, written_over}
 use Rattle.bench_laws.specs.Values.{Done, Goes}
 use Rattle.bench_laws.proofs.Changed.{find_with, find_with_other, find_without_other}

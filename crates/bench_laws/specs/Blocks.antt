@@ -9,13 +9,12 @@ use Rattle.io_commands.specs.Drafts.{DraftContents}
 use Rattle.io_commands.specs.declared.request.Kind.TheVariants.{Compare}
 use Rattle.machine_model.specs.After.{final_status}
 use Rattle.machine_model.specs.Image.{draft_of, written_by, succeeds}
-use Rattle.machine_model.specs.Laws.{blocks_of_request}
+use Rattle.run_laws.specs.Blocks.{blocks_of_request}
 use Rattle.machine_model.specs.Refusals.{job_at}
 use Rattle.machine_model.specs.Script.{Table}
 use Rattle.machine_model.specs.Status.{same_status}
-use Rattle.step_core.specs.Values.{Reply}
+use Rattle.step_core.specs.Values.{Reply, Step}
 use Rattle.step_core.specs.declared.step.Reply.TheVariants as reply
-use Rattle.step_core.specs.Values.{Step}
 use Rattle.step_core.specs.declared.step.Step.TheVariants as step
 use Rattle.bench_laws.specs.Values.{Done, TrustedBench}
 

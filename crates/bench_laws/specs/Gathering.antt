@@ -9,7 +9,7 @@ use Rattle.io_commands.specs.Values.{gathered_from, numbers_of}
 use Rattle.machine_model.specs.Events as events
 use Rattle.machine_model.specs.Events.{Event}
 use Rattle.machine_model.specs.Image.{Made, draft_of, read_of}
-use Rattle.machine_model.specs.Laws.{is_read, blocks_of_request, partly}
+use Rattle.run_laws.specs.Blocks.{is_read, blocks_of_request, partly}
 use Rattle.machine_model.specs.Script.{Table, finished_at}
 use Rattle.run_laws.specs.Submitted.{CollectedCommand, FetchedCommand, was_fetched, bytes_drafted, image_at_fetch}
 use Rattle.step_core.specs.Bench.{Does}

@@ -6,14 +6,13 @@ use Rattle.block_image.specs.Blocks.{IsImage}
 use Rattle.machine_model.specs.Events as events
 use Rattle.machine_model.specs.Events.{Event}
 use Rattle.machine_model.specs.Image.{Made, draft_of}
-use Rattle.machine_model.specs.Laws.{TrustedRun}
+use Rattle.machine_model.specs.Trusted.{TrustedRun}
 use Rattle.machine_model.specs.Script.{Table, table, is_ticket, finished_at}
 use Rattle.machine_model.specs.State.{State}
 use Rattle.step_core.specs.Bench.{Does, DoesAll}
 use Rattle.step_core.specs.Going.{forges_by}
 use Rattle.step_core.specs.Laws.{Says}
-use Rattle.step_core.specs.Values.{Reply}
-use Rattle.step_core.specs.Values.{Step}
+use Rattle.step_core.specs.Values.{Reply, Step}
 use Rattle.step_core.specs.declared.step.Step.TheVariants as step
 use Rattle.host_core.specs.Opening.{refusal_of_config}
 use Rattle.step_core.specs.Opening.{opening_of}

@@ -6,7 +6,7 @@ use Rattle.io_commands.specs.declared.draft.FillFault.TheVariants.{WrongLength}
 use Rattle.io_commands.specs.declared.request.Kind.TheVariants.{Write}
 use Rattle.io_commands.specs.declared.request.Piece.{Piece}
 use Rattle.io_commands.specs.declared.request.Piece.TheVariants.{Data}
-use Rattle.machine_model.specs.Laws.{drafts_of}
+use Rattle.machine_model.specs.Trusted.{drafts_of}
 use Rattle.machine_model.specs.Script.{Line, Said, reserve, fill, build, submit, ok, reserved, not_filled, made_by}
 use Rattle.machine_model.specs.WorkedReads.{ordinary}
 use Rattle.step_core.specs.declared.step.Reply.TheVariants as reply

@@ -4,12 +4,12 @@ use Rattle.std.specs.List.{list_any}
 use Rattle.machine_model.specs.Events as events
 use Rattle.machine_model.specs.Events.{Event, Reply}
 use Rattle.machine_model.specs.Image.{Made}
-use Rattle.machine_model.specs.InOrder.{IsInOrder}
-use Rattle.machine_model.specs.Laws as laws
-use Rattle.machine_model.specs.Laws.{Steps}
+use Rattle.machine_agreement.specs.InOrder.{IsInOrder}
+use Rattle.machine_model.specs.Trusted as laws
+use Rattle.machine_model.specs.Trusted.{Steps}
 use Rattle.machine_model.specs.State.{State}
-use Rattle.machine_model.proofs.InOrders.{opens_in_order, order_kept}
-use Rattle.machine_model.proofs.Agreed.{agreed_stays}
+use Rattle.machine_agreement.proofs.InOrders.{opens_in_order, order_kept}
+use Rattle.machine_agreement.proofs.Agreed.{agreed_stays}
 use Rattle.step_core.specs.Going.{forges_by}
 use Rattle.step_core.specs.Opening.{opening_of}
 use Rattle.driver_book.specs.History.{asked, told, TellsOf, LeadsTo}

@@ -5,7 +5,7 @@ use Rattle.std.specs.List.{list_any}
 use Rattle.std.proofs.lemmas.Option.{get_or_from_slice_get, slice_get-get_or}
 use Rattle.std.proofs.lemmas.List.Sums.{count_by_more_yes, count_by_more_no}
 use Rattle.entry_codec.specs.declared.status.Status.{Status}
-use Rattle.machine_model.proofs.Members.{all_at}
+use Rattle.machine_agreement.proofs.Members.{all_at}
 use Rattle.driver_book.specs.Values.{Entry}
 use Rattle.driver_book.specs.History.{is_accepted, accepted}
 use Rattle.driver_book.specs.State.{SeatContents, is_seated, AreSeated}

@@ -3,7 +3,7 @@ use Rattle.std.specs.Prelude.{◌≡◌, ℕ, Bool, ◌&&◌, not, IsTrue, None,
 use Rattle.std.specs.List.{list_any}
 use Rattle.block_image.specs.Blocks.{IsImage}
 use Rattle.machine_model.specs.Image.{Made}
-use Rattle.machine_model.specs.Laws.{TrustedRun}
+use Rattle.machine_model.specs.Trusted.{TrustedRun}
 use Rattle.machine_model.specs.State.{State}
 use Rattle.machine_model.specs.Touch.{stays_allowed, stays_own}
 use Rattle.host_core.specs.Opening.{refusal_of_config}

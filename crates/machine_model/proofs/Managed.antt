@@ -19,7 +19,7 @@ use Rattle.queue_pair.specs.Memory.{half_pages}
 use Rattle.machine_model.specs.State.{State, DeviceQueue}
 use Rattle.machine_model.specs.Refusals.{device_queue}
 use Rattle.machine_model.specs.After.{acted, managed, decided, on_job, on_device, on_device_queue, stopped, dropped, completion_made, submission_made, sq_state, cq_there, walks, view_of}
-pub use Rattle.machine_model.specs.Linked.{absent}
+use Rattle.machine_model.specs.Linked.{absent}
 
 by-if : {A : Type 0} (Q : A → Type 0) (b : Bool) (x y : A) → (b ≡ true → Q x) → (b ≡ false → Q y) → Q (if b then x else y)
 by-if Q true x y f g = f refl

@@ -9,14 +9,9 @@ use Rattle.page_memory.specs.declared.page.Half.TheVariants.{Submission, Complet
 use Rattle.queue_pair.specs.Memory.{half_pages}
 use Rattle.queue_pair.specs.Rings.{fresh_host_ring}
 use Rattle.sgl_chain.specs.Chains.{pages_needed}
-use Rattle.machine_model.specs.Claims.{IsSound}
 use Rattle.machine_model.specs.Commands.{Work, Io, Management}
-use Rattle.machine_model.specs.Events.{Event, Reply}
-use Rattle.machine_model.specs.Opening.{opening, Opens}
 use Rattle.machine_model.specs.Refusals.{has_sq, has_cq, is_making}
-use Rattle.machine_model.specs.Run.{Run}
-use Rattle.machine_model.specs.State.{State, Host, HostQueue, Record}
-use Rattle.machine_model.specs.Step.{Step}
+use Rattle.machine_model.specs.State.{Host, HostQueue, Record}
 
 -- so many pages, one after the other
 abbrev pub LieTogether : ℕ → List ℕ → Type 0
@@ -61,14 +56,3 @@ pub record IsHostProvided (n segment : ℕ) (h : Host) : Type 0 where
   pub queues : AllByRecursion (HasHalves n) h.queues
   pub commands : AllByRecursion (IsProvided n segment) h.records
   pub creations : AllByRecursion (λ r. NamesItsHalf n h.queues r.work) h.records
-
--- whatever was forged
-abbrev pub each_step_provides : Type 0
-each_step_provides =
-    (old : State) (e : Event) (reply : Reply) (new : State) → Step old e reply new → IsSound old
-    → IsHostProvided old.entries old.segment old.host → IsHostProvided new.entries new.segment new.host
-
-abbrev pub every_run_provides : Type 0
-every_run_provides =
-    (pages queues n s : ℕ) (image : List ℕ) (es : List Event) (replies : List Reply) (new : State)
-    → Opens pages queues n s → Run (opening pages queues n s image) es replies new → IsHostProvided new.entries new.segment new.host

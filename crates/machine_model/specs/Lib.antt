@@ -12,14 +12,11 @@ pub mod Opening
 pub mod Step
 pub mod Run
 pub mod Positions
-pub mod Slots
-pub mod Built
 pub mod Claims
 pub mod Touch
 pub mod Image
-pub mod Laws
+pub mod Trusted
 pub mod Linked
-pub mod Histories
 pub mod Standing
 pub mod Script
 pub mod Rings
@@ -36,7 +33,4 @@ pub mod WorkedSound
 pub mod Weights
 pub mod Agreeing
 pub mod Always
-pub mod Recovering
-pub mod AgreeingLaws
-pub mod InOrder
 pub mod Work

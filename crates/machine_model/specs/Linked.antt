@@ -1,15 +1,13 @@
 -- What ties the controller's queues and jobs to the host's where nothing was forged.
-use Rattle.std.specs.Prelude.{◌≡◌, ℕ, ◌<◌, Bool, true, false, Some, List, length, is_some}
+use Rattle.std.specs.Prelude.{◌≡◌, ℕ, ◌<◌, Bool, true, false, Some, length, is_some}
 use Rattle.std.specs.Option.{option_map_or}
 use Rattle.admin_commands.specs.Verdicts.{is_absent}
 use Rattle.machine_model.specs.After.{cq_there}
 use Rattle.machine_model.specs.State.{State, HostQueue}
-use Rattle.machine_model.specs.Refusals.{device_queue, host_queue, job_at, is_live}
+use Rattle.machine_model.specs.Refusals.{device_queue, host_queue, job_at}
 use Rattle.machine_model.specs.Positions.{IsInRing}
 use Rattle.page_memory.specs.declared.page.Half.TheVariants.{Submission, Completion}
 use Rattle.queue_pair.specs.Memory.{half_pages}
-use Rattle.machine_model.specs.Laws.{TrustedRun}
-use Rattle.machine_model.specs.Image.{Made}
 
 -- whether the controller has no submission queue of a number
 abbrev pub absent : State → ℕ → Bool
@@ -27,13 +25,3 @@ pub record IsLinked (s : State) : Type 0 where
   pub completion_stays : (q : ℕ) → absent s q ≡ false → cq_there s q ≡ true
   -- so does one that has a job
   pub jobs_have_queues : (q cid : ℕ) → is_some (job_at s q cid) ≡ true → absent s q ≡ false
-
--- whenever nothing was forged
-abbrev pub trusted_worlds_are_linked : Type 0
-trusted_worlds_are_linked = (image : List ℕ) (made : List Made) (s : State) → TrustedRun image made s → IsLinked s
-
--- A submission queue that is live at the host is there at the controller: only a deletion that the host asked for, or a reset, takes it
--- away, and the host hears of that deletion's success alone.
-abbrev pub live_queues_are_there : Type 0
-live_queues_are_there =
-    (image : List ℕ) (made : List Made) (s : State) (q : ℕ) (queue : HostQueue) → TrustedRun image made s → host_queue s q ≡ Some queue → is_live queue.state ≡ true → absent s q ≡ false

@@ -1,10 +1,8 @@
 -- Pages of a pool taken out, and brought in with their bytes.
-use Rattle.std.specs.Prelude.{ℕ, Some, None, List, [], ◌∷◌, slice_set, map, Bool, is_some, ◌%◌, slice_index, option_map, ◌≡◌}
-use Rattle.sgl_descriptor.specs.declared.Direction.{Direction}
-use Rattle.controller_walk.specs.Units.{course_of_list}
+use Rattle.std.specs.Prelude.{ℕ, Some, None, List, [], ◌∷◌, slice_set, map, Bool, is_some, ◌%◌, slice_index, option_map}
 use Rattle.io_commands.specs.DataBytes.{PagesOut}
 use Rattle.page_memory.specs.Memory.{Memory, page_of}
-use Rattle.page_memory.specs.Pages.{Pages, page_at, zero_page, byte_at, AreWhole}
+use Rattle.page_memory.specs.Pages.{Pages, page_at, zero_page}
 
 abbrev pub is_in : Pages → ℕ → Bool
 is_in pages p = is_some (page_at pages p)
@@ -25,12 +23,3 @@ zeroed_pages numbers = map (λ p. (p, zero_page)) numbers
 -- the memory that a walk reads: the bytes of the pages that are in
 abbrev pub memory_of : Pages → Memory
 memory_of pages place = option_map (λ page. slice_index page (place % 4096)) (page_at pages (page_of place))
-
--- where each page that is in is whole, that is the memory of the pool
-abbrev pub walks_read_the_pool : Type 0
-walks_read_the_pool = (pages : Pages) (place : ℕ) → AreWhole pages → memory_of pages place ≡ byte_at pages place
-
--- so a list has one course in both
-abbrev pub walks_go_as_in_the_pool : Type 0
-walks_go_as_in_the_pool =
-    (pages : Pages) (sgl1 : List ℕ) (dir : Direction) (need : ℕ) → AreWhole pages → course_of_list (memory_of pages) sgl1 dir need ≡ course_of_list (byte_at pages) sgl1 dir need

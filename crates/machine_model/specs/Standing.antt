@@ -1,6 +1,6 @@
 -- What stands while nothing is forged: a submitted I/O command's list stands in its chain pages; wherever the controller has an entry of its
 -- queue and identifier, that entry is the command's own; and a job's walk is within its list.
-use Rattle.std.specs.Prelude.{◌≡◌, ◌<◌, ◌==◌, nat_lt, not, IsTrue, ℕ, true, false, Some, None, List, [], length, slice_get}
+use Rattle.std.specs.Prelude.{◌≡◌, ◌<◌, ◌==◌, ℕ, true, false, Some, None, List, [], length, slice_get}
 use Rattle.std.specs.List.{AllByRecursion}
 use Rattle.std.specs.Option.{option_map_or}
 use Rattle.sgl_descriptor.specs.declared.Descriptor.{Descriptor}
@@ -16,13 +16,9 @@ use Rattle.io_commands.specs.Values.{IsGood}
 use Rattle.page_memory.specs.Pages.{Pages, byte_at}
 use Rattle.machine_model.specs.Commands.{Work, Io, Management}
 use Rattle.machine_model.specs.State.{State, DeviceQueue, Record, Job, record_at}
-use Rattle.machine_model.specs.Refusals.{is_submitted, job_at}
+use Rattle.machine_model.specs.Refusals.{is_submitted}
 use Rattle.machine_model.specs.After.{course_of}
 use Rattle.machine_model.specs.Reached.{only, on_pages, KeepsToPages}
-use Rattle.machine_model.specs.Image.{Made}
-use Rattle.machine_model.specs.Step.{Step}
-use Rattle.machine_model.specs.Events.{Event, Reply}
-use Rattle.machine_model.specs.Laws.{TrustedRun, forges_by}
 
 -- a command's request fits its types and passes its check, and the command has a page for each data piece
 pub record IsSized (r : Record) (request : Request) : Type 0 where
@@ -71,15 +67,3 @@ pub record JobStands (s : State) (j : Job) : Type 0 where
   pub keeps : KeepsToPages command.chain_pages command.data_pages (course_of s j)
   pub ends : verdict (course_of s j) ≡ End
   pub unit_left : j.verdict ≡ None → j.units_done < length (units (course_of s j))
-
--- So each job does, after every run in which nothing was forged.
-abbrev pub jobs_stand : Type 0
-jobs_stand =
-    (image : List ℕ) (made : List Made) (end : State) (q cid : ℕ) (j : Job) → TrustedRun image made end → IsTrue (nat_lt 0 q) → job_at end q cid ≡ Some j → JobStands end j
-
--- A step that forges nothing and leaves a job there leaves its list the same list: the job's own walk, and anything else.
-abbrev pub jobs_keep_their_lists : Type 0
-jobs_keep_their_lists =
-    (image : List ℕ) (made : List Made) (old new : State) (e : Event) (reply : Reply) (q cid : ℕ) (before after : Job)
-    → TrustedRun image made old → Step old e reply new → IsTrue (not (forges_by e reply)) → IsTrue (nat_lt 0 q) → job_at old q cid ≡ Some before → job_at new q cid ≡ Some after
-    → (after.entry ≡ before.entry) × (course_of new after ≡ course_of old before)

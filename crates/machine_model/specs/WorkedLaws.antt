@@ -14,7 +14,7 @@ use Rattle.sgl_descriptor.specs.declared.Part.TheVariants as parts
 use Rattle.sgl_chain.specs.Chains.{parts_from}
 use Rattle.io_commands.specs.Drafts.{DraftContents, IsDraft, io_entry, built}
 use Rattle.machine_model.specs.Image.{image_after, read_of, draft_of}
-use Rattle.machine_model.specs.Laws.{drafts_of}
+use Rattle.machine_model.specs.Trusted.{drafts_of}
 use Rattle.machine_model.specs.Events as events
 use Rattle.machine_model.specs.Script.{collect, release, delete_sq, retire, Table, Line, Said, table, defaults, left_by, made_by, walks, reserve, build, submit, ring, fetch, walk, complete, reap, ok, fetched, walked, completed, reaps, refused}
 use Rattle.machine_model.specs.Opening.{opening}

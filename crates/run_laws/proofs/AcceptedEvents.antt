@@ -23,17 +23,17 @@ use Rattle.machine_model.specs.State.{State, Record, is_at, record_at, outstandi
 use Rattle.machine_model.specs.Refusals.{refusal_of, host_queue, next_rung, post_page, fetch_page, conflicts, answers_full, record_is, is_submitted, is_held, no_identifier, pages_wanted}
 use Rattle.machine_model.specs.Proper.{IsProper}
 use Rattle.machine_model.specs.Claims.{IsSound}
-use Rattle.machine_model.specs.InOrder.{IsInOrder}
+use Rattle.machine_agreement.specs.InOrder.{IsInOrder}
 use Rattle.machine_model.specs.After.{after, next_answer}
 use Rattle.machine_model.specs.Step.{Permits, Refuses, Leaves, Answers, AnswersAnything, IsController, IsReserved, IsNewIdentifier, LeavesByController, LeavesByHost, times, forges, resets, is_exact, reaped, touched_by_fetch, unit_answered, finished_from, asked_by, pages_with_bytes}
 use Rattle.machine_model.specs.Events as events
 use Rattle.machine_model.specs.Events.{Event, Reply}
 use Rattle.machine_model.proofs.Steps.{part_controller, surely}
 use Rattle.machine_model.proofs.Owned.{holds_from_sound}
-use Rattle.machine_model.proofs.Elsewhere.{owned_once}
+use Rattle.machine_agreement.proofs.Elsewhere.{owned_once}
 use Rattle.machine_model.proofs.Refused.{first_fails, rest_fails, unrefused}
-use Rattle.machine_model.proofs.Members.{all_at_found}
-use Rattle.machine_model.proofs.Answered.{walk_allowed, has_unit}
+use Rattle.machine_agreement.proofs.Members.{all_at_found}
+use Rattle.machine_agreement.proofs.Answered.{walk_allowed, has_unit}
 use Rattle.run_laws.specs.Accepted.{HasEnded, EndedIfHeld, IsReady, IsAccepted, is_refusal, every_event_is_accepted_or_has_a_cause, every_reset_is_accepted, IsAcceptedReset, resets_have_one_answer, queue_of, forged_worlds_accept_the_controller, forged_worlds_know_their_queues}
 use Rattle.machine_model.proofs.FreePages.{length_placed, length_chain, placement_times, room_for}
 use Rattle.run_laws.proofs.AcceptedFree.{free_number, counted_free, numbers_zeroed, both_zeroed, length_zeroed}

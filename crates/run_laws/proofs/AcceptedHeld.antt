@@ -21,8 +21,8 @@ use Rattle.machine_model.specs.Events as events
 use Rattle.machine_model.specs.Events.{Event, Reply}
 use Rattle.machine_model.proofs.Steps.{Accepts, part_controller, part_left, surely}
 use Rattle.machine_model.proofs.Placed.{find_sound}
-use Rattle.machine_model.proofs.Members.{all_map, all_filter, all_append, all_at_found, all_in_both}
-use Rattle.machine_model.proofs.InOrders.{opens_in_order, order_kept}
+use Rattle.machine_agreement.proofs.Members.{all_map, all_filter, all_append, all_at_found, all_in_both}
+use Rattle.machine_agreement.proofs.InOrders.{opens_in_order, order_kept}
 use Rattle.machine_model.proofs.Resetting.{all_reset, lost_by}
 use Rattle.machine_model.proofs.Moves.{host_moves, drafted_record, sent_record, creates_cq, creates_sq}
 use Rattle.run_laws.specs.Accepted.{EndedIfHeld, openings_are_ready, steps_keep_ready}

@@ -5,17 +5,17 @@ use Rattle.std.proofs.lemmas.Bool.{or_parts}
 use Rattle.machine_model.specs.State.{State}
 use Rattle.machine_model.specs.Proper.{IsProper}
 use Rattle.machine_model.specs.Image.{Made}
-use Rattle.machine_model.specs.Laws.{Steps}
+use Rattle.machine_model.specs.Trusted.{Steps}
 use Rattle.machine_model.specs.Step.{Step}
 use Rattle.machine_model.specs.After as a
 use Rattle.machine_model.specs.Events as events
 use Rattle.machine_model.specs.Events.{Event, Reply}
 use Rattle.machine_model.specs.declared.words.Refusal.{Refusal}
 use Rattle.machine_model.proofs.Steps.{Accepts}
-use Rattle.machine_model.proofs.Along.{along, trusted_step_by}
-use Rattle.machine_model.proofs.Unforged.{Unforged, unforged_next}
-use Rattle.machine_model.proofs.Served.{Stood}
-use Rattle.machine_model.proofs.WalksKept.{stood_on}
+use Rattle.machine_agreement.proofs.Along.{along, trusted_step_by}
+use Rattle.machine_agreement.proofs.Unforged.{Unforged, unforged_next}
+use Rattle.machine_agreement.proofs.Served.{Stood}
+use Rattle.machine_agreement.proofs.WalksKept.{stood_on}
 
 -- an event that is accepted where nothing was forged
 pub record Going (s : State) (e : Event) (reply : Reply) : Type 0 where

@@ -26,7 +26,8 @@ use Rattle.machine_model.specs.Standing.{unfetched_at, HasEntry, ListStands, Sta
 use Rattle.machine_model.specs.State.{State, Device, HostQueue, DeviceQueue, Record, Job, is_at, record_at, with_record, pages_of}
 use Rattle.machine_model.specs.Refusals.{host_queue, is_submitted, is_drafted, is_live, in_state, is_of, queue_full, record_is}
 use Rattle.machine_model.specs.Image.{Made, draft_of, submitted_by}
-use Rattle.machine_model.specs.Laws.{Steps, drafts_of, entries_of}
+use Rattle.machine_model.specs.Trusted.{Steps, drafts_of}
+use Rattle.machine_agreement.specs.Laws.{entries_of}
 use Rattle.machine_model.specs.Opening.{opening}
 use Rattle.machine_model.specs.Step.{Step}
 use Rattle.machine_model.specs.After as a
@@ -38,19 +39,19 @@ use Rattle.machine_model.specs.declared.words.Refusal.TheVariants as refusals
 use Rattle.machine_model.proofs.Counting.{one}
 use Rattle.machine_model.proofs.Steps.{Accepts}
 use Rattle.machine_model.proofs.Refused.{first_fails, rest_fails}
-use Rattle.machine_model.proofs.Placing.{device-posted}
-use Rattle.machine_model.proofs.Members.{In, in_found, all_at_found, all_append, all_drop_one, all_in_both, sent}
-use Rattle.machine_model.proofs.Grounds.{pair_at}
-use Rattle.machine_model.proofs.Unforged.{Unforged, unforged_next, unforged_run}
-use Rattle.machine_model.proofs.Served.{Stood, page_below, data_of, chain_of}
-use Rattle.machine_model.proofs.PlacesKept.{ids_of, drafted_not}
-use Rattle.machine_model.proofs.Commanding.{keeps_fetch, keeps_walk, keeps_complete}
-use Rattle.machine_model.proofs.Submitting.{first_read}
-use Rattle.machine_model.proofs.WalksKept.{host_jobs, stood_on, stood_at_opening}
-use Rattle.machine_model.proofs.JobLaws.{stay_after, all_of, entries_named}
-use Rattle.machine_model.proofs.Known.{unsent, same_draft}
-use Rattle.machine_model.proofs.RecordsMove.{RecordsMove, records_event}
-use Rattle.machine_model.proofs.QueuesMove.{QueueMove, queues_event}
+use Rattle.machine_agreement.proofs.Placing.{device-posted}
+use Rattle.machine_agreement.proofs.Members.{In, in_found, all_at_found, all_append, all_drop_one, all_in_both, sent}
+use Rattle.machine_agreement.proofs.Grounds.{pair_at}
+use Rattle.machine_agreement.proofs.Unforged.{Unforged, unforged_next, unforged_run}
+use Rattle.machine_agreement.proofs.Served.{Stood, page_below, data_of, chain_of}
+use Rattle.machine_agreement.proofs.PlacesKept.{ids_of, drafted_not}
+use Rattle.machine_agreement.proofs.Commanding.{keeps_fetch, keeps_walk, keeps_complete}
+use Rattle.machine_agreement.proofs.Submitting.{first_read}
+use Rattle.machine_agreement.proofs.WalksKept.{host_jobs, stood_on, stood_at_opening}
+use Rattle.machine_agreement.proofs.JobLaws.{stay_after, all_of, entries_named}
+use Rattle.run_laws.proofs.Known.{unsent, same_draft}
+use Rattle.run_laws.proofs.RecordsMove.{RecordsMove, records_event}
+use Rattle.run_laws.proofs.QueuesMove.{QueueMove, queues_event}
 use Rattle.run_laws.specs.Submitted.{HasListOf, chains_are_the_drafts}
 use Rattle.run_laws.proofs.DataAlong.{Going, left_step, stood_step}
 use Rattle.run_laws.proofs.DataKept.{IsOfDraft, Found, found_draft, submits_of}

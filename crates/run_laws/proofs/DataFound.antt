@@ -1,9 +1,8 @@
 -- What a collection finds: the command's held record, and its pages as they stand.
-use Rattle.std.proofs.Common.{◌≡◌, ℕ, Bool, true, false, not, Option, Some, None, List, [], ◌∷◌, ◌++◌, MatchBool, refl, ap, sym, ◌∙◌, subst, eq-eqb}
+use Rattle.std.proofs.Common.{◌≡◌, ℕ, Bool, true, false, not, Option, Some, None, [], ◌∷◌, ◌++◌, MatchBool, refl, ap, sym, ◌∙◌, subst, eq-eqb}
 use Rattle.std.specs.Option.{option_map, option_and_then}
 use Rattle.std.specs.List.{list_any}
 use Rattle.std.proofs.lemmas.Bool.{true≢false}
-use Rattle.page_memory.specs.Pages.{Pages}
 use Rattle.entry_codec.specs.declared.status.Status.{Status}
 use Rattle.io_commands.specs.Asked.{Request}
 use Rattle.io_commands.specs.Drafts.{DraftContents}
@@ -13,22 +12,23 @@ use Rattle.machine_model.specs.declared.words.Work.TheVariants.{Io, Management}
 use Rattle.machine_model.specs.State.{State, Record, is_at, record_at}
 use Rattle.machine_model.specs.Refusals.{is_held, refusal_of}
 use Rattle.machine_model.specs.Image.{Made, submitted_by}
-use Rattle.machine_model.specs.Laws.{Steps, collected_of}
+use Rattle.machine_model.specs.Trusted.{Steps}
+use Rattle.run_laws.specs.Blocks.{collected_of}
 use Rattle.machine_model.specs.Opening.{opening}
 use Rattle.machine_model.specs.Step.{Step, finished_from, asked_by, pages_with_bytes}
 use Rattle.machine_model.specs.After as a
 use Rattle.machine_model.specs.Events as events
 use Rattle.machine_model.specs.Events.{Event, Reply}
-use Rattle.machine_model.proofs.Unforged.{Unforged, unforged_next, unforged_front, unforged_back, unforged_run, unforged_end}
-use Rattle.machine_model.proofs.Members.{all_at_found}
-use Rattle.machine_model.proofs.Served.{Stood}
-use Rattle.machine_model.proofs.PlacesKept.{ids_of}
-use Rattle.machine_model.proofs.WalksKept.{stood_at_opening}
+use Rattle.machine_agreement.proofs.Unforged.{Unforged, unforged_next, unforged_front, unforged_back, unforged_run, unforged_end}
+use Rattle.machine_agreement.proofs.Members.{all_at_found}
+use Rattle.machine_agreement.proofs.Served.{Stood}
+use Rattle.machine_agreement.proofs.PlacesKept.{ids_of}
+use Rattle.machine_agreement.proofs.WalksKept.{stood_at_opening}
 use Rattle.run_laws.specs.Submitted.{CollectedCommand, submits}
 use Rattle.run_laws.proofs.DataAlong.{Going, stood_step, stood_along, along_steps}
-use Rattle.machine_model.proofs.Along.{cut}
+use Rattle.machine_agreement.proofs.Along.{cut}
 use Rattle.machine_model.proofs.Steps.{permitted}
-use Rattle.machine_model.proofs.ReadLaws.{held_where_collected}
+use Rattle.run_laws.proofs.ReadLaws.{held_where_collected, with_numbers}
 use Rattle.run_laws.proofs.DataKept.{IsOfDraft, Follows, AllFollow, found_draft, follow_submit, follow_step, held_goes}
 
 pub record Collects (s : State) (f : FinishedContents) : Type 0 where
@@ -187,10 +187,6 @@ kept c =
     let all = along_steps (AllFollow c.draft) (submits c.draft.q c.draft.cid) (λ s e reply g far h. follow_step c.draft other s e reply g far h) c.between x.second x.third x.along x.unforged x.stood_second (alone_of c)
     (subst (AllFollow c.draft) (sym x.is_second) (follow_submit c.draft x.first events.Accepted x.going)) in
     all_at_found (Follows c.draft) (is_at c.finished.q c.finished.cid) x.third.host.records x.collects.command x.collects.found all.1 (at_draft c x) (held_goes x.collects.command.phase x.collects.held)
-
-pub with_numbers : (m : Pages) (ps : List ℕ) → numbers_of (pages_with_bytes m ps) ≡ ps
-with_numbers m [] = refl
-with_numbers m (p ∷ ps) = ap (λ (xs : List ℕ). p ∷ xs) (with_numbers m ps)
 
 pub request_stays : (c : CollectedCommand) → c.finished.request ≡ c.draft.request
 request_stays c = inside (sym (course c).collects.work ∙ (kept c).work)

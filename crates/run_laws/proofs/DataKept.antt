@@ -16,14 +16,14 @@ use Rattle.machine_model.specs.After as a
 use Rattle.machine_model.specs.Events as events
 use Rattle.machine_model.specs.Events.{Event, Reply}
 use Rattle.machine_model.proofs.Refused.{same_lists}
-use Rattle.machine_model.proofs.Members.{all_at_found, is_found}
-use Rattle.machine_model.proofs.Submitting.{requests_same}
-use Rattle.machine_model.proofs.PlacesKept.{ids_of}
-use Rattle.machine_model.proofs.Known.{submit_record}
+use Rattle.machine_agreement.proofs.Members.{all_at_found, is_found}
+use Rattle.machine_agreement.proofs.Submitting.{requests_same}
+use Rattle.machine_agreement.proofs.PlacesKept.{ids_of}
+use Rattle.run_laws.proofs.Known.{submit_record}
 use Rattle.machine_model.proofs.Out.{named, reaped_submitted}
 use Rattle.machine_model.specs.Step.{reaped}
 use Rattle.entry_codec.specs.declared.status.TheConstants.Status.{ABORTED_SQ_DELETION}
-use Rattle.machine_model.proofs.RecordsMove.{RecordsMove, records_event}
+use Rattle.run_laws.proofs.RecordsMove.{RecordsMove, records_event}
 use Rattle.run_laws.specs.Submitted.{submits}
 use Rattle.run_laws.proofs.DataAlong.{Going}
 

@@ -15,13 +15,14 @@ use Rattle.io_commands.specs.Asked.{Request}
 use Rattle.io_commands.specs.Jobs.{is_success}
 use Rattle.machine_model.specs.State.{is_at}
 use Rattle.machine_model.specs.Image.{Made, is_draft, draft_of, submitted_by}
-use Rattle.machine_model.specs.Laws.{TrustedRun, Steps, fetches, drafts_of}
+use Rattle.machine_model.specs.Trusted.{TrustedRun, Steps, drafts_of}
+use Rattle.run_laws.specs.Statuses.{fetches}
 use Rattle.machine_model.specs.Step.{zeroed, pages_with_bytes}
 use Rattle.machine_model.specs.Events as events
-use Rattle.machine_model.proofs.Members.{all_at_found}
-use Rattle.machine_model.proofs.Gathered.{Stands}
-use Rattle.machine_model.proofs.ReadLaws.{reads_give, stopped_reads}
-use Rattle.machine_model.proofs.Unforged.{Unforged}
+use Rattle.machine_agreement.proofs.Members.{all_at_found}
+use Rattle.run_laws.proofs.Gathered.{Stands}
+use Rattle.run_laws.proofs.ReadLaws.{reads_give, stopped_reads}
+use Rattle.machine_agreement.proofs.Unforged.{Unforged}
 use Rattle.run_laws.specs.Submitted.{CollectedCommand, FetchedCommand, submits, was_fetched, unfetched_commands_keep_their_data, unfetched_commands_keep_the_drafts_bytes, unfetched_commands_were_deleted, successful_commands_were_fetched, AreZeros, drafts_of_reserve_are_zero, unfetched_commands_of_zeros_gather_zeros, fetched_commands_have_their_fetch, commands_are_fetched_once, fetched_reads_give_a_prefix, successful_reads_give_their_blocks}
 use Rattle.run_laws.proofs.DataAlong.{along_steps}
 use Rattle.run_laws.proofs.DataKept.{IsOfDraft, found_draft, held_goes}

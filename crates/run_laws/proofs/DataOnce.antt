@@ -11,7 +11,8 @@ use Rattle.machine_model.specs.State.{State, DeviceQueue, Record}
 use Rattle.machine_model.specs.Refusals.{is_submitted, next_rung, job_at, conflicts}
 use Rattle.machine_model.specs.Standing.{unfetched_at}
 use Rattle.machine_model.specs.Image.{Made}
-use Rattle.machine_model.specs.Laws.{Steps, fetches, fetches_by}
+use Rattle.machine_model.specs.Trusted.{Steps}
+use Rattle.run_laws.specs.Statuses.{fetches, fetches_by}
 use Rattle.machine_model.specs.Proper.{IsProper}
 use Rattle.machine_model.specs.Step.{Step}
 use Rattle.machine_model.specs.After as a
@@ -20,15 +21,15 @@ use Rattle.machine_model.specs.Events as events
 use Rattle.machine_model.specs.Events.{Event, Reply}
 use Rattle.machine_model.proofs.Counting.{one}
 use Rattle.machine_model.proofs.Totals.{total, here}
-use Rattle.machine_model.proofs.Members.{all_append, all_drop_one, sent}
-use Rattle.machine_model.proofs.Unforged.{Unforged, unforged_next}
-use Rattle.machine_model.proofs.Served.{Stood, unfetched_count}
-use Rattle.machine_model.proofs.Queues.{list_at, less_at}
-use Rattle.machine_model.proofs.Placements.{InHand, in_hand, first_is}
-use Rattle.machine_model.proofs.PlacesKept.{running_not_past}
-use Rattle.machine_model.proofs.CommandsKept.{nobody}
-use Rattle.machine_model.proofs.CausedKept.{not_conflicting}
-use Rattle.machine_model.proofs.QueuesMove.{QueueMove, queues_event}
+use Rattle.machine_agreement.proofs.Members.{all_append, all_drop_one, sent}
+use Rattle.machine_agreement.proofs.Unforged.{Unforged, unforged_next}
+use Rattle.machine_agreement.proofs.Served.{Stood, unfetched_count}
+use Rattle.machine_agreement.proofs.Queues.{list_at, less_at}
+use Rattle.machine_agreement.proofs.Placements.{InHand, in_hand, first_is}
+use Rattle.machine_agreement.proofs.PlacesKept.{running_not_past}
+use Rattle.machine_agreement.proofs.CommandsKept.{nobody}
+use Rattle.run_laws.proofs.CausedKept.{not_conflicting}
+use Rattle.run_laws.proofs.QueuesMove.{QueueMove, queues_event}
 use Rattle.run_laws.specs.Submitted.{submits}
 use Rattle.run_laws.proofs.DataAlong.{Going, one_step, stood_step}
 use Rattle.machine_model.proofs.Steps.{permitted}

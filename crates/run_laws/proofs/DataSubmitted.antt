@@ -9,19 +9,19 @@ use Rattle.machine_model.specs.Claims.{OwnsFit}
 use Rattle.machine_model.specs.State.{State, Record, is_at, pages_of}
 use Rattle.machine_model.specs.Opening.{opening}
 use Rattle.machine_model.specs.Image.{Made, is_draft, draft_of, submitted_by}
-use Rattle.machine_model.specs.Laws.{TrustedRun, Steps, drafts_of}
+use Rattle.machine_model.specs.Trusted.{TrustedRun, Steps, drafts_of}
 use Rattle.machine_model.specs.Step.{Step}
 use Rattle.machine_model.specs.Events as events
 use Rattle.machine_model.specs.Events.{Event, Reply}
-use Rattle.machine_model.proofs.Unforged.{Unforged, unforged_next, unforged_front, unforged_run, unforged_end}
-use Rattle.machine_model.proofs.Members.{all_at_found}
-use Rattle.machine_model.proofs.PlacesKept.{ids_of}
-use Rattle.machine_model.proofs.Served.{Stood}
-use Rattle.machine_model.proofs.WalksKept.{stood_at_opening}
-use Rattle.machine_model.proofs.RecordsMove.{RecordsMove, records_event}
+use Rattle.machine_agreement.proofs.Unforged.{Unforged, unforged_next, unforged_front, unforged_run, unforged_end}
+use Rattle.machine_agreement.proofs.Members.{all_at_found}
+use Rattle.machine_agreement.proofs.PlacesKept.{ids_of}
+use Rattle.machine_agreement.proofs.Served.{Stood}
+use Rattle.machine_agreement.proofs.WalksKept.{stood_at_opening}
+use Rattle.run_laws.proofs.RecordsMove.{RecordsMove, records_event}
 use Rattle.run_laws.specs.Submitted.{submits, collected_commands_were_submitted}
 use Rattle.run_laws.proofs.DataAlong.{Going, left_step, stood_step, stood_along}
-use Rattle.machine_model.proofs.Along.{cut}
+use Rattle.machine_agreement.proofs.Along.{cut}
 use Rattle.run_laws.proofs.DataKept.{goes_on, reaped_on, sub_goes, held_goes}
 use Rattle.run_laws.proofs.DataFound.{Collects, collects_held}
 use Rattle.run_laws.proofs.DataLaws.{still_latest}

@@ -1,20 +1,17 @@
 -- A command that is never fetched: the controller has no job and no answer of it, and its data pages keep the draft's bytes.
-use Rattle.std.proofs.Common.{◌≡◌, ℕ, ◌==◌, Bool, true, false, ◌||◌, Option, Some, None, List, [], ◌∷◌, ◌++◌, drop, refl, ap, sym, ◌∙◌, arith, subst, eqb-true, eq-eqb}
-use Rattle.std.specs.Option.{option_map_or, option_map, option_and_then}
+use Rattle.std.proofs.Common.{◌≡◌, ℕ, ◌==◌, Bool, true, false, ◌||◌, Option, Some, List, [], ◌∷◌, ◌++◌, drop, refl, ap, sym, ◌∙◌, arith, subst, eqb-true, eq-eqb}
+use Rattle.std.specs.Option.{option_map_or, option_map}
 use Rattle.std.specs.List.{AllByRecursion}
-use Rattle.std.proofs.lemmas.Bool.{true≢false, and_parts, or_parts, or_left, or_right}
+use Rattle.std.proofs.lemmas.Bool.{true≢false, and_parts, or_parts}
 use Rattle.page_ledger.specs.Owners.{is_among}
-use Rattle.page_memory.specs.Pages.{Pages, page_at}
 use Rattle.entry_codec.specs.declared.submission.SubEntry.{SubEntry}
 use Rattle.entry_codec.specs.declared.status.TheConstants.Status.{ABORTED_SQ_DELETION}
-use Rattle.io_commands.specs.DataBytes.{PagesOut}
 use Rattle.io_commands.specs.Drafts.{DraftContents}
-use Rattle.io_commands.specs.Values.{numbers_of}
 use Rattle.machine_model.specs.Memory.{with_pages}
 use Rattle.machine_model.specs.declared.words.Phase.TheVariants.{Held}
-use Rattle.machine_model.specs.State.{State, DeviceQueue, Record, Job, Answer, is_at, record_at, with_record}
-use Rattle.machine_model.specs.Refusals.{is_held, job_at, next_rung, first_answer, device_queue}
-use Rattle.machine_model.specs.Laws.{fetches, fetches_by}
+use Rattle.machine_model.specs.State.{State, Record, Job, Answer, is_at, record_at, with_record}
+use Rattle.machine_model.specs.Refusals.{is_held, job_at, next_rung, device_queue}
+use Rattle.run_laws.specs.Statuses.{fetches, fetches_by}
 use Rattle.machine_model.specs.Step.{reaped}
 use Rattle.machine_model.specs.After as a
 use Rattle.machine_model.specs.Events as events
@@ -23,21 +20,22 @@ use Rattle.machine_model.proofs.Counting.{one}
 use Rattle.machine_model.proofs.Totals.{total}
 use Rattle.machine_model.proofs.Placed.{is_job, find_sound}
 use Rattle.machine_model.proofs.Out.{named}
-use Rattle.machine_model.proofs.Members.{In, all_at_found, all_append, sent}
-use Rattle.machine_model.proofs.Served.{answers_at}
-use Rattle.machine_model.proofs.Queues.{list_at}
-use Rattle.machine_model.proofs.PlacesKept.{ids_of, drafted_not, reaped_answer}
-use Rattle.machine_model.proofs.CommandsKept.{nobody, no_job}
-use Rattle.machine_model.proofs.WalksKept.{host_jobs}
-use Rattle.machine_model.proofs.Gathered.{Stands}
-use Rattle.machine_model.proofs.Known.{unsent, submitted_stand}
-use Rattle.machine_model.proofs.Reading.{pages_stay, walks_it}
-use Rattle.machine_model.proofs.RecordsMove.{RecordsMove, records_event, takes}
-use Rattle.machine_model.proofs.JobsMove.{JobsMove, jobs_event}
-use Rattle.machine_model.proofs.QueuesMove.{QueueMove, queues_event}
+use Rattle.machine_agreement.proofs.Members.{In, all_at_found, all_append, sent}
+use Rattle.machine_agreement.proofs.Served.{answers_at}
+use Rattle.machine_agreement.proofs.Queues.{list_at}
+use Rattle.machine_agreement.proofs.PlacesKept.{ids_of, drafted_not, reaped_answer}
+use Rattle.machine_agreement.proofs.CommandsKept.{nobody, no_job}
+use Rattle.machine_agreement.proofs.WalksKept.{host_jobs}
+use Rattle.run_laws.proofs.Gathered.{Stands}
+use Rattle.run_laws.proofs.Known.{unsent, submitted_stand, stand_still}
+use Rattle.run_laws.proofs.Reading.{pages_stay, walks_it}
+use Rattle.run_laws.proofs.RecordsMove.{RecordsMove, records_event, takes}
+use Rattle.run_laws.proofs.JobsMove.{JobsMove, jobs_event}
+use Rattle.run_laws.proofs.QueuesMove.{QueueMove, queues_event}
 use Rattle.run_laws.specs.Submitted.{submits}
 use Rattle.run_laws.proofs.DataAlong.{Going}
 use Rattle.run_laws.proofs.DataKept.{goes_on, IsOfDraft, Found, found_draft, only_drafted, sub_goes, not_sent, drafts_same, submit_clash, submits_of}
+use Rattle.run_laws.proofs.ReadsAlong.{first_all}
 
 -- What is known
 
@@ -116,14 +114,6 @@ answers_on d s e none = record {
 
 -- Its pages stay
 
-stand_still : (m m' : Pages) (own : List ℕ) → ((p : ℕ) → is_among own p ≡ true → page_at m' p ≡ page_at m p) → (pages : PagesOut) → ((p : ℕ) → is_among (numbers_of pages) p ≡ true → is_among own p ≡ true)
-    → AllByRecursion (Stands m) pages → AllByRecursion (Stands m') pages
-stand_still m m' own same [] sub h = tt
-stand_still m m' own same (page ∷ pages) sub h = (
-  (same page.0 (sub page.0 (or_left (page.0 == page.0) (is_among (numbers_of pages) page.0) (eq-eqb page.0 page.0 refl))) ∙ h.0.0, h.0.1),
-  stand_still m m' own same pages (λ p x. sub p (or_right (page.0 == p) (is_among (numbers_of pages) p) x)) h.1,
-)
-
 no_walk : (s : State) (d : DraftContents) (e : Event) (reply : Reply) → Going s e reply → Unread d s → (r : Record) → is_at d.q d.cid r ≡ true → walks_it e r ≡ false
 no_walk s d (events.Walk q cid) (events.Walked outcome touched) g h r at = go (is_at q cid r) refl
   where
@@ -144,15 +134,6 @@ untouched_on : (s : State) (d : DraftContents) (e : Event) (reply : Reply) → G
 untouched_on s d e reply g h r within free at on of stand =
     stand_still s.memory (a.after s e reply).memory r.data_pages (pages_stay s e reply g.ok g.stood r within on free (no_walk s d e reply g h r at)) d.data_pages
     (λ p x. ap (λ (xs : List ℕ). is_among xs p) (sym of.data_pages) ∙ x) stand
-
--- a reap of it finds no answer
-first_all : (P : Answer → Type 0) (o : Option DeviceQueue) (an : Answer) → option_and_then (λ queue. first_answer queue.answers) o ≡ Some an → AllByRecursion P (option_map_or (λ at. at.answers) o []) → P an
-first_all P None an e all = absurd cc
-first_all P (Some queue) an e all = go queue.answers e all
-  where
-    go : (xs : List Answer) → first_answer xs ≡ Some an → AllByRecursion P xs → P an
-    go [] e all = absurd cc
-    go (x ∷ xs) e all = let same : x ≡ an = cc in subst P same all.0
 
 no_reap : (s : State) (d : DraftContents) → s.trusted ≡ true → Unread d s → (q cid : ℕ) (r : Record) → named (reaped s q) ≡ Some cid → record_at s.host q cid ≡ Some r → is_at d.q d.cid r ≡ true → ⊥
 no_reap s d t h q cid r n found at =

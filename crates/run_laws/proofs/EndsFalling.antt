@@ -9,7 +9,7 @@ use Rattle.machine_model.specs.Opening.{device_queue as opened}
 use Rattle.machine_model.specs.Positions.{IsInRing}
 use Rattle.machine_model.specs.State.{HostQueue, DeviceQueue, Answer}
 use Rattle.machine_model.specs.After.{change}
-use Rattle.machine_model.proofs.Heads.{changed_at}
+use Rattle.machine_agreement.proofs.Heads.{changed_at}
 
 abbrev pub Falls : (n tail top : ℕ) → List Answer → (unfetched : ℕ) → Type 0
 Falls n tail top [] u = u ≤ top

@@ -1,10 +1,10 @@
 -- Every event keeps the heads that answers tell in order, so a reap answers the oldest answer.
 use Rattle.std.proofs.Common.{◌≡◌, ◌⊎◌, inl, inr, ℕ, ◌+◌, ◌-◌, ◌<◌, ◌≤◌, ◌==◌, nat_lt, nat_le, Bool, true, false, not, ◌&&◌, Option, Some, None, List, [], ◌∷◌, ◌++◌, length, drop, slice_get, is_some, is_none, option_and_then, if◌then◌else◌, refl, ap, sym, ◌∙◌, arith, subst, eq-eqb}
 use Rattle.std.specs.Option.{option_map_or, option_map}
-use Rattle.std.proofs.lemmas.Bool.{true≢false}
+use Rattle.std.proofs.lemmas.Bool.{true≢false, eqb-false}
 use Rattle.std.proofs.lemmas.Bool.Decides.{nat_tests}
 use Rattle.queue_pair.specs.Slots.{distance, moved, is_full, is_in_range}
-use Rattle.queue_pair.specs.Rings.{HostRing, next_tail, next_head, knowing}
+use Rattle.queue_pair.specs.Rings.{HostRing, next_tail, next_head, knowing, fresh_host_ring}
 use Rattle.queue_pair.proofs.Order.{distance_below, distance_is}
 use Rattle.admin_commands.specs.Entries.{admin_entry, named_queue}
 use Rattle.admin_commands.specs.declared.AdminKind.TheVariants.{Abort, DeleteSq, DeleteCq}
@@ -19,8 +19,8 @@ use Rattle.machine_model.specs.Claims.{OwnsFit}
 use Rattle.machine_model.specs.Proper.{IsProper}
 use Rattle.machine_model.specs.Opening.{Opens, opening}
 use Rattle.machine_model.specs.State.{State, HostQueue, DeviceQueue, Record, Answer, is_at, record_at, pages_of}
-use Rattle.machine_model.specs.Refusals.{is_submitted, host_queue, device_queue, next_rung, job_at, first_answer, entry_of, queue_full, fetch_slot}
-use Rattle.machine_model.specs.Step.{HostPart, reaped, reaped_as, reaped_entry, submitted_at, fits_ring}
+use Rattle.machine_model.specs.Refusals.{is_submitted, host_queue, device_queue, next_rung, job_at, first_answer, entry_of, queue_full, fetch_slot, in_service, is_reaped}
+use Rattle.machine_model.specs.Step.{HostPart, reaped, reaped_as, reaped_entry, submitted_at, fits_ring, IsController}
 use Rattle.machine_model.specs.After as a
 use Rattle.machine_model.specs.After.{change}
 use Rattle.machine_model.specs.Events as events
@@ -29,34 +29,29 @@ use Rattle.machine_model.specs.declared.words.HostState.TheVariants.{Live, Delet
 use Rattle.machine_model.specs.declared.words.Reaped.TheVariants.{Empty, Done, AdminDone, Rejected}
 use Rattle.machine_model.specs.declared.words.RejectedFor.TheVariants.{WrongQueue, BadHead, UnknownId}
 use Rattle.machine_model.specs.Image.{Made}
-use Rattle.machine_model.specs.Laws.{TrustedRun}
+use Rattle.machine_model.specs.Trusted.{TrustedRun}
 use Rattle.machine_model.proofs.Counting.{one}
 use Rattle.machine_model.proofs.Totals.{total}
-use Rattle.machine_model.proofs.Steps.{Accepts, part_controller}
+use Rattle.machine_model.proofs.Steps.{Accepts, part_controller, permitted}
 use Rattle.machine_model.proofs.Managed.{managed_by}
-use Rattle.machine_model.proofs.DeviceMoves.{answers, answer_of, finished, cleared, fetch_by, complete_by}
+use Rattle.machine_agreement.proofs.DeviceMoves.{answers, answer_of, finished, cleared, fetch_by, complete_by}
 use Rattle.machine_model.proofs.Lists.{get_other}
 use Rattle.machine_model.proofs.Refused.{unrefused}
 use Rattle.page_memory.specs.declared.page.Half.TheVariants.{Submission, Completion}
-use Rattle.machine_model.specs.Step.{IsController}
-use Rattle.machine_model.specs.Refusals.{in_service, is_reaped}
-use Rattle.std.proofs.lemmas.Bool.{eqb-false}
-use Rattle.queue_pair.specs.Rings.{fresh_host_ring}
-use Rattle.machine_model.proofs.Standing.{seen_trusted}
-use Rattle.machine_model.proofs.Members.{sent_found, all_at_found}
-use Rattle.machine_model.proofs.Along.{along_proper}
+use Rattle.machine_agreement.proofs.Standing.{seen_trusted}
+use Rattle.machine_agreement.proofs.Members.{sent_found, all_at_found}
+use Rattle.machine_agreement.proofs.Along.{along_proper}
 use Rattle.machine_model.proofs.Emptied.{no_answers_at, no_unfetched}
-use Rattle.machine_model.proofs.Grounds.{Grounds, ring_in, pair_at}
-use Rattle.machine_model.proofs.Served.{Stood, answers_at}
-use Rattle.machine_model.proofs.PlacesKept.{ids_of}
-use Rattle.machine_model.proofs.Placements.{in_hand}
-use Rattle.machine_model.proofs.QueuesMove.{queues_walk}
-use Rattle.machine_model.proofs.WalksKept.{stood_on, stood_at_opening}
-use Rattle.machine_model.proofs.Heads.{head_at}
-use Rattle.machine_model.proofs.HeadsAll.{no_conflict}
-use Rattle.machine_model.proofs.Unforged.{trusted_end}
+use Rattle.machine_agreement.proofs.Grounds.{Grounds, ring_in, pair_at}
+use Rattle.machine_agreement.proofs.Served.{Stood, answers_at}
+use Rattle.machine_agreement.proofs.PlacesKept.{ids_of}
+use Rattle.machine_agreement.proofs.Placements.{in_hand}
+use Rattle.run_laws.proofs.QueuesMove.{queues_walk}
+use Rattle.machine_agreement.proofs.WalksKept.{stood_on, stood_at_opening}
+use Rattle.machine_agreement.proofs.Heads.{head_at}
+use Rattle.machine_agreement.proofs.HeadsAll.{no_conflict}
+use Rattle.machine_agreement.proofs.Unforged.{trusted_end}
 use Rattle.run_laws.specs.Ends.{answers_of, front, reaps_answer_the_front, nothing_conflicts}
-use Rattle.machine_model.proofs.Steps.{permitted}
 use Rattle.run_laws.proofs.EndsFalling.{opened_lists, Falls, FallsAt, AllFall, falls_more, falls_less, falls_to, falls_answered, fall_device, fall_both, fall_host, fall_host_by, all_posted, change_twice, longer, shorter}
 use Rattle.machine_model.proofs.Moves.{host_moves, queue_known, sends, half_from, creates_cq, creates_sq, IsHeard, answer_heard}
 

@@ -20,35 +20,34 @@ use Rattle.machine_model.specs.declared.words.HostState.{HostState}
 use Rattle.machine_model.specs.declared.words.HostState.TheVariants.{Live, Deleting, Retired, Gone, MakingCq, HalfMade, MakingSq}
 use Rattle.machine_model.specs.Agreeing.{JobKnown, Knows}
 use Rattle.machine_model.specs.State.{State, HostQueue, DeviceQueue, Job}
-use Rattle.machine_model.specs.Step.{IsController, HostPart, resets}
+use Rattle.machine_model.specs.Step.{IsController, HostPart, resets, host_part}
 use Rattle.machine_model.specs.Refusals.{host_queue, next_rung, job_at, is_live, is_deleting, is_deleted, is_half_made, is_asked, in_service}
 use Rattle.machine_model.specs.After as a
 use Rattle.machine_model.specs.After.{change}
 use Rattle.machine_model.specs.Events as events
 use Rattle.machine_model.specs.Events.{Event, Reply}
 use Rattle.machine_model.specs.Image.{Made}
-use Rattle.machine_model.specs.Laws.{deletes}
-use Rattle.machine_model.proofs.Along.{made_of}
+use Rattle.run_laws.specs.Statuses.{deletes}
+use Rattle.machine_agreement.proofs.Along.{made_of}
 use Rattle.machine_model.proofs.Asked.{asked_at, was_asked}
 use Rattle.machine_model.proofs.AwaitedKept.{asked_as_heard, ring_at}
-use Rattle.machine_model.proofs.Caused.{any_longer, any_last}
-use Rattle.machine_model.proofs.DeviceMoves.{answer_of, finished, cleared, clears, fetch_by, complete_by}
-use Rattle.machine_model.proofs.Heads.{changed_at}
-use Rattle.machine_model.proofs.JobsMove.{JobsMove, jobs_event}
+use Rattle.run_laws.proofs.Caused.{any_longer, any_last}
+use Rattle.machine_agreement.proofs.DeviceMoves.{answer_of, finished, cleared, clears, fetch_by, complete_by}
+use Rattle.machine_agreement.proofs.Heads.{changed_at}
+use Rattle.run_laws.proofs.JobsMove.{JobsMove, jobs_event}
 use Rattle.machine_model.proofs.Lists.{all_at}
 use Rattle.machine_model.proofs.Managed.{managed_by}
-use Rattle.machine_model.proofs.Members.{all_at_found}
+use Rattle.machine_agreement.proofs.Members.{all_at_found}
 use Rattle.machine_model.proofs.Moves.{host_moves, deleted_is, half_made_is, half_from}
 use Rattle.machine_model.proofs.Owned.{HoldsPart}
 use Rattle.machine_model.proofs.Placed.{gone_at, is_job}
-use Rattle.machine_model.proofs.QueuesMove.{queues_walk}
+use Rattle.run_laws.proofs.QueuesMove.{queues_walk}
 use Rattle.machine_model.proofs.Refused.{unrefused}
 use Rattle.machine_model.proofs.Resetting.{reset_state}
-use Rattle.machine_model.proofs.Served.{Stood}
+use Rattle.machine_agreement.proofs.Served.{Stood}
 use Rattle.machine_model.proofs.Steps.{Accepts, part_controller}
-use Rattle.machine_model.proofs.Tied.{below}
-use Rattle.machine_model.proofs.TiedAll.{live_is_there}
-use Rattle.machine_model.specs.Step.{host_part}
+use Rattle.machine_agreement.proofs.Tied.{below}
+use Rattle.machine_agreement.proofs.TiedAll.{live_is_there}
 use Rattle.run_laws.specs.Ends.{renews_by, renews, since_renewed}
 
 -- Steps since a queue was renewed

@@ -25,18 +25,17 @@ use Rattle.machine_model.specs.Step.{Step, reaped_entry, finished_from, asked_by
 use Rattle.machine_model.specs.Events as events
 use Rattle.machine_model.specs.Events.{Event, Reply}
 use Rattle.machine_model.specs.Image.{Made}
-use Rattle.machine_model.specs.Laws.{TrustedRun, aborts, deletes, since_fetch, passes_image, is_compare}
-use Rattle.machine_model.proofs.Steps.{Accepts}
+use Rattle.machine_model.specs.Trusted.{TrustedRun}
+use Rattle.run_laws.specs.Statuses.{aborts, deletes, since_fetch, passes_image, is_compare}
+use Rattle.machine_model.proofs.Steps.{Accepts, permitted}
 use Rattle.machine_model.proofs.Refused.{first_fails, rest_fails}
-use Rattle.machine_model.proofs.EveryStatus.{statuses_have_causes}
-use Rattle.machine_model.proofs.TiedReap.{told_entry}
+use Rattle.run_laws.proofs.EveryStatus.{statuses_have_causes, positive}
+use Rattle.run_laws.proofs.TiedReap.{told_entry}
 use Rattle.machine_model.proofs.Out.{named, status_in}
-use Rattle.machine_model.proofs.Members.{all_at_found}
-use Rattle.machine_model.proofs.PlacesKept.{reaped_answer, ids_of}
+use Rattle.machine_agreement.proofs.Members.{all_at_found}
+use Rattle.machine_agreement.proofs.PlacesKept.{reaped_answer, ids_of}
 use Rattle.run_laws.specs.Ends.{retires_by, WasCompleted, WasLost, WasLostByReset, CauseOfEnd, Succeeded, Aborted, Stopped, Lost, LostByReset, PastImage, Differed, ends_come_from_completions, retired_queues_were_deleted, collects_tell_how_commands_ended, every_collect_has_its_cause}
-use Rattle.machine_model.proofs.Along.{Before, keeps, run_before}
-use Rattle.machine_model.proofs.EveryStatus.{positive}
-use Rattle.machine_model.proofs.Steps.{permitted}
+use Rattle.machine_agreement.proofs.Along.{Before, keeps, run_before}
 use Rattle.run_laws.proofs.EndsGone.{DeletedSince}
 use Rattle.run_laws.proofs.EndsTold.{CompletedIn, EndedIn, AnswerTold, HeldTold, Told, told_carried, told_at_opening, deleted_before, first_told}
 

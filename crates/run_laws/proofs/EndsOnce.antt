@@ -14,23 +14,23 @@ use Rattle.machine_model.specs.Refusals.{is_job, job_at, next_rung}
 use Rattle.machine_model.specs.After as a
 use Rattle.machine_model.specs.Events as events
 use Rattle.machine_model.specs.Events.{Event, Reply}
-use Rattle.machine_model.specs.Laws.{status_by}
-use Rattle.machine_model.proofs.Along.{cut}
-use Rattle.machine_model.proofs.CommandsKept.{nobody}
+use Rattle.run_laws.specs.Statuses.{status_by}
+use Rattle.machine_agreement.proofs.Along.{cut}
+use Rattle.machine_agreement.proofs.CommandsKept.{nobody}
 use Rattle.machine_model.proofs.Counting.{one}
-use Rattle.machine_model.proofs.DeviceMoves.{finished, cleared}
-use Rattle.machine_model.proofs.Placing.{device-answered}
+use Rattle.machine_agreement.proofs.DeviceMoves.{finished, cleared}
+use Rattle.machine_agreement.proofs.Placing.{device-answered}
 use Rattle.admin_commands.specs.Entries.{named_queue}
 use Rattle.entry_codec.specs.declared.admin_opcode.TheConstants.{DELETE_IO_SQ}
 use Rattle.io_commands.specs.Jobs.{is_success}
-use Rattle.machine_model.proofs.EveryStatus.{positive}
-use Rattle.machine_model.proofs.JobsMove.{JobsMove, jobs_event}
-use Rattle.machine_model.proofs.Members.{in_found, all_at_found}
+use Rattle.run_laws.proofs.EveryStatus.{positive}
+use Rattle.run_laws.proofs.JobsMove.{JobsMove, jobs_event}
+use Rattle.machine_agreement.proofs.Members.{in_found, all_at_found}
 use Rattle.machine_model.proofs.Placed.{find_sound}
-use Rattle.machine_model.proofs.Served.{Stood, job_weight, unfetched_count}
+use Rattle.machine_agreement.proofs.Served.{Stood, job_weight, unfetched_count}
 use Rattle.machine_model.proofs.Steps.{Accepts}
 use Rattle.machine_model.proofs.Totals.{total}
-use Rattle.machine_model.proofs.Unforged.{unforged_front}
+use Rattle.machine_agreement.proofs.Unforged.{unforged_front}
 use Rattle.run_laws.specs.Ends.{submits_by, submits, commands_complete_once}
 use Rattle.run_laws.proofs.DataAlong.{Going, left_step, along_steps}
 use Rattle.run_laws.proofs.DataOnce.{NoEntry, no_entry_step, none_next, sent_less}

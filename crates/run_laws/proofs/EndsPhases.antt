@@ -12,12 +12,12 @@ use Rattle.machine_model.specs.Events.{Event, Reply}
 use Rattle.machine_model.specs.Image.{Made}
 use Rattle.machine_model.proofs.Steps.{Accepts}
 use Rattle.machine_model.proofs.Out.{reaped_submitted}
-use Rattle.machine_model.proofs.Served.{Stood}
-use Rattle.machine_model.proofs.PlacesKept.{ids_of}
-use Rattle.machine_model.proofs.WalksKept.{stood_on}
+use Rattle.machine_agreement.proofs.Served.{Stood}
+use Rattle.machine_agreement.proofs.PlacesKept.{ids_of}
+use Rattle.machine_agreement.proofs.WalksKept.{stood_on}
 use Rattle.run_laws.specs.Ends.{submits_by, submits}
-use Rattle.machine_model.proofs.Along.{made_of, Carried}
-use Rattle.machine_model.proofs.RecordsMove.{RecordsMove, records_event}
+use Rattle.machine_agreement.proofs.Along.{made_of, Carried}
+use Rattle.run_laws.proofs.RecordsMove.{RecordsMove, records_event}
 
 -- what is no phase of a command before it is submitted, or after it was collected, and is one while it is submitted
 pub record IsLater (test : Phase → Bool) : Type 0 where

@@ -27,7 +27,7 @@ use Rattle.machine_model.specs.After as a
 use Rattle.machine_model.specs.Events as events
 use Rattle.machine_model.specs.Events.{Event, Reply}
 use Rattle.machine_model.specs.Image.{Made}
-use Rattle.machine_model.specs.Laws.{status_by, status_given}
+use Rattle.run_laws.specs.Statuses.{status_by, status_given}
 use Rattle.machine_model.proofs.Counting.{one}
 use Rattle.machine_model.proofs.Totals.{total}
 use Rattle.machine_model.proofs.Steps.{Accepts, part_controller}
@@ -38,20 +38,20 @@ use Rattle.machine_model.proofs.Refused.{first_fails, found, pages_match, unrefu
 use Rattle.machine_model.proofs.Halves.{deleted_serves}
 use Rattle.machine_model.proofs.Moves.{host_moves, queue_found, deleted_is, drafted_record, sent_record, creates_cq, creates_sq}
 use Rattle.machine_model.proofs.Resetting.{all_reset, lost_by}
-use Rattle.machine_model.proofs.Tied.{deleted_is_gone}
-use Rattle.machine_model.proofs.Paired.{is_over}
-use Rattle.machine_model.proofs.TiedReap.{told_entry}
+use Rattle.machine_agreement.proofs.Tied.{deleted_is_gone}
+use Rattle.machine_agreement.proofs.Paired.{is_over}
+use Rattle.run_laws.proofs.TiedReap.{told_entry}
 use Rattle.machine_model.proofs.Out.{named, status_in}
-use Rattle.machine_model.proofs.Members.{In, all_in, all_in_both, all_map, all_filter, all_with, all_append, all_drop_one, sent, sent_found}
-use Rattle.machine_model.proofs.Grounds.{pair_at}
-use Rattle.machine_model.proofs.Served.{Stood, answers_at}
-use Rattle.machine_model.proofs.Queues.{list_at}
-use Rattle.machine_model.proofs.QueuesMove.{QueueMove, queues_event}
-use Rattle.machine_model.proofs.PlacesKept.{reaped_answer, ids_of}
-use Rattle.machine_model.proofs.Reading.{Member, members}
-use Rattle.machine_model.proofs.WalksKept.{stood_on, stood_at_opening}
+use Rattle.machine_agreement.proofs.Members.{In, all_in, all_in_both, all_map, all_filter, all_with, all_append, all_drop_one, sent, sent_found}
+use Rattle.machine_agreement.proofs.Grounds.{pair_at}
+use Rattle.machine_agreement.proofs.Served.{Stood, answers_at}
+use Rattle.machine_agreement.proofs.Queues.{list_at}
+use Rattle.run_laws.proofs.QueuesMove.{QueueMove, queues_event}
+use Rattle.machine_agreement.proofs.PlacesKept.{reaped_answer, ids_of}
+use Rattle.run_laws.proofs.Reading.{Member, members}
+use Rattle.machine_agreement.proofs.WalksKept.{stood_on, stood_at_opening}
 use Rattle.run_laws.specs.Ends.{submits_by, submits, renews_by, WasLost, WasLostByReset}
-use Rattle.machine_model.proofs.Along.{made_of, Carried}
+use Rattle.machine_agreement.proofs.Along.{made_of, Carried}
 use Rattle.run_laws.proofs.EndsFalling.{opened_lists}
 use Rattle.run_laws.proofs.EndsGone.{GoneTold, DeletedSince, DeletionFetched, deletions_on, deleted_longer, gone_on}
 

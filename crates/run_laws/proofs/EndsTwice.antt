@@ -25,20 +25,19 @@ use Rattle.machine_model.specs.After as a
 use Rattle.machine_model.specs.Events as events
 use Rattle.machine_model.specs.Events.{Event, Reply}
 use Rattle.machine_model.specs.Image.{Made}
-use Rattle.machine_model.specs.Laws.{TrustedRun, Steps}
-use Rattle.machine_model.proofs.Steps.{Accepts}
+use Rattle.machine_model.specs.Trusted.{TrustedRun, Steps}
+use Rattle.machine_model.proofs.Steps.{Accepts, permitted}
 use Rattle.machine_model.proofs.Refused.{first_fails, found}
 use Rattle.machine_model.proofs.Out.{named, reaped_submitted}
 use Rattle.machine_model.proofs.Placed.{find_sound}
-use Rattle.machine_model.proofs.Members.{all_at_found, all_of}
+use Rattle.machine_agreement.proofs.Members.{all_at_found, all_of}
 use Rattle.machine_model.proofs.Resetting.{all_reset, lost_quiet}
-use Rattle.machine_model.proofs.Unforged.{Unforged, unforged_next, unforged_front, unforged_back, unforged_run}
-use Rattle.machine_model.proofs.Served.{Stood}
-use Rattle.machine_model.proofs.PlacesKept.{ids_of}
+use Rattle.machine_agreement.proofs.Unforged.{Unforged, unforged_next, unforged_front, unforged_back, unforged_run}
+use Rattle.machine_agreement.proofs.Served.{Stood}
+use Rattle.machine_agreement.proofs.PlacesKept.{ids_of}
 use Rattle.run_laws.specs.Ends.{submits, ends_by, ends_are_told_once, commands_are_collected_once, submitted_commands_end_once}
-use Rattle.machine_model.proofs.Along.{Before, keeps, cut, each_proper_step, trusted_step_by, before_step}
-use Rattle.machine_model.proofs.EveryStatus.{positive}
-use Rattle.machine_model.proofs.Steps.{permitted}
+use Rattle.machine_agreement.proofs.Along.{Before, keeps, cut, each_proper_step, trusted_step_by, before_step}
+use Rattle.run_laws.proofs.EveryStatus.{positive}
 use Rattle.run_laws.proofs.EndsFront.{Fronted, fronted_on, runs_are_fronted}
 use Rattle.run_laws.proofs.EndsPhases.{IsLater, NotIn, not_with, Past, past_carried}
 

@@ -6,11 +6,10 @@ use Rattle.std.specs.Str.{bytes_eq}
 use Rattle.std.proofs.lemmas.Bool.{true≢false, and_parts}
 use Rattle.std.proofs.lemmas.List.{append_assoc}
 use Rattle.block_image.specs.Blocks.{blocks_at}
-use Rattle.entry_codec.specs.declared.io_opcode.TheConstants.{READ, WRITE, COMPARE}
+use Rattle.entry_codec.specs.declared.io_opcode.TheConstants.{COMPARE}
 use Rattle.entry_codec.specs.declared.status.Status.{Status}
 use Rattle.entry_codec.specs.declared.status.TheConstants.Status.{SUCCESS, COMPARE_FAILURE}
 use Rattle.entry_codec.specs.declared.submission.SubEntry.{SubEntry}
-use Rattle.controller_walk.specs.Units.{first_passing}
 use Rattle.io_commands.specs.declared.request.Kind.{Kind}
 use Rattle.io_commands.specs.declared.request.Kind.TheVariants.{Read, Write, Compare}
 use Rattle.io_commands.specs.Jobs as jobs
@@ -22,17 +21,19 @@ use Rattle.machine_model.specs.After.{final_status}
 use Rattle.machine_model.specs.Events as events
 use Rattle.machine_model.specs.Events.{Event, Reply}
 use Rattle.machine_model.specs.Image.{Made}
-use Rattle.machine_model.specs.Laws.{TrustedRun, Steps, status_by, fetches, fetches_by}
+use Rattle.machine_model.specs.Trusted.{TrustedRun, Steps}
+use Rattle.run_laws.specs.Statuses.{status_by, fetches, fetches_by}
 use Rattle.machine_model.proofs.Placed.{is_job, find_sound}
 use Rattle.machine_model.proofs.Steps.{Accepts}
-use Rattle.machine_model.proofs.Members.{all_at_found, all_in, only_found}
-use Rattle.machine_model.proofs.Unforged.{Unforged, unforged_front, unforged_back, unforged_run}
-use Rattle.machine_model.proofs.Served.{Stood}
-use Rattle.machine_model.proofs.WalksKept.{one_job, stood_on, stood_at_opening}
+use Rattle.machine_agreement.proofs.Members.{all_at_found, all_in, only_found}
+use Rattle.machine_agreement.proofs.Unforged.{Unforged, unforged_front, unforged_back, unforged_run}
+use Rattle.machine_agreement.proofs.Served.{Stood}
+use Rattle.machine_agreement.proofs.WalksKept.{one_job, stood_on, stood_at_opening}
 use Rattle.run_laws.specs.Verdicts.{FoundDifference, first_verdicts_count}
-use Rattle.machine_model.proofs.Along.{Carried, keeps, made_of, cut, along_proper, before_step}
+use Rattle.machine_agreement.proofs.Along.{Carried, keeps, made_of, cut, along_proper, before_step}
 use Rattle.run_laws.proofs.EndsPhases.{none_parts}
-use Rattle.machine_model.proofs.JobsMove.{JobsMove, jobs_event}
+use Rattle.run_laws.proofs.JobsMove.{JobsMove, jobs_event}
+use Rattle.run_laws.proofs.EveryStatus.{compare_opcode}
 
 -- each job of the command has this verdict
 abbrev Has : ℕ → ℕ → Status → Job → Type 0
@@ -89,15 +90,6 @@ success_is : (st : Status) → is_success st ≡ true → st ≡ SUCCESS
 success_is st h =
     let parts = and_parts (st.sct == 0) (st.sc == 0) h in
     ap₂ (λ (x y : ℕ). record { sct = x; sc = y }) (eqb-true st.sct 0 parts.0) (eqb-true st.sc 0 parts.1)
-
-compare_opcode : (opcode : ℕ) → kind_of_opcode opcode ≡ Some Compare → (opcode == COMPARE) ≡ true
-compare_opcode opcode h = go (opcode == WRITE) (opcode == READ) (opcode == COMPARE) h
-  where
-    go : (w r c : Bool) → first_passing ((w, Write) ∷ (r, Read) ∷ (c, Compare) ∷ []) ≡ Some Compare → c ≡ true
-    go true r c h = absurd cc
-    go false true c h = absurd cc
-    go false false true h = refl
-    go false false false h = absurd cc
 
 abbrev Gives : Made → ℕ → ℕ → Status → Status → Type 0
 Gives m q cid verdict st = (st ≡ verdict) ⊎ FoundDifference m q cid verdict st

@@ -18,17 +18,18 @@ use Rattle.machine_model.specs.Refusals.{job_at, next_rung, conflicts}
 use Rattle.machine_model.specs.After as a
 use Rattle.machine_model.specs.Events as events
 use Rattle.machine_model.specs.Events.{Event, Reply}
-use Rattle.machine_model.specs.Laws.{status_by, forges_by}
+use Rattle.run_laws.specs.Statuses.{status_by}
+use Rattle.machine_model.specs.Trusted.{forges_by}
 use Rattle.machine_model.specs.Step.{resets}
 use Rattle.machine_model.proofs.Managed.{managed_by}
-use Rattle.machine_model.proofs.Placing.{device-answered}
+use Rattle.machine_agreement.proofs.Placing.{device-answered}
 use Rattle.machine_model.proofs.Placed.{is_job}
 use Rattle.machine_model.proofs.Steps.{Accepts}
-use Rattle.machine_model.proofs.WalksKept.{host_jobs}
-use Rattle.machine_model.proofs.Flag.{stays_trusted}
-use Rattle.machine_model.proofs.Unforged.{trusted_end}
+use Rattle.machine_agreement.proofs.WalksKept.{host_jobs}
+use Rattle.machine_agreement.proofs.Flag.{stays_trusted}
+use Rattle.machine_agreement.proofs.Unforged.{trusted_end}
 use Rattle.run_laws.specs.Verdicts.{jobs_stay}
-use Rattle.machine_model.proofs.Along.{trusted_step_by}
+use Rattle.machine_agreement.proofs.Along.{trusted_step_by}
 
 abbrev There : ℕ → ℕ → List Job → Type 0
 There q cid js = is_some (find (is_job q cid) js) ≡ true

@@ -12,18 +12,18 @@ use Rattle.machine_model.specs.Events.{Event, Reply}
 use Rattle.machine_model.specs.declared.words.Refusal.{Refusal}
 use Rattle.machine_model.specs.declared.words.Refusal.TheVariants.{NoJob, Nothing, Memory}
 use Rattle.machine_model.specs.Image.{Made}
-use Rattle.machine_model.specs.Laws.{TrustedRun, forges_by}
+use Rattle.machine_model.specs.Trusted.{TrustedRun, forges_by}
 use Rattle.machine_model.proofs.Placed.{is_job, find_sound}
-use Rattle.machine_model.proofs.Members.{all_at_found, all_in, only_found}
-use Rattle.machine_model.proofs.Served.{Stood}
-use Rattle.machine_model.proofs.WalksKept.{one_job, stood_on, stood_at_opening}
-use Rattle.machine_model.proofs.Flag.{stays_trusted}
-use Rattle.machine_model.proofs.Unforged.{trusted_end}
+use Rattle.machine_agreement.proofs.Members.{all_at_found, all_in, only_found}
+use Rattle.machine_agreement.proofs.Served.{Stood}
+use Rattle.machine_agreement.proofs.WalksKept.{one_job, stood_on, stood_at_opening}
+use Rattle.machine_agreement.proofs.Flag.{stays_trusted}
+use Rattle.machine_agreement.proofs.Unforged.{trusted_end}
 use Rattle.machine_model.specs.Step.{Step, Refuses}
 use Rattle.run_laws.specs.Verdicts.{KeepsVerdict, IsRefusedWalk, verdicts_stay, verdicts_end_walks}
-use Rattle.machine_model.proofs.Along.{along_proper, trusted_step_by}
+use Rattle.machine_agreement.proofs.Along.{along_proper, trusted_step_by}
 use Rattle.machine_model.proofs.Steps.{permitted}
-use Rattle.machine_model.proofs.JobsMove.{JobsMove, jobs_event}
+use Rattle.run_laws.proofs.JobsMove.{JobsMove, jobs_event}
 
 -- what is so of each job before, and after
 abbrev Is : ℕ → ℕ → Job → Job → Type 0

@@ -1,39 +1,29 @@
 -- A Compare is told by its draft.
-use Rattle.std.proofs.Common.{◌≡◌, ℕ, ◌==◌, Bool, true, false, ◌&&◌, Option, Some, None, List, [], ◌∷◌, if◌then◌else◌, refl, ap, sym, ◌∙◌, subst, eqb-true}
+use Rattle.std.proofs.Common.{◌≡◌, ℕ, ◌==◌, Bool, true, false, ◌&&◌, Option, Some, None, List, if◌then◌else◌, refl, ap, sym, ◌∙◌, subst, eqb-true}
 use Rattle.std.specs.Option.{option_map, option_map_or}
 use Rattle.std.proofs.lemmas.Bool.{and_parts}
 use Rattle.entry_codec.specs.declared.status.Status.{Status}
 use Rattle.entry_codec.specs.declared.status.TheConstants.Status.{COMPARE_FAILURE}
-use Rattle.entry_codec.specs.declared.io_opcode.TheConstants.{COMPARE, READ, WRITE}
-use Rattle.controller_walk.specs.Units.{first_passing}
+use Rattle.entry_codec.specs.declared.io_opcode.TheConstants.{COMPARE}
 use Rattle.io_commands.specs.Asked.{Request}
 use Rattle.io_commands.specs.declared.request.Kind.{Kind}
-use Rattle.io_commands.specs.declared.request.Kind.TheVariants.{Read, Write, Compare}
+use Rattle.io_commands.specs.declared.request.Kind.TheVariants.{Compare}
 use Rattle.io_commands.specs.Drafts.{DraftContents}
-use Rattle.io_commands.specs.Jobs.{kind_of_opcode}
 use Rattle.machine_model.specs.State.{State, Job}
 use Rattle.machine_model.specs.Refusals.{job_at}
 use Rattle.machine_model.specs.After.{final_status}
 use Rattle.machine_model.specs.Image.{Made, draft_of}
-use Rattle.machine_model.specs.Laws.{status_by, drafts_of, has_cause, is_compare}
+use Rattle.run_laws.specs.Statuses.{status_by, has_cause, is_compare}
+use Rattle.machine_model.specs.Trusted.{drafts_of}
 use Rattle.machine_model.specs.Events as events
 use Rattle.machine_model.specs.Events.{Event, Reply}
 use Rattle.machine_model.proofs.Placed.{is_job, find_sound}
-use Rattle.machine_model.proofs.Served.{Stood}
-use Rattle.machine_model.proofs.Known.{Known}
-use Rattle.machine_model.proofs.Images.{job_draft, imaged_before}
-use Rattle.machine_model.proofs.Compares.{compares_tell}
-use Rattle.machine_model.proofs.EveryStatus.{positive, statuses_have_causes}
+use Rattle.machine_agreement.proofs.Served.{Stood}
+use Rattle.run_laws.proofs.Known.{Known}
+use Rattle.run_laws.proofs.Images.{job_draft, imaged_before}
+use Rattle.run_laws.proofs.Compares.{compares_tell, compare_kind}
+use Rattle.run_laws.proofs.EveryStatus.{positive, statuses_have_causes, compare_opcode}
 use Rattle.run_laws.specs.Walked.{compares_by_their_drafts, compare_failures_are_of_compares}
-
-compare_opcode : (opcode : ℕ) → kind_of_opcode opcode ≡ Some Compare → (opcode == COMPARE) ≡ true
-compare_opcode opcode h = go (opcode == WRITE) (opcode == READ) (opcode == COMPARE) h
-  where
-    go : (w r c : Bool) → first_passing ((w, Write) ∷ (r, Read) ∷ (c, Compare) ∷ []) ≡ Some Compare → c ≡ true
-    go true r c h = absurd cc
-    go false true c h = absurd cc
-    go false false true h = refl
-    go false false false h = absurd cc
 
 -- the job of a step that gives a status
 completed_job : (s : State) (e : Event) (reply : Reply) (q cid : ℕ) (st : Status) → status_by s e reply q cid ≡ Some st → (j : Job) × (job_at s q cid ≡ Some j)
@@ -77,12 +67,6 @@ compares_told image earlier later m end q cid st d run status latest kind fine =
     compares_tell image earlier later m end q cid st d run status (ap (λ (o : Option Job). option_map_or (λ j. j.entry.opcode == COMPARE) o false) x.1 ∙ opcode) latest fine
 
 -- No other command fails as a Compare
-
-compare_kind : (opcode : ℕ) (k : Kind) → (opcode == COMPARE) ≡ true → kind_of_opcode opcode ≡ Some k → k ≡ Compare
-compare_kind opcode k is h = let h' : kind_of_opcode COMPARE ≡ Some k = subst (λ (n : ℕ). kind_of_opcode n ≡ Some k) (eqb-true opcode COMPARE is) h in sym (some_is h')
-  where
-    some_is : {x y : Kind} → Some x ≡ Some y → x ≡ y
-    some_is e = cc
 
 only_compare : (earlier : List Made) (m : Made) (q cid : ℕ) → has_cause earlier m q cid COMPARE_FAILURE ≡ true → is_compare m q cid ≡ true
 only_compare earlier m q cid h = h

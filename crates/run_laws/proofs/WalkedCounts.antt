@@ -8,20 +8,20 @@ use Rattle.entry_codec.specs.declared.submission.SubEntry.{SubEntry}
 use Rattle.machine_model.specs.State.{State, Job}
 use Rattle.machine_model.specs.Refusals.{next_rung}
 use Rattle.machine_model.specs.Image.{Made}
-use Rattle.machine_model.specs.Laws.{fetches, fetches_by, since_fetch}
+use Rattle.run_laws.specs.Statuses.{fetches, fetches_by, since_fetch}
 use Rattle.machine_model.specs.Events as events
 use Rattle.machine_model.specs.Events.{Event, Reply}
 use Rattle.machine_model.specs.declared.words.Refusal.{Refusal}
 use Rattle.machine_model.proofs.Placed.{is_job, find_sound}
-use Rattle.machine_model.proofs.Members.{all_at, all_at_found, all_in}
-use Rattle.machine_model.proofs.Served.{Stood}
-use Rattle.machine_model.proofs.WalksKept.{stood_on, stood_at_opening}
-use Rattle.machine_model.proofs.Placements.{in_hand}
-use Rattle.machine_model.proofs.Caused.{since_more, any_longer, any_last}
-use Rattle.machine_model.proofs.CausedKept.{not_conflicting, none_found, refused_no_fetch}
-use Rattle.machine_model.proofs.EveryStatus.{positive}
-use Rattle.machine_model.proofs.Along.{Carried, keeps, made_of, run_along}
-use Rattle.machine_model.proofs.JobsMove.{JobsMove, jobs_event, is_walked}
+use Rattle.machine_agreement.proofs.Members.{all_at, all_at_found, all_in}
+use Rattle.machine_agreement.proofs.Served.{Stood}
+use Rattle.machine_agreement.proofs.WalksKept.{stood_on, stood_at_opening}
+use Rattle.machine_agreement.proofs.Placements.{in_hand}
+use Rattle.run_laws.proofs.Caused.{since_more, any_longer, any_last}
+use Rattle.run_laws.proofs.CausedKept.{not_conflicting, none_found, refused_no_fetch}
+use Rattle.run_laws.proofs.EveryStatus.{positive}
+use Rattle.machine_agreement.proofs.Along.{Carried, keeps, made_of, run_along}
+use Rattle.run_laws.proofs.JobsMove.{JobsMove, jobs_event, is_walked}
 use Rattle.run_laws.specs.Walked.{walks_by, walks_of, times_walked, units_done_count_the_walks}
 use Rattle.run_laws.proofs.DataAlong.{Going}
 use Rattle.run_laws.proofs.DataOnce.{fetched_entry}

@@ -20,24 +20,24 @@ use Rattle.page_memory.specs.Pages.{with_page_bytes, with_bytes}
 use Rattle.machine_model.specs.State.{State, Device, Job}
 use Rattle.machine_model.specs.Refusals.{job_at, next_rung, conflicts}
 use Rattle.machine_model.specs.Opening.{opening}
-use Rattle.machine_model.specs.Laws.{Steps}
+use Rattle.machine_model.specs.Trusted.{Steps}
 use Rattle.machine_model.specs.Step.{Step, resets, unit_answered}
 use Rattle.machine_model.specs.After as a
 use Rattle.machine_model.specs.Events as events
 use Rattle.machine_model.specs.Events.{Event, Reply}
 use Rattle.machine_model.proofs.Managed.{managed_by}
-use Rattle.machine_model.proofs.Placing.{device-answered}
+use Rattle.machine_agreement.proofs.Placing.{device-answered}
 use Rattle.machine_model.proofs.Placed.{is_job, find_sound}
-use Rattle.machine_model.proofs.Unforged.{Unforged, unforged_next, unforged_front, unforged_back, unforged_run, unforged_end, trusted_end}
-use Rattle.machine_model.proofs.Served.{Stood}
-use Rattle.machine_model.proofs.WalksKept.{host_jobs, stood_at_opening}
-use Rattle.machine_model.proofs.Placements.{in_hand}
-use Rattle.machine_model.proofs.CausedKept.{not_conflicting}
-use Rattle.machine_model.proofs.CommandsAll.{walking}
-use Rattle.machine_model.proofs.JobLaws.{stood_after}
+use Rattle.machine_agreement.proofs.Unforged.{Unforged, unforged_next, unforged_front, unforged_back, unforged_run, unforged_end, trusted_end}
+use Rattle.machine_agreement.proofs.Served.{Stood}
+use Rattle.machine_agreement.proofs.WalksKept.{host_jobs, stood_at_opening}
+use Rattle.machine_agreement.proofs.Placements.{in_hand}
+use Rattle.run_laws.proofs.CausedKept.{not_conflicting}
+use Rattle.machine_agreement.proofs.CommandsAll.{walking}
+use Rattle.machine_agreement.proofs.JobLaws.{stood_after}
 use Rattle.run_laws.specs.Walked.{HasJobSo, walks_go_on_without_a_verdict, walks_by, completes_by, ends_job, ends_walk_by, only_the_last_walk_ends}
 use Rattle.run_laws.proofs.DataAlong.{Going, stood_step, stood_along, along_steps}
-use Rattle.machine_model.proofs.Along.{cut}
+use Rattle.machine_agreement.proofs.Along.{cut}
 use Rattle.machine_model.proofs.Steps.{permitted}
 
 -- Finding a job in changed lists

@@ -4,7 +4,7 @@ use Rattle.std.specs.List.{AllByRecursion}
 use Rattle.block_image.specs.Blocks.{IsImage}
 use Rattle.machine_model.specs.State.{State, Record}
 use Rattle.machine_model.specs.Refusals.{host_queue, is_held, refusal_of}
-use Rattle.machine_model.specs.InOrder.{IsInOrder}
+use Rattle.machine_agreement.specs.InOrder.{IsInOrder}
 use Rattle.machine_model.specs.Opening.{opening, Opens}
 use Rattle.machine_model.specs.Proper.{IsProper}
 use Rattle.machine_model.specs.After.{after_reset}

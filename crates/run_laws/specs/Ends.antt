@@ -9,7 +9,8 @@ use Rattle.machine_model.specs.State.{State, Answer}
 use Rattle.machine_model.specs.Refusals.{device_queue, conflicts, record_is, is_submitted}
 use Rattle.machine_model.specs.Step.{Step}
 use Rattle.machine_model.specs.Image.{Made}
-use Rattle.machine_model.specs.Laws.{TrustedRun, is_reset, status_given, has_cause, since_fetch, aborts, deletes, passes_image, is_compare}
+use Rattle.machine_model.specs.Trusted.{TrustedRun, is_reset}
+use Rattle.run_laws.specs.Statuses.{status_given, has_cause, since_fetch, aborts, deletes, passes_image, is_compare}
 use Rattle.machine_model.specs.Events as events
 use Rattle.machine_model.specs.Events.{Event, Reply}
 use Rattle.machine_model.specs.declared.words.Reaped.{Reaped}

@@ -7,3 +7,6 @@ pub mod WorkedHeads
 pub mod WorkedRenewals
 pub mod WorkedResets
 pub mod Accepted
+pub mod Built
+pub mod Statuses
+pub mod Blocks

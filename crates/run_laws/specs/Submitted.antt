@@ -17,7 +17,10 @@ use Rattle.machine_model.specs.declared.words.Work.TheVariants.{Io}
 use Rattle.machine_model.specs.Refusals.{is_submitted}
 use Rattle.machine_model.specs.State.{State, Record, record_at}
 use Rattle.machine_model.specs.Image.{Made, is_draft, draft_of, submitted_by, image_after, read_of}
-use Rattle.machine_model.specs.Laws.{TrustedRun, fetches, collected_of, is_read, blocks_of_request, partly, drafts_of, entries_of}
+use Rattle.machine_model.specs.Trusted.{TrustedRun, drafts_of}
+use Rattle.machine_agreement.specs.Laws.{entries_of}
+use Rattle.run_laws.specs.Statuses.{fetches}
+use Rattle.run_laws.specs.Blocks.{collected_of, is_read, blocks_of_request, partly}
 use Rattle.machine_model.specs.Step.{Step, zeroed}
 use Rattle.machine_model.specs.Events as events
 

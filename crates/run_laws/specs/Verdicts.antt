@@ -7,7 +7,8 @@ use Rattle.machine_model.specs.State.{State, Job}
 use Rattle.machine_model.specs.Refusals.{job_at}
 use Rattle.machine_model.specs.Step.{Step, resets}
 use Rattle.machine_model.specs.Image.{Made}
-use Rattle.machine_model.specs.Laws.{TrustedRun, status_by, status_given, fetches, is_compare, forges_by}
+use Rattle.machine_model.specs.Trusted.{TrustedRun, forges_by}
+use Rattle.run_laws.specs.Statuses.{status_by, status_given, fetches, is_compare}
 use Rattle.machine_model.specs.Events as events
 use Rattle.machine_model.specs.Events.{Event, Reply}
 use Rattle.machine_model.specs.declared.words.Refusal.TheVariants.{Nothing}

@@ -1,5 +1,5 @@
 -- What walk steps answer, and how many a job has done; and what a Compare tells.
-use Rattle.std.specs.Prelude.{◌≡◌, ℕ, nat_lt, ◌==◌, Bool, true, false, ◌&&◌, ◌||◌, not, IsTrue, Some, List, ◌∷◌, ◌++◌, length, filter, is_none, if◌then◌else◌}
+use Rattle.std.specs.Prelude.{◌≡◌, ℕ, nat_lt, ◌==◌, Bool, false, ◌&&◌, ◌||◌, not, IsTrue, Some, List, ◌∷◌, ◌++◌, length, filter, is_none, if◌then◌else◌}
 use Rattle.std.specs.List.{list_any}
 use Rattle.std.specs.Str.{bytes_eq}
 use Rattle.controller_walk.specs.Walks.{is_more}
@@ -13,7 +13,9 @@ use Rattle.machine_model.specs.Status.{same_status}
 use Rattle.machine_model.specs.State.{State, Job}
 use Rattle.machine_model.specs.Refusals.{job_at}
 use Rattle.machine_model.specs.Image.{Made, draft_of}
-use Rattle.machine_model.specs.Laws.{TrustedRun, is_reset, since_fetch, status_given, drafts_of, blocks_of_request}
+use Rattle.machine_model.specs.Trusted.{TrustedRun, is_reset, drafts_of}
+use Rattle.run_laws.specs.Statuses.{since_fetch, status_given}
+use Rattle.run_laws.specs.Blocks.{blocks_of_request}
 use Rattle.machine_model.specs.Step.{Step}
 use Rattle.machine_model.specs.Events as events
 use Rattle.machine_model.specs.Events.{Event, Reply}

@@ -19,12 +19,11 @@ use Rattle.machine_model.specs.Step.{allocates, IsController}
 use Rattle.machine_model.specs.declared.words.Refusal.{Refusal}
 use Rattle.machine_model.specs.declared.words.Refusal.TheVariants as refusal
 use Rattle.host_core.proofs.Lists.{found_at, all-at}
-use Rattle.machine_model.proofs.Answered.{IsRefused, IsSent, refusable, fetch_refusable, acceptable, reap_answered, walk_answered, complete_answered, abort_answered, delete_sq_answered, delete_cq_answered, create_cq_answered, create_sq_answered}
+use Rattle.machine_agreement.proofs.Answered.{IsRefused, IsSent, refusable, fetch_refusable, acceptable, reap_answered, walk_answered, complete_answered, abort_answered, delete_sq_answered, delete_cq_answered, create_cq_answered, create_sq_answered}
 use Rattle.step_core.specs.Bench.{without_first, Does}
 use Rattle.step_core.specs.Going.{IsTableInOrder, GoesOn, benches_go_on}
-use Rattle.step_core.specs.Values.{Reply}
+use Rattle.step_core.specs.Values.{Reply, Step}
 use Rattle.step_core.specs.declared.step.Reply.TheVariants as reply
-use Rattle.step_core.specs.Values.{Step}
 use Rattle.step_core.specs.declared.step.Step.TheVariants as step
 
 -- What the machine may answer

@@ -7,14 +7,14 @@ use Rattle.io_commands.specs.Asked.{Request}
 use Rattle.machine_model.specs.Events as events
 use Rattle.machine_model.specs.Events.{Event}
 use Rattle.machine_model.specs.Image.{draft_of, is_draft}
-use Rattle.machine_model.specs.InOrder.{IsInOrder, openings_are_in_order, steps_keep_order, reserved_drafts_are_proper, collected_commands_are_proper}
+use Rattle.machine_agreement.specs.InOrder.{IsInOrder, openings_are_in_order, steps_keep_order, reserved_drafts_are_proper, collected_commands_are_proper}
 use Rattle.machine_model.specs.Proper.{IsProper, IsProperDraft}
 use Rattle.machine_model.specs.Script.{Table, finished_at, is_ticket, filled_draft, is_finished}
 use Rattle.machine_model.specs.declared.words.Refusal.TheVariants as refusal
 use Rattle.host_core.proofs.Lists.{all-append}
-use Rattle.machine_model.proofs.InOrders.{order_kept}
-use Rattle.machine_model.proofs.InOrders as orders
-use Rattle.machine_model.proofs.ProperValues.{reserved_is_proper, collected_is_proper}
+use Rattle.machine_agreement.proofs.InOrders.{order_kept}
+use Rattle.machine_agreement.proofs.InOrders as orders
+use Rattle.machine_agreement.proofs.ProperValues.{reserved_is_proper, collected_is_proper}
 use Rattle.step_core.specs.Bench.{without_first, with_first, Passes, Reserves, Fills, Builds, Submits, Cancels, Collected, Collects, Gathers, Releases}
 use Rattle.step_core.specs.Going.{IsTableInOrder, benches_open_in_order, benches_keep_order}
 use Rattle.step_core.specs.Values.{Reply}

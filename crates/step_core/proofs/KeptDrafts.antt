@@ -22,8 +22,8 @@ use Rattle.io_commands.proofs.Building.{some_parts, built_keeps}
 use Rattle.io_commands.proofs.Filling.{fill_keeps}
 use Rattle.machine_model.specs.Proper.{IsPage, IsProperDraft}
 use Rattle.machine_model.specs.Script.{filled_draft}
-use Rattle.machine_model.proofs.Entered.{good_is}
-use Rattle.machine_model.proofs.Lengths.{length_put}
+use Rattle.machine_agreement.proofs.Entered.{good_is}
+use Rattle.machine_agreement.proofs.Lengths.{length_put}
 use Rattle.host_core.proofs.Lists.{all-from, all-to}
 
 abbrev IsPageOut : ℕ × List ℕ → Type 0

@@ -4,20 +4,19 @@ use Rattle.std.specs.List.{list_all}
 use Rattle.page_ledger.specs.Owners.{is_among}
 use Rattle.machine_model.specs.Events as events
 use Rattle.machine_model.specs.Events.{Event}
-use Rattle.machine_model.specs.InOrder as orders
-use Rattle.machine_model.specs.InOrder.{runs_are_made, IsTrustedRunOf}
-use Rattle.machine_model.specs.Laws as machine
+use Rattle.machine_agreement.specs.InOrder as orders
+use Rattle.machine_agreement.specs.InOrder.{runs_are_made, IsTrustedRunOf}
+use Rattle.machine_model.specs.Trusted as machine
 use Rattle.machine_model.specs.Run.{Run}
 use Rattle.machine_model.specs.Script.{Table, table}
 use Rattle.machine_model.specs.State.{State}
 use Rattle.machine_model.specs.Touch.{allowed, stays_allowed, stays_own, own_pages, touched_by}
-use Rattle.machine_model.proofs.Agreed.{agreed_stays}
+use Rattle.machine_agreement.proofs.Agreed.{agreed_stays}
 use Rattle.step_core.specs.Opening.{opening_of}
 use Rattle.step_core.specs.Going.{IsTableInOrder, forges_by, has_forgery, benches_touch_what_they_may, benches_make_trusted_runs}
 use Rattle.step_core.specs.Laws.{is_outside, Asks, Says, AreOf, BeginsWith, IsRunOf}
-use Rattle.step_core.specs.Values.{Reply}
+use Rattle.step_core.specs.Values.{Reply, Step}
 use Rattle.step_core.specs.declared.step.Reply.TheVariants as reply
-use Rattle.step_core.specs.Values.{Step}
 use Rattle.step_core.specs.declared.step.Step.TheVariants as step
 use Rattle.step_core.proofs.RunsOf.{runs_of}
 

@@ -21,7 +21,7 @@ use Rattle.machine_model.specs.Events.{Event, Reply}
 use Rattle.machine_model.specs.State.{State}
 use Rattle.machine_model.specs.Step as machine
 use Rattle.machine_model.specs.Step.{Step, forges}
-use Rattle.machine_model.proofs.Agreed.{agreed_stays}
+use Rattle.machine_agreement.proofs.Agreed.{agreed_stays}
 use Rattle.page_memory.specs.Memory.{Memory}
 use Rattle.page_memory.specs.Pages as store
 use Rattle.page_memory.specs.Pages.{Pages, byte_at, AreWhole}

@@ -7,16 +7,15 @@ use Rattle.io_commands.specs.Requests.{FitsRequest}
 use Rattle.machine_model.specs.Events as events
 use Rattle.machine_model.specs.Events.{Event}
 use Rattle.machine_model.specs.Image.{Made}
-use Rattle.machine_model.specs.InOrder.{IsInOrder}
-use Rattle.machine_model.specs.Laws.{TrustedRun}
+use Rattle.machine_agreement.specs.InOrder.{IsInOrder}
+use Rattle.machine_model.specs.Trusted.{TrustedRun}
 use Rattle.machine_model.specs.Proper.{IsProper, IsProperDraft}
 use Rattle.machine_model.specs.Script.{Table, table}
 use Rattle.machine_model.specs.State.{State}
 use Rattle.machine_model.specs.Touch.{stays_allowed, stays_own}
 use Rattle.step_core.specs.Bench.{Does, DoesAll}
 use Rattle.step_core.specs.Laws.{Asks, Says, AreOf}
-use Rattle.step_core.specs.Values.{Reply}
-use Rattle.step_core.specs.Values.{Step}
+use Rattle.step_core.specs.Values.{Reply, Step}
 use Rattle.step_core.specs.declared.step.Step.TheVariants as step
 use Rattle.step_core.specs.declared.step.Reply.TheVariants as reply
 use Rattle.host_core.specs.Opening.{refusal_of_config}

@@ -16,8 +16,8 @@ use Rattle.machine_model.specs.After.{answered, change}
 use Rattle.machine_model.specs.Memory.{is_in}
 use Rattle.machine_model.specs.Refusals.{fetch_slot, host_queue, in_service, post_slot, slot_offset, slot_page}
 use Rattle.machine_model.specs.State.{State, HostQueue, Answer}
-use Rattle.machine_model.proofs.Elsewhere.{bytes_elsewhere}
-use Rattle.machine_model.proofs.Members.{all_append}
+use Rattle.machine_agreement.proofs.Elsewhere.{bytes_elsewhere}
+use Rattle.machine_agreement.proofs.Members.{all_append}
 use Rattle.page_ledger.specs.Owners.{is_among}
 use Rattle.page_memory.specs.Memory.{Memory, written, bytes_at}
 use Rattle.page_memory.specs.Pages.{Pages, IsPool, byte_at, page_at, with_page_bytes}

@@ -21,14 +21,14 @@ use Rattle.machine_model.specs.State.{State, Device, HostQueue}
 use Rattle.machine_model.specs.Step.{Answers, Leaves, LeavesByController, LeavesByHost, HostPart, Permits, Step, forges, host_part, is_exact}
 use Rattle.machine_model.specs.declared.words.Refusal.{Refusal}
 use Rattle.machine_model.specs.declared.words.Refusal.TheVariants as refusal
-use Rattle.machine_model.proofs.Agreeing.{step_keeps_agreement}
-use Rattle.machine_model.proofs.Frames.{host_leaves}
+use Rattle.machine_agreement.proofs.Agreeing.{step_keeps_agreement}
+use Rattle.machine_agreement.proofs.Frames.{host_leaves}
 use Rattle.machine_model.proofs.Headline.{sound_from_both, steps_keep}
 use Rattle.machine_model.proofs.Out.{Both}
 use Rattle.machine_model.proofs.Owned.{holds_from_sound}
-use Rattle.machine_model.proofs.Positions.{steps_stay_in_rings}
-use Rattle.machine_model.proofs.Provided.{steps_provide}
-use Rattle.machine_model.proofs.Recovered.{recovery_kept}
+use Rattle.machine_agreement.proofs.Positions.{steps_stay_in_rings}
+use Rattle.machine_agreement.proofs.Provided.{steps_provide}
+use Rattle.machine_agreement.proofs.Recovered.{recovery_kept}
 use Rattle.machine_model.proofs.Steps.{Accepts, part_controller}
 use Rattle.machine_model.proofs.Taken.{taken_from_out}
 use Rattle.page_memory.specs.Pages.{AreWhole, Pages, byte_at}

@@ -2,7 +2,7 @@
 use Rattle.std.proofs.Common.{◌≡◌, ◌≢◌, ℕ, ◌<◌, lt-ltb, true, refl, sym, arith, subst}
 use Rattle.std.proofs.lemmas.Bool.Decides.{nat_tests}
 use Rattle.machine_model.specs.State.{HostQueue}
-use Rattle.machine_model.proofs.Positions.{all_at}
+use Rattle.machine_agreement.proofs.Positions.{all_at}
 use Rattle.page_memory.specs.Pages.{byte_at}
 use Rattle.machine_model.specs.Positions.{IsInRing}
 use Rattle.queue_pair.specs.Slots.{is_in_range, next_slot}

@@ -24,9 +24,9 @@ use Rattle.machine_model.specs.Refusals.{answers_full, in_service, is_abort_of, 
 use Rattle.machine_model.specs.State.{State, DeviceQueue, HostQueue, Job}
 use Rattle.machine_model.specs.Step.{Permits}
 use Rattle.machine_model.specs.declared.words.Refusal.TheVariants as refusal
-use Rattle.machine_model.proofs.Agreed.{agreed_linked}
+use Rattle.machine_agreement.proofs.Agreed.{agreed_linked}
 use Rattle.machine_model.proofs.Counting.{one}
-use Rattle.machine_model.proofs.Members.{all_filter, in_found}
+use Rattle.machine_agreement.proofs.Members.{all_filter, in_found}
 use Rattle.machine_model.proofs.Placed.{is_job}
 use Rattle.machine_model.proofs.Totals.{total}
 use Rattle.machine_model.proofs.Parts.{in_store, in_store-with_bytes}

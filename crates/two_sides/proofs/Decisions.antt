@@ -10,7 +10,7 @@ use Rattle.admin_commands.specs.declared.DeviceView.{DeviceView}
 use Rattle.entry_codec.specs.declared.admin_opcode.TheConstants.{ABORT, DELETE_IO_SQ, DELETE_IO_CQ, CREATE_IO_CQ, CREATE_IO_SQ}
 use Rattle.entry_codec.specs.declared.status.Status.{Status}
 use Rattle.entry_codec.specs.declared.submission.SubEntry.{SubEntry}
-use Rattle.machine_model.proofs.Placing.{ne_zero}
+use Rattle.machine_agreement.proofs.Placing.{ne_zero}
 use Rattle.page_memory.specs.declared.page.Half.{Half}
 use Rattle.page_memory.specs.declared.page.Half.TheVariants.{Submission, Completion}
 use Rattle.queue_pair.specs.Memory.{half_pages}

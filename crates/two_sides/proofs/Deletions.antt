@@ -5,8 +5,8 @@ use Rattle.machine_model.specs.Agreeing.{SidesAgree}
 use Rattle.machine_model.specs.Events.{Event, Reply}
 use Rattle.machine_model.specs.State.{State}
 use Rattle.machine_model.specs.Step.{IsController, Step}
-use Rattle.machine_model.proofs.Agreeing.{step_keeps_agreement}
-use Rattle.machine_model.proofs.Along.{trusted_step_by}
+use Rattle.machine_agreement.proofs.Agreeing.{step_keeps_agreement}
+use Rattle.machine_agreement.proofs.Along.{trusted_step_by}
 use Rattle.machine_model.proofs.Steps.{Accepts}
 use Rattle.two_sides.specs.Deletions.{CompletionsServe}
 use Rattle.two_sides.proofs.KeptServing.{ServeS, serve_back, serve_of}

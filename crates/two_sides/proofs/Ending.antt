@@ -16,7 +16,7 @@ use Rattle.io_commands.specs.declared.request.Kind.{Kind}
 use Rattle.io_commands.specs.declared.request.Kind.TheVariants.{Read, Write, Compare}
 use Rattle.machine_model.specs.After.{change, deletion_done, final_status, image_completed, on_device, without_job}
 use Rattle.machine_model.specs.State.{State, DeviceQueue, HostQueue, Job}
-use Rattle.machine_model.proofs.DeviceMoves.{cleared}
+use Rattle.machine_agreement.proofs.DeviceMoves.{cleared}
 use Rattle.machine_model.proofs.Placed.{is_job}
 use Rattle.page_memory.specs.Memory.{Memory}
 use Rattle.two_sides.specs.Sides.{Sides, state_of, device_of, device_queues_of, job_of}

@@ -13,9 +13,9 @@ use Rattle.machine_model.specs.Memory.{is_in}
 use Rattle.machine_model.specs.Refusals.{answers_full, conflicts, fetch_page, job_at, next_rung, post_page, refusal_of}
 use Rattle.machine_model.specs.State.{State, HostQueue, DeviceQueue}
 use Rattle.machine_model.specs.declared.words.Refusal.TheVariants as refusal
-use Rattle.machine_model.proofs.Agreeing.{stood_of}
-use Rattle.machine_model.proofs.HeadsAll.{no_conflict}
-use Rattle.machine_model.proofs.Placements.{in_hand}
+use Rattle.machine_agreement.proofs.Agreeing.{stood_of}
+use Rattle.machine_agreement.proofs.HeadsAll.{no_conflict}
+use Rattle.machine_agreement.proofs.Placements.{in_hand}
 use Rattle.page_memory.specs.Memory.{Memory}
 use Rattle.page_memory.specs.Pages.{byte_at}
 use Rattle.queue_pair.specs.Memory.{entry_at, submission_page}

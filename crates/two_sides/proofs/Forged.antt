@@ -13,7 +13,7 @@ use Rattle.machine_model.specs.Events as events
 use Rattle.machine_model.specs.Events.{Event, Reply}
 use Rattle.machine_model.specs.State.{State, HostQueue}
 use Rattle.machine_model.specs.Step.{IsController, KeepsDevice, Leaves, LeavesByController, LeavesByHost, Permits, forges, resets, host_part}
-use Rattle.machine_model.proofs.Blind.{blind}
+use Rattle.machine_agreement.proofs.Blind.{blind}
 use Rattle.page_memory.specs.Memory.{Memory}
 use Rattle.page_memory.specs.Pages.{Pages, byte_at}
 use Rattle.two_sides.specs.Hearing.{heard}

@@ -14,9 +14,9 @@ use Rattle.machine_model.specs.declared.words.HostState.{HostState}
 use Rattle.machine_model.specs.declared.words.HostState.TheVariants as states
 use Rattle.machine_model.specs.Step.{Step, host_part}
 use Rattle.machine_model.proofs.Counting.{held_once}
-use Rattle.machine_model.proofs.Members.{all_at}
+use Rattle.machine_agreement.proofs.Members.{all_at}
 use Rattle.machine_model.proofs.Parts.{in_store-with_bytes}
-use Rattle.machine_model.proofs.Recovered.{recovery_kept}
+use Rattle.machine_agreement.proofs.Recovered.{recovery_kept}
 use Rattle.machine_model.proofs.Refused.{unrefused}
 use Rattle.page_ledger.specs.Owners.{is_among, pages_from}
 use Rattle.page_memory.specs.Memory.{written}

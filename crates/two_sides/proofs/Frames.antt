@@ -12,14 +12,14 @@ use Rattle.machine_model.specs.Memory.{memory_of}
 use Rattle.machine_model.specs.State.{Answer, HostQueue, DeviceQueue, Record, pages_of}
 use Rattle.machine_model.specs.Refusals.{in_service, is_making_cq, is_submitted}
 use Rattle.machine_model.specs.declared.words.HostState.{HostState}
-use Rattle.machine_model.proofs.JobLaws.{stay_after}
-use Rattle.machine_model.proofs.Served.{counts_sent, page_there, among_left, among_right}
+use Rattle.machine_agreement.proofs.JobLaws.{stay_after}
+use Rattle.machine_agreement.proofs.Served.{counts_sent, page_there, among_left, among_right}
 use Rattle.machine_model.proofs.Steps.{Accepts}
 use Rattle.machine_model.proofs.Totals.{total}
 use Rattle.machine_model.specs.Step.{times}
 use Rattle.machine_model.proofs.Counting.{held_once, not_held}
-use Rattle.machine_model.proofs.Elsewhere.{among_counts, sent_page}
-use Rattle.machine_model.proofs.Members.{in_at}
+use Rattle.machine_agreement.proofs.Elsewhere.{among_counts, sent_page}
+use Rattle.machine_agreement.proofs.Members.{in_at}
 use Rattle.machine_model.proofs.Owned.{in_queue, in_record}
 use Rattle.page_ledger.specs.Owners.{is_among, pages_from}
 use Rattle.page_memory.specs.Memory.{Memory}

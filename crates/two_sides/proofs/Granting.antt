@@ -7,7 +7,7 @@ use Rattle.machine_model.specs.Memory.{with_pages, zeroed_pages}
 use Rattle.machine_model.specs.Placement.{first_of_run}
 use Rattle.machine_model.specs.Step.{times}
 use Rattle.machine_model.proofs.Counting.{held_once}
-use Rattle.machine_model.proofs.Elsewhere.{with_elsewhere}
+use Rattle.machine_agreement.proofs.Elsewhere.{with_elsewhere}
 use Rattle.machine_model.proofs.Runs.{run_times, zeroed_numbers}
 use Rattle.page_ledger.specs.Owners.{is_among, pages_from}
 use Rattle.page_memory.specs.Pages.{AreWhole, Pages, byte_at, page_at, zero_page}

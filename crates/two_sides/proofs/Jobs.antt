@@ -11,7 +11,7 @@ use Rattle.controller_core.proofs.Lists.{count-cons, here_counted, one}
 use Rattle.io_commands.specs.Jobs.{JobContents}
 use Rattle.machine_model.specs.Refusals.{job_at}
 use Rattle.machine_model.specs.State.{HostQueue, Job}
-use Rattle.machine_model.proofs.Members.{all_at_found}
+use Rattle.machine_agreement.proofs.Members.{all_at_found}
 use Rattle.machine_model.proofs.Placed.{find_sound, is_job}
 use Rattle.two_sides.specs.Sides.{Sides, state_of, job_of}
 use Rattle.two_sides.specs.Ties.{IsWorld}

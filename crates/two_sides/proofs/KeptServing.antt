@@ -10,10 +10,10 @@ use Rattle.machine_model.specs.Refusals.{in_service, is_deleting, is_live}
 use Rattle.machine_model.specs.State.{State, HostQueue, DeviceQueue}
 use Rattle.machine_model.specs.declared.words.HostState.{HostState}
 use Rattle.machine_model.specs.declared.words.HostState.TheVariants as states
-use Rattle.machine_model.proofs.Agreed.{agreed_there}
+use Rattle.machine_agreement.proofs.Agreed.{agreed_there}
 use Rattle.machine_model.proofs.Awaited.{awaited_at}
-use Rattle.machine_model.proofs.DeviceMoves.{cleared}
-use Rattle.machine_model.proofs.Placing.{ne_zero, waiting, waiting_same, waiting_other}
+use Rattle.machine_agreement.proofs.DeviceMoves.{cleared}
+use Rattle.machine_agreement.proofs.Placing.{ne_zero, waiting, waiting_same, waiting_other}
 use Rattle.queue_pair.specs.Rings.{HostRing}
 use Rattle.admin_commands.specs.Verdicts.{is_absent}
 use Rattle.two_sides.specs.Deletions.{AreBefore, CompletionsServe, asks_cq_deletion, asks_sq_deletion}

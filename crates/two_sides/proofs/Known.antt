@@ -15,7 +15,7 @@ use Rattle.machine_model.specs.declared.words.HostState.{HostState}
 use Rattle.machine_model.specs.declared.words.HostState.TheVariants as states
 use Rattle.machine_model.specs.Step.{times}
 use Rattle.machine_model.proofs.Counting.{held_once}
-use Rattle.machine_model.proofs.Members.{all_at}
+use Rattle.machine_agreement.proofs.Members.{all_at}
 use Rattle.machine_model.proofs.Owned.{in_queue}
 use Rattle.page_ledger.specs.Owners.{is_among, pages_from}
 use Rattle.page_memory.specs.Memory.{Memory}

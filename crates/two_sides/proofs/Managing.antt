@@ -21,8 +21,8 @@ use Rattle.machine_model.specs.After.{change}
 use Rattle.machine_model.specs.Refusals.{is_making_cq}
 use Rattle.machine_model.specs.Weights.{total}
 use Rattle.machine_model.specs.State.{State, HostQueue, DeviceQueue, Job}
-use Rattle.machine_model.proofs.Members.{all_in, all_of, only_found}
-use Rattle.machine_model.proofs.Tying.{length-change}
+use Rattle.machine_agreement.proofs.Members.{all_in, all_of, only_found}
+use Rattle.machine_agreement.proofs.Tying.{length-change}
 use Rattle.page_memory.specs.Memory.{Memory}
 use Rattle.page_memory.specs.Pages.{byte_at}
 use Rattle.queue_pair.specs.Rings.{fresh_host_ring}

@@ -25,7 +25,7 @@ use Rattle.machine_model.specs.declared.words.Work.TheVariants.{Management}
 use Rattle.machine_model.specs.Step.{times}
 use Rattle.machine_model.proofs.Awaited.{awaits, length_awaits}
 use Rattle.machine_model.proofs.Counting.{held_once, one}
-use Rattle.machine_model.proofs.Members.{all_at_found, in_found}
+use Rattle.machine_agreement.proofs.Members.{all_at_found, in_found}
 use Rattle.machine_model.proofs.Owned.{in_queue}
 use Rattle.page_ledger.specs.Owners.{is_among, pages_from}
 use Rattle.page_memory.specs.Pages.{Pages}

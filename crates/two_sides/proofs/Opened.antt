@@ -9,18 +9,18 @@ use Rattle.machine_model.specs.Agreeing.{SidesAgree}
 use Rattle.machine_model.specs.Claims.{HasOneOwner, IsSound}
 use Rattle.machine_model.specs.Opening as machine
 use Rattle.machine_model.specs.Opening.{opening, device_queue}
-use Rattle.machine_model.specs.Recovering.{CanRecover}
+use Rattle.machine_agreement.specs.Recovering.{CanRecover}
 use Rattle.machine_model.specs.Refusals.{is_deleting}
 use Rattle.machine_model.specs.State.{State, HostQueue, DeviceQueue}
 use Rattle.machine_model.specs.declared.words.HostState.TheVariants.{Live}
 use Rattle.page_ledger.specs.Owners.{pages_from}
 use Rattle.queue_pair.specs.Rings.{fresh_host_ring}
-use Rattle.machine_model.proofs.Agreeing.{opening_agrees}
+use Rattle.machine_agreement.proofs.Agreeing.{opening_agrees}
 use Rattle.machine_model.proofs.Headline.{runs_are_sound}
 use Rattle.machine_model.proofs.Opening.{fits_pool}
-use Rattle.machine_model.proofs.Positions.{rings_at_opening}
-use Rattle.machine_model.proofs.Provided.{runs_provide}
-use Rattle.machine_model.proofs.Recovered.{openings_recover}
+use Rattle.machine_agreement.proofs.Positions.{rings_at_opening}
+use Rattle.machine_agreement.proofs.Provided.{runs_provide}
+use Rattle.machine_agreement.proofs.Recovered.{openings_recover}
 use Rattle.page_memory.specs.Memory.{Memory}
 use Rattle.page_memory.specs.Pages.{byte_at, page_at, zero_page}
 use Rattle.page_memory.specs.declared.page.Half.TheVariants.{Submission, Completion}

@@ -4,8 +4,8 @@ use Rattle.host_core.specs.Alone.{alone}
 use Rattle.machine_model.specs.Memory.{is_in}
 use Rattle.machine_model.specs.State.{HostQueue, Record, pages_of}
 use Rattle.machine_model.proofs.Counting.{one, held_once}
-use Rattle.machine_model.proofs.Elsewhere.{at_most_one, among_counts}
-use Rattle.machine_model.proofs.Members.{In, in_at}
+use Rattle.machine_agreement.proofs.Elsewhere.{at_most_one, among_counts}
+use Rattle.machine_agreement.proofs.Members.{In, in_at}
 use Rattle.machine_model.proofs.Owned.{in_queue, in_record, owned, owned_is}
 use Rattle.machine_model.proofs.Parts.{length-in_store}
 use Rattle.machine_model.proofs.Taken.{none_here, in_is, taken, taken_le, taken_from_out}

@@ -13,8 +13,8 @@ use Rattle.host_core.proofs.Pages.{among-from}
 use Rattle.machine_model.specs.Memory.{memory_of}
 use Rattle.machine_model.specs.Refusals.{slot_page, slot_offset}
 use Rattle.machine_model.specs.State.{HostQueue, DeviceQueue}
-use Rattle.machine_model.proofs.Elsewhere.{bytes_elsewhere}
-use Rattle.machine_model.proofs.Slots.{entry_pages, entries_written}
+use Rattle.machine_agreement.proofs.Elsewhere.{bytes_elsewhere}
+use Rattle.machine_agreement.proofs.Slots.{entry_pages, entries_written}
 use Rattle.page_ledger.specs.Owners.{is_among}
 use Rattle.page_memory.specs.Memory.{written}
 use Rattle.page_memory.specs.Pages.{AreWhole, Pages, byte_at, page_at, with_page_bytes}

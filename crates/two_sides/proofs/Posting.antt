@@ -29,8 +29,8 @@ use Rattle.machine_model.specs.declared.words.HostState.{HostState}
 use Rattle.machine_model.specs.declared.words.HostState.TheVariants.{Deleting}
 use Rattle.machine_model.specs.State.{Device, DeviceQueue, HostQueue, Record, State, is_at, pages_of, record_at, with_record}
 use Rattle.machine_model.specs.Step.{HostPart, LeavesByHost, Permits}
-use Rattle.machine_model.proofs.Elsewhere.{with_elsewhere}
-use Rattle.machine_model.proofs.Members.{all_at_found}
+use Rattle.machine_agreement.proofs.Elsewhere.{with_elsewhere}
+use Rattle.machine_agreement.proofs.Members.{all_at_found}
 use Rattle.machine_model.proofs.Moves.{IsOf, draft_found, draft_lives, queue_found, sent_record}
 use Rattle.machine_model.proofs.Placed.{find_sound}
 use Rattle.machine_model.proofs.Refused.{found, unrefused}

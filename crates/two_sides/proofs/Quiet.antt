@@ -20,8 +20,8 @@ use Rattle.machine_model.specs.Refusals.{in_service, is_collected, is_drafted, i
 use Rattle.machine_model.specs.State.{State, HostQueue, DeviceQueue, Record, is_at, pages_of, record_at, with_record}
 use Rattle.machine_model.specs.Step.{IsController, forges, times}
 use Rattle.machine_model.proofs.Counting.{held_once}
-use Rattle.machine_model.proofs.Elsewhere.{with_elsewhere, without_elsewhere}
-use Rattle.machine_model.proofs.Members.{in_found}
+use Rattle.machine_agreement.proofs.Elsewhere.{with_elsewhere, without_elsewhere}
+use Rattle.machine_agreement.proofs.Members.{in_found}
 use Rattle.machine_model.proofs.Moves.{collected_away, drafted_away, is_of_found, queue_found}
 use Rattle.machine_model.proofs.Refused.{found, unrefused}
 use Rattle.machine_model.proofs.Steps.{Accepts}

@@ -27,7 +27,7 @@ use Rattle.machine_model.specs.declared.words.Refusal.TheVariants as refusal
 use Rattle.machine_model.specs.declared.words.RejectedFor.{RejectedFor}
 use Rattle.machine_model.specs.declared.words.Work.TheVariants.{Management}
 use Rattle.admin_commands.specs.declared.AdminKind.TheVariants.{DeleteSq, DeleteCq, CreateCq, CreateSq}
-use Rattle.machine_model.proofs.Agreeing.{stood_of}
+use Rattle.machine_agreement.proofs.Agreeing.{stood_of}
 use Rattle.machine_model.proofs.AwaitedKept.{asked_as_heard, making_cq_as_heard, making_sq_as_heard, ring_at}
 use Rattle.machine_model.proofs.Moves.{HostMoves, IsHeard, heard_without, host_moves, named, queue_found}
 use Rattle.machine_model.proofs.Owned.{HoldsPart}

@@ -8,13 +8,13 @@ use Rattle.machine_model.specs.After as a
 use Rattle.machine_model.specs.Agreeing.{SidesAgree}
 use Rattle.machine_model.specs.Claims.{HasOneOwner, IsSound}
 use Rattle.machine_model.specs.Events as events
-use Rattle.machine_model.specs.Recovering.{CanRecover}
+use Rattle.machine_agreement.specs.Recovering.{CanRecover}
 use Rattle.machine_model.specs.Refusals.{refusal_of}
 use Rattle.machine_model.specs.State.{HostQueue, DeviceQueue}
 use Rattle.machine_model.specs.Step.{Step}
-use Rattle.machine_model.proofs.Agreeing.{reset_recovers}
+use Rattle.machine_agreement.proofs.Agreeing.{reset_recovers}
 use Rattle.machine_model.proofs.Counting.{held_once}
-use Rattle.machine_model.proofs.Recovered.{recovery_kept}
+use Rattle.machine_agreement.proofs.Recovered.{recovery_kept}
 use Rattle.page_ledger.specs.Owners.{is_among}
 use Rattle.page_memory.specs.Pages.{byte_at}
 use Rattle.two_sides.specs.Deletions.{CompletionsServe}

@@ -10,7 +10,7 @@ use Rattle.host_core.specs.Alone.{alone}
 use Rattle.machine_model.specs.Refusals.{entry_of, first_answer, in_service, is_reaped, seen_entry, slot_bytes, slot_entry}
 use Rattle.machine_model.specs.State.{HostQueue, DeviceQueue}
 use Rattle.machine_model.proofs.Moves.{seen_trusted}
-use Rattle.machine_model.proofs.Slots.{answers_stand}
+use Rattle.machine_agreement.proofs.Slots.{answers_stand}
 use Rattle.page_memory.specs.Memory.{Memory}
 use Rattle.page_memory.specs.Pages.{byte_at}
 use Rattle.page_memory.specs.declared.page.Half.TheVariants.{Completion}

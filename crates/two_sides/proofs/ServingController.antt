@@ -18,9 +18,9 @@ use Rattle.machine_model.specs.State.{State, HostQueue, DeviceQueue, Record}
 use Rattle.machine_model.specs.Step.{IsController}
 use Rattle.machine_model.proofs.Awaited.{awaited_at}
 use Rattle.machine_model.proofs.Counting.{one}
-use Rattle.machine_model.proofs.DeviceMoves.{answer_of, answers, complete_by, fetch_by, finished, walk_by}
+use Rattle.machine_agreement.proofs.DeviceMoves.{answer_of, answers, complete_by, fetch_by, finished, walk_by}
 use Rattle.machine_model.proofs.Managed.{absent_state, managed_by}
-use Rattle.machine_model.proofs.Placing.{taken_entry, waiting, waiting_other}
+use Rattle.machine_agreement.proofs.Placing.{taken_entry, waiting, waiting_other}
 use Rattle.machine_model.proofs.Steps.{Accepts}
 use Rattle.machine_model.proofs.Tokens.{named}
 use Rattle.machine_model.proofs.TokensKept.{device_same}

@@ -23,10 +23,10 @@ use Rattle.machine_model.proofs.Awaited.{at_other, awaited_at}
 use Rattle.machine_model.proofs.AwaitedKept.{asked_as_heard}
 use Rattle.machine_model.proofs.Moves.{creates_cq, creates_sq, half_from, host_moves}
 use Rattle.machine_model.proofs.Owned.{HoldsPart, holds_from_sound}
-use Rattle.machine_model.proofs.Placing.{waiting}
+use Rattle.machine_agreement.proofs.Placing.{waiting}
 use Rattle.machine_model.proofs.Refused.{unrefused}
 use Rattle.machine_model.proofs.Resetting.{reset_state}
-use Rattle.machine_model.proofs.Standing.{io_other}
+use Rattle.machine_agreement.proofs.Standing.{io_other}
 use Rattle.machine_model.proofs.Steps.{Accepts}
 use Rattle.two_sides.specs.Deletions.{AreBefore, asks_cq_deletion, asks_sq_deletion}
 use Rattle.two_sides.proofs.KeptServing.{Serve, ServeS, before_last, before_more, keeps_at, keeps_still, live_keeps_at, posted_by, posted_on, serve_host, serve_other, serve_posted, serve_ring, serve_same, still_awaited}

@@ -16,7 +16,7 @@ use Rattle.entry_codec.specs.declared.submission.SubEntry.{SubEntry}
 use Rattle.machine_model.specs.Agreeing.{EntryKnown}
 use Rattle.machine_model.specs.Refusals.{is_making_cq, next_rung}
 use Rattle.machine_model.specs.State.{HostQueue}
-use Rattle.machine_model.proofs.Placing.{taken_entry}
+use Rattle.machine_agreement.proofs.Placing.{taken_entry}
 use Rattle.queue_pair.specs.Rings.{fresh_host_ring}
 use Rattle.two_sides.specs.Sides.{Sides, state_of}
 use Rattle.two_sides.specs.Ties.{IsWorld}

@@ -12,12 +12,12 @@ use Rattle.machine_model.specs.Agreeing.{SidesAgree, answered_well, answering, c
 use Rattle.machine_model.specs.Refusals.{is_gone, is_live}
 use Rattle.machine_model.specs.State.{State, Answer, HostQueue, DeviceQueue, Record}
 use Rattle.machine_model.specs.declared.words.Work.TheVariants.{Management}
-use Rattle.machine_model.proofs.Agreed.{agreed_there}
-use Rattle.machine_model.proofs.Agreeing.{stood_of}
+use Rattle.machine_agreement.proofs.Agreed.{agreed_there}
+use Rattle.machine_agreement.proofs.Agreeing.{stood_of}
 use Rattle.machine_model.proofs.Counting.{one}
 use Rattle.machine_model.proofs.Moves.{IsHeard, answer_heard}
-use Rattle.machine_model.proofs.Standing.{admin_zero, answering_rest}
-use Rattle.machine_model.proofs.Tied.{deleted_is_gone, freed_is_gone}
+use Rattle.machine_agreement.proofs.Standing.{admin_zero, answering_rest}
+use Rattle.machine_agreement.proofs.Tied.{deleted_is_gone, freed_is_gone}
 use Rattle.machine_model.proofs.Tokens.{kind_known}
 use Rattle.two_sides.specs.Sides.{Sides, state_of}
 use Rattle.two_sides.specs.Ties.{IsWorld}

@@ -17,7 +17,7 @@ use Rattle.host_core.proofs.Slots.{page-written}
 use Rattle.io_commands.specs.Jobs.{course_of_walk}
 use Rattle.machine_model.specs.After.{page_bytes}
 use Rattle.machine_model.specs.State.{State, Job}
-use Rattle.machine_model.proofs.DeviceMoves.{unit_bytes, unit_memory}
+use Rattle.machine_agreement.proofs.DeviceMoves.{unit_bytes, unit_memory}
 use Rattle.machine_model.proofs.Parts.{in_store, in_store-with_bytes}
 use Rattle.page_memory.specs.Memory.{Memory, bytes_at, pages_reached, page_of, written}
 use Rattle.page_memory.specs.Pages.{Pages, page_at, byte_at, AreWhole, IsPool}

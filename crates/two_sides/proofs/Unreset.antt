@@ -6,7 +6,7 @@ use Rattle.machine_model.specs.Events as events
 use Rattle.machine_model.specs.Events.{Event, Reply}
 use Rattle.machine_model.specs.State.{State}
 use Rattle.machine_model.specs.Step.{resets}
-use Rattle.machine_model.proofs.NeverRestored.{reset_leaves}
+use Rattle.machine_agreement.proofs.NeverRestored.{reset_leaves}
 use Rattle.page_memory.specs.Pages.{Pages}
 
 pub never_alone : (v v' : HostView) (pages pages' : Pages) (reply : Reply) → HostStep v pages events.Reset reply v' pages' → ⊥

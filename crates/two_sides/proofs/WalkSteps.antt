@@ -26,13 +26,13 @@ use Rattle.machine_model.specs.Refusals.{job_at, refusal_of}
 use Rattle.machine_model.specs.State.{State, DeviceQueue, Job, Record, is_at, pages_of}
 use Rattle.machine_model.specs.Step.{Permits, unit_answered}
 use Rattle.machine_model.specs.declared.words.Refusal.TheVariants as refusal
-use Rattle.machine_model.proofs.CommandsAll.{Walking, walk_writes}
-use Rattle.machine_model.proofs.DeviceMoves.{unit_bytes, unit_done, unit_memory, walk_is}
+use Rattle.machine_agreement.proofs.CommandsAll.{Walking, walk_writes}
+use Rattle.machine_agreement.proofs.DeviceMoves.{unit_bytes, unit_done, unit_memory, walk_is}
 use Rattle.machine_model.proofs.Parts.{in_store}
 use Rattle.machine_model.proofs.Placed.{is_job}
-use Rattle.machine_model.proofs.Pools.{reads_the_pool}
-use Rattle.machine_model.proofs.Served.{data_of}
-use Rattle.machine_model.proofs.WalksKept.{ListsStay, stay_walk}
+use Rattle.machine_agreement.proofs.Pools.{reads_the_pool}
+use Rattle.machine_agreement.proofs.Served.{data_of}
+use Rattle.machine_agreement.proofs.WalksKept.{ListsStay, stay_walk}
 use Rattle.page_ledger.specs.Owners.{is_among}
 use Rattle.page_memory.specs.Memory.{Memory}
 use Rattle.page_memory.specs.Pages.{Pages, byte_at, page_at, AreWhole}

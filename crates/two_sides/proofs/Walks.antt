@@ -14,10 +14,10 @@ use Rattle.io_commands.specs.Jobs.{JobContents, job_course, course_of_walk, dire
 use Rattle.machine_model.specs.After.{course_of}
 use Rattle.machine_model.specs.Memory.{memory_of}
 use Rattle.machine_model.specs.State.{State, Job}
-use Rattle.machine_model.proofs.Agreeing.{stood_of}
-use Rattle.machine_model.proofs.Members.{all_indexed, all_at, in_at}
-use Rattle.machine_model.proofs.Served.{Stood, job_list, serves_in, course_in, course_ends}
-use Rattle.machine_model.proofs.WalksKept.{ListsStay}
+use Rattle.machine_agreement.proofs.Agreeing.{stood_of}
+use Rattle.machine_agreement.proofs.Members.{all_indexed, all_at, in_at}
+use Rattle.machine_agreement.proofs.Served.{Stood, job_list, serves_in, course_in, course_ends}
+use Rattle.machine_agreement.proofs.WalksKept.{ListsStay}
 use Rattle.page_memory.specs.Memory.{Memory}
 use Rattle.page_memory.specs.Pages.{Pages}
 use Rattle.two_sides.specs.Sides.{Sides, state_of, job_of}

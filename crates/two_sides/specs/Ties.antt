@@ -15,7 +15,7 @@ use Rattle.machine_model.specs.Agreeing.{SidesAgree}
 use Rattle.machine_model.specs.Always.{IsHostProvided}
 use Rattle.machine_model.specs.Claims.{IsSound}
 use Rattle.machine_model.specs.Memory.{memory_of}
-use Rattle.machine_model.specs.Recovering.{CanRecover}
+use Rattle.machine_agreement.specs.Recovering.{CanRecover}
 use Rattle.machine_model.specs.Refusals.{in_service, is_making_cq, is_reaped}
 use Rattle.machine_model.specs.State.{HostQueue}
 use Rattle.page_ledger.specs.Owners.{pages_from}

@@ -1,4 +1,4 @@
-use Rattle.machine_model.proofs.MadeRuns.{run_is_made}
+use Rattle.machine_agreement.proofs.MadeRuns.{run_is_made}
 use Rattle.step_core.proofs.Lawful.{makes_trusted_run}
 use Rattle.step_core.proofs.RunsOf.{runs_of}
 use Rattle.step_core.proofs.laws.law_of_benches.Goals as goal

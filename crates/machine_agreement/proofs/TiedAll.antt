@@ -1,0 +1,227 @@
+-- Every event keeps the tie of both sides and the tokens, so it fetches and completes in what is allowed only.
+use Rattle.std.proofs.Common.{◌≡◌, ℕ, zero, suc, ◌+◌, ◌<◌, ◌≤◌, ◌==◌, Bool, true, false, not, ◌||◌, Option, Some, None, List, [], length, replicate, slice_get, is_some, is_none, if◌then◌else◌, eqb-true, refl, ap, sym, ◌∙◌, arith, subst}
+use Rattle.std.specs.Option.{option_map_or}
+use Rattle.std.proofs.lemmas.Bool.{true≢false, and_parts, or_parts}
+use Rattle.page_memory.specs.declared.page.Half.TheVariants.{Submission, Completion}
+use Rattle.entry_codec.specs.declared.completion.ComEntry.{ComEntry}
+use Rattle.io_commands.specs.Jobs.{is_success}
+use Rattle.queue_pair.specs.Memory.{half_pages}
+use Rattle.queue_pair.specs.Rings.{next_tail, next_head, knowing}
+use Rattle.machine_model.specs.Claims.{AdminLives}
+use Rattle.machine_model.specs.State.{State, HostQueue, Job}
+use Rattle.machine_model.specs.declared.words.HostState.{HostState}
+use Rattle.machine_model.specs.declared.words.HostState.TheVariants.{Live, Deleting}
+use Rattle.machine_model.specs.Refusals.{is_live, is_gone, job_at, refusal_of, is_job}
+use Rattle.machine_model.specs.Step.{HostPart, host_part, IsController}
+use Rattle.machine_model.specs.After as a
+use Rattle.queue_pair.specs.Members.{change}
+use Rattle.machine_model.specs.Events as events
+use Rattle.machine_model.specs.Events.{Event, Reply}
+use Rattle.machine_model.specs.Opening.{Opens, opening, queues_from, device_queue as opened}
+use Rattle.machine_model.specs.Agreeing.{TokensGoRound, is_known_deleted, is_live_at, waiting, answering, is_absent_at as gone_at, has_completions_at as there_at, QueuesFit as Paired}
+use Rattle.machine_model.specs.Weights.{one, total}
+use Rattle.machine_model.proofs.Steps.{Accepts, part_controller}
+use Rattle.machine_model.proofs.Owned.{HoldsPart}
+use Rattle.machine_model.proofs.Placed.{find_sound}
+use Rattle.machine_agreement.proofs.Standing.{StandsSound, stands_event}
+use Rattle.machine_model.proofs.Asked.{asks, asked_event, asked_at, opened_quiet}
+use Rattle.machine_model.proofs.AwaitedKept.{submissions_awaited}
+use Rattle.machine_model.proofs.Awaited.{awaited_at}
+use Rattle.machine_agreement.proofs.Tying.{tie_of, length-change}
+use Rattle.machine_agreement.proofs.Tied.{FitP, FitS, TieP, below, deleted_is_gone, tie_fetch, tie_walk, tie_complete}
+use Rattle.machine_agreement.proofs.TiedHost.{TieS, Ground, tie_host_event}
+use Rattle.machine_model.proofs.TokensKept.{tokens_of, tokens_to}
+use Rattle.machine_agreement.proofs.TokensDevice.{KnowingP, TokensP, tokens_fetch, tokens_walk, tokens_complete}
+use Rattle.machine_agreement.proofs.TokensAll.{TokensS, tokens_host_event}
+use Rattle.machine_model.proofs.Emptied.{same_length}
+use Rattle.machine_model.proofs.Resetting.{reset_length}
+use Rattle.machine_model.proofs.Moves.{host_moves, half_from, grants_cq, grants_sq}
+use Rattle.machine_model.proofs.Opening.{in_limits, limits_say, length-range}
+use Rattle.machine_agreement.proofs.Trusted.{both_on}
+use Rattle.machine_model.proofs.Refused.{unrefused}
+
+-- What the tokens say of a live queue
+
+pub live_is_there : (s : State) → FitS s → (q : ℕ) (x : HostQueue) → slice_get s.host.queues q ≡ Some x → is_live x.state ≡ true → gone_at s.device.queues q ≡ false
+live_is_there s h q x e live =
+    let known : is_live_at s.host.queues q ≡ true = ap (λ (o : Option HostQueue). option_map_or (λ h. is_live h.state) o false) e ∙ live in
+    h.tokens.there q (below s.host.queues q (ap is_some e)) (omega (arith, ap one known))
+
+ground : (s : State) → s.trusted ≡ true → AdminLives s.host.queues → HoldsPart (host_part s) → FitS s → Ground s
+ground s t zero' holds h = record { trusted = t; holds = holds; zero_live = zero'; live = live_is_there s h; over = deleted_is_gone s h }
+
+known : (s : State) → StandsSound s → FitS s → KnowingP s.host.records s.host.queues s.device
+known s h f = record {
+  placed = h.1.placed;
+  once = h.0.once;
+  few = f.few;
+  long = same_length s.entries s.host.queues s.device.queues f.pairs;
+  asked = f.asked;
+  making = submissions_awaited s.host h.0.creations;
+}
+
+-- Each event
+
+pub whole : (s : State) → 0 < s.entries → length s.host.queues ≤ 65536 → ((q : ℕ) → total (asks q) s.host.records ≡ one (asked_at s.host.queues q)) → TieS s → TokensS s → FitS s
+whole s pos few asked tie held = record {
+  some_entries = pos;
+  few = few;
+  asked = asked;
+  pairs = tie.pairs;
+  jobs = tie.jobs;
+  service = tie.service;
+  tokens = tokens_to s.host.records s.host.queues s.device.queues s.device.jobs held;
+}
+
+-- how many queues and entries there are stays
+pub limits_stay : (n : ℕ) (s : State) (e : Event) (reply : Reply) → Accepts s e reply → IsController e ≡ false → (0 < s.entries) × (length s.host.queues ≡ n) → (0 < (a.after s e reply).entries) × (length (a.after s e reply).host.queues ≡ n)
+limits_stay n s e reply ok c h =
+    host_moves (λ (e : Event) (reply : Reply) (t : State). (0 < t.entries) × (length t.host.queues ≡ n)) s e reply ok c
+    (record {
+      reserves = λ q request d none is. h;
+      submits = λ d entry r none built its live. (h.0, few d.q (λ x. record x { ring = next_tail s.entries x.ring }) s.host.queues h.1);
+      cancels = λ d r its. h;
+      rings = λ q none. h;
+      rests = λ q is. h;
+      rejects = λ q why is. (h.0, few q (λ x. record x { ring = next_head s.entries x.ring }) s.host.queues h.1);
+      tells = λ q cid st what e r request told heard w. (h.0, heard_few q e);
+      hears = λ q cid st what e r adm told heard w quiet unmade. (h.0, heard_few q e);
+      notes = λ q cid st what e r k told heard w. (h.0, few k (λ queue. record queue { state = if is_success st then Deleting true else Live }) (a.heard q e s).host.queues (heard_few q e));
+      frees = λ q cid st what e r k queue told heard w at alone good. (h.0, few k a.gone (a.heard q e s).host.queues (heard_few q e));
+      makes_cq = λ q cid st what e r k size base told heard w good. (h.0, few k a.half_made (a.heard q e s).host.queues (heard_few q e));
+      unmakes_cq = λ q cid st what e r k size base queue told heard w at bad. (h.0, few k a.gone (a.heard q e s).host.queues (heard_few q e));
+      makes_sq = λ q cid st what e r k size base told heard w good. (h.0, few k a.live (a.heard q e s).host.queues (heard_few q e));
+      unmakes_sq = λ q cid st what e r k size base queue told heard w at bad. (h.0, few k a.unmade_sq (a.heard q e s).host.queues (heard_few q e));
+      collects = λ q cid r f at held is. h;
+      releases = λ f r its. h;
+      aborts = λ q cid id none new. (h.0, few 0 (λ x. record x { ring = next_tail s.entries x.ring }) s.host.queues h.1);
+      asks = λ q id queue none new live. (h.0, few q a.deleting (a.on_ring 0 (next_tail s.entries) s).host.queues (few 0 (λ x. record x { ring = next_tail s.entries x.ring }) s.host.queues h.1));
+      drops = λ q id none new. (h.0, few 0 (λ x. record x { ring = next_tail s.entries x.ring }) s.host.queues h.1);
+      creates_cqs = λ q id first queue none new granted. (h.0, few 0 (λ x. record x { ring = next_tail s.entries x.ring }) (grants_cq q first s).host.queues (few q (a.making_cq (half_from Completion first s)) s.host.queues h.1));
+      creates_sqs = λ q id first queue none new granted. (h.0, few 0 (λ x. record x { ring = next_tail s.entries x.ring }) (grants_sq q first s).host.queues (few q (a.making_sq (half_from Submission first s)) s.host.queues h.1));
+      retires = λ q queue none at deleted. (h.0, few q a.retired s.host.queues h.1);
+      forges = λ q slot bytes queue none at. h;
+      resets = (h.0, reset_length s.host.queues ∙ h.1);
+    })
+  where
+    few : (k : ℕ) (f : HostQueue → HostQueue) (hs : List HostQueue) → length hs ≡ n → length (change k f hs) ≡ n
+    few k f hs l = length-change k f hs ∙ l
+
+    heard_few : (q : ℕ) (e : ComEntry) → length (a.heard q e s).host.queues ≡ n
+    heard_few q e = length-change q (λ x. record x { ring = knowing e.sqhd x.ring }) (a.consumed q s).host.queues ∙ length-change q (λ x. record x { ring = next_head s.entries x.ring }) s.host.queues ∙ h.1
+
+-- of the controller
+by_controller : (s : State) (e : Event) (reply : Reply) → IsController e ≡ true → FitS s → TieP (host_part s) (a.after s e reply).device → TokensP s.host.records s.host.queues (a.after s e reply).device → FitS (a.after s e reply)
+by_controller s e reply c f tie held =
+    subst (λ (part : HostPart). FitP part (a.after s e reply).device) (sym (part_controller s e reply c))
+    (record {
+      some_entries = f.some_entries;
+      few = f.few;
+      asked = f.asked;
+      pairs = tie.pairs;
+      jobs = tie.jobs;
+      service = tie.service;
+      tokens = tokens_to s.host.records s.host.queues (a.after s e reply).device.queues (a.after s e reply).device.jobs held;
+    })
+
+-- of the host
+by_host : (s : State) (e : Event) (reply : Reply) → Accepts s e reply → IsController e ≡ false → s.trusted ≡ true → AdminLives s.host.queues → StandsSound s → FitS s → FitS (a.after s e reply)
+by_host s e reply ok c t zero' h f =
+    let g = ground s t zero' h.0 f in
+    let tie = tie_host_event s e reply ok c g (tie_of s.entries s.host.records s.host.queues s.device.queues s.device.jobs f) in
+    let held = tokens_host_event s e reply ok c t f.few (same_length s.entries s.host.queues s.device.queues f.pairs) h.0 h.1 (stands_event s e reply ok t h) (tokens_of s.host.records s.host.queues s.device.queues s.device.jobs f.tokens) in
+    let limits = limits_stay (length s.host.queues) s e reply ok c (f.some_entries, refl) in
+    whole (a.after s e reply) limits.0 (subst (λ (k : ℕ). k ≤ 65536) (sym limits.1) f.few) (asked_event s e reply ok c h.0 f.asked) tie held
+
+-- a job that is walked is no admin command's
+walked : (s : State) (q cid : ℕ) → refusal_of s (events.Walk q cid) ≡ None → TokensP s.host.records s.host.queues s.device → TokensP s.host.records s.host.queues (a.after_walk q cid s).device
+walked s q cid none h = tokens_walk s.host.records s.host.queues q cid s (go (job_at s q cid) refl (unrefused s (events.Walk q cid) none).0 (unrefused s (events.Walk q cid) none).1.0) h
+  where
+    go : (o : Option Job) → job_at s q cid ≡ o → is_none o ≡ false → option_map_or (λ j. is_some j.verdict || (j.q == 0)) o false ≡ false → (q == 0) ≡ false
+    go None e there nothing = absurd (true≢false there)
+    go (Some j) e there nothing =
+        let at = and_parts (j.q == q) (j.entry.cid == cid) (find_sound (is_job q cid) s.device.jobs j e) in
+        ap (λ (k : ℕ). k == 0) (sym (eqb-true j.q q at.0)) ∙ (or_parts (is_some j.verdict) (j.q == 0) nothing).1
+
+fit_event : (s : State) (e : Event) (reply : Reply) → Accepts s e reply → s.trusted ≡ true → AdminLives s.host.queues → StandsSound s → FitS s → FitS (a.after s e reply)
+fit_event s (events.Fetch q) (events.Fetched c touched) ok t z h f =
+    by_controller s (events.Fetch q) (events.Fetched c touched) refl f (tie_fetch (host_part s) q s (tie_of s.entries s.host.records s.host.queues s.device.queues s.device.jobs f))
+    (tokens_fetch s.host.records s.host.queues q s (known s h f) (tokens_of s.host.records s.host.queues s.device.queues s.device.jobs f.tokens))
+fit_event s (events.Walk q cid) (events.Walked o touched) ok t z h f =
+    by_controller s (events.Walk q cid) (events.Walked o touched) refl f (tie_walk (host_part s) q cid s (tie_of s.entries s.host.records s.host.queues s.device.queues s.device.jobs f))
+    (walked s q cid ok.0 (tokens_of s.host.records s.host.queues s.device.queues s.device.jobs f.tokens))
+fit_event s (events.Complete q cid) (events.Completed touched) ok t z h f =
+    by_controller s (events.Complete q cid) (events.Completed touched) refl f (tie_complete (host_part s) q cid s ok.0 (tie_of s.entries s.host.records s.host.queues s.device.queues s.device.jobs f))
+    (tokens_complete s.host.records s.host.queues q cid s ok.0 (known s h f) (tokens_of s.host.records s.host.queues s.device.queues s.device.jobs f.tokens))
+fit_event s (events.Fetch q) reply ok t z h f = absurd ok.1
+fit_event s (events.Walk q cid) reply ok t z h f = absurd ok.1
+fit_event s (events.Complete q cid) reply ok t z h f = absurd ok.1
+fit_event s e reply ok t z h f = by_host s e reply ok refl t z h f
+
+pub all_on : (s : State) (e : Event) (reply : Reply) → Accepts s e reply → s.trusted ≡ true → AdminLives s.host.queues → StandsSound s × FitS s → StandsSound (a.after s e reply) × FitS (a.after s e reply)
+all_on s e reply ok t z h = (both_on s e reply ok t h.0, fit_event s e reply ok t z h.0 h.1)
+
+-- As it opens
+
+opened_pairs : (page n count : ℕ) → Paired n (queues_from page n count) (replicate count opened)
+opened_pairs page n zero = tt
+opened_pairs page n (suc count) = (
+  record {
+    sub = λ o. length-range page (half_pages n Submission);
+    comp = λ o. length-range (page + half_pages n Submission) (half_pages n Completion);
+    half = λ o. refl;
+    emptied = λ o. refl;
+    unfetched = λ o. refl;
+    answers = λ o. refl;
+    fresh = λ o. refl;
+  },
+  opened_pairs (page + half_pages n Submission + half_pages n Completion) n count,
+)
+
+opened_length : (page n count : ℕ) → length (queues_from page n count) ≡ count
+opened_length page n zero = refl
+opened_length page n (suc count) = ap suc (opened_length (page + half_pages n Submission + half_pages n Completion) n count)
+
+opened_state : (test : HostState → Bool) → test Live ≡ false → (page n count q : ℕ) → awaited_at test (queues_from page n count) q ≡ false
+opened_state test live page n zero q = refl
+opened_state test live page n (suc count) zero = live
+opened_state test live page n (suc count) (suc q) = opened_state test live (page + half_pages n Submission + half_pages n Completion) n count q
+
+small : (b : Bool) → one b ≤ 1
+small true = omega arith
+small false = omega arith
+
+opened_there : (count q : ℕ) → q < count → gone_at (replicate count opened) q ≡ false
+opened_there zero q l = absurd (omega (arith, l))
+opened_there (suc count) zero l = refl
+opened_there (suc count) (suc q) l = opened_there count q (omega (arith, l))
+
+opened_waiting : (count : ℕ) → (waiting (replicate count opened) ≡ []) × (answering (replicate count opened) ≡ [])
+opened_waiting zero = (refl, refl)
+opened_waiting (suc count) = (refl, refl)
+
+opened_tokens : (n count : ℕ) → TokensGoRound [] (queues_from 0 n count) (replicate count opened) []
+opened_tokens n count =
+    tokens_to [] (queues_from 0 n count) (replicate count opened) []
+    (rw ((opened_waiting count).0, (opened_waiting count).1)
+    (record {
+      submission = λ q. omega (arith, ap one (opened_state is_known_deleted refl 0 n count q), small (not (gone_at (replicate count opened) q)));
+      completion = λ q. omega (arith, ap one (opened_state is_gone refl 0 n count q), small (there_at (replicate count opened) q));
+      there = λ q inside some. opened_there count q (omega (arith, inside, opened_length 0 n count));
+    }))
+
+fit-opening : (pages queues n s : ℕ) (image : List ℕ) → 0 < n → queues < 65536 → FitS (opening pages queues n s image)
+fit-opening pages queues n s image pos few = record {
+  some_entries = pos;
+  few = omega (arith, opened_length 0 n (queues + 1));
+  asked = λ q. sym (ap one (opened_quiet 0 n (queues + 1) q));
+  pairs = opened_pairs 0 n (queues + 1);
+  jobs = λ q some. absurd (omega arith);
+  service = λ q some. absurd (omega arith);
+  tokens = opened_tokens n (queues + 1);
+}
+
+pub fit_limits : (pages queues n s : ℕ) (image : List ℕ) → Opens pages queues n s → FitS (opening pages queues n s image)
+fit_limits pages queues n s image opens =
+    let limits = in_limits pages queues n s opens in
+    fit-opening pages queues n s image (limits_say pages queues n s limits).0 (limits_say pages queues n s limits).1

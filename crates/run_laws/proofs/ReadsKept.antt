@@ -1,0 +1,421 @@
+-- Each event keeps what is known of a Read.
+use Rattle.std.proofs.Common.{◌≡◌, ℕ, ◌+◌, ◌*◌, ◌/◌, ◌<◌, ◌≤◌, ◌==◌, nat_lt, Bool, true, false, not, ◌&&◌, ◌||◌, Option, Some, None, List, [], ◌∷◌, ◌++◌, length, take, drop, slice_get, is_some, is_none, if◌then◌else◌, refl, ap, sym, ◌∙◌, arith, subst, eqb-true, eq-eqb}
+use Rattle.std.specs.Option.{option_map_or, option_map}
+use Rattle.std.specs.Prelude.{unwrap_or}
+use Rattle.std.specs.List.{AllByRecursion}
+use Rattle.std.proofs.lemmas.Bool.{true≢false, and_parts, and_from}
+use Rattle.std.proofs.lemmas.Bool.Decides.{nat_tests}
+use Rattle.std.proofs.lemmas.Grind.{common_steps}
+use Rattle.block_image.specs.Blocks.{blocks_at}
+use Rattle.sgl_descriptor.specs.declared.Direction.{Direction}
+use Rattle.sgl_descriptor.specs.declared.Direction.TheVariants.{Destination}
+use Rattle.sgl_descriptor.specs.Spelling.{spelling}
+use Rattle.sgl_descriptor.specs.Targets.{Target, targets, counted_in}
+use Rattle.sgl_descriptor.proofs.Counts.{length-targets}
+use Rattle.controller_walk.specs.Units.{Course, units, first_passing}
+use Rattle.controller_walk.specs.Along.{MovesByte}
+use Rattle.controller_walk.proofs.All.{list_moves_all}
+use Rattle.entry_codec.specs.declared.submission.SubEntry.{SubEntry}
+use Rattle.entry_codec.specs.declared.status.Status.{Status}
+use Rattle.entry_codec.specs.declared.status.TheConstants.Status.{SUCCESS, INVALID_OPCODE, INVALID_FIELD, INVALID_NAMESPACE, LBA_OUT_OF_RANGE}
+use Rattle.io_commands.specs.Asked.{Request}
+use Rattle.io_commands.specs.declared.request.Kind.{Kind}
+use Rattle.io_commands.specs.declared.request.Kind.TheVariants.{Read}
+use Rattle.io_commands.specs.Requests.{parts_of, direction_of}
+use Rattle.io_commands.specs.Drafts.{DraftContents, io_entry}
+use Rattle.io_commands.specs.Jobs as jobs
+use Rattle.io_commands.specs.Jobs.{is_success, verdict_of, io_fault, bytes_after_check, need_of_entry, direction_of_entry, direction_by, kind_of_opcode, first_block, block_number}
+use Rattle.io_commands.proofs.Spelled.{carries_entry}
+use Rattle.machine_model.specs.Proper.{IsProper}
+use Rattle.machine_model.specs.Memory.{memory_of}
+use Rattle.machine_model.specs.declared.words.Work.TheVariants.{Io}
+use Rattle.machine_model.specs.State.{State, DeviceQueue, Record, Job}
+use Rattle.machine_model.specs.declared.words.Phase.{Phase}
+use Rattle.machine_model.specs.declared.words.Phase.TheVariants.{Drafted, Submitted, Held, Collected}
+use Rattle.machine_model.specs.Refusals.{is_submitted, is_drafted, is_held, next_rung, refusal_of, job_at, is_job}
+use Rattle.machine_model.specs.Image.{submitted_by}
+use Rattle.run_laws.specs.Statuses.{fetches_by}
+use Rattle.machine_model.specs.Standing.{unfetched_at, HasEntry, StandsAs}
+use Rattle.machine_model.specs.After as a
+use Rattle.machine_model.specs.After.{course_of, final_status}
+use Rattle.machine_model.specs.Events as events
+use Rattle.machine_model.specs.Events.{Event, Reply}
+use Rattle.machine_model.specs.Weights.{one, total}
+use Rattle.machine_model.proofs.Steps.{Accepts}
+use Rattle.machine_model.proofs.Placed.{find_sound}
+use Rattle.machine_agreement.proofs.Members.{In, in_at, in_found, all_at_found, all_in, all_drop_one, all_append, sent_found}
+use Rattle.machine_model.proofs.Lists.{all_at}
+use Rattle.machine_agreement.proofs.PlacesKept.{running_not_past}
+use Rattle.machine_agreement.proofs.Placements.{InHand, in_hand, first_is}
+use Rattle.machine_model.proofs.Refused.{pages_match}
+use Rattle.machine_agreement.proofs.Commanding.{in_hand_is}
+use Rattle.machine_agreement.proofs.Entered.{entry_direction, parts_count}
+use Rattle.machine_agreement.proofs.Served.{Stood, JobList, job_list, course_whole}
+use Rattle.machine_model.specs.Agreeing.{unfetched_count}
+use Rattle.machine_agreement.proofs.Queues.{list_at}
+use Rattle.run_laws.proofs.Caused.{goes_well}
+use Rattle.machine_agreement.proofs.HeadsAll.{no_conflict as not_conflicting}
+use Rattle.run_laws.proofs.CausedKept.{none_found}
+use Rattle.run_laws.proofs.EveryStatus.{has_verdict}
+use Rattle.run_laws.proofs.Images.{entry_kind, entry_block}
+use Rattle.run_laws.proofs.Compares.{entry_blocks}
+use Rattle.run_laws.proofs.Known.{same_draft, submit_record}
+use Rattle.run_laws.proofs.KnownJobs.{course_stays, fault_fails}
+use Rattle.run_laws.proofs.Ordered.{reach, list_ordered, all_reached}
+use Rattle.run_laws.proofs.Received.{Received, received_still}
+use Rattle.run_laws.proofs.RecordsMove.{takes}
+use Rattle.run_laws.proofs.JobsMove.{JobsMove, jobs_event, begun_job}
+use Rattle.run_laws.proofs.QueuesMove.{QueueMove, queues_event}
+use Rattle.run_laws.proofs.Reading.{Images, fetched_in, read_targets, read_blocks, Full, Reading, ReadingIf, UnreadEntry, FullAnswer, InImage, ReadSoFar, Member, sized_of, queue_of, walks_it, pages_stay, places_stay}
+
+-- The identifier of a record that stays
+
+-- no draft of it is submitted
+pub no_draft : (s : State) (e : Event) (reply : Reply) → Accepts s e reply → (r : Record) → Member s r → (is_submitted r.phase || is_held r.phase) ≡ true → (d : DraftContents) → e ≡ events.Submit d → ((d.q == r.q) && (d.cid == r.cid)) ≡ false
+no_draft s e reply ok r m stays d is = go ((d.q == r.q) && (d.cid == r.cid)) refl
+  where
+    none : refusal_of s (events.Submit d) ≡ None
+    none = subst (λ (x : Event). refusal_of s x ≡ None) is ok.0
+
+    quiet : (ph : Phase) → is_drafted ph ≡ true → (is_submitted ph || is_held ph) ≡ false
+    quiet Drafted e = refl
+    quiet Submitted e = absurd (true≢false (sym e))
+    quiet Held e = absurd (true≢false (sym e))
+    quiet Collected e = absurd (true≢false (sym e))
+
+    go : (b : Bool) → ((d.q == r.q) && (d.cid == r.cid)) ≡ b → ((d.q == r.q) && (d.cid == r.cid)) ≡ false
+    go false e = e
+    go true e =
+        let ids = and_parts (d.q == r.q) (d.cid == r.cid) e in
+        let x = submit_record s d none in
+        let same : r ≡ x.0 = m.only d.q d.cid x.0 x.1 (and_from (r.q == d.q) (r.cid == d.cid) (eq-eqb r.q d.q (sym (eqb-true d.q r.q ids.0))) (eq-eqb r.cid d.cid (sym (eqb-true d.cid r.cid ids.1)))) in
+        let drafted = (pages_match is_drafted d.request d.data_pages d.chain_pages x.0 x.2).1 in
+        absurd (true≢false (sym stays ∙ ap (λ (y : Record). is_submitted y.phase || is_held y.phase) same ∙ quiet x.0.phase drafted))
+
+-- where an entry of it is in hand, it is submitted
+pub in_hand_sent : (s : State) → Stood s → (r : Record) → Member s r → (q : ℕ) (e : SubEntry) → InHand s q e → q ≡ r.q → e.cid ≡ r.cid → is_submitted r.phase ≡ true
+in_hand_sent s stood r m q e hand sq sc =
+    let w : ℕ → ℕ = λ c. one (c == e.cid) in
+    let un : unfetched_count q w s.host.queues s.device.queues ≡ total (λ (x : SubEntry). w x.cid) (unfetched_at s.device.queues q) =
+    ap (λ (b : Bool). if b then 0 else total (λ (x : SubEntry). w x.cid) (unfetched_at s.device.queues q)) (running_not_past s stood.grounds q e hand) in
+    let mine : 1 ≤ total (λ (x : SubEntry). w x.cid) (unfetched_at s.device.queues q) =
+    subst (λ (xs : List SubEntry). 1 ≤ total (λ (x : SubEntry). w x.cid) xs) (sym (ap (λ (o : Option DeviceQueue). option_map_or (λ at. at.unfetched) o []) hand.at ∙ first_is hand.queue.unfetched e hand.first))
+    (omega (arith, ap one (eq-eqb e.cid e.cid refl))) in
+    let x = sent_found q e.cid s.host.records (omega (arith, un, mine, stood.places q w)) (stood.grounds.stands.0.once q e.cid) in
+    let same : r ≡ x.0 = m.only q e.cid x.0 x.1 (and_from (r.q == q) (r.cid == e.cid) (eq-eqb r.q q (sym sq)) (eq-eqb r.cid e.cid (sym sc))) in
+    ap (λ (y : Record). is_submitted y.phase) same ∙ x.2
+
+-- and nothing of it was read yet
+in_hand_unread : (s : State) (r : Record) (k q : ℕ) (e : SubEntry) → InHand s q e → q ≡ r.q → e.cid ≡ r.cid → AllByRecursion (UnreadEntry r k) (list_at (λ at. at.unfetched) s.device.queues r.q) → k ≡ 0
+in_hand_unread s r k q e hand sq sc all =
+    let here : AllByRecursion (UnreadEntry r k) hand.queue.unfetched =
+    subst (λ (o : Option DeviceQueue). AllByRecursion (UnreadEntry r k) (option_map_or (λ at. at.unfetched) o [])) hand.at (subst (λ (n : ℕ). AllByRecursion (UnreadEntry r k) (list_at (λ at. at.unfetched) s.device.queues n)) (sym sq) all) in
+    (subst (λ (xs : List SubEntry). AllByRecursion (UnreadEntry r k) xs) (first_is hand.queue.unfetched e hand.first) here).0 sc
+
+-- a fetch of its identifier is of its entry
+pub fetch_hand : (s : State) (e : Event) (reply : Reply) → Accepts s e reply → (q cid : ℕ) → fetches_by q cid e reply ≡ true → (entry : SubEntry) × InHand s q entry × (entry.cid ≡ cid) × (e ≡ events.Fetch q)
+fetch_hand s (events.Fetch q') (events.Fetched c touched) ok q cid is = go (next_rung s q') refl ok.1.0
+  where
+    ids : ((q' == q) ≡ true) × ((c == cid) ≡ true)
+    ids = and_parts (q' == q) (c == cid) is
+
+    go : (o : Option SubEntry) → next_rung s q' ≡ o → option_map (λ (x : SubEntry). x.cid) o ≡ Some c → (entry : SubEntry) × InHand s q entry × (entry.cid ≡ cid) × (events.Fetch q' ≡ events.Fetch q)
+    go None r h = absurd cc
+    go (Some entry) r h =
+        let same : entry.cid ≡ c = inside h in
+        (entry, subst (λ (n : ℕ). InHand s n entry) (eqb-true q' q ids.0) (in_hand s q' entry r), same ∙ eqb-true c cid ids.1, ap events.Fetch (eqb-true q' q ids.0))
+      where
+        inside : {x y : ℕ} → Some x ≡ Some y → x ≡ y
+        inside e = cc
+fetch_hand s e reply ok q cid is = absurd (true≢false (sym is))
+
+-- The image at its fetch
+
+same_image : (s : State) (e : Event) (reply : Reply) (at : Images) (q cid : ℕ) → fetches_by q cid e reply ≡ false → fetched_in s e reply at q cid ≡ at q cid
+same_image s e reply at q cid far = ap (λ (b : Bool). if b then s.device.image else at q cid) far
+
+own_image : (s : State) (e : Event) (reply : Reply) (at : Images) (q cid : ℕ) → fetches_by q cid e reply ≡ true → fetched_in s e reply at q cid ≡ s.device.image
+own_image s e reply at q cid is = ap (λ (b : Bool). if b then s.device.image else at q cid) is
+
+-- Jobs of a Read
+
+-- the job of a record's identifier is the record's
+pub job_request : (s : State) (r : Record) (request : Request) → Member s r → r.work ≡ Io request → (j : Job) (l : JobList s j) → j.q ≡ r.q → j.entry.cid ≡ r.cid → (r ≡ l.command) × (l.request ≡ request)
+job_request s r request m w j l sq sc =
+    let same : r ≡ l.command = m.only j.q j.entry.cid l.command l.found (and_from (r.q == j.q) (r.cid == j.entry.cid) (eq-eqb r.q j.q (sym sq)) (eq-eqb r.cid j.entry.cid (sym sc))) in
+    (same, asked (sym l.work ∙ ap (λ (x : Record). x.work) (sym same) ∙ w))
+  where
+    asked : {x y : Request} → Io x ≡ Io y → x ≡ y
+    asked e = cc
+
+-- the entry of a Read
+entry_reads : (cid : ℕ) (request : Request) (sgl1 : List ℕ) → request.kind ≡ Read → kind_of_opcode (io_entry cid request sgl1).opcode ≡ Some Read
+entry_reads cid request sgl1 kind = entry_kind cid request sgl1 ∙ ap (λ (k : Kind). Some k) kind
+
+pub blocks_length : (image : List ℕ) (slba n : ℕ) → slba + n ≤ length image / 512 → length (blocks_at image slba n) ≡ 512 * n
+blocks_length image slba n h = cut image (omega (arith, h))
+  where
+    cut : (xs : List ℕ) → 512 * slba + 512 * n ≤ length xs → length (take (512 * n) (drop (512 * slba) xs)) ≡ 512 * n
+    cut xs h = grind (arith, common_steps, h)
+
+-- how many targets a Read has
+pub targets_length : (s : State) (r : Record) (request : Request) → Member s r → r.work ≡ Io request → request.kind ≡ Read → length (read_targets r request) ≡ 512 * request.blocks
+targets_length s r request m w kind =
+    let sized = sized_of s r request m w in
+    length-targets Destination (parts_of request.pieces r.data_pages)
+    ∙ ap (λ (d : Direction). counted_in d (parts_of request.pieces r.data_pages)) (sym (ap direction_of kind))
+    ∙ parts_count request r.data_pages sized.good sized.pages
+
+-- a job that begins
+begun_reading : (s : State) (t : State) (at : Images) (r : Record) (request : Request) → Member s r → r.work ≡ Io request → request.kind ≡ Read → (q : ℕ) (e : SubEntry) (sgl1 : List ℕ) → e ≡ io_entry r.cid request sgl1
+    → at r.q r.cid ≡ s.device.image → (k : ℕ) → k ≡ 0 → length t.device.image ≡ length s.device.image → goes_well (io_fault (a.image_blocks s) e) ≡ true → Reading at t r request k (begun_job s q e)
+begun_reading s t at r request m w kind q e sgl1 is image k none same well = go (io_fault (a.image_blocks s) e) refl well
+  where
+    reads : kind_of_opcode e.opcode ≡ Some Read
+    reads = ap (λ (x : SubEntry). kind_of_opcode x.opcode) is ∙ entry_reads r.cid request sgl1 kind
+
+    first : first_block e ≡ request.slba
+    first = ap first_block is ∙ entry_block r.cid request sgl1
+
+    count : block_number e ≡ request.blocks
+    count = ap block_number is ∙ entry_blocks r.cid request sgl1 (sized_of s r request m w).good
+
+    some_none : {st : Status} → None ≡ Some st → ⊥
+    some_none e = cc
+
+    in_range : io_fault (a.image_blocks s) e ≡ None → nat_lt (a.image_blocks s) (first_block e + block_number e) ≡ false
+    in_range f = last (is_none (kind_of_opcode e.opcode)) (not (e.nsid == 1)) (not (e.fuse == 0) || not (e.psdt == 1)) (nat_lt 2048 (block_number e)) (nat_lt (a.image_blocks s) (first_block e + block_number e)) f
+      where
+        last : (a b c d f : Bool) → first_passing ((a, INVALID_OPCODE) ∷ (b, INVALID_NAMESPACE) ∷ (c, INVALID_FIELD) ∷ (d, INVALID_FIELD) ∷ (f, LBA_OUT_OF_RANGE) ∷ []) ≡ None → f ≡ false
+        last true b c d f h = absurd cc
+        last false true c d f h = absurd cc
+        last false false true d f h = absurd cc
+        last false false false true f h = absurd cc
+        last false false false false true h = absurd cc
+        last false false false false false h = refl
+
+    at_most : (b n : ℕ) → nat_lt b n ≡ false → n ≤ b
+    at_most b n h = grind (arith, nat_tests, h)
+
+    bytes : jobs.first_bytes s.device.image e (kind_of_opcode e.opcode) ≡ read_blocks at r request
+    bytes =
+        ap (jobs.first_bytes s.device.image e) reads
+        ∙ ap (λ (n : ℕ). blocks_at s.device.image n (block_number e)) first ∙ ap (λ (n : ℕ). blocks_at s.device.image request.slba n) count
+        ∙ ap (λ (x : List ℕ). blocks_at x request.slba request.blocks) (sym image)
+
+    go : (o : Option Status) → io_fault (a.image_blocks s) e ≡ o → goes_well o ≡ true → Reading at t r request k (a.new_job q e o 0 (bytes_after_check s.device.image e o))
+    go (Some st) f well = absurd (true≢false (sym well ∙ fault_fails (a.image_blocks s) e st f))
+    go None f well = record {
+      bytes = bytes;
+      long = ap length (ap (jobs.first_bytes s.device.image e) reads)
+          ∙ blocks_length s.device.image (first_block e) (block_number e) (at_most (a.image_blocks s) (first_block e + block_number e) (in_range f))
+          ∙ ap (λ (n : ℕ). 512 * n) count ∙ sym (targets_length s r request m w kind);
+      inside = omega (arith, at_most (a.image_blocks s) (first_block e + block_number e) (in_range f), first, count, same);
+      came = none;
+      over = λ st v. absurd (some_none v);
+    }
+
+-- a job that has done all its units has filled all places
+pub all_came : (s : State) → Stood s → (at : Images) (r : Record) (request : Request) → Member s r → r.work ≡ Io request → request.kind ≡ Read → (k : ℕ) (j : Job) (l : JobList s j) → j.q ≡ r.q → j.entry.cid ≡ r.cid
+    → (st : Status) → j.verdict ≡ Some st → Reading at s r request k j → Full (read_targets r request) k
+all_came s stood at r request m w kind k j l sq sc st v reading i p target =
+    let ids = job_request s r request m w j l sq sc in
+    let whole = course_whole s stood j l in
+    let dir : direction_of_entry j.entry ≡ Destination = ap direction_of_entry l.entry ∙ entry_direction l.command.cid l.request (spelling l.list.first) ∙ ap (λ (x : Request). direction_of x.kind) ids.1 ∙ ap direction_of kind in
+    let parts : parts_of request.pieces r.data_pages ≡ parts_of l.request.pieces l.command.data_pages =
+    ap (λ (x : Request). parts_of x.pieces r.data_pages) (sym ids.1) ∙ ap (λ (x : Record). parts_of l.request.pieces x.data_pages) ids.0 in
+    let moved : MovesByte i (course_of s j) =
+    list_moves_all (memory_of s.memory) j.entry.sgl1 (direction_of_entry j.entry) (need_of_entry j.entry) whole.ends i p
+    (ap (λ (ts : List Target). slice_get ts i) (whole.takes ∙ ap (targets (direction_of_entry j.entry)) (sym parts)) ∙ ap (λ (d : Direction). slice_get (targets d (parts_of request.pieces r.data_pages)) i) dir ∙ target) in
+    subst (λ (n : ℕ). i < n) (sym reading.came)
+    (all_reached 0 i (course_of s j) j.units_done (list_ordered (memory_of s.memory) j.entry.sgl1 (direction_of_entry j.entry) (need_of_entry j.entry)) moved (reading.over st v))
+
+-- an event that leaves a Read as far as it is
+pub record Quiet (s : State) (e : Event) (reply : Reply) (r : Record) (request : Request) : Type 0 where
+  pub ok : Accepts s e reply
+  pub proper : IsProper e
+  pub stood : Stood s
+  pub within : In r s.host.records
+  pub member : Member s r
+  pub stays : (is_submitted r.phase || is_held r.phase) ≡ true
+  pub still : walks_it e r ≡ false
+  pub work : r.work ≡ Io request
+  pub kind : request.kind ≡ Read
+  pub image : length (a.after s e reply).device.image ≡ length s.device.image
+
+-- where the record's identifier is fetched, k is 0, and its entry is in hand
+own_fetch : (s : State) (e : Event) (reply : Reply) (r : Record) (request : Request) (x : Quiet s e reply r request) (drafts : List DraftContents) (at : Images) (h : ReadSoFar drafts at s r request) → fetches_by r.q r.cid e reply ≡ true → h.k ≡ 0
+own_fetch s e reply r request x drafts at h is =
+    let f = fetch_hand s e reply x.ok r.q r.cid is in
+    in_hand_unread s r h.k r.q f.0 f.1 refl f.2 (h.unfetched (in_hand_sent s x.stood r x.member r.q f.0 f.1 refl f.2))
+
+-- where a job of the identifier is there, it isn't fetched
+no_fetch : (s : State) (e : Event) (reply : Reply) (r : Record) (request : Request) (x : Quiet s e reply r request) (k : ℕ) (j : Job) → slice_get s.device.jobs k ≡ Some j → j.q ≡ r.q → j.entry.cid ≡ r.cid → fetches_by r.q r.cid e reply ≡ false
+no_fetch s e reply r request x k j at sq sc = go (fetches_by r.q r.cid e reply) refl
+  where
+    go : (b : Bool) → fetches_by r.q r.cid e reply ≡ b → fetches_by r.q r.cid e reply ≡ false
+    go false is = is
+    go true is =
+        let f = fetch_hand s e reply x.ok r.q r.cid is in
+        let far : is_job r.q f.0.cid j ≡ false = all_at (λ y. is_job r.q f.0.cid y ≡ false) s.device.jobs k j at (none_found r.q f.0.cid s.device.jobs (not_conflicting s x.stood r.q f.0 f.1)) in
+        absurd (true≢false (sym (and_from (j.q == r.q) (j.entry.cid == f.0.cid) (eq-eqb j.q r.q sq) (eq-eqb j.entry.cid f.0.cid (sc ∙ sym f.2))) ∙ far))
+
+-- the entry in hand of a record's identifier is the record's
+own_entry : (s : State) (r : Record) (request : Request) → Member s r → r.work ≡ Io request → is_submitted r.phase ≡ true → (q : ℕ) (e : SubEntry) → InHand s q e → q ≡ r.q → e.cid ≡ r.cid → (sgl1 : List ℕ) × (e ≡ io_entry r.cid request sgl1)
+own_entry s r request m w sub q e hand sq sc =
+    let list = (subst (StandsAs s.memory s.device.queues s.device.jobs r) w m.stands).1 sub in
+    (spelling list.first, in_hand_is s q e hand r.cid (io_entry r.cid request (spelling list.first)) (subst (λ (n : ℕ). HasEntry s.device.queues s.device.jobs n r.cid (io_entry r.cid request (spelling list.first))) (sym sq) list.entry) sc)
+
+quiet_jobs : (s : State) (e : Event) (reply : Reply) (r : Record) (request : Request) (x : Quiet s e reply r request) (drafts : List DraftContents) (at : Images) (h : ReadSoFar drafts at s r request) → is_submitted r.phase ≡ true
+    → JobsMove (ReadingIf at s r request h.k) (ReadingIf (fetched_in s e reply at) (a.after s e reply) r request h.k) s e
+quiet_jobs s e reply r request x drafts at h sub = record {
+  stays = λ n j found far known sq sc well.
+      let c = known sq sc well in
+      let l = job_list s x.stood j (in_at s.device.jobs n j found) (ap (λ (k : ℕ). k == 0) sq ∙ queue_of s r request x.member x.work) (λ P all. all_at P s.device.jobs n j found all) in
+      let course = course_stays s e reply x.ok x.stood j l in
+      let image = same_image s e reply at r.q r.cid (no_fetch s e reply r request x n j found sq sc) in
+      record {
+        bytes = c.bytes ∙ ap (λ (xs : List ℕ). blocks_at xs request.slba request.blocks) (sym image);
+        long = c.long;
+        inside = omega (arith, c.inside, x.image);
+        came = c.came ∙ ap (λ (y : Course). reach 0 (take j.units_done (units y))) (sym course);
+        over = λ st v. subst (λ (y : Course). length (units y) ≤ j.units_done) (sym course) (c.over st v);
+      };
+  fails = λ n j st waiting found far lost none known sq sc well. absurd (true≢false (sym well ∙ lost));
+  manages = λ entry st dw0 is next free sq. absurd (true≢false (sym (eq-eqb r.q 0 (sym sq)) ∙ queue_of s r request x.member x.work));
+  begins = λ q entry is next not0 free sq sc well.
+      let hand = in_hand s q entry next in
+      let its = own_entry s r request x.member x.work sub q entry hand sq sc in
+      begun_reading s (a.after s e reply) (fetched_in s e reply at) r request x.member x.work x.kind q entry its.0 its.1
+      (own_image s e reply at r.q r.cid (fetches s e reply x.ok q entry is next sq sc)) h.k (in_hand_unread s r h.k q entry hand sq sc (h.unfetched sub)) x.image well;
+  walks = λ q cid j act is w u known sq sc well.
+      absurd (true≢false (sym (and_from (r.q == q) (r.cid == cid) (eq-eqb r.q q (sym sq ∙ w.its_queue)) (eq-eqb r.cid cid (sym sc ∙ w.its_id))) ∙ subst (λ (y : Event). walks_it y r ≡ false) is x.still));
+}
+  where
+    fetches : (s : State) (e : Event) (reply : Reply) → Accepts s e reply → (q : ℕ) (entry : SubEntry) → e ≡ events.Fetch q → next_rung s q ≡ Some entry → q ≡ r.q → entry.cid ≡ r.cid → fetches_by r.q r.cid e reply ≡ true
+    fetches s (events.Fetch q') (events.Fetched c touched) ok q entry is next sq sc =
+        let same : q' ≡ q = its_queue is in
+        let c' : Some entry.cid ≡ Some c = ap (option_map (λ (y : SubEntry). y.cid)) (sym (subst (λ (n : ℕ). next_rung s n ≡ Some entry) (sym same) next)) ∙ ok.1.0 in
+        and_from (q' == r.q) (c == r.cid) (eq-eqb q' r.q (same ∙ sq)) (eq-eqb c r.cid (sym (inside c') ∙ sc))
+      where
+        its_queue : {x y : ℕ} → events.Fetch x ≡ events.Fetch y → x ≡ y
+        its_queue e = cc
+
+        inside : {x y : ℕ} → Some x ≡ Some y → x ≡ y
+        inside e = cc
+    fetches s (events.Fetch q') reply ok q entry is next sq sc = absurd ok.1
+    fetches s e reply ok q entry is next sq sc = absurd (not_fetch is)
+      where
+        not_fetch : e ≡ events.Fetch q → ⊥
+        not_fetch is = cc
+
+quiet_entries : (s : State) (e : Event) (reply : Reply) (r : Record) (request : Request) (x : Quiet s e reply r request) (k : ℕ)
+    → QueueMove (λ at. at.unfetched) (UnreadEntry r k) r.q s e
+quiet_entries s e reply r request x k = record {
+  posts = λ d entry at is built z all. all_append (UnreadEntry r k) at.unfetched (entry ∷ []) all ((λ same. absurd (clash d entry is built z same)), tt);
+  sends = λ entry at z all. absurd (true≢false (sym (eq-eqb r.q 0 (sym z)) ∙ queue_of s r request x.member x.work));
+  rings = λ rung at all. all;
+  reaps = λ at all. all;
+  fetches = λ rung at all. all_drop_one (UnreadEntry r k) at.unfetched all;
+  stops = λ at all. all;
+  drops = λ at all. all;
+  makes_completion = λ at all. all;
+  makes_submission = λ at all. tt;
+  clears = λ at all. tt;
+  empties = (tt, tt);
+  completes = λ cid j head at is found all. all;
+}
+  where
+    clash : (d : DraftContents) (entry : SubEntry) → e ≡ events.Submit d → d.entry ≡ Some entry → d.q ≡ r.q → entry.cid ≡ r.cid → ⊥
+    clash d entry is built z same =
+        let proper : IsProper (events.Submit d) = subst IsProper is x.proper in
+        let cid : entry.cid ≡ d.cid = ap (λ (y : SubEntry). y.cid) (carries_entry d entry proper.draft built) in
+        true≢false (sym (and_from (d.q == r.q) (d.cid == r.cid) (eq-eqb d.q r.q z) (eq-eqb d.cid r.cid (sym cid ∙ same))) ∙ no_draft s e reply x.ok r x.member x.stays d is)
+
+quiet_answers : (s : State) (e : Event) (reply : Reply) (r : Record) (request : Request) (x : Quiet s e reply r request) (drafts : List DraftContents) (at : Images) (h : ReadSoFar drafts at s r request) → is_submitted r.phase ≡ true
+    → QueueMove (λ at. at.answers) (FullAnswer (a.after s e reply) r request h.k) r.q s e
+quiet_answers s e reply r request x drafts at h sub = record {
+  posts = λ d entry at is built z all. all;
+  sends = λ entry at z all. all;
+  rings = λ rung at all. all;
+  reaps = λ at all. all_drop_one (FullAnswer (a.after s e reply) r request h.k) at.answers all;
+  fetches = λ rung at all. all;
+  stops = λ at all. all;
+  drops = λ at all. tt;
+  makes_completion = λ at all. tt;
+  makes_submission = λ at all. tt;
+  clears = λ at all. all;
+  empties = (tt, tt);
+  completes = λ cid j head at' is found all.
+      all_append (FullAnswer (a.after s e reply) r request h.k) at'.answers (record { cid = cid; status = a.final_status s j; dw0 = j.dw0; sq_head = head } ∷ []) all
+      ((λ same ok. answered cid j is found same ok j.verdict refl), tt);
+}
+  where
+    answered : (cid : ℕ) (j : Job) → e ≡ events.Complete r.q cid → job_at s r.q cid ≡ Some j → cid ≡ r.cid → is_success (a.final_status s j) ≡ true → (o : Option Status) → j.verdict ≡ o → Full (read_targets r request) h.k × InImage (a.after s e reply) request
+    answered cid j is found same ok None v =
+        absurd (true≢false (sym (has_verdict s r.q cid j (subst (λ (y : Event). refusal_of s y ≡ None) is x.ok.0) found) ∙ ap is_some v))
+    answered cid j is found same ok (Some v) verdict = go (is_success v) refl
+      where
+        ids : ((j.q == r.q) ≡ true) × ((j.entry.cid == cid) ≡ true)
+        ids = and_parts (j.q == r.q) (j.entry.cid == cid) (find_sound (is_job r.q cid) s.device.jobs j found)
+
+        sq : j.q ≡ r.q
+        sq = eqb-true j.q r.q ids.0
+
+        sc : j.entry.cid ≡ r.cid
+        sc = eqb-true j.entry.cid cid ids.1 ∙ same
+
+        other : (j.q == 0) ≡ false
+        other = ap (λ (k : ℕ). k == 0) sq ∙ queue_of s r request x.member x.work
+
+        final : final_status s j ≡ (if is_success v then jobs.status_by s.device.image j.entry j.bytes (kind_of_opcode j.entry.opcode) else v)
+        final = ap (λ (b : Bool). if b then unwrap_or j.verdict SUCCESS else jobs.status_after s.device.image j.entry j.bytes j.verdict) other ∙ ap (jobs.status_after s.device.image j.entry j.bytes) verdict
+
+        go : (b : Bool) → is_success v ≡ b → Full (read_targets r request) h.k × InImage (a.after s e reply) request
+        go true well =
+            let reading = all_at_found (ReadingIf at s r request h.k) (is_job r.q cid) s.device.jobs j found (h.jobs sub) sq sc (ap goes_well verdict ∙ well) in (
+              all_came s x.stood at r request x.member x.work x.kind h.k j
+                  (job_list s x.stood j (in_found (is_job r.q cid) s.device.jobs j found) other (λ P all. all_at_found P (is_job r.q cid) s.device.jobs j found all)) sq sc v verdict reading,
+              omega (arith, reading.inside, x.image),
+            )
+        go false failed =
+            absurd (true≢false (sym ok ∙ ap is_success (final ∙ ap (λ (b : Bool). if b then jobs.status_by s.device.image j.entry j.bytes (kind_of_opcode j.entry.opcode) else v) failed) ∙ failed))
+
+-- so it is known after the event, as far
+pub quiet_on : (s : State) (e : Event) (reply : Reply) (r : Record) (request : Request) (x : Quiet s e reply r request) → takes e r ≡ false → (drafts : List DraftContents) (at : Images) (h : ReadSoFar drafts at s r request)
+    → (y : ReadSoFar (submitted_by e reply ++ drafts) (fetched_in s e reply at) (a.after s e reply) r request) × (h.k ≤ y.k)
+quiet_on s e reply r request x far drafts at h = (
+  record {
+    draft = h.draft;
+    latest = same_draft s e reply drafts r.q r.cid (no_draft s e reply x.ok r x.member x.stays) ∙ h.latest;
+    asked = h.asked;
+    pages = h.pages;
+    own = h.own;
+    stand = h.stand;
+    k = h.k;
+    whole = λ p own. let page = h.whole p own in (page.0, pages_stay s e reply x.ok x.stood r x.within x.stays far x.still p own ∙ page.1, page.2);
+    received = received (fetches_by r.q r.cid e reply) refl;
+    long = λ some. long some (fetches_by r.q r.cid e reply) refl;
+    unfetched = λ sub. queues_event (λ at. at.unfetched) (UnreadEntry r h.k) r.q s e reply (quiet_entries s e reply r request x h.k) x.ok x.stood (h.unfetched sub);
+    jobs = λ sub. jobs_event (ReadingIf at s r request h.k) (ReadingIf (fetched_in s e reply at) (a.after s e reply) r request h.k) s e reply (quiet_jobs s e reply r request x drafts at h sub) x.ok x.stood (h.jobs sub);
+    answers = λ sub. queues_event (λ at. at.answers) (FullAnswer (a.after s e reply) r request h.k) r.q s e reply (quiet_answers s e reply r request x drafts at h sub) x.ok x.stood
+        (all_in (FullAnswer s r request h.k) (FullAnswer (a.after s e reply) r request h.k) (list_at (λ at. at.answers) s.device.queues r.q) (λ an within full same ok. let f = full same ok in (f.0, omega (arith, f.1, x.image))) (h.answers sub));
+    full = λ held st status ok. let f = h.full held st status ok in (f.0, omega (arith, f.1, x.image));
+  },
+  omega arith,
+)
+  where
+    kept : Received (a.after s e reply).memory h.own (read_targets r request) (read_blocks at r request) h.k
+    kept = received_still s.memory (a.after s e reply).memory h.own (read_targets r request) (read_blocks at r request) h.k
+        (places_stay s.memory (a.after s e reply).memory r request (sized_of s r request x.member x.work) (pages_stay s e reply x.ok x.stood r x.within x.stays far x.still)) h.received
+
+    received : (b : Bool) → fetches_by r.q r.cid e reply ≡ b → Received (a.after s e reply).memory h.own (read_targets r request) (read_blocks (fetched_in s e reply at) r request) h.k
+    received false is = subst (λ (image : List ℕ). Received (a.after s e reply).memory h.own (read_targets r request) (blocks_at image request.slba request.blocks) h.k) (sym (same_image s e reply at r.q r.cid is)) kept
+    received true is = record {
+      first = λ i p target lt. absurd (omega (arith, lt, own_fetch s e reply r request x drafts at h is));
+      rest = kept.rest;
+    }
+
+    long : 0 < h.k → (b : Bool) → fetches_by r.q r.cid e reply ≡ b → length (read_blocks (fetched_in s e reply at) r request) ≡ length (read_targets r request)
+    long some false is = subst (λ (image : List ℕ). length (blocks_at image request.slba request.blocks) ≡ length (read_targets r request)) (sym (same_image s e reply at r.q r.cid is)) (h.long some)
+    long some true is = absurd (omega (arith, some, own_fetch s e reply r request x drafts at h is))

@@ -1,0 +1,5 @@
+use Rattle.run_laws.proofs.Compares.{compares_tell}
+use Rattle.run_laws.proofs.laws.law_of_compares.Goals as goal
+
+pub returns : goal.returns
+returns c = compares_tell

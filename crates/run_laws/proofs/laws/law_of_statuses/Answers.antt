@@ -1,0 +1,5 @@
+use Rattle.run_laws.proofs.EveryStatus.{statuses_have_causes}
+use Rattle.run_laws.proofs.laws.law_of_statuses.Goals as goal
+
+pub returns : goal.returns
+returns c = statuses_have_causes
