@@ -1,11 +1,10 @@
 //! Walks over pages of arbitrary bytes.
 
 use crate::following::{Ends, either, follow};
-use crate::numbers::Numbers;
 use crate::watched::Watched;
 use sgl_descriptor::Descriptor;
 use std::process::Abort;
-use std::test::Fail;
+use test_support::Numbers;
 
 /// How many walks there are over each filling of the pages.
 const WALKS: u32 = 1_000;
@@ -38,10 +37,7 @@ fn sixteen_bytes(numbers: &mut Numbers, is_spelling: bool) -> [u8; 16] {
     if is_spelling && numbers.below(8) > 0 {
         return descriptor(numbers).write();
     }
-    let mut bytes = [0; 16];
-    bytes[..8].copy_from_slice(&numbers.eight_bytes());
-    bytes[8..].copy_from_slice(&numbers.eight_bytes());
-    bytes
+    numbers.bytes()
 }
 
 /// A link to a segment somewhere in the pages, or a data block of as many bytes as are wanted.
@@ -78,13 +74,12 @@ fn walk_filling(
 }
 
 #[test]
-fn pages_of_arbitrary_bytes(rt: HostRuntime) -> Result<(), Fail> {
-    let mut memory = Watched::open(rt.alloc(), 8)?;
-    let mut numbers = Numbers { state: 26 };
+fn pages_of_arbitrary_bytes(rt: HostRuntime) {
+    let mut memory = Watched::open(rt.alloc(), 8).expect(&rt, "it opens");
+    let mut numbers = Numbers::new(26);
     let mut ends = Ends::default();
     for filling in 0..FILLINGS {
         walk_filling(&rt, &mut memory, &mut numbers, filling % 2 == 0, &mut ends);
     }
     ends.see(&rt, FILLINGS * WALKS);
-    Ok(())
 }

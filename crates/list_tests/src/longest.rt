@@ -9,7 +9,6 @@ use controller_walk::{Direction, WalkState};
 use entry_codec::Status;
 use sgl_descriptor::Descriptor;
 use std::process::Abort;
-use std::test::Fail;
 
 /// Where the descriptors behind the entry's own stand, one after the other.
 const PLACE: u64 = 0x1000;
@@ -72,9 +71,9 @@ fn end_of(rt: &impl Abort, memory: &mut Watched, count: u32, size: u32) -> (Walk
 
 /// A list of 4,096 descriptors is walked to its end; of a longer one the 4,097th is not looked at.
 #[test]
-fn the_longest_lists(rt: HostRuntime) -> Result<(), Fail> {
+fn the_longest_lists(rt: HostRuntime) {
     let too_many = WalkState::Fault(Status { sct: 0, sc: 0x0E });
-    let mut memory = Watched::open(rt.alloc(), 20)?;
+    let mut memory = Watched::open(rt.alloc(), 20).expect(&rt, "it opens");
     for size in [1, 2, 3, 255, 256, 4_094, 4_095, 4_096, 5_000] {
         for (count, end, looked) in [
             (2, WalkState::End, 1),
@@ -88,5 +87,4 @@ fn the_longest_lists(rt: HostRuntime) -> Result<(), Fail> {
             same_at(&rt, (count, size), found, (end, looked));
         }
     }
-    Ok(())
 }

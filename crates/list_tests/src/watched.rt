@@ -2,10 +2,10 @@
 
 ghost use Rattle.std.specs.Prelude.{◌≡◌, [], IfOk};
 
-use crate::numbers::Numbers;
 use arrayvec::ArrayVec;
 use page_memory::{Dma, OpenFault, Page, PageNo, Store, TouchRecord, Unreadable};
 use std::alloc::Global;
+use test_support::Numbers;
 
 /// A store that is watched.
 #[derive(Drop)]
@@ -73,7 +73,7 @@ impl Watched {
             return;
         };
         if numbers.below(4) == 0 {
-            page.set(8 * numbers.below(512) as usize, &numbers.eight_bytes());
+            page.set(8 * numbers.below(512) as usize, &numbers.bytes::<8>());
         }
         if number.0 < self.store.pages() && !self.store.is_in(number) {
             self.store.put(number, page);

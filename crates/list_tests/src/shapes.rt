@@ -4,13 +4,12 @@ ghost use Rattle.std.specs.Prelude.{◌<◌, ◌≤◌};
 
 use crate::expecting::same;
 use crate::following::{Ends, either, follow};
-use crate::numbers::Numbers;
 use crate::watched::Watched;
 use arrayvec::ArrayVec;
 use controller_walk::{Direction, WalkState};
 use sgl_descriptor::Descriptor;
 use std::process::Abort;
-use std::test::Fail;
+use test_support::Numbers;
 
 /// How many pages the memory has, and bytes.
 const PAGES: u32 = 8;
@@ -201,20 +200,18 @@ fn walk_chains(
 }
 
 #[test]
-fn chains_of_many_shapes(rt: HostRuntime) -> Result<(), Fail> {
-    let mut memory = Watched::open(rt.alloc(), PAGES)?;
-    let mut numbers = Numbers { state: 2026 };
+fn chains_of_many_shapes(rt: HostRuntime) {
+    let mut memory = Watched::open(rt.alloc(), PAGES).expect(&rt, "it opens");
+    let mut numbers = Numbers::new(2026);
     let ends = walk_chains(&rt, &mut memory, &mut numbers, false);
     ends.see(&rt, CHAINS);
     same(&rt, ends.deepest, 4_095);
-    Ok(())
 }
 
 #[test]
-fn chains_of_pages_that_come_and_go(rt: HostRuntime) -> Result<(), Fail> {
-    let mut memory = Watched::open(rt.alloc(), PAGES)?;
-    let mut numbers = Numbers { state: 726 };
+fn chains_of_pages_that_come_and_go(rt: HostRuntime) {
+    let mut memory = Watched::open(rt.alloc(), PAGES).expect(&rt, "it opens");
+    let mut numbers = Numbers::new(726);
     let ends = walk_chains(&rt, &mut memory, &mut numbers, true);
     ends.see(&rt, CHAINS);
-    Ok(())
 }

@@ -4,12 +4,12 @@ ghost use Rattle.std.specs.Prelude.{◌≡◌, ◌<◌, ◌≤◌, length, false
 ghost use Rattle.controller_walk.specs.Walks.{is_over, need_of};
 
 use crate::expecting::{same, same_at};
-use crate::numbers::Numbers;
 use crate::watched::Watched;
 use controller_walk::{Direction, Walk, WalkState};
 use entry_codec::Status;
 use page_memory::TouchRecord;
 use std::process::Abort;
+use test_support::Numbers;
 
 /// The faults that a walk may end with: an unreadable byte, and four of lists.
 pub(crate) const FAULTS: [Status; 5] = [
