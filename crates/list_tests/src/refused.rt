@@ -3,7 +3,7 @@
 
 use crate::asked::{Asked, BLOCK};
 use crate::drafts::{drafted, finished};
-use crate::expecting::{same, same_at};
+use crate::expecting::same_at;
 use block_image::Image;
 use entry_codec::SubEntry;
 use io_commands::{Draft, Finished, Kind, Piece, Pieces, Request, begin_job};
@@ -98,20 +98,26 @@ static GROWTHS: [(Call, u64); 10] = [
     (Call::BeginJob, 1),
 ];
 
-/// Does a call with each of so many growths refused, and then with none.
-fn refuse_in_turn(rt: &impl Abort, heap: &Heap, subject: &mut Subject, call: Call, growths: u64) {
+/// Does a call with each of its growths refused, and then with none.
+fn refuse_in_turn(
+    rt: &impl Abort,
+    heap: &Heap,
+    subject: &mut Subject,
+    at: usize,
+    (call, growths): &(Call, u64),
+) {
     for growth in 1..growths.saturating_add(1) {
         heap.refuse(Refusal::Nth(growth));
-        let done = is_done(heap, subject, call);
+        let done = is_done(heap, subject, *call);
         let tally = heap.tally();
         let found = (done, tally.refused, tally.bytes);
-        same_at(rt, (growths, growth), found, (false, 1, 0));
+        same_at(rt, (at, growth), found, (false, 1, 0));
     }
     heap.refuse(Refusal::Never);
-    let done = is_done(heap, subject, call);
+    let done = is_done(heap, subject, *call);
     let tally = heap.tally();
     let found = (done, tally.calls, tally.blocks);
-    same(rt, found, (true, growths, 0));
+    same_at(rt, at, found, (true, *growths, 0));
 }
 
 #[test]
@@ -125,8 +131,8 @@ fn calls_are_done_once_no_growth_is_refused(rt: HostRuntime) {
         image: Image::zeroed(alloc, 4).expect(&rt, "an image"),
     };
     let heap = Refusing::new(alloc);
-    for (call, growths) in &GROWTHS {
-        refuse_in_turn(&rt, &heap, &mut subject, *call, *growths);
+    for (at, row) in GROWTHS.iter().enumerate() {
+        refuse_in_turn(&rt, &heap, &mut subject, at, row);
     }
     let Subject {
         chain: _,

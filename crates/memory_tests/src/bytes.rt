@@ -336,6 +336,13 @@ const LIVE: DeviceView = DeviceView {
     pages: 8,
 };
 
+fn answered(sct: u8, sc: u8, dw0: u32) -> AdminVerdict {
+    AdminVerdict::Answer {
+        status: Status { sct, sc },
+        dw0,
+    }
+}
+
 #[test]
 fn only_named_bits_are_looked_at(rt: HostRuntime) {
     let delete = entry(AdminKind::DeleteSq { q: 1 }, 0);
@@ -357,13 +364,6 @@ fn only_named_bits_are_looked_at(rt: HostRuntime) {
         decide(&ignored, &LIVE),
         AdminVerdict::StopQueue { q: 1 },
     );
-    let unknown = SubEntry {
-        opcode: 0x02,
-        ..ignored
-    };
-    let refused = AdminVerdict::Answer {
-        status: Status::INVALID_OPCODE,
-        dw0: 0,
-    };
-    same(&rt, decide(&unknown, &LIVE), refused);
+    let fused = SubEntry { fuse: 1, ..delete };
+    same(&rt, decide(&fused, &LIVE), answered(0, 0x02, 0));
 }

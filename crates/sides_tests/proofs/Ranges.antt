@@ -8,7 +8,7 @@ use Rattle.page_memory.specs.Memory.{bytes_at, written}
 use Rattle.page_memory.specs.Pages.{with_bytes}
 use Rattle.page_memory.proofs.Reading.{missing_at}
 use Rattle.page_memory.proofs.Writing.{written_in, written_before, written_after}
-use Rattle.controller_tests.specs.Guest.{byte_of}
+use Rattle.sides_tests.specs.Guest.{byte_of}
 
 -- a range that is there
 pub bytes_there : (bytes : List ℕ) (n at : ℕ) → at + n ≤ length bytes → bytes_at (byte_of bytes) at n ≡ Some (take n (drop at bytes))

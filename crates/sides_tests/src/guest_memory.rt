@@ -19,7 +19,7 @@ pub(crate) struct GuestMemory {
 
 impl Model for GuestMemory {
     ghost use Rattle.std.specs.Prelude.{◌≤◌, length};
-    ghost use Rattle.controller_tests.specs.Guest.{GuestContents};
+    ghost use Rattle.sides_tests.specs.Guest.{GuestContents};
 
     ghost Value = { GuestContents };
 
@@ -88,7 +88,7 @@ fn put(all: &mut [u8], at: usize, bytes: &[u8])
 
 impl Dma for GuestMemory {
     ghost use Rattle.std.specs.Prelude.{◌/◌, length};
-    ghost use Rattle.controller_tests.specs.Guest.{byte_of};
+    ghost use Rattle.sides_tests.specs.Guest.{byte_of};
 
     ghost memory = { λ m. byte_of m.bytes };
 

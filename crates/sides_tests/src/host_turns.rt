@@ -2,10 +2,9 @@
 
 ghost use Rattle.std.specs.Prelude.{◌<◌};
 
-use crate::calls::{SUCCESS, completion};
 use crate::driver::{Driver, HeldDraft, HeldFinished};
 use crate::expecting::same;
-use crate::numbers::Numbers;
+use crate::host_scripts::{SUCCESS, completion};
 use crate::requests::of_blocks;
 use admin_commands::AdminKind;
 use entry_codec::Status;
@@ -14,6 +13,7 @@ use io_commands::Kind;
 use machine_model::words::{Reaped, Refusal};
 use std::alloc::Global;
 use std::process::Abort;
+use test_support::Numbers;
 
 /// Two I/O queues, and so few pages that not every command gets some: the rings take the pages 0 to 5.
 const CONFIG: Config = Config {
@@ -57,7 +57,7 @@ impl Run {
     fn begun(rt: &impl Abort, alloc: Global) -> Run {
         Run {
             driver: Driver::open(alloc, CONFIG).expect(rt, "it opens"),
-            numbers: Numbers { state: 2026 },
+            numbers: Numbers::new(2026),
             drafts: Vec::new(alloc),
             finished: Vec::new(alloc),
             seen: Seen::default(),
@@ -81,7 +81,7 @@ impl Run {
     /// Fills each completion ring: with any bytes, or with an entry that may be one.
     fn forge(&mut self) {
         for q in 0..3u8 {
-            let mut ring = self.numbers.bytes();
+            let mut ring = self.numbers.bytes::<64>();
             if ring[0] % 2 == 0 {
                 let [cid, head, last, status, ..] = ring;
                 let last = last % 2 + status / 128 * 14;
@@ -302,7 +302,7 @@ impl Run {
 }
 
 #[test]
-fn arbitrary_calls(rt: HostRuntime) {
+fn a_hundred_thousand_turns(rt: HostRuntime) {
     let mut run = Run::begun(&rt, rt.alloc());
     for step in 0..100_000u32 {
         if step % 1_000 == 0 {

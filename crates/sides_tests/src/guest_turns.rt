@@ -5,22 +5,7 @@ use crate::guest::{Guest, io_entry};
 use controller_core::Refusal;
 use page_memory::{Dma, TouchRecord};
 use std::process::Abort;
-
-/// A generator of numbers that is the same in each run: the upper half of a linear congruence modulo 2^64.
-#[derive(Drop)]
-struct Numbers {
-    state: u64,
-}
-
-impl Numbers {
-    fn next(&mut self) -> u32 {
-        self.state = self
-            .state
-            .wrapping_mul(6_364_136_223_846_793_005)
-            .wrapping_add(1_442_695_040_888_963_407);
-        (self.state >> 32) as u32
-    }
-}
+use test_support::Numbers;
 
 /// Puts arbitrary bytes over a page.
 fn scramble(rt: &impl Abort, guest: &mut Guest, numbers: &mut Numbers) {
@@ -98,9 +83,9 @@ fn digest(rt: &impl Abort, guest: &mut Guest) -> u64 {
 }
 
 #[test]
-fn arbitrary_pages(rt: HostRuntime) {
+fn a_hundred_thousand_calls(rt: HostRuntime) {
     let mut guest = Guest::open(&rt, rt.alloc());
-    let mut numbers = Numbers { state: 2026 };
+    let mut numbers = Numbers::new(2026);
     let mut done = 0u32;
     for step in 0..100_000u32 {
         if step % 5_000 == 0 {

@@ -1,7 +1,7 @@
 use Rattle.std.proofs.Common.{ap, ◌∙◌}
-use Rattle.controller_tests.specs.Guest.{GuestContents}
-use Rattle.controller_tests.proofs.Ranges.{bytes_read, bytes_past}
-use Rattle.controller_tests.proofs.guest_memory.GuestMemoryDma.read.Goals as goal
+use Rattle.sides_tests.specs.Guest.{GuestContents}
+use Rattle.sides_tests.proofs.Ranges.{bytes_read, bytes_past}
+use Rattle.sides_tests.proofs.guest_memory.GuestMemoryDma.read.Goals as goal
 
 pub returns-in_default-clause-missing : goal.returns-in_default-clause-missing
 returns-in_default-clause-missing c = bytes_past c.args.self.now.bytes c.args.addr _ c.requires.some c.in_default.ensures.past

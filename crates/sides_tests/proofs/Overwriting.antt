@@ -9,7 +9,7 @@ use Rattle.page_memory.specs.Pages.{Pages, page_at}
 use Rattle.host_core.specs.Alone.{HostView, IsOver}
 use Rattle.host_core.proofs.Exact.{writes_leave_over}
 use Rattle.host_core.proofs.Pages.{set-other, pool-without, pool-with}
-use Rattle.host_tests.specs.Pages.{AreSameIn}
+use Rattle.sides_tests.specs.Pages.{AreSameIn}
 
 -- a page that is in is one of the pool
 pub inside : (m : Pages) (p : ℕ) (old : List ℕ) → page_at m p ≡ Some old → p < length m

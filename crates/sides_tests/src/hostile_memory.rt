@@ -5,16 +5,15 @@
 //! Behind every call that is lent the pages the driver takes the owner of each page again, and counts: that each page that is out is one of a command that is
 //! drafted or collected, that the four classes are what the host counts, and that no identifier is outstanding twice.
 
-use crate::calls::{opened, reserved};
-use crate::driver::Driver;
+use crate::driver::{Driver, opened, reserved};
 use crate::expecting::same;
-use crate::numbers::Numbers;
 use crate::requests::of_blocks;
 use host_core::Config;
 use io_commands::Kind;
 use machine_model::words::{Reaped, Refusal};
 use page_ledger::{Owner, Role};
 use std::process::Abort;
+use test_support::Numbers;
 
 /// A pool of 16 pages, queue 0 and one I/O queue of 4 entries. The rings take the pages 0 to 3, so 12 pages are free.
 pub(crate) const SMALL: Config = Config {
@@ -30,7 +29,7 @@ const COMPLETION_RINGS: [u32; 2] = [1, 3];
 /// Puts arbitrary bytes into each slot of both completion rings.
 fn forge(driver: &mut Driver, numbers: &mut Numbers) {
     for page in COMPLETION_RINGS {
-        driver.scribble(page, 0, &numbers.bytes());
+        driver.scribble(page, 0, &numbers.bytes::<64>());
     }
 }
 
@@ -50,7 +49,7 @@ fn reap_arbitrary_bytes(rt: &impl Abort, driver: &mut Driver, numbers: &mut Numb
 
 #[test]
 fn a_hostile_memory(rt: HostRuntime) {
-    let mut numbers = Numbers { state: 2026 };
+    let mut numbers = Numbers::new(2026);
     let mut driver = opened(&rt, rt.alloc());
     driver.recount(&rt);
 

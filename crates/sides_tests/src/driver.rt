@@ -1,13 +1,14 @@
 //! A driver: a host with the pages that it is lent. Behind each call it takes the owners and the counts again.
 
-ghost use Rattle.std.specs.Prelude.{◌+◌, ◌<◌, ◌≤◌, length};
-ghost use Rattle.host_tests.specs.Pages.{AreSameIn};
+ghost use Rattle.std.specs.Prelude.{◌+◌, ◌≤◌, length};
+ghost use Rattle.sides_tests.specs.Pages.{AreSameIn};
 
 use crate::expecting::{same, same_at};
+use crate::hostile_memory::SMALL;
+use crate::requests::of_blocks;
 use admin_commands::AdminKind;
-use arrayvec::ArrayVec;
 use host_core::{Config, Host, Opened, Reap, Refused};
-use io_commands::{Draft, Finished, Request, Ticket};
+use io_commands::{Draft, Finished, Kind, Request, Ticket};
 use machine_model::words::{OpenRefusal, Refusal};
 use page_ledger::{Counts, Owner, Role};
 use page_memory::{Half, PageNo, Store};
@@ -53,13 +54,31 @@ impl<A: Allocator> Drop for HeldFinished<A> {
     }
 }
 
-/// A command that the driver reserved and neither cancelled nor released.
-#[derive(Clone, Copy, Default)]
-struct Outstanding {
-    q: u16,
-    cid: u16,
-    /// Whether its pages are in its draft or its finished command.
-    is_out: bool,
+/// Where the pages of a command are.
+#[derive(Clone, Copy, PartialEq, Eq, Debug)]
+enum Whereabouts {
+    /// It has none: it is not outstanding.
+    Nowhere,
+    /// In its draft or its finished command.
+    Out,
+    /// In the pool.
+    In,
+}
+
+/// Where the pages of each command are, by its queue and its identifier, which are below 4.
+#[derive(Clone, Copy, Drop)]
+struct Notes {
+    whereabouts: [[Whereabouts; 4]; 4],
+}
+
+impl Notes {
+    fn of(&self, q: u16, cid: u16) -> Whereabouts {
+        self.whereabouts[usize::from(q % 4)][usize::from(cid % 4)]
+    }
+
+    fn note(&mut self, q: u16, cid: u16, whereabouts: Whereabouts) {
+        self.whereabouts[usize::from(q % 4)][usize::from(cid % 4)] = whereabouts;
+    }
 }
 
 /// A host with its pages.
@@ -67,7 +86,7 @@ struct Outstanding {
 pub(crate) struct Driver<A: Allocator = Global> {
     host: Host<A>,
     store: Store<A>,
-    outstanding: ArrayVec<Outstanding, 16>,
+    notes: Notes,
 }
 
 impl<A: Allocator> Model for Driver<A> {
@@ -117,22 +136,6 @@ fn count_page(counts: &mut Counts, owner: Owner) {
     }
 }
 
-/// The entry in a slot of the submission ring that begins with a page, where the page is in.
-fn entry_in<A: Allocator>(store: &mut Store<A>, p: PageNo, slot: usize) -> Option<[u8; 64]>
-    requires { slot < 64 }
-    ensures { AreSameIn store.old.pages store.new.pages }
-{
-    let mut entry = [0; 64];
-    if !store.is_in(p) {
-        return None;
-    }
-    if let Some(page) = store.take(p) {
-        entry.copy_from_slice(&page.bytes()[64 * slot..64 * slot + 64]);
-        store.put(p, page);
-    }
-    Some(entry)
-}
-
 impl<A: Allocator + Copy> Driver<A> {
     /// Opens a host.
     pub(crate) fn open(alloc: A, config: Config) -> Result<Driver<A>, OpenRefusal> {
@@ -140,7 +143,9 @@ impl<A: Allocator + Copy> Driver<A> {
         Ok(Driver {
             host,
             store,
-            outstanding: ArrayVec::new(),
+            notes: Notes {
+                whereabouts: [[Whereabouts::Nowhere; 4]; 4],
+            },
         })
     }
 
@@ -169,13 +174,6 @@ impl<A: Allocator + Copy> Driver<A> {
         None
     }
 
-    /// The entry in a slot of the submission ring that begins with a page.
-    pub(crate) fn entry_at(&mut self, p: u32, slot: usize) -> Option<[u8; 64]>
-        requires { slot < 64 }
-    {
-        entry_in(&mut self.store, PageNo(p), slot)
-    }
-
     /// The controller writes bytes into a page, where it is in.
     pub(crate) fn scribble(&mut self, p: u32, at: usize, bytes: &[u8])
         requires { at + length bytes.now ≤ 4096 }
@@ -194,56 +192,18 @@ impl<A: Allocator + Copy> Driver<A> {
         for p in 0..self.host.pages() {
             let owner = self.host.owner(PageNo(p));
             count_page(&mut counted, owner);
-            let is_out = match owner {
-                Owner::Command { q, cid, .. } => self.is_out(rt, q, cid),
-                Owner::Free | Owner::Queue { .. } => false,
+            let wanted = match owner {
+                Owner::Command { q, cid, .. } => self.notes.of(q, cid),
+                Owner::Free | Owner::Queue { .. } => Whereabouts::In,
             };
-            same_at(rt, p, self.store.is_in(PageNo(p)), !is_out);
+            let found = if self.store.is_in(PageNo(p)) {
+                Whereabouts::In
+            } else {
+                Whereabouts::Out
+            };
+            same_at(rt, p, found, wanted);
         }
         same(rt, counted, self.host.counts());
-    }
-
-    /// The place of a command in the driver's list.
-    fn place_of(&self, q: u16, cid: u16) -> Option<usize> {
-        self.outstanding
-            .iter()
-            .position(|command| command.q == q && command.cid == cid)
-    }
-
-    /// Whether the pages of a command are in its draft or its finished command.
-    fn is_out(&self, rt: &impl Abort, q: u16, cid: u16) -> bool {
-        for command in &self.outstanding {
-            if command.q == q && command.cid == cid {
-                return command.is_out;
-            }
-        }
-        panic!(rt; "a page belongs to no command: {q} {cid}");
-    }
-
-    /// Notes a command that was reserved: its identifier is not outstanding yet.
-    fn note_reserved(&mut self, rt: &impl Abort, q: u16, cid: u16) {
-        assert!(rt; self.place_of(q, cid).is_none(), "{q} {cid} again");
-        assert!(rt; !self.outstanding.is_full());
-        self.outstanding.push(Outstanding {
-            q,
-            cid,
-            is_out: true,
-        });
-    }
-
-    /// Notes that a command's pages are in or out.
-    fn note_pages(&mut self, q: u16, cid: u16, is_out: bool) {
-        for command in &mut self.outstanding {
-            if command.q == q && command.cid == cid {
-                command.is_out = is_out;
-            }
-        }
-    }
-
-    /// Notes that a command is over.
-    fn note_over(&mut self, q: u16, cid: u16) {
-        self.outstanding
-            .retain(|command| command.q != q || command.cid != cid);
     }
 
     /// Reserves.
@@ -255,7 +215,9 @@ impl<A: Allocator + Copy> Driver<A> {
     ) -> Result<HeldDraft<A>, Refused<Request<A>>> {
         let answer = match self.host.reserve(&mut self.store, q, request) {
             Ok(draft) => {
-                self.note_reserved(rt, draft.q(), draft.cid());
+                let (q, cid) = (draft.q(), draft.cid());
+                same(rt, self.notes.of(q, cid), Whereabouts::Nowhere);
+                self.notes.note(q, cid, Whereabouts::Out);
                 Ok(HeldDraft { draft })
             }
             Err(refused) => Err(refused),
@@ -274,7 +236,7 @@ impl<A: Allocator + Copy> Driver<A> {
         let answer = match self.host.submit(&mut self.store, draft) {
             Ok(ticket) => {
                 let (q, cid) = ticket.apart();
-                self.note_pages(q, cid, false);
+                self.notes.note(q, cid, Whereabouts::In);
                 Ok((q, cid))
             }
             Err(Refused { value, why }) => Err(Refused {
@@ -296,7 +258,7 @@ impl<A: Allocator + Copy> Driver<A> {
         let (q, cid) = (draft.q(), draft.cid());
         let answer = match self.host.cancel(&mut self.store, draft) {
             Ok(()) => {
-                self.note_over(q, cid);
+                self.notes.note(q, cid, Whereabouts::Nowhere);
                 Ok(())
             }
             Err(Refused { value, why }) => Err(Refused {
@@ -317,7 +279,7 @@ impl<A: Allocator + Copy> Driver<A> {
     ) -> Result<HeldFinished<A>, Refusal> {
         let answer = match self.host.collect(&mut self.store, Ticket::make(q, cid)) {
             Ok(finished) => {
-                self.note_pages(q, cid, true);
+                self.notes.note(q, cid, Whereabouts::Out);
                 Ok(HeldFinished { finished })
             }
             Err(Refused { value, why }) => {
@@ -339,7 +301,7 @@ impl<A: Allocator + Copy> Driver<A> {
         let (q, cid) = (finished.q(), finished.cid());
         let answer = match self.host.release(&mut self.store, finished) {
             Ok(()) => {
-                self.note_over(q, cid);
+                self.notes.note(q, cid, Whereabouts::Nowhere);
                 Ok(())
             }
             Err(Refused { value, why }) => Err(Refused {
@@ -389,4 +351,35 @@ impl<A: Allocator + Copy> Driver<A> {
         assert!(rt; !self.host.completion_waits(&mut self.store, 0));
         self.recount(rt);
     }
+}
+
+/// Opens a driver over the small pool.
+pub(crate) fn opened<A: Allocator + Copy>(rt: &impl Abort, alloc: A) -> Driver<A> {
+    Driver::open(alloc, SMALL).expect(rt, "it opens")
+}
+
+/// Reserves for a request on queue 1.
+pub(crate) fn reserved<A: Allocator + Copy>(
+    rt: &impl Abort,
+    driver: &mut Driver<A>,
+    request: Request<A>,
+) -> HeldDraft<A> {
+    match driver.reserve(rt, 1, request) {
+        Ok(held) => held,
+        Err(refused) => panic!(rt; "it is reserved: {:?}", refused.why),
+    }
+}
+
+/// Submits a Read of one block.
+pub(crate) fn submit<A: Allocator + Copy>(
+    rt: &impl Abort,
+    driver: &mut Driver<A>,
+    alloc: A,
+    cid: u16,
+) {
+    let request = of_blocks(alloc, Kind::Read, 1).expect(rt, "a request");
+    same(rt, driver.host().reserve_refusal(1, &request), None);
+    let mut held = reserved(rt, driver, request);
+    assert!(rt; held.draft.build(alloc).is_ok());
+    same(rt, driver.submit(rt, held).ok(), Some((1, cid)));
 }

@@ -1,9 +1,6 @@
 //! A guest with an admin queue and one I/O queue of four entries each, in a memory of eight pages: queue 0 has the pages 0 and 1, queue
 //! 1 the pages 2 and 3.
 
-ghost use Rattle.std.specs.Prelude.{◌<◌, ◌≤◌, length};
-
-use crate::expecting::same;
 use crate::guest_memory::GuestMemory;
 use block_image::Image;
 use controller_core::{Controller, QueuePages, Refusal};
@@ -73,23 +70,6 @@ impl Guest {
         }
     }
 
-    /// The driver puts bytes at an address.
-    pub(crate) fn put(&mut self, rt: &impl Abort, addr: u64, bytes: &[u8])
-        requires some { 0 < length bytes.now }
-        requires few { length bytes.now ≤ 4096 }
-    {
-        self.memory.clear();
-        assert!(rt; self.memory.write(addr, bytes).is_ok());
-    }
-
-    /// The block that the driver finds at an address.
-    pub(crate) fn block_at(&mut self, rt: &impl Abort, addr: u64) -> [u8; 512] {
-        let mut block = [0; 512];
-        self.memory.clear();
-        assert!(rt; self.memory.read(addr, &mut block).is_ok());
-        block
-    }
-
     /// The rings of a queue.
     fn rings(&mut self, rt: &impl Abort, q: u16) -> &mut Rings {
         self.rings
@@ -138,20 +118,6 @@ impl Guest {
         self.memory.clear();
         assert!(rt; self.memory.read(addr, &mut bytes).is_ok());
         bytes
-    }
-
-    /// Carries an entry of the I/O queue from the slot that is next to its completion, in this slot: the two bytes of status and phase there.
-    pub(crate) fn serve(&mut self, rt: &impl Abort, slot: u16, entry: &[u8; 64]) -> [u8; 2] {
-        self.submit(rt, 1, entry);
-        let cid = self.fetch(1).expect(rt, "it is fetched");
-        for _ in 0..100 {
-            if self.walk(1, cid) != Ok(WalkState::More) {
-                break;
-            }
-        }
-        same(rt, self.complete(1, cid), Ok(()));
-        let bytes = self.completion(rt, 1, slot);
-        [bytes[14], bytes[15]]
     }
 }
 

@@ -1,7 +1,7 @@
 use Rattle.std.proofs.Common.{List, ℕ, length, ap, sym, ◌∙◌}
-use Rattle.controller_tests.specs.Guest.{GuestContents}
-use Rattle.controller_tests.proofs.Ranges.{bytes_some, bytes_written, bytes_past}
-use Rattle.controller_tests.proofs.guest_memory.GuestMemoryDma.write.Goals as goal
+use Rattle.sides_tests.specs.Guest.{GuestContents}
+use Rattle.sides_tests.proofs.Ranges.{bytes_some, bytes_written, bytes_past}
+use Rattle.sides_tests.proofs.guest_memory.GuestMemoryDma.write.Goals as goal
 
 pub returns-in_default-clause-missing : goal.returns-in_default-clause-missing
 returns-in_default-clause-missing c = bytes_past c.args.self.now.bytes c.args.addr _ c.requires.some c.in_default.ensures.past
