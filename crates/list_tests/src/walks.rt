@@ -1,7 +1,5 @@
 //! Walks over two memories, a store and a flat one: what each step answers and touches, and the bytes that are moved.
 
-ghost use Rattle.std.specs.Prelude.{◌<◌, ◌≤◌, length};
-
 use crate::expecting::same;
 use controller_walk::{Direction, Walk, WalkState};
 use entry_codec::Status;

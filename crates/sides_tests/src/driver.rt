@@ -1,4 +1,4 @@
-//! A driver: a host with the pages that it is lent. Behind each call it takes the owners and the counts again.
+//! A driver: a host with the pages that it is lent. It takes the owners and the counts again.
 
 ghost use Rattle.std.specs.Prelude.{◌+◌, ◌≤◌, length};
 ghost use Rattle.sides_tests.specs.Pages.{AreSameIn};
@@ -213,27 +213,20 @@ impl<A: Allocator + Copy> Driver<A> {
         q: u16,
         request: Request<A>,
     ) -> Result<HeldDraft<A>, Refused<Request<A>>> {
-        let answer = match self.host.reserve(&mut self.store, q, request) {
-            Ok(draft) => {
-                let (q, cid) = (draft.q(), draft.cid());
-                same(rt, self.notes.of(q, cid), Whereabouts::Nowhere);
-                self.notes.note(q, cid, Whereabouts::Out);
-                Ok(HeldDraft { draft })
-            }
-            Err(refused) => Err(refused),
-        };
-        self.recount(rt);
-        answer
+        let draft = self.host.reserve(&mut self.store, q, request)?;
+        let (q, cid) = (draft.q(), draft.cid());
+        same(rt, self.notes.of(q, cid), Whereabouts::Nowhere);
+        self.notes.note(q, cid, Whereabouts::Out);
+        Ok(HeldDraft { draft })
     }
 
     /// Submits.
     pub(crate) fn submit(
         &mut self,
-        rt: &impl Abort,
         held: HeldDraft<A>,
     ) -> Result<(u16, u16), Refused<HeldDraft<A>>> {
         let draft = held.taken();
-        let answer = match self.host.submit(&mut self.store, draft) {
+        match self.host.submit(&mut self.store, draft) {
             Ok(ticket) => {
                 let (q, cid) = ticket.apart();
                 self.notes.note(q, cid, Whereabouts::In);
@@ -243,20 +236,14 @@ impl<A: Allocator + Copy> Driver<A> {
                 value: HeldDraft { draft: value },
                 why,
             }),
-        };
-        self.recount(rt);
-        answer
+        }
     }
 
     /// Cancels.
-    pub(crate) fn cancel(
-        &mut self,
-        rt: &impl Abort,
-        held: HeldDraft<A>,
-    ) -> Result<(), Refused<HeldDraft<A>>> {
+    pub(crate) fn cancel(&mut self, held: HeldDraft<A>) -> Result<(), Refused<HeldDraft<A>>> {
         let draft = held.taken();
         let (q, cid) = (draft.q(), draft.cid());
-        let answer = match self.host.cancel(&mut self.store, draft) {
+        match self.host.cancel(&mut self.store, draft) {
             Ok(()) => {
                 self.notes.note(q, cid, Whereabouts::Nowhere);
                 Ok(())
@@ -265,41 +252,31 @@ impl<A: Allocator + Copy> Driver<A> {
                 value: HeldDraft { draft: value },
                 why,
             }),
-        };
-        self.recount(rt);
-        answer
+        }
     }
 
     /// Collects the command of a ticket.
-    pub(crate) fn collect(
-        &mut self,
-        rt: &impl Abort,
-        q: u16,
-        cid: u16,
-    ) -> Result<HeldFinished<A>, Refusal> {
-        let answer = match self.host.collect(&mut self.store, Ticket::make(q, cid)) {
+    pub(crate) fn collect(&mut self, q: u16, cid: u16) -> Result<HeldFinished<A>, Refusal> {
+        match self.host.collect(&mut self.store, Ticket::make(q, cid)) {
             Ok(finished) => {
                 self.notes.note(q, cid, Whereabouts::Out);
                 Ok(HeldFinished { finished })
             }
             Err(Refused { value, why }) => {
-                same(rt, value.apart(), (q, cid));
+                let _ = value.apart();
                 Err(why)
             }
-        };
-        self.recount(rt);
-        answer
+        }
     }
 
     /// Releases.
     pub(crate) fn release(
         &mut self,
-        rt: &impl Abort,
         held: HeldFinished<A>,
     ) -> Result<(), Refused<HeldFinished<A>>> {
         let finished = held.taken();
         let (q, cid) = (finished.q(), finished.cid());
-        let answer = match self.host.release(&mut self.store, finished) {
+        match self.host.release(&mut self.store, finished) {
             Ok(()) => {
                 self.notes.note(q, cid, Whereabouts::Nowhere);
                 Ok(())
@@ -308,48 +285,34 @@ impl<A: Allocator + Copy> Driver<A> {
                 value: HeldFinished { finished: value },
                 why,
             }),
-        };
-        self.recount(rt);
-        answer
+        }
     }
 
-    /// Reaps: what was found, and the head to ring. What the host looks at before tells whether there is something.
-    pub(crate) fn reap(&mut self, rt: &impl Abort, q: u16) -> Result<Reap, Refusal> {
-        let waits = self.host.completion_waits(&mut self.store, q);
-        let answer = self.host.reap(&mut self.store, q);
-        let taken = answer.ok().and_then(|reap| reap.head).is_some();
-        same(rt, waits, taken);
-        self.recount(rt);
-        answer
+    /// Reaps: what was found, and the head to ring.
+    pub(crate) fn reap(&mut self, q: u16) -> Result<Reap, Refusal> {
+        self.host.reap(&mut self.store, q)
     }
 
     /// Sends an admin command: its identifier.
-    pub(crate) fn send(&mut self, rt: &impl Abort, kind: AdminKind) -> Result<u16, Refusal> {
+    pub(crate) fn send(&mut self, kind: AdminKind) -> Result<u16, Refusal> {
         let store = &mut self.store;
-        let answer = match kind {
+        match kind {
             AdminKind::Abort { q, cid } => self.host.abort(store, q, cid),
             AdminKind::DeleteSq { q } => self.host.delete_sq(store, q),
             AdminKind::DeleteCq { q } => self.host.delete_cq(store, q),
             AdminKind::CreateCq { q, .. } => self.host.create_cq(store, q),
             AdminKind::CreateSq { q, .. } => self.host.create_sq(store, q),
-        };
-        self.recount(rt);
-        answer
+        }
     }
 
     /// Retires.
-    pub(crate) fn retire(&mut self, rt: &impl Abort, q: u16) -> Result<(), Refusal> {
-        let answer = self.host.retire(&mut self.store, q);
-        self.recount(rt);
-        answer
+    pub(crate) fn retire(&mut self, q: u16) -> Result<(), Refusal> {
+        self.host.retire(&mut self.store, q)
     }
 
-    /// Resets: of the queues queue 0 alone has pages, and no completion waits in it.
-    pub(crate) fn reset(&mut self, rt: &impl Abort) {
+    /// Resets.
+    pub(crate) fn reset(&mut self) {
         self.host.reset(&mut self.store);
-        same(rt, self.host.counts().queue_pages, 2);
-        assert!(rt; !self.host.completion_waits(&mut self.store, 0));
-        self.recount(rt);
     }
 }
 
@@ -378,8 +341,7 @@ pub(crate) fn submit<A: Allocator + Copy>(
     cid: u16,
 ) {
     let request = of_blocks(alloc, Kind::Read, 1).expect(rt, "a request");
-    same(rt, driver.host().reserve_refusal(1, &request), None);
     let mut held = reserved(rt, driver, request);
     assert!(rt; held.draft.build(alloc).is_ok());
-    same(rt, driver.submit(rt, held).ok(), Some((1, cid)));
+    same(rt, driver.submit(held).ok(), Some((1, cid)));
 }

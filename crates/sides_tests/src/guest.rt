@@ -29,23 +29,11 @@ pub(crate) const QUEUES: [QueuePages; 2] = [
     },
 ];
 
-/// Where the driver has the two rings of a queue.
-#[derive(Clone, Copy, Drop)]
-struct Rings {
-    /// The address of its submission queue, and of its completion queue.
-    sq: u64,
-    cq: u64,
-    /// The slot of the submission queue that the driver writes next.
-    tail: u16,
-}
-
 /// The guest's memory, and the controller, which is lent it at each call.
 #[derive(Drop)]
 pub(crate) struct Guest {
     pub(crate) memory: GuestMemory,
     pub(crate) controller: Controller,
-    /// The rings of each queue.
-    rings: [Rings; 2],
 }
 
 impl Guest {
@@ -55,42 +43,7 @@ impl Guest {
         Guest {
             controller: Controller::open(alloc, ENTRIES, &QUEUES, image).expect(rt, "it opens"),
             memory: GuestMemory::zeroed(alloc, 0x8000).expect(rt, "a memory"),
-            rings: [
-                Rings {
-                    sq: 0x0000,
-                    cq: 0x1000,
-                    tail: 0,
-                },
-                Rings {
-                    sq: 0x2000,
-                    cq: 0x3000,
-                    tail: 0,
-                },
-            ],
         }
-    }
-
-    /// The rings of a queue.
-    fn rings(&mut self, rt: &impl Abort, q: u16) -> &mut Rings {
-        self.rings
-            .get_mut(usize::from(q))
-            .expect(rt, "there is such a queue")
-    }
-
-    /// From now on the driver has the rings of a queue at these addresses, and they are empty.
-    pub(crate) fn move_rings(&mut self, rt: &impl Abort, q: u16, sq: u64, cq: u64) {
-        *self.rings(rt, q) = Rings { sq, cq, tail: 0 };
-    }
-
-    /// The driver puts an entry into the next slot of a submission queue, and rings the doorbell with the slot behind it.
-    pub(crate) fn submit(&mut self, rt: &impl Abort, q: u16, entry: &[u8; 64]) {
-        let rings = self.rings(rt, q);
-        let addr = rings.sq.wrapping_add(u64::from(rings.tail) * 64);
-        rings.tail = rings.tail.wrapping_add(1) % ENTRIES;
-        let tail = rings.tail;
-        self.controller.tail_doorbell(q, tail);
-        self.memory.clear();
-        assert!(rt; self.memory.write(addr, entry).is_ok());
     }
 
     /// The controller fetches an entry.
@@ -109,15 +62,6 @@ impl Guest {
     pub(crate) fn complete(&mut self, q: u16, cid: u16) -> Result<(), Refusal> {
         self.memory.clear();
         self.controller.complete(q, cid, &mut self.memory)
-    }
-
-    /// The bytes in a slot of a completion queue.
-    pub(crate) fn completion(&mut self, rt: &impl Abort, q: u16, slot: u16) -> [u8; 16] {
-        let mut bytes = [0; 16];
-        let addr = self.rings(rt, q).cq.wrapping_add(u64::from(slot) * 16);
-        self.memory.clear();
-        assert!(rt; self.memory.read(addr, &mut bytes).is_ok());
-        bytes
     }
 }
 

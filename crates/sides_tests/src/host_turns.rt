@@ -4,7 +4,7 @@ ghost use Rattle.std.specs.Prelude.{◌<◌};
 
 use crate::driver::{Driver, HeldDraft, HeldFinished};
 use crate::expecting::same;
-use crate::host_scripts::{SUCCESS, completion};
+use crate::host_read::{SUCCESS, completion};
 use crate::requests::of_blocks;
 use admin_commands::AdminKind;
 use entry_codec::Status;
@@ -69,13 +69,14 @@ impl Run {
         self.driver = Driver::open(alloc, CONFIG).expect(rt, "it opens");
     }
 
-    /// Forges, and does one call, or none.
+    /// Forges, does one call, or none, and looks at what it left.
     fn go_on(&mut self, rt: &impl Abort, alloc: Global) {
         self.forge();
         match self.call(rt, alloc) {
             None => self.seen.accepted = self.seen.accepted.wrapping_add(1),
             Some(why) => assert!(rt; why != Refusal::Memory),
         }
+        self.driver.recount(rt);
     }
 
     /// Fills each completion ring: with any bytes, or with an entry that may be one.
@@ -151,22 +152,22 @@ impl Run {
         if self.numbers.next() % 4 != 0 {
             assert!(rt; held.draft.build(alloc).is_ok());
         }
-        let refused = self.driver.submit(rt, held).err()?;
+        let refused = self.driver.submit(held).err()?;
         self.keep(rt, refused)
     }
 
     /// Cancels a draft.
     fn cancel(&mut self, rt: &impl Abort) -> Option<Refusal> {
         let held = pick(&mut self.drafts, self.numbers.next())?;
-        let refused = self.driver.cancel(rt, held).err()?;
+        let refused = self.driver.cancel(held).err()?;
         self.keep(rt, refused)
     }
 
     /// Reaps.
-    fn reap(&mut self, rt: &impl Abort) -> Option<Refusal> {
+    fn reap(&mut self) -> Option<Refusal> {
         let q = (self.numbers.next() % 4) as u16;
         let seen = &mut self.seen;
-        match self.driver.reap(rt, q).map(|reap| reap.found) {
+        match self.driver.reap(q).map(|reap| reap.found) {
             Ok(Reaped::Empty) => {}
             Ok(Reaped::Done { .. }) => seen.done = seen.done.wrapping_add(1),
             Ok(Reaped::AdminDone { .. }) => seen.admin_done = seen.admin_done.wrapping_add(1),
@@ -180,7 +181,7 @@ impl Run {
     fn collect(&mut self, rt: &impl Abort) -> Option<Refusal> {
         let q = self.queue();
         let cid = (self.numbers.next() % 4) as u16;
-        match self.driver.collect(rt, q, cid) {
+        match self.driver.collect(q, cid) {
             Ok(held) => {
                 assert!(rt; self.finished.push(held).is_ok());
                 None
@@ -192,13 +193,13 @@ impl Run {
     /// Releases. A finished command of an earlier host is dropped when it is refused.
     fn release(&mut self, rt: &impl Abort) -> Option<Refusal> {
         let held = pick(&mut self.finished, self.numbers.next())?;
-        let refused = self.driver.release(rt, held).err()?;
+        let refused = self.driver.release(held).err()?;
         same(rt, refused.why, Refusal::Stranger);
         Some(refused.why)
     }
 
     /// Sends an admin command, mostly an Abort or a creation.
-    fn send(&mut self, rt: &impl Abort) -> Option<Refusal> {
+    fn send(&mut self) -> Option<Refusal> {
         let q = self.queue();
         let cid = (self.numbers.next() % 4) as u16;
         let (entries, base) = (4, 0);
@@ -209,25 +210,25 @@ impl Run {
             10..=17 => AdminKind::CreateSq { q, entries, base },
             _ => AdminKind::Abort { q, cid },
         };
-        self.driver.send(rt, kind).err()
+        self.driver.send(kind).err()
     }
 
     /// Gives back all that is left behind a reset.
     fn give_back(&mut self, rt: &impl Abort) {
         for _ in 0..self.drafts.len() {
             if let Some(held) = self.drafts.pop() {
-                let _cancelled = self.driver.cancel(rt, held);
+                let _cancelled = self.driver.cancel(held);
             }
         }
         for _ in 0..self.finished.len() {
             if let Some(held) = self.finished.pop() {
-                let _released = self.driver.release(rt, held);
+                let _released = self.driver.release(held);
             }
         }
         for q in 1..3 {
             for cid in 0..3 {
-                if let Ok(held) = self.driver.collect(rt, q, cid) {
-                    assert!(rt; self.driver.release(rt, held).is_ok());
+                if let Ok(held) = self.driver.collect(q, cid) {
+                    assert!(rt; self.driver.release(held).is_ok());
                 }
             }
         }
@@ -238,7 +239,7 @@ impl Run {
     fn make(&mut self, rt: &impl Abort, kind: AdminKind, slot: u8)
         requires { slot < 4 }
     {
-        same(rt, self.driver.send(rt, kind), Ok(0));
+        same(rt, self.driver.send(kind), Ok(0));
         let head = (slot + 1) % 4;
         let entry = completion(0, head, 0, SUCCESS);
         self.driver.scribble(1, 16 * usize::from(slot), &entry);
@@ -248,7 +249,7 @@ impl Run {
             dw0: 0,
         };
         let head = Some(u16::from(head));
-        same(rt, self.driver.reap(rt, 0), Ok(Reap { found, head }));
+        same(rt, self.driver.reap(0), Ok(Reap { found, head }));
     }
 
     /// Makes both halves of a queue, with completions in this slot of queue 0 and in the next.
@@ -266,7 +267,7 @@ impl Run {
         if number > 3 {
             return;
         }
-        self.driver.reset(rt);
+        self.driver.reset();
         self.seen.resets = self.seen.resets.wrapping_add(1);
         if number > 0 {
             self.give_back(rt);
@@ -280,10 +281,10 @@ impl Run {
         match self.numbers.next() % 20 {
             0..=2 => self.reserve(rt, alloc),
             3..=5 => self.submit(rt, alloc),
-            6..=9 => self.reap(rt),
+            6..=9 => self.reap(),
             10 | 11 => self.collect(rt),
             12 => self.release(rt),
-            13..=15 => self.send(rt),
+            13..=15 => self.send(),
             16 => {
                 let q = self.queue();
                 self.driver.host().ring(q).err()
@@ -291,7 +292,7 @@ impl Run {
             17 => self.cancel(rt),
             18 => {
                 let q = self.queue();
-                self.driver.retire(rt, q).err()
+                self.driver.retire(q).err()
             }
             _ => {
                 self.reset(rt);
@@ -310,7 +311,7 @@ fn a_hundred_thousand_turns(rt: HostRuntime) {
         }
         run.go_on(&rt, rt.alloc());
     }
-    // What each step must keep is compared behind each call. These counts are as on the day when this was written, so that a change shows.
+    // What each turn must keep is compared behind it. These counts are as on the day when this was written, so that a change shows.
     let seen = Seen {
         accepted: 49_670,
         done: 614,

@@ -2,7 +2,7 @@
 //!
 //! A driver has the host and the pages. It lends the pages to the host at each call, and between the calls anyone writes in them: the
 //! controller, and whatever passes for one. Here that is arbitrary bytes, over each slot of each completion ring, before every call.
-//! Behind every call that is lent the pages the driver takes the owner of each page again, and counts: that each page that is out is one of a command that is
+//! Behind the calls the driver takes the owner of each page again, and counts: that each page that is out is one of a command that is
 //! drafted or collected, that the four classes are what the host counts, and that no identifier is outstanding twice.
 
 use crate::driver::{Driver, opened, reserved};
@@ -38,11 +38,12 @@ fn reap_arbitrary_bytes(rt: &impl Abort, driver: &mut Driver, numbers: &mut Numb
     let mut rejected = 0u32;
     for turn in 0..100u16 {
         forge(driver, numbers);
-        match driver.reap(rt, turn % 2).map(|reap| reap.found) {
+        match driver.reap(turn % 2).map(|reap| reap.found) {
             Ok(Reaped::Empty) => {}
             Ok(Reaped::Rejected(_)) => rejected = rejected.wrapping_add(1),
             other => panic!(rt; "{turn}: {other:?}"),
         }
+        driver.recount(rt);
     }
     rejected
 }
@@ -68,8 +69,9 @@ fn a_hostile_memory(rt: HostRuntime) {
 
     // It builds the entry, which is no call of the host, and submits it: the page is in again, and the host answers who it is.
     assert!(rt; held.draft.build(rt.alloc()).is_ok());
+    driver.recount(&rt);
     forge(&mut driver, &mut numbers);
-    same(&rt, driver.submit(&rt, held).ok(), Some((1, 0)));
+    same(&rt, driver.submit(held).ok(), Some((1, 0)));
 
     // The value for the tail doorbell. Whoever wrote into the memory has no say in it.
     forge(&mut driver, &mut numbers);
@@ -80,7 +82,7 @@ fn a_hostile_memory(rt: HostRuntime) {
     let rejected = reap_arbitrary_bytes(&rt, &mut driver, &mut numbers);
     assert!(rt; rejected > 0 && rejected < 100);
     forge(&mut driver, &mut numbers);
-    same(&rt, driver.collect(&rt, 1, 0).err(), Some(Refusal::NotYet));
+    same(&rt, driver.collect(1, 0).err(), Some(Refusal::NotYet));
     same(&rt, driver.host().status_of(1, 0), None);
     drop(driver);
 }

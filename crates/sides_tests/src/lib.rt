@@ -13,11 +13,9 @@ mod guest;
 #[cfg(test)]
 mod guest_memory;
 #[cfg(test)]
-mod guest_scripts;
-#[cfg(test)]
 mod guest_turns;
 #[cfg(test)]
-mod host_scripts;
+mod host_read;
 #[cfg(test)]
 mod host_turns;
 #[cfg(test)]

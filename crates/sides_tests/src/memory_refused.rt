@@ -5,7 +5,7 @@ use crate::driver::{Driver, opened, submit};
 use crate::expecting::{same, same_at};
 use crate::guest::{DATA, ENTRIES, QUEUES, io_entry};
 use crate::guest_memory::GuestMemory;
-use crate::host_scripts::{SUCCESS, completion};
+use crate::host_read::{SUCCESS, completion};
 use crate::hostile_memory::SMALL;
 use crate::requests::of_blocks;
 use block_image::Image;
@@ -100,7 +100,7 @@ fn refused_in_turn<'a>(
             reserve(rt, heap, driver, growth)
         } else {
             heap.refuse(Nth(growth));
-            driver.collect(rt, 1, 0).err()
+            driver.collect(1, 0).err()
         };
         if heap.tally().refused == 0 {
             same(rt, why, None);
@@ -108,6 +108,7 @@ fn refused_in_turn<'a>(
         }
         same_at(rt, growth, why, Some(HostRefusal::Memory));
         same_at(rt, growth, heap.tally().bytes, bytes);
+        driver.recount(rt);
     }
     0
 }
@@ -120,7 +121,7 @@ fn a_host_wants_memory(rt: HostRuntime) {
     let mut driver = opened(&rt, &heap);
     submit(&rt, &mut driver, &heap, 0);
     driver.scribble(3, 0, &completion(1, 1, 0, SUCCESS));
-    assert!(rt; driver.reap(&rt, 1).is_ok());
+    assert!(rt; driver.reap(1).is_ok());
     assert!(rt; refused_in_turn(&rt, &heap, &mut driver, false) > 0);
     assert!(rt; refused_in_turn(&rt, &heap, &mut driver, true) > 0);
     drop(driver);
