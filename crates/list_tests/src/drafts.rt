@@ -1,14 +1,12 @@
 //! Drafts and finished commands that are made, used and taken apart.
 
-use crate::asked::{Asked, BLOCK, BUCKET, PAGE, Pages, drafted, joined};
+use crate::asked::{Asked, BLOCK, BUCKET, taken};
 use crate::expecting::{same, same_at};
-use entry_codec::{Status, SubEntry};
-use io_commands::*;
-use page_memory::{PageNo, Store};
-use sgl_chain::Part;
+use entry_codec::Status;
+use io_commands::{Draft, FillFault, Finished, Kind, Piece};
+use sgl_chain::pages_needed;
 use std::alloc::Global;
 use std::process::Abort;
-use std::test::Fail;
 
 /// Two halves of a block with a bucket between them.
 const HALVES: Asked = Asked {
@@ -33,66 +31,31 @@ const HALVES: Asked = Asked {
     ],
 };
 
-/// Takes a page and puts this byte into 512 bytes of it, from 100 on.
-fn put_filled(
-    rt: &impl Abort,
-    store: &mut Store,
-    pages: &mut Pages,
-    number: u32,
-    byte: u8,
-) -> Result<(), Fail> {
-    let mut page = store.take(PageNo(number)).expect(rt, "it is in");
-    page.set(100, &[byte; 512]);
-    pages.push((PageNo(number), page))?;
-    Ok(())
-}
-
 /// A Read that has ended on two pages, each with bytes of its own.
-fn finished(rt: &impl Abort, alloc: Global) -> Result<Finished, Fail> {
-    let mut store = Store::open(alloc, 8)?;
-    let mut pages = Vec::new(alloc);
-    put_filled(rt, &mut store, &mut pages, 4, 0xA0)?;
-    put_filled(rt, &mut store, &mut pages, 5, 0xB0)?;
-    let request = HALVES.request(alloc)?;
+pub(crate) fn finished(rt: &impl Abort, alloc: Global) -> Finished {
+    let mut pages = taken(rt, alloc, 2);
+    let mut byte = 0xA0;
+    for (_, page) in pages.iter_mut() {
+        page.set(100, &[byte; 512]);
+        byte = 0xB0;
+    }
+    let request = HALVES.request(alloc).expect(rt, "a request");
     assert!(rt; request.check().is_ok());
     assert!(rt; request.pieces.data_pages() <= pages.len());
-    Ok(Finished::make(1, 3, request, Status::SUCCESS, pages))
-}
-
-/// Sees that bytes are 256 of one page and 256 of the other.
-fn see_halves(rt: &impl Abort, bytes: &[u8]) {
-    same(rt, bytes.len(), 512);
-    for (i, byte) in bytes.iter().enumerate() {
-        let wanted = if i < 256 { 0xA0 } else { 0xB0 };
-        same_at(rt, i, *byte, wanted);
-    }
+    Finished::make(1, 3, request, Status::SUCCESS, pages)
 }
 
 #[test]
-fn a_read_gathers_its_data_pieces(rt: HostRuntime) -> Result<(), Fail> {
-    let done = finished(&rt, rt.alloc())?;
-    let gathered = done.gather(rt.alloc());
-    let _parts = done.apart();
-    see_halves(&rt, gathered?.as_slice());
-    Ok(())
-}
-
-/// What a finished command is made of.
-#[test]
-fn a_finished_command_keeps_what_it_is_made_of(rt: HostRuntime) -> Result<(), Fail> {
-    let done = finished(&rt, rt.alloc())?;
-    let named = (done.q(), done.cid(), done.status());
-    let pages = done.pages().len();
+fn a_read_gathers_its_data_pieces(rt: HostRuntime) {
+    let done = finished(&rt, rt.alloc());
+    let gathered = done.gather(rt.alloc()).expect(&rt, "its bytes");
     let parts = done.apart();
-    same(&rt, named, (1, 3, Status::SUCCESS));
-    same(&rt, (pages, parts.q, parts.pages.len()), (2, 1, 2));
-    Ok(())
-}
-
-#[test]
-fn a_ticket_names_its_command(rt: HostRuntime) {
-    let named = Ticket::make(1, 3).apart();
-    same(&rt, named, (1, 3));
+    same(&rt, (parts.q, parts.cid, parts.pages.len()), (1, 3, 2));
+    same(&rt, gathered.len(), 512);
+    for (i, byte) in gathered.iter().enumerate() {
+        let wanted = if i < 256 { 0xA0 } else { 0xB0 };
+        same_at(&rt, i, *byte, wanted);
+    }
 }
 
 /// Three blocks, each on a page of its own.
@@ -102,93 +65,43 @@ const THREE: Asked = Asked {
     pieces: &[(BLOCK, 3)],
 };
 
+/// A draft of three blocks on three data pages and two chain pages, with two descriptors in a segment.
+pub(crate) fn drafted(rt: &impl Abort, alloc: Global) -> Draft {
+    let request = THREE.request(alloc).expect(rt, "a request");
+    assert!(rt; request.check().is_ok());
+    let pages = taken(rt, alloc, 5);
+    let count = request.data_pages();
+    assert!(rt; count <= pages.len());
+    let (front, _) = pages.split_at(count);
+    let joined = request.parts_in(alloc, front).expect(rt, "its parts");
+    assert!(rt; count + pages_needed(joined.len(), 2) == pages.len());
+    Draft::make(1, 0, request, pages, 2)
+}
+
 /// The descriptors of the first segment of three blocks: the block on page 4, and the link to the other segment.
 const FIRST_SEGMENT: [u8; 32] = [
     0, 0x40, 0, 0, 0, 0, 0, 0, 0, 2, 0, 0, 0, 0, 0, 0, 0, 0x80, 0, 0, 0, 0, 0, 0, 0x20, 0, 0, 0, 0,
     0, 0, 0x30,
 ];
 
-/// Whether a page begins with these bytes.
-fn begins_with(pages: &Pages, place: usize, bytes: &[u8]) -> bool {
-    match pages.get(place) {
-        Some((_, page)) => page.bytes().starts_with(bytes),
-        None => false,
-    }
-}
-
 #[test]
-fn a_draft_is_filled_with_the_bytes_of_its_data(rt: HostRuntime) -> Result<(), Fail> {
-    let mut draft = drafted(&rt, rt.alloc(), &THREE, 4, 5, 2)?;
-    let unbuilt = draft.entry();
+fn a_draft_is_filled_and_built(rt: HostRuntime) {
+    let mut draft = drafted(&rt, rt.alloc());
     let short = draft.fill(&[0xAB; 1_535]);
     let filled = draft.fill(&[0xCD; 1_536]);
-    let _parts = draft.apart();
-    filled?;
-    same(&rt, unbuilt, None);
-    same(&rt, short, Err(FillFault::WrongLength));
-    Ok(())
-}
-
-/// Builds a draft of three blocks that is filled: its entry, and its pages.
-fn built_of_three(rt: &impl Abort, alloc: Global) -> Result<(SubEntry, Pages), Fail> {
-    let mut draft = drafted(rt, alloc, &THREE, 4, 5, 2)?;
-    let filled = draft.fill(&[0xCD; 1_536]);
-    let built = draft.build(alloc);
-    let entry = draft.entry();
+    let built = draft.build(rt.alloc());
+    let entry = draft.entry().expect(&rt, "it is built");
     let parts = draft.apart();
-    filled?;
-    built?;
-    Ok((entry.ok_or("built")?, parts.pages))
-}
-
-#[test]
-fn a_built_draft_names_its_chain(rt: HostRuntime) -> Result<(), Fail> {
-    let (entry, pages) = built_of_three(&rt, rt.alloc())?;
-    same(
-        &rt,
-        entry.sgl1,
-        [0, 0x70, 0, 0, 0, 0, 0, 0, 0x20, 0, 0, 0, 0, 0, 0, 0x20],
-    );
+    same(&rt, (short, filled), (Err(FillFault::WrongLength), Ok(())));
+    same(&rt, built, Ok(()));
     same(
         &rt,
         (entry.opcode, entry.psdt, entry.nsid, entry.cdw12),
         (1, 1, 1, 2),
     );
-    assert!(rt; pages.len() == 5);
-    assert!(rt; begins_with(&pages, 3, &FIRST_SEGMENT));
-    Ok(())
-}
-
-/// Four whole pages.
-const FOUR: Asked = Asked {
-    kind: Kind::Write,
-    blocks: 32,
-    pieces: &[(PAGE, 4)],
-};
-
-#[test]
-fn whole_pages_that_join_are_one_part(rt: HostRuntime) -> Result<(), Fail> {
-    let joined = joined(&rt, rt.alloc(), &FOUR, 4)?;
-    let whole = Part::Data {
-        addr: 0x4000,
-        len: 0x4000,
-    };
-    same(&rt, joined.as_slice(), [whole].as_slice());
-    Ok(())
-}
-
-#[test]
-fn whole_pages_that_join_take_no_chain(rt: HostRuntime) -> Result<(), Fail> {
-    let mut draft = drafted(&rt, rt.alloc(), &FOUR, 4, 4, 2)?;
-    let built = draft.build(rt.alloc());
-    let entry = draft.entry();
-    let parts = draft.apart();
-    built?;
-    same(&rt, parts.pages.len(), 4);
-    same(
-        &rt,
-        entry.ok_or("built")?.sgl1,
-        [0, 0x40, 0, 0, 0, 0, 0, 0, 0, 0x40, 0, 0, 0, 0, 0, 0],
-    );
-    Ok(())
+    let sgl1 = [0, 0x70, 0, 0, 0, 0, 0, 0, 0x20, 0, 0, 0, 0, 0, 0, 0x20];
+    same(&rt, entry.sgl1, sgl1);
+    assert!(rt; parts.pages.len() == 5);
+    assert!(rt; parts.pages[0].1.bytes().starts_with(&[0xCD; 512]));
+    assert!(rt; parts.pages[3].1.bytes().starts_with(&FIRST_SEGMENT));
 }
