@@ -6,7 +6,7 @@ use block_image::Image;
 use page_ledger::{Counts, Owner, Role};
 use page_memory::{Half, PageNo};
 use std::alloc::Global;
-use std::test::Fail;
+use std::process::Abort;
 use step_core::{Bench, Config, Reply, Step};
 use test_support::{Difference, Seen};
 
@@ -52,15 +52,16 @@ pub(crate) fn at_rest(pages: u32, queue_pages: u32) -> Counts {
 
 impl Desk {
     /// A desk with all its queues live, over an image of so many blocks of zeros.
-    pub(crate) fn open(alloc: Global, config: Config, blocks: u32) -> Result<Desk, Fail> {
-        match Bench::open(alloc, config, Image::zeroed(alloc, blocks)?) {
-            Ok(bench) => Ok(Desk {
+    pub(crate) fn open(rt: &impl Abort, alloc: Global, config: Config, blocks: u32) -> Desk {
+        let image = Image::zeroed(alloc, blocks).expect(rt, "an image");
+        match Bench::open(alloc, config, image) {
+            Ok(bench) => Desk {
                 bench,
                 alloc,
                 notes: Notes::new(),
                 seen: Seen::new(alloc),
-            }),
-            Err(_) => Err(Fail::from("it was not opened")),
+            },
+            Err(_) => panic!(rt; "it was not opened"),
         }
     }
 
@@ -114,15 +115,18 @@ impl Desk {
 
     /// How many pages a half of a queue has. They must stand together.
     pub(crate) fn half(&mut self, q: u16, half: Half) -> u32 {
-        let mut last = None;
+        let mut together = true;
+        let mut behind = None;
         let mut count = 0u32;
         for p in 0..self.bench.pages() {
             if self.bench.owner(PageNo(p)) == (Owner::Queue { q, half }) {
-                self.seen.same(last.unwrap_or(p), p);
-                last = p.checked_add(1);
+                together = together && behind.unwrap_or(p) == p;
+                behind = p.checked_add(1);
                 count = count.wrapping_add(1);
             }
         }
+        self.seen
+            .holds("the pages of a half stand together", together);
         count
     }
 
@@ -135,7 +139,10 @@ impl Desk {
             seen,
         } = self;
         let _ended = bench.end();
-        seen.end()?;
-        Ok(notes.tally)
+        let tally = notes.tally;
+        match seen.end() {
+            Ok(()) => Ok(tally),
+            Err(difference) => Err(difference),
+        }
     }
 }

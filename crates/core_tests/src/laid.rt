@@ -16,7 +16,7 @@ type List = (u32, [u8; 32]);
 /// A Read from block 0 on, in segments of so many descriptors, and what lies in its entry and on its pages.
 struct Case {
     segment: u32,
-    blocks: u32,
+    blocks: u8,
     pieces: &'static [Piece],
     sgl1: [u8; 16],
     /// The pages of its list.
@@ -81,13 +81,13 @@ static CASES: [Case; 3] = [
 ];
 
 /// The entry of command 0, a Read of so many blocks from block 0 on.
-fn entry_of(sgl1: [u8; 16], blocks: u32) -> SubEntry {
+fn entry_of(sgl1: [u8; 16], blocks: u8) -> SubEntry {
     let mut bytes = [0; 64];
     bytes[0] = 0x02;
     bytes[1] = 0x40;
     bytes[4] = 0x01;
     bytes[24..40].copy_from_slice(&sgl1);
-    bytes[48] = blocks.wrapping_sub(1) as u8;
+    bytes[48] = blocks.wrapping_sub(1);
     SubEntry::read(&bytes)
 }
 
@@ -131,7 +131,7 @@ fn ended(world: &mut World, draft: Draft) -> Result<Finished, Fail> {
 
 /// Sees what lies in a world.
 fn see_laid(alloc: Global, seen: &mut Seen, world: &mut World, case: &Case) -> Result<(), Fail> {
-    let draft = built(alloc, world, case.blocks, case.pieces)?;
+    let draft = built(alloc, world, u32::from(case.blocks), case.pieces)?;
     let entry = draft.entry();
     seen.same(entry, Some(entry_of(case.sgl1, case.blocks)));
     see_lists(seen, draft.pages(), case.lists);
@@ -146,7 +146,7 @@ fn entries_and_lists_have_their_bytes(rt: HostRuntime) -> Result<(), Fail> {
     let mut seen = Seen::new(rt.alloc());
     for case in &CASES {
         let segment = case.segment;
-        let mut world = opened(rt.alloc(), Config { segment, ..USUAL })?;
+        let mut world = opened(&rt, rt.alloc(), Config { segment, ..USUAL });
         let laid = see_laid(rt.alloc(), &mut seen, &mut world, case);
         let _ended = world.end();
         laid?;

@@ -9,6 +9,7 @@ use io_commands::{Kind, Piece, Pieces, Request};
 use page_ledger::Counts;
 use script_cli::run_steps;
 use std::alloc::{AllocError, Global};
+use std::process::Abort;
 use std::test::Fail;
 use step_core::Config;
 use test_support::Seen;
@@ -64,37 +65,28 @@ fn blocks(alloc: Global) -> Result<Vec<u8>, AllocError> {
 }
 
 /// Carries a command through on the last queue.
-fn see_carried(
-    desk: &mut Desk,
-    kind: Kind,
-    bytes: &[u8],
-    status: Status,
-) -> Result<(), AllocError> {
-    let request = largest(desk.alloc, kind)?;
-    let steps = carry(desk, 64, request, bytes, status)?;
+fn see_carried(rt: &impl Abort, desk: &mut Desk, kind: Kind, bytes: &[u8], status: Status) {
+    let request = largest(desk.alloc, kind).expect(rt, "memory");
+    let steps = carry(rt, desk, 64, request, bytes, status);
     desk.seen.same(steps, STEPS);
     desk.see_counts(AS_OPENED);
-    Ok(())
 }
 
 /// A Write replaces each byte, a Read gathers each, and a Compare sees the last one.
-fn see_largest(desk: &mut Desk) -> Result<(), AllocError> {
-    let mut bytes = blocks(desk.alloc)?;
+#[test]
+fn the_largest_commands_move_each_byte(rt: HostRuntime) -> Result<(), Fail> {
+    let mut desk = Desk::open(&rt, rt.alloc(), LARGEST, BLOCKS);
+    let mut bytes = blocks(rt.alloc()).expect(&rt, "memory");
     for kind in [Kind::Write, Kind::Read, Kind::Compare] {
-        see_carried(desk, kind, &bytes, Status::SUCCESS)?;
+        see_carried(&rt, &mut desk, kind, &bytes, Status::SUCCESS);
     }
     if let Some(last) = bytes.last_mut() {
         *last ^= 1;
     }
-    see_carried(desk, Kind::Compare, &bytes, Status::COMPARE_FAILURE)
-}
-
-#[test]
-fn the_largest_commands_move_each_byte(rt: HostRuntime) -> Result<(), Fail> {
-    let mut desk = Desk::open(rt.alloc(), LARGEST, BLOCKS)?;
-    let seen = see_largest(&mut desk);
+    let kind = Kind::Compare;
+    see_carried(&rt, &mut desk, kind, &bytes, Status::COMPARE_FAILURE);
     desk.end()?;
-    Ok(seen?)
+    Ok(())
 }
 
 /// The steps of a Read as lines of a script.
@@ -113,12 +105,12 @@ fn script(alloc: Global) -> Result<String, AllocError> {
 }
 
 /// An image of 2,048 blocks: half of bytes 11h, half of bytes 22h.
-fn halves(alloc: Global) -> Result<Image, Fail> {
-    let mut bytes = vec![in alloc; 0x11; 524_288]?;
-    bytes.resize(1_048_576, 0x22)?;
+fn halves(rt: &impl Abort, alloc: Global) -> Image {
+    let mut bytes = vec![in alloc; 0x11; 524_288].expect(rt, "memory");
+    bytes.resize(1_048_576, 0x22).expect(rt, "memory");
     match Image::from_bytes(bytes) {
-        Ok(image) => Ok(image),
-        Err(_) => Err(Fail::from("no image")),
+        Ok(image) => image,
+        Err(_) => panic!(rt; "no image"),
     }
 }
 
@@ -147,8 +139,8 @@ counts free 64236 queue 1300 chain 0 data 0
 #[test]
 fn a_script_reads_the_most_blocks(rt: HostRuntime) -> Result<(), Fail> {
     let mut seen = Seen::new(rt.alloc());
-    let text = script(rt.alloc())?;
-    let image = halves(rt.alloc())?;
+    let text = script(rt.alloc()).expect(&rt, "memory");
+    let image = halves(&rt, rt.alloc());
     let mut reader = text.as_bytes();
     let mut writer = Vec::new(rt.alloc());
     let end = run_steps(rt.alloc(), LARGEST, image, &mut reader, &mut writer);

@@ -4,7 +4,6 @@ use controller_walk::{Walk, WalkState};
 use entry_codec::Status;
 use page_memory::{FlatMemory, TouchRecord};
 use sgl_descriptor::{Descriptor, Direction};
-use std::alloc::{AllocError, Global};
 use std::process::Abort;
 use std::test::Fail;
 use test_support::Seen;
@@ -102,15 +101,12 @@ static CASES: [Case; 10] = [
     },
 ];
 
-/// A memory of eight pages in which these bytes are missing.
-fn without(rt: &impl Abort, alloc: Global, missing: &[usize]) -> Result<FlatMemory, AllocError> {
-    let mut memory = FlatMemory::zeroed(alloc, 8)?;
-    for place in missing {
-        assert!(rt; memory.pages() == 8 && *place < 0x8000);
-        memory.remove(*place, 1);
-    }
-    memory.clear();
-    Ok(memory)
+/// Takes a byte of a memory of eight pages away.
+fn remove(rt: &impl Abort, memory: &mut FlatMemory, place: usize) {
+    let pages = memory.pages();
+    assert!(rt; pages == 8);
+    assert!(rt; place < 0x8000);
+    memory.remove(place, 1);
 }
 
 /// Walks a list, and sees how that ends.
@@ -134,7 +130,10 @@ fn see_walk(rt: &impl Abort, seen: &mut Seen, memory: &mut FlatMemory, case: &Ca
 fn missing_bytes_are_met_or_not(rt: HostRuntime) -> Result<(), Fail> {
     let mut seen = Seen::new(rt.alloc());
     for case in &CASES {
-        let mut memory = without(&rt, rt.alloc(), case.missing)?;
+        let mut memory = FlatMemory::zeroed(rt.alloc(), 8).expect(&rt, "a memory");
+        for place in case.missing {
+            remove(&rt, &mut memory, *place);
+        }
         see_walk(&rt, &mut seen, &mut memory, case);
     }
     Ok(seen.end()?)

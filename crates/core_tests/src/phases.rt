@@ -3,6 +3,7 @@
 use crate::desk::{Desk, at_rest};
 use script_cli::{Line, Verb, append_reply, read_script};
 use std::alloc::Global;
+use std::process::Abort;
 use std::test::Fail;
 use step_core::{Config, Step};
 
@@ -269,38 +270,34 @@ const ABORT: Course = Course {
 static COURSES: [&Course; 6] = [&READ, &WRITE, &COMPARE, &QUEUES, &DELETION, &ABORT];
 
 /// The step of a line.
-fn step_of(alloc: Global, line: &str) -> Result<Step, Fail> {
-    let Ok(script) = read_script(alloc, line.as_bytes()) else {
-        return Err(Fail::from("no script"));
-    };
+fn step_of(rt: &impl Abort, alloc: Global, line: &str) -> Step {
+    let script = read_script(alloc, line.as_bytes()).expect(rt, "a script");
     for numbered in script.into_lines() {
         if let Line::Step(step) = numbered.line {
-            return Ok(step);
+            return step;
         }
     }
-    Err(Fail::from("no step"))
+    panic!(rt; "{line}: no step")
 }
 
 /// Does the step of a line, and sees that it answers so.
-fn play_step(desk: &mut Desk, line: &str, wanted: &str) -> Result<(), Fail> {
-    let step = step_of(desk.alloc, line)?;
+fn play_step(rt: &impl Abort, desk: &mut Desk, line: &str, wanted: &str) {
+    let step = step_of(rt, desk.alloc, line);
     let verb = Verb::of(&step);
     let reply = desk.reply(step);
     let mut text = String::new(desk.alloc);
-    append_reply(&mut text, 1, verb, &reply)?;
+    append_reply(&mut text, 1, verb, &reply).expect(rt, "memory");
     let name = verb.name();
-    let wanted = format!(in desk.alloc; "1 {name} {wanted}\n")?;
+    let wanted = format!(in desk.alloc; "1 {name} {wanted}\n").expect(rt, "memory");
     desk.seen.same_at(line, text.as_str(), wanted.as_str());
-    Ok(())
 }
 
 /// Does the steps of lines, and sees that each answers as stands behind its arrow.
-fn play(desk: &mut Desk, lines: &str) -> Result<(), Fail> {
+fn play(rt: &impl Abort, desk: &mut Desk, lines: &str) {
     for line in lines.lines() {
-        let (step, wanted) = line.split_once(" => ").ok_or("no arrow")?;
-        play_step(desk, step, wanted)?;
+        let (step, wanted) = line.split_once(" => ").expect(rt, "an arrow");
+        play_step(rt, desk, step, wanted);
     }
-    Ok(())
 }
 
 /// What the calls over the command of a course answer behind so many of its steps and a reset.
@@ -312,32 +309,29 @@ fn left_behind(course: &Course, steps: usize) -> &'static str {
 }
 
 /// Does the first steps of a course, resets the controller, gives back what is left, makes the queue again and reads.
-fn reset_behind(desk: &mut Desk, course: &Course, steps: usize) -> Result<(), Fail> {
+fn reset_behind(rt: &impl Abort, desk: &mut Desk, course: &Course, steps: usize) {
     for (step, _) in course.rows.iter().take(steps) {
-        play(desk, step)?;
+        play(rt, desk, step);
     }
-    play(desk, "reset => ok")?;
-    play(desk, left_behind(course, steps))?;
+    play(rt, desk, "reset => ok");
+    play(rt, desk, left_behind(course, steps));
     desk.see_counts(at_rest(CONFIG.pages, 2));
-    play(desk, MADE_AGAIN)?;
-    play(desk, READ_AGAIN)?;
+    play(rt, desk, MADE_AGAIN);
+    play(rt, desk, READ_AGAIN);
     match course.written {
-        Some(written) if written <= steps => play(desk, GATHERS_WRITTEN)?,
-        _ => play(desk, GATHERS_ZEROS)?,
+        Some(written) if written <= steps => play(rt, desk, GATHERS_WRITTEN),
+        _ => play(rt, desk, GATHERS_ZEROS),
     }
     desk.see_counts(at_rest(CONFIG.pages, 4));
-    Ok(())
 }
 
 #[test]
 fn commands_are_reset_in_each_phase(rt: HostRuntime) -> Result<(), Fail> {
     for course in COURSES {
         for steps in 0..=course.rows.len() {
-            let mut desk = Desk::open(rt.alloc(), CONFIG, 64)?;
-            let played = reset_behind(&mut desk, course, steps);
-            let ended = desk.end();
-            played?;
-            ended?;
+            let mut desk = Desk::open(&rt, rt.alloc(), CONFIG, 64);
+            reset_behind(&rt, &mut desk, course, steps);
+            desk.end()?;
         }
     }
     Ok(())

@@ -9,10 +9,11 @@ use crate::sets::all_sets;
 use crate::told::Told;
 use entry_codec::Status;
 use machine_model::words::Reaped;
-use std::alloc::{AllocError, Global};
+use std::alloc::Global;
+use std::process::Abort;
 use std::test::Fail;
 use step_core::{Config, Step};
-use test_support::{Numbers, Seen};
+use test_support::{Difference, Numbers, Seen};
 
 /// How many steps come before the reset.
 const STEPS: u32 = 10_000;
@@ -77,7 +78,7 @@ fn make(desk: &mut Desk, step: Step) {
 }
 
 /// Resets the controller, and sees that nothing is left of what was before it.
-fn recover(desk: &mut Desk, numbers: &mut Numbers) -> Result<(), AllocError> {
+fn recover(rt: &impl Abort, desk: &mut Desk, numbers: &mut Numbers) {
     let before = [desk.notes.rings(1), desk.notes.rings(2)];
     desk.see(Step::Reset, Told::Accepted);
     give_all_back(desk, before);
@@ -87,31 +88,23 @@ fn recover(desk: &mut Desk, numbers: &mut Numbers) -> Result<(), AllocError> {
         make(desk, Step::CreateSq { q });
     }
     for q in 1..3 {
-        all_sets(desk, numbers, q)?;
+        all_sets(rt, desk, numbers, q);
     }
     desk.see_counts(at_rest(CONFIG.pages, 6));
-    Ok(())
-}
-
-/// Does arbitrary steps, and recovers.
-fn lose_and_recover(desk: &mut Desk, numbers: &mut Numbers) -> Result<(), AllocError> {
-    for _ in 0..STEPS {
-        any_step(desk, numbers)?;
-    }
-    recover(desk, numbers)
 }
 
 /// Recovers once for each seed from one on: what was counted.
-fn recovered(alloc: Global, first: u64) -> Result<Tally, Fail> {
+fn recovered(rt: &impl Abort, alloc: Global, first: u64) -> Result<Tally, Difference> {
     let mut tally = Tally::NOTHING;
     for more in 0..SEEDS {
-        let mut desk = Desk::open(alloc, CONFIG, BLOCKS)?;
+        let mut desk = Desk::open(rt, alloc, CONFIG, BLOCKS);
         desk.notes.tally = tally;
         let mut numbers = Numbers::new(first.wrapping_add(more));
-        let done = lose_and_recover(&mut desk, &mut numbers);
-        let ended = desk.end();
-        done?;
-        tally = ended?;
+        for _ in 0..STEPS {
+            any_step(&mut desk, &mut numbers).expect(rt, "memory");
+        }
+        recover(rt, &mut desk, &mut numbers);
+        tally = desk.end()?;
     }
     Ok(tally)
 }
@@ -129,7 +122,11 @@ static ROWS: [(u64, [u32; 5]); 8] = [
 ];
 
 /// Recovers for these rows.
-fn rows_recover(alloc: Global, rows: &[(u64, [u32; 5])]) -> Result<(), Fail> {
+fn rows_recover(
+    rt: &impl Abort,
+    alloc: Global,
+    rows: &[(u64, [u32; 5])],
+) -> Result<(), Difference> {
     let mut seen = Seen::new(alloc);
     for (first, wanted) in rows {
         let Tally {
@@ -138,29 +135,29 @@ fn rows_recover(alloc: Global, rows: &[(u64, [u32; 5])]) -> Result<(), Fail> {
             admin_done,
             rejected,
             lost,
-        } = recovered(alloc, *first)?;
+        } = recovered(rt, alloc, *first)?;
         let counted = [submitted, done, admin_done, rejected, lost];
         seen.same_at(*first, counted, *wanted);
     }
-    Ok(seen.end()?)
+    seen.end()
 }
 
 #[test]
 fn seeds_1_to_50_recover(rt: HostRuntime) -> Result<(), Fail> {
-    rows_recover(rt.alloc(), &ROWS[0..2])
+    Ok(rows_recover(&rt, rt.alloc(), &ROWS[0..2])?)
 }
 
 #[test]
 fn seeds_51_to_100_recover(rt: HostRuntime) -> Result<(), Fail> {
-    rows_recover(rt.alloc(), &ROWS[2..4])
+    Ok(rows_recover(&rt, rt.alloc(), &ROWS[2..4])?)
 }
 
 #[test]
 fn seeds_101_to_150_recover(rt: HostRuntime) -> Result<(), Fail> {
-    rows_recover(rt.alloc(), &ROWS[4..6])
+    Ok(rows_recover(&rt, rt.alloc(), &ROWS[4..6])?)
 }
 
 #[test]
 fn seeds_151_to_200_recover(rt: HostRuntime) -> Result<(), Fail> {
-    rows_recover(rt.alloc(), &ROWS[6..8])
+    Ok(rows_recover(&rt, rt.alloc(), &ROWS[6..8])?)
 }

@@ -10,10 +10,11 @@ use entry_codec::Status;
 use io_commands::Kind;
 use machine_model::words::{Reaped, Refusal};
 use page_memory::Half;
-use std::alloc::{AllocError, Global};
+use std::alloc::Global;
+use std::process::Abort;
 use std::test::Fail;
 use step_core::{Config, Step};
-use test_support::{Numbers, Seen};
+use test_support::{Difference, Numbers, Seen};
 
 /// How many queues are made again for each seed.
 const TIMES: u32 = 2_500;
@@ -42,15 +43,14 @@ fn later(k: u32, q: u16, cid: u16) -> Step {
 }
 
 /// A Read of a block on any queue goes as far as it comes out.
-fn command(desk: &mut Desk, numbers: &mut Numbers) -> Result<(), AllocError> {
+fn command(rt: &impl Abort, desk: &mut Desk, numbers: &mut Numbers) {
     let q = numbers.below(2) as u16 + 1;
-    let request = request(desk.alloc, Kind::Read, SHAPES[0], 0)?;
+    let request = request(desk.alloc, Kind::Read, SHAPES[0], 0).expect(rt, "memory");
     if let Told::Reserved(cid) = desk.step(Step::Reserve { q, request }) {
         for k in 0..numbers.below(11) {
             let _told = desk.step(later(k, q, cid));
         }
     }
-    Ok(())
 }
 
 /// Takes all completions of a queue.
@@ -146,33 +146,33 @@ fn make(desk: &mut Desk, q: u16, half: Half) -> bool
 }
 
 /// Deletes a queue and makes it again, with commands between. How often no page was free.
-fn renew(desk: &mut Desk, numbers: &mut Numbers) -> Result<u32, AllocError> {
+fn renew(rt: &impl Abort, desk: &mut Desk, numbers: &mut Numbers) -> u32 {
     let q = numbers.below(2) as u16 + 1;
-    command(desk, numbers)?;
+    command(rt, desk, numbers);
     let told = admin(desk, Step::DeleteSq { q }, q);
     desk.seen.same(told, None);
-    command(desk, numbers)?;
+    command(rt, desk, numbers);
     reap_all(desk, q);
     let _told = desk.step(Step::Retire { q });
     give_back(desk, q);
     let told = admin(desk, Step::DeleteCq { q }, q);
     desk.seen.same(told, None);
-    command(desk, numbers)?;
+    command(rt, desk, numbers);
     let first = make(desk, q, Half::Completion);
-    command(desk, numbers)?;
+    command(rt, desk, numbers);
     let second = make(desk, q, Half::Submission);
     for half in [Half::Submission, Half::Completion] {
         let pages = desk.half(q, half);
         desk.seen.same(pages, 1);
     }
-    Ok(u32::from(first) + u32::from(second))
+    u32::from(first) + u32::from(second)
 }
 
 /// Makes queues again: how often no page was free, and how many commands ended with a completion. Then all commands give their pages back.
-fn renew_all(desk: &mut Desk, numbers: &mut Numbers) -> Result<(u32, u32), AllocError> {
+fn renew_all(rt: &impl Abort, desk: &mut Desk, numbers: &mut Numbers) -> (u32, u32) {
     let mut no_run = 0u32;
     for _ in 0..TIMES {
-        no_run = no_run.wrapping_add(renew(desk, numbers)?);
+        no_run = no_run.wrapping_add(renew(rt, desk, numbers));
     }
     let done = desk.notes.tally.done;
     for q in 1..3 {
@@ -180,7 +180,7 @@ fn renew_all(desk: &mut Desk, numbers: &mut Numbers) -> Result<(u32, u32), Alloc
         give_back(desk, q);
     }
     desk.see_counts(at_rest(CONFIG.pages, 6));
-    Ok((no_run, done))
+    (no_run, done)
 }
 
 /// Seeds, how often a creation finds no free page, and how many commands end with a completion.
@@ -192,19 +192,22 @@ static ROWS: [(u64, u32, u32); 4] = [
 ];
 
 /// Makes queues again by numbers from a seed on.
-fn renewed(alloc: Global, seed: u64) -> Result<(u32, u32), Fail> {
-    let mut desk = Desk::open(alloc, CONFIG, 4)?;
+fn renewed(rt: &impl Abort, alloc: Global, seed: u64) -> Result<(u32, u32), Difference> {
+    let mut desk = Desk::open(rt, alloc, CONFIG, 4);
     let mut numbers = Numbers::new(seed);
-    let counted = renew_all(&mut desk, &mut numbers);
-    desk.end()?;
-    Ok(counted?)
+    let counted = renew_all(rt, &mut desk, &mut numbers);
+    match desk.end() {
+        Ok(_) => Ok(counted),
+        Err(difference) => Err(difference),
+    }
 }
 
 #[test]
 fn queues_are_made_again(rt: HostRuntime) -> Result<(), Fail> {
     let mut seen = Seen::new(rt.alloc());
     for (seed, no_run, done) in &ROWS {
-        seen.same_at(*seed, renewed(rt.alloc(), *seed)?, (*no_run, *done));
+        let counted = renewed(&rt, rt.alloc(), *seed)?;
+        seen.same_at(*seed, counted, (*no_run, *done));
     }
     Ok(seen.end()?)
 }

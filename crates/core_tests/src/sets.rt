@@ -7,7 +7,7 @@ use controller_walk::WalkState;
 use entry_codec::Status;
 use io_commands::{Kind, Request};
 use machine_model::words::Reaped;
-use std::alloc::AllocError;
+use std::process::Abort;
 use step_core::{Bytes, Step};
 use test_support::Numbers;
 
@@ -44,17 +44,19 @@ fn serve(desk: &mut Desk, q: u16, status: Status) -> u32 {
 /// Carries the only command of a queue through, which ends with this status: a Read gathers these bytes, another one is filled with them.
 /// How many steps its walk takes.
 pub(crate) fn carry(
+    rt: &impl Abort,
     desk: &mut Desk,
     q: u16,
     request: Request,
     bytes: &[u8],
     status: Status,
-) -> Result<u32, AllocError> {
+) -> u32 {
     let cid = 0;
     let reads = request.kind == Kind::Read;
     desk.see(Step::Reserve { q, request }, Told::Reserved(cid));
     if !reads {
-        let bytes = Bytes::from_vec(Vec::from_slice(desk.alloc, bytes)?);
+        let copy = Vec::from_slice(desk.alloc, bytes).expect(rt, "memory");
+        let bytes = Bytes::from_vec(copy);
         desk.see(Step::Fill { q, cid, bytes }, Told::Accepted);
     }
     let steps = serve(desk, q, status);
@@ -62,30 +64,41 @@ pub(crate) fn carry(
         desk.see_gathered(q, cid, bytes);
     }
     desk.see(Step::Release { q, cid }, Told::Accepted);
-    Ok(steps)
+    steps
+}
+
+/// Carries a command of a shape through.
+fn carry_shape(
+    rt: &impl Abort,
+    desk: &mut Desk,
+    q: u16,
+    asked: (Kind, Shape, u32),
+    bytes: &[u8],
+    status: Status,
+) {
+    let (kind, shape, slba) = asked;
+    let request = request(desk.alloc, kind, shape, slba).expect(rt, "memory");
+    let _steps = carry(rt, desk, q, request, bytes, status);
 }
 
 /// Writes blocks, reads them, and compares them with the bytes that were written and with others.
-fn set(desk: &mut Desk, q: u16, shape: Shape, slba: u32, first: u8) -> Result<(), AllocError> {
-    let mut bytes = bytes(desk.alloc, shape.blocks, first)?;
+fn set(rt: &impl Abort, desk: &mut Desk, q: u16, shape: Shape, slba: u32, first: u8) {
+    let mut bytes = bytes(desk.alloc, shape.blocks, first).expect(rt, "memory");
     for kind in [Kind::Write, Kind::Read, Kind::Compare] {
-        let request = request(desk.alloc, kind, shape, slba)?;
-        let _steps = carry(desk, q, request, &bytes, Status::SUCCESS)?;
+        carry_shape(rt, desk, q, (kind, shape, slba), &bytes, Status::SUCCESS);
     }
     if let Some(last) = bytes.last_mut() {
         *last ^= 1;
     }
-    let request = request(desk.alloc, Kind::Compare, shape, slba)?;
-    let _steps = carry(desk, q, request, &bytes, Status::COMPARE_FAILURE)?;
-    Ok(())
+    let compare = (Kind::Compare, shape, slba);
+    carry_shape(rt, desk, q, compare, &bytes, Status::COMPARE_FAILURE);
 }
 
 /// Each kind in each size succeeds on a queue.
-pub(crate) fn all_sets(desk: &mut Desk, numbers: &mut Numbers, q: u16) -> Result<(), AllocError> {
+pub(crate) fn all_sets(rt: &impl Abort, desk: &mut Desk, numbers: &mut Numbers, q: u16) {
     for shape in SHAPES {
         let slba = numbers.below(BLOCKS - 5);
         let first = numbers.below(256) as u8;
-        set(desk, q, shape, slba, first)?;
+        set(rt, desk, q, shape, slba, first);
     }
-    Ok(())
 }

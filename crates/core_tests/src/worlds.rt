@@ -3,6 +3,7 @@
 use block_image::Image;
 use io_commands::{Draft, Kind, Piece, Pieces, Request, Ticket};
 use std::alloc::{AllocError, Global};
+use std::process::Abort;
 use std::test::Fail;
 use step_core::{Config, Leftover, OpenRefusal, Refusal, Refused, World};
 use test_support::Seen;
@@ -113,10 +114,11 @@ fn openings_have_borders(rt: HostRuntime) -> Result<(), Fail> {
 }
 
 /// A world over an image of zeros.
-pub(crate) fn opened(alloc: Global, config: Config) -> Result<World, Fail> {
-    match World::open(alloc, config, Image::zeroed(alloc, 64)?) {
-        Ok(world) => Ok(world),
-        Err(_) => Err(Fail::from("it was not opened")),
+pub(crate) fn opened(rt: &impl Abort, alloc: Global, config: Config) -> World {
+    let image = Image::zeroed(alloc, 64).expect(rt, "an image");
+    match World::open(alloc, config, image) {
+        Ok(world) => world,
+        Err(_) => panic!(rt; "it was not opened"),
     }
 }
 
@@ -209,8 +211,8 @@ fn stranger(
 #[test]
 fn a_draft_of_another_world_is_a_stranger(rt: HostRuntime) -> Result<(), Fail> {
     let mut seen = Seen::new(rt.alloc());
-    let mut other = opened(rt.alloc(), USUAL)?;
-    let mut world = opened(rt.alloc(), USUAL)?;
+    let mut other = opened(&rt, rt.alloc(), USUAL);
+    let mut world = opened(&rt, rt.alloc(), USUAL);
     let ticket = stranger(rt.alloc(), &mut seen, &mut world, &mut other);
     world.check();
     let ended = world.end();

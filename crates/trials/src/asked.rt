@@ -5,7 +5,7 @@ ghost use Rattle.std.specs.Prelude.{◌≤◌};
 use crate::reads::{MOST_BLOCKS, MOST_JOBS, Shape};
 
 /// How Reads are carried through.
-#[derive(Clone, Copy, Debug, PartialEq, Eq)]
+#[derive(Clone, Copy)]
 pub enum Way {
     /// By submitters, a poller and a controller, each in a thread of its own, over a shared book.
     Threads,
@@ -17,7 +17,7 @@ pub enum Way {
 }
 
 /// What the command line asks for.
-#[derive(Clone, Copy, Debug, PartialEq, Eq)]
+#[derive(Clone, Copy)]
 pub enum Asked {
     /// Random steps over worlds.
     Hostile {
@@ -39,9 +39,9 @@ pub enum Asked {
     All,
 }
 
-/// A number from `least` to `most`.
-fn number(word: &str, least: u32, most: u32) -> Option<u32> {
-    let number: u32 = word.parse().ok()?;
+/// A number of the command line, from `least` to `most`.
+fn number(word: &String, least: u32, most: u32) -> Option<u32> {
+    let number: u32 = word.as_str().parse().ok()?;
     if least <= number && number <= most {
         Some(number)
     } else {
@@ -50,7 +50,10 @@ fn number(word: &str, least: u32, most: u32) -> Option<u32> {
 }
 
 /// The shape that three words name.
-fn shape(submitters: &str, jobs: &str, blocks: &str) -> Option<Shape> {
+fn shape(words: &[String]) -> Option<Shape> {
+    let [submitters, jobs, blocks] = words else {
+        return None;
+    };
     Some(Shape {
         submitters: number(submitters, 1, 16)?,
         jobs: number(jobs, 0, MOST_JOBS)?,
@@ -58,26 +61,41 @@ fn shape(submitters: &str, jobs: &str, blocks: &str) -> Option<Shape> {
     })
 }
 
+/// The Reads of one thread that four words name.
+fn alone(words: &[String]) -> Option<Asked> {
+    let (times, words) = words.split_last()?;
+    Some(Asked::Reads {
+        way: Way::Alone {
+            times: number(times, 1, 100)?,
+        },
+        shape: shape(words)?,
+    })
+}
+
+/// The random steps that two words name.
+fn hostile(words: &[String]) -> Option<Asked> {
+    let [seed, steps] = words else {
+        return None;
+    };
+    Some(Asked::Hostile {
+        seed: seed.as_str().parse().ok()?,
+        steps: number(steps, 0, u32::MAX)?,
+    })
+}
+
 impl Asked {
-    /// What the words behind the program's name ask for.
-    pub fn read(words: &[&str]) -> Option<Asked> {
-        match words {
-            ["hostile", seed, steps] => Some(Asked::Hostile {
-                seed: seed.parse().ok()?,
-                steps: steps.parse().ok()?,
-            }),
-            ["threads", submitters, jobs, blocks] => Some(Asked::Reads {
+    /// What the words of the command line ask for, the first of which is the program's name.
+    pub fn read(words: &[String]) -> Option<Asked> {
+        let (verb, numbers) = words.get(1..)?.split_first()?;
+        match verb.as_str() {
+            "hostile" => hostile(numbers),
+            "threads" => Some(Asked::Reads {
                 way: Way::Threads,
-                shape: shape(submitters, jobs, blocks)?,
+                shape: shape(numbers)?,
             }),
-            ["alone", submitters, jobs, blocks, times] => Some(Asked::Reads {
-                way: Way::Alone {
-                    times: number(times, 1, 100)?,
-                },
-                shape: shape(submitters, jobs, blocks)?,
-            }),
-            ["heap"] => Some(Asked::Heap),
-            ["all"] => Some(Asked::All),
+            "alone" => alone(numbers),
+            "heap" => Some(Asked::Heap),
+            "all" => Some(Asked::All),
             _ => None,
         }
     }

@@ -1,6 +1,5 @@
 //! A world is compared with the recount.
 
-use crate::fault::Difference;
 use crate::recount::Recount;
 use page_ledger::{Counts, Owner, Role};
 use page_memory::PageNo;
@@ -23,38 +22,31 @@ fn count_one(counts: &mut Counts, owner: Owner) {
     *number = number.saturating_add(1);
 }
 
-/// Counts the pages of each class, as the world tells their owners, and finds a page whose owner is another in the recount.
-fn count_owners(world: &World, recount: &Recount, counts: &mut Counts) -> Option<Difference> {
-    for page in 0..world.pages() {
-        let owner = world.owner(PageNo(page));
-        if recount.owners.get(page as usize) != Some(&owner) {
-            return Some(Difference::Owner { page });
-        }
-        count_one(counts, owner);
-    }
-    None
-}
-
-/// In what a world differs from the recount, of all that it shows.
-pub fn difference(world: &World, recount: &Recount) -> Option<Difference> {
+/// Counts the pages of each class, as the world tells their owners. None where an owner is another in the recount.
+fn count_owners(world: &World, recount: &Recount) -> Option<Counts> {
     let mut counts = Counts {
         free_pages: 0,
         queue_pages: 0,
         chain_pages: 0,
         data_pages: 0,
     };
-    let owners = count_owners(world, recount, &mut counts);
-    if owners.is_some() {
-        return owners;
+    for page in 0..world.pages() {
+        let owner = world.owner(PageNo(page));
+        if recount.owners.get(page as usize) != Some(&owner) {
+            return None;
+        }
+        count_one(&mut counts, owner);
     }
-    if world.counts() != counts {
-        return Some(Difference::Counts);
+    Some(counts)
+}
+
+/// What a world shows that differs from the recount, if anything does.
+pub fn difference(world: &World, recount: &Recount) -> Option<&'static str> {
+    match count_owners(world, recount) {
+        None => Some("the owner of a page"),
+        Some(counts) if counts != world.counts() => Some("a count"),
+        Some(_) if world.is_idle() != recount.is_idle() => Some("whether commands are outstanding"),
+        Some(_) if world.trusted() != recount.trusted => Some("whether something was forged"),
+        Some(_) => None,
     }
-    if world.is_idle() != recount.is_idle() {
-        return Some(Difference::Idle);
-    }
-    if world.trusted() != recount.trusted {
-        return Some(Difference::Trusted);
-    }
-    None
 }

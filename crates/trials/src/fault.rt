@@ -3,26 +3,6 @@
 use std::alloc::AllocError;
 use thiserror::Error;
 
-/// In what a world differs from the recount.
-#[derive(Clone, Copy, Debug, Error)]
-pub enum Difference {
-    /// The counts.
-    #[error("the counts differ")]
-    Counts,
-    /// The owner of a page.
-    #[error("page {page}: the owner differs")]
-    Owner {
-        /// The page.
-        page: u32,
-    },
-    /// Whether commands are outstanding.
-    #[error("whether commands are outstanding differs")]
-    Idle,
-    /// Whether something was forged.
-    #[error("whether something was forged differs")]
-    Trusted,
-}
-
 /// Why the program ended early.
 #[derive(Clone, Copy, Debug, Error)]
 pub enum Fault {
@@ -33,12 +13,12 @@ pub enum Fault {
     #[error("a world was not opened")]
     NotOpened,
     /// A world differs from the recount.
-    #[error("step {step}: {difference}")]
+    #[error("step {step}: {what} differs")]
     Differs {
         /// The step, from 1.
         step: u64,
-        /// In what.
-        difference: Difference,
+        /// What differs.
+        what: &'static str,
     },
     /// A command that is measured was not carried through.
     #[error("a command was not carried through")]

@@ -3,9 +3,10 @@
 use crate::digest::Digest;
 use crate::fault::Fault;
 use crate::kind::{KINDS, StepKind};
+use crate::printing::print_numbers;
 use crate::random::SplitMix64;
 use crate::session::{Course, Session};
-use crate::tally::{Found, Tally};
+use crate::tally::Tally;
 use crate::values::Values;
 use std::alloc::AllocGlobal;
 
@@ -39,10 +40,7 @@ pub fn try_steps<R: AllocGlobal + Print>(rt: &R, seed: u64, steps: u32) -> Resul
     } = course;
     values.spend();
     done?;
-    match print(rt, &tally, &digest) {
-        Ok(()) => Ok(()),
-        Err(_) => Err(Fault::Output),
-    }
+    print(rt, &tally, &digest)
 }
 
 /// Does so many steps of a world behind so many others.
@@ -55,9 +53,9 @@ fn step_on(
 ) -> Result<(), Fault> {
     for more in 1..=count {
         let kind = StepKind::by_chance(&mut course.random, forgeries);
-        if let Some(difference) = session.step(course, kind)? {
+        if let Some(what) = session.step(course, kind)? {
             let step = u64::from(first).saturating_add(u64::from(more));
-            return Err(Fault::Differs { step, difference });
+            return Err(Fault::Differs { step, what });
         }
     }
     Ok(())
@@ -78,23 +76,15 @@ fn run(course: &mut Course, steps: u32) -> Result<(), Fault> {
 }
 
 /// Prints what was counted.
-fn print<R: Print>(rt: &R, tally: &Tally, digest: &Digest) -> std::io::Result<()> {
+fn print<R: Print>(rt: &R, tally: &Tally, digest: &Digest) -> Result<(), Fault> {
     for (kind, line) in KINDS.iter().zip(tally.lines()) {
-        let name = kind.name;
-        println!(rt;
-            "{name}: accepted {} refused {}",
-            line.accepted, line.refused
-        )?;
+        let numbers = [("accepted", line.accepted), ("refused", line.refused)];
+        print_numbers(rt, kind.name, &numbers)?;
     }
-    print_found(rt, "posted completions", &tally.posted)?;
-    print_found(rt, "forged completions", &tally.forged)?;
-    println!(rt; "digest {:016x}", digest.value())
-}
-
-/// Prints what reaps found.
-fn print_found<R: Print>(rt: &R, what: &str, found: &Found) -> std::io::Result<()> {
-    println!(rt;
-        "{what}: Empty {} Done {} AdminDone {} Rejected {}",
-        found.empty, found.done, found.admin_done, found.rejected
-    )
+    print_numbers(rt, "posted completions:", &tally.posted.numbers())?;
+    print_numbers(rt, "forged completions:", &tally.forged.numbers())?;
+    match println!(rt; "digest {:016x}", digest.value()) {
+        Ok(()) => Ok(()),
+        Err(_) => Err(Fault::Output),
+    }
 }

@@ -52,7 +52,7 @@ pub enum StepKind {
 pub struct Kind {
     /// The kind.
     pub kind: StepKind,
-    /// Its name.
+    /// Its name, as it is printed.
     pub name: &'static str,
     /// How many of a thousand steps that forge nothing are of this kind.
     weight: u16,
@@ -62,102 +62,102 @@ pub struct Kind {
 pub static KINDS: [Kind; 20] = [
     Kind {
         kind: StepKind::Reserve,
-        name: "reserve",
+        name: "reserve:",
         weight: 75,
     },
     Kind {
         kind: StepKind::Fill,
-        name: "fill",
+        name: "fill:",
         weight: 40,
     },
     Kind {
         kind: StepKind::Build,
-        name: "build",
+        name: "build:",
         weight: 75,
     },
     Kind {
         kind: StepKind::Submit,
-        name: "submit",
+        name: "submit:",
         weight: 75,
     },
     Kind {
         kind: StepKind::Cancel,
-        name: "cancel",
+        name: "cancel:",
         weight: 17,
     },
     Kind {
         kind: StepKind::Ring,
-        name: "ring",
+        name: "ring:",
         weight: 80,
     },
     Kind {
         kind: StepKind::Fetch,
-        name: "fetch",
+        name: "fetch:",
         weight: 80,
     },
     Kind {
         kind: StepKind::Walk,
-        name: "walk",
+        name: "walk:",
         weight: 135,
     },
     Kind {
         kind: StepKind::Complete,
-        name: "complete",
+        name: "complete:",
         weight: 75,
     },
     Kind {
         kind: StepKind::Reap,
-        name: "reap",
+        name: "reap:",
         weight: 100,
     },
     Kind {
         kind: StepKind::Collect,
-        name: "collect",
+        name: "collect:",
         weight: 75,
     },
     Kind {
         kind: StepKind::Release,
-        name: "release",
+        name: "release:",
         weight: 70,
     },
     Kind {
         kind: StepKind::Abort,
-        name: "abort",
+        name: "abort:",
         weight: 7,
     },
     Kind {
         kind: StepKind::DeleteSq,
-        name: "delete_sq",
+        name: "delete_sq:",
         weight: 9,
     },
     Kind {
         kind: StepKind::DeleteCq,
-        name: "delete_cq",
+        name: "delete_cq:",
         weight: 14,
     },
     Kind {
         kind: StepKind::CreateCq,
-        name: "create_cq",
+        name: "create_cq:",
         weight: 20,
     },
     Kind {
         kind: StepKind::CreateSq,
-        name: "create_sq",
+        name: "create_sq:",
         weight: 20,
     },
     Kind {
         kind: StepKind::Retire,
-        name: "retire",
+        name: "retire:",
         weight: 32,
     },
     Kind {
         kind: StepKind::Forge,
-        name: "forge",
+        name: "forge:",
         weight: 0,
     },
     Kind {
         kind: StepKind::Reset,
-        name: "reset",
+        name: "reset:",
         weight: 1,
     },
 ];

@@ -28,6 +28,7 @@ mod host_steps;
 mod hostile;
 mod kind;
 mod pools;
+mod printing;
 mod random;
 mod reads;
 mod recount;
@@ -42,9 +43,10 @@ use alone::read_alone;
 use asked::{Asked, Way};
 use block_image::Image;
 use fault::Fault;
-use heap::{Used, use_heap};
+use heap::use_heap;
 use hostile::try_steps;
-use pools::{POOLS, Pool};
+use pools::POOLS;
+use printing::print_numbers;
 use reads::{IMAGE_BLOCKS, ROOMY, Shape};
 use std::alloc::AllocGlobal;
 use std::env::Env;
@@ -73,13 +75,7 @@ fn read_words<R: Env + AllocGlobal>(rt: &R) -> Result<Asked, Fault> {
         Ok(words) => words.collect(alloc)?,
         Err(_) => return Err(Fault::Usage),
     };
-    let mut parts = Vec::new(alloc);
-    for word in words.iter().skip(1) {
-        if parts.push(word.as_str()).is_err() {
-            return Err(Fault::Memory);
-        }
-    }
-    Asked::read(&parts).ok_or(Fault::Usage)
+    Asked::read(&words).ok_or(Fault::Usage)
 }
 
 /// Reads the command line, and does what it asks for.
@@ -120,40 +116,34 @@ fn carry_reads<R: AllocGlobal + Print + Threads + Wait + Sync>(
             read_alone::<Brand>(alloc, ROOMY, shape, times, image, Blank::new(65536))?
         }
     };
-    match println!(rt;
-        "commands {} entries {} bytes {}",
-        done.commands, done.entries, done.bytes
-    ) {
-        Ok(()) => Ok(()),
-        Err(_) => Err(Fault::Output),
-    }
+    print_numbers(
+        rt,
+        "",
+        &[
+            ("commands", done.commands),
+            ("entries", done.entries as u64),
+            ("bytes", done.bytes),
+        ],
+    )
 }
 
 /// Carries the commands of each pool through in a heap, and prints what was used.
 fn fill_heaps<R: AllocGlobal + Print>(rt: &R) -> Result<(), Fault> {
     for pool in POOLS {
         let used = use_heap(rt.alloc(), pool)?;
-        if print_used(rt, pool, used).is_err() {
-            return Err(Fault::Output);
-        }
+        print_numbers(
+            rt,
+            "",
+            &[
+                ("pages", u64::from(pool.pages)),
+                ("heap", pool.heap as u64),
+                ("image", used.image as u64),
+                ("opened", used.opened as u64),
+                ("commands", u64::from(pool.commands)),
+                ("most", used.most as u64),
+                ("left", used.left as u64),
+            ],
+        )?;
     }
     Ok(())
-}
-
-/// Prints what was used of a heap.
-fn print_used<R: Print>(rt: &R, pool: Pool, used: Used) -> std::io::Result<()> {
-    let Pool {
-        pages,
-        commands,
-        heap,
-    } = pool;
-    let Used {
-        image,
-        opened,
-        most,
-        left,
-    } = used;
-    println!(rt;
-        "pages {pages} heap {heap} image {image} opened {opened} commands {commands} most {most} left {left}"
-    )
 }

@@ -22,7 +22,7 @@ pub const ROOMY: Config = Config {
 };
 
 /// So many Reads of one size, for each of so many submitters.
-#[derive(Clone, Copy, Debug, PartialEq, Eq)]
+#[derive(Clone, Copy)]
 pub struct Shape {
     /// How many submitters there are, 1 to 16.
     pub submitters: u32,
@@ -33,7 +33,7 @@ pub struct Shape {
 }
 
 /// What was done.
-#[derive(Clone, Copy, Debug, PartialEq, Eq)]
+#[derive(Clone, Copy)]
 pub struct Done {
     /// How many Reads were carried through.
     pub commands: u64,

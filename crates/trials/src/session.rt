@@ -4,7 +4,7 @@ use crate::answer::Answer;
 use crate::chance::{IMAGE_BLOCKS, config};
 use crate::compare::difference;
 use crate::digest::Digest;
-use crate::fault::{Difference, Fault};
+use crate::fault::Fault;
 use crate::kind::StepKind;
 use crate::random::SplitMix64;
 use crate::recount::Recount;
@@ -79,12 +79,12 @@ impl Session {
         random.up_to(self.queues)
     }
 
-    /// Does a step, and tells in what the world then differs from the recount.
+    /// Does a step, and tells what of the world then differs from the recount.
     pub fn step(
         &mut self,
         course: &mut Course,
         kind: StepKind,
-    ) -> Result<Option<Difference>, AllocError> {
+    ) -> Result<Option<&'static str>, AllocError> {
         let answer = self.answer(course, kind)?;
         course.tally.count(kind, answer);
         // Writing to a digest does not fail.

@@ -35,6 +35,16 @@ impl Found {
         rejected: 0,
     };
 
+    /// The numbers, with their labels.
+    pub fn numbers(&self) -> [(&'static str, u64); 4] {
+        [
+            ("Empty", self.empty),
+            ("Done", self.done),
+            ("AdminDone", self.admin_done),
+            ("Rejected", self.rejected),
+        ]
+    }
+
     /// Counts what a reap found.
     fn count(&mut self, what: Reaped) {
         let number = match what {
