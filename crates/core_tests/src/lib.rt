@@ -1,30 +1,35 @@
-//! Calls of the core and lists of steps on a bench, each with what it must answer. It has tests alone, so that they do not prove the core
-//! once more.
+//! What no clause of the core says: openings at their borders and what lies in pages, resets behind arbitrary and forged steps and in each
+//! phase of a command, queues that are made again, and the largest cases. Each step on a desk is followed by a recount of all pages. It has
+//! tests alone, so that they do not prove the core once more.
 #![tactic(auto)]
 
 #[cfg(test)]
-mod bench;
+mod chains;
 #[cfg(test)]
-mod calls;
-#[cfg(test)]
-mod command;
-#[cfg(test)]
-mod expecting;
-#[cfg(test)]
-mod fetching;
-#[cfg(test)]
-mod heads;
+mod desk;
 #[cfg(test)]
 mod laid;
 #[cfg(test)]
-mod opening;
+mod largest;
 #[cfg(test)]
-mod reaping;
+mod missing;
 #[cfg(test)]
-mod resetting;
+mod moves;
 #[cfg(test)]
-mod retiring;
+mod notes;
 #[cfg(test)]
-mod sending;
+mod phases;
 #[cfg(test)]
-mod steps;
+mod recovery;
+#[cfg(test)]
+mod renewal;
+#[cfg(test)]
+mod requests;
+#[cfg(test)]
+mod rings;
+#[cfg(test)]
+mod sets;
+#[cfg(test)]
+mod told;
+#[cfg(test)]
+mod worlds;

@@ -6,15 +6,8 @@
 
 ghost use Rattle.std.specs.Prelude.{◌≤◌};
 
-mod arguments;
-mod fault;
-mod help;
-#[cfg(test)]
-mod tests;
-
-use arguments::{Options, command, submitters, words};
 use block_image::{Image, ImageError};
-use fault::Fault;
+use command_line::{Fault, Options, command, submitters, words};
 use job_cli::run_jobs;
 use script_cli::{ImageFault, read_image, run_steps};
 use std::alloc::AllocGlobal;

@@ -1,0 +1,102 @@
+//! What the command line asks for.
+
+ghost use Rattle.std.specs.Prelude.{◌≤◌};
+
+use crate::reads::{MOST_BLOCKS, MOST_JOBS, Shape};
+
+/// How Reads are carried through.
+#[derive(Clone, Copy)]
+pub enum Way {
+    /// By submitters, a poller and a controller, each in a thread of its own, over a shared book.
+    Threads,
+    /// One after the other over a book without a lock.
+    Alone {
+        /// How often the work is done that threads do outside of the lock: once, or more often to find out how long it takes.
+        times: u32,
+    },
+}
+
+/// What the command line asks for.
+#[derive(Clone, Copy)]
+pub enum Asked {
+    /// Random steps over worlds.
+    Hostile {
+        /// What chance begins with.
+        seed: u64,
+        /// How many steps.
+        steps: u32,
+    },
+    /// Reads of one shape.
+    Reads {
+        /// How they are carried through.
+        way: Way,
+        /// The Reads.
+        shape: Shape,
+    },
+    /// Benches in heaps of fixed size.
+    Heap,
+    /// A little of each.
+    All,
+}
+
+/// A number of the command line, from `least` to `most`.
+fn number(word: &String, least: u32, most: u32) -> Option<u32> {
+    let number: u32 = word.as_str().parse().ok()?;
+    if least <= number && number <= most {
+        Some(number)
+    } else {
+        None
+    }
+}
+
+/// The shape that three words name.
+fn shape(words: &[String]) -> Option<Shape> {
+    let [submitters, jobs, blocks] = words else {
+        return None;
+    };
+    Some(Shape {
+        submitters: number(submitters, 1, 16)?,
+        jobs: number(jobs, 0, MOST_JOBS)?,
+        blocks: number(blocks, 1, MOST_BLOCKS)?,
+    })
+}
+
+/// The Reads of one thread that four words name.
+fn alone(words: &[String]) -> Option<Asked> {
+    let (times, words) = words.split_last()?;
+    Some(Asked::Reads {
+        way: Way::Alone {
+            times: number(times, 1, 100)?,
+        },
+        shape: shape(words)?,
+    })
+}
+
+/// The random steps that two words name.
+fn hostile(words: &[String]) -> Option<Asked> {
+    let [seed, steps] = words else {
+        return None;
+    };
+    Some(Asked::Hostile {
+        seed: seed.as_str().parse().ok()?,
+        steps: number(steps, 0, u32::MAX)?,
+    })
+}
+
+impl Asked {
+    /// What the words of the command line ask for, the first of which is the program's name.
+    pub fn read(words: &[String]) -> Option<Asked> {
+        let (verb, numbers) = words.get(1..)?.split_first()?;
+        match verb.as_str() {
+            "hostile" => hostile(numbers),
+            "threads" => Some(Asked::Reads {
+                way: Way::Threads,
+                shape: shape(numbers)?,
+            }),
+            "alone" => alone(numbers),
+            "heap" => Some(Asked::Heap),
+            "all" => Some(Asked::All),
+            _ => None,
+        }
+    }
+}

@@ -1,0 +1,38 @@
+//! Why the program ended early.
+
+use std::alloc::AllocError;
+use thiserror::Error;
+
+/// Why the program ended early.
+#[derive(Clone, Copy, Debug, Error)]
+pub enum Fault {
+    /// The arguments are at fault.
+    #[error("usage: trials hostile SEED STEPS | threads SUBMITTERS JOBS BLOCKS | alone SUBMITTERS JOBS BLOCKS TIMES | heap | all")]
+    Usage,
+    /// A world or a bench was not opened.
+    #[error("a world was not opened")]
+    NotOpened,
+    /// A world differs from the recount.
+    #[error("step {step}: {what} differs")]
+    Differs {
+        /// The step, from 1.
+        step: u64,
+        /// What differs.
+        what: &'static str,
+    },
+    /// A command that is measured was not carried through.
+    #[error("a command was not carried through")]
+    Refused,
+    /// Memory was refused.
+    #[error("memory was refused")]
+    Memory,
+    /// The output could not be written.
+    #[error("the output could not be written")]
+    Output,
+}
+
+impl From<AllocError> for Fault {
+    fn from(_refused: AllocError) -> Self {
+        Fault::Memory
+    }
+}
