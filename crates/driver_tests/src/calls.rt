@@ -412,7 +412,11 @@ fn look<L: Driver, R: Abort>(rt: &R, alloc: Global, config: Config, image: Image
     assert!(rt; desk.sit() == Ok(true));
     can_do(rt, &mut desk.driver, None, None);
     play_text(rt, &mut desk, SUBMITTED);
-    see(rt, &desk.driver.collect_refusal(1, 0), &Some(Refusal::NotYet));
+    see(
+        rt,
+        &desk.driver.collect_refusal(1, 0),
+        &Some(Refusal::NotYet),
+    );
     can_do(rt, &mut desk.driver, None, None);
     for (text, step, q) in LOOKED_AT {
         play_text(rt, &mut desk, text);

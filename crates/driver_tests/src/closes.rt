@@ -51,7 +51,10 @@ pub(crate) fn close_each<D: Calls<L, Global>, L: Driver, R: Abort>(
     let lists = report.receipts.as_slice();
     see(rt, &(lists.len() as u64), &seats);
     for (receipts, number) in lists.iter().zip(0..seats) {
-        assert!(rt; tell(receipts, &[(number, 0, Some(Status::SUCCESS))]), "{number}");
+        assert!(rt;
+            tell(receipts, &[(number, 0, Some(Status::SUCCESS))]),
+            "{number}"
+        );
     }
 }
 

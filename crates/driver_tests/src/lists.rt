@@ -172,12 +172,7 @@ fn run_on<'a>(
 }
 
 /// Runs a script on a bench of its own with one growth refused.
-fn run(
-    rt: &impl Abort,
-    alloc: Global,
-    transcript: &Transcript,
-    growth: u64,
-) -> Result<Came, Fail> {
+fn run(rt: &impl Abort, alloc: Global, transcript: &Transcript, growth: u64) -> Result<Came, Fail> {
     let heap = Refusing::new(alloc);
     let Ok(mut bench) = Bench::open(&heap, USUAL, zeros(&heap)?) else {
         return Err(Fail::from("no bench"));

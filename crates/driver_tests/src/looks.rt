@@ -30,7 +30,10 @@ pub(crate) fn see<T: PartialEq + Debug, R: Abort>(rt: &R, answer: &T, want: &T) 
 
 /// Sees that an answer is the one that is wanted where this growth is refused.
 pub(crate) fn see_at<T: PartialEq + Debug, R: Abort>(rt: &R, growth: u64, answer: &T, want: &T) {
-    assert!(rt; answer == want, "growth {growth}: {answer:?} in place of {want:?}");
+    assert!(rt;
+        answer == want,
+        "growth {growth}: {answer:?} in place of {want:?}"
+    );
 }
 
 /// A finished command that is taken apart, and made anew with another status.

@@ -38,12 +38,7 @@ fn open_and_end<'a, R: Abort>(
 }
 
 /// Opens a bench with one growth refused, and once more where memory was refused. Answers whether there was such a growth.
-fn open_twice<R: Abort>(
-    rt: &R,
-    alloc: Global,
-    config: Config,
-    growth: u64,
-) -> Result<bool, Fail> {
+fn open_twice<R: Abort>(rt: &R, alloc: Global, config: Config, growth: u64) -> Result<bool, Fail> {
     let heap = Refusing::new(alloc);
     let image = zeros(&heap)?;
     heap.refuse(Refusal::Nth(growth));

@@ -224,4 +224,3 @@ pub fn refuse_each_through_book(
     }
     Ok(MANY)
 }
-

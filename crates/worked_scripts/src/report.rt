@@ -87,9 +87,7 @@ pub fn print_sum<R: Print>(rt: &R, sum: Scores, runs: Runs) -> io::Result<()> {
         through_book,
         without_memory,
     } = sum;
-    println!(rt;
-        "{scripts} scripts, each on a bench, through a book and behind a lock"
-    )?;
+    println!(rt; "{scripts} scripts, each on a bench, through a book and behind a lock")?;
     println!(rt;
         "{on_bench} growths refused on a bench, {through_book} through a book, {threads} in a run of threads, {visit} of a draft at another book"
     )?;

@@ -69,9 +69,7 @@ fn writes_and_reads<A: Allocator + Copy>(
 pub const BYTES: [u8; 2] = [0xA0, 0xB0];
 
 /// The jobs of two submitters.
-pub fn two_lists<A: Allocator + Copy>(
-    alloc: A,
-) -> Result<Vec<Vec<JobIn<A>, A>, A>, AllocError>
+pub fn two_lists<A: Allocator + Copy>(alloc: A) -> Result<Vec<Vec<JobIn<A>, A>, A>, AllocError>
     ensures { IfOk result (λ lists. vec_len lists ≡ 2) }
 {
     let mut lists = Vec::new(alloc);
