@@ -16,3 +16,5 @@ mod playing;
 mod runs;
 #[cfg(test)]
 mod texts;
+#[cfg(test)]
+mod transcripts;
