@@ -3,7 +3,7 @@
 use crate::fault::OpeningFault;
 use crate::heap::{reply_in, step_in};
 use crate::options::Options;
-use crate::play::StepMaker;
+use crate::playing::StepMaker;
 use script_cli::{ImageFault, not_opened};
 use std::alloc::{AllocError, Allocator, Global};
 use step_core::{Bench, Counts, Image, ImageError, Owner, PageNo, Reply, Step};

@@ -27,7 +27,7 @@ mod difference;
 mod fault;
 mod heap;
 mod options;
-mod play;
+mod playing;
 mod read;
 
 pub use bench::OnBench;
@@ -35,5 +35,5 @@ pub use difference::Difference;
 pub use fault::{OpeningFault, TranscriptFault};
 pub use heap::{reply_in, step_in};
 pub use options::Options;
-pub use play::{StepMaker, play};
+pub use playing::{StepMaker, play};
 pub use read::{Answer, Told, Transcript, read_transcript};
