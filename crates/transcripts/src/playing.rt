@@ -1,5 +1,7 @@
 //! A transcript is played on whatever makes its steps.
 
+ghost use Rattle.std.specs.Prelude.{◌≤◌, length, IfOk};
+
 use crate::difference::{Difference, first_difference};
 use crate::read::Transcript;
 use script_cli::{Line, Verb, append_counts, append_owners, append_reply};
@@ -26,7 +28,9 @@ pub trait StepMaker {
 }
 
 /// The owners of all pages, in the pages' order.
-fn owners<M: StepMaker>(alloc: Global, maker: &M) -> Result<Vec<Owner>, AllocError> {
+fn owners<M: StepMaker>(alloc: Global, maker: &M) -> Result<Vec<Owner>, AllocError>
+    ensures few { IfOk result (λ owners. length owners.items ≤ 65536) }
+{
     let mut owners = Vec::new(alloc);
     for p in 0..MOST_PAGES {
         match maker.owner(PageNo(p)) {
@@ -80,17 +84,18 @@ pub fn play<M: StepMaker>(
     maker: &mut M,
     transcript: &Transcript,
 ) -> Result<Option<Difference>, AllocError> {
-    let mut rest = transcript.told();
-    while let Some((told, behind)) = rest.split_first() {
+    let told = transcript.told();
+    let mut left = told.len();
+    for told in told {
+        left = left.saturating_sub(1);
         let mut text = line_text(alloc, maker, &told.line)?;
-        if behind.is_empty() {
+        if left == 0 {
             append_counts(&mut text, maker.counts())?;
         }
         let found = first_difference(alloc, told, &text)?;
         if found.is_some() {
             return Ok(found);
         }
-        rest = behind;
     }
     Ok(None)
 }
