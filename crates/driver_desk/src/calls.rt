@@ -1,11 +1,7 @@
 //! The calls of a driver, made on a book or behind its lock.
 
-ghost use Rattle.std.specs.Prelude.{◌≡◌, true};
-ghost use Rattle.std.specs.List.{list_any};
-ghost use Rattle.driver_book.specs.Calls.{is_open_for};
-
 use crate::answers::{completed, done, fetched, reaped, sent, walked};
-use driver_book::{Book, CloseRefused, Driver, NoSeat, ReportIn, Seat};
+use driver_book::{Book, CloseFault, Driver, NoSeat, ReportIn, Seat};
 use driver_threads::Shared;
 use io_commands::{Draft, Finished, Request, Ticket};
 use page_ledger::{Counts, Owner};
@@ -14,24 +10,19 @@ use std::alloc::{Allocator, Global};
 use std::sync::Wait;
 use step_core::{Ended, Refused, Reply, ReplyIn, Step, StepIn};
 
-/// The calls of a driver: those of a book, made on the book itself or behind its lock.
-pub trait Calls<L: Driver, A: Allocator>: Drop {
-    ghost use Rattle.std.specs.Prelude.{◌≡◌, true};
-    ghost use Rattle.std.specs.List.{list_any};
-    ghost use Rattle.driver_book.specs.Calls.{is_open_for};
+/// The seats that were handed in to a book that was not closed, and why it was not.
+pub type StaysOpen<S, A> = (CloseFault, Vec<S, A>);
 
+/// The calls of a driver: those of a book, made on the book itself or behind its lock. `S` is a seat.
+pub trait Calls<S, A: Allocator> {
     /// [`Book::seat`].
-    fn seat(&mut self) -> Result<Seat<L, A>, NoSeat>;
+    fn seat(&mut self) -> Result<S, NoSeat>;
 
     /// [`Book::reserve`].
     fn reserve(&mut self, q: u16, request: Request<A>) -> Result<Draft<A>, Refused<Request<A>>>;
 
     /// [`Book::submit`].
-    fn submit(
-        &mut self,
-        seat: &mut Seat<L, A>,
-        draft: Draft<A>,
-    ) -> Result<Ticket, Refused<Draft<A>>>;
+    fn submit(&mut self, seat: &mut S, draft: Draft<A>) -> Result<Ticket, Refused<Draft<A>>>;
 
     /// [`Book::cancel`].
     fn cancel(&mut self, draft: Draft<A>) -> Result<(), Refused<Draft<A>>>;
@@ -40,12 +31,15 @@ pub trait Calls<L: Driver, A: Allocator>: Drop {
     fn collect(&mut self, ticket: Ticket) -> Result<Finished<A>, Refused<Ticket>>;
 
     /// [`Book::release`].
+    ///
+    /// # Errors
+    ///
+    /// The command comes back where the seat has no receipt of it, or one with a status.
     fn release(
         &mut self,
-        seat: &mut Seat<L, A>,
+        seat: &mut S,
         finished: Finished<A>,
-    ) -> Result<(), Refused<Finished<A>>>
-        requires { list_any (is_open_for finished.q finished.cid) seat.old.receipts ≡ true };
+    ) -> Result<Result<(), Refused<Finished<A>>>, Finished<A>>;
 
     /// Makes a step that no command is handed in for or comes of. Any other is `NoValue`.
     fn step_alone(&mut self, step: StepIn<A>) -> ReplyIn<A>;
@@ -57,13 +51,13 @@ pub trait Calls<L: Driver, A: Allocator>: Drop {
     fn counts(&self) -> Counts;
 
     /// [`Book::close`].
-    fn close(&mut self, seats: Vec<Seat<L, A>, A>) -> Result<ReportIn<A>, CloseRefused<L, A>>;
+    fn close(&mut self, seats: Vec<S, A>) -> Result<ReportIn<A>, StaysOpen<S, A>>;
 
     /// Ends the book: how many entries its log has, and what tells commands that are left over that they may go.
     fn end(self) -> (usize, Ended);
 }
 
-impl<L: Driver, A: Allocator + Copy> Calls<L, A> for Book<L, A> {
+impl<L: Driver, A: Allocator + Copy> Calls<Seat<L, A>, A> for Book<L, A> {
     fn seat(&mut self) -> Result<Seat<L, A>, NoSeat> {
         Book::seat(self)
     }
@@ -92,8 +86,11 @@ impl<L: Driver, A: Allocator + Copy> Calls<L, A> for Book<L, A> {
         &mut self,
         seat: &mut Seat<L, A>,
         finished: Finished<A>,
-    ) -> Result<(), Refused<Finished<A>>> {
-        Book::release(self, seat, finished)
+    ) -> Result<Result<(), Refused<Finished<A>>>, Finished<A>> {
+        if !seat.awaits(finished.q(), finished.cid()) {
+            return Err(finished);
+        }
+        Ok(Book::release(self, seat, finished))
     }
 
     fn step_alone(&mut self, step: StepIn<A>) -> ReplyIn<A> {
@@ -127,8 +124,14 @@ impl<L: Driver, A: Allocator + Copy> Calls<L, A> for Book<L, A> {
         Book::counts(self)
     }
 
-    fn close(&mut self, seats: Vec<Seat<L, A>, A>) -> Result<ReportIn<A>, CloseRefused<L, A>> {
-        Book::close(self, seats)
+    fn close(
+        &mut self,
+        seats: Vec<Seat<L, A>, A>,
+    ) -> Result<ReportIn<A>, StaysOpen<Seat<L, A>, A>> {
+        match Book::close(self, seats) {
+            Ok(report) => Ok(report),
+            Err(refused) => Err((refused.why, refused.seats)),
+        }
     }
 
     fn end(self) -> (usize, Ended) {
@@ -145,7 +148,7 @@ pub struct Locked<'r, L: Driver, R: Wait, A: Allocator = Global> {
     pub rt: &'r R,
 }
 
-impl<'r, L: Driver, R: Wait, A: Allocator + Copy> Calls<L, A> for Locked<'r, L, R, A> {
+impl<'r, L: Driver, R: Wait, A: Allocator + Copy> Calls<Seat<L, A>, A> for Locked<'r, L, R, A> {
     fn seat(&mut self) -> Result<Seat<L, A>, NoSeat> {
         self.shared.seat(self.rt)
     }
@@ -174,8 +177,11 @@ impl<'r, L: Driver, R: Wait, A: Allocator + Copy> Calls<L, A> for Locked<'r, L, 
         &mut self,
         seat: &mut Seat<L, A>,
         finished: Finished<A>,
-    ) -> Result<(), Refused<Finished<A>>> {
-        self.shared.release(self.rt, seat, finished)
+    ) -> Result<Result<(), Refused<Finished<A>>>, Finished<A>> {
+        if !seat.awaits(finished.q(), finished.cid()) {
+            return Err(finished);
+        }
+        Ok(self.shared.release(self.rt, seat, finished))
     }
 
     fn step_alone(&mut self, step: StepIn<A>) -> ReplyIn<A> {
@@ -206,8 +212,14 @@ impl<'r, L: Driver, R: Wait, A: Allocator + Copy> Calls<L, A> for Locked<'r, L, 
         self.shared.counts(self.rt)
     }
 
-    fn close(&mut self, seats: Vec<Seat<L, A>, A>) -> Result<ReportIn<A>, CloseRefused<L, A>> {
-        self.shared.close(self.rt, seats)
+    fn close(
+        &mut self,
+        seats: Vec<Seat<L, A>, A>,
+    ) -> Result<ReportIn<A>, StaysOpen<Seat<L, A>, A>> {
+        match self.shared.close(self.rt, seats) {
+            Ok(report) => Ok(report),
+            Err(refused) => Err((refused.why, refused.seats)),
+        }
     }
 
     fn end(self) -> (usize, Ended) {

@@ -14,7 +14,7 @@ use transcripts::{StepMaker, reply_in, step_in};
 
 /// A driver in one thread, with seats, and the commands that are about. The last seat acts: it submits and releases.
 #[derive(Drop)]
-pub struct Desk<D: Calls<L, A>, L: Driver, A: Allocator = Global> {
+pub struct Desk<D: Calls<S, A> + Drop, S: Drop, A: Allocator = Global> {
     /// Where the list of the commands stands, the padded copy of a fill's bytes, and the replies that are handed out.
     pub alloc: Global,
     /// Where all else stands.
@@ -22,12 +22,12 @@ pub struct Desk<D: Calls<L, A>, L: Driver, A: Allocator = Global> {
     /// The book, or its lock.
     pub driver: D,
     /// The seats in the order in which they were made, but for turns.
-    pub seats: Vec<Seat<L, A>, A>,
+    pub seats: Vec<S, A>,
     /// The commands, the one that was put last behind the others.
     pub values: Vec<Value<A>>,
 }
 
-impl<D: Calls<L, A>, L: Driver, A: Allocator + Copy> Desk<D, L, A> {
+impl<D: Calls<S, A> + Drop, S: Drop, A: Allocator + Copy> Desk<D, S, A> {
     /// A desk with a driver, without a seat.
     pub fn new(alloc: Global, heap: A, driver: D) -> Self {
         Desk {
@@ -74,12 +74,13 @@ impl<D: Calls<L, A>, L: Driver, A: Allocator + Copy> Desk<D, L, A> {
         let Some(finished) = finished_of(&mut self.values, q, cid) else {
             return Ok(Reply::NoValue);
         };
-        if !seat.awaits(finished.q(), finished.cid()) {
-            self.values.push(Value::Finished(finished))?;
-            return Ok(Reply::NoValue);
+        match self.driver.release(seat, finished) {
+            Ok(answer) => released(&mut self.values, answer),
+            Err(finished) => {
+                self.values.push(Value::Finished(finished))?;
+                Ok(Reply::NoValue)
+            }
         }
-        let answer = self.driver.release(seat, finished);
-        released(&mut self.values, answer)
     }
 
     /// Cancels a draft.
@@ -121,18 +122,6 @@ impl<D: Calls<L, A>, L: Driver, A: Allocator + Copy> Desk<D, L, A> {
         }
     }
 
-    /// The receipts of the last seat; none where there is no seat.
-    ///
-    /// # Errors
-    ///
-    /// Where memory is refused.
-    pub fn receipts(&self, alloc: Global) -> Result<Vec<Receipt>, AllocError> {
-        match self.seats.last() {
-            Some(seat) => Vec::from_slice(alloc, seat.receipts()),
-            None => Ok(Vec::new(alloc)),
-        }
-    }
-
     /// Hands in all seats, and closes the book.
     ///
     /// # Errors
@@ -142,9 +131,9 @@ impl<D: Calls<L, A>, L: Driver, A: Allocator + Copy> Desk<D, L, A> {
         let seats = mem::replace(&mut self.seats, Vec::new(self.heap));
         match self.driver.close(seats) {
             Ok(report) => Ok(report),
-            Err(refused) => {
-                self.seats = refused.seats;
-                Err(refused.why)
+            Err((why, seats)) => {
+                self.seats = seats;
+                Err(why)
             }
         }
     }
@@ -166,7 +155,21 @@ impl<D: Calls<L, A>, L: Driver, A: Allocator + Copy> Desk<D, L, A> {
     }
 }
 
-impl<D: Calls<L, A>, L: Driver, A: Allocator + Copy> StepMaker for Desk<D, L, A> {
+impl<D: Calls<Seat<L, A>, A> + Drop, L: Driver, A: Allocator + Copy> Desk<D, Seat<L, A>, A> {
+    /// The receipts of the last seat; none where there is no seat.
+    ///
+    /// # Errors
+    ///
+    /// Where memory is refused.
+    pub fn receipts(&self, alloc: Global) -> Result<Vec<Receipt>, AllocError> {
+        match self.seats.last() {
+            Some(seat) => Vec::from_slice(alloc, seat.receipts()),
+            None => Ok(Vec::new(alloc)),
+        }
+    }
+}
+
+impl<D: Calls<S, A> + Drop, S: Drop, A: Allocator + Copy> StepMaker for Desk<D, S, A> {
     fn step(&mut self, step: &Step) -> Result<Reply, AllocError> {
         let made = step_in(self.heap, step)?;
         let reply = self.make(made)?;

@@ -6,7 +6,7 @@ ghost use Rattle.step_core.specs.Opening.{opening_of};
 use crate::closes::{close, close_each, keep_back, stay_open};
 use crate::looks::{Told, alter, has_receipts, see};
 use block_image::Image;
-use driver_book::{Book, CloseFault, Driver};
+use driver_book::{Book, CloseFault, Driver, Seat};
 use driver_desk::{Calls, Desk, Locked};
 use driver_threads::Shared;
 use entry_codec::Status;
@@ -44,9 +44,9 @@ pub(crate) enum Part {
 }
 
 /// Plays a transcript, as it says.
-pub(crate) fn play_text<D: Calls<L, Global>, L: Driver, R: Abort>(
+pub(crate) fn play_text<D: Calls<Seat<L>, Global> + Drop, L: Driver, R: Abort>(
     rt: &R,
-    desk: &mut Desk<D, L>,
+    desk: &mut Desk<D, Seat<L>>,
     text: &str,
 ) {
     let Ok(transcript) = read_transcript(desk.alloc, text) else {
@@ -60,7 +60,7 @@ pub(crate) fn play_text<D: Calls<L, Global>, L: Driver, R: Abort>(
 }
 
 /// Does a part of a run.
-fn play_part<D: Calls<L, Global>, L: Driver, R: Abort>(rt: &R, desk: &mut Desk<D, L>, part: Part) {
+fn play_part<D: Calls<Seat<L>, Global> + Drop, L: Driver, R: Abort>(rt: &R, desk: &mut Desk<D, Seat<L>>, part: Part) {
     match part {
         Part::Sit => assert!(rt; desk.sit() == Ok(true)),
         Part::Turn => desk.seats.reverse(),
@@ -76,9 +76,9 @@ fn play_part<D: Calls<L, Global>, L: Driver, R: Abort>(rt: &R, desk: &mut Desk<D
 }
 
 /// Does the parts of a run.
-fn play_parts<D: Calls<L, Global>, L: Driver, R: Abort>(
+fn play_parts<D: Calls<Seat<L>, Global> + Drop, L: Driver, R: Abort>(
     rt: &R,
-    desk: &mut Desk<D, L>,
+    desk: &mut Desk<D, Seat<L>>,
     parts: &[Part],
 ) {
     for part in parts {

@@ -8,7 +8,7 @@ use crate::fault::{Fault, Wrong};
 use crate::refused::OneRefused;
 use crate::standing::{DeskStanding, Heap, Holdings, Stands};
 use crate::way::Way;
-use driver_book::{Book, CloseFault, Driver};
+use driver_book::{Book, CloseFault, Driver, Seat};
 use driver_desk::{Calls, Desk};
 use refusing::{Refusal, Refusing};
 use std::alloc::{AllocError, Allocator, Global};
@@ -71,7 +71,7 @@ pub fn opened<L: Driver, A: Allocator + Copy>(
 /// nothing has changed, and the book is closed once more.
 fn closed<'h, L: Driver>(
     heap: &'h Heap,
-    desk: &mut Desk<Book<L, &'h Heap>, L, &'h Heap>,
+    desk: &mut Desk<Book<L, &'h Heap>, Seat<L, &'h Heap>, &'h Heap>,
     growth: u64,
 ) -> Result<(Result<u64, CloseFault>, u64, bool), AllocError> {
     let before = desk.standing(desk.alloc)?;
@@ -87,8 +87,8 @@ fn closed<'h, L: Driver>(
 }
 
 /// Closes the book of a desk: how many submissions there were, or why it is not closed.
-pub fn submissions<D: Calls<L, A>, L: Driver, A: Allocator + Copy>(
-    desk: &mut Desk<D, L, A>,
+pub fn submissions<D: Calls<S, A> + Drop, S: Drop, A: Allocator + Copy>(
+    desk: &mut Desk<D, S, A>,
 ) -> Result<u64, CloseFault> {
     match desk.close() {
         Ok(report) => Ok(report.submissions),
@@ -100,7 +100,7 @@ pub fn submissions<D: Calls<L, A>, L: Driver, A: Allocator + Copy>(
 /// such a growth.
 fn play_at<'h, L: Driver>(
     heap: &'h Heap,
-    desk: Desk<Book<L, &'h Heap>, L, &'h Heap>,
+    desk: Desk<Book<L, &'h Heap>, Seat<L, &'h Heap>, &'h Heap>,
     transcript: &Transcript,
     known: &'h [u64],
     growth: u64,

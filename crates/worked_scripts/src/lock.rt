@@ -8,7 +8,7 @@ use crate::book::{BookEnd, submissions, zeros};
 use crate::fault::{Fault, Wrong};
 use crate::standing::Holdings;
 use crate::way::Way;
-use driver_book::{Book, CloseFault, Driver, Receipt};
+use driver_book::{Book, CloseFault, Driver, Receipt, Seat};
 use driver_desk::{Desk, Locked};
 use driver_threads::Shared;
 use std::alloc::Global;
@@ -29,7 +29,7 @@ struct LockEnd {
 
 /// Plays a script at a desk behind a lock, and closes the book.
 fn play_at<L: Driver, R: Wait>(
-    mut desk: Desk<Locked<'_, L, R>, L>,
+    mut desk: Desk<Locked<'_, L, R>, Seat<L>>,
     transcript: &Transcript,
 ) -> Result<LockEnd, Fault> {
     let alloc = desk.alloc;

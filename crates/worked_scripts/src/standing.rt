@@ -1,6 +1,6 @@
 //! How things stand: on a bench, and at a desk with a book.
 
-use driver_book::{Book, Driver, Receipt};
+use driver_book::{Book, Driver, Receipt, Seat};
 use driver_desk::{Desk, Value};
 use refusing::Refusing;
 use std::alloc::{AllocError, Allocator, Global};
@@ -96,7 +96,7 @@ pub struct DeskStanding {
     built: usize,
 }
 
-impl<L: Driver, A: Allocator + Copy> Stands<A> for Desk<Book<L, A>, L, A> {
+impl<L: Driver, A: Allocator + Copy> Stands<A> for Desk<Book<L, A>, Seat<L, A>, A> {
     type Standing = DeskStanding;
 
     fn make(&mut self, step: StepIn<A>) -> Result<ReplyIn<A>, AllocError> {

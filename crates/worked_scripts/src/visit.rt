@@ -9,7 +9,7 @@ use crate::fault::{Fault, Wrong};
 use crate::refused::OneRefused;
 use crate::standing::Heap;
 use crate::way::Way;
-use driver_book::{Book, Driver};
+use driver_book::{Book, Driver, Seat};
 use driver_desk::Desk;
 use refusing::Refusing;
 use std::alloc::{AllocError, Global};
@@ -42,7 +42,7 @@ const SUBMITTED: &str = "submit 1 0
 ";
 
 /// A desk with a book in a heap.
-type DeskIn<'h, L> = Desk<Book<L, &'h Heap>, L, &'h Heap>;
+type DeskIn<'h, L> = Desk<Book<L, &'h Heap>, Seat<L, &'h Heap>, &'h Heap>;
 
 /// Hands the youngest command of a desk to another one.
 fn hand_over<'h, L: Driver, M: Driver>(
