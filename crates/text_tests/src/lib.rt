@@ -1,9 +1,17 @@
-//! Texts in and texts out: scripts of jobs through the public call that the command `threads` makes, and the words of the command line.
-//! It has tests alone.
+//! Texts in and texts out: the first script whole, cut, and over readers and writers that fail; images; transcripts; scripts of jobs through the
+//! public call that the command `threads` makes; the words of the command line. It has tests alone.
 #![tactic(auto)]
 
 #[cfg(test)]
 mod command_words;
+#[cfg(test)]
+mod cuts;
+#[cfg(test)]
+mod expecting;
+#[cfg(test)]
+mod first_script;
+#[cfg(test)]
+mod images;
 #[cfg(test)]
 mod job_lines;
 #[cfg(test)]
@@ -12,3 +20,11 @@ mod job_playing;
 mod job_runs;
 #[cfg(test)]
 mod job_scripts;
+#[cfg(test)]
+mod script_playing;
+#[cfg(test)]
+mod script_runs;
+#[cfg(test)]
+mod texts;
+#[cfg(test)]
+mod transcript_texts;

@@ -1,8 +1,0 @@
-use Rattle.step_core.specs.Opening.{opening_of}
-use Rattle.book_growth_tests.proofs.strangers.play_home.Given as goal
-
-abbrev pub ghosts-play_away-M-Ledger : goal.ghosts-play_away-M-Ledger
-ghosts-play_away-M-Ledger g a = record { name = a.blank.name; parts = a.blank.parts }
-
-abbrev pub ghosts-play_away-M-Driver : goal.ghosts-play_away-M-Driver
-ghosts-play_away-M-Driver g a = record { opening = opening_of a.config a.image }

@@ -1,0 +1,186 @@
+//! A driver in one thread, with seats, and the commands that are about.
+
+use crate::answers::{Answer, cancelled, collected, released, reserved, submitted};
+use crate::calls::Calls;
+use crate::steps::{build, fill, gather};
+use crate::values::{Value, draft_of, finished_of, ticket_of};
+use driver_book::{CloseFault, Driver, NoSeat, Receipt, ReportIn, Seat};
+use page_ledger::{Counts, Owner};
+use page_memory::PageNo;
+use std::alloc::{AllocError, Allocator, Global};
+use std::mem;
+use step_core::{Leftover, Reply, Step, StepIn};
+use transcripts::{StepMaker, reply_in, step_in};
+
+/// A driver in one thread, with seats, and the commands that are about. The last seat acts: it submits and releases.
+#[derive(Drop)]
+pub struct Desk<D: Calls<S, A> + Drop, S: Drop, A: Allocator = Global> {
+    /// Where the list of the commands stands, the padded copy of a fill's bytes, and the replies that are handed out.
+    pub alloc: Global,
+    /// Where all else stands.
+    pub heap: A,
+    /// The book, or its lock.
+    pub driver: D,
+    /// The seats in the order in which they were made, but for turns.
+    pub seats: Vec<S, A>,
+    /// The commands, the one that was put last behind the others.
+    pub values: Vec<Value<A>>,
+}
+
+impl<D: Calls<S, A> + Drop, S: Drop, A: Allocator + Copy> Desk<D, S, A> {
+    /// A desk with a driver, without a seat.
+    pub fn new(alloc: Global, heap: A, driver: D) -> Self {
+        Desk {
+            alloc,
+            heap,
+            driver,
+            seats: Vec::new(heap),
+            values: Vec::new(alloc),
+        }
+    }
+
+    /// Makes a seat, which acts from now on. False where the book has none left.
+    ///
+    /// # Errors
+    ///
+    /// Where memory is refused for the list of the seats.
+    pub fn sit(&mut self) -> Result<bool, AllocError> {
+        match self.driver.seat() {
+            Ok(seat) => {
+                self.seats.push(seat)?;
+                Ok(true)
+            }
+            Err(NoSeat) => Ok(false),
+        }
+    }
+
+    /// Submits a draft for the last seat. Without a seat there is nothing to submit for.
+    fn submit(&mut self, q: u16, cid: u16) -> Answer<A> {
+        let Some(seat) = self.seats.last_mut() else {
+            return Ok(Reply::NoValue);
+        };
+        let Some(draft) = draft_of(&mut self.values, q, cid) else {
+            return Ok(Reply::NoValue);
+        };
+        let answer = self.driver.submit(seat, draft);
+        submitted(&mut self.values, answer)
+    }
+
+    /// Releases a finished command of the last seat, where it has a receipt of it.
+    fn release(&mut self, q: u16, cid: u16) -> Answer<A> {
+        let Some(seat) = self.seats.last_mut() else {
+            return Ok(Reply::NoValue);
+        };
+        let Some(finished) = finished_of(&mut self.values, q, cid) else {
+            return Ok(Reply::NoValue);
+        };
+        match self.driver.release(seat, finished) {
+            Ok(answer) => released(&mut self.values, answer),
+            Err(finished) => {
+                self.values.push(Value::Finished(finished))?;
+                Ok(Reply::NoValue)
+            }
+        }
+    }
+
+    /// Cancels a draft.
+    fn cancel(&mut self, q: u16, cid: u16) -> Answer<A> {
+        match draft_of(&mut self.values, q, cid) {
+            Some(draft) => cancelled(&mut self.values, self.driver.cancel(draft)),
+            None => Ok(Reply::NoValue),
+        }
+    }
+
+    /// Collects a command by its ticket.
+    fn collect(&mut self, q: u16, cid: u16) -> Answer<A> {
+        match ticket_of(&mut self.values, q, cid) {
+            Some(ticket) => collected(&mut self.values, self.driver.collect(ticket)),
+            None => Ok(Reply::NoValue),
+        }
+    }
+
+    /// Makes a step whose values stand in the heap, and answers what it answered.
+    ///
+    /// # Errors
+    ///
+    /// Where memory is refused for the list of the commands, or for bytes that a draft is filled with.
+    pub fn make(&mut self, step: StepIn<A>) -> Answer<A> {
+        match step {
+            Step::Reserve { q, request } => {
+                reserved(&mut self.values, self.driver.reserve(q, request))
+            }
+            Step::Fill { q, cid, bytes } => {
+                fill(self.alloc, &mut self.values, q, cid, bytes.as_slice())
+            }
+            Step::Build { q, cid } => build(self.heap, &mut self.values, q, cid),
+            Step::Submit { q, cid } => self.submit(q, cid),
+            Step::Cancel { q, cid } => self.cancel(q, cid),
+            Step::Collect { q, cid } => self.collect(q, cid),
+            Step::Gather { q, cid } => gather(self.heap, &mut self.values, q, cid),
+            Step::Release { q, cid } => self.release(q, cid),
+            other => Ok(self.driver.step_alone(other)),
+        }
+    }
+
+    /// Hands in all seats, and closes the book.
+    ///
+    /// # Errors
+    ///
+    /// Where the book is not closed. The seats came back.
+    pub fn close(&mut self) -> Result<ReportIn<A>, CloseFault> {
+        let seats = mem::replace(&mut self.seats, Vec::new(self.heap));
+        match self.driver.close(seats) {
+            Ok(report) => Ok(report),
+            Err((why, seats)) => {
+                self.seats = seats;
+                Err(why)
+            }
+        }
+    }
+
+    /// Ends the book, and lets the commands go that it left over. It answers how many entries the log had.
+    pub fn end(self) -> usize {
+        let Desk {
+            alloc: _,
+            heap: _,
+            driver,
+            seats: _,
+            values,
+        } = self;
+        let (entries, ended) = driver.end();
+        for value in values {
+            value.after(&ended);
+        }
+        entries
+    }
+}
+
+impl<D: Calls<Seat<L, A>, A> + Drop, L: Driver, A: Allocator + Copy> Desk<D, Seat<L, A>, A> {
+    /// The receipts of the last seat; none where there is no seat.
+    ///
+    /// # Errors
+    ///
+    /// Where memory is refused.
+    pub fn receipts(&self, alloc: Global) -> Result<Vec<Receipt>, AllocError> {
+        match self.seats.last() {
+            Some(seat) => Vec::from_slice(alloc, seat.receipts()),
+            None => Ok(Vec::new(alloc)),
+        }
+    }
+}
+
+impl<D: Calls<S, A> + Drop, S: Drop, A: Allocator + Copy> StepMaker for Desk<D, S, A> {
+    fn step(&mut self, step: &Step) -> Result<Reply, AllocError> {
+        let made = step_in(self.heap, step)?;
+        let reply = self.make(made)?;
+        reply_in(self.alloc, reply)
+    }
+
+    fn owner(&self, page: PageNo) -> Option<Owner> {
+        self.driver.owner(page)
+    }
+
+    fn counts(&self) -> Counts {
+        self.driver.counts()
+    }
+}

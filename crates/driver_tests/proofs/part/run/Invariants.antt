@@ -1,0 +1,14 @@
+use Rattle.step_core.specs.Opening.{opening_of}
+use Rattle.driver_tests.proofs.part.run.Given as goal
+
+abbrev pub ghosts-through_book-L-Ledger : goal.ghosts-through_book-L-Ledger
+ghosts-through_book-L-Ledger g a = record { name = a.blank.name; parts = a.blank.parts }
+
+abbrev pub ghosts-through_book-L-Driver : goal.ghosts-through_book-L-Driver
+ghosts-through_book-L-Driver g a = record { opening = opening_of a.config a.image }
+
+abbrev pub ghosts-behind_lock-L-Ledger : goal.ghosts-behind_lock-L-Ledger
+ghosts-behind_lock-L-Ledger g a = record { name = a.blank.name; parts = a.blank.parts }
+
+abbrev pub ghosts-behind_lock-L-Driver : goal.ghosts-behind_lock-L-Driver
+ghosts-behind_lock-L-Driver g a = record { opening = opening_of a.config a.image }

@@ -1,0 +1,8 @@
+use Rattle.step_core.specs.Opening.{opening_of}
+use Rattle.driver_tests.proofs.runs.play.Given as goal
+
+abbrev pub ghosts-outcome_of-L-Ledger : goal.ghosts-outcome_of-L-Ledger
+ghosts-outcome_of-L-Ledger g a = record { name = a.blank.name; parts = a.blank.parts }
+
+abbrev pub ghosts-outcome_of-L-Driver : goal.ghosts-outcome_of-L-Driver
+ghosts-outcome_of-L-Driver g a = record { opening = opening_of a.config a.image }

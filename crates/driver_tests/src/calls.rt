@@ -1,0 +1,434 @@
+//! Runs through a book and behind its lock on one seat and on two, and what a book's looks tell between the steps.
+
+ghost use Rattle.std.specs.Prelude.{◌≡◌};
+ghost use Rattle.step_core.specs.Opening.{opening_of};
+
+use crate::looks::see;
+use crate::part::{Part, USUAL, opened, play_text, run};
+use block_image::Image;
+use driver_book::{Book, Driver};
+use driver_desk::Desk;
+use entry_codec::Status;
+use std::alloc::Global;
+use std::marker::Brand;
+use std::process::Abort;
+use std::sync::ledger::Blank;
+use step_core::{Config, ControllerStep, Refusal};
+
+/// A Write of one seat and a Read of another, of the same block.
+const WRITE_AND_READ: &[Part] = &[
+    Part::Sit,
+    Part::Sit,
+    Part::Plays(
+        "reserve 1 write 5 1 0+512
+> reserve q 1 cid 0 data 1 chain 0
+fill 1 0 AB
+> fill ok
+build 1 0
+> build ok
+> counts free 11 queue 4 chain 0 data 1
+",
+    ),
+    Part::Turn,
+    Part::Plays(
+        "submit 1 0
+> submit ok
+reserve 1 read 5 1 0+512
+> reserve q 1 cid 1 data 1 chain 0
+build 1 1
+> build ok
+> counts free 10 queue 4 chain 0 data 2
+",
+    ),
+    Part::Turn,
+    Part::Plays(
+        "submit 1 1
+> submit ok
+> counts free 10 queue 4 chain 0 data 2
+",
+    ),
+    Part::Turn,
+    Part::HasReceipts(0, &[(0, 0, None)]),
+    Part::Turn,
+    Part::HasReceipts(1, &[(1, 1, None)]),
+    Part::Plays(
+        "ring 1
+> ring ok
+fetch 1
+> fetch cid 0 touched 2
+walk 1 0
+> walk more touched -
+walk 1 0
+> walk end touched 4
+complete 1 0
+> complete ok touched 3
+reap 1
+> reap done cid 0 status 0:00
+fetch 1
+> fetch cid 1 touched 2
+walk 1 1
+> walk more touched -
+walk 1 1
+> walk end touched 5
+complete 1 1
+> complete ok touched 3
+reap 1
+> reap done cid 1 status 0:00
+collect 1 0
+> collect status 0:00
+> counts free 10 queue 4 chain 0 data 2
+",
+    ),
+    Part::Turn,
+    Part::Plays(
+        "release 1 0
+> release ok
+collect 1 1
+> collect status 0:00
+gather 1 1
+> gather AB*1,00*511
+> counts free 11 queue 4 chain 0 data 1
+",
+    ),
+    Part::Turn,
+    Part::Plays(
+        "release 1 1
+> release ok
+> counts free 12 queue 4 chain 0 data 0
+",
+    ),
+    Part::Turn,
+    Part::HasReceipts(0, &[(0, 0, Some(Status::SUCCESS))]),
+    Part::Turn,
+    Part::HasReceipts(1, &[(1, 1, Some(Status::SUCCESS))]),
+];
+
+#[test]
+fn two_seats(rt: HostRuntime) {
+    run(&rt, rt.alloc(), WRITE_AND_READ, Some(19));
+}
+
+/// A queue ends with a command that was never fetched.
+const END_OF_A_QUEUE: &[Part] = &[
+    Part::Sit,
+    Part::Plays(
+        "reserve 1 read 0 1 0+512
+> reserve q 1 cid 0 data 1 chain 0
+build 1 0
+> build ok
+submit 1 0
+> submit ok
+delete_sq 1
+> delete_sq cid 0
+ring 0
+> ring ok
+fetch 0
+> fetch cid 0 touched 0
+complete 0 0
+> complete ok touched 1
+reap 0
+> reap admin cid 0 status 0:00 dw0 0
+retire 1
+> retire ok
+collect 1 0
+> collect status 0:08
+release 1 0
+> release ok
+> counts free 13 queue 3 chain 0 data 0
+",
+    ),
+    Part::HasReceipts(0, &[(0, 0, Some(Status::ABORTED_SQ_DELETION))]),
+    Part::Plays(
+        "delete_cq 1
+> delete_cq cid 0
+ring 0
+> ring ok
+fetch 0
+> fetch cid 0 touched 0
+complete 0 0
+> complete ok touched 1
+reap 0
+> reap admin cid 0 status 0:00 dw0 0
+> counts free 14 queue 2 chain 0 data 0
+",
+    ),
+];
+
+#[test]
+fn a_queue_ends(rt: HostRuntime) {
+    run(&rt, rt.alloc(), END_OF_A_QUEUE, Some(15));
+}
+
+/// A command that is aborted before it is fetched, a draft that is cancelled and one that is left over, and a forged entry.
+const GIVEN_UP: &[Part] = &[
+    Part::Sit,
+    Part::Plays(
+        "reserve 1 read 0 1 0+512
+> reserve q 1 cid 0 data 1 chain 0
+build 1 0
+> build ok
+submit 1 0
+> submit ok
+abort 1 0
+> abort cid 0
+ring 0
+> ring ok
+fetch 0
+> fetch cid 0 touched 0
+complete 0 0
+> complete ok touched 1
+reap 0
+> reap admin cid 0 status 0:00 dw0 1
+reserve 1 compare 1 1 0+512
+> reserve q 1 cid 1 data 1 chain 0
+cancel 1 1
+> cancel ok
+forge 1 0 00000000000000000000000000000000
+> forge ok
+reserve 1 write 2 1 0+512
+> reserve q 1 cid 1 data 1 chain 0
+> counts free 10 queue 4 chain 0 data 2
+",
+    ),
+];
+
+#[test]
+fn commands_are_given_up(rt: HostRuntime) {
+    run(&rt, rt.alloc(), GIVEN_UP, Some(11));
+}
+
+/// Three Reads, and an Abort of each: as the controller walks, when it has walked to the end, and before it fetches, which changes nothing.
+const ABORTS: &[Part] = &[
+    Part::Sit,
+    Part::Plays(
+        "reserve 1 read 0 1 0+512
+> reserve q 1 cid 0 data 1 chain 0
+build 1 0
+> build ok
+submit 1 0
+> submit ok
+ring 1
+> ring ok
+fetch 1
+> fetch cid 0 touched 2
+walk 1 0
+> walk more touched -
+abort 1 0
+> abort cid 0
+ring 0
+> ring ok
+fetch 0
+> fetch cid 0 touched 0
+complete 0 0
+> complete refused Waits
+walk 1 0
+> walk refused Nothing
+complete 1 0
+> complete ok touched 3
+complete 0 0
+> complete ok touched 1
+reap 1
+> reap done cid 0 status 0:07
+reap 0
+> reap admin cid 0 status 0:00 dw0 0
+abort 1 0
+> abort refused NoSuchCommand
+reserve 1 read 0 1 0+512
+> reserve q 1 cid 1 data 1 chain 0
+build 1 1
+> build ok
+submit 1 1
+> submit ok
+ring 1
+> ring ok
+fetch 1
+> fetch cid 1 touched 2
+walk 1 1
+> walk more touched -
+walk 1 1
+> walk end touched 5
+abort 1 1
+> abort cid 0
+ring 0
+> ring ok
+fetch 0
+> fetch cid 0 touched 0
+complete 0 0
+> complete ok touched 1
+reap 0
+> reap admin cid 0 status 0:00 dw0 1
+complete 1 1
+> complete ok touched 3
+reap 1
+> reap done cid 1 status 0:00
+reserve 1 read 0 1 0+512
+> reserve q 1 cid 2 data 1 chain 0
+build 1 2
+> build ok
+submit 1 2
+> submit ok
+abort 1 2
+> abort cid 0
+ring 0
+> ring ok
+fetch 0
+> fetch cid 0 touched 0
+complete 0 0
+> complete ok touched 1
+reap 0
+> reap admin cid 0 status 0:00 dw0 1
+> counts free 9 queue 4 chain 0 data 3
+",
+    ),
+    Part::Plays(
+        "ring 1
+> ring ok
+fetch 1
+> fetch cid 2 touched 2
+walk 1 2
+> walk more touched -
+walk 1 2
+> walk end touched 6
+complete 1 2
+> complete ok touched 3
+reap 1
+> reap done cid 2 status 0:00
+collect 1 0
+> collect status 0:07
+release 1 0
+> release ok
+collect 1 1
+> collect status 0:00
+release 1 1
+> release ok
+collect 1 2
+> collect status 0:00
+release 1 2
+> release ok
+> counts free 12 queue 4 chain 0 data 0
+",
+    ),
+    Part::HasReceipts(
+        0,
+        &[
+            (0, 0, Some(Status::ABORT_REQUESTED)),
+            (1, 1, Some(Status::SUCCESS)),
+            (2, 2, Some(Status::SUCCESS)),
+        ],
+    ),
+];
+
+#[test]
+fn commands_are_aborted(rt: HostRuntime) {
+    run(&rt, rt.alloc(), ABORTS, Some(47));
+}
+
+/// A step, what the controller can do behind it, and the first queue with a completion.
+type Look = (&'static str, Option<ControllerStep>, Option<u16>);
+
+/// A Read, from its reservation to its submission.
+const SUBMITTED: &str = "reserve 1 read 0 1 0+512
+> reserve q 1 cid 0 data 1 chain 0
+build 1 0
+> build ok
+submit 1 0
+> submit ok
+> counts free 11 queue 4 chain 0 data 1
+";
+
+/// The steps behind it.
+const LOOKED_AT: [Look; 6] = [
+    (
+        "ring 1
+> ring ok
+> counts free 11 queue 4 chain 0 data 1
+",
+        Some(ControllerStep::Fetch { q: 1 }),
+        None,
+    ),
+    (
+        "fetch 1
+> fetch cid 0 touched 2
+> counts free 11 queue 4 chain 0 data 1
+",
+        Some(ControllerStep::Walk { q: 1, cid: 0 }),
+        None,
+    ),
+    (
+        "walk 1 0
+> walk more touched -
+> counts free 11 queue 4 chain 0 data 1
+",
+        Some(ControllerStep::Walk { q: 1, cid: 0 }),
+        None,
+    ),
+    (
+        "walk 1 0
+> walk end touched 4
+> counts free 11 queue 4 chain 0 data 1
+",
+        Some(ControllerStep::Complete { q: 1, cid: 0 }),
+        None,
+    ),
+    (
+        "complete 1 0
+> complete ok touched 3
+> counts free 11 queue 4 chain 0 data 1
+",
+        None,
+        Some(1),
+    ),
+    (
+        "reap 1
+> reap done cid 0 status 0:00
+> counts free 11 queue 4 chain 0 data 1
+",
+        None,
+        None,
+    ),
+];
+
+/// Sees what the controller can do next, and the first queue with a completion.
+fn can_do<L: Driver, R: Abort>(
+    rt: &R,
+    book: &mut Book<L>,
+    step: Option<ControllerStep>,
+    q: Option<u16>,
+) {
+    see(rt, &book.next_step(), &step);
+    see(rt, &book.next_completion(), &q);
+}
+
+/// Plays a Read through a book, and sees between its steps what the controller can do, whether a completion waits, and whether it can be
+/// collected. No look makes an entry in the log.
+fn look<L: Driver, R: Abort>(rt: &R, alloc: Global, config: Config, image: Image, blank: Blank)
+    requires name { blank.name ≡ L.name }
+    requires parts { blank.parts ≡ L.parts }
+    requires number { blank.parts ≡ 65536 }
+    requires opening { L.opening ≡ opening_of config image }
+{
+    let book = opened::<L, R>(rt, alloc, config, image, blank);
+    let mut desk = Desk::new(alloc, alloc, book);
+    assert!(rt; desk.sit() == Ok(true));
+    can_do(rt, &mut desk.driver, None, None);
+    play_text(rt, &mut desk, SUBMITTED);
+    see(
+        rt,
+        &desk.driver.collect_refusal(1, 0),
+        &Some(Refusal::NotYet),
+    );
+    can_do(rt, &mut desk.driver, None, None);
+    for (text, step, q) in LOOKED_AT {
+        play_text(rt, &mut desk, text);
+        can_do(rt, &mut desk.driver, step, q);
+    }
+    see(rt, &desk.driver.collect_refusal(1, 0), &None);
+    see(rt, &desk.end(), &8);
+}
+
+#[test]
+fn looks_make_no_step(rt: HostRuntime) {
+    let alloc = rt.alloc();
+    let image = Image::zeroed(alloc, 64).expect(&rt, "an image");
+    look::<Brand, HostRuntime>(&rt, alloc, USUAL, image, Blank::new(65536));
+}

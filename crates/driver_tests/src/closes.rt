@@ -1,0 +1,87 @@
+//! A book is closed, or is not.
+
+use crate::looks::{Told, counts, see, tell};
+use driver_book::{CloseFault, Driver, Report, Seat};
+use driver_desk::{Calls, Desk};
+use entry_codec::Status;
+use std::alloc::Global;
+use std::process::Abort;
+
+/// A report counts so many submissions as its receipts, 12 free pages and 4 of queues, and each seat in it has these receipts.
+fn see_report<R: Abort>(rt: &R, report: &Report, want: &[&[Told]]) {
+    let submissions = want
+        .iter()
+        .fold(0, |sum: u64, told| sum.saturating_add(told.len() as u64));
+    see(rt, &report.submissions, &submissions);
+    see(rt, &report.counts, &counts(12, 4, 0));
+    let lists = report.receipts.as_slice();
+    see(rt, &lists.len(), &want.len());
+    for (receipts, told) in lists.iter().zip(want) {
+        assert!(rt; tell(receipts, told), "{told:?}");
+    }
+}
+
+/// The report of a book that is closed as all seats are handed in.
+fn report_of<D: Calls<Seat<L>, Global> + Drop, L: Driver, R: Abort>(rt: &R, desk: &mut Desk<D, Seat<L>>) -> Report {
+    match desk.close() {
+        Ok(report) => report,
+        Err(_) => panic!(rt; "it was not closed"),
+    }
+}
+
+/// All seats are handed in, and the book is closed: these are the receipts of each.
+pub(crate) fn close<D: Calls<Seat<L>, Global> + Drop, L: Driver, R: Abort>(
+    rt: &R,
+    desk: &mut Desk<D, Seat<L>>,
+    want: &[&[Told]],
+) {
+    let report = report_of(rt, desk);
+    see_report(rt, &report, want);
+}
+
+/// All seats are handed in, and the book is closed: each of so many seats has one receipt, of the command of its number, which ended well.
+pub(crate) fn close_each<D: Calls<Seat<L>, Global> + Drop, L: Driver, R: Abort>(
+    rt: &R,
+    desk: &mut Desk<D, Seat<L>>,
+    seats: u64,
+) {
+    let report = report_of(rt, desk);
+    see(rt, &report.submissions, &seats);
+    see(rt, &report.counts, &counts(12, 4, 0));
+    let lists = report.receipts.as_slice();
+    see(rt, &(lists.len() as u64), &seats);
+    for (receipts, number) in lists.iter().zip(0..seats) {
+        assert!(rt;
+            tell(receipts, &[(number, 0, Some(Status::SUCCESS))]),
+            "{number}"
+        );
+    }
+}
+
+/// All seats are handed in, and come back, so many of them, as the book is not closed.
+pub(crate) fn stay_open<D: Calls<Seat<L>, Global> + Drop, L: Driver, R: Abort>(
+    rt: &R,
+    desk: &mut Desk<D, Seat<L>>,
+    want: CloseFault,
+    seats: usize,
+) {
+    match desk.close() {
+        Ok(_) => panic!(rt; "it was closed"),
+        Err(why) => see(rt, &why, &want),
+    }
+    see(rt, &desk.seats.len(), &seats);
+}
+
+/// The last seat is kept back and the others are handed in: they come back, so many of them, as the book is not closed.
+pub(crate) fn keep_back<D: Calls<Seat<L>, Global> + Drop, L: Driver, R: Abort>(
+    rt: &R,
+    desk: &mut Desk<D, Seat<L>>,
+    want: CloseFault,
+    seats: usize,
+) {
+    let Some(last) = desk.seats.pop() else {
+        panic!(rt; "there is no seat");
+    };
+    stay_open(rt, desk, want, seats);
+    assert!(rt; desk.seats.push(last).is_ok());
+}

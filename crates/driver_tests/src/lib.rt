@@ -1,0 +1,36 @@
+//! Books, also behind a lock, and runs of threads: what they must answer and leave, and what benches, worlds and lists of steps do where memory is
+//! refused. It has tests alone, so that they do not prove the book once more.
+#![tactic(auto)]
+
+#[cfg(test)]
+mod calls;
+#[cfg(test)]
+mod closes;
+#[cfg(test)]
+mod closing;
+#[cfg(test)]
+mod crowd;
+#[cfg(test)]
+mod fixed_heap;
+#[cfg(test)]
+mod heap;
+#[cfg(test)]
+mod jobs;
+#[cfg(test)]
+mod lists;
+#[cfg(test)]
+mod looks;
+#[cfg(test)]
+mod opening;
+#[cfg(test)]
+mod openings;
+#[cfg(test)]
+mod part;
+#[cfg(test)]
+mod resets;
+#[cfg(test)]
+mod runs;
+#[cfg(test)]
+mod strangers;
+#[cfg(test)]
+mod turned_away;

@@ -1,0 +1,39 @@
+//! Transcripts: a script, and below each of its steps what it answers, as a text that whoever knows scripts can read, write and change.
+//!
+//! ```text
+//! # options: --pages 32 --entries 8
+//! # One block is read through one Data Block descriptor.
+//! reserve 1 read 0 1 0+512
+//! > reserve q 1 cid 0 data 1 chain 0
+//! owners
+//! > 0-0 queue 0 sq
+//! ```
+//!
+//! A line that begins with `>` is an answer, one line of what the step above it prints: `>`, a blank, and the text. What `nvmesgl steps` prints for a
+//! step begins with the number of the step's line; a transcript leaves that number out, since the step stands just above. The lines of `owners`, and
+//! the counts with which each run ends, have none. The counts stand as the last answer, below what the last step answers. An answer stands
+//! exactly as it is printed, each on a line of its own, and none may be left away: what is printed and does not stand there is a difference.
+//!
+//! Every other line is a line of a script (`script_cli`), a comment and an empty line among them. The first line may say the options of
+//! `nvmesgl steps`, each that differs from the usual one: `# options:` with `--pages`, `--queues`, `--entries`, `--segment` or `--blocks`, each with
+//! its number. An image from a file is none of them, since a transcript stands alone.
+//!
+//! [`read_transcript`] reads one, and [`play`] plays it on whatever makes its steps, a [`StepMaker`]: it makes them in order and answers the first
+//! [`Difference`] between what is printed and what stands there. [`OnBench`] makes steps on a bench.
+#![tactic(auto)]
+
+mod bench;
+mod difference;
+mod fault;
+mod heap;
+mod options;
+mod playing;
+mod read;
+
+pub use bench::OnBench;
+pub use difference::Difference;
+pub use fault::{OpeningFault, TranscriptFault};
+pub use heap::{reply_in, step_in};
+pub use options::Options;
+pub use playing::{StepMaker, play};
+pub use read::{Answer, Told, Transcript, read_transcript};

@@ -1,0 +1,97 @@
+//! A script behind a lock.
+
+ghost use Rattle.std.specs.Prelude.{◌≡◌};
+ghost use Rattle.step_core.specs.Opening.{opening_of};
+
+use crate::bench::{as_told, wrong_if};
+use crate::book::{BookEnd, submissions, zeros};
+use crate::fault::{Fault, Wrong};
+use crate::standing::Holdings;
+use crate::way::Way;
+use driver_book::{Book, CloseFault, Driver, Receipt, Seat};
+use driver_desk::{Desk, Locked};
+use driver_threads::Shared;
+use std::alloc::Global;
+use std::marker::Brand;
+use std::sync::Wait;
+use std::sync::ledger::Blank;
+use step_core::{Config, Image};
+use transcripts::{Transcript, play};
+
+/// What a run behind a lock leaves.
+#[derive(Drop)]
+struct LockEnd {
+    holdings: Holdings,
+    receipts: Vec<Receipt>,
+    closes: Result<u64, CloseFault>,
+    entries: usize,
+}
+
+/// Plays a script at a desk behind a lock, and closes the book.
+fn play_at<L: Driver, R: Wait>(
+    mut desk: Desk<Locked<'_, L, R>, Seat<L>>,
+    transcript: &Transcript,
+) -> Result<LockEnd, Fault> {
+    let alloc = desk.alloc;
+    desk.sit()?;
+    let found = play(alloc, &mut desk, transcript)?;
+    as_told(Way::Lock, found, None)?;
+    let holdings = Holdings::of(alloc, &desk)?;
+    let receipts = desk.receipts(alloc)?;
+    let closes = submissions(&mut desk);
+    Ok(LockEnd {
+        holdings,
+        receipts,
+        closes,
+        entries: desk.end(),
+    })
+}
+
+/// Plays a script behind the lock of a new book.
+fn play_in<L: Driver, R: Wait>(
+    rt: &R,
+    alloc: Global,
+    config: Config,
+    image: Image,
+    blank: Blank,
+    transcript: &Transcript,
+) -> Result<LockEnd, Fault>
+    requires name { blank.name ≡ L.name }
+    requires parts { blank.parts ≡ L.parts }
+    requires number { blank.parts ≡ 65536 }
+    requires opening { L.opening ≡ opening_of config image }
+{
+    match Book::<L>::open(alloc, config, image, blank) {
+        Ok(book) => {
+            let shared = Shared::new(book);
+            play_at(Desk::new(alloc, alloc, Locked { shared, rt }), transcript)
+        }
+        Err(refused) => Err(Fault::NoBook(refused.why)),
+    }
+}
+
+/// What is wrong with what a run leaves, if something is.
+fn first_wrong(end: &LockEnd, wanted: &BookEnd) -> Option<Wrong> {
+    let standing = &wanted.standing;
+    if end.holdings != standing.holdings
+        || end.entries != standing.entries
+        || end.receipts.as_slice() != standing.receipts.as_slice()
+    {
+        return Some(Wrong::Standing);
+    }
+    wrong_if(end.closes != wanted.closes, Wrong::Closing)
+}
+
+/// Plays a script behind a lock, which leaves what it leaves through a book.
+pub fn play_behind_lock<R: Wait>(
+    rt: &R,
+    alloc: Global,
+    transcript: &Transcript,
+    wanted: &BookEnd,
+) -> Result<(), Fault> {
+    let options = transcript.options();
+    let image = zeros(alloc, options)?;
+    let blank = Blank::new(65536);
+    let end = play_in::<Brand, R>(rt, alloc, options.config, image, blank, transcript)?;
+    as_told(Way::Lock, None, first_wrong(&end, wanted))
+}

@@ -1,0 +1,110 @@
+//! Plays worked scripts: the transcripts that the words of the command line name.
+//!
+//! Each is played on a bench, through a book and behind a lock, and answers each time as stands in it. Then it is played once for each growth
+//! of memory that it has on a bench, and that it has through a book from the opening to the end, which is refused; and once on a bench with no
+//! memory for the calls that take none. It prints a line for each, and a sum. Last, a draft visits another book, and two submitters with a
+//! poller and a controller run in threads, each once for each growth that there is. The first difference ends the program: it tells the file,
+//! the line, what stands there and what came.
+#![tactic(auto)]
+
+mod bench;
+mod book;
+mod fault;
+mod lock;
+mod refused;
+mod report;
+mod standing;
+mod threads;
+mod visit;
+mod way;
+
+use bench::{play_on_bench, refuse_all_on_bench, refuse_each_on_bench};
+use book::{BookEnd, play_through_book, refuse_each_through_book};
+use fault::Fault;
+use lock::play_behind_lock;
+use report::{Runs, Scores, print_line, print_sum};
+use std::alloc::AllocGlobal;
+use std::env::Env;
+use std::fs;
+use std::process::ExitCode;
+use std::rt::Files;
+use std::sync::Wait;
+use std::thread::Threads;
+use threads::refuse_each_in_threads;
+use transcripts::{Transcript, read_transcript};
+use visit::refuse_each_of_visit;
+
+fn main(rt: HostRuntime) -> ExitCode {
+    match start(&rt) {
+        Ok(true) => ExitCode::SUCCESS,
+        Ok(false) => ExitCode::FAILURE,
+        Err(fault) => {
+            // Where standard error is closed, the exit status alone tells.
+            let _ = eprintln!(rt; "{fault}");
+            ExitCode::FAILURE
+        }
+    }
+}
+
+/// Plays the transcripts that are named, and runs the threads. False where a transcript is not as it says, which is told then.
+fn start<R: AllocGlobal + Env + Eprint + Files + Print + Sync + Threads + Wait>(
+    rt: &R,
+) -> Result<bool, Fault> {
+    let words: Vec<String> = match std::env::args(rt) {
+        Ok(words) => words.collect(rt.alloc())?,
+        Err(_) => return Err(Fault::Usage),
+    };
+    let Some((_, files)) = words.split_first() else {
+        return Err(Fault::Usage);
+    };
+    let mut sum = Scores::default();
+    for file in files {
+        match play_file(rt, file) {
+            Ok(scores) => sum.add(scores),
+            Err(fault) => {
+                let _ = eprintln!(rt; "{file}: {fault}");
+                return Ok(false);
+            }
+        }
+    }
+    let runs = Runs {
+        visit: refuse_each_of_visit(rt.alloc())?,
+        threads: refuse_each_in_threads(rt, rt.alloc())?,
+    };
+    match print_sum(rt, sum, runs) {
+        Ok(()) => Ok(true),
+        Err(_) => Err(Fault::Output),
+    }
+}
+
+/// Plays the transcript of a file in each way, and prints its line.
+fn play_file<R: AllocGlobal + Files + Print + Wait>(rt: &R, file: &str) -> Result<Scores, Fault> {
+    let alloc = rt.alloc();
+    let Ok(text) = fs::read_to_string(rt, file) else {
+        return Err(Fault::Unreadable);
+    };
+    let transcript = read_transcript(alloc, &text)?;
+    let (scores, end) = play_each_way(rt, &transcript)?;
+    match print_line(rt, file, scores, &end) {
+        Ok(()) => Ok(scores),
+        Err(_) => Err(Fault::Output),
+    }
+}
+
+/// Plays a transcript on a bench, through a book and behind a lock, and with its growths refused.
+fn play_each_way<R: AllocGlobal + Wait>(
+    rt: &R,
+    transcript: &Transcript,
+) -> Result<(Scores, BookEnd), Fault> {
+    let alloc = rt.alloc();
+    let on_bench = play_on_bench(alloc, transcript)?;
+    let through_book = play_through_book(alloc, transcript, &on_bench.standing.holdings)?;
+    play_behind_lock(rt, alloc, transcript, &through_book)?;
+    let scores = Scores {
+        scripts: 1,
+        on_bench: refuse_each_on_bench(alloc, transcript, &on_bench)?,
+        through_book: refuse_each_through_book(alloc, transcript, &through_book)?,
+        without_memory: refuse_all_on_bench(alloc, transcript, &on_bench)?,
+    };
+    Ok((scores, through_book))
+}

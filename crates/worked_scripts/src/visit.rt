@@ -1,0 +1,163 @@
+//! A draft of one book is handed to another one, which refuses it, and then to its own, with each growth refused in turn.
+
+ghost use Rattle.std.specs.Prelude.{◌≡◌};
+ghost use Rattle.step_core.specs.Opening.{opening_of};
+
+use crate::bench::{as_told, wrong_if};
+use crate::book::{opened, zeros};
+use crate::fault::{Fault, Wrong};
+use crate::refused::OneRefused;
+use crate::standing::Heap;
+use crate::way::Way;
+use driver_book::{Book, Driver, Seat};
+use driver_desk::Desk;
+use test_support::Refusing;
+use std::alloc::{AllocError, Global};
+use std::marker::Brand;
+use std::sync::ledger::Blank;
+use step_core::{Config, Image};
+use transcripts::{Options, play, read_transcript};
+
+/// More growths than a visit has.
+const MANY: u64 = 5_000;
+
+/// A draft is built at its own book.
+const BUILT: &str = "reserve 1 read 0 1 0+512
+> reserve q 1 cid 0 data 1 chain 0
+build 1 0
+> build ok
+> counts free 11 queue 4 chain 0 data 1
+";
+
+/// Another book refuses it.
+const STRANGER: &str = "submit 1 0
+> submit refused Stranger
+> counts free 12 queue 4 chain 0 data 0
+";
+
+/// Its own book takes it.
+const SUBMITTED: &str = "submit 1 0
+> submit ok
+> counts free 11 queue 4 chain 0 data 1
+";
+
+/// A desk with a book in a heap.
+type DeskIn<'h, L> = Desk<Book<L, &'h Heap>, Seat<L, &'h Heap>, &'h Heap>;
+
+/// Hands the youngest command of a desk to another one.
+fn hand_over<'h, L: Driver, M: Driver>(
+    from: &mut DeskIn<'h, L>,
+    to: &mut DeskIn<'h, M>,
+) -> Result<(), AllocError> {
+    if let Some(value) = from.values.pop() {
+        to.values.push(value)?;
+    }
+    Ok(())
+}
+
+/// Plays a part of a visit at a desk with one of the growths to come refused, and answers how many are left to that one.
+fn play_part<'h, L: Driver>(
+    heap: &'h Heap,
+    desk: DeskIn<'h, L>,
+    text: &str,
+    growth: u64,
+    left: u64,
+) -> Result<(DeskIn<'h, L>, u64), Fault> {
+    let alloc = desk.alloc;
+    let transcript = read_transcript(alloc, text)?;
+    let mut refused = OneRefused::new(alloc, heap, desk, left, &[]);
+    let found = play(alloc, &mut refused, &transcript);
+    let OneRefused {
+        alloc: _,
+        heap: _,
+        maker,
+        left,
+        known: _,
+        growths: _,
+        changed,
+        touched: _,
+    } = refused;
+    let wrong = wrong_if(changed, Wrong::Changed);
+    as_told(Way::Visit(growth), found?, wrong)?;
+    Ok((maker, left))
+}
+
+/// A draft is built at home, handed to the other desk and back, and submitted. It answers how many growths are left.
+fn visit<'h, L: Driver, M: Driver>(
+    heap: &'h Heap,
+    home: DeskIn<'h, L>,
+    mut away: DeskIn<'h, M>,
+    growth: u64,
+) -> Result<u64, Fault> {
+    let (mut home, left) = play_part(heap, home, BUILT, growth, growth)?;
+    hand_over(&mut home, &mut away)?;
+    let (mut away, left) = play_part(heap, away, STRANGER, growth, left)?;
+    hand_over(&mut away, &mut home)?;
+    let (home, left) = play_part(heap, home, SUBMITTED, growth, left)?;
+    home.end();
+    away.end();
+    Ok(left)
+}
+
+/// Opens the other book, and lets a draft visit it.
+fn play_away<'h, L: Driver, M: Driver>(
+    heap: &'h Heap,
+    home: DeskIn<'h, L>,
+    config: Config,
+    image: Image<&'h Heap>,
+    blank: Blank,
+    growth: u64,
+) -> Result<u64, Fault>
+    requires name { blank.name ≡ M.name }
+    requires parts { blank.parts ≡ M.parts }
+    requires number { blank.parts ≡ 65536 }
+    requires opening { M.opening ≡ opening_of config image }
+{
+    let book = opened::<M, &'h Heap>(heap, config, image, blank)?;
+    let mut away = Desk::new(home.alloc, heap, book);
+    away.sit()?;
+    visit(heap, home, away, growth)
+}
+
+/// Opens a draft's own book and another one, and lets the draft visit that one. It answers how many growths are left.
+fn play_home<'h, L: Driver>(
+    alloc: Global,
+    heap: &'h Heap,
+    config: Config,
+    image: Image<&'h Heap>,
+    blank: Blank,
+    growth: u64,
+) -> Result<u64, Fault>
+    requires name { blank.name ≡ L.name }
+    requires parts { blank.parts ≡ L.parts }
+    requires number { blank.parts ≡ 65536 }
+    requires opening { L.opening ≡ opening_of config image }
+{
+    let other_image = zeros(heap, Options::USUAL)?;
+    let other_blank = Blank::new(65536);
+    let book = opened::<L, &'h Heap>(heap, config, image, blank)?;
+    let mut home = Desk::new(alloc, heap, book);
+    home.sit()?;
+    play_away::<L, Brand>(heap, home, config, other_image, other_blank, growth)
+}
+
+/// Lets a draft visit another book with one growth refused, and answers whether there was such a growth. At the end the heap is empty.
+fn visit_once(alloc: Global, growth: u64) -> Result<bool, Fault> {
+    let heap = Refusing::new(alloc);
+    let image = zeros(&heap, Options::USUAL)?;
+    let blank = Blank::new(65536);
+    let left = play_home::<Brand>(alloc, &heap, Options::USUAL.config, image, blank, growth)?;
+    let wrong = wrong_if(heap.tally().blocks != 0, Wrong::Leaked);
+    as_told(Way::Visit(growth), None, wrong)?;
+    Ok(left == 0)
+}
+
+/// Lets a draft visit another book once for each growth that there is, and answers how many those are.
+pub fn refuse_each_of_visit(alloc: Global) -> Result<u64, Fault> {
+    for growth in 1..MANY {
+        if !visit_once(alloc, growth)? {
+            return Ok(growth - 1);
+        }
+    }
+    Ok(MANY)
+}
