@@ -22,7 +22,10 @@ fn see_report<R: Abort>(rt: &R, report: &Report, want: &[&[Told]]) {
 }
 
 /// The report of a book that is closed as all seats are handed in.
-fn report_of<D: Calls<Seat<L>, Global> + Drop, L: Driver, R: Abort>(rt: &R, desk: &mut Desk<D, Seat<L>>) -> Report {
+fn report_of<D: Calls<Seat<L>, Global> + Drop, L: Driver, R: Abort>(
+    rt: &R,
+    desk: &mut Desk<D, Seat<L>>,
+) -> Report {
     match desk.close() {
         Ok(report) => report,
         Err(_) => panic!(rt; "it was not closed"),

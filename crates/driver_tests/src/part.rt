@@ -60,7 +60,11 @@ pub(crate) fn play_text<D: Calls<Seat<L>, Global> + Drop, L: Driver, R: Abort>(
 }
 
 /// Does a part of a run.
-fn play_part<D: Calls<Seat<L>, Global> + Drop, L: Driver, R: Abort>(rt: &R, desk: &mut Desk<D, Seat<L>>, part: Part) {
+fn play_part<D: Calls<Seat<L>, Global> + Drop, L: Driver, R: Abort>(
+    rt: &R,
+    desk: &mut Desk<D, Seat<L>>,
+    part: Part,
+) {
     match part {
         Part::Sit => assert!(rt; desk.sit() == Ok(true)),
         Part::Turn => desk.seats.reverse(),

@@ -34,7 +34,9 @@ const TWO_QUEUES: Config = Config { queues: 2, ..USUAL };
 
 /// Configurations that open no world.
 const BAD: Config = Config { pages: 7, ..USUAL };
+
 const NO_QUEUE: Config = Config { queues: 0, ..USUAL };
+
 const FOUR_QUEUES: Config = Config { queues: 4, ..SMALL };
 
 /// Jobs that are carried through, scripts at fault, openings and jobs that are refused.
@@ -519,35 +521,50 @@ pub(crate) static LONG: [Long; 12] = [
     // Lines, the number of them, and scripts that are as long as they may be, and longer.
     Long {
         first: "",
-        length: Length { part: "#", times: 16384 },
+        length: Length {
+            part: "#",
+            times: 16384,
+        },
         last: "",
         prints: "",
         is_usual: true,
     },
     Long {
         first: "",
-        length: Length { part: " ", times: 16385 },
+        length: Length {
+            part: " ",
+            times: 16385,
+        },
         last: "",
         prints: "line 1: LongLine, 1",
         is_usual: false,
     },
     Long {
         first: "",
-        length: Length { part: "\n", times: 65536 },
+        length: Length {
+            part: "\n",
+            times: 65536,
+        },
         last: "",
         prints: "",
         is_usual: true,
     },
     Long {
         first: "",
-        length: Length { part: "\n", times: 65537 },
+        length: Length {
+            part: "\n",
+            times: 65537,
+        },
         last: "",
         prints: "line 65537: TooManyLines, 1",
         is_usual: false,
     },
     Long {
         first: "",
-        length: Length { part: "\n", times: 1048577 },
+        length: Length {
+            part: "\n",
+            times: 1048577,
+        },
         last: "",
         prints: "script: too long, 1",
         is_usual: false,
@@ -555,21 +572,30 @@ pub(crate) static LONG: [Long; 12] = [
     // Pieces by their number: a list that needs all pages that no queue owns is served, one that needs more is refused.
     Long {
         first: "job 0 1 read 0 1",
-        length: Length { part: " 0+1", times: 1025 },
+        length: Length {
+            part: " 0+1",
+            times: 1025,
+        },
         last: "",
         prints: "1 seat 0 read refused Bad TooManyPieces\n",
         is_usual: true,
     },
     Long {
         first: "job 0 1 read 0 12",
-        length: Length { part: " 0+512", times: 12 },
+        length: Length {
+            part: " 0+512",
+            times: 12,
+        },
         last: "",
         prints: "1 seat 0 read refused NoPages need 13 pool 12\n",
         is_usual: true,
     },
     Long {
         first: "job 0 1 read 0 11",
-        length: Length { part: " 0+512", times: 11 },
+        length: Length {
+            part: " 0+512",
+            times: 11,
+        },
         last: "",
         prints: "1 seat 0 read status 0:00 00*5632\n",
         is_usual: true,
@@ -577,28 +603,40 @@ pub(crate) static LONG: [Long; 12] = [
     // More bytes than the data pieces take; where the pages do not suffice either, that is told.
     Long {
         first: "job 0 1 write 0 1 ",
-        length: Length { part: "5A", times: 513 },
+        length: Length {
+            part: "5A",
+            times: 513,
+        },
         last: " 0+512",
         prints: "1 seat 0 write refused WrongLength\n",
         is_usual: true,
     },
     Long {
         first: "job 1 1 compare 1 1 ",
-        length: Length { part: "5A", times: 513 },
+        length: Length {
+            part: "5A",
+            times: 513,
+        },
         last: " 0+512",
         prints: "1 seat 1 compare refused WrongLength\n",
         is_usual: true,
     },
     Long {
         first: "job 0 1 write 2 1 ",
-        length: Length { part: "5A", times: 513 },
+        length: Length {
+            part: "5A",
+            times: 513,
+        },
         last: " 0+32 0+32 0+32 0+32 0+32 0+32 0+32 0+32 0+32 0+32 0+32 0+32 0+32 0+32 0+32 0+32",
         prints: "1 seat 0 write refused NoPages need 17 pool 12\n",
         is_usual: true,
     },
     Long {
         first: "job 0 1 write 3 1 ",
-        length: Length { part: "5A", times: 512 },
+        length: Length {
+            part: "5A",
+            times: 512,
+        },
         last: " 0+512\njob 0 1 read 3 1 0+512",
         prints: "1 seat 0 write status 0:00 -\n2 seat 0 read status 0:00 5A*512\n",
         is_usual: true,

@@ -10,11 +10,11 @@ use crate::standing::{DeskStanding, Heap, Holdings, Stands};
 use crate::way::Way;
 use driver_book::{Book, CloseFault, Driver, Seat};
 use driver_desk::{Calls, Desk};
-use test_support::{Refusal, Refusing};
 use std::alloc::{AllocError, Allocator, Global};
 use std::marker::Brand;
 use std::sync::ledger::Blank;
 use step_core::{Config, Image, ImageError, OpenRefusal, PageNo};
+use test_support::{Refusal, Refusing};
 use transcripts::{Options, Transcript, play};
 
 /// More growths than any script here has.

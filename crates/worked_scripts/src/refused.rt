@@ -1,9 +1,9 @@
 //! Steps that are made while memory is refused.
 
 use crate::standing::{Heap, Stands};
-use test_support::Refusal;
 use std::alloc::{AllocError, Allocator, Global};
 use step_core::{Counts, Owner, PageNo, Reply, ReplyIn, Step};
+use test_support::Refusal;
 use transcripts::{StepMaker, reply_in, step_in};
 
 /// Makes steps with one growth refused. A step that wants memory is made once more.

@@ -2,9 +2,9 @@
 
 use driver_book::{Book, Driver, Receipt, Seat};
 use driver_desk::{Desk, Value};
-use test_support::Refusing;
 use std::alloc::{AllocError, Allocator, Global};
 use step_core::{Counts, Owner, PageNo, ReplyIn, StepIn};
+use test_support::Refusing;
 use transcripts::{OnBench, StepMaker};
 
 /// A heap that refuses on purpose.

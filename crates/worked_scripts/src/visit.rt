@@ -11,11 +11,11 @@ use crate::standing::Heap;
 use crate::way::Way;
 use driver_book::{Book, Driver, Seat};
 use driver_desk::Desk;
-use test_support::Refusing;
 use std::alloc::{AllocError, Global};
 use std::marker::Brand;
 use std::sync::ledger::Blank;
 use step_core::{Config, Image};
+use test_support::Refusing;
 use transcripts::{Options, play, read_transcript};
 
 /// More growths than a visit has.
