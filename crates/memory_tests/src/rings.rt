@@ -4,6 +4,7 @@ use crate::expecting::same;
 use entry_codec::{ComEntry, Status, SubEntry};
 use page_memory::{Dma, PageNo, Store, TouchRecord};
 use queue_pair::{DevicePair, HostPair};
+use std::process::Abort;
 
 /// A submission entry.
 const ENTRY: SubEntry = SubEntry {
@@ -32,23 +33,25 @@ const COMPLETION: ComEntry = ComEntry {
     status: Status::SUCCESS,
 };
 
+/// The controller hears the tail, takes the entry and posts its completion.
+fn serve(rt: &impl Abort, device: &mut DevicePair, store: &mut Store, tail: u16) {
+    same(rt, device.tail_bell(tail), Ok(()));
+    store.clear();
+    same(rt, device.next_entry(store), Ok(Some(ENTRY)));
+    same(rt, device.post(store, COMPLETION), Ok(()));
+}
+
 /// The first entry of a pair of two entries, whose submission half begins at page 0 and whose completion half at page 16.
 #[test]
 fn a_round(rt: HostRuntime) {
     let mut store = Store::open(rt.alloc(), 20).expect(&rt, "it opens");
     let mut device = DevicePair::open(1, 2, PageNo(0), PageNo(16));
     let mut host = HostPair::open(rt.alloc(), 1, 2, PageNo(0), PageNo(16)).expect(&rt, "a host");
-    same(&rt, host.claim(), Some(0));
     assert!(rt; store.read(0, &mut [0; 64]).is_ok());
-    store.clear();
     same(&rt, host.post(&mut store, ENTRY), Ok(0));
-    same(&rt, device.tail_bell(host.ring_value()), Ok(()));
-    store.clear();
-    same(&rt, device.next_entry(&mut store), Ok(Some(ENTRY)));
-    same(&rt, device.post(&mut store, COMPLETION), Ok(()));
+    serve(&rt, &mut device, &mut store, host.ring_value());
     store.clear();
     assert!(rt; store.read(65_536, &mut [0; 16]).is_ok());
-    store.clear();
     same(&rt, host.peek(&mut store), Some(COMPLETION));
     same(&rt, host.accept_head(1), Ok(()));
     host.advance();
