@@ -1,7 +1,7 @@
 //! A driver in one thread, with seats, and the commands that are about.
 
+use crate::access::Access;
 use crate::answers::{Answer, cancelled, collected, released, reserved, submitted};
-use crate::calls::Calls;
 use crate::steps::{build, fill, gather};
 use crate::values::{Value, draft_of, finished_of, ticket_of};
 use driver_book::{CloseFault, Driver, NoSeat, Receipt, ReportIn, Seat};
@@ -9,31 +9,35 @@ use page_ledger::{Counts, Owner};
 use page_memory::PageNo;
 use std::alloc::{AllocError, Allocator, Global};
 use std::mem;
+use std::sync::Wait;
 use step_core::{Leftover, Reply, Step, StepIn};
 use transcripts::{StepMaker, reply_in, step_in};
 
 /// A driver in one thread, with seats, and the commands that are about. The last seat acts: it submits and releases.
 #[derive(Drop)]
-pub struct Desk<D: Calls<S, A> + Drop, S: Drop, A: Allocator = Global> {
+pub struct Desk<'r, L: Driver, R: Wait, A: Allocator = Global> {
+    /// What may wait for a lock.
+    pub rt: &'r R,
     /// Where the list of the commands stands, the padded copy of a fill's bytes, and the replies that are handed out.
     pub alloc: Global,
     /// Where all else stands.
     pub heap: A,
     /// The book, or its lock.
-    pub driver: D,
+    pub access: Access<L, A>,
     /// The seats in the order in which they were made, but for turns.
-    pub seats: Vec<S, A>,
+    pub seats: Vec<Seat<L, A>, A>,
     /// The commands, the one that was put last behind the others.
     pub values: Vec<Value<A>>,
 }
 
-impl<D: Calls<S, A> + Drop, S: Drop, A: Allocator + Copy> Desk<D, S, A> {
+impl<'r, L: Driver, R: Wait, A: Allocator + Copy> Desk<'r, L, R, A> {
     /// A desk with a driver, without a seat.
-    pub fn new(alloc: Global, heap: A, driver: D) -> Self {
+    pub fn new(rt: &'r R, alloc: Global, heap: A, access: Access<L, A>) -> Self {
         Desk {
+            rt,
             alloc,
             heap,
-            driver,
+            access,
             seats: Vec::new(heap),
             values: Vec::new(alloc),
         }
@@ -45,7 +49,7 @@ impl<D: Calls<S, A> + Drop, S: Drop, A: Allocator + Copy> Desk<D, S, A> {
     ///
     /// Where memory is refused for the list of the seats.
     pub fn sit(&mut self) -> Result<bool, AllocError> {
-        match self.driver.seat() {
+        match self.access.seat(self.rt) {
             Ok(seat) => {
                 self.seats.push(seat)?;
                 Ok(true)
@@ -62,7 +66,7 @@ impl<D: Calls<S, A> + Drop, S: Drop, A: Allocator + Copy> Desk<D, S, A> {
         let Some(draft) = draft_of(&mut self.values, q, cid) else {
             return Ok(Reply::NoValue);
         };
-        let answer = self.driver.submit(seat, draft);
+        let answer = self.access.submit(self.rt, seat, draft);
         submitted(&mut self.values, answer)
     }
 
@@ -74,19 +78,18 @@ impl<D: Calls<S, A> + Drop, S: Drop, A: Allocator + Copy> Desk<D, S, A> {
         let Some(finished) = finished_of(&mut self.values, q, cid) else {
             return Ok(Reply::NoValue);
         };
-        match self.driver.release(seat, finished) {
-            Ok(answer) => released(&mut self.values, answer),
-            Err(finished) => {
-                self.values.push(Value::Finished(finished))?;
-                Ok(Reply::NoValue)
-            }
+        if !seat.awaits(finished.q(), finished.cid()) {
+            self.values.push(Value::Finished(finished))?;
+            return Ok(Reply::NoValue);
         }
+        let answer = self.access.release(self.rt, seat, finished);
+        released(&mut self.values, answer)
     }
 
     /// Cancels a draft.
     fn cancel(&mut self, q: u16, cid: u16) -> Answer<A> {
         match draft_of(&mut self.values, q, cid) {
-            Some(draft) => cancelled(&mut self.values, self.driver.cancel(draft)),
+            Some(draft) => cancelled(&mut self.values, self.access.cancel(self.rt, draft)),
             None => Ok(Reply::NoValue),
         }
     }
@@ -94,7 +97,7 @@ impl<D: Calls<S, A> + Drop, S: Drop, A: Allocator + Copy> Desk<D, S, A> {
     /// Collects a command by its ticket.
     fn collect(&mut self, q: u16, cid: u16) -> Answer<A> {
         match ticket_of(&mut self.values, q, cid) {
-            Some(ticket) => collected(&mut self.values, self.driver.collect(ticket)),
+            Some(ticket) => collected(&mut self.values, self.access.collect(self.rt, ticket)),
             None => Ok(Reply::NoValue),
         }
     }
@@ -107,7 +110,7 @@ impl<D: Calls<S, A> + Drop, S: Drop, A: Allocator + Copy> Desk<D, S, A> {
     pub fn make(&mut self, step: StepIn<A>) -> Answer<A> {
         match step {
             Step::Reserve { q, request } => {
-                reserved(&mut self.values, self.driver.reserve(q, request))
+                reserved(&mut self.values, self.access.reserve(self.rt, q, request))
             }
             Step::Fill { q, cid, bytes } => {
                 fill(self.alloc, &mut self.values, q, cid, bytes.as_slice())
@@ -118,7 +121,7 @@ impl<D: Calls<S, A> + Drop, S: Drop, A: Allocator + Copy> Desk<D, S, A> {
             Step::Collect { q, cid } => self.collect(q, cid),
             Step::Gather { q, cid } => gather(self.heap, &mut self.values, q, cid),
             Step::Release { q, cid } => self.release(q, cid),
-            other => Ok(self.driver.step_alone(other)),
+            other => Ok(self.access.step_alone(self.rt, other)),
         }
     }
 
@@ -129,11 +132,11 @@ impl<D: Calls<S, A> + Drop, S: Drop, A: Allocator + Copy> Desk<D, S, A> {
     /// Where the book is not closed. The seats came back.
     pub fn close(&mut self) -> Result<ReportIn<A>, CloseFault> {
         let seats = mem::replace(&mut self.seats, Vec::new(self.heap));
-        match self.driver.close(seats) {
+        match self.access.close(self.rt, seats) {
             Ok(report) => Ok(report),
-            Err((why, seats)) => {
-                self.seats = seats;
-                Err(why)
+            Err(refused) => {
+                self.seats = refused.seats;
+                Err(refused.why)
             }
         }
     }
@@ -141,13 +144,14 @@ impl<D: Calls<S, A> + Drop, S: Drop, A: Allocator + Copy> Desk<D, S, A> {
     /// Ends the book, and lets the commands go that it left over. It answers how many entries the log had.
     pub fn end(self) -> usize {
         let Desk {
+            rt: _,
             alloc: _,
             heap: _,
-            driver,
+            access,
             seats: _,
             values,
         } = self;
-        let (entries, ended) = driver.end();
+        let (entries, ended) = access.end();
         for value in values {
             value.after(&ended);
         }
@@ -155,7 +159,7 @@ impl<D: Calls<S, A> + Drop, S: Drop, A: Allocator + Copy> Desk<D, S, A> {
     }
 }
 
-impl<D: Calls<Seat<L, A>, A> + Drop, L: Driver, A: Allocator + Copy> Desk<D, Seat<L, A>, A> {
+impl<'r, L: Driver, R: Wait, A: Allocator + Copy> Desk<'r, L, R, A> {
     /// The receipts of the last seat; none where there is no seat.
     ///
     /// # Errors
@@ -169,7 +173,7 @@ impl<D: Calls<Seat<L, A>, A> + Drop, L: Driver, A: Allocator + Copy> Desk<D, Sea
     }
 }
 
-impl<D: Calls<S, A> + Drop, S: Drop, A: Allocator + Copy> StepMaker for Desk<D, S, A> {
+impl<'r, L: Driver, R: Wait, A: Allocator + Copy> StepMaker for Desk<'r, L, R, A> {
     fn step(&mut self, step: &Step) -> Result<Reply, AllocError> {
         let made = step_in(self.heap, step)?;
         let reply = self.make(made)?;
@@ -177,10 +181,10 @@ impl<D: Calls<S, A> + Drop, S: Drop, A: Allocator + Copy> StepMaker for Desk<D, 
     }
 
     fn owner(&self, page: PageNo) -> Option<Owner> {
-        self.driver.owner(page)
+        self.access.owner(self.rt, page)
     }
 
     fn counts(&self) -> Counts {
-        self.driver.counts()
+        self.access.counts(self.rt)
     }
 }

@@ -1,17 +1,17 @@
 //! A desk: a driver in one thread with seats, and the commands that are about, on which steps are values as on a bench.
 //!
 //! [`Desk::make`] makes a step by the call of the driver, or of the command, that makes it, and answers in the words of a bench (`step_core`).
-//! What the last seat cannot do is `NoValue`. The driver is a book, or a book behind its lock ([`Locked`]): whatever has the [`Calls`]. A
-//! transcript is played on a desk as on a bench.
+//! What the last seat cannot do is `NoValue`. The driver is a book, or a book behind its lock ([`Access`]). A transcript is played on a desk as
+//! on a bench.
 #![tactic(auto)]
 
+mod access;
 pub mod answers;
-mod calls;
 mod desk;
 pub mod steps;
 pub mod values;
 
+pub use access::Access;
 pub use answers::Answer;
-pub use calls::{Calls, Locked};
 pub use desk::Desk;
 pub use values::Value;

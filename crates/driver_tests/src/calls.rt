@@ -7,11 +7,12 @@ use crate::looks::see;
 use crate::part::{Part, USUAL, opened, play_text, run};
 use block_image::Image;
 use driver_book::{Book, Driver};
-use driver_desk::Desk;
+use driver_desk::{Access, Desk};
 use entry_codec::Status;
 use std::alloc::Global;
 use std::marker::Brand;
 use std::process::Abort;
+use std::sync::Wait;
 use std::sync::ledger::Blank;
 use step_core::{Config, ControllerStep, Refusal};
 
@@ -323,21 +324,29 @@ fn commands_are_aborted(rt: HostRuntime) {
     run(&rt, rt.alloc(), ABORTS, Some(47));
 }
 
-/// A step, what the controller can do behind it, and the first queue with a completion.
-type Look = (&'static str, Option<ControllerStep>, Option<u16>);
+/// A transcript, what the controller can do behind it, the first queue with a completion, and why command 0 of queue 1 would not be collected.
+type Look = (
+    &'static str,
+    Option<ControllerStep>,
+    Option<u16>,
+    Option<Refusal>,
+);
 
-/// A Read, from its reservation to its submission.
-const SUBMITTED: &str = "reserve 1 read 0 1 0+512
+/// A Read, from its reservation to its submission, and the steps behind it.
+const LOOKED_AT: [Look; 7] = [
+    (
+        "reserve 1 read 0 1 0+512
 > reserve q 1 cid 0 data 1 chain 0
 build 1 0
 > build ok
 submit 1 0
 > submit ok
 > counts free 11 queue 4 chain 0 data 1
-";
-
-/// The steps behind it.
-const LOOKED_AT: [Look; 6] = [
+",
+        None,
+        None,
+        Some(Refusal::NotYet),
+    ),
     (
         "ring 1
 > ring ok
@@ -345,6 +354,7 @@ const LOOKED_AT: [Look; 6] = [
 ",
         Some(ControllerStep::Fetch { q: 1 }),
         None,
+        Some(Refusal::NotYet),
     ),
     (
         "fetch 1
@@ -353,6 +363,7 @@ const LOOKED_AT: [Look; 6] = [
 ",
         Some(ControllerStep::Walk { q: 1, cid: 0 }),
         None,
+        Some(Refusal::NotYet),
     ),
     (
         "walk 1 0
@@ -361,6 +372,7 @@ const LOOKED_AT: [Look; 6] = [
 ",
         Some(ControllerStep::Walk { q: 1, cid: 0 }),
         None,
+        Some(Refusal::NotYet),
     ),
     (
         "walk 1 0
@@ -369,6 +381,7 @@ const LOOKED_AT: [Look; 6] = [
 ",
         Some(ControllerStep::Complete { q: 1, cid: 0 }),
         None,
+        Some(Refusal::NotYet),
     ),
     (
         "complete 1 0
@@ -377,6 +390,7 @@ const LOOKED_AT: [Look; 6] = [
 ",
         None,
         Some(1),
+        Some(Refusal::NotYet),
     ),
     (
         "reap 1
@@ -385,44 +399,56 @@ const LOOKED_AT: [Look; 6] = [
 ",
         None,
         None,
+        None,
     ),
 ];
 
-/// Sees what the controller can do next, and the first queue with a completion.
-fn can_do<L: Driver, R: Abort>(
+/// The book of a desk that has one.
+fn book_of<'d, L: Driver, R: Abort + Wait>(
     rt: &R,
-    book: &mut Book<L>,
+    desk: &'d mut Desk<'_, L, R>,
+) -> &'d mut Book<L> {
+    match &mut desk.access {
+        Access::Book(book) => book,
+        Access::Lock(_) => panic!(rt; "it is behind a lock"),
+    }
+}
+
+/// Sees what the controller can do next, and the first queue with a completion.
+fn can_do<L: Driver, R: Abort + Wait>(
+    rt: &R,
+    desk: &mut Desk<'_, L, R>,
     step: Option<ControllerStep>,
     q: Option<u16>,
 ) {
+    let book = book_of(rt, desk);
     see(rt, &book.next_step(), &step);
     see(rt, &book.next_completion(), &q);
 }
 
 /// Plays a Read through a book, and sees between its steps what the controller can do, whether a completion waits, and whether it can be
 /// collected. No look makes an entry in the log.
-fn look<L: Driver, R: Abort>(rt: &R, alloc: Global, config: Config, image: Image, blank: Blank)
+fn look<L: Driver, R: Abort + Wait>(
+    rt: &R,
+    alloc: Global,
+    config: Config,
+    image: Image,
+    blank: Blank,
+)
     requires name { blank.name ≡ L.name }
     requires parts { blank.parts ≡ L.parts }
     requires number { blank.parts ≡ 65536 }
     requires opening { L.opening ≡ opening_of config image }
 {
     let book = opened::<L, R>(rt, alloc, config, image, blank);
-    let mut desk = Desk::new(alloc, alloc, book);
+    let mut desk = Desk::new(rt, alloc, alloc, Access::Book(book));
     assert!(rt; desk.sit() == Ok(true));
-    can_do(rt, &mut desk.driver, None, None);
-    play_text(rt, &mut desk, SUBMITTED);
-    see(
-        rt,
-        &desk.driver.collect_refusal(1, 0),
-        &Some(Refusal::NotYet),
-    );
-    can_do(rt, &mut desk.driver, None, None);
-    for (text, step, q) in LOOKED_AT {
+    can_do(rt, &mut desk, None, None);
+    for (text, step, q, why) in LOOKED_AT {
         play_text(rt, &mut desk, text);
-        can_do(rt, &mut desk.driver, step, q);
+        can_do(rt, &mut desk, step, q);
+        see(rt, &book_of(rt, &mut desk).collect_refusal(1, 0), &why);
     }
-    see(rt, &desk.driver.collect_refusal(1, 0), &None);
     see(rt, &desk.end(), &8);
 }
 

@@ -1,11 +1,11 @@
 //! A book is closed, or is not.
 
 use crate::looks::{Told, counts, see, tell};
-use driver_book::{CloseFault, Driver, Report, Seat};
-use driver_desk::{Calls, Desk};
+use driver_book::{CloseFault, Driver, Report};
+use driver_desk::Desk;
 use entry_codec::Status;
-use std::alloc::Global;
 use std::process::Abort;
+use std::sync::Wait;
 
 /// A report counts so many submissions as its receipts, 12 free pages and 4 of queues, and each seat in it has these receipts.
 fn see_report<R: Abort>(rt: &R, report: &Report, want: &[&[Told]]) {
@@ -22,10 +22,7 @@ fn see_report<R: Abort>(rt: &R, report: &Report, want: &[&[Told]]) {
 }
 
 /// The report of a book that is closed as all seats are handed in.
-fn report_of<D: Calls<Seat<L>, Global> + Drop, L: Driver, R: Abort>(
-    rt: &R,
-    desk: &mut Desk<D, Seat<L>>,
-) -> Report {
+fn report_of<L: Driver, R: Abort + Wait>(rt: &R, desk: &mut Desk<'_, L, R>) -> Report {
     match desk.close() {
         Ok(report) => report,
         Err(_) => panic!(rt; "it was not closed"),
@@ -33,9 +30,9 @@ fn report_of<D: Calls<Seat<L>, Global> + Drop, L: Driver, R: Abort>(
 }
 
 /// All seats are handed in, and the book is closed: these are the receipts of each.
-pub(crate) fn close<D: Calls<Seat<L>, Global> + Drop, L: Driver, R: Abort>(
+pub(crate) fn close<L: Driver, R: Abort + Wait>(
     rt: &R,
-    desk: &mut Desk<D, Seat<L>>,
+    desk: &mut Desk<'_, L, R>,
     want: &[&[Told]],
 ) {
     let report = report_of(rt, desk);
@@ -43,9 +40,9 @@ pub(crate) fn close<D: Calls<Seat<L>, Global> + Drop, L: Driver, R: Abort>(
 }
 
 /// All seats are handed in, and the book is closed: each of so many seats has one receipt, of the command of its number, which ended well.
-pub(crate) fn close_each<D: Calls<Seat<L>, Global> + Drop, L: Driver, R: Abort>(
+pub(crate) fn close_each<L: Driver, R: Abort + Wait>(
     rt: &R,
-    desk: &mut Desk<D, Seat<L>>,
+    desk: &mut Desk<'_, L, R>,
     seats: u64,
 ) {
     let report = report_of(rt, desk);
@@ -62,9 +59,9 @@ pub(crate) fn close_each<D: Calls<Seat<L>, Global> + Drop, L: Driver, R: Abort>(
 }
 
 /// All seats are handed in, and come back, so many of them, as the book is not closed.
-pub(crate) fn stay_open<D: Calls<Seat<L>, Global> + Drop, L: Driver, R: Abort>(
+pub(crate) fn stay_open<L: Driver, R: Abort + Wait>(
     rt: &R,
-    desk: &mut Desk<D, Seat<L>>,
+    desk: &mut Desk<'_, L, R>,
     want: CloseFault,
     seats: usize,
 ) {
@@ -76,9 +73,9 @@ pub(crate) fn stay_open<D: Calls<Seat<L>, Global> + Drop, L: Driver, R: Abort>(
 }
 
 /// The last seat is kept back and the others are handed in: they come back, so many of them, as the book is not closed.
-pub(crate) fn keep_back<D: Calls<Seat<L>, Global> + Drop, L: Driver, R: Abort>(
+pub(crate) fn keep_back<L: Driver, R: Abort + Wait>(
     rt: &R,
-    desk: &mut Desk<D, Seat<L>>,
+    desk: &mut Desk<'_, L, R>,
     want: CloseFault,
     seats: usize,
 ) {

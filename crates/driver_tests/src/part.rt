@@ -6,8 +6,8 @@ ghost use Rattle.step_core.specs.Opening.{opening_of};
 use crate::closes::{close, close_each, keep_back, stay_open};
 use crate::looks::{Told, alter, has_receipts, see};
 use block_image::Image;
-use driver_book::{Book, CloseFault, Driver, Seat};
-use driver_desk::{Calls, Desk, Locked};
+use driver_book::{Book, CloseFault, Driver};
+use driver_desk::{Access, Desk};
 use driver_threads::Shared;
 use entry_codec::Status;
 use std::alloc::Global;
@@ -44,11 +44,7 @@ pub(crate) enum Part {
 }
 
 /// Plays a transcript, as it says.
-pub(crate) fn play_text<D: Calls<Seat<L>, Global> + Drop, L: Driver, R: Abort>(
-    rt: &R,
-    desk: &mut Desk<D, Seat<L>>,
-    text: &str,
-) {
+pub(crate) fn play_text<L: Driver, R: Abort + Wait>(rt: &R, desk: &mut Desk<'_, L, R>, text: &str) {
     let Ok(transcript) = read_transcript(desk.alloc, text) else {
         panic!(rt; "it is no transcript");
     };
@@ -60,11 +56,7 @@ pub(crate) fn play_text<D: Calls<Seat<L>, Global> + Drop, L: Driver, R: Abort>(
 }
 
 /// Does a part of a run.
-fn play_part<D: Calls<Seat<L>, Global> + Drop, L: Driver, R: Abort>(
-    rt: &R,
-    desk: &mut Desk<D, Seat<L>>,
-    part: Part,
-) {
+fn play_part<L: Driver, R: Abort + Wait>(rt: &R, desk: &mut Desk<'_, L, R>, part: Part) {
     match part {
         Part::Sit => assert!(rt; desk.sit() == Ok(true)),
         Part::Turn => desk.seats.reverse(),
@@ -80,11 +72,7 @@ fn play_part<D: Calls<Seat<L>, Global> + Drop, L: Driver, R: Abort>(
 }
 
 /// Does the parts of a run.
-fn play_parts<D: Calls<Seat<L>, Global> + Drop, L: Driver, R: Abort>(
-    rt: &R,
-    desk: &mut Desk<D, Seat<L>>,
-    parts: &[Part],
-) {
+fn play_parts<L: Driver, R: Abort + Wait>(rt: &R, desk: &mut Desk<'_, L, R>, parts: &[Part]) {
     for part in parts {
         play_part(rt, desk, *part);
     }
@@ -110,7 +98,7 @@ pub(crate) fn opened<L: Driver, R: Abort>(
 }
 
 /// Does the parts of a run at a desk with a new book, and ends the book: how many entries its log had.
-fn through_book<L: Driver, R: Abort>(
+fn through_book<L: Driver, R: Abort + Wait>(
     rt: &R,
     alloc: Global,
     config: Config,
@@ -124,7 +112,7 @@ fn through_book<L: Driver, R: Abort>(
     requires opening { L.opening ≡ opening_of config image }
 {
     let book = opened::<L, R>(rt, alloc, config, image, blank);
-    let mut desk = Desk::new(alloc, alloc, book);
+    let mut desk = Desk::new(rt, alloc, alloc, Access::Book(book));
     play_parts(rt, &mut desk, parts);
     desk.end()
 }
@@ -144,7 +132,7 @@ fn behind_lock<L: Driver, R: Abort + Wait>(
     requires opening { L.opening ≡ opening_of config image }
 {
     let shared = Shared::new(opened::<L, R>(rt, alloc, config, image, blank));
-    let mut desk = Desk::new(alloc, alloc, Locked { shared, rt });
+    let mut desk = Desk::new(rt, alloc, alloc, Access::Lock(shared));
     play_parts(rt, &mut desk, parts);
     desk.end()
 }

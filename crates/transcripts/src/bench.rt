@@ -10,9 +10,7 @@ use step_core::{Bench, Counts, Image, ImageError, Owner, PageNo, Reply, Step};
 
 /// A bench, in any heap.
 pub struct OnBench<A: Allocator = Global> {
-    /// Where the replies stand that are handed out.
     alloc: Global,
-    /// Where all else stands.
     heap: A,
     bench: Bench<A>,
 }
@@ -33,6 +31,16 @@ impl<A: Allocator + Copy> OnBench<A> {
             Ok(bench) => Ok(OnBench { alloc, heap, bench }),
             Err(refused) => Err(OpeningFault::World(not_opened(refused.why))),
         }
+    }
+
+    /// Where the replies stand that are handed out.
+    pub fn alloc(&self) -> Global {
+        self.alloc
+    }
+
+    /// Where all else stands.
+    pub fn heap(&self) -> A {
+        self.heap
     }
 
     /// The bench.

@@ -4,9 +4,9 @@ use crate::fault::{Fault, Wrong};
 use crate::refused::{AllRefused, OneRefused};
 use crate::standing::{BenchStanding, Heap, Stands};
 use crate::way::Way;
+use test_support::Refusing;
 use std::alloc::{AllocError, Global};
 use step_core::PageNo;
-use test_support::Refusing;
 use transcripts::{Difference, OnBench, Transcript, play};
 
 /// More growths than any script here has.
@@ -48,11 +48,10 @@ fn play_in<'h>(
     growth: u64,
 ) -> Result<(BenchEnd, bool), Fault> {
     let maker = OnBench::open(alloc, heap, transcript.options())?;
-    let mut refused = OneRefused::new(alloc, heap, maker, growth, known);
+    let mut refused = OneRefused::new(alloc, maker, growth, known);
     let found = play(alloc, &mut refused, transcript);
     let OneRefused {
         alloc: _,
-        heap: _,
         maker,
         left,
         known: _,
@@ -122,16 +121,12 @@ fn play_without<'h>(
     transcript: &Transcript,
 ) -> Result<(BenchStanding, u64), Fault> {
     let mut refused = AllRefused {
-        alloc,
-        heap,
         maker: OnBench::open(alloc, heap, transcript.options())?,
         calls: 0,
         asked: 0,
     };
     let found = play(alloc, &mut refused, transcript);
     let AllRefused {
-        alloc: _,
-        heap: _,
         maker,
         calls,
         asked,

@@ -8,13 +8,14 @@ use crate::fault::{Fault, Wrong};
 use crate::refused::OneRefused;
 use crate::standing::{DeskStanding, Heap, Holdings, Stands};
 use crate::way::Way;
-use driver_book::{Book, CloseFault, Driver, Seat};
-use driver_desk::{Calls, Desk};
+use driver_book::{Book, CloseFault, Driver};
+use driver_desk::{Access, Desk};
+use test_support::{Refusal, Refusing};
 use std::alloc::{AllocError, Allocator, Global};
 use std::marker::Brand;
+use std::sync::Wait;
 use std::sync::ledger::Blank;
 use step_core::{Config, Image, ImageError, OpenRefusal, PageNo};
-use test_support::{Refusal, Refusing};
 use transcripts::{Options, Transcript, play};
 
 /// More growths than any script here has.
@@ -69,9 +70,9 @@ pub fn opened<L: Driver, A: Allocator + Copy>(
 
 /// Closes the book of a desk with one growth refused: how many submissions there were, or why it is not closed. Where closing wants memory
 /// nothing has changed, and the book is closed once more.
-fn closed<'h, L: Driver>(
+fn closed<'h, L: Driver, R: Wait>(
     heap: &'h Heap,
-    desk: &mut Desk<Book<L, &'h Heap>, Seat<L, &'h Heap>, &'h Heap>,
+    desk: &mut Desk<'h, L, R, &'h Heap>,
     growth: u64,
 ) -> Result<(Result<u64, CloseFault>, u64, bool), AllocError> {
     let before = desk.standing(desk.alloc)?;
@@ -87,8 +88,8 @@ fn closed<'h, L: Driver>(
 }
 
 /// Closes the book of a desk: how many submissions there were, or why it is not closed.
-pub fn submissions<D: Calls<S, A> + Drop, S: Drop, A: Allocator + Copy>(
-    desk: &mut Desk<D, S, A>,
+pub fn submissions<'r, L: Driver, R: Wait, A: Allocator + Copy>(
+    desk: &mut Desk<'r, L, R, A>,
 ) -> Result<u64, CloseFault> {
     match desk.close() {
         Ok(report) => Ok(report.submissions),
@@ -98,20 +99,19 @@ pub fn submissions<D: Calls<S, A> + Drop, S: Drop, A: Allocator + Copy>(
 
 /// Plays a script at a desk with one of the growths to come refused, and closes the book. It answers what that leaves, and whether there was
 /// such a growth.
-fn play_at<'h, L: Driver>(
+fn play_at<'h, L: Driver, R: Wait>(
     heap: &'h Heap,
-    desk: Desk<Book<L, &'h Heap>, Seat<L, &'h Heap>, &'h Heap>,
+    desk: Desk<'h, L, R, &'h Heap>,
     transcript: &Transcript,
     known: &'h [u64],
     growth: u64,
     left: u64,
 ) -> Result<(BookEnd, bool), Fault> {
     let alloc = desk.alloc;
-    let mut refused = OneRefused::new(alloc, heap, desk, left, known);
+    let mut refused = OneRefused::new(alloc, desk, left, known);
     let found = play(alloc, &mut refused, transcript);
     let OneRefused {
         alloc: _,
-        heap: _,
         maker: mut desk,
         left,
         known: _,
@@ -135,7 +135,8 @@ fn play_at<'h, L: Driver>(
 }
 
 /// Plays a script through a new book in a heap with one growth refused.
-fn play_in<'h, L: Driver>(
+fn play_in<'h, L: Driver, R: Wait>(
+    rt: &'h R,
     alloc: Global,
     heap: &'h Heap,
     config: Config,
@@ -154,13 +155,14 @@ fn play_in<'h, L: Driver>(
     let book = opened::<L, &'h Heap>(heap, config, image, blank);
     let left = growth.saturating_sub(heap.tally().calls);
     heap.refuse(Refusal::Never);
-    let mut desk = Desk::new(alloc, heap, book?);
+    let mut desk = Desk::new(rt, alloc, heap, Access::Book(book?));
     desk.sit()?;
     play_at(heap, desk, transcript, known, growth, left)
 }
 
 /// Plays a script through a book of its own with one growth refused. At the end the heap is empty.
-fn play_once(
+fn play_once<R: Wait>(
+    rt: &R,
     alloc: Global,
     transcript: &Transcript,
     known: &[u64],
@@ -170,7 +172,8 @@ fn play_once(
     let options = transcript.options();
     let image = zeros(&heap, options)?;
     let blank = Blank::new(65536);
-    let end = play_in::<Brand>(
+    let end = play_in::<Brand, R>(
+        rt,
         alloc,
         &heap,
         options.config,
@@ -186,12 +189,13 @@ fn play_once(
 }
 
 /// Plays a script through a book, which leaves the pages as a bench does.
-pub fn play_through_book(
+pub fn play_through_book<R: Wait>(
+    rt: &R,
     alloc: Global,
     transcript: &Transcript,
     wanted: &Holdings,
 ) -> Result<BookEnd, Fault> {
-    let (end, _) = play_once(alloc, transcript, &[], 0)?;
+    let (end, _) = play_once(rt, alloc, transcript, &[], 0)?;
     let is_other = end.standing.holdings != *wanted;
     as_told(Way::Book(0), None, wrong_if(is_other, Wrong::Standing))?;
     Ok(end)
@@ -210,13 +214,14 @@ fn first_wrong(end: &BookEnd, wanted: &BookEnd) -> Option<Wrong> {
 
 /// Plays a script once for each growth that there is from the opening of its book to the end, and answers how many those are. Each time it
 /// leaves the same.
-pub fn refuse_each_through_book(
+pub fn refuse_each_through_book<R: Wait>(
+    rt: &R,
     alloc: Global,
     transcript: &Transcript,
     wanted: &BookEnd,
 ) -> Result<u64, Fault> {
     for growth in 1..MANY {
-        let (end, was_there) = play_once(alloc, transcript, &wanted.growths, growth)?;
+        let (end, was_there) = play_once(rt, alloc, transcript, &wanted.growths, growth)?;
         as_told(Way::Book(growth), None, first_wrong(&end, wanted))?;
         if !was_there {
             return Ok(growth - 1);

@@ -8,8 +8,8 @@ use crate::book::{BookEnd, submissions, zeros};
 use crate::fault::{Fault, Wrong};
 use crate::standing::Holdings;
 use crate::way::Way;
-use driver_book::{Book, CloseFault, Driver, Receipt, Seat};
-use driver_desk::{Desk, Locked};
+use driver_book::{Book, CloseFault, Driver, Receipt};
+use driver_desk::{Access, Desk};
 use driver_threads::Shared;
 use std::alloc::Global;
 use std::marker::Brand;
@@ -29,7 +29,7 @@ struct LockEnd {
 
 /// Plays a script at a desk behind a lock, and closes the book.
 fn play_at<L: Driver, R: Wait>(
-    mut desk: Desk<Locked<'_, L, R>, Seat<L>>,
+    mut desk: Desk<'_, L, R>,
     transcript: &Transcript,
 ) -> Result<LockEnd, Fault> {
     let alloc = desk.alloc;
@@ -63,8 +63,8 @@ fn play_in<L: Driver, R: Wait>(
 {
     match Book::<L>::open(alloc, config, image, blank) {
         Ok(book) => {
-            let shared = Shared::new(book);
-            play_at(Desk::new(alloc, alloc, Locked { shared, rt }), transcript)
+            let access = Access::Lock(Shared::new(book));
+            play_at(Desk::new(rt, alloc, alloc, access), transcript)
         }
         Err(refused) => Err(Fault::NoBook(refused.why)),
     }
@@ -74,7 +74,7 @@ fn play_in<L: Driver, R: Wait>(
 fn first_wrong(end: &LockEnd, wanted: &BookEnd) -> Option<Wrong> {
     let standing = &wanted.standing;
     if end.holdings != standing.holdings
-        || end.entries != standing.entries
+        || Some(end.entries) != standing.entries
         || end.receipts.as_slice() != standing.receipts.as_slice()
     {
         return Some(Wrong::Standing);

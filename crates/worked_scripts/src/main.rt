@@ -68,7 +68,7 @@ fn start<R: AllocGlobal + Env + Eprint + Files + Print + Sync + Threads + Wait>(
         }
     }
     let runs = Runs {
-        visit: refuse_each_of_visit(rt.alloc())?,
+        visit: refuse_each_of_visit(rt, rt.alloc())?,
         threads: refuse_each_in_threads(rt, rt.alloc())?,
     };
     match print_sum(rt, sum, runs) {
@@ -98,12 +98,12 @@ fn play_each_way<R: AllocGlobal + Wait>(
 ) -> Result<(Scores, BookEnd), Fault> {
     let alloc = rt.alloc();
     let on_bench = play_on_bench(alloc, transcript)?;
-    let through_book = play_through_book(alloc, transcript, &on_bench.standing.holdings)?;
+    let through_book = play_through_book(rt, alloc, transcript, &on_bench.standing.holdings)?;
     play_behind_lock(rt, alloc, transcript, &through_book)?;
     let scores = Scores {
         scripts: 1,
         on_bench: refuse_each_on_bench(alloc, transcript, &on_bench)?,
-        through_book: refuse_each_through_book(alloc, transcript, &through_book)?,
+        through_book: refuse_each_through_book(rt, alloc, transcript, &through_book)?,
         without_memory: refuse_all_on_bench(alloc, transcript, &on_bench)?,
     };
     Ok((scores, through_book))

@@ -1,23 +1,21 @@
 //! Steps that are made while memory is refused.
 
-use crate::standing::{Heap, Stands};
-use std::alloc::{AllocError, Allocator, Global};
-use step_core::{Counts, Owner, PageNo, Reply, ReplyIn, Step};
+use crate::standing::Stands;
 use test_support::Refusal;
-use transcripts::{StepMaker, reply_in, step_in};
+use std::alloc::{AllocError, Global};
+use step_core::{Counts, Owner, PageNo, Reply, Step};
+use transcripts::StepMaker;
 
 /// Makes steps with one growth refused. A step that wants memory is made once more.
-pub struct OneRefused<'h, M: Stands<&'h Heap>> {
-    /// Where the replies stand that are handed out.
+pub struct OneRefused<'k, M: Stands> {
+    /// Where what is noted down stands.
     pub alloc: Global,
-    /// Where all else stands.
-    pub heap: &'h Heap,
     /// What makes them.
     pub maker: M,
     /// Which of the growths to come is refused, counted from 1. At 0 none is.
     pub left: u64,
     /// How many growths each step has where none is refused, as far as that is known.
-    pub known: &'h [u64],
+    pub known: &'k [u64],
     /// How many growths each step had that was made.
     pub growths: Vec<u64>,
     /// Whether something had changed where a step wanted memory.
@@ -27,22 +25,15 @@ pub struct OneRefused<'h, M: Stands<&'h Heap>> {
 }
 
 /// Whether a reply is want of memory.
-fn is_memory<A: Allocator>(reply: &ReplyIn<A>) -> bool {
+fn is_memory(reply: &Reply) -> bool {
     matches!(reply, Reply::Refused { why, touched: _ } if *why == step_core::Refusal::Memory)
 }
 
-impl<'h, M: Stands<&'h Heap>> OneRefused<'h, M> {
+impl<'k, M: Stands> OneRefused<'k, M> {
     /// Before any step, where the growth of this number is refused.
-    pub fn new(
-        alloc: Global,
-        heap: &'h Heap,
-        maker: M,
-        left: u64,
-        known: &'h [u64],
-    ) -> OneRefused<'h, M> {
+    pub fn new(alloc: Global, maker: M, left: u64, known: &'k [u64]) -> OneRefused<'k, M> {
         OneRefused {
             alloc,
-            heap,
             maker,
             left,
             known,
@@ -61,7 +52,7 @@ impl<'h, M: Stands<&'h Heap>> OneRefused<'h, M> {
     }
 
     /// Makes a step. Where it wants memory it is seen whether anything has changed, and it is made once more.
-    fn make_twice(&mut self, step: &Step) -> Result<ReplyIn<&'h Heap>, AllocError> {
+    fn make_twice(&mut self, step: &Step) -> Result<Reply, AllocError> {
         let before = self.maker.standing(self.alloc)?;
         let answer = self.make(step)?;
         if self.left > 0 || !is_memory(&answer) {
@@ -74,19 +65,16 @@ impl<'h, M: Stands<&'h Heap>> OneRefused<'h, M> {
     }
 
     /// Makes a step with a growth of it refused, if it is there.
-    fn make(&mut self, step: &Step) -> Result<ReplyIn<&'h Heap>, AllocError> {
-        let made = step_in(self.heap, step)?;
-        self.heap.refuse(Refusal::Nth(self.left));
-        let answer = self.maker.make(made);
-        let growths = self.heap.tally().calls;
-        self.heap.refuse(Refusal::Never);
-        self.left = self.left.saturating_sub(growths);
-        self.growths.push(growths)?;
-        answer
+    fn make(&mut self, step: &Step) -> Result<Reply, AllocError> {
+        let refusal = Refusal::Nth(self.left);
+        let (answer, tally) = self.maker.step_without(refusal, step)?;
+        self.left = self.left.saturating_sub(tally.calls);
+        self.growths.push(tally.calls)?;
+        Ok(answer)
     }
 }
 
-impl<'h, M: Stands<&'h Heap>> StepMaker for OneRefused<'h, M> {
+impl<'k, M: Stands> StepMaker for OneRefused<'k, M> {
     fn step(&mut self, step: &Step) -> Result<Reply, AllocError> {
         // how it stands is asked for where it matters alone, since that takes long
         let answer = if self.is_next() {
@@ -97,7 +85,7 @@ impl<'h, M: Stands<&'h Heap>> StepMaker for OneRefused<'h, M> {
         if let Reply::Refused { why: _, touched } = &answer {
             self.touched.extend_from_slice(touched.pages())?;
         }
-        reply_in(self.alloc, answer)
+        Ok(answer)
     }
 
     fn owner(&self, page: PageNo) -> Option<Owner> {
@@ -109,12 +97,8 @@ impl<'h, M: Stands<&'h Heap>> StepMaker for OneRefused<'h, M> {
     }
 }
 
-/// Makes steps, those that take no memory while the heap refuses each growth.
-pub struct AllRefused<'h, M: Stands<&'h Heap>> {
-    /// Where the replies stand that are handed out.
-    pub alloc: Global,
-    /// Where all else stands.
-    pub heap: &'h Heap,
+/// Makes steps, those that take no memory while each growth is refused.
+pub struct AllRefused<M: Stands> {
     /// What makes them.
     pub maker: M,
     /// How many steps took no memory.
@@ -138,17 +122,15 @@ fn takes_no_memory(step: &Step) -> bool {
     )
 }
 
-impl<'h, M: Stands<&'h Heap>> StepMaker for AllRefused<'h, M> {
+impl<M: Stands> StepMaker for AllRefused<M> {
     fn step(&mut self, step: &Step) -> Result<Reply, AllocError> {
-        let made = step_in(self.heap, step)?;
-        if takes_no_memory(step) {
-            self.calls = self.calls.saturating_add(1);
-            self.heap.refuse(Refusal::NthOn(1));
+        if !takes_no_memory(step) {
+            return self.maker.step(step);
         }
-        let answer = self.maker.make(made);
-        self.asked = self.asked.saturating_add(self.heap.tally().refused);
-        self.heap.refuse(Refusal::Never);
-        reply_in(self.alloc, answer?)
+        let (answer, tally) = self.maker.step_without(Refusal::NthOn(1), step)?;
+        self.calls = self.calls.saturating_add(1);
+        self.asked = self.asked.saturating_add(tally.calls);
+        Ok(answer)
     }
 
     fn owner(&self, page: PageNo) -> Option<Owner> {

@@ -36,7 +36,7 @@ pub fn print_line<R: Print>(rt: &R, file: &str, scores: Scores, end: &BookEnd) -
         through_book,
         without_memory,
     } = scores;
-    let entries = end.standing.entries;
+    let entries = end.standing.entries.unwrap_or(0);
     print!(rt;
         "{name}: growths {on_bench} on a bench, {through_book} through a book; without memory {without_memory}; log {entries}"
     )?;

@@ -1,11 +1,12 @@
 //! How things stand: on a bench, and at a desk with a book.
 
-use driver_book::{Book, Driver, Receipt, Seat};
+use driver_book::{Driver, Receipt};
 use driver_desk::{Desk, Value};
+use test_support::{Refusal, Refusing, Tally};
 use std::alloc::{AllocError, Allocator, Global};
-use step_core::{Counts, Owner, PageNo, ReplyIn, StepIn};
-use test_support::Refusing;
-use transcripts::{OnBench, StepMaker};
+use std::sync::Wait;
+use step_core::{Counts, Owner, PageNo, Reply, Step};
+use transcripts::{OnBench, StepMaker, reply_in, step_in};
 
 /// A heap that refuses on purpose.
 pub type Heap = Refusing<Global>;
@@ -13,17 +14,17 @@ pub type Heap = Refusing<Global>;
 /// The most pages that a pool has.
 const MOST_PAGES: u32 = 65_536;
 
-/// What makes steps whose values stand in a heap, and shows how it stands.
-pub trait Stands<A: Allocator>: StepMaker {
+/// What makes steps in a heap that refuses, and shows how it stands.
+pub trait Stands: StepMaker {
     /// What it shows.
     type Standing: PartialEq + Drop;
 
-    /// Makes a step whose values stand in the heap, and answers what it answered.
+    /// Makes a step while these growths of the heap are refused, and answers what it answered, and what the heap was asked for.
     ///
     /// # Errors
     ///
     /// Where memory is refused for what stands around the step.
-    fn make(&mut self, step: StepIn<A>) -> Result<ReplyIn<A>, AllocError>;
+    fn step_without(&mut self, refusal: Refusal, step: &Step) -> Result<(Reply, Tally), AllocError>;
 
     /// How it stands.
     ///
@@ -66,11 +67,21 @@ pub struct BenchStanding {
     trusted: bool,
 }
 
-impl<A: Allocator + Copy> Stands<A> for OnBench<A> {
+impl<'h> Stands for OnBench<&'h Heap> {
     type Standing = BenchStanding;
 
-    fn make(&mut self, step: StepIn<A>) -> Result<ReplyIn<A>, AllocError> {
-        Ok(self.bench_mut().step(step))
+    fn step_without(
+        &mut self,
+        refusal: Refusal,
+        step: &Step,
+    ) -> Result<(Reply, Tally), AllocError> {
+        let heap = self.heap();
+        let made = step_in(heap, step)?;
+        heap.refuse(refusal);
+        let answer = self.bench_mut().step(made);
+        let tally = heap.tally();
+        heap.refuse(Refusal::Never);
+        Ok((reply_in(self.alloc(), answer)?, tally))
     }
 
     fn standing(&self, alloc: Global) -> Result<BenchStanding, AllocError> {
@@ -87,7 +98,7 @@ pub struct DeskStanding {
     /// Whose the book's pages are.
     pub holdings: Holdings,
     /// How many entries the log has.
-    pub entries: usize,
+    pub entries: Option<usize>,
     /// The receipts of the seat.
     pub receipts: Vec<Receipt>,
     /// The bytes of the pages that commands have, in the order of the pages.
@@ -96,19 +107,31 @@ pub struct DeskStanding {
     built: usize,
 }
 
-impl<L: Driver, A: Allocator + Copy> Stands<A> for Desk<Book<L, A>, Seat<L, A>, A> {
+impl<'h, L: Driver, R: Wait> Stands for Desk<'h, L, R, &'h Heap> {
     type Standing = DeskStanding;
 
-    fn make(&mut self, step: StepIn<A>) -> Result<ReplyIn<A>, AllocError> {
-        Desk::make(self, step)
+    fn step_without(
+        &mut self,
+        refusal: Refusal,
+        step: &Step,
+    ) -> Result<(Reply, Tally), AllocError> {
+        let heap = self.heap;
+        let made = step_in(heap, step)?;
+        heap.refuse(refusal);
+        let answer = self.make(made);
+        let tally = heap.tally();
+        heap.refuse(Refusal::Never);
+        Ok((reply_in(self.alloc, answer?)?, tally))
     }
 
     fn standing(&self, alloc: Global) -> Result<DeskStanding, AllocError> {
+        let holdings = Holdings::of(alloc, self)?;
+        let bytes = bytes_of(alloc, &self.values, &holdings.owners)?;
         Ok(DeskStanding {
-            holdings: Holdings::of(alloc, self)?,
-            entries: self.driver.log().len(),
+            holdings,
+            entries: self.access.entries(),
             receipts: self.receipts(alloc)?,
-            bytes: bytes_of(alloc, &self.values, self.driver.pages())?,
+            bytes,
             built: self.values.iter().filter(|value| value.is_built()).count(),
         })
     }
@@ -130,14 +153,14 @@ fn put_page<A: Allocator>(
     Ok(())
 }
 
-/// The bytes of the pages that commands have, in the order of the pages.
+/// The bytes of the pages that commands have, in the order of the pages of the pool.
 fn bytes_of<A: Allocator>(
     alloc: Global,
     values: &[Value<A>],
-    pages: u32,
+    pool: &[Owner],
 ) -> Result<Vec<u8>, AllocError> {
     let mut bytes = Vec::new(alloc);
-    for p in 0..pages {
+    for (_, p) in pool.iter().zip(0..MOST_PAGES) {
         put_page(&mut bytes, values, PageNo(p))?;
     }
     Ok(bytes)

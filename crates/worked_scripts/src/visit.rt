@@ -9,13 +9,14 @@ use crate::fault::{Fault, Wrong};
 use crate::refused::OneRefused;
 use crate::standing::Heap;
 use crate::way::Way;
-use driver_book::{Book, Driver, Seat};
-use driver_desk::Desk;
+use driver_book::Driver;
+use driver_desk::{Access, Desk};
+use test_support::Refusing;
 use std::alloc::{AllocError, Global};
 use std::marker::Brand;
+use std::sync::Wait;
 use std::sync::ledger::Blank;
 use step_core::{Config, Image};
-use test_support::Refusing;
 use transcripts::{Options, play, read_transcript};
 
 /// More growths than a visit has.
@@ -42,12 +43,12 @@ const SUBMITTED: &str = "submit 1 0
 ";
 
 /// A desk with a book in a heap.
-type DeskIn<'h, L> = Desk<Book<L, &'h Heap>, Seat<L, &'h Heap>, &'h Heap>;
+type DeskIn<'h, L, R> = Desk<'h, L, R, &'h Heap>;
 
 /// Hands the youngest command of a desk to another one.
-fn hand_over<'h, L: Driver, M: Driver>(
-    from: &mut DeskIn<'h, L>,
-    to: &mut DeskIn<'h, M>,
+fn hand_over<'h, L: Driver, M: Driver, R: Wait>(
+    from: &mut DeskIn<'h, L, R>,
+    to: &mut DeskIn<'h, M, R>,
 ) -> Result<(), AllocError> {
     if let Some(value) = from.values.pop() {
         to.values.push(value)?;
@@ -56,20 +57,18 @@ fn hand_over<'h, L: Driver, M: Driver>(
 }
 
 /// Plays a part of a visit at a desk with one of the growths to come refused, and answers how many are left to that one.
-fn play_part<'h, L: Driver>(
-    heap: &'h Heap,
-    desk: DeskIn<'h, L>,
+fn play_part<'h, L: Driver, R: Wait>(
+    desk: DeskIn<'h, L, R>,
     text: &str,
     growth: u64,
     left: u64,
-) -> Result<(DeskIn<'h, L>, u64), Fault> {
+) -> Result<(DeskIn<'h, L, R>, u64), Fault> {
     let alloc = desk.alloc;
     let transcript = read_transcript(alloc, text)?;
-    let mut refused = OneRefused::new(alloc, heap, desk, left, &[]);
+    let mut refused = OneRefused::new(alloc, desk, left, &[]);
     let found = play(alloc, &mut refused, &transcript);
     let OneRefused {
         alloc: _,
-        heap: _,
         maker,
         left,
         known: _,
@@ -83,26 +82,25 @@ fn play_part<'h, L: Driver>(
 }
 
 /// A draft is built at home, handed to the other desk and back, and submitted. It answers how many growths are left.
-fn visit<'h, L: Driver, M: Driver>(
-    heap: &'h Heap,
-    home: DeskIn<'h, L>,
-    mut away: DeskIn<'h, M>,
+fn visit<'h, L: Driver, M: Driver, R: Wait>(
+    home: DeskIn<'h, L, R>,
+    mut away: DeskIn<'h, M, R>,
     growth: u64,
 ) -> Result<u64, Fault> {
-    let (mut home, left) = play_part(heap, home, BUILT, growth, growth)?;
+    let (mut home, left) = play_part(home, BUILT, growth, growth)?;
     hand_over(&mut home, &mut away)?;
-    let (mut away, left) = play_part(heap, away, STRANGER, growth, left)?;
+    let (mut away, left) = play_part(away, STRANGER, growth, left)?;
     hand_over(&mut away, &mut home)?;
-    let (home, left) = play_part(heap, home, SUBMITTED, growth, left)?;
+    let (home, left) = play_part(home, SUBMITTED, growth, left)?;
     home.end();
     away.end();
     Ok(left)
 }
 
 /// Opens the other book, and lets a draft visit it.
-fn play_away<'h, L: Driver, M: Driver>(
+fn play_away<'h, L: Driver, M: Driver, R: Wait>(
     heap: &'h Heap,
-    home: DeskIn<'h, L>,
+    home: DeskIn<'h, L, R>,
     config: Config,
     image: Image<&'h Heap>,
     blank: Blank,
@@ -114,13 +112,14 @@ fn play_away<'h, L: Driver, M: Driver>(
     requires opening { M.opening ≡ opening_of config image }
 {
     let book = opened::<M, &'h Heap>(heap, config, image, blank)?;
-    let mut away = Desk::new(home.alloc, heap, book);
+    let mut away = Desk::new(home.rt, home.alloc, heap, Access::Book(book));
     away.sit()?;
-    visit(heap, home, away, growth)
+    visit(home, away, growth)
 }
 
 /// Opens a draft's own book and another one, and lets the draft visit that one. It answers how many growths are left.
-fn play_home<'h, L: Driver>(
+fn play_home<'h, L: Driver, R: Wait>(
+    rt: &'h R,
     alloc: Global,
     heap: &'h Heap,
     config: Config,
@@ -136,26 +135,34 @@ fn play_home<'h, L: Driver>(
     let other_image = zeros(heap, Options::USUAL)?;
     let other_blank = Blank::new(65536);
     let book = opened::<L, &'h Heap>(heap, config, image, blank)?;
-    let mut home = Desk::new(alloc, heap, book);
+    let mut home = Desk::new(rt, alloc, heap, Access::Book(book));
     home.sit()?;
-    play_away::<L, Brand>(heap, home, config, other_image, other_blank, growth)
+    play_away::<L, Brand, R>(heap, home, config, other_image, other_blank, growth)
 }
 
 /// Lets a draft visit another book with one growth refused, and answers whether there was such a growth. At the end the heap is empty.
-fn visit_once(alloc: Global, growth: u64) -> Result<bool, Fault> {
+fn visit_once<R: Wait>(rt: &R, alloc: Global, growth: u64) -> Result<bool, Fault> {
     let heap = Refusing::new(alloc);
     let image = zeros(&heap, Options::USUAL)?;
     let blank = Blank::new(65536);
-    let left = play_home::<Brand>(alloc, &heap, Options::USUAL.config, image, blank, growth)?;
+    let left = play_home::<Brand, R>(
+        rt,
+        alloc,
+        &heap,
+        Options::USUAL.config,
+        image,
+        blank,
+        growth,
+    )?;
     let wrong = wrong_if(heap.tally().blocks != 0, Wrong::Leaked);
     as_told(Way::Visit(growth), None, wrong)?;
     Ok(left == 0)
 }
 
 /// Lets a draft visit another book once for each growth that there is, and answers how many those are.
-pub fn refuse_each_of_visit(alloc: Global) -> Result<u64, Fault> {
+pub fn refuse_each_of_visit<R: Wait>(rt: &R, alloc: Global) -> Result<u64, Fault> {
     for growth in 1..MANY {
-        if !visit_once(alloc, growth)? {
+        if !visit_once(rt, alloc, growth)? {
             return Ok(growth - 1);
         }
     }
