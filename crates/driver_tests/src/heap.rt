@@ -1,9 +1,9 @@
 //! A heap that refuses on purpose, and what opens in it.
 
-use test_support::Refusing;
 use std::alloc::{Allocator, Global};
 use std::test::Fail;
 use step_core::{Bench, Image};
+use test_support::Refusing;
 
 /// A heap that refuses on purpose.
 pub(crate) type Heap = Refusing<Global>;

@@ -3,11 +3,11 @@
 use crate::heap::{Heap, MANY, end, zeros};
 use crate::looks::{see, see_at};
 use crate::part::USUAL;
-use test_support::{Refusal, Refusing};
 use std::alloc::Global;
 use std::process::Abort;
 use std::test::Fail;
 use step_core::{Bench, Config, Image, OpenRefusal};
+use test_support::{Refusal, Refusing};
 
 /// Two I/O queues of four entries over 24 pages, and segments of four descriptors.
 const TWO_QUEUES: Config = Config {

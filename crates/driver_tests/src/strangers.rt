@@ -5,11 +5,11 @@ use crate::looks::see;
 use crate::part::USUAL;
 use io_commands::{Kind, Piece, Pieces};
 use page_ledger::Counts;
-use test_support::{Refusal, Refusing};
 use std::alloc::{AllocError, Global};
 use std::process::Abort;
 use std::test::Fail;
 use step_core::{Draft, Image, Refused, Request, World};
+use test_support::{Refusal, Refusing};
 
 /// The pool of a world in which a Read of one block is out: one page of twelve.
 const ONE_OUT: Counts = Counts {

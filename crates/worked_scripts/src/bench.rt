@@ -4,9 +4,9 @@ use crate::fault::{Fault, Wrong};
 use crate::refused::{AllRefused, OneRefused};
 use crate::standing::{BenchStanding, Heap, Stands};
 use crate::way::Way;
-use test_support::Refusing;
 use std::alloc::{AllocError, Global};
 use step_core::PageNo;
+use test_support::Refusing;
 use transcripts::{Difference, OnBench, Transcript, play};
 
 /// More growths than any script here has.

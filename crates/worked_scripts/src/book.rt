@@ -10,12 +10,12 @@ use crate::standing::{DeskStanding, Heap, Holdings, Stands};
 use crate::way::Way;
 use driver_book::{Book, CloseFault, Driver};
 use driver_desk::{Access, Desk};
-use test_support::{Refusal, Refusing};
 use std::alloc::{AllocError, Allocator, Global};
 use std::marker::Brand;
 use std::sync::Wait;
 use std::sync::ledger::Blank;
 use step_core::{Config, Image, ImageError, OpenRefusal, PageNo};
+use test_support::{Refusal, Refusing};
 use transcripts::{Options, Transcript, play};
 
 /// More growths than any script here has.

@@ -1,9 +1,9 @@
 //! Steps that are made while memory is refused.
 
 use crate::standing::Stands;
-use test_support::Refusal;
 use std::alloc::{AllocError, Global};
 use step_core::{Counts, Owner, PageNo, Reply, Step};
+use test_support::Refusal;
 use transcripts::StepMaker;
 
 /// Makes steps with one growth refused. A step that wants memory is made once more.

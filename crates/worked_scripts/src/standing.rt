@@ -2,10 +2,10 @@
 
 use driver_book::{Driver, Receipt};
 use driver_desk::{Desk, Value};
-use test_support::{Refusal, Refusing, Tally};
 use std::alloc::{AllocError, Allocator, Global};
 use std::sync::Wait;
 use step_core::{Counts, Owner, PageNo, Reply, Step};
+use test_support::{Refusal, Refusing, Tally};
 use transcripts::{OnBench, StepMaker, reply_in, step_in};
 
 /// A heap that refuses on purpose.

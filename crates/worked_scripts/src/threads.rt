@@ -17,13 +17,13 @@ use jobs::two_lists;
 use left::{Outcome, is_as_wanted};
 use page_ledger::Owner;
 use page_memory::PageNo;
-use test_support::{Refusal, Refusing};
 use std::alloc::{AllocError, Allocator, Global};
 use std::marker::Brand;
 use std::sync::Wait;
 use std::sync::ledger::Blank;
 use std::thread::Threads;
 use step_core::{Config, Reply};
+use test_support::{Refusal, Refusing};
 use transcripts::Options;
 
 /// More growths than the run has.

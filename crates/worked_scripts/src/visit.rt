@@ -11,12 +11,12 @@ use crate::standing::Heap;
 use crate::way::Way;
 use driver_book::Driver;
 use driver_desk::{Access, Desk};
-use test_support::Refusing;
 use std::alloc::{AllocError, Global};
 use std::marker::Brand;
 use std::sync::Wait;
 use std::sync::ledger::Blank;
 use step_core::{Config, Image};
+use test_support::Refusing;
 use transcripts::{Options, play, read_transcript};
 
 /// More growths than a visit has.
