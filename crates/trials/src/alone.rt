@@ -193,13 +193,12 @@ fn carry<L: Driver>(
     }
 }
 
-/// So many seats of a book.
-fn seats_of<L: Driver>(
-    alloc: Global,
+/// Takes so many seats of a book.
+fn take_seats<L: Driver>(
     book: &mut Book<L>,
+    seats: &mut Vec<Seat<L>>,
     count: u32,
-) -> Result<Vec<Seat<L>>, Fault> {
-    let mut seats = Vec::new(alloc);
+) -> Result<(), Fault> {
     for _ in 0..count {
         match book.seat() {
             Ok(seat) => {
@@ -210,10 +209,28 @@ fn seats_of<L: Driver>(
             Err(_) => return Err(Fault::Refused),
         }
     }
-    Ok(seats)
+    Ok(())
 }
 
-/// Carries the Reads through over a book without a lock, with the work outside of the lock done so often. The submitters take turns.
+/// Carries all Reads through, and says how many bytes they read. The submitters take turns.
+fn carry_all<L: Driver>(
+    outside: Outside,
+    book: &mut Book<L>,
+    seats: &mut Vec<Seat<L>>,
+    shape: Shape,
+) -> Result<u64, Fault> {
+    take_seats(book, seats, shape.submitters)?;
+    let mut bytes: u64 = 0;
+    for _ in 0..shape.jobs {
+        for (worker, seat) in (0..16u16).zip(seats.iter_mut()) {
+            let read = carry(outside, book, seat, worker, shape.blocks)?;
+            bytes = bytes.saturating_add(read as u64);
+        }
+    }
+    Ok(bytes)
+}
+
+/// Carries the Reads through over a book without a lock, with the work outside of the lock done so often.
 ///
 /// # Errors
 ///
@@ -235,21 +252,17 @@ pub fn read_alone<L: Driver>(
     let Ok(mut book) = Book::<L>::open(alloc, config, image, blank) else {
         return Err(Fault::Refused);
     };
-    let mut seats = seats_of(alloc, &mut book, shape.submitters)?;
-    let mut bytes: u64 = 0;
-    for _ in 0..shape.jobs {
-        for (worker, seat) in (0..16u16).zip(seats.iter_mut()) {
-            let read = carry(outside, &mut book, seat, worker, shape.blocks)?;
-            bytes = bytes.saturating_add(read as u64);
-        }
-    }
+    let mut seats = Vec::new(alloc);
+    let carried = carry_all(outside, &mut book, &mut seats, shape);
     let entries = book.log().len();
-    match book.close(seats) {
-        Ok(report) => Ok(Done {
-            commands: report.submissions,
-            entries,
-            bytes,
-        }),
+    let closed = match book.close(seats) {
+        Ok(report) => Ok(report.submissions),
         Err(_) => Err(Fault::Refused),
-    }
+    };
+    drop(book);
+    Ok(Done {
+        commands: closed?,
+        entries,
+        bytes: carried?,
+    })
 }
