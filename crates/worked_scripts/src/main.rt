@@ -2,7 +2,7 @@
 //!
 //! Each is played on a bench, through a book and behind a lock, and answers each time as stands in it. Then it is played once for each growth
 //! of memory that it has on a bench, and that it has through a book from the opening to the end, which is refused; and once on a bench with no
-//! memory for the calls that take none. It prints a line for each, and a sum. Last, a draft visits another book, and two submitters with a
+//! memory for the calls that take none. It prints a line for each, and a sum at each word `sum`. Last, a draft visits another book, and two submitters with a
 //! poller and a controller run in threads, each once for each growth that there is. The first difference ends the program: it tells the file,
 //! the line, what stands there and what came.
 #![tactic(auto)]
@@ -22,7 +22,7 @@ use bench::{play_on_bench, refuse_all_on_bench, refuse_each_on_bench};
 use book::{BookEnd, play_through_book, refuse_each_through_book};
 use fault::Fault;
 use lock::play_behind_lock;
-use report::{Runs, Scores, print_line, print_sum};
+use report::{Scores, print_line, print_runs, print_sum};
 use std::alloc::AllocGlobal;
 use std::env::Env;
 use std::fs;
@@ -54,27 +54,44 @@ fn start<R: AllocGlobal + Env + Eprint + Files + Print + Sync + Threads + Wait>(
         Ok(words) => words.collect(rt.alloc())?,
         Err(_) => return Err(Fault::Usage),
     };
-    let Some((_, files)) = words.split_first() else {
+    let Some((_, words)) = words.split_first() else {
         return Err(Fault::Usage);
     };
+    if !play_all(rt, words)? {
+        return Ok(false);
+    }
+    let visit = refuse_each_of_visit(rt, rt.alloc())?;
+    let threads = refuse_each_in_threads(rt, rt.alloc())?;
+    match print_runs(rt, threads, visit) {
+        Ok(()) => Ok(true),
+        Err(_) => Err(Fault::Output),
+    }
+}
+
+/// Plays the transcripts that are named; at the word `sum` prints the sum of those since the last one. False where a transcript is not as it says, which is told
+/// then.
+fn play_all<R: AllocGlobal + Eprint + Files + Print + Wait>(
+    rt: &R,
+    words: &[String],
+) -> Result<bool, Fault> {
     let mut sum = Scores::default();
-    for file in files {
-        match play_file(rt, file) {
+    for word in words {
+        if word.as_str() == "sum" {
+            if print_sum(rt, sum).is_err() {
+                return Err(Fault::Output);
+            }
+            sum = Scores::default();
+            continue;
+        }
+        match play_file(rt, word) {
             Ok(scores) => sum.add(scores),
             Err(fault) => {
-                let _ = eprintln!(rt; "{file}: {fault}");
+                let _ = eprintln!(rt; "{word}: {fault}");
                 return Ok(false);
             }
         }
     }
-    let runs = Runs {
-        visit: refuse_each_of_visit(rt, rt.alloc())?,
-        threads: refuse_each_in_threads(rt, rt.alloc())?,
-    };
-    match print_sum(rt, sum, runs) {
-        Ok(()) => Ok(true),
-        Err(_) => Err(Fault::Output),
-    }
+    Ok(true)
 }
 
 /// Plays the transcript of a file in each way, and prints its line.

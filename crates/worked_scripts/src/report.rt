@@ -69,18 +69,8 @@ fn print_receipt<R: Print>(rt: &R, receipt: &Receipt) -> io::Result<()> {
     }
 }
 
-/// The growths of what is no script.
-#[derive(Clone, Copy, Debug)]
-pub struct Runs {
-    /// Those of a draft that visits another book.
-    pub visit: u64,
-    /// Those of a run of threads.
-    pub threads: u64,
-}
-
-/// Prints the sum.
-pub fn print_sum<R: Print>(rt: &R, sum: Scores, runs: Runs) -> io::Result<()> {
-    let Runs { visit, threads } = runs;
+/// Prints a sum of scripts.
+pub fn print_sum<R: Print>(rt: &R, sum: Scores) -> io::Result<()> {
     let Scores {
         scripts,
         on_bench,
@@ -88,8 +78,13 @@ pub fn print_sum<R: Print>(rt: &R, sum: Scores, runs: Runs) -> io::Result<()> {
         without_memory,
     } = sum;
     println!(rt; "{scripts} scripts, each on a bench, through a book and behind a lock")?;
-    println!(rt;
-        "{on_bench} growths refused on a bench, {through_book} through a book, {threads} in a run of threads, {visit} of a draft at another book"
-    )?;
+    println!(rt; "{on_bench} growths refused on a bench, {through_book} through a book")?;
     println!(rt; "{without_memory} calls that take no memory, without memory")
+}
+
+/// Prints the growths of what is no script: of a run of threads, and of a draft that visits another book.
+pub fn print_runs<R: Print>(rt: &R, threads: u64, visit: u64) -> io::Result<()> {
+    println!(rt;
+        "{threads} growths refused in a run of threads, {visit} of a draft at another book"
+    )
 }
