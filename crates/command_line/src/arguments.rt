@@ -30,6 +30,7 @@ pub struct Options<'a> {
 }
 
 /// An option that is a number.
+#[derive(Clone, Copy)]
 struct Number {
     name: &'static str,
     usual: u32,
@@ -98,38 +99,47 @@ impl Number {
 
 /// A command with the options that both have.
 fn with_options<'a>(alloc: Global, command: Command<'a>) -> Result<Command<'a>, AllocError> {
+    let mut command = command;
+    for number in [PAGES, QUEUES, ENTRIES, SEGMENT, BLOCKS] {
+        command = command.arg(number.arg(alloc))?;
+    }
     let image = Arg::new(alloc, "image")
         .long("image")
         .value_name("FILE")
         .help("The image's bytes, 1 to 65536 whole blocks, in place of --blocks");
-    command
-        .arg(PAGES.arg(alloc))?
-        .arg(QUEUES.arg(alloc))?
-        .arg(ENTRIES.arg(alloc))?
-        .arg(SEGMENT.arg(alloc))?
-        .arg(BLOCKS.arg(alloc))?
-        .arg(image)
+    command.arg(image)
 }
 
-/// The command line.
-pub fn command<'a>(alloc: Global) -> Result<Command<'a>, AllocError> {
-    let steps = Command::new(alloc, "steps")
+/// The command that plays a script of steps.
+fn steps_command<'a>(alloc: Global) -> Result<Command<'a>, AllocError> {
+    let command = Command::new(alloc, "steps")
         .about("Plays a script from standard input")
         .long_about(STEPS_ABOUT)
         .after_help(STEPS_AFTER);
-    let threads = Command::new(alloc, "threads")
+    with_options(alloc, command)
+}
+
+/// The command that runs jobs in threads.
+fn threads_command<'a>(alloc: Global) -> Result<Command<'a>, AllocError> {
+    let command = Command::new(alloc, "threads")
         .about("Runs the jobs of a script from standard input in threads")
         .long_about(THREADS_ABOUT)
         .after_help(THREADS_AFTER)
         .arg(SUBMITTERS.arg(alloc))?;
-    Command::new(alloc, "nvmesgl")
+    with_options(alloc, command)
+}
+
+/// The command line.
+pub fn command<'a>(alloc: Global) -> Result<Command<'a>, AllocError> {
+    let steps = steps_command(alloc)?;
+    let command = Command::new(alloc, "nvmesgl")
         .bin_name("nvmesgl")?
         .about("An NVMe host driver and a modelled controller, played step by step or in threads")
         .long_about(ABOUT)
         .after_help(AFTER)
         .subcommand_required(true)
-        .subcommand(with_options(alloc, steps)?)?
-        .subcommand(with_options(alloc, threads)?)
+        .subcommand(steps)?;
+    command.subcommand(threads_command(alloc)?)
 }
 
 /// The words of the command line, the program's name first.
