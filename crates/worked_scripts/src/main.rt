@@ -40,7 +40,7 @@ fn main(rt: HostRuntime) -> ExitCode {
         Ok(false) => ExitCode::FAILURE,
         Err(fault) => {
             // Where standard error is closed, the exit status alone tells.
-            let _ = eprintln!(rt; "{fault}");
+            let _ = fault.print(&rt);
             ExitCode::FAILURE
         }
     }
@@ -62,7 +62,8 @@ fn start<R: AllocGlobal + Env + Eprint + Files + Print + Sync + Threads + Wait>(
         match play_file(rt, file) {
             Ok(scores) => sum.add(scores),
             Err(fault) => {
-                let _ = eprintln!(rt; "{file}: {fault}");
+                let _ = eprint!(rt; "{file}: ");
+                let _ = fault.print(rt);
                 return Ok(false);
             }
         }
