@@ -47,20 +47,20 @@ fn play_in<'h>(
     known: &'h [u64],
     growth: u64,
 ) -> Result<(BenchEnd, bool), Fault> {
-    let maker = OnBench::open(alloc, heap, transcript.options())?;
-    let mut refused = OneRefused::new(alloc, maker, growth, known);
+    let mut bench = OnBench::open(alloc, heap, transcript.options())?;
+    let mut refused = OneRefused::new(alloc, &mut bench, growth, known);
     let found = play(alloc, &mut refused, transcript);
     let OneRefused {
         alloc: _,
-        maker,
+        maker: _,
         left,
         known: _,
         growths,
         changed,
         touched,
     } = refused;
-    let standing = maker.standing(alloc);
-    maker.end();
+    let standing = bench.standing(alloc);
+    bench.end();
     as_told(
         Way::Bench(growth),
         found?,
@@ -120,19 +120,20 @@ fn play_without<'h>(
     heap: &'h Heap,
     transcript: &Transcript,
 ) -> Result<(BenchStanding, u64), Fault> {
+    let mut bench = OnBench::open(alloc, heap, transcript.options())?;
     let mut refused = AllRefused {
-        maker: OnBench::open(alloc, heap, transcript.options())?,
+        maker: &mut bench,
         calls: 0,
         asked: 0,
     };
     let found = play(alloc, &mut refused, transcript);
     let AllRefused {
-        maker,
+        maker: _,
         calls,
         asked,
     } = refused;
-    let standing: Result<BenchStanding, AllocError> = maker.standing(alloc);
-    maker.end();
+    let standing: Result<BenchStanding, AllocError> = bench.standing(alloc);
+    bench.end();
     let wrong = wrong_if(asked != 0, Wrong::Asked);
     as_told(Way::WithoutMemory, found?, wrong)?;
     Ok((standing?, calls))

@@ -101,18 +101,19 @@ pub fn submissions<'r, L: Driver, R: Wait, A: Allocator + Copy>(
 /// such a growth.
 fn play_at<'h, L: Driver, R: Wait>(
     heap: &'h Heap,
-    desk: Desk<'h, L, R, &'h Heap>,
+    desk: &mut Desk<'h, L, R, &'h Heap>,
     transcript: &Transcript,
-    known: &'h [u64],
+    known: &[u64],
     growth: u64,
     left: u64,
 ) -> Result<(BookEnd, bool), Fault> {
     let alloc = desk.alloc;
+    desk.sit()?;
     let mut refused = OneRefused::new(alloc, desk, left, known);
     let found = play(alloc, &mut refused, transcript);
     let OneRefused {
         alloc: _,
-        maker: mut desk,
+        maker: desk,
         left,
         known: _,
         growths,
@@ -122,9 +123,8 @@ fn play_at<'h, L: Driver, R: Wait>(
     let way = Way::Book(growth);
     as_told(way, found?, wrong_if(changed, Wrong::Changed))?;
     let standing = desk.standing(alloc)?;
-    let (closes, left, changed) = closed(heap, &mut desk, left)?;
+    let (closes, left, changed) = closed(heap, desk, left)?;
     as_told(way, None, wrong_if(changed, Wrong::Changed))?;
-    desk.end();
     let end = BookEnd {
         standing,
         closes,
@@ -143,7 +143,7 @@ fn play_in<'h, L: Driver, R: Wait>(
     image: Image<&'h Heap>,
     blank: Blank,
     transcript: &Transcript,
-    known: &'h [u64],
+    known: &[u64],
     growth: u64,
 ) -> Result<(BookEnd, bool), Fault>
     requires name { blank.name ≡ L.name }
@@ -152,12 +152,13 @@ fn play_in<'h, L: Driver, R: Wait>(
     requires opening { L.opening ≡ opening_of config image }
 {
     heap.refuse(Refusal::Nth(growth));
-    let book = opened::<L, &'h Heap>(heap, config, image, blank);
+    let book = opened::<L, &'h Heap>(heap, config, image, blank)?;
     let left = growth.saturating_sub(heap.tally().calls);
     heap.refuse(Refusal::Never);
-    let mut desk = Desk::new(rt, alloc, heap, Access::Book(book?));
-    desk.sit()?;
-    play_at(heap, desk, transcript, known, growth, left)
+    let mut desk = Desk::new(rt, alloc, heap, Access::Book(book));
+    let end = play_at(heap, &mut desk, transcript, known, growth, left);
+    desk.end();
+    end
 }
 
 /// Plays a script through a book of its own with one growth refused. At the end the heap is empty.

@@ -3,30 +3,25 @@
 use crate::way::Way;
 use driver_threads::RunFault;
 use std::alloc::AllocError;
+use std::io;
 use step_core::OpenRefusal;
 use thiserror::Error;
 use transcripts::{Difference, OpeningFault, TranscriptFault};
 
 /// Why a script does not play as its transcript says, or a run does not leave what it must.
-#[derive(Debug, Drop, Error)]
+#[derive(Drop)]
 pub enum Fault {
     /// No transcript is named.
-    #[error("usage: worked_scripts FILE..")]
     Usage,
     /// The file is not there, or is no text.
-    #[error("unreadable")]
     Unreadable,
     /// The file is no transcript.
-    #[error("{0}")]
-    Transcript(#[from] TranscriptFault),
+    Transcript(TranscriptFault),
     /// No bench was opened.
-    #[error("{0}")]
-    Opening(#[from] OpeningFault),
+    Opening(OpeningFault),
     /// No book was opened.
-    #[error("no book was opened: {0:?}")]
     NoBook(OpenRefusal),
     /// Something else is printed than stands there.
-    #[error("{difference} ({way})")]
     Difference {
         /// How it was played.
         way: Way,
@@ -34,7 +29,6 @@ pub enum Fault {
         difference: Difference,
     },
     /// What a run leaves is not what it must be.
-    #[error("{what} ({way})")]
     Left {
         /// How it was played.
         way: Way,
@@ -42,14 +36,47 @@ pub enum Fault {
         what: Wrong,
     },
     /// A run of threads did not come to its end.
-    #[error("{0}")]
-    Threads(#[from] RunFault),
+    Threads(RunFault),
     /// Memory is wanting that is not refused on purpose.
-    #[error("memory")]
     Memory,
     /// What is printed cannot be written.
-    #[error("output failed")]
     Output,
+}
+
+impl Fault {
+    /// Prints the fault on standard error.
+    pub fn print<R: Eprint>(&self, rt: &R) -> io::Result<()> {
+        match self {
+            Fault::Usage => eprintln!(rt; "usage: worked_scripts FILE.."),
+            Fault::Unreadable => eprintln!(rt; "unreadable"),
+            Fault::Transcript(fault) => eprintln!(rt; "{fault}"),
+            Fault::Opening(fault) => eprintln!(rt; "{fault}"),
+            Fault::NoBook(why) => eprintln!(rt; "no book was opened: {why:?}"),
+            Fault::Difference { way, difference } => eprintln!(rt; "{difference} ({way})"),
+            Fault::Left { way, what } => eprintln!(rt; "{what} ({way})"),
+            Fault::Threads(fault) => eprintln!(rt; "{fault}"),
+            Fault::Memory => eprintln!(rt; "memory"),
+            Fault::Output => eprintln!(rt; "output failed"),
+        }
+    }
+}
+
+impl From<TranscriptFault> for Fault {
+    fn from(fault: TranscriptFault) -> Self {
+        Fault::Transcript(fault)
+    }
+}
+
+impl From<OpeningFault> for Fault {
+    fn from(fault: OpeningFault) -> Self {
+        Fault::Opening(fault)
+    }
+}
+
+impl From<RunFault> for Fault {
+    fn from(fault: RunFault) -> Self {
+        Fault::Threads(fault)
+    }
 }
 
 impl From<AllocError> for Fault {

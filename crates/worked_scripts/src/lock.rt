@@ -24,30 +24,27 @@ struct LockEnd {
     holdings: Holdings,
     receipts: Vec<Receipt>,
     closes: Result<u64, CloseFault>,
-    entries: usize,
 }
 
 /// Plays a script at a desk behind a lock, and closes the book.
 fn play_at<L: Driver, R: Wait>(
-    mut desk: Desk<'_, L, R>,
+    desk: &mut Desk<'_, L, R>,
     transcript: &Transcript,
 ) -> Result<LockEnd, Fault> {
     let alloc = desk.alloc;
     desk.sit()?;
-    let found = play(alloc, &mut desk, transcript)?;
+    let found = play(alloc, desk, transcript)?;
     as_told(Way::Lock, found, None)?;
-    let holdings = Holdings::of(alloc, &desk)?;
+    let holdings = Holdings::of(alloc, desk)?;
     let receipts = desk.receipts(alloc)?;
-    let closes = submissions(&mut desk);
     Ok(LockEnd {
         holdings,
         receipts,
-        closes,
-        entries: desk.end(),
+        closes: submissions(desk),
     })
 }
 
-/// Plays a script behind the lock of a new book.
+/// Plays a script behind the lock of a new book. It answers what that leaves, and how many entries the log had.
 fn play_in<L: Driver, R: Wait>(
     rt: &R,
     alloc: Global,
@@ -55,7 +52,7 @@ fn play_in<L: Driver, R: Wait>(
     image: Image,
     blank: Blank,
     transcript: &Transcript,
-) -> Result<LockEnd, Fault>
+) -> Result<(LockEnd, usize), Fault>
     requires name { blank.name ≡ L.name }
     requires parts { blank.parts ≡ L.parts }
     requires number { blank.parts ≡ 65536 }
@@ -64,17 +61,20 @@ fn play_in<L: Driver, R: Wait>(
     match Book::<L>::open(alloc, config, image, blank) {
         Ok(book) => {
             let access = Access::Lock(Shared::new(book));
-            play_at(Desk::new(rt, alloc, alloc, access), transcript)
+            let mut desk = Desk::new(rt, alloc, alloc, access);
+            let end = play_at(&mut desk, transcript);
+            let entries = desk.end();
+            Ok((end?, entries))
         }
         Err(refused) => Err(Fault::NoBook(refused.why)),
     }
 }
 
 /// What is wrong with what a run leaves, if something is.
-fn first_wrong(end: &LockEnd, wanted: &BookEnd) -> Option<Wrong> {
+fn first_wrong(end: &LockEnd, entries: usize, wanted: &BookEnd) -> Option<Wrong> {
     let standing = &wanted.standing;
     if end.holdings != standing.holdings
-        || Some(end.entries) != standing.entries
+        || Some(entries) != standing.entries
         || end.receipts.as_slice() != standing.receipts.as_slice()
     {
         return Some(Wrong::Standing);
@@ -92,6 +92,6 @@ pub fn play_behind_lock<R: Wait>(
     let options = transcript.options();
     let image = zeros(alloc, options)?;
     let blank = Blank::new(65536);
-    let end = play_in::<Brand, R>(rt, alloc, options.config, image, blank, transcript)?;
-    as_told(Way::Lock, None, first_wrong(&end, wanted))
+    let (end, entries) = play_in::<Brand, R>(rt, alloc, options.config, image, blank, transcript)?;
+    as_told(Way::Lock, None, first_wrong(&end, entries, wanted))
 }

@@ -40,7 +40,7 @@ fn main(rt: HostRuntime) -> ExitCode {
         Ok(false) => ExitCode::FAILURE,
         Err(fault) => {
             // Where standard error is closed, the exit status alone tells.
-            let _ = eprintln!(rt; "{fault}");
+            let _ = fault.print(&rt);
             ExitCode::FAILURE
         }
     }
@@ -86,7 +86,8 @@ fn play_all<R: AllocGlobal + Eprint + Files + Print + Wait>(
         match play_file(rt, word) {
             Ok(scores) => sum.add(scores),
             Err(fault) => {
-                let _ = eprintln!(rt; "{word}: {fault}");
+                let _ = eprint!(rt; "{word}: ");
+                let _ = fault.print(rt);
                 return Ok(false);
             }
         }

@@ -7,15 +7,15 @@ use test_support::Refusal;
 use transcripts::StepMaker;
 
 /// Makes steps with one growth refused. A step that wants memory is made once more.
-pub struct OneRefused<'k, M: Stands> {
+pub struct OneRefused<'m, M: Stands> {
     /// Where what is noted down stands.
     pub alloc: Global,
     /// What makes them.
-    pub maker: M,
+    pub maker: &'m mut M,
     /// Which of the growths to come is refused, counted from 1. At 0 none is.
     pub left: u64,
     /// How many growths each step has where none is refused, as far as that is known.
-    pub known: &'k [u64],
+    pub known: &'m [u64],
     /// How many growths each step had that was made.
     pub growths: Vec<u64>,
     /// Whether something had changed where a step wanted memory.
@@ -29,9 +29,9 @@ fn is_memory(reply: &Reply) -> bool {
     matches!(reply, Reply::Refused { why, touched: _ } if *why == step_core::Refusal::Memory)
 }
 
-impl<'k, M: Stands> OneRefused<'k, M> {
+impl<'m, M: Stands> OneRefused<'m, M> {
     /// Before any step, where the growth of this number is refused.
-    pub fn new(alloc: Global, maker: M, left: u64, known: &'k [u64]) -> OneRefused<'k, M> {
+    pub fn new(alloc: Global, maker: &'m mut M, left: u64, known: &'m [u64]) -> OneRefused<'m, M> {
         OneRefused {
             alloc,
             maker,
@@ -74,7 +74,7 @@ impl<'k, M: Stands> OneRefused<'k, M> {
     }
 }
 
-impl<'k, M: Stands> StepMaker for OneRefused<'k, M> {
+impl<'m, M: Stands> StepMaker for OneRefused<'m, M> {
     fn step(&mut self, step: &Step) -> Result<Reply, AllocError> {
         // how it stands is asked for where it matters alone, since that takes long
         let answer = if self.is_next() {
@@ -98,9 +98,9 @@ impl<'k, M: Stands> StepMaker for OneRefused<'k, M> {
 }
 
 /// Makes steps, those that take no memory while each growth is refused.
-pub struct AllRefused<M: Stands> {
+pub struct AllRefused<'m, M: Stands> {
     /// What makes them.
-    pub maker: M,
+    pub maker: &'m mut M,
     /// How many steps took no memory.
     pub calls: u64,
     /// How often one of them asked for some.
@@ -122,7 +122,7 @@ fn takes_no_memory(step: &Step) -> bool {
     )
 }
 
-impl<M: Stands> StepMaker for AllRefused<M> {
+impl<'m, M: Stands> StepMaker for AllRefused<'m, M> {
     fn step(&mut self, step: &Step) -> Result<Reply, AllocError> {
         if !takes_no_memory(step) {
             return self.maker.step(step);

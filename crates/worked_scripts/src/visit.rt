@@ -58,18 +58,18 @@ fn hand_over<'h, L: Driver, M: Driver, R: Wait>(
 
 /// Plays a part of a visit at a desk with one of the growths to come refused, and answers how many are left to that one.
 fn play_part<'h, L: Driver, R: Wait>(
-    desk: DeskIn<'h, L, R>,
+    desk: &mut DeskIn<'h, L, R>,
     text: &str,
     growth: u64,
     left: u64,
-) -> Result<(DeskIn<'h, L, R>, u64), Fault> {
+) -> Result<u64, Fault> {
     let alloc = desk.alloc;
     let transcript = read_transcript(alloc, text)?;
     let mut refused = OneRefused::new(alloc, desk, left, &[]);
     let found = play(alloc, &mut refused, &transcript);
     let OneRefused {
         alloc: _,
-        maker,
+        maker: _,
         left,
         known: _,
         growths: _,
@@ -78,29 +78,28 @@ fn play_part<'h, L: Driver, R: Wait>(
     } = refused;
     let wrong = wrong_if(changed, Wrong::Changed);
     as_told(Way::Visit(growth), found?, wrong)?;
-    Ok((maker, left))
+    Ok(left)
 }
 
 /// A draft is built at home, handed to the other desk and back, and submitted. It answers how many growths are left.
 fn visit<'h, L: Driver, M: Driver, R: Wait>(
-    home: DeskIn<'h, L, R>,
-    mut away: DeskIn<'h, M, R>,
+    home: &mut DeskIn<'h, L, R>,
+    away: &mut DeskIn<'h, M, R>,
     growth: u64,
 ) -> Result<u64, Fault> {
-    let (mut home, left) = play_part(home, BUILT, growth, growth)?;
-    hand_over(&mut home, &mut away)?;
-    let (mut away, left) = play_part(away, STRANGER, growth, left)?;
-    hand_over(&mut away, &mut home)?;
-    let (home, left) = play_part(home, SUBMITTED, growth, left)?;
-    home.end();
-    away.end();
-    Ok(left)
+    home.sit()?;
+    away.sit()?;
+    let left = play_part(home, BUILT, growth, growth)?;
+    hand_over(home, away)?;
+    let left = play_part(away, STRANGER, growth, left)?;
+    hand_over(away, home)?;
+    play_part(home, SUBMITTED, growth, left)
 }
 
 /// Opens the other book, and lets a draft visit it.
 fn play_away<'h, L: Driver, M: Driver, R: Wait>(
     heap: &'h Heap,
-    home: DeskIn<'h, L, R>,
+    home: &mut DeskIn<'h, L, R>,
     config: Config,
     image: Image<&'h Heap>,
     blank: Blank,
@@ -113,8 +112,9 @@ fn play_away<'h, L: Driver, M: Driver, R: Wait>(
 {
     let book = opened::<M, &'h Heap>(heap, config, image, blank)?;
     let mut away = Desk::new(home.rt, home.alloc, heap, Access::Book(book));
-    away.sit()?;
-    visit(home, away, growth)
+    let left = visit(home, &mut away, growth);
+    away.end();
+    left
 }
 
 /// Opens a draft's own book and another one, and lets the draft visit that one. It answers how many growths are left.
@@ -136,8 +136,9 @@ fn play_home<'h, L: Driver, R: Wait>(
     let other_blank = Blank::new(65536);
     let book = opened::<L, &'h Heap>(heap, config, image, blank)?;
     let mut home = Desk::new(rt, alloc, heap, Access::Book(book));
-    home.sit()?;
-    play_away::<L, Brand, R>(heap, home, config, other_image, other_blank, growth)
+    let left = play_away::<L, Brand, R>(heap, &mut home, config, other_image, other_blank, growth);
+    home.end();
+    left
 }
 
 /// Lets a draft visit another book with one growth refused, and answers whether there was such a growth. At the end the heap is empty.
