@@ -9,7 +9,7 @@ use crate::jobs::{JobEndIn, JobEnds, JobIn, Ran, RunFault};
 use crate::shared::Shared;
 use crate::workers::{Worked, controller, poller, submitter};
 use block_image::Image;
-use driver_book::{Book, CloseFault, Driver, Seat};
+use driver_book::{Book, CloseFault, Driver, ReportIn, Seat};
 use std::alloc::{AllocError, Allocator};
 use std::sync::Wait;
 use std::sync::ledger::Blank;
@@ -179,6 +179,29 @@ fn handed_in<L: Driver, A: Allocator + Copy>(
     }
 }
 
+/// Closes the book with the seats of the workers, whose lists of jobs are so long: its report, and how the jobs ended.
+fn close<L: Driver, A: Allocator + Copy>(
+    alloc: A,
+    book: &mut Book<L, A>,
+    work: Work<L, A>,
+    jobs: &[usize],
+) -> Result<(ReportIn<A>, JobEnds<A>), Failure>
+    ensures closed { IfOk result (λ r. RanFrom L.opening r.0 book.new) }
+    ensures all_jobs { IfOk result (λ r. map length r.1 ≡ jobs.now) }
+{
+    if let Some(worker) = first_closed(&work.workers) {
+        return Err(Failure::GateClosed { worker });
+    }
+    let HandedIn { seats, lists } = handed_in(alloc, work, jobs)?;
+    match book.close(seats) {
+        Ok(report) => Ok((report, JobEnds::of(lists))),
+        Err(refused) => match refused.why {
+            CloseFault::Memory => Err(Failure::Memory),
+            why => Err(Failure::Close(why)),
+        },
+    }
+}
+
 /// Closes the book with the seats of the workers, whose lists of jobs are so long.
 fn finish<L: Driver, A: Allocator + Copy>(
     alloc: A,
@@ -189,21 +212,10 @@ fn finish<L: Driver, A: Allocator + Copy>(
     ensures closed { IfOk result (λ ran. RanFrom L.opening ran.report ran.book) }
     ensures all_jobs { IfOk result (λ ran. map length ran.jobs ≡ jobs.now) }
 {
-    if let Some(worker) = first_closed(&work.workers) {
-        return Err(Failure::GateClosed { worker });
-    }
-    let HandedIn { seats, lists } = handed_in(alloc, work, jobs)?;
     let mut book = book;
-    match book.close(seats) {
-        Ok(report) => Ok(Ran {
-            report,
-            jobs: JobEnds::of(lists),
-            book,
-        }),
-        Err(refused) => match refused.why {
-            CloseFault::Memory => Err(Failure::Memory),
-            why => Err(Failure::Close(why)),
-        },
+    match close(alloc, &mut book, work, jobs) {
+        Ok((report, jobs)) => Ok(Ran { report, jobs, book }),
+        Err(failure) => Err(failure),
     }
 }
 

@@ -3,7 +3,7 @@ use Rattle.std.proofs.Common.{length, subst}
 use Rattle.machine_model.specs.State.{State}
 use Rattle.driver_book.specs.History.{LeadsTo}
 use Rattle.std.proofs.lemmas.Simd.{map-map}
-use Rattle.driver_threads.proofs.run.finish.Goals as goal
+use Rattle.driver_threads.proofs.run.close.Goals as goal
 
 pub returns-in-Ok-clause-all_jobs : goal.returns-in-Ok-clause-all_jobs
 returns-in-Ok-clause-all_jobs g c =
@@ -13,11 +13,11 @@ returns-in-Ok-clause-all_jobs g c =
 pub returns-in-Ok-clause-closed : goal.returns-in-Ok-clause-closed
 returns-in-Ok-clause-closed g c = record {
   seats = c.in_ok-seats.field-0.seats.items;
-  before = c.args.book;
+  before = c.args.book.now;
   closed = record {
     of = record {
       opens = c.in-Ok.ensures.opening;
-      legal = subst (λ (opening : State). LeadsTo opening c.args.book.log c.args.book.world) c.in-Ok.ensures.opening c.in-Ok.ensures.legal;
+      legal = subst (λ (opening : State). LeadsTo opening c.args.book.now.log c.args.book.now.world) c.in-Ok.ensures.opening c.in-Ok.ensures.legal;
       sound = c.in-Ok.ensures.sound;
     };
     stand = c.in-Ok.ensures.stand;
