@@ -54,8 +54,9 @@ fn start<R: AllocGlobal + Env + Eprint + Files + Print + Sync + Threads + Wait>(
         Ok(words) => words.collect(rt.alloc())?,
         Err(_) => return Err(Fault::Usage),
     };
-    let Some((_, files)) = words.split_first() else {
-        return Err(Fault::Usage);
+    let files = match words.split_first() {
+        Some((_, files)) if !files.is_empty() => files,
+        _ => return Err(Fault::Usage),
     };
     let mut sum = Scores::default();
     for file in files {
