@@ -54,8 +54,9 @@ fn start<R: AllocGlobal + Env + Eprint + Files + Print + Sync + Threads + Wait>(
         Ok(words) => words.collect(rt.alloc())?,
         Err(_) => return Err(Fault::Usage),
     };
-    let Some((_, words)) = words.split_first() else {
-        return Err(Fault::Usage);
+    let words = match words.split_first() {
+        Some((_, words)) if !words.is_empty() => words,
+        _ => return Err(Fault::Usage),
     };
     if !play_all(rt, words)? {
         return Ok(false);
