@@ -34,3 +34,5 @@ mod runs;
 mod strangers;
 #[cfg(test)]
 mod turned_away;
+#[cfg(test)]
+mod wakes;

@@ -1,0 +1,8 @@
+use Rattle.step_core.specs.Opening.{opening_of}
+use Rattle.driver_tests.proofs.wakes.run.Given as goal
+
+abbrev pub ghosts-wake-L-Ledger : goal.ghosts-wake-L-Ledger
+ghosts-wake-L-Ledger g a = record { name = a.blank.name; parts = a.blank.parts }
+
+abbrev pub ghosts-wake-L-Driver : goal.ghosts-wake-L-Driver
+ghosts-wake-L-Driver g a = record { opening = opening_of a.config a.image }
