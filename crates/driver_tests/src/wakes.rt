@@ -10,7 +10,7 @@ use block_image::Image;
 use driver_book::Driver;
 use driver_desk::values::draft_of;
 use driver_desk::{Access, Desk, Value};
-use driver_threads::{Job, JobEnd, JobRefusal, Open, Shared, Worked, submitter};
+use driver_threads::{Job, JobEnd, JobRefusal, Open, Shared, Worked, poller, submitter};
 use entry_codec::Status;
 use io_commands::Kind;
 use std::alloc::{AllocError, Global};
@@ -24,37 +24,55 @@ use std::thread::Threads;
 use std::time::{Clock, Duration};
 use step_core::Config;
 
-/// A call that ends what a submitter waits for.
+/// A call that is made while a submitter sleeps. Each number is that of a queue, and each command has identifier 0.
 #[derive(Clone, Copy)]
 enum Call {
-    /// The controller is reset.
-    Reset,
-    /// The draft with identifier 0 of queue 1 is cancelled.
+    /// Of a draft of queue 1.
     Cancel,
-    /// A completion half is made for queue 2, of a page that no queue owned.
-    CreateCq,
-    /// So is a submission half.
-    CreateSq,
+    /// Of entries that are unfetched.
+    Ring(u16),
+    /// Of the next entry.
+    Fetch(u16),
+    /// Of one unit.
+    Walk(u16),
+    /// Of the command.
+    Complete(u16),
+    /// Of the next completion.
+    Reap(u16),
+    /// Of a queue that is live.
+    DeleteSq(u16),
+    /// Of a queue that is gone.
+    CreateCq(u16),
+    /// Of a queue that is half made.
+    CreateSq(u16),
+    /// Of a queue that is deleted.
+    Retire(u16),
+    /// Of these bytes, into slot 0 of queue 1.
+    Forge([u8; 16]),
+    /// Of the controller.
+    Reset,
 }
 
 /// How a job ends.
 #[derive(Clone, Copy)]
 enum End {
-    /// It is a Read of one block that a reset ended.
-    Lost,
+    /// It is a Read of one block of zeros, with this status.
+    Read(Status),
     /// It is refused.
     Refused(JobRefusal),
 }
 
-/// A submitter that waits, and the call that wakes it. All of its jobs are on queue 1.
+/// A submitter that sleeps, and the calls of which the last one ends what it waits for. All of its jobs are on queue 1.
 #[derive(Clone, Copy)]
 struct Waking {
     /// What is played at the desk before the submitter comes.
     before: &'static [&'static str],
     /// The kind of each job, its blocks, and the bytes that it brings.
     jobs: &'static [(Kind, u32, &'static [u8])],
-    /// The call.
-    call: Call,
+    /// Whether a poller sleeps too.
+    polls: bool,
+    /// The calls.
+    calls: &'static [Call],
     /// How each job ends.
     ends: &'static [End],
     /// How many entries the log has then, of which no wait made one.
@@ -64,43 +82,117 @@ struct Waking {
 /// 16 pages, of which queues 0, 1 and 2 own six, and three identifiers a queue.
 const TWO_QUEUES: Config = Config { queues: 2, ..USUAL };
 
-/// How often each wait is tried: once the submitter might not sleep yet as the call is made.
+/// How often each wait is tried. In a single try a thread might not sleep yet as the last call is made.
 const ROUNDS: u32 = 3;
 
-/// How many milliseconds the submitter has until it sleeps.
+/// How many milliseconds the threads have before each call until they sleep.
 const ASLEEP: u64 = 50;
 
-/// How many milliseconds the submitter has at most, once the call is made, until it is back.
+/// How many milliseconds the submitter has behind the last call until it is back.
 const BACK: u32 = 10_000;
 
 /// It waits for the end of its Read. Its next job finds no queue.
 const COMMAND_ENDS: Waking = Waking {
     before: &[],
     jobs: &[(Kind::Read, 1, &[]), (Kind::Read, 1, &[])],
-    call: Call::Reset,
-    ends: &[End::Lost, End::Refused(JobRefusal::NoQueue)],
+    polls: false,
+    calls: &[Call::Reset],
+    ends: &[
+        End::Read(Status::ABORTED_SQ_DELETION),
+        End::Refused(JobRefusal::NoQueue),
+    ],
     entries: 6,
 };
 
-/// It waits for an identifier, as drafts have all three. There is no queue any more then, for its next job neither.
-const QUEUE_GOES: Waking = Waking {
-    before: &[
-        "reserve 1 read 0 1 0+512
+/// Drafts have all three identifiers of queue 1.
+const NO_IDENTIFIER: &str = "reserve 1 read 0 1 0+512
 > reserve q 1 cid 0 data 1 chain 0
 reserve 1 read 0 1 0+512
 > reserve q 1 cid 1 data 1 chain 0
 reserve 1 read 0 1 0+512
 > reserve q 1 cid 2 data 1 chain 0
 > counts free 7 queue 6 chain 0 data 3
-",
-    ],
+";
+
+/// It waits for an identifier. There is no queue any more then, for its next job neither.
+const QUEUE_GOES: Waking = Waking {
+    before: &[NO_IDENTIFIER],
     jobs: &[(Kind::Read, 1, &[]), (Kind::Read, 1, &[])],
-    call: Call::Reset,
+    polls: false,
+    calls: &[Call::Reset],
     ends: &[
         End::Refused(JobRefusal::NoQueue),
         End::Refused(JobRefusal::NoQueue),
     ],
     entries: 4,
+};
+
+/// It waits for an identifier, and its queue is going to be deleted.
+const QUEUE_IS_DELETED: Waking = Waking {
+    before: &[NO_IDENTIFIER],
+    jobs: &[(Kind::Read, 1, &[])],
+    polls: false,
+    calls: &[Call::DeleteSq(1)],
+    ends: &[End::Refused(JobRefusal::QueueGone)],
+    entries: 4,
+};
+
+/// It waits for the end of its Read, which is never fetched: its queue is deleted.
+const QUEUE_RETIRES: Waking = Waking {
+    before: &[],
+    jobs: &[(Kind::Read, 1, &[])],
+    polls: false,
+    calls: &[
+        Call::DeleteSq(1),
+        Call::Ring(0),
+        Call::Fetch(0),
+        Call::Complete(0),
+        Call::Reap(0),
+        Call::Retire(1),
+    ],
+    ends: &[End::Read(Status::ABORTED_SQ_DELETION)],
+    entries: 11,
+};
+
+/// It waits for the end of its Read, which is served and reaped.
+const COMMAND_IS_REAPED: Waking = Waking {
+    before: &[],
+    jobs: &[(Kind::Read, 1, &[])],
+    polls: false,
+    calls: &[
+        Call::Fetch(1),
+        Call::Walk(1),
+        Call::Walk(1),
+        Call::Complete(1),
+        Call::Reap(1),
+    ],
+    ends: &[End::Read(Status::SUCCESS)],
+    entries: 10,
+};
+
+/// It waits for the end of its Read, and the poller for a completion.
+const COMMAND_COMPLETES: Waking = Waking {
+    before: &[],
+    jobs: &[(Kind::Read, 1, &[])],
+    polls: true,
+    calls: &[
+        Call::Fetch(1),
+        Call::Walk(1),
+        Call::Walk(1),
+        Call::Complete(1),
+    ],
+    ends: &[End::Read(Status::SUCCESS)],
+    entries: 10,
+};
+
+/// It waits for the end of its Read, and the poller for a completion, which is forged: that of identifier 0, with SQ head 1 and status 0:00.
+const COMPLETION_IS_FORGED: Waking = Waking {
+    before: &[],
+    jobs: &[(Kind::Read, 1, &[])],
+    polls: true,
+    calls: &[Call::Forge([0, 0, 0, 0, 0, 0, 0, 0, 1, 0, 1, 0, 0, 0, 1, 0])],
+    ends: &[End::Read(Status::SUCCESS)],
+    entries: 7,
 };
 
 /// It waits for a page, as a draft has all ten. It gets its own draft then, and ends of itself, since it brings a byte too many.
@@ -112,7 +204,8 @@ const PAGES_COME_BACK: Waking = Waking {
 ",
     ],
     jobs: &[(Kind::Write, 1, &[0; 513])],
-    call: Call::Cancel,
+    polls: false,
+    calls: &[Call::Cancel],
     ends: &[End::Refused(JobRefusal::WrongLength)],
     entries: 4,
 };
@@ -167,7 +260,8 @@ reap 0
 const COMPLETION_HALF_COMES: Waking = Waking {
     before: &[ONE_PAGE, QUEUE_2_DELETED],
     jobs: &[(Kind::Read, 11, &[])],
-    call: Call::CreateCq,
+    polls: false,
+    calls: &[Call::CreateCq(2)],
     ends: &[End::Refused(JobRefusal::NoPages { need: 12, pool: 11 })],
     entries: 13,
 };
@@ -176,7 +270,8 @@ const COMPLETION_HALF_COMES: Waking = Waking {
 const SUBMISSION_HALF_COMES: Waking = Waking {
     before: &[ONE_PAGE, QUEUE_2_DELETED, QUEUE_2_HALF_MADE],
     jobs: &[(Kind::Read, 10, &[])],
-    call: Call::CreateSq,
+    polls: false,
+    calls: &[Call::CreateSq(2)],
     ends: &[End::Refused(JobRefusal::NoPages { need: 11, pool: 10 })],
     entries: 18,
 };
@@ -193,7 +288,7 @@ fn jobs_of(alloc: Global, waking: &Waking) -> Result<Vec<Job>, AllocError> {
 /// Whether a job came to this end.
 fn is_end(end: &JobEnd, want: &End) -> bool {
     match want {
-        End::Lost => is_done(end, Status::ABORTED_SQ_DELETION, &[0; 512]),
+        End::Read(status) => is_done(end, *status, &[0; 512]),
         End::Refused(why) => matches!(end, JobEnd::Refused(told) if told == why),
     }
 }
@@ -224,29 +319,53 @@ fn submit_all<L: Driver, R: Wait>(
     ends
 }
 
-/// Cancels the draft with identifier 0 of queue 1.
-fn cancel<L: Driver, R: Abort + Wait>(rt: &R, shared: &Shared<L>, values: &mut Vec<Value>) {
+/// Cancels the draft with identifier 0 of queue 1. Whether it was accepted.
+fn is_cancelled<L: Driver, R: Wait>(rt: &R, shared: &Shared<L>, values: &mut Vec<Value>) -> bool {
     let Some(draft) = draft_of(values, 1, 0) else {
-        panic!(rt; "there is no draft");
+        return false;
     };
     match shared.cancel(rt, draft) {
-        Ok(()) => {}
-        Err(_) => panic!(rt; "it was not cancelled"),
+        Ok(()) => true,
+        Err(refused) => {
+            drop(refused.value.apart());
+            false
+        }
     }
 }
 
-/// Makes a call, which is accepted.
-fn make_call<L: Driver, R: Abort + Wait>(
+/// Makes a call. Whether it was accepted.
+fn is_accepted<L: Driver, R: Wait>(
     rt: &R,
     shared: &Shared<L>,
     values: &mut Vec<Value>,
     call: Call,
-) {
+) -> bool {
     match call {
-        Call::Reset => see(rt, &shared.reset(rt), &Ok(())),
-        Call::Cancel => cancel(rt, shared, values),
-        Call::CreateCq => see(rt, &shared.create_cq(rt, 2), &Ok(0)),
-        Call::CreateSq => see(rt, &shared.create_sq(rt, 2), &Ok(0)),
+        Call::Cancel => is_cancelled(rt, shared, values),
+        Call::Ring(q) => shared.ring(rt, q).is_ok(),
+        Call::Fetch(q) => shared.fetch(rt, q).is_ok(),
+        Call::Walk(q) => shared.walk(rt, q, 0).is_ok(),
+        Call::Complete(q) => shared.complete(rt, q, 0).is_ok(),
+        Call::Reap(q) => shared.reap(rt, q).is_ok(),
+        Call::DeleteSq(q) => shared.delete_sq(rt, q).is_ok(),
+        Call::CreateCq(q) => shared.create_cq(rt, q).is_ok(),
+        Call::CreateSq(q) => shared.create_sq(rt, q).is_ok(),
+        Call::Retire(q) => shared.retire(rt, q).is_ok(),
+        Call::Forge(bytes) => shared.forge(rt, 1, 0, bytes).is_ok(),
+        Call::Reset => shared.reset(rt).is_ok(),
+    }
+}
+
+/// Makes each call once the threads sleep.
+fn make_calls<L: Driver, R: Abort + Wait + Clock>(
+    rt: &R,
+    shared: &Shared<L>,
+    values: &mut Vec<Value>,
+    calls: &[Call],
+) {
+    for call in calls {
+        thread::sleep(rt, Duration::from_millis(ASLEEP));
+        assert!(rt; is_accepted(rt, shared, values, *call));
     }
 }
 
@@ -261,7 +380,16 @@ fn wait_for<R: Abort + Clock>(rt: &R, back: &AtomicBool) {
     panic!(rt; "the submitter was not woken");
 }
 
-/// Runs a submitter in a thread of its own, makes the call once it sleeps, and answers how its jobs ended.
+/// Polls, where that is wanted, until the workers are told to stop.
+fn poll<L: Driver, R: Wait>(rt: &R, shared: &Shared<L>, is_wanted: bool) -> Result<(), AllocError> {
+    if is_wanted {
+        poller(rt, shared)
+    } else {
+        Ok(())
+    }
+}
+
+/// Runs a submitter, and a poller where one is wanted, in threads of their own, makes the calls, and answers how the jobs ended.
 fn woken<L: Driver + Send + Sync, R: Abort + Threads + Wait + Clock + Sync>(
     rt: &R,
     alloc: Global,
@@ -269,20 +397,25 @@ fn woken<L: Driver + Send + Sync, R: Abort + Threads + Wait + Clock + Sync>(
     values: &mut Vec<Value>,
     jobs: Vec<Job>,
     back: &AtomicBool,
-    call: Call,
+    waking: &Waking,
 ) -> Vec<JobEnd> {
+    let polls = waking.polls;
     thread::scope(thread::scope_env(), rt, |scope| {
+        let Ok(polls) = scope.spawn(move || poll(rt, shared, polls)) else {
+            panic!(rt; "no thread was made");
+        };
         let Ok(submits) = scope.spawn(move || submit_all(rt, alloc, shared, jobs, back)) else {
             panic!(rt; "no thread was made");
         };
-        thread::sleep(rt, Duration::from_millis(ASLEEP));
-        make_call(rt, shared, values, call);
+        make_calls(rt, shared, values, waking.calls);
         wait_for(rt, back);
+        shared.stop(rt);
+        assert!(rt; polls.join(rt).is_ok());
         submits.join(rt)
     })
 }
 
-/// Has a submitter wait behind the lock of a desk, and sees that the call wakes it.
+/// Has a submitter sleep behind the lock of a desk, and sees that it is woken.
 fn see_woken<L: Driver + Send + Sync, R: Abort + Threads + Wait + Clock + Sync>(
     rt: &R,
     desk: &mut Desk<'_, L, R>,
@@ -296,15 +429,7 @@ fn see_woken<L: Driver + Send + Sync, R: Abort + Threads + Wait + Clock + Sync>(
         panic!(rt; "there is no lock");
     };
     let back = AtomicBool::new(false);
-    let ends = woken(
-        rt,
-        alloc,
-        shared,
-        &mut desk.values,
-        jobs,
-        &back,
-        waking.call,
-    );
+    let ends = woken(rt, alloc, shared, &mut desk.values, jobs, &back, waking);
     see_ends(rt, &ends, waking.ends);
 }
 
@@ -347,6 +472,31 @@ fn a_reset_wakes_who_waits_for_a_command(rt: HostRuntime) {
 #[test]
 fn a_reset_wakes_who_waits_for_an_identifier(rt: HostRuntime) {
     run(&rt, rt.alloc(), &QUEUE_GOES);
+}
+
+#[test]
+fn a_deletion_wakes_who_waits_for_an_identifier(rt: HostRuntime) {
+    run(&rt, rt.alloc(), &QUEUE_IS_DELETED);
+}
+
+#[test]
+fn a_retirement_wakes_who_waits_for_a_command(rt: HostRuntime) {
+    run(&rt, rt.alloc(), &QUEUE_RETIRES);
+}
+
+#[test]
+fn a_reap_wakes_who_waits_for_a_command(rt: HostRuntime) {
+    run(&rt, rt.alloc(), &COMMAND_IS_REAPED);
+}
+
+#[test]
+fn a_completion_wakes_the_poller(rt: HostRuntime) {
+    run(&rt, rt.alloc(), &COMMAND_COMPLETES);
+}
+
+#[test]
+fn a_forged_completion_wakes_the_poller(rt: HostRuntime) {
+    run(&rt, rt.alloc(), &COMPLETION_IS_FORGED);
 }
 
 #[test]
