@@ -87,8 +87,8 @@ fn threads<R: AllocGlobal + Files + Input + Print + Sync + Threads + Wait>(
 
 /// The image that a run begins with: the bytes of a file, or zeros.
 fn open_image<R: AllocGlobal + Files>(rt: &R, options: Options<'_>) -> Result<Image, ImageFault>
-    ensures zeros { options.image ≡ None → IfOk result (λ image. image ≡ replicate (512 * options.blocks) 0) }
-    ensures no_zeros { options.image ≡ None → IfErr result (λ fault. (fault ≡ image_fault.Memory) ⊎ ((fault ≡ image_fault.BadLength) × ((options.blocks ≡ 0) ⊎ (most_blocks < options.blocks)))) }
+    ensures zeros { options.entry.image ≡ None → IfOk result (λ image. image ≡ replicate (512 * options.entry.blocks) 0) }
+    ensures no_zeros { options.entry.image ≡ None → IfErr result (λ fault. (fault ≡ image_fault.Memory) ⊎ ((fault ≡ image_fault.BadLength) × ((options.entry.blocks ≡ 0) ⊎ (most_blocks < options.entry.blocks)))) }
 {
     match options.image {
         Some(path) => {
