@@ -1,9 +1,12 @@
-//! The command line of `nvmesgl`: its commands and options, its help texts, and its faults with their exit statuses.
+//! The command line of `nvmesgl`: its commands and options, what its words ask for, and its help texts.
+//!
+//! [`words`] has the words that were typed, and [`CommandLine::parse`] says what they ask for. `specs/Commands.antt` has the commands and
+//! options, `specs/Asked.antt` what words ask for, and [`worked`] computes some command lines.
 #![tactic(auto)]
 
 mod arguments;
-mod fault;
+mod commands;
 mod help;
+pub mod worked;
 
-pub use arguments::{Options, command, submitters, words};
-pub use fault::Fault;
+pub use arguments::{CommandLine, Options, words};

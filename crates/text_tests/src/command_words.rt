@@ -1,8 +1,11 @@
-//! What the words of the command line may be.
+//! What the words of a command line may be, and what they ask for.
 
 ghost use Rattle.std.specs.Io.{WritesAtMost};
 
-use command_line::{Fault, command, submitters, words};
+use block_image::Image;
+use command_line::{CommandLine, Options, words};
+use program::Fault;
+use script_cli::{RunFault, run_steps};
 use std::alloc::Global;
 use std::env::{Env, FillError};
 use std::test::Fail;
@@ -36,11 +39,13 @@ impl Env for Line {
 }
 
 /// The exit status of a command line that is refused for its words; none of one that is taken.
-fn refused(alloc: Global, given: [&'static [u8]; 4]) -> Option<u8> {
+fn refused<R: Print + Eprint>(rt: &R, alloc: Global, given: [&'static [u8]; 4]) -> Option<u8> {
     match words(&(Line { words: given }, alloc)) {
         Ok(_) => None,
-        Err(fault @ Fault::Arguments(_)) => Some(fault.exit_status()),
-        Err(_) => Some(0),
+        Err(why) => match Fault::shown(rt, why) {
+            Ok(()) => Some(0),
+            Err(fault) => Some(fault.exit_status()),
+        },
     }
 }
 
@@ -53,43 +58,157 @@ fn words_are_text(rt: HostRuntime) -> Result<(), Fail> {
         (b"steps", b"\xC3", Some(2)),
     ] {
         let given = [b"nvmesgl".as_slice(), second, b"--image", fourth];
-        seen.same_at(second, refused(rt.alloc(), given), status);
+        seen.same_at(second, refused(&rt, rt.alloc(), given), status);
     }
     Ok(seen.end()?)
 }
 
-/// Whether a command line of these words is one, and how many submitters it asks for: an exit status where they are too few or too many.
-fn asked(alloc: Global, given: &[&str]) -> Result<Option<Result<u16, u8>>, Fail> {
-    let Ok(matches) = command(alloc)?.try_get_matches_from(given) else {
-        return Ok(None);
-    };
-    let threads = matches.subcommand_matches("threads").ok_or("no command")?;
-    match submitters(alloc, threads) {
-        Ok(number) => Ok(Some(Ok(number))),
-        Err(fault) => Ok(Some(Err(fault.exit_status()))),
+/// How many submitters there are, of `threads`; the pages, queues, entries, segment and blocks; and the path of an image.
+type Given<'a> = (Option<u16>, [u32; 5], Option<&'a str>);
+
+/// What is given where nothing is.
+const USUAL: [u32; 5] = [16, 1, 4, 256, 64];
+
+/// Each option by itself, with values away from the usual one, its ends among them.
+const TYPED: [(&str, &str, [u32; 5], Option<&str>); 12] = [
+    ("--pages", "8", [8, 1, 4, 256, 64], None),
+    ("--pages", "65536", [65_536, 1, 4, 256, 64], None),
+    ("--queues", "2", [16, 2, 4, 256, 64], None),
+    ("--queues", "64", [16, 64, 4, 256, 64], None),
+    ("--entries", "2", [16, 1, 2, 256, 64], None),
+    ("--entries", "1024", [16, 1, 1_024, 256, 64], None),
+    ("--segment", "2", [16, 1, 4, 2, 64], None),
+    ("--segment", "255", [16, 1, 4, 255, 64], None),
+    ("--blocks", "1", [16, 1, 4, 256, 1], None),
+    ("--blocks", "65536", [16, 1, 4, 256, 65_536], None),
+    ("--image", "disk", USUAL, Some("disk")),
+    ("--image", "a b", USUAL, Some("a b")),
+];
+
+/// All options at once, but for the number of submitters.
+const ALL_WORDS: [&str; 11] = [
+    "nvmesgl",
+    "steps",
+    "--image=disk",
+    "--blocks",
+    "65535",
+    "--segment=3",
+    "--entries",
+    "1023",
+    "--queues=63",
+    "--pages",
+    "65535",
+];
+
+/// What those words give.
+const ALL: [u32; 5] = [65_535, 63, 1_023, 3, 65_535];
+
+/// The options, as they are compared.
+fn given_by<'a>(submitters: Option<u16>, options: Options<'a>) -> Given<'a> {
+    let config = options.config;
+    let numbers = [
+        config.pages,
+        config.queues,
+        config.entries,
+        config.segment,
+        options.blocks,
+    ];
+    (submitters, numbers, options.image)
+}
+
+/// What words ask for; nothing where they are refused.
+fn asked<'a>(alloc: Global, words: &'a [&'a str]) -> Option<Given<'a>> {
+    match CommandLine::parse(alloc, words) {
+        Ok(CommandLine::Steps(options)) => Some(given_by(None, options)),
+        Ok(CommandLine::Threads(options, submitters)) => Some(given_by(Some(submitters), options)),
+        Err(_) => None,
     }
+}
+
+#[test]
+fn options_are_what_was_typed(rt: HostRuntime) -> Result<(), Fail> {
+    let mut seen = Seen::new(rt.alloc());
+    for (option, value, numbers, image) in TYPED {
+        for (command, submitters) in [("steps", None), ("threads", Some(2))] {
+            let words = ["nvmesgl", command, option, value];
+            let wanted = Some((submitters, numbers, image));
+            seen.same_at(value, asked(rt.alloc(), &words), wanted);
+        }
+    }
+    let all = asked(rt.alloc(), &ALL_WORDS);
+    seen.same(all, Some((None, ALL, Some("disk"))));
+    Ok(seen.end()?)
 }
 
 #[test]
 fn submitters_are_one_to_sixteen(rt: HostRuntime) -> Result<(), Fail> {
     let mut seen = Seen::new(rt.alloc());
-    for (command, value, wanted) in [
-        ("threads", "1", Some(Ok(1))),
-        ("threads", "16", Some(Ok(16))),
-        ("threads", "+5", Some(Ok(5))),
-        ("threads", "007", Some(Ok(7))),
-        ("threads", "0", Some(Err(2))),
-        ("threads", "17", Some(Err(2))),
-        ("threads", "65537", Some(Err(2))),
-        ("threads", "4294967295", Some(Err(2))),
+    for (command, value, submitters) in [
+        ("threads", "1", Some(1)),
+        ("threads", "3", Some(3)),
+        ("threads", "16", Some(16)),
+        ("threads", "+5", Some(5)),
+        ("threads", "007", Some(7)),
+        ("threads", "0", None),
+        ("threads", "17", None),
+        ("threads", "65537", None),
+        ("threads", "4294967295", None),
         ("threads", "-1", None),
         ("threads", "two", None),
         ("steps", "2", None),
     ] {
-        let given = ["nvmesgl", command, "--submitters", value];
-        seen.same_at(value, asked(rt.alloc(), &given)?, wanted);
+        let words = ["nvmesgl", command, "--submitters", value];
+        let wanted = submitters.map(|number| (Some(number), USUAL, None));
+        seen.same_at(value, asked(rt.alloc(), &words), wanted);
     }
-    let usual = asked(rt.alloc(), &["nvmesgl", "threads"])?;
-    seen.same(usual, Some(Ok(2)));
+    Ok(seen.end()?)
+}
+
+/// How a command line with these words ends, over an empty script.
+fn end(alloc: Global, words: &[&str]) -> &'static str {
+    let Ok(CommandLine::Steps(options)) = CommandLine::parse(alloc, words) else {
+        return "arguments";
+    };
+    let Ok(image) = Image::zeroed(alloc, options.blocks) else {
+        return "image: BadLength";
+    };
+    let mut reader = b"".as_slice();
+    let mut writer = Vec::new(alloc);
+    match run_steps(alloc, options.config, image, &mut reader, &mut writer) {
+        Ok(()) => "done",
+        Err(RunFault::BadConfig) => "open: BadConfig",
+        Err(_) => "another fault",
+    }
+}
+
+/// Each option just inside of its range, and outside.
+#[test]
+fn numbers_out_of_range_are_refused(rt: HostRuntime) -> Result<(), Fail> {
+    let mut seen = Seen::new(rt.alloc());
+    for (option, value, wanted) in [
+        ("--pages", "8", "done"),
+        ("--pages", "7", "open: BadConfig"),
+        ("--pages", "65537", "open: BadConfig"),
+        ("--queues", "0", "open: BadConfig"),
+        ("--queues", "65", "open: BadConfig"),
+        ("--entries", "2", "done"),
+        ("--entries", "1", "open: BadConfig"),
+        ("--entries", "1025", "open: BadConfig"),
+        ("--segment", "2", "done"),
+        ("--segment", "1", "open: BadConfig"),
+        ("--segment", "257", "open: BadConfig"),
+        ("--blocks", "1", "done"),
+        ("--blocks", "0", "image: BadLength"),
+        ("--blocks", "65537", "image: BadLength"),
+        ("--pages", "4294967296", "arguments"),
+        ("--queues", "two", "arguments"),
+        ("--entries", "0x2", "arguments"),
+        ("--segment", " 2", "arguments"),
+        ("--blocks", "-1", "arguments"),
+        ("--page", "8", "arguments"),
+    ] {
+        let words = ["nvmesgl", "steps", option, value];
+        seen.same_at(value, end(rt.alloc(), &words), wanted);
+    }
     Ok(seen.end()?)
 }

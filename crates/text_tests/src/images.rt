@@ -17,15 +17,8 @@ fn an_image_has_its_bytes(rt: HostRuntime) -> Result<(), Fail> {
     Ok(())
 }
 
-/// The image has bytes of its own.
-#[test]
-fn an_image_is_read(rt: HostRuntime) -> Result<(), Fail> {
-    let image = striped(rt.alloc())?;
-    let output = played(
-        rt.alloc(),
-        USUAL,
-        image,
-        "reserve 1 read 1 1 0+512
+/// The second block is read, and then the one behind the last.
+const BLOCK_AND_BEYOND: &str = "reserve 1 read 1 1 0+512
 build 1 0
 submit 1 0
 ring 1
@@ -48,12 +41,10 @@ reap 1
 collect 1 0
 gather 1 0
 release 1 0
-",
-    )?;
-    same(
-        &rt,
-        output.as_str(),
-        "1 reserve q 1 cid 0 data 1 chain 0
+";
+
+/// What that prints over two unlike blocks.
+const BLOCK_AND_BEYOND_PRINTS: &str = "1 reserve q 1 cid 0 data 1 chain 0
 2 build ok
 3 submit ok
 4 ring ok
@@ -77,20 +68,19 @@ release 1 0
 22 gather 00*512
 23 release ok
 counts free 12 queue 4 chain 0 data 0
-",
-    );
+";
+
+/// The image has bytes of its own.
+#[test]
+fn an_image_is_read(rt: HostRuntime) -> Result<(), Fail> {
+    let image = striped(rt.alloc())?;
+    let output = played(rt.alloc(), USUAL, image, BLOCK_AND_BEYOND)?;
+    same(&rt, output.as_str(), BLOCK_AND_BEYOND_PRINTS);
     Ok(())
 }
 
-/// Of two unlike blocks the second is discarded, and then the first.
-#[test]
-fn the_other_block_is_kept(rt: HostRuntime) -> Result<(), Fail> {
-    let image = striped(rt.alloc())?;
-    let output = played(
-        rt.alloc(),
-        USUAL,
-        image,
-        "reserve 1 read 0 2 0+512 x512
+/// Two blocks are read, of which the second is discarded, and then the first.
+const EITHER_BLOCK: &str = "reserve 1 read 0 2 0+512 x512
 build 1 0
 submit 1 0
 ring 1
@@ -118,12 +108,10 @@ reap 1
 collect 1 0
 gather 1 0
 release 1 0
-",
-    )?;
-    same(
-        &rt,
-        output.as_str(),
-        "1 reserve q 1 cid 0 data 1 chain 1
+";
+
+/// What that prints over two unlike blocks.
+const EITHER_BLOCK_PRINTS: &str = "1 reserve q 1 cid 0 data 1 chain 1
 2 build ok
 3 submit ok
 4 ring ok
@@ -152,7 +140,13 @@ release 1 0
 27 gather 22*512
 28 release ok
 counts free 12 queue 4 chain 0 data 0
-",
-    );
+";
+
+/// Of two unlike blocks the second is discarded, and then the first.
+#[test]
+fn the_other_block_is_kept(rt: HostRuntime) -> Result<(), Fail> {
+    let image = striped(rt.alloc())?;
+    let output = played(rt.alloc(), USUAL, image, EITHER_BLOCK)?;
+    same(&rt, output.as_str(), EITHER_BLOCK_PRINTS);
     Ok(())
 }

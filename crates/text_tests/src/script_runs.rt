@@ -84,42 +84,42 @@ fn said(
     Ok((end, writer.taken))
 }
 
+/// What a run without steps prints over the usual pool.
+const COUNTS: &str = "counts free 12 queue 4 chain 0 data 0\n";
+
+/// A pool that is too small for any host.
+const TOO_SMALL: Config = Config { pages: 7, ..USUAL };
+
+/// A pool that is too small for its queues.
+const NO_ROOM: Config = Config {
+    pages: 8,
+    queues: 4,
+    ..USUAL
+};
+
+/// Scripts, whether their reader fails, the pool, the room of their writer, how they end, and what is written.
+const ENDS: [(&str, bool, Config, usize, &str, &str); 9] = [
+    ("", false, USUAL, 100, "done", COUNTS),
+    ("# nothing\n\n", false, USUAL, 100, "done", COUNTS),
+    ("", false, USUAL, 10, "output failed, 3", "counts fre"),
+    ("raed 1", false, USUAL, 100, "line 1: UnknownVerb, 1", ""),
+    ("raed 1", false, USUAL, 0, "line 1: UnknownVerb, 1", ""),
+    ("raed 1", true, USUAL, 100, "script: unreadable, 1", ""),
+    ("", false, TOO_SMALL, 100, "open: BadConfig, 2", ""),
+    (
+        "",
+        false,
+        NO_ROOM,
+        100,
+        "open: NoPages need 10 free 8, 2",
+        "",
+    ),
+    ("ring", false, TOO_SMALL, 100, "line 1: MissingWord, 1", ""),
+];
+
 #[test]
 fn runs_end(rt: HostRuntime) -> Result<(), Fail> {
-    let small = Config { pages: 8, ..USUAL };
-    let counts = "counts free 12 queue 4 chain 0 data 0\n";
-    for (text, fails, config, room, end, written) in [
-        ("", false, USUAL, 100, "done", counts),
-        ("# nothing\n\n", false, USUAL, 100, "done", counts),
-        ("", false, USUAL, 10, "output failed, 3", "counts fre"),
-        ("raed 1", false, USUAL, 100, "line 1: UnknownVerb, 1", ""),
-        ("raed 1", false, USUAL, 0, "line 1: UnknownVerb, 1", ""),
-        ("raed 1", true, USUAL, 100, "script: unreadable, 1", ""),
-        (
-            "",
-            false,
-            Config { pages: 7, ..USUAL },
-            100,
-            "open: BadConfig, 2",
-            "",
-        ),
-        (
-            "",
-            false,
-            Config { queues: 4, ..small },
-            100,
-            "open: NoPages need 10 free 8, 2",
-            "",
-        ),
-        (
-            "ring",
-            false,
-            Config { pages: 7, ..USUAL },
-            100,
-            "line 1: MissingWord, 1",
-            "",
-        ),
-    ] {
+    for (text, fails, config, room, end, written) in ENDS {
         let mut reader = Slow {
             rest: text.as_bytes(),
             fails,
@@ -172,9 +172,8 @@ impl Read for Comments {
 /// A script of 1,048,576 bytes is played, however slowly it comes. Of a longer one nothing is.
 #[test]
 fn readers_of_the_most_bytes(rt: HostRuntime) -> Result<(), Fail> {
-    let counts = "counts free 12 queue 4 chain 0 data 0\n";
     for (most, end, written) in [
-        (1_048_576, Ok(()), counts),
+        (1_048_576, Ok(()), COUNTS),
         (1_048_577, Err(RunFault::TooLong), ""),
     ] {
         let Ok(image) = Image::zeroed(rt.alloc(), 1) else {

@@ -109,47 +109,43 @@ fn a_reserve(rt: HostRuntime) -> Result<(), Fail> {
 }
 
 #[test]
-fn replies_and_counts(rt: HostRuntime) -> Result<(), Fail> {
+fn replies(rt: HostRuntime) -> Result<(), Fail> {
     let mut out = String::new(rt.alloc());
-    let reserve = Verb::Reserve;
-    let reap = Verb::OnQueue(QueueVerb::Reap);
+    let (q, cid, data, chain) = (1, 0, 1, 0);
     let status = Status::COMPARE_FAILURE;
     let zeros = Bytes::from_vec(vec![in rt.alloc(); 0; 512]?);
-    append_reply(
-        &mut out,
-        1,
-        reserve,
-        &Reply::Reserved {
-            q: 1,
-            cid: 0,
-            data: 1,
-            chain: 0,
-        },
-    )?;
-    append_reply(
-        &mut out,
-        2,
-        Verb::OnCommand(CommandVerb::Build),
-        &Reply::Accepted,
-    )?;
-    append_reply(
-        &mut out,
-        3,
-        reap,
-        &Reply::Reaps(Reaped::Done { cid: 7, status }),
-    )?;
-    append_reply(
-        &mut out,
-        4,
-        Verb::OnCommand(CommandVerb::Gather),
-        &Reply::Gathered(zeros),
-    )?;
-    append_reply(
-        &mut out,
-        5,
-        Verb::Fill,
-        &Reply::NotFilled(FillFault::WrongLength),
-    )?;
+    let replies = [
+        (
+            Verb::Reserve,
+            Reply::Reserved {
+                q,
+                cid,
+                data,
+                chain,
+            },
+        ),
+        (Verb::OnCommand(CommandVerb::Build), Reply::Accepted),
+        (
+            Verb::OnQueue(QueueVerb::Reap),
+            Reply::Reaps(Reaped::Done { cid: 7, status }),
+        ),
+        (Verb::OnCommand(CommandVerb::Gather), Reply::Gathered(zeros)),
+        (Verb::Fill, Reply::NotFilled(FillFault::WrongLength)),
+    ];
+    for ((verb, reply), number) in replies.iter().zip(1..6u32) {
+        append_reply(&mut out, number, *verb, reply)?;
+    }
+    same(
+        &rt,
+        out.as_str(),
+        "1 reserve q 1 cid 0 data 1 chain 0\n2 build ok\n3 reap done cid 7 status 2:85\n4 gather 00*512\n5 fill refused WrongLength\n",
+    );
+    Ok(())
+}
+
+#[test]
+fn counts(rt: HostRuntime) -> Result<(), Fail> {
+    let mut out = String::new(rt.alloc());
     append_counts(
         &mut out,
         Counts {
@@ -159,11 +155,7 @@ fn replies_and_counts(rt: HostRuntime) -> Result<(), Fail> {
             data_pages: 0,
         },
     )?;
-    same(
-        &rt,
-        out.as_str(),
-        "1 reserve q 1 cid 0 data 1 chain 0\n2 build ok\n3 reap done cid 7 status 2:85\n4 gather 00*512\n5 fill refused WrongLength\ncounts free 12 queue 4 chain 0 data 0\n",
-    );
+    same(&rt, out.as_str(), "counts free 12 queue 4 chain 0 data 0\n");
     Ok(())
 }
 

@@ -1,0 +1,42 @@
+-- The commands and their options, as a parse reads them.
+use Rattle.std.specs.Prelude.{pos, true, [], ◌∷◌, Some, codes}
+use Rattle.clap.specs.Words.{App, Rule, Text, new_app, new_rule, with_rule, with_subcommand}
+use Rattle.clap.specs.declared.builder.value_parser.ValueParser.TheVariants.{Signed}
+
+-- an option with a value: `--NAME VALUE` or `--NAME=VALUE`
+abbrev pub option_rule : Text → Rule
+option_rule name = record (new_rule name) { long = Some name; value_names = 1 }
+
+-- an option that is a number below 2^32, with its usual value as a text
+abbrev pub number_rule : Text → Text → Rule
+number_rule name usual = record (option_rule name) {
+  parser = Some (Signed (pos 0) (pos 4294967295));
+  defaults = usual ∷ [];
+}
+
+-- a command with the options that both have
+abbrev pub with_options : App → App
+with_options command = with_rule
+    (with_rule
+    (with_rule
+    (with_rule
+    (with_rule
+    (with_rule command (number_rule (codes "pages") (codes "16")))
+    (number_rule (codes "queues") (codes "1")))
+    (number_rule (codes "entries") (codes "4")))
+    (number_rule (codes "segment") (codes "256")))
+    (number_rule (codes "blocks") (codes "64")))
+    (option_rule (codes "image"))
+
+abbrev pub steps : App
+steps = with_options (new_app (codes "steps"))
+
+abbrev pub threads : App
+threads = with_options (with_rule (new_app (codes "threads")) (number_rule (codes "submitters") (codes "2")))
+
+-- a command that names neither is none
+abbrev pub named : App
+named = record { top = record (new_app (codes "nvmesgl")).top { subcommand_required = true }; subs = [] }
+
+abbrev pub nvmesgl : App
+nvmesgl = with_subcommand (with_subcommand named steps.top) threads.top

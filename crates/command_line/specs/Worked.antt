@@ -1,0 +1,43 @@
+-- Worked command lines.
+use Rattle.std.specs.Prelude.{List, [], ◌∷◌, None, Some, codes}
+use Rattle.clap.specs.Words.{Text}
+use Rattle.command_line.specs.Asked.{Given}
+
+-- what is given where nothing is
+abbrev pub usual : Given
+usual = record {
+  config = record { pages = 16; queues = 1; entries = 4; segment = 256 };
+  blocks = 64;
+  image = None;
+}
+
+-- the words of a command
+abbrev pub steps_with : List Text → List Text
+steps_with options = codes "nvmesgl" ∷ codes "steps" ∷ options
+
+abbrev pub threads_with : List Text → List Text
+threads_with options = codes "nvmesgl" ∷ codes "threads" ∷ options
+
+-- each option at its end that is farther from the usual value
+abbrev pub extreme_words : List Text
+extreme_words =
+    codes "--pages" ∷ codes "65536" ∷ codes "--queues" ∷ codes "64" ∷ codes "--entries" ∷ codes "1024" ∷ codes "--segment" ∷ codes "2"
+    ∷ codes "--blocks" ∷ codes "65536" ∷ []
+
+abbrev pub extreme : Given
+extreme = record {
+  config = record { pages = 65536; queues = 64; entries = 1024; segment = 2 };
+  blocks = 65536;
+  image = None;
+}
+
+-- other values, in another order and other forms
+abbrev pub mixed_words : List Text
+mixed_words = codes "--image=disk" ∷ codes "--blocks=+3" ∷ codes "--segment" ∷ codes "007" ∷ codes "--entries=2" ∷ codes "--queues" ∷ codes "5" ∷ codes "--pages=8" ∷ []
+
+abbrev pub mixed : Given
+mixed = record {
+  config = record { pages = 8; queues = 5; entries = 2; segment = 7 };
+  blocks = 3;
+  image = Some (codes "disk");
+}
