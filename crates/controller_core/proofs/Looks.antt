@@ -1,7 +1,7 @@
 -- What looks at a controller tell of all its commands.
 use Rattle.std.proofs.Common.{◌≡◌, ℕ, zero, suc, ◌+◌, ◌<◌, ◌≤◌, Bool, true, false, Option, Some, None, List, [], ◌∷◌, length, find, if◌then◌else◌, refl, sym, ◌∙◌, subst, arith, below_more}
 use Rattle.std.specs.Prelude.{slice_get}
-use Rattle.page_memory.specs.Memory.{Memory}
+use Rattle.page_memory.specs.Memory.{Memory, TouchesMore}
 use Rattle.controller_core.specs.Contents.{Contents, FetchedCommand, entry_of_work, is_command}
 use Rattle.controller_core.specs.Looks.{IsStuck, name_at}
 use Rattle.controller_core.proofs.Lists.{some_is}
@@ -47,3 +47,7 @@ all_stuck c m n past below q cid = go (find (is_command q cid) c.commands) refl
         let is = named q cid c.commands x found in
         let stuck : IsStuck c m x.q (entry_of_work x.work).cid = below k (omega arith) x at in
         subst (λ (cid : ℕ). IsStuck c m q cid) is.1 (subst (λ (q : ℕ). IsStuck c m q (entry_of_work x.work).cid) is.0 stuck)
+
+-- a look that touches nothing more
+pub no_more_touches : (u0 u u' : ℕ) (reached0 reached reached' : List ℕ) → TouchesMore u0 reached0 0 u reached → TouchesMore u reached 0 u' reached' → TouchesMore u0 reached0 0 u' reached'
+no_more_touches u0 u u' reached0 reached reached' before now = omega (arith, before, now)

@@ -34,6 +34,7 @@ pub(crate) fn post_completion<D: Dma>(
     ensures written { OnOk result (D.memory dma.new ≡ memory_posted (D.memory dma.old) pair.old (completion_by q cid status dw0 pair.old)) }
     ensures touched { OnOk result (D.reached dma.new ≡ D.reached dma.old ++ page_posted pair.old ∷ []) }
     ensures refused { OnErr result ((pair.new ≡ pair.old) × (D.memory dma.new ≡ D.memory dma.old) × (D.reached dma.new ≡ D.reached dma.old)) }
+    ensures unlisted { D.unlisted dma.new ≡ D.unlisted dma.old }
     ensures pool { D.page_count dma.new ≡ D.page_count dma.old }
 {
     let completion = ComEntry {
@@ -66,6 +67,7 @@ pub(crate) fn answer<A: Allocator, D: Dma>(
     ensures refusal { result_err result ≡ answer_refusal queues.old.items (D.memory dma.old) q }
     ensures posts { OnOk result (Posts queues.old.items q cid status dw0 (D.memory dma.old) (D.reached dma.old) queues.new.items (D.memory dma.new) (D.reached dma.new)) }
     ensures refused { OnErr result ((queues.new.items ≡ queues.old.items) × (D.memory dma.new ≡ D.memory dma.old) × (D.reached dma.new ≡ D.reached dma.old)) }
+    ensures unlisted { D.unlisted dma.new ≡ D.unlisted dma.old }
     ensures pool { D.page_count dma.new ≡ D.page_count dma.old }
 {
     post_completion(&mut queues[usize::from(q)].device, q, cid, status, dw0, dma)

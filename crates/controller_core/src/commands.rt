@@ -100,6 +100,7 @@ impl<A: Allocator> Commands<A> {
         requires room { length (D.reached dma.old) ≤ 2 }
         ensures among { WalksAmong self.old.list q cid (D.memory dma.old) (D.reached dma.old) result self.new.list (D.memory dma.new) (D.reached dma.new) }
         ensures queues { self.new.queues ≡ self.old.queues }
+        ensures unlisted { D.unlisted dma.new ≡ D.unlisted dma.old }
         ensures pool { D.page_count dma.new ≡ D.page_count dma.old }
     {
         match self.table.get_mut(q, cid) {

@@ -117,6 +117,7 @@ impl<A: Allocator> Controller<A> {
         ensures refused { OnErr result ((self.new ≡ self.old) × (D.memory dma.new ≡ D.memory dma.old) × (D.reached dma.new ≡ D.reached dma.old)) }
         ensures completes { OnOk result (CompletesTo self.old q cid (D.memory dma.old) (D.reached dma.old) self.new (D.memory dma.new) (D.reached dma.new)) }
         ensures sound { IsController self.new }
+        ensures unlisted { D.unlisted dma.new ≡ D.unlisted dma.old }
         ensures pool { D.page_count dma.new ≡ D.page_count dma.old }
     {
         self.check_complete(q, cid)?;

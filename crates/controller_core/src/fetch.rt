@@ -47,6 +47,7 @@ fn head_entry<D: Dma>(pair: &DevicePair, dma: &mut D) -> Result<SubEntry, Refusa
     ensures touched { OnOk result (D.reached dma.new ≡ D.reached dma.old ++ submission_page pair.now.sq pair.now.ring.head ∷ []) }
     ensures untouched { OnErr result (D.reached dma.new ≡ D.reached dma.old) }
     ensures memory { D.memory dma.new ≡ D.memory dma.old }
+    ensures unlisted { D.unlisted dma.new ≡ D.unlisted dma.old }
     ensures pool { D.page_count dma.new ≡ D.page_count dma.old }
 {
     match pair.next_entry(dma) {
@@ -66,6 +67,7 @@ impl ControllerQueue {
         ensures written { OnOk result (D.memory dma.new ≡ memory_posted (D.memory dma.old) self.old.device (completion_by q cid COMMAND_ID_CONFLICT 0 (with_taken self.old).device)) }
         ensures touched { OnOk result (D.reached dma.new ≡ D.reached dma.old ++ page_posted self.old.device ∷ []) }
         ensures refused { OnErr result ((self.new ≡ self.old) × (D.memory dma.new ≡ D.memory dma.old) × (D.reached dma.new ≡ D.reached dma.old)) }
+        ensures unlisted { D.unlisted dma.new ≡ D.unlisted dma.old }
         ensures pool { D.page_count dma.new ≡ D.page_count dma.old }
     {
         let mut pair = self.device;
@@ -99,6 +101,7 @@ fn answer_in<A: Allocator, D: Dma>(
     ensures answers { OnOk result (AnswersKnown queues.old.items q cid (D.memory dma.old) (D.reached dma.old) queues.new.items (D.memory dma.new) (D.reached dma.new)) }
     ensures count { length queues.new.items ≡ length queues.old.items }
     ensures refused { OnErr result ((queues.new.items ≡ queues.old.items) × (D.memory dma.new ≡ D.memory dma.old) × (D.reached dma.new ≡ D.reached dma.old)) }
+    ensures unlisted { D.unlisted dma.new ≡ D.unlisted dma.old }
     ensures pool { D.page_count dma.new ≡ D.page_count dma.old }
 {
     queues[usize::from(q)].answer_taken(q, cid, dma)
@@ -124,6 +127,7 @@ impl<A: Allocator + Copy> Controller<A> {
         ensures looks { IfOk result (λ e. LooksAt self.now (D.memory dma.old) (D.reached dma.old) q e (D.reached dma.new)) }
         ensures untouched { OnErr result (D.reached dma.new ≡ D.reached dma.old) }
         ensures memory { D.memory dma.new ≡ D.memory dma.old }
+        ensures unlisted { D.unlisted dma.new ≡ D.unlisted dma.old }
         ensures pool { D.page_count dma.new ≡ D.page_count dma.old }
     {
         let Some(pair) = live_pair(&self.queues, q) else {
@@ -187,6 +191,7 @@ impl<A: Allocator + Copy> Controller<A> {
         requires room { length (D.reached dma.old) ≤ 1 }
         ensures fetches { Fetches self.old (D.page_count dma.old) (D.memory dma.old) (D.reached dma.old) q result self.new (D.memory dma.new) (D.reached dma.new) }
         ensures sound { IsController self.new }
+        ensures unlisted { D.unlisted dma.new ≡ D.unlisted dma.old }
         ensures pool { D.page_count dma.new ≡ D.page_count dma.old }
     {
         let entry = self.look(q, dma)?;

@@ -1,9 +1,10 @@
 //! What the controller can do: a look that changes nothing but the touched list, for an emulator that asks before it calls.
 
-ghost use Rattle.std.specs.Prelude.{◌≡◌, ◌<◌, ◌≤◌, ℕ, [], false, is_none, None, IfSome, IfNone, length};
+ghost use Rattle.std.specs.Prelude.{◌≡◌, ◌+◌, ◌<◌, ◌≤◌, ℕ, [], false, is_none, None, IfSome, IfNone, length};
 ghost use Rattle.controller_core.specs.Answering.{answer_refusal, post_refusal};
 ghost use Rattle.controller_core.specs.Fetching.{fetch_refusal};
-ghost use Rattle.controller_core.specs.Looks.{refusal_by, IsAtRest, IsStuck};
+ghost use Rattle.controller_core.specs.Looks.{refusal_by, IsAtRest, IsStuck, post_touches, answer_touches, fetch_touches, fetches_touch, command_touches, looked};
+ghost use Rattle.page_memory.specs.Memory.{counted, TouchesMore};
 
 use crate::controller::Controller;
 use crate::queue::ControllerQueue;
@@ -40,6 +41,8 @@ pub enum ControllerStep {
 fn post_cause<D: Dma>(pair: &DevicePair, dma: &mut D) -> Option<Refusal>
     requires room { length (D.reached dma.old) ≤ 2 }
     ensures cause { result ≡ post_refusal (D.memory dma.old) pair.now }
+    ensures touched { length (D.reached dma.new) ≡ length (D.reached dma.old) + post_touches (D.memory dma.old) pair.now }
+    ensures unlisted { D.unlisted dma.new ≡ D.unlisted dma.old }
     ensures memory { D.memory dma.new ≡ D.memory dma.old }
     ensures pool { D.page_count dma.new ≡ D.page_count dma.old }
 {
@@ -57,6 +60,8 @@ fn post_cause<D: Dma>(pair: &DevicePair, dma: &mut D) -> Option<Refusal>
 fn answer_cause<D: Dma>(queues: &[ControllerQueue], q: u16, dma: &mut D) -> Option<Refusal>
     requires room { length (D.reached dma.old) ≤ 2 }
     ensures cause { result ≡ answer_refusal queues.now (D.memory dma.old) q }
+    ensures touched { length (D.reached dma.new) ≡ length (D.reached dma.old) + answer_touches queues.now (D.memory dma.old) q }
+    ensures unlisted { D.unlisted dma.new ≡ D.unlisted dma.old }
     ensures memory { D.memory dma.new ≡ D.memory dma.old }
     ensures pool { D.page_count dma.new ≡ D.page_count dma.old }
 {
@@ -70,6 +75,7 @@ impl<A: Allocator + Copy> Controller<A> {
     /// Whether an entry of a queue can be fetched.
     fn can_fetch<D: TouchRecord>(&self, q: u16, dma: &mut D) -> bool
         ensures answer { result ≡ is_none (fetch_refusal self.now (D.memory dma.old) q) }
+        ensures touches { TouchesMore (D.unlisted dma.old) (D.reached dma.old) (fetch_touches self.now (D.memory dma.old) q) (D.unlisted dma.new) (D.reached dma.new) }
         ensures memory { D.memory dma.new ≡ D.memory dma.old }
         ensures pool { D.page_count dma.new ≡ D.page_count dma.old }
     {
@@ -90,6 +96,7 @@ impl<A: Allocator + Copy> Controller<A> {
     fn next_fetch<D: TouchRecord>(&self, dma: &mut D) -> Option<u16>
         ensures some { IfSome result (λ q. fetch_refusal self.now (D.memory dma.old) q ≡ None) }
         ensures none { IfNone result ((q : ℕ) → q < 65536 → is_none (fetch_refusal self.now (D.memory dma.old) q) ≡ false) }
+        ensures touches { TouchesMore (D.unlisted dma.old) (D.reached dma.old) (fetches_touch self.now (D.memory dma.old) result) (D.unlisted dma.new) (D.reached dma.new) }
         ensures memory { D.memory dma.new ≡ D.memory dma.old }
         ensures pool { D.page_count dma.new ≡ D.page_count dma.old }
     {
@@ -106,6 +113,7 @@ impl<A: Allocator + Copy> Controller<A> {
     fn step_of<D: TouchRecord>(&self, q: u16, cid: u16, dma: &mut D) -> Option<ControllerStep>
         ensures some { IfSome result (λ step. refusal_by self.now (D.memory dma.old) step ≡ None) }
         ensures none { IfNone result (IsStuck self.now (D.memory dma.old) q cid) }
+        ensures touches { TouchesMore (D.unlisted dma.old) (D.reached dma.old) (command_touches self.now (D.memory dma.old) result) (D.unlisted dma.new) (D.reached dma.new) }
         ensures memory { D.memory dma.new ≡ D.memory dma.old }
         ensures pool { D.page_count dma.new ≡ D.page_count dma.old }
     {
@@ -126,6 +134,7 @@ impl<A: Allocator + Copy> Controller<A> {
     fn next_of_commands<D: TouchRecord>(&self, dma: &mut D) -> Option<ControllerStep>
         ensures some { IfSome result (λ step. refusal_by self.now (D.memory dma.old) step ≡ None) }
         ensures none { IfNone result ((q cid : ℕ) → IsStuck self.now (D.memory dma.old) q cid) }
+        ensures touches { TouchesMore (D.unlisted dma.old) (D.reached dma.old) (command_touches self.now (D.memory dma.old) result) (D.unlisted dma.new) (D.reached dma.new) }
         ensures memory { D.memory dma.new ≡ D.memory dma.old }
         ensures pool { D.page_count dma.new ≡ D.page_count dma.old }
     {
@@ -144,10 +153,12 @@ impl<A: Allocator + Copy> Controller<A> {
     }
 
     /// A call that the controller can make, if there is one: it is refused for want of memory at most, and `None` says that each call is
-    /// refused for another cause. It makes none. The list of the touched pages is empty then.
+    /// refused for another cause. It makes none. The list of the touched pages is empty then; what the look touched is counted all the same: the
+    /// heads of the queues up to that of which an entry can be fetched, else of all queues, and the slot of a completion that can be posted.
     pub fn next_step<D: TouchRecord>(&self, dma: &mut D) -> Option<ControllerStep>
         ensures possible { IfSome result (λ step. refusal_by self.now (D.memory dma.old) step ≡ None) }
         ensures rest { IfNone result (IsAtRest self.now (D.memory dma.old)) }
+        ensures touches { D.unlisted dma.new ≡ counted (D.unlisted dma.old) (length (D.reached dma.old) + looked self.now (D.memory dma.old) result) }
         ensures cleared { D.reached dma.new ≡ [] }
         ensures memory { D.memory dma.new ≡ D.memory dma.old }
         ensures pool { D.page_count dma.new ≡ D.page_count dma.old }

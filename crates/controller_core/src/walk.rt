@@ -21,6 +21,7 @@ impl<A: Allocator> FetchedCommand<Job<A>> {
         requires few { self.old.units_done ≤ 12545 }
         requires room { length (D.reached dma.old) ≤ 2 }
         ensures walks { WalksOne self.old (D.memory dma.old) (D.reached dma.old) result self.new (D.memory dma.new) (D.reached dma.new) }
+        ensures unlisted { D.unlisted dma.new ≡ D.unlisted dma.old }
         ensures pool { D.page_count dma.new ≡ D.page_count dma.old }
     {
         match &mut self.work {
@@ -68,6 +69,7 @@ impl<A: Allocator> Controller<A> {
         ensures refused { OnErr result ((self.new ≡ self.old) × (D.memory dma.new ≡ D.memory dma.old) × (D.reached dma.new ≡ D.reached dma.old)) }
         ensures walks { IfOk result (λ state. WalksTo self.old q cid (D.memory dma.old) (D.reached dma.old) state self.new (D.memory dma.new) (D.reached dma.new)) }
         ensures sound { IsController self.new }
+        ensures unlisted { D.unlisted dma.new ≡ D.unlisted dma.old }
         ensures pool { D.page_count dma.new ≡ D.page_count dma.old }
     {
         self.commands.check_walk(q, cid)?;

@@ -77,6 +77,7 @@ impl Progress {
         ensures kept { Keeps self result.0 }
         ensures fewer { IfMore result.1 (left_of result.0 < left_of self) }
         ensures reads { reads_first (course (D.memory dma.old) self) + result.0.allowed ≤ self.allowed }
+        ensures unlisted { D.unlisted dma.new ≡ D.unlisted dma.old }
         ensures pool { D.page_count dma.new ≡ D.page_count dma.old }
     {
         match self.state {
@@ -133,6 +134,7 @@ impl Progress {
         ensures kept { Keeps self result.0 }
         ensures fewer { IfMore result.1 (left_of result.0 < 1 + 3 * self.allowed + self.wanted / 4096) }
         ensures reads { reads_first (from_place self.allowed (D.memory dma.old) self.direction self.need cursor self.wanted) + result.0.allowed ≤ self.allowed }
+        ensures unlisted { D.unlisted dma.new ≡ D.unlisted dma.old }
         ensures pool { D.page_count dma.new ≡ D.page_count dma.old }
     {
         if self.allowed == 0 {
@@ -258,6 +260,7 @@ impl Progress {
         ensures kept { Keeps self result.0 }
         ensures fewer { IfMore result.1 (left_of result.0 < 1 + pages_spanned block.place block.len + 3 * self.allowed + self.wanted / 4096) }
         ensures reads { reads_first (moving (D.memory dma.old) (pages_spanned block.place block.len) block.place block.len block.offset (rest_of self.allowed (D.memory dma.old) self.direction self.need after self.wanted)) + result.0.allowed ≤ self.allowed }
+        ensures unlisted { D.unlisted dma.new ≡ D.unlisted dma.old }
         ensures pool { D.page_count dma.new ≡ D.page_count dma.old }
     {
         let n = first_part(block.place, block.len);
@@ -372,6 +375,7 @@ fn transfer<D: Dma>(
     ensures touched { OnOk result (D.reached dma.new ≡ D.reached dma.old ++ pages_reached place n) }
     ensures missing { OnErr result (bytes_at (D.memory dma.old) place n ≡ None) }
     ensures kept { OnErr result ((D.memory dma.new ≡ D.memory dma.old) × (staging.new ≡ staging.old) × (D.reached dma.new ≡ D.reached dma.old)) }
+    ensures unlisted { D.unlisted dma.new ≡ D.unlisted dma.old }
     ensures pool { D.page_count dma.new ≡ D.page_count dma.old }
 {
     match direction {

@@ -87,6 +87,7 @@ impl Walk {
         // So a walk reads at most 4,095 descriptors, whatever becomes of the memory between its steps.
         ensures reads { reads_first (course (D.memory dma.old) self.old) + reads_left self.new ≤ reads_left self.old }
         ensures touches { length (D.reached dma.new) ≤ length (D.reached dma.old) + 2 }
+        ensures unlisted { D.unlisted dma.new ≡ D.unlisted dma.old }
         ensures pool { D.page_count dma.new ≡ D.page_count dma.old }
     {
         let (progress, answer) = self.progress.step(dma, staging);

@@ -122,29 +122,29 @@ empty_book config image fits opens is none zero all number = rw (opens, is, none
 -- What the calls do
 
 -- where something was written
-made : (old new : BookContents) (v : State) (now : List Entry) (spare : ℕ) (seat : Option ℕ) (e : Event) (r : events.Reply) → machine.Step old.world e r v
-    → now ≡ old.log ++ entry seat (asked e) (told r) ∷ [] → new ≡ record old { world = v; log = now; spare = spare }
-    → machine.Step old.world e r new.world × (new ≡ record old { world = new.world; log = old.log ++ entry seat (asked e) (told r) ∷ []; spare = new.spare })
-made old new v now spare seat e r step is left = rw (left, is) (step, refl)
+made : (old new : BookContents) (v : State) (now : List Entry) (spare touches : ℕ) (seat : Option ℕ) (e : Event) (r : events.Reply) → machine.Step old.world e r v
+    → now ≡ old.log ++ entry seat (asked e) (told r) ∷ [] → new ≡ record old { world = v; log = now; spare = spare; touches = touches }
+    → machine.Step old.world e r new.world × (new ≡ record old { world = new.world; log = old.log ++ entry seat (asked e) (told r) ∷ []; spare = new.spare; touches = new.touches })
+made old new v now spare touches seat e r step is left = rw (left, is) (step, refl)
 
-does : (old new : BookContents) (v : State) (now : List Entry) (spare : ℕ) (seat : Option ℕ) (e : Event) (r : events.Reply) → machine.Step old.world e r v
-    → now ≡ old.log ++ entries seat (asked e) (noted r) → new ≡ record old { world = v; log = now; spare = spare }
+does : (old new : BookContents) (v : State) (now : List Entry) (spare touches : ℕ) (seat : Option ℕ) (e : Event) (r : events.Reply) → machine.Step old.world e r v
+    → now ≡ old.log ++ entries seat (asked e) (noted r) → new ≡ record old { world = v; log = now; spare = spare; touches = touches }
     → Does old seat e r new
-does old new v now spare seat e (events.Refused refusal.Memory pages) step is left =
-    let same : new ≡ record old { spare = spare }
+does old new v now spare touches seat e (events.Refused refusal.Memory pages) step is left =
+    let same : new ≡ record old { spare = spare; touches = touches }
     = left
-    ∙ ap (λ (w : State). let x : BookContents = record old { world = w; log = now; spare = spare } in x) step.2
-    ∙ ap (λ (l : List Entry). let x : BookContents = record old { log = l; spare = spare } in x) (is ∙ append-nil old.log) in
+    ∙ ap (λ (w : State). let x : BookContents = record old { world = w; log = now; spare = spare; touches = touches } in x) step.2
+    ∙ ap (λ (l : List Entry). let x : BookContents = record old { log = l; spare = spare; touches = touches } in x) (is ∙ append-nil old.log) in
     rw same refl
-does old new v now spare seat e (events.Refused why pages) step is left = made old new v now spare seat e (events.Refused why pages) step is left
-does old new v now spare seat e r step is left = made old new v now spare seat e r step is left
+does old new v now spare touches seat e (events.Refused why pages) step is left = made old new v now spare touches seat e (events.Refused why pages) step is left
+does old new v now spare touches seat e r step is left = made old new v now spare touches seat e r step is left
 
 -- so with the contents of a book that was opened
-pub does_in : {at old : BookContents} → at ≡ old → (v : State) (now : List Entry) (spare : ℕ) (seat : Option ℕ) (e : Event) (r : events.Reply) → machine.Step at.world e r v
-    → now ≡ at.log ++ entries seat (asked e) (noted r) → Does old seat e r (let new : BookContents = record at { world = v; log = now; spare = spare } in new)
-does_in {at = at} same v now spare seat e r step is =
-    let new : BookContents = record at { world = v; log = now; spare = spare } in
-    rw (← same) (does at new v now spare seat e r step is refl)
+pub does_in : {at old : BookContents} → at ≡ old → (v : State) (now : List Entry) (spare touches : ℕ) (seat : Option ℕ) (e : Event) (r : events.Reply) → machine.Step at.world e r v
+    → now ≡ at.log ++ entries seat (asked e) (noted r) → Does old seat e r (let new : BookContents = record at { world = v; log = now; spare = spare; touches = touches } in new)
+does_in {at = at} same v now spare touches seat e r step is =
+    let new : BookContents = record at { world = v; log = now; spare = spare; touches = touches } in
+    rw (← same) (does at new v now spare touches seat e r step is refl)
 
 -- a fact of the world inside a book
 pub touches_in : (book : BookContents) (w : State) (e : Event) (r : events.Reply) → book.world ≡ w → StaysAllowed w e r → StaysAllowed book.world e r

@@ -27,11 +27,11 @@ entries seat what None = []
 entries seat what (Some answer) = entry seat what answer ∷ []
 
 -- A call that answers want of memory leaves the book as it was. Any other is one step of the world, and the last entry of the log. The log
--- may have got room in either case.
+-- may have got room in either case, and pages may have been touched.
 abbrev pub Does : BookContents → Option ℕ → Event → events.Reply → BookContents → Type 0
-Does old seat e (events.Refused refusal.Memory touched) new = new ≡ record old { spare = new.spare }
+Does old seat e (events.Refused refusal.Memory touched) new = new ≡ record old { spare = new.spare; touches = new.touches }
 Does old seat e r new =
-    machine.Step old.world e r new.world × (new ≡ record old { world = new.world; log = old.log ++ entry seat (asked e) (told r) ∷ []; spare = new.spare })
+    machine.Step old.world e r new.world × (new ≡ record old { world = new.world; log = old.log ++ entry seat (asked e) (told r) ∷ []; spare = new.spare; touches = new.touches })
 
 -- Why memory was wanted
 

@@ -7,11 +7,12 @@ use Rattle.driver_book.specs.History.{LeadsTo, is_accepted, accepted}
 use Rattle.driver_book.specs.Values.{Entry}
 use Rattle.driver_book.specs.declared.log.Receipt.{Receipt}
 
--- A book: the world as it was opened and as it is, the log between, how many seats were made, how many of them no close took, how many
+-- A book: the world as it was opened and as it is, how many pages were touched so far, the log between, how many seats were made, how many of them no close took, how many
 -- submissions the others had, whether the workers are told to stop, and how many entries the log takes before it has to grow.
 pub record BookContents : Type 0 where
   pub opening : State
   pub world : State
+  pub touches : ℕ
   pub log : List Entry
   pub made : ℕ
   pub out : ℕ

@@ -66,9 +66,9 @@ impl<L: Driver, A: Allocator> Model for Book<L, A> {
 
     ghost Value = { BookContents };
 
-    ghost view = { λ b. record { opening = L.opening; world = b.world; log = b.log.items; made = b.made; out = b.out; taken = b.rest.amount; stopping = b.stopping; spare = vec_capacity b.log - vec_len b.log } };
+    ghost view = { λ b. record { opening = L.opening; world = b.world.state; touches = b.world.touches; log = b.log.items; made = b.made; out = b.out; taken = b.rest.amount; stopping = b.stopping; spare = vec_capacity b.log - vec_len b.log } };
 
-    ghost invariant = { λ b. IsBook L.opening b.world b.log.items b.tally.total b.submissions b.rest.parts b.out b.made L.parts };
+    ghost invariant = { λ b. IsBook L.opening b.world.state b.log.items b.tally.total b.submissions b.rest.parts b.out b.made L.parts };
 }
 
 impl<L: Driver, A: Allocator + Copy> Book<L, A> {
@@ -89,7 +89,7 @@ impl<L: Driver, A: Allocator + Copy> Book<L, A> {
         requires number { blank.parts ≡ 65536 }
         requires opening { L.opening ≡ opening_of config image }
         ensures fits { IfOk result (λ book. refusal_of_config config ≡ None) }
-        ensures opened { IfOk result (λ book. book ≡ record { opening = opening_of config image; world = opening_of config image; log = []; made = 0; out = 0; taken = 0; stopping = false; spare = 0 }) }
+        ensures opened { IfOk result (λ book. book ≡ record { opening = opening_of config image; world = opening_of config image; touches = book.touches; log = []; made = 0; out = 0; taken = 0; stopping = false; spare = 0 }) }
         ensures refused { IfErr result (λ refused. RefusesOpening config refused.why) }
         ensures image { IfErr result (λ refused. refused.image ≡ image) }
         ensures blank { IfErr result (λ refused. refused.blank ≡ blank) }
@@ -193,6 +193,13 @@ impl<L: Driver, A: Allocator + Copy> Book<L, A> {
         ensures most { length self.now.world.memory ≤ 65536 }
     {
         self.world.pages()
+    }
+
+    /// How many pages were touched since the world opened ([`step_core::World::touches`]).
+    pub fn touches(&self) -> u64
+        ensures { result ≡ self.now.touches }
+    {
+        self.world.touches()
     }
 
     /// Ends the book and its world. It takes no memory.

@@ -3,7 +3,7 @@
 ghost use Rattle.std.specs.Prelude.{◌≡◌, ◌⊎◌, [], None};
 ghost use Rattle.machine_model.specs.Events as events;
 ghost use Rattle.step_core.specs.Replies.{complete_reply, fetch_reply, walk_reply};
-ghost use Rattle.step_core.specs.Touching.{StaysAllowed};
+ghost use Rattle.step_core.specs.Touching.{StaysAllowed, TellsAll};
 ghost use Rattle.driver_book.specs.Calls.{Does, WantsMemoryFor, IsLogFull, MayWorldWant};
 
 use crate::book::{Book, Driver};
@@ -32,6 +32,7 @@ impl<L: Driver, A: Allocator + Copy> Book<L, A> {
     pub fn fetch(&mut self, q: u16) -> Result<Fetched, StepRefused>
         ensures step { Does self.old None (events.Fetch q) (fetch_reply result) self.new }
         ensures touches { StaysAllowed self.old.world (events.Fetch q) (fetch_reply result) }
+        ensures tells { TellsAll self.old.touches (fetch_reply result) self.new.touches }
         ensures memory { WantsMemoryFor (IsLogFull self.old ⊎ MayWorldWant self.old (events.Fetch q)) (fetch_reply result) }
     {
         if self.log.reserve(1).is_err() {
@@ -50,6 +51,7 @@ impl<L: Driver, A: Allocator + Copy> Book<L, A> {
     pub fn walk(&mut self, q: u16, cid: u16) -> Result<Walked, StepRefused>
         ensures step { Does self.old None (events.Walk q cid) (walk_reply result) self.new }
         ensures touches { StaysAllowed self.old.world (events.Walk q cid) (walk_reply result) }
+        ensures tells { TellsAll self.old.touches (walk_reply result) self.new.touches }
         ensures memory { WantsMemoryFor (IsLogFull self.old) (walk_reply result) }
     {
         if self.log.reserve(1).is_err() {
@@ -68,6 +70,7 @@ impl<L: Driver, A: Allocator + Copy> Book<L, A> {
     pub fn complete(&mut self, q: u16, cid: u16) -> Result<Completed, StepRefused>
         ensures step { Does self.old None (events.Complete q cid) (complete_reply result) self.new }
         ensures touches { StaysAllowed self.old.world (events.Complete q cid) (complete_reply result) }
+        ensures tells { TellsAll self.old.touches (complete_reply result) self.new.touches }
         ensures memory { WantsMemoryFor (IsLogFull self.old) (complete_reply result) }
     {
         if self.log.reserve(1).is_err() {

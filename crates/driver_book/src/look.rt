@@ -1,12 +1,13 @@
 //! Looks at a book: what would be answered. They make no step, and nothing is written down.
 
-ghost use Rattle.std.specs.Prelude.{◌≡◌, ℕ, ◌<◌, true, false, None, IfOk, IfSome, IfNone, IsTrue};
+ghost use Rattle.std.specs.Prelude.{◌≡◌, ℕ, ◌+◌, ◌*◌, ◌<◌, true, false, None, IfOk, IfSome, IfNone, IsTrue, length};
 ghost use Rattle.std.specs.Result.{result_err};
 ghost use Rattle.io_commands.specs.Least.{least_pages as spec_least_pages};
 ghost use Rattle.io_commands.specs.Requests.{fault_of};
 ghost use Rattle.machine_model.specs.Events as events;
 ghost use Rattle.machine_model.specs.Refusals.{refusal_of};
 ghost use Rattle.step_core.specs.Looks.{has_completion, event_of, IsAtRest};
+ghost use Rattle.step_core.specs.Touching.{LooksAtMost};
 
 use crate::book::{Book, Driver};
 use io_commands::{Request, RequestFault};
@@ -42,7 +43,8 @@ impl<L: Driver, A: Allocator + Copy> Book<L, A> {
         ensures some { IfSome result (λ q. has_completion self.old.world q ≡ true) }
         ensures first { IfSome result (λ q. (p : ℕ) → p < q → has_completion self.old.world p ≡ false) }
         ensures none { IfNone result ((q : ℕ) → has_completion self.old.world q ≡ false) }
-        ensures same { self.new ≡ self.old }
+        ensures same { self.new ≡ record self.old { touches = self.new.touches } }
+        ensures looks { LooksAtMost (length self.old.world.host.queues) self.old.touches self.new.touches }
     {
         self.world.next_completion()
     }
@@ -51,7 +53,8 @@ impl<L: Driver, A: Allocator + Copy> Book<L, A> {
     pub fn next_step(&mut self) -> Option<ControllerStep>
         ensures possible { IfSome result (λ step. IsTrue self.old.world.trusted → refusal_of self.old.world (event_of step) ≡ None) }
         ensures rest { IfNone result (IsTrue self.old.world.trusted → IsAtRest self.old.world) }
-        ensures same { self.new ≡ self.old }
+        ensures same { self.new ≡ record self.old { touches = self.new.touches } }
+        ensures looks { LooksAtMost (2 * length self.old.world.host.queues + 1) self.old.touches self.new.touches }
     {
         self.world.next_step()
     }

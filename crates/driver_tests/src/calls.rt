@@ -449,6 +449,7 @@ fn look<L: Driver, R: Abort + Wait>(
         can_do(rt, &mut desk, step, q);
         see(rt, &book_of(rt, &mut desk).collect_refusal(1, 0), &why);
     }
+    see(rt, &book_of(rt, &mut desk).touches(), &24);
     see(rt, &desk.end(), &8);
 }
 

@@ -1,7 +1,6 @@
 //! The controller's steps of a shared book.
 
-ghost use Rattle.std.specs.Prelude.{None};
-ghost use Rattle.driver_threads.specs.Sharing.{Made};
+ghost use Rattle.driver_threads.specs.Sharing.{Served};
 ghost use Rattle.machine_model.specs.Events as events;
 ghost use Rattle.step_core.specs.Replies.{complete_reply, fetch_reply, walk_reply};
 
@@ -18,7 +17,7 @@ impl<L: Driver, A: Allocator + Copy> Shared<L, A> {
     ///
     /// As there.
     pub fn fetch<R: Wait>(&self, rt: &R, q: u16) -> Result<Fetched, StepRefused>
-        ensures { Made L.opening None (events.Fetch q) (fetch_reply result) }
+        ensures { Served L.opening (events.Fetch q) (fetch_reply result) }
     {
         let answer = self.lock(rt).fetch(q);
         self.wake();
@@ -31,7 +30,7 @@ impl<L: Driver, A: Allocator + Copy> Shared<L, A> {
     ///
     /// As there.
     pub fn walk<R: Wait>(&self, rt: &R, q: u16, cid: u16) -> Result<Walked, StepRefused>
-        ensures { Made L.opening None (events.Walk q cid) (walk_reply result) }
+        ensures { Served L.opening (events.Walk q cid) (walk_reply result) }
     {
         let answer = self.lock(rt).walk(q, cid);
         self.wake();
@@ -44,7 +43,7 @@ impl<L: Driver, A: Allocator + Copy> Shared<L, A> {
     ///
     /// As there.
     pub fn complete<R: Wait>(&self, rt: &R, q: u16, cid: u16) -> Result<Completed, StepRefused>
-        ensures { Made L.opening None (events.Complete q cid) (complete_reply result) }
+        ensures { Served L.opening (events.Complete q cid) (complete_reply result) }
     {
         let answer = self.lock(rt).complete(q, cid);
         self.wake();

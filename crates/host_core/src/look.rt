@@ -9,7 +9,7 @@ ghost use Rattle.machine_model.specs.Refusals.{in_state, is_reaped, refusal_of};
 ghost use Rattle.machine_model.specs.State.{record_at};
 ghost use Rattle.page_memory.specs.Pages.{Pages};
 ghost use Rattle.host_core.specs.Alone.{alone, IsOver};
-ghost use Rattle.host_core.specs.Looks.{cause_of, completion_base as spec_completion_base, completion_waits as spec_completion_waits};
+ghost use Rattle.host_core.specs.Looks.{TouchesAtMost, cause_of, completion_base as spec_completion_base, completion_waits as spec_completion_waits};
 
 use crate::host::Host;
 use crate::queues::{has_no_completion, host_state};
@@ -110,11 +110,12 @@ impl<A: Allocator> Host<A> {
         host_state(&self.parts.queues, q)
     }
 
-    /// Whether [`Host::reap`] would take a completion from the queue. No page changes.
+    /// Whether [`Host::reap`] would take a completion from the queue. No page changes, and one is touched at most.
     pub fn completion_waits(&self, store: &mut Store<A>, q: u16) -> bool
         requires { IsOver self.now store.old.pages }
         ensures answer { result ≡ spec_completion_waits (alone self.now store.old.pages) q }
         ensures same { store.new.pages ≡ store.old.pages }
+        ensures touches { TouchesAtMost 1 store.old store.new }
     {
         if has_no_completion(&self.parts.queues, q) {
             return false;

@@ -10,6 +10,7 @@ ghost use Rattle.host_core.specs.Replies.{ring_reply};
 ghost use Rattle.host_core.specs.Resetting.{HasPlaces};
 ghost use Rattle.host_core.specs.Retiring.{retired, with_lost};
 ghost use Rattle.host_core.specs.Whole.{IsHost, IsWhole};
+ghost use Rattle.page_memory.specs.Memory.{TouchesMore};
 
 use crate::host::Host;
 use crate::parts::Parts;
@@ -27,6 +28,7 @@ impl<A: Allocator> Parts<A> {
         requires there { lacks_completion (slice_get self.now.queues.items q) ≡ false }
         ensures seen { seen_at (tables_of self.now store.old.pages) q ≡ result }
         ensures same { store.new.pages ≡ store.old.pages }
+        ensures touches { TouchesMore store.old.unlisted store.old.touched 1 store.new.unlisted store.new.touched }
     {
         store.clear();
         let seen = self.queues[usize::from(q)].host.peek(store);

@@ -183,6 +183,7 @@ impl<A: Allocator> Job<A> {
         ensures blocks { self.new.blocks ≡ self.old.blocks }
         ensures fewer { left_of_walk self.new.walk < left_of_walk self.old.walk }
         ensures touches { length (D.reached dma.new) ≤ length (D.reached dma.old) + 2 }
+        ensures unlisted { D.unlisted dma.new ≡ D.unlisted dma.old }
         ensures pool { D.page_count dma.new ≡ D.page_count dma.old }
         ensures job { IsJob self.new }
     {

@@ -89,6 +89,8 @@ impl Dma for Watched {
 
     ghost reached = { λ w. w.store.touched };
 
+    ghost unlisted = { λ w. w.store.unlisted };
+
     ghost page_count = { λ w. length w.store.pages };
 
     fn pool_pages(&self) -> u32 {
@@ -117,6 +119,10 @@ impl Dma for Watched {
 impl TouchRecord for Watched {
     fn touched(&self) -> &ArrayVec<PageNo, 4> {
         self.store.touched()
+    }
+
+    fn touches(&self) -> u64 {
+        self.store.touches()
     }
 
     fn clear(&mut self) {

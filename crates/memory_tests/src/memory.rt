@@ -43,16 +43,19 @@ fn takes_puts_and_zeroes_a_page(rt: HostRuntime) {
     assert!(rt; store.is_in(PageNo(3)));
     store.zero(PageNo(3));
     same(&rt, read_at(&rt, &mut store, 3 * 4096 + 4092), [0; 4]);
+    same(&rt, store.touches(), 3);
     drop(store);
 }
 
-/// Sees that 16 bytes are copied across the border of two pages, and not past the end of a memory of eight.
+/// Sees that 16 bytes are copied across the border of two pages, and not past the end of a memory of eight, and that each page is counted that
+/// was touched.
 fn see_copies<D: TouchRecord>(rt: &impl Abort, memory: &mut D) {
     memory.clear();
     assert!(rt; memory.write(100, &[3; 16]).is_ok());
     same(rt, copy_sixteen(memory, 100, 4090), Ok(()));
     same(rt, copy_sixteen(memory, 100, 32_760), Err(Unreadable));
     same(rt, read_at(rt, memory, 4090), [3; 16]);
+    same(rt, memory.touches(), 7);
 }
 
 #[test]

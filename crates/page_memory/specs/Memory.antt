@@ -1,5 +1,5 @@
 -- Memory as a controller reaches it: from places to bytes. A place outside the pool, or on a page that is out, has none.
-use Rattle.std.specs.Prelude.{◌+◌, ◌-◌, ◌/◌, ◌&&◌, [], ◌∷◌, ℕ, zero, suc, List, Option, Some, None, if◌then◌else◌, nat_eq, nat_le, nat_lt, length, slice_index}
+use Rattle.std.specs.Prelude.{◌≡◌, ◌+◌, ◌-◌, ◌/◌, ◌%◌, ◌&&◌, [], ◌∷◌, ℕ, zero, suc, List, Option, Some, None, if◌then◌else◌, nat_eq, nat_le, nat_lt, length, slice_index}
 
 abbrev pub Memory : Type 0
 Memory = ℕ → Option ℕ
@@ -28,3 +28,11 @@ abbrev pub pages_reached : ℕ → ℕ → List ℕ
 pages_reached place n =
     if nat_eq (page_of place) (page_of (place + n - 1)) then page_of place ∷ []
     else page_of place ∷ page_of (place + n - 1) ∷ []
+
+-- a count of touches with so many more; it begins at 0 again behind 2^64 - 1
+abbrev pub counted : ℕ → ℕ → ℕ
+counted count more = (count + more) % 18446744073709551616
+
+-- so many touches more than before, whether the touched list has them still or not
+abbrev pub TouchesMore : ℕ → List ℕ → ℕ → ℕ → List ℕ → Type 0
+TouchesMore unlisted reached more unlisted' reached' = counted unlisted' (length reached') ≡ counted unlisted (length reached + more)

@@ -26,10 +26,11 @@ byte_at pages place = option_and_then (λ bytes. slice_get bytes (place % 4096))
 abbrev pub with_bytes : List ℕ → ℕ → List ℕ → List ℕ
 with_bytes page at new = take at page ++ new ++ drop (at + length new) page
 
--- what a store shows: its pages, and the pages reached since the touched list was cleared
+-- what a store shows: its pages, the pages reached since the touched list was cleared, and how many touches that list does not have
 pub record Contents : Type 0 where
   pub pages : Pages
   pub touched : List ℕ
+  pub unlisted : ℕ
 
 -- the pool with these bytes in one page, which is in, from an offset on
 abbrev pub with_page_bytes : Pages → ℕ → ℕ → List ℕ → Pages

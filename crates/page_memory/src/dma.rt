@@ -1,7 +1,7 @@
 //! What a controller reaches of memory.
 
 ghost use Rattle.std.specs.Prelude.{◌≡◌, ◌≢◌, ◌<◌, ◌≤◌, ◌++◌, [], None, Some, OnOk, OnErr, length};
-ghost use Rattle.page_memory.specs.Memory.{bytes_at, written, pages_reached};
+ghost use Rattle.page_memory.specs.Memory.{bytes_at, written, pages_reached, counted};
 
 use crate::page::PageNo;
 use arrayvec::ArrayVec;
@@ -26,6 +26,9 @@ pub trait Dma {
     // the pages touched since the list was cleared
     ghost reached: { Self → List ℕ };
 
+    // how many touches that list does not have
+    ghost unlisted: { Self → ℕ };
+
     // how many pages the pool has
     ghost page_count: { Self → ℕ };
 
@@ -43,6 +46,7 @@ pub trait Dma {
         ensures missing { OnErr result (bytes_at (memory self.old) addr (length into.old) ≡ None) }
         ensures refused { OnErr result ((into.new ≡ into.old) × (reached self.new ≡ reached self.old)) }
         ensures memory { memory self.new ≡ memory self.old }
+        ensures unlisted { unlisted self.new ≡ unlisted self.old }
         ensures pool { page_count self.new ≡ page_count self.old };
 
     /// Puts the bytes from an address on, or answers `Unreadable` exactly where one is missing. All other bytes stay.
@@ -55,20 +59,28 @@ pub trait Dma {
         ensures touched { OnOk result (reached self.new ≡ reached self.old ++ pages_reached addr (length bytes.now)) }
         ensures missing { OnErr result (bytes_at (memory self.old) addr (length bytes.now) ≡ None) }
         ensures refused { OnErr result ((memory self.new ≡ memory self.old) × (reached self.new ≡ reached self.old)) }
+        ensures unlisted { unlisted self.new ≡ unlisted self.old }
         ensures pool { page_count self.new ≡ page_count self.old };
 }
 
 /// The list of the pages that calls of [`Dma`] touched, for whoever lends the memory.
 ///
-/// Only who has this bound, or the memory's own type, empties the list. Code that has [`Dma`] alone can only lengthen it.
+/// Only who has this bound, or the memory's own type, empties the list. Code that has [`Dma`] alone can only lengthen it. What is taken
+/// off the list is counted: [`TouchRecord::touches`] tells of each touch, for good.
 pub trait TouchRecord: Dma {
     /// The pages touched since the last `clear`, in the order touched, each as often as it was.
     fn touched(&self) -> &ArrayVec<PageNo, 4>
         ensures { result.now.items ≡ Self.reached self.now };
 
+    /// How many pages were touched since the memory was opened, those of the list and all that it does not have any more. Behind 2^64 - 1 it
+    /// begins at 0 again.
+    fn touches(&self) -> u64
+        ensures { result ≡ counted (Self.unlisted self.now) (length (Self.reached self.now)) };
+
     /// Empties the touched list.
     fn clear(&mut self)
         ensures touched { Self.reached self.new ≡ [] }
+        ensures unlisted { Self.unlisted self.new ≡ counted (Self.unlisted self.old) (length (Self.reached self.old)) }
         ensures memory { Self.memory self.new ≡ Self.memory self.old }
         ensures pool { Self.page_count self.new ≡ Self.page_count self.old };
 }

@@ -4,7 +4,7 @@
 //! bytes may be missing, and not only whole pages.
 
 ghost use Rattle.std.specs.Prelude.{◌≡◌, ◌+◌, ◌*◌, ◌<◌, ◌≤◌, ◌++◌, ℕ, [], length, replicate, slice_set, true, false, IfOk, IsSome, Some};
-ghost use Rattle.page_memory.specs.Memory.{bytes_at, pages_reached};
+ghost use Rattle.page_memory.specs.Memory.{bytes_at, pages_reached, counted};
 ghost use Rattle.page_memory.specs.Pages.{slot_at};
 ghost use Rattle.page_memory.specs.Flat.{without};
 
@@ -21,6 +21,7 @@ use std::marker::Model;
 pub struct FlatMemory<A: Allocator = Global> {
     bytes: Vec<Option<u8>, A>,
     touched: ArrayVec<PageNo, 4>,
+    unlisted: u64,
 }
 
 impl<A: Allocator> Model for FlatMemory<A> {
@@ -28,7 +29,7 @@ impl<A: Allocator> Model for FlatMemory<A> {
 
     ghost Value = { FlatContents };
 
-    ghost view = { λ m. record { bytes = m.bytes.items; touched = m.touched.items } };
+    ghost view = { λ m. record { bytes = m.bytes.items; touched = m.touched.items; unlisted = m.unlisted } };
 
     ghost invariant = { λ m. IsFlat m.bytes.items };
 }
@@ -43,10 +44,12 @@ impl<A: Allocator> FlatMemory<A> {
         requires { pages ≤ 65536 }
         ensures bytes { IfOk result (λ memory. memory.bytes ≡ replicate (4096 * pages) (Some 0)) }
         ensures touched { IfOk result (λ memory. memory.touched ≡ []) }
+        ensures unlisted { IfOk result (λ memory. memory.unlisted ≡ 0) }
     {
         Ok(FlatMemory {
             bytes: vec![in alloc; Some(0); PAGE_BYTES * pages as usize]?,
             touched: ArrayVec::new(),
+            unlisted: 0,
         })
     }
 
@@ -103,6 +106,7 @@ impl<A: Allocator> FlatMemory<A> {
         requires { place < length self.old.bytes }
         ensures put { self.new.bytes ≡ slice_set self.old.bytes place (Some byte) }
         ensures touched { self.new.touched ≡ self.old.touched }
+        ensures unlisted { self.new.unlisted ≡ self.old.unlisted }
     {
         self.bytes[place] = Some(byte);
     }
@@ -114,6 +118,7 @@ impl<A: Allocator> FlatMemory<A> {
         requires room { length self.old.touched ≤ 2 }
         ensures kept { self.new.bytes ≡ self.old.bytes }
         ensures touched { self.new.touched ≡ self.old.touched ++ pages_reached addr count }
+        ensures unlisted { self.new.unlisted ≡ self.old.unlisted }
     {
         let last = addr + count as u64 - 1;
         self.touched.push(PageNo((addr / 4096) as u32));
@@ -130,6 +135,8 @@ impl<A: Allocator> Dma for FlatMemory<A> {
     ghost memory = { λ m. slot_at m.bytes };
 
     ghost reached = { λ m. m.touched };
+
+    ghost unlisted = { λ m. m.unlisted };
 
     ghost page_count = { λ m. length m.bytes / 4096 };
 
@@ -167,7 +174,12 @@ impl<A: Allocator> TouchRecord for FlatMemory<A> {
         &self.touched
     }
 
+    fn touches(&self) -> u64 {
+        self.unlisted.wrapping_add(self.touched.len() as u64)
+    }
+
     fn clear(&mut self) {
+        self.unlisted = self.touches();
         self.touched.clear();
     }
 }

@@ -1,10 +1,10 @@
 //! The store: the pages of a pool that are in.
 
-ghost use Rattle.std.specs.Prelude.{◌≡◌, ◌+◌, ◌*◌, ◌<◌, ◌≤◌, ◌↔◌, ◌⊎◌, ◌++◌, ◌∷◌, [], length, replicate, slice_get, slice_set, is_some, ℕ, Err, IfOk, IsSome, IsTrue, None, Some};
+ghost use Rattle.std.specs.Prelude.{◌≡◌, ◌+◌, ◌*◌, ◌<◌, ◌≤◌, ◌↔◌, ◌⊎◌, ◌++◌, ◌∷◌, [], length, replicate, slice_get, slice_set, is_some, if◌then◌else◌, ℕ, Err, IfOk, IsSome, IsTrue, None, Some};
 ghost use Rattle.std.specs.Option.{option_copied};
 ghost use Rattle.page_memory.specs.Pages.{zero_page, page_at, byte_at, IsWhole, AreWhole};
 ghost use Rattle.std.specs.Bool.{OnTrue};
-ghost use Rattle.page_memory.specs.Memory.{page_of, written};
+ghost use Rattle.page_memory.specs.Memory.{page_of, written, counted};
 
 use crate::dma::{Dma, TouchRecord, Unreadable};
 use crate::page::{PAGE_BYTES, Page, PageNo};
@@ -40,6 +40,7 @@ impl From<AllocError> for OpenFault {
 pub struct Store<A: Allocator = Global> {
     pages: Vec<Option<Page<A>>, A>,
     touched: ArrayVec<PageNo, 4>,
+    unlisted: u64,
 }
 
 impl<A: Allocator> Model for Store<A> {
@@ -48,7 +49,7 @@ impl<A: Allocator> Model for Store<A> {
 
     ghost Value = { Contents };
 
-    ghost view = { λ s. record { pages = s.pages.items; touched = s.touched.items } };
+    ghost view = { λ s. record { pages = s.pages.items; touched = s.touched.items; unlisted = s.unlisted } };
 
     ghost invariant = { λ s. IsPool s.pages.items };
 }
@@ -77,6 +78,7 @@ impl<A: Allocator + Clone> Store<A> {
     pub fn open(alloc: A, pages: u32) -> Result<Self, OpenFault>
         ensures pages { IfOk result (λ store. store.pages ≡ replicate pages (Some zero_page)) }
         ensures touched { IfOk result (λ store. store.touched ≡ []) }
+        ensures unlisted { IfOk result (λ store. store.unlisted ≡ 0) }
         ensures bad_size { (result ≡ Err OpenFault.BadSize) ↔ ((pages < 8) ⊎ (65536 < pages)) }
     {
         if !(8..=65_536).contains(&pages) {
@@ -86,6 +88,7 @@ impl<A: Allocator + Clone> Store<A> {
         Ok(Store {
             pages: all,
             touched: ArrayVec::new(),
+            unlisted: 0,
         })
     }
 }
@@ -99,15 +102,16 @@ impl<A: Allocator> Store<A> {
         self.pages.len() as u32
     }
 
-    /// Moves a page out; `None`, with nothing changed, where it is out already or outside the pool.
+    /// Moves a page out, which counts as one touch that the list does not have; `None`, with nothing changed, where it is out already or
+    /// outside the pool.
     pub fn take(&mut self, p: PageNo) -> Option<Page<A>>
         ensures page { result ≡ page_at self.old.pages p }
-        ensures out { self.new ≡ record self.old { pages = slice_set self.old.pages p None } }
+        ensures out { self.new ≡ record self.old { pages = slice_set self.old.pages p None; unlisted = self.new.unlisted } }
+        ensures counts { self.new.unlisted ≡ (if is_some result then counted self.old.unlisted 1 else self.old.unlisted) }
     {
-        match self.pages.get_mut(p.0 as usize) {
-            Some(slot) => slot.take(),
-            None => None,
-        }
+        let page = self.pages.get_mut(p.0 as usize)?.take()?;
+        self.unlisted = self.unlisted.wrapping_add(1);
+        Some(page)
     }
 
     /// Moves a page in that was out.
@@ -178,6 +182,7 @@ impl<A: Allocator> Store<A> {
         ensures stays_in { (p : ℕ) → is_some (page_at self.new.pages p) ≡ is_some (page_at self.old.pages p) }
         ensures pool { length self.new.pages ≡ length self.old.pages }
         ensures touched { self.new.touched ≡ self.old.touched }
+        ensures unlisted { self.new.unlisted ≡ self.old.unlisted }
     {
         let Some(page) = &mut self.pages[number as usize] else {
             unreachable!();
@@ -233,6 +238,8 @@ impl<A: Allocator> Dma for Store<A> {
     ghost memory = { λ s. byte_at s.pages };
 
     ghost reached = { λ s. s.touched };
+
+    ghost unlisted = { λ s. s.unlisted };
 
     ghost page_count = { λ s. length s.pages };
 
@@ -291,12 +298,18 @@ impl<A: Allocator> TouchRecord for Store<A> {
         &self.touched
     }
 
+    fn touches(&self) -> u64 {
+        self.unlisted.wrapping_add(self.touched.len() as u64)
+    }
+
     fn clear(&mut self)
-        ensures cleared { self.new ≡ record self.old { touched = [] } }
+        ensures cleared { self.new ≡ record self.old { touched = []; unlisted = counted self.old.unlisted (length self.old.touched) } }
         ensures touched { self.new.touched ≡ [] }
+        ensures unlisted { self.new.unlisted ≡ counted self.old.unlisted (length self.old.touched) }
         ensures memory { byte_at self.new.pages ≡ byte_at self.old.pages }
         ensures pool { length self.new.pages ≡ length self.old.pages }
     {
+        self.unlisted = self.touches();
         self.touched.clear();
     }
 }

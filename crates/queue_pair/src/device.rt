@@ -149,6 +149,7 @@ impl DevicePair {
         ensures untouched { IfOk result (λ entry. IsNone entry → D.reached dma.new ≡ D.reached dma.old) }
         ensures refused { OnErr result (D.reached dma.new ≡ D.reached dma.old) }
         ensures memory { D.memory dma.new ≡ D.memory dma.old }
+        ensures unlisted { D.unlisted dma.new ≡ D.unlisted dma.old }
         ensures pool { D.page_count dma.new ≡ D.page_count dma.old }
     {
         if self.head == self.bell {
@@ -206,6 +207,7 @@ impl DevicePair {
         ensures phases { OnOk result (HasPhases (D.memory dma.old) self.old → HasPhases (D.memory dma.new) self.new) }
         ensures tied { OnOk result ((host : HostSide) → IsPair host self.old → IsHostSide host → IsFalse (is_full host.entries host.ring.head self.old.ring.tail) → AreTied host self.old → AreTied host self.new) }
         ensures refused { OnErr result ((self.new ≡ self.old) × (D.memory dma.new ≡ D.memory dma.old) × (D.reached dma.new ≡ D.reached dma.old)) }
+        ensures unlisted { D.unlisted dma.new ≡ D.unlisted dma.old }
         ensures pool { D.page_count dma.new ≡ D.page_count dma.old }
     {
         if self.is_full() {

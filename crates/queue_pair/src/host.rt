@@ -118,6 +118,7 @@ impl<A: Allocator> HostPair<A> {
         ensures appended { OnOk result ((device : DeviceSide) → IsPair self.old device → IsDeviceSide device → IsFalse (is_full device.entries device.ring.head self.old.ring.tail)
             → unfetched (D.memory dma.new) self.new device ≡ unfetched (D.memory dma.old) self.old device ++ Some entry ∷ []) }
         ensures refused { OnErr result ((self.new ≡ self.old) × (D.memory dma.new ≡ D.memory dma.old) × (D.reached dma.new ≡ D.reached dma.old)) }
+        ensures unlisted { D.unlisted dma.new ≡ D.unlisted dma.old }
         ensures pool { D.page_count dma.new ≡ D.page_count dma.old }
     {
         let slot = self.tail;
@@ -175,6 +176,7 @@ impl<A: Allocator> HostPair<A> {
         ensures front { (device : DeviceSide) → IsPair self.now device → IsDeviceSide device → HasPhases (D.memory dma.old) device → AreTied self.now device → result ≡ front (answers (D.memory dma.old) self.now device) }
         ensures touched { D.reached dma.new ≡ D.reached dma.old ++ completion_page self.now.cq self.now.ring.head ∷ [] }
         ensures memory { D.memory dma.new ≡ D.memory dma.old }
+        ensures unlisted { D.unlisted dma.new ≡ D.unlisted dma.old }
         ensures pool { D.page_count dma.new ≡ D.page_count dma.old }
     {
         let mut bytes = [0; 16];

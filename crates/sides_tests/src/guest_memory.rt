@@ -15,6 +15,7 @@ use std::marker::Model;
 pub(crate) struct GuestMemory {
     bytes: Vec<u8>,
     touched: ArrayVec<PageNo, 4>,
+    unlisted: u64,
 }
 
 impl Model for GuestMemory {
@@ -23,7 +24,7 @@ impl Model for GuestMemory {
 
     ghost Value = { GuestContents };
 
-    ghost view = { λ m. record { bytes = m.bytes.items; touched = m.touched.items } };
+    ghost view = { λ m. record { bytes = m.bytes.items; touched = m.touched.items; unlisted = m.unlisted } };
 
     ghost invariant = { λ m. length m.bytes.items ≤ 4294967296 };
 }
@@ -41,6 +42,7 @@ impl GuestMemory {
         Ok(GuestMemory {
             bytes: vec![in alloc; 0; count as usize]?,
             touched: ArrayVec::new(),
+            unlisted: 0,
         })
     }
 
@@ -69,6 +71,7 @@ impl GuestMemory {
         requires room { length self.old.touched ≤ 2 }
         ensures kept { self.new.bytes ≡ self.old.bytes }
         ensures touched { self.new.touched ≡ self.old.touched ++ pages_reached at count }
+        ensures unlisted { self.new.unlisted ≡ self.old.unlisted }
     {
         let last = at + count - 1;
         self.touched.push(PageNo((at / 4096) as u32));
@@ -93,6 +96,8 @@ impl Dma for GuestMemory {
     ghost memory = { λ m. byte_of m.bytes };
 
     ghost reached = { λ m. m.touched };
+
+    ghost unlisted = { λ m. m.unlisted };
 
     ghost page_count = { λ m. length m.bytes / 4096 };
 
@@ -124,7 +129,12 @@ impl TouchRecord for GuestMemory {
         &self.touched
     }
 
+    fn touches(&self) -> u64 {
+        self.unlisted.wrapping_add(self.touched.len() as u64)
+    }
+
     fn clear(&mut self) {
+        self.unlisted = self.touches();
         self.touched.clear();
     }
 }

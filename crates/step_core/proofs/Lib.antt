@@ -14,3 +14,4 @@ pub mod Records
 pub mod Resetting
 pub mod Rows
 pub mod Benches
+pub mod Touches

@@ -76,7 +76,7 @@ refused_alike s step l trust some = ap is_none (refusal_alike s step l trust) �
     same None = refl
     same (Some why) = refl
 
-as_many : (n k : ℕ) (hs : List HostQueue) (cs : List ControllerQueue) → ShareQueues n k hs cs → length cs ≡ length hs
+pub as_many : (n k : ℕ) (hs : List HostQueue) (cs : List ControllerQueue) → ShareQueues n k hs cs → length cs ≡ length hs
 as_many n k [] [] share = refl
 as_many n k [] (c ∷ cs) share = absurd share
 as_many n k (h ∷ hs) [] share = absurd share

@@ -1,5 +1,5 @@
 -- A reset of both sides is a step of the machine, behind which they agree.
-use Rattle.std.proofs.Common.{◌≡◌, true, arith, refl, sym, subst}
+use Rattle.std.proofs.Common.{◌≡◌, true, arith, sym, subst}
 use Rattle.std.proofs.lemmas.Bool.{OnTrue_at}
 use Rattle.controller_core.specs.Contents.{Contents, IsController}
 use Rattle.controller_core.specs.Resetting.{reset}

@@ -22,7 +22,7 @@ use Rattle.machine_model.specs.State.{State}
 use Rattle.machine_model.specs.Step as machine
 use Rattle.machine_model.specs.Step.{Step, forges}
 use Rattle.machine_agreement.proofs.Agreed.{agreed_stays}
-use Rattle.page_memory.specs.Memory.{Memory}
+use Rattle.page_memory.specs.Memory.{Memory, counted}
 use Rattle.page_memory.specs.Pages as store
 use Rattle.page_memory.specs.Pages.{Pages, byte_at, AreWhole}
 use Rattle.two_sides.specs.Hearing.{heard}
@@ -109,11 +109,11 @@ reap_goes s q what head host pages c l step at over is =
 
 -- The controller's calls. Each begins with no page touched.
 
-leaves : (old cleared new : store.Contents) → cleared ≡ record old { touched = [] } → AreWhole new.pages → length new.pages ≡ length cleared.pages → LeavesPages old.pages new.pages
+leaves : (old cleared new : store.Contents) → cleared ≡ record old { touched = []; unlisted = counted old.unlisted (length old.touched) } → AreWhole new.pages → length new.pages ≡ length cleared.pages → LeavesPages old.pages new.pages
 leaves old cleared new is whole count = record { whole = whole; count = count ∙ ap (λ (x : store.Contents). length x.pages) is }
 
 pub fetch_goes : (host : HostView) (controller c : Contents) (old cleared new : store.Contents) (trusted : Bool) (q : ℕ) (result : Result ℕ refusing.Refusal)
-    → IsWorld (sides_of host controller old.pages trusted) → cleared ≡ record old { touched = [] } → IsController c → AreWhole new.pages → length new.pages ≡ length cleared.pages
+    → IsWorld (sides_of host controller old.pages trusted) → cleared ≡ record old { touched = []; unlisted = counted old.unlisted (length old.touched) } → IsController c → AreWhole new.pages → length new.pages ≡ length cleared.pages
     → Fetches controller (length cleared.pages) (byte_at cleared.pages) cleared.touched q result c (byte_at new.pages) new.touched
     → (touched : List ℕ) (reply : Reply) → touched ≡ new.touched → reply ≡ fetch_reply result touched
     → Goes (sides_of host controller old.pages trusted) (events.Fetch q) reply (sides_of host c new.pages trusted)
@@ -135,7 +135,7 @@ walks_by c m reached q cid (Ok state) c' m' reached' why stays walks = (sym why,
 walks_by c m reached q cid (Err cause) c' m' reached' why stays walks = (sym why, stays.0, stays.1, stays.2)
 
 pub walk_goes : (host : HostView) (controller c : Contents) (old cleared new : store.Contents) (trusted : Bool) (q cid : ℕ) (result : Result WalkState refusing.Refusal)
-    → IsWorld (sides_of host controller old.pages trusted) → cleared ≡ record old { touched = [] } → IsController c → AreWhole new.pages → length new.pages ≡ length cleared.pages
+    → IsWorld (sides_of host controller old.pages trusted) → cleared ≡ record old { touched = []; unlisted = counted old.unlisted (length old.touched) } → IsController c → AreWhole new.pages → length new.pages ≡ length cleared.pages
     → result_err result ≡ walk_refusal controller q cid
     → OnErr result (Stays controller (byte_at cleared.pages) cleared.touched c (byte_at new.pages) new.touched)
     → IfOk result (λ state. WalksTo controller q cid (byte_at cleared.pages) cleared.touched state c (byte_at new.pages) new.touched)
@@ -156,7 +156,7 @@ completes_by c m reached q cid (Ok done) c' m' reached' why stays completes = (s
 completes_by c m reached q cid (Err cause) c' m' reached' why stays completes = (sym why, stays.0, stays.1, stays.2)
 
 pub complete_goes : (host : HostView) (controller c : Contents) (old cleared new : store.Contents) (trusted : Bool) (q cid : ℕ) (result : Result (Unit {0}) refusing.Refusal)
-    → IsWorld (sides_of host controller old.pages trusted) → cleared ≡ record old { touched = [] } → IsController c → AreWhole new.pages → length new.pages ≡ length cleared.pages
+    → IsWorld (sides_of host controller old.pages trusted) → cleared ≡ record old { touched = []; unlisted = counted old.unlisted (length old.touched) } → IsController c → AreWhole new.pages → length new.pages ≡ length cleared.pages
     → result_err result ≡ complete_refusal controller (byte_at cleared.pages) q cid
     → OnErr result (Stays controller (byte_at cleared.pages) cleared.touched c (byte_at new.pages) new.touched)
     → IfOk result (λ done. CompletesTo controller q cid (byte_at cleared.pages) cleared.touched c (byte_at new.pages) new.touched)

@@ -69,7 +69,7 @@ table_with world values =
     }
 
 abbrev pub table_of : {A : Type 0} → Kept A → Table
-table_of kept = table_with kept.world kept.values
+table_of kept = table_with kept.world.state kept.values
 
 -- What ties the values to the world
 

@@ -38,17 +38,17 @@ impl<A: Allocator> Model for Bench<A> {
 
     ghost view = { λ b. table_of b.kept };
 
-    ghost invariant = { λ b. IsBench b.kept.world b.kept.values };
+    ghost invariant = { λ b. IsBench b.kept.world.state b.kept.values };
 }
 
 impl<A: Allocator + Copy> Kept<A> {
     /// Does the steps in order, with room for their answers.
     fn do_all(&mut self, steps: Vec<StepIn<A>, A>, replies: &mut Vec<ReplyIn<A>, A>)
-        requires bench { IsBench self.old.world self.old.values }
+        requires bench { IsBench self.old.world.state self.old.values }
         requires answers { vec_len replies.old + length steps.items ≤ vec_capacity replies.old }
         requires none { replies.old.items ≡ [] }
         ensures does { DoesAll (table_of self.old) steps.items replies.new.items (table_of self.new) }
-        ensures kept { IsBench self.new.world self.new.values }
+        ensures kept { IsBench self.new.world.state self.new.values }
     {
         for step in steps {
             let reply = self.step(step);

@@ -39,9 +39,9 @@ fn refused_step<A: Allocator>(step: StepRefused) -> ReplyIn<A>
 impl<A: Allocator + Copy> Kept<A> {
     /// Reserves a command, and keeps its draft.
     fn reserve(&mut self, q: u16, request: Request<A>) -> ReplyIn<A>
-        requires { IsBench self.old.world self.old.values }
+        requires { IsBench self.old.world.state self.old.values }
         ensures does { Does (table_of self.old) (Step.Reserve q request) result (table_of self.new) }
-        ensures kept { IsBench self.new.world self.new.values }
+        ensures kept { IsBench self.new.world.state self.new.values }
     {
         match self.world.reserve(q, request) {
             Ok(draft) => {
@@ -56,9 +56,9 @@ impl<A: Allocator + Copy> Kept<A> {
 
     /// Fills a draft.
     fn fill(&mut self, q: u16, cid: u16, bytes: Bytes<A>) -> ReplyIn<A>
-        requires { IsBench self.old.world self.old.values }
+        requires { IsBench self.old.world.state self.old.values }
         ensures does { Does (table_of self.old) (Step.Fill q cid bytes) result (table_of self.new) }
-        ensures kept { IsBench self.new.world self.new.values }
+        ensures kept { IsBench self.new.world.state self.new.values }
     {
         let Some(mut draft) = take_draft(&mut self.values, q, cid) else {
             return Reply::NoValue;
@@ -70,9 +70,9 @@ impl<A: Allocator + Copy> Kept<A> {
 
     /// Builds a draft.
     fn build(&mut self, q: u16, cid: u16) -> ReplyIn<A>
-        requires { IsBench self.old.world self.old.values }
+        requires { IsBench self.old.world.state self.old.values }
         ensures does { Does (table_of self.old) (Step.Build q cid) result (table_of self.new) }
-        ensures kept { IsBench self.new.world self.new.values }
+        ensures kept { IsBench self.new.world.state self.new.values }
     {
         let Some(mut draft) = take_draft(&mut self.values, q, cid) else {
             return Reply::NoValue;
@@ -84,9 +84,9 @@ impl<A: Allocator + Copy> Kept<A> {
 
     /// Submits a draft, and keeps its ticket.
     fn submit(&mut self, q: u16, cid: u16) -> ReplyIn<A>
-        requires { IsBench self.old.world self.old.values }
+        requires { IsBench self.old.world.state self.old.values }
         ensures does { Does (table_of self.old) (Step.Submit q cid) result (table_of self.new) }
-        ensures kept { IsBench self.new.world self.new.values }
+        ensures kept { IsBench self.new.world.state self.new.values }
     {
         let Some(draft) = take_draft(&mut self.values, q, cid) else {
             return Reply::NoValue;
@@ -105,9 +105,9 @@ impl<A: Allocator + Copy> Kept<A> {
 
     /// Cancels a draft.
     fn cancel(&mut self, q: u16, cid: u16) -> ReplyIn<A>
-        requires { IsBench self.old.world self.old.values }
+        requires { IsBench self.old.world.state self.old.values }
         ensures does { Does (table_of self.old) (Step.Cancel q cid) result (table_of self.new) }
-        ensures kept { IsBench self.new.world self.new.values }
+        ensures kept { IsBench self.new.world.state self.new.values }
     {
         let Some(draft) = take_draft(&mut self.values, q, cid) else {
             return Reply::NoValue;
@@ -126,9 +126,9 @@ impl<A: Allocator + Copy> Kept<A> {
 
     /// Rings a queue.
     fn ring(&mut self, q: u16) -> ReplyIn<A>
-        requires { IsBench self.old.world self.old.values }
+        requires { IsBench self.old.world.state self.old.values }
         ensures does { Does (table_of self.old) (Step.Ring q) result (table_of self.new) }
-        ensures kept { IsBench self.new.world self.new.values }
+        ensures kept { IsBench self.new.world.state self.new.values }
     {
         match self.world.ring(q) {
             Ok(()) => Reply::Accepted,
@@ -138,9 +138,9 @@ impl<A: Allocator + Copy> Kept<A> {
 
     /// Lets the controller fetch an entry.
     fn fetch(&mut self, q: u16) -> ReplyIn<A>
-        requires { IsBench self.old.world self.old.values }
+        requires { IsBench self.old.world.state self.old.values }
         ensures does { Does (table_of self.old) (Step.Fetch q) result (table_of self.new) }
-        ensures kept { IsBench self.new.world self.new.values }
+        ensures kept { IsBench self.new.world.state self.new.values }
     {
         match self.world.fetch(q) {
             Ok(done) => Reply::Fetched {
@@ -153,9 +153,9 @@ impl<A: Allocator + Copy> Kept<A> {
 
     /// Lets the controller do a unit of a command's list.
     fn walk(&mut self, q: u16, cid: u16) -> ReplyIn<A>
-        requires { IsBench self.old.world self.old.values }
+        requires { IsBench self.old.world.state self.old.values }
         ensures does { Does (table_of self.old) (Step.Walk q cid) result (table_of self.new) }
-        ensures kept { IsBench self.new.world self.new.values }
+        ensures kept { IsBench self.new.world.state self.new.values }
     {
         match self.world.walk(q, cid) {
             Ok(done) => Reply::Walked {
@@ -168,9 +168,9 @@ impl<A: Allocator + Copy> Kept<A> {
 
     /// Lets the controller complete a command.
     fn complete(&mut self, q: u16, cid: u16) -> ReplyIn<A>
-        requires { IsBench self.old.world self.old.values }
+        requires { IsBench self.old.world.state self.old.values }
         ensures does { Does (table_of self.old) (Step.Complete q cid) result (table_of self.new) }
-        ensures kept { IsBench self.new.world self.new.values }
+        ensures kept { IsBench self.new.world.state self.new.values }
     {
         match self.world.complete(q, cid) {
             Ok(done) => Reply::Completed {
@@ -182,9 +182,9 @@ impl<A: Allocator + Copy> Kept<A> {
 
     /// Takes a completion.
     fn reap(&mut self, q: u16) -> ReplyIn<A>
-        requires { IsBench self.old.world self.old.values }
+        requires { IsBench self.old.world.state self.old.values }
         ensures does { Does (table_of self.old) (Step.Reap q) result (table_of self.new) }
-        ensures kept { IsBench self.new.world self.new.values }
+        ensures kept { IsBench self.new.world.state self.new.values }
     {
         match self.world.reap(q) {
             Ok(what) => Reply::Reaps(what),
@@ -194,9 +194,9 @@ impl<A: Allocator + Copy> Kept<A> {
 
     /// Collects a command by its ticket, and keeps the finished command.
     fn collect(&mut self, q: u16, cid: u16) -> ReplyIn<A>
-        requires { IsBench self.old.world self.old.values }
+        requires { IsBench self.old.world.state self.old.values }
         ensures does { Does (table_of self.old) (Step.Collect q cid) result (table_of self.new) }
-        ensures kept { IsBench self.new.world self.new.values }
+        ensures kept { IsBench self.new.world.state self.new.values }
     {
         let Some(ticket) = take_ticket(&mut self.values, q, cid) else {
             return Reply::NoValue;
@@ -216,9 +216,9 @@ impl<A: Allocator + Copy> Kept<A> {
 
     /// Gathers a Read's bytes.
     fn gather(&mut self, q: u16, cid: u16) -> ReplyIn<A>
-        requires { IsBench self.old.world self.old.values }
+        requires { IsBench self.old.world.state self.old.values }
         ensures does { Does (table_of self.old) (Step.Gather q cid) result (table_of self.new) }
-        ensures kept { IsBench self.new.world self.new.values }
+        ensures kept { IsBench self.new.world.state self.new.values }
     {
         let Some(finished) = finished_in(&self.values, q, cid) else {
             return Reply::NoValue;
@@ -231,9 +231,9 @@ impl<A: Allocator + Copy> Kept<A> {
 
     /// Releases a finished command.
     fn release(&mut self, q: u16, cid: u16) -> ReplyIn<A>
-        requires { IsBench self.old.world self.old.values }
+        requires { IsBench self.old.world.state self.old.values }
         ensures does { Does (table_of self.old) (Step.Release q cid) result (table_of self.new) }
-        ensures kept { IsBench self.new.world self.new.values }
+        ensures kept { IsBench self.new.world.state self.new.values }
     {
         let Some(finished) = take_finished(&mut self.values, q, cid) else {
             return Reply::NoValue;
@@ -252,9 +252,9 @@ impl<A: Allocator + Copy> Kept<A> {
 
     /// Sends an Abort.
     fn abort(&mut self, q: u16, cid: u16) -> ReplyIn<A>
-        requires { IsBench self.old.world self.old.values }
+        requires { IsBench self.old.world.state self.old.values }
         ensures does { Does (table_of self.old) (Step.Abort q cid) result (table_of self.new) }
-        ensures kept { IsBench self.new.world self.new.values }
+        ensures kept { IsBench self.new.world.state self.new.values }
     {
         match self.world.abort(q, cid) {
             Ok(sent) => Reply::Sent { cid: sent },
@@ -264,9 +264,9 @@ impl<A: Allocator + Copy> Kept<A> {
 
     /// Sends the deletion of a submission queue.
     fn delete_sq(&mut self, q: u16) -> ReplyIn<A>
-        requires { IsBench self.old.world self.old.values }
+        requires { IsBench self.old.world.state self.old.values }
         ensures does { Does (table_of self.old) (Step.DeleteSq q) result (table_of self.new) }
-        ensures kept { IsBench self.new.world self.new.values }
+        ensures kept { IsBench self.new.world.state self.new.values }
     {
         match self.world.delete_sq(q) {
             Ok(cid) => Reply::Sent { cid },
@@ -276,9 +276,9 @@ impl<A: Allocator + Copy> Kept<A> {
 
     /// Sends the deletion of a completion queue.
     fn delete_cq(&mut self, q: u16) -> ReplyIn<A>
-        requires { IsBench self.old.world self.old.values }
+        requires { IsBench self.old.world.state self.old.values }
         ensures does { Does (table_of self.old) (Step.DeleteCq q) result (table_of self.new) }
-        ensures kept { IsBench self.new.world self.new.values }
+        ensures kept { IsBench self.new.world.state self.new.values }
     {
         match self.world.delete_cq(q) {
             Ok(cid) => Reply::Sent { cid },
@@ -288,9 +288,9 @@ impl<A: Allocator + Copy> Kept<A> {
 
     /// Sends the creation of a completion queue.
     fn create_cq(&mut self, q: u16) -> ReplyIn<A>
-        requires { IsBench self.old.world self.old.values }
+        requires { IsBench self.old.world.state self.old.values }
         ensures does { Does (table_of self.old) (Step.CreateCq q) result (table_of self.new) }
-        ensures kept { IsBench self.new.world self.new.values }
+        ensures kept { IsBench self.new.world.state self.new.values }
     {
         match self.world.create_cq(q) {
             Ok(cid) => Reply::Sent { cid },
@@ -300,9 +300,9 @@ impl<A: Allocator + Copy> Kept<A> {
 
     /// Sends the creation of a submission queue.
     fn create_sq(&mut self, q: u16) -> ReplyIn<A>
-        requires { IsBench self.old.world self.old.values }
+        requires { IsBench self.old.world.state self.old.values }
         ensures does { Does (table_of self.old) (Step.CreateSq q) result (table_of self.new) }
-        ensures kept { IsBench self.new.world self.new.values }
+        ensures kept { IsBench self.new.world.state self.new.values }
     {
         match self.world.create_sq(q) {
             Ok(cid) => Reply::Sent { cid },
@@ -312,9 +312,9 @@ impl<A: Allocator + Copy> Kept<A> {
 
     /// Retires a queue.
     fn retire(&mut self, q: u16) -> ReplyIn<A>
-        requires { IsBench self.old.world self.old.values }
+        requires { IsBench self.old.world.state self.old.values }
         ensures does { Does (table_of self.old) (Step.Retire q) result (table_of self.new) }
-        ensures kept { IsBench self.new.world self.new.values }
+        ensures kept { IsBench self.new.world.state self.new.values }
     {
         match self.world.retire(q) {
             Ok(()) => Reply::Accepted,
@@ -324,9 +324,9 @@ impl<A: Allocator + Copy> Kept<A> {
 
     /// Forges a completion.
     fn forge(&mut self, q: u16, slot: u16, bytes: [u8; 16]) -> ReplyIn<A>
-        requires { IsBench self.old.world self.old.values }
+        requires { IsBench self.old.world.state self.old.values }
         ensures does { Does (table_of self.old) (Step.Forge q slot bytes) result (table_of self.new) }
-        ensures kept { IsBench self.new.world self.new.values }
+        ensures kept { IsBench self.new.world.state self.new.values }
     {
         match self.world.forge(q, slot, bytes) {
             Ok(()) => Reply::Accepted,
@@ -336,9 +336,9 @@ impl<A: Allocator + Copy> Kept<A> {
 
     /// Resets the controller.
     fn reset(&mut self) -> ReplyIn<A>
-        requires { IsBench self.old.world self.old.values }
+        requires { IsBench self.old.world.state self.old.values }
         ensures does { Does (table_of self.old) Step.Reset result (table_of self.new) }
-        ensures kept { IsBench self.new.world self.new.values }
+        ensures kept { IsBench self.new.world.state self.new.values }
     {
         self.world.reset();
         Reply::Accepted
@@ -346,9 +346,9 @@ impl<A: Allocator + Copy> Kept<A> {
 
     /// Does a step.
     pub(crate) fn step(&mut self, step: StepIn<A>) -> ReplyIn<A>
-        requires { IsBench self.old.world self.old.values }
+        requires { IsBench self.old.world.state self.old.values }
         ensures does { Does (table_of self.old) step result (table_of self.new) }
-        ensures kept { IsBench self.new.world self.new.values }
+        ensures kept { IsBench self.new.world.state self.new.values }
     {
         match step {
             Step::Reserve { q, request } => self.reserve(q, request),

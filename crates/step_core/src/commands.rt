@@ -21,7 +21,7 @@ impl<A: Allocator + Copy> World<A> {
     /// of the request. 4. `NoIdentifier` where each identifier of the queue is outstanding. 5. `NoPages` where too few pages are
     /// free. 6. `Memory` where memory is refused.
     pub fn reserve(&mut self, q: u16, request: Request<A>) -> Result<Draft<A>, Refused<Request<A>>>
-        ensures step { Step self.old (events.Reserve q request) (reserve_reply result) self.new }
+        ensures step { Step self.old.state (events.Reserve q request) (reserve_reply result) self.new.state }
         ensures back { IfErr result (λ r. r.value ≡ request) }
     {
         self.host.reserve(&mut self.store, q, request)
@@ -37,7 +37,7 @@ impl<A: Allocator + Copy> World<A> {
     /// identifier, request and pages. 2. `NotBuilt` where it has no entry. 3. `QueueGone` where its queue is not live.
     /// 4. `QueueFull` where the submission ring of its queue is full.
     pub fn submit(&mut self, draft: Draft<A>) -> Result<Ticket, Refused<Draft<A>>>
-        ensures step { Step self.old (events.Submit draft) (accept_reply result) self.new }
+        ensures step { Step self.old.state (events.Submit draft) (accept_reply result) self.new.state }
         ensures back { IfErr result (λ r. r.value ≡ draft) }
         ensures ticket { IfOk result (λ ticket. ticket ≡ record { q = draft.q; cid = draft.cid }) }
     {
@@ -51,7 +51,7 @@ impl<A: Allocator + Copy> World<A> {
     /// `Stranger` exactly where no drafted command of this world has its queue, identifier, request and pages. Then the
     /// draft is handed back, and nothing changed.
     pub fn cancel(&mut self, draft: Draft<A>) -> Result<(), Refused<Draft<A>>>
-        ensures step { Step self.old (events.Cancel draft) (accept_reply result) self.new }
+        ensures step { Step self.old.state (events.Cancel draft) (accept_reply result) self.new.state }
         ensures back { IfErr result (λ r. r.value ≡ draft) }
     {
         self.host.cancel(&mut self.store, draft)
@@ -64,7 +64,7 @@ impl<A: Allocator + Copy> World<A> {
     /// The ticket is handed back, and nothing changed. 1. `Stranger` where no submitted or held command has its queue and
     /// identifier. 2. `NotYet` where it has not ended. 3. `Memory` where memory is refused.
     pub fn collect(&mut self, ticket: Ticket) -> Result<Finished<A>, Refused<Ticket>>
-        ensures step { Step self.old (events.Collect ticket.q ticket.cid) (collect_reply result) self.new }
+        ensures step { Step self.old.state (events.Collect ticket.q ticket.cid) (collect_reply result) self.new.state }
         ensures back { IfErr result (λ r. r.value ≡ ticket) }
     {
         self.host.collect(&mut self.store, ticket)
@@ -77,7 +77,7 @@ impl<A: Allocator + Copy> World<A> {
     /// `Stranger` exactly where no collected command of this world has its queue, identifier, request and pages. Then the
     /// finished command is handed back, and nothing changed.
     pub fn release(&mut self, finished: Finished<A>) -> Result<(), Refused<Finished<A>>>
-        ensures step { Step self.old (events.Release finished) (accept_reply result) self.new }
+        ensures step { Step self.old.state (events.Release finished) (accept_reply result) self.new.state }
         ensures back { IfErr result (λ r. r.value ≡ finished) }
     {
         self.host.release(&mut self.store, finished)

@@ -20,7 +20,7 @@ impl<A: Allocator + Copy> World<A> {
     /// 1. `NoQueue` where there is no such queue, or its completion half was given back and the queue is not made again.
     /// 2. `NoSlot` where the ring has no such slot.
     pub fn forge(&mut self, q: u16, slot: u16, bytes: [u8; 16]) -> Result<(), Refusal>
-        ensures { Step self.old (events.Forge q slot bytes) (ring_reply result) self.new }
+        ensures { Step self.old.state (events.Forge q slot bytes) (ring_reply result) self.new.state }
     {
         let Some(base) = self.host.completion_base(q) else {
             return Err(Refusal::NoQueue);

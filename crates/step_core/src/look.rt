@@ -1,6 +1,6 @@
 //! What would be answered: looks that change nothing, for those who wait until the answer is another.
 
-ghost use Rattle.std.specs.Prelude.{◌≡◌, ◌<◌, ℕ, true, false, None, IfOk, IfSome, IfNone, IsTrue, length, option_and_then};
+ghost use Rattle.std.specs.Prelude.{◌≡◌, ◌+◌, ◌*◌, ◌<◌, ℕ, true, false, None, IfOk, IfSome, IfNone, IsTrue, length, option_and_then};
 ghost use Rattle.std.specs.Result.{result_err};
 ghost use Rattle.io_commands.specs.Least.{least_pages as spec_least_pages};
 ghost use Rattle.io_commands.specs.Requests.{fault_of};
@@ -17,10 +17,11 @@ use std::alloc::Allocator;
 
 impl<A: Allocator + Copy> World<A> {
     ghost use Rattle.step_core.specs.Looks.{has_completion as spec_has_completion, event_of, IsAtRest};
+    ghost use Rattle.step_core.specs.Touching.{LooksAtMost};
 
     /// What [`World::reserve`] would be refused for, want of memory left aside. It makes no step.
     pub fn reserve_refusal(&self, q: u16, request: &Request<A>) -> Option<Refusal>
-        ensures { result ≡ refusal_of self.now (events.Reserve q request.now) }
+        ensures { result ≡ refusal_of self.now.state (events.Reserve q request.now) }
     {
         self.host.reserve_refusal(q, request)
     }
@@ -31,7 +32,7 @@ impl<A: Allocator + Copy> World<A> {
     ///
     /// The first fault of the request.
     pub fn least_pages<B: Allocator>(&self, request: &Request<B>) -> Result<u32, RequestFault>
-        ensures least { IfOk result (λ pages. pages ≡ spec_least_pages request.now.pieces self.now.segment) }
+        ensures least { IfOk result (λ pages. pages ≡ spec_least_pages request.now.pieces self.now.state.segment) }
         ensures fault { result_err result ≡ fault_of request.now.kind request.now.blocks request.now.pieces }
     {
         self.host.least_pages(request)
@@ -39,7 +40,7 @@ impl<A: Allocator + Copy> World<A> {
 
     /// What [`World::collect`] of this command's ticket would be refused for, want of memory left aside. It makes no step.
     pub fn collect_refusal(&self, q: u16, cid: u16) -> Option<Refusal>
-        ensures { result ≡ refusal_of self.now (events.Collect q cid) }
+        ensures { result ≡ refusal_of self.now.state (events.Collect q cid) }
     {
         self.host.collect_refusal(q, cid)
     }
@@ -47,32 +48,34 @@ impl<A: Allocator + Copy> World<A> {
     /// How an outstanding command ended: the status that its record has. None where it has none, or no command is outstanding under this
     /// identifier.
     pub fn status_of(&self, q: u16, cid: u16) -> Option<Status>
-        ensures { result ≡ option_and_then (λ r. r.status) (record_at self.now.host q cid) }
+        ensures { result ≡ option_and_then (λ r. r.status) (record_at self.now.state.host q cid) }
     {
         self.host.status_of(q, cid)
     }
 
     /// How many queues there are, queue 0 among them.
     fn queue_count(&self) -> u16
-        ensures { result ≡ length self.now.host.queues }
+        ensures { result ≡ length self.now.state.host.queues }
     {
         self.host.queue_count()
     }
 
-    /// Whether [`World::reap`] would take a completion from the queue. It makes no step.
+    /// Whether [`World::reap`] would take a completion from the queue. It makes no step, and touches one page at most.
     pub fn has_completion(&mut self, q: u16) -> bool
-        ensures answer { result ≡ spec_has_completion self.old q }
-        ensures same { self.new ≡ self.old }
+        ensures answer { result ≡ spec_has_completion self.old.state q }
+        ensures same { self.new.state ≡ self.old.state }
+        ensures looks { LooksAtMost 1 self.old.touches self.new.touches }
     {
         self.host.completion_waits(&mut self.store, q)
     }
 
-    /// The first queue from which [`World::reap`] would take a completion. It makes no step.
+    /// The first queue from which [`World::reap`] would take a completion. It makes no step, and touches one page of a queue at most.
     pub fn next_completion(&mut self) -> Option<u16>
-        ensures some { IfSome result (λ q. spec_has_completion self.old q ≡ true) }
-        ensures first { IfSome result (λ q. (p : ℕ) → p < q → spec_has_completion self.old p ≡ false) }
-        ensures none { IfNone result ((q : ℕ) → spec_has_completion self.old q ≡ false) }
-        ensures same { self.new ≡ self.old }
+        ensures some { IfSome result (λ q. spec_has_completion self.old.state q ≡ true) }
+        ensures first { IfSome result (λ q. (p : ℕ) → p < q → spec_has_completion self.old.state p ≡ false) }
+        ensures none { IfNone result ((q : ℕ) → spec_has_completion self.old.state q ≡ false) }
+        ensures same { self.new.state ≡ self.old.state }
+        ensures looks { LooksAtMost (length self.old.state.host.queues) self.old.touches self.new.touches }
     {
         let count = self.queue_count();
         for q in 0..count {
@@ -84,11 +87,12 @@ impl<A: Allocator + Copy> World<A> {
     }
 
     /// A step that the controller can do, if there is one. It makes no step. Where the world is trusted, the answer is exact: what is answered
-    /// is not refused, but for want of memory, and `None` says that each step of the controller is.
+    /// is not refused, but for want of memory, and `None` says that each step of the controller is. It touches two pages of each queue at most, and one of a completion.
     pub fn next_step(&mut self) -> Option<ControllerStep>
-        ensures possible { IfSome result (λ step. IsTrue self.old.trusted → refusal_of self.old (event_of step) ≡ None) }
-        ensures rest { IfNone result (IsTrue self.old.trusted → IsAtRest self.old) }
-        ensures same { self.new ≡ self.old }
+        ensures possible { IfSome result (λ step. IsTrue self.old.state.trusted → refusal_of self.old.state (event_of step) ≡ None) }
+        ensures rest { IfNone result (IsTrue self.old.state.trusted → IsAtRest self.old.state) }
+        ensures same { self.new.state ≡ self.old.state }
+        ensures looks { LooksAtMost (2 * length self.old.state.host.queues + 1) self.old.touches self.new.touches }
     {
         prove!(self.host.queue_count() <= u16::MAX);
         let step = self.controller.next_step(&mut self.store);

@@ -54,7 +54,7 @@ impl<A: Allocator + Copy> World<A> {
     /// them, need more pages than the pool has. 3. `Memory` where memory is refused. The image comes back.
     pub fn open(alloc: A, config: Config, image: Image<A>) -> Result<World<A>, OpenRefused<A>>
         ensures fits { IfOk result (λ world. refusal_of_config config ≡ None) }
-        ensures opened { IfOk result (λ world. world ≡ opening_of config image) }
+        ensures opened { IfOk result (λ world. world.state ≡ opening_of config image) }
         ensures refused { IfErr result (λ refused. RefusesOpening config refused.why) }
         ensures handed_back { IfErr result (λ refused. refused.image ≡ image) }
     {
@@ -78,7 +78,7 @@ impl<A: Allocator + Copy> World<A> {
         requires fits { refusal_of_config config ≡ None }
         requires host { opened.host ≡ opened_view config }
         requires pages { opened.store.pages ≡ opened_pages config }
-        ensures opened { IfOk result (λ world. world ≡ opening_of config image) }
+        ensures opened { IfOk result (λ world. world.state ≡ opening_of config image) }
         ensures refused { IfErr result (λ refused. refused.why ≡ Memory) }
         ensures handed_back { IfErr result (λ refused. refused.image ≡ image) }
     {

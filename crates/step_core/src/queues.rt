@@ -17,7 +17,7 @@ impl<A: Allocator + Copy> World<A> {
     ///
     /// `NoQueue` where there is no such queue, or its submission half was given back and is not made again.
     pub fn ring(&mut self, q: u16) -> Result<(), Refusal>
-        ensures { Step self.old (events.Ring q) (ring_reply result) self.new }
+        ensures { Step self.old.state (events.Ring q) (ring_reply result) self.new.state }
     {
         let tail = self.host.ring(q)?;
         self.controller.tail_doorbell(q, tail);
@@ -38,7 +38,7 @@ impl<A: Allocator + Copy> World<A> {
     ///
     /// `NoQueue` where there is no such queue, or its completion half was given back and the queue is not made again. Then nothing changed.
     pub fn reap(&mut self, q: u16) -> Result<Reaped, Refusal>
-        ensures { Step self.old (events.Reap q) (reap_reply result) self.new }
+        ensures { Step self.old.state (events.Reap q) (reap_reply result) self.new.state }
     {
         let reap = self.host.reap(&mut self.store, q)?;
         match reap.head {
@@ -57,7 +57,7 @@ impl<A: Allocator + Copy> World<A> {
     /// 2. `WrongState` where it is being deleted. 3. `NoSuchCommand` where the queue has no submitted command of this identifier.
     /// 4. `NoIdentifier` where each identifier of queue 0 is outstanding. 5. `QueueFull` where the submission ring of queue 0 is full.
     pub fn abort(&mut self, q: u16, cid: u16) -> Result<u16, Refusal>
-        ensures { Step self.old (events.Abort q cid) (send_reply result) self.new }
+        ensures { Step self.old.state (events.Abort q cid) (send_reply result) self.new.state }
     {
         self.host.abort(&mut self.store, q, cid)
     }
@@ -71,7 +71,7 @@ impl<A: Allocator + Copy> World<A> {
     /// 2. `WrongState` where it is being deleted. 3. `NoIdentifier` where each identifier of queue 0 is outstanding. 4. `QueueFull` where the
     /// submission ring of queue 0 is full.
     pub fn delete_sq(&mut self, q: u16) -> Result<u16, Refusal>
-        ensures { Step self.old (events.DeleteSq q) (send_reply result) self.new }
+        ensures { Step self.old.state (events.DeleteSq q) (send_reply result) self.new.state }
     {
         self.host.delete_sq(&mut self.store, q)
     }
@@ -86,7 +86,7 @@ impl<A: Allocator + Copy> World<A> {
     /// of that is outstanding.
     /// 3. `NoIdentifier` where each identifier of queue 0 is outstanding. 4. `QueueFull` where the submission ring of queue 0 is full.
     pub fn delete_cq(&mut self, q: u16) -> Result<u16, Refusal>
-        ensures { Step self.old (events.DeleteCq q) (send_reply result) self.new }
+        ensures { Step self.old.state (events.DeleteCq q) (send_reply result) self.new.state }
     {
         self.host.delete_cq(&mut self.store, q)
     }
@@ -101,7 +101,7 @@ impl<A: Allocator + Copy> World<A> {
     /// command of the queue is outstanding. 4. `NoIdentifier` where each identifier of queue 0 is outstanding. 5. `NoRun` where no run of so
     /// many consecutive pages is free. 6. `QueueFull` where the submission ring of queue 0 is full.
     pub fn create_cq(&mut self, q: u16) -> Result<u16, Refusal>
-        ensures { Step self.old (events.CreateCq q) (send_reply result) self.new }
+        ensures { Step self.old.state (events.CreateCq q) (send_reply result) self.new.state }
     {
         self.host.create_cq(&mut self.store, q)
     }
@@ -116,7 +116,7 @@ impl<A: Allocator + Copy> World<A> {
     /// completion queue is outstanding. 3. `NoIdentifier` where each identifier of queue 0 is outstanding. 4. `NoRun` where no run of so
     /// many consecutive pages is free. 5. `QueueFull` where the submission ring of queue 0 is full.
     pub fn create_sq(&mut self, q: u16) -> Result<u16, Refusal>
-        ensures { Step self.old (events.CreateSq q) (send_reply result) self.new }
+        ensures { Step self.old.state (events.CreateSq q) (send_reply result) self.new.state }
     {
         self.host.create_sq(&mut self.store, q)
     }
@@ -131,7 +131,7 @@ impl<A: Allocator + Copy> World<A> {
     /// Nothing changed. 1. `NotDeleted` where there is no such queue, or the success of its deletion was not reaped, or it was retired or
     /// reset since. 2. `NotDrained` where a new completion stands at the head of its completion ring.
     pub fn retire(&mut self, q: u16) -> Result<(), Refusal>
-        ensures { Step self.old (events.Retire q) (ring_reply result) self.new }
+        ensures { Step self.old.state (events.Retire q) (ring_reply result) self.new.state }
     {
         self.host.retire(&mut self.store, q)
     }

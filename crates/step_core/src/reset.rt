@@ -17,8 +17,8 @@ impl<A: Allocator + Copy> World<A> {
     ///
     /// Whatever was forged before, both sides agree then: the world is trusted until an entry is forged again.
     pub fn reset(&mut self)
-        ensures step { Step self.old events.Reset events.Accepted self.new }
-        ensures recovers { SidesAgree self.new }
+        ensures step { Step self.old.state events.Reset events.Accepted self.new.state }
+        ensures recovers { SidesAgree self.new.state }
     {
         self.host.reset(&mut self.store);
         self.controller.reset();

@@ -4,7 +4,7 @@ ghost use Rattle.std.specs.Prelude.{◌≡◌};
 ghost use Rattle.machine_model.specs.Events as events;
 ghost use Rattle.machine_model.specs.Step.{Step};
 ghost use Rattle.step_core.specs.Replies.{fetch_reply, walk_reply, complete_reply};
-ghost use Rattle.step_core.specs.Touching.{StaysAllowed};
+ghost use Rattle.step_core.specs.Touching.{StaysAllowed, TellsAll};
 ghost use Rattle.two_sides.specs.Serving as serving;
 ghost use Rattle.two_sides.specs.Serving.{why_of};
 
@@ -96,8 +96,9 @@ impl<A: Allocator + Copy> World<A> {
     /// completion is posted at once: 3. `Full`: the completion ring is full. 4. `SlotOut`: the page of the completion's slot is out.
     /// Else 5. `Memory`, where memory is refused.
     pub fn fetch(&mut self, q: u16) -> Result<Fetched, StepRefused>
-        ensures step { Step self.old (events.Fetch q) (fetch_reply result) self.new }
-        ensures touches { StaysAllowed self.old (events.Fetch q) (fetch_reply result) }
+        ensures step { Step self.old.state (events.Fetch q) (fetch_reply result) self.new.state }
+        ensures touches { StaysAllowed self.old.state (events.Fetch q) (fetch_reply result) }
+        ensures tells { TellsAll self.old.touches (fetch_reply result) self.new.touches }
     {
         self.store.clear();
         let answer = self.controller.fetch(q, &mut self.store);
@@ -114,8 +115,9 @@ impl<A: Allocator + Copy> World<A> {
     /// Nothing changed, and no page was touched. Where nothing was forged, it is the first of these that holds, else either:
     /// 1. `NoJob`: the controller has no such command. 2. `Nothing`: it has its verdict already, as each admin command has.
     pub fn walk(&mut self, q: u16, cid: u16) -> Result<Walked, StepRefused>
-        ensures step { Step self.old (events.Walk q cid) (walk_reply result) self.new }
-        ensures touches { StaysAllowed self.old (events.Walk q cid) (walk_reply result) }
+        ensures step { Step self.old.state (events.Walk q cid) (walk_reply result) self.new.state }
+        ensures touches { StaysAllowed self.old.state (events.Walk q cid) (walk_reply result) }
+        ensures tells { TellsAll self.old.touches (walk_reply result) self.new.touches }
     {
         self.store.clear();
         let answer = self.controller.walk(q, cid, &mut self.store);
@@ -133,8 +135,9 @@ impl<A: Allocator + Copy> World<A> {
     /// no such command. 2. `Walking`: its list isn't walked to the end. 3. `Waits`: an Abort waits for the command that it stopped, a
     /// deletion for the commands of its queue. 4. `Full`: the completion ring is full. 5. `SlotOut`: the page of the slot is out.
     pub fn complete(&mut self, q: u16, cid: u16) -> Result<Completed, StepRefused>
-        ensures step { Step self.old (events.Complete q cid) (complete_reply result) self.new }
-        ensures touches { StaysAllowed self.old (events.Complete q cid) (complete_reply result) }
+        ensures step { Step self.old.state (events.Complete q cid) (complete_reply result) self.new.state }
+        ensures touches { StaysAllowed self.old.state (events.Complete q cid) (complete_reply result) }
+        ensures tells { TellsAll self.old.touches (complete_reply result) self.new.touches }
     {
         self.store.clear();
         let answer = self.controller.complete(q, cid, &mut self.store);

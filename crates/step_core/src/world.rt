@@ -6,7 +6,7 @@ use page_memory::Store;
 use std::alloc::{Allocator, Global};
 use std::marker::Model;
 
-/// A driver and its controller, over one pool of pages. Contracts see it as the machine's state.
+/// A driver and its controller, over one pool of pages. Contracts see the machine's state, and how many pages were touched so far.
 #[derive(Drop)]
 pub struct World<A: Allocator = Global> {
     /// The driver's side.
@@ -20,14 +20,15 @@ pub struct World<A: Allocator = Global> {
 }
 
 impl<A: Allocator> Model for World<A> {
-    ghost use Rattle.machine_model.specs.State.{State};
+    ghost use Rattle.std.specs.Prelude.{length};
+    ghost use Rattle.page_memory.specs.Memory.{counted};
     ghost use Rattle.two_sides.specs.Ties.{IsWorld};
-    ghost use Rattle.step_core.specs.World.{sides_of};
+    ghost use Rattle.step_core.specs.World.{WorldContents, sides_of};
     ghost use Rattle.two_sides.specs.Sides.{state_of};
 
-    ghost Value = { State };
+    ghost Value = { WorldContents };
 
-    ghost view = { λ w. state_of (sides_of w.host w.controller w.store.pages w.trusted) };
+    ghost view = { λ w. record { state = state_of (sides_of w.host w.controller w.store.pages w.trusted); touches = counted w.store.unlisted (length w.store.touched) } };
 
     ghost invariant = { λ w. IsWorld (sides_of w.host w.controller w.store.pages w.trusted) };
 }

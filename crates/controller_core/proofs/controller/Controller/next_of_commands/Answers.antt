@@ -1,7 +1,7 @@
 use Rattle.std.proofs.Common.{◌≤◌, ◌∙◌, sym, length, subst, arith}
 use Rattle.page_memory.specs.Memory.{Memory}
 use Rattle.controller_core.specs.Looks.{IsStuck}
-use Rattle.controller_core.proofs.Looks.{all_stuck, stuck_named, past_names}
+use Rattle.controller_core.proofs.Looks.{all_stuck, stuck_named, past_names, no_more_touches}
 use Rattle.controller_core.proofs.controller.Controller.next_of_commands.Goals as goal
 
 pub returns-in_default-clause-none : goal.returns-in_default-clause-none
@@ -15,6 +15,7 @@ loop-preserved g c =
       c.step_of.ensures.pool ∙ c.loop.invariant.1,
       c.next_command-name.ensures c.loop.counter name,
       stuck_named c.args.self.now (g.D.Dma.memory c.args.dma.now) c.loop.counter c.in-Some.q c.in-Some.cid c.loop.invariant.3 name (subst (λ (m : Memory). IsStuck c.args.self.now m c.in-Some.q c.in-Some.cid) c.loop.invariant.0 c.in-None.ensures.none),
+      no_more_touches _ _ _ _ _ _ c.loop.invariant.4 (rw c.in-None.is at c.step_of.ensures.touches),
     )
 
 pub returns-clause-none : goal.returns-clause-none

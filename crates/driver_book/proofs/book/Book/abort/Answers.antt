@@ -18,8 +18,8 @@ invariant_of-self-2 g c =
 
 pub returns-clause-step : goal.returns-clause-step
 returns-clause-step g c =
-    does_in c.self.view_is c.abort-answer.new.self c.note.new.log.items (vec_capacity c.note.new.log - vec_len c.note.new.log) None (events.Abort c.args.q c.args.cid) (send_reply c.abort-answer.result) c.abort-answer.ensures (rw (c.note.ensures, c.reserve.ensures.items, c.sent.ensures) refl)
+    does_in c.self.view_is c.abort-answer.new.self.state c.note.new.log.items (vec_capacity c.note.new.log - vec_len c.note.new.log) _ None (events.Abort c.args.q c.args.cid) (send_reply c.abort-answer.result) c.abort-answer.ensures (rw (c.note.ensures, c.reserve.ensures.items, c.sent.ensures) refl)
 
 pub returns-clause-memory : goal.returns-clause-memory
 returns-clause-memory g c =
-    takes_no_memory (IsLogFull c.args.self.now) c.self.inside.world c.abort-answer.new.self (events.Abort c.args.q c.args.cid) (send_reply c.abort-answer.result) refl c.abort-answer.ensures
+    takes_no_memory (IsLogFull c.args.self.now) c.self.inside.world.state c.abort-answer.new.self.state (events.Abort c.args.q c.args.cid) (send_reply c.abort-answer.result) refl c.abort-answer.ensures

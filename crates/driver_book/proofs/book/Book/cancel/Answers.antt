@@ -19,8 +19,8 @@ invariant_of-self-2 g c =
 
 pub returns-clause-step : goal.returns-clause-step
 returns-clause-step g c =
-    does_in c.self.view_is c.cancel-answer.new.self c.note.new.log.items (vec_capacity c.note.new.log - vec_len c.note.new.log) None (events.Cancel c.args.draft) (accept_reply c.cancel-answer.result) c.cancel-answer.ensures.step (rw (c.note.ensures, c.reserve.ensures.items, c.q.ensures, c.cid.ensures, c.ended.ensures) refl)
+    does_in c.self.view_is c.cancel-answer.new.self.state c.note.new.log.items (vec_capacity c.note.new.log - vec_len c.note.new.log) _ None (events.Cancel c.args.draft) (accept_reply c.cancel-answer.result) c.cancel-answer.ensures.step (rw (c.note.ensures, c.reserve.ensures.items, c.q.ensures, c.cid.ensures, c.ended.ensures) refl)
 
 pub returns-clause-memory : goal.returns-clause-memory
 returns-clause-memory g c =
-    takes_no_memory (IsLogFull c.args.self.now) c.self.inside.world c.cancel-answer.new.self (events.Cancel c.args.draft) (accept_reply c.cancel-answer.result) refl c.cancel-answer.ensures.step
+    takes_no_memory (IsLogFull c.args.self.now) c.self.inside.world.state c.cancel-answer.new.self.state (events.Cancel c.args.draft) (accept_reply c.cancel-answer.result) refl c.cancel-answer.ensures.step

@@ -39,13 +39,13 @@ pub returns-then-not-is_idle-clause-cause : goal.returns-then-not-is_idle-clause
 returns-then-not-is_idle-clause-cause g c =
     let long : length c.args.seats.items ≡ vec_len c.args.seats = ap length (sym c.as_slice-2.ensures.value) ∙ c.as_slice-2.ensures.len in
     subst (λ (b : BookContents). RefusesClose StillOut b c.args.seats.items) c.self.view_is
-    (stand_in c.as_slice.ensures.value c.as_slice-2.ensures.value c.in_default.ensures, omega (arith, long, c.if-len-from.false, c.len.ensures, c.from.ensures), inr (not_none (length c.self.inside.world.host.records) (sym c.is_idle.ensures ∙ c.if-not-is_idle.true)))
+    (stand_in c.as_slice.ensures.value c.as_slice-2.ensures.value c.in_default.ensures, omega (arith, long, c.if-len-from.false, c.len.ensures, c.from.ensures), inr (not_none (length c.self.inside.world.state.host.records) (sym c.is_idle.ensures ∙ c.if-not-is_idle.true)))
 
 pub returns-in_default-with_capacity-clause-cause : goal.returns-in_default-with_capacity-clause-cause
 returns-in_default-with_capacity-clause-cause g c =
     let long : length c.args.seats.items ≡ vec_len c.args.seats = ap length (sym c.as_slice-2.ensures.value) ∙ c.as_slice-2.ensures.len in
     let shut : has_open c.args.seats.items ≡ false = ap has_open (sym c.as_slice-3.ensures.value) ∙ sym c.any_open.ensures ∙ c.if-any_open.false in
-    let idle : length c.self.inside.world.host.records ≡ 0 = eqb-true (length c.self.inside.world.host.records) 0 (sym c.is_idle.ensures ∙ c.if-not-is_idle.false) in
+    let idle : length c.self.inside.world.state.host.records ≡ 0 = eqb-true (length c.self.inside.world.state.host.records) 0 (sym c.is_idle.ensures ∙ c.if-not-is_idle.false) in
     let some : 0 < c.len-2.result = wanted c.len-2.result c.with_capacity.result c.with_capacity.ensures.succeeds c.in_default-with_capacity.is in
     subst (λ (b : BookContents). RefusesClose Memory b c.args.seats.items) c.self.view_is
     (stand_in c.as_slice.ensures.value c.as_slice-2.ensures.value c.in_default.ensures, omega (arith, long, c.if-len-from.false, c.len.ensures, c.from.ensures), (shut, idle), omega (arith, long, some, c.len-2.ensures))

@@ -19,8 +19,8 @@ invariant_of-self-2 g c =
 
 pub returns-clause-step : goal.returns-clause-step
 returns-clause-step g c =
-    does_in c.self.view_is c.collect-answer.new.self c.note.new.log.items (vec_capacity c.note.new.log - vec_len c.note.new.log) None (events.Collect c.args.ticket.q c.args.ticket.cid) (collect_reply c.collect-answer.result) c.collect-answer.ensures.step (rw (c.note.ensures, c.reserve.ensures.items, c.q.ensures, c.cid.ensures, c.collected.ensures) refl)
+    does_in c.self.view_is c.collect-answer.new.self.state c.note.new.log.items (vec_capacity c.note.new.log - vec_len c.note.new.log) _ None (events.Collect c.args.ticket.q c.args.ticket.cid) (collect_reply c.collect-answer.result) c.collect-answer.ensures.step (rw (c.note.ensures, c.reserve.ensures.items, c.q.ensures, c.cid.ensures, c.collected.ensures) refl)
 
 pub returns-clause-memory : goal.returns-clause-memory
 returns-clause-memory g c =
-    takes_memory (IsLogFull c.args.self.now) c.self.view_is c.collect-answer.new.self (events.Collect c.args.ticket.q c.args.ticket.cid) (collect_reply c.collect-answer.result) c.collect-answer.ensures.step
+    takes_memory (IsLogFull c.args.self.now) c.self.view_is c.collect-answer.new.self.state (events.Collect c.args.ticket.q c.args.ticket.cid) (collect_reply c.collect-answer.result) c.collect-answer.ensures.step

@@ -18,8 +18,8 @@ invariant_of-self-2 g c =
 
 pub returns-clause-step : goal.returns-clause-step
 returns-clause-step g c =
-    does_in c.self.view_is c.delete_sq-answer.new.self c.note.new.log.items (vec_capacity c.note.new.log - vec_len c.note.new.log) None (events.DeleteSq c.args.q) (send_reply c.delete_sq-answer.result) c.delete_sq-answer.ensures (rw (c.note.ensures, c.reserve.ensures.items, c.sent.ensures) refl)
+    does_in c.self.view_is c.delete_sq-answer.new.self.state c.note.new.log.items (vec_capacity c.note.new.log - vec_len c.note.new.log) _ None (events.DeleteSq c.args.q) (send_reply c.delete_sq-answer.result) c.delete_sq-answer.ensures (rw (c.note.ensures, c.reserve.ensures.items, c.sent.ensures) refl)
 
 pub returns-clause-memory : goal.returns-clause-memory
 returns-clause-memory g c =
-    takes_no_memory (IsLogFull c.args.self.now) c.self.inside.world c.delete_sq-answer.new.self (events.DeleteSq c.args.q) (send_reply c.delete_sq-answer.result) refl c.delete_sq-answer.ensures
+    takes_no_memory (IsLogFull c.args.self.now) c.self.inside.world.state c.delete_sq-answer.new.self.state (events.DeleteSq c.args.q) (send_reply c.delete_sq-answer.result) refl c.delete_sq-answer.ensures

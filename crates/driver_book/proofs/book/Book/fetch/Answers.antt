@@ -20,12 +20,18 @@ invariant_of-self-2 g c =
 
 pub returns-clause-step : goal.returns-clause-step
 returns-clause-step g c =
-    does_in c.self.view_is c.fetch-answer.new.self c.note.new.log.items (vec_capacity c.note.new.log - vec_len c.note.new.log) None (events.Fetch c.args.q) (fetch_reply c.fetch-answer.result) c.fetch-answer.ensures.step (rw (c.note.ensures, c.reserve.ensures.items, c.fetched.ensures) refl)
+    does_in c.self.view_is c.fetch-answer.new.self.state c.note.new.log.items (vec_capacity c.note.new.log - vec_len c.note.new.log) _ None (events.Fetch c.args.q) (fetch_reply c.fetch-answer.result) c.fetch-answer.ensures.step (rw (c.note.ensures, c.reserve.ensures.items, c.fetched.ensures) refl)
 
 pub returns-clause-touches : goal.returns-clause-touches
 returns-clause-touches g c =
-    touches_in c.args.self.now c.self.inside.world (events.Fetch c.args.q) (fetch_reply c.fetch-answer.result) (sym (ap (λ (b : BookContents). b.world) c.self.view_is)) c.fetch-answer.ensures.touches
+    touches_in c.args.self.now c.self.inside.world.state (events.Fetch c.args.q) (fetch_reply c.fetch-answer.result) (sym (ap (λ (b : BookContents). b.world) c.self.view_is)) c.fetch-answer.ensures.touches
 
 pub returns-clause-memory : goal.returns-clause-memory
 returns-clause-memory g c =
-    takes_memory (IsLogFull c.args.self.now) c.self.view_is c.fetch-answer.new.self (events.Fetch c.args.q) (fetch_reply c.fetch-answer.result) c.fetch-answer.ensures.step
+    takes_memory (IsLogFull c.args.self.now) c.self.view_is c.fetch-answer.new.self.state (events.Fetch c.args.q) (fetch_reply c.fetch-answer.result) c.fetch-answer.ensures.step
+
+pub returns-then-is_err-clause-tells : goal.returns-then-is_err-clause-tells
+returns-then-is_err-clause-tells g c = rw (c.unlogged.ensures.touched, ← c.self.view_is) refl
+
+pub returns-clause-tells : goal.returns-clause-tells
+returns-clause-tells g c = rw (← c.self.view_is) c.fetch-answer.ensures.tells

@@ -18,8 +18,8 @@ invariant_of-self-2 g c =
 
 pub returns-clause-step : goal.returns-clause-step
 returns-clause-step g c =
-    does_in c.self.view_is c.reap-answer.new.self c.note.new.log.items (vec_capacity c.note.new.log - vec_len c.note.new.log) None (events.Reap c.args.q) (reap_reply c.reap-answer.result) c.reap-answer.ensures (rw (c.note.ensures, c.reserve.ensures.items, c.reaped.ensures) refl)
+    does_in c.self.view_is c.reap-answer.new.self.state c.note.new.log.items (vec_capacity c.note.new.log - vec_len c.note.new.log) _ None (events.Reap c.args.q) (reap_reply c.reap-answer.result) c.reap-answer.ensures (rw (c.note.ensures, c.reserve.ensures.items, c.reaped.ensures) refl)
 
 pub returns-clause-memory : goal.returns-clause-memory
 returns-clause-memory g c =
-    takes_no_memory (IsLogFull c.args.self.now) c.self.inside.world c.reap-answer.new.self (events.Reap c.args.q) (reap_reply c.reap-answer.result) refl c.reap-answer.ensures
+    takes_no_memory (IsLogFull c.args.self.now) c.self.inside.world.state c.reap-answer.new.self.state (events.Reap c.args.q) (reap_reply c.reap-answer.result) refl c.reap-answer.ensures

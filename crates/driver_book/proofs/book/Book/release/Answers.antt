@@ -16,12 +16,12 @@ invariant_of-self-2 g c =
 pub returns-clause-step : goal.returns-clause-step
 returns-clause-step g c =
     rw (← c.seat.view_is)
-    (does_in c.self.view_is c.release-answer.new.self c.note.new.log.items (vec_capacity c.note.new.log - vec_len c.note.new.log) (Some c.seat.inside.number) (events.Release c.args.finished) (accept_reply c.release-answer.result) c.release-answer.ensures.step
+    (does_in c.self.view_is c.release-answer.new.self.state c.note.new.log.items (vec_capacity c.note.new.log - vec_len c.note.new.log) _ (Some c.seat.inside.number) (events.Release c.args.finished) (accept_reply c.release-answer.result) c.release-answer.ensures.step
     (rw (c.note.ensures, c.reserve.ensures.items, c.q-q.ensures, c.cid-cid.ensures, c.ended.ensures) refl))
 
 pub returns-clause-memory : goal.returns-clause-memory
 returns-clause-memory g c =
-    takes_no_memory (IsLogFull c.args.self.now) c.self.inside.world c.release-answer.new.self (events.Release c.args.finished) (accept_reply c.release-answer.result) refl c.release-answer.ensures.step
+    takes_no_memory (IsLogFull c.args.self.now) c.self.inside.world.state c.release-answer.new.self.state (events.Release c.args.finished) (accept_reply c.release-answer.result) refl c.release-answer.ensures.step
 
 pub returns-then-is_err-clause-memory : goal.returns-then-is_err-clause-memory
 returns-then-is_err-clause-memory g c =

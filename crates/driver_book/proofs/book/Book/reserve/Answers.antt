@@ -13,5 +13,5 @@ invariant_of-self-2 g c =
 pub returns-clause-step : goal.returns-clause-step
 returns-clause-step g c =
     let same : c.in-Ok.asked ≡ c.args.request = c.in-Ok.ensures in
-    does_in c.self.view_is c.reserve-answer.new.self c.note.new.log.items (vec_capacity c.note.new.log - vec_len c.note.new.log) None (events.Reserve c.args.q c.args.request) (reserve_reply c.reserve-answer.result) c.reserve-answer.ensures.step
+    does_in c.self.view_is c.reserve-answer.new.self.state c.note.new.log.items (vec_capacity c.note.new.log - vec_len c.note.new.log) _ None (events.Reserve c.args.q c.args.request) (reserve_reply c.reserve-answer.result) c.reserve-answer.ensures.step
     (rw (c.note.ensures, c.reserve.ensures.items, c.reserved.ensures, same) refl)

@@ -14,4 +14,4 @@ invariant_of-self-2 g c = keeps_book None events.Reset events.Accepted c.self.in
 
 pub returns-clause-step : goal.returns-clause-step
 returns-clause-step g c =
-    does_in c.self.view_is c.reset.new.self c.note.new.log.items (vec_capacity c.note.new.log - vec_len c.note.new.log) None events.Reset events.Accepted c.reset.ensures.step (rw (c.note.ensures, c.reserve.ensures.items) refl)
+    does_in c.self.view_is c.reset.new.self.state c.note.new.log.items (vec_capacity c.note.new.log - vec_len c.note.new.log) _ None events.Reset events.Accepted c.reset.ensures.step (rw (c.note.ensures, c.reserve.ensures.items) refl)

@@ -18,8 +18,8 @@ invariant_of-self-2 g c =
 
 pub returns-clause-step : goal.returns-clause-step
 returns-clause-step g c =
-    does_in c.self.view_is c.retire-answer.new.self c.note.new.log.items (vec_capacity c.note.new.log - vec_len c.note.new.log) None (events.Retire c.args.q) (ring_reply c.retire-answer.result) c.retire-answer.ensures (rw (c.note.ensures, c.reserve.ensures.items, c.done.ensures) refl)
+    does_in c.self.view_is c.retire-answer.new.self.state c.note.new.log.items (vec_capacity c.note.new.log - vec_len c.note.new.log) _ None (events.Retire c.args.q) (ring_reply c.retire-answer.result) c.retire-answer.ensures (rw (c.note.ensures, c.reserve.ensures.items, c.done.ensures) refl)
 
 pub returns-clause-memory : goal.returns-clause-memory
 returns-clause-memory g c =
-    takes_no_memory (IsLogFull c.args.self.now) c.self.inside.world c.retire-answer.new.self (events.Retire c.args.q) (ring_reply c.retire-answer.result) refl c.retire-answer.ensures
+    takes_no_memory (IsLogFull c.args.self.now) c.self.inside.world.state c.retire-answer.new.self.state (events.Retire c.args.q) (ring_reply c.retire-answer.result) refl c.retire-answer.ensures

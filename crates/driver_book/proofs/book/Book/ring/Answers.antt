@@ -18,8 +18,8 @@ invariant_of-self-2 g c =
 
 pub returns-clause-step : goal.returns-clause-step
 returns-clause-step g c =
-    does_in c.self.view_is c.ring-answer.new.self c.note.new.log.items (vec_capacity c.note.new.log - vec_len c.note.new.log) None (events.Ring c.args.q) (ring_reply c.ring-answer.result) c.ring-answer.ensures (rw (c.note.ensures, c.reserve.ensures.items, c.done.ensures) refl)
+    does_in c.self.view_is c.ring-answer.new.self.state c.note.new.log.items (vec_capacity c.note.new.log - vec_len c.note.new.log) _ None (events.Ring c.args.q) (ring_reply c.ring-answer.result) c.ring-answer.ensures (rw (c.note.ensures, c.reserve.ensures.items, c.done.ensures) refl)
 
 pub returns-clause-memory : goal.returns-clause-memory
 returns-clause-memory g c =
-    takes_no_memory (IsLogFull c.args.self.now) c.self.inside.world c.ring-answer.new.self (events.Ring c.args.q) (ring_reply c.ring-answer.result) refl c.ring-answer.ensures
+    takes_no_memory (IsLogFull c.args.self.now) c.self.inside.world.state c.ring-answer.new.self.state (events.Ring c.args.q) (ring_reply c.ring-answer.result) refl c.ring-answer.ensures

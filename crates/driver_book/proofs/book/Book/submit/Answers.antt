@@ -19,11 +19,11 @@ invariant_of-self-else-is_ok g c =
 pub returns-else-is_ok-clause-step : goal.returns-else-is_ok-clause-step
 returns-else-is_ok-clause-step g c =
     rw (← c.seat.view_is)
-    (does_in c.self.view_is c.submit-answer.new.self c.note.new.log.items (vec_capacity c.note.new.log - vec_len c.note.new.log) (Some c.seat.inside.number) (events.Submit c.args.draft) (accept_reply c.submit-answer.result) c.submit-answer.ensures.step (rw (c.note.ensures, c.reserve.ensures.items, c.q-q.ensures, c.cid-cid.ensures, c.submitted.ensures) refl))
+    (does_in c.self.view_is c.submit-answer.new.self.state c.note.new.log.items (vec_capacity c.note.new.log - vec_len c.note.new.log) _ (Some c.seat.inside.number) (events.Submit c.args.draft) (accept_reply c.submit-answer.result) c.submit-answer.ensures.step (rw (c.note.ensures, c.reserve.ensures.items, c.q-q.ensures, c.cid-cid.ensures, c.submitted.ensures) refl))
 
 pub returns-else-is_ok-clause-memory : goal.returns-else-is_ok-clause-memory
 returns-else-is_ok-clause-memory g c =
-    takes_no_memory (IsLogFull c.args.self.now ⊎ AreReceiptsFull c.args.seat.now) c.self.inside.world c.submit-answer.new.self (events.Submit c.args.draft) (accept_reply c.submit-answer.result) refl c.submit-answer.ensures.step
+    takes_no_memory (IsLogFull c.args.self.now ⊎ AreReceiptsFull c.args.seat.now) c.self.inside.world.state c.submit-answer.new.self.state (events.Submit c.args.draft) (accept_reply c.submit-answer.result) refl c.submit-answer.ensures.step
 
 pub returns-then-is_err-clause-memory : goal.returns-then-is_err-clause-memory
 returns-then-is_err-clause-memory g c =
@@ -38,7 +38,7 @@ push_reserved-requires g c = has_room _ _ c.reserve-2.result (sym c.is_err-2.ens
 pub returns-then-is_ok-clause-step : goal.returns-then-is_ok-clause-step
 returns-then-is_ok-clause-step g c =
     rw (← c.seat.view_is)
-    (does_in c.self.view_is c.submit-answer.new.self c.note.new.log.items (vec_capacity c.note.new.log - vec_len c.note.new.log) (Some c.seat.inside.number) (events.Submit c.args.draft) (accept_reply c.submit-answer.result) c.submit-answer.ensures.step (rw (c.note.ensures, c.reserve.ensures.items, c.q-q.ensures, c.cid-cid.ensures, c.submitted.ensures) refl))
+    (does_in c.self.view_is c.submit-answer.new.self.state c.note.new.log.items (vec_capacity c.note.new.log - vec_len c.note.new.log) _ (Some c.seat.inside.number) (events.Submit c.args.draft) (accept_reply c.submit-answer.result) c.submit-answer.ensures.step (rw (c.note.ensures, c.reserve.ensures.items, c.q-q.ensures, c.cid-cid.ensures, c.submitted.ensures) refl))
 
 pub returns-then-is_ok-clause-receipt : goal.returns-then-is_ok-clause-receipt
 returns-then-is_ok-clause-receipt g c =
@@ -47,4 +47,4 @@ returns-then-is_ok-clause-receipt g c =
 
 pub returns-then-is_ok-clause-memory : goal.returns-then-is_ok-clause-memory
 returns-then-is_ok-clause-memory g c =
-    takes_no_memory (IsLogFull c.args.self.now ⊎ AreReceiptsFull c.args.seat.now) c.self.inside.world c.submit-answer.new.self (events.Submit c.args.draft) (accept_reply c.submit-answer.result) refl c.submit-answer.ensures.step
+    takes_no_memory (IsLogFull c.args.self.now ⊎ AreReceiptsFull c.args.seat.now) c.self.inside.world.state c.submit-answer.new.self.state (events.Submit c.args.draft) (accept_reply c.submit-answer.result) refl c.submit-answer.ensures.step

@@ -20,12 +20,18 @@ invariant_of-self-2 g c =
 
 pub returns-clause-step : goal.returns-clause-step
 returns-clause-step g c =
-    does_in c.self.view_is c.walk-answer.new.self c.note.new.log.items (vec_capacity c.note.new.log - vec_len c.note.new.log) None (events.Walk c.args.q c.args.cid) (walk_reply c.walk-answer.result) c.walk-answer.ensures.step (rw (c.note.ensures, c.reserve.ensures.items, c.walked.ensures) refl)
+    does_in c.self.view_is c.walk-answer.new.self.state c.note.new.log.items (vec_capacity c.note.new.log - vec_len c.note.new.log) _ None (events.Walk c.args.q c.args.cid) (walk_reply c.walk-answer.result) c.walk-answer.ensures.step (rw (c.note.ensures, c.reserve.ensures.items, c.walked.ensures) refl)
 
 pub returns-clause-touches : goal.returns-clause-touches
 returns-clause-touches g c =
-    touches_in c.args.self.now c.self.inside.world (events.Walk c.args.q c.args.cid) (walk_reply c.walk-answer.result) (sym (ap (λ (b : BookContents). b.world) c.self.view_is)) c.walk-answer.ensures.touches
+    touches_in c.args.self.now c.self.inside.world.state (events.Walk c.args.q c.args.cid) (walk_reply c.walk-answer.result) (sym (ap (λ (b : BookContents). b.world) c.self.view_is)) c.walk-answer.ensures.touches
 
 pub returns-clause-memory : goal.returns-clause-memory
 returns-clause-memory g c =
-    takes_no_memory (IsLogFull c.args.self.now) c.self.inside.world c.walk-answer.new.self (events.Walk c.args.q c.args.cid) (walk_reply c.walk-answer.result) refl c.walk-answer.ensures.step
+    takes_no_memory (IsLogFull c.args.self.now) c.self.inside.world.state c.walk-answer.new.self.state (events.Walk c.args.q c.args.cid) (walk_reply c.walk-answer.result) refl c.walk-answer.ensures.step
+
+pub returns-then-is_err-clause-tells : goal.returns-then-is_err-clause-tells
+returns-then-is_err-clause-tells g c = rw (c.unlogged.ensures.touched, ← c.self.view_is) refl
+
+pub returns-clause-tells : goal.returns-clause-tells
+returns-clause-tells g c = rw (← c.self.view_is) c.walk-answer.ensures.tells

@@ -14,4 +14,5 @@ loop-k-preserved g c =
       ap (λ (b : List (Option ℕ)). length b) c.put.ensures.put ∙ rw length-set c.loop-k.invariant.0,
       c.put.ensures.touched ∙ c.loop-k.invariant.1,
       wrote_more c.loop-k.self.bytes _ c.args.addr c.loop-k.k c.args.bytes.now (slot_at c.touch.new.self.bytes) c.loop-k.invariant.2 c.loop-k-test.true inside c.put.ensures.put,
+      c.put.ensures.unlisted ∙ c.loop-k.invariant.3,
     )

@@ -8,3 +8,4 @@ invariant-loop-k g l =
     (length l.self.bytes ≡ length l.initial.self.bytes)
     × (l.self.touched ≡ l.initial.self.touched)
     × (slot_at l.self.bytes ≡ written (slot_at l.initial.self.bytes) l.addr (take l.k l.bytes))
+    × (l.self.unlisted ≡ l.initial.self.unlisted)

@@ -5,7 +5,7 @@ use Rattle.step_core.proofs.kept.Kept.do_all.Given as goal
 
 abbrev pub invariant-loop-step : goal.invariant-loop-step
 invariant-loop-step g l = record {
-  bench : IsBench l.self.world l.self.values;
+  bench : IsBench l.self.world.state l.self.values;
   done : DoesAll (table_of l.initial.self) l.yielded l.replies.items (table_of l.self);
   answers : vec_len l.replies + (length l.fn.steps.items - length l.yielded) ≤ vec_capacity l.replies;
 }

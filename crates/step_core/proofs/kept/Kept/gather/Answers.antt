@@ -3,12 +3,12 @@ use Rattle.step_core.proofs.Benches.{no_gather, gathers, gathers_nothing}
 use Rattle.step_core.proofs.kept.Kept.gather.Goals as goal
 
 pub returns-in_default-clause-does : goal.returns-in_default-clause-does
-returns-in_default-clause-does g c = no_gather c.args.self.now.world c.args.self.now.values c.args.q c.args.cid c.requires (sym c.in_default.ensures)
+returns-in_default-clause-does g c = no_gather c.args.self.now.world.state c.args.self.now.values c.args.q c.args.cid c.requires (sym c.in_default.ensures)
 
 pub returns-in-Ok-clause-does : goal.returns-in-Ok-clause-does
 returns-in-Ok-clause-does g c =
-    gathers c.args.self.now.world c.args.self.now.values c.args.q c.args.cid c.in-Some.finished.now c.requires c.in-Some.ensures c.from_vec.result (c.from_vec.ensures ∙ c.in-Ok.ensures.gathered)
+    gathers c.args.self.now.world.state c.args.self.now.values c.args.q c.args.cid c.in-Some.finished.now c.requires c.in-Some.ensures c.from_vec.result (c.from_vec.ensures ∙ c.in-Ok.ensures.gathered)
 
 pub returns-in-Err-clause-does : goal.returns-in-Err-clause-does
 returns-in-Err-clause-does g c =
-    gathers_nothing c.args.self.now.world c.args.self.now.values c.args.q c.args.cid c.in-Some.finished.now c.requires c.in-Some.ensures c.no_memory.result c.no_memory.ensures
+    gathers_nothing c.args.self.now.world.state c.args.self.now.values c.args.q c.args.cid c.in-Some.finished.now c.requires c.in-Some.ensures c.no_memory.result c.no_memory.ensures

@@ -1,14 +1,14 @@
-use Rattle.std.proofs.Common.{refl}
+use Rattle.std.proofs.Common.{refl, ap}
 use Rattle.machine_model.specs.Events as events
 use Rattle.step_core.specs.Replies.{collect_reply}
-use Rattle.step_core.specs.World.{sides_of}
+use Rattle.step_core.specs.World.{WorldContents, sides_of}
 use Rattle.step_core.proofs.Steps.{silent_goes, step_from}
 use Rattle.step_core.proofs.world.World.collect.Goals as goal
 
 pub returns-clause-step : goal.returns-clause-step
 returns-clause-step g c =
     let old = sides_of c.self.inside.host c.self.inside.controller c.self.inside.store.pages c.self.inside.trusted in
-    step_from (silent_goes old (events.Collect c.args.ticket.q c.args.ticket.cid) (collect_reply c.collect.result) c.collect.new.self c.collect.new.store.pages c.self.invariant refl refl refl c.collect.ensures.step c.collect.ensures.over) c.self.view_is
+    step_from (silent_goes old (events.Collect c.args.ticket.q c.args.ticket.cid) (collect_reply c.collect.result) c.collect.new.self c.collect.new.store.pages c.self.invariant refl refl refl c.collect.ensures.step c.collect.ensures.over) (ap (λ (w : WorldContents). w.state) c.self.view_is)
 
 pub invariant_of-self : goal.invariant_of-self
 invariant_of-self g c =

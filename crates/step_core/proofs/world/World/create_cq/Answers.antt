@@ -1,14 +1,14 @@
-use Rattle.std.proofs.Common.{refl}
+use Rattle.std.proofs.Common.{refl, ap}
 use Rattle.machine_model.specs.Events as events
 use Rattle.step_core.specs.Replies.{send_reply}
-use Rattle.step_core.specs.World.{sides_of}
+use Rattle.step_core.specs.World.{WorldContents, sides_of}
 use Rattle.step_core.proofs.Steps.{silent_goes, step_from}
 use Rattle.step_core.proofs.world.World.create_cq.Goals as goal
 
 pub returns : goal.returns
 returns g c =
     let old = sides_of c.self.inside.host c.self.inside.controller c.self.inside.store.pages c.self.inside.trusted in
-    step_from (silent_goes old (events.CreateCq c.args.q) (send_reply c.create_cq.result) c.create_cq.new.self c.create_cq.new.store.pages c.self.invariant refl refl refl c.create_cq.ensures.step c.create_cq.ensures.over) c.self.view_is
+    step_from (silent_goes old (events.CreateCq c.args.q) (send_reply c.create_cq.result) c.create_cq.new.self c.create_cq.new.store.pages c.self.invariant refl refl refl c.create_cq.ensures.step c.create_cq.ensures.over) (ap (λ (w : WorldContents). w.state) c.self.view_is)
 
 pub invariant_of-self : goal.invariant_of-self
 invariant_of-self g c =

@@ -1,7 +1,7 @@
 use Rattle.std.proofs.Common.{◌∙◌, ap, sym, ℕ, Option}
 use Rattle.std.specs.Option.{option_map_or}
 use Rattle.controller_core.specs.Doorbells.{head_rung}
-use Rattle.step_core.specs.World.{sides_of}
+use Rattle.step_core.specs.World.{WorldContents, sides_of}
 use Rattle.step_core.proofs.Steps.{reap_goes, step_from}
 use Rattle.step_core.proofs.world.World.reap.Goals as goal
 
@@ -14,7 +14,7 @@ pub returns-in-Some : goal.returns-in-Some
 returns-in-Some g c =
     step_from (reap_goes (sides_of c.self.inside.host c.self.inside.controller c.self.inside.store.pages c.self.inside.trusted) c.args.q c.in_ok-reap.reap.found c.in_ok-reap.reap.head c.reap.new.self c.reap.new.store.pages c.head_doorbell.new.self
     c.self.invariant c.in_ok-reap.ensures.step c.in_ok-reap.ensures.head c.reap.ensures.over (c.head_doorbell.ensures ∙ ap (λ (o : Option ℕ). option_map_or (λ head. head_rung c.args.q head c.self.inside.controller) o c.self.inside.controller) (sym c.in-Some.is)))
-    c.self.view_is
+    (ap (λ (w : WorldContents). w.state) c.self.view_is)
 
 pub invariant_of-self-in-None : goal.invariant_of-self-in-None
 invariant_of-self-in-None g c =
@@ -25,4 +25,4 @@ pub returns-in-None : goal.returns-in-None
 returns-in-None g c =
     step_from (reap_goes (sides_of c.self.inside.host c.self.inside.controller c.self.inside.store.pages c.self.inside.trusted) c.args.q c.in_ok-reap.reap.found c.in_ok-reap.reap.head c.reap.new.self c.reap.new.store.pages c.self.inside.controller
     c.self.invariant c.in_ok-reap.ensures.step c.in_ok-reap.ensures.head c.reap.ensures.over (ap (λ (o : Option ℕ). option_map_or (λ head. head_rung c.args.q head c.self.inside.controller) o c.self.inside.controller) (sym c.in-None.is)))
-    c.self.view_is
+    (ap (λ (w : WorldContents). w.state) c.self.view_is)

@@ -1,14 +1,14 @@
-use Rattle.std.proofs.Common.{refl}
+use Rattle.std.proofs.Common.{refl, ap}
 use Rattle.machine_model.specs.Events as events
 use Rattle.step_core.specs.Replies.{accept_reply}
-use Rattle.step_core.specs.World.{sides_of}
+use Rattle.step_core.specs.World.{WorldContents, sides_of}
 use Rattle.step_core.proofs.Steps.{silent_goes, step_from}
 use Rattle.step_core.proofs.world.World.release.Goals as goal
 
 pub returns-clause-step : goal.returns-clause-step
 returns-clause-step g c =
     let old = sides_of c.self.inside.host c.self.inside.controller c.self.inside.store.pages c.self.inside.trusted in
-    step_from (silent_goes old (events.Release c.args.finished) (accept_reply c.release.result) c.release.new.self c.release.new.store.pages c.self.invariant refl refl refl c.release.ensures.step c.release.ensures.over) c.self.view_is
+    step_from (silent_goes old (events.Release c.args.finished) (accept_reply c.release.result) c.release.new.self c.release.new.store.pages c.self.invariant refl refl refl c.release.ensures.step c.release.ensures.over) (ap (λ (w : WorldContents). w.state) c.self.view_is)
 
 pub invariant_of-self : goal.invariant_of-self
 invariant_of-self g c =

@@ -1,5 +1,5 @@
-use Rattle.std.proofs.Common.{refl}
-use Rattle.step_core.specs.World.{sides_of}
+use Rattle.std.proofs.Common.{refl, ap}
+use Rattle.step_core.specs.World.{WorldContents, sides_of}
 use Rattle.step_core.proofs.Resetting.{agree_behind, reset_goes}
 use Rattle.step_core.proofs.Steps.{step_from}
 use Rattle.step_core.proofs.world.World.reset.Goals as goal
@@ -12,7 +12,7 @@ invariant_of-self g c =
 pub returns-clause-step : goal.returns-clause-step
 returns-clause-step g c =
     let old = sides_of c.self.inside.host c.self.inside.controller c.self.inside.store.pages c.self.inside.trusted in
-    step_from (reset_goes old c.reset.new.self c.reset-2.new.self c.reset.new.store.pages c.self.invariant c.reset.ensures.host c.reset.ensures.pages c.reset.ensures.over c.reset-2.ensures) c.self.view_is
+    step_from (reset_goes old c.reset.new.self c.reset-2.new.self c.reset.new.store.pages c.self.invariant c.reset.ensures.host c.reset.ensures.pages c.reset.ensures.over c.reset-2.ensures) (ap (λ (w : WorldContents). w.state) c.self.view_is)
 
 pub returns-clause-recovers : goal.returns-clause-recovers
 returns-clause-recovers g c =
