@@ -10,7 +10,9 @@ use block_image::Image;
 use driver_book::Driver;
 use driver_desk::values::draft_of;
 use driver_desk::{Access, Desk, Value};
-use driver_threads::{Job, JobEnd, JobRefusal, Open, Shared, Worked, poller, submitter};
+use driver_threads::{
+    Gate, GateClosed, Job, JobEnd, JobRefusal, Point, Shared, Worked, poller, submitter,
+};
 use entry_codec::Status;
 use io_commands::Kind;
 use std::alloc::{AllocError, Global};
@@ -69,6 +71,8 @@ struct Waking {
     before: &'static [&'static str],
     /// The kind of each job, its blocks, and the bytes that it brings.
     jobs: &'static [(Kind, u32, &'static [u8])],
+    /// Whether it submits a command before it sleeps.
+    submits: bool,
     /// Whether a poller sleeps too.
     polls: bool,
     /// The calls.
@@ -85,16 +89,34 @@ const TWO_QUEUES: Config = Config { queues: 2, ..USUAL };
 /// How often each wait is tried. In a single try a thread might not sleep yet as the last call is made.
 const ROUNDS: u32 = 3;
 
-/// How many milliseconds the threads have before each call until they sleep.
+/// How many milliseconds the threads have before each call until they sleep. Where that is too short nothing comes out otherwise: a queue whose
+/// command is to be fetched is rung once more.
 const ASLEEP: u64 = 50;
 
-/// How many milliseconds the submitter has behind the last call until it is back.
-const BACK: u32 = 10_000;
+/// How many milliseconds the submitter has until it has submitted, and behind the last call until it is back.
+const PATIENCE: u32 = 10_000;
+
+/// How far the submitter has come.
+#[derive(Drop)]
+struct Progress {
+    submitted: AtomicBool,
+    back: AtomicBool,
+}
+
+impl Gate for Progress {
+    fn at(&self, _worker: u16, point: Point) -> Result<(), GateClosed> {
+        if point == Point::Submitted {
+            self.submitted.store(true, Ordering::SeqCst);
+        }
+        Ok(())
+    }
+}
 
 /// It waits for the end of its Read. Its next job finds no queue.
 const COMMAND_ENDS: Waking = Waking {
     before: &[],
     jobs: &[(Kind::Read, 1, &[]), (Kind::Read, 1, &[])],
+    submits: true,
     polls: false,
     calls: &[Call::Reset],
     ends: &[
@@ -118,6 +140,7 @@ reserve 1 read 0 1 0+512
 const QUEUE_GOES: Waking = Waking {
     before: &[NO_IDENTIFIER],
     jobs: &[(Kind::Read, 1, &[]), (Kind::Read, 1, &[])],
+    submits: false,
     polls: false,
     calls: &[Call::Reset],
     ends: &[
@@ -131,6 +154,7 @@ const QUEUE_GOES: Waking = Waking {
 const QUEUE_IS_DELETED: Waking = Waking {
     before: &[NO_IDENTIFIER],
     jobs: &[(Kind::Read, 1, &[])],
+    submits: false,
     polls: false,
     calls: &[Call::DeleteSq(1)],
     ends: &[End::Refused(JobRefusal::QueueGone)],
@@ -141,6 +165,7 @@ const QUEUE_IS_DELETED: Waking = Waking {
 const QUEUE_RETIRES: Waking = Waking {
     before: &[],
     jobs: &[(Kind::Read, 1, &[])],
+    submits: true,
     polls: false,
     calls: &[
         Call::DeleteSq(1),
@@ -158,8 +183,10 @@ const QUEUE_RETIRES: Waking = Waking {
 const COMMAND_IS_REAPED: Waking = Waking {
     before: &[],
     jobs: &[(Kind::Read, 1, &[])],
+    submits: true,
     polls: false,
     calls: &[
+        Call::Ring(1),
         Call::Fetch(1),
         Call::Walk(1),
         Call::Walk(1),
@@ -167,28 +194,31 @@ const COMMAND_IS_REAPED: Waking = Waking {
         Call::Reap(1),
     ],
     ends: &[End::Read(Status::SUCCESS)],
-    entries: 10,
+    entries: 11,
 };
 
 /// It waits for the end of its Read, and the poller for a completion.
 const COMMAND_COMPLETES: Waking = Waking {
     before: &[],
     jobs: &[(Kind::Read, 1, &[])],
+    submits: true,
     polls: true,
     calls: &[
+        Call::Ring(1),
         Call::Fetch(1),
         Call::Walk(1),
         Call::Walk(1),
         Call::Complete(1),
     ],
     ends: &[End::Read(Status::SUCCESS)],
-    entries: 10,
+    entries: 11,
 };
 
 /// It waits for the end of its Read, and the poller for a completion, which is forged: that of identifier 0, with SQ head 1 and status 0:00.
 const COMPLETION_IS_FORGED: Waking = Waking {
     before: &[],
     jobs: &[(Kind::Read, 1, &[])],
+    submits: true,
     polls: true,
     calls: &[Call::Forge([0, 0, 0, 0, 0, 0, 0, 0, 1, 0, 1, 0, 0, 0, 1, 0])],
     ends: &[End::Read(Status::SUCCESS)],
@@ -204,6 +234,7 @@ const PAGES_COME_BACK: Waking = Waking {
 ",
     ],
     jobs: &[(Kind::Write, 1, &[0; 513])],
+    submits: false,
     polls: false,
     calls: &[Call::Cancel],
     ends: &[End::Refused(JobRefusal::WrongLength)],
@@ -260,6 +291,7 @@ reap 0
 const COMPLETION_HALF_COMES: Waking = Waking {
     before: &[ONE_PAGE, QUEUE_2_DELETED],
     jobs: &[(Kind::Read, 11, &[])],
+    submits: false,
     polls: false,
     calls: &[Call::CreateCq(2)],
     ends: &[End::Refused(JobRefusal::NoPages { need: 12, pool: 11 })],
@@ -270,6 +302,7 @@ const COMPLETION_HALF_COMES: Waking = Waking {
 const SUBMISSION_HALF_COMES: Waking = Waking {
     before: &[ONE_PAGE, QUEUE_2_DELETED, QUEUE_2_HALF_MADE],
     jobs: &[(Kind::Read, 10, &[])],
+    submits: false,
     polls: false,
     calls: &[Call::CreateSq(2)],
     ends: &[End::Refused(JobRefusal::NoPages { need: 11, pool: 10 })],
@@ -307,15 +340,15 @@ fn submit_all<L: Driver, R: Wait>(
     alloc: Global,
     shared: &Shared<L>,
     jobs: Vec<Job>,
-    back: &AtomicBool,
+    progress: &Progress,
 ) -> Vec<JobEnd> {
     let Worked {
         seat: _,
         ends,
         closed: _,
         short: _,
-    } = submitter(rt, alloc, shared, &Open, 0, jobs);
-    back.store(true, Ordering::SeqCst);
+    } = submitter(rt, alloc, shared, progress, 0, jobs);
+    progress.back.store(true, Ordering::SeqCst);
     ends
 }
 
@@ -369,15 +402,15 @@ fn make_calls<L: Driver, R: Abort + Wait + Clock>(
     }
 }
 
-/// Waits until the submitter is back. Where it was not woken, the test ends here.
-fn wait_for<R: Abort + Clock>(rt: &R, back: &AtomicBool) {
-    for _ in 0..BACK {
-        if back.load(Ordering::SeqCst) {
-            return;
+/// Waits until the submitter has come so far. False where it does not.
+fn comes<R: Clock>(rt: &R, so_far: &AtomicBool) -> bool {
+    for _ in 0..PATIENCE {
+        if so_far.load(Ordering::SeqCst) {
+            return true;
         }
         thread::sleep(rt, Duration::from_millis(1));
     }
-    panic!(rt; "the submitter was not woken");
+    false
 }
 
 /// Polls, where that is wanted, until the workers are told to stop.
@@ -396,7 +429,7 @@ fn woken<L: Driver + Send + Sync, R: Abort + Threads + Wait + Clock + Sync>(
     shared: &Shared<L>,
     values: &mut Vec<Value>,
     jobs: Vec<Job>,
-    back: &AtomicBool,
+    progress: &Progress,
     waking: &Waking,
 ) -> Vec<JobEnd> {
     let polls = waking.polls;
@@ -404,11 +437,15 @@ fn woken<L: Driver + Send + Sync, R: Abort + Threads + Wait + Clock + Sync>(
         let Ok(polls) = scope.spawn(move || poll(rt, shared, polls)) else {
             panic!(rt; "no thread was made");
         };
-        let Ok(submits) = scope.spawn(move || submit_all(rt, alloc, shared, jobs, back)) else {
+        let Ok(submits) = scope.spawn(move || submit_all(rt, alloc, shared, jobs, progress)) else {
             panic!(rt; "no thread was made");
         };
+        assert!(rt;
+            !waking.submits || comes(rt, &progress.submitted),
+            "nothing was submitted"
+        );
         make_calls(rt, shared, values, waking.calls);
-        wait_for(rt, back);
+        assert!(rt; comes(rt, &progress.back), "the submitter was not woken");
         shared.stop(rt);
         assert!(rt; polls.join(rt).is_ok());
         submits.join(rt)
@@ -428,8 +465,11 @@ fn see_woken<L: Driver + Send + Sync, R: Abort + Threads + Wait + Clock + Sync>(
     let Access::Lock(shared) = &desk.access else {
         panic!(rt; "there is no lock");
     };
-    let back = AtomicBool::new(false);
-    let ends = woken(rt, alloc, shared, &mut desk.values, jobs, &back, waking);
+    let progress = Progress {
+        submitted: AtomicBool::new(false),
+        back: AtomicBool::new(false),
+    };
+    let ends = woken(rt, alloc, shared, &mut desk.values, jobs, &progress, waking);
     see_ends(rt, &ends, waking.ends);
 }
 
