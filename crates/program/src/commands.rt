@@ -1,8 +1,8 @@
 //! The program's commands.
 
-ghost use Rattle.std.specs.Prelude.{◌≡◌, ◌≤◌, ◌<◌, ◌*◌, ◌⊎◌, None, IfOk, IfErr, replicate};
-ghost use Rattle.block_image.specs.Blocks.{most_blocks};
-ghost use Rattle.script_cli.specs.declared.input.ImageFault.TheVariants as image_fault;
+ghost use Rattle.std.specs.Prelude.{◌≡◌, ◌≤◌, Some, IfOk, IfErr, OnOk, map};
+ghost use Rattle.command_line.specs.Asked.{asked, given_of, steps, threads};
+ghost use Rattle.program.specs.Performing.{FailsWith, IsFirstImage, IsNoFirstImage, Performs};
 
 use crate::fault::Fault;
 use block_image::{Image, ImageError};
@@ -10,16 +10,17 @@ use command_line::{CommandLine, Options, words};
 use job_cli::run_jobs;
 use script_cli::{ImageFault, read_image, run_steps};
 use std::alloc::AllocGlobal;
+use std::convert::AsStr;
 use std::env::Env;
 use std::fs::File;
 use std::io;
-use std::io::Input;
+use std::io::{Input, Read, Write};
 use std::process::ExitCode;
 use std::rt::Files;
 use std::sync::Wait;
 use std::thread::Threads;
 
-/// Does what the command line asks for. A fault is told on standard error.
+/// Does what the command line asks for, with the script on standard input. A fault is told on standard error.
 pub fn run<R: AllocGlobal + Env + Eprint + Files + Input + Print + Sync + Threads + Wait>(
     rt: &R,
 ) -> ExitCode {
@@ -33,7 +34,7 @@ pub fn run<R: AllocGlobal + Env + Eprint + Files + Input + Print + Sync + Thread
     }
 }
 
-/// Reads the command line, and does what it asks for.
+/// Performs the words of the command line.
 fn start<R: AllocGlobal + Env + Eprint + Files + Input + Print + Sync + Threads + Wait>(
     rt: &R,
 ) -> Result<(), Fault> {
@@ -41,54 +42,72 @@ fn start<R: AllocGlobal + Env + Eprint + Files + Input + Print + Sync + Threads 
         Ok(words) => words,
         Err(why) => return Fault::shown(rt, why),
     };
-    match CommandLine::parse(rt.alloc(), words.as_slice()) {
-        Ok(CommandLine::Steps(options)) => steps(rt, options),
-        Ok(CommandLine::Threads(options, submitters)) => threads(rt, options, submitters),
+    let mut reader = rt.reader();
+    let mut writer = io::writer(rt);
+    perform(rt, words.as_slice(), &mut reader, &mut writer)
+}
+
+/// Does what words ask for, with the script of a reader. What a run prints goes to the writer, a help text to standard output.
+///
+/// # Errors
+///
+/// The first fault, of the words, the image, the script, the opening and the run, in this order; `Run(Memory)` also where memory is refused before.
+pub fn perform<
+    R: AllocGlobal + Eprint + Files + Print + Sync + Threads + Wait,
+    S: AsStr,
+    I: Read,
+    W: Write,
+>(rt: &R, words: &[S], reader: &mut I, writer: &mut W) -> Result<(), Fault>
+    ensures ran { OnOk result (Performs (I.remaining reader.old) (asked (map S.text words.now)) (W.contents writer.old) (W.contents writer.new)) }
+    ensures failed { IfErr result (λ why. FailsWith (I.remaining reader.old) (asked (map S.text words.now)) (W.contents writer.old) (W.contents writer.new) why) }
+{
+    match CommandLine::parse(rt.alloc(), words) {
+        Ok(CommandLine::Steps(options)) => play(rt, options, reader, writer),
+        Ok(CommandLine::Threads(options, submitters)) => {
+            run_threads(rt, options, submitters, reader, writer)
+        }
         Err(why) => Fault::shown(rt, why),
     }
 }
 
-/// Plays the script on standard input.
-fn steps<R: AllocGlobal + Files + Input + Print>(
+/// Plays a script of steps.
+fn play<R: AllocGlobal + Files, I: Read, W: Write>(
     rt: &R,
     options: Options<'_>,
-) -> Result<(), Fault> {
+    reader: &mut I,
+    writer: &mut W,
+) -> Result<(), Fault>
+    ensures ran { OnOk result (Performs (I.remaining reader.old) (Some (steps (given_of options.entry))) (W.contents writer.old) (W.contents writer.new)) }
+    ensures failed { IfErr result (λ why. FailsWith (I.remaining reader.old) (Some (steps (given_of options.entry))) (W.contents writer.old) (W.contents writer.new) why) }
+{
     let image = open_image(rt, options)?;
-    let mut reader = rt.reader();
-    let mut writer = io::writer(rt);
-    run_steps(rt.alloc(), options.config, image, &mut reader, &mut writer)?;
+    run_steps(rt.alloc(), options.config, image, reader, writer)?;
     Ok(())
 }
 
-/// Runs the jobs of the script on standard input.
-fn threads<R: AllocGlobal + Files + Input + Print + Sync + Threads + Wait>(
+/// Runs a script of jobs.
+fn run_threads<R: AllocGlobal + Files + Sync + Threads + Wait, I: Read, W: Write>(
     rt: &R,
     options: Options<'_>,
     submitters: u16,
+    reader: &mut I,
+    writer: &mut W,
 ) -> Result<(), Fault>
     requires least { 1 ≤ submitters }
     requires most { submitters ≤ 16 }
+    ensures ran { OnOk result (Performs (I.remaining reader.old) (Some (threads (given_of options.entry) submitters)) (W.contents writer.old) (W.contents writer.new)) }
+    ensures failed { IfErr result (λ why. FailsWith (I.remaining reader.old) (Some (threads (given_of options.entry) submitters)) (W.contents writer.old) (W.contents writer.new) why) }
 {
     let image = open_image(rt, options)?;
-    let mut reader = rt.reader();
-    let mut writer = io::writer(rt);
     let alloc = rt.alloc();
-    run_jobs(
-        rt,
-        alloc,
-        options.config,
-        image,
-        submitters,
-        &mut reader,
-        &mut writer,
-    )?;
+    run_jobs(rt, alloc, options.config, image, submitters, reader, writer)?;
     Ok(())
 }
 
 /// The image that a run begins with: the bytes of a file, or zeros.
 fn open_image<R: AllocGlobal + Files>(rt: &R, options: Options<'_>) -> Result<Image, ImageFault>
-    ensures zeros { options.entry.image ≡ None → IfOk result (λ image. image ≡ replicate (512 * options.entry.blocks) 0) }
-    ensures no_zeros { options.entry.image ≡ None → IfErr result (λ fault. (fault ≡ image_fault.Memory) ⊎ ((fault ≡ image_fault.BadLength) × ((options.entry.blocks ≡ 0) ⊎ (most_blocks < options.entry.blocks)))) }
+    ensures image { IfOk result (λ image. IsFirstImage (given_of options.entry) image) }
+    ensures no_image { IfErr result (λ why. IsNoFirstImage (given_of options.entry) why) }
 {
     match options.image {
         Some(path) => {

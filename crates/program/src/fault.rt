@@ -1,8 +1,12 @@
 //! Why a run did not end well.
 
+ghost use Rattle.std.specs.Prelude.{◌≡◌, ◌≢◌, IfErr, OnOk};
+ghost use Rattle.clap.specs.Words.{kind_of};
+ghost use Rattle.clap.specs.declared.error.kind.ErrorKind.TheVariants.{OutOfMemory};
+ghost use Rattle.script_cli.specs.declared.fault.RunFault.TheVariants as run;
+
 use clap::error::ErrorKind;
 use script_cli::{ImageFault, RunFault};
-use std::alloc::AllocError;
 use std::io;
 
 /// Why a run did not end well: its line on standard error, and its exit status.
@@ -17,8 +21,11 @@ pub enum Fault {
 }
 
 impl Fault {
-    /// Prints a help text that was asked for; any other error of the arguments is a fault.
-    pub fn shown<R: Print + Eprint>(rt: &R, why: clap::Error) -> Result<(), Fault> {
+    /// Prints a help text that was asked for; any other error of the arguments is a fault, and want of memory that of a run.
+    pub fn shown<R: Print + Eprint>(rt: &R, why: clap::Error) -> Result<(), Fault>
+        ensures memory { IfErr result (λ fault. kind_of why ≡ OutOfMemory → fault ≡ Fault.Run run.Memory) }
+        ensures done { OnOk result (kind_of why ≢ OutOfMemory) }
+    {
         if why.kind() == ErrorKind::OutOfMemory {
             return Err(Fault::Run(RunFault::Memory));
         }
@@ -51,19 +58,23 @@ impl Fault {
 }
 
 impl From<ImageFault> for Fault {
+    ghost use Rattle.program.specs.declared.fault.Fault.{Fault};
+    ghost use Rattle.std.specs.Prelude.{◌≡◌};
+
+    ghost from_gives = { λ why fault. fault ≡ Fault.Image why };
+
     fn from(fault: ImageFault) -> Self {
         Fault::Image(fault)
     }
 }
 
 impl From<RunFault> for Fault {
+    ghost use Rattle.program.specs.declared.fault.Fault.{Fault};
+    ghost use Rattle.std.specs.Prelude.{◌≡◌};
+
+    ghost from_gives = { λ why fault. fault ≡ Fault.Run why };
+
     fn from(fault: RunFault) -> Self {
         Fault::Run(fault)
-    }
-}
-
-impl From<AllocError> for Fault {
-    fn from(_fault: AllocError) -> Self {
-        Fault::Run(RunFault::Memory)
     }
 }

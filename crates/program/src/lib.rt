@@ -1,8 +1,11 @@
-//! What `nvmesgl` does with its command line: [`run`] reads it, does what it asks for, and answers the exit status.
+//! What `nvmesgl` does with its command line.
+//!
+//! [`perform`] does what words ask for with the script of a reader and a writer: from the words to what is written, it has a contract
+//! (`specs/Performing.antt`). [`run`] performs the words that were typed, with standard input and output, and answers the exit status.
 #![tactic(auto)]
 
 mod commands;
 mod fault;
 
-pub use commands::run;
+pub use commands::{perform, run};
 pub use fault::Fault;

@@ -2,13 +2,15 @@
 
 ghost use Rattle.std.specs.Io.{WritesAtMost};
 
-use block_image::Image;
 use command_line::{CommandLine, Options, words};
-use program::Fault;
-use script_cli::{RunFault, run_steps};
-use std::alloc::Global;
+use program::{Fault, perform};
+use script_cli::{ImageFault, RunFault};
+use std::alloc::{AllocGlobal, Global};
 use std::env::{Env, FillError};
+use std::rt::Files;
+use std::sync::Wait;
 use std::test::Fail;
+use std::thread::Threads;
 use test_support::Seen;
 
 /// A command line of these words.
@@ -164,19 +166,18 @@ fn submitters_are_one_to_sixteen(rt: HostRuntime) -> Result<(), Fail> {
     Ok(seen.end()?)
 }
 
-/// How a command line with these words ends, over an empty script.
-fn end(alloc: Global, words: &[&str]) -> &'static str {
-    let Ok(CommandLine::Steps(options)) = CommandLine::parse(alloc, words) else {
-        return "arguments";
-    };
-    let Ok(image) = Image::zeroed(alloc, options.blocks) else {
-        return "image: BadLength";
-    };
+/// How the words of a command line are performed, over an empty script.
+fn end<R: AllocGlobal + Eprint + Files + Print + Sync + Threads + Wait>(
+    rt: &R,
+    words: &[&str],
+) -> &'static str {
     let mut reader = b"".as_slice();
-    let mut writer = Vec::new(alloc);
-    match run_steps(alloc, options.config, image, &mut reader, &mut writer) {
+    let mut writer = Vec::new(rt.alloc());
+    match perform(rt, words, &mut reader, &mut writer) {
         Ok(()) => "done",
-        Err(RunFault::BadConfig) => "open: BadConfig",
+        Err(Fault::Arguments(_)) => "arguments",
+        Err(Fault::Image(ImageFault::BadLength)) => "image: BadLength",
+        Err(Fault::Run(RunFault::BadConfig)) => "open: BadConfig",
         Err(_) => "another fault",
     }
 }
@@ -207,8 +208,10 @@ fn numbers_out_of_range_are_refused(rt: HostRuntime) -> Result<(), Fail> {
         ("--blocks", "-1", "arguments"),
         ("--page", "8", "arguments"),
     ] {
-        let words = ["nvmesgl", "steps", option, value];
-        seen.same_at(value, end(rt.alloc(), &words), wanted);
+        for command in ["steps", "threads"] {
+            let words = ["nvmesgl", command, option, value];
+            seen.same_at(value, end(&rt, &words), wanted);
+        }
     }
     Ok(seen.end()?)
 }

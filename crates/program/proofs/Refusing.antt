@@ -1,0 +1,37 @@
+-- What is known where the words of a command line are at fault.
+use Rattle.std.proofs.Common.{◌≡◌, ◌⊎◌, Option, Some, None, List, ℕ, refl, sym, subst, inl, inr}
+use Rattle.std.specs.Prelude.{IfErr, Result, Ok, Err, replicate, ◌*◌}
+use Rattle.clap.specs.Words.{kind_of}
+use Rattle.clap.specs.declared.error.Error.{Error}
+use Rattle.clap.specs.declared.error.kind.ErrorKind.TheVariants.{OutOfMemory}
+use Rattle.command_line.specs.Asked.{Asked, steps, threads}
+use Rattle.program.specs.Performing.{FailsWith}
+use Rattle.program.specs.declared.fault.Fault.{Fault}
+use Rattle.program.specs.declared.fault.Fault.TheVariants as fault
+use Rattle.script_cli.specs.declared.fault.RunFault.TheVariants as run
+use Rattle.std.specs.Io.KnownBytes.{Keeps}
+
+kept : (bytes : Option (List ℕ)) → Keeps bytes bytes
+kept None = tt
+kept (Some bytes) = refl
+
+-- want of memory, before anything is written
+wanting : (told : Option (List ℕ)) (what : Asked) (bytes : Option (List ℕ)) → FailsWith told (Some what) bytes bytes (fault.Run run.Memory)
+wanting told (steps given) bytes = (replicate (512 * given.blocks) 0, λ none. refl, inl (kept bytes))
+wanting told (threads given submitters) bytes = (replicate (512 * given.blocks) 0, λ none. refl, inl (kept bytes))
+
+refused : (told : Option (List ℕ)) (what : Option Asked) (bytes : Option (List ℕ)) (e : Error) (why : Fault) → (kind_of e ≡ OutOfMemory) ⊎ (what ≡ None)
+    → (kind_of e ≡ OutOfMemory → why ≡ fault.Run run.Memory) → FailsWith told what bytes bytes why
+refused told None bytes e why cause memory = kept bytes
+refused told (Some what) bytes e why (inl wants) memory = subst (λ (f : Fault). FailsWith told (Some what) bytes bytes f) (sym (memory wants)) (wanting told what bytes)
+refused told (Some what) bytes e why (inr nothing) memory = absurd (no_some what nothing)
+  where
+    no_some : (x : Asked) → Some x ≡ None → ⊥
+    no_some x e = cc
+
+-- where an error of the words is shown: they ask for nothing, or memory is wanting, and nothing is written
+pub shown : {T : Type 0} (told : Option (List ℕ)) (what : Option Asked) (bytes : Option (List ℕ)) (e : Error) (r : Result T Fault)
+    → (kind_of e ≡ OutOfMemory) ⊎ (what ≡ None) → IfErr r (λ why. kind_of e ≡ OutOfMemory → why ≡ fault.Run run.Memory)
+    → IfErr r (λ why. FailsWith told what bytes bytes why)
+shown told what bytes e (Ok x) cause memory = tt
+shown told what bytes e (Err why) cause memory = refused told what bytes e why cause memory
