@@ -1,20 +1,30 @@
 -- Logs, and the runs that they tell of.
-use Rattle.std.proofs.Common.{◌≡◌, Bool, not, IsTrue, List, [], ◌∷◌, ◌++◌, map, refl, sym, subst}
+use Rattle.std.proofs.Common.{◌≡◌, ℕ, Bool, true, false, true≢false, not, IsTrue, None, List, [], ◌∷◌, ◌++◌, map, if◌then◌else◌, refl, sym, ap, ◌∙◌, subst}
 use Rattle.std.specs.List.{list_any}
 use Rattle.machine_model.specs.Events as events
 use Rattle.machine_model.specs.Events.{Event, Reply}
 use Rattle.machine_model.specs.Image.{Made}
 use Rattle.machine_agreement.specs.InOrder.{IsInOrder}
 use Rattle.machine_model.specs.Trusted as laws
-use Rattle.machine_model.specs.Trusted.{Steps}
+use Rattle.machine_model.specs.Trusted.{Steps, TrustedRun}
 use Rattle.machine_model.specs.State.{State}
 use Rattle.machine_agreement.proofs.InOrders.{opens_in_order, order_kept}
 use Rattle.machine_agreement.proofs.Agreed.{agreed_stays}
+use Rattle.machine_agreement.proofs.Unforged.{trusted_end}
+use Rattle.machine_agreement.proofs.NeverRestored.{ends_unforged as trusted_unforged}
+use Rattle.machine_agreement.specs.Histories as histories
+use Rattle.machine_model.specs.Step as machine_step
 use Rattle.step_core.specs.Going.{forges_by}
 use Rattle.step_core.specs.Opening.{opening_of}
 use Rattle.driver_book.specs.History.{asked, told, TellsOf, LeadsTo}
-use Rattle.driver_book.specs.Laws.{IsEntryOf, is_forgery, entries_name_allowed_pages, logs_are_trusted_runs}
+use Rattle.driver_book.specs.Laws.{IsEntryOf, is_forgery, entries_name_allowed_pages, logs_are_trusted_runs, logs_of_jobs_are_trusted_runs, resets, is_reset, since_reset, trusted_ends_are_unforged}
+use Rattle.driver_book.specs.State.{is_of_jobs, AreOfJobs}
 use Rattle.driver_book.specs.Values.{Entry}
+use Rattle.host_core.specs.Opening.{refusal_of_config}
+use Rattle.host_core.specs.declared.config.Config.{Config}
+use Rattle.block_image.specs.Blocks.{IsImage}
+use Rattle.step_core.specs.Values.{Step, Reply as Answer}
+use Rattle.step_core.specs.declared.step.Step.TheVariants as step
 
 -- one step more
 pub leads_further : (old mid new : State) (log : List Entry) (e : Entry) → LeadsTo old log mid → TellsOf mid e new → LeadsTo old (log ++ e ∷ []) new
@@ -72,20 +82,72 @@ forged_by : (old new : State) (log : List Entry) (leads : LeadsTo old log new) �
 forged_by old new [] same = refl
 forged_by old new (e ∷ log) (next, tells, rest) = rw (tells.asks, tells.tells, same_forgery tells.event tells.answer, forged_by next new log rest) refl
 
+trusted_run : (config : Config) (image : List ℕ) (log : List Entry) (world : State) → refusal_of_config config ≡ None → IsImage image
+    → (leads : LeadsTo (opening_of config image) log world) → IsTrue (not (list_any is_forgery log)) → TrustedRun image (made_by (opening_of config image) world log leads) world
+trusted_run config image log world opens is_image leads unforged =
+    record {
+      pages = config.pages;
+      queues = config.queues;
+      entries = config.entries;
+      segment = config.segment;
+      opens = opens;
+      is_image = is_image;
+      steps = steps_by (opening_of config image) world log leads;
+      unforged = subst (λ (b : Bool). IsTrue (not b)) (forged_by (opening_of config image) world log leads) unforged;
+    }
+
 pub logs_are_runs : logs_are_trusted_runs
 logs_are_runs config image log world opens is_image leads unforged =
+    let run = trusted_run config image log world opens is_image leads unforged in
     record {
       made = made_by (opening_of config image) world log leads;
       happened = asked_by (opening_of config image) world log leads;
       answered = told_by (opening_of config image) world log leads;
-      run = record {
-        pages = config.pages;
-        queues = config.queues;
-        entries = config.entries;
-        segment = config.segment;
-        opens = opens;
-        is_image = is_image;
-        steps = steps_by (opening_of config image) world log leads;
-        unforged = subst (λ (b : Bool). IsTrue (not b)) (forged_by (opening_of config image) world log leads) unforged;
-      };
+      run = run;
+      trusted = trusted_end image (made_by (opening_of config image) world log leads) world run;
     }
+
+-- no step of a job is a forgery
+job_forges_nothing : (what : Step) (answer : Answer) → is_of_jobs what ≡ true → forges_by what answer ≡ false
+job_forges_nothing (step.Forge q slot bytes) answer is = absurd (true≢false (sym is))
+job_forges_nothing what answer is = refl
+
+jobs_forge_nothing : (log : List Entry) → AreOfJobs log → list_any is_forgery log ≡ false
+jobs_forge_nothing [] are = refl
+jobs_forge_nothing (e ∷ log) are = rw (job_forges_nothing e.step e.answer are.0, jobs_forge_nothing log are.1) refl
+
+pub logs_of_jobs_are_runs : logs_of_jobs_are_trusted_runs
+logs_of_jobs_are_runs config image log world opens is_image leads are =
+    logs_are_runs config image log world opens is_image leads (rw (jobs_forge_nothing log are) tt)
+
+-- what a log since its last reset has is what its run has
+
+same_reset : (e : Event) → resets (asked e) ≡ machine_step.resets e
+same_reset events.Reset = refl
+same_reset e = refl
+
+reset_by : (old new : State) (log : List Entry) (leads : LeadsTo old log new) → list_any is_reset log ≡ list_any laws.is_reset (made_by old new log leads)
+reset_by old new [] same = refl
+reset_by old new (e ∷ log) (next, tells, rest) = rw (tells.asks, same_reset tells.event, reset_by next new log rest) refl
+
+forged_since : (old new : State) (log : List Entry) (leads : LeadsTo old log new)
+    → list_any is_forgery (since_reset log) ≡ list_any laws.is_forgery (histories.since_reset (made_by old new log leads))
+forged_since old new [] same = refl
+forged_since old new (e ∷ log) (next, tells, rest) =
+    let made = made_by next new log rest in
+    let later : list_any is_reset log ≡ list_any laws.is_reset made = reset_by next new log rest in
+    let reset : resets e.step ≡ machine_step.resets tells.event = ap resets tells.asks ∙ same_reset tells.event in
+    let forged : forges_by e.step e.answer ≡ laws.forges_by tells.event tells.answer = rw (tells.asks, tells.tells) (same_forgery tells.event tells.answer) in
+    rw (later, reset) (go (list_any laws.is_reset made) (machine_step.resets tells.event) forged (forged_by next new log rest) (forged_since next new log rest))
+  where
+    go : (b c : Bool) → forges_by e.step e.answer ≡ laws.forges_by tells.event tells.answer → list_any is_forgery log ≡ list_any laws.is_forgery (made_by next new log rest)
+        → list_any is_forgery (since_reset log) ≡ list_any laws.is_forgery (histories.since_reset (made_by next new log rest))
+        → list_any is_forgery (if b then since_reset log else if c then log else e ∷ log)
+        ≡ list_any laws.is_forgery (if b then histories.since_reset (made_by next new log rest) else if c then made_by next new log rest else record { before = old; event = tells.event; reply = tells.answer } ∷ made_by next new log rest)
+    go true c here all since = since
+    go false true here all since = all
+    go false false here all since = rw (here, all) refl
+
+pub trusted_logs : trusted_ends_are_unforged
+trusted_logs old log world leads trusted =
+    rw (forged_since old world log leads) (trusted_unforged (made_by old world log leads) old world (steps_by old world log leads) trusted)

@@ -3,6 +3,7 @@ use Rattle.std.proofs.Common.{◌≡◌, ◌⊎◌, inr, ℕ, ◌+◌, ◌-◌, 
 use Rattle.std.proofs.lemmas.List.{append-nil}
 use Rattle.std.proofs.lemmas.List.Sums.{sum_by_push}
 use Rattle.std.specs.Prelude.{is_some, MatchBool}
+use Rattle.std.specs.Bool.{OnTrue}
 use Rattle.io_commands.specs.Drafts.{DraftContents}
 use Rattle.io_commands.specs.Values.{TicketContents}
 use Rattle.machine_model.specs.Events as events
@@ -15,7 +16,7 @@ use Rattle.driver_book.specs.Calls.{noted, entries, Does, WantsMemoryFor, IsLogF
 use Rattle.machine_model.proofs.Headline.{steps_keep, runs_are_sound}
 use Rattle.driver_book.proofs.Histories.{leads_further}
 use Rattle.driver_book.specs.History.{asked, told, entry, is_submission, is_accepted, accepted}
-use Rattle.driver_book.specs.State.{BookContents, IsBook, is_seated, AreSeated}
+use Rattle.driver_book.specs.State.{BookContents, IsBook, is_seated, AreSeated, is_of_jobs, AreOfJobs}
 use Rattle.driver_book.specs.Values.{Entry}
 use Rattle.step_core.specs.Replies.{accept_reply}
 use Rattle.host_core.specs.Opening.{refusal_of_config}
@@ -39,6 +40,28 @@ seated_push : (log : List Entry) (e : Entry) → AreSeated log → is_seated e �
 seated_push [] e are is = (is, tt)
 seated_push (x ∷ xs) e are is = (are.0, seated_push xs e are.1 is)
 
+jobs_push : (log : List Entry) (e : Entry) → AreOfJobs log → is_of_jobs e.step ≡ true → AreOfJobs (log ++ e ∷ [])
+jobs_push [] e are is = (is, tt)
+jobs_push (x ∷ xs) e are is = (are.0, jobs_push xs e are.1 is)
+
+-- a driver takes an entry where it takes every step, or where the entry is one of jobs
+abbrev pub Takes : Bool → Event → Type 0
+Takes jobs_alone e = OnTrue jobs_alone (is_of_jobs (asked e) ≡ true)
+
+taken_push : (b : Bool) (seat : Option ℕ) (e : Event) (r : events.Reply) (log : List Entry) → OnTrue b (AreOfJobs log) → Takes b e → OnTrue b (AreOfJobs (log ++ entry seat (asked e) (told r) ∷ []))
+taken_push true seat e r log are takes = jobs_push log (entry seat (asked e) (told r)) are takes
+taken_push false seat e r log are takes = tt
+
+-- any driver takes the steps of jobs
+pub takes_jobs : (b : Bool) (e : Event) → is_of_jobs (asked e) ≡ true → Takes b e
+takes_jobs true e is = is
+takes_jobs false e is = tt
+
+-- a driver that takes every step takes each
+pub takes_any : (b : Bool) (e : Event) → b ≡ false → Takes b e
+takes_any true e is = absurd (true≢false is)
+takes_any false e is = tt
+
 not_accepted : (seat : Option ℕ) (b : Bool) → b ≡ false → (is_some seat || not b) ≡ true
 not_accepted (Some n) b isnt = refl
 not_accepted None b isnt = ap not isnt
@@ -46,10 +69,10 @@ not_accepted None b isnt = ap not isnt
 -- Books
 
 -- an entry that is no accepted submission
-book_step : {o w v : State} {log : List Entry} {tally subs parts out made ledger : ℕ} (seat : Option ℕ) (e : Event) (r : events.Reply)
-    → IsBook o w log tally subs parts out made ledger → machine.Step w e r v → is_submission (asked e) (told r) ≡ false
-    → IsBook o v (log ++ entry seat (asked e) (told r) ∷ []) tally subs parts out made ledger
-book_step {o = o} {w = w} {v = v} {log = log} seat e r b step other =
+book_step : {b : Bool} {o w v : State} {log : List Entry} {tally subs parts out made ledger : ℕ} (seat : Option ℕ) (e : Event) (r : events.Reply)
+    → IsBook b o w log tally subs parts out made ledger → machine.Step w e r v → Takes b e → is_submission (asked e) (told r) ≡ false
+    → IsBook b o v (log ++ entry seat (asked e) (told r) ∷ []) tally subs parts out made ledger
+book_step {b = alone} {o = o} {w = w} {v = v} {log = log} seat e r b step takes other =
     let written : Entry = entry seat (asked e) (told r) in
     let same : accepted (log ++ written ∷ []) ≡ accepted log = accepted_other log written other in
     record {
@@ -58,6 +81,7 @@ book_step {o = o} {w = w} {v = v} {log = log} seat e r b step other =
       counted = same ∙ b.counted;
       numbered = b.numbered ∙ sym same;
       seated = seated_push log written b.seated (not_accepted seat (is_submission (asked e) (told r)) other);
+      jobs = taken_push alone seat e r log b.jobs takes;
       shares = b.shares;
       all_parts = b.all_parts;
       given = b.given;
@@ -65,10 +89,10 @@ book_step {o = o} {w = w} {v = v} {log = log} seat e r b step other =
     }
 
 -- an accepted submission of a seat that is counted
-book_accept : {o w v : State} {log : List Entry} {tally more subs parts out made ledger : ℕ} (seat : ℕ) (d : DraftContents)
-    → IsBook o w log tally subs parts out made ledger → machine.Step w (events.Submit d) events.Accepted v → more ≡ tally + 1
-    → IsBook o v (log ++ entry (Some seat) (asked (events.Submit d)) (told events.Accepted) ∷ []) more (subs + 1) parts out made ledger
-book_accept {o = o} {w = w} {v = v} {log = log} seat d b step counted =
+book_accept : {b : Bool} {o w v : State} {log : List Entry} {tally more subs parts out made ledger : ℕ} (seat : ℕ) (d : DraftContents)
+    → IsBook b o w log tally subs parts out made ledger → machine.Step w (events.Submit d) events.Accepted v → more ≡ tally + 1
+    → IsBook b o v (log ++ entry (Some seat) (asked (events.Submit d)) (told events.Accepted) ∷ []) more (subs + 1) parts out made ledger
+book_accept {b = alone} {o = o} {w = w} {v = v} {log = log} seat d b step counted =
     let written : Entry = entry (Some seat) (asked (events.Submit d)) (told events.Accepted) in
     let one : accepted (log ++ written ∷ []) ≡ accepted log + 1 = accepted_more log written refl in
     record {
@@ -77,6 +101,7 @@ book_accept {o = o} {w = w} {v = v} {log = log} seat d b step counted =
       counted = one ∙ ap (λ (n : ℕ). n + 1) b.counted ∙ sym counted;
       numbered = ap (λ (n : ℕ). n + 1) b.numbered ∙ sym one;
       seated = seated_push log written b.seated refl;
+      jobs = taken_push alone (Some seat) (events.Submit d) events.Accepted log b.jobs (takes_jobs alone (events.Submit d) refl);
       shares = b.shares;
       all_parts = b.all_parts;
       given = b.given;
@@ -84,18 +109,24 @@ book_accept {o = o} {w = w} {v = v} {log = log} seat d b step counted =
     }
 
 -- What a step leaves is a book of the log with what was written of it: nothing, where memory was refused.
-pub keeps_book : {o w v : State} {log now : List Entry} {tally subs parts out made ledger : ℕ} (seat : Option ℕ) (e : Event) (r : events.Reply)
-    → IsBook o w log tally subs parts out made ledger → machine.Step w e r v → is_submission (asked e) (told r) ≡ false → now ≡ log ++ entries seat (asked e) (noted r)
-    → IsBook o v now tally subs parts out made ledger
-keeps_book {log = log} seat e (events.Refused refusal.Memory pages) b step other is = rw (is ∙ append-nil log, step.2) b
-keeps_book seat e (events.Refused why pages) b step other is = rw is (book_step seat e (events.Refused why pages) b step other)
-keeps_book seat e r b step other is = rw is (book_step seat e r b step other)
+pub keeps_book : {b : Bool} {o w v : State} {log now : List Entry} {tally subs parts out made ledger : ℕ} (seat : Option ℕ) (e : Event) (r : events.Reply)
+    → IsBook b o w log tally subs parts out made ledger → machine.Step w e r v → Takes b e → is_submission (asked e) (told r) ≡ false → now ≡ log ++ entries seat (asked e) (noted r)
+    → IsBook b o v now tally subs parts out made ledger
+keeps_book {log = log} seat e (events.Refused refusal.Memory pages) b step takes other is = rw (is ∙ append-nil log, step.2) b
+keeps_book seat e (events.Refused why pages) b step takes other is = rw is (book_step seat e (events.Refused why pages) b step takes other)
+keeps_book seat e r b step takes other is = rw is (book_step seat e r b step takes other)
+
+-- so does a step of jobs, which every driver takes
+pub keeps_jobs : {b : Bool} {o w v : State} {log now : List Entry} {tally subs parts out made ledger : ℕ} (seat : Option ℕ) (e : Event) (r : events.Reply)
+    → IsBook b o w log tally subs parts out made ledger → machine.Step w e r v → is_of_jobs (asked e) ≡ true → is_submission (asked e) (told r) ≡ false
+    → now ≡ log ++ entries seat (asked e) (noted r) → IsBook b o v now tally subs parts out made ledger
+keeps_jobs {b = alone} seat e r b step jobs other is = keeps_book seat e r b step (takes_jobs alone e jobs) other is
 
 -- so does an accepted submission, where it is counted, ..
-pub accepts_book : {o w v : State} {log now : List Entry} {tally more subs parts out made ledger : ℕ} (seat : ℕ) (d : DraftContents) (answer : Result TicketContents (Refused DraftContents))
-    → is_ok answer ≡ true → IsBook o w log tally subs parts out made ledger → machine.Step w (events.Submit d) (accept_reply answer) v
+pub accepts_book : {b : Bool} {o w v : State} {log now : List Entry} {tally more subs parts out made ledger : ℕ} (seat : ℕ) (d : DraftContents) (answer : Result TicketContents (Refused DraftContents))
+    → is_ok answer ≡ true → IsBook b o w log tally subs parts out made ledger → machine.Step w (events.Submit d) (accept_reply answer) v
     → now ≡ log ++ entries (Some seat) (asked (events.Submit d)) (noted (accept_reply answer)) → more ≡ tally + 1
-    → IsBook o v now more (subs + 1) parts out made ledger
+    → IsBook b o v now more (subs + 1) parts out made ledger
 accepts_book seat d (Ok ticket) ok b step is counted = rw is (book_accept seat d b step counted)
 accepts_book seat d (Err r) ok b step is counted = absurd (true≢false (sym ok))
 
@@ -104,15 +135,20 @@ pub refused_submission : (d : DraftContents) (answer : Result TicketContents (Re
 refused_submission d (Ok ticket) isnt = absurd (true≢false isnt)
 refused_submission d (Err r) isnt = refl
 
+none_of_jobs : (b : Bool) → OnTrue b (AreOfJobs [])
+none_of_jobs true = tt
+none_of_jobs false = tt
+
 -- a book as it opens
-pub empty_book : (config : Config) (image : List ℕ) {o w : State} {log : List Entry} {tally parts ledger : ℕ}
-    → refusal_of_config config ≡ None → o ≡ opening_of config image → w ≡ opening_of config image → log ≡ [] → tally ≡ 0 → parts ≡ ledger → ledger ≡ 65536 → IsBook o w log tally 0 parts 0 0 ledger
-empty_book config image fits opens is none zero all number = rw (opens, is, none, zero) (record {
+pub empty_book : (config : Config) (image : List ℕ) (alone : Bool) {o w : State} {log : List Entry} {tally parts ledger : ℕ}
+    → refusal_of_config config ≡ None → o ≡ opening_of config image → w ≡ opening_of config image → log ≡ [] → tally ≡ 0 → parts ≡ ledger → ledger ≡ 65536 → IsBook alone o w log tally 0 parts 0 0 ledger
+empty_book config image alone fits opens is none zero all number = rw (opens, is, none, zero) (record {
   legal = refl;
   sound = runs_are_sound config.pages config.queues config.entries config.segment image [] [] (opening_of config image) fits refl;
   counted = refl;
   numbered = refl;
   seated = tt;
+  jobs = none_of_jobs alone;
   shares = omega (arith, all, number);
   all_parts = number;
   given = omega arith;

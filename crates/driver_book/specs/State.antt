@@ -1,11 +1,14 @@
 -- What contracts see of a book and of a seat, and what holds of every book.
-use Rattle.std.specs.Prelude.{◌≡◌, ℕ, ◌+◌, ◌≤◌, List, Bool, true, not, ◌||◌, is_some}
+use Rattle.std.specs.Prelude.{◌≡◌, ℕ, ◌+◌, ◌≤◌, List, Bool, true, false, not, ◌||◌, is_some}
+use Rattle.std.specs.Bool.{OnTrue}
 use Rattle.std.specs.List.{AllByRecursion}
 use Rattle.machine_model.specs.Claims.{IsSound}
 use Rattle.machine_model.specs.State.{State}
 use Rattle.driver_book.specs.History.{LeadsTo, is_accepted, accepted}
 use Rattle.driver_book.specs.Values.{Entry}
 use Rattle.driver_book.specs.declared.log.Receipt.{Receipt}
+use Rattle.step_core.specs.Values.{Step}
+use Rattle.step_core.specs.declared.step.Step.TheVariants as step
 
 -- A book: the world as it was opened and as it is, how many pages were touched so far, the log between, how many seats were made, how many of them no close took, how many
 -- submissions the others had, whether the workers are told to stop, and how many entries the log takes before it has to grow.
@@ -33,14 +36,30 @@ is_seated e = is_some e.seat || not (is_accepted e)
 abbrev pub AreSeated : List Entry → Type 0
 AreSeated log = AllByRecursion (λ e. is_seated e ≡ true) log
 
+-- The steps of jobs: what submitters, who reads completions and the controller do for them. The others change queues, abort, forge or reset.
+abbrev pub is_of_jobs : Step → Bool
+is_of_jobs (step.Abort q cid) = false
+is_of_jobs (step.DeleteSq q) = false
+is_of_jobs (step.DeleteCq q) = false
+is_of_jobs (step.CreateCq q) = false
+is_of_jobs (step.CreateSq q) = false
+is_of_jobs (step.Retire q) = false
+is_of_jobs (step.Forge q slot bytes) = false
+is_of_jobs step.Reset = false
+is_of_jobs what = true
+
+abbrev pub AreOfJobs : List Entry → Type 0
+AreOfJobs log = AllByRecursion (λ e. is_of_jobs e.step ≡ true) log
+
 -- A book's log leads from the opening to the world as it is, which is sound; the tally counts its accepted submissions; the parts of the ledger
--- are those of the seats that are out, and the rest.
-pub record IsBook (opening world : State) (log : List Entry) (tally submissions parts out made ledger : ℕ) : Type 0 where
+-- are those of the seats that are out, and the rest. Where the driver takes the steps of jobs alone, the log has no others.
+pub record IsBook (jobs_alone : Bool) (opening world : State) (log : List Entry) (tally submissions parts out made ledger : ℕ) : Type 0 where
   pub legal : LeadsTo opening log world
   pub sound : IsSound world
   pub counted : accepted log ≡ tally
   pub numbered : submissions ≡ accepted log
   pub seated : AreSeated log
+  pub jobs : OnTrue jobs_alone (AreOfJobs log)
   pub shares : parts + out ≡ 65536
   pub all_parts : ledger ≡ 65536
   pub given : out ≤ made

@@ -1,13 +1,14 @@
 //! The book itself: how it opens and ends, and what it shows.
 
 ghost use Rattle.std.specs.Prelude.{◌≡◌, ◌+◌, ◌<◌, ◌≤◌, [], false, true, length, vec_len, vec_capacity, None, IfOk, IfErr, OnOk, OnErr};
+ghost use Rattle.std.specs.Bool.{OnTrue};
 ghost use Rattle.std.specs.List.{Contains};
 ghost use Rattle.machine_model.specs.Claims.{claims_of, counts_of, IsSound};
 ghost use Rattle.page_ledger.specs.Counting.{total};
 ghost use Rattle.host_core.specs.Opening.{refusal_of_config, RefusesOpening};
 ghost use Rattle.step_core.specs.Opening.{opening_of};
-ghost use Rattle.driver_book.specs.History.{LeadsTo};
-ghost use Rattle.driver_book.specs.State.{BookContents};
+ghost use Rattle.driver_book.specs.History.{accepted, LeadsTo};
+ghost use Rattle.driver_book.specs.State.{AreOfJobs, BookContents};
 
 use crate::log::{EntryIn, NoSeat};
 use crate::seat::Seat;
@@ -20,18 +21,37 @@ use std::sync::ledger;
 use std::sync::ledger::{Blank, Ledger, Share};
 use step_core::{Config, Ended, OpenRefusal, World};
 
-/// The ledger of one book, and the state with which that book opens, which contracts alone know.
+/// The ledger of one book, and what contracts alone know of that book: the state with which it opens, and whether it takes the steps of
+/// jobs alone.
 pub trait Driver: Ledger {
+    ghost use Rattle.std.specs.Prelude.{Bool};
     ghost use Rattle.machine_model.specs.State.{State};
 
     ghost opening: { State };
+
+    ghost jobs_alone: { Bool };
+}
+
+/// A driver whose book takes every step: admin commands, retirements, forged entries and resets too.
+pub trait FullDriver: Driver {
+    ghost use Rattle.std.specs.Prelude.{◌≡◌, false};
+
+    ghost takes_all: { Self.jobs_alone ≡ false };
 }
 
 impl Driver for Brand {
-    ghost use Rattle.std.specs.Prelude.{[]};
+    ghost use Rattle.std.specs.Prelude.{[], false};
     ghost use Rattle.machine_model.specs.Opening.{opening as opening_of_numbers};
 
     ghost opening = { opening_of_numbers 0 0 0 0 [] };
+
+    ghost jobs_alone = { false };
+}
+
+impl FullDriver for Brand {
+    ghost use Rattle.std.specs.Prelude.{refl};
+
+    ghost takes_all = { refl };
 }
 
 /// A book that was not opened: why, and what was handed in.
@@ -68,7 +88,7 @@ impl<L: Driver, A: Allocator> Model for Book<L, A> {
 
     ghost view = { λ b. record { opening = L.opening; world = b.world.state; touches = b.world.touches; log = b.log.items; made = b.made; out = b.out; taken = b.rest.amount; stopping = b.stopping; spare = vec_capacity b.log - vec_len b.log } };
 
-    ghost invariant = { λ b. IsBook L.opening b.world.state b.log.items b.tally.total b.submissions b.rest.parts b.out b.made L.parts };
+    ghost invariant = { λ b. IsBook L.jobs_alone L.opening b.world.state b.log.items b.tally.total b.submissions b.rest.parts b.out b.made L.parts };
 }
 
 impl<L: Driver, A: Allocator + Copy> Book<L, A> {
@@ -119,11 +139,13 @@ impl<L: Driver, A: Allocator + Copy> Book<L, A> {
     }
 
     /// Shows that the log leads from the opening to the world as it is: its entries tell of the steps of a run of the machine. And that
-    /// the world is sound. It does nothing.
+    /// the world is sound, that the ledger counts the accepted submissions, and, of a driver that takes the steps of jobs alone, that there
+    /// is no other entry. It does nothing.
     pub fn check(&self)
         ensures opening { self.now.opening ≡ L.opening }
         ensures legal { LeadsTo self.now.opening self.now.log self.now.world }
         ensures sound { IsSound self.now.world }
+        ensures jobs { OnTrue L.jobs_alone (AreOfJobs self.now.log) }
     {
         prove!(self.out <= self.made);
     }
@@ -184,6 +206,13 @@ impl<L: Driver, A: Allocator + Copy> Book<L, A> {
         ensures all { total result ≡ length self.now.world.memory }
     {
         self.world.counts()
+    }
+
+    /// How many submissions were accepted: the ledger's tally, and one for each receipt that a seat of this book got.
+    pub fn submissions(&self) -> u64
+        ensures { result ≡ accepted self.now.log }
+    {
+        self.submissions
     }
 
     /// How many pages the pool has, 8 to 65,536.

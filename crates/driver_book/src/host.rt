@@ -1,18 +1,17 @@
-//! The host's steps that need no seat, each written down, but for one that answers `Memory`: of the book only the spare room of its log may
-//! differ then.
+//! The host's steps for jobs that need no seat, each written down, but for one that answers `Memory`: of the book only the spare room of its
+//! log may differ then.
 
-ghost use Rattle.std.specs.Prelude.{◌≡◌, ◌⊎◌, None, IfErr, OnOk};
-ghost use Rattle.machine_model.specs.Agreeing.{SidesAgree};
+ghost use Rattle.std.specs.Prelude.{◌≡◌, ◌⊎◌, None, IfErr};
 ghost use Rattle.machine_model.specs.Events as events;
-ghost use Rattle.step_core.specs.Replies.{reserve_reply, accept_reply, collect_reply, ring_reply, reap_reply, send_reply};
+ghost use Rattle.step_core.specs.Replies.{reserve_reply, accept_reply, collect_reply, ring_reply, reap_reply};
 ghost use Rattle.driver_book.specs.Calls.{Does, WantsMemoryFor, IsLogFull, MayWorldWant};
 
 use crate::book::{Book, Driver};
-use crate::note::{collected, done, ended, note, reaped, reserved, sent};
+use crate::note::{collected, done, ended, note, reaped, reserved};
 use io_commands::{Draft, Finished, Request, Ticket};
 use machine_model::words::{Reaped, Refusal};
 use std::alloc::Allocator;
-use step_core::{Refused, Reply, Step};
+use step_core::{Refused, Step};
 
 /// A value that is handed back, as the log did not grow.
 pub(crate) fn unlogged<T>(value: T) -> Refused<T>
@@ -127,147 +126,5 @@ impl<L: Driver, A: Allocator + Copy> Book<L, A> {
         let answer = self.world.collect(ticket);
         note(&mut self.log, None, step, collected(&answer));
         answer
-    }
-
-    /// [`step_core::World::abort`].
-    ///
-    /// # Errors
-    ///
-    /// As there, and `Memory` where the log cannot grow.
-    pub fn abort(&mut self, q: u16, cid: u16) -> Result<u16, Refusal>
-        ensures step { Does self.old None (events.Abort q cid) (send_reply result) self.new }
-        ensures memory { WantsMemoryFor (IsLogFull self.old) (send_reply result) }
-    {
-        if self.log.reserve(1).is_err() {
-            return Err(Refusal::Memory);
-        }
-        let answer = self.world.abort(q, cid);
-        note(&mut self.log, None, Step::Abort { q, cid }, sent(&answer));
-        answer
-    }
-
-    /// [`step_core::World::delete_sq`].
-    ///
-    /// # Errors
-    ///
-    /// As there, and `Memory` where the log cannot grow.
-    pub fn delete_sq(&mut self, q: u16) -> Result<u16, Refusal>
-        ensures step { Does self.old None (events.DeleteSq q) (send_reply result) self.new }
-        ensures memory { WantsMemoryFor (IsLogFull self.old) (send_reply result) }
-    {
-        if self.log.reserve(1).is_err() {
-            return Err(Refusal::Memory);
-        }
-        let answer = self.world.delete_sq(q);
-        note(&mut self.log, None, Step::DeleteSq { q }, sent(&answer));
-        answer
-    }
-
-    /// [`step_core::World::delete_cq`].
-    ///
-    /// # Errors
-    ///
-    /// As there, and `Memory` where the log cannot grow.
-    pub fn delete_cq(&mut self, q: u16) -> Result<u16, Refusal>
-        ensures step { Does self.old None (events.DeleteCq q) (send_reply result) self.new }
-        ensures memory { WantsMemoryFor (IsLogFull self.old) (send_reply result) }
-    {
-        if self.log.reserve(1).is_err() {
-            return Err(Refusal::Memory);
-        }
-        let answer = self.world.delete_cq(q);
-        note(&mut self.log, None, Step::DeleteCq { q }, sent(&answer));
-        answer
-    }
-
-    /// [`step_core::World::create_cq`].
-    ///
-    /// # Errors
-    ///
-    /// As there, and `Memory` where the log cannot grow.
-    pub fn create_cq(&mut self, q: u16) -> Result<u16, Refusal>
-        ensures step { Does self.old None (events.CreateCq q) (send_reply result) self.new }
-        ensures memory { WantsMemoryFor (IsLogFull self.old) (send_reply result) }
-    {
-        if self.log.reserve(1).is_err() {
-            return Err(Refusal::Memory);
-        }
-        let answer = self.world.create_cq(q);
-        note(&mut self.log, None, Step::CreateCq { q }, sent(&answer));
-        answer
-    }
-
-    /// [`step_core::World::create_sq`].
-    ///
-    /// # Errors
-    ///
-    /// As there, and `Memory` where the log cannot grow.
-    pub fn create_sq(&mut self, q: u16) -> Result<u16, Refusal>
-        ensures step { Does self.old None (events.CreateSq q) (send_reply result) self.new }
-        ensures memory { WantsMemoryFor (IsLogFull self.old) (send_reply result) }
-    {
-        if self.log.reserve(1).is_err() {
-            return Err(Refusal::Memory);
-        }
-        let answer = self.world.create_sq(q);
-        note(&mut self.log, None, Step::CreateSq { q }, sent(&answer));
-        answer
-    }
-
-    /// [`step_core::World::retire`].
-    ///
-    /// # Errors
-    ///
-    /// As there, and `Memory` where the log cannot grow.
-    pub fn retire(&mut self, q: u16) -> Result<(), Refusal>
-        ensures step { Does self.old None (events.Retire q) (ring_reply result) self.new }
-        ensures memory { WantsMemoryFor (IsLogFull self.old) (ring_reply result) }
-    {
-        if self.log.reserve(1).is_err() {
-            return Err(Refusal::Memory);
-        }
-        let answer = self.world.retire(q);
-        note(&mut self.log, None, Step::Retire { q }, done(&answer));
-        answer
-    }
-
-    /// [`step_core::World::forge`].
-    ///
-    /// # Errors
-    ///
-    /// As there, and `Memory` where the log cannot grow.
-    pub fn forge(&mut self, q: u16, slot: u16, bytes: [u8; 16]) -> Result<(), Refusal>
-        ensures step { Does self.old None (events.Forge q slot bytes) (ring_reply result) self.new }
-        ensures memory { WantsMemoryFor (IsLogFull self.old) (ring_reply result) }
-    {
-        if self.log.reserve(1).is_err() {
-            return Err(Refusal::Memory);
-        }
-        let answer = self.world.forge(q, slot, bytes);
-        note(
-            &mut self.log,
-            None,
-            Step::Forge { q, slot, bytes },
-            done(&answer),
-        );
-        answer
-    }
-
-    /// [`step_core::World::reset`]. The receipts of seats stay.
-    ///
-    /// # Errors
-    ///
-    /// `Memory` where the log cannot grow.
-    pub fn reset(&mut self) -> Result<(), Refusal>
-        ensures step { Does self.old None events.Reset (ring_reply result) self.new }
-        ensures recovers { OnOk result (SidesAgree self.new.world) }
-        ensures memory { IfErr result (λ why. (why ≡ Refusal.Memory) × IsLogFull self.old) }
-    {
-        if self.log.reserve(1).is_err() {
-            return Err(Refusal::Memory);
-        }
-        self.world.reset();
-        note(&mut self.log, None, Step::Reset, Some(Reply::Accepted));
-        Ok(())
     }
 }

@@ -14,6 +14,7 @@
 //! `specs/History.antt` says where a log leads, `specs/Calls.antt` what the calls do, `specs/Close.antt` what it is to close a book.
 #![tactic(auto)]
 
+mod admin;
 mod book;
 mod close;
 mod device;
@@ -24,7 +25,7 @@ mod look;
 mod note;
 mod seat;
 
-pub use book::{Book, BookRefused, Driver};
+pub use book::{Book, BookRefused, Driver, FullDriver};
 pub use close::CloseRefused;
 pub use log::{CloseFault, Entry, EntryIn, NoSeat, Receipt, Receipts, Report, ReportIn};
 pub use seat::Seat;

@@ -6,7 +6,7 @@ ghost use Rattle.step_core.specs.Opening.{opening_of};
 use crate::closes::{close, close_each, keep_back, stay_open};
 use crate::looks::{Told, alter, has_receipts, see};
 use block_image::Image;
-use driver_book::{Book, CloseFault, Driver};
+use driver_book::{Book, CloseFault, FullDriver};
 use driver_desk::{Access, Desk};
 use driver_threads::Shared;
 use entry_codec::Status;
@@ -44,7 +44,7 @@ pub(crate) enum Part {
 }
 
 /// Plays a transcript, as it says.
-pub(crate) fn play_text<L: Driver, R: Abort + Wait>(rt: &R, desk: &mut Desk<'_, L, R>, text: &str) {
+pub(crate) fn play_text<L: FullDriver, R: Abort + Wait>(rt: &R, desk: &mut Desk<'_, L, R>, text: &str) {
     let Ok(transcript) = read_transcript(desk.alloc, text) else {
         panic!(rt; "it is no transcript");
     };
@@ -56,7 +56,7 @@ pub(crate) fn play_text<L: Driver, R: Abort + Wait>(rt: &R, desk: &mut Desk<'_, 
 }
 
 /// Does a part of a run.
-fn play_part<L: Driver, R: Abort + Wait>(rt: &R, desk: &mut Desk<'_, L, R>, part: Part) {
+fn play_part<L: FullDriver, R: Abort + Wait>(rt: &R, desk: &mut Desk<'_, L, R>, part: Part) {
     match part {
         Part::Sit => assert!(rt; desk.sit() == Ok(true)),
         Part::Turn => desk.seats.reverse(),
@@ -72,14 +72,14 @@ fn play_part<L: Driver, R: Abort + Wait>(rt: &R, desk: &mut Desk<'_, L, R>, part
 }
 
 /// Does the parts of a run.
-fn play_parts<L: Driver, R: Abort + Wait>(rt: &R, desk: &mut Desk<'_, L, R>, parts: &[Part]) {
+fn play_parts<L: FullDriver, R: Abort + Wait>(rt: &R, desk: &mut Desk<'_, L, R>, parts: &[Part]) {
     for part in parts {
         play_part(rt, desk, *part);
     }
 }
 
 /// A new book.
-pub(crate) fn opened<L: Driver, R: Abort>(
+pub(crate) fn opened<L: FullDriver, R: Abort>(
     rt: &R,
     alloc: Global,
     config: Config,
@@ -98,7 +98,7 @@ pub(crate) fn opened<L: Driver, R: Abort>(
 }
 
 /// Does the parts of a run at a desk with a new book, and ends the book: how many entries its log had.
-fn through_book<L: Driver, R: Abort + Wait>(
+fn through_book<L: FullDriver, R: Abort + Wait>(
     rt: &R,
     alloc: Global,
     config: Config,
@@ -118,7 +118,7 @@ fn through_book<L: Driver, R: Abort + Wait>(
 }
 
 /// Does the parts of a run at a desk with a new book behind its lock, and ends the book: how many entries its log had.
-fn behind_lock<L: Driver, R: Abort + Wait>(
+fn behind_lock<L: FullDriver, R: Abort + Wait>(
     rt: &R,
     alloc: Global,
     config: Config,

@@ -8,7 +8,7 @@ use crate::opening::end;
 use crate::part::{USUAL, opened};
 use crate::runs::job;
 use block_image::Image;
-use driver_book::Driver;
+use driver_book::FullDriver;
 use driver_threads::{
     Job, JobEnd, JobRefusal, Open, Shared, Worked, controller, poller, submitter,
 };
@@ -22,7 +22,7 @@ use std::test::Fail;
 use step_core::Config;
 
 /// What a submitter leaves whose only job is a Read of one block on queue 1.
-fn worked<L: Driver, R: Abort + Wait>(rt: &R, shared: &Shared<L>, alloc: Global) -> Worked<L> {
+fn worked<L: FullDriver, R: Abort + Wait>(rt: &R, shared: &Shared<L>, alloc: Global) -> Worked<L> {
     let mut jobs: Vec<Job> = Vec::new(alloc);
     match job(alloc, 1, Kind::Read, 0, 1, &[]) {
         Ok(job) => assert!(rt; jobs.push(job).is_ok()),
@@ -32,7 +32,7 @@ fn worked<L: Driver, R: Abort + Wait>(rt: &R, shared: &Shared<L>, alloc: Global)
 }
 
 /// A job on a queue that is being deleted is refused, and leaves no receipt.
-fn see_refused<L: Driver, R: Abort + Wait>(rt: &R, shared: &Shared<L>, alloc: Global) {
+fn see_refused<L: FullDriver, R: Abort + Wait>(rt: &R, shared: &Shared<L>, alloc: Global) {
     see(rt, &shared.delete_sq(rt, 1), &Ok(0));
     let refused = worked(rt, shared, alloc);
     match refused.ends.as_slice() {
@@ -43,7 +43,7 @@ fn see_refused<L: Driver, R: Abort + Wait>(rt: &R, shared: &Shared<L>, alloc: Gl
 }
 
 /// Workers that are told to stop carry nothing through.
-fn see_stopped<L: Driver, R: Abort + Wait>(rt: &R, shared: &Shared<L>, alloc: Global) {
+fn see_stopped<L: FullDriver, R: Abort + Wait>(rt: &R, shared: &Shared<L>, alloc: Global) {
     shared.stop(rt);
     let stopped = worked(rt, shared, alloc);
     assert!(rt; stopped.ends.is_empty() && stopped.seat.is_some());
@@ -52,7 +52,7 @@ fn see_stopped<L: Driver, R: Abort + Wait>(rt: &R, shared: &Shared<L>, alloc: Gl
 }
 
 /// Workers whose queue is being deleted, and that are told to stop: the log has one entry, that of the deletion.
-fn turn_away<L: Driver, R: Abort + Wait>(
+fn turn_away<L: FullDriver, R: Abort + Wait>(
     rt: &R,
     alloc: Global,
     config: Config,

@@ -7,7 +7,7 @@ use crate::looks::see;
 use crate::part::{USUAL, opened, play_text};
 use crate::runs::{is_done, job};
 use block_image::Image;
-use driver_book::Driver;
+use driver_book::FullDriver;
 use driver_desk::values::draft_of;
 use driver_desk::{Access, Desk, Value};
 use driver_threads::{
@@ -335,7 +335,7 @@ fn see_ends<R: Abort>(rt: &R, ends: &[JobEnd], wanted: &[End]) {
 }
 
 /// Carries jobs through as a submitter, and tells that it is back.
-fn submit_all<L: Driver, R: Wait>(
+fn submit_all<L: FullDriver, R: Wait>(
     rt: &R,
     alloc: Global,
     shared: &Shared<L>,
@@ -353,7 +353,7 @@ fn submit_all<L: Driver, R: Wait>(
 }
 
 /// Cancels the draft with identifier 0 of queue 1. Whether it was accepted.
-fn is_cancelled<L: Driver, R: Wait>(rt: &R, shared: &Shared<L>, values: &mut Vec<Value>) -> bool {
+fn is_cancelled<L: FullDriver, R: Wait>(rt: &R, shared: &Shared<L>, values: &mut Vec<Value>) -> bool {
     let Some(draft) = draft_of(values, 1, 0) else {
         return false;
     };
@@ -367,7 +367,7 @@ fn is_cancelled<L: Driver, R: Wait>(rt: &R, shared: &Shared<L>, values: &mut Vec
 }
 
 /// Makes a call. Whether it was accepted.
-fn is_accepted<L: Driver, R: Wait>(
+fn is_accepted<L: FullDriver, R: Wait>(
     rt: &R,
     shared: &Shared<L>,
     values: &mut Vec<Value>,
@@ -390,7 +390,7 @@ fn is_accepted<L: Driver, R: Wait>(
 }
 
 /// Makes each call once the threads sleep.
-fn make_calls<L: Driver, R: Abort + Wait + Clock>(
+fn make_calls<L: FullDriver, R: Abort + Wait + Clock>(
     rt: &R,
     shared: &Shared<L>,
     values: &mut Vec<Value>,
@@ -414,7 +414,7 @@ fn comes<R: Clock>(rt: &R, so_far: &AtomicBool) -> bool {
 }
 
 /// Polls, where that is wanted, until the workers are told to stop.
-fn poll<L: Driver, R: Wait>(rt: &R, shared: &Shared<L>, is_wanted: bool) -> Result<(), AllocError> {
+fn poll<L: FullDriver, R: Wait>(rt: &R, shared: &Shared<L>, is_wanted: bool) -> Result<(), AllocError> {
     if is_wanted {
         poller(rt, shared)
     } else {
@@ -423,7 +423,7 @@ fn poll<L: Driver, R: Wait>(rt: &R, shared: &Shared<L>, is_wanted: bool) -> Resu
 }
 
 /// Runs a submitter, and a poller where one is wanted, in threads of their own, makes the calls, and answers how the jobs ended.
-fn woken<L: Driver + Send + Sync, R: Abort + Threads + Wait + Clock + Sync>(
+fn woken<L: FullDriver + Send + Sync, R: Abort + Threads + Wait + Clock + Sync>(
     rt: &R,
     alloc: Global,
     shared: &Shared<L>,
@@ -453,7 +453,7 @@ fn woken<L: Driver + Send + Sync, R: Abort + Threads + Wait + Clock + Sync>(
 }
 
 /// Has a submitter sleep behind the lock of a desk, and sees that it is woken.
-fn see_woken<L: Driver + Send + Sync, R: Abort + Threads + Wait + Clock + Sync>(
+fn see_woken<L: FullDriver + Send + Sync, R: Abort + Threads + Wait + Clock + Sync>(
     rt: &R,
     desk: &mut Desk<'_, L, R>,
     waking: &Waking,
@@ -474,7 +474,7 @@ fn see_woken<L: Driver + Send + Sync, R: Abort + Threads + Wait + Clock + Sync>(
 }
 
 /// A submitter waits, over a new book, and is woken.
-fn wake<L: Driver + Send + Sync, R: Abort + Threads + Wait + Clock + Sync>(
+fn wake<L: FullDriver + Send + Sync, R: Abort + Threads + Wait + Clock + Sync>(
     rt: &R,
     alloc: Global,
     config: Config,

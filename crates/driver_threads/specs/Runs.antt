@@ -1,10 +1,10 @@
 -- What a run of threads leaves.
-use Rattle.std.specs.Prelude.{◌≡◌, None, List}
+use Rattle.std.specs.Prelude.{◌≡◌, Some, None, List}
 use Rattle.driver_book.specs.History.{accepted}
 use Rattle.driver_book.specs.State.{BookContents, SeatContents}
 use Rattle.driver_book.specs.Values.{Report}
 use Rattle.machine_model.specs.State.{State}
-use Rattle.host_core.specs.Opening.{refusal_of_config, RefusesOpening}
+use Rattle.host_core.specs.Opening.{refusal_of_config}
 use Rattle.host_core.specs.declared.config.Config.{Config}
 use Rattle.driver_threads.specs.Sharing.{Closes}
 use Rattle.driver_threads.specs.declared.jobs.RunFault.{RunFault}
@@ -22,7 +22,7 @@ abbrev pub IsAfterOpening : RunFault → Type 0
 IsAfterOpening (Open why) = ⊥
 IsAfterOpening why = Unit {0}
 
--- A run is refused for its opening where that is refused, and then for nothing else: want of memory for the opening may be told either way.
+-- A run is refused for its opening exactly where that is refused, and then for nothing else. Want of memory for the opening is told as that.
 abbrev pub RefusesRun : Config → RunFault → Type 0
-RefusesRun config (Open why) = RefusesOpening config why
+RefusesRun config (Open why) = refusal_of_config config ≡ Some why
 RefusesRun config why = refusal_of_config config ≡ None

@@ -1,8 +1,9 @@
 -- What a call of a shared book says: that some book of this opening, whose log leads from there to its world, did it.
-use Rattle.std.specs.Prelude.{◌≡◌, ℕ, ◌≤◌, Option, Some, None, List, length, Result, MatchOption}
+use Rattle.std.specs.Prelude.{◌≡◌, ℕ, ◌<◌, ◌≤◌, Bool, [], Option, Some, None, List, length, Result, MatchOption}
 use Rattle.std.specs.List.{Contains}
 use Rattle.io_commands.specs.Drafts.{DraftContents}
 use Rattle.io_commands.specs.Values.{FinishedContents, TicketContents}
+use Rattle.machine_model.specs.Agreeing.{SidesAgree}
 use Rattle.machine_model.specs.Claims.{claims_of, counts_of, IsSound}
 use Rattle.machine_model.specs.Events as events
 use Rattle.machine_model.specs.Events.{Event, Reply}
@@ -57,6 +58,27 @@ pub record Released (opening : State) (seat : SeatContents) (f : FinishedContent
   pub of : IsBookOf opening old
   pub does : Does old (Some seat.number) (events.Release f) (accept_reply result) new
   pub settles : Settles old.world seat f result next
+
+-- some book of this opening was reset, and both sides agree since
+pub record Recovers (opening : State) : Type 0 where
+  pub old : BookContents
+  pub new : BookContents
+  pub of : IsBookOf opening old
+  pub does : Does old None events.Reset events.Accepted new
+  pub agree : SidesAgree new.world
+
+-- some book of this opening says whether the workers are told to stop
+pub record IsStopping (opening : State) (answer : Bool) : Type 0 where
+  pub book : BookContents
+  pub of : IsBookOf opening book
+  pub says : book.stopping ≡ answer
+
+-- some book of this opening made this seat, with the next number and no receipts
+pub record Seated (opening : State) (seat : SeatContents) : Type 0 where
+  pub book : BookContents
+  pub of : IsBookOf opening book
+  pub room : book.made < 65535
+  pub next : seat ≡ record { number = book.made; receipts = []; spare = 0 }
 
 -- some book of this opening has made all its seats
 pub record GivesNoSeat (opening : State) : Type 0 where

@@ -1,11 +1,11 @@
-//! The host's steps of a shared book.
+//! The host's steps of a shared book for jobs.
 
 ghost use Rattle.std.specs.Prelude.{◌≡◌, true, None, IfErr, IfOk};
 ghost use Rattle.std.specs.List.{list_any};
 ghost use Rattle.driver_book.specs.Calls.{is_open_for};
 ghost use Rattle.driver_threads.specs.Sharing.{Made, Submitted, Released};
 ghost use Rattle.machine_model.specs.Events as events;
-ghost use Rattle.step_core.specs.Replies.{reserve_reply, accept_reply, collect_reply, ring_reply, reap_reply, send_reply};
+ghost use Rattle.step_core.specs.Replies.{reserve_reply, accept_reply, collect_reply, ring_reply, reap_reply};
 
 use crate::shared::Shared;
 use driver_book::{Driver, Seat};
@@ -120,106 +120,6 @@ impl<L: Driver, A: Allocator + Copy> Shared<L, A> {
         ensures back { IfErr result (λ r. r.value ≡ finished) }
     {
         let answer = self.lock(rt).release(seat, finished);
-        self.wake();
-        answer
-    }
-
-    /// [`driver_book::Book::abort`].
-    ///
-    /// # Errors
-    ///
-    /// As there.
-    pub fn abort<R: Wait>(&self, rt: &R, q: u16, cid: u16) -> Result<u16, Refusal>
-        ensures { Made L.opening None (events.Abort q cid) (send_reply result) }
-    {
-        self.lock(rt).abort(q, cid)
-    }
-
-    /// [`driver_book::Book::delete_sq`].
-    ///
-    /// # Errors
-    ///
-    /// As there.
-    pub fn delete_sq<R: Wait>(&self, rt: &R, q: u16) -> Result<u16, Refusal>
-        ensures { Made L.opening None (events.DeleteSq q) (send_reply result) }
-    {
-        let answer = self.lock(rt).delete_sq(q);
-        self.wake();
-        answer
-    }
-
-    /// [`driver_book::Book::delete_cq`].
-    ///
-    /// # Errors
-    ///
-    /// As there.
-    pub fn delete_cq<R: Wait>(&self, rt: &R, q: u16) -> Result<u16, Refusal>
-        ensures { Made L.opening None (events.DeleteCq q) (send_reply result) }
-    {
-        self.lock(rt).delete_cq(q)
-    }
-
-    /// [`driver_book::Book::create_cq`].
-    ///
-    /// # Errors
-    ///
-    /// As there.
-    pub fn create_cq<R: Wait>(&self, rt: &R, q: u16) -> Result<u16, Refusal>
-        ensures { Made L.opening None (events.CreateCq q) (send_reply result) }
-    {
-        let answer = self.lock(rt).create_cq(q);
-        self.wake();
-        answer
-    }
-
-    /// [`driver_book::Book::create_sq`].
-    ///
-    /// # Errors
-    ///
-    /// As there.
-    pub fn create_sq<R: Wait>(&self, rt: &R, q: u16) -> Result<u16, Refusal>
-        ensures { Made L.opening None (events.CreateSq q) (send_reply result) }
-    {
-        let answer = self.lock(rt).create_sq(q);
-        self.wake();
-        answer
-    }
-
-    /// [`driver_book::Book::retire`].
-    ///
-    /// # Errors
-    ///
-    /// As there.
-    pub fn retire<R: Wait>(&self, rt: &R, q: u16) -> Result<(), Refusal>
-        ensures { Made L.opening None (events.Retire q) (ring_reply result) }
-    {
-        let answer = self.lock(rt).retire(q);
-        self.wake();
-        answer
-    }
-
-    /// [`driver_book::Book::forge`].
-    ///
-    /// # Errors
-    ///
-    /// As there.
-    pub fn forge<R: Wait>(&self, rt: &R, q: u16, slot: u16, bytes: [u8; 16]) -> Result<(), Refusal>
-        ensures { Made L.opening None (events.Forge q slot bytes) (ring_reply result) }
-    {
-        let answer = self.lock(rt).forge(q, slot, bytes);
-        self.wake();
-        answer
-    }
-
-    /// [`driver_book::Book::reset`]. Whoever waits is woken: a submitter whose command the reset ended goes on as behind a reap.
-    ///
-    /// # Errors
-    ///
-    /// As there.
-    pub fn reset<R: Wait>(&self, rt: &R) -> Result<(), Refusal>
-        ensures { Made L.opening None events.Reset (ring_reply result) }
-    {
-        let answer = self.lock(rt).reset();
         self.wake();
         answer
     }

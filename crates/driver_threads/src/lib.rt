@@ -14,6 +14,7 @@
 //! [`run_threads`] opens a book, runs submitters over it with a poller and a controller, each in a thread of its own, and closes it.
 #![tactic(auto)]
 
+mod admin;
 mod device;
 mod gate;
 mod host;

@@ -1,9 +1,9 @@
 //! A book that threads share.
 
-ghost use Rattle.std.specs.Prelude.{◌≡◌, [], IfOk, IfErr};
+ghost use Rattle.std.specs.Prelude.{◌≡◌, true, IfOk, IfErr};
 ghost use Rattle.std.specs.Sync.Mutex.{mutex_guard_value};
 ghost use Rattle.driver_book.specs.State.{BookContents};
-ghost use Rattle.driver_threads.specs.Sharing.{IsBookOf, GivesNoSeat, Tells, Counted, Closes, StaysOpen};
+ghost use Rattle.driver_threads.specs.Sharing.{IsBookOf, Seated, GivesNoSeat, IsStopping, Tells, Counted, Closes, StaysOpen};
 
 use driver_book::{Book, CloseRefused, Driver, NoSeat, ReportIn, Seat};
 use page_ledger::{Counts, Owner};
@@ -58,21 +58,25 @@ impl<L: Driver, A: Allocator + Copy> Shared<L, A> {
     ///
     /// Where 65,535 seats were made.
     pub fn seat<R: Wait>(&self, rt: &R) -> Result<Seat<L, A>, NoSeat>
-        ensures seat { IfOk result (λ seat. seat.receipts ≡ []) }
+        ensures seat { IfOk result (Seated L.opening) }
         ensures refused { IfErr result (λ none. GivesNoSeat L.opening) }
     {
         self.lock(rt).seat()
     }
 
     /// Tells the workers to stop.
-    pub fn stop<R: Wait>(&self, rt: &R) {
+    pub fn stop<R: Wait>(&self, rt: &R)
+        ensures { IsStopping L.opening true }
+    {
         self.lock(rt).stop();
         self.wake();
     }
 
     /// Whether the workers are told to stop.
-    pub fn stopping<R: Wait>(&self, rt: &R) -> bool {
-        self.lock(rt).stopping()
+    pub fn stopping<R: Wait>(&self, rt: &R) -> bool
+        ensures { IsStopping L.opening result }
+    {
+        is_stopping(&*self.lock(rt))
     }
 
     /// Whose a page is; `None` for one that the pool does not have.
@@ -120,4 +124,15 @@ impl<L: Driver, A: Allocator + Copy> Shared<L, A> {
         } = self;
         book.into_inner()
     }
+}
+
+/// Whether the workers are told to stop, as a book of the opening says.
+pub(crate) fn is_stopping<L: Driver, A: Allocator + Copy>(book: &Book<L, A>) -> bool
+    ensures { IsStopping L.opening result }
+{
+    prove!({
+        book.check();
+        true
+    });
+    book.stopping()
 }

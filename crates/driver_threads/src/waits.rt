@@ -1,10 +1,11 @@
 //! Calls that wait. Who waits looks at the book each time that it is woken, and makes its step once the answer is another: a wait makes no
 //! step, and writes nothing down.
 
-ghost use Rattle.std.specs.Prelude.{◌≡◌, IfOk};
+ghost use Rattle.std.specs.Prelude.{◌≡◌, true, false, IfOk};
+ghost use Rattle.driver_threads.specs.Sharing.{IsStopping};
 
 use crate::jobs::JobRefusal;
-use crate::shared::Shared;
+use crate::shared::{Shared, is_stopping};
 use driver_book::{Book, Driver};
 use io_commands::{Draft, Finished, Request, Ticket};
 use std::alloc::{AllocError, Allocator};
@@ -127,10 +128,12 @@ impl<L: Driver, A: Allocator + Copy> Shared<L, A> {
     /// # Errors
     ///
     /// Where memory is refused.
-    pub(crate) fn reap_next<R: Wait>(&self, rt: &R) -> Result<bool, AllocError> {
+    pub(crate) fn reap_next<R: Wait>(&self, rt: &R) -> Result<bool, AllocError>
+        ensures { IfOk result (λ goes_on. goes_on ≡ false → IsStopping L.opening true) }
+    {
         let mut book = self.lock(rt);
         for _ in rt.forever() {
-            if book.stopping() {
+            if is_stopping(&*book) {
                 return Ok(false);
             }
             match book.next_completion() {
@@ -154,10 +157,12 @@ impl<L: Driver, A: Allocator + Copy> Shared<L, A> {
     /// # Errors
     ///
     /// Where memory is refused.
-    pub(crate) fn serve_next<R: Wait>(&self, rt: &R) -> Result<bool, AllocError> {
+    pub(crate) fn serve_next<R: Wait>(&self, rt: &R) -> Result<bool, AllocError>
+        ensures { IfOk result (λ goes_on. goes_on ≡ false → IsStopping L.opening true) }
+    {
         let mut book = self.lock(rt);
         for _ in rt.forever() {
-            if book.stopping() {
+            if is_stopping(&*book) {
                 return Ok(false);
             }
             match book.next_step() {

@@ -220,10 +220,8 @@ keeps_itself None = _
 keeps_itself (Some bytes) = refl
 
 pub no_run : (config : Config) (why : threads_fault.RunFault) → RefusesRun config why → IsNoRun config (fault_of_threads why)
-no_run config (threads.Open opening.BadConfig) (inl e) = e
-no_run config (threads.Open opening.BadConfig) (inr (e, fits)) = absurd cc
-no_run config (threads.Open (opening.NoPages need free)) (inl e) = e
-no_run config (threads.Open (opening.NoPages need free)) (inr (e, fits)) = absurd cc
+no_run config (threads.Open opening.BadConfig) refuses = refuses
+no_run config (threads.Open (opening.NoPages need free)) refuses = refuses
 no_run config (threads.Open opening.Memory) refuses = tt
 no_run config threads.NoThread fits = fits
 no_run config (threads.GateClosed worker) fits = fits
@@ -247,9 +245,9 @@ no_run_ends told n config image k lines run.Unreadable has why_not = absurd why_
 no_run_ends told n config image k lines run.OutputFailed has why_not = absurd why_not
 
 -- what is written is the text of a run
-pub jobs_text_is : (start : State) (lines : List JobLine) (headings : List Heading) (ends : List (List JobEnd)) (owners : List Owner) (counts : Counts) → headings ≡ headings_from [] lines
-    → IsLeftFrom start owners counts → all_ended ends [] lines ≡ true → IsJobsText start lines (headed_lines ends headings ++ closing_text owners counts)
-jobs_text_is start lines headings ends owners counts is left all = record {
+pub jobs_text_is : (config : Config) (image : List ℕ) (lines : List JobLine) (headings : List Heading) (ends : List (List JobEnd)) (owners : List Owner) (counts : Counts) → headings ≡ headings_from [] lines
+    → IsLeftFrom (opening_of config image) image ends owners counts → all_ended ends [] lines ≡ true → IsJobsText config image lines (headed_lines ends headings ++ closing_text owners counts)
+jobs_text_is config image lines headings ends owners counts is left all = record {
   ends = ends;
   owners = owners;
   counts = counts;
@@ -259,13 +257,13 @@ jobs_text_is start lines headings ends owners counts is left all = record {
 }
 
 pub run_writes : {T E : Type 0} (r : Result T E) (told : Option (List ℕ)) (n : ℕ) (config : Config) (image : List ℕ) (a b : Option (List ℕ)) (lines : List JobLine) (whole : List ℕ)
-    → HasJobs told n lines → IsJobsText (opening_of config image) lines whole → OnOk r (Appends a b whole) → OnOk r (WritesJobs told n config image a b IsJobsText)
+    → HasJobs told n lines → IsJobsText config image lines whole → OnOk r (Appends a b whole) → OnOk r (WritesJobs told n config image a b IsJobsText)
 run_writes (Ok done) told n config image a b lines whole has text written = (lines, has, (whole, text, written))
 run_writes (Err why) told n config image a b lines whole has text written = _
 
 -- a run that was cut off says so
 pub run_is_cut : {T : Type 0} (r : Result T RunFault) (told : Option (List ℕ)) (n : ℕ) (config : Config) (image : List ℕ) (a b : Option (List ℕ)) (lines : List JobLine) (whole : List ℕ)
-    → HasJobs told n lines → IsJobsText (opening_of config image) lines whole → OnErr r (Gains a b (λ front. IsFront front whole))
+    → HasJobs told n lines → IsJobsText config image lines whole → OnErr r (Gains a b (λ front. IsFront front whole))
     → IfErr r (λ why. (why ≡ run.Memory) ⊎ (why ≡ run.OutputFailed)) → IfErr r (EndsJobsWith told n config image a b)
 run_is_cut (Ok done) told n config image a b lines whole has text cut says = _
 run_is_cut (Err why) told n config image a b lines whole has text (front, is, written) (inl e) = rw e (inr (lines, has, (front, (whole, text, is), written)))

@@ -1,8 +1,10 @@
 -- What a run of a script of jobs prints, and how it may end.
 use Rattle.std.specs.Prelude.{◌≡◌, ◌<◌, ◌⊎◌, ◌==◌, ◌&&◌, ℕ, Bool, true, Option, Some, None, is_some, option_and_then, Ok, Err, List, [], ◌∷◌, ◌++◌, length, slice_get, if◌then◌else◌}
 use Rattle.std.specs.Io.KnownBytes.{Keeps}
-use Rattle.driver_book.specs.State.{BookContents}
+use Rattle.driver_book.specs.Laws.{IsTrustedLog}
+use Rattle.driver_book.specs.State.{AreOfJobs, BookContents}
 use Rattle.driver_book.specs.Values.{Report}
+use Rattle.driver_threads.specs.Ends.{AllAgree}
 use Rattle.driver_threads.specs.Runs.{RanFrom}
 use Rattle.driver_threads.specs.Values.{Job, JobEnd}
 use Rattle.machine_model.specs.Claims.{counts_of}
@@ -66,27 +68,31 @@ all_ended ends before (line ∷ rest) = is_some (end_of ends before line) && all
 abbrev pub closing_text : List Owner → Counts → List ℕ
 closing_text owners counts = owners_text owners ++ counts_line counts
 
--- some run of threads from an opening left a book with these owners and counts
-pub record IsLeftFrom (opening : State) (owners : List Owner) (counts : Counts) : Type 0 where
+-- Some run of threads from an opening over this image left a book with these owners and counts. The book's log has the steps of jobs alone, so the
+-- run is one of which the machine's laws of trusted runs speak. Each job's command ended as its receipt says, and so as the log does.
+pub record IsLeftFrom (opening : State) (image : List ℕ) (ends : List (List JobEnd)) (owners : List Owner) (counts : Counts) : Type 0 where
   pub report : Report
   pub book : BookContents
   pub ran : RanFrom opening report book
+  pub agree : AllAgree report.receipts ends
+  pub jobs : AreOfJobs book.log
+  pub trusted : IsTrustedLog image book.log book.world
   pub owned : AreOwners book.world owners
   pub counted : counts ≡ counts_of book.world.host
 
--- The text of a run of jobs over a world that opens so: the line of each job, in the order of the script's lines, by its end; then the owners of the world that
+-- The text of a run of jobs over a world that opens so over an image: the line of each job, in the order of the script's lines, by its end; then the owners of the world that
 -- some run of threads left, and then its counts.
-pub record IsJobsText (opening : State) (lines : List JobLine) (text : List ℕ) : Type 0 where
+pub record IsJobsText (config : Config) (image : List ℕ) (lines : List JobLine) (text : List ℕ) : Type 0 where
   pub ends : List (List JobEnd)
   pub owners : List Owner
   pub counts : Counts
-  pub left : IsLeftFrom opening owners counts
+  pub left : IsLeftFrom (opening_of config image) image ends owners counts
   pub ended : all_ended ends [] lines ≡ true
   pub said : text ≡ job_lines ends [] lines ++ closing_text owners counts
 
 -- what was written of a run that was cut off: the front of such a text
-abbrev pub IsCutJobsText : State → List JobLine → List ℕ → Type 0
-IsCutJobsText opening lines text = (whole : List ℕ) × IsJobsText opening lines whole × IsFront text whole
+abbrev pub IsCutJobsText : Config → List ℕ → List JobLine → List ℕ → Type 0
+IsCutJobsText config image lines text = (whole : List ℕ) × IsJobsText config image lines whole × IsFront text whole
 
 -- How a run ends
 
@@ -116,9 +122,9 @@ IsNoRun config run.Memory = Unit {0}
 IsNoRun config other = ⊥
 
 -- a reader has a script without faults, and a text of which something holds is written
-abbrev pub WritesJobs : Option (List ℕ) → ℕ → Config → List ℕ → Option (List ℕ) → Option (List ℕ) → (State → List JobLine → List ℕ → Type 0) → Type 0
+abbrev pub WritesJobs : Option (List ℕ) → ℕ → Config → List ℕ → Option (List ℕ) → Option (List ℕ) → (Config → List ℕ → List JobLine → List ℕ → Type 0) → Type 0
 WritesJobs told submitters config image before after Holds =
-    (lines : List JobLine) × HasJobs told submitters lines × Gains before after (Holds (opening_of config image) lines)
+    (lines : List JobLine) × HasJobs told submitters lines × Gains before after (Holds config image lines)
 
 -- a reader has a script without faults, the configuration's refusal is exactly this, and nothing was written
 abbrev pub EndsUnwritten : Option (List ℕ) → ℕ → Config → Option OpenRefusal → Option (List ℕ) → Option (List ℕ) → Type 0

@@ -1,6 +1,6 @@
 //! A script of jobs, done by threads over a book that they share.
 
-ghost use Rattle.std.specs.Prelude.{◌≡◌, ◌≤◌, ◌<◌, ◌⊎◌, ◌++◌, [], ◌∷◌, All, IfOk, IfErr, OnOk, OnErr, None, Some, MatchOption, length, map, slice_index_or, slice_set, string_bytes, vec_len};
+ghost use Rattle.std.specs.Prelude.{◌≡◌, ◌≤◌, ◌<◌, ◌⊎◌, ◌++◌, [], ◌∷◌, All, IfOk, IfErr, OnOk, OnErr, None, Some, MatchOption, length, map, slice_index_or, slice_set, string_bytes, true, vec_len};
 ghost use Rattle.std.specs.Io.KnownBytes.{Appends};
 ghost use Rattle.job_cli.specs.Headings.{headings_of, end_at, headed_text, headed_lines};
 ghost use Rattle.script_cli.specs.Inputs.{Gains, IsFront};
@@ -155,9 +155,10 @@ fn run_book<L: Driver + Send + Sync, R: Threads + Wait + Sync>(
     requires parts { blank.parts ≡ L.parts }
     requires number { blank.parts ≡ 65536 }
     requires opening { L.opening ≡ opening_of config image }
+    requires jobs { L.jobs_alone ≡ true }
     requires some { 1 ≤ vec_len lists }
     requires few { vec_len lists ≤ 16 }
-    ensures ran { IfOk result (λ left. IsLeftFrom (opening_of config image) left.owners.items left.counts) }
+    ensures ran { IfOk result (λ left. IsLeftFrom (opening_of config image) image left.ends left.owners.items left.counts) }
     ensures ended { IfOk result (λ left. map length left.ends ≡ map (λ list. length list.items) lists.items) }
     ensures owners { IfOk result (λ left. length left.owners.items ≤ 65536) }
     ensures fault { IfErr result (IsNoRun config) }

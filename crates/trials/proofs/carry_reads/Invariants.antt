@@ -1,3 +1,4 @@
+use Rattle.std.specs.Prelude.{true}
 use Rattle.step_core.specs.Opening.{opening_of}
 use Rattle.trials.proofs.carry_reads.Given as goal
 
@@ -5,10 +6,10 @@ abbrev pub ghosts-read_in_threads-L-Ledger : goal.ghosts-read_in_threads-L-Ledge
 ghosts-read_in_threads-L-Ledger g a = record { name = a.blank.name; parts = a.blank.parts }
 
 abbrev pub ghosts-read_in_threads-L-Driver : goal.ghosts-read_in_threads-L-Driver
-ghosts-read_in_threads-L-Driver g a = record { opening = opening_of a.config a.image }
+ghosts-read_in_threads-L-Driver g a = record { opening = opening_of a.config a.image; jobs_alone = true }
 
 abbrev pub ghosts-read_alone-L-Ledger : goal.ghosts-read_alone-L-Ledger
 ghosts-read_alone-L-Ledger g a = record { name = a.blank.name; parts = a.blank.parts }
 
 abbrev pub ghosts-read_alone-L-Driver : goal.ghosts-read_alone-L-Driver
-ghosts-read_alone-L-Driver g a = record { opening = opening_of a.config a.image }
+ghosts-read_alone-L-Driver g a = record { opening = opening_of a.config a.image; jobs_alone = true }

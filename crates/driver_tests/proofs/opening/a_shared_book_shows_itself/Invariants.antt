@@ -1,3 +1,4 @@
+use Rattle.std.proofs.Common.{false, refl}
 use Rattle.step_core.specs.Opening.{opening_of}
 use Rattle.driver_tests.proofs.opening.a_shared_book_shows_itself.Given as goal
 
@@ -5,4 +6,7 @@ abbrev pub ghosts-look_behind_lock-L-Ledger : goal.ghosts-look_behind_lock-L-Led
 ghosts-look_behind_lock-L-Ledger g a = record { name = a.blank.name; parts = a.blank.parts }
 
 abbrev pub ghosts-look_behind_lock-L-Driver : goal.ghosts-look_behind_lock-L-Driver
-ghosts-look_behind_lock-L-Driver g a = record { opening = opening_of a.config a.image }
+ghosts-look_behind_lock-L-Driver g a = record { opening = opening_of a.config a.image; jobs_alone = false }
+
+abbrev pub ghosts-look_behind_lock-L-FullDriver : goal.ghosts-look_behind_lock-L-FullDriver
+ghosts-look_behind_lock-L-FullDriver g a = record { takes_all = refl }

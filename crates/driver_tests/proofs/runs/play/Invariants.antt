@@ -1,3 +1,4 @@
+use Rattle.std.specs.Prelude.{true}
 use Rattle.step_core.specs.Opening.{opening_of}
 use Rattle.driver_tests.proofs.runs.play.Given as goal
 
@@ -5,4 +6,4 @@ abbrev pub ghosts-outcome_of-L-Ledger : goal.ghosts-outcome_of-L-Ledger
 ghosts-outcome_of-L-Ledger g a = record { name = a.blank.name; parts = a.blank.parts }
 
 abbrev pub ghosts-outcome_of-L-Driver : goal.ghosts-outcome_of-L-Driver
-ghosts-outcome_of-L-Driver g a = record { opening = opening_of a.config a.image }
+ghosts-outcome_of-L-Driver g a = record { opening = opening_of a.config a.image; jobs_alone = true }

@@ -1,3 +1,4 @@
+use Rattle.std.proofs.Common.{false, refl}
 use Rattle.step_core.specs.Opening.{opening_of}
 use Rattle.driver_tests.proofs.turned_away.workers_are_turned_away.Given as goal
 
@@ -5,4 +6,7 @@ abbrev pub ghosts-turn_away-L-Ledger : goal.ghosts-turn_away-L-Ledger
 ghosts-turn_away-L-Ledger g a = record { name = a.blank.name; parts = a.blank.parts }
 
 abbrev pub ghosts-turn_away-L-Driver : goal.ghosts-turn_away-L-Driver
-ghosts-turn_away-L-Driver g a = record { opening = opening_of a.config a.image }
+ghosts-turn_away-L-Driver g a = record { opening = opening_of a.config a.image; jobs_alone = false }
+
+abbrev pub ghosts-turn_away-L-FullDriver : goal.ghosts-turn_away-L-FullDriver
+ghosts-turn_away-L-FullDriver g a = record { takes_all = refl }

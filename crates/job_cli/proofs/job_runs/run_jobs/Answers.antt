@@ -14,7 +14,7 @@ returns-clause-ran g c =
     let are : AreListsOf c.args.submitters c.in_ok-script.script (map (λ list. list.items) c.in_ok-orders.orders.lists.items) =
     subst (λ (lines : List JobLine). AreListsOf c.args.submitters lines (map (λ list. list.items) c.in_ok-orders.orders.lists.items)) same c.in_ok-orders.ensures.lists in
     let all = each_has_ended (λ list. list.items) c.args.submitters c.in_ok-script.script c.in_ok-orders.orders.lists.items c.in_ok-left.left.ends are c.in_ok-left.ensures.ended c.in_ok-script.ensures.below in
-    let text = jobs_text_is (opening_of c.args.config c.args.image) c.in_ok-script.script c.in_ok-orders.orders.headings.items c.in_ok-left.left.ends c.in_ok-left.left.owners.items c.in_ok-left.left.counts
+    let text = jobs_text_is c.args.config c.args.image c.in_ok-script.script c.in_ok-orders.orders.headings.items c.in_ok-left.left.ends c.in_ok-left.left.owners.items c.in_ok-left.left.counts
     headed c.in_ok-left.ensures.ran all in
     run_writes c.write_run.result (g.I.Read.remaining c.args.reader.now) c.args.submitters c.args.config c.args.image (g.W.Write.contents c.args.writer.now) (g.W.Write.contents c.write_run.new.writer)
     c.in_ok-script.script _ c.in_ok-script.ensures.script text c.write_run.ensures.ran
@@ -26,7 +26,7 @@ returns-clause-failed g c =
     let are : AreListsOf c.args.submitters c.in_ok-script.script (map (λ list. list.items) c.in_ok-orders.orders.lists.items) =
     subst (λ (lines : List JobLine). AreListsOf c.args.submitters lines (map (λ list. list.items) c.in_ok-orders.orders.lists.items)) same c.in_ok-orders.ensures.lists in
     let all = each_has_ended (λ list. list.items) c.args.submitters c.in_ok-script.script c.in_ok-orders.orders.lists.items c.in_ok-left.left.ends are c.in_ok-left.ensures.ended c.in_ok-script.ensures.below in
-    let text = jobs_text_is (opening_of c.args.config c.args.image) c.in_ok-script.script c.in_ok-orders.orders.headings.items c.in_ok-left.left.ends c.in_ok-left.left.owners.items c.in_ok-left.left.counts
+    let text = jobs_text_is c.args.config c.args.image c.in_ok-script.script c.in_ok-orders.orders.headings.items c.in_ok-left.left.ends c.in_ok-left.left.owners.items c.in_ok-left.left.counts
     headed c.in_ok-left.ensures.ran all in
     run_is_cut c.write_run.result (g.I.Read.remaining c.args.reader.now) c.args.submitters c.args.config c.args.image (g.W.Write.contents c.args.writer.now) (g.W.Write.contents c.write_run.new.writer)
     c.in_ok-script.script _ c.in_ok-script.ensures.script text c.write_run.ensures.cut c.write_run.ensures.fault

@@ -1,3 +1,4 @@
+use Rattle.std.specs.Prelude.{true}
 use Rattle.step_core.specs.Opening.{opening_of}
 use Rattle.worked_scripts.proofs.threads.run_anew.Given as goal
 
@@ -5,4 +6,4 @@ abbrev pub ghosts-run-L-Ledger : goal.ghosts-run-L-Ledger
 ghosts-run-L-Ledger g a = record { name = a.blank.name; parts = a.blank.parts }
 
 abbrev pub ghosts-run-L-Driver : goal.ghosts-run-L-Driver
-ghosts-run-L-Driver g a = record { opening = opening_of a.config a.image }
+ghosts-run-L-Driver g a = record { opening = opening_of a.config a.image; jobs_alone = true }

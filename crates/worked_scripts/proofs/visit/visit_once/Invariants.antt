@@ -1,3 +1,4 @@
+use Rattle.std.proofs.Common.{false, refl}
 use Rattle.step_core.specs.Opening.{opening_of}
 use Rattle.worked_scripts.proofs.visit.visit_once.Given as goal
 
@@ -5,4 +6,7 @@ abbrev pub ghosts-play_home-L-Ledger : goal.ghosts-play_home-L-Ledger
 ghosts-play_home-L-Ledger g a = record { name = a.blank.name; parts = a.blank.parts }
 
 abbrev pub ghosts-play_home-L-Driver : goal.ghosts-play_home-L-Driver
-ghosts-play_home-L-Driver g a = record { opening = opening_of a.config a.image }
+ghosts-play_home-L-Driver g a = record { opening = opening_of a.config a.image; jobs_alone = false }
+
+abbrev pub ghosts-play_home-L-FullDriver : goal.ghosts-play_home-L-FullDriver
+ghosts-play_home-L-FullDriver g a = record { takes_all = refl }

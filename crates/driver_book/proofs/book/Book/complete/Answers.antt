@@ -3,7 +3,7 @@ use Rattle.machine_model.specs.Events as events
 use Rattle.step_core.specs.Replies.{complete_reply}
 use Rattle.driver_book.specs.Calls.{IsLogFull}
 use Rattle.driver_book.specs.State.{BookContents}
-use Rattle.driver_book.proofs.Runs.{does_in, has_room, keeps_book, no_room, takes_no_memory, touches_in, wants_room}
+use Rattle.driver_book.proofs.Runs.{does_in, has_room, keeps_jobs, no_room, takes_no_memory, touches_in, wants_room}
 use Rattle.driver_book.proofs.book.Book.complete.Goals as goal
 
 pub returns-then-is_err-clause-memory : goal.returns-then-is_err-clause-memory
@@ -15,7 +15,7 @@ note-requires g c = has_room _ _ c.reserve.result (sym c.is_err.ensures.value âˆ
 
 pub invariant_of-self-2 : goal.invariant_of-self-2
 invariant_of-self-2 g c =
-    keeps_book None (events.Complete c.args.q c.args.cid) (complete_reply c.complete-answer.result) c.self.invariant c.complete-answer.ensures.step refl
+    keeps_jobs None (events.Complete c.args.q c.args.cid) (complete_reply c.complete-answer.result) c.self.invariant c.complete-answer.ensures.step refl refl
     (rw (c.note.ensures, c.reserve.ensures.items, c.completed.ensures) refl)
 
 pub returns-clause-step : goal.returns-clause-step

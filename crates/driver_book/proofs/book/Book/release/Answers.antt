@@ -3,14 +3,14 @@ use Rattle.machine_model.specs.Events as events
 use Rattle.step_core.specs.Replies.{accept_reply}
 use Rattle.driver_book.specs.Calls.{IsLogFull}
 use Rattle.driver_book.specs.State.{BookContents}
-use Rattle.driver_book.proofs.Runs.{does_in, has_room, keeps_book, no_room, takes_no_memory, wants_room}
+use Rattle.driver_book.proofs.Runs.{does_in, has_room, keeps_jobs, no_room, takes_no_memory, wants_room}
 use Rattle.driver_book.proofs.Seats.{length_settled, settles_in, settles_none, written_back}
 use Rattle.driver_book.proofs.book.Book.release.Goals as goal
 use Rattle.driver_book.proofs.book.Book.release.Goals.{then-is_ok, else-is_ok}
 
 pub invariant_of-self-2 : goal.invariant_of-self-2
 invariant_of-self-2 g c =
-    keeps_book (Some c.seat.inside.number) (events.Release c.args.finished) (accept_reply c.release-answer.result) c.self.invariant c.release-answer.ensures.step refl
+    keeps_jobs (Some c.seat.inside.number) (events.Release c.args.finished) (accept_reply c.release-answer.result) c.self.invariant c.release-answer.ensures.step refl refl
     (rw (c.note.ensures, c.reserve.ensures.items, c.q-q.ensures, c.cid-cid.ensures, c.ended.ensures) refl)
 
 pub returns-clause-step : goal.returns-clause-step

@@ -1,6 +1,6 @@
 use Rattle.std.proofs.Common.{◌-◌, vec_capacity, vec_len, None, refl, sym, ◌∙◌}
 use Rattle.machine_model.specs.Events as events
-use Rattle.driver_book.proofs.Runs.{does_in, has_room, keeps_book, no_room}
+use Rattle.driver_book.proofs.Runs.{does_in, has_room, keeps_book, no_room, takes_any}
 use Rattle.driver_book.proofs.book.Book.reset.Goals as goal
 
 pub returns-then-is_err-clause-memory : goal.returns-then-is_err-clause-memory
@@ -10,7 +10,7 @@ pub note-requires : goal.note-requires
 note-requires g c = has_room _ _ c.reserve.result (sym c.is_err.ensures.value ∙ c.if-is_err.false) c.reserve.ensures.ok
 
 pub invariant_of-self-2 : goal.invariant_of-self-2
-invariant_of-self-2 g c = keeps_book None events.Reset events.Accepted c.self.invariant c.reset.ensures.step refl (rw (c.note.ensures, c.reserve.ensures.items) refl)
+invariant_of-self-2 g c = keeps_book None events.Reset events.Accepted c.self.invariant c.reset.ensures.step (takes_any _ events.Reset (g.met.L.FullDriver.takes_all)) refl (rw (c.note.ensures, c.reserve.ensures.items) refl)
 
 pub returns-clause-step : goal.returns-clause-step
 returns-clause-step g c =

@@ -2,7 +2,7 @@ use Rattle.std.proofs.Common.{â—Œ-â—Œ, vec_capacity, vec_len, None, refl, sym, â
 use Rattle.machine_model.specs.Events as events
 use Rattle.step_core.specs.Replies.{ring_reply}
 use Rattle.driver_book.specs.Calls.{IsLogFull}
-use Rattle.driver_book.proofs.Runs.{does_in, has_room, keeps_book, no_room, takes_no_memory}
+use Rattle.driver_book.proofs.Runs.{does_in, has_room, keeps_book, no_room, takes_any, takes_no_memory}
 use Rattle.driver_book.proofs.book.Book.retire.Goals as goal
 
 pub returns-then-is_err-clause-memory : goal.returns-then-is_err-clause-memory
@@ -13,7 +13,7 @@ note-requires g c = has_room _ _ c.reserve.result (sym c.is_err.ensures.value âˆ
 
 pub invariant_of-self-2 : goal.invariant_of-self-2
 invariant_of-self-2 g c =
-    keeps_book None (events.Retire c.args.q) (ring_reply c.retire-answer.result) c.self.invariant c.retire-answer.ensures refl
+    keeps_book None (events.Retire c.args.q) (ring_reply c.retire-answer.result) c.self.invariant c.retire-answer.ensures (takes_any _ (events.Retire c.args.q) (g.met.L.FullDriver.takes_all)) refl
     (rw (c.note.ensures, c.reserve.ensures.items, c.done.ensures) refl)
 
 pub returns-clause-step : goal.returns-clause-step

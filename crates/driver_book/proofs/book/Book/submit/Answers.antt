@@ -3,7 +3,7 @@ use Rattle.machine_model.specs.Events as events
 use Rattle.step_core.specs.Replies.{accept_reply}
 use Rattle.driver_book.specs.Calls.{IsLogFull, AreReceiptsFull}
 use Rattle.driver_book.specs.State.{BookContents}
-use Rattle.driver_book.proofs.Runs.{accepts_book, does_in, has_room, keeps_book, no_room, refused_submission, takes_no_memory, wants_room}
+use Rattle.driver_book.proofs.Runs.{accepts_book, does_in, has_room, keeps_jobs, no_room, refused_submission, takes_no_memory, wants_room}
 use Rattle.driver_book.proofs.Seats.{receives_in}
 use Rattle.driver_book.proofs.book.Book.submit.Goals as goal
 
@@ -13,7 +13,7 @@ invariant_of-self-then-is_ok g c =
 
 pub invariant_of-self-else-is_ok : goal.invariant_of-self-else-is_ok
 invariant_of-self-else-is_ok g c =
-    keeps_book (Some c.seat.inside.number) (events.Submit c.args.draft) (accept_reply c.submit-answer.result) c.self.invariant c.submit-answer.ensures.step
+    keeps_jobs (Some c.seat.inside.number) (events.Submit c.args.draft) (accept_reply c.submit-answer.result) c.self.invariant c.submit-answer.ensures.step refl
     (refused_submission c.args.draft c.submit-answer.result (search rules)) (rw (c.note.ensures, c.reserve.ensures.items, c.q-q.ensures, c.cid-cid.ensures, c.submitted.ensures) refl)
 
 pub returns-else-is_ok-clause-step : goal.returns-else-is_ok-clause-step
