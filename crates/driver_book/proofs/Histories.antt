@@ -118,7 +118,7 @@ jobs_forge_nothing (e ∷ log) are = rw (job_forges_nothing e.step e.answer are.
 
 pub logs_of_jobs_are_runs : logs_of_jobs_are_trusted_runs
 logs_of_jobs_are_runs config image log world opens is_image leads are =
-    logs_are_runs config image log world opens is_image leads (rw (jobs_forge_nothing log are) tt)
+    logs_are_runs config image log world opens is_image leads (rw (jobs_forge_nothing log are) refl)
 
 -- what a log since its last reset has is what its run has
 

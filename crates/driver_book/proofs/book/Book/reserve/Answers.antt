@@ -1,7 +1,7 @@
-use Rattle.std.proofs.Common.{◌≡◌, ◌-◌, vec_capacity, vec_len, None, refl}
+use Rattle.std.proofs.Common.{◌≡◌, ◌-◌, vec_capacity, vec_len, None, refl, sym, ◌∙◌}
 use Rattle.machine_model.specs.Events as events
 use Rattle.step_core.specs.Replies.{reserve_reply}
-use Rattle.driver_book.proofs.Runs.{does_in, keeps_jobs}
+use Rattle.driver_book.proofs.Runs.{does_in, has_room, keeps_jobs}
 use Rattle.driver_book.proofs.book.Book.reserve.Goals as goal
 
 pub invariant_of-self-2 : goal.invariant_of-self-2
@@ -15,3 +15,6 @@ returns-clause-step g c =
     let same : c.in-Ok.asked ≡ c.args.request = c.in-Ok.ensures in
     does_in c.self.view_is c.reserve-answer.new.self.state c.note.new.log.items (vec_capacity c.note.new.log - vec_len c.note.new.log) _ None (events.Reserve c.args.q c.args.request) (reserve_reply c.reserve-answer.result) c.reserve-answer.ensures.step
     (rw (c.note.ensures, c.reserve.ensures.items, c.reserved.ensures, same) refl)
+
+pub note-requires : goal.note-requires
+note-requires g c = has_room _ _ c.reserve.result (sym c.is_err.ensures.value ∙ c.if-is_err.false) c.reserve.ensures.ok
