@@ -48,11 +48,16 @@ told_all u n touches u' reached told reply cleared was is tells = rw (tells, is,
 counted_sum : (u n more : ℕ) → counted u (n + more) ≡ counted (counted u n) more
 counted_sum u n more = omega arith
 
--- a look touched so many pages more
+-- a call touched so many pages more
+pub touches_at : (touches touches' u u' pages : ℕ) (reached reached' : List ℕ) → counted u (length reached) ≡ touches → touches' ≡ counted u' (length reached')
+    → TouchesMore u reached pages u' reached' → touches' ≡ touches_more touches pages
+touches_at touches touches' u u' pages reached reached' was is more =
+    is ∙ (more ∙ (counted_sum u (length reached) pages ∙ (counted_so u (length reached) pages ∙ rw was refl)))
+
 pub looks_at : (most touches touches' u u' pages : ℕ) (reached reached' : List ℕ) → pages ≤ most → counted u (length reached) ≡ touches → touches' ≡ counted u' (length reached')
     → TouchesMore u reached pages u' reached' → LooksAtMost most touches touches'
 looks_at most touches touches' u u' pages reached reached' few was is more =
-    record { pages = pages; few = few; counts = is ∙ (more ∙ (counted_sum u (length reached) pages ∙ (counted_so u (length reached) pages ∙ rw was refl))) }
+    record { pages = pages; few = few; counts = touches_at touches touches' u u' pages reached reached' was is more }
 
 -- looks follow one another
 more_on : (touches a b : ℕ) → touches_more (touches_more touches a) b ≡ touches_more touches (a + b)

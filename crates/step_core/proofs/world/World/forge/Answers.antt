@@ -22,8 +22,8 @@ invariant_of-self g c =
     (forge_goes (sides_of c.self.inside.host c.self.inside.controller c.self.inside.store.pages c.self.inside.trusted) c.args.q c.args.slot _ c.entries.result c.args.bytes c.clear.new.self.pages c.write.new.self.pages c.self.invariant c.in-Some.ensures.there c.if-slot-entries.false c.entries.ensures
     (slot_at (sides_of c.self.inside.host c.self.inside.controller c.self.inside.store.pages c.self.inside.trusted) c.args.q c.args.slot c.in-Some.base c.from.result c.entries.result c.self.invariant c.in-Some.ensures.base c.in-Some.ensures.there c.if-slot-entries.false c.entries.ensures c.from.ensures) many c.clear.ensures.memory c.clear.ensures.pool c.pages.ensures.whole c.write.ensures.pool c.in-Ok.ensures.written).world
 
-pub returns : goal.returns
-returns g c =
+pub returns-clause-step : goal.returns-clause-step
+returns-clause-step g c =
     let many : length c.args.bytes ≡ 16 = search rules in
     step_from (forge_goes (sides_of c.self.inside.host c.self.inside.controller c.self.inside.store.pages c.self.inside.trusted) c.args.q c.args.slot _ c.entries.result c.args.bytes c.clear.new.self.pages c.write.new.self.pages c.self.invariant c.in-Some.ensures.there c.if-slot-entries.false c.entries.ensures
     (slot_at (sides_of c.self.inside.host c.self.inside.controller c.self.inside.store.pages c.self.inside.trusted) c.args.q c.args.slot c.in-Some.base c.from.result c.entries.result c.self.invariant c.in-Some.ensures.base c.in-Some.ensures.there c.if-slot-entries.false c.entries.ensures c.from.ensures) many c.clear.ensures.memory c.clear.ensures.pool c.pages.ensures.whole c.write.ensures.pool c.in-Ok.ensures.written) (ap (λ (w : WorldContents). w.state) c.self.view_is)
