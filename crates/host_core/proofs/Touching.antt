@@ -7,7 +7,7 @@ use Rattle.io_commands.specs.Asked.{Request}
 use Rattle.io_commands.specs.DataBytes.{PagesOut}
 use Rattle.io_commands.specs.Requests.{data_count}
 use Rattle.io_commands.specs.Values.{data_part, chain_part}
-use Rattle.machine_model.specs.Events.{Refusal}
+use Rattle.machine_model.specs.declared.words.Refusal.{Refusal}
 use Rattle.page_memory.specs.Pages.{Contents}
 use Rattle.page_memory.specs.declared.page.Half.{Half}
 use Rattle.page_memory.specs.declared.page.Half.TheVariants.{Submission, Completion}

@@ -1,7 +1,9 @@
 -- How many pages an event of the host touches: the answer tells it.
 use Rattle.std.specs.Prelude.{◌≡◌, ℕ, ◌+◌, ◌≤◌, [], length}
 use Rattle.machine_model.specs.Events as events
-use Rattle.machine_model.specs.Events.{Event, Reply, Refusal}
+use Rattle.machine_model.specs.Events.{Event, Reply}
+use Rattle.machine_model.specs.declared.words.Refusal.{Refusal}
+use Rattle.machine_model.specs.declared.words.Refusal.TheVariants as refusal
 use Rattle.page_memory.specs.Memory.{TouchesMore}
 use Rattle.page_memory.specs.Pages.{Contents}
 
@@ -14,7 +16,7 @@ accepted_touches (events.Retire q) = 1
 accepted_touches e = 0
 
 abbrev pub refused_touches : Event → Refusal → ℕ
-refused_touches (events.Retire q) events.NotDrained = 1
+refused_touches (events.Retire q) refusal.NotDrained = 1
 refused_touches e why = 0
 
 -- Each page counts that is taken out, for a draft or a finished command. Pages that come in, or are made zero, count as none.

@@ -6,5 +6,6 @@ pub mod Replies
 pub mod Bench
 pub mod Kept
 pub mod Laws
+pub mod Counting
 pub mod Going
 pub mod Looks

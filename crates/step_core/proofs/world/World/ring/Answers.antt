@@ -20,3 +20,11 @@ pub returns-clause-step : goal.returns-clause-step
 returns-clause-step g c =
     step_from (ring_goes (sides_of c.self.inside.host c.self.inside.controller c.self.inside.store.pages c.self.inside.trusted) c.args.q c.in_ok-tail.tail c.tail_doorbell.new.self
     c.self.invariant c.in_ok-tail.ensures.step c.in_ok-tail.ensures.tail c.tail_doorbell.ensures) (ap (λ (w : WorldContents). w.state) c.self.view_is)
+
+pub returns-in_err-tail-clause-touches : goal.returns-in_err-tail-clause-touches
+returns-in_err-tail-clause-touches g c =
+    let is = err_from_is_err_and c.from_residual.result c.from_residual.ensures.1 in
+    rw is.1 (ap (λ (w : WorldContents). w.touches) c.self.view_is)
+
+pub returns-clause-touches : goal.returns-clause-touches
+returns-clause-touches g c = ap (λ (w : WorldContents). w.touches) c.self.view_is
