@@ -15,4 +15,3 @@ pub mod Resetting
 pub mod Rows
 pub mod Benches
 pub mod Touches
-pub mod Counting

@@ -75,7 +75,7 @@ forged_one touches u u1 u2 reached reached1 reached2 cq slot was none cleared is
     rw (is, none, slot_reached cq slot, same, cleared, was) refl
 
 -- looks follow one another
-pub more_on : (touches a b : ℕ) → touches_more (touches_more touches a) b ≡ touches_more touches (a + b)
+more_on : (touches a b : ℕ) → touches_more (touches_more touches a) b ≡ touches_more touches (a + b)
 more_on touches zero b = rw none refl
   where
     none : 0 + b ≡ b

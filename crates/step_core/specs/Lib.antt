@@ -6,6 +6,5 @@ pub mod Replies
 pub mod Bench
 pub mod Kept
 pub mod Laws
-pub mod Counting
 pub mod Going
 pub mod Looks

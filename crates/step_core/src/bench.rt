@@ -6,7 +6,6 @@ ghost use Rattle.machine_model.specs.Claims.{claims_of, counts_of, IsSound};
 ghost use Rattle.machine_model.specs.Script.{table};
 ghost use Rattle.page_ledger.specs.Counting.{total};
 ghost use Rattle.step_core.specs.Bench.{Does, DoesAll};
-ghost use Rattle.step_core.specs.Counting.{world_of, Counts, CountsAll, IsCountedRunOf};
 ghost use Rattle.step_core.specs.Kept.{table_of, IsBench};
 ghost use Rattle.host_core.specs.Opening.{refusal_of_config, RefusesOpening};
 ghost use Rattle.step_core.specs.Opening.{opening_of};
@@ -25,19 +24,19 @@ use slot_table::SlotTable;
 use std::alloc::{AllocError, Allocator, Global};
 use std::marker::Model;
 
-/// A world, with the drafts, tickets and finished commands that are about. Contracts see the world's state and these lists, and how many
-/// pages were touched; a ticket is seen as its queue and identifier.
+/// A world, with the drafts, tickets and finished commands that are about. Contracts see the world's state and these lists; a
+/// ticket is seen as its queue and identifier.
 pub struct Bench<A: Allocator = Global> {
     kept: Kept<A>,
 }
 
 impl<A: Allocator> Model for Bench<A> {
-    ghost use Rattle.step_core.specs.Counting.{BenchContents};
+    ghost use Rattle.machine_model.specs.Script.{Table};
     ghost use Rattle.step_core.specs.Kept.{table_of, IsBench};
 
-    ghost Value = { BenchContents };
+    ghost Value = { Table };
 
-    ghost view = { λ b. record { table = table_of b.kept; touches = b.kept.world.touches } };
+    ghost view = { λ b. table_of b.kept };
 
     ghost invariant = { λ b. IsBench b.kept.world.state b.kept.values };
 }
@@ -49,7 +48,6 @@ impl<A: Allocator + Copy> Kept<A> {
         requires answers { vec_len replies.old + length steps.items ≤ vec_capacity replies.old }
         requires none { replies.old.items ≡ [] }
         ensures does { DoesAll (table_of self.old) steps.items replies.new.items (table_of self.new) }
-        ensures counts { CountsAll self.old.world steps.items replies.new.items self.new.world }
         ensures kept { IsBench self.new.world.state self.new.values }
     {
         for step in steps {
@@ -67,7 +65,7 @@ impl<A: Allocator + Copy> Bench<A> {
     /// As [`World::open`]. The image comes back.
     pub fn open(alloc: A, config: Config, image: Image<A>) -> Result<Bench<A>, OpenRefused<A>>
         ensures fits { IfOk result (λ bench. refusal_of_config config ≡ None) }
-        ensures opened { IfOk result (λ bench. bench ≡ record { table = table (opening_of config image); touches = 0 }) }
+        ensures opened { IfOk result (λ bench. bench ≡ table (opening_of config image)) }
         ensures refused { IfErr result (λ refused. RefusesOpening config refused.why) }
         ensures handed_back { IfErr result (λ refused. refused.image ≡ image) }
     {
@@ -97,15 +95,13 @@ impl<A: Allocator + Copy> Bench<A> {
     }
 
     /// Does the steps, one after the other, and answers what each answered. A step that is refused changes nothing, and the next
-    /// one is done all the same; want of memory inside a step is that step's answer. What the steps touched is counted: as many pages as the
-    /// events touch, together, that they were.
+    /// one is done all the same; want of memory inside a step is that step's answer.
     ///
     /// # Errors
     ///
     /// Where memory is refused for the answers. Then no step was done.
     pub fn run(&mut self, steps: Vec<StepIn<A>, A>) -> Result<Vec<ReplyIn<A>, A>, AllocError>
-        ensures ran { IfOk result (λ replies. DoesAll self.old.table steps.items replies.items self.new.table) }
-        ensures counts { IfOk result (λ replies. IsCountedRunOf steps.items replies.items (world_of self.old) (world_of self.new)) }
+        ensures ran { IfOk result (λ replies. DoesAll self.old steps.items replies.items self.new) }
         ensures refused { OnErr result (self.new ≡ self.old) }
     {
         let mut replies = Vec::with_capacity(self.kept.alloc, steps.len())?;
@@ -115,54 +111,46 @@ impl<A: Allocator + Copy> Bench<A> {
 
     /// Does one step, and answers what it answered. A step that is refused changes nothing; want of memory inside the step is its answer.
     pub fn step(&mut self, step: StepIn<A>) -> ReplyIn<A>
-        ensures does { Does self.old.table step result self.new.table }
-        ensures counts { Counts (world_of self.old) step result (world_of self.new) }
+        ensures { Does self.old step result self.new }
     {
         self.kept.step(step)
     }
 
     /// Whose a page of the pool is: the owner of the one claim in which it stands.
     pub fn owner(&self, p: PageNo) -> Owner
-        requires { p < length self.now.table.world.memory }
-        ensures { Contains (claims_of self.now.table.world.host) (p, result) }
+        requires { p < length self.now.world.memory }
+        ensures { Contains (claims_of self.now.world.host) (p, result) }
     {
         self.kept.world.owner(p)
     }
 
     /// How many pages are free, and how many belong to queues, to chains and to data.
     pub fn counts(&self) -> Counts
-        ensures counts { result ≡ counts_of self.now.table.world.host }
-        ensures all { total result ≡ length self.now.table.world.memory }
+        ensures counts { result ≡ counts_of self.now.world.host }
+        ensures all { total result ≡ length self.now.world.memory }
     {
         self.kept.world.counts()
     }
 
     /// How many pages the pool has, 8 to 65,536.
     pub fn pages(&self) -> u32
-        ensures pages { result ≡ length self.now.table.world.memory }
-        ensures least { 8 ≤ length self.now.table.world.memory }
-        ensures most { length self.now.table.world.memory ≤ 65536 }
+        ensures pages { result ≡ length self.now.world.memory }
+        ensures least { 8 ≤ length self.now.world.memory }
+        ensures most { length self.now.world.memory ≤ 65536 }
     {
         self.kept.world.pages()
     }
 
-    /// How many pages were touched since the bench opened ([`World::touches`]).
-    pub fn touches(&self) -> u64
-        ensures { result ≡ self.now.touches }
-    {
-        self.kept.world.touches()
-    }
-
     /// Whether nothing was forged since the opening or the last reset.
     pub fn trusted(&self) -> bool
-        ensures { result ≡ self.now.table.world.trusted }
+        ensures { result ≡ self.now.world.trusted }
     {
         self.kept.world.trusted()
     }
 
     /// Shows that the bench's world is sound, whatever was forged, as [`World::check`] does. It does nothing.
     pub fn check(&self)
-        ensures { IsSound self.now.table.world }
+        ensures { IsSound self.now.world }
     {
         self.kept.world.check();
     }

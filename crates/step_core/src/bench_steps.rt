@@ -2,7 +2,6 @@
 
 ghost use Rattle.std.specs.Prelude.{◌≡◌, [], length};
 ghost use Rattle.step_core.specs.Bench.{Does};
-ghost use Rattle.step_core.specs.Counting.{Counts};
 ghost use Rattle.step_core.specs.Kept.{table_of, IsBench};
 
 use crate::fill::{build_draft, fill_draft, no_memory};
@@ -42,7 +41,6 @@ impl<A: Allocator + Copy> Kept<A> {
     fn reserve(&mut self, q: u16, request: Request<A>) -> ReplyIn<A>
         requires { IsBench self.old.world.state self.old.values }
         ensures does { Does (table_of self.old) (Step.Reserve q request) result (table_of self.new) }
-        ensures counts { Counts self.old.world (Step.Reserve q request) result self.new.world }
         ensures kept { IsBench self.new.world.state self.new.values }
     {
         match self.world.reserve(q, request) {
@@ -60,7 +58,6 @@ impl<A: Allocator + Copy> Kept<A> {
     fn fill(&mut self, q: u16, cid: u16, bytes: Bytes<A>) -> ReplyIn<A>
         requires { IsBench self.old.world.state self.old.values }
         ensures does { Does (table_of self.old) (Step.Fill q cid bytes) result (table_of self.new) }
-        ensures counts { Counts self.old.world (Step.Fill q cid bytes) result self.new.world }
         ensures kept { IsBench self.new.world.state self.new.values }
     {
         let Some(mut draft) = take_draft(&mut self.values, q, cid) else {
@@ -75,7 +72,6 @@ impl<A: Allocator + Copy> Kept<A> {
     fn build(&mut self, q: u16, cid: u16) -> ReplyIn<A>
         requires { IsBench self.old.world.state self.old.values }
         ensures does { Does (table_of self.old) (Step.Build q cid) result (table_of self.new) }
-        ensures counts { Counts self.old.world (Step.Build q cid) result self.new.world }
         ensures kept { IsBench self.new.world.state self.new.values }
     {
         let Some(mut draft) = take_draft(&mut self.values, q, cid) else {
@@ -90,7 +86,6 @@ impl<A: Allocator + Copy> Kept<A> {
     fn submit(&mut self, q: u16, cid: u16) -> ReplyIn<A>
         requires { IsBench self.old.world.state self.old.values }
         ensures does { Does (table_of self.old) (Step.Submit q cid) result (table_of self.new) }
-        ensures counts { Counts self.old.world (Step.Submit q cid) result self.new.world }
         ensures kept { IsBench self.new.world.state self.new.values }
     {
         let Some(draft) = take_draft(&mut self.values, q, cid) else {
@@ -112,7 +107,6 @@ impl<A: Allocator + Copy> Kept<A> {
     fn cancel(&mut self, q: u16, cid: u16) -> ReplyIn<A>
         requires { IsBench self.old.world.state self.old.values }
         ensures does { Does (table_of self.old) (Step.Cancel q cid) result (table_of self.new) }
-        ensures counts { Counts self.old.world (Step.Cancel q cid) result self.new.world }
         ensures kept { IsBench self.new.world.state self.new.values }
     {
         let Some(draft) = take_draft(&mut self.values, q, cid) else {
@@ -134,7 +128,6 @@ impl<A: Allocator + Copy> Kept<A> {
     fn ring(&mut self, q: u16) -> ReplyIn<A>
         requires { IsBench self.old.world.state self.old.values }
         ensures does { Does (table_of self.old) (Step.Ring q) result (table_of self.new) }
-        ensures counts { Counts self.old.world (Step.Ring q) result self.new.world }
         ensures kept { IsBench self.new.world.state self.new.values }
     {
         match self.world.ring(q) {
@@ -147,7 +140,6 @@ impl<A: Allocator + Copy> Kept<A> {
     fn fetch(&mut self, q: u16) -> ReplyIn<A>
         requires { IsBench self.old.world.state self.old.values }
         ensures does { Does (table_of self.old) (Step.Fetch q) result (table_of self.new) }
-        ensures counts { Counts self.old.world (Step.Fetch q) result self.new.world }
         ensures kept { IsBench self.new.world.state self.new.values }
     {
         match self.world.fetch(q) {
@@ -163,7 +155,6 @@ impl<A: Allocator + Copy> Kept<A> {
     fn walk(&mut self, q: u16, cid: u16) -> ReplyIn<A>
         requires { IsBench self.old.world.state self.old.values }
         ensures does { Does (table_of self.old) (Step.Walk q cid) result (table_of self.new) }
-        ensures counts { Counts self.old.world (Step.Walk q cid) result self.new.world }
         ensures kept { IsBench self.new.world.state self.new.values }
     {
         match self.world.walk(q, cid) {
@@ -179,7 +170,6 @@ impl<A: Allocator + Copy> Kept<A> {
     fn complete(&mut self, q: u16, cid: u16) -> ReplyIn<A>
         requires { IsBench self.old.world.state self.old.values }
         ensures does { Does (table_of self.old) (Step.Complete q cid) result (table_of self.new) }
-        ensures counts { Counts self.old.world (Step.Complete q cid) result self.new.world }
         ensures kept { IsBench self.new.world.state self.new.values }
     {
         match self.world.complete(q, cid) {
@@ -194,7 +184,6 @@ impl<A: Allocator + Copy> Kept<A> {
     fn reap(&mut self, q: u16) -> ReplyIn<A>
         requires { IsBench self.old.world.state self.old.values }
         ensures does { Does (table_of self.old) (Step.Reap q) result (table_of self.new) }
-        ensures counts { Counts self.old.world (Step.Reap q) result self.new.world }
         ensures kept { IsBench self.new.world.state self.new.values }
     {
         match self.world.reap(q) {
@@ -207,7 +196,6 @@ impl<A: Allocator + Copy> Kept<A> {
     fn collect(&mut self, q: u16, cid: u16) -> ReplyIn<A>
         requires { IsBench self.old.world.state self.old.values }
         ensures does { Does (table_of self.old) (Step.Collect q cid) result (table_of self.new) }
-        ensures counts { Counts self.old.world (Step.Collect q cid) result self.new.world }
         ensures kept { IsBench self.new.world.state self.new.values }
     {
         let Some(ticket) = take_ticket(&mut self.values, q, cid) else {
@@ -230,7 +218,6 @@ impl<A: Allocator + Copy> Kept<A> {
     fn gather(&mut self, q: u16, cid: u16) -> ReplyIn<A>
         requires { IsBench self.old.world.state self.old.values }
         ensures does { Does (table_of self.old) (Step.Gather q cid) result (table_of self.new) }
-        ensures counts { Counts self.old.world (Step.Gather q cid) result self.new.world }
         ensures kept { IsBench self.new.world.state self.new.values }
     {
         let Some(finished) = finished_in(&self.values, q, cid) else {
@@ -246,7 +233,6 @@ impl<A: Allocator + Copy> Kept<A> {
     fn release(&mut self, q: u16, cid: u16) -> ReplyIn<A>
         requires { IsBench self.old.world.state self.old.values }
         ensures does { Does (table_of self.old) (Step.Release q cid) result (table_of self.new) }
-        ensures counts { Counts self.old.world (Step.Release q cid) result self.new.world }
         ensures kept { IsBench self.new.world.state self.new.values }
     {
         let Some(finished) = take_finished(&mut self.values, q, cid) else {
@@ -268,7 +254,6 @@ impl<A: Allocator + Copy> Kept<A> {
     fn abort(&mut self, q: u16, cid: u16) -> ReplyIn<A>
         requires { IsBench self.old.world.state self.old.values }
         ensures does { Does (table_of self.old) (Step.Abort q cid) result (table_of self.new) }
-        ensures counts { Counts self.old.world (Step.Abort q cid) result self.new.world }
         ensures kept { IsBench self.new.world.state self.new.values }
     {
         match self.world.abort(q, cid) {
@@ -281,7 +266,6 @@ impl<A: Allocator + Copy> Kept<A> {
     fn delete_sq(&mut self, q: u16) -> ReplyIn<A>
         requires { IsBench self.old.world.state self.old.values }
         ensures does { Does (table_of self.old) (Step.DeleteSq q) result (table_of self.new) }
-        ensures counts { Counts self.old.world (Step.DeleteSq q) result self.new.world }
         ensures kept { IsBench self.new.world.state self.new.values }
     {
         match self.world.delete_sq(q) {
@@ -294,7 +278,6 @@ impl<A: Allocator + Copy> Kept<A> {
     fn delete_cq(&mut self, q: u16) -> ReplyIn<A>
         requires { IsBench self.old.world.state self.old.values }
         ensures does { Does (table_of self.old) (Step.DeleteCq q) result (table_of self.new) }
-        ensures counts { Counts self.old.world (Step.DeleteCq q) result self.new.world }
         ensures kept { IsBench self.new.world.state self.new.values }
     {
         match self.world.delete_cq(q) {
@@ -307,7 +290,6 @@ impl<A: Allocator + Copy> Kept<A> {
     fn create_cq(&mut self, q: u16) -> ReplyIn<A>
         requires { IsBench self.old.world.state self.old.values }
         ensures does { Does (table_of self.old) (Step.CreateCq q) result (table_of self.new) }
-        ensures counts { Counts self.old.world (Step.CreateCq q) result self.new.world }
         ensures kept { IsBench self.new.world.state self.new.values }
     {
         match self.world.create_cq(q) {
@@ -320,7 +302,6 @@ impl<A: Allocator + Copy> Kept<A> {
     fn create_sq(&mut self, q: u16) -> ReplyIn<A>
         requires { IsBench self.old.world.state self.old.values }
         ensures does { Does (table_of self.old) (Step.CreateSq q) result (table_of self.new) }
-        ensures counts { Counts self.old.world (Step.CreateSq q) result self.new.world }
         ensures kept { IsBench self.new.world.state self.new.values }
     {
         match self.world.create_sq(q) {
@@ -333,7 +314,6 @@ impl<A: Allocator + Copy> Kept<A> {
     fn retire(&mut self, q: u16) -> ReplyIn<A>
         requires { IsBench self.old.world.state self.old.values }
         ensures does { Does (table_of self.old) (Step.Retire q) result (table_of self.new) }
-        ensures counts { Counts self.old.world (Step.Retire q) result self.new.world }
         ensures kept { IsBench self.new.world.state self.new.values }
     {
         match self.world.retire(q) {
@@ -346,7 +326,6 @@ impl<A: Allocator + Copy> Kept<A> {
     fn forge(&mut self, q: u16, slot: u16, bytes: [u8; 16]) -> ReplyIn<A>
         requires { IsBench self.old.world.state self.old.values }
         ensures does { Does (table_of self.old) (Step.Forge q slot bytes) result (table_of self.new) }
-        ensures counts { Counts self.old.world (Step.Forge q slot bytes) result self.new.world }
         ensures kept { IsBench self.new.world.state self.new.values }
     {
         match self.world.forge(q, slot, bytes) {
@@ -359,7 +338,6 @@ impl<A: Allocator + Copy> Kept<A> {
     fn reset(&mut self) -> ReplyIn<A>
         requires { IsBench self.old.world.state self.old.values }
         ensures does { Does (table_of self.old) Step.Reset result (table_of self.new) }
-        ensures counts { Counts self.old.world Step.Reset result self.new.world }
         ensures kept { IsBench self.new.world.state self.new.values }
     {
         self.world.reset();
@@ -370,7 +348,6 @@ impl<A: Allocator + Copy> Kept<A> {
     pub(crate) fn step(&mut self, step: StepIn<A>) -> ReplyIn<A>
         requires { IsBench self.old.world.state self.old.values }
         ensures does { Does (table_of self.old) step result (table_of self.new) }
-        ensures counts { Counts self.old.world step result self.new.world }
         ensures kept { IsBench self.new.world.state self.new.values }
     {
         match step {

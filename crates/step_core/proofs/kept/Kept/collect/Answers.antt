@@ -1,12 +1,6 @@
-use Rattle.std.proofs.Common.{[], refl, ap₂}
 use Rattle.step_core.proofs.Benches.{no_collect, collects, collect_refused}
 use Rattle.step_core.proofs.KeptRows.{is_empty, place_there}
 use Rattle.step_core.specs.declared.kept.Value.TheVariants as value
-use Rattle.machine_model.specs.Events as events
-use Rattle.step_core.specs.declared.step.Step.TheVariants as step
-use Rattle.step_core.specs.declared.step.Reply.TheVariants as reply
-use Rattle.step_core.proofs.Counting.{counted, counted_refusal}
-use Rattle.step_core.proofs.KeptRows.{named_there}
 use Rattle.step_core.proofs.kept.Kept.collect.Goals as goal
 
 pub returns-in_default-clause-does : goal.returns-in_default-clause-does
@@ -29,9 +23,3 @@ returns-in-Err-clause-does g c = (collect_refused c.args.self.now.world.state c.
 
 pub returns-in-Err-clause-kept : goal.returns-in-Err-clause-kept
 returns-in-Err-clause-kept g c = (collect_refused c.args.self.now.world.state c.args.self.now.values c.take_ticket.new.values c.args.q c.args.cid c.in-Some.ticket c.requires c.in-Some.ensures.out c.collect.new.self.state c.in-Err.field-0.value c.in-Err.field-0.why c.refused.result c.put_back.new.values c.in-Err.ensures.step c.in-Err.ensures.back c.refused.ensures c.put_back.ensures).1
-
-pub returns-in-Ok-clause-counts : goal.returns-in-Ok-clause-counts
-returns-in-Ok-clause-counts g c = counted c.args.self.now.world c.collect.new.self (step.Collect c.args.q c.args.cid) (reply.Collected c.status-status.result) (events.Collect c.in-Some.ticket.q c.in-Some.ticket.cid) (events.Collects c.in-Ok.finished) refl (let n = named_there c.args.self.now.world.state c.args.self.now.values c.args.q c.args.cid (value.Ticket c.in-Some.ticket) c.requires c.in-Some.ensures.out.there in ap₂ events.Collect n.0 n.1) c.status-status.ensures c.in-Ok.ensures.step c.in-Ok.ensures.touches
-
-pub returns-in-Err-clause-counts : goal.returns-in-Err-clause-counts
-returns-in-Err-clause-counts g c = counted_refusal c.args.self.now.world c.collect.new.self (step.Collect c.args.q c.args.cid) c.refused.result (events.Collect c.in-Some.ticket.q c.in-Some.ticket.cid) c.in-Err.field-0.why [] c.refused.ensures refl (let n = named_there c.args.self.now.world.state c.args.self.now.values c.args.q c.args.cid (value.Ticket c.in-Some.ticket) c.requires c.in-Some.ensures.out.there in ap₂ events.Collect n.0 n.1) c.in-Err.ensures.step c.in-Err.ensures.touches

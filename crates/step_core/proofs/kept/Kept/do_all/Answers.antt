@@ -3,10 +3,8 @@ use Rattle.std.proofs.lemmas.Iterator.Adapters.{YieldsList-from_vec}
 use Rattle.std.proofs.lemmas.Iterator.Consumers.{YieldsList-turn}
 use Rattle.std.proofs.lemmas.List.{length_push}
 use Rattle.step_core.specs.Bench.{DoesAll}
-use Rattle.step_core.specs.Counting.{CountsAll}
 use Rattle.step_core.specs.Kept.{table_of}
 use Rattle.step_core.specs.Values.{Reply}
-use Rattle.step_core.proofs.Counting.{counts_more}
 use Rattle.step_core.proofs.Runs.{does_more}
 use Rattle.step_core.proofs.kept.Kept.do_all.Goals as goal
 
@@ -21,10 +19,5 @@ loop-step-preserved g c =
           (sym {A = List Reply} c.push_reserved.ensures.items)
           (does_more (table_of c.args.self.now) (table_of c.loop-step.self) (table_of c.step-reply.new.self) c.loop-step.yielded c.loop-step.replies.items c.in-Some.step c.step-reply.result
           c.loop-step.invariant.done c.step-reply.ensures.does);
-      counts =
-          subst (λ (answers : List Reply). CountsAll c.args.self.now.world (c.loop-step.yielded ++ c.in-Some.step ∷ []) answers c.step-reply.new.self.world)
-          (sym {A = List Reply} c.push_reserved.ensures.items)
-          (counts_more c.args.self.now.world c.loop-step.self.world c.step-reply.new.self.world c.loop-step.yielded c.loop-step.replies.items c.in-Some.step c.step-reply.result
-          c.loop-step.invariant.counts c.step-reply.ensures.counts);
       answers = omega arith;
     }

@@ -1,6 +1,5 @@
 use Rattle.std.proofs.Common.{◌+◌, ◌-◌, ◌≤◌, length, vec_len, vec_capacity}
 use Rattle.step_core.specs.Bench.{DoesAll}
-use Rattle.step_core.specs.Counting.{CountsAll}
 use Rattle.step_core.specs.Kept.{table_of, IsBench}
 use Rattle.step_core.proofs.kept.Kept.do_all.Given as goal
 
@@ -8,6 +7,5 @@ abbrev pub invariant-loop-step : goal.invariant-loop-step
 invariant-loop-step g l = record {
   bench : IsBench l.self.world.state l.self.values;
   done : DoesAll (table_of l.initial.self) l.yielded l.replies.items (table_of l.self);
-  counts : CountsAll l.initial.self.world l.yielded l.replies.items l.self.world;
   answers : vec_len l.replies + (length l.fn.steps.items - length l.yielded) ≤ vec_capacity l.replies;
 }

@@ -1,9 +1,6 @@
 use Rattle.std.proofs.Common.{refl}
 use Rattle.machine_model.specs.Events as events
 use Rattle.step_core.proofs.KeptRows.{goes_on}
-use Rattle.step_core.specs.declared.step.Step.TheVariants as step
-use Rattle.step_core.specs.declared.step.Reply.TheVariants as reply
-use Rattle.step_core.proofs.Counting.{counted, counted_refusal}
 use Rattle.step_core.proofs.kept.Kept.fetch.Goals as goal
 
 pub returns-in-Ok-clause-kept : goal.returns-in-Ok-clause-kept
@@ -11,9 +8,3 @@ returns-in-Ok-clause-kept g c = goes_on c.args.self.now.world.state (events.Fetc
 
 pub returns-in-Err-clause-kept : goal.returns-in-Err-clause-kept
 returns-in-Err-clause-kept g c = goes_on c.args.self.now.world.state (events.Fetch c.args.q) (events.Refused c.in-Err.refusal.why c.in-Err.refusal.touched) c.fetch.new.self.state c.args.self.now.values c.in-Err.ensures.step (λ k n. refl) c.requires
-
-pub returns-in-Ok-clause-counts : goal.returns-in-Ok-clause-counts
-returns-in-Ok-clause-counts g c = counted c.args.self.now.world c.fetch.new.self (step.Fetch c.args.q) (reply.Fetched c.in-Ok.done.cid c.in-Ok.done.touched) (events.Fetch c.args.q) (events.Fetched c.in-Ok.done.cid c.in-Ok.done.touched) refl refl refl c.in-Ok.ensures.step c.in-Ok.ensures.tells
-
-pub returns-in-Err-clause-counts : goal.returns-in-Err-clause-counts
-returns-in-Err-clause-counts g c = counted_refusal c.args.self.now.world c.fetch.new.self (step.Fetch c.args.q) c.refused_step.result (events.Fetch c.args.q) c.in-Err.refusal.why c.in-Err.refusal.touched c.refused_step.ensures refl refl c.in-Err.ensures.step c.in-Err.ensures.tells

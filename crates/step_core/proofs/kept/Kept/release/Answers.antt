@@ -1,12 +1,6 @@
-use Rattle.std.proofs.Common.{[], refl}
 use Rattle.step_core.proofs.Benches.{no_release, releases, release_refused}
 use Rattle.step_core.proofs.KeptRows.{is_empty}
 use Rattle.step_core.specs.declared.kept.Value.TheVariants as value
-use Rattle.machine_model.specs.Events as events
-use Rattle.step_core.specs.declared.step.Step.TheVariants as step
-use Rattle.step_core.specs.declared.step.Reply.TheVariants as reply
-use Rattle.step_core.proofs.Counting.{counted, counted_refusal}
-use Rattle.step_core.proofs.KeptRows.{named_there}
 use Rattle.step_core.proofs.kept.Kept.release.Goals as goal
 
 pub returns-in_default-clause-does : goal.returns-in_default-clause-does
@@ -26,9 +20,3 @@ returns-in-Err-clause-does g c = (release_refused c.args.self.now.world.state c.
 
 pub returns-in-Err-clause-kept : goal.returns-in-Err-clause-kept
 returns-in-Err-clause-kept g c = (release_refused c.args.self.now.world.state c.args.self.now.values c.take_finished.new.values c.args.q c.args.cid c.in-Some.finished c.requires c.in-Some.ensures.out c.release.new.self.state c.in-Err.field-0.value c.in-Err.field-0.why c.refused.result c.put_back.new.values c.in-Err.ensures.step c.in-Err.ensures.back c.refused.ensures c.put_back.ensures).1
-
-pub returns-in-Ok-clause-counts : goal.returns-in-Ok-clause-counts
-returns-in-Ok-clause-counts g c = counted c.args.self.now.world c.release.new.self (step.Release c.args.q c.args.cid) reply.Accepted (events.Release c.in-Some.finished) events.Accepted refl (named_there c.args.self.now.world.state c.args.self.now.values c.args.q c.args.cid (value.Finished c.in-Some.finished) c.requires c.in-Some.ensures.out.there) refl c.in-Ok.ensures.step c.in-Ok.ensures.touches
-
-pub returns-in-Err-clause-counts : goal.returns-in-Err-clause-counts
-returns-in-Err-clause-counts g c = counted_refusal c.args.self.now.world c.release.new.self (step.Release c.args.q c.args.cid) c.refused.result (events.Release c.in-Some.finished) c.in-Err.field-0.why [] c.refused.ensures refl (named_there c.args.self.now.world.state c.args.self.now.values c.args.q c.args.cid (value.Finished c.in-Some.finished) c.requires c.in-Some.ensures.out.there) c.in-Err.ensures.step c.in-Err.ensures.touches
