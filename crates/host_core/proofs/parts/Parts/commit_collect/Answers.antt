@@ -72,9 +72,9 @@ unreachable-requires g c =
 pub returns-clause-touches : goal.returns-clause-touches
 returns-clause-touches g c =
     let t : Tables = tables_of c.args.self.now c.args.store.now.pages in
-    let data = c.in-Some.entry.now.data_pages in
-    let chain = c.in-Some.entry.now.chain_pages in
-    let behind = without_pages data t.pages in
-    let items = ap length c.take_pages.ensures.items ∙ length-append (taken_pages data t.pages) (taken_pages chain behind) in
+    let front = c.in-Some.entry.now.data_pages in
+    let back = c.in-Some.entry.now.chain_pages in
+    let behind = without_pages front t.pages in
+    let items = ap length c.take_pages.ensures.items ∙ length-append (taken_pages front t.pages) (taken_pages back behind) in
     let parts = ap (λ (f : FinishedContents). length f.data_pages + length f.chain_pages) c.make.ensures ∙ both_parts c.args.room.request c.take_pages.new.into.items in
-    omega (arith, c.take_pages.ensures.touches, items, length-taken data t.pages, length-taken chain behind, parts)
+    omega (arith, c.take_pages.ensures.touches, items, length-taken front t.pages, length-taken back behind, parts)
