@@ -1,4 +1,4 @@
-use Rattle.std.proofs.Common.{◌∙◌, ap, Err}
+use Rattle.std.proofs.Common.{◌∙◌, refl, ap, Err}
 use Rattle.std.proofs.lemmas.Result.{err_from_is_err_and}
 use Rattle.machine_model.specs.declared.words.Refusal.{Refusal}
 use Rattle.step_core.specs.World.{WorldContents, sides_of}
@@ -24,7 +24,7 @@ returns-clause-step g c =
 pub returns-in_err-tail-clause-touches : goal.returns-in_err-tail-clause-touches
 returns-in_err-tail-clause-touches g c =
     let is = err_from_is_err_and c.from_residual.result c.from_residual.ensures.1 in
-    rw is.1 (ap (λ (w : WorldContents). w.touches) c.self.view_is)
+    rw is.1 refl
 
 pub returns-clause-touches : goal.returns-clause-touches
 returns-clause-touches g c = ap (λ (w : WorldContents). w.touches) c.self.view_is
