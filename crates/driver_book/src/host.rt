@@ -6,6 +6,7 @@ ghost use Rattle.machine_model.specs.Agreeing.{SidesAgree};
 ghost use Rattle.machine_model.specs.Events as events;
 ghost use Rattle.step_core.specs.Replies.{reserve_reply, accept_reply, collect_reply, ring_reply, reap_reply, send_reply};
 ghost use Rattle.driver_book.specs.Calls.{Does, WantsMemoryFor, IsLogFull, MayWorldWant};
+ghost use Rattle.step_core.specs.Touching.{Touches};
 
 use crate::book::{Book, Driver};
 use crate::note::{collected, done, ended, note, reaped, reserved, sent};
@@ -33,6 +34,7 @@ impl<L: Driver, A: Allocator + Copy> Book<L, A> {
     /// As there, and `Memory` also where the log cannot grow or the request cannot be copied for it. The request is handed back.
     pub fn reserve(&mut self, q: u16, request: Request<A>) -> Result<Draft<A>, Refused<Request<A>>>
         ensures step { Does self.old None (events.Reserve q request) (reserve_reply result) self.new }
+        ensures touches { Touches self.old.touches (events.Reserve q request) (reserve_reply result) self.new.touches }
         ensures back { IfErr result (λ r. r.value ≡ request) }
     {
         if self.log.reserve(1).is_err() {
@@ -58,6 +60,7 @@ impl<L: Driver, A: Allocator + Copy> Book<L, A> {
     /// As there, and `Memory` where the log cannot grow. The draft is handed back.
     pub fn cancel(&mut self, draft: Draft<A>) -> Result<(), Refused<Draft<A>>>
         ensures step { Does self.old None (events.Cancel draft) (accept_reply result) self.new }
+        ensures touches { Touches self.old.touches (events.Cancel draft) (accept_reply result) self.new.touches }
         ensures back { IfErr result (λ r. r.value ≡ draft) }
         ensures memory { WantsMemoryFor (IsLogFull self.old) (accept_reply result) }
     {
@@ -80,6 +83,7 @@ impl<L: Driver, A: Allocator + Copy> Book<L, A> {
     /// As there, and `Memory` where the log cannot grow.
     pub fn ring(&mut self, q: u16) -> Result<(), Refusal>
         ensures step { Does self.old None (events.Ring q) (ring_reply result) self.new }
+        ensures touches { Touches self.old.touches (events.Ring q) (ring_reply result) self.new.touches }
         ensures memory { WantsMemoryFor (IsLogFull self.old) (ring_reply result) }
     {
         if self.log.reserve(1).is_err() {
@@ -97,6 +101,7 @@ impl<L: Driver, A: Allocator + Copy> Book<L, A> {
     /// As there, and `Memory` where the log cannot grow.
     pub fn reap(&mut self, q: u16) -> Result<Reaped, Refusal>
         ensures step { Does self.old None (events.Reap q) (reap_reply result) self.new }
+        ensures touches { Touches self.old.touches (events.Reap q) (reap_reply result) self.new.touches }
         ensures memory { WantsMemoryFor (IsLogFull self.old) (reap_reply result) }
     {
         if self.log.reserve(1).is_err() {
@@ -114,6 +119,7 @@ impl<L: Driver, A: Allocator + Copy> Book<L, A> {
     /// As there, and `Memory` where the log cannot grow. The ticket is handed back.
     pub fn collect(&mut self, ticket: Ticket) -> Result<Finished<A>, Refused<Ticket>>
         ensures step { Does self.old None (events.Collect ticket.q ticket.cid) (collect_reply result) self.new }
+        ensures touches { Touches self.old.touches (events.Collect ticket.q ticket.cid) (collect_reply result) self.new.touches }
         ensures back { IfErr result (λ r. r.value ≡ ticket) }
         ensures memory { WantsMemoryFor (IsLogFull self.old ⊎ MayWorldWant self.old (events.Collect ticket.q ticket.cid)) (collect_reply result) }
     {
@@ -136,6 +142,7 @@ impl<L: Driver, A: Allocator + Copy> Book<L, A> {
     /// As there, and `Memory` where the log cannot grow.
     pub fn abort(&mut self, q: u16, cid: u16) -> Result<u16, Refusal>
         ensures step { Does self.old None (events.Abort q cid) (send_reply result) self.new }
+        ensures touches { Touches self.old.touches (events.Abort q cid) (send_reply result) self.new.touches }
         ensures memory { WantsMemoryFor (IsLogFull self.old) (send_reply result) }
     {
         if self.log.reserve(1).is_err() {
@@ -153,6 +160,7 @@ impl<L: Driver, A: Allocator + Copy> Book<L, A> {
     /// As there, and `Memory` where the log cannot grow.
     pub fn delete_sq(&mut self, q: u16) -> Result<u16, Refusal>
         ensures step { Does self.old None (events.DeleteSq q) (send_reply result) self.new }
+        ensures touches { Touches self.old.touches (events.DeleteSq q) (send_reply result) self.new.touches }
         ensures memory { WantsMemoryFor (IsLogFull self.old) (send_reply result) }
     {
         if self.log.reserve(1).is_err() {
@@ -170,6 +178,7 @@ impl<L: Driver, A: Allocator + Copy> Book<L, A> {
     /// As there, and `Memory` where the log cannot grow.
     pub fn delete_cq(&mut self, q: u16) -> Result<u16, Refusal>
         ensures step { Does self.old None (events.DeleteCq q) (send_reply result) self.new }
+        ensures touches { Touches self.old.touches (events.DeleteCq q) (send_reply result) self.new.touches }
         ensures memory { WantsMemoryFor (IsLogFull self.old) (send_reply result) }
     {
         if self.log.reserve(1).is_err() {
@@ -187,6 +196,7 @@ impl<L: Driver, A: Allocator + Copy> Book<L, A> {
     /// As there, and `Memory` where the log cannot grow.
     pub fn create_cq(&mut self, q: u16) -> Result<u16, Refusal>
         ensures step { Does self.old None (events.CreateCq q) (send_reply result) self.new }
+        ensures touches { Touches self.old.touches (events.CreateCq q) (send_reply result) self.new.touches }
         ensures memory { WantsMemoryFor (IsLogFull self.old) (send_reply result) }
     {
         if self.log.reserve(1).is_err() {
@@ -204,6 +214,7 @@ impl<L: Driver, A: Allocator + Copy> Book<L, A> {
     /// As there, and `Memory` where the log cannot grow.
     pub fn create_sq(&mut self, q: u16) -> Result<u16, Refusal>
         ensures step { Does self.old None (events.CreateSq q) (send_reply result) self.new }
+        ensures touches { Touches self.old.touches (events.CreateSq q) (send_reply result) self.new.touches }
         ensures memory { WantsMemoryFor (IsLogFull self.old) (send_reply result) }
     {
         if self.log.reserve(1).is_err() {
@@ -221,6 +232,7 @@ impl<L: Driver, A: Allocator + Copy> Book<L, A> {
     /// As there, and `Memory` where the log cannot grow.
     pub fn retire(&mut self, q: u16) -> Result<(), Refusal>
         ensures step { Does self.old None (events.Retire q) (ring_reply result) self.new }
+        ensures touches { Touches self.old.touches (events.Retire q) (ring_reply result) self.new.touches }
         ensures memory { WantsMemoryFor (IsLogFull self.old) (ring_reply result) }
     {
         if self.log.reserve(1).is_err() {
@@ -238,6 +250,7 @@ impl<L: Driver, A: Allocator + Copy> Book<L, A> {
     /// As there, and `Memory` where the log cannot grow.
     pub fn forge(&mut self, q: u16, slot: u16, bytes: [u8; 16]) -> Result<(), Refusal>
         ensures step { Does self.old None (events.Forge q slot bytes) (ring_reply result) self.new }
+        ensures touches { Touches self.old.touches (events.Forge q slot bytes) (ring_reply result) self.new.touches }
         ensures memory { WantsMemoryFor (IsLogFull self.old) (ring_reply result) }
     {
         if self.log.reserve(1).is_err() {
@@ -260,6 +273,7 @@ impl<L: Driver, A: Allocator + Copy> Book<L, A> {
     /// `Memory` where the log cannot grow.
     pub fn reset(&mut self) -> Result<(), Refusal>
         ensures step { Does self.old None events.Reset (ring_reply result) self.new }
+        ensures touches { Touches self.old.touches events.Reset (ring_reply result) self.new.touches }
         ensures recovers { OnOk result (SidesAgree self.new.world) }
         ensures memory { IfErr result (λ why. (why ≡ Refusal.Memory) × IsLogFull self.old) }
     {

@@ -15,3 +15,6 @@ returns-clause-step g c =
     let same : c.in-Ok.asked ≡ c.args.request = c.in-Ok.ensures in
     does_in c.self.view_is c.reserve-answer.new.self.state c.note.new.log.items (vec_capacity c.note.new.log - vec_len c.note.new.log) _ None (events.Reserve c.args.q c.args.request) (reserve_reply c.reserve-answer.result) c.reserve-answer.ensures.step
     (rw (c.note.ensures, c.reserve.ensures.items, c.reserved.ensures, same) refl)
+
+pub returns-clause-touches : goal.returns-clause-touches
+returns-clause-touches g c = rw (← c.self.view_is) c.reserve-answer.ensures.touches
