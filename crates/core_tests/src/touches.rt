@@ -22,6 +22,7 @@ static PIECES: [Piece; 3] = [
 ];
 
 /// What a world counted when it was looked at last.
+#[derive(Drop)]
 struct Counter {
     last: u64,
 }
