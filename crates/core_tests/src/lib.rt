@@ -32,4 +32,6 @@ mod sets;
 #[cfg(test)]
 mod told;
 #[cfg(test)]
+mod touches;
+#[cfg(test)]
 mod worlds;

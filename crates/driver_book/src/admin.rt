@@ -6,6 +6,7 @@ ghost use Rattle.machine_model.specs.Agreeing.{SidesAgree};
 ghost use Rattle.machine_model.specs.Events as events;
 ghost use Rattle.step_core.specs.Replies.{ring_reply, send_reply};
 ghost use Rattle.driver_book.specs.Calls.{Does, WantsMemoryFor, IsLogFull};
+ghost use Rattle.step_core.specs.Touching.{Touches};
 
 use crate::book::{Book, FullDriver};
 use crate::note::{done, note, sent};
@@ -21,6 +22,7 @@ impl<L: FullDriver, A: Allocator + Copy> Book<L, A> {
     /// As there, and `Memory` where the log cannot grow.
     pub fn abort(&mut self, q: u16, cid: u16) -> Result<u16, Refusal>
         ensures step { Does self.old None (events.Abort q cid) (send_reply result) self.new }
+        ensures touches { Touches self.old.touches (events.Abort q cid) (send_reply result) self.new.touches }
         ensures memory { WantsMemoryFor (IsLogFull self.old) (send_reply result) }
     {
         if self.log.reserve(1).is_err() {
@@ -38,6 +40,7 @@ impl<L: FullDriver, A: Allocator + Copy> Book<L, A> {
     /// As there, and `Memory` where the log cannot grow.
     pub fn delete_sq(&mut self, q: u16) -> Result<u16, Refusal>
         ensures step { Does self.old None (events.DeleteSq q) (send_reply result) self.new }
+        ensures touches { Touches self.old.touches (events.DeleteSq q) (send_reply result) self.new.touches }
         ensures memory { WantsMemoryFor (IsLogFull self.old) (send_reply result) }
     {
         if self.log.reserve(1).is_err() {
@@ -55,6 +58,7 @@ impl<L: FullDriver, A: Allocator + Copy> Book<L, A> {
     /// As there, and `Memory` where the log cannot grow.
     pub fn delete_cq(&mut self, q: u16) -> Result<u16, Refusal>
         ensures step { Does self.old None (events.DeleteCq q) (send_reply result) self.new }
+        ensures touches { Touches self.old.touches (events.DeleteCq q) (send_reply result) self.new.touches }
         ensures memory { WantsMemoryFor (IsLogFull self.old) (send_reply result) }
     {
         if self.log.reserve(1).is_err() {
@@ -72,6 +76,7 @@ impl<L: FullDriver, A: Allocator + Copy> Book<L, A> {
     /// As there, and `Memory` where the log cannot grow.
     pub fn create_cq(&mut self, q: u16) -> Result<u16, Refusal>
         ensures step { Does self.old None (events.CreateCq q) (send_reply result) self.new }
+        ensures touches { Touches self.old.touches (events.CreateCq q) (send_reply result) self.new.touches }
         ensures memory { WantsMemoryFor (IsLogFull self.old) (send_reply result) }
     {
         if self.log.reserve(1).is_err() {
@@ -89,6 +94,7 @@ impl<L: FullDriver, A: Allocator + Copy> Book<L, A> {
     /// As there, and `Memory` where the log cannot grow.
     pub fn create_sq(&mut self, q: u16) -> Result<u16, Refusal>
         ensures step { Does self.old None (events.CreateSq q) (send_reply result) self.new }
+        ensures touches { Touches self.old.touches (events.CreateSq q) (send_reply result) self.new.touches }
         ensures memory { WantsMemoryFor (IsLogFull self.old) (send_reply result) }
     {
         if self.log.reserve(1).is_err() {
@@ -106,6 +112,7 @@ impl<L: FullDriver, A: Allocator + Copy> Book<L, A> {
     /// As there, and `Memory` where the log cannot grow.
     pub fn retire(&mut self, q: u16) -> Result<(), Refusal>
         ensures step { Does self.old None (events.Retire q) (ring_reply result) self.new }
+        ensures touches { Touches self.old.touches (events.Retire q) (ring_reply result) self.new.touches }
         ensures memory { WantsMemoryFor (IsLogFull self.old) (ring_reply result) }
     {
         if self.log.reserve(1).is_err() {
@@ -123,6 +130,7 @@ impl<L: FullDriver, A: Allocator + Copy> Book<L, A> {
     /// As there, and `Memory` where the log cannot grow.
     pub fn forge(&mut self, q: u16, slot: u16, bytes: [u8; 16]) -> Result<(), Refusal>
         ensures step { Does self.old None (events.Forge q slot bytes) (ring_reply result) self.new }
+        ensures touches { Touches self.old.touches (events.Forge q slot bytes) (ring_reply result) self.new.touches }
         ensures memory { WantsMemoryFor (IsLogFull self.old) (ring_reply result) }
     {
         if self.log.reserve(1).is_err() {
@@ -145,6 +153,7 @@ impl<L: FullDriver, A: Allocator + Copy> Book<L, A> {
     /// `Memory` where the log cannot grow.
     pub fn reset(&mut self) -> Result<(), Refusal>
         ensures step { Does self.old None events.Reset (ring_reply result) self.new }
+        ensures touches { Touches self.old.touches events.Reset (ring_reply result) self.new.touches }
         ensures recovers { OnOk result (SidesAgree self.new.world) }
         ensures memory { IfErr result (λ why. (why ≡ Refusal.Memory) × IsLogFull self.old) }
     {

@@ -5,6 +5,7 @@ ghost use Rattle.std.specs.Prelude.{◌≡◌, ◌⊎◌, None, IfErr};
 ghost use Rattle.machine_model.specs.Events as events;
 ghost use Rattle.step_core.specs.Replies.{reserve_reply, accept_reply, collect_reply, ring_reply, reap_reply};
 ghost use Rattle.driver_book.specs.Calls.{Does, WantsMemoryFor, IsLogFull, MayWorldWant};
+ghost use Rattle.step_core.specs.Touching.{Touches};
 
 use crate::book::{Book, Driver};
 use crate::note::{collected, done, ended, note, reaped, reserved};
@@ -32,6 +33,7 @@ impl<L: Driver, A: Allocator + Copy> Book<L, A> {
     /// As there, and `Memory` also where the log cannot grow or the request cannot be copied for it. The request is handed back.
     pub fn reserve(&mut self, q: u16, request: Request<A>) -> Result<Draft<A>, Refused<Request<A>>>
         ensures step { Does self.old None (events.Reserve q request) (reserve_reply result) self.new }
+        ensures touches { Touches self.old.touches (events.Reserve q request) (reserve_reply result) self.new.touches }
         ensures back { IfErr result (λ r. r.value ≡ request) }
     {
         if self.log.reserve(1).is_err() {
@@ -57,6 +59,7 @@ impl<L: Driver, A: Allocator + Copy> Book<L, A> {
     /// As there, and `Memory` where the log cannot grow. The draft is handed back.
     pub fn cancel(&mut self, draft: Draft<A>) -> Result<(), Refused<Draft<A>>>
         ensures step { Does self.old None (events.Cancel draft) (accept_reply result) self.new }
+        ensures touches { Touches self.old.touches (events.Cancel draft) (accept_reply result) self.new.touches }
         ensures back { IfErr result (λ r. r.value ≡ draft) }
         ensures memory { WantsMemoryFor (IsLogFull self.old) (accept_reply result) }
     {
@@ -79,6 +82,7 @@ impl<L: Driver, A: Allocator + Copy> Book<L, A> {
     /// As there, and `Memory` where the log cannot grow.
     pub fn ring(&mut self, q: u16) -> Result<(), Refusal>
         ensures step { Does self.old None (events.Ring q) (ring_reply result) self.new }
+        ensures touches { Touches self.old.touches (events.Ring q) (ring_reply result) self.new.touches }
         ensures memory { WantsMemoryFor (IsLogFull self.old) (ring_reply result) }
     {
         if self.log.reserve(1).is_err() {
@@ -96,6 +100,7 @@ impl<L: Driver, A: Allocator + Copy> Book<L, A> {
     /// As there, and `Memory` where the log cannot grow.
     pub fn reap(&mut self, q: u16) -> Result<Reaped, Refusal>
         ensures step { Does self.old None (events.Reap q) (reap_reply result) self.new }
+        ensures touches { Touches self.old.touches (events.Reap q) (reap_reply result) self.new.touches }
         ensures memory { WantsMemoryFor (IsLogFull self.old) (reap_reply result) }
     {
         if self.log.reserve(1).is_err() {
@@ -113,6 +118,7 @@ impl<L: Driver, A: Allocator + Copy> Book<L, A> {
     /// As there, and `Memory` where the log cannot grow. The ticket is handed back.
     pub fn collect(&mut self, ticket: Ticket) -> Result<Finished<A>, Refused<Ticket>>
         ensures step { Does self.old None (events.Collect ticket.q ticket.cid) (collect_reply result) self.new }
+        ensures touches { Touches self.old.touches (events.Collect ticket.q ticket.cid) (collect_reply result) self.new.touches }
         ensures back { IfErr result (λ r. r.value ≡ ticket) }
         ensures memory { WantsMemoryFor (IsLogFull self.old ⊎ MayWorldWant self.old (events.Collect ticket.q ticket.cid)) (collect_reply result) }
     {

@@ -5,6 +5,7 @@ ghost use Rattle.std.specs.List.{list_any};
 ghost use Rattle.machine_model.specs.Events as events;
 ghost use Rattle.step_core.specs.Replies.{accept_reply};
 ghost use Rattle.driver_book.specs.Calls.{Does, Receives, Settles, WantsMemoryFor, IsLogFull, AreReceiptsFull, MayWorldWant, is_open_for as is_open_receipt, settled};
+ghost use Rattle.step_core.specs.Touching.{Touches};
 
 use crate::book::{Book, Driver};
 use crate::host::unlogged;
@@ -109,6 +110,7 @@ impl<L: Driver, A: Allocator + Copy> Book<L, A> {
         draft: Draft<A>,
     ) -> Result<Ticket, Refused<Draft<A>>>
         ensures step { Does self.old (Some seat.old.number) (events.Submit draft) (accept_reply result) self.new }
+        ensures touches { Touches self.old.touches (events.Submit draft) (accept_reply result) self.new.touches }
         ensures receipt { Receives self.old.log seat.old draft result seat.new }
         ensures back { IfErr result (λ r. r.value ≡ draft) }
         ensures ticket { IfOk result (λ ticket. ticket ≡ record { q = draft.q; cid = draft.cid }) }
@@ -154,6 +156,7 @@ impl<L: Driver, A: Allocator + Copy> Book<L, A> {
     ) -> Result<(), Refused<Finished<A>>>
         requires { list_any (is_open_receipt finished.q finished.cid) seat.old.receipts ≡ true }
         ensures step { Does self.old (Some seat.old.number) (events.Release finished) (accept_reply result) self.new }
+        ensures touches { Touches self.old.touches (events.Release finished) (accept_reply result) self.new.touches }
         ensures receipt { Settles self.old.world seat.old finished result seat.new }
         ensures back { IfErr result (λ r. r.value ≡ finished) }
         ensures memory { WantsMemoryFor (IsLogFull self.old) (accept_reply result) }

@@ -147,7 +147,7 @@ pub collected_tables : (t : Tables) (q cid : ℕ) (pages : Pages) → (is : Stan
     → record t { pages = pages; records = with_record q cid collected t.records } ≡ taken_out q cid (pages_of is.entry) t
 collected_tables t q cid pages is ep = rw (ep, without-append is.entry.data_pages is.entry.chain_pages t.pages) refl
 
-length-taken : (ps : List ℕ) (m : Pages) → length (taken_pages ps m) ≡ length ps
+pub length-taken : (ps : List ℕ) (m : Pages) → length (taken_pages ps m) ≡ length ps
 length-taken [] m = refl
 length-taken (p ∷ ps) m = ap suc (length-taken ps (slice_set m p None))
 

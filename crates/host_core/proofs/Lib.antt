@@ -34,6 +34,7 @@ pub mod AdminReaped
 pub mod ReapSteps
 pub mod Retired
 pub mod Zeroing
+pub mod Touching
 pub mod Making
 pub mod Sending
 pub mod SendChecks

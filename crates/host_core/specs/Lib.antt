@@ -14,6 +14,7 @@ pub mod Retiring
 pub mod Resetting
 pub mod Ringing
 pub mod Looks
+pub mod Touching
 pub mod Halves
 pub mod Laws
 pub mod Worked

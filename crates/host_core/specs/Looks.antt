@@ -1,13 +1,11 @@
 -- What looks at a host tell: what would be answered, want of memory left aside, and where a completion ring begins.
-use Rattle.std.specs.Prelude.{ℕ, ◌*◌, ◌≤◌, Bool, ◌&&◌, is_none, is_some, Option, Some, None, option_and_then, option_map, slice_get, if◌then◌else◌}
+use Rattle.std.specs.Prelude.{ℕ, ◌*◌, Bool, ◌&&◌, is_none, is_some, Option, Some, None, option_and_then, option_map, slice_get, if◌then◌else◌}
 use Rattle.machine_model.specs.Events as events
 use Rattle.machine_model.specs.Refusals.{refusal_of, seen_entry, is_reaped}
 use Rattle.machine_model.specs.State.{State}
 use Rattle.machine_model.specs.declared.words.Refusal.{Refusal}
 use Rattle.machine_model.specs.declared.words.Refusal.TheVariants as refusal
 use Rattle.host_core.specs.Alone.{HostView}
-use Rattle.page_memory.specs.Memory.{TouchesMore}
-use Rattle.page_memory.specs.Pages.{Contents}
 
 -- whether a reap would take a completion
 abbrev pub completion_waits : State → ℕ → Bool
@@ -22,7 +20,3 @@ cause_of why = Some why
 abbrev pub completion_base : HostView → ℕ → Option ℕ
 completion_base v q =
     option_and_then (λ queue. if is_reaped queue.state then option_map (λ page. 4096 * page) (slice_get queue.cq_pages 0) else None) (slice_get v.host.queues q)
-
--- a store counts so many touches more than before, or fewer
-abbrev pub TouchesAtMost : ℕ → Contents → Contents → Type 0
-TouchesAtMost most old new = (n : ℕ) × (n ≤ most) × TouchesMore old.unlisted old.touched n new.unlisted new.touched

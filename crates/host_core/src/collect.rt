@@ -12,6 +12,7 @@ ghost use Rattle.host_core.specs.Parts.{record_of, records_of, tables_of, Over};
 ghost use Rattle.host_core.specs.Replies.{collect_reply};
 ghost use Rattle.host_core.specs.Tables.{state_of};
 ghost use Rattle.host_core.specs.Whole.{IsWhole, FitsPhase};
+ghost use Rattle.host_core.specs.Touching.{HostTouches, TouchesBy};
 
 use crate::host::Host;
 use crate::moving::move_out;
@@ -64,6 +65,7 @@ fn take_pages<A: Allocator>(
     requires front { CanTake entry.now.data_pages store.old.pages }
     requires back { CanTake entry.now.chain_pages (without_pages entry.now.data_pages store.old.pages) }
     ensures pages { store.new.pages ≡ without_pages entry.now.chain_pages (without_pages entry.now.data_pages store.old.pages) }
+    ensures touches { TouchesBy (length entry.now.data_pages + length entry.now.chain_pages) store.old store.new }
     ensures items { into.new.items ≡ taken_pages entry.now.data_pages store.old.pages ++ taken_pages entry.now.chain_pages (without_pages entry.now.data_pages store.old.pages) }
 {
     move_out(store, &entry.data_pages, into);
@@ -102,6 +104,7 @@ impl<A: Allocator> Parts<A> {
         requires space { HasRoom (tables_of self.old store.old.pages) q cid (vec_capacity room.pages) }
         ensures step { Step (state_of (tables_of self.old store.old.pages)) (events.Collect q cid) (events.Collects result) (state_of (tables_of self.new store.new.pages)) }
         ensures whole { IsWhole (tables_of self.new store.new.pages) }
+        ensures touches { TouchesBy (length result.data_pages + length result.chain_pages) store.old store.new }
     {
         let Room {
             request,
@@ -131,6 +134,7 @@ impl<A: Allocator + Copy> Host<A> {
     ) -> Result<Finished<A>, Refused<Ticket>>
         requires { IsOver self.old store.old.pages }
         ensures step { HostStep self.old store.old.pages (events.Collect ticket.q ticket.cid) (collect_reply result) self.new store.new.pages }
+        ensures touches { HostTouches store.old (events.Collect ticket.q ticket.cid) (collect_reply result) store.new }
         ensures over { IsOver self.new store.new.pages }
         ensures back { IfErr result (λ r. r.value ≡ ticket) }
     {

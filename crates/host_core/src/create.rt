@@ -15,6 +15,7 @@ ghost use Rattle.host_core.specs.Replies.{send_reply};
 ghost use Rattle.host_core.specs.Sending.{creating, creation, granted, making, named_causes, CanCreate, Creates};
 ghost use Rattle.host_core.specs.Tables.{state_of};
 ghost use Rattle.host_core.specs.Whole.{IsHost, IsWhole};
+ghost use Rattle.host_core.specs.Touching.{HostTouches, TouchesBy};
 
 use crate::host::Host;
 use crate::moving::zero_run;
@@ -171,7 +172,8 @@ impl<A: Allocator + Copy> Parts<A> {
         requires whole { IsWhole (tables_of self.old store.old.pages) }
         requires run { run_for (state_of (tables_of self.old store.old.pages)) half ≡ Some first }
         requires there { q < length self.old.queues.items }
-        ensures { tables_of self.new store.new.pages ≡ granted half q first (tables_of self.old store.old.pages) }
+        ensures granted { tables_of self.new store.new.pages ≡ granted half q first (tables_of self.old store.old.pages) }
+        ensures touches { TouchesBy 0 store.old store.new }
     {
         let need = half_pages(self.entries, half);
         match self.ledger.grant_run(Owner::Queue { q, half }, need) {
@@ -186,7 +188,8 @@ impl<A: Allocator + Copy> Parts<A> {
     fn commit_create(&mut self, store: &mut Store<A>, q: u16, half: Half, creation: Creation)
         requires whole { IsWhole (tables_of self.old store.old.pages) }
         requires ready { CanCreate (tables_of self.old store.old.pages) half q creation.cid creation.first }
-        ensures { Creates (tables_of self.old store.old.pages) half q creation.cid creation.first (tables_of self.new store.new.pages) }
+        ensures creates { Creates (tables_of self.old store.old.pages) half q creation.cid creation.first (tables_of self.new store.new.pages) }
+        ensures touches { TouchesBy 1 store.old store.new }
     {
         let Creation { cid, first } = creation;
         self.grant_half(store, q, half, first);
@@ -201,6 +204,7 @@ impl<A: Allocator + Copy> Host<A> {
     fn create(&mut self, store: &mut Store<A>, q: u16, half: Half) -> Result<u16, Refusal>
         requires { IsOver self.old store.old.pages }
         ensures step { HostStep self.old store.old.pages (creating half q) (send_reply result) self.new store.new.pages }
+        ensures touches { HostTouches store.old (creating half q) (send_reply result) store.new }
         ensures identifier { IfOk result (λ id. IsLowest self.old.host 0 id) }
         ensures over { IsOver self.new store.new.pages }
     {
@@ -225,6 +229,7 @@ impl<A: Allocator + Copy> Host<A> {
     pub fn create_cq(&mut self, store: &mut Store<A>, q: u16) -> Result<u16, Refusal>
         requires { IsOver self.old store.old.pages }
         ensures step { HostStep self.old store.old.pages (events.CreateCq q) (send_reply result) self.new store.new.pages }
+        ensures touches { HostTouches store.old (events.CreateCq q) (send_reply result) store.new }
         ensures identifier { IfOk result (λ id. IsLowest self.old.host 0 id) }
         ensures over { IsOver self.new store.new.pages }
     {
@@ -243,6 +248,7 @@ impl<A: Allocator + Copy> Host<A> {
     pub fn create_sq(&mut self, store: &mut Store<A>, q: u16) -> Result<u16, Refusal>
         requires { IsOver self.old store.old.pages }
         ensures step { HostStep self.old store.old.pages (events.CreateSq q) (send_reply result) self.new store.new.pages }
+        ensures touches { HostTouches store.old (events.CreateSq q) (send_reply result) store.new }
         ensures identifier { IfOk result (λ id. IsLowest self.old.host 0 id) }
         ensures over { IsOver self.new store.new.pages }
     {

@@ -8,6 +8,7 @@ ghost use Rattle.host_core.specs.Commands.{ended as spec_ended, without_claim, C
 ghost use Rattle.host_core.specs.Parts.{tables_of};
 ghost use Rattle.host_core.specs.Replies.{accept_reply};
 ghost use Rattle.host_core.specs.Whole.{IsWhole};
+ghost use Rattle.host_core.specs.Touching.{HostTouches, TouchesBy};
 
 use crate::compare::read_pages;
 use crate::host::Host;
@@ -49,7 +50,8 @@ impl<A: Allocator> Parts<A> {
     )
         requires whole { IsWhole (tables_of self.old store.old.pages) }
         requires brings { Brings (tables_of self.old store.old.pages) q cid pages.items }
-        ensures { tables_of self.new store.new.pages ≡ spec_ended q cid pages.items (tables_of self.old store.old.pages) }
+        ensures ended { tables_of self.new store.new.pages ≡ spec_ended q cid pages.items (tables_of self.old store.old.pages) }
+        ensures touches { TouchesBy 0 store.old store.new }
     {
         let Some(entry) = self.records.take(q, cid) else {
             unreachable!();
@@ -71,6 +73,7 @@ impl<A: Allocator> Host<A> {
     pub fn cancel(&mut self, store: &mut Store<A>, draft: Draft<A>) -> Result<(), Refused<Draft<A>>>
         requires { IsOver self.old store.old.pages }
         ensures step { HostStep self.old store.old.pages (events.Cancel draft) (accept_reply result) self.new store.new.pages }
+        ensures touches { HostTouches store.old (events.Cancel draft) (accept_reply result) store.new }
         ensures over { IsOver self.new store.new.pages }
         ensures back { IfErr result (λ r. r.value ≡ draft) }
     {
@@ -99,6 +102,7 @@ impl<A: Allocator> Host<A> {
     ) -> Result<(), Refused<Finished<A>>>
         requires { IsOver self.old store.old.pages }
         ensures step { HostStep self.old store.old.pages (events.Release finished) (accept_reply result) self.new store.new.pages }
+        ensures touches { HostTouches store.old (events.Release finished) (accept_reply result) store.new }
         ensures over { IsOver self.new store.new.pages }
         ensures back { IfErr result (λ r. r.value ≡ finished) }
     {

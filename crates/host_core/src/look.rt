@@ -9,7 +9,8 @@ ghost use Rattle.machine_model.specs.Refusals.{in_state, is_reaped, refusal_of};
 ghost use Rattle.machine_model.specs.State.{record_at};
 ghost use Rattle.page_memory.specs.Pages.{Pages};
 ghost use Rattle.host_core.specs.Alone.{alone, IsOver};
-ghost use Rattle.host_core.specs.Looks.{TouchesAtMost, cause_of, completion_base as spec_completion_base, completion_waits as spec_completion_waits};
+ghost use Rattle.host_core.specs.Looks.{cause_of, completion_base as spec_completion_base, completion_waits as spec_completion_waits};
+ghost use Rattle.host_core.specs.Touching.{TouchesAtMost};
 
 use crate::host::Host;
 use crate::queues::{has_no_completion, host_state};

@@ -7,6 +7,7 @@ ghost use Rattle.page_memory.specs.Pages.{page_at, zero_page};
 ghost use Rattle.machine_model.specs.Memory.{without_pages, with_pages, zeroed_pages};
 ghost use Rattle.host_core.specs.Commands.{CanTake, CanPut, CanZero};
 ghost use Rattle.page_ledger.specs.Owners.{pages_from};
+ghost use Rattle.host_core.specs.Touching.{TouchesBy};
 
 use page_memory::{Page, PageNo, Store};
 use std::alloc::Allocator;
@@ -17,6 +18,7 @@ fn take_zeroed<A: Allocator>(store: &mut Store<A>, number: PageNo) -> Page<A>
     requires { IsSome (page_at store.old.pages number) }
     ensures page { result ≡ zero_page }
     ensures out { store.new.pages ≡ slice_set store.old.pages number None }
+    ensures touches { TouchesBy 1 store.old store.new }
 {
     store.zero(number);
     let Some(page) = store.take(number) else {
@@ -34,6 +36,7 @@ pub(crate) fn move_out_zeroed<A: Allocator>(
     requires room { vec_len into.old + length numbers.now ≤ vec_capacity into.old }
     requires can { CanTake numbers.now store.old.pages }
     ensures pages { store.new.pages ≡ without_pages numbers.now store.old.pages }
+    ensures touches { TouchesBy (length numbers.now) store.old store.new }
     ensures items { into.new.items ≡ into.old.items ++ zeroed_pages numbers.now }
     ensures capacity { vec_capacity into.new ≡ vec_capacity into.old }
 {
@@ -47,7 +50,8 @@ pub(crate) fn move_out_zeroed<A: Allocator>(
 pub(crate) fn zero_run<A: Allocator>(store: &mut Store<A>, first: PageNo, count: u32)
     requires few { first + count ≤ 65536 }
     requires can { CanZero (pages_from first count) store.old.pages }
-    ensures { store.new.pages ≡ with_pages (zeroed_pages (pages_from first count)) store.old.pages }
+    ensures pages { store.new.pages ≡ with_pages (zeroed_pages (pages_from first count)) store.old.pages }
+    ensures touches { TouchesBy 0 store.old store.new }
 {
     for p in first.0..first.0 + count {
         store.zero(PageNo(p));
@@ -57,7 +61,8 @@ pub(crate) fn zero_run<A: Allocator>(store: &mut Store<A>, first: PageNo, count:
 /// Moves pages in, with their bytes.
 pub(crate) fn move_in<A: Allocator>(store: &mut Store<A>, pages: Vec<(PageNo, Page<A>), A>)
     requires { CanPut pages.items store.old.pages }
-    ensures { store.new.pages ≡ with_pages pages.items store.old.pages }
+    ensures pages { store.new.pages ≡ with_pages pages.items store.old.pages }
+    ensures touches { TouchesBy 0 store.old store.new }
 {
     for (number, page) in pages {
         store.put(number, page);
@@ -69,6 +74,7 @@ fn take_page<A: Allocator>(store: &mut Store<A>, number: PageNo) -> Page<A>
     requires { IsSome (page_at store.old.pages number) }
     ensures page { result ≡ option_map_or (λ bytes. bytes) (page_at store.old.pages number) [] }
     ensures out { store.new.pages ≡ slice_set store.old.pages number None }
+    ensures touches { TouchesBy 1 store.old store.new }
 {
     let Some(page) = store.take(number) else {
         unreachable!();
@@ -85,6 +91,7 @@ pub(crate) fn move_out<A: Allocator>(
     requires room { vec_len into.old + length numbers.now ≤ vec_capacity into.old }
     requires can { CanTake numbers.now store.old.pages }
     ensures pages { store.new.pages ≡ without_pages numbers.now store.old.pages }
+    ensures touches { TouchesBy (length numbers.now) store.old store.new }
     ensures items { into.new.items ≡ into.old.items ++ taken_pages numbers.now store.old.pages }
     ensures capacity { vec_capacity into.new ≡ vec_capacity into.old }
     ensures len { vec_len into.new ≡ vec_len into.old + length numbers.now }

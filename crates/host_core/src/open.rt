@@ -9,6 +9,7 @@ ghost use Rattle.page_memory.specs.declared.page.Half.TheVariants.{Submission, C
 ghost use Rattle.queue_pair.specs.Memory.{half_pages as pages_of_half};
 ghost use Rattle.host_core.specs.Alone.{IsOver};
 ghost use Rattle.host_core.specs.Opening.{refusal_of_config, opened_view, opened_pages, RefusesOpening, HalvesGranted, sq_from, cq_from, fresh_at, fresh_queues};
+ghost use Rattle.host_core.specs.Touching.{IsUntouched};
 
 use crate::config::Config;
 use crate::host::Host;
@@ -42,6 +43,7 @@ impl<A: Allocator + Copy> Host<A> {
         ensures fits { IfOk result (λ opened. refusal_of_config config ≡ None) }
         ensures host { IfOk result (λ opened. opened.host ≡ opened_view config) }
         ensures pages { IfOk result (λ opened. opened.store.pages ≡ opened_pages config) }
+        ensures untouched { IfOk result (λ opened. IsUntouched opened.store) }
         ensures over { IfOk result (λ opened. IsOver opened.host opened.store.pages) }
         ensures refused { IfErr result (λ why. RefusesOpening config why) }
     {
@@ -125,6 +127,7 @@ fn open_tables<A: Allocator + Copy>(
 >
     requires { refusal_of_config config ≡ None }
     ensures pages { IfOk result (λ tables. tables.0.pages ≡ replicate config.pages (Some zero_page)) }
+    ensures untouched { IfOk result (λ tables. IsUntouched tables.0) }
     ensures owners { IfOk result (λ tables. length tables.1 ≡ config.pages) }
     ensures granted { IfOk result (λ tables. HalvesGranted config.entries (config.queues + 1) tables.1) }
     ensures records { IfOk result (λ tables. tables.2 ≡ record { queues = config.queues + 1; places = config.entries - 1; rows = [] }) }

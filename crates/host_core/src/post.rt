@@ -8,6 +8,7 @@ ghost use Rattle.host_core.specs.Posting.{CanPostTo, Posts};
 ghost use Rattle.host_core.specs.Tables.{state_of};
 ghost use Rattle.host_core.specs.Whole.{AreQueues};
 ghost use Rattle.page_memory.specs.Pages.{Pages};
+ghost use Rattle.host_core.specs.Touching.{TouchesBy};
 
 use crate::parts::Parts;
 use entry_codec::SubEntry;
@@ -40,7 +41,8 @@ impl<A: Allocator> Parts<A> {
     pub(crate) fn post(&mut self, store: &mut Store<A>, q: u16, entry: SubEntry)
         requires there { q < length self.old.queues.items }
         requires can { CanPostTo (tables_of self.old store.old.pages) q entry }
-        ensures { Posts (tables_of self.old store.old.pages) q entry (tables_of self.new store.new.pages) }
+        ensures posts { Posts (tables_of self.old store.old.pages) q entry (tables_of self.new store.new.pages) }
+        ensures touches { TouchesBy 1 store.old store.new }
     {
         store.clear();
         match self.queues[usize::from(q)].host.post(store, entry) {

@@ -15,6 +15,7 @@ ghost use Rattle.host_core.specs.Replies.{reap_reply};
 ghost use Rattle.host_core.specs.Ringing.{head_of, head_rung};
 ghost use Rattle.host_core.specs.Tables.{state_of};
 ghost use Rattle.host_core.specs.Whole.{IsHost, IsWhole};
+ghost use Rattle.host_core.specs.Touching.{HostTouches};
 
 use crate::finish::unclaim;
 use crate::host::Host;
@@ -243,6 +244,7 @@ impl<A: Allocator> Host<A> {
         requires { IsOver self.old store.old.pages }
         ensures step { HostStep self.old store.old.pages (events.Reap q) (reap_reply result) self.new store.new.pages }
         ensures head { IfOk result (λ reap. reap.head ≡ head_rung self.new q reap.found) }
+        ensures touches { HostTouches store.old (events.Reap q) (reap_reply result) store.new }
         ensures over { IsOver self.new store.new.pages }
     {
         if has_no_completion(&self.parts.queues, q) {

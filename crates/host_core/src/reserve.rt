@@ -1,6 +1,6 @@
 //! A request gets an identifier and pages.
 
-ghost use Rattle.std.specs.Prelude.{◌≡◌, ◌+◌, ◌≤◌, [], vec_len, vec_capacity, IfOk, IfErr};
+ghost use Rattle.std.specs.Prelude.{◌≡◌, ◌+◌, ◌≤◌, [], length, vec_len, vec_capacity, IfOk, IfErr};
 ghost use Rattle.machine_model.specs.Events as events;
 ghost use Rattle.machine_model.specs.Step.{Refuses};
 ghost use Rattle.host_core.specs.Alone.{HasPlacedPages, HostStep, IsLowest, IsOver};
@@ -9,6 +9,7 @@ ghost use Rattle.host_core.specs.Parts.{tables_of, Over};
 ghost use Rattle.host_core.specs.Replies.{reserve_reply};
 ghost use Rattle.host_core.specs.Tables.{state_of};
 ghost use Rattle.host_core.specs.Whole.{IsHost, IsWhole};
+ghost use Rattle.host_core.specs.Touching.{HostTouches, TouchesBy};
 
 use crate::host::Host;
 use crate::moving::move_out_zeroed;
@@ -99,6 +100,7 @@ impl<A: Allocator + Copy> Parts<A> {
         requires request { room.request ≡ request }
         ensures draft { result ≡ new_draft q grant.cid request (first_placed self.old.ledger grant.front) (then_placed self.old.ledger grant.front grant.back) self.old.segment }
         ensures new { tables_of self.new store.new.pages ≡ reserved result (tables_of self.old store.old.pages) }
+        ensures touches { TouchesBy (length result.data_pages + length result.chain_pages) store.old store.new }
     {
         let Room {
             mut front,
@@ -144,6 +146,7 @@ impl<A: Allocator + Copy> Host<A> {
         ensures step { HostStep self.old store.old.pages (events.Reserve q request) (reserve_reply result) self.new store.new.pages }
         ensures identifier { IfOk result (λ draft. IsLowest self.old.host q draft.cid) }
         ensures pages { IfOk result (λ draft. HasPlacedPages self.old.host draft) }
+        ensures touches { HostTouches store.old (events.Reserve q request) (reserve_reply result) store.new }
         ensures over { IsOver self.new store.new.pages }
         ensures back { IfErr result (λ r. r.value ≡ request) }
     {

@@ -2,6 +2,7 @@
 
 ghost use Rattle.std.specs.Prelude.{◌≡◌, [], filter, map};
 ghost use Rattle.machine_model.specs.After.{is_of_io};
+ghost use Rattle.machine_model.specs.Events as events;
 ghost use Rattle.page_ledger.specs.Owners.{given_back, is_half};
 ghost use Rattle.page_memory.specs.declared.page.Half.{Half as HalfValue};
 ghost use Rattle.host_core.specs.Alone.{IsOver};
@@ -9,6 +10,7 @@ ghost use Rattle.host_core.specs.Halves.{has_half as spec_has_half};
 ghost use Rattle.host_core.specs.Parts.{tables_of, Becomes};
 ghost use Rattle.host_core.specs.Resetting.{admin_reset, gone as spec_gone, host_reset, pages_reset, with_admin_renewed, with_io_queues_gone, with_queue_gone, with_records_reset, HasPlaces, ListHalves, ListsHalf};
 ghost use Rattle.host_core.specs.Whole.{IsWhole};
+ghost use Rattle.host_core.specs.Touching.{HostTouches, TouchesBy};
 
 use crate::host::Host;
 use crate::moving::zero_run;
@@ -56,7 +58,8 @@ impl<A: Allocator> Parts<A> {
     /// Makes the pages of queue 0 zero, and leaves the queue as it opened.
     fn renew_admin(&mut self, store: &mut Store<A>)
         requires { IsWhole (tables_of self.old store.old.pages) }
-        ensures { tables_of self.new store.new.pages ≡ with_admin_renewed (tables_of self.old store.old.pages) }
+        ensures renewed { tables_of self.new store.new.pages ≡ with_admin_renewed (tables_of self.old store.old.pages) }
+        ensures touches { TouchesBy 0 store.old store.new }
     {
         let sq = self.queues[0].host.first_page(Half::Submission);
         zero_run(store, sq, half_pages(self.entries, Half::Submission));
@@ -131,6 +134,7 @@ impl<A: Allocator> Host<A> {
         requires { IsOver self.old store.old.pages }
         ensures host { self.new ≡ host_reset self.old store.old.pages }
         ensures pages { store.new.pages ≡ pages_reset self.old store.old.pages }
+        ensures touches { HostTouches store.old events.Reset events.Accepted store.new }
         ensures over { IsOver self.new store.new.pages }
     {
         self.parts.renew_admin(store);

@@ -10,7 +10,7 @@ ghost use Rattle.host_core.specs.Replies.{ring_reply};
 ghost use Rattle.host_core.specs.Resetting.{HasPlaces};
 ghost use Rattle.host_core.specs.Retiring.{retired, with_lost};
 ghost use Rattle.host_core.specs.Whole.{IsHost, IsWhole};
-ghost use Rattle.page_memory.specs.Memory.{TouchesMore};
+ghost use Rattle.host_core.specs.Touching.{HostTouches, TouchesBy};
 
 use crate::host::Host;
 use crate::parts::Parts;
@@ -28,7 +28,7 @@ impl<A: Allocator> Parts<A> {
         requires there { lacks_completion (slice_get self.now.queues.items q) ≡ false }
         ensures seen { seen_at (tables_of self.now store.old.pages) q ≡ result }
         ensures same { store.new.pages ≡ store.old.pages }
-        ensures touches { TouchesMore store.old.unlisted store.old.touched 1 store.new.unlisted store.new.touched }
+        ensures touches { TouchesBy 1 store.old store.new }
     {
         store.clear();
         let seen = self.queues[usize::from(q)].host.peek(store);
@@ -83,6 +83,7 @@ impl<A: Allocator> Host<A> {
     pub fn retire(&mut self, store: &mut Store<A>, q: u16) -> Result<(), Refusal>
         requires { IsOver self.old store.old.pages }
         ensures step { HostStep self.old store.old.pages (events.Retire q) (ring_reply result) self.new store.new.pages }
+        ensures touches { HostTouches store.old (events.Retire q) (ring_reply result) store.new }
         ensures over { IsOver self.new store.new.pages }
     {
         if !is_deleted(host_state(&self.parts.queues, q)) {

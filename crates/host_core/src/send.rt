@@ -18,6 +18,7 @@ ghost use Rattle.host_core.specs.Replies.{send_reply};
 ghost use Rattle.host_core.specs.Sending.{asked, grants_none, lacks_queue as spec_lacks_queue, named_causes, noted, sending, CanSend, Sends};
 ghost use Rattle.host_core.specs.Tables.{state_of};
 ghost use Rattle.host_core.specs.Whole.{IsHost, IsWhole};
+ghost use Rattle.host_core.specs.Touching.{HostTouches, TouchesBy};
 
 use crate::host::Host;
 use crate::parts::Parts;
@@ -196,7 +197,8 @@ impl<A: Allocator + Copy> Parts<A> {
     fn commit_send(&mut self, store: &mut Store<A>, kind: AdminKind, cid: u16)
         requires whole { IsWhole (tables_of self.old store.old.pages) }
         requires ready { CanSend (tables_of self.old store.old.pages) kind cid }
-        ensures { Sends (tables_of self.old store.old.pages) kind cid (tables_of self.new store.new.pages) }
+        ensures sends { Sends (tables_of self.old store.old.pages) kind cid (tables_of self.new store.new.pages) }
+        ensures touches { TouchesBy 1 store.old store.new }
     {
         self.note_sent(kind, cid);
         self.post(store, 0, entry(kind, cid));
@@ -210,6 +212,7 @@ impl<A: Allocator + Copy> Host<A> {
         requires over { IsOver self.old store.old.pages }
         requires plain { grants_none kind ≡ true }
         ensures step { HostStep self.old store.old.pages (sending kind) (send_reply result) self.new store.new.pages }
+        ensures touches { HostTouches store.old (sending kind) (send_reply result) store.new }
         ensures identifier { IfOk result (λ id. IsLowest self.old.host 0 id) }
         ensures over { IsOver self.new store.new.pages }
     {
@@ -232,6 +235,7 @@ impl<A: Allocator + Copy> Host<A> {
     pub fn abort(&mut self, store: &mut Store<A>, q: u16, cid: u16) -> Result<u16, Refusal>
         requires { IsOver self.old store.old.pages }
         ensures step { HostStep self.old store.old.pages (events.Abort q cid) (send_reply result) self.new store.new.pages }
+        ensures touches { HostTouches store.old (events.Abort q cid) (send_reply result) store.new }
         ensures identifier { IfOk result (λ id. IsLowest self.old.host 0 id) }
         ensures over { IsOver self.new store.new.pages }
     {
@@ -250,6 +254,7 @@ impl<A: Allocator + Copy> Host<A> {
     pub fn delete_sq(&mut self, store: &mut Store<A>, q: u16) -> Result<u16, Refusal>
         requires { IsOver self.old store.old.pages }
         ensures step { HostStep self.old store.old.pages (events.DeleteSq q) (send_reply result) self.new store.new.pages }
+        ensures touches { HostTouches store.old (events.DeleteSq q) (send_reply result) store.new }
         ensures identifier { IfOk result (λ id. IsLowest self.old.host 0 id) }
         ensures over { IsOver self.new store.new.pages }
     {
@@ -268,6 +273,7 @@ impl<A: Allocator + Copy> Host<A> {
     pub fn delete_cq(&mut self, store: &mut Store<A>, q: u16) -> Result<u16, Refusal>
         requires { IsOver self.old store.old.pages }
         ensures step { HostStep self.old store.old.pages (events.DeleteCq q) (send_reply result) self.new store.new.pages }
+        ensures touches { HostTouches store.old (events.DeleteCq q) (send_reply result) store.new }
         ensures identifier { IfOk result (λ id. IsLowest self.old.host 0 id) }
         ensures over { IsOver self.new store.new.pages }
     {

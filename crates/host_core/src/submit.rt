@@ -10,6 +10,7 @@ ghost use Rattle.host_core.specs.Replies.{accept_reply};
 ghost use Rattle.host_core.specs.Submitting.{IsReady, Submits};
 ghost use Rattle.host_core.specs.Tables.{state_of};
 ghost use Rattle.host_core.specs.Whole.{IsHost, IsWhole};
+ghost use Rattle.host_core.specs.Touching.{HostTouches, TouchesBy};
 
 use crate::host::Host;
 use crate::moving::move_in;
@@ -51,6 +52,7 @@ impl<A: Allocator> Parts<A> {
         requires ready { IsReady (tables_of self.old store.old.pages) draft entry }
         ensures submits { Submits (tables_of self.old store.old.pages) draft entry (tables_of self.new store.new.pages) }
         ensures ticket { result ≡ record { q = draft.q; cid = draft.cid } }
+        ensures touches { TouchesBy 1 store.old store.new }
     {
         let parts = draft.apart();
         move_in(store, parts.pages);
@@ -77,6 +79,7 @@ impl<A: Allocator> Host<A> {
     ) -> Result<Ticket, Refused<Draft<A>>>
         requires { IsOver self.old store.old.pages }
         ensures step { HostStep self.old store.old.pages (events.Submit draft) (accept_reply result) self.new store.new.pages }
+        ensures touches { HostTouches store.old (events.Submit draft) (accept_reply result) store.new }
         ensures over { IsOver self.new store.new.pages }
         ensures back { IfErr result (λ r. r.value ≡ draft) }
         ensures ticket { IfOk result (λ ticket. ticket ≡ record { q = draft.q; cid = draft.cid }) }

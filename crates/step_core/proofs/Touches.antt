@@ -1,7 +1,8 @@
 -- Each touch is counted, and told.
-use Rattle.std.proofs.Common.{◌≡◌, ℕ, zero, suc, ◌+◌, ◌*◌, ◌<◌, ◌≤◌, ◌⊎◌, inl, inr, Bool, true, false, Option, Some, None, List, [], Result, Ok, Err, length, get_or, refl, ap, sym, ◌∙◌, arith, if◌then◌else◌}
-use Rattle.std.specs.Prelude.{slice_get}
+use Rattle.std.proofs.Common.{◌≡◌, ℕ, zero, suc, ◌+◌, ◌-◌, ◌*◌, ◌<◌, ◌≤◌, ◌⊎◌, inl, inr, Bool, true, false, Option, Some, None, List, [], ◌∷◌, ◌++◌, Result, Ok, Err, length, get_or, refl, ap, sym, ◌∙◌, arith, if◌then◌else◌}
+use Rattle.std.specs.Prelude.{nat_eq, slice_get}
 use Rattle.std.specs.Option.{option_map_or}
+use Rattle.std.proofs.lemmas.Bool.{eq-eqb}
 use Rattle.std.proofs.lemmas.Option.{slice_get_cases}
 use Rattle.controller_core.specs.Contents.{Contents}
 use Rattle.controller_core.specs.Looks.{post_touches, answer_touches, entry_touches, fetch_touches, heads_touch, looked, queue_numbers}
@@ -15,7 +16,8 @@ use Rattle.controller_core.specs.declared.refusal.Refusal as refusing
 use Rattle.controller_walk.specs.declared.walk.WalkState.{WalkState}
 use Rattle.machine_model.specs.Events.{Reply}
 use Rattle.machine_model.specs.Touch.{touched_by}
-use Rattle.page_memory.specs.Memory.{counted, TouchesMore}
+use Rattle.page_memory.specs.Memory.{counted, page_of, pages_reached, TouchesMore}
+use Rattle.queue_pair.specs.Memory.{completion_place}
 use Rattle.two_sides.specs.Serving.{fetch_reply, walk_reply, complete_reply}
 use Rattle.step_core.specs.Touching.{touches_more, LooksAtMost}
 
@@ -48,11 +50,29 @@ told_all u n touches u' reached told reply cleared was is tells = rw (tells, is,
 counted_sum : (u n more : ℕ) → counted u (n + more) ≡ counted (counted u n) more
 counted_sum u n more = omega arith
 
--- a look touched so many pages more
+-- a call touched so many pages more
+pub touches_at : (touches touches' u u' pages : ℕ) (reached reached' : List ℕ) → counted u (length reached) ≡ touches → touches' ≡ counted u' (length reached')
+    → TouchesMore u reached pages u' reached' → touches' ≡ touches_more touches pages
+touches_at touches touches' u u' pages reached reached' was is more =
+    is ∙ (more ∙ (counted_sum u (length reached) pages ∙ (counted_so u (length reached) pages ∙ rw was refl)))
+
 pub looks_at : (most touches touches' u u' pages : ℕ) (reached reached' : List ℕ) → pages ≤ most → counted u (length reached) ≡ touches → touches' ≡ counted u' (length reached')
     → TouchesMore u reached pages u' reached' → LooksAtMost most touches touches'
 looks_at most touches touches' u u' pages reached reached' few was is more =
-    record { pages = pages; few = few; counts = is ∙ (more ∙ (counted_sum u (length reached) pages ∙ (counted_so u (length reached) pages ∙ rw was refl))) }
+    record { pages = pages; few = few; counts = touches_at touches touches' u u' pages reached reached' was is more }
+
+-- a completion slot lies in one page
+one_page : (a b : ℕ) → a ≡ b → length (if nat_eq a b then a ∷ [] else a ∷ b ∷ []) ≡ 1
+one_page a b same = rw (eq-eqb a b same) refl
+
+slot_reached : (cq slot : ℕ) → length (pages_reached (completion_place cq slot) 16) ≡ 1
+slot_reached cq slot = one_page (page_of (completion_place cq slot)) (page_of (completion_place cq slot + 16 - 1)) (omega arith)
+
+-- the count behind a completion that was written into its slot
+pub forged_one : (touches u u1 u2 : ℕ) (reached reached1 reached2 : List ℕ) (cq slot : ℕ) → counted u (length reached) ≡ touches → reached1 ≡ [] → u1 ≡ counted u (length reached)
+    → reached2 ≡ reached1 ++ pages_reached (completion_place cq slot) 16 → u2 ≡ u1 → counted u2 (length reached2) ≡ counted touches 1
+forged_one touches u u1 u2 reached reached1 reached2 cq slot was none cleared is same =
+    rw (is, none, slot_reached cq slot, same, cleared, was) refl
 
 -- looks follow one another
 more_on : (touches a b : ℕ) → touches_more (touches_more touches a) b ≡ touches_more touches (a + b)

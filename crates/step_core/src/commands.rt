@@ -4,6 +4,7 @@ ghost use Rattle.std.specs.Prelude.{◌≡◌, IfOk, IfErr};
 ghost use Rattle.machine_model.specs.Events as events;
 ghost use Rattle.machine_model.specs.Step.{Step};
 ghost use Rattle.step_core.specs.Replies.{reserve_reply, accept_reply, collect_reply};
+ghost use Rattle.step_core.specs.Touching.{Touches};
 
 use crate::world::World;
 use host_core::Refused;
@@ -22,6 +23,7 @@ impl<A: Allocator + Copy> World<A> {
     /// free. 6. `Memory` where memory is refused.
     pub fn reserve(&mut self, q: u16, request: Request<A>) -> Result<Draft<A>, Refused<Request<A>>>
         ensures step { Step self.old.state (events.Reserve q request) (reserve_reply result) self.new.state }
+        ensures touches { Touches self.old.touches (events.Reserve q request) (reserve_reply result) self.new.touches }
         ensures back { IfErr result (λ r. r.value ≡ request) }
     {
         self.host.reserve(&mut self.store, q, request)
@@ -38,6 +40,7 @@ impl<A: Allocator + Copy> World<A> {
     /// 4. `QueueFull` where the submission ring of its queue is full.
     pub fn submit(&mut self, draft: Draft<A>) -> Result<Ticket, Refused<Draft<A>>>
         ensures step { Step self.old.state (events.Submit draft) (accept_reply result) self.new.state }
+        ensures touches { Touches self.old.touches (events.Submit draft) (accept_reply result) self.new.touches }
         ensures back { IfErr result (λ r. r.value ≡ draft) }
         ensures ticket { IfOk result (λ ticket. ticket ≡ record { q = draft.q; cid = draft.cid }) }
     {
@@ -52,6 +55,7 @@ impl<A: Allocator + Copy> World<A> {
     /// draft is handed back, and nothing changed.
     pub fn cancel(&mut self, draft: Draft<A>) -> Result<(), Refused<Draft<A>>>
         ensures step { Step self.old.state (events.Cancel draft) (accept_reply result) self.new.state }
+        ensures touches { Touches self.old.touches (events.Cancel draft) (accept_reply result) self.new.touches }
         ensures back { IfErr result (λ r. r.value ≡ draft) }
     {
         self.host.cancel(&mut self.store, draft)
@@ -65,6 +69,7 @@ impl<A: Allocator + Copy> World<A> {
     /// identifier. 2. `NotYet` where it has not ended. 3. `Memory` where memory is refused.
     pub fn collect(&mut self, ticket: Ticket) -> Result<Finished<A>, Refused<Ticket>>
         ensures step { Step self.old.state (events.Collect ticket.q ticket.cid) (collect_reply result) self.new.state }
+        ensures touches { Touches self.old.touches (events.Collect ticket.q ticket.cid) (collect_reply result) self.new.touches }
         ensures back { IfErr result (λ r. r.value ≡ ticket) }
     {
         self.host.collect(&mut self.store, ticket)
@@ -78,6 +83,7 @@ impl<A: Allocator + Copy> World<A> {
     /// finished command is handed back, and nothing changed.
     pub fn release(&mut self, finished: Finished<A>) -> Result<(), Refused<Finished<A>>>
         ensures step { Step self.old.state (events.Release finished) (accept_reply result) self.new.state }
+        ensures touches { Touches self.old.touches (events.Release finished) (accept_reply result) self.new.touches }
         ensures back { IfErr result (λ r. r.value ≡ finished) }
     {
         self.host.release(&mut self.store, finished)

@@ -4,6 +4,7 @@ ghost use Rattle.std.specs.Prelude.{◌≡◌};
 ghost use Rattle.machine_model.specs.Events as events;
 ghost use Rattle.machine_model.specs.Step.{Step};
 ghost use Rattle.step_core.specs.Replies.{ring_reply};
+ghost use Rattle.step_core.specs.Touching.{Touches};
 
 use crate::world::World;
 use machine_model::words::Refusal;
@@ -20,7 +21,8 @@ impl<A: Allocator + Copy> World<A> {
     /// 1. `NoQueue` where there is no such queue, or its completion half was given back and the queue is not made again.
     /// 2. `NoSlot` where the ring has no such slot.
     pub fn forge(&mut self, q: u16, slot: u16, bytes: [u8; 16]) -> Result<(), Refusal>
-        ensures { Step self.old.state (events.Forge q slot bytes) (ring_reply result) self.new.state }
+        ensures step { Step self.old.state (events.Forge q slot bytes) (ring_reply result) self.new.state }
+        ensures touches { Touches self.old.touches (events.Forge q slot bytes) (ring_reply result) self.new.touches }
     {
         let Some(base) = self.host.completion_base(q) else {
             return Err(Refusal::NoQueue);

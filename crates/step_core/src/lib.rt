@@ -1,7 +1,7 @@
 //! The machine runs: every event is one call.
 //!
-//! A [`World`] is a driver and its modelled controller over one pool of pages. Contracts see it as the state of the machine that
-//! `machine_model` defines, and each call that is an event is a `Step` of that machine. Where it is refused nothing changed, and every moved value is handed
+//! A [`World`] is a driver and its modelled controller over one pool of pages. Contracts see the state of the machine that
+//! `machine_model` defines, and how many pages were touched so far; each call that is an event is a `Step` of that machine, and says how many it touches. Where it is refused nothing changed, and every moved value is handed
 //! back; the refusal is the first that holds, but for the controller's steps once something was forged. Between calls each page has one
 //! owner, the counts add up and identifiers are distinct, whatever was forged ([`World::check`]). Where nothing was since
 //! the last [`World::reset`], [`World::fetch`], [`World::walk`] and [`World::complete`] touch only pages that they may.

@@ -1,4 +1,4 @@
-//! What would be answered: looks that change nothing, for those who wait until the answer is another.
+//! What would be answered: looks that change nothing but the count of touches, for those who wait until the answer is another.
 
 ghost use Rattle.std.specs.Prelude.{◌≡◌, ◌+◌, ◌*◌, ◌<◌, ℕ, true, false, None, IfOk, IfSome, IfNone, IsTrue, length, option_and_then};
 ghost use Rattle.std.specs.Result.{result_err};

@@ -2,6 +2,7 @@
 
 ghost use Rattle.std.specs.Prelude.{◌≡◌, ◌≤◌, None, IfOk, IfErr};
 ghost use Rattle.host_core.specs.Opening.{refusal_of_config, opened_view, opened_pages, RefusesOpening};
+ghost use Rattle.host_core.specs.Touching.{IsUntouched};
 ghost use Rattle.machine_model.specs.declared.words.OpenRefusal.TheVariants.{Memory};
 ghost use Rattle.step_core.specs.Opening.{opening_of};
 ghost use Rattle.two_sides.specs.Opening.{halves_from};
@@ -45,8 +46,8 @@ fn halves(entries: u16, count: u16) -> ArrayVec<QueuePages, 65>
 }
 
 impl<A: Allocator + Copy> World<A> {
-    /// Opens a world over an image. Every page is in and zero, every queue is live with empty rings, no command is outstanding, and
-    /// nothing was forged.
+    /// Opens a world over an image. Every page is in and zero, every queue is live with empty rings, no command is outstanding, no page
+    /// was touched, and nothing was forged.
     ///
     /// # Errors
     ///
@@ -55,6 +56,7 @@ impl<A: Allocator + Copy> World<A> {
     pub fn open(alloc: A, config: Config, image: Image<A>) -> Result<World<A>, OpenRefused<A>>
         ensures fits { IfOk result (λ world. refusal_of_config config ≡ None) }
         ensures opened { IfOk result (λ world. world.state ≡ opening_of config image) }
+        ensures touches { IfOk result (λ world. world.touches ≡ 0) }
         ensures refused { IfErr result (λ refused. RefusesOpening config refused.why) }
         ensures handed_back { IfErr result (λ refused. refused.image ≡ image) }
     {
@@ -78,7 +80,9 @@ impl<A: Allocator + Copy> World<A> {
         requires fits { refusal_of_config config ≡ None }
         requires host { opened.host ≡ opened_view config }
         requires pages { opened.store.pages ≡ opened_pages config }
+        requires untouched { IsUntouched opened.store }
         ensures opened { IfOk result (λ world. world.state ≡ opening_of config image) }
+        ensures touches { IfOk result (λ world. world.touches ≡ 0) }
         ensures refused { IfErr result (λ refused. refused.why ≡ Memory) }
         ensures handed_back { IfErr result (λ refused. refused.image ≡ image) }
     {

@@ -4,6 +4,7 @@ ghost use Rattle.std.specs.Prelude.{◌≡◌};
 ghost use Rattle.machine_model.specs.Events as events;
 ghost use Rattle.machine_model.specs.Step.{Step};
 ghost use Rattle.step_core.specs.Replies.{ring_reply, reap_reply, send_reply};
+ghost use Rattle.step_core.specs.Touching.{Touches};
 
 use crate::world::World;
 use machine_model::words::{Reaped, Refusal};
@@ -17,7 +18,8 @@ impl<A: Allocator + Copy> World<A> {
     ///
     /// `NoQueue` where there is no such queue, or its submission half was given back and is not made again.
     pub fn ring(&mut self, q: u16) -> Result<(), Refusal>
-        ensures { Step self.old.state (events.Ring q) (ring_reply result) self.new.state }
+        ensures step { Step self.old.state (events.Ring q) (ring_reply result) self.new.state }
+        ensures touches { Touches self.old.touches (events.Ring q) (ring_reply result) self.new.touches }
     {
         let tail = self.host.ring(q)?;
         self.controller.tail_doorbell(q, tail);
@@ -38,7 +40,8 @@ impl<A: Allocator + Copy> World<A> {
     ///
     /// `NoQueue` where there is no such queue, or its completion half was given back and the queue is not made again. Then nothing changed.
     pub fn reap(&mut self, q: u16) -> Result<Reaped, Refusal>
-        ensures { Step self.old.state (events.Reap q) (reap_reply result) self.new.state }
+        ensures step { Step self.old.state (events.Reap q) (reap_reply result) self.new.state }
+        ensures touches { Touches self.old.touches (events.Reap q) (reap_reply result) self.new.touches }
     {
         let reap = self.host.reap(&mut self.store, q)?;
         match reap.head {
@@ -57,7 +60,8 @@ impl<A: Allocator + Copy> World<A> {
     /// 2. `WrongState` where it is being deleted. 3. `NoSuchCommand` where the queue has no submitted command of this identifier.
     /// 4. `NoIdentifier` where each identifier of queue 0 is outstanding. 5. `QueueFull` where the submission ring of queue 0 is full.
     pub fn abort(&mut self, q: u16, cid: u16) -> Result<u16, Refusal>
-        ensures { Step self.old.state (events.Abort q cid) (send_reply result) self.new.state }
+        ensures step { Step self.old.state (events.Abort q cid) (send_reply result) self.new.state }
+        ensures touches { Touches self.old.touches (events.Abort q cid) (send_reply result) self.new.touches }
     {
         self.host.abort(&mut self.store, q, cid)
     }
@@ -71,7 +75,8 @@ impl<A: Allocator + Copy> World<A> {
     /// 2. `WrongState` where it is being deleted. 3. `NoIdentifier` where each identifier of queue 0 is outstanding. 4. `QueueFull` where the
     /// submission ring of queue 0 is full.
     pub fn delete_sq(&mut self, q: u16) -> Result<u16, Refusal>
-        ensures { Step self.old.state (events.DeleteSq q) (send_reply result) self.new.state }
+        ensures step { Step self.old.state (events.DeleteSq q) (send_reply result) self.new.state }
+        ensures touches { Touches self.old.touches (events.DeleteSq q) (send_reply result) self.new.touches }
     {
         self.host.delete_sq(&mut self.store, q)
     }
@@ -86,7 +91,8 @@ impl<A: Allocator + Copy> World<A> {
     /// of that is outstanding.
     /// 3. `NoIdentifier` where each identifier of queue 0 is outstanding. 4. `QueueFull` where the submission ring of queue 0 is full.
     pub fn delete_cq(&mut self, q: u16) -> Result<u16, Refusal>
-        ensures { Step self.old.state (events.DeleteCq q) (send_reply result) self.new.state }
+        ensures step { Step self.old.state (events.DeleteCq q) (send_reply result) self.new.state }
+        ensures touches { Touches self.old.touches (events.DeleteCq q) (send_reply result) self.new.touches }
     {
         self.host.delete_cq(&mut self.store, q)
     }
@@ -101,7 +107,8 @@ impl<A: Allocator + Copy> World<A> {
     /// command of the queue is outstanding. 4. `NoIdentifier` where each identifier of queue 0 is outstanding. 5. `NoRun` where no run of so
     /// many consecutive pages is free. 6. `QueueFull` where the submission ring of queue 0 is full.
     pub fn create_cq(&mut self, q: u16) -> Result<u16, Refusal>
-        ensures { Step self.old.state (events.CreateCq q) (send_reply result) self.new.state }
+        ensures step { Step self.old.state (events.CreateCq q) (send_reply result) self.new.state }
+        ensures touches { Touches self.old.touches (events.CreateCq q) (send_reply result) self.new.touches }
     {
         self.host.create_cq(&mut self.store, q)
     }
@@ -116,7 +123,8 @@ impl<A: Allocator + Copy> World<A> {
     /// completion queue is outstanding. 3. `NoIdentifier` where each identifier of queue 0 is outstanding. 4. `NoRun` where no run of so
     /// many consecutive pages is free. 5. `QueueFull` where the submission ring of queue 0 is full.
     pub fn create_sq(&mut self, q: u16) -> Result<u16, Refusal>
-        ensures { Step self.old.state (events.CreateSq q) (send_reply result) self.new.state }
+        ensures step { Step self.old.state (events.CreateSq q) (send_reply result) self.new.state }
+        ensures touches { Touches self.old.touches (events.CreateSq q) (send_reply result) self.new.touches }
     {
         self.host.create_sq(&mut self.store, q)
     }
@@ -131,7 +139,8 @@ impl<A: Allocator + Copy> World<A> {
     /// Nothing changed. 1. `NotDeleted` where there is no such queue, or the success of its deletion was not reaped, or it was retired or
     /// reset since. 2. `NotDrained` where a new completion stands at the head of its completion ring.
     pub fn retire(&mut self, q: u16) -> Result<(), Refusal>
-        ensures { Step self.old.state (events.Retire q) (ring_reply result) self.new.state }
+        ensures step { Step self.old.state (events.Retire q) (ring_reply result) self.new.state }
+        ensures touches { Touches self.old.touches (events.Retire q) (ring_reply result) self.new.touches }
     {
         self.host.retire(&mut self.store, q)
     }

@@ -2,6 +2,7 @@ use Rattle.std.proofs.Common.{◌≡◌, ◌++◌, ◌+◌, drop, vec_len, vec_c
 use Rattle.machine_model.specs.Memory.{without_pages}
 use Rattle.host_core.specs.Collecting.{taken_pages}
 use Rattle.host_core.specs.Commands.{CanTake}
+use Rattle.host_core.specs.Touching.{TouchesBy}
 use Rattle.host_core.proofs.moving.move_out.Given as goal
 
 abbrev pub invariant-loop-number : goal.invariant-loop-number
@@ -11,4 +12,5 @@ invariant-loop-number g l = record {
   items : l.into.items ++ taken_pages (drop l.number-index l.numbers) l.store.pages ≡ l.fn.into.items ++ taken_pages l.numbers l.fn.store.pages;
   many : vec_len l.into ≡ vec_len l.fn.into + l.number-index;
   capacity : vec_capacity l.into ≡ vec_capacity l.fn.into;
+  touches : TouchesBy l.number-index l.fn.store l.store;
 }

@@ -2,10 +2,12 @@ use Rattle.std.proofs.Common.{◌≡◌, ◌+◌, ◌-◌}
 use Rattle.machine_model.specs.Memory.{with_pages, zeroed_pages}
 use Rattle.page_ledger.specs.Owners.{pages_from}
 use Rattle.host_core.specs.Commands.{CanZero}
+use Rattle.host_core.specs.Touching.{TouchesBy}
 use Rattle.host_core.proofs.moving.zero_run.Given as goal
 
 abbrev pub invariant-loop-p : goal.invariant-loop-p
 invariant-loop-p g l = record {
   rest : with_pages (zeroed_pages (pages_from l.p (l.fn.first + l.fn.count - l.p))) l.store.pages ≡ with_pages (zeroed_pages (pages_from l.fn.first l.fn.count)) l.fn.store.pages;
   can : CanZero (pages_from l.p (l.fn.first + l.fn.count - l.p)) l.store.pages;
+  touches : TouchesBy 0 l.fn.store l.store;
 }

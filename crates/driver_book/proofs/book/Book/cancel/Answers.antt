@@ -24,3 +24,9 @@ returns-clause-step g c =
 pub returns-clause-memory : goal.returns-clause-memory
 returns-clause-memory g c =
     takes_no_memory (IsLogFull c.args.self.now) c.self.inside.world.state c.cancel-answer.new.self.state (events.Cancel c.args.draft) (accept_reply c.cancel-answer.result) refl c.cancel-answer.ensures.step
+
+pub returns-then-is_err-clause-touches : goal.returns-then-is_err-clause-touches
+returns-then-is_err-clause-touches g c = rw (← c.self.view_is) refl
+
+pub returns-clause-touches : goal.returns-clause-touches
+returns-clause-touches g c = rw (← c.self.view_is) c.cancel-answer.ensures.touches

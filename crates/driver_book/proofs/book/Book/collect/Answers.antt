@@ -24,3 +24,9 @@ returns-clause-step g c =
 pub returns-clause-memory : goal.returns-clause-memory
 returns-clause-memory g c =
     takes_memory (IsLogFull c.args.self.now) c.self.view_is c.collect-answer.new.self.state (events.Collect c.args.ticket.q c.args.ticket.cid) (collect_reply c.collect-answer.result) c.collect-answer.ensures.step
+
+pub returns-then-is_err-clause-touches : goal.returns-then-is_err-clause-touches
+returns-then-is_err-clause-touches g c = rw (← c.self.view_is) refl
+
+pub returns-clause-touches : goal.returns-clause-touches
+returns-clause-touches g c = rw (← c.self.view_is) c.collect-answer.ensures.touches

@@ -13,13 +13,19 @@ note-requires g c = has_room _ _ c.reserve.result (sym c.is_err.ensures.value �
 
 pub invariant_of-self-2 : goal.invariant_of-self-2
 invariant_of-self-2 g c =
-    keeps_book None (events.DeleteSq c.args.q) (send_reply c.delete_sq-answer.result) c.self.invariant c.delete_sq-answer.ensures (takes_any _ (events.DeleteSq c.args.q) (g.met.L.FullDriver.takes_all)) refl
+    keeps_book None (events.DeleteSq c.args.q) (send_reply c.delete_sq-answer.result) c.self.invariant c.delete_sq-answer.ensures.step (takes_any _ (events.DeleteSq c.args.q) (g.met.L.FullDriver.takes_all)) refl
     (rw (c.note.ensures, c.reserve.ensures.items, c.sent.ensures) refl)
 
 pub returns-clause-step : goal.returns-clause-step
 returns-clause-step g c =
-    does_in c.self.view_is c.delete_sq-answer.new.self.state c.note.new.log.items (vec_capacity c.note.new.log - vec_len c.note.new.log) _ None (events.DeleteSq c.args.q) (send_reply c.delete_sq-answer.result) c.delete_sq-answer.ensures (rw (c.note.ensures, c.reserve.ensures.items, c.sent.ensures) refl)
+    does_in c.self.view_is c.delete_sq-answer.new.self.state c.note.new.log.items (vec_capacity c.note.new.log - vec_len c.note.new.log) _ None (events.DeleteSq c.args.q) (send_reply c.delete_sq-answer.result) c.delete_sq-answer.ensures.step (rw (c.note.ensures, c.reserve.ensures.items, c.sent.ensures) refl)
 
 pub returns-clause-memory : goal.returns-clause-memory
 returns-clause-memory g c =
-    takes_no_memory (IsLogFull c.args.self.now) c.self.inside.world.state c.delete_sq-answer.new.self.state (events.DeleteSq c.args.q) (send_reply c.delete_sq-answer.result) refl c.delete_sq-answer.ensures
+    takes_no_memory (IsLogFull c.args.self.now) c.self.inside.world.state c.delete_sq-answer.new.self.state (events.DeleteSq c.args.q) (send_reply c.delete_sq-answer.result) refl c.delete_sq-answer.ensures.step
+
+pub returns-then-is_err-clause-touches : goal.returns-then-is_err-clause-touches
+returns-then-is_err-clause-touches g c = rw (← c.self.view_is) refl
+
+pub returns-clause-touches : goal.returns-clause-touches
+returns-clause-touches g c = rw (← c.self.view_is) c.delete_sq-answer.ensures.touches

@@ -13,13 +13,19 @@ note-requires g c = has_room _ _ c.reserve.result (sym c.is_err.ensures.value �
 
 pub invariant_of-self-2 : goal.invariant_of-self-2
 invariant_of-self-2 g c =
-    keeps_jobs None (events.Reap c.args.q) (reap_reply c.reap-answer.result) c.self.invariant c.reap-answer.ensures refl refl
+    keeps_jobs None (events.Reap c.args.q) (reap_reply c.reap-answer.result) c.self.invariant c.reap-answer.ensures.step refl refl
     (rw (c.note.ensures, c.reserve.ensures.items, c.reaped.ensures) refl)
 
 pub returns-clause-step : goal.returns-clause-step
 returns-clause-step g c =
-    does_in c.self.view_is c.reap-answer.new.self.state c.note.new.log.items (vec_capacity c.note.new.log - vec_len c.note.new.log) _ None (events.Reap c.args.q) (reap_reply c.reap-answer.result) c.reap-answer.ensures (rw (c.note.ensures, c.reserve.ensures.items, c.reaped.ensures) refl)
+    does_in c.self.view_is c.reap-answer.new.self.state c.note.new.log.items (vec_capacity c.note.new.log - vec_len c.note.new.log) _ None (events.Reap c.args.q) (reap_reply c.reap-answer.result) c.reap-answer.ensures.step (rw (c.note.ensures, c.reserve.ensures.items, c.reaped.ensures) refl)
 
 pub returns-clause-memory : goal.returns-clause-memory
 returns-clause-memory g c =
-    takes_no_memory (IsLogFull c.args.self.now) c.self.inside.world.state c.reap-answer.new.self.state (events.Reap c.args.q) (reap_reply c.reap-answer.result) refl c.reap-answer.ensures
+    takes_no_memory (IsLogFull c.args.self.now) c.self.inside.world.state c.reap-answer.new.self.state (events.Reap c.args.q) (reap_reply c.reap-answer.result) refl c.reap-answer.ensures.step
+
+pub returns-then-is_err-clause-touches : goal.returns-then-is_err-clause-touches
+returns-then-is_err-clause-touches g c = rw (← c.self.view_is) refl
+
+pub returns-clause-touches : goal.returns-clause-touches
+returns-clause-touches g c = rw (← c.self.view_is) c.reap-answer.ensures.touches

@@ -18,3 +18,6 @@ returns-clause-step g c =
 
 pub note-requires : goal.note-requires
 note-requires g c = has_room _ _ c.reserve.result (sym c.is_err.ensures.value ∙ c.if-is_err.false) c.reserve.ensures.ok
+
+pub returns-clause-touches : goal.returns-clause-touches
+returns-clause-touches g c = rw (← c.self.view_is) c.reserve-answer.ensures.touches

@@ -15,3 +15,9 @@ invariant_of-self-2 g c = keeps_book None events.Reset events.Accepted c.self.in
 pub returns-clause-step : goal.returns-clause-step
 returns-clause-step g c =
     does_in c.self.view_is c.reset.new.self.state c.note.new.log.items (vec_capacity c.note.new.log - vec_len c.note.new.log) _ None events.Reset events.Accepted c.reset.ensures.step (rw (c.note.ensures, c.reserve.ensures.items) refl)
+
+pub returns-then-is_err-clause-touches : goal.returns-then-is_err-clause-touches
+returns-then-is_err-clause-touches g c = rw (← c.self.view_is) refl
+
+pub returns-clause-touches : goal.returns-clause-touches
+returns-clause-touches g c = rw (← c.self.view_is) c.reset.ensures.touches

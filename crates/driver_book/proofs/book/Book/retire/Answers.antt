@@ -13,13 +13,19 @@ note-requires g c = has_room _ _ c.reserve.result (sym c.is_err.ensures.value �
 
 pub invariant_of-self-2 : goal.invariant_of-self-2
 invariant_of-self-2 g c =
-    keeps_book None (events.Retire c.args.q) (ring_reply c.retire-answer.result) c.self.invariant c.retire-answer.ensures (takes_any _ (events.Retire c.args.q) (g.met.L.FullDriver.takes_all)) refl
+    keeps_book None (events.Retire c.args.q) (ring_reply c.retire-answer.result) c.self.invariant c.retire-answer.ensures.step (takes_any _ (events.Retire c.args.q) (g.met.L.FullDriver.takes_all)) refl
     (rw (c.note.ensures, c.reserve.ensures.items, c.done.ensures) refl)
 
 pub returns-clause-step : goal.returns-clause-step
 returns-clause-step g c =
-    does_in c.self.view_is c.retire-answer.new.self.state c.note.new.log.items (vec_capacity c.note.new.log - vec_len c.note.new.log) _ None (events.Retire c.args.q) (ring_reply c.retire-answer.result) c.retire-answer.ensures (rw (c.note.ensures, c.reserve.ensures.items, c.done.ensures) refl)
+    does_in c.self.view_is c.retire-answer.new.self.state c.note.new.log.items (vec_capacity c.note.new.log - vec_len c.note.new.log) _ None (events.Retire c.args.q) (ring_reply c.retire-answer.result) c.retire-answer.ensures.step (rw (c.note.ensures, c.reserve.ensures.items, c.done.ensures) refl)
 
 pub returns-clause-memory : goal.returns-clause-memory
 returns-clause-memory g c =
-    takes_no_memory (IsLogFull c.args.self.now) c.self.inside.world.state c.retire-answer.new.self.state (events.Retire c.args.q) (ring_reply c.retire-answer.result) refl c.retire-answer.ensures
+    takes_no_memory (IsLogFull c.args.self.now) c.self.inside.world.state c.retire-answer.new.self.state (events.Retire c.args.q) (ring_reply c.retire-answer.result) refl c.retire-answer.ensures.step
+
+pub returns-then-is_err-clause-touches : goal.returns-then-is_err-clause-touches
+returns-then-is_err-clause-touches g c = rw (← c.self.view_is) refl
+
+pub returns-clause-touches : goal.returns-clause-touches
+returns-clause-touches g c = rw (← c.self.view_is) c.retire-answer.ensures.touches

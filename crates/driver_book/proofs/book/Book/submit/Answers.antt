@@ -48,3 +48,9 @@ returns-then-is_ok-clause-receipt g c =
 pub returns-then-is_ok-clause-memory : goal.returns-then-is_ok-clause-memory
 returns-then-is_ok-clause-memory g c =
     takes_no_memory (IsLogFull c.args.self.now ⊎ AreReceiptsFull c.args.seat.now) c.self.inside.world.state c.submit-answer.new.self.state (events.Submit c.args.draft) (accept_reply c.submit-answer.result) refl c.submit-answer.ensures.step
+
+pub returns-else-is_ok-clause-touches : goal.returns-else-is_ok-clause-touches
+returns-else-is_ok-clause-touches g c = rw (← c.self.view_is) c.submit-answer.ensures.touches
+
+pub returns-then-is_ok-clause-touches : goal.returns-then-is_ok-clause-touches
+returns-then-is_ok-clause-touches g c = rw (← c.self.view_is) c.submit-answer.ensures.touches

@@ -38,7 +38,7 @@ invariant_of-self g c =
     let belongs = belongs-from t.records false d.q d.cid d.request (numbers_of d.data_pages) (numbers_of d.chain_pages) (sym c.has_draft.ensures.told ∙ c.if-not-has_draft.false) in
     let new : Tables = tables_of c.commit_end.new.self c.commit_end.new.store.pages in
     let left = ended_apart t new d.q d.cid (d.data_pages ++ d.chain_pages) c.apart-parts.result.q c.apart-parts.result.cid c.apart-parts.result.pages.items
-    c.apart-parts.ensures.queue c.apart-parts.ensures.identifier c.apart-parts.ensures.pages c.commit_end.ensures in
+    c.apart-parts.ensures.queue c.apart-parts.ensures.identifier c.apart-parts.ensures.pages c.commit_end.ensures.ended in
     let made = cancel_made t new d w c.has_draft.ensures.proper belongs left in
     host_of (tables_of c.commit_end.new.self []) c.commit_end.new.store.pages made.whole
 
@@ -50,7 +50,7 @@ returns-clause-step g c =
     let belongs = belongs-from t.records false d.q d.cid d.request (numbers_of d.data_pages) (numbers_of d.chain_pages) (sym c.has_draft.ensures.told ∙ c.if-not-has_draft.false) in
     let new : Tables = tables_of c.commit_end.new.self c.commit_end.new.store.pages in
     let left = ended_apart t new d.q d.cid (d.data_pages ++ d.chain_pages) c.apart-parts.result.q c.apart-parts.result.cid c.apart-parts.result.pages.items
-    c.apart-parts.ensures.queue c.apart-parts.ensures.identifier c.apart-parts.ensures.pages c.commit_end.ensures in
+    c.apart-parts.ensures.queue c.apart-parts.ensures.identifier c.apart-parts.ensures.pages c.commit_end.ensures.ended in
     let made = cancel_made t new d w c.has_draft.ensures.proper belongs left in
     step_at t new c.args.self.now (events.Cancel d) events.Accepted c.self.view_is made.step
 
@@ -62,6 +62,6 @@ returns-clause-over g c =
     let belongs = belongs-from t.records false d.q d.cid d.request (numbers_of d.data_pages) (numbers_of d.chain_pages) (sym c.has_draft.ensures.told ∙ c.if-not-has_draft.false) in
     let new : Tables = tables_of c.commit_end.new.self c.commit_end.new.store.pages in
     let left = ended_apart t new d.q d.cid (d.data_pages ++ d.chain_pages) c.apart-parts.result.q c.apart-parts.result.cid c.apart-parts.result.pages.items
-    c.apart-parts.ensures.queue c.apart-parts.ensures.identifier c.apart-parts.ensures.pages c.commit_end.ensures in
+    c.apart-parts.ensures.queue c.apart-parts.ensures.identifier c.apart-parts.ensures.pages c.commit_end.ensures.ended in
     let made = cancel_made t new d w c.has_draft.ensures.proper belongs left in
     over_of new made.whole

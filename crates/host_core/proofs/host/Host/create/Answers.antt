@@ -9,6 +9,7 @@ use Rattle.host_core.proofs.Calls.{whole_at, step_at, stays_at}
 use Rattle.host_core.proofs.Creations.{create-refused, created_made}
 use Rattle.host_core.proofs.Granting.{next-lowest}
 use Rattle.host_core.proofs.Keeping.{host_of, over_of}
+use Rattle.host_core.proofs.Touching.{creating_refused, touches_none}
 use Rattle.host_core.proofs.host.Host.create.Goals as goal
 
 pub returns-in-Err-clause-step : goal.returns-in-Err-clause-step
@@ -32,7 +33,7 @@ invariant_of-self g c =
     let w : IsWhole t = whole_at (tables_of c.self.inside.parts []) c.args.self.now c.args.store.now.pages c.self.view_is c.self.invariant c.requires in
     let ready = c.in-Ok.ensures.ready c.args.store.now.pages w in
     let new : Tables = tables_of c.commit_create.new.self c.commit_create.new.store.pages in
-    let made = created_made t new c.args.half c.args.q c.in-Ok.creation.cid c.in-Ok.creation.first w ready c.commit_create.ensures in
+    let made = created_made t new c.args.half c.args.q c.in-Ok.creation.cid c.in-Ok.creation.first w ready c.commit_create.ensures.creates in
     host_of (tables_of c.commit_create.new.self []) c.commit_create.new.store.pages made.whole
 
 pub returns-clause-step : goal.returns-clause-step
@@ -41,7 +42,7 @@ returns-clause-step g c =
     let w : IsWhole t = whole_at (tables_of c.self.inside.parts []) c.args.self.now c.args.store.now.pages c.self.view_is c.self.invariant c.requires in
     let ready = c.in-Ok.ensures.ready c.args.store.now.pages w in
     let new : Tables = tables_of c.commit_create.new.self c.commit_create.new.store.pages in
-    let made = created_made t new c.args.half c.args.q c.in-Ok.creation.cid c.in-Ok.creation.first w ready c.commit_create.ensures in
+    let made = created_made t new c.args.half c.args.q c.in-Ok.creation.cid c.in-Ok.creation.first w ready c.commit_create.ensures.creates in
     step_at t new c.args.self.now (creating c.args.half c.args.q) (events.Sent c.in-Ok.creation.cid) c.self.view_is made.step
 
 pub returns-clause-over : goal.returns-clause-over
@@ -50,7 +51,7 @@ returns-clause-over g c =
     let w : IsWhole t = whole_at (tables_of c.self.inside.parts []) c.args.self.now c.args.store.now.pages c.self.view_is c.self.invariant c.requires in
     let ready = c.in-Ok.ensures.ready c.args.store.now.pages w in
     let new : Tables = tables_of c.commit_create.new.self c.commit_create.new.store.pages in
-    let made = created_made t new c.args.half c.args.q c.in-Ok.creation.cid c.in-Ok.creation.first w ready c.commit_create.ensures in
+    let made = created_made t new c.args.half c.args.q c.in-Ok.creation.cid c.in-Ok.creation.first w ready c.commit_create.ensures.creates in
     over_of new made.whole
 
 pub returns-clause-identifier : goal.returns-clause-identifier
@@ -59,3 +60,6 @@ returns-clause-identifier g c =
     let w : IsWhole t = whole_at (tables_of c.self.inside.parts []) c.args.self.now c.args.store.now.pages c.self.view_is c.self.invariant c.requires in
     let ready = c.in-Ok.ensures.ready c.args.store.now.pages w in
     subst (λ (v : HostView). IsLowest v.host 0 c.in-Ok.creation.cid) c.self.view_is (next-lowest t w 0 c.in-Ok.creation.cid ready.slot.queue ready.slot.at ready.slot.next)
+
+pub returns-in-Err-clause-touches : goal.returns-in-Err-clause-touches
+returns-in-Err-clause-touches g c = rw (creating_refused c.args.half c.args.q c.in-Err.why) (touches_none c.args.store.now)

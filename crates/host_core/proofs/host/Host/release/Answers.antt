@@ -50,7 +50,7 @@ invariant_of-self g c =
     let belongs = read_belongs t.records true d.q d.cid d.request d.data_pages d.chain_pages c.q.result c.cid.result c.request-request.result.now c.split_at.result.0.now c.split_at.result.1.now reads found in
     let new : Tables = tables_of c.commit_end.new.self c.commit_end.new.store.pages in
     let left = ended_apart t new d.q d.cid (d.data_pages ++ d.chain_pages) c.apart-parts.result.q c.apart-parts.result.cid c.apart-parts.result.pages.items
-    c.apart-parts.ensures.queue c.apart-parts.ensures.identifier c.apart-parts.ensures.pages c.commit_end.ensures in
+    c.apart-parts.ensures.queue c.apart-parts.ensures.identifier c.apart-parts.ensures.pages c.commit_end.ensures.ended in
     let made = release_made t new d w are belongs left in
     host_of (tables_of c.commit_end.new.self []) c.commit_end.new.store.pages made.whole
 
@@ -66,7 +66,7 @@ returns-clause-step g c =
     let belongs = read_belongs t.records true d.q d.cid d.request d.data_pages d.chain_pages c.q.result c.cid.result c.request-request.result.now c.split_at.result.0.now c.split_at.result.1.now reads found in
     let new : Tables = tables_of c.commit_end.new.self c.commit_end.new.store.pages in
     let left = ended_apart t new d.q d.cid (d.data_pages ++ d.chain_pages) c.apart-parts.result.q c.apart-parts.result.cid c.apart-parts.result.pages.items
-    c.apart-parts.ensures.queue c.apart-parts.ensures.identifier c.apart-parts.ensures.pages c.commit_end.ensures in
+    c.apart-parts.ensures.queue c.apart-parts.ensures.identifier c.apart-parts.ensures.pages c.commit_end.ensures.ended in
     let made = release_made t new d w are belongs left in
     step_at t new c.args.self.now (events.Release d) events.Accepted c.self.view_is made.step
 
@@ -82,6 +82,6 @@ returns-clause-over g c =
     let belongs = read_belongs t.records true d.q d.cid d.request d.data_pages d.chain_pages c.q.result c.cid.result c.request-request.result.now c.split_at.result.0.now c.split_at.result.1.now reads found in
     let new : Tables = tables_of c.commit_end.new.self c.commit_end.new.store.pages in
     let left = ended_apart t new d.q d.cid (d.data_pages ++ d.chain_pages) c.apart-parts.result.q c.apart-parts.result.cid c.apart-parts.result.pages.items
-    c.apart-parts.ensures.queue c.apart-parts.ensures.identifier c.apart-parts.ensures.pages c.commit_end.ensures in
+    c.apart-parts.ensures.queue c.apart-parts.ensures.identifier c.apart-parts.ensures.pages c.commit_end.ensures.ended in
     let made = release_made t new d w are belongs left in
     over_of new made.whole

@@ -19,13 +19,13 @@ pub reset_commands-requires : goal.reset_commands-requires
 reset_commands-requires g c =
     let t : Tables = tables_of c.self.inside.parts c.args.store.now.pages in
     let w : IsWhole t = whole_at (tables_of c.self.inside.parts []) c.args.self.now c.args.store.now.pages c.self.view_is c.self.invariant c.requires in
-    subst HasPlaces (sym (ap (λ (u : Tables). over_pages u []) c.renew_admin.ensures)) (places-renewed t [] w)
+    subst HasPlaces (sym (ap (λ (u : Tables). over_pages u []) c.renew_admin.ensures.renewed)) (places-renewed t [] w)
 
 pub lose_queues-requires : goal.lose_queues-requires
 lose_queues-requires g c =
     let t : Tables = tables_of c.self.inside.parts c.args.store.now.pages in
     let w : IsWhole t = whole_at (tables_of c.self.inside.parts []) c.args.self.now c.args.store.now.pages c.self.view_is c.self.invariant c.requires in
-    subst ListHalves (sym (c.reset_commands.ensures [] ∙ ap (λ (u : Tables). with_records_reset (over_pages u [])) c.renew_admin.ensures)) (halves-renewed t [] w)
+    subst ListHalves (sym (c.reset_commands.ensures [] ∙ ap (λ (u : Tables). with_records_reset (over_pages u [])) c.renew_admin.ensures.renewed)) (halves-renewed t [] w)
 
 pub invariant_of-self : goal.invariant_of-self
 invariant_of-self g c =
@@ -33,7 +33,7 @@ invariant_of-self g c =
     let t : Tables = tables_of c.self.inside.parts c.args.store.now.pages in
     let w : IsWhole t = whole_at (tables_of c.self.inside.parts []) c.args.self.now c.args.store.now.pages c.self.view_is c.self.invariant c.requires in
     let left : tables_of c.lose_queues.new.self pages ≡ tables_reset t =
-    c.lose_queues.ensures pages ∙ ap with_io_queues_gone (c.reset_commands.ensures pages ∙ ap with_records_reset c.renew_admin.ensures) in
+    c.lose_queues.ensures pages ∙ ap with_io_queues_gone (c.reset_commands.ensures pages ∙ ap with_records_reset c.renew_admin.ensures.renewed) in
     host_of (tables_of c.lose_queues.new.self []) pages (subst IsWhole (sym left) (whole-reset t w))
 
 pub returns-clause-host : goal.returns-clause-host
@@ -42,7 +42,7 @@ returns-clause-host g c =
     let t : Tables = tables_of c.self.inside.parts c.args.store.now.pages in
     let w : IsWhole t = whole_at (tables_of c.self.inside.parts []) c.args.self.now c.args.store.now.pages c.self.view_is c.self.invariant c.requires in
     let left : tables_of c.lose_queues.new.self pages ≡ tables_reset t =
-    c.lose_queues.ensures pages ∙ ap with_io_queues_gone (c.reset_commands.ensures pages ∙ ap with_records_reset c.renew_admin.ensures) in
+    c.lose_queues.ensures pages ∙ ap with_io_queues_gone (c.reset_commands.ensures pages ∙ ap with_records_reset c.renew_admin.ensures.renewed) in
     ap view_of left ∙ (view-reset t w ∙ ap (λ (v : HostView). shown (after_reset (alone v c.args.store.now.pages))) c.self.view_is)
 
 pub returns-clause-over : goal.returns-clause-over
@@ -51,5 +51,5 @@ returns-clause-over g c =
     let t : Tables = tables_of c.self.inside.parts c.args.store.now.pages in
     let w : IsWhole t = whole_at (tables_of c.self.inside.parts []) c.args.self.now c.args.store.now.pages c.self.view_is c.self.invariant c.requires in
     let left : tables_of c.lose_queues.new.self pages ≡ tables_reset t =
-    c.lose_queues.ensures pages ∙ ap with_io_queues_gone (c.reset_commands.ensures pages ∙ ap with_records_reset c.renew_admin.ensures) in
+    c.lose_queues.ensures pages ∙ ap with_io_queues_gone (c.reset_commands.ensures pages ∙ ap with_records_reset c.renew_admin.ensures.renewed) in
     over_of (tables_of c.lose_queues.new.self pages) (subst IsWhole (sym left) (whole-reset t w))

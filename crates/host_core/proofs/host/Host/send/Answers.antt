@@ -10,6 +10,7 @@ use Rattle.host_core.proofs.Calls.{whole_at, step_at, stays_at}
 use Rattle.host_core.proofs.Keeping.{host_of, over_of}
 use Rattle.host_core.proofs.SendChecks.{send-typed}
 use Rattle.host_core.proofs.Sending.{send_made, send-refused}
+use Rattle.host_core.proofs.Touching.{sending_refused, touches_none}
 use Rattle.host_core.proofs.host.Host.send.Goals as goal
 
 pub returns-in-Err-clause-step : goal.returns-in-Err-clause-step
@@ -34,7 +35,7 @@ invariant_of-self g c =
     let w : IsWhole t = whole_at (tables_of c.self.inside.parts []) c.args.self.now c.args.store.now.pages c.self.view_is c.self.invariant c.requires.over in
     let ready = c.in-Ok.ensures.ready c.args.store.now.pages w in
     let new : Tables = tables_of c.commit_send.new.self c.commit_send.new.store.pages in
-    let made = send_made t new c.args.kind c.in-Ok.cid w ready (send-typed c.args.kind c.in-Ok.cid) c.commit_send.ensures in
+    let made = send_made t new c.args.kind c.in-Ok.cid w ready (send-typed c.args.kind c.in-Ok.cid) c.commit_send.ensures.sends in
     host_of (tables_of c.commit_send.new.self []) c.commit_send.new.store.pages made.whole
 
 pub returns-clause-step : goal.returns-clause-step
@@ -43,7 +44,7 @@ returns-clause-step g c =
     let w : IsWhole t = whole_at (tables_of c.self.inside.parts []) c.args.self.now c.args.store.now.pages c.self.view_is c.self.invariant c.requires.over in
     let ready = c.in-Ok.ensures.ready c.args.store.now.pages w in
     let new : Tables = tables_of c.commit_send.new.self c.commit_send.new.store.pages in
-    let made = send_made t new c.args.kind c.in-Ok.cid w ready (send-typed c.args.kind c.in-Ok.cid) c.commit_send.ensures in
+    let made = send_made t new c.args.kind c.in-Ok.cid w ready (send-typed c.args.kind c.in-Ok.cid) c.commit_send.ensures.sends in
     step_at t new c.args.self.now (sending c.args.kind) (events.Sent c.in-Ok.cid) c.self.view_is made.step
 
 pub returns-clause-over : goal.returns-clause-over
@@ -52,7 +53,7 @@ returns-clause-over g c =
     let w : IsWhole t = whole_at (tables_of c.self.inside.parts []) c.args.self.now c.args.store.now.pages c.self.view_is c.self.invariant c.requires.over in
     let ready = c.in-Ok.ensures.ready c.args.store.now.pages w in
     let new : Tables = tables_of c.commit_send.new.self c.commit_send.new.store.pages in
-    let made = send_made t new c.args.kind c.in-Ok.cid w ready (send-typed c.args.kind c.in-Ok.cid) c.commit_send.ensures in
+    let made = send_made t new c.args.kind c.in-Ok.cid w ready (send-typed c.args.kind c.in-Ok.cid) c.commit_send.ensures.sends in
     over_of new made.whole
 
 pub returns-clause-identifier : goal.returns-clause-identifier
@@ -61,3 +62,6 @@ returns-clause-identifier g c =
     let w : IsWhole t = whole_at (tables_of c.self.inside.parts []) c.args.self.now c.args.store.now.pages c.self.view_is c.self.invariant c.requires.over in
     let ready = c.in-Ok.ensures.ready c.args.store.now.pages w in
     subst (λ (v : HostView). IsLowest v.host 0 c.in-Ok.cid) c.self.view_is (next-lowest t w 0 c.in-Ok.cid ready.slot.queue ready.slot.at ready.slot.next)
+
+pub returns-in-Err-clause-touches : goal.returns-in-Err-clause-touches
+returns-in-Err-clause-touches g c = rw (sending_refused c.args.kind c.in-Err.why) (touches_none c.args.store.now)

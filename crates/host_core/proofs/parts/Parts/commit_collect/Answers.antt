@@ -1,13 +1,16 @@
-use Rattle.std.proofs.Common.{◌≡◌, ◌++◌, ap, sym, ◌∙◌, subst}
+use Rattle.std.proofs.Common.{◌≡◌, ◌+◌, ◌++◌, length, arith, ap, sym, ◌∙◌, subst}
+use Rattle.std.proofs.lemmas.List.{length-append}
+use Rattle.io_commands.specs.Values.{FinishedContents}
 use Rattle.machine_model.specs.Memory.{without_pages}
 use Rattle.machine_model.specs.State.{Record}
 use Rattle.host_core.specs.Collecting.{taken_pages}
 use Rattle.host_core.specs.Commands.{CanTake}
 use Rattle.host_core.specs.Parts.{record_of, tables_of}
 use Rattle.host_core.specs.Tables.{Tables}
-use Rattle.host_core.proofs.Collecting.{held_can_take, held_work, collect_enough, collect_made, collected_tables}
+use Rattle.host_core.proofs.Collecting.{held_can_take, held_work, collect_enough, collect_made, collected_tables, length-taken}
 use Rattle.host_core.proofs.Lists.{none_is_not, some_is}
 use Rattle.host_core.proofs.RowRecords.{found-row, no-row}
+use Rattle.host_core.proofs.Touching.{both_parts}
 use Rattle.host_core.proofs.parts.Parts.commit_collect.Goals as goal
 
 pub take_pages-requires-clause-front : goal.take_pages-requires-clause-front
@@ -65,3 +68,13 @@ take_pages-requires-clause-room g c =
 pub unreachable-requires : goal.unreachable-requires
 unreachable-requires g c =
     none_is_not (sym (no-row c.args.self.now.records.rows c.args.q c.args.cid (sym c.in-None.ensures.value)) ∙ c.requires.stands.was)
+
+pub returns-clause-touches : goal.returns-clause-touches
+returns-clause-touches g c =
+    let t : Tables = tables_of c.args.self.now c.args.store.now.pages in
+    let front = c.in-Some.entry.now.data_pages in
+    let back = c.in-Some.entry.now.chain_pages in
+    let behind = without_pages front t.pages in
+    let items = ap length c.take_pages.ensures.items ∙ length-append (taken_pages front t.pages) (taken_pages back behind) in
+    let parts = ap (λ (f : FinishedContents). length f.data_pages + length f.chain_pages) c.make.ensures ∙ both_parts c.args.room.request c.take_pages.new.into.items in
+    omega (arith, c.take_pages.ensures.touches, items, length-taken front t.pages, length-taken back behind, parts)

@@ -29,9 +29,9 @@ unclaim-requires-clause-claimed g c = ended_claimed (tables_of c.args.self.now c
 pub move_in-requires : goal.move_in-requires
 move_in-requires g c = ended_can_put (tables_of c.args.self.now c.args.store.now.pages) c.args.q c.args.cid c.args.pages.items c.requires.whole c.requires.brings
 
-pub returns : goal.returns
-returns g c =
+pub returns-clause-ended : goal.returns-clause-ended
+returns-clause-ended g c =
     let t : Tables = tables_of c.args.self.now c.args.store.now.pages in
     ended_tables t _ c.args.q c.args.cid c.args.pages.items c.move_in.new.store.pages c.give_back_pages.new.self c.unclaim.new.queues.items
     (taken-becomes c.args.self.now c.args.q c.args.cid c.take.result c.take.new.self c.take.ensures.value c.take.ensures.distinct c.take.ensures.rest t.pages)
-    c.move_in.ensures c.give_back_pages.ensures c.unclaim.ensures
+    c.move_in.ensures.pages c.give_back_pages.ensures c.unclaim.ensures

@@ -1,4 +1,5 @@
-use Rattle.std.proofs.Common.{◌≡◌, ◌++◌, ◌∷◌, [], ℕ, List, None, arith, ap, ap₂, sym, ◌∙◌, subst, length}
+use Rattle.std.proofs.Common.{◌≡◌, ◌+◌, ◌++◌, ◌∷◌, [], ℕ, List, None, arith, ap, ap₂, sym, ◌∙◌, subst, length}
+use Rattle.std.proofs.lemmas.List.{length-append}
 use Rattle.io_commands.specs.DataBytes.{PagesOut}
 use Rattle.io_commands.specs.Drafts.{DraftContents}
 use Rattle.io_commands.specs.Least.{pages_with}
@@ -18,6 +19,7 @@ use Rattle.host_core.specs.Parts.{tables_of}
 use Rattle.host_core.specs.Tables.{Tables}
 use Rattle.host_core.proofs.Places.{new-place, new-empty}
 use Rattle.host_core.proofs.Granted.{front-size, back-size, length-zeroed, granted_can_take, made_draft, made_pages, reserved_tables}
+use Rattle.host_core.proofs.Touching.{both_parts}
 use Rattle.host_core.proofs.parts.Parts.commit_reserve.Goals as goal
 
 pub move_out_zeroed-requires-clause-can : goal.move_out_zeroed-requires-clause-can
@@ -121,3 +123,17 @@ pub make-requires-clause-high : goal.make-requires-clause-high
 make-requires-clause-high g c =
     let segment = c.from.ensures ∙ ap (λ (u : Tables). u.segment) (c.add_record.ensures []) in
     omega (arith, segment, c.requires.whole.most_segment)
+
+pub returns-clause-touches : goal.returns-clause-touches
+returns-clause-touches g c =
+    let t : Tables = tables_of c.args.self.now c.args.store.now.pages in
+    let a : List ℕ = first_placed t.owners c.args.grant.front in
+    let b : List ℕ = then_placed t.owners c.args.grant.front c.args.grant.back in
+    let one : c.move_out_zeroed.new.into.items ≡ zeroed_pages a =
+    c.move_out_zeroed.ensures.items ∙ ap₂ (λ (x : PagesOut) (y : List ℕ). x ++ zeroed_pages y) c.requires.pages.0 (c.deref.ensures.value ∙ c.place_command.ensures.front) in
+    let both = c.move_out_zeroed-2.ensures.items ∙ ap₂ (λ (x : PagesOut) (y : List ℕ). x ++ zeroed_pages y) one (c.deref-2.ensures.value ∙ c.place_command.ensures.back) in
+    let front = ap length (c.deref.ensures.value ∙ c.place_command.ensures.front) in
+    let back = ap length (c.deref-2.ensures.value ∙ c.place_command.ensures.back) in
+    let items = ap length both ∙ length-append (zeroed_pages a) (zeroed_pages b) in
+    let parts = ap (λ (d : DraftContents). length d.data_pages + length d.chain_pages) c.make.ensures ∙ both_parts c.args.request c.move_out_zeroed-2.new.into.items in
+    omega (arith, c.move_out_zeroed.ensures.touches, c.move_out_zeroed-2.ensures.touches, front, back, items, length-zeroed a, length-zeroed b, parts)

@@ -16,11 +16,11 @@ post-requires-clause-can g c =
     let t : Tables = tables_of c.args.self.now c.args.store.now.pages in
     send_can_post t (tables_of c.note_sent.new.self c.args.store.now.pages) c.args.kind c.args.cid c.entry.result c.requires.whole c.requires.ready (c.note_sent.ensures c.args.store.now.pages) c.entry.ensures.entry
 
-pub returns : goal.returns
-returns g c =
+pub returns-clause-sends : goal.returns-clause-sends
+returns-clause-sends g c =
     let t : Tables = tables_of c.args.self.now c.args.store.now.pages in
     sends_apart t (tables_of c.note_sent.new.self c.args.store.now.pages) (tables_of c.post.new.self c.post.new.store.pages) (tables_of c.await_deletion.new.self c.post.new.store.pages) c.args.kind c.args.cid c.entry.result
-    (c.note_sent.ensures c.args.store.now.pages) c.entry.ensures.entry c.post.ensures (c.await_deletion.ensures c.post.new.store.pages)
+    (c.note_sent.ensures c.args.store.now.pages) c.entry.ensures.entry c.post.ensures.posts (c.await_deletion.ensures c.post.new.store.pages)
 
 pub note_sent-requires-clause-place : goal.note_sent-requires-clause-place
 note_sent-requires-clause-place g c =

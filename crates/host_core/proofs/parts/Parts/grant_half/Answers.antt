@@ -25,12 +25,12 @@ zero_run-requires-clause-can g c =
     let t : Tables = tables_of c.args.self.now c.args.store.now.pages in
     subst (λ (n : ℕ). CanZero (pages_from c.args.first n) c.args.store.now.pages) (sym c.half_pages-need.ensures) (half-can-zero t c.args.half c.args.first c.requires.whole c.requires.run)
 
-pub returns : goal.returns
-returns g c =
+pub returns-clause-granted : goal.returns-clause-granted
+returns-clause-granted g c =
     let t : Tables = tables_of c.args.self.now c.args.store.now.pages in
     let first : c.in-Some.field-0 ≡ c.args.first =
     some_is (sym c.in-Some.is ∙ (c.grant_run.ensures.lowest ∙ run-lowest t c.args.half c.args.first c.half_pages-need.result c.requires.whole c.half_pages-need.ensures c.requires.run)) in
-    made-granted t c.args.half c.args.q c.args.first c.half_pages-need.result c.zero_run.new.store.pages c.grant_run.new.self _ c.half_pages-need.ensures c.zero_run.ensures
+    made-granted t c.args.half c.args.q c.args.first c.half_pages-need.result c.zero_run.new.store.pages c.grant_run.new.self _ c.half_pages-need.ensures c.zero_run.ensures.pages
     (c.in-Some.ensures.owners ∙ ap (λ (p : ℕ). with_owner t.owners (pages_from p c.half_pages-need.result) (owner.Queue c.args.q c.args.half)) first)
     (change-at c.from.result (making c.args.half c.args.first) t.queues c.index_mut.result.now c.make.new.queue (subst (λ (k : ℕ). k < length t.queues) (sym c.from.ensures) c.requires.there) c.index_mut.ensures.value c.make.ensures
     ∙ ap (λ (k : ℕ). change k (making c.args.half c.args.first) t.queues) c.from.ensures)

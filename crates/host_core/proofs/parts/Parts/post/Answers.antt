@@ -26,8 +26,8 @@ unreachable-requires g c =
     let x : Queue = c.index_mut.result.now in
     post-room t c.args.q x c.args.entry (c.requires.can x (queue-at t c.args.q c.from.result x c.requires.there c.from.ensures c.index_mut.ensures.value)) (c.in-Err.ensures.full.0 refl)
 
-pub returns : goal.returns
-returns g c = λ queue at.
+pub returns-clause-posts : goal.returns-clause-posts
+returns-clause-posts g c = λ queue at.
     let t : Tables = tables_of c.args.self.now c.args.store.now.pages in
     let x : Queue = c.index_mut.result.now in
     let here = queue-at t c.args.q c.from.result x c.requires.there c.from.ensures c.index_mut.ensures.value in

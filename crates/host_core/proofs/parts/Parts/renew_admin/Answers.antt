@@ -30,15 +30,15 @@ zero_run-requires-2-clause-few g c =
 pub zero_run-requires-2-clause-can : goal.zero_run-requires-2-clause-can
 zero_run-requires-2-clause-can g c =
     let t : Tables = tables_of c.args.self.now c.args.store.now.pages in
-    subst (λ (m : Pages). CanZero (pages_from c.first_page-cq.result c.half_pages-2.result) m) (sym c.zero_run.ensures)
+    subst (λ (m : Pages). CanZero (pages_from c.first_page-cq.result c.half_pages-2.result) m) (sym c.zero_run.ensures.pages)
     (run-can_zero t c.requires Completion c.first_page-cq.result c.half_pages-2.result (zeroed_pages (pages_from c.first_page-sq.result c.half_pages.result))
     (admin-run t Completion c.index-2.result.now c.first_page-cq.result c.half_pages-2.result c.requires c.index-2.ensures c.first_page-cq.ensures c.half_pages-2.ensures))
 
-pub returns : goal.returns
-returns g c =
+pub returns-clause-renewed : goal.returns-clause-renewed
+returns-clause-renewed g c =
     let t : Tables = tables_of c.args.self.now c.args.store.now.pages in
     admin-renewed t c.zero_run.new.store.pages c.zero_run-2.new.store.pages c.index_mut.result.now c.reset_admin.new.queue
     c.first_page-sq.result c.half_pages.result c.first_page-cq.result c.half_pages-2.result c.requires
     (admin-run t Submission c.index.result.now c.first_page-sq.result c.half_pages.result c.requires c.index.ensures c.first_page-sq.ensures c.half_pages.ensures)
     (admin-run t Completion c.index-2.result.now c.first_page-cq.result c.half_pages-2.result c.requires c.index-2.ensures c.first_page-cq.ensures c.half_pages-2.ensures)
-    c.zero_run.ensures c.zero_run-2.ensures c.index_mut.ensures.value c.reset_admin.ensures
+    c.zero_run.ensures.pages c.zero_run-2.ensures.pages c.index_mut.ensures.value c.reset_admin.ensures

@@ -3,6 +3,7 @@ use Rattle.machine_model.specs.Events as events
 use Rattle.step_core.specs.Replies.{accept_reply}
 use Rattle.step_core.specs.World.{WorldContents, sides_of}
 use Rattle.step_core.proofs.Steps.{silent_goes, step_from}
+use Rattle.step_core.proofs.Touches.{touches_at}
 use Rattle.step_core.proofs.world.World.release.Goals as goal
 
 pub returns-clause-step : goal.returns-clause-step
@@ -14,3 +15,7 @@ pub invariant_of-self : goal.invariant_of-self
 invariant_of-self g c =
     let old = sides_of c.self.inside.host c.self.inside.controller c.self.inside.store.pages c.self.inside.trusted in
     (silent_goes old (events.Release c.args.finished) (accept_reply c.release.result) c.release.new.self c.release.new.store.pages c.self.invariant refl refl refl c.release.ensures.step c.release.ensures.over).world
+
+pub returns-clause-touches : goal.returns-clause-touches
+returns-clause-touches g c =
+    touches_at c.args.self.now.touches _ c.self.inside.store.unlisted c.release.new.store.unlisted _ c.self.inside.store.touched c.release.new.store.touched (ap (λ (w : WorldContents). w.touches) c.self.view_is) refl c.release.ensures.touches

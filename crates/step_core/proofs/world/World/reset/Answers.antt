@@ -2,6 +2,7 @@ use Rattle.std.proofs.Common.{refl, ap}
 use Rattle.step_core.specs.World.{WorldContents, sides_of}
 use Rattle.step_core.proofs.Resetting.{agree_behind, reset_goes}
 use Rattle.step_core.proofs.Steps.{step_from}
+use Rattle.step_core.proofs.Touches.{touches_at}
 use Rattle.step_core.proofs.world.World.reset.Goals as goal
 
 pub invariant_of-self : goal.invariant_of-self
@@ -18,3 +19,7 @@ pub returns-clause-recovers : goal.returns-clause-recovers
 returns-clause-recovers g c =
     let old = sides_of c.self.inside.host c.self.inside.controller c.self.inside.store.pages c.self.inside.trusted in
     agree_behind (reset_goes old c.reset.new.self c.reset-2.new.self c.reset.new.store.pages c.self.invariant c.reset.ensures.host c.reset.ensures.pages c.reset.ensures.over c.reset-2.ensures) refl
+
+pub returns-clause-touches : goal.returns-clause-touches
+returns-clause-touches g c =
+    touches_at c.args.self.now.touches _ c.self.inside.store.unlisted c.reset.new.store.unlisted _ c.self.inside.store.touched c.reset.new.store.touched (ap (λ (w : WorldContents). w.touches) c.self.view_is) refl c.reset.ensures.touches

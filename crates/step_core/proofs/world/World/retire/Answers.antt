@@ -3,10 +3,11 @@ use Rattle.machine_model.specs.Events as events
 use Rattle.step_core.specs.Replies.{ring_reply}
 use Rattle.step_core.specs.World.{WorldContents, sides_of}
 use Rattle.step_core.proofs.Steps.{silent_goes, step_from}
+use Rattle.step_core.proofs.Touches.{touches_at}
 use Rattle.step_core.proofs.world.World.retire.Goals as goal
 
-pub returns : goal.returns
-returns g c =
+pub returns-clause-step : goal.returns-clause-step
+returns-clause-step g c =
     let old = sides_of c.self.inside.host c.self.inside.controller c.self.inside.store.pages c.self.inside.trusted in
     step_from (silent_goes old (events.Retire c.args.q) (ring_reply c.retire.result) c.retire.new.self c.retire.new.store.pages c.self.invariant refl refl refl c.retire.ensures.step c.retire.ensures.over) (ap (λ (w : WorldContents). w.state) c.self.view_is)
 
@@ -14,3 +15,7 @@ pub invariant_of-self : goal.invariant_of-self
 invariant_of-self g c =
     let old = sides_of c.self.inside.host c.self.inside.controller c.self.inside.store.pages c.self.inside.trusted in
     (silent_goes old (events.Retire c.args.q) (ring_reply c.retire.result) c.retire.new.self c.retire.new.store.pages c.self.invariant refl refl refl c.retire.ensures.step c.retire.ensures.over).world
+
+pub returns-clause-touches : goal.returns-clause-touches
+returns-clause-touches g c =
+    touches_at c.args.self.now.touches _ c.self.inside.store.unlisted c.retire.new.store.unlisted _ c.self.inside.store.touched c.retire.new.store.touched (ap (λ (w : WorldContents). w.touches) c.self.view_is) refl c.retire.ensures.touches
