@@ -1,7 +1,8 @@
 //! The host's steps for jobs that need no seat, each written down, but for one that answers `Memory`: of the book only the spare room of its
 //! log may differ then.
 
-ghost use Rattle.std.specs.Prelude.{◌≡◌, ◌⊎◌, None, IfErr};
+ghost use Rattle.std.specs.Prelude.{◌≡◌, ◌⊎◌, None, IfErr, IfOk};
+ghost use Rattle.host_core.specs.Alone.{HasPlacedPages, IsLowest};
 ghost use Rattle.machine_model.specs.Events as events;
 ghost use Rattle.step_core.specs.Replies.{reserve_reply, accept_reply, collect_reply, ring_reply, reap_reply};
 ghost use Rattle.driver_book.specs.Calls.{Does, WantsMemoryFor, IsLogFull, MayWorldWant};
@@ -34,6 +35,8 @@ impl<L: Driver, A: Allocator + Copy> Book<L, A> {
     pub fn reserve(&mut self, q: u16, request: Request<A>) -> Result<Draft<A>, Refused<Request<A>>>
         ensures step { Does self.old None (events.Reserve q request) (reserve_reply result) self.new }
         ensures touches { Touches self.old.touches (events.Reserve q request) (reserve_reply result) self.new.touches }
+        ensures identifier { IfOk result (λ draft. IsLowest self.old.world.host q draft.cid) }
+        ensures pages { IfOk result (λ draft. HasPlacedPages self.old.world.host draft) }
         ensures back { IfErr result (λ r. r.value ≡ request) }
     {
         if self.log.reserve(1).is_err() {

@@ -1,6 +1,7 @@
 //! I/O commands: a request becomes a draft, a ticket and a finished command.
 
 ghost use Rattle.std.specs.Prelude.{◌≡◌, IfOk, IfErr};
+ghost use Rattle.host_core.specs.Alone.{HasPlacedPages, IsLowest};
 ghost use Rattle.machine_model.specs.Events as events;
 ghost use Rattle.machine_model.specs.Step.{Step};
 ghost use Rattle.step_core.specs.Replies.{reserve_reply, accept_reply, collect_reply};
@@ -12,8 +13,9 @@ use io_commands::{Draft, Finished, Request, Ticket};
 use std::alloc::Allocator;
 
 impl<A: Allocator + Copy> World<A> {
-    /// Reserves for a request an identifier of the queue that no outstanding command has, and free pages: one for each data piece, and
-    /// those of its chain. They are out of the store, and hold zeros.
+    /// Reserves for a request an identifier of the queue, the lowest that no outstanding command has, and free pages: one for each data piece,
+    /// and those of its chain, each in the lowest run of consecutive free pages where there is one, else in the lowest free pages. They are
+    /// out of the store, and hold zeros.
     ///
     /// # Errors
     ///
@@ -24,6 +26,8 @@ impl<A: Allocator + Copy> World<A> {
     pub fn reserve(&mut self, q: u16, request: Request<A>) -> Result<Draft<A>, Refused<Request<A>>>
         ensures step { Step self.old.state (events.Reserve q request) (reserve_reply result) self.new.state }
         ensures touches { Touches self.old.touches (events.Reserve q request) (reserve_reply result) self.new.touches }
+        ensures identifier { IfOk result (λ draft. IsLowest self.old.state.host q draft.cid) }
+        ensures pages { IfOk result (λ draft. HasPlacedPages self.old.state.host draft) }
         ensures back { IfErr result (λ r. r.value ≡ request) }
     {
         self.host.reserve(&mut self.store, q, request)
