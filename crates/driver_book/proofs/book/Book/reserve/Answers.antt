@@ -1,6 +1,8 @@
-use Rattle.std.proofs.Common.{◌≡◌, ◌-◌, vec_capacity, vec_len, None, refl, sym, ◌∙◌}
+use Rattle.std.proofs.Common.{◌≡◌, ◌-◌, vec_capacity, vec_len, None, IfOk, refl, subst, sym, ◌∙◌}
 use Rattle.machine_model.specs.Events as events
 use Rattle.step_core.specs.Replies.{reserve_reply}
+use Rattle.host_core.specs.Alone.{IsLowest}
+use Rattle.driver_book.specs.State.{BookContents}
 use Rattle.driver_book.proofs.Runs.{does_in, has_room, keeps_jobs}
 use Rattle.driver_book.proofs.book.Book.reserve.Goals as goal
 
@@ -21,3 +23,7 @@ note-requires g c = has_room _ _ c.reserve.result (sym c.is_err.ensures.value �
 
 pub returns-clause-touches : goal.returns-clause-touches
 returns-clause-touches g c = rw (← c.self.view_is) c.reserve-answer.ensures.touches
+
+pub returns-clause-identifier : goal.returns-clause-identifier
+returns-clause-identifier g c =
+    subst (λ (b : BookContents). IfOk c.reserve-answer.result (λ draft. IsLowest b.world.host c.args.q draft.cid)) c.self.view_is c.reserve-answer.ensures.identifier
