@@ -12,9 +12,9 @@ use Rattle.machine_agreement.proofs.InOrders.{opens_in_order, order_kept}
 use Rattle.machine_agreement.proofs.Agreed.{agreed_stays}
 use Rattle.step_core.specs.Going.{forges_by}
 use Rattle.step_core.specs.Opening.{opening_of}
-use Rattle.driver_book.specs.History.{asked, told, TellsOf, LeadsTo}
+use Rattle.step_log.specs.History.{asked, told, draft_of, TellsOf, LeadsTo}
 use Rattle.driver_book.specs.Laws.{IsEntryOf, is_forgery, entries_name_allowed_pages, logs_are_trusted_runs}
-use Rattle.driver_book.specs.Values.{Entry}
+use Rattle.step_log.specs.Values.{Entry}
 
 -- one step more
 pub leads_further : (old mid new : State) (log : List Entry) (e : Entry) → LeadsTo old log mid → TellsOf mid e new → LeadsTo old (log ++ e ∷ []) new
@@ -63,6 +63,10 @@ told_by : (old new : State) (log : List Entry) (leads : LeadsTo old log new) →
 told_by old new [] same = refl
 told_by old new (e ∷ log) (next, tells, rest) = rw (tells.tells, told_by next new log rest) refl
 
+drafts_by : (old new : State) (log : List Entry) (leads : LeadsTo old log new) → map (λ e. e.draft) log ≡ map (λ m. draft_of m.event m.reply) (made_by old new log leads)
+drafts_by old new [] same = refl
+drafts_by old new (e ∷ log) (next, tells, rest) = rw (tells.drafts, drafts_by next new log rest) refl
+
 same_forgery : (e : Event) (r : Reply) → forges_by (asked e) (told r) ≡ laws.forges_by e r
 same_forgery (events.Forge q slot bytes) events.Accepted = refl
 same_forgery e r = refl
@@ -78,6 +82,7 @@ logs_are_runs config image log world opens is_image leads unforged =
       made = made_by (opening_of config image) world log leads;
       happened = asked_by (opening_of config image) world log leads;
       answered = told_by (opening_of config image) world log leads;
+      drafts = drafts_by (opening_of config image) world log leads;
       run = record {
         pages = config.pages;
         queues = config.queues;

@@ -7,9 +7,9 @@ use Rattle.io_commands.specs.Values.{FinishedContents, TicketContents}
 use Rattle.machine_model.specs.State.{State}
 use Rattle.host_core.specs.declared.refused.Refused.{Refused}
 use Rattle.driver_book.specs.Calls.{receipt, is_open_for, settled, settled_at, status_at, Receives, Settles}
-use Rattle.driver_book.specs.History.{accepted}
+use Rattle.step_log.specs.History.{accepted}
 use Rattle.driver_book.specs.State.{SeatContents}
-use Rattle.driver_book.specs.Values.{Entry}
+use Rattle.step_log.specs.Values.{Entry}
 use Rattle.driver_book.specs.declared.log.Receipt.{Receipt}
 
 -- a seat with one receipt more

@@ -6,8 +6,8 @@ use Rattle.std.proofs.lemmas.Option.{get_or_from_slice_get, slice_get-get_or}
 use Rattle.std.proofs.lemmas.List.Sums.{count_by_more_yes, count_by_more_no}
 use Rattle.entry_codec.specs.declared.status.Status.{Status}
 use Rattle.machine_agreement.proofs.Members.{all_at}
-use Rattle.driver_book.specs.Values.{Entry}
-use Rattle.driver_book.specs.History.{is_accepted, accepted}
+use Rattle.step_log.specs.Values.{Entry}
+use Rattle.step_log.specs.History.{is_accepted, accepted}
 use Rattle.driver_book.specs.State.{SeatContents, is_seated, AreSeated}
 use Rattle.driver_book.specs.Close.{same_seat, has, stands, StandBefore, accepted_of, IsMissing}
 use Rattle.driver_book.specs.Passes.{is_known, AreKnown, StandOf, IsMissingAt}
@@ -23,6 +23,10 @@ same_seat_is (Some a) (Some b) same = ap (λ (n : ℕ). Some n) (eqb-true a b sa
 same_itself : (seat : Option ℕ) → same_seat seat seat ≡ true
 same_itself None = refl
 same_itself (Some n) = eq-eqb n n refl
+
+-- what stands at a place
+pub here_at : (log : List Entry) (p : ℕ) (x : Entry) → slice_get log p ≡ Some x → x ≡ get_or log p x
+here_at log p x get = sym (get_or_from_slice_get log p x x get)
 
 -- One seat's place in the log: how many submissions came before, and how many of its own; those stand.
 pub record Passed (log : List Entry) (seats : List SeatContents) (seat : Option ℕ) (p number place : ℕ) : Type 0 where

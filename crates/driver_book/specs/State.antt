@@ -3,12 +3,12 @@ use Rattle.std.specs.Prelude.{◌≡◌, ℕ, ◌+◌, ◌≤◌, List, Bool, tr
 use Rattle.std.specs.List.{AllByRecursion}
 use Rattle.machine_model.specs.Claims.{IsSound}
 use Rattle.machine_model.specs.State.{State}
-use Rattle.driver_book.specs.History.{LeadsTo, is_accepted, accepted}
-use Rattle.driver_book.specs.Values.{Entry}
+use Rattle.step_log.specs.History.{LeadsTo, is_accepted, accepted}
+use Rattle.step_log.specs.Values.{Entry, Room}
 use Rattle.driver_book.specs.declared.log.Receipt.{Receipt}
 
 -- A book: the world as it was opened and as it is, how many pages were touched so far, the log between, how many seats were made, how many of them no close took, how many
--- submissions the others had, whether the workers are told to stop, and how many entries the log takes before it has to grow.
+-- submissions the others had, whether the workers are told to stop, and how much the log takes before it has to grow.
 pub record BookContents : Type 0 where
   pub opening : State
   pub world : State
@@ -18,7 +18,7 @@ pub record BookContents : Type 0 where
   pub out : ℕ
   pub taken : ℕ
   pub stopping : Bool
-  pub spare : ℕ
+  pub room : Room
 
 -- A seat: its number, its receipts, and how many more of them it takes before their list has to grow.
 pub record SeatContents : Type 0 where

@@ -1,6 +1,6 @@
-use Rattle.std.proofs.Common.{◌≡◌, inl, inr, ◌<◌, length, vec_len, true, false, eqb-true, arith, ap, sym, ◌∙◌, subst}
+use Rattle.std.proofs.Common.{◌≡◌, refl, inl, inr, ◌<◌, length, vec_len, true, false, eqb-true, arith, ap, sym, ◌∙◌, subst}
 use Rattle.driver_book.specs.Close.{AllStand, RefusesClose, has_open, receipts_of}
-use Rattle.driver_book.specs.History.{accepted}
+use Rattle.step_log.specs.History.{accepted}
 use Rattle.driver_book.specs.State.{BookContents}
 use Rattle.driver_book.specs.declared.log.CloseFault.TheVariants.{Missing, SeatOut, StillOut, Memory}
 use Rattle.driver_book.proofs.Closing.{all_parts_back, closed_book, closes_book, missing_in, not_none, stand_in, wanted}
@@ -9,10 +9,10 @@ use Rattle.driver_book.proofs.book.Book.close.Goals as goal
 
 pub returns-clause-no_more : goal.returns-clause-no_more
 returns-clause-no_more g c =
-    let enough = enough_receipts c.as_slice.result.now c.as_slice-2.result.now c.in_default.ensures in
-    let log : accepted c.as_slice.result.now ≡ accepted c.self.inside.log.items = ap accepted c.as_slice.ensures.value in
-    let opened : accepted c.self.inside.log.items ≡ accepted c.args.self.now.log = ap (λ s. accepted s.log) c.self.view_is in
-    let seats : receipts_of c.as_slice-2.result.now ≡ receipts_of c.args.seats.items = ap receipts_of c.as_slice-2.ensures.value in
+    let enough = enough_receipts c.self.inside.log.entries c.as_slice.result.now c.in_default.ensures in
+    let log : accepted c.self.inside.log.entries ≡ accepted c.self.inside.log.entries = ap accepted refl in
+    let opened : accepted c.self.inside.log.entries ≡ accepted c.args.self.now.log = ap (λ s. accepted s.log) c.self.view_is in
+    let seats : receipts_of c.as_slice.result.now ≡ receipts_of c.args.seats.items = ap receipts_of c.as_slice.ensures.value in
     let bound = c.audit.ensures.bound in
     let amount = c.take_in.ensures.amount in
     omega (arith, enough, log, seats, opened, bound, amount, c.self.invariant.counted)
@@ -20,35 +20,35 @@ returns-clause-no_more g c =
 pub returns-in-Some-clause-cause : goal.returns-in-Some-clause-cause
 returns-in-Some-clause-cause g c =
     subst (λ (b : BookContents). RefusesClose (Missing c.in-Some.seat c.in-Some.number) b c.args.seats.items) c.self.view_is
-    (missing_in c.in-Some.seat c.in-Some.number c.as_slice.ensures.value c.as_slice-2.ensures.value c.in-Some.ensures)
+    (missing_in c.in-Some.seat c.in-Some.number refl c.as_slice.ensures.value c.in-Some.ensures)
 
 pub returns-then-len-from-clause-cause : goal.returns-then-len-from-clause-cause
 returns-then-len-from-clause-cause g c =
-    let long : length c.args.seats.items ≡ vec_len c.args.seats = ap length (sym c.as_slice-2.ensures.value) ∙ c.as_slice-2.ensures.len in
+    let long : length c.args.seats.items ≡ vec_len c.args.seats = ap length (sym c.as_slice.ensures.value) ∙ c.as_slice.ensures.len in
     subst (λ (b : BookContents). RefusesClose SeatOut b c.args.seats.items) c.self.view_is
-    (stand_in c.as_slice.ensures.value c.as_slice-2.ensures.value c.in_default.ensures, omega (arith, long, c.if-len-from.true, c.len.ensures, c.from.ensures))
+    (stand_in refl c.as_slice.ensures.value c.in_default.ensures, omega (arith, long, c.if-len-from.true, c.len.ensures, c.from.ensures))
 
 pub returns-then-any_open-clause-cause : goal.returns-then-any_open-clause-cause
 returns-then-any_open-clause-cause g c =
-    let long : length c.args.seats.items ≡ vec_len c.args.seats = ap length (sym c.as_slice-2.ensures.value) ∙ c.as_slice-2.ensures.len in
-    let is_open : has_open c.args.seats.items ≡ true = ap has_open (sym c.as_slice-3.ensures.value) ∙ sym c.any_open.ensures ∙ c.if-any_open.true in
+    let long : length c.args.seats.items ≡ vec_len c.args.seats = ap length (sym c.as_slice.ensures.value) ∙ c.as_slice.ensures.len in
+    let is_open : has_open c.args.seats.items ≡ true = ap has_open (sym c.as_slice-2.ensures.value) ∙ sym c.any_open.ensures ∙ c.if-any_open.true in
     subst (λ (b : BookContents). RefusesClose StillOut b c.args.seats.items) c.self.view_is
-    (stand_in c.as_slice.ensures.value c.as_slice-2.ensures.value c.in_default.ensures, omega (arith, long, c.if-len-from.false, c.len.ensures, c.from.ensures), inl is_open)
+    (stand_in refl c.as_slice.ensures.value c.in_default.ensures, omega (arith, long, c.if-len-from.false, c.len.ensures, c.from.ensures), inl is_open)
 
 pub returns-then-not-is_idle-clause-cause : goal.returns-then-not-is_idle-clause-cause
 returns-then-not-is_idle-clause-cause g c =
-    let long : length c.args.seats.items ≡ vec_len c.args.seats = ap length (sym c.as_slice-2.ensures.value) ∙ c.as_slice-2.ensures.len in
+    let long : length c.args.seats.items ≡ vec_len c.args.seats = ap length (sym c.as_slice.ensures.value) ∙ c.as_slice.ensures.len in
     subst (λ (b : BookContents). RefusesClose StillOut b c.args.seats.items) c.self.view_is
-    (stand_in c.as_slice.ensures.value c.as_slice-2.ensures.value c.in_default.ensures, omega (arith, long, c.if-len-from.false, c.len.ensures, c.from.ensures), inr (not_none (length c.self.inside.world.state.host.records) (sym c.is_idle.ensures ∙ c.if-not-is_idle.true)))
+    (stand_in refl c.as_slice.ensures.value c.in_default.ensures, omega (arith, long, c.if-len-from.false, c.len.ensures, c.from.ensures), inr (not_none (length c.self.inside.world.state.host.records) (sym c.is_idle.ensures ∙ c.if-not-is_idle.true)))
 
 pub returns-in_default-with_capacity-clause-cause : goal.returns-in_default-with_capacity-clause-cause
 returns-in_default-with_capacity-clause-cause g c =
-    let long : length c.args.seats.items ≡ vec_len c.args.seats = ap length (sym c.as_slice-2.ensures.value) ∙ c.as_slice-2.ensures.len in
-    let shut : has_open c.args.seats.items ≡ false = ap has_open (sym c.as_slice-3.ensures.value) ∙ sym c.any_open.ensures ∙ c.if-any_open.false in
+    let long : length c.args.seats.items ≡ vec_len c.args.seats = ap length (sym c.as_slice.ensures.value) ∙ c.as_slice.ensures.len in
+    let shut : has_open c.args.seats.items ≡ false = ap has_open (sym c.as_slice-2.ensures.value) ∙ sym c.any_open.ensures ∙ c.if-any_open.false in
     let idle : length c.self.inside.world.state.host.records ≡ 0 = eqb-true (length c.self.inside.world.state.host.records) 0 (sym c.is_idle.ensures ∙ c.if-not-is_idle.false) in
     let some : 0 < c.len-2.result = wanted c.len-2.result c.with_capacity.result c.with_capacity.ensures.succeeds c.in_default-with_capacity.is in
     subst (λ (b : BookContents). RefusesClose Memory b c.args.seats.items) c.self.view_is
-    (stand_in c.as_slice.ensures.value c.as_slice-2.ensures.value c.in_default.ensures, omega (arith, long, c.if-len-from.false, c.len.ensures, c.from.ensures), (shut, idle), omega (arith, long, some, c.len-2.ensures))
+    (stand_in refl c.as_slice.ensures.value c.in_default.ensures, omega (arith, long, c.if-len-from.false, c.len.ensures, c.from.ensures), (shut, idle), omega (arith, long, some, c.len-2.ensures))
 
 pub invariant_of-self : goal.invariant_of-self
 invariant_of-self g c =
@@ -57,7 +57,7 @@ invariant_of-self g c =
 
 pub returns-clause-stand : goal.returns-clause-stand
 returns-clause-stand g c =
-    subst (λ (b : BookContents). AllStand b.log c.args.seats.items) c.self.view_is (stand_in c.as_slice.ensures.value c.as_slice-2.ensures.value c.in_default.ensures)
+    subst (λ (b : BookContents). AllStand b.log c.args.seats.items) c.self.view_is (stand_in refl c.as_slice.ensures.value c.in_default.ensures)
 
 pub returns-clause-book : goal.returns-clause-book
 returns-clause-book g c =
