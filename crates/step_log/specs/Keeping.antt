@@ -1,5 +1,5 @@
 -- How a log keeps its entries: the pieces of their requests in one list and the numbers of their pages in another, of which each names its part.
-use Rattle.std.specs.Prelude.{ℕ, ◌≤◌, List, [], map, Option, Some, None, slice_range}
+use Rattle.std.specs.Prelude.{ℕ, ◌≤◌, List, [], Option, Some, None, slice_range}
 use Rattle.std.specs.Option.{option_map}
 use Rattle.std.specs.List.{AllByRecursion}
 use Rattle.io_commands.specs.Asked.{Request}

@@ -22,10 +22,10 @@ pub record LogContents : Type 0 where
   pub room : Room
 
 -- there is room for one entry, with so many pieces and so many pages
-pub record Takes (room : Room) (pieces pages : ℕ) : Type 0 where
+pub record Takes (room : Room) (wanted_pieces wanted_pages : ℕ) : Type 0 where
   pub entry : 1 ≤ room.entries
-  pub pieces : pieces ≤ room.pieces
-  pub pages : pages ≤ room.pages
+  pub pieces : wanted_pieces ≤ room.pieces
+  pub pages : wanted_pages ≤ room.pages
 
 -- one of the three has too little room for that
 abbrev pub Lacks : Room → ℕ → ℕ → Type 0

@@ -8,7 +8,7 @@ ghost use Rattle.step_log.specs.Values.{Takes, Lacks, left, answered};
 
 use crate::entry::{Entry, KeptEntry, KeptStep, NoBytes};
 use crate::keep::{keep_draft, keep_request, same_request};
-use crate::shown::{shown_entry, ShownEntry};
+use crate::shown::{ShownEntry, shown_entry};
 use io_commands::{Draft, Piece, Request};
 use page_memory::PageNo;
 use std::alloc::{AllocError, Allocator, Global};
@@ -144,8 +144,8 @@ impl<A: Allocator> Log<A> {
         ensures entries { self.new.entries ≡ answered answer self.old.entries }
         ensures room { self.new.room ≡ self.old.room }
     {
-        if let Some(last) = self.kept.last_mut() {
-            last.answer = answer;
+        if let Some(last) = self.kept.pop() {
+            self.kept.push_reserved(Entry { answer, ..last });
         }
     }
 

@@ -3,7 +3,9 @@
 ghost use Rattle.std.specs.Prelude.{◌≡◌, length};
 ghost use Rattle.step_log.specs.Keeping.{part_of, shown_request as spec_shown_request, shown_step as spec_shown_step, shown_draft as spec_shown_draft, shown as spec_shown, FitsIn, StepFits, EntryFits};
 
-use crate::entry::{Entry, KeptDraft, KeptEntry, KeptRequest, KeptStep, LoggedDraft, NoBytes, Span};
+use crate::entry::{
+    Entry, KeptDraft, KeptEntry, KeptRequest, KeptStep, LoggedDraft, NoBytes, Span,
+};
 use io_commands::{Piece, RequestOf};
 use page_memory::PageNo;
 use std::marker::Model;
@@ -63,10 +65,7 @@ pub type ShownStep<'a> = Step<RequestOf<PieceList<'a>>, NoBytes>;
 pub type ShownEntry<'a> = Entry<RequestOf<PieceList<'a>>, NoBytes, PageNumbers<'a>>;
 
 /// A request that stands in a list of pieces.
-fn shown_request<'a>(
-    pieces: &'a [Piece],
-    request: &KeptRequest,
-) -> RequestOf<PieceList<'a>>
+fn shown_request<'a>(pieces: &'a [Piece], request: &KeptRequest) -> RequestOf<PieceList<'a>>
     requires { FitsIn (length pieces.now) request.now.pieces }
     ensures { result ≡ spec_shown_request pieces.now request.now }
 {
@@ -97,8 +96,15 @@ fn shown_step<'a>(pieces: &'a [Piece], step: &KeptStep) -> ShownStep<'a>
     ensures { result ≡ spec_shown_step pieces.now step.now }
 {
     match step {
-        Step::Reserve { q, request } => Step::Reserve { q: *q, request: shown_request(pieces, request) },
-        Step::Fill { q, cid, bytes } => Step::Fill { q: *q, cid: *cid, bytes: *bytes },
+        Step::Reserve { q, request } => Step::Reserve {
+            q: *q,
+            request: shown_request(pieces, request),
+        },
+        Step::Fill { q, cid, bytes } => Step::Fill {
+            q: *q,
+            cid: *cid,
+            bytes: *bytes,
+        },
         Step::Build { q, cid } => Step::Build { q: *q, cid: *cid },
         Step::Submit { q, cid } => Step::Submit { q: *q, cid: *cid },
         Step::Cancel { q, cid } => Step::Cancel { q: *q, cid: *cid },
@@ -116,7 +122,11 @@ fn shown_step<'a>(pieces: &'a [Piece], step: &KeptStep) -> ShownStep<'a>
         Step::CreateCq { q } => Step::CreateCq { q: *q },
         Step::CreateSq { q } => Step::CreateSq { q: *q },
         Step::Retire { q } => Step::Retire { q: *q },
-        Step::Forge { q, slot, bytes } => Step::Forge { q: *q, slot: *slot, bytes: *bytes },
+        Step::Forge { q, slot, bytes } => Step::Forge {
+            q: *q,
+            slot: *slot,
+            bytes: *bytes,
+        },
         Step::Reset => Step::Reset,
     }
 }
@@ -126,18 +136,39 @@ fn shown_answer(answer: &Reply<NoBytes>) -> Reply<NoBytes>
     ensures { result ≡ answer.now }
 {
     match answer {
-        Reply::Reserved { q, cid, data, chain } => Reply::Reserved { q: *q, cid: *cid, data: *data, chain: *chain },
+        Reply::Reserved {
+            q,
+            cid,
+            data,
+            chain,
+        } => Reply::Reserved {
+            q: *q,
+            cid: *cid,
+            data: *data,
+            chain: *chain,
+        },
         Reply::Accepted => Reply::Accepted,
-        Reply::Fetched { cid, touched } => Reply::Fetched { cid: *cid, touched: touched.copied() },
-        Reply::Walked { state, touched } => Reply::Walked { state: *state, touched: touched.copied() },
-        Reply::Completed { touched } => Reply::Completed { touched: touched.copied() },
+        Reply::Fetched { cid, touched } => Reply::Fetched {
+            cid: *cid,
+            touched: touched.copied(),
+        },
+        Reply::Walked { state, touched } => Reply::Walked {
+            state: *state,
+            touched: touched.copied(),
+        },
+        Reply::Completed { touched } => Reply::Completed {
+            touched: touched.copied(),
+        },
         Reply::Reaps(what) => Reply::Reaps(*what),
         Reply::Collected(status) => Reply::Collected(*status),
         Reply::Gathered(bytes) => Reply::Gathered(*bytes),
         Reply::Sent { cid } => Reply::Sent { cid: *cid },
         Reply::NoValue => Reply::NoValue,
         Reply::NotFilled(why) => Reply::NotFilled(*why),
-        Reply::Refused { why, touched } => Reply::Refused { why: *why, touched: touched.copied() },
+        Reply::Refused { why, touched } => Reply::Refused {
+            why: *why,
+            touched: touched.copied(),
+        },
     }
 }
 
