@@ -1,5 +1,5 @@
 -- A log that grows by a step.
-use Rattle.std.proofs.Common.{◌≡◌, ◌⊎◌, inl, inr, ℕ, ◌+◌, ◌-◌, ◌<◌, ◌≤◌, List, [], ◌∷◌, ◌++◌, Option, Some, None, Bool, true, false, not, ◌||◌, cond, Result, Ok, Err, is_ok, is_err, OnOk, OnErr, IfOk, IfErr, length, true≢false, refl, sym, ap, ◌∙◌, arith}
+use Rattle.std.proofs.Common.{◌≡◌, ◌⊎◌, inl, inr, ℕ, ◌+◌, ◌-◌, ◌<◌, ◌≤◌, List, [], ◌∷◌, ◌++◌, Option, Some, None, Bool, true, false, not, ◌||◌, cond, Result, Ok, Err, is_ok, is_err, OnOk, OnErr, IfOk, IfErr, length, true≢false, refl, sym, ap, ◌∙◌, subst, arith}
 use Rattle.std.proofs.lemmas.List.{append-nil}
 use Rattle.std.proofs.lemmas.List.Sums.{sum_by_push}
 use Rattle.std.specs.Prelude.{is_some, MatchBool}
@@ -16,7 +16,7 @@ use Rattle.machine_model.specs.Refusals.{refusal_of}
 use Rattle.machine_model.specs.Step as machine
 use Rattle.machine_model.specs.declared.words.Refusal.{Refusal}
 use Rattle.machine_model.specs.declared.words.Refusal.TheVariants as refusal
-use Rattle.driver_book.specs.Calls.{noted, entries, Does, WantsMemoryFor, IsLogFull, MayWorldWant, most_of, most_pages}
+use Rattle.driver_book.specs.Calls.{noted, entries, Does, WantsMemoryFor, IsLogFull, MayWorldWant, LacksRoomToReserve, most_of, most_pages}
 use Rattle.machine_model.proofs.Headline.{steps_keep, runs_are_sound}
 use Rattle.driver_book.proofs.Histories.{leads_further}
 use Rattle.step_log.specs.History.{asked, told, logged, draft_of, entry, entry_of, is_submission, is_accepted, accepted}
@@ -218,6 +218,18 @@ pub log_lacks : {A E : Type 0} {at old : BookContents} → at ≡ old → (piece
 log_lacks same pieces pages (Ok done) is lacks = absurd (true≢false (sym is))
 log_lacks same pieces pages (Err e) is lacks = rw (← same) lacks
 
+-- so of a reservation, whose numbers the code found
+pub lacks_to_reserve : {at old : BookContents} → at ≡ old → (q : ℕ) (r : Request) (p n : ℕ) → p ≡ length r.pieces → n ≡ most_pages at.world q r → Lacks old.room p n → LacksRoomToReserve old q r
+lacks_to_reserve {old = old} same q r p n pieces pages lacks =
+    let there : n ≡ most_pages old.world q r = pages ∙ ap (λ (b : BookContents). most_pages b.world q r) same in
+    subst (λ (m : ℕ). Lacks old.room (length r.pieces) m) there (subst (λ (k : ℕ). Lacks old.room k n) pieces lacks)
+
+pub takes_as : (room : Room) (p n k m : ℕ) → p ≡ k → n ≡ m → Takes room p n → Takes room k m
+takes_as room p n k m pieces pages takes = subst (λ (x : ℕ). Takes room k x) pages (subst (λ (x : ℕ). Takes room x n) pieces takes)
+
+pub lacks_as : (room : Room) (p n k m : ℕ) → p ≡ k → n ≡ m → Lacks room p n → Lacks room k m
+lacks_as room p n k m pieces pages lacks = subst (λ (x : ℕ). Lacks room k x) pages (subst (λ (x : ℕ). Lacks room x n) pieces lacks)
+
 no_entry : (room : Room) → Lacks room 0 0 → room.entries ≡ 0
 no_entry room (inl none) = none
 no_entry room (inr (inl few)) = absurd (omega (arith, few))
@@ -239,31 +251,31 @@ submission_noted seat s new d (events.Refused why touched) step = refl
 submission_noted seat s new d r step = refl
 
 -- as it is written before it is made, and says then what was answered
-pub submission_written : (seat : Option ℕ) (d : DraftContents) (answer : Result TicketContents (Refused DraftContents)) {log : List Entry} {first now : LogContents}
+pub submission_written : (seat : Option ℕ) (d : DraftContents) (answer : Result TicketContents (Refused DraftContents)) (log : List Entry) (first now : LogContents)
     → first.entries ≡ log ++ entry_of seat (events.Submit d) events.Accepted ∷ [] → OnOk answer (now ≡ first)
     → IfErr answer (λ r. now.entries ≡ answered (told (events.Refused r.why [])) first.entries)
     → now.entries ≡ log ++ entry_of seat (events.Submit d) (accept_reply answer) ∷ []
-submission_written seat d (Ok ticket) written same refused = rw same written
-submission_written seat d (Err r) {log = log} written same refused =
+submission_written seat d (Ok ticket) log first now written same refused = rw same written
+submission_written seat d (Err r) log first now written same refused =
     refused ∙ ap (λ (es : List Entry). answered (told (events.Refused r.why [])) es) written ∙ answered_last (told (events.Refused r.why [])) log (entry_of seat (events.Submit d) events.Accepted)
 
-pub submission_entries : (seat : Option ℕ) (s new : State) (d : DraftContents) (answer : Result TicketContents (Refused DraftContents)) {log : List Entry} {first now : LogContents}
+pub submission_entries : (seat : Option ℕ) (s new : State) (d : DraftContents) (answer : Result TicketContents (Refused DraftContents)) (log : List Entry) (first now : LogContents)
     → machine.Step s (events.Submit d) (accept_reply answer) new → first.entries ≡ log ++ entry_of seat (events.Submit d) events.Accepted ∷ [] → OnOk answer (now ≡ first)
     → IfErr answer (λ r. now.entries ≡ answered (told (events.Refused r.why [])) first.entries)
     → now.entries ≡ log ++ entries seat (asked (events.Submit d)) (draft_of (events.Submit d) (accept_reply answer)) (noted (accept_reply answer))
-submission_entries seat s new d answer {log = log} step written same refused =
-    submission_written seat d answer written same refused ∙ ap (λ (es : List Entry). log ++ es) (sym (submission_noted seat s new d (accept_reply answer) step))
+submission_entries seat s new d answer log first now step written same refused =
+    submission_written seat d answer log first now written same refused ∙ ap (λ (es : List Entry). log ++ es) (sym (submission_noted seat s new d (accept_reply answer) step))
 
 -- what is written of a reservation
-pub reservation_written : (s new : State) (q : ℕ) (request : Request) (answer : Result DraftContents (Refused Request)) {log now : List Entry}
+pub reservation_written : (s new : State) (q : ℕ) (request : Request) (answer : Result DraftContents (Refused Request)) (log mid now : List Entry)
     → machine.Step s (events.Reserve q request) (reserve_reply answer) new → IfErr answer (λ r. r.value ≡ request)
-    → IfOk answer (λ d. now ≡ log ++ entry_of None (events.Reserve d.q d.request) (events.Reserved d) ∷ [])
-    → IfErr answer (λ r. now ≡ log ++ entries None (step.Reserve q r.value) None (noted (events.Refused r.why [])))
+    → mid ≡ log → IfOk answer (λ d. now ≡ mid ++ entry_of None (events.Reserve d.q d.request) (events.Reserved d) ∷ [])
+    → IfErr answer (λ r. now ≡ mid ++ entries None (step.Reserve q r.value) None (noted (events.Refused r.why [])))
     → now ≡ log ++ entries None (asked (events.Reserve q request)) (draft_of (events.Reserve q request) (reserve_reply answer)) (noted (reserve_reply answer))
-reservation_written s new q request (Ok d) {log = log} step back written refused =
+reservation_written s new q request (Ok d) log mid now step back same written refused =
     let is = reserved_by s q request d step.1 in
-    written ∙ rw (is.queue, is.request) refl
-reservation_written s new q request (Err r) step back written refused = refused ∙ rw back refl
+    written ∙ rw (same, is.queue, is.request) refl
+reservation_written s new q request (Err r) log mid now step back same written refused = refused ∙ rw (same, back) refl
 
 -- and the room that it takes
 pub reservation_takes : (s new : State) (q : ℕ) (request : Request) (answer : Result DraftContents (Refused Request)) (room : Room)

@@ -19,6 +19,13 @@ pub receives_in : {at old : SeatContents} {here log : List Entry} → at ≡ old
 receives_in same logs d (Ok ticket) ok receipts spare is = rw (← same, ← logs, is) refl
 receives_in same logs d (Err r) ok receipts spare is = absurd (true≢false (sym ok))
 
+-- and where it is refused, the seat has none more
+pub receives_none : {at old : SeatContents} (log : List Entry) → at ≡ old → (d : DraftContents) (result : Result TicketContents (Refused DraftContents))
+    → is_ok result ≡ false → (receipts : List Receipt) (spare : ℕ) → receipts ≡ at.receipts
+    → Receives log old d result (let new : SeatContents = record at { receipts = receipts; spare = spare } in new)
+receives_none log same d (Ok ticket) isnt receipts spare is = absurd (true≢false isnt)
+receives_none log same d (Err r) isnt receipts spare is = rw (← same, is) refl
+
 -- a receipt's status is written in its place
 length_settled_at : (i : Option ℕ) (status : Option Status) (receipts : List Receipt) → length (settled_at i status receipts) ≡ length receipts
 length_settled_at None status receipts = refl

@@ -99,12 +99,13 @@ fn status_of_step(
     }
 }
 
-/// The first status that a log gives a submitted command from a place on.
-fn status_from<A: Allocator>(q: u16, cid: u16, log: &Log<A>, from: usize) -> Option<Status>
-    requires { from ≤ length log.now.entries }
-    ensures { result ≡ held q cid (drop from log.now.entries) }
+/// The first status that a log gives a submitted command behind a place.
+fn status_behind<A: Allocator>(q: u16, cid: u16, log: &Log<A>, index: usize) -> Option<Status>
+    requires { index < length log.now.entries }
+    ensures { result ≡ held q cid (drop (index + 1) log.now.entries) }
 {
-    for i in from..log.len() {
+    let end = log.len();
+    for i in index + 1..end {
         let entry = log.at(i);
         match status_of_step(q, cid, &entry.step, &entry.answer) {
             Some(status) => return Some(status),
@@ -209,7 +210,7 @@ fn does_stand<L: Ledger, A: Allocator>(
 {
     let q = queue_of_step(&entry.step);
     let cid = identifier_of_step(&entry.step);
-    let status = status_from(q, cid, log, index + 1);
+    let status = status_behind(q, cid, log, index);
     let wanted = Receipt {
         number,
         q,

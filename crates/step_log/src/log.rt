@@ -1,6 +1,6 @@
 //! The log itself.
 
-ghost use Rattle.std.specs.Prelude.{◌≡◌, ◌+◌, ◌<◌, ◌++◌, ◌∷◌, [], ◌==◌, None, Some, OnOk, OnErr, length, slice_get};
+ghost use Rattle.std.specs.Prelude.{◌≡◌, ◌+◌, ◌<◌, ◌^◌, ◌++◌, ◌∷◌, [], ◌==◌, None, Some, OnOk, OnErr, length, slice_get};
 ghost use Rattle.machine_model.specs.Events as events;
 ghost use Rattle.step_log.specs.History.{entry, entry_of};
 ghost use Rattle.step_log.specs.Keeping.{HasNoRequest, bare_step};
@@ -126,6 +126,7 @@ impl<A: Allocator> Log<A> {
         requires { Takes self.old.room (length draft.now.request.pieces) (length draft.now.data_pages + length draft.now.chain_pages) }
         ensures entries { self.new.entries ≡ self.old.entries ++ entry_of seat (events.Submit draft.now) events.Accepted ∷ [] }
         ensures room { self.new.room ≡ left self.old.room (length draft.now.request.pieces) (length draft.now.data_pages + length draft.now.chain_pages) }
+        ensures few { length self.new.entries < 2 ^ 63 }
     {
         let kept = keep_draft(&mut self.pieces, &mut self.pages, draft);
         self.kept.push_reserved(Entry {

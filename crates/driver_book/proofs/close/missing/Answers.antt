@@ -6,14 +6,14 @@ use Rattle.driver_book.proofs.Standing.{here_at, all_before, first_missing, sear
 use Rattle.driver_book.proofs.close.missing.Goals as goal
 use Rattle.driver_book.proofs.close.missing.Goals.{in-Some, in-None}
 
-pub returns-then-end-log : goal.returns-then-end-log
-returns-then-end-log g c =
+pub returns-then-end-len : goal.returns-then-end-len
+returns-then-end-len g c =
     λ p below. all_before c.args.log.now.entries c.args.seats.now c.loop-i.i c.loop-i.end (omega arith) c.loop-i.invariant p (omega arith)
 
 pub returns : goal.returns
 returns g c =
     let counted : c.accepted_before-number.result ≡ accepted (take c.loop-i.end c.args.log.now.entries) = search rules in
-    rw (c.unwrap_or.ensures, ← (here_at c.args.log.now.entries c.loop-i.end c.at.result c.at.ensures))
+    rw c.unwrap_or.ensures
     (first_missing c.args.log.now.entries c.args.seats.now c.loop-i.i c.loop-i.end c.accepted_before-number.result c.at.result (omega arith) (omega (arith, c.loop-i.invariant.within)) (here_at c.args.log.now.entries c.loop-i.end c.at.result c.at.ensures) c.requires counted c.loop-i.invariant)
 
 pub loop-i-preserved : goal.loop-i-preserved

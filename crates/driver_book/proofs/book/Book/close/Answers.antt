@@ -10,7 +10,7 @@ use Rattle.driver_book.proofs.book.Book.close.Goals as goal
 pub returns-clause-no_more : goal.returns-clause-no_more
 returns-clause-no_more g c =
     let enough = enough_receipts c.self.inside.log.entries c.as_slice.result.now c.in_default.ensures in
-    let log : accepted c.self.inside.log.entries ≡ accepted c.self.inside.log.entries = ap accepted refl in
+    let log : accepted c.self.inside.log.entries ≡ accepted c.self.inside.log.entries = refl in
     let opened : accepted c.self.inside.log.entries ≡ accepted c.args.self.now.log = ap (λ s. accepted s.log) c.self.view_is in
     let seats : receipts_of c.as_slice.result.now ≡ receipts_of c.args.seats.items = ap receipts_of c.as_slice.ensures.value in
     let bound = c.audit.ensures.bound in
