@@ -1,5 +1,5 @@
 -- A log that grows by a step.
-use Rattle.std.proofs.Common.{◌≡◌, ◌⊎◌, inl, inr, ℕ, ◌+◌, ◌-◌, ◌<◌, ◌≤◌, List, [], ◌∷◌, ◌++◌, Option, Some, None, Bool, true, false, not, ◌||◌, cond, Result, Ok, Err, is_ok, is_err, OnOk, OnErr, IfOk, IfErr, length, true≢false, refl, sym, ap, ◌∙◌, subst, arith}
+use Rattle.std.proofs.Common.{◌≡◌, ◌⊎◌, inl, inr, ℕ, ◌+◌, ◌<◌, ◌≤◌, List, [], ◌∷◌, ◌++◌, Option, Some, None, Bool, true, false, not, ◌||◌, cond, Result, Ok, Err, is_ok, is_err, OnOk, OnErr, IfOk, IfErr, length, true≢false, refl, sym, ap, ◌∙◌, subst, arith}
 use Rattle.std.proofs.lemmas.List.{append-nil}
 use Rattle.std.proofs.lemmas.List.Sums.{sum_by_push}
 use Rattle.std.specs.Prelude.{is_some, MatchBool}
@@ -19,7 +19,7 @@ use Rattle.machine_model.specs.declared.words.Refusal.TheVariants as refusal
 use Rattle.driver_book.specs.Calls.{noted, entries, Does, WantsMemoryFor, IsLogFull, MayWorldWant, LacksRoomToReserve, most_of, most_pages}
 use Rattle.machine_model.proofs.Headline.{steps_keep, runs_are_sound}
 use Rattle.driver_book.proofs.Histories.{leads_further}
-use Rattle.step_log.specs.History.{asked, told, logged, draft_of, entry, entry_of, is_submission, is_accepted, accepted}
+use Rattle.step_log.specs.History.{asked, told, draft_of, entry_of, is_submission, is_accepted, accepted}
 use Rattle.driver_book.specs.State.{BookContents, IsBook, is_seated, AreSeated}
 use Rattle.step_log.specs.Values.{Entry, Room, LogContents, Takes, Lacks, answered}
 use Rattle.step_log.proofs.Keeping.{answered_last}

@@ -72,12 +72,7 @@ fn accepted_before<A: Allocator>(log: &Log<A>, end: usize) -> u64
 }
 
 /// The status with which a step ended a submitted command.
-fn status_of_step(
-    q: u16,
-    cid: u16,
-    step: &ShownStep<'_>,
-    answer: &Reply<NoBytes>,
-) -> Option<Status>
+fn status_of_step(q: u16, cid: u16, step: &ShownStep<'_>, answer: &Reply<NoBytes>) -> Option<Status>
     ensures { result ≡ status_by q cid step.now answer.now }
 {
     match step {

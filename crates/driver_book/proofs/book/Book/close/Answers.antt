@@ -1,6 +1,7 @@
-use Rattle.std.proofs.Common.{◌≡◌, refl, inl, inr, ◌<◌, length, vec_len, true, false, eqb-true, arith, ap, sym, ◌∙◌, subst}
+use Rattle.std.proofs.Common.{◌≡◌, refl, inl, inr, ◌<◌, ◌≤◌, length, vec_len, true, false, eqb-true, arith, ap, sym, ◌∙◌, subst}
 use Rattle.driver_book.specs.Close.{AllStand, RefusesClose, has_open, receipts_of}
-use Rattle.step_log.specs.History.{accepted}
+use Rattle.machine_model.specs.Claims.{counts_of}
+use Rattle.step_log.specs.History.{accepted, LeadsTo}
 use Rattle.driver_book.specs.State.{BookContents}
 use Rattle.driver_book.specs.declared.log.CloseFault.TheVariants.{Missing, SeatOut, StillOut, Memory}
 use Rattle.driver_book.proofs.Closing.{all_parts_back, closed_book, closes_book, missing_in, not_none, stand_in, wanted}
@@ -63,3 +64,41 @@ pub returns-clause-book : goal.returns-clause-book
 returns-clause-book g c =
     let back = all_parts_back c.self.invariant (vec_len c.args.seats) c.take_in.new.rest.parts (omega (arith, c.if-len-from.false, c.len.ensures, c.from.ensures)) c.take_in.ensures.parts c.take_in.ensures.bound in
     closed_book c.self.view_is c.audit.new.share.amount (c.audit.ensures.amount ∙ c.audit.ensures.whole back ∙ sym c.self.invariant.counted)
+
+pub returns-in-Some-clause-legal : goal.returns-in-Some-clause-legal
+returns-in-Some-clause-legal g c = subst (λ (b : BookContents). LeadsTo b.opening b.log b.world) c.self.view_is c.self.invariant.legal
+
+pub returns-then-len-from-clause-legal : goal.returns-then-len-from-clause-legal
+returns-then-len-from-clause-legal g c = subst (λ (b : BookContents). LeadsTo b.opening b.log b.world) c.self.view_is c.self.invariant.legal
+
+pub returns-then-any_open-clause-legal : goal.returns-then-any_open-clause-legal
+returns-then-any_open-clause-legal g c = subst (λ (b : BookContents). LeadsTo b.opening b.log b.world) c.self.view_is c.self.invariant.legal
+
+pub returns-then-not-is_idle-clause-legal : goal.returns-then-not-is_idle-clause-legal
+returns-then-not-is_idle-clause-legal g c = subst (λ (b : BookContents). LeadsTo b.opening b.log b.world) c.self.view_is c.self.invariant.legal
+
+pub returns-in_default-with_capacity-clause-legal : goal.returns-in_default-with_capacity-clause-legal
+returns-in_default-with_capacity-clause-legal g c = subst (λ (b : BookContents). LeadsTo b.opening b.log b.world) c.self.view_is c.self.invariant.legal
+
+pub returns-clause-opening : goal.returns-clause-opening
+returns-clause-opening g c = sym (ap (λ (b : BookContents). b.opening) c.self.view_is)
+
+pub returns-clause-legal : goal.returns-clause-legal
+returns-clause-legal g c = subst (λ (b : BookContents). LeadsTo b.opening b.log b.world) c.self.view_is c.self.invariant.legal
+
+pub returns-clause-all_seats : goal.returns-clause-all_seats
+returns-clause-all_seats g c =
+    let long : length c.args.seats.items ≡ vec_len c.args.seats = ap length (sym c.as_slice.ensures.value) ∙ c.as_slice.ensures.len in
+    subst (λ (b : BookContents). b.out ≤ length c.args.seats.items) c.self.view_is (omega (arith, long, c.if-len-from.false, c.len.ensures, c.from.ensures))
+
+pub returns-clause-done : goal.returns-clause-done
+returns-clause-done g c =
+    let idle : length c.self.inside.world.state.host.records ≡ 0 = eqb-true (length c.self.inside.world.state.host.records) 0 (sym c.is_idle.ensures ∙ c.if-not-is_idle.false) in
+    (ap has_open (sym c.as_slice-2.ensures.value) ∙ sym c.any_open.ensures ∙ c.if-any_open.false, subst (λ (b : BookContents). length b.world.host.records ≡ 0) c.self.view_is idle)
+
+pub returns-clause-report : goal.returns-clause-report
+returns-clause-report g c = record {
+  submissions = c.self.invariant.numbered ∙ ap (λ (b : BookContents). accepted b.log) c.self.view_is;
+  counts = c.counts.ensures.counts ∙ ap (λ (b : BookContents). counts_of b.world.host) c.self.view_is;
+  receipts = c.of.ensures ∙ c.take_in.ensures.lists;
+}

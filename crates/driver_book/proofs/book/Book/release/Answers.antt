@@ -1,4 +1,4 @@
-use Rattle.std.proofs.Common.{◌≡◌, ◌-◌, ◌++◌, vec_capacity, vec_len, length, take, drop, Some, refl, ap, sym, ◌∙◌}
+use Rattle.std.proofs.Common.{◌≡◌, ◌++◌, vec_len, length, take, drop, Some, refl, ap, sym, ◌∙◌}
 use Rattle.machine_model.specs.Events as events
 use Rattle.step_core.specs.Replies.{accept_reply}
 use Rattle.driver_book.specs.Calls.{IsLogFull}

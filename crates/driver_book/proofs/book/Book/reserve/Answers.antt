@@ -1,5 +1,4 @@
-use Rattle.std.proofs.Common.{◌≡◌, ◌⊎◌, inl, None, length, ap, refl, sym, ◌∙◌}
-use Rattle.io_commands.specs.declared.request.Piece.{Piece}
+use Rattle.std.proofs.Common.{inl, None, length, ap, refl, sym, ◌∙◌}
 use Rattle.machine_model.specs.Events as events
 use Rattle.step_core.specs.Replies.{reserve_reply}
 use Rattle.driver_book.specs.Calls.{LacksRoomToReserve, most_pages}

@@ -7,7 +7,6 @@ use Rattle.driver_book.specs.State.{BookContents}
 use Rattle.driver_book.proofs.Runs.{accepts_book, does_in, has_room, keeps_book, log_has_room, log_lacks, refused_submission, submission_entries, submission_written, lacks_as, takes_as, takes_no_memory, wants_room}
 use Rattle.std.proofs.lemmas.List.Sums.{count_by-le-length}
 use Rattle.step_log.specs.History.{is_accepted, entry_of}
-use Rattle.step_log.specs.Values.{Entry}
 use Rattle.driver_book.proofs.Seats.{receives_in, receives_none}
 use Rattle.driver_book.proofs.book.Book.submit.Goals as goal
 
