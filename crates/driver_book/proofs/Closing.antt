@@ -4,9 +4,9 @@ use Rattle.std.specs.Prelude.{IsOk}
 use Rattle.std.proofs.lemmas.Bool.{eqb-false}
 use Rattle.machine_model.specs.State.{State}
 use Rattle.driver_book.specs.Close.{AllStand, IsMissing}
-use Rattle.driver_book.specs.History.{accepted}
+use Rattle.step_log.specs.History.{accepted}
 use Rattle.driver_book.specs.State.{BookContents, SeatContents, IsBook}
-use Rattle.driver_book.specs.Values.{Entry}
+use Rattle.step_log.specs.Values.{Entry}
 
 -- the same of the lists that were looked at
 pub stand_in : {now log : List Entry} {these seats : List SeatContents} → now ≡ log → these ≡ seats → AllStand now these → AllStand log seats

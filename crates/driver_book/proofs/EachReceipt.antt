@@ -9,9 +9,9 @@ use Rattle.std.proofs.lemmas.Option.{slice_get-get_or}
 use Rattle.machine_model.specs.Step.{times}
 use Rattle.machine_model.proofs.Counting.{one, times-cons, times-append, times-filter}
 use Rattle.entry_codec.specs.declared.status.Status.{Status}
-use Rattle.driver_book.specs.Values.{Entry}
+use Rattle.step_log.specs.Values.{Entry}
 use Rattle.driver_book.specs.declared.log.Receipt.{Receipt}
-use Rattle.driver_book.specs.History.{accepted, is_accepted}
+use Rattle.step_log.specs.History.{accepted, is_accepted}
 use Rattle.driver_book.specs.State.{SeatContents}
 use Rattle.driver_book.specs.Close.{has, is_receipt_of, fits_status, same_seat, accepted_of, held, queue_in, identifier_in, receipts_of, AllStand}
 

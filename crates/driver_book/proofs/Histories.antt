@@ -16,10 +16,10 @@ use Rattle.machine_agreement.specs.Histories as histories
 use Rattle.machine_model.specs.Step as machine_step
 use Rattle.step_core.specs.Going.{forges_by}
 use Rattle.step_core.specs.Opening.{opening_of}
-use Rattle.driver_book.specs.History.{asked, told, TellsOf, LeadsTo}
+use Rattle.step_log.specs.History.{asked, told, draft_of, TellsOf, LeadsTo}
 use Rattle.driver_book.specs.Laws.{IsEntryOf, is_forgery, entries_name_allowed_pages, logs_are_trusted_runs, logs_of_jobs_are_trusted_runs, resets, is_reset, since_reset, trusted_ends_are_unforged}
 use Rattle.driver_book.specs.State.{is_of_jobs, AreOfJobs}
-use Rattle.driver_book.specs.Values.{Entry}
+use Rattle.step_log.specs.Values.{Entry}
 use Rattle.host_core.specs.Opening.{refusal_of_config}
 use Rattle.host_core.specs.declared.config.Config.{Config}
 use Rattle.block_image.specs.Blocks.{IsImage}
@@ -73,6 +73,10 @@ told_by : (old new : State) (log : List Entry) (leads : LeadsTo old log new) →
 told_by old new [] same = refl
 told_by old new (e ∷ log) (next, tells, rest) = rw (tells.tells, told_by next new log rest) refl
 
+drafts_by : (old new : State) (log : List Entry) (leads : LeadsTo old log new) → map (λ e. e.draft) log ≡ map (λ m. draft_of m.event m.reply) (made_by old new log leads)
+drafts_by old new [] same = refl
+drafts_by old new (e ∷ log) (next, tells, rest) = rw (tells.drafts, drafts_by next new log rest) refl
+
 same_forgery : (e : Event) (r : Reply) → forges_by (asked e) (told r) ≡ laws.forges_by e r
 same_forgery (events.Forge q slot bytes) events.Accepted = refl
 same_forgery e r = refl
@@ -103,6 +107,7 @@ logs_are_runs config image log world opens is_image leads unforged =
       made = made_by (opening_of config image) world log leads;
       happened = asked_by (opening_of config image) world log leads;
       answered = told_by (opening_of config image) world log leads;
+      drafts = drafts_by (opening_of config image) world log leads;
       run = run;
       trusted = trusted_end image (made_by (opening_of config image) world log leads) world run;
     }

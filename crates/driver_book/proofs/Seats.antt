@@ -7,9 +7,9 @@ use Rattle.io_commands.specs.Values.{FinishedContents, TicketContents}
 use Rattle.machine_model.specs.State.{State}
 use Rattle.host_core.specs.declared.refused.Refused.{Refused}
 use Rattle.driver_book.specs.Calls.{receipt, is_open_for, settled, settled_at, status_at, Receives, Settles}
-use Rattle.driver_book.specs.History.{accepted}
+use Rattle.step_log.specs.History.{accepted}
 use Rattle.driver_book.specs.State.{SeatContents}
-use Rattle.driver_book.specs.Values.{Entry}
+use Rattle.step_log.specs.Values.{Entry}
 use Rattle.driver_book.specs.declared.log.Receipt.{Receipt}
 
 -- a seat with one receipt more
@@ -18,6 +18,13 @@ pub receives_in : {at old : SeatContents} {here log : List Entry} → at ≡ old
     → Receives log old d result (let new : SeatContents = record at { receipts = receipts; spare = spare } in new)
 receives_in same logs d (Ok ticket) ok receipts spare is = rw (← same, ← logs, is) refl
 receives_in same logs d (Err r) ok receipts spare is = absurd (true≢false (sym ok))
+
+-- and where it is refused, the seat has none more
+pub receives_none : {at old : SeatContents} (log : List Entry) → at ≡ old → (d : DraftContents) (result : Result TicketContents (Refused DraftContents))
+    → is_ok result ≡ false → (receipts : List Receipt) (spare : ℕ) → receipts ≡ at.receipts
+    → Receives log old d result (let new : SeatContents = record at { receipts = receipts; spare = spare } in new)
+receives_none log same d (Ok ticket) isnt receipts spare is = absurd (true≢false isnt)
+receives_none log same d (Err r) isnt receipts spare is = rw (← same, is) refl
 
 -- a receipt's status is written in its place
 length_settled_at : (i : Option ℕ) (status : Option Status) (receipts : List Receipt) → length (settled_at i status receipts) ≡ length receipts

@@ -1,15 +1,15 @@
 -- Submissions that stand in receipts: at the next place of the log, for one seat and for all.
-use Rattle.std.proofs.Common.{◌≡◌, ℕ, zero, suc, ◌+◌, ◌<◌, ◌≤◌, ◌&&◌, ◌||◌, not, Bool, Option, Some, None, List, [], ◌∷◌, length, take, get_or, true, false, true≢false, refl, sym, ap, ◌∙◌, subst, arith, eqb-true, eq-eqb, below_more}
+use Rattle.std.proofs.Common.{◌≡◌, ℕ, zero, suc, ◌+◌, ◌<◌, ◌≤◌, ◌&&◌, ◌||◌, not, Bool, Option, Some, None, List, [], ◌∷◌, length, take, drop, get_or, true, false, true≢false, refl, sym, ap, ◌∙◌, subst, arith, eqb-true, eq-eqb, below_more}
 use Rattle.std.specs.Prelude.{slice_get, is_some, unwrap_or}
 use Rattle.std.specs.List.{list_any}
-use Rattle.std.proofs.lemmas.Option.{get_or_from_slice_get, slice_get-get_or}
+use Rattle.std.proofs.lemmas.Option.{get_or_from_slice_get, slice_get-get_or, none-some, same_Some}
 use Rattle.std.proofs.lemmas.List.Sums.{count_by_more_yes, count_by_more_no}
 use Rattle.entry_codec.specs.declared.status.Status.{Status}
 use Rattle.machine_agreement.proofs.Members.{all_at}
-use Rattle.driver_book.specs.Values.{Entry}
-use Rattle.driver_book.specs.History.{is_accepted, accepted}
+use Rattle.step_log.specs.Values.{Entry}
+use Rattle.step_log.specs.History.{is_accepted, accepted}
 use Rattle.driver_book.specs.State.{SeatContents, is_seated, AreSeated}
-use Rattle.driver_book.specs.Close.{same_seat, has, stands, StandBefore, accepted_of, IsMissing}
+use Rattle.driver_book.specs.Close.{same_seat, has, stands, StandBefore, accepted_of, IsMissing, held, first_of, status_by}
 use Rattle.driver_book.specs.Passes.{is_known, AreKnown, StandOf, IsMissingAt}
 
 -- Seats
@@ -23,6 +23,19 @@ same_seat_is (Some a) (Some b) same = ap (λ (n : ℕ). Some n) (eqb-true a b sa
 same_itself : (seat : Option ℕ) → same_seat seat seat ≡ true
 same_itself None = refl
 same_itself (Some n) = eq-eqb n n refl
+
+-- what stands at a place
+pub here_at : (log : List Entry) (p : ℕ) (x : Entry) → slice_get log p ≡ Some x → x ≡ get_or log p x
+here_at log p x get = sym (get_or_from_slice_get log p x x get)
+
+-- the first status from a place on is that of its entry, or else the first behind it
+pub held_at : (q cid : ℕ) (log : List Entry) (i : ℕ) (x : Entry) → slice_get log i ≡ Some x → held q cid (drop i log) ≡ first_of (status_by q cid x.step x.answer) (held q cid (drop (i + 1) log))
+held_at q cid [] i x get = absurd (none-some x get)
+held_at q cid (y ∷ log) zero x get = rw (same_Some y x get) refl
+held_at q cid (y ∷ log) (suc i) x get =
+    let far : suc i + 1 ≡ suc (i + 1) = omega arith in
+    let next : drop (suc i + 1) (y ∷ log) ≡ drop (i + 1) log = ap (λ (n : ℕ). drop n (y ∷ log)) far in
+    held_at q cid log i x get ∙ ap (λ (es : List Entry). first_of (status_by q cid x.step x.answer) (held q cid es)) (sym next)
 
 -- One seat's place in the log: how many submissions came before, and how many of its own; those stand.
 pub record Passed (log : List Entry) (seats : List SeatContents) (seat : Option ℕ) (p number place : ℕ) : Type 0 where

@@ -1,16 +1,20 @@
 -- What the calls of a book do: each makes one step of the world, and writes it down, but for one that answers `Memory`.
-use Rattle.std.specs.Prelude.{◌≡◌, ℕ, ◌==◌, ◌&&◌, Bool, is_none, Option, Some, None, option_and_then, Result, Ok, Err, List, [], ◌∷◌, ◌++◌, position, slice_set, slice_index_or}
+use Rattle.std.specs.Prelude.{◌≡◌, ℕ, ◌+◌, ◌==◌, ◌&&◌, Bool, is_none, Option, Some, None, option_and_then, Result, Ok, Err, List, [], ◌∷◌, ◌++◌, length, position, slice_set, slice_index_or}
 use Rattle.entry_codec.specs.declared.status.Status.{Status}
+use Rattle.io_commands.specs.Asked.{Request}
 use Rattle.io_commands.specs.Drafts.{DraftContents}
+use Rattle.io_commands.specs.Requests.{data_count}
 use Rattle.io_commands.specs.Values.{FinishedContents, TicketContents}
 use Rattle.machine_model.specs.Events as events
 use Rattle.machine_model.specs.Events.{Event}
 use Rattle.machine_model.specs.State.{State, Host, record_at}
+use Rattle.machine_model.specs.Refusals.{refusal_of}
 use Rattle.machine_model.specs.Step as machine
+use Rattle.machine_model.specs.declared.words.Refusal.{Refusal}
 use Rattle.machine_model.specs.declared.words.Refusal.TheVariants as refusal
-use Rattle.driver_book.specs.History.{asked, told, entry, accepted}
+use Rattle.step_log.specs.History.{told, entry, entry_of, accepted}
 use Rattle.driver_book.specs.State.{BookContents, SeatContents}
-use Rattle.driver_book.specs.Values.{Entry}
+use Rattle.step_log.specs.Values.{Entry, LoggedDraft, Lacks}
 use Rattle.driver_book.specs.declared.log.Receipt.{Receipt}
 use Rattle.host_core.specs.declared.refused.Refused.{Refused}
 use Rattle.step_core.specs.Values.{Reply}
@@ -22,16 +26,16 @@ noted (events.Refused refusal.Memory touched) = None
 noted r = Some (told r)
 
 -- the entries that a call adds to the log
-abbrev pub entries : Option ℕ → Step → Option Reply → List Entry
-entries seat what None = []
-entries seat what (Some answer) = entry seat what answer ∷ []
+abbrev pub entries : Option ℕ → Step → Option LoggedDraft → Option Reply → List Entry
+entries seat what draft None = []
+entries seat what draft (Some answer) = entry seat what answer draft ∷ []
 
 -- A call that answers want of memory leaves the book as it was. Any other is one step of the world, and the last entry of the log. The log
 -- may have got room in either case, and pages may have been touched.
 abbrev pub Does : BookContents → Option ℕ → Event → events.Reply → BookContents → Type 0
-Does old seat e (events.Refused refusal.Memory touched) new = new ≡ record old { spare = new.spare; touches = new.touches }
+Does old seat e (events.Refused refusal.Memory touched) new = new ≡ record old { room = new.room; touches = new.touches }
 Does old seat e r new =
-    machine.Step old.world e r new.world × (new ≡ record old { world = new.world; log = old.log ++ entry seat (asked e) (told r) ∷ []; spare = new.spare; touches = new.touches })
+    machine.Step old.world e r new.world × (new ≡ record old { world = new.world; log = old.log ++ entry_of seat e r ∷ []; room = new.room; touches = new.touches })
 
 -- Why memory was wanted
 
@@ -42,7 +46,23 @@ WantsMemoryFor Cause r = Unit {0}
 
 -- the log takes no entry before it has to grow
 abbrev pub IsLogFull : BookContents → Type 0
-IsLogFull book = book.spare ≡ 0
+IsLogFull book = book.room.entries ≡ 0
+
+-- the most page numbers that the log has to take for a reservation: none of one that is refused; else those of its data pages, and of its chain
+-- no more than there are pieces
+abbrev pub most_of : Option Refusal → Request → ℕ
+most_of None r = data_count r.pieces + length r.pieces
+most_of (Some why) r = 0
+
+abbrev pub most_pages : State → ℕ → Request → ℕ
+most_pages s q r = most_of (refusal_of s (events.Reserve q r)) r
+
+-- the log has too little room for a reservation, or for a submission
+abbrev pub LacksRoomToReserve : BookContents → ℕ → Request → Type 0
+LacksRoomToReserve book q r = Lacks book.room (length r.pieces) (most_pages book.world q r)
+
+abbrev pub LacksRoomToSubmit : BookContents → DraftContents → Type 0
+LacksRoomToSubmit book d = Lacks book.room (length d.request.pieces) (length d.data_pages + length d.chain_pages)
 
 -- so with the list of a seat's receipts
 abbrev pub AreReceiptsFull : SeatContents → Type 0

@@ -6,11 +6,11 @@ use Rattle.entry_codec.specs.declared.status.TheConstants.Status.{ABORTED_SQ_DEL
 use Rattle.machine_model.specs.Claims.{counts_of}
 use Rattle.machine_model.specs.Status.{same_status}
 use Rattle.machine_model.specs.declared.words.Reaped.TheVariants.{Done}
-use Rattle.driver_book.specs.History.{is_accepted, accepted}
+use Rattle.step_log.specs.History.{is_accepted, accepted}
 use Rattle.driver_book.specs.State.{BookContents, SeatContents}
 use Rattle.driver_book.specs.declared.log.CloseFault.{CloseFault}
 use Rattle.driver_book.specs.declared.log.CloseFault.TheVariants.{Missing, SeatOut, StillOut, Memory}
-use Rattle.driver_book.specs.Values.{Entry}
+use Rattle.step_log.specs.Values.{Entry}
 use Rattle.driver_book.specs.declared.log.Receipt.{Receipt}
 use Rattle.driver_book.specs.Values.{Report}
 use Rattle.step_core.specs.Values.{Reply}

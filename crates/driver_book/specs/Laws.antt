@@ -10,9 +10,9 @@ use Rattle.host_core.specs.Opening.{refusal_of_config}
 use Rattle.step_core.specs.Going.{forges_by}
 use Rattle.step_core.specs.Opening.{opening_of}
 use Rattle.host_core.specs.declared.config.Config.{Config}
-use Rattle.driver_book.specs.History.{asked, told, TellsOf, LeadsTo}
+use Rattle.step_log.specs.History.{asked, told, draft_of, TellsOf, LeadsTo}
 use Rattle.driver_book.specs.State.{AreOfJobs}
-use Rattle.driver_book.specs.Values.{Entry}
+use Rattle.step_log.specs.Values.{Entry}
 use Rattle.step_core.specs.Values.{Step}
 use Rattle.step_core.specs.declared.step.Step.TheVariants as step
 
@@ -38,6 +38,7 @@ pub record IsTrustedLog (image : List ℕ) (log : List Entry) (world : State) : 
   pub made : List Made
   pub happened : map (λ e. e.step) log ≡ map (λ m. asked m.event) made
   pub answered : map (λ e. e.answer) log ≡ map (λ m. told m.reply) made
+  pub drafts : map (λ e. e.draft) log ≡ map (λ m. draft_of m.event m.reply) made
   pub run : TrustedRun image made world
   pub trusted : IsTrue world.trusted
 

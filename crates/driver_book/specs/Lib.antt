@@ -1,4 +1,3 @@
-pub mod History
 pub mod State
 pub mod Calls
 pub mod Close

@@ -2,10 +2,10 @@
 -- then once for each seat.
 use Rattle.std.specs.Prelude.{◌≡◌, ℕ, ◌<◌, Bool, true, false, Option, Some, List, slice_get}
 use Rattle.std.specs.List.{list_any}
-use Rattle.driver_book.specs.History.{is_accepted}
+use Rattle.step_log.specs.History.{is_accepted}
 use Rattle.driver_book.specs.State.{SeatContents}
 use Rattle.driver_book.specs.Close.{same_seat, stands}
-use Rattle.driver_book.specs.Values.{Entry}
+use Rattle.step_log.specs.Values.{Entry}
 
 -- a seat of this number is among these
 abbrev pub is_known : List SeatContents → Option ℕ → Bool

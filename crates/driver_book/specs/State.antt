@@ -4,14 +4,14 @@ use Rattle.std.specs.Bool.{OnTrue}
 use Rattle.std.specs.List.{AllByRecursion}
 use Rattle.machine_model.specs.Claims.{IsSound}
 use Rattle.machine_model.specs.State.{State}
-use Rattle.driver_book.specs.History.{LeadsTo, is_accepted, accepted}
-use Rattle.driver_book.specs.Values.{Entry}
+use Rattle.step_log.specs.History.{LeadsTo, is_accepted, accepted}
+use Rattle.step_log.specs.Values.{Entry, Room}
 use Rattle.driver_book.specs.declared.log.Receipt.{Receipt}
 use Rattle.step_core.specs.Values.{Step}
 use Rattle.step_core.specs.declared.step.Step.TheVariants as step
 
 -- A book: the world as it was opened and as it is, how many pages were touched so far, the log between, how many seats were made, how many of them no close took, how many
--- submissions the others had, whether the workers are told to stop, and how many entries the log takes before it has to grow.
+-- submissions the others had, whether the workers are told to stop, and how much the log takes before it has to grow.
 pub record BookContents : Type 0 where
   pub opening : State
   pub world : State
@@ -21,7 +21,7 @@ pub record BookContents : Type 0 where
   pub out : ℕ
   pub taken : ℕ
   pub stopping : Bool
-  pub spare : ℕ
+  pub room : Room
 
 -- A seat: its number, its receipts, and how many more of them it takes before their list has to grow.
 pub record SeatContents : Type 0 where

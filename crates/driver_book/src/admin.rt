@@ -25,7 +25,7 @@ impl<L: FullDriver, A: Allocator + Copy> Book<L, A> {
         ensures touches { Touches self.old.touches (events.Abort q cid) (send_reply result) self.new.touches }
         ensures memory { WantsMemoryFor (IsLogFull self.old) (send_reply result) }
     {
-        if self.log.reserve(1).is_err() {
+        if self.log.make_room(0, 0).is_err() {
             return Err(Refusal::Memory);
         }
         let answer = self.world.abort(q, cid);
@@ -43,7 +43,7 @@ impl<L: FullDriver, A: Allocator + Copy> Book<L, A> {
         ensures touches { Touches self.old.touches (events.DeleteSq q) (send_reply result) self.new.touches }
         ensures memory { WantsMemoryFor (IsLogFull self.old) (send_reply result) }
     {
-        if self.log.reserve(1).is_err() {
+        if self.log.make_room(0, 0).is_err() {
             return Err(Refusal::Memory);
         }
         let answer = self.world.delete_sq(q);
@@ -61,7 +61,7 @@ impl<L: FullDriver, A: Allocator + Copy> Book<L, A> {
         ensures touches { Touches self.old.touches (events.DeleteCq q) (send_reply result) self.new.touches }
         ensures memory { WantsMemoryFor (IsLogFull self.old) (send_reply result) }
     {
-        if self.log.reserve(1).is_err() {
+        if self.log.make_room(0, 0).is_err() {
             return Err(Refusal::Memory);
         }
         let answer = self.world.delete_cq(q);
@@ -79,7 +79,7 @@ impl<L: FullDriver, A: Allocator + Copy> Book<L, A> {
         ensures touches { Touches self.old.touches (events.CreateCq q) (send_reply result) self.new.touches }
         ensures memory { WantsMemoryFor (IsLogFull self.old) (send_reply result) }
     {
-        if self.log.reserve(1).is_err() {
+        if self.log.make_room(0, 0).is_err() {
             return Err(Refusal::Memory);
         }
         let answer = self.world.create_cq(q);
@@ -97,7 +97,7 @@ impl<L: FullDriver, A: Allocator + Copy> Book<L, A> {
         ensures touches { Touches self.old.touches (events.CreateSq q) (send_reply result) self.new.touches }
         ensures memory { WantsMemoryFor (IsLogFull self.old) (send_reply result) }
     {
-        if self.log.reserve(1).is_err() {
+        if self.log.make_room(0, 0).is_err() {
             return Err(Refusal::Memory);
         }
         let answer = self.world.create_sq(q);
@@ -115,7 +115,7 @@ impl<L: FullDriver, A: Allocator + Copy> Book<L, A> {
         ensures touches { Touches self.old.touches (events.Retire q) (ring_reply result) self.new.touches }
         ensures memory { WantsMemoryFor (IsLogFull self.old) (ring_reply result) }
     {
-        if self.log.reserve(1).is_err() {
+        if self.log.make_room(0, 0).is_err() {
             return Err(Refusal::Memory);
         }
         let answer = self.world.retire(q);
@@ -133,7 +133,7 @@ impl<L: FullDriver, A: Allocator + Copy> Book<L, A> {
         ensures touches { Touches self.old.touches (events.Forge q slot bytes) (ring_reply result) self.new.touches }
         ensures memory { WantsMemoryFor (IsLogFull self.old) (ring_reply result) }
     {
-        if self.log.reserve(1).is_err() {
+        if self.log.make_room(0, 0).is_err() {
             return Err(Refusal::Memory);
         }
         let answer = self.world.forge(q, slot, bytes);
@@ -157,7 +157,7 @@ impl<L: FullDriver, A: Allocator + Copy> Book<L, A> {
         ensures recovers { OnOk result (SidesAgree self.new.world) }
         ensures memory { IfErr result (λ why. (why ≡ Refusal.Memory) × IsLogFull self.old) }
     {
-        if self.log.reserve(1).is_err() {
+        if self.log.make_room(0, 0).is_err() {
             return Err(Refusal::Memory);
         }
         self.world.reset();

@@ -1,16 +1,16 @@
 //! The book itself: how it opens and ends, and what it shows.
 
-ghost use Rattle.std.specs.Prelude.{◌≡◌, ◌+◌, ◌<◌, ◌≤◌, [], false, true, length, vec_len, vec_capacity, None, IfOk, IfErr, OnOk, OnErr};
+ghost use Rattle.std.specs.Prelude.{◌≡◌, ◌+◌, ◌<◌, ◌≤◌, [], false, true, length, None, IfOk, IfErr, OnOk, OnErr};
 ghost use Rattle.std.specs.Bool.{OnTrue};
 ghost use Rattle.std.specs.List.{Contains};
 ghost use Rattle.machine_model.specs.Claims.{claims_of, counts_of, IsSound};
 ghost use Rattle.page_ledger.specs.Counting.{total};
 ghost use Rattle.host_core.specs.Opening.{refusal_of_config, RefusesOpening};
 ghost use Rattle.step_core.specs.Opening.{opening_of};
-ghost use Rattle.driver_book.specs.History.{accepted, LeadsTo};
+ghost use Rattle.step_log.specs.History.{accepted, LeadsTo};
 ghost use Rattle.driver_book.specs.State.{AreOfJobs, BookContents};
 
-use crate::log::{EntryIn, NoSeat};
+use crate::log::NoSeat;
 use crate::seat::Seat;
 use block_image::Image;
 use page_ledger::{Counts, Owner};
@@ -20,6 +20,7 @@ use std::marker::{Brand, Model};
 use std::sync::ledger;
 use std::sync::ledger::{Blank, Ledger, Share};
 use step_core::{Config, Ended, OpenRefusal, World};
+use step_log::Log;
 
 /// The ledger of one book, and what contracts alone know of that book: the state with which it opens, and whether it takes the steps of
 /// jobs alone.
@@ -71,7 +72,7 @@ pub struct BookRefused<A: Allocator = Global> {
 pub struct Book<L: Driver, A: Allocator = Global> {
     pub(crate) alloc: A,
     pub(crate) world: World<A>,
-    pub(crate) log: Vec<EntryIn<A>, A>,
+    pub(crate) log: Log<A>,
     pub(crate) submissions: u64,
     pub(crate) tally: ledger::Book<L>,
     pub(crate) rest: Share<L>,
@@ -81,14 +82,13 @@ pub struct Book<L: Driver, A: Allocator = Global> {
 }
 
 impl<L: Driver, A: Allocator> Model for Book<L, A> {
-    ghost use Rattle.std.specs.Prelude.{◌-◌, vec_len, vec_capacity};
     ghost use Rattle.driver_book.specs.State.{BookContents, IsBook};
 
     ghost Value = { BookContents };
 
-    ghost view = { λ b. record { opening = L.opening; world = b.world.state; touches = b.world.touches; log = b.log.items; made = b.made; out = b.out; taken = b.rest.amount; stopping = b.stopping; spare = vec_capacity b.log - vec_len b.log } };
+    ghost view = { λ b. record { opening = L.opening; world = b.world.state; touches = b.world.touches; log = b.log.entries; made = b.made; out = b.out; taken = b.rest.amount; stopping = b.stopping; room = b.log.room } };
 
-    ghost invariant = { λ b. IsBook L.jobs_alone L.opening b.world.state b.log.items b.tally.total b.submissions b.rest.parts b.out b.made L.parts };
+    ghost invariant = { λ b. IsBook L.jobs_alone L.opening b.world.state b.log.entries b.tally.total b.submissions b.rest.parts b.out b.made L.parts };
 }
 
 impl<L: Driver, A: Allocator + Copy> Book<L, A> {
@@ -109,7 +109,7 @@ impl<L: Driver, A: Allocator + Copy> Book<L, A> {
         requires number { blank.parts ≡ 65536 }
         requires opening { L.opening ≡ opening_of config image }
         ensures fits { IfOk result (λ book. refusal_of_config config ≡ None) }
-        ensures opened { IfOk result (λ book. book ≡ record { opening = opening_of config image; world = opening_of config image; touches = book.touches; log = []; made = 0; out = 0; taken = 0; stopping = false; spare = 0 }) }
+        ensures opened { IfOk result (λ book. book ≡ record { opening = opening_of config image; world = opening_of config image; touches = book.touches; log = []; made = 0; out = 0; taken = 0; stopping = false; room = record { entries = 0; pieces = 0; pages = 0 } }) }
         ensures refused { IfErr result (λ refused. RefusesOpening config refused.why) }
         ensures image { IfErr result (λ refused. refused.image ≡ image) }
         ensures blank { IfErr result (λ refused. refused.blank ≡ blank) }
@@ -128,7 +128,7 @@ impl<L: Driver, A: Allocator + Copy> Book<L, A> {
         Ok(Book {
             alloc,
             world,
-            log: Vec::new(alloc),
+            log: Log::new(alloc),
             submissions: 0,
             tally,
             rest,
@@ -151,10 +151,11 @@ impl<L: Driver, A: Allocator + Copy> Book<L, A> {
     }
 
     /// The log, the oldest entry first.
-    pub fn log(&self) -> &[EntryIn<A>]
-        ensures { result.now ≡ self.now.log }
+    pub fn log(&self) -> &Log<A>
+        ensures entries { result.now.entries ≡ self.now.log }
+        ensures room { result.now.room ≡ self.now.room }
     {
-        self.log.as_slice()
+        &self.log
     }
 
     /// Makes a seat, with the next number and no receipts. It takes no memory and writes nothing down.

@@ -1,23 +1,24 @@
 //! How a book is closed: its log is compared with the receipts of its seats.
 
-ghost use Rattle.std.specs.Prelude.{◌≡◌, ℕ, ◌+◌, ◌<◌, ◌≤◌, ◌&&◌, length, map, take, Some, is_none, MatchOption, IfSome, IfNone, slice_get, vec_len, vec_capacity, IfOk, IfErr, OnOk, OnErr};
+ghost use Rattle.std.specs.Prelude.{◌≡◌, ℕ, ◌+◌, ◌<◌, ◌≤◌, ◌&&◌, length, map, take, drop, Some, is_none, MatchOption, IfSome, IfNone, slice_get, vec_len, vec_capacity, IfOk, IfErr, OnOk, OnErr};
 ghost use Rattle.std.specs.List.{list_any};
 ghost use Rattle.machine_model.specs.Claims.{IsSound};
 ghost use Rattle.machine_model.specs.Status.{same_status as same_statuses};
-ghost use Rattle.driver_book.specs.History.{LeadsTo, accepted, is_accepted, is_submission as is_step_of_submission};
+ghost use Rattle.step_log.specs.History.{LeadsTo, accepted, is_accepted, is_submission as is_step_of_submission};
 ghost use Rattle.driver_book.specs.State.{AreSeated};
 ghost use Rattle.driver_book.specs.Close.{status_by, held, same_seat, accepted_of, fits_status, queue_in, identifier_in, is_receipt_of, has, stands, AllStand, IsMissing, receipts_of, has_open, IsDone, RefusesClose, Reports};
 ghost use Rattle.driver_book.specs.Passes.{is_known, StandOf, AreKnown, IsMissingAt};
 ghost use Rattle.driver_book.specs.declared.log.Receipt.{Receipt as AReceipt};
 
 use crate::book::{Book, Driver};
-use crate::log::{CloseFault, EntryIn, Receipt, Receipts, Report, ReportIn};
+use crate::log::{CloseFault, Receipt, Receipts, Report, ReportIn};
 use crate::seat::Seat;
 use entry_codec::Status;
 use machine_model::words::Reaped;
 use std::alloc::{Allocator, Global};
 use std::sync::ledger::{Ledger, Share};
-use step_core::{Reply, ReplyIn, Step, StepIn};
+use step_core::{Reply, Step};
+use step_log::{Log, NoBytes, ShownEntry, ShownStep};
 
 /// A book that was not closed: why, and the seats that were handed in. Nothing changed.
 #[derive(Drop)]
@@ -29,7 +30,7 @@ pub struct CloseRefused<L: Ledger, A: Allocator = Global> {
 }
 
 /// Whether a step is a submission that was accepted.
-fn is_accepted_step<A: Allocator>(step: &StepIn<A>, answer: &ReplyIn<A>) -> bool
+fn is_accepted_step(step: &ShownStep<'_>, answer: &Reply<NoBytes>) -> bool
     ensures { result ≡ is_step_of_submission step.now answer.now }
 {
     match step {
@@ -39,7 +40,7 @@ fn is_accepted_step<A: Allocator>(step: &StepIn<A>, answer: &ReplyIn<A>) -> bool
 }
 
 /// Whether an entry is a submission that was accepted.
-fn is_submission<A: Allocator>(entry: &EntryIn<A>) -> bool
+fn is_submission(entry: &ShownEntry<'_>) -> bool
     ensures { result ≡ is_accepted entry.now }
 {
     is_accepted_step(&entry.step, &entry.answer)
@@ -56,13 +57,14 @@ fn is_same_seat(a: Option<u16>, b: Option<u16>) -> bool
     }
 }
 
-/// How many submissions a log has that were accepted.
-fn accepted_in<A: Allocator>(log: &[EntryIn<A>]) -> u64
-    ensures { result ≡ accepted log.now }
+/// How many submissions were accepted before a place of a log.
+fn accepted_before<A: Allocator>(log: &Log<A>, end: usize) -> u64
+    requires { end ≤ length log.now.entries }
+    ensures { result ≡ accepted (take end log.now.entries) }
 {
     let mut number = 0;
-    for p in 0..log.len() {
-        if is_submission(&log[p]) {
+    for p in 0..end {
+        if is_submission(&log.at(p)) {
             number += 1;
         }
     }
@@ -70,12 +72,7 @@ fn accepted_in<A: Allocator>(log: &[EntryIn<A>]) -> u64
 }
 
 /// The status with which a step ended a submitted command.
-fn status_of_step<A: Allocator>(
-    q: u16,
-    cid: u16,
-    step: &StepIn<A>,
-    answer: &ReplyIn<A>,
-) -> Option<Status>
+fn status_of_step(q: u16, cid: u16, step: &ShownStep<'_>, answer: &Reply<NoBytes>) -> Option<Status>
     ensures { result ≡ status_by q cid step.now answer.now }
 {
     match step {
@@ -97,12 +94,14 @@ fn status_of_step<A: Allocator>(
     }
 }
 
-/// The first status that a log goes on to give a submitted command.
-fn status_in<A: Allocator>(q: u16, cid: u16, log: &[EntryIn<A>]) -> Option<Status>
-    ensures { result ≡ held q cid log.now }
+/// The first status that a log gives a submitted command behind a place.
+fn status_behind<A: Allocator>(q: u16, cid: u16, log: &Log<A>, index: usize) -> Option<Status>
+    requires { index < length log.now.entries }
+    ensures { result ≡ held q cid (drop (index + 1) log.now.entries) }
 {
-    for i in 0..log.len() {
-        let entry = &log[i];
+    let end = log.len();
+    for i in index + 1..end {
+        let entry = log.at(i);
         match status_of_step(q, cid, &entry.step, &entry.answer) {
             Some(status) => return Some(status),
             None => {}
@@ -130,7 +129,7 @@ fn fits(status: Option<Status>, told: Option<Status>) -> bool
 }
 
 /// The queue of a submission.
-fn queue_of_step<A: Allocator>(step: &StepIn<A>) -> u16
+fn queue_of_step(step: &ShownStep<'_>) -> u16
     ensures { result ≡ queue_in step.now }
 {
     match step {
@@ -140,7 +139,7 @@ fn queue_of_step<A: Allocator>(step: &StepIn<A>) -> u16
 }
 
 /// The identifier of a submission.
-fn identifier_of_step<A: Allocator>(step: &StepIn<A>) -> u16
+fn identifier_of_step(step: &ShownStep<'_>) -> u16
     ensures { result ≡ identifier_in step.now }
 {
     match step {
@@ -192,21 +191,21 @@ fn any_has<L: Ledger, A: Allocator>(
 /// Whether the submission at `index` of the log, which is the one of this number, and the one at this place of its seat, stands in the
 /// receipts.
 fn does_stand<L: Ledger, A: Allocator>(
-    log: &[EntryIn<A>],
+    log: &Log<A>,
     seats: &[Seat<L, A>],
     index: usize,
     number: u64,
     place: usize,
-    entry: &EntryIn<A>,
+    entry: &ShownEntry<'_>,
 ) -> bool
-    requires within { index < length log.now }
-    requires number { number ≡ accepted (take index log.now) }
-    requires place { place ≡ accepted_of entry.now.seat (take index log.now) }
-    ensures { result ≡ stands log.now seats.now index entry.now }
+    requires within { index < length log.now.entries }
+    requires number { number ≡ accepted (take index log.now.entries) }
+    requires place { place ≡ accepted_of entry.now.seat (take index log.now.entries) }
+    ensures { result ≡ stands log.now.entries seats.now index entry.now }
 {
     let q = queue_of_step(&entry.step);
     let cid = identifier_of_step(&entry.step);
-    let status = status_in(q, cid, &log[index + 1..]);
+    let status = status_behind(q, cid, log, index);
     let wanted = Receipt {
         number,
         q,
@@ -218,24 +217,24 @@ fn does_stand<L: Ledger, A: Allocator>(
 
 /// Goes through the first entries of a log, with the place of one seat: where its first submission stands that is in no receipt.
 fn missing_of<L: Ledger, A: Allocator>(
-    log: &[EntryIn<A>],
+    log: &Log<A>,
     seats: &[Seat<L, A>],
     seat: u16,
     end: usize,
 ) -> Option<usize>
-    requires { end ≤ length log.now }
-    ensures none { IfNone result (StandOf (Some seat) log.now seats.now end) }
+    requires { end ≤ length log.now.entries }
+    ensures none { IfNone result (StandOf (Some seat) log.now.entries seats.now end) }
     ensures within { IfSome result (λ p. p < end) }
-    ensures before { IfSome result (λ p. StandOf (Some seat) log.now seats.now p) }
-    ensures missing { IfSome result (λ p. IsMissingAt log.now seats.now p) }
+    ensures before { IfSome result (λ p. StandOf (Some seat) log.now.entries seats.now p) }
+    ensures missing { IfSome result (λ p. IsMissingAt log.now.entries seats.now p) }
 {
     let mut number = 0;
     let mut place = 0;
     for p in 0..end {
-        let entry = &log[p];
-        if is_submission(entry) {
+        let entry = log.at(p);
+        if is_submission(&entry) {
             if is_same_seat(entry.seat, Some(seat)) {
-                if !does_stand(log, seats, p, number, place, entry) {
+                if !does_stand(log, seats, p, number, place, &entry) {
                     return Some(p);
                 }
                 place += 1;
@@ -254,14 +253,14 @@ fn has_seat<L: Ledger, A: Allocator>(seats: &[Seat<L, A>], seat: Option<u16>) ->
 }
 
 /// How far the accepted submissions of a log are of seats that were handed in.
-fn known_until<L: Ledger, A: Allocator>(log: &[EntryIn<A>], seats: &[Seat<L, A>]) -> usize
-    ensures within { result ≤ length log.now }
-    ensures known { AreKnown log.now seats.now result }
-    ensures missing { result < length log.now → IsMissingAt log.now seats.now result }
+fn known_until<L: Ledger, A: Allocator>(log: &Log<A>, seats: &[Seat<L, A>]) -> usize
+    ensures within { result ≤ length log.now.entries }
+    ensures known { AreKnown log.now.entries seats.now result }
+    ensures missing { result < length log.now.entries → IsMissingAt log.now.entries seats.now result }
 {
     for p in 0..log.len() {
-        let entry = &log[p];
-        if is_submission(entry) {
+        let entry = log.at(p);
+        if is_submission(&entry) {
             if !has_seat(seats, entry.seat) {
                 return p;
             }
@@ -272,9 +271,9 @@ fn known_until<L: Ledger, A: Allocator>(log: &[EntryIn<A>], seats: &[Seat<L, A>]
 
 /// The first accepted submission that stands in no receipt: its seat and its number. Apart from the search for statuses, the log is gone
 /// through once for the seats' numbers, and then once for each seat, up to the first that is missing so far.
-fn missing<L: Ledger, A: Allocator>(log: &[EntryIn<A>], seats: &[Seat<L, A>]) -> Option<(u16, u64)>
-    requires { AreSeated log.now }
-    ensures { MatchOption result (AllStand log.now seats.now) (λ m. IsMissing log.now seats.now m.0 m.1) }
+fn missing<L: Ledger, A: Allocator>(log: &Log<A>, seats: &[Seat<L, A>]) -> Option<(u16, u64)>
+    requires { AreSeated log.now.entries }
+    ensures { MatchOption result (AllStand log.now.entries seats.now) (λ m. IsMissing log.now.entries seats.now m.0 m.1) }
 {
     let mut end = known_until(log, seats);
     for i in 0..seats.len() {
@@ -287,8 +286,8 @@ fn missing<L: Ledger, A: Allocator>(log: &[EntryIn<A>], seats: &[Seat<L, A>]) ->
     if end == log.len() {
         return None;
     }
-    let number = accepted_in(&log[..end]);
-    Some((log[end].seat.unwrap_or(0), number))
+    let number = accepted_before(log, end);
+    Some((log.at(end).seat.unwrap_or(0), number))
 }
 
 /// Whether a receipt of a seat has no status.
@@ -360,7 +359,7 @@ impl<L: Driver, A: Allocator + Copy> Book<L, A> {
         ensures back { IfErr result (λ refused. refused.seats.items ≡ seats.items) }
         ensures same { OnErr result (self.new ≡ self.old) }
     {
-        if let Some((seat, number)) = missing(self.log.as_slice(), seats.as_slice()) {
+        if let Some((seat, number)) = missing(&self.log, seats.as_slice()) {
             let why = CloseFault::Missing { seat, number };
             return Err(CloseRefused { why, seats });
         }

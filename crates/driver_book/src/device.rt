@@ -35,7 +35,7 @@ impl<L: Driver, A: Allocator + Copy> Book<L, A> {
         ensures tells { TellsAll self.old.touches (fetch_reply result) self.new.touches }
         ensures memory { WantsMemoryFor (IsLogFull self.old ⊎ MayWorldWant self.old (events.Fetch q)) (fetch_reply result) }
     {
-        if self.log.reserve(1).is_err() {
+        if self.log.make_room(0, 0).is_err() {
             return Err(unlogged());
         }
         let answer = self.world.fetch(q);
@@ -54,7 +54,7 @@ impl<L: Driver, A: Allocator + Copy> Book<L, A> {
         ensures tells { TellsAll self.old.touches (walk_reply result) self.new.touches }
         ensures memory { WantsMemoryFor (IsLogFull self.old) (walk_reply result) }
     {
-        if self.log.reserve(1).is_err() {
+        if self.log.make_room(0, 0).is_err() {
             return Err(unlogged());
         }
         let answer = self.world.walk(q, cid);
@@ -73,7 +73,7 @@ impl<L: Driver, A: Allocator + Copy> Book<L, A> {
         ensures tells { TellsAll self.old.touches (complete_reply result) self.new.touches }
         ensures memory { WantsMemoryFor (IsLogFull self.old) (complete_reply result) }
     {
-        if self.log.reserve(1).is_err() {
+        if self.log.make_room(0, 0).is_err() {
             return Err(unlogged());
         }
         let answer = self.world.complete(q, cid);

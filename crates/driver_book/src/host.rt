@@ -5,15 +5,15 @@ ghost use Rattle.std.specs.Prelude.{◌≡◌, ◌⊎◌, None, IfErr, IfOk};
 ghost use Rattle.host_core.specs.Alone.{HasPlacedPages, IsLowest};
 ghost use Rattle.machine_model.specs.Events as events;
 ghost use Rattle.step_core.specs.Replies.{reserve_reply, accept_reply, collect_reply, ring_reply, reap_reply};
-ghost use Rattle.driver_book.specs.Calls.{Does, WantsMemoryFor, IsLogFull, MayWorldWant};
+ghost use Rattle.driver_book.specs.Calls.{Does, WantsMemoryFor, IsLogFull, LacksRoomToReserve, MayWorldWant, most_pages};
 ghost use Rattle.step_core.specs.Touching.{Touches};
 
 use crate::book::{Book, Driver};
-use crate::note::{collected, done, ended, note, reaped, reserved};
+use crate::note::{collected, done, ended, note, note_reservation, reaped};
 use io_commands::{Draft, Finished, Request, Ticket};
 use machine_model::words::{Reaped, Refusal};
 use std::alloc::Allocator;
-use step_core::{Refused, Step};
+use step_core::{Refused, Step, World};
 
 /// A value that is handed back, as the log did not grow.
 pub(crate) fn unlogged<T>(value: T) -> Refused<T>
@@ -26,32 +26,39 @@ pub(crate) fn unlogged<T>(value: T) -> Refused<T>
     }
 }
 
+/// How many page numbers the log may have to take for a reservation: none where the world refuses it, else one for each data piece,
+/// and for the chain no more than there are pieces.
+fn pages_to_log<A: Allocator + Copy>(world: &World<A>, q: u16, request: &Request<A>) -> usize
+    ensures { result ≡ most_pages world.now.state q request.now }
+{
+    match world.reserve_refusal(q, request) {
+        None => request.data_pages() + request.pieces().len(),
+        Some(_) => 0,
+    }
+}
+
 impl<L: Driver, A: Allocator + Copy> Book<L, A> {
     /// [`step_core::World::reserve`].
     ///
     /// # Errors
     ///
-    /// As there, and `Memory` also where the log cannot grow or the request cannot be copied for it. The request is handed back.
+    /// As there, and `Memory` where the log cannot grow: for an entry, the request's pieces, and, where the world does not refuse it, its
+    /// page numbers. The request is handed back.
     pub fn reserve(&mut self, q: u16, request: Request<A>) -> Result<Draft<A>, Refused<Request<A>>>
         ensures step { Does self.old None (events.Reserve q request) (reserve_reply result) self.new }
         ensures touches { Touches self.old.touches (events.Reserve q request) (reserve_reply result) self.new.touches }
         ensures identifier { IfOk result (λ draft. IsLowest self.old.world.host q draft.cid) }
         ensures pages { IfOk result (λ draft. HasPlacedPages self.old.world.host draft) }
         ensures back { IfErr result (λ r. r.value ≡ request) }
+        ensures memory { WantsMemoryFor (LacksRoomToReserve self.old q request ⊎ MayWorldWant self.old (events.Reserve q request)) (reserve_reply result) }
     {
-        if self.log.reserve(1).is_err() {
+        let pieces = request.pieces().len();
+        let pages = pages_to_log(&self.world, q, &request);
+        if self.log.make_room(pieces, pages).is_err() {
             return Err(unlogged(request));
         }
-        let Ok(asked) = request.copied(self.alloc) else {
-            return Err(unlogged(request));
-        };
         let answer = self.world.reserve(q, request);
-        note(
-            &mut self.log,
-            None,
-            Step::Reserve { q, request: asked },
-            reserved(&answer),
-        );
+        note_reservation(&mut self.log, q, &answer);
         answer
     }
 
@@ -66,7 +73,7 @@ impl<L: Driver, A: Allocator + Copy> Book<L, A> {
         ensures back { IfErr result (λ r. r.value ≡ draft) }
         ensures memory { WantsMemoryFor (IsLogFull self.old) (accept_reply result) }
     {
-        if self.log.reserve(1).is_err() {
+        if self.log.make_room(0, 0).is_err() {
             return Err(unlogged(draft));
         }
         let step = Step::Cancel {
@@ -88,7 +95,7 @@ impl<L: Driver, A: Allocator + Copy> Book<L, A> {
         ensures touches { Touches self.old.touches (events.Ring q) (ring_reply result) self.new.touches }
         ensures memory { WantsMemoryFor (IsLogFull self.old) (ring_reply result) }
     {
-        if self.log.reserve(1).is_err() {
+        if self.log.make_room(0, 0).is_err() {
             return Err(Refusal::Memory);
         }
         let answer = self.world.ring(q);
@@ -106,7 +113,7 @@ impl<L: Driver, A: Allocator + Copy> Book<L, A> {
         ensures touches { Touches self.old.touches (events.Reap q) (reap_reply result) self.new.touches }
         ensures memory { WantsMemoryFor (IsLogFull self.old) (reap_reply result) }
     {
-        if self.log.reserve(1).is_err() {
+        if self.log.make_room(0, 0).is_err() {
             return Err(Refusal::Memory);
         }
         let answer = self.world.reap(q);
@@ -125,7 +132,7 @@ impl<L: Driver, A: Allocator + Copy> Book<L, A> {
         ensures back { IfErr result (λ r. r.value ≡ ticket) }
         ensures memory { WantsMemoryFor (IsLogFull self.old ⊎ MayWorldWant self.old (events.Collect ticket.q ticket.cid)) (collect_reply result) }
     {
-        if self.log.reserve(1).is_err() {
+        if self.log.make_room(0, 0).is_err() {
             return Err(unlogged(ticket));
         }
         let step = Step::Collect {

@@ -11,7 +11,7 @@
 //! World, log, receipts and report stand in the memory of the allocator with which the book was opened, and so does all that is handed in and
 //! out, but for the request of [`Book::least_pages`]. It is [`Global`](std::alloc::Global) where none is named.
 //!
-//! `specs/History.antt` says where a log leads, `specs/Calls.antt` what the calls do, `specs/Close.antt` what it is to close a book.
+//! The log is a [`Log`] of `step_log`, which says where it leads. `specs/Calls.antt` says what the calls do, `specs/Close.antt` what it is to close a book.
 #![tactic(auto)]
 
 mod admin;
@@ -27,5 +27,5 @@ mod seat;
 
 pub use book::{Book, BookRefused, Driver, FullDriver};
 pub use close::CloseRefused;
-pub use log::{CloseFault, Entry, EntryIn, NoSeat, Receipt, Receipts, Report, ReportIn};
+pub use log::{CloseFault, NoSeat, Receipt, Receipts, Report, ReportIn};
 pub use seat::Seat;

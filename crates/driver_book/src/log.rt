@@ -3,27 +3,10 @@
 ghost use Rattle.std.specs.Prelude.{◌≡◌, map};
 
 use entry_codec::Status;
-use io_commands::Request;
 use page_ledger::Counts;
 use std::alloc::{Allocator, Global};
 use std::marker::Model;
-use step_core::{Bytes, Reply, Step};
 use thiserror::Error;
-
-/// An entry of a book's log: a step of the world, the seat that made it, if one did, and what was answered. The bytes of drafts
-/// and of finished commands are left out.
-#[derive(Debug, Drop)]
-pub struct Entry<R = Request, B = Bytes> {
-    /// The number of the seat.
-    pub seat: Option<u16>,
-    /// The step.
-    pub step: Step<R, B>,
-    /// What it answered.
-    pub answer: Reply<B>,
-}
-
-/// An entry whose request stands in the memory of one allocator.
-pub type EntryIn<A> = Entry<Request<A>, Bytes<A>>;
 
 /// What a seat knows of a command that it submitted.
 #[derive(Clone, Copy, Debug, PartialEq, Eq)]

@@ -1,36 +1,75 @@
 //! What is written down of what a call of the world answered: nothing where it was refused for want of memory.
 
-ghost use Rattle.std.specs.Prelude.{◌≡◌, ◌++◌, [], vec_len, vec_capacity, ◌<◌};
+ghost use Rattle.std.specs.Prelude.{◌≡◌, ◌+◌, ◌++◌, ◌∷◌, ◌<◌, [], None, IfOk, IfErr, OnOk, length};
 ghost use Rattle.machine_model.specs.Events as events;
-ghost use Rattle.step_core.specs.Replies.{reserve_reply, accept_reply, collect_reply, ring_reply, reap_reply, complete_reply, fetch_reply, walk_reply, send_reply};
+ghost use Rattle.step_core.specs.Replies.{accept_reply, collect_reply, ring_reply, reap_reply, complete_reply, fetch_reply, walk_reply, send_reply};
+ghost use Rattle.step_log.specs.History.{entry_of, told};
+ghost use Rattle.step_log.specs.Keeping.{HasNoRequest, bare_step};
+ghost use Rattle.step_log.specs.Values.{Takes, answered};
 ghost use Rattle.driver_book.specs.Calls.{noted, entries};
 
-use crate::log::{Entry, EntryIn};
 use io_commands::{Draft, Finished, Request, Ticket};
 use machine_model::words::{Reaped, Refusal};
 use std::alloc::Allocator;
-use step_core::{
-    Completed, Fetched, Refused, Reply, ReplyIn, StepIn, StepRefused, Touched, Walked,
-};
+use step_core::{Completed, Fetched, Refused, Reply, Step, StepRefused, Touched, Walked};
+use step_log::{KeptStep, Log, NoBytes};
 
-/// Writes a step down, if there is something to write. The log has room.
+/// Writes a step down that has no request, if there is something to write. The log has room.
 pub(crate) fn note<A: Allocator>(
-    log: &mut Vec<EntryIn<A>, A>,
+    log: &mut Log<A>,
     seat: Option<u16>,
-    step: StepIn<A>,
-    answer: Option<ReplyIn<A>>,
+    step: KeptStep,
+    answer: Option<Reply<NoBytes>>,
 )
-    requires { vec_len log.old < vec_capacity log.old }
-    ensures { log.new.items ≡ log.old.items ++ entries seat step answer }
+    requires room { 0 < log.old.room.entries }
+    requires bare { HasNoRequest step }
+    ensures { log.new.entries ≡ log.old.entries ++ entries seat (bare_step step) None answer }
 {
     match answer {
-        Some(answer) => log.push_reserved(Entry { seat, step, answer }),
+        Some(answer) => log.push(seat, step, answer),
         None => {}
     }
 }
 
+/// Writes a reservation down, if there is something to write: with its request, and the draft that came of it. The log has room.
+pub(crate) fn note_reservation<A: Allocator>(
+    log: &mut Log<A>,
+    q: u16,
+    answer: &Result<Draft<A>, Refused<Request<A>>>,
+)
+    requires draft { IfOk answer.now (λ draft. Takes log.old.room (length draft.request.pieces) (length draft.data_pages + length draft.chain_pages)) }
+    requires request { IfErr answer.now (λ r. Takes log.old.room (length r.value.pieces) 0) }
+    ensures draft { IfOk answer.now (λ draft. log.new.entries ≡ log.old.entries ++ entry_of None (events.Reserve draft.q draft.request) (events.Reserved draft) ∷ []) }
+    ensures request { IfErr answer.now (λ r. log.new.entries ≡ log.old.entries ++ entries None (Step.Reserve q r.value) None (noted (events.Refused r.why []))) }
+{
+    match answer {
+        Ok(draft) => log.push_reservation(None, draft),
+        Err(r) => match refused(r.why) {
+            Some(answer) => log.push_request(None, q, &r.value, answer),
+            None => {}
+        },
+    }
+}
+
+/// Has the submission that was written last say that it was refused, if it was.
+pub(crate) fn note_refused<A: Allocator>(
+    log: &mut Log<A>,
+    answer: &Result<Ticket, Refused<Draft<A>>>,
+)
+    ensures accepted { OnOk answer.now (log.new ≡ log.old) }
+    ensures refused { IfErr answer.now (λ r. log.new.entries ≡ answered (told (events.Refused r.why [])) log.old.entries) }
+{
+    match answer {
+        Ok(_) => {}
+        Err(r) => log.answer_last(Reply::Refused {
+            why: r.why,
+            touched: Touched::none(),
+        }),
+    }
+}
+
 /// Of a refusal after which pages were touched.
-fn touching<A: Allocator>(why: Refusal, touched: Touched) -> Option<ReplyIn<A>>
+fn touching(why: Refusal, touched: Touched) -> Option<Reply<NoBytes>>
     ensures { result ≡ noted (events.Refused why touched) }
 {
     match why {
@@ -40,38 +79,14 @@ fn touching<A: Allocator>(why: Refusal, touched: Touched) -> Option<ReplyIn<A>>
 }
 
 /// Of a refusal.
-fn refused<A: Allocator>(why: Refusal) -> Option<ReplyIn<A>>
+fn refused(why: Refusal) -> Option<Reply<NoBytes>>
     ensures { result ≡ noted (events.Refused why []) }
 {
     touching(why, Touched::none())
 }
 
-/// Of a reservation.
-pub(crate) fn reserved<A: Allocator>(
-    answer: &Result<Draft<A>, Refused<Request<A>>>,
-) -> Option<ReplyIn<A>>
-    ensures { result ≡ noted (reserve_reply answer.now) }
-{
-    match answer {
-        Ok(draft) => Some(Reply::reserved(draft)),
-        Err(r) => refused(r.why),
-    }
-}
-
-/// Of a submission.
-pub(crate) fn submitted<A: Allocator>(
-    answer: &Result<Ticket, Refused<Draft<A>>>,
-) -> Option<ReplyIn<A>>
-    ensures { result ≡ noted (accept_reply answer.now) }
-{
-    match answer {
-        Ok(_) => Some(Reply::Accepted),
-        Err(r) => refused(r.why),
-    }
-}
-
 /// Of the end of a draft or of a finished command.
-pub(crate) fn ended<T, A: Allocator>(answer: &Result<(), Refused<T>>) -> Option<ReplyIn<A>>
+pub(crate) fn ended<T>(answer: &Result<(), Refused<T>>) -> Option<Reply<NoBytes>>
     ensures { result ≡ noted (accept_reply answer.now) }
 {
     match answer {
@@ -81,7 +96,7 @@ pub(crate) fn ended<T, A: Allocator>(answer: &Result<(), Refused<T>>) -> Option<
 }
 
 /// Of a call that says no more than that it was done.
-pub(crate) fn done<A: Allocator>(answer: &Result<(), Refusal>) -> Option<ReplyIn<A>>
+pub(crate) fn done(answer: &Result<(), Refusal>) -> Option<Reply<NoBytes>>
     ensures { result ≡ noted (ring_reply answer.now) }
 {
     match answer {
@@ -91,7 +106,7 @@ pub(crate) fn done<A: Allocator>(answer: &Result<(), Refusal>) -> Option<ReplyIn
 }
 
 /// Of a reap.
-pub(crate) fn reaped<A: Allocator>(answer: &Result<Reaped, Refusal>) -> Option<ReplyIn<A>>
+pub(crate) fn reaped(answer: &Result<Reaped, Refusal>) -> Option<Reply<NoBytes>>
     ensures { result ≡ noted (reap_reply answer.now) }
 {
     match answer {
@@ -103,7 +118,7 @@ pub(crate) fn reaped<A: Allocator>(answer: &Result<Reaped, Refusal>) -> Option<R
 /// Of a collection.
 pub(crate) fn collected<A: Allocator>(
     answer: &Result<Finished<A>, Refused<Ticket>>,
-) -> Option<ReplyIn<A>>
+) -> Option<Reply<NoBytes>>
     ensures { result ≡ noted (collect_reply answer.now) }
 {
     match answer {
@@ -113,7 +128,7 @@ pub(crate) fn collected<A: Allocator>(
 }
 
 /// Of an admin command that was sent.
-pub(crate) fn sent<A: Allocator>(answer: &Result<u16, Refusal>) -> Option<ReplyIn<A>>
+pub(crate) fn sent(answer: &Result<u16, Refusal>) -> Option<Reply<NoBytes>>
     ensures { result ≡ noted (send_reply answer.now) }
 {
     match answer {
@@ -123,14 +138,14 @@ pub(crate) fn sent<A: Allocator>(answer: &Result<u16, Refusal>) -> Option<ReplyI
 }
 
 /// Of a refused step of the controller.
-fn stopped<A: Allocator>(step: &StepRefused) -> Option<ReplyIn<A>>
+fn stopped(step: &StepRefused) -> Option<Reply<NoBytes>>
     ensures { result ≡ noted (events.Refused step.now.why step.now.touched) }
 {
     touching(step.why, step.touched.copied())
 }
 
 /// Of a fetch.
-pub(crate) fn fetched<A: Allocator>(answer: &Result<Fetched, StepRefused>) -> Option<ReplyIn<A>>
+pub(crate) fn fetched(answer: &Result<Fetched, StepRefused>) -> Option<Reply<NoBytes>>
     ensures { result ≡ noted (fetch_reply answer.now) }
 {
     match answer {
@@ -143,7 +158,7 @@ pub(crate) fn fetched<A: Allocator>(answer: &Result<Fetched, StepRefused>) -> Op
 }
 
 /// Of a unit of a walk.
-pub(crate) fn walked<A: Allocator>(answer: &Result<Walked, StepRefused>) -> Option<ReplyIn<A>>
+pub(crate) fn walked(answer: &Result<Walked, StepRefused>) -> Option<Reply<NoBytes>>
     ensures { result ≡ noted (walk_reply answer.now) }
 {
     match answer {
@@ -156,7 +171,7 @@ pub(crate) fn walked<A: Allocator>(answer: &Result<Walked, StepRefused>) -> Opti
 }
 
 /// Of a completion.
-pub(crate) fn completed<A: Allocator>(answer: &Result<Completed, StepRefused>) -> Option<ReplyIn<A>>
+pub(crate) fn completed(answer: &Result<Completed, StepRefused>) -> Option<Reply<NoBytes>>
     ensures { result ≡ noted (complete_reply answer.now) }
 {
     match answer {

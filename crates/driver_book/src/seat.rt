@@ -4,13 +4,13 @@ ghost use Rattle.std.specs.Prelude.{◌≡◌, ◌⊎◌, ◌≤◌, ◌<◌, �
 ghost use Rattle.std.specs.List.{list_any};
 ghost use Rattle.machine_model.specs.Events as events;
 ghost use Rattle.step_core.specs.Replies.{accept_reply};
-ghost use Rattle.driver_book.specs.Calls.{Does, Receives, Settles, WantsMemoryFor, IsLogFull, AreReceiptsFull, MayWorldWant, is_open_for as is_open_receipt, settled};
+ghost use Rattle.driver_book.specs.Calls.{Does, Receives, Settles, WantsMemoryFor, IsLogFull, LacksRoomToSubmit, AreReceiptsFull, is_open_for as is_open_receipt, settled};
 ghost use Rattle.step_core.specs.Touching.{Touches};
 
 use crate::book::{Book, Driver};
 use crate::host::unlogged;
 use crate::log::Receipt;
-use crate::note::{ended, note, submitted};
+use crate::note::{ended, note, note_refused};
 use entry_codec::Status;
 use io_commands::{Draft, Finished, Ticket};
 use std::alloc::{Allocator, Global};
@@ -102,8 +102,8 @@ impl<L: Driver, A: Allocator + Copy> Book<L, A> {
     ///
     /// # Errors
     ///
-    /// As there; the draft is handed back. `Memory` where the log or the seat's receipts cannot grow: of book and seat only the spare room
-    /// of these lists may differ then.
+    /// As there; the draft is handed back. `Memory` where the log cannot grow, for an entry with the draft's pieces and page numbers, or
+    /// the seat's receipts cannot: of book and seat only the spare room of these lists may differ then.
     pub fn submit(
         &mut self,
         seat: &mut Seat<L, A>,
@@ -114,22 +114,19 @@ impl<L: Driver, A: Allocator + Copy> Book<L, A> {
         ensures receipt { Receives self.old.log seat.old draft result seat.new }
         ensures back { IfErr result (λ r. r.value ≡ draft) }
         ensures ticket { IfOk result (λ ticket. ticket ≡ record { q = draft.q; cid = draft.cid }) }
-        ensures memory { WantsMemoryFor (IsLogFull self.old ⊎ AreReceiptsFull seat.old) (accept_reply result) }
+        ensures memory { WantsMemoryFor (LacksRoomToSubmit self.old draft ⊎ AreReceiptsFull seat.old) (accept_reply result) }
     {
-        if self.log.reserve(1).is_err() {
+        let pieces = draft.request().pieces().len();
+        if self.log.make_room(pieces, draft.pages().len()).is_err() {
             return Err(unlogged(draft));
         }
         if seat.receipts.reserve(1).is_err() {
             return Err(unlogged(draft));
         }
         let (q, cid) = (draft.q(), draft.cid());
+        self.log.push_submission(Some(seat.number), &draft);
         let answer = self.world.submit(draft);
-        note(
-            &mut self.log,
-            Some(seat.number),
-            Step::Submit { q, cid },
-            submitted(&answer),
-        );
+        note_refused(&mut self.log, &answer);
         if answer.is_ok() {
             self.tally.add(&mut seat.share, 1);
             seat.receipts.push_reserved(Receipt {
@@ -161,7 +158,7 @@ impl<L: Driver, A: Allocator + Copy> Book<L, A> {
         ensures back { IfErr result (λ r. r.value ≡ finished) }
         ensures memory { WantsMemoryFor (IsLogFull self.old) (accept_reply result) }
     {
-        if self.log.reserve(1).is_err() {
+        if self.log.make_room(0, 0).is_err() {
             return Err(unlogged(finished));
         }
         let (q, cid) = (finished.q(), finished.cid());

@@ -43,8 +43,9 @@ fn owners_of<L: Driver>(alloc: Global, book: &Book<L>) -> Result<Vec<Owner>, Run
 
 /// How many entries of a book's log are refusals.
 fn refusals_of<L: Driver>(book: &Book<L>) -> usize {
-    book.log()
-        .iter()
+    let log = book.log();
+    (0..log.len())
+        .filter_map(|index| log.get(index))
         .filter(|entry| matches!(entry.answer, Reply::Refused { .. }))
         .count()
 }

@@ -1,6 +1,6 @@
 -- What a run of threads leaves.
 use Rattle.std.specs.Prelude.{◌≡◌, Some, None, List}
-use Rattle.driver_book.specs.History.{accepted}
+use Rattle.step_log.specs.History.{accepted}
 use Rattle.driver_book.specs.State.{BookContents, SeatContents}
 use Rattle.driver_book.specs.Values.{Report}
 use Rattle.machine_model.specs.State.{State}

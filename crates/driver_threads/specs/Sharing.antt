@@ -13,7 +13,7 @@ use Rattle.page_ledger.specs.declared.owner.Counts.{Counts}
 use Rattle.page_ledger.specs.declared.owner.Owner.{Owner}
 use Rattle.driver_book.specs.Calls.{Does, Receives, Settles}
 use Rattle.driver_book.specs.Close.{AllStand, IsDone, RefusesClose, Reports, receipts_of}
-use Rattle.driver_book.specs.History.{LeadsTo, accepted}
+use Rattle.step_log.specs.History.{LeadsTo, accepted}
 use Rattle.driver_book.specs.State.{BookContents, SeatContents}
 use Rattle.driver_book.specs.declared.log.CloseFault.{CloseFault}
 use Rattle.driver_book.specs.Values.{Report}

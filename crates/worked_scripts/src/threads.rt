@@ -43,8 +43,9 @@ fn owners_of<L: Driver, A: Allocator + Copy>(
 
 /// How many entries of a book's log are refusals.
 fn refusals_of<L: Driver, A: Allocator + Copy>(book: &Book<L, A>) -> usize {
-    book.log()
-        .iter()
+    let log = book.log();
+    (0..log.len())
+        .filter_map(|index| log.get(index))
         .filter(|entry| matches!(entry.answer, Reply::Refused { .. }))
         .count()
 }

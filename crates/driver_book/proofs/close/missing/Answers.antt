@@ -1,24 +1,24 @@
 use Rattle.std.proofs.Common.{◌≡◌, Some, take, arith, rules, subst}
-use Rattle.driver_book.specs.History.{accepted}
+use Rattle.step_log.specs.History.{accepted}
 use Rattle.driver_book.specs.Passes.{StandOf}
 use Rattle.driver_book.specs.State.{SeatContents}
-use Rattle.driver_book.proofs.Standing.{all_before, first_missing, search_all, search_less}
+use Rattle.driver_book.proofs.Standing.{here_at, all_before, first_missing, search_all, search_less}
 use Rattle.driver_book.proofs.close.missing.Goals as goal
 use Rattle.driver_book.proofs.close.missing.Goals.{in-Some, in-None}
 
-pub returns-then-end-log : goal.returns-then-end-log
-returns-then-end-log g c =
-    λ p below. all_before c.args.log.now c.args.seats.now c.loop-i.i c.loop-i.end (omega arith) c.loop-i.invariant p (omega arith)
+pub returns-then-end-len : goal.returns-then-end-len
+returns-then-end-len g c =
+    λ p below. all_before c.args.log.now.entries c.args.seats.now c.loop-i.i c.loop-i.end (omega arith) c.loop-i.invariant p (omega arith)
 
 pub returns : goal.returns
 returns g c =
-    let counted : c.accepted_in-number.result ≡ accepted (take c.loop-i.end c.args.log.now) = search rules in
-    rw (c.unwrap_or.ensures, ← c.index-log-end.is)
-    (first_missing c.args.log.now c.args.seats.now c.loop-i.i c.loop-i.end c.accepted_in-number.result c.index-log-end.result (omega arith) (omega (arith, c.loop-i.invariant.within)) c.index-log-end.is c.requires counted c.loop-i.invariant)
+    let counted : c.accepted_before-number.result ≡ accepted (take c.loop-i.end c.args.log.now.entries) = search rules in
+    rw c.unwrap_or.ensures
+    (first_missing c.args.log.now.entries c.args.seats.now c.loop-i.i c.loop-i.end c.accepted_before-number.result c.at.result (omega arith) (omega (arith, c.loop-i.invariant.within)) (here_at c.args.log.now.entries c.loop-i.end c.at.result c.at.ensures) c.requires counted c.loop-i.invariant)
 
 pub loop-i-preserved : goal.loop-i-preserved
 loop-i-preserved g c =
-    let log = c.args.log.now in
+    let log = c.args.log.now.entries in
     let seats = c.args.seats.now in
     let s = c.index-seats-i.result in
     elim c.match-missing_of.branch [

@@ -1,26 +1,26 @@
-use Rattle.std.proofs.Common.{◌-◌, vec_capacity, vec_len, None, refl, sym, ◌∙◌, ap}
-use Rattle.machine_model.specs.Events as events
+use Rattle.std.proofs.Common.{None, refl, sym, ◌∙◌, ap}
 use Rattle.step_core.specs.Replies.{complete_reply}
 use Rattle.driver_book.specs.Calls.{IsLogFull}
 use Rattle.driver_book.specs.State.{BookContents}
-use Rattle.driver_book.proofs.Runs.{does_in, has_room, keeps_jobs, no_room, takes_no_memory, touches_in, wants_room}
+use Rattle.driver_book.proofs.Runs.{does_in, log_has_some, keeps_jobs, no_room, takes_no_memory, touches_in, wants_room}
+use Rattle.machine_model.specs.Events as events
 use Rattle.driver_book.proofs.book.Book.complete.Goals as goal
 
 pub returns-then-is_err-clause-memory : goal.returns-then-is_err-clause-memory
 returns-then-is_err-clause-memory g c =
-    wants_room _ _ c.unlogged.ensures.why (no_room c.self.view_is _ _ c.reserve.result (sym c.is_err.ensures.value ∙ c.if-is_err.true) c.reserve.ensures.full refl)
+    wants_room _ _ c.unlogged.ensures.why (no_room c.self.view_is c.make_room.result (sym c.is_err.ensures.value ∙ c.if-is_err.true) c.make_room.ensures.full)
 
-pub note-requires : goal.note-requires
-note-requires g c = has_room _ _ c.reserve.result (sym c.is_err.ensures.value ∙ c.if-is_err.false) c.reserve.ensures.ok
+pub note-requires-clause-room : goal.note-requires-clause-room
+note-requires-clause-room g c = log_has_some _ c.make_room.result (sym c.is_err.ensures.value ∙ c.if-is_err.false) c.make_room.ensures.room
 
 pub invariant_of-self-2 : goal.invariant_of-self-2
 invariant_of-self-2 g c =
     keeps_jobs None (events.Complete c.args.q c.args.cid) (complete_reply c.complete-answer.result) c.self.invariant c.complete-answer.ensures.step refl refl
-    (rw (c.note.ensures, c.reserve.ensures.items, c.completed.ensures) refl)
+    (rw (c.note.ensures, c.make_room.ensures.same, c.completed.ensures) refl)
 
 pub returns-clause-step : goal.returns-clause-step
 returns-clause-step g c =
-    does_in c.self.view_is c.complete-answer.new.self.state c.note.new.log.items (vec_capacity c.note.new.log - vec_len c.note.new.log) _ None (events.Complete c.args.q c.args.cid) (complete_reply c.complete-answer.result) c.complete-answer.ensures.step (rw (c.note.ensures, c.reserve.ensures.items, c.completed.ensures) refl)
+    does_in c.self.view_is c.complete-answer.new.self.state c.note.new.log.entries c.note.new.log.room _ None (events.Complete c.args.q c.args.cid) (complete_reply c.complete-answer.result) c.complete-answer.ensures.step (rw (c.note.ensures, c.make_room.ensures.same, c.completed.ensures) refl)
 
 pub returns-clause-touches : goal.returns-clause-touches
 returns-clause-touches g c =

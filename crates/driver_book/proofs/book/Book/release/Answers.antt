@@ -1,23 +1,23 @@
-use Rattle.std.proofs.Common.{◌≡◌, ◌-◌, ◌++◌, vec_capacity, vec_len, length, take, drop, Some, refl, ap, sym, ◌∙◌}
-use Rattle.machine_model.specs.Events as events
+use Rattle.std.proofs.Common.{◌≡◌, ◌++◌, vec_len, length, take, drop, Some, refl, ap, sym, ◌∙◌}
 use Rattle.step_core.specs.Replies.{accept_reply}
 use Rattle.driver_book.specs.Calls.{IsLogFull}
 use Rattle.driver_book.specs.State.{BookContents}
-use Rattle.driver_book.proofs.Runs.{does_in, has_room, keeps_jobs, no_room, takes_no_memory, wants_room}
+use Rattle.driver_book.proofs.Runs.{does_in, log_has_some, keeps_jobs, no_room, takes_no_memory, wants_room}
 use Rattle.driver_book.proofs.Seats.{length_settled, settles_in, settles_none, written_back}
-use Rattle.driver_book.proofs.book.Book.release.Goals as goal
 use Rattle.driver_book.proofs.book.Book.release.Goals.{then-is_ok, else-is_ok}
+use Rattle.machine_model.specs.Events as events
+use Rattle.driver_book.proofs.book.Book.release.Goals as goal
 
 pub invariant_of-self-2 : goal.invariant_of-self-2
 invariant_of-self-2 g c =
     keeps_jobs (Some c.seat.inside.number) (events.Release c.args.finished) (accept_reply c.release-answer.result) c.self.invariant c.release-answer.ensures.step refl refl
-    (rw (c.note.ensures, c.reserve.ensures.items, c.q-q.ensures, c.cid-cid.ensures, c.ended.ensures) refl)
+    (rw (c.note.ensures, c.make_room.ensures.same, c.q-q.ensures, c.cid-cid.ensures, c.ended.ensures) refl)
 
 pub returns-clause-step : goal.returns-clause-step
 returns-clause-step g c =
     rw (← c.seat.view_is)
-    (does_in c.self.view_is c.release-answer.new.self.state c.note.new.log.items (vec_capacity c.note.new.log - vec_len c.note.new.log) _ (Some c.seat.inside.number) (events.Release c.args.finished) (accept_reply c.release-answer.result) c.release-answer.ensures.step
-    (rw (c.note.ensures, c.reserve.ensures.items, c.q-q.ensures, c.cid-cid.ensures, c.ended.ensures) refl))
+    (does_in c.self.view_is c.release-answer.new.self.state c.note.new.log.entries c.note.new.log.room _ (Some c.seat.inside.number) (events.Release c.args.finished) (accept_reply c.release-answer.result) c.release-answer.ensures.step
+    (rw (c.note.ensures, c.make_room.ensures.same, c.q-q.ensures, c.cid-cid.ensures, c.ended.ensures) refl))
 
 pub returns-clause-memory : goal.returns-clause-memory
 returns-clause-memory g c =
@@ -25,10 +25,10 @@ returns-clause-memory g c =
 
 pub returns-then-is_err-clause-memory : goal.returns-then-is_err-clause-memory
 returns-then-is_err-clause-memory g c =
-    wants_room _ _ c.unlogged.ensures.why (no_room c.self.view_is _ _ c.reserve.result (sym c.is_err.ensures.value ∙ c.if-is_err.true) c.reserve.ensures.full refl)
+    wants_room _ _ c.unlogged.ensures.why (no_room c.self.view_is c.make_room.result (sym c.is_err.ensures.value ∙ c.if-is_err.true) c.make_room.ensures.full)
 
-pub note-requires : goal.note-requires
-note-requires g c = has_room _ _ c.reserve.result (sym c.is_err.ensures.value ∙ c.if-is_err.false) c.reserve.ensures.ok
+pub note-requires-clause-room : goal.note-requires-clause-room
+note-requires-clause-room g c = log_has_some _ c.make_room.result (sym c.is_err.ensures.value ∙ c.if-is_err.false) c.make_room.ensures.room
 
 pub invariant_of-seat : goal.invariant_of-seat
 invariant_of-seat g c =

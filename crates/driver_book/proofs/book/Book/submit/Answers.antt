@@ -1,53 +1,71 @@
-use Rattle.std.proofs.Common.{◌⊎◌, inl, ◌-◌, vec_capacity, vec_len, Some, refl, ap, sym, ◌∙◌, rules}
-use Rattle.machine_model.specs.Events as events
+use Rattle.std.proofs.Common.{◌⊎◌, ◌∷◌, [], inl, ◌-◌, vec_capacity, vec_len, Some, length, length-append, arith, refl, ap, sym, ◌∙◌, rules}
+use Rattle.io_commands.specs.Asked.{Request}
 use Rattle.step_core.specs.Replies.{accept_reply}
-use Rattle.driver_book.specs.Calls.{IsLogFull, AreReceiptsFull}
+use Rattle.driver_book.specs.Calls.{LacksRoomToSubmit, AreReceiptsFull}
 use Rattle.driver_book.specs.State.{BookContents}
-use Rattle.driver_book.proofs.Runs.{accepts_book, does_in, has_room, keeps_jobs, no_room, refused_submission, takes_no_memory, wants_room}
-use Rattle.driver_book.proofs.Seats.{receives_in}
+use Rattle.driver_book.proofs.Runs.{accepts_book, does_in, has_room, keeps_jobs, log_has_room, log_lacks, refused_submission, submission_entries, submission_written, lacks_as, takes_as, takes_no_memory, wants_room}
+use Rattle.std.proofs.lemmas.List.Sums.{count_by-le-length}
+use Rattle.step_log.specs.History.{is_accepted, entry_of}
+use Rattle.driver_book.proofs.Seats.{receives_in, receives_none}
+use Rattle.machine_model.specs.Events as events
 use Rattle.driver_book.proofs.book.Book.submit.Goals as goal
 
 pub invariant_of-self-then-is_ok : goal.invariant_of-self-then-is_ok
 invariant_of-self-then-is_ok g c =
-    accepts_book c.seat.inside.number c.args.draft c.submit-answer.result (search rules) c.self.invariant c.submit-answer.ensures.step (rw (c.note.ensures, c.reserve.ensures.items, c.q-q.ensures, c.cid-cid.ensures, c.submitted.ensures) refl) c.add.ensures.total
+    accepts_book c.seat.inside.number c.args.draft c.submit-answer.result (search rules) c.self.invariant c.submit-answer.ensures.step (submission_written (Some c.seat.inside.number) c.args.draft c.submit-answer.result c.self.inside.log.entries c.push_submission.new.self c.note_refused.new.log (rw (c.push_submission.ensures.entries, c.make_room.ensures.same) refl) c.note_refused.ensures.accepted c.note_refused.ensures.refused) c.add.ensures.total
 
 pub invariant_of-self-else-is_ok : goal.invariant_of-self-else-is_ok
 invariant_of-self-else-is_ok g c =
     keeps_jobs (Some c.seat.inside.number) (events.Submit c.args.draft) (accept_reply c.submit-answer.result) c.self.invariant c.submit-answer.ensures.step refl
-    (refused_submission c.args.draft c.submit-answer.result (search rules)) (rw (c.note.ensures, c.reserve.ensures.items, c.q-q.ensures, c.cid-cid.ensures, c.submitted.ensures) refl)
+    (refused_submission c.args.draft c.submit-answer.result (search rules)) (submission_entries (Some c.seat.inside.number) c.self.inside.world.state c.submit-answer.new.self.state c.args.draft c.submit-answer.result c.self.inside.log.entries c.push_submission.new.self c.note_refused.new.log c.submit-answer.ensures.step (rw (c.push_submission.ensures.entries, c.make_room.ensures.same) refl) c.note_refused.ensures.accepted c.note_refused.ensures.refused)
 
 pub returns-else-is_ok-clause-step : goal.returns-else-is_ok-clause-step
 returns-else-is_ok-clause-step g c =
     rw (← c.seat.view_is)
-    (does_in c.self.view_is c.submit-answer.new.self.state c.note.new.log.items (vec_capacity c.note.new.log - vec_len c.note.new.log) _ (Some c.seat.inside.number) (events.Submit c.args.draft) (accept_reply c.submit-answer.result) c.submit-answer.ensures.step (rw (c.note.ensures, c.reserve.ensures.items, c.q-q.ensures, c.cid-cid.ensures, c.submitted.ensures) refl))
+    (does_in c.self.view_is c.submit-answer.new.self.state c.note_refused.new.log.entries c.note_refused.new.log.room _ (Some c.seat.inside.number) (events.Submit c.args.draft) (accept_reply c.submit-answer.result) c.submit-answer.ensures.step (submission_entries (Some c.seat.inside.number) c.self.inside.world.state c.submit-answer.new.self.state c.args.draft c.submit-answer.result c.self.inside.log.entries c.push_submission.new.self c.note_refused.new.log c.submit-answer.ensures.step (rw (c.push_submission.ensures.entries, c.make_room.ensures.same) refl) c.note_refused.ensures.accepted c.note_refused.ensures.refused))
 
 pub returns-else-is_ok-clause-memory : goal.returns-else-is_ok-clause-memory
 returns-else-is_ok-clause-memory g c =
-    takes_no_memory (IsLogFull c.args.self.now ⊎ AreReceiptsFull c.args.seat.now) c.self.inside.world.state c.submit-answer.new.self.state (events.Submit c.args.draft) (accept_reply c.submit-answer.result) refl c.submit-answer.ensures.step
+    takes_no_memory (LacksRoomToSubmit c.args.self.now c.args.draft ⊎ AreReceiptsFull c.args.seat.now) c.self.inside.world.state c.submit-answer.new.self.state (events.Submit c.args.draft) (accept_reply c.submit-answer.result) refl c.submit-answer.ensures.step
 
 pub returns-then-is_err-clause-memory : goal.returns-then-is_err-clause-memory
 returns-then-is_err-clause-memory g c =
-    wants_room _ _ c.unlogged.ensures.why (inl (no_room c.self.view_is _ _ c.reserve.result (sym c.is_err.ensures.value ∙ c.if-is_err.true) c.reserve.ensures.full refl))
+    wants_room _ _ c.unlogged.ensures.why (inl (lacks_as c.args.self.now.room (length c.pieces-pieces.result.now) (length c.pages.result.now) _ _ (ap length c.pieces-pieces.ensures ∙ ap (λ (r : Request). length r.pieces) c.request.ensures.request) (ap length c.pages.ensures ∙ length-append c.args.draft.data_pages c.args.draft.chain_pages)
+    (log_lacks c.self.view_is (length c.pieces-pieces.result.now) (length c.pages.result.now) c.make_room.result (sym c.is_err.ensures.value ∙ c.if-is_err.true) c.make_room.ensures.full)))
 
-pub note-requires : goal.note-requires
-note-requires g c = has_room _ _ c.reserve.result (sym c.is_err.ensures.value ∙ c.if-is_err.false) c.reserve.ensures.ok
+pub push_submission-requires : goal.push_submission-requires
+push_submission-requires g c =
+    takes_as c.make_room.new.self.room (length c.pieces-pieces.result.now) (length c.pages.result.now) _ _ (ap length c.pieces-pieces.ensures ∙ ap (λ (r : Request). length r.pieces) c.request.ensures.request) (ap length c.pages.ensures ∙ length-append c.args.draft.data_pages c.args.draft.chain_pages)
+    (log_has_room c.make_room.new.self.room (length c.pieces-pieces.result.now) (length c.pages.result.now) c.make_room.result (sym c.is_err.ensures.value ∙ c.if-is_err.false) c.make_room.ensures.room)
 
 pub push_reserved-requires : goal.push_reserved-requires
-push_reserved-requires g c = has_room _ _ c.reserve-2.result (sym c.is_err-2.ensures.value ∙ c.if-is_err-2.false) c.reserve-2.ensures.ok
+push_reserved-requires g c = has_room _ _ c.reserve.result (sym c.is_err-2.ensures.value ∙ c.if-is_err-2.false) c.reserve.ensures.ok
 
 pub returns-then-is_ok-clause-step : goal.returns-then-is_ok-clause-step
 returns-then-is_ok-clause-step g c =
     rw (← c.seat.view_is)
-    (does_in c.self.view_is c.submit-answer.new.self.state c.note.new.log.items (vec_capacity c.note.new.log - vec_len c.note.new.log) _ (Some c.seat.inside.number) (events.Submit c.args.draft) (accept_reply c.submit-answer.result) c.submit-answer.ensures.step (rw (c.note.ensures, c.reserve.ensures.items, c.q-q.ensures, c.cid-cid.ensures, c.submitted.ensures) refl))
+    (does_in c.self.view_is c.submit-answer.new.self.state c.note_refused.new.log.entries c.note_refused.new.log.room _ (Some c.seat.inside.number) (events.Submit c.args.draft) (accept_reply c.submit-answer.result) c.submit-answer.ensures.step (submission_entries (Some c.seat.inside.number) c.self.inside.world.state c.submit-answer.new.self.state c.args.draft c.submit-answer.result c.self.inside.log.entries c.push_submission.new.self c.note_refused.new.log c.submit-answer.ensures.step (rw (c.push_submission.ensures.entries, c.make_room.ensures.same) refl) c.note_refused.ensures.accepted c.note_refused.ensures.refused))
 
 pub returns-then-is_ok-clause-receipt : goal.returns-then-is_ok-clause-receipt
 returns-then-is_ok-clause-receipt g c =
     receives_in c.seat.view_is (ap (λ (b : BookContents). b.log) c.self.view_is) c.args.draft c.submit-answer.result (sym c.is_ok.ensures.value ∙ c.if-is_ok.true) c.push_reserved.new.self.items (vec_capacity c.push_reserved.new.self - vec_len c.push_reserved.new.self)
-    (rw (c.push_reserved.ensures.items, c.reserve-2.ensures.items, c.q-q.ensures, c.cid-cid.ensures, c.self.invariant.numbered) refl)
+    (rw (c.push_reserved.ensures.items, c.reserve.ensures.items, c.q-q.ensures, c.cid-cid.ensures, c.self.invariant.numbered) refl)
 
 pub returns-then-is_ok-clause-memory : goal.returns-then-is_ok-clause-memory
 returns-then-is_ok-clause-memory g c =
-    takes_no_memory (IsLogFull c.args.self.now ⊎ AreReceiptsFull c.args.seat.now) c.self.inside.world.state c.submit-answer.new.self.state (events.Submit c.args.draft) (accept_reply c.submit-answer.result) refl c.submit-answer.ensures.step
+    takes_no_memory (LacksRoomToSubmit c.args.self.now c.args.draft ⊎ AreReceiptsFull c.args.seat.now) c.self.inside.world.state c.submit-answer.new.self.state (events.Submit c.args.draft) (accept_reply c.submit-answer.result) refl c.submit-answer.ensures.step
+
+pub returns-else-is_ok-clause-receipt : goal.returns-else-is_ok-clause-receipt
+returns-else-is_ok-clause-receipt g c =
+    receives_none c.args.self.now.log c.seat.view_is c.args.draft c.submit-answer.result (sym c.is_ok.ensures.value ∙ c.if-is_ok.false) c.reserve.new.self.items (vec_capacity c.reserve.new.self - vec_len c.reserve.new.self) c.reserve.ensures.items
+
+pub overflow_add-self : goal.overflow_add-self
+overflow_add-self g c =
+    let longer = length-append c.make_room.new.self.entries (entry_of (Some c.seat.inside.number) (events.Submit c.args.draft) events.Accepted ∷ []) in
+    let long = ap length c.push_submission.ensures.entries in
+    let same = ap length c.make_room.ensures.same in
+    let few = count_by-le-length is_accepted c.self.inside.log.entries in
+    record { fits = omega (arith, longer, long, same, few, c.push_submission.ensures.few, c.self.invariant.numbered) }
 
 pub returns-else-is_ok-clause-touches : goal.returns-else-is_ok-clause-touches
 returns-else-is_ok-clause-touches g c = rw (← c.self.view_is) c.submit-answer.ensures.touches

@@ -1,14 +1,15 @@
 use Rattle.std.proofs.Common.{◌≡◌, true, false, arith, sym, ap, ◌∙◌}
 use Rattle.std.proofs.lemmas.List.Sums.{count_by_more_yes, count_by_more_no}
-use Rattle.driver_book.specs.History.{is_accepted}
-use Rattle.driver_book.proofs.close.accepted_in.Goals as goal
-use Rattle.driver_book.proofs.close.accepted_in.Goals.{then-is_submission, else-is_submission}
+use Rattle.step_log.specs.History.{is_accepted}
+use Rattle.driver_book.proofs.Standing.{here_at}
+use Rattle.driver_book.proofs.close.accepted_before.Goals as goal
+use Rattle.driver_book.proofs.close.accepted_before.Goals.{then-is_submission, else-is_submission}
 
 pub loop-p-preserved : goal.loop-p-preserved
 loop-p-preserved g c =
-    let log = c.args.log.now in
-    let x = c.index-log-p.result in
-    let here = c.index-log-p.is in
+    let log = c.args.log.now.entries in
+    let x = c.at.result in
+    let here = here_at log c.loop-p.p x c.at.ensures in
     elim c.if-is_submission.branch [
       | then-is_submission w ↦
           let accepts : is_accepted x ≡ true = sym c.is_submission.ensures ∙ w.if-is_submission.true in

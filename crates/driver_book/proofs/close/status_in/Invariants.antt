@@ -1,7 +1,0 @@
-use Rattle.std.proofs.Common.{◌≡◌, drop}
-use Rattle.driver_book.specs.Close.{held}
-use Rattle.driver_book.proofs.close.status_in.Given as goal
-
--- what was passed over gave no status
-abbrev pub invariant-loop-i : goal.invariant-loop-i
-invariant-loop-i g l = held l.q l.cid (drop l.i l.log) ≡ held l.q l.cid l.log

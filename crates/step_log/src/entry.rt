@@ -1,0 +1,65 @@
+//! Entries, and how a log keeps them.
+
+ghost use Rattle.std.specs.Prelude.{◌≡◌, []};
+
+use io_commands::RequestOf;
+use std::marker::Model;
+use step_core::{Reply, Step};
+
+/// An entry of a log: a step of the world, who made it, what was answered, and of a reservation that was accepted and of each submission
+/// what the draft was. The bytes of drafts and of finished commands are left out.
+#[derive(Debug, Drop)]
+pub struct Entry<R, B, P> {
+    /// The number of the seat that made the step, if one did.
+    pub seat: Option<u16>,
+    /// The step.
+    pub step: Step<R, B>,
+    /// What it answered.
+    pub answer: Reply<B>,
+    /// The draft that came of it, or that it took.
+    pub draft: Option<LoggedDraft<R, P>>,
+}
+
+/// A draft without the bytes of its pages.
+#[derive(Debug, Drop)]
+pub struct LoggedDraft<R, P> {
+    /// What the host asked for.
+    pub request: R,
+    /// The numbers of its data pages, one for each data piece, in their order.
+    pub data_pages: P,
+    /// The numbers of the pages of its chain, in their order.
+    pub chain_pages: P,
+}
+
+/// Which part of a list: from a place on, to before another.
+#[derive(Clone, Copy, Debug)]
+pub struct Span {
+    pub(crate) start: usize,
+    pub(crate) end: usize,
+}
+
+/// What stands in a log where a step or an answer has bytes: none. Contracts see the empty list.
+#[derive(Clone, Copy, Debug)]
+pub struct NoBytes;
+
+impl Model for NoBytes {
+    ghost use Rattle.std.specs.Prelude.{List, ℕ, []};
+
+    ghost Value = { List ℕ };
+
+    ghost view = { λ _. [] };
+
+    ghost inverse = { λ _. record {} };
+}
+
+/// A request as a log keeps it.
+pub(crate) type KeptRequest = RequestOf<Span>;
+
+/// A draft as a log keeps it.
+pub(crate) type KeptDraft = LoggedDraft<KeptRequest, Span>;
+
+/// An entry as a log keeps it: its request and its pages are parts of the log's lists.
+pub(crate) type KeptEntry = Entry<KeptRequest, NoBytes, Span>;
+
+/// A step as a log keeps it.
+pub type KeptStep = Step<RequestOf<Span>, NoBytes>;
