@@ -52,20 +52,20 @@ jobs_push [] e are is = (is, tt)
 jobs_push (x ∷ xs) e are is = (are.0, jobs_push xs e are.1 is)
 
 -- a driver takes an entry where it takes every step, or where the entry is one of jobs
-abbrev pub Takes : Bool → Event → Type 0
-Takes jobs_alone e = OnTrue jobs_alone (is_of_jobs (asked e) ≡ true)
+abbrev pub Admits : Bool → Event → Type 0
+Admits jobs_alone e = OnTrue jobs_alone (is_of_jobs (asked e) ≡ true)
 
-taken_push : (b : Bool) (seat : Option ℕ) (e : Event) (r : events.Reply) (log : List Entry) → OnTrue b (AreOfJobs log) → Takes b e → OnTrue b (AreOfJobs (log ++ entry_of seat e r ∷ []))
+taken_push : (b : Bool) (seat : Option ℕ) (e : Event) (r : events.Reply) (log : List Entry) → OnTrue b (AreOfJobs log) → Admits b e → OnTrue b (AreOfJobs (log ++ entry_of seat e r ∷ []))
 taken_push true seat e r log are takes = jobs_push log (entry_of seat e r) are takes
 taken_push false seat e r log are takes = tt
 
 -- any driver takes the steps of jobs
-pub takes_jobs : (b : Bool) (e : Event) → is_of_jobs (asked e) ≡ true → Takes b e
+pub takes_jobs : (b : Bool) (e : Event) → is_of_jobs (asked e) ≡ true → Admits b e
 takes_jobs true e is = is
 takes_jobs false e is = tt
 
 -- a driver that takes every step takes each
-pub takes_any : (b : Bool) (e : Event) → b ≡ false → Takes b e
+pub takes_any : (b : Bool) (e : Event) → b ≡ false → Admits b e
 takes_any true e is = absurd (true≢false is)
 takes_any false e is = tt
 
@@ -77,7 +77,7 @@ not_accepted None b isnt = ap not isnt
 
 -- an entry that is no accepted submission
 book_step : {b : Bool} {o w v : State} {log : List Entry} {tally subs parts out made ledger : ℕ} (seat : Option ℕ) (e : Event) (r : events.Reply)
-    → IsBook b o w log tally subs parts out made ledger → machine.Step w e r v → Takes b e → is_submission (asked e) (told r) ≡ false
+    → IsBook b o w log tally subs parts out made ledger → machine.Step w e r v → Admits b e → is_submission (asked e) (told r) ≡ false
     → IsBook b o v (log ++ entry_of seat e r ∷ []) tally subs parts out made ledger
 book_step {b = alone} {o = o} {w = w} {v = v} {log = log} seat e r b step takes other =
     let written : Entry = entry_of seat e r in
@@ -117,7 +117,7 @@ book_accept {b = alone} {o = o} {w = w} {v = v} {log = log} seat d b step counte
 
 -- What a step leaves is a book of the log with what was written of it: nothing, where memory was refused.
 pub keeps_book : {b : Bool} {o w v : State} {log now : List Entry} {tally subs parts out made ledger : ℕ} (seat : Option ℕ) (e : Event) (r : events.Reply)
-    → IsBook b o w log tally subs parts out made ledger → machine.Step w e r v → Takes b e → is_submission (asked e) (told r) ≡ false
+    → IsBook b o w log tally subs parts out made ledger → machine.Step w e r v → Admits b e → is_submission (asked e) (told r) ≡ false
     → now ≡ log ++ entries seat (asked e) (draft_of e r) (noted r) → IsBook b o v now tally subs parts out made ledger
 keeps_book {log = log} seat e (events.Refused refusal.Memory pages) b step takes other is = rw (is ∙ append-nil log, step.2) b
 keeps_book seat e (events.Refused why pages) b step takes other is = rw is (book_step seat e (events.Refused why pages) b step takes other)
