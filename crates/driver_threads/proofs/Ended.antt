@@ -57,11 +57,11 @@ found_last q cid number (r ∷ old) none =
 settled_last : (q cid number : ℕ) (status : Option Status) (old : List Receipt) → list_any (λ (r : Receipt). is_none r.status) old ≡ false
     → settled q cid status (old ++ receipt number q cid None ∷ []) ≡ old ++ receipt number q cid status ∷ []
 settled_last q cid number status old none =
-    let open : Receipt = receipt number q cid None in
+    let waiting : Receipt = receipt number q cid None in
     let empty : Receipt = receipt 0 0 0 None in
-    ap (λ (i : Option ℕ). settled_at i status (old ++ open ∷ [])) (found_last q cid number old none)
-    ∙ ap (λ (r : Receipt). slice_set (old ++ open ∷ []) (length old) (record r { status = status })) (get_or-append_seam old open [] empty)
-    ∙ set-append_seam old open [] (receipt number q cid status)
+    ap (λ (i : Option ℕ). settled_at i status (old ++ waiting ∷ [])) (found_last q cid number old none)
+    ∙ ap (λ (r : Receipt). slice_set (old ++ waiting ∷ []) (length old) (record r { status = status })) (get_or-append_seam old waiting [] empty)
+    ∙ set-append_seam old waiting [] (receipt number q cid status)
 
 last_is : (old : List Receipt) (r : Receipt) → last_status (old ++ r ∷ []) ≡ r.status
 last_is old r =

@@ -172,7 +172,8 @@ fn finished<L: Driver, A: Allocator + Copy, R: Wait>(
     finished: Finished<A>,
 ) -> Result<JobEndIn<A>, Halt>
     requires { list_any (is_open_for finished.q finished.cid) seat.old.receipts ≡ true }
-    ensures { IfOk result (λ end. EndsWith seat.old.receipts finished.q finished.cid end seat.new.receipts) }
+    ensures settled { IfOk result (λ end. EndsWith seat.old.receipts finished.q finished.cid end seat.new.receipts) }
+    ensures halted { IfErr result (λ halt. refuses halt ≡ false) }
 {
     let Ok(bytes) = finished.gather(alloc) else {
         drop(finished.apart());
