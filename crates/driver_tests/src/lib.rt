@@ -19,8 +19,6 @@ mod jobs;
 #[cfg(test)]
 mod lists;
 #[cfg(test)]
-mod logged;
-#[cfg(test)]
 mod looks;
 #[cfg(test)]
 mod opening;
