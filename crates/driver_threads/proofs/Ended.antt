@@ -1,10 +1,11 @@
 -- A job that ended, beside the receipt of its command.
 use Rattle.std.proofs.Common.{◌≡◌, ℕ, zero, suc, ◌+◌, ◌-◌, ◌==◌, ◌&&◌, Bool, true, false, true≢false, Option, Some, None, List, [], ◌∷◌, ◌++◌, length, map, position, refl, sym, ap, ◌∙◌, arith, eq-eqb}
 use Rattle.std.specs.Prelude.{is_none, slice_get, slice_set, option_and_then}
-use Rattle.std.specs.List.{list_any}
+use Rattle.std.specs.List.{list_any, position_from}
 use Rattle.std.specs.Option.{option_map}
 use Rattle.std.proofs.lemmas.Bool.{or_parts}
-use Rattle.std.proofs.lemmas.List.{length-append}
+use Rattle.std.proofs.lemmas.Iterator.Adapters.{position_from-zero}
+use Rattle.std.proofs.lemmas.List.{append-nil, length-append}
 use Rattle.std.proofs.lemmas.Option.{slice_get-get_or}
 use Rattle.std.proofs.Math.Seq.{get_or-append_seam, set-append_seam}
 use Rattle.entry_codec.specs.declared.status.Status.{Status}
@@ -13,6 +14,7 @@ use Rattle.driver_book.specs.Calls.{receipt, is_open_for, settled, settled_at}
 use Rattle.driver_book.specs.declared.log.Receipt.{Receipt}
 use Rattle.driver_threads.specs.Ends.{ends_of, statuses_of, Agree, last_status, Awaits, EndsWith}
 use Rattle.driver_threads.specs.Values.{JobEnd}
+use Rattle.driver_threads.specs.declared.jobs.JobRefusal.{JobRefusal}
 use Rattle.driver_threads.specs.declared.jobs.JobEnd.TheVariants.{Done, Refused}
 
 -- Ends
@@ -48,11 +50,15 @@ closed_is_another q cid r closed = go (r.q == q) (r.cid == cid) (is_none r.statu
     go false b c is = refl
 
 -- the first receipt that is open for a command stands behind those that are not open
-found_last : (q cid number : ℕ) (old : List Receipt) → list_any (λ (r : Receipt). is_none r.status) old ≡ false → position (is_open_for q cid) (old ++ receipt number q cid None ∷ []) ≡ Some (length old)
-found_last q cid number [] none = rw (eq-eqb q q refl, eq-eqb cid cid refl) refl
-found_last q cid number (r ∷ old) none =
+found_from : (q cid number i : ℕ) (old : List Receipt) → list_any (λ (r : Receipt). is_none r.status) old ≡ false
+    → position_from (is_open_for q cid) i (old ++ receipt number q cid None ∷ []) ≡ Some (i + length old)
+found_from q cid number i [] none = rw (eq-eqb q q refl, eq-eqb cid cid refl) (ap (λ (n : ℕ). Some n) (omega arith))
+found_from q cid number i (r ∷ old) none =
     let both = or_parts (is_none r.status) (list_any (λ (r : Receipt). is_none r.status) old) none in
-    rw (closed_is_another q cid r both.0, found_last q cid number old both.1) refl
+    rw (closed_is_another q cid r both.0) (found_from q cid number (i + 1) old both.1 ∙ ap (λ (n : ℕ). Some n) (omega arith))
+
+found_last : (q cid number : ℕ) (old : List Receipt) → list_any (λ (r : Receipt). is_none r.status) old ≡ false → position (is_open_for q cid) (old ++ receipt number q cid None ∷ []) ≡ Some (length old)
+found_last q cid number old none = position_from-zero (is_open_for q cid) (old ++ receipt number q cid None ∷ []) ∙ found_from q cid number 0 old none
 
 settled_last : (q cid number : ℕ) (status : Option Status) (old : List Receipt) → list_any (λ (r : Receipt). is_none r.status) old ≡ false
     → settled q cid status (old ++ receipt number q cid None ∷ []) ≡ old ++ receipt number q cid status ∷ []
@@ -83,3 +89,11 @@ ended_as_told old mid new t q cid end none (number, awaits) same_q same_cid (sta
     let last : last_status new ≡ status = ap last_status left ∙ last_is old (receipt number t.q t.cid status) in
     ap statuses_of left ∙ statuses_push old (receipt number t.q t.cid status)
     ∙ ap (λ (s : Option Status). statuses_of old ++ s ∷ []) (sym last) ∙ ap (λ (xs : List (Option Status)). statuses_of old ++ xs) (sym tells)
+
+-- one job more ended ..
+pub agree_more : (old new : List Receipt) (ends : List JobEnd) (e : JobEnd) → Agree old ends → statuses_of new ≡ statuses_of old ++ ends_of (e ∷ []) → Agree new (ends ++ e ∷ [])
+agree_more old new ends e agree more = more ∙ ap (λ (xs : List (Option Status)). xs ++ ends_of (e ∷ [])) agree ∙ sym (ends_push ends e)
+
+-- .. or was refused
+pub agree_same : (old new : List Receipt) (ends : List JobEnd) (why : JobRefusal) → Agree old ends → new ≡ old → Agree new (ends ++ Refused why ∷ [])
+agree_same old new ends why agree same = ap statuses_of same ∙ agree ∙ sym (ends_push ends (Refused why) ∙ append-nil (ends_of ends))

@@ -1,11 +1,8 @@
-use Rattle.std.proofs.Common.{rules, ◌≡◌, ◌+◌, ◌++◌, ◌≤◌, [], ◌∷◌, true, false, is_none, length, vec_len, IfOk, IfErr, OnOk, OnErr, ℕ, ◌-◌, ◌*◌, ◌<◌, ◌/◌, ◌%◌, Bool, nat_eq, nat_lt, List, slice_index_or, slice_set, bit_and, bit_or, Fits, w8, w32, w64, Bor, MutBor}
-use Rattle.std.specs.Bool.{OnTrue}
-use Rattle.std.specs.List.{list_any}
-use Rattle.driver_book.specs.Calls.{is_open_for}
-use Rattle.driver_threads.specs.Ends.{ends_of, statuses_of, Agree, AgreesWith, last_status, Awaits, EndsWith, refuses}
-use Rattle.driver_threads.specs.Sharing.{IsStopping}
+-- The command of a job ended as its receipt says.
+use Rattle.driver_threads.proofs.Ended.{ended_as_told}
 use Rattle.driver_threads.proofs.workers.carry.Goals as goal
 
--- src/workers.rt:196:1
 pub returns-clause-ended : goal.returns-clause-ended
-returns-clause-ended g c = ?
+returns-clause-ended g c =
+    ended_as_told c.args.seat.now.receipts c.submitted.new.seat.receipts c.finished.new.seat.receipts c.in_ok-ticket.ticket c.in_ok-command.command.q c.in_ok-command.command.cid c.in_ok-end.end c.requires
+    c.in_ok-ticket.ensures.receipt c.in_ok-command.ensures.command.0 c.in_ok-command.ensures.command.1 c.in_ok-end.ensures.settled
