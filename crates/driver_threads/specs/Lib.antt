@@ -1,4 +1,3 @@
 pub mod Values
 pub mod Sharing
 pub mod Runs
-pub mod Ends

@@ -1,10 +1,9 @@
 //! A run of threads over a new book, and what it leaves.
 
-ghost use Rattle.std.specs.Prelude.{◌≡◌, ◌≤◌, All, map, length, vec_len, IfOk, IfErr, IfSome, OnOk};
+ghost use Rattle.std.specs.Prelude.{◌≡◌, ◌≤◌, map, length, vec_len, IfOk, IfErr, IfSome, OnOk};
 ghost use Rattle.std.specs.Bool.{OnTrue};
 ghost use Rattle.driver_book.specs.Laws.{IsTrustedLog};
 ghost use Rattle.driver_book.specs.State.{AreOfJobs};
-ghost use Rattle.driver_threads.specs.Ends.{AgreesWith, AllAgree, ends_of, statuses_of};
 ghost use Rattle.driver_threads.specs.Runs.{IsAfterOpening, RanFrom, RefusesRun};
 ghost use Rattle.step_core.specs.Opening.{opening_of};
 
@@ -16,9 +15,9 @@ use block_image::Image;
 use driver_book::{Book, CloseFault, Driver, ReportIn, Seat};
 use std::alloc::{AllocError, Allocator};
 use std::sync::Wait;
-use std::sync::ledger::{Blank, Ledger};
+use std::sync::ledger::Blank;
 use std::thread;
-use std::thread::{JoinHandle, Promise, PromisedHandle, Threads};
+use std::thread::{JoinHandle, Threads};
 use step_core::{Config, OpenRefusal};
 
 /// Why a run failed whose book was opened.
@@ -40,16 +39,6 @@ fn fault_of(failure: Failure) -> RunFault
         Failure::Close(why) => RunFault::Close(why),
         Failure::Memory => RunFault::Memory,
     }
-}
-
-/// That a worker's jobs ended as the receipts of its seat say, once each of them has its end.
-#[derive(Clone, Copy)]
-struct Agreeing;
-
-impl<L: Ledger, A: Allocator> Promise<Worked<L, A>> for Agreeing {
-    ghost use Rattle.driver_threads.specs.Ends.{AgreesWith};
-
-    ghost kept_by = { λ p worked. AgreesWith worked.whole worked.seat worked.ends.items };
 }
 
 /// What the threads gave back.
@@ -86,12 +75,10 @@ fn join_all<L: Driver, A: Allocator + Copy, R: Threads + Wait>(
     rt: &R,
     alloc: A,
     shared: &Shared<L, A>,
-    submitters: Vec<PromisedHandle<Worked<L, A>, Agreeing>, A>,
+    submitters: Vec<JoinHandle<Worked<L, A>>, A>,
     polls: JoinHandle<Result<(), AllocError>>,
     serves: JoinHandle<Result<(), AllocError>>,
-) -> Work<L, A>
-    ensures { All (λ worked. AgreesWith worked.whole worked.seat worked.ends.items) result.workers.items }
-{
+) -> Work<L, A> {
     let mut workers = Vec::new(alloc);
     let mut short = false;
     for handle in submitters {
@@ -115,15 +102,11 @@ fn run_workers<
     shared: &Shared<L, A>,
     gate: &G,
     jobs: Vec<Vec<JobIn<A>, A>, A>,
-) -> Result<Work<L, A>, Failure>
-    ensures { IfOk result (λ work. All (λ worked. AgreesWith worked.whole worked.seat worked.ends.items) work.workers.items) }
-{
+) -> Result<Work<L, A>, Failure> {
     let Ok(mut handles) = Vec::with_capacity(alloc, jobs.len()) else {
         return Err(Failure::Memory);
     };
-    thread::scope(thread::scope_env(), rt, |scope| -> Result<Work<L, A>, Failure>
-        ensures { IfOk result (λ work. All (λ worked. AgreesWith worked.whole worked.seat worked.ends.items) work.workers.items) }
-    {
+    thread::scope(thread::scope_env(), rt, |scope| {
         let Ok(polls) = scope.spawn(move || poller(rt, shared)) else {
             return Err(Failure::NoThread);
         };
@@ -134,9 +117,7 @@ fn run_workers<
         let mut all_started = true;
         let mut short = false;
         for (worker, list) in (0..16u16).zip(jobs) {
-            match scope.spawn_with(Agreeing, move || {
-                submitter(rt, alloc, shared, gate, worker, list)
-            }) {
+            match scope.spawn(move || submitter(rt, alloc, shared, gate, worker, list)) {
                 Ok(handle) => short = handles.push(handle).is_err() || short,
                 Err(_) => {
                     all_started = false;
@@ -177,24 +158,26 @@ fn handed_in<L: Driver, A: Allocator + Copy>(
     work: Work<L, A>,
     jobs: &[usize],
 ) -> Result<HandedIn<L, A>, Failure>
-    requires { All (λ worked. AgreesWith worked.whole worked.seat worked.ends.items) work.workers.items }
-    ensures long { IfOk result (λ hand. map (λ list. length list.items) hand.lists.items ≡ jobs.now) }
-    ensures agree { IfOk result (λ hand. map (λ seat. statuses_of seat.receipts) hand.seats.items ≡ map (λ list. ends_of list.items) hand.lists.items) }
+    ensures { IfOk result (λ hand. map (λ list. length list.items) hand.lists.items ≡ jobs.now) }
 {
-    let mut whole = !work.short;
+    let mut short = work.short;
     let mut seats = Vec::new(alloc);
     let mut lists = Vec::new(alloc);
     for worked in work.workers {
-        let Some(seat) = worked.seat else {
-            return Err(Failure::NoThread);
-        };
-        whole = whole && worked.whole;
-        if seats.push(seat).is_err() || lists.push(worked.ends).is_err() {
-            return Err(Failure::Memory);
+        let Worked {
+            seat,
+            ends,
+            closed: _,
+            short: _,
+        } = worked;
+        short = lists.push(ends).is_err() || short;
+        match seat {
+            Some(seat) => short = seats.push(seat).is_err() || short,
+            None => return Err(Failure::NoThread),
         }
     }
     match as_long_as(alloc, lists, jobs) {
-        Some(lists) if whole => Ok(HandedIn { seats, lists }),
+        Some(lists) if !short => Ok(HandedIn { seats, lists }),
         _ => Err(Failure::Memory),
     }
 }
@@ -206,10 +189,8 @@ fn close<L: Driver, A: Allocator + Copy>(
     work: Work<L, A>,
     jobs: &[usize],
 ) -> Result<(ReportIn<A>, JobEnds<A>), Failure>
-    requires { All (λ worked. AgreesWith worked.whole worked.seat worked.ends.items) work.workers.items }
     ensures closed { IfOk result (λ r. RanFrom L.opening r.0 book.new) }
     ensures all_jobs { IfOk result (λ r. map length r.1 ≡ jobs.now) }
-    ensures agree { IfOk result (λ r. AllAgree r.0.receipts r.1) }
     ensures jobs { OnOk result (OnTrue L.jobs_alone (AreOfJobs book.new.log)) }
 {
     prove!({
@@ -236,10 +217,8 @@ fn finish<L: Driver, A: Allocator + Copy>(
     work: Work<L, A>,
     jobs: &[usize],
 ) -> Result<Ran<L, A>, Failure>
-    requires { All (λ worked. AgreesWith worked.whole worked.seat worked.ends.items) work.workers.items }
     ensures closed { IfOk result (λ ran. RanFrom L.opening ran.report ran.book) }
     ensures all_jobs { IfOk result (λ ran. map length ran.jobs ≡ jobs.now) }
-    ensures agree { IfOk result (λ ran. AllAgree ran.report.receipts ran.jobs) }
     ensures jobs { IfOk result (λ ran. OnTrue L.jobs_alone (AreOfJobs ran.book.log)) }
 {
     let mut book = book;
@@ -264,7 +243,6 @@ fn run_over<
 ) -> Result<Ran<L, A>, Failure>
     ensures closed { IfOk result (λ ran. RanFrom L.opening ran.report ran.book) }
     ensures all_jobs { IfOk result (λ ran. map length ran.jobs ≡ map (λ list. length list.items) jobs.items) }
-    ensures agree { IfOk result (λ ran. AllAgree ran.report.receipts ran.jobs) }
     ensures jobs { IfOk result (λ ran. OnTrue L.jobs_alone (AreOfJobs ran.book.log)) }
 {
     let Ok(many) = lengths(alloc, &jobs) else {
@@ -278,8 +256,8 @@ fn run_over<
 /// Opens a book, runs a submitter for each list of jobs, a poller and a controller over it in threads of their own, and closes it with the
 /// submitters' seats. A list's place, from 0, is the worker of its submitter.
 ///
-/// A job's command ended as its receipt in the report says, and so as the log does. Where the driver takes the steps of jobs alone, the log
-/// has no others: so the run is trusted from its opening to its end, and the laws of trusted runs speak of its Reads, Writes and Compares.
+/// Where the driver takes the steps of jobs alone, the log has no others: so the run is trusted from its opening to its end, and the laws of
+/// trusted runs speak of its Reads, Writes and Compares.
 ///
 /// # Errors
 ///
@@ -308,11 +286,14 @@ pub fn run_threads<
     requires few { vec_len jobs ≤ 16 }
     ensures ran { IfOk result (λ ran. RanFrom (opening_of config image) ran.report ran.book) }
     ensures all_jobs { IfOk result (λ ran. map length ran.jobs ≡ map (λ list. length list.items) jobs.items) }
-    ensures agree { IfOk result (λ ran. AllAgree ran.report.receipts ran.jobs) }
     ensures jobs { IfOk result (λ ran. OnTrue L.jobs_alone (AreOfJobs ran.book.log)) }
     ensures trusted { IfOk result (λ ran. OnTrue L.jobs_alone (IsTrustedLog image ran.book.log ran.book.world)) }
     ensures refused { IfErr result (RefusesRun config) }
 {
+    prove!({
+        image.blocks();
+        true
+    });
     let book = match Book::<L, A>::open(alloc, config, image, blank) {
         Ok(book) => book,
         Err(refused) => {

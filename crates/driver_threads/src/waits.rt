@@ -1,8 +1,7 @@
 //! Calls that wait. Who waits looks at the book each time that it is woken, and makes its step once the answer is another: a wait makes no
 //! step, and writes nothing down.
 
-ghost use Rattle.std.specs.Prelude.{◌≡◌, true, false, IfOk, IfErr};
-ghost use Rattle.driver_threads.specs.Ends.{refuses};
+ghost use Rattle.std.specs.Prelude.{◌≡◌, true, false, IfOk};
 ghost use Rattle.driver_threads.specs.Sharing.{IsStopping};
 
 use crate::jobs::JobRefusal;
@@ -100,8 +99,7 @@ impl<L: Driver, A: Allocator + Copy> Shared<L, A> {
         rt: &R,
         ticket: Ticket,
     ) -> Result<Finished<A>, Halt>
-        ensures command { IfOk result (λ finished. (finished.q ≡ ticket.q) × (finished.cid ≡ ticket.cid)) }
-        ensures halted { IfErr result (λ halt. refuses halt ≡ false) }
+        ensures { IfOk result (λ finished. (finished.q ≡ ticket.q) × (finished.cid ≡ ticket.cid)) }
     {
         let (q, cid) = (ticket.q(), ticket.cid());
         let book = self.freed.wait_while(rt, self.lock(rt), |book| {

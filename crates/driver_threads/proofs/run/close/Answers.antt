@@ -1,14 +1,14 @@
 -- The ends of a run are told as lists of ends, which are as long as the lists that hold them.
 use Rattle.std.proofs.Common.{length, subst}
 use Rattle.machine_model.specs.State.{State}
-use Rattle.step_log.specs.History.{LeadsTo}
+use Rattle.driver_book.specs.History.{LeadsTo}
 use Rattle.std.proofs.lemmas.Simd.{map-map}
 use Rattle.driver_threads.proofs.run.close.Goals as goal
 
 pub returns-in-Ok-clause-all_jobs : goal.returns-in-Ok-clause-all_jobs
 returns-in-Ok-clause-all_jobs g c =
     let told = map-map length (λ list. list.items) c.in_ok-seats.lists.items in
-    cc (told, c.of.ensures, c.in_ok-seats.ensures.long, c.in_ok-seats.lists-is)
+    cc (told, c.of.ensures, c.in_ok-seats.ensures, c.in_ok-seats.lists-is)
 
 pub returns-in-Ok-clause-closed : goal.returns-in-Ok-clause-closed
 returns-in-Ok-clause-closed g c = record {
