@@ -197,7 +197,7 @@ fn grammar_command<'a>(alloc: Global) -> Command<'a>
 
 /// The program without its commands.
 fn program<'a>(alloc: Global) -> Result<Command<'a>, AllocError>
-    ensures shape { IfOk result (λ command. app_of command ≡ named) }
+    ensures { IfOk result (λ command. app_of command ≡ named) }
 {
     let command = Command::new(alloc, "nvmesgl").bin_name("nvmesgl")?;
     Ok(command
