@@ -3,8 +3,10 @@
 use crate::expecting::{same, same_at};
 use crate::fault_texts::told_of;
 use crate::first_script::{PRINTS, SCRIPT};
+use entry_codec::Status;
 use fault_text::grammar_text;
 use program::perform;
+use status_names::Named;
 use std::fs;
 use std::test::Fail;
 
@@ -180,6 +182,22 @@ fn the_grammar_is_printed(rt: HostRuntime) -> Result<(), Fail> {
     Ok(())
 }
 
+/// A status is told with its name, or without one where it has none.
+#[test]
+fn statuses_have_names(rt: HostRuntime) -> Result<(), Fail> {
+    let other = Status { sct: 3, sc: 1 };
+    for (status, wanted) in [
+        (Status::LBA_OUT_OF_RANGE, "0:80 LBA Out of Range"),
+        (Status::COMPARE_FAILURE, "2:85 Compare Failure"),
+        (other, "3:01"),
+    ] {
+        let named = Named(status);
+        let text = format!(in rt.alloc(); "{named}")?;
+        same(&rt, text.as_str(), wanted);
+    }
+    Ok(())
+}
+
 /// Some of its lines.
 const GRAMMAR: &str = "  reserve Q KIND SLBA BLOCKS PIECE..   reserves a command and its pages
   fill Q CID HEX                       writes the bytes of a Write or a Compare
@@ -188,4 +206,5 @@ const GRAMMAR: &str = "  reserve Q KIND SLBA BLOCKS PIECE..   reserves a command
   forge Q SLOT HEX                     overwrites a completion slot
   reset                                resets the controller: queue 0 alone is left
   job S Q write SLBA BLOCKS HEX PIECE..
+  0:80 LBA Out of Range
 ";
