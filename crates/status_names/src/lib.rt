@@ -31,14 +31,8 @@ pub const NAMES: [(Status, &str); 18] = [
     (Status::DATA_SGL_LENGTH_INVALID, "Data SGL Length Invalid"),
     (Status::SGL_TYPE_INVALID, "SGL Descriptor Type Invalid"),
     (Status::LBA_OUT_OF_RANGE, "LBA Out of Range"),
-    (
-        Status::COMPLETION_QUEUE_INVALID,
-        "Completion Queue Invalid",
-    ),
-    (
-        Status::INVALID_QUEUE_IDENTIFIER,
-        "Invalid Queue Identifier",
-    ),
+    (Status::COMPLETION_QUEUE_INVALID, "Completion Queue Invalid"),
+    (Status::INVALID_QUEUE_IDENTIFIER, "Invalid Queue Identifier"),
     (Status::INVALID_QUEUE_SIZE, "Invalid Queue Size"),
     (Status::INVALID_QUEUE_DELETION, "Invalid Queue Deletion"),
     (Status::COMPARE_FAILURE, "Compare Failure"),

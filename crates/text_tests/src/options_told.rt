@@ -171,7 +171,11 @@ fn the_grammar_is_printed(rt: HostRuntime) -> Result<(), Fail> {
     let mut reader = b"".as_slice();
     let mut writer = Vec::new(rt.alloc());
     let words = ["nvmesgl", "grammar"];
-    same(&rt, perform(&rt, &words, &mut reader, &mut writer).is_ok(), true);
+    same(
+        &rt,
+        perform(&rt, &words, &mut reader, &mut writer).is_ok(),
+        true,
+    );
     let text = grammar_text(rt.alloc())?;
     same(&rt, writer.as_slice(), text.as_bytes());
     for line in GRAMMAR.lines() {

@@ -31,17 +31,34 @@ const JOBS: [&str; 4] = [
 
 /// Words that may stand where another is wanted.
 const WORDS: [&[u8]; 24] = [
-    b"0", b"3", b"65535", b"65536", b"4294967295", b"4294967296", b"18446744073709551616", b"000000000000000000001",
-    b"-1", b"+1", b"0x1", b"AB", b"ABC", b"0+512", b"x512", b"x", b"0+", b"read", b"job", b"ring",
-    b"#", b"1\r", b"\xC3\xA9", b"00112233445566778899AABBCCDDEEFF",
+    b"0",
+    b"3",
+    b"65535",
+    b"65536",
+    b"4294967295",
+    b"4294967296",
+    b"18446744073709551616",
+    b"000000000000000000001",
+    b"-1",
+    b"+1",
+    b"0x1",
+    b"AB",
+    b"ABC",
+    b"0+512",
+    b"x512",
+    b"x",
+    b"0+",
+    b"read",
+    b"job",
+    b"ring",
+    b"#",
+    b"1\r",
+    b"\xC3\xA9",
+    b"00112233445566778899AABBCCDDEEFF",
 ];
 
 /// The fault that the parser has of a line.
-fn parsed(
-    alloc: Global,
-    grammar: Grammar,
-    line: &[u8],
-) -> Result<Option<LineFault>, AllocError> {
+fn parsed(alloc: Global, grammar: Grammar, line: &[u8]) -> Result<Option<LineFault>, AllocError> {
     let why = match grammar {
         Grammar::Steps => read_script(alloc, line).err(),
         Grammar::Jobs(submitters) => read_jobs(alloc, line, submitters).err(),
@@ -54,12 +71,7 @@ fn parsed(
 }
 
 /// Sees that both have the same fault of a line.
-fn see(
-    alloc: Global,
-    seen: &mut Seen,
-    grammar: Grammar,
-    line: &[u8],
-) -> Result<(), AllocError> {
+fn see(alloc: Global, seen: &mut Seen, grammar: Grammar, line: &[u8]) -> Result<(), AllocError> {
     let wanted = parsed(alloc, grammar, line)?;
     let found = find(alloc, grammar, line)?;
     seen.same_at(line, found.map(|found| found.fault), wanted);
@@ -179,7 +191,11 @@ fn forms_are_what_is_parsed(rt: HostRuntime) -> Result<(), Fail> {
             })?;
             line.push(b' ')?;
         }
-        seen.same_at(verb.name(), parsed(rt.alloc(), Grammar::Steps, &line)?, None);
+        seen.same_at(
+            verb.name(),
+            parsed(rt.alloc(), Grammar::Steps, &line)?,
+            None,
+        );
     }
     Ok(seen.end()?)
 }
