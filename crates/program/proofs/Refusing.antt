@@ -33,8 +33,8 @@ refused told (Some what) bytes e why (inr nothing) memory = absurd (no_some what
     no_some x e = cc
 
 -- where an error of the words is shown: they ask for nothing, or memory is wanting, and nothing is written
-pub shown : {T U : Type 0} (fault_of : U → Fault) (told : Option (List ℕ)) (what : Option Asked) (bytes : Option (List ℕ)) (e : Error) (r : Result T U)
+pub shown : {T U : Type 0} (told : Option (List ℕ)) (what : Option Asked) (bytes : Option (List ℕ)) (e : Error) (r : Result T U) (fault_of : U → Fault)
     → (kind_of e ≡ OutOfMemory) ⊎ (what ≡ None) → IfErr r (λ why. kind_of e ≡ OutOfMemory → fault_of why ≡ fault.Run run.Memory)
     → IfErr r (λ why. FailsWith told what bytes bytes (fault_of why))
-shown fault_of told what bytes e (Ok x) cause memory = tt
-shown fault_of told what bytes e (Err why) cause memory = refused told what bytes e (fault_of why) cause memory
+shown told what bytes e (Ok x) fault_of cause memory = tt
+shown told what bytes e (Err why) fault_of cause memory = refused told what bytes e (fault_of why) cause memory

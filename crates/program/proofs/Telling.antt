@@ -172,16 +172,16 @@ run_fails_jobs told a path submitters (fault.Arguments why) none = absurd none
 run_fails_jobs told a path submitters (fault.Image why) none = absurd none
 run_fails_jobs told a path submitters fault.PipeClosed none = absurd none
 
-pub look_failed : {T U : Type 0} (fault_of : U → Fault) (r : Result T U) (told a : Option (List ℕ)) (path : Option Text)
+pub look_failed : {T U : Type 0} (r : Result T U) (fault_of : U → Fault) (told a : Option (List ℕ)) (path : Option Text)
     → IfErr r (λ why. IsRunFault (fault_of why) (IsNoScript (script_told path told))) → IfErr r (λ why. FailsWith told (Some (check path)) a a (fault_of why))
-look_failed fault_of (Ok x) told a path none = tt
-look_failed fault_of (Err why) told a path none = run_fails told a path (fault_of why) none
+look_failed (Ok x) fault_of told a path none = tt
+look_failed (Err why) fault_of told a path none = run_fails told a path (fault_of why) none
 
-pub look_failed_at_jobs : {T U : Type 0} (fault_of : U → Fault) (r : Result T U) (told a : Option (List ℕ)) (path : Option Text) (submitters : ℕ)
+pub look_failed_at_jobs : {T U : Type 0} (r : Result T U) (fault_of : U → Fault) (told a : Option (List ℕ)) (path : Option Text) (submitters : ℕ)
     → IfErr r (λ why. IsRunFault (fault_of why) (IsNoJobs (script_told path told) submitters))
     → IfErr r (λ why. FailsWith told (Some (check_jobs path submitters)) a a (fault_of why))
-look_failed_at_jobs fault_of (Ok x) told a path submitters none = tt
-look_failed_at_jobs fault_of (Err why) told a path submitters none = run_fails_jobs told a path submitters (fault_of why) none
+look_failed_at_jobs (Ok x) fault_of told a path submitters none = tt
+look_failed_at_jobs (Err why) fault_of told a path submitters none = run_fails_jobs told a path submitters (fault_of why) none
 
 grammar_fails : (told a b : Option (List ℕ)) (f : Fault) → IsRunFault f IsNoGrammar → FailsWith told (Some grammar) a b f
 grammar_fails told a b (fault.Run why) none = none
@@ -189,7 +189,7 @@ grammar_fails told a b (fault.Arguments why) none = absurd none
 grammar_fails told a b (fault.Image why) none = absurd none
 grammar_fails told a b fault.PipeClosed none = absurd none
 
-pub grammar_failed : {T U : Type 0} (fault_of : U → Fault) (r : Result T U) (told a b : Option (List ℕ))
+pub grammar_failed : {T U : Type 0} (r : Result T U) (fault_of : U → Fault) (told a b : Option (List ℕ))
     → IfErr r (λ why. IsRunFault (fault_of why) IsNoGrammar) → IfErr r (λ why. FailsWith told (Some grammar) a b (fault_of why))
-grammar_failed fault_of (Ok x) told a b none = tt
-grammar_failed fault_of (Err why) told a b none = grammar_fails told a b (fault_of why) none
+grammar_failed (Ok x) fault_of told a b none = tt
+grammar_failed (Err why) fault_of told a b none = grammar_fails told a b (fault_of why) none
