@@ -1,6 +1,6 @@
 -- What is known of a run over bytes that were read is known of those that the reader had.
 use Rattle.std.proofs.Common.{◌≡◌, ◌⊎◌, ◌∙◌, ap, sym, subst, Option, Some, None, List, ℕ, inl, inr}
-use Rattle.std.specs.Prelude.{IfErr, OnOk, Result, Ok, Err}
+use Rattle.std.specs.Prelude.{IfErr, IsErrAnd, OnOk, Result, Ok, Err}
 use Rattle.clap.specs.Words.{Text}
 use Rattle.command_line.specs.Asked.{Given, check, check_jobs, grammar, steps, threads}
 use Rattle.host_core.specs.declared.config.Config.{Config}
@@ -193,3 +193,9 @@ pub grammar_failed : {T U : Type 0} (r : Result T U) (fault_of : U → Fault) (t
     → IfErr r (λ why. IsRunFault (fault_of why) IsNoGrammar) → IfErr r (λ why. FailsWith told (Some grammar) a b (fault_of why))
 grammar_failed (Ok x) fault_of told a b none = tt
 grammar_failed (Err why) fault_of told a b none = grammar_fails told a b (fault_of why) none
+
+-- a fault that `?` made of one of a run
+pub run_fault_told : {T U : Type 0} (r : Result T U) (fault_of : U → Fault) (why : RunFault) (Holds : RunFault → Type 0)
+    → IsErrAnd r (λ x. fault_of x ≡ fault.Run why) → Holds why → IfErr r (λ x. IsRunFault (fault_of x) Holds)
+run_fault_told (Ok x) fault_of why Holds same holds = tt
+run_fault_told (Err x) fault_of why Holds same holds = subst (λ (f : Fault). IsRunFault f Holds) (sym same) holds
