@@ -199,3 +199,9 @@ pub run_fault_told : {T U : Type 0} (r : Result T U) (fault_of : U → Fault) (w
     → IsErrAnd r (λ x. fault_of x ≡ fault.Run why) → Holds why → IfErr r (λ x. IsRunFault (fault_of x) Holds)
 run_fault_told (Ok x) fault_of why Holds same holds = tt
 run_fault_told (Err x) fault_of why Holds same holds = subst (λ (f : Fault). IsRunFault f Holds) (sym same) holds
+
+pub script_failed_jobs : {T U : Type 0} (r : Result T U) (fault_of : U → Fault) (told : Option (List ℕ)) (given : Given) (submitters : ℕ) (image : List ℕ)
+    (a : Option (List ℕ)) (why : RunFault) → IsErrAnd r (λ x. fault_of x ≡ fault.Run why) → IsFirstImage given image → (why ≡ run.Unreadable) ⊎ (why ≡ run.Memory)
+    → IfErr r (λ x. FailsWith told (Some (threads given submitters)) a a (fault_of x))
+script_failed_jobs (Ok x) fault_of told given submitters image a why same first unread = tt
+script_failed_jobs (Err x) fault_of told given submitters image a why same first unread = script_fails_jobs told given submitters image a why (fault_of x) same first unread
