@@ -5,7 +5,7 @@ use Rattle.clap.specs.Words.{Text}
 use Rattle.command_line.specs.Asked.{Given, check, check_jobs, grammar, steps, threads}
 use Rattle.host_core.specs.declared.config.Config.{Config}
 use Rattle.job_cli.proofs.JobRuns.{jobs_are_told, no_jobs_are_told}
-use Rattle.job_cli.specs.JobRuns.{EndsJobsWith, EndsUnwritten, HasJobFault, HasJobs, IsNoJobs, WritesJobs}
+use Rattle.job_cli.specs.JobRuns.{EndsJobsWith, EndsUnwritten, HasJobFault, HasJobs, IsCutJobsText, IsNoJobs, WritesJobs}
 use Rattle.job_cli.specs.Jobs.{IsReadAs, jobs_of}
 use Rattle.job_cli.specs.declared.jobs.JobLine.{JobLine}
 use Rattle.machine_model.specs.Script.{Table}
@@ -19,7 +19,7 @@ use Rattle.program.specs.declared.fault.Fault.TheVariants as fault
 use Rattle.script_cli.proofs.Runs.{no_script_is_told, script_is_told}
 use Rattle.script_cli.specs.Faults.{fault_of_script}
 use Rattle.script_cli.specs.Inputs.{AreFirstOf}
-use Rattle.script_cli.specs.Runs.{EndsWith, HasFault, HasScript, IsNoScript, IsNotOpened, Writes}
+use Rattle.script_cli.specs.Runs.{EndsWith, HasFault, HasScript, IsCutText, IsNoScript, IsNotOpened, Writes}
 use Rattle.script_cli.specs.Scripts.{script_of}
 use Rattle.script_cli.specs.declared.fault.LineFault.{LineFault}
 use Rattle.script_cli.specs.declared.fault.RunFault.{RunFault}
@@ -56,8 +56,8 @@ ends_told told text config image a b (run.NoPages need free) first (refused, kee
 ends_told told text config image a b run.NoThread first bad = absurd bad
 ends_told told text config image a b (run.Close why) first bad = absurd bad
 ends_told told text config image a b run.Memory first (inl keeps) = inl keeps
-ends_told told text config image a b run.Memory first (inr writes) = inr (writes_told told text config image a b _ first writes)
-ends_told told text config image a b run.OutputFailed first writes = writes_told told text config image a b _ first writes
+ends_told told text config image a b run.Memory first (inr writes) = inr (writes_told told text config image a b IsCutText first writes)
+ends_told told text config image a b run.OutputFailed first writes = writes_told told text config image a b IsCutText first writes
 
 -- Scripts of jobs
 
@@ -89,8 +89,8 @@ ends_jobs_told told submitters text config image a b (run.NoPages need free) fir
 ends_jobs_told told submitters text config image a b run.NoThread first ends = unwritten_told told submitters text config _ a b first ends
 ends_jobs_told told submitters text config image a b (run.Close why) first ends = unwritten_told told submitters text config _ a b first ends
 ends_jobs_told told submitters text config image a b run.Memory first (inl keeps) = inl keeps
-ends_jobs_told told submitters text config image a b run.Memory first (inr writes) = inr (writes_jobs_told told submitters text config image a b _ first writes)
-ends_jobs_told told submitters text config image a b run.OutputFailed first writes = writes_jobs_told told submitters text config image a b _ first writes
+ends_jobs_told told submitters text config image a b run.Memory first (inr writes) = inr (writes_jobs_told told submitters text config image a b IsCutJobsText first writes)
+ends_jobs_told told submitters text config image a b run.OutputFailed first writes = writes_jobs_told told submitters text config image a b IsCutJobsText first writes
 
 -- Scripts that are looked at
 
