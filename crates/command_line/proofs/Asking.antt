@@ -12,7 +12,7 @@ use Rattle.clap.specs.declared.error.kind.ErrorKind.TheVariants.{OutOfMemory}
 use Rattle.clap.specs.declared.parser.matches.ArgMatches.{ArgMatches}
 use Rattle.clap.specs.declared.parser.matches.ArgMatches.TheViews.{out-ArgMatches, out-SubCommand}
 use Rattle.clap.proofs.OnLiterals.{clap_on_literals}
-use Rattle.command_line.specs.Asked.{are_submitters, asked, asked_by, given_in, steps, submitters_in, threads, unless_at_fault}
+use Rattle.command_line.specs.Asked.{Asked, are_submitters, asked, asked_by, if_submitters, unless_at_fault}
 use Rattle.command_line.specs.Commands.{nvmesgl}
 
 simple : is_simple nvmesgl ≡ true
@@ -89,31 +89,26 @@ name_of_rows m =
     first_of_both (λ b. (out-SubCommand (box_value b)).name.now) (λ b. rows_of (found_of (out-SubCommand (box_value b)).matches))
     (out-ArgMatches m).subcommand
 
-pub asked_steps : (rows : List Row) → asked_by (Some (codes "steps", rows)) ≡ Some (steps (given_in rows))
-asked_steps rows = refl
+fit : (k : ℕ) → 1 ≤ k → k ≤ 16 → are_submitters k ≡ true
+fit k low high = rw (le-leb _ _ low, le-leb _ _ high) refl
 
--- `threads` asks for its jobs where there may be so many submitters
-pub asked_threads : (rows : List Row) (n : ℕ) → n ≡ submitters_in rows → 1 ≤ n → n ≤ 16
-    → asked_by (Some (codes "threads", rows)) ≡ Some (threads (given_in rows) n)
-asked_threads rows n is some few =
-    ap (λ (b : Bool). if b then Some (threads (given_in rows) (submitters_in rows)) else None) (fit (submitters_in rows) (rw is at some) (rw is at few))
-    ∙ ap (λ (k : ℕ). Some (threads (given_in rows) k)) (sym is)
-  where
-    fit : (k : ℕ) → 1 ≤ k → k ≤ 16 → are_submitters k ≡ true
-    fit k low high = rw (le-leb _ _ low, le-leb _ _ high) refl
+-- with as many submitters as there may be something is asked for
+pub fit_submitters : (k n : ℕ) (wanted : ℕ → Asked) → n ≡ k → 1 ≤ n → n ≤ 16 → if_submitters k wanted ≡ Some (wanted n)
+fit_submitters k n wanted is few most =
+    ap (λ (b : Bool). if b then Some (wanted k) else None) (fit k (rw is at few) (rw is at most)) ∙ ap (λ (m : ℕ). Some (wanted m)) (sym is)
 
-pub asked_bad_threads : (rows : List Row) → are_submitters (submitters_in rows) ≡ false → asked_by (Some (codes "threads", rows)) ≡ None
-asked_bad_threads rows bad = ap (λ (b : Bool). if b then Some (threads (given_in rows) (submitters_in rows)) else None) bad
+-- and with others nothing is
+pub bad_submitters : (k : ℕ) (wanted : ℕ → Asked) → are_submitters k ≡ false → if_submitters k wanted ≡ None
+bad_submitters k wanted bad = ap (λ (b : Bool). if b then Some (wanted k) else None) bad
 
--- any other name asks for nothing
-pub asked_other : (p : Option (Text × List Row)) → (option_map (λ q. q.0) p ≡ Some (codes "steps") → ⊥)
-    → (option_map (λ q. q.0) p ≡ Some (codes "threads") → ⊥) → asked_by p ≡ None
-asked_other None steps_not threads_not = refl
-asked_other (Some (name, rows)) steps_not threads_not = go (bytes_eq name (codes "steps")) refl (bytes_eq name (codes "threads")) refl
-  where
-    go : (a : Bool) → bytes_eq name (codes "steps") ≡ a → (b : Bool) → bytes_eq name (codes "threads") ≡ b
-        → (if a then Some (steps (given_in rows))
-        else if b && are_submitters (submitters_in rows) then Some (threads (given_in rows) (submitters_in rows)) else None) ≡ None
-    go true e b f = absurd (steps_not (ap Some ((bytes_eq-Decides name (codes "steps")).0 e)))
-    go false e true f = absurd (threads_not (ap Some ((bytes_eq-Decides name (codes "threads")).0 f)))
-    go false e false f = refl
+no_value : {A B : Type 0} (f : A → B) (o : Option A) → option_map f o ≡ None → o ≡ None
+no_value f None e = refl
+no_value f (Some a) e =
+    let bad : Some (f a) ≡ None = e in
+    cc
+
+-- without a name nothing is asked for
+pub unnamed_asks : (a : App) (words : List Text) (m : ArgMatches) → a ≡ nvmesgl → (is_simple_and_free a ≡ true → fault_of a words ≡ [])
+    → HasMatchesOf a words m → subcommand_name_of m ≡ None → asked words ≡ None
+unnamed_asks a words m is kinds matches none =
+    parsed_asks a words m is kinds matches ∙ ap asked_by (no_value (λ p. p.0) (subcommand_rows_of m) (sym (name_of_rows m) ∙ none))

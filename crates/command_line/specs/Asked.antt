@@ -1,5 +1,7 @@
 -- What the words of a command line ask for.
-use Rattle.std.specs.Prelude.{◌^◌, ◌≤◌, ◌&&◌, ⊤, ℕ, Bool, List, [], ◌∷◌, Option, Some, None, codes, option_map, option_and_then, unwrap_or, nat_lt, nat_le, if◌then◌else◌}
+use Rattle.std.specs.Prelude.{◌^◌, ◌≤◌, ◌&&◌, ⊤, ℕ, Bool, List, [], ◌∷◌, Option, Some, None, codes, option_map, option_and_then, unwrap_or, false, nat_lt, nat_le, if◌then◌else◌}
+use Rattle.std.specs.Borrow.{Bor}
+use Rattle.std.specs.Option.{option_map_or}
 use Rattle.std.specs.Str.{bytes_eq}
 use Rattle.std.specs.Str.Parse.{digits_value, without_leading_plus}
 use Rattle.clap.specs.ValueTests.{is_numeral}
@@ -22,11 +24,16 @@ number text =
 abbrev pub number_under : Text → ℕ → List Row → ℕ
 number_under name usual rows = unwrap_or (option_and_then number (one_of name rows)) usual
 
--- what both commands are given
+-- what both commands are given; where no file is named, standard input has the script
 pub record Given : Type 0 where
   pub config : Config
   pub blocks : ℕ
   pub image : Option Text
+  pub script : Option Text
+
+-- the file of a script
+abbrev pub script_in : List Row → Option Text
+script_in rows = first_of (codes "script") rows
 
 abbrev pub given_in : List Row → Given
 given_in rows = record {
@@ -38,28 +45,50 @@ given_in rows = record {
   };
   blocks = number_under (codes "blocks") 64 rows;
   image = first_of (codes "image") rows;
+  script = script_in rows;
 }
 
 abbrev pub submitters_in : List Row → ℕ
 submitters_in rows = number_under (codes "submitters") 2 rows
+
+-- `--jobs` was typed
+abbrev pub has_jobs : List Row → Bool
+has_jobs rows = option_map_or (λ text. bytes_eq text (codes "true")) (first_of (codes "jobs") rows) false
 
 -- What is asked for
 
 pub data Asked : Type 0 where
   steps : Given → Asked
   threads : Given → ℕ → Asked
+  check : Option Text → Asked
+  check_jobs : Option Text → ℕ → Asked
+  grammar : Asked
 
 -- there are as many submitters as there may be
 abbrev pub are_submitters : ℕ → Bool
 are_submitters n = nat_le 1 n && nat_le n 16
 
+-- what is asked for, where there are as many submitters as there may be
+abbrev pub if_submitters : ℕ → (ℕ → Asked) → Option Asked
+if_submitters n wanted = if are_submitters n then Some (wanted n) else None
+
+-- what `check` with these rows asks for
+abbrev pub check_by : List Row → Option Asked
+check_by rows =
+    if has_jobs rows then if_submitters (submitters_in rows) (λ n. check_jobs (script_in rows) n) else Some (check (script_in rows))
+
 -- what a named command with these rows asks for
+abbrev pub asked_of_name : Text → List Row → Option Asked
+asked_of_name name rows =
+    if bytes_eq name (codes "steps") then Some (steps (given_in rows))
+    else if bytes_eq name (codes "threads") then if_submitters (submitters_in rows) (λ n. threads (given_in rows) n)
+    else if bytes_eq name (codes "check") then check_by rows
+    else if bytes_eq name (codes "grammar") then Some grammar
+    else None
+
 abbrev pub asked_by : Option (Text × List Row) → Option Asked
 asked_by None = None
-asked_by (Some (name, rows)) =
-    if bytes_eq name (codes "steps") then Some (steps (given_in rows))
-    else if bytes_eq name (codes "threads") && are_submitters (submitters_in rows) then Some (threads (given_in rows) (submitters_in rows))
-    else None
+asked_by (Some (name, rows)) = asked_of_name name rows
 
 abbrev pub unless_at_fault : Kinds → Option Asked → Option Asked
 unless_at_fault [] wanted = wanted
@@ -71,14 +100,23 @@ asked words = unless_at_fault (fault_of nvmesgl words) (asked_by (subcommand_of 
 
 -- The same of values of the code
 
+abbrev pub path_of : Option (Bor Text) → Option Text
+path_of path = option_map (λ p. p.now) path
+
 abbrev pub given_of : Options → Given
-given_of options = record { config = options.config; blocks = options.blocks; image = option_map (λ path. path.now) options.image }
+given_of options = record { config = options.config; blocks = options.blocks; image = path_of options.image; script = path_of options.script }
 
 abbrev pub asked_of : CommandLine → Asked
 asked_of (line.Steps options) = steps (given_of options)
 asked_of (line.Threads options submitters) = threads (given_of options) submitters
+asked_of (line.Check script) = check (path_of script)
+asked_of (line.CheckJobs script submitters) = check_jobs (path_of script) submitters
+asked_of line.Grammar = grammar
 
 -- a command line has as many submitters as there may be
 abbrev pub FitSubmitters : CommandLine → Type 0
 FitSubmitters (line.Steps options) = ⊤
 FitSubmitters (line.Threads options submitters) = (1 ≤ submitters) × (submitters ≤ 16)
+FitSubmitters (line.Check script) = ⊤
+FitSubmitters (line.CheckJobs script submitters) = (1 ≤ submitters) × (submitters ≤ 16)
+FitSubmitters line.Grammar = ⊤

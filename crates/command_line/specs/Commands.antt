@@ -1,6 +1,7 @@
 -- The commands and their options, as a parse reads them.
 use Rattle.std.specs.Prelude.{pos, true, [], ◌∷◌, Some, codes}
 use Rattle.clap.specs.Words.{App, Rule, Text, new_app, new_rule, with_rule, with_subcommand}
+use Rattle.clap.specs.declared.builder.action.ArgAction.TheVariants.{SetTrue}
 use Rattle.clap.specs.declared.builder.value_parser.ValueParser.TheVariants.{Signed}
 
 -- an option with a value: `--NAME VALUE` or `--NAME=VALUE`
@@ -14,9 +15,18 @@ number_rule name usual = record (option_rule name) {
   defaults = usual ∷ [];
 }
 
--- a command with the options that both have
+-- an option without a value: `--NAME`
+abbrev pub flag_rule : Text → Rule
+flag_rule name = record (new_rule name) { long = Some name; action = Some SetTrue }
+
+-- a word that belongs to no option
+abbrev pub word_rule : Text → Rule
+word_rule name = record (new_rule name) { value_names = 1 }
+
+-- a command with the options that both have, and the file of its script
 abbrev pub with_options : App → App
 with_options command = with_rule
+    (with_rule
     (with_rule
     (with_rule
     (with_rule
@@ -26,7 +36,8 @@ with_options command = with_rule
     (number_rule (codes "entries") (codes "4")))
     (number_rule (codes "segment") (codes "256")))
     (number_rule (codes "blocks") (codes "64")))
-    (option_rule (codes "image"))
+    (option_rule (codes "image")))
+    (word_rule (codes "script"))
 
 abbrev pub steps : App
 steps = with_options (new_app (codes "steps"))
@@ -34,9 +45,19 @@ steps = with_options (new_app (codes "steps"))
 abbrev pub threads : App
 threads = with_options (with_rule (new_app (codes "threads")) (number_rule (codes "submitters") (codes "2")))
 
--- a command that names neither is none
+abbrev pub check : App
+check = with_rule
+    (with_rule
+    (with_rule (new_app (codes "check")) (flag_rule (codes "jobs")))
+    (number_rule (codes "submitters") (codes "2")))
+    (word_rule (codes "script"))
+
+abbrev pub grammar : App
+grammar = new_app (codes "grammar")
+
+-- a command line that names none of these is none
 abbrev pub named : App
-named = record { top = record (new_app (codes "nvmesgl")).top { subcommand_required = true }; subs = [] }
+named = record { top = record (new_app (codes "nvmesgl")).top { subcommand_required = true; has_version = true }; subs = [] }
 
 abbrev pub nvmesgl : App
-nvmesgl = with_subcommand (with_subcommand named steps.top) threads.top
+nvmesgl = with_subcommand (with_subcommand (with_subcommand (with_subcommand named steps.top) threads.top) check.top) grammar.top

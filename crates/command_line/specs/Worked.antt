@@ -9,6 +9,7 @@ usual = record {
   config = record { pages = 16; queues = 1; entries = 4; segment = 256 };
   blocks = 64;
   image = None;
+  script = None;
 }
 
 -- the words of a command
@@ -17,6 +18,9 @@ steps_with options = codes "nvmesgl" ∷ codes "steps" ∷ options
 
 abbrev pub threads_with : List Text → List Text
 threads_with options = codes "nvmesgl" ∷ codes "threads" ∷ options
+
+abbrev pub check_with : List Text → List Text
+check_with options = codes "nvmesgl" ∷ codes "check" ∷ options
 
 -- each option at its end that is farther from the usual value
 abbrev pub extreme_words : List Text
@@ -29,15 +33,17 @@ extreme = record {
   config = record { pages = 65536; queues = 64; entries = 1024; segment = 2 };
   blocks = 65536;
   image = None;
+  script = None;
 }
 
 -- other values, in another order and other forms
 abbrev pub mixed_words : List Text
-mixed_words = codes "--image=disk" ∷ codes "--blocks=+3" ∷ codes "--segment" ∷ codes "007" ∷ codes "--entries=2" ∷ codes "--queues" ∷ codes "5" ∷ codes "--pages=8" ∷ []
+mixed_words = codes "--image=disk" ∷ codes "--blocks=+3" ∷ codes "--segment" ∷ codes "007" ∷ codes "--entries=2" ∷ codes "--queues" ∷ codes "5" ∷ codes "some.script" ∷ codes "--pages=8" ∷ []
 
 abbrev pub mixed : Given
 mixed = record {
   config = record { pages = 8; queues = 5; entries = 2; segment = 7 };
   blocks = 3;
   image = Some (codes "disk");
+  script = Some (codes "some.script");
 }

@@ -1,13 +1,15 @@
 //! What the words of a command line ask for.
 
-ghost use Rattle.std.specs.Prelude.{◌≡◌, ◌≤◌, ◌⊎◌, Some, None, IfOk, IfErr, map, false};
+ghost use Rattle.std.specs.Prelude.{◌≡◌, ◌≤◌, ◌⊎◌, Some, None, IfOk, IfErr, IfSome, IsNone, map, codes, false, true, length};
 ghost use Rattle.clap.specs.Words.{found_of, kind_of, rows_of};
-ghost use Rattle.command_line.specs.Asked.{asked, asked_of, given_in, given_of, FitSubmitters, are_submitters, submitters_in};
+ghost use Rattle.command_line.specs.Asked.{asked, asked_of, asked_of_name, check_by, given_in, given_of, FitSubmitters, are_submitters, has_jobs, if_submitters, path_of, script_in, submitters_in, threads};
 ghost use Rattle.clap.specs.declared.error.kind.ErrorKind.TheVariants.{OutOfMemory};
 
-use crate::commands::{BLOCKS, ENTRIES, PAGES, QUEUES, SEGMENT, SUBMITTERS, command};
+use crate::commands::{
+    BLOCKS, ENTRIES, PAGES, QUEUES, SEGMENT, SUBMITTERS, check_command, command, threads_command,
+};
 use clap::error::ErrorKind;
-use clap::{ArgMatches, Error};
+use clap::{ArgMatches, Command, Error};
 use host_core::Config;
 use std::alloc::{AllocError, AllocGlobal, Global};
 use std::convert::AsStr;
@@ -17,13 +19,10 @@ use std::io;
 /// What is said of a word that is not text.
 const NOT_TEXT: &str = "invalid UTF-8 was detected in one or more arguments";
 
-/// What is said of a number of submitters that is out of range.
-const BAD_SUBMITTERS: &str = "the value of '--submitters <N>' is not in 1..=16";
-
 /// What is said where no command is named.
 const NO_COMMAND: &str = "a command is wanted";
 
-/// The options that both commands have.
+/// The options that `steps` and `threads` have.
 #[derive(Clone, Copy, Debug, PartialEq, Eq)]
 pub struct Options<'a> {
     /// What the world is opened with.
@@ -32,6 +31,8 @@ pub struct Options<'a> {
     pub blocks: u32,
     /// The path of an image.
     pub image: Option<&'a str>,
+    /// The path of the script. Where there is none, or it is `-`, standard input has it.
+    pub script: Option<&'a str>,
 }
 
 /// What a command line asks for.
@@ -41,6 +42,12 @@ pub enum CommandLine<'a> {
     Steps(Options<'a>),
     /// To run the jobs of so many submitters, 1 to 16, in threads.
     Threads(Options<'a>, u16),
+    /// To tell the faults of a script of steps, by its path as in [`Options`].
+    Check(Option<&'a str>),
+    /// To tell the faults of a script of jobs, by its path, for so many submitters, 1 to 16.
+    CheckJobs(Option<&'a str>, u16),
+    /// To print every verb with its form.
+    Grammar,
 }
 
 impl<'a> Options<'a> {
@@ -57,25 +64,112 @@ impl<'a> Options<'a> {
             },
             blocks: BLOCKS.value(given),
             image: given.get_str("image"),
+            script: script(given),
         }
     }
 }
 
-/// How many submitters there are.
-///
-/// # Errors
-///
-/// `ValueValidation` where they are not 1 to 16, and `OutOfMemory` where memory is refused.
-fn submitters(alloc: Global, given: &ArgMatches<'_>) -> Result<u16, Error>
-    ensures number { IfOk result (λ n. n ≡ submitters_in (rows_of (found_of given.now))) }
-    ensures least { IfOk result (λ n. 1 ≤ n) }
-    ensures most { IfOk result (λ n. n ≤ 16) }
-    ensures refused { IfErr result (λ e. (kind_of e ≡ OutOfMemory) ⊎ (are_submitters (submitters_in (rows_of (found_of given.now))) ≡ false)) }
+/// The path of a script.
+fn script<'a>(given: &ArgMatches<'a>) -> Option<&'a str>
+    ensures { path_of result ≡ script_in (rows_of (found_of given.now)) }
+{
+    given.get_str("script")
+}
+
+/// Whether the script is one of jobs.
+fn is_of_jobs(given: &ArgMatches<'_>) -> bool
+    ensures { result ≡ has_jobs (rows_of (found_of given.now)) }
+{
+    match given.get_str("jobs") {
+        Some(text) => text == "true",
+        None => false,
+    }
+}
+
+/// How many submitters there are, if they are 1 to 16.
+fn submitters(given: &ArgMatches<'_>) -> Option<u16>
+    ensures number { IfSome result (λ n. n ≡ submitters_in (rows_of (found_of given.now))) }
+    ensures least { IfSome result (λ n. 1 ≤ n) }
+    ensures most { IfSome result (λ n. n ≤ 16) }
+    ensures none { IsNone result → are_submitters (submitters_in (rows_of (found_of given.now))) ≡ false }
 {
     match u16::try_from(SUBMITTERS.value(given)) {
-        Ok(n @ 1..=16) => Ok(n),
-        _ => Err(command(alloc)?.error(ErrorKind::ValueValidation, BAD_SUBMITTERS)?),
+        Ok(n @ 1..=16) => Some(n),
+        _ => None,
     }
+}
+
+/// Says of a command that its submitters are too few or too many.
+fn bad_submitters(
+    alloc: Global,
+    given: &ArgMatches<'_>,
+    command: Command<'_>,
+) -> Result<Error, AllocError> {
+    let n = SUBMITTERS.value(given);
+    let text = format!(in alloc;
+        "invalid value '{n}' for '--submitters <N>': {n} is not in 1..=16"
+    )?;
+    let mut command = command;
+    command.error(ErrorKind::ValueValidation, text.as_str())
+}
+
+/// What `threads` with these words asks for.
+fn threads_line<'a>(alloc: Global, given: &ArgMatches<'a>) -> Result<CommandLine<'a>, Error>
+    ensures asked { IfOk result (λ line. asked_of_name (codes "threads") (rows_of (found_of given.now)) ≡ Some (asked_of line)) }
+    ensures submitters { IfOk result FitSubmitters }
+    ensures refused { IfErr result (λ e. (kind_of e ≡ OutOfMemory) ⊎ (asked_of_name (codes "threads") (rows_of (found_of given.now)) ≡ None)) }
+{
+    match submitters(given) {
+        Some(n) => Ok(CommandLine::Threads(Options::of(given), n)),
+        None => {
+            let command = threads_command(alloc)?.bin_name("nvmesgl threads")?;
+            Err(bad_submitters(alloc, given, command)?)
+        }
+    }
+}
+
+/// What `check` with these words asks for.
+fn check_line<'a>(alloc: Global, given: &ArgMatches<'a>) -> Result<CommandLine<'a>, Error>
+    ensures asked { IfOk result (λ line. check_by (rows_of (found_of given.now)) ≡ Some (asked_of line)) }
+    ensures submitters { IfOk result FitSubmitters }
+    ensures refused { IfErr result (λ e. (kind_of e ≡ OutOfMemory) ⊎ (check_by (rows_of (found_of given.now)) ≡ None)) }
+{
+    let path = script(given);
+    if !is_of_jobs(given) {
+        return Ok(CommandLine::Check(path));
+    }
+    match submitters(given) {
+        Some(n) => Ok(CommandLine::CheckJobs(path, n)),
+        None => {
+            let command = check_command(alloc)?.bin_name("nvmesgl check")?;
+            Err(bad_submitters(alloc, given, command)?)
+        }
+    }
+}
+
+/// What a command with these words asks for.
+fn line_of<'a>(
+    alloc: Global,
+    name: &str,
+    given: &ArgMatches<'a>,
+) -> Result<CommandLine<'a>, Error>
+    ensures asked { IfOk result (λ line. asked_of_name name.now (rows_of (found_of given.now)) ≡ Some (asked_of line)) }
+    ensures submitters { IfOk result FitSubmitters }
+    ensures refused { IfErr result (λ e. (kind_of e ≡ OutOfMemory) ⊎ (asked_of_name name.now (rows_of (found_of given.now)) ≡ None)) }
+{
+    if name == "steps" {
+        return Ok(CommandLine::Steps(Options::of(given)));
+    }
+    if name == "threads" {
+        return threads_line(alloc, given);
+    }
+    if name == "check" {
+        return check_line(alloc, given);
+    }
+    if name == "grammar" {
+        return Ok(CommandLine::Grammar);
+    }
+    Err(command(alloc)?.error(ErrorKind::MissingSubcommand, NO_COMMAND)?)
 }
 
 impl<'a> CommandLine<'a> {
@@ -83,22 +177,16 @@ impl<'a> CommandLine<'a> {
     ///
     /// # Errors
     ///
-    /// `OutOfMemory` where memory is refused, and else only where the words ask for neither command: where help is asked for
-    /// (`DisplayHelp`), or by the first fault that is found, the number of submitters last.
+    /// `OutOfMemory` where memory is refused, and else only where the words ask for no command: where help or the version is
+    /// asked for (`DisplayHelp`, `DisplayVersion`), or by the first fault that is found, the number of submitters last.
     pub fn parse<S: AsStr>(alloc: Global, words: &'a [S]) -> Result<CommandLine<'a>, Error>
         ensures asked { IfOk result (λ line. asked (map S.text words.now) ≡ Some (asked_of line)) }
         ensures submitters { IfOk result FitSubmitters }
         ensures refused { IfErr result (λ e. (kind_of e ≡ OutOfMemory) ⊎ (asked (map S.text words.now) ≡ None)) }
     {
         let matches = command(alloc)?.try_get_matches_from(words)?;
-        if let Some(given) = matches.subcommand_matches("steps") {
-            return Ok(CommandLine::Steps(Options::of(given)));
-        }
-        match matches.subcommand_matches("threads") {
-            Some(given) => {
-                let submitters = submitters(alloc, given)?;
-                Ok(CommandLine::Threads(Options::of(given), submitters))
-            }
+        match matches.subcommand() {
+            Some((name, given)) => line_of(alloc, name, given),
             None => Err(command(alloc)?.error(ErrorKind::MissingSubcommand, NO_COMMAND)?),
         }
     }

@@ -3,12 +3,17 @@
 ghost use Rattle.std.specs.Prelude.{◌≡◌, IfOk, false, codes};
 ghost use Rattle.clap.specs.Words.{app_of, found_of, rows_of, rule_of};
 ghost use Rattle.clap.specs.declared.builder.command.Command.TheViews.{out-Command};
-ghost use Rattle.command_line.specs.Commands.{number_rule, nvmesgl, option_rule, steps, threads, with_options};
+ghost use Rattle.command_line.specs.Commands.{check, flag_rule, grammar, number_rule, named, nvmesgl, option_rule, steps, threads, with_options, word_rule};
 ghost use Rattle.command_line.specs.Asked.{number_under};
 
-use crate::help::{ABOUT, AFTER, STEPS_ABOUT, STEPS_AFTER, THREADS_ABOUT, THREADS_AFTER};
-use clap::{Arg, ArgMatches, Command, value_parser};
+use crate::help::{
+    ABOUT, AFTER, CHECK_ABOUT, CHECK_AFTER, STEPS_ABOUT, STEPS_AFTER, THREADS_ABOUT, THREADS_AFTER,
+};
+use clap::{Arg, ArgAction, ArgMatches, Command, value_parser};
 use std::alloc::{AllocError, Global};
+
+/// What `nvmesgl --version` says behind the program's name.
+pub const VERSION: &str = "0.1.0";
 
 /// An option that is a number.
 #[derive(Clone, Copy)]
@@ -16,6 +21,8 @@ pub(crate) struct Number {
     name: &'static str,
     usual: u32,
     shown: &'static str,
+    /// The least and the most that it may be.
+    pub(crate) range: (u32, u32),
     help: &'static str,
 }
 
@@ -23,6 +30,7 @@ pub(crate) const PAGES: Number = Number {
     name: "pages",
     usual: 16,
     shown: "16",
+    range: (8, 65_536),
     help: "Pages of the pool, 4,096 bytes each: 8 to 65536",
 };
 
@@ -30,6 +38,7 @@ pub(crate) const QUEUES: Number = Number {
     name: "queues",
     usual: 1,
     shown: "1",
+    range: (1, 64),
     help: "I/O queues, beside the admin queue 0: 1 to 64",
 };
 
@@ -37,6 +46,7 @@ pub(crate) const ENTRIES: Number = Number {
     name: "entries",
     usual: 4,
     shown: "4",
+    range: (2, 1_024),
     help: "Entries of each queue: 2 to 1024",
 };
 
@@ -44,6 +54,7 @@ pub(crate) const SEGMENT: Number = Number {
     name: "segment",
     usual: 256,
     shown: "256",
+    range: (2, 256),
     help: "Descriptors of a full segment: 2 to 256",
 };
 
@@ -51,6 +62,7 @@ pub(crate) const BLOCKS: Number = Number {
     name: "blocks",
     usual: 64,
     shown: "64",
+    range: (1, 65_536),
     help: "Zero blocks of the image, 512 bytes each: 1 to 65536",
 };
 
@@ -58,6 +70,7 @@ pub(crate) const SUBMITTERS: Number = Number {
     name: "submitters",
     usual: 2,
     shown: "2",
+    range: (1, 16),
     help: "Submitters, each in a thread of its own: 1 to 16",
 };
 
@@ -73,6 +86,11 @@ impl Number {
             .value_parser(value_parser!(u32))
             .default_value(self.shown)
             .help(self.help)
+    }
+
+    /// Its name on the command line, without the hyphens.
+    pub(crate) fn name(&self) -> &'static str {
+        self.name
     }
 
     /// Its value.
@@ -94,7 +112,28 @@ fn image_arg<'a>(alloc: Global) -> Arg<'a>
         .help("The image's bytes, 1 to 65536 whole blocks, in place of --blocks")
 }
 
-/// A command with the options that both have.
+/// The word that names the file of a script.
+fn script_arg<'a>(alloc: Global) -> Arg<'a>
+    ensures rule { rule_of result ≡ word_rule (codes "script") }
+    ensures local { result.global ≡ false }
+{
+    Arg::new(alloc, "script")
+        .value_name("FILE")
+        .help("The script's file; standard input where there is none, or -")
+}
+
+/// The option that says that a script is one of jobs.
+fn jobs_arg<'a>(alloc: Global) -> Arg<'a>
+    ensures rule { rule_of result ≡ flag_rule (codes "jobs") }
+    ensures local { result.global ≡ false }
+{
+    Arg::new(alloc, "jobs")
+        .long("jobs")
+        .action(ArgAction::SetTrue)
+        .help("The script is one of jobs, for `threads`")
+}
+
+/// A command with the options that both have, and the file of its script.
 fn with_options<'a>(alloc: Global, command: Command<'a>) -> Result<Command<'a>, AllocError>
     ensures shape { IfOk result (λ whole. app_of whole ≡ with_options (app_of command.entry)) }
     ensures local { IfOk result (λ whole. (out-Command whole).has_globals ≡ (out-Command command.entry).has_globals) }
@@ -105,7 +144,8 @@ fn with_options<'a>(alloc: Global, command: Command<'a>) -> Result<Command<'a>, 
         .arg(ENTRIES.arg(alloc))?
         .arg(SEGMENT.arg(alloc))?
         .arg(BLOCKS.arg(alloc))?
-        .arg(image_arg(alloc))
+        .arg(image_arg(alloc))?
+        .arg(script_arg(alloc))
 }
 
 /// The command that plays a script of steps.
@@ -114,23 +154,58 @@ fn steps_command<'a>(alloc: Global) -> Result<Command<'a>, AllocError>
     ensures local { IfOk result (λ command. (out-Command command).has_globals ≡ false) }
 {
     let command = Command::new(alloc, "steps")
-        .about("Plays a script from standard input")
+        .about("Plays a script")
         .long_about(STEPS_ABOUT)
         .after_help(STEPS_AFTER);
     with_options(alloc, command)
 }
 
 /// The command that runs jobs in threads.
-fn threads_command<'a>(alloc: Global) -> Result<Command<'a>, AllocError>
+pub(crate) fn threads_command<'a>(alloc: Global) -> Result<Command<'a>, AllocError>
     ensures shape { IfOk result (λ command. app_of command ≡ threads) }
     ensures local { IfOk result (λ command. (out-Command command).has_globals ≡ false) }
 {
     let command = Command::new(alloc, "threads")
-        .about("Runs the jobs of a script from standard input in threads")
+        .about("Runs the jobs of a script in threads")
         .long_about(THREADS_ABOUT)
         .after_help(THREADS_AFTER)
         .arg(SUBMITTERS.arg(alloc))?;
     with_options(alloc, command)
+}
+
+/// The command that looks for the faults of a script.
+pub(crate) fn check_command<'a>(alloc: Global) -> Result<Command<'a>, AllocError>
+    ensures shape { IfOk result (λ command. app_of command ≡ check) }
+    ensures local { IfOk result (λ command. (out-Command command).has_globals ≡ false) }
+{
+    Command::new(alloc, "check")
+        .about("Tells all faults of a script, and runs nothing")
+        .long_about(CHECK_ABOUT)
+        .after_help(CHECK_AFTER)
+        .arg(jobs_arg(alloc))?
+        .arg(SUBMITTERS.arg(alloc))?
+        .arg(script_arg(alloc))
+}
+
+/// The command that prints what a script may say.
+fn grammar_command<'a>(alloc: Global) -> Command<'a>
+    ensures shape { app_of result ≡ grammar }
+    ensures local { (out-Command result).has_globals ≡ false }
+{
+    Command::new(alloc, "grammar").about("Prints every verb of a script with its form")
+}
+
+/// The program without its commands.
+fn program<'a>(alloc: Global) -> Result<Command<'a>, AllocError>
+    ensures { IfOk result (λ command. app_of command ≡ named) }
+{
+    let command = Command::new(alloc, "nvmesgl").bin_name("nvmesgl")?;
+    Ok(command
+        .version(VERSION)
+        .about("An NVMe host driver and a modelled controller, played step by step or in threads")
+        .long_about(ABOUT)
+        .after_help(AFTER)
+        .subcommand_required(true))
 }
 
 /// The commands and their options.
@@ -138,12 +213,11 @@ pub(crate) fn command<'a>(alloc: Global) -> Result<Command<'a>, AllocError>
     ensures { IfOk result (λ command. app_of command ≡ nvmesgl) }
 {
     let steps = steps_command(alloc)?;
-    let command = Command::new(alloc, "nvmesgl")
-        .bin_name("nvmesgl")?
-        .about("An NVMe host driver and a modelled controller, played step by step or in threads")
-        .long_about(ABOUT)
-        .after_help(AFTER)
-        .subcommand_required(true)
-        .subcommand(steps)?;
-    command.subcommand(threads_command(alloc)?)
+    let threads = threads_command(alloc)?;
+    let check = check_command(alloc)?;
+    program(alloc)?
+        .subcommand(steps)?
+        .subcommand(threads)?
+        .subcommand(check)?
+        .subcommand(grammar_command(alloc))
 }

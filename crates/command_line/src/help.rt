@@ -6,7 +6,8 @@ pub const ABOUT: &str =
 
 It drives no real device. `nvmesgl steps` plays a script over a fresh pool of pages and
 prints what each step answered. `nvmesgl threads` lets several threads do the jobs of a
-script over one pool, and prints how each job ended.";
+script over one pool, and prints how each job ended. `nvmesgl check` tells all faults of a
+script, and `nvmesgl grammar` what a script may say.";
 
 /// What `nvmesgl --help` says last.
 pub const AFTER: &str = "One block, read:
@@ -17,7 +18,7 @@ docs/PROFILE.md says what the steps mean, and examples/ has scripts with their o
 
 /// What `nvmesgl steps --help` says first.
 pub const STEPS_ABOUT: &str =
-    "Plays a script from standard input, step by step, and prints what each step answered.
+    "Plays a script, step by step, and prints what each step answered.
 
 The script is read and checked whole before its first step. A refused step is an answer too:
 the run goes on, and its exit status is 0.";
@@ -62,7 +63,7 @@ Exit status: 0 done, 1 the script is at fault, 2 the arguments, the image or the
 
 /// What `nvmesgl threads --help` says first.
 pub const THREADS_ABOUT: &str =
-    "Runs the jobs of a script from standard input, and prints how each ended.
+    "Runs the jobs of a script, and prints how each ended.
 
 Each submitter does its jobs in a thread of its own, one after the other in the order of their
 lines; all share one pool. The script is read and checked whole before its first job. A refused
@@ -91,3 +92,15 @@ prints
 
 Exit status: 0 done, 1 the script is at fault, 2 the arguments, the image or the opening,
 3 memory, a thread or the output. docs/SCRIPT.md in the repository has all of this in full.";
+
+/// What `nvmesgl check --help` says first.
+pub const CHECK_ABOUT: &str =
+    "Tells all faults of a script, and not the first alone. Nothing is run and nothing is printed
+but the faults: each line that has one, its first word that is wrong, and what is wanted there,
+20 lines at most.";
+
+/// What `nvmesgl check --help` says last.
+pub const CHECK_AFTER: &str =
+    "With --jobs the script is one for `nvmesgl threads` with as many submitters as are given.
+
+Exit status: 0 no fault, 1 the script is at fault, 2 the arguments, 3 memory or the output.";

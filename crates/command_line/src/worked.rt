@@ -1,8 +1,8 @@
 //! Worked command lines. Each function computes some.
 
 ghost use Rattle.std.specs.Prelude.{◌≡◌, ℕ, List, None, Some, [], ◌∷◌, ◌++◌, codes};
-ghost use Rattle.command_line.specs.Asked.{asked, steps, threads};
-ghost use Rattle.command_line.specs.Worked.{extreme, extreme_words, mixed, mixed_words, steps_with, threads_with, usual};
+ghost use Rattle.command_line.specs.Asked.{asked, check, check_jobs, grammar, steps, threads};
+ghost use Rattle.command_line.specs.Worked.{check_with, extreme, extreme_words, mixed, mixed_words, steps_with, threads_with, usual};
 
 /// Each option is what its words say, and its usual value where there are none.
 #[tactic(auto, unfolding(clap::proofs::OnLiterals::clap_on_literals))]
@@ -15,7 +15,31 @@ pub fn options_are_taken()
     ensures mixed_threads { asked (threads_with (mixed_words ++ codes "--submitters=1" ∷ [])) ≡ Some (threads mixed 1) }
 {}
 
-/// Words that ask for neither command.
+/// A script is a word that belongs to no option, before, behind or between them.
+#[tactic(auto, unfolding(clap::proofs::OnLiterals::clap_on_literals))]
+pub fn scripts_are_words()
+    ensures alone { asked (steps_with (codes "read.script" ∷ [])) ≡ Some (steps (record usual { script = Some (codes "read.script") })) }
+    ensures dash { asked (threads_with (codes "-" ∷ [])) ≡ Some (threads (record usual { script = Some (codes "-") }) 2) }
+    ensures before { asked (steps_with (codes "a" ∷ codes "--blocks=64" ∷ [])) ≡ Some (steps (record usual { script = Some (codes "a") })) }
+    ensures behind { asked (steps_with (codes "--blocks" ∷ codes "64" ∷ codes "--" ∷ codes "--a" ∷ [])) ≡ Some (steps (record usual { script = Some (codes "--a") })) }
+{}
+
+/// What `check` and `grammar` ask for.
+#[tactic(auto, unfolding(clap::proofs::OnLiterals::clap_on_literals))]
+pub fn nothing_is_run()
+    ensures steps { asked (check_with []) ≡ Some (check None) }
+    ensures file { asked (check_with (codes "a" ∷ [])) ≡ Some (check (Some (codes "a"))) }
+    ensures jobs { asked (check_with (codes "--jobs" ∷ [])) ≡ Some (check_jobs None 2) }
+    ensures more_jobs { asked (check_with (codes "--submitters=16" ∷ codes "a" ∷ codes "--jobs" ∷ [])) ≡ Some (check_jobs (Some (codes "a")) 16) }
+    ensures submitters_alone { asked (check_with (codes "--submitters" ∷ codes "0" ∷ [])) ≡ Some (check None) }
+    ensures no_submitters { asked (check_with (codes "--jobs" ∷ codes "--submitters" ∷ codes "0" ∷ [])) ≡ None }
+    ensures many_submitters { asked (check_with (codes "--jobs" ∷ codes "--submitters" ∷ codes "17" ∷ [])) ≡ None }
+    ensures no_pages { asked (check_with (codes "--pages" ∷ codes "8" ∷ [])) ≡ None }
+    ensures grammar { asked (codes "nvmesgl" ∷ codes "grammar" ∷ []) ≡ Some grammar }
+    ensures no_word { asked (codes "nvmesgl" ∷ codes "grammar" ∷ codes "ring" ∷ []) ≡ None }
+{}
+
+/// Words that ask for no command.
 #[tactic(auto, unfolding(clap::proofs::OnLiterals::clap_on_literals))]
 pub fn other_words_are_refused()
     ensures no_command { asked (codes "nvmesgl" ∷ []) ≡ None }
@@ -23,7 +47,8 @@ pub fn other_words_are_refused()
     ensures help { asked (codes "nvmesgl" ∷ codes "--help" ∷ []) ≡ None }
     ensures help_of_steps { asked (steps_with (codes "--help" ∷ [])) ≡ None }
     ensures unknown { asked (steps_with (codes "--page" ∷ codes "8" ∷ [])) ≡ None }
-    ensures stray { asked (steps_with (codes "8" ∷ [])) ≡ None }
+    ensures version { asked (codes "nvmesgl" ∷ codes "--version" ∷ []) ≡ None }
+    ensures two_scripts { asked (steps_with (codes "8" ∷ codes "9" ∷ [])) ≡ None }
     ensures twice { asked (steps_with (codes "--pages" ∷ codes "8" ∷ codes "--pages" ∷ codes "8" ∷ [])) ≡ None }
     ensures no_value { asked (steps_with (codes "--pages" ∷ [])) ≡ None }
     ensures submitters_of_steps { asked (steps_with (codes "--submitters" ∷ codes "2" ∷ [])) ≡ None }

@@ -1,3 +1,3 @@
 mod JobReading
-mod JobRuns
+pub mod JobRuns
 mod Submitters

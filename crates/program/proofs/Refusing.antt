@@ -4,14 +4,14 @@ use Rattle.std.specs.Prelude.{IfErr, Result, Ok, Err, replicate, ◌*◌}
 use Rattle.clap.specs.Words.{kind_of}
 use Rattle.clap.specs.declared.error.Error.{Error}
 use Rattle.clap.specs.declared.error.kind.ErrorKind.TheVariants.{OutOfMemory}
-use Rattle.command_line.specs.Asked.{Asked, steps, threads}
+use Rattle.command_line.specs.Asked.{Asked, check, check_jobs, grammar, steps, threads}
 use Rattle.program.specs.Performing.{FailsWith}
 use Rattle.program.specs.declared.fault.Fault.{Fault}
 use Rattle.program.specs.declared.fault.Fault.TheVariants as fault
 use Rattle.script_cli.specs.declared.fault.RunFault.TheVariants as run
 use Rattle.std.specs.Io.KnownBytes.{Keeps}
 
-kept : (bytes : Option (List ℕ)) → Keeps bytes bytes
+pub kept : (bytes : Option (List ℕ)) → Keeps bytes bytes
 kept None = tt
 kept (Some bytes) = refl
 
@@ -19,6 +19,9 @@ kept (Some bytes) = refl
 wanting : (told : Option (List ℕ)) (what : Asked) (bytes : Option (List ℕ)) → FailsWith told (Some what) bytes bytes (fault.Run run.Memory)
 wanting told (steps given) bytes = (replicate (512 * given.blocks) 0, λ none. refl, inl (kept bytes))
 wanting told (threads given submitters) bytes = (replicate (512 * given.blocks) 0, λ none. refl, inl (kept bytes))
+wanting told (check path) bytes = (tt, kept bytes)
+wanting told (check_jobs path submitters) bytes = (tt, kept bytes)
+wanting told grammar bytes = inl refl
 
 refused : (told : Option (List ℕ)) (what : Option Asked) (bytes : Option (List ℕ)) (e : Error) (why : Fault) → (kind_of e ≡ OutOfMemory) ⊎ (what ≡ None)
     → (kind_of e ≡ OutOfMemory → why ≡ fault.Run run.Memory) → FailsWith told what bytes bytes why
@@ -30,8 +33,8 @@ refused told (Some what) bytes e why (inr nothing) memory = absurd (no_some what
     no_some x e = cc
 
 -- where an error of the words is shown: they ask for nothing, or memory is wanting, and nothing is written
-pub shown : {T : Type 0} (told : Option (List ℕ)) (what : Option Asked) (bytes : Option (List ℕ)) (e : Error) (r : Result T Fault)
-    → (kind_of e ≡ OutOfMemory) ⊎ (what ≡ None) → IfErr r (λ why. kind_of e ≡ OutOfMemory → why ≡ fault.Run run.Memory)
-    → IfErr r (λ why. FailsWith told what bytes bytes why)
-shown told what bytes e (Ok x) cause memory = tt
-shown told what bytes e (Err why) cause memory = refused told what bytes e why cause memory
+pub shown : {T U : Type 0} (fault_of : U → Fault) (told : Option (List ℕ)) (what : Option Asked) (bytes : Option (List ℕ)) (e : Error) (r : Result T U)
+    → (kind_of e ≡ OutOfMemory) ⊎ (what ≡ None) → IfErr r (λ why. kind_of e ≡ OutOfMemory → fault_of why ≡ fault.Run run.Memory)
+    → IfErr r (λ why. FailsWith told what bytes bytes (fault_of why))
+shown fault_of told what bytes e (Ok x) cause memory = tt
+shown fault_of told what bytes e (Err why) cause memory = refused told what bytes e (fault_of why) cause memory

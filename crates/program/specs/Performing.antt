@@ -1,14 +1,20 @@
 -- What the program does with what words ask for, a script and a writer.
-use Rattle.std.specs.Prelude.{◌≡◌, ◌⊎◌, ◌<◌, ◌*◌, ℕ, List, Option, Some, None, replicate}
+use Rattle.std.specs.Prelude.{◌≡◌, ◌⊎◌, ◌<◌, ◌*◌, ℕ, List, Option, Some, None, replicate, codes, if◌then◌else◌}
 use Rattle.std.specs.Io.KnownBytes.{Keeps}
+use Rattle.std.specs.Str.{bytes_eq}
 use Rattle.block_image.specs.Blocks.{most_blocks}
-use Rattle.command_line.specs.Asked.{Asked, Given, steps, threads}
-use Rattle.job_cli.specs.JobRuns.{EndsJobsWith, IsJobsText, WritesJobs}
+use Rattle.clap.specs.Words.{Text}
+use Rattle.command_line.specs.Asked.{Asked, Given, check, check_jobs, grammar, steps, threads}
+use Rattle.job_cli.specs.JobRuns.{EndsJobsWith, HasJobs, IsJobsText, IsNoJobs, WritesJobs}
+use Rattle.job_cli.specs.declared.jobs.JobLine.{JobLine}
 use Rattle.program.specs.declared.fault.Fault.{Fault}
 use Rattle.program.specs.declared.fault.Fault.TheVariants as fault
-use Rattle.script_cli.specs.Runs.{EndsWith, IsRunText, Writes}
+use Rattle.script_cli.specs.Runs.{EndsWith, HasScript, IsNoScript, IsRunText, Writes}
+use Rattle.script_cli.specs.declared.fault.RunFault.{RunFault}
+use Rattle.script_cli.specs.declared.fault.RunFault.TheVariants as run
 use Rattle.script_cli.specs.declared.input.ImageFault.{ImageFault}
 use Rattle.script_cli.specs.declared.input.ImageFault.TheVariants as image_fault
+use Rattle.script_cli.specs.declared.script.Numbered.{Numbered}
 
 -- where no file is named, a run begins with as many blocks of zeros as are given
 abbrev pub IsFirstImage : Given → List ℕ → Type 0
@@ -19,21 +25,48 @@ abbrev pub IsNoFirstImage : Given → ImageFault → Type 0
 IsNoFirstImage given why =
     given.image ≡ None → (why ≡ image_fault.Memory) ⊎ ((why ≡ image_fault.BadLength) × ((given.blocks ≡ 0) ⊎ (most_blocks < given.blocks)))
 
--- what is written where all goes well: the text of a run of the script, over the configuration and the image that are given; nothing where help is asked for
-abbrev pub Performs : Option (List ℕ) → Option Asked → Option (List ℕ) → Option (List ℕ) → Type 0
-Performs script None before after = Keeps before after
-Performs script (Some (steps given)) before after =
-    (image : List ℕ) × IsFirstImage given image × Writes script given.config image before after IsRunText
-Performs script (Some (threads given submitters)) before after =
-    (image : List ℕ) × IsFirstImage given image × WritesJobs script submitters given.config image before after IsJobsText
+-- what is known of the script that a path names, by what is known of standard input: that has it where there is no path, or it is `-`; a file may have any bytes
+abbrev pub script_told : Option Text → Option (List ℕ) → Option (List ℕ)
+script_told None told = told
+script_told (Some path) told = if bytes_eq path (codes "-") then told else None
 
--- what a fault says, and what was then written; only words that ask for neither command are at fault themselves
+-- What is written where all goes well: the text of a run of the script, over the configuration and the image that are given; nothing where help is asked for, and
+-- nothing of a script that is checked and has no fault. Of the text of the grammar nothing is said.
+abbrev pub Performs : Option (List ℕ) → Option Asked → Option (List ℕ) → Option (List ℕ) → Type 0
+Performs told None before after = Keeps before after
+Performs told (Some (steps given)) before after =
+    (image : List ℕ) × IsFirstImage given image × Writes (script_told given.script told) given.config image before after IsRunText
+Performs told (Some (threads given submitters)) before after =
+    (image : List ℕ) × IsFirstImage given image × WritesJobs (script_told given.script told) submitters given.config image before after IsJobsText
+Performs told (Some (check path)) before after = ((script : List Numbered) × HasScript (script_told path told) script) × Keeps before after
+Performs told (Some (check_jobs path submitters)) before after = ((lines : List JobLine) × HasJobs (script_told path told) submitters lines) × Keeps before after
+Performs told (Some grammar) before after = Unit {0}
+
+-- why the grammar was not written
+abbrev pub IsNoGrammar : RunFault → Type 0
+IsNoGrammar why = (why ≡ run.Memory) ⊎ (why ≡ run.OutputFailed)
+
+-- a fault is one of a run, of which something holds
+abbrev pub IsRunFault : Fault → (RunFault → Type 0) → Type 0
+IsRunFault (fault.Run why) Holds = Holds why
+IsRunFault (fault.Arguments why) Holds = ⊥
+IsRunFault (fault.Image why) Holds = ⊥
+IsRunFault fault.PipeClosed Holds = ⊥
+
+-- what a fault says, and what was then written; only words that ask for no command are at fault themselves
 abbrev pub FailsWith : Option (List ℕ) → Option Asked → Option (List ℕ) → Option (List ℕ) → Fault → Type 0
-FailsWith script None before after why = Keeps before after
-FailsWith script (Some what) before after (fault.Arguments why) = ⊥
-FailsWith script (Some (steps given)) before after (fault.Image why) = IsNoFirstImage given why × Keeps before after
-FailsWith script (Some (threads given submitters)) before after (fault.Image why) = IsNoFirstImage given why × Keeps before after
-FailsWith script (Some (steps given)) before after (fault.Run why) =
-    (image : List ℕ) × IsFirstImage given image × EndsWith script given.config image before after why
-FailsWith script (Some (threads given submitters)) before after (fault.Run why) =
-    (image : List ℕ) × IsFirstImage given image × EndsJobsWith script submitters given.config image before after why
+FailsWith told None before after why = Keeps before after
+FailsWith told (Some what) before after (fault.Arguments why) = ⊥
+FailsWith told (Some what) before after fault.PipeClosed = ⊥
+FailsWith told (Some (steps given)) before after (fault.Image why) = IsNoFirstImage given why × Keeps before after
+FailsWith told (Some (threads given submitters)) before after (fault.Image why) = IsNoFirstImage given why × Keeps before after
+FailsWith told (Some (check path)) before after (fault.Image why) = ⊥
+FailsWith told (Some (check_jobs path submitters)) before after (fault.Image why) = ⊥
+FailsWith told (Some grammar) before after (fault.Image why) = ⊥
+FailsWith told (Some (steps given)) before after (fault.Run why) =
+    (image : List ℕ) × IsFirstImage given image × EndsWith (script_told given.script told) given.config image before after why
+FailsWith told (Some (threads given submitters)) before after (fault.Run why) =
+    (image : List ℕ) × IsFirstImage given image × EndsJobsWith (script_told given.script told) submitters given.config image before after why
+FailsWith told (Some (check path)) before after (fault.Run why) = IsNoScript (script_told path told) why × Keeps before after
+FailsWith told (Some (check_jobs path submitters)) before after (fault.Run why) = IsNoJobs (script_told path told) submitters why × Keeps before after
+FailsWith told (Some grammar) before after (fault.Run why) = IsNoGrammar why

@@ -1,18 +1,25 @@
 //! The program's commands.
 
-ghost use Rattle.std.specs.Prelude.{◌≡◌, ◌≤◌, Some, IfOk, IfErr, OnOk, map};
-ghost use Rattle.command_line.specs.Asked.{asked, given_of, steps, threads};
-ghost use Rattle.program.specs.Performing.{FailsWith, IsFirstImage, IsNoFirstImage, Performs};
+ghost use Rattle.std.specs.Prelude.{◌≡◌, ◌≤◌, List, Some, IfErr, OnOk, map};
+ghost use Rattle.command_line.specs.Asked.{asked, given_of, path_of, steps, threads};
+ghost use Rattle.job_cli.specs.JobRuns.{HasJobs, IsNoJobs};
+ghost use Rattle.job_cli.specs.declared.jobs.JobLine.{JobLine};
+ghost use Rattle.program.specs.Performing.{FailsWith, IsNoGrammar, IsRunFault, Performs, script_told};
+ghost use Rattle.script_cli.specs.Runs.{HasScript, IsNoScript};
+ghost use Rattle.script_cli.specs.declared.script.Numbered.{Numbered};
 
-use crate::fault::Fault;
-use block_image::{Image, ImageError};
+use crate::below::below_run;
+use crate::checking::{check_jobs, check_steps};
+use crate::fault::{Fault, Told};
+use crate::inputs::{open_image, script_text};
+use crate::pipe::Pipe;
 use command_line::{CommandLine, Options, words};
+use fault_text::{Grammar, grammar_text};
 use job_cli::run_jobs;
-use script_cli::{ImageFault, read_image, run_steps};
-use std::alloc::AllocGlobal;
+use script_cli::{RunFault, flush, put, run_steps};
+use std::alloc::{AllocGlobal, Global};
 use std::convert::AsStr;
 use std::env::Env;
-use std::fs::File;
 use std::io;
 use std::io::{Input, Read, Write};
 use std::process::ExitCode;
@@ -20,16 +27,16 @@ use std::rt::Files;
 use std::sync::Wait;
 use std::thread::Threads;
 
-/// Does what the command line asks for, with the script on standard input. A fault is told on standard error.
+/// Does what the command line asks for, over standard input and output. A fault is told on standard error.
 pub fn run<R: AllocGlobal + Env + Eprint + Files + Input + Print + Sync + Threads + Wait>(
     rt: &R,
 ) -> ExitCode {
     match start(rt) {
         Ok(()) => ExitCode::SUCCESS,
-        Err(fault) => {
+        Err(told) => {
             // Where standard error is closed, the exit status alone tells.
-            let _ = fault.print(rt);
-            ExitCode::from(fault.exit_status())
+            let _ = told.print(rt);
+            ExitCode::from(told.fault.exit_status())
         }
     }
 }
@@ -37,17 +44,28 @@ pub fn run<R: AllocGlobal + Env + Eprint + Files + Input + Print + Sync + Thread
 /// Performs the words of the command line.
 fn start<R: AllocGlobal + Env + Eprint + Files + Input + Print + Sync + Threads + Wait>(
     rt: &R,
-) -> Result<(), Fault> {
+) -> Result<(), Told<Fault>> {
     let words = match words(rt) {
         Ok(words) => words,
         Err(why) => return Fault::shown(rt, why),
     };
     let mut reader = rt.reader();
-    let mut writer = io::writer(rt);
-    perform(rt, words.as_slice(), &mut reader, &mut writer)
+    let mut writer = Pipe::over(io::writer(rt));
+    let end = perform(rt, words.as_slice(), &mut reader, &mut writer);
+    match end {
+        Err(Told {
+            fault: Fault::Run(RunFault::OutputFailed),
+            below,
+        }) if writer.is_closed() => Err(Told {
+            fault: Fault::PipeClosed,
+            below,
+        }),
+        end => end,
+    }
 }
 
-/// Does what words ask for, with the script of a reader. What a run prints goes to the writer, a help text to standard output.
+/// Does what words ask for, with the script of a reader where no file has it. What a run prints goes to the writer, a help text to
+/// standard output.
 ///
 /// # Errors
 ///
@@ -57,15 +75,25 @@ pub fn perform<
     S: AsStr,
     I: Read,
     W: Write,
->(rt: &R, words: &[S], reader: &mut I, writer: &mut W) -> Result<(), Fault>
+>(
+    rt: &R,
+    words: &[S],
+    reader: &mut I,
+    writer: &mut W,
+) -> Result<(), Told<Fault>>
     ensures ran { OnOk result (Performs (I.remaining reader.old) (asked (map S.text words.now)) (W.contents writer.old) (W.contents writer.new)) }
-    ensures failed { IfErr result (λ why. FailsWith (I.remaining reader.old) (asked (map S.text words.now)) (W.contents writer.old) (W.contents writer.new) why) }
+    ensures failed { IfErr result (λ told. FailsWith (I.remaining reader.old) (asked (map S.text words.now)) (W.contents writer.old) (W.contents writer.new) told.fault) }
 {
     match CommandLine::parse(rt.alloc(), words) {
         Ok(CommandLine::Steps(options)) => play(rt, options, reader, writer),
         Ok(CommandLine::Threads(options, submitters)) => {
             run_threads(rt, options, submitters, reader, writer)
         }
+        Ok(CommandLine::Check(path)) => look_at_steps(rt, path, reader),
+        Ok(CommandLine::CheckJobs(path, submitters)) => {
+            look_at_jobs(rt, path, submitters, reader)
+        }
+        Ok(CommandLine::Grammar) => print_grammar(rt.alloc(), writer),
         Err(why) => Fault::shown(rt, why),
     }
 }
@@ -76,13 +104,22 @@ fn play<R: AllocGlobal + Files, I: Read, W: Write>(
     options: Options<'_>,
     reader: &mut I,
     writer: &mut W,
-) -> Result<(), Fault>
+) -> Result<(), Told<Fault>>
     ensures ran { OnOk result (Performs (I.remaining reader.old) (Some (steps (given_of options.entry))) (W.contents writer.old) (W.contents writer.new)) }
-    ensures failed { IfErr result (λ why. FailsWith (I.remaining reader.old) (Some (steps (given_of options.entry))) (W.contents writer.old) (W.contents writer.new) why) }
+    ensures failed { IfErr result (λ told. FailsWith (I.remaining reader.old) (Some (steps (given_of options.entry))) (W.contents writer.old) (W.contents writer.new) told.fault) }
 {
-    let image = open_image(rt, options)?;
-    run_steps(rt.alloc(), options.config, image, reader, writer)?;
-    Ok(())
+    let alloc = rt.alloc();
+    let image = open_image(rt, &options)?;
+    let text = script_text(rt, options.script, reader)?;
+    let mut script = text.as_slice();
+    match run_steps(alloc, options.config, image, &mut script, writer) {
+        Ok(()) => Ok(()),
+        Err(fault) => {
+            let below = below_run(alloc, Grammar::Steps, &text, &options, fault);
+            let fault = Fault::Run(fault);
+            Err(Told { fault, below })
+        }
+    }
 }
 
 /// Runs a script of jobs.
@@ -92,34 +129,77 @@ fn run_threads<R: AllocGlobal + Files + Sync + Threads + Wait, I: Read, W: Write
     submitters: u16,
     reader: &mut I,
     writer: &mut W,
-) -> Result<(), Fault>
+) -> Result<(), Told<Fault>>
     requires least { 1 ≤ submitters }
     requires most { submitters ≤ 16 }
     ensures ran { OnOk result (Performs (I.remaining reader.old) (Some (threads (given_of options.entry) submitters)) (W.contents writer.old) (W.contents writer.new)) }
-    ensures failed { IfErr result (λ why. FailsWith (I.remaining reader.old) (Some (threads (given_of options.entry) submitters)) (W.contents writer.old) (W.contents writer.new) why) }
+    ensures failed { IfErr result (λ told. FailsWith (I.remaining reader.old) (Some (threads (given_of options.entry) submitters)) (W.contents writer.old) (W.contents writer.new) told.fault) }
 {
-    let image = open_image(rt, options)?;
     let alloc = rt.alloc();
-    run_jobs(rt, alloc, options.config, image, submitters, reader, writer)?;
+    let image = open_image(rt, &options)?;
+    let text = script_text(rt, options.script, reader)?;
+    let mut script = text.as_slice();
+    match run_jobs(
+        rt,
+        alloc,
+        options.config,
+        image,
+        submitters,
+        &mut script,
+        writer,
+    ) {
+        Ok(()) => Ok(()),
+        Err(fault) => {
+            let grammar = Grammar::Jobs(submitters);
+            let below = below_run(alloc, grammar, &text, &options, fault);
+            let fault = Fault::Run(fault);
+            Err(Told { fault, below })
+        }
+    }
+}
+
+/// Tells the faults of a script of steps.
+fn look_at_steps<R: AllocGlobal + Files, I: Read>(
+    rt: &R,
+    path: Option<&str>,
+    reader: &mut I,
+) -> Result<(), Told<Fault>>
+    ensures steps { OnOk result ((script : List Numbered) × HasScript (script_told (path_of path.entry) (I.remaining reader.old)) script) }
+    ensures fault { IfErr result (λ told. IsRunFault told.fault (IsNoScript (script_told (path_of path.entry) (I.remaining reader.old)))) }
+{
+    let text = script_text(rt, path, reader)?;
+    check_steps(rt.alloc(), &text)?;
     Ok(())
 }
 
-/// The image that a run begins with: the bytes of a file, or zeros.
-fn open_image<R: AllocGlobal + Files>(rt: &R, options: Options<'_>) -> Result<Image, ImageFault>
-    ensures image { IfOk result (λ image. IsFirstImage (given_of options.entry) image) }
-    ensures no_image { IfErr result (λ why. IsNoFirstImage (given_of options.entry) why) }
+/// Tells the faults of a script of jobs.
+fn look_at_jobs<R: AllocGlobal + Files, I: Read>(
+    rt: &R,
+    path: Option<&str>,
+    submitters: u16,
+    reader: &mut I,
+) -> Result<(), Told<Fault>>
+    ensures jobs { OnOk result ((lines : List JobLine) × HasJobs (script_told (path_of path.entry) (I.remaining reader.old)) submitters lines) }
+    ensures fault { IfErr result (λ told. IsRunFault told.fault (IsNoJobs (script_told (path_of path.entry) (I.remaining reader.old)) submitters)) }
 {
-    match options.image {
-        Some(path) => {
-            let Ok(mut file) = File::open(rt, path) else {
-                return Err(ImageFault::Unreadable);
-            };
-            read_image(rt.alloc(), &mut file)
-        }
-        None => match Image::zeroed(rt.alloc(), options.blocks) {
-            Ok(image) => Ok(image),
-            Err(ImageError::BadLength) => Err(ImageFault::BadLength),
-            Err(ImageError::Memory) => Err(ImageFault::Memory),
+    let text = script_text(rt, path, reader)?;
+    check_jobs(rt.alloc(), &text, submitters)?;
+    Ok(())
+}
+
+/// Prints what a script may say.
+fn print_grammar<W: Write>(alloc: Global, writer: &mut W) -> Result<(), Told<Fault>>
+    ensures fault { IfErr result (λ told. IsRunFault told.fault IsNoGrammar) }
+{
+    let end = match grammar_text(alloc) {
+        Ok(text) => match put(writer, text.as_bytes()) {
+            Ok(()) => flush(writer),
+            Err(fault) => Err(fault),
         },
+        Err(_) => Err(RunFault::Memory),
+    };
+    match end {
+        Ok(()) => Ok(()),
+        Err(fault) => Err(Told::alone(alloc, Fault::Run(fault))),
     }
 }

@@ -7,6 +7,7 @@ ghost use Rattle.script_cli.specs.declared.fault.RunFault.TheVariants as run;
 
 use clap::error::ErrorKind;
 use script_cli::{ImageFault, RunFault};
+use std::alloc::{AllocGlobal, Global};
 use std::io;
 
 /// Why a run did not end well: its line on standard error, and its exit status.
@@ -18,32 +19,50 @@ pub enum Fault {
     Image(ImageFault),
     /// The script or the opening is at fault, or something was wanting while it ran.
     Run(RunFault),
+    /// Who reads the output closed it early. Nothing is told.
+    PipeClosed,
+}
+
+/// A fault, and the lines that stand below its own on standard error.
+#[derive(Debug, Drop)]
+pub struct Told<F> {
+    /// The fault.
+    pub fault: F,
+    /// Whole lines; none where there is no more to say, or no memory to say it.
+    pub below: String,
+}
+
+impl<F> Told<F> {
+    /// A fault with nothing below its line.
+    pub(crate) fn alone(alloc: Global, fault: F) -> Told<F>
+        ensures { result.fault ≡ fault }
+    {
+        Told {
+            fault,
+            below: String::new(alloc),
+        }
+    }
 }
 
 impl Fault {
-    /// Prints a help text that was asked for; any other error of the arguments is a fault, and want of memory that of a run.
-    pub fn shown<R: Print + Eprint>(rt: &R, why: clap::Error) -> Result<(), Fault>
-        ensures memory { IfErr result (λ fault. kind_of why ≡ OutOfMemory → fault ≡ Fault.Run run.Memory) }
+    /// Prints a help text or the version, if that was asked for; any other error of the arguments is a fault, and want of memory that of a run.
+    pub fn shown<R: AllocGlobal + Print + Eprint>(
+        rt: &R,
+        why: clap::Error,
+    ) -> Result<(), Told<Fault>>
+        ensures memory { IfErr result (λ told. kind_of why ≡ OutOfMemory → told.fault ≡ Fault.Run run.Memory) }
         ensures done { OnOk result (kind_of why ≢ OutOfMemory) }
     {
+        let alloc = rt.alloc();
         if why.kind() == ErrorKind::OutOfMemory {
-            return Err(Fault::Run(RunFault::Memory));
+            return Err(Told::alone(alloc, Fault::Run(RunFault::Memory)));
         }
         if why.use_stderr() {
-            return Err(Fault::Arguments(why));
+            return Err(Told::alone(alloc, Fault::Arguments(why)));
         }
         match why.print(rt) {
             Ok(()) => Ok(()),
-            Err(_) => Err(Fault::Run(RunFault::OutputFailed)),
-        }
-    }
-
-    /// Prints the fault on standard error.
-    pub fn print<R: Print + Eprint>(&self, rt: &R) -> io::Result<()> {
-        match self {
-            Fault::Arguments(why) => why.print(rt),
-            Fault::Image(fault) => eprintln!(rt; "{fault}"),
-            Fault::Run(fault) => eprintln!(rt; "{fault}"),
+            Err(why) => Err(Told::alone(alloc, not_written(&why))),
         }
     }
 
@@ -53,28 +72,58 @@ impl Fault {
             Fault::Arguments(_) => 2,
             Fault::Image(fault) => fault.exit_status(),
             Fault::Run(fault) => fault.exit_status(),
+            Fault::PipeClosed => RunFault::OutputFailed.exit_status(),
         }
     }
 }
 
-impl From<ImageFault> for Fault {
-    ghost use Rattle.program.specs.declared.fault.Fault.{Fault};
-    ghost use Rattle.std.specs.Prelude.{◌≡◌};
-
-    ghost from_gives = { λ why fault. fault ≡ Fault.Image why };
-
-    fn from(fault: ImageFault) -> Self {
-        Fault::Image(fault)
+/// The fault of an output that failed.
+fn not_written(why: &io::Error) -> Fault {
+    if why.kind() == io::ErrorKind::BrokenPipe {
+        Fault::PipeClosed
+    } else {
+        Fault::Run(RunFault::OutputFailed)
     }
 }
 
-impl From<RunFault> for Fault {
+impl Told<Fault> {
+    /// Prints the fault on standard error, and what stands below it.
+    pub fn print<R: Print + Eprint>(&self, rt: &R) -> io::Result<()> {
+        match &self.fault {
+            Fault::Arguments(why) => why.print(rt)?,
+            Fault::Image(fault) => eprintln!(rt; "{fault}")?,
+            Fault::Run(fault) => eprintln!(rt; "{fault}")?,
+            Fault::PipeClosed => {}
+        }
+        let below = self.below.as_str();
+        eprint!(rt; "{below}")
+    }
+}
+
+impl From<Told<ImageFault>> for Told<Fault> {
     ghost use Rattle.program.specs.declared.fault.Fault.{Fault};
     ghost use Rattle.std.specs.Prelude.{◌≡◌};
 
-    ghost from_gives = { λ why fault. fault ≡ Fault.Run why };
+    ghost from_gives = { λ why told. told.fault ≡ Fault.Image why.fault };
 
-    fn from(fault: RunFault) -> Self {
-        Fault::Run(fault)
+    fn from(why: Told<ImageFault>) -> Self {
+        Told {
+            fault: Fault::Image(why.fault),
+            below: why.below,
+        }
+    }
+}
+
+impl From<Told<RunFault>> for Told<Fault> {
+    ghost use Rattle.program.specs.declared.fault.Fault.{Fault};
+    ghost use Rattle.std.specs.Prelude.{◌≡◌};
+
+    ghost from_gives = { λ why told. told.fault ≡ Fault.Run why.fault };
+
+    fn from(why: Told<RunFault>) -> Self {
+        Told {
+            fault: Fault::Run(why.fault),
+            below: why.below,
+        }
     }
 }

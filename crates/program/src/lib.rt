@@ -4,8 +4,12 @@
 //! (`specs/Performing.antt`). [`run`] performs the words that were typed, with standard input and output, and answers the exit status.
 #![tactic(auto)]
 
+mod below;
+mod checking;
 mod commands;
 mod fault;
+mod inputs;
+mod pipe;
 
 pub use commands::{perform, run};
-pub use fault::Fault;
+pub use fault::{Fault, Told};

@@ -139,8 +139,8 @@ impl CommandVerb {
     }
 }
 
-/// All verbs.
-const ALL: [Verb; 22] = [
+/// All verbs. The parser looks for a word in this table.
+pub const VERBS: [Verb; 22] = [
     Verb::Reserve,
     Verb::Fill,
     Verb::OnCommand(CommandVerb::Build),
@@ -224,7 +224,7 @@ impl Verb {
     pub fn named(word: &[u8]) -> Option<Verb>
         ensures { result ≡ verb_named word.now }
     {
-        find_named(&ALL, word)
+        find_named(&VERBS, word)
     }
 
     /// The verb whose line a step is.

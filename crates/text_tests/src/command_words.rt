@@ -41,12 +41,12 @@ impl Env for Line {
 }
 
 /// The exit status of a command line that is refused for its words; none of one that is taken.
-fn refused<R: Print + Eprint>(rt: &R, alloc: Global, given: [&'static [u8]; 4]) -> Option<u8> {
+fn refused<R: AllocGlobal + Print + Eprint>(rt: &R, alloc: Global, given: [&'static [u8]; 4]) -> Option<u8> {
     match words(&(Line { words: given }, alloc)) {
         Ok(_) => None,
         Err(why) => match Fault::shown(rt, why) {
             Ok(()) => Some(0),
-            Err(fault) => Some(fault.exit_status()),
+            Err(told) => Some(told.fault.exit_status()),
         },
     }
 }
@@ -123,7 +123,7 @@ fn asked<'a>(alloc: Global, words: &'a [&'a str]) -> Option<Given<'a>> {
     match CommandLine::parse(alloc, words) {
         Ok(CommandLine::Steps(options)) => Some(given_by(None, options)),
         Ok(CommandLine::Threads(options, submitters)) => Some(given_by(Some(submitters), options)),
-        Err(_) => None,
+        _ => None,
     }
 }
 
@@ -175,10 +175,12 @@ fn end<R: AllocGlobal + Eprint + Files + Print + Sync + Threads + Wait>(
     let mut writer = Vec::new(rt.alloc());
     match perform(rt, words, &mut reader, &mut writer) {
         Ok(()) => "done",
-        Err(Fault::Arguments(_)) => "arguments",
-        Err(Fault::Image(ImageFault::BadLength)) => "image: BadLength",
-        Err(Fault::Run(RunFault::BadConfig)) => "open: BadConfig",
-        Err(_) => "another fault",
+        Err(told) => match told.fault {
+            Fault::Arguments(_) => "arguments",
+            Fault::Image(ImageFault::BadLength) => "image: BadLength",
+            Fault::Run(RunFault::BadConfig) => "open: BadConfig",
+            _ => "another fault",
+        },
     }
 }
 

@@ -3,11 +3,15 @@
 #![tactic(auto)]
 
 #[cfg(test)]
+mod checked;
+#[cfg(test)]
 mod command_words;
 #[cfg(test)]
 mod cuts;
 #[cfg(test)]
 mod expecting;
+#[cfg(test)]
+mod fault_texts;
 #[cfg(test)]
 mod first_script;
 #[cfg(test)]
@@ -20,6 +24,10 @@ mod job_playing;
 mod job_runs;
 #[cfg(test)]
 mod job_scripts;
+#[cfg(test)]
+mod options_told;
+#[cfg(test)]
+mod same_faults;
 #[cfg(test)]
 mod script_playing;
 #[cfg(test)]

@@ -10,7 +10,8 @@ returns-clause-shape c =
     let entries = added_shape _ _ _ _ _ c.in_ok-arg-3.ensures c.arg-5.ensures.local queues c.arg-5.ensures.rule in
     let segment = added_shape _ _ _ _ _ c.in_ok-arg-4.ensures c.arg-7.ensures.local entries c.arg-7.ensures.rule in
     let blocks = added_shape _ _ _ _ _ c.in_ok-arg-5.ensures c.arg-9.ensures.local segment c.arg-9.ensures.rule in
-    IfOk-weaker c.arg-11.result _ _ (λ new adds. added_shape _ _ _ _ _ adds c.image_arg.ensures.local blocks c.image_arg.ensures.rule) c.arg-11.ensures
+    let image = added_shape _ _ _ _ _ c.in_ok-arg-6.ensures c.image_arg.ensures.local blocks c.image_arg.ensures.rule in
+    IfOk-weaker c.arg-12.result _ _ (λ new adds. added_shape _ _ _ _ _ adds c.script_arg.ensures.local image c.script_arg.ensures.rule) c.arg-12.ensures
 
 pub returns-clause-local : goal.returns-clause-local
 returns-clause-local c =
@@ -19,4 +20,5 @@ returns-clause-local c =
     let entries = added_local _ _ _ _ c.in_ok-arg-3.ensures c.arg-5.ensures.local queues in
     let segment = added_local _ _ _ _ c.in_ok-arg-4.ensures c.arg-7.ensures.local entries in
     let blocks = added_local _ _ _ _ c.in_ok-arg-5.ensures c.arg-9.ensures.local segment in
-    IfOk-weaker c.arg-11.result _ _ (λ new adds. added_local _ _ _ _ adds c.image_arg.ensures.local blocks) c.arg-11.ensures
+    let image = added_local _ _ _ _ c.in_ok-arg-6.ensures c.image_arg.ensures.local blocks in
+    IfOk-weaker c.arg-12.result _ _ (λ new adds. added_local _ _ _ _ adds c.script_arg.ensures.local image) c.arg-12.ensures

@@ -12,4 +12,5 @@ returns c =
       c.value-4.ensures,
       c.value-5.ensures,
       c.get_str.ensures ∙ first_value-rows (found_of c.args.given.now) (codes "image"),
+      c.script.ensures,
     ) refl

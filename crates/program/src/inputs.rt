@@ -1,0 +1,195 @@
+//! The image and the script of a run, and why there is none.
+
+ghost use Rattle.std.specs.Prelude.{◌≡◌, ◌⊎◌, IfOk, IfErr, None};
+ghost use Rattle.command_line.specs.Asked.{given_of, path_of};
+ghost use Rattle.program.specs.Performing.{IsFirstImage, IsNoFirstImage, script_told};
+ghost use Rattle.script_cli.specs.Inputs.{AreFirstOf};
+ghost use Rattle.script_cli.specs.declared.fault.RunFault.TheVariants as run;
+
+use crate::below::lines_or_none;
+use crate::fault::Told;
+use block_image::{Image, ImageError, MAX_BYTES};
+use command_line::Options;
+use script_cli::{ImageFault, MAX_SCRIPT, ReadFault, RunFault, read_first, read_image};
+use std::alloc::{AllocGlobal, Global};
+use std::fs::File;
+use std::io;
+use std::io::Read;
+use std::rt::Files;
+
+/// A reader that counts its bytes, and keeps why a read failed.
+#[derive(Drop)]
+struct Noted<R> {
+    reader: R,
+    count: usize,
+    why: Option<io::Error>,
+}
+
+impl<R> Noted<R> {
+    /// A reader over this one.
+    fn over(reader: R) -> Noted<R> {
+        Noted {
+            reader,
+            count: 0,
+            why: None,
+        }
+    }
+}
+
+impl<R: Read> Read for Noted<R> {
+    fn read(&mut self, buf: &mut [u8]) -> io::Result<usize> {
+        match self.reader.read(buf) {
+            Ok(n) => {
+                self.count = self.count.saturating_add(n);
+                Ok(n)
+            }
+            Err(why) => {
+                self.why = Some(why);
+                Err(why)
+            }
+        }
+    }
+}
+
+/// What the system says of a file that it did not open or read.
+fn unreadable(alloc: Global, path: &str, why: Option<io::Error>) -> String {
+    let text = match why {
+        Some(why) => format!(in alloc; "'{path}': {why}\n"),
+        None => format!(in alloc; "'{path}' could not be read\n"),
+    };
+    lines_or_none(alloc, text)
+}
+
+/// What a file's length is, and what an image's may be.
+fn bad_length(alloc: Global, path: &str, count: usize) -> String {
+    let text = if count > MAX_BYTES {
+        format!(in alloc; "'{path}' has more than {MAX_BYTES} bytes, the most that an image has\n")
+    } else {
+        format!(in alloc; "'{path}' has {count} bytes; an image has 1 to 65536 blocks of 512\n")
+    };
+    lines_or_none(alloc, text)
+}
+
+/// The image that a file is.
+fn file_image<R: AllocGlobal + Files>(rt: &R, path: &str) -> Result<Image, Told<ImageFault>> {
+    let alloc = rt.alloc();
+    let mut file = match File::open(rt, path) {
+        Ok(file) => Noted::over(file),
+        Err(why) => {
+            let below = unreadable(alloc, path, Some(why));
+            let fault = ImageFault::Unreadable;
+            return Err(Told { fault, below });
+        }
+    };
+    match read_image(alloc, &mut file) {
+        Ok(image) => Ok(image),
+        Err(fault) => {
+            let below = match fault {
+                ImageFault::Unreadable => unreadable(alloc, path, file.why),
+                ImageFault::BadLength => bad_length(alloc, path, file.count),
+                ImageFault::Memory => String::new(alloc),
+            };
+            Err(Told { fault, below })
+        }
+    }
+}
+
+/// An image of zeros.
+fn zero_image(alloc: Global, options: &Options<'_>) -> Result<Image, Told<ImageFault>>
+    ensures image { IfOk result (IsFirstImage (given_of options.now)) }
+    ensures no_image { IfErr result (λ told. IsNoFirstImage (given_of options.now) told.fault) }
+{
+    match Image::zeroed(alloc, options.blocks) {
+        Ok(image) => Ok(image),
+        Err(ImageError::BadLength) => {
+            let blocks = options.zero_blocks();
+            let below = lines_or_none(alloc, format!(in alloc; "{blocks}\n"));
+            let fault = ImageFault::BadLength;
+            Err(Told { fault, below })
+        }
+        Err(ImageError::Memory) => Err(Told::alone(alloc, ImageFault::Memory)),
+    }
+}
+
+/// The image that a run begins with: the bytes of a file, or zeros.
+pub(crate) fn open_image<R: AllocGlobal + Files>(
+    rt: &R,
+    options: &Options<'_>,
+) -> Result<Image, Told<ImageFault>>
+    ensures image { IfOk result (λ image. IsFirstImage (given_of options.now) image) }
+    ensures no_image { IfErr result (λ told. IsNoFirstImage (given_of options.now) told.fault) }
+{
+    match options.image {
+        Some(path) => file_image(rt, path),
+        None => zero_image(rt.alloc(), options),
+    }
+}
+
+/// The bytes of a reader, or one more than a script may have.
+fn first_bytes<I: Read>(alloc: Global, reader: &mut I) -> Result<Vec<u8>, RunFault>
+    ensures text { IfOk result (λ text. AreFirstOf 1048576 (I.remaining reader.old) text.items) }
+    ensures fault { IfErr result (λ fault. (fault ≡ run.Unreadable) ⊎ (fault ≡ run.Memory)) }
+{
+    match read_first(alloc, reader, MAX_SCRIPT) {
+        Ok(text) => Ok(text),
+        Err(ReadFault::Unreadable) => Err(RunFault::Unreadable),
+        Err(ReadFault::Memory) => Err(RunFault::Memory),
+    }
+}
+
+/// The script that a file has.
+fn file_script<R: AllocGlobal + Files>(rt: &R, path: &str) -> Result<Vec<u8>, Told<RunFault>>
+    ensures text { IfOk result (λ text. AreFirstOf 1048576 None text.items) }
+    ensures fault { IfErr result (λ told. (told.fault ≡ run.Unreadable) ⊎ (told.fault ≡ run.Memory)) }
+{
+    let alloc = rt.alloc();
+    let mut file = match File::open(rt, path) {
+        Ok(file) => Noted::over(file),
+        Err(why) => {
+            let below = unreadable(alloc, path, Some(why));
+            let fault = RunFault::Unreadable;
+            return Err(Told { fault, below });
+        }
+    };
+    match first_bytes(alloc, &mut file) {
+        Ok(text) => Ok(text),
+        Err(RunFault::Unreadable) => {
+            let below = unreadable(alloc, path, file.why);
+            let fault = RunFault::Unreadable;
+            Err(Told { fault, below })
+        }
+        Err(fault) => Err(Told::alone(alloc, fault)),
+    }
+}
+
+/// The script of a reader that is standard input.
+fn reader_script<I: Read>(alloc: Global, reader: &mut I) -> Result<Vec<u8>, Told<RunFault>>
+    ensures text { IfOk result (λ text. AreFirstOf 1048576 (I.remaining reader.old) text.items) }
+    ensures fault { IfErr result (λ told. (told.fault ≡ run.Unreadable) ⊎ (told.fault ≡ run.Memory)) }
+{
+    match first_bytes(alloc, reader) {
+        Ok(text) => Ok(text),
+        Err(fault) => Err(Told::alone(alloc, fault)),
+    }
+}
+
+/// The script that a path names: `-` and no path are the reader, which is standard input.
+pub(crate) fn script_text<R: AllocGlobal + Files, I: Read>(
+    rt: &R,
+    path: Option<&str>,
+    reader: &mut I,
+) -> Result<Vec<u8>, Told<RunFault>>
+    ensures text { IfOk result (λ text. AreFirstOf 1048576 (script_told (path_of path.entry) (I.remaining reader.old)) text.items) }
+    ensures fault { IfErr result (λ told. (told.fault ≡ run.Unreadable) ⊎ (told.fault ≡ run.Memory)) }
+{
+    match path {
+        None => reader_script(rt.alloc(), reader),
+        Some(path) => {
+            if path == "-" {
+                reader_script(rt.alloc(), reader)
+            } else {
+                file_script(rt, path)
+            }
+        }
+    }
+}
