@@ -3,7 +3,7 @@
 use crate::dot_word::DotWord;
 use crate::fault::Fault;
 use crate::runs::bytes_of;
-use script_cli::{Line, LineFault, ScriptFault, Words, read_script, words_of};
+use script_cli::{Line, LineFault, ScriptFault, Words, read_script, split_line, words_of};
 use std::alloc::{AllocError, Global};
 use step_core::{Bytes, Step};
 use transcripts::Given;
@@ -76,7 +76,7 @@ fn number64(word: &[u8]) -> Result<u64, LineFault> {
 #[derive(Drop)]
 struct Arguments<'a> {
     words: Words<'a>,
-    form: &'static str,
+    dot: DotWord,
 }
 
 impl<'a> Arguments<'a> {
@@ -87,29 +87,29 @@ impl<'a> Arguments<'a> {
 
     /// Takes a word that is wanted.
     fn wanted(&mut self) -> Result<&'a str, Fault<'a>> {
-        self.next().ok_or(Fault::Missing(self.form))
+        self.next().ok_or(Fault::Missing(self.dot))
     }
 
     /// Takes the number of a queue.
     fn queue(&mut self) -> Result<u16, Fault<'a>> {
         let word = self.wanted()?;
-        number16(word.as_bytes()).map_err(|_| Fault::Bad(word, self.form))
+        number16(word.as_bytes()).map_err(|_| Fault::Bad(word, self.dot))
     }
 
     /// Takes a queue, a first block and a number of blocks.
     fn extent(&mut self) -> Result<Extent, Fault<'a>> {
         let q = self.queue()?;
         let first = self.wanted()?;
-        let slba = number64(first.as_bytes()).map_err(|_| Fault::Bad(first, self.form))?;
+        let slba = number64(first.as_bytes()).map_err(|_| Fault::Bad(first, self.dot))?;
         let count = self.wanted()?;
-        let blocks = number32(count.as_bytes()).map_err(|_| Fault::Bad(count, self.form))?;
+        let blocks = number32(count.as_bytes()).map_err(|_| Fault::Bad(count, self.dot))?;
         Ok(Extent { q, slba, blocks })
     }
 
     /// Sees that no word is left.
     fn end(&mut self) -> Result<(), Fault<'a>> {
         match self.next() {
-            Some(word) => Err(Fault::Extra(word, self.form)),
+            Some(word) => Err(Fault::Extra(word, self.dot)),
             None => Ok(()),
         }
     }
@@ -138,7 +138,7 @@ fn serve(mut arguments: Arguments<'_>) -> Result<Asked<'_>, Fault<'_>> {
             arguments.end()?;
             Ok(Asked::Serve(Some(q)))
         }
-        Err(_) => Err(Fault::Bad(word, arguments.form)),
+        Err(_) => Err(Fault::Bad(word, arguments.dot)),
     }
 }
 
@@ -164,7 +164,7 @@ fn write(alloc: Global, mut arguments: Arguments<'_>) -> Reading<'_> {
     }
     match bytes_of(alloc, word)? {
         Some(bytes) => Ok(Ok(Asked::Write(extent, bytes))),
-        None => Ok(Err(Fault::Bad(word, arguments.form))),
+        None => Ok(Err(Fault::Bad(word, arguments.dot))),
     }
 }
 
@@ -172,7 +172,7 @@ fn write(alloc: Global, mut arguments: Arguments<'_>) -> Reading<'_> {
 fn open(behind: &str) -> Result<Asked<'_>, Fault<'_>> {
     match Given::of_words(behind) {
         Ok(given) => Ok(Asked::Open(given)),
-        Err(word) => Err(Fault::Bad(word, DotWord::Open.form())),
+        Err(word) => Err(Fault::Bad(word, DotWord::Open)),
     }
 }
 
@@ -183,8 +183,7 @@ fn asked_of_dot<'a>(
     words: Words<'a>,
     behind: &'a str,
 ) -> Reading<'a> {
-    let form = dot.form();
-    let arguments = Arguments { words, form };
+    let arguments = Arguments { words, dot };
     Ok(match dot {
         DotWord::Help => help(arguments),
         DotWord::Owners => alone(Asked::Owners, arguments),
@@ -216,7 +215,7 @@ fn asked_of_step(alloc: Global, line: &[u8]) -> Reading<'_> {
 
 /// What a line asks for, which ends as it was read: with a line feed or without.
 pub(crate) fn asked_of(alloc: Global, line: &[u8]) -> Reading<'_> {
-    let (bytes, _) = script_cli::split_line(line);
+    let (bytes, _) = split_line(line);
     let mut words = match words_of(bytes) {
         Ok(words) => words,
         Err(fault) => return Ok(Err(Fault::Line(fault))),

@@ -1,74 +1,86 @@
 //! What is wrong with a line.
 
+use crate::dot_word::{DOT_WORDS, DotWord};
+use fault_text::{Grammar, explain, nearest};
 use script_cli::LineFault;
-use std::alloc::AllocError;
+use std::alloc::{AllocError, Global};
 
-/// What is wrong with a line that begins with a dot.
+/// What is wrong with a line.
 #[derive(Clone, Copy, Debug, PartialEq, Eq)]
 pub(crate) enum Fault<'a> {
-    /// It is too long or not ASCII, or a step that is at fault.
+    /// It is too long or not ASCII, or it begins with no dot and is no line of a script.
     Line(LineFault),
-    /// Its first word is none of the shell's.
+    /// Its first word begins with a dot, and is none of the shell's.
     UnknownWord(&'a str),
     /// An argument is missing.
-    Missing(&'static str),
+    Missing(DotWord),
     /// A word is not what stands there in the form.
-    Bad(&'a str, &'static str),
+    Bad(&'a str, DotWord),
     /// A word is left over.
-    Extra(&'a str, &'static str),
+    Extra(&'a str, DotWord),
 }
 
 impl Fault<'_> {
-    /// Puts the line of the fault, as `nvmesgl steps` tells it.
-    fn put_name(&self, out: &mut String, number: u32) -> Result<(), AllocError> {
+    /// Its name, as a script's faults have one.
+    fn name(&self) -> &'static str {
         match self {
-            Fault::Line(fault) => write!(out, "line {number}: {fault}\n"),
-            Fault::UnknownWord(_) => write!(out, "line {number}: UnknownWord\n"),
-            Fault::Missing(_) => write!(out, "line {number}: MissingWord\n"),
-            Fault::Bad(..) => write!(out, "line {number}: BadWord\n"),
-            Fault::Extra(..) => write!(out, "line {number}: ExtraWord\n"),
+            Fault::Line(_) => "Line",
+            Fault::UnknownWord(_) => "UnknownWord",
+            Fault::Missing(_) => "MissingWord",
+            Fault::Bad(..) => "BadWord",
+            Fault::Extra(..) => "ExtraWord",
         }
     }
 
     /// Puts a sentence.
-    fn put_sentence(&self, out: &mut String) -> Result<(), AllocError> {
+    fn put_sentence(&self, alloc: Global, out: &mut String) -> Result<(), AllocError> {
         match self {
-            Fault::Line(fault) => {
-                let sentence = sentence_of(*fault);
-                write!(out, "{sentence}\n")
+            Fault::Line(_) => Ok(()),
+            Fault::UnknownWord(word) => put_unknown(alloc, out, word),
+            Fault::Missing(dot) => {
+                let form = dot.form();
+                write!(out, "a word is missing; the form is: {form}\n")
             }
-            Fault::UnknownWord(word) => {
-                write!(out, "'{word}' is no word of the shell; '.help' lists them.\n")
+            Fault::Bad(word, dot) => {
+                let form = dot.form();
+                write!(out, "'{word}' does not fit; the form is: {form}\n")
             }
-            Fault::Missing(form) => write!(out, "a word is missing; the form is: {form}\n"),
-            Fault::Bad(word, form) => {
-                write!(out, "'{word}' is not what stands there; the form is: {form}\n")
-            }
-            Fault::Extra(word, form) => {
+            Fault::Extra(word, dot) => {
+                let form = dot.form();
                 write!(out, "'{word}' is left over; the form is: {form}\n")
             }
         }
     }
 
-    /// Puts the fault of the line of this number: its name, and a sentence.
-    pub(crate) fn put(&self, out: &mut String, number: u32) -> Result<(), AllocError> {
-        self.put_name(out, number)?;
-        self.put_sentence(out)
+    /// Puts what is wrong with the line of this number: its name, and a sentence.
+    pub(crate) fn put(
+        &self,
+        alloc: Global,
+        out: &mut String,
+        number: u32,
+        line: &[u8],
+    ) -> Result<(), AllocError> {
+        if let Fault::Line(fault) = self {
+            write!(out, "line {number}: {fault}\n")?;
+            let below = explain(alloc, Grammar::Steps, line, *fault)?;
+            return out.push_str(&below);
+        }
+        let name = self.name();
+        write!(out, "line {number}: {name}\n")?;
+        self.put_sentence(alloc, out)
     }
 }
 
-/// A sentence for a fault of a line.
-fn sentence_of(fault: LineFault) -> &'static str {
-    match fault {
-        LineFault::TooManyLines => "a script has 65536 lines at most.",
-        LineFault::LongLine => "a line has 16384 bytes at most.",
-        LineFault::NotAscii => "a line is ASCII text.",
-        LineFault::UnknownVerb => "its first word is no step; '.help' lists what a line may be.",
-        LineFault::MissingWord => "a word is missing; '.help VERB' has the form.",
-        LineFault::BadKind => "a kind is read, write or compare.",
-        LineFault::BadNumber => "a word is no number, or one that is too large.",
-        LineFault::BadHex => "bytes are pairs of hexadecimal digits, 16 of them for 'forge'.",
-        LineFault::BadPiece => "a piece is OFFSET+LEN, or xLEN.",
-        LineFault::ExtraWord => "a word is left over; '.help VERB' has the form.",
+/// Puts that a word is none, and which one is near it.
+pub(crate) fn put_unknown(
+    alloc: Global,
+    out: &mut String,
+    word: &str,
+) -> Result<(), AllocError> {
+    write!(out, "'{word}' is no word of the shell")?;
+    let names = DOT_WORDS.map(|dot| dot.name());
+    match nearest(alloc, word.as_bytes(), &names)? {
+        Some(name) => write!(out, "; did you mean '{name}'?\n"),
+        None => out.push_str("; '.help' lists them.\n"),
     }
 }

@@ -8,6 +8,7 @@ use step_core::{Bench, Reply};
 pub(crate) const MOST_STEPS: u32 = 1_000_000;
 
 /// What makes the steps of one line.
+#[derive(Drop)]
 pub(crate) struct Hand<'a> {
     pub(crate) alloc: Global,
     pub(crate) bench: &'a mut Bench,

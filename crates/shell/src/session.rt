@@ -1,11 +1,11 @@
 //! A session: a world, and the lines that are answered over it.
 
 use crate::answers::{say_counts, say_owners, say_step};
-use crate::asked::{Asked, Extent, asked_of};
+use crate::asked::{Asked, asked_of};
 use crate::hand::{Hand, MOST_STEPS};
 use crate::help::say_help;
 use crate::lines::read_line;
-use script_cli::{ImageFault, RunFault, flush, not_opened, put};
+use script_cli::{ImageFault, RunFault, flush, not_opened, put, split_line};
 use std::alloc::{AllocError, Global};
 use std::io::{BufRead, BufReader, Read, Write};
 use std::mem;
@@ -118,7 +118,7 @@ impl Session {
             Asked::Step(step) => say_step(&mut self.bench, number, step, out)?,
             Asked::Owners => say_owners(self.alloc, &self.bench, number, out)?,
             Asked::Counts => say_counts(&self.bench, out)?,
-            Asked::Help(word) => say_help(out, number, word)?,
+            Asked::Help(word) => say_help(self.alloc, out, word)?,
             Asked::Serve(q) => self.serve(q, out)?,
             Asked::Read(extent) => self.hand(out, false).read(extent)?,
             Asked::Write(extent, bytes) => self.hand(out, false).write(extent, bytes)?,
@@ -134,7 +134,8 @@ impl Session {
         match asked_of(self.alloc, line)? {
             Ok(asked) => self.perform(number, asked, out),
             Err(fault) => {
-                fault.put(out, number)?;
+                let (line, _) = split_line(line);
+                fault.put(self.alloc, out, number, line)?;
                 Ok(Going::On)
             }
         }
