@@ -148,11 +148,7 @@ fn check_line<'a>(alloc: Global, given: &ArgMatches<'a>) -> Result<CommandLine<'
 }
 
 /// What a command with these words asks for.
-fn line_of<'a>(
-    alloc: Global,
-    name: &str,
-    given: &ArgMatches<'a>,
-) -> Result<CommandLine<'a>, Error>
+fn line_of<'a>(alloc: Global, name: &str, given: &ArgMatches<'a>) -> Result<CommandLine<'a>, Error>
     ensures asked { IfOk result (λ line. asked_of_name name.now (rows_of (found_of given.now)) ≡ Some (asked_of line)) }
     ensures submitters { IfOk result FitSubmitters }
     ensures refused { IfErr result (λ e. (kind_of e ≡ OutOfMemory) ⊎ (asked_of_name name.now (rows_of (found_of given.now)) ≡ None)) }

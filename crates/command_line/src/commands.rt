@@ -117,9 +117,9 @@ fn script_arg<'a>(alloc: Global) -> Arg<'a>
     ensures rule { rule_of result ≡ word_rule (codes "script") }
     ensures local { result.global ≡ false }
 {
-    Arg::new(alloc, "script")
-        .value_name("FILE")
-        .help("The script's file; standard input where there is none, or -")
+    Arg::new(alloc, "script").value_name("FILE").help(
+        "The script's file; standard input where there is none, or -",
+    )
 }
 
 /// The option that says that a script is one of jobs.
@@ -200,12 +200,16 @@ fn program<'a>(alloc: Global) -> Result<Command<'a>, AllocError>
     ensures { IfOk result (λ command. app_of command ≡ named) }
 {
     let command = Command::new(alloc, "nvmesgl").bin_name("nvmesgl")?;
-    Ok(command
-        .version(VERSION)
-        .about("An NVMe host driver and a modelled controller, played step by step or in threads")
-        .long_about(ABOUT)
-        .after_help(AFTER)
-        .subcommand_required(true))
+    Ok(
+        command
+            .version(VERSION)
+            .about(
+                "An NVMe host driver and a modelled controller, played step by step or in threads",
+            )
+            .long_about(ABOUT)
+            .after_help(AFTER)
+            .subcommand_required(true),
+    )
 }
 
 /// The commands and their options.

@@ -17,8 +17,7 @@ docs/SCRIPT.md in the repository has the scripts, the replies and the exit statu
 docs/PROFILE.md says what the steps mean, and examples/ has scripts with their output.";
 
 /// What `nvmesgl steps --help` says first.
-pub const STEPS_ABOUT: &str =
-    "Plays a script, step by step, and prints what each step answered.
+pub const STEPS_ABOUT: &str = "Plays a script, step by step, and prints what each step answered.
 
 The script is read and checked whole before its first step. A refused step is an answer too:
 the run goes on, and its exit status is 0.";
@@ -62,8 +61,7 @@ Exit status: 0 done, 1 the script is at fault, 2 the arguments, the image or the
 3 memory or the output. docs/SCRIPT.md in the repository has all of this in full.";
 
 /// What `nvmesgl threads --help` says first.
-pub const THREADS_ABOUT: &str =
-    "Runs the jobs of a script, and prints how each ended.
+pub const THREADS_ABOUT: &str = "Runs the jobs of a script, and prints how each ended.
 
 Each submitter does its jobs in a thread of its own, one after the other in the order of their
 lines; all share one pool. The script is read and checked whole before its first job. A refused

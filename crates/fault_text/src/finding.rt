@@ -142,7 +142,7 @@ fn pieces_after(alloc: Global, line: &[u8], at: usize) -> Result<Option<Found>, 
     ensures { IfOk result (λ found. IfSome found (IsIn (length line.now))) }
 {
     let mut at = at;
-    for _ in 0..line.len() {
+    'words: for _ in 0..line.len() {
         let Some(place) = word_from(line, at) else {
             return Ok(None);
         };

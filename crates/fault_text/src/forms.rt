@@ -103,7 +103,10 @@ impl Slot {
             Slot::EntryBytes => "16 bytes, of two hexadecimal digits each",
             Slot::Submitter(submitters) => {
                 let last = submitters.saturating_sub(1);
-                return write!(out, "a submitter, 0 to {last}, as --submitters is {submitters}");
+                return write!(
+                    out,
+                    "a submitter, 0 to {last}, as --submitters is {submitters}"
+                );
             }
         };
         out.push_str(text)

@@ -2,6 +2,7 @@
 
 use crate::forms::form_text;
 use script_cli::{CommandVerb, QueueVerb, VERBS, Verb};
+use status_names::{NAMES, Named};
 use std::alloc::{AllocError, Global};
 
 /// What stands before the verbs.
@@ -28,7 +29,15 @@ A script of `nvmesgl threads` has one job on each line:
   SLOT    a slot of a completion queue
 
 Numbers are decimal. Words are separated by blanks. A line whose first word begins with `#` is a
-comment. docs/SCRIPT.md in the repository has all of this in full.
+comment.
+
+A status, as replies have it:
+
+";
+
+/// What stands last.
+const LAST: &str = "
+docs/SCRIPT.md in the repository has all of this in full.
 ";
 
 /// What the step of a verb on a queue does.
@@ -73,7 +82,8 @@ fn about(verb: Verb) -> &'static str {
     }
 }
 
-/// All that a script may say: each verb of the parser's table, with its form, and then the line of a job and what the words are.
+/// All that a script may say: each verb of the parser's table, with its form, and then the line of a job, what the words
+/// are, and the names of statuses.
 ///
 /// # Errors
 ///
@@ -87,5 +97,10 @@ pub fn grammar_text(alloc: Global) -> Result<String, AllocError> {
         write!(out, "  {form:<35}  {about}\n")?;
     }
     out.push_str(END)?;
+    for (status, _) in NAMES {
+        let named = Named(status);
+        write!(out, "  {named}\n")?;
+    }
+    out.push_str(LAST)?;
     Ok(out)
 }

@@ -80,13 +80,22 @@ fn put_bad_bytes(out: &mut String, word: &[u8], slot: Slot) -> Result<(), AllocE
     let shown = Shown(word);
     let digits = word.len();
     if is_like_piece(word) {
-        return write!(out, "'{shown}' is a piece: HEX, the bytes, stands before the pieces.");
+        return write!(
+            out,
+            "'{shown}' is a piece: HEX, the bytes, stands before the pieces."
+        );
     }
     if !word.iter().all(|byte| byte.is_ascii_hexdigit()) {
-        return write!(out, "'{shown}' is no HEX: that is digits 0 to 9 and A to F alone, two for each byte.");
+        return write!(
+            out,
+            "'{shown}' is no HEX: that is digits 0 to 9 and A to F alone, two for each byte."
+        );
     }
     if slot == Slot::EntryBytes {
-        return write!(out, "HEX has {digits} digits here, and a completion entry has 32, for 16 bytes.");
+        return write!(
+            out,
+            "HEX has {digits} digits here, and a completion entry has 32, for 16 bytes."
+        );
     }
     write!(out, "HEX has {digits} digits here, and each byte has two.")
 }
@@ -137,7 +146,10 @@ fn put_extra(out: &mut String, alloc: Global, word: &[u8], verb: Verb) -> Result
 /// Puts what is wrong with a line that has a byte that is not ASCII.
 fn put_not_ascii(out: &mut String, bytes: &[u8]) -> Result<(), AllocError> {
     let byte = bytes.first().copied().unwrap_or(0);
-    write!(out, "the byte {byte:02X}h is not ASCII: a script is ASCII text, comments too.")
+    write!(
+        out,
+        "the byte {byte:02X}h is not ASCII: a script is ASCII text, comments too."
+    )
 }
 
 /// Puts the sentence that says what is wrong with a line.
@@ -163,7 +175,10 @@ pub(crate) fn put_sentence(
         Wanted::Slot(slot) => put_bad_word(out, alloc, word, slot),
         Wanted::Piece => {
             let shown = Shown(word);
-            write!(out, "'{shown}' is no piece: a piece is OFFSET+LEN, as 0+512, or xLEN, as x512.")
+            write!(
+                out,
+                "'{shown}' is no piece: a piece is OFFSET+LEN, as 0+512, or xLEN, as x512."
+            )
         }
         Wanted::Nothing(verb) => put_extra(out, alloc, word, verb),
     }

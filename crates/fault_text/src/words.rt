@@ -20,7 +20,10 @@ fn next_where(line: &[u8], from: usize, blank: bool) -> usize
     ensures least { from ≤ result }
     ensures most { result ≤ length line.now }
 {
-    match line[from..].iter().position(|byte| is_blank(*byte) == blank) {
+    match line[from..]
+        .iter()
+        .position(|byte| is_blank(*byte) == blank)
+    {
         Some(n) => from + n,
         None => line.len(),
     }

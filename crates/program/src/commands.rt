@@ -53,10 +53,12 @@ fn start<R: AllocGlobal + Env + Eprint + Files + Input + Print + Sync + Threads 
     let mut writer = Pipe::over(io::writer(rt));
     let end = perform(rt, words.as_slice(), &mut reader, &mut writer);
     match end {
-        Err(Told {
-            fault: Fault::Run(RunFault::OutputFailed),
-            below,
-        }) if writer.is_closed() => Err(Told {
+        Err(
+            Told {
+                fault: Fault::Run(RunFault::OutputFailed),
+                below,
+            },
+        ) if writer.is_closed() => Err(Told {
             fault: Fault::PipeClosed,
             below,
         }),
@@ -75,12 +77,7 @@ pub fn perform<
     S: AsStr,
     I: Read,
     W: Write,
->(
-    rt: &R,
-    words: &[S],
-    reader: &mut I,
-    writer: &mut W,
-) -> Result<(), Told<Fault>>
+>(rt: &R, words: &[S], reader: &mut I, writer: &mut W) -> Result<(), Told<Fault>>
     ensures ran { OnOk result (Performs (I.remaining reader.old) (asked (map S.text words.now)) (W.contents writer.old) (W.contents writer.new)) }
     ensures failed { IfErr result (λ told. FailsWith (I.remaining reader.old) (asked (map S.text words.now)) (W.contents writer.old) (W.contents writer.new) told.fault) }
 {

@@ -3,6 +3,8 @@
 use crate::expecting::{same, same_at};
 use crate::fault_texts::told_of;
 use crate::first_script::SCRIPT;
+use crate::script_runs::Slow;
+use program::perform;
 use std::test::Fail;
 
 /// A script with three faults.
@@ -102,6 +104,39 @@ a script has 1048576 bytes at most
         for command in ["steps", "threads", "check"] {
             let told = told_of(&rt, &["nvmesgl", command], &script)?;
             same_at(&rt, command, told.as_str(), wanted);
+        }
+    }
+    Ok(())
+}
+
+/// The first script, cut after each byte, has for `check` the one fault that it has for `steps`, or none.
+#[test]
+fn a_cut_script_is_checked(rt: HostRuntime) -> Result<(), Fail> {
+    let script = SCRIPT.as_bytes();
+    for cut in 0..=script.len() {
+        let played = told_of(&rt, &["nvmesgl", "steps"], &script[..cut])?;
+        let checked = told_of(&rt, &["nvmesgl", "check"], &script[..cut])?;
+        same_at(&rt, cut, checked.as_str(), played.as_str());
+    }
+    Ok(())
+}
+
+/// A reader that fails after each byte is an unreadable script for each command, whatever it gave.
+#[test]
+fn a_failing_reader_is_told(rt: HostRuntime) -> Result<(), Fail> {
+    let script = SCRIPT.as_bytes();
+    for cut in 0..=script.len() {
+        for command in ["steps", "check"] {
+            let mut reader = Slow {
+                rest: &script[..cut],
+                fails: true,
+                asked: 0,
+            };
+            let mut writer = Vec::new(rt.alloc());
+            let words = ["nvmesgl", command];
+            let end = perform(&rt, &words, &mut reader, &mut writer);
+            let fault = end.err().map(|told| told.fault.exit_status());
+            same_at(&rt, cut, (fault, writer.len()), (Some(1), 0));
         }
     }
     Ok(())

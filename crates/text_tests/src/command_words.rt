@@ -41,7 +41,11 @@ impl Env for Line {
 }
 
 /// The exit status of a command line that is refused for its words; none of one that is taken.
-fn refused<R: AllocGlobal + Print + Eprint>(rt: &R, alloc: Global, given: [&'static [u8]; 4]) -> Option<u8> {
+fn refused<R: AllocGlobal + Print + Eprint>(
+    rt: &R,
+    alloc: Global,
+    given: [&'static [u8]; 4],
+) -> Option<u8> {
     match words(&(Line { words: given }, alloc)) {
         Ok(_) => None,
         Err(why) => match Fault::shown(rt, why) {

@@ -3,8 +3,10 @@
 use crate::expecting::{same, same_at};
 use crate::fault_texts::told_of;
 use crate::first_script::{PRINTS, SCRIPT};
+use entry_codec::Status;
 use fault_text::grammar_text;
 use program::perform;
+use status_names::Named;
 use std::fs;
 use std::test::Fail;
 
@@ -169,7 +171,11 @@ fn the_grammar_is_printed(rt: HostRuntime) -> Result<(), Fail> {
     let mut reader = b"".as_slice();
     let mut writer = Vec::new(rt.alloc());
     let words = ["nvmesgl", "grammar"];
-    same(&rt, perform(&rt, &words, &mut reader, &mut writer).is_ok(), true);
+    same(
+        &rt,
+        perform(&rt, &words, &mut reader, &mut writer).is_ok(),
+        true,
+    );
     let text = grammar_text(rt.alloc())?;
     same(&rt, writer.as_slice(), text.as_bytes());
     for line in GRAMMAR.lines() {
@@ -177,6 +183,22 @@ fn the_grammar_is_printed(rt: HostRuntime) -> Result<(), Fail> {
     }
     let told = told_of(&rt, &["nvmesgl", "--version"], b"")?;
     same(&rt, told.as_str(), "done\n");
+    Ok(())
+}
+
+/// A status is told with its name, or without one where it has none.
+#[test]
+fn statuses_have_names(rt: HostRuntime) -> Result<(), Fail> {
+    let other = Status { sct: 3, sc: 1 };
+    for (status, wanted) in [
+        (Status::LBA_OUT_OF_RANGE, "0:80 LBA Out of Range"),
+        (Status::COMPARE_FAILURE, "2:85 Compare Failure"),
+        (other, "3:01"),
+    ] {
+        let named = Named(status);
+        let text = format!(in rt.alloc(); "{named}")?;
+        same(&rt, text.as_str(), wanted);
+    }
     Ok(())
 }
 
@@ -188,4 +210,5 @@ const GRAMMAR: &str = "  reserve Q KIND SLBA BLOCKS PIECE..   reserves a command
   forge Q SLOT HEX                     overwrites a completion slot
   reset                                resets the controller: queue 0 alone is left
   job S Q write SLBA BLOCKS HEX PIECE..
+  0:80 LBA Out of Range
 ";

@@ -31,17 +31,34 @@ const JOBS: [&str; 4] = [
 
 /// Words that may stand where another is wanted.
 const WORDS: [&[u8]; 24] = [
-    b"0", b"3", b"65535", b"65536", b"4294967295", b"4294967296", b"18446744073709551616", b"000000000000000000001",
-    b"-1", b"+1", b"0x1", b"AB", b"ABC", b"0+512", b"x512", b"x", b"0+", b"read", b"job", b"ring",
-    b"#", b"1\r", b"\xC3\xA9", b"00112233445566778899AABBCCDDEEFF",
+    b"0",
+    b"3",
+    b"65535",
+    b"65536",
+    b"4294967295",
+    b"4294967296",
+    b"18446744073709551616",
+    b"000000000000000000001",
+    b"-1",
+    b"+1",
+    b"0x1",
+    b"AB",
+    b"ABC",
+    b"0+512",
+    b"x512",
+    b"x",
+    b"0+",
+    b"read",
+    b"job",
+    b"ring",
+    b"#",
+    b"1\r",
+    b"\xC3\xA9",
+    b"00112233445566778899AABBCCDDEEFF",
 ];
 
 /// The fault that the parser has of a line.
-fn parsed(
-    alloc: Global,
-    grammar: Grammar,
-    line: &[u8],
-) -> Result<Option<LineFault>, AllocError> {
+fn parsed(alloc: Global, grammar: Grammar, line: &[u8]) -> Result<Option<LineFault>, AllocError> {
     let why = match grammar {
         Grammar::Steps => read_script(alloc, line).err(),
         Grammar::Jobs(submitters) => read_jobs(alloc, line, submitters).err(),
@@ -54,46 +71,77 @@ fn parsed(
 }
 
 /// Sees that both have the same fault of a line.
-fn see(
-    alloc: Global,
-    seen: &mut Seen,
-    grammar: Grammar,
-    line: &[u8],
-) -> Result<(), AllocError> {
+fn see(alloc: Global, seen: &mut Seen, grammar: Grammar, line: &[u8]) -> Result<(), AllocError> {
     let wanted = parsed(alloc, grammar, line)?;
     let found = find(alloc, grammar, line)?;
     seen.same_at(line, found.map(|found| found.fault), wanted);
     Ok(())
 }
 
-/// A line of words, with a blank before each.
-fn line_of(alloc: Global, words: &[&[u8]]) -> Result<Vec<u8>, AllocError> {
-    let mut line = Vec::new(alloc);
-    for word in words {
-        line.push(b' ')?;
-        line.extend_from_slice(word)?;
-    }
-    Ok(line)
+/// What becomes of a word of a line.
+#[derive(Clone, Copy)]
+enum Change {
+    /// It is left away.
+    Gone,
+    /// It stands twice.
+    Twice,
+    /// Another stands in its place.
+    Other(&'static [u8]),
+    /// Another stands before it.
+    Behind(&'static [u8]),
 }
 
-/// Sees a line with each of its words left away, doubled, and changed.
+/// Puts a word behind a line.
+fn put_word(line: &mut Vec<u8>, word: &[u8]) -> Result<(), AllocError> {
+    line.push(b' ')?;
+    line.extend_from_slice(word)?;
+    Ok(())
+}
+
+/// Puts a word behind a line, changed.
+fn put_changed(line: &mut Vec<u8>, word: &[u8], change: Change) -> Result<(), AllocError> {
+    match change {
+        Change::Gone => Ok(()),
+        Change::Twice => {
+            put_word(line, word)?;
+            put_word(line, word)
+        }
+        Change::Other(other) => put_word(line, other),
+        Change::Behind(other) => {
+            put_word(line, other)?;
+            put_word(line, word)
+        }
+    }
+}
+
+/// A line with its n-th word changed.
+fn changed(alloc: Global, line: &str, n: usize, change: Change) -> Result<Vec<u8>, AllocError> {
+    let mut out = Vec::new(alloc);
+    for (i, word) in line.split_whitespace().enumerate() {
+        if i == n {
+            put_changed(&mut out, word.as_bytes(), change)?;
+        } else {
+            put_word(&mut out, word.as_bytes())?;
+        }
+    }
+    Ok(out)
+}
+
+/// Sees a line with each of its words changed.
 fn see_other_words(
     alloc: Global,
     seen: &mut Seen,
     grammar: Grammar,
     line: &str,
 ) -> Result<(), AllocError> {
-    let words: Vec<&[u8]> = line.split_whitespace().map(|word| word.as_bytes()).collect(alloc)?;
-    for i in 0..words.len() {
-        let mut shorter = words.clone()?;
-        shorter.remove(i);
-        see(alloc, seen, grammar, &line_of(alloc, shorter.as_slice())?)?;
+    for n in 0..line.split_whitespace().count() {
+        for change in [Change::Gone, Change::Twice] {
+            see(alloc, seen, grammar, &changed(alloc, line, n, change)?)?;
+        }
         for word in WORDS {
-            let mut other = words.clone()?;
-            other[i] = word;
-            see(alloc, seen, grammar, &line_of(alloc, other.as_slice())?)?;
-            other.insert(i, words[i])?;
-            see(alloc, seen, grammar, &line_of(alloc, other.as_slice())?)?;
+            for change in [Change::Other(word), Change::Behind(word)] {
+                see(alloc, seen, grammar, &changed(alloc, line, n, change)?)?;
+            }
         }
     }
     Ok(())
@@ -143,7 +191,11 @@ fn forms_are_what_is_parsed(rt: HostRuntime) -> Result<(), Fail> {
             })?;
             line.push(b' ')?;
         }
-        seen.same_at(verb.name(), parsed(rt.alloc(), Grammar::Steps, &line)?, None);
+        seen.same_at(
+            verb.name(),
+            parsed(rt.alloc(), Grammar::Steps, &line)?,
+            None,
+        );
     }
     Ok(seen.end()?)
 }
