@@ -61,14 +61,28 @@ impl Fault<'_> {
         line: &[u8],
     ) -> Result<(), AllocError> {
         if let Fault::Line(fault) = self {
-            write!(out, "line {number}: {fault}\n")?;
-            let below = explain(alloc, Grammar::Steps, line, *fault)?;
-            return out.push_str(&below);
+            return put_line_fault(alloc, out, number, line, *fault);
         }
         let name = self.name();
         write!(out, "line {number}: {name}\n")?;
         self.put_sentence(alloc, out)
     }
+}
+
+/// Puts what is wrong with a line of a script. Of one that is too long, its front alone was kept.
+fn put_line_fault(
+    alloc: Global,
+    out: &mut String,
+    number: u32,
+    line: &[u8],
+    fault: LineFault,
+) -> Result<(), AllocError> {
+    write!(out, "line {number}: {fault}\n")?;
+    if fault == LineFault::LongLine {
+        return out.push_str("a line has 16384 bytes at most.\n");
+    }
+    let below = explain(alloc, Grammar::Steps, line, fault)?;
+    out.push_str(&below)
 }
 
 /// Puts that a word is none, and which one is near it.

@@ -3,6 +3,7 @@
 use crate::asked::Extent;
 use crate::hand::Hand;
 use script_cli::{CommandVerb, QueueVerb, Verb, put_gathered};
+use status_names::Named;
 use std::alloc::{AllocError, Global};
 use step_core::{Bytes, Kind, Piece, Pieces, Reaped, Reply, Request, Status, Step};
 
@@ -167,6 +168,12 @@ impl Hand<'_> {
         self.say_on_command(Verb::OnCommand(CommandVerb::Gather), command, &reply)
     }
 
+    /// Says how a command ended.
+    fn say_status(&mut self, status: Status) -> Result<(), AllocError> {
+        let named = Named(status);
+        write!(self.out, "status {named}\n")
+    }
+
     /// Reads blocks, and says their bytes, or how the Read ended if not well.
     pub(crate) fn read(&mut self, extent: Extent) -> Result<(), AllocError> {
         let Some((command, status)) = self.run(Kind::Read, extent, None)? else {
@@ -175,7 +182,7 @@ impl Hand<'_> {
         if status == Status::SUCCESS {
             self.say_bytes(command)?;
         } else {
-            write!(self.out, "status {status}\n")?;
+            self.say_status(status)?;
         }
         self.host_step(CommandVerb::Release, command)?;
         Ok(())
@@ -186,7 +193,7 @@ impl Hand<'_> {
         let Some((command, status)) = self.run(Kind::Write, extent, Some(bytes))? else {
             return Ok(());
         };
-        write!(self.out, "status {status}\n")?;
+        self.say_status(status)?;
         self.host_step(CommandVerb::Release, command)?;
         Ok(())
     }

@@ -148,7 +148,7 @@ impl Session {
         writer: &mut W,
         prompt: bool,
     ) -> Result<(), RunFault> {
-        let prompt = if prompt { PROMPT } else { "" };
+        let (prompt, end) = if prompt { (PROMPT, "\n") } else { ("", "") };
         let mut line = Vec::new(self.alloc);
         let mut out = String::new(self.alloc);
         let mut number = 0u32;
@@ -157,6 +157,7 @@ impl Session {
             flush(writer)?;
             read_line(reader, &mut line)?;
             if line.is_empty() {
+                put(writer, end.as_bytes())?;
                 break;
             }
             number = number.saturating_add(1);

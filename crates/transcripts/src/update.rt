@@ -37,6 +37,8 @@ pub(crate) fn updated_text(
     let mut out = String::new(alloc);
     let mut number = 0u32;
     let mut left = told.iter().zip(printed.iter()).peekable();
+    // Before any step nothing is printed, but the counts where there is none.
+    left.next_if(|(told, printed)| place_of(told) == 0 && printed.is_empty());
     for line in text.lines() {
         number = number.saturating_add(1);
         if answer_of(line).is_none() {
