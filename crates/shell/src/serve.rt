@@ -15,7 +15,7 @@ impl Hand<'_> {
         if let Reply::Refused { .. } = reply {
             return Ok(false);
         }
-        self.left -= 1;
+        self.left = self.left.saturating_sub(1);
         if self.says {
             self.say_on_command(Verb::OnCommand(verb), command, &reply)?;
         }
@@ -48,7 +48,7 @@ impl Hand<'_> {
             self.say_on_queue(Verb::OnQueue(QueueVerb::Fetch), q, &reply)?;
         }
         if fetched.is_some() {
-            self.left -= 1;
+            self.left = self.left.saturating_sub(1);
         }
         Ok(fetched)
     }
