@@ -33,6 +33,12 @@ mod script_playing;
 #[cfg(test)]
 mod script_runs;
 #[cfg(test)]
+mod shell_sessions;
+#[cfg(test)]
+mod shell_texts;
+#[cfg(test)]
 mod texts;
+#[cfg(test)]
+mod transcript_files;
 #[cfg(test)]
 mod transcript_texts;

@@ -21,6 +21,9 @@ pub enum TranscriptFault {
         /// The line's number, from 1.
         number: u32,
     },
+    /// It has more than 16,777,216 bytes.
+    #[error("too long")]
+    TooLong,
     /// Memory was refused.
     #[error("memory")]
     Memory,

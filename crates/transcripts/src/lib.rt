@@ -20,20 +20,28 @@
 //!
 //! [`read_transcript`] reads one, and [`play`] plays it on whatever makes its steps, a [`StepMaker`]: it makes them in order and answers the first
 //! [`Difference`] between what is printed and what stands there. [`OnBench`] makes steps on a bench.
+//!
+//! [`test_transcript`] plays the text of one on a bench of its own, and answers an [`Outcome`]; where something else is printed than stands there,
+//! that has the text as it would have to be. [`test_files`] does so with files.
 #![tactic(auto)]
 
 mod bench;
 mod difference;
 mod fault;
+mod files;
 mod heap;
 mod options;
 mod playing;
 mod read;
+mod testing;
+mod update;
 
 pub use bench::OnBench;
 pub use difference::Difference;
 pub use fault::{OpeningFault, TranscriptFault};
+pub use files::{Tally, test_files};
 pub use heap::{reply_in, step_in};
-pub use options::Options;
-pub use playing::{StepMaker, play};
+pub use options::{Given, Options};
+pub use playing::{StepMaker, play, printed};
 pub use read::{Answer, Told, Transcript, read_transcript};
+pub use testing::{MAX_TRANSCRIPT, Outcome, test_transcript};

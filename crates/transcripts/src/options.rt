@@ -11,9 +11,22 @@ pub struct Options {
     pub blocks: u32,
 }
 
-/// The options that are given; one that is not is the usual one.
+impl Options {
+    /// The usual ones, those of `nvmesgl steps`.
+    pub const USUAL: Options = Options {
+        config: Config {
+            pages: 16,
+            queues: 1,
+            entries: 4,
+            segment: 256,
+        },
+        blocks: 64,
+    };
+}
+
+/// The options that words give.
 #[derive(Clone, Copy, Debug, PartialEq, Eq, Default)]
-struct Given {
+pub struct Given {
     pages: Option<u32>,
     queues: Option<u32>,
     entries: Option<u32>,
@@ -21,15 +34,23 @@ struct Given {
     blocks: Option<u32>,
 }
 
+/// The name of an option and its number: `--NAME=N`, `NAME=N`, or `--NAME` and the next word.
+fn named<'a>(word: &'a str, next: Option<&'a str>) -> (&'a str, Option<&'a str>) {
+    match word.split_once('=') {
+        Some((name, number)) => (name.strip_prefix("--").unwrap_or(name), Some(number)),
+        None => (word.strip_prefix("--").unwrap_or(""), next),
+    }
+}
+
 impl Given {
     /// The number that an option was given.
     fn number(&mut self, name: &str) -> Option<&mut Option<u32>> {
         match name {
-            "--pages" => Some(&mut self.pages),
-            "--queues" => Some(&mut self.queues),
-            "--entries" => Some(&mut self.entries),
-            "--segment" => Some(&mut self.segment),
-            "--blocks" => Some(&mut self.blocks),
+            "pages" => Some(&mut self.pages),
+            "queues" => Some(&mut self.queues),
+            "entries" => Some(&mut self.entries),
+            "segment" => Some(&mut self.segment),
+            "blocks" => Some(&mut self.blocks),
             _ => None,
         }
     }
@@ -44,38 +65,40 @@ impl Given {
             None => false,
         }
     }
-}
 
-impl Options {
-    /// The usual ones, those of `nvmesgl steps`.
-    pub const USUAL: Options = Options {
-        config: Config {
-            pages: 16,
-            queues: 1,
-            entries: 4,
-            segment: 256,
-        },
-        blocks: 64,
-    };
-
-    /// The options that words give, each a name and a number behind it. None where other words stand there, or one is given twice.
-    pub(crate) fn of_words(text: &str) -> Option<Options> {
+    /// The options that words give, each as `--NAME N`, `--NAME=N` or `NAME=N`.
+    ///
+    /// # Errors
+    ///
+    /// The first word that gives none: it names none, has no number, or gives one again.
+    pub fn of_words(text: &str) -> Result<Given, &str> {
         let mut given = Given::default();
         let mut words = text.split_whitespace();
-        while let Some(name) = words.next() {
-            if !given.take(name, words.next()) {
-                return None;
+        while let Some(word) = words.next() {
+            let next = if word.contains('=') {
+                None
+            } else {
+                words.next()
+            };
+            let (name, number) = named(word, next);
+            if !given.take(name, number) {
+                return Err(word);
             }
         }
-        let Options { config, blocks } = Options::USUAL;
-        Some(Options {
+        Ok(given)
+    }
+
+    /// These options, but for those that are given.
+    pub fn over(self, usual: Options) -> Options {
+        let Options { config, blocks } = usual;
+        Options {
             config: Config {
-                pages: given.pages.unwrap_or(config.pages),
-                queues: given.queues.unwrap_or(config.queues),
-                entries: given.entries.unwrap_or(config.entries),
-                segment: given.segment.unwrap_or(config.segment),
+                pages: self.pages.unwrap_or(config.pages),
+                queues: self.queues.unwrap_or(config.queues),
+                entries: self.entries.unwrap_or(config.entries),
+                segment: self.segment.unwrap_or(config.segment),
             },
-            blocks: given.blocks.unwrap_or(blocks),
-        })
+            blocks: self.blocks.unwrap_or(blocks),
+        }
     }
 }

@@ -3,7 +3,7 @@
 ghost use Rattle.std.specs.Prelude.{◌≤◌, length, IfOk};
 
 use crate::difference::{Difference, first_difference};
-use crate::read::Transcript;
+use crate::read::{Told, Transcript};
 use script_cli::{Line, Verb, append_counts, append_owners, append_reply};
 use std::alloc::{AllocError, Global};
 use step_core::{Counts, Owner, PageNo, Reply, Step};
@@ -74,6 +74,20 @@ fn line_text<M: StepMaker>(
     }
 }
 
+/// What a line prints; behind the last one stand the counts.
+pub(crate) fn told_text<M: StepMaker>(
+    alloc: Global,
+    maker: &mut M,
+    told: &Told,
+    is_last: bool,
+) -> Result<String, AllocError> {
+    let mut text = line_text(alloc, maker, &told.line)?;
+    if is_last {
+        append_counts(&mut text, maker.counts())?;
+    }
+    Ok(text)
+}
+
 /// Plays a transcript, and answers the first difference between what is printed and what stands there. Then the steps behind it are not made.
 ///
 /// # Errors
@@ -88,14 +102,31 @@ pub fn play<M: StepMaker>(
     let mut left = told.len();
     for told in told {
         left = left.saturating_sub(1);
-        let mut text = line_text(alloc, maker, &told.line)?;
-        if left == 0 {
-            append_counts(&mut text, maker.counts())?;
-        }
+        let text = told_text(alloc, maker, told, left == 0)?;
         let found = first_difference(alloc, told, &text)?;
         if found.is_some() {
             return Ok(found);
         }
     }
     Ok(None)
+}
+
+/// Plays a transcript to its end, and answers what each of its lines printed.
+///
+/// # Errors
+///
+/// Where memory is refused, but not inside a step.
+pub fn printed<M: StepMaker>(
+    alloc: Global,
+    maker: &mut M,
+    transcript: &Transcript,
+) -> Result<Vec<String>, AllocError> {
+    let told = transcript.told();
+    let mut left = told.len();
+    let mut texts = Vec::new(alloc);
+    for told in told {
+        left = left.saturating_sub(1);
+        texts.push(told_text(alloc, maker, told, left == 0)?)?;
+    }
+    Ok(texts)
 }

@@ -1,7 +1,7 @@
 //! How a transcript is read.
 
 use crate::fault::TranscriptFault;
-use crate::options::Options;
+use crate::options::{Given, Options};
 use script_cli::{Line, LineFault, ScriptFault, read_script};
 use std::alloc::{AllocError, Global};
 
@@ -31,14 +31,19 @@ pub struct Told {
 /// A transcript.
 #[derive(Debug, Drop)]
 pub struct Transcript {
-    options: Options,
+    given: Given,
     told: Vec<Told>,
 }
 
 impl Transcript {
-    /// What it is played over.
+    /// What it is played over, where an option that it does not give is the usual one.
     pub fn options(&self) -> Options {
-        self.options
+        self.options_over(Options::USUAL)
+    }
+
+    /// What it is played over, where an option that it does not give is one of these.
+    pub fn options_over(&self, usual: Options) -> Options {
+        self.given.over(usual)
     }
 
     /// Its lines in order. The first is what must be printed before any step.
@@ -48,7 +53,7 @@ impl Transcript {
 }
 
 /// The text of an answer, if a line is one: what stands behind the sign and a blank.
-fn answer_of(line: &str) -> Option<&str> {
+pub(crate) fn answer_of(line: &str) -> Option<&str> {
     let behind = line.strip_prefix('>')?;
     Some(behind.strip_prefix(' ').unwrap_or(behind))
 }
@@ -120,7 +125,7 @@ fn beginning(alloc: Global) -> Result<Vec<Told>, AllocError> {
 ///
 /// The first fault of the first line that has one, or that memory was refused.
 pub fn read_transcript(alloc: Global, text: &str) -> Result<Transcript, TranscriptFault> {
-    let mut options = Options::USUAL;
+    let mut given = Given::default();
     let mut told = beginning(alloc)?;
     let mut number = 0u32;
     for line in text.lines() {
@@ -128,8 +133,8 @@ pub fn read_transcript(alloc: Global, text: &str) -> Result<Transcript, Transcri
         if let Some(answer) = answer_of(line) {
             push_answer(alloc, &mut told, number, answer)?;
         } else if let Some(words) = line.strip_prefix(OPTIONS) {
-            match Options::of_words(words) {
-                Some(given) if number == 1 => options = given,
+            match Given::of_words(words) {
+                Ok(options) if number == 1 => given = options,
                 _ => return Err(TranscriptFault::BadOptions { number }),
             }
         } else {
@@ -137,5 +142,5 @@ pub fn read_transcript(alloc: Global, text: &str) -> Result<Transcript, Transcri
             push_line(alloc, &mut told, number, line)?;
         }
     }
-    Ok(Transcript { options, told })
+    Ok(Transcript { given, told })
 }

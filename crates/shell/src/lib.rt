@@ -1,0 +1,22 @@
+//! A shell over one world: a line at a time, each answered at once.
+//!
+//! [`run_shell`] reads lines and answers each before it reads the next. A line is a step of a script (`script_cli`), which prints what
+//! `nvmesgl steps` prints for it, or a [`DotWord`] with its arguments. A line that is at fault says so and changes nothing; the session goes on.
+//!
+//! What a step, `owners` and `.counts` say of the world is the world's: their clauses are those of a script's run.
+#![tactic(auto)]
+
+mod answers;
+mod asked;
+mod dot_word;
+mod fault;
+mod hand;
+mod help;
+mod lines;
+mod moves;
+mod runs;
+mod serve;
+mod session;
+
+pub use dot_word::{DOT_WORDS, DotWord};
+pub use session::run_shell;
