@@ -1,11 +1,11 @@
 -- What is known of a run over bytes that were read is known of those that the reader had.
-use Rattle.std.proofs.Common.{◌≡◌, ◌⊎◌, ◌∙◌, ap, sym, subst, Option, Some, None, List, ℕ, inl, inr}
+use Rattle.std.proofs.Common.{◌≡◌, ◌⊎◌, ◌∙◌, ap, sym, subst, Option, Some, List, ℕ, inl, inr}
 use Rattle.std.specs.Prelude.{IfErr, IsErrAnd, Result, Ok, Err}
 use Rattle.command_line.specs.Asked.{Given, threads}
 use Rattle.host_core.specs.declared.config.Config.{Config}
 use Rattle.job_cli.proofs.JobRuns.{jobs_are_told, no_jobs_are_told}
 use Rattle.job_cli.specs.JobRuns.{EndsJobsWith, EndsUnwritten, HasJobFault, HasJobs, IsCutJobsText, IsNoJobs, WritesJobs}
-use Rattle.job_cli.specs.Jobs.{IsReadAs, jobs_of}
+use Rattle.job_cli.specs.Jobs.{jobs_of}
 use Rattle.job_cli.specs.declared.jobs.JobLine.{JobLine}
 use Rattle.machine_model.specs.Script.{Table}
 use Rattle.machine_model.specs.State.{State}
@@ -16,7 +16,6 @@ use Rattle.program.specs.Performing.{FailsWith, IsFirstImage, IsRunFault}
 use Rattle.program.specs.declared.fault.Fault.{Fault}
 use Rattle.program.specs.declared.fault.Fault.TheVariants as fault
 use Rattle.script_cli.proofs.Runs.{no_script_is_told, script_is_told}
-use Rattle.script_cli.specs.Faults.{fault_of_script}
 use Rattle.script_cli.specs.Inputs.{AreFirstOf}
 use Rattle.script_cli.specs.Runs.{EndsWith, HasFault, HasScript, IsCutText, IsNoScript, IsNotOpened, Writes}
 use Rattle.script_cli.specs.Scripts.{script_of}
