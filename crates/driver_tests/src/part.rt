@@ -44,7 +44,11 @@ pub(crate) enum Part {
 }
 
 /// Plays a transcript, as it says.
-pub(crate) fn play_text<L: FullDriver, R: Abort + Wait>(rt: &R, desk: &mut Desk<'_, L, R>, text: &str) {
+pub(crate) fn play_text<L: FullDriver, R: Abort + Wait>(
+    rt: &R,
+    desk: &mut Desk<'_, L, R>,
+    text: &str,
+) {
     let Ok(transcript) = read_transcript(desk.alloc, text) else {
         panic!(rt; "it is no transcript");
     };

@@ -100,7 +100,11 @@ fn read_over_a_reset<L: FullDriver, R: Abort + Wait>(
 }
 
 /// Resets the controller once the Read is submitted.
-fn reset_over_a_read<L: FullDriver, R: Abort + Wait>(rt: &R, shared: &Shared<L>, meeting: &Meeting) {
+fn reset_over_a_read<L: FullDriver, R: Abort + Wait>(
+    rt: &R,
+    shared: &Shared<L>,
+    meeting: &Meeting,
+) {
     wait_for(rt, &meeting.submitted);
     see(rt, &shared.reset(rt), &Ok(()));
     meeting.reset.store(true, Ordering::SeqCst);

@@ -353,7 +353,11 @@ fn submit_all<L: FullDriver, R: Wait>(
 }
 
 /// Cancels the draft with identifier 0 of queue 1. Whether it was accepted.
-fn is_cancelled<L: FullDriver, R: Wait>(rt: &R, shared: &Shared<L>, values: &mut Vec<Value>) -> bool {
+fn is_cancelled<L: FullDriver, R: Wait>(
+    rt: &R,
+    shared: &Shared<L>,
+    values: &mut Vec<Value>,
+) -> bool {
     let Some(draft) = draft_of(values, 1, 0) else {
         return false;
     };
@@ -414,7 +418,11 @@ fn comes<R: Clock>(rt: &R, so_far: &AtomicBool) -> bool {
 }
 
 /// Polls, where that is wanted, until the workers are told to stop.
-fn poll<L: FullDriver, R: Wait>(rt: &R, shared: &Shared<L>, is_wanted: bool) -> Result<(), AllocError> {
+fn poll<L: FullDriver, R: Wait>(
+    rt: &R,
+    shared: &Shared<L>,
+    is_wanted: bool,
+) -> Result<(), AllocError> {
     if is_wanted {
         poller(rt, shared)
     } else {
