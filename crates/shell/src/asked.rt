@@ -177,12 +177,7 @@ fn open(behind: &str) -> Result<Asked<'_>, Fault<'_>> {
 }
 
 /// What a word with a dot asks for, with the words behind it, and with the text behind it.
-fn asked_of_dot<'a>(
-    alloc: Global,
-    dot: DotWord,
-    words: Words<'a>,
-    behind: &'a str,
-) -> Reading<'a> {
+fn asked_of_dot<'a>(alloc: Global, dot: DotWord, words: Words<'a>, behind: &'a str) -> Reading<'a> {
     let arguments = Arguments { words, dot };
     Ok(match dot {
         DotWord::Help => help(arguments),

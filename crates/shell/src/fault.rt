@@ -86,11 +86,7 @@ fn put_line_fault(
 }
 
 /// Puts that a word is none, and which one is near it.
-pub(crate) fn put_unknown(
-    alloc: Global,
-    out: &mut String,
-    word: &str,
-) -> Result<(), AllocError> {
+pub(crate) fn put_unknown(alloc: Global, out: &mut String, word: &str) -> Result<(), AllocError> {
     write!(out, "'{word}' is no word of the shell")?;
     let names = DOT_WORDS.map(|dot| dot.name());
     match nearest(alloc, word.as_bytes(), &names)? {

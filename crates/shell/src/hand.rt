@@ -26,7 +26,9 @@ pub(crate) struct Hand<'a> {
 fn answer_text(alloc: Global, verb: Verb, reply: &Reply) -> Result<String, AllocError> {
     let mut line = String::new(alloc);
     append_reply(&mut line, 0, verb, reply)?;
-    let behind = line.split_once(' ').and_then(|(_, rest)| rest.split_once(' '));
+    let behind = line
+        .split_once(' ')
+        .and_then(|(_, rest)| rest.split_once(' '));
     match behind {
         Some((_, answer)) => String::from_str(alloc, answer),
         None => Ok(line),

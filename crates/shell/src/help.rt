@@ -7,7 +7,8 @@ use script_cli::{VERBS, Verb};
 use std::alloc::{AllocError, Global};
 
 /// What stands between the words with a dot and the steps.
-const STEPS: &str = "Each other line is a step of a script, and answers what `nvmesgl steps` prints for it:
+const STEPS: &str =
+    "Each other line is a step of a script, and answers what `nvmesgl steps` prints for it:
 ";
 
 /// Says what there is to say.

@@ -118,7 +118,10 @@ impl Hand<'_> {
                 return Ok(true);
             }
         }
-        write!(self.out, "command {q} {cid} is not done, and stays outstanding\n")?;
+        write!(
+            self.out,
+            "command {q} {cid} is not done, and stays outstanding\n"
+        )?;
         Ok(false)
     }
 

@@ -1,5 +1,7 @@
 //! A session: a world, and the lines that are answered over it.
 
+ghost use Rattle.std.specs.Prelude.{◌≡◌, [], string_bytes};
+
 use crate::answers::{say_counts, say_owners, say_step};
 use crate::asked::{Asked, asked_of};
 use crate::hand::{Hand, MOST_STEPS};
@@ -106,13 +108,15 @@ impl Session {
         self.hand(out, true).serve(first, last)
     }
 
-    /// Does what a line asks for.
+    /// Does what a line asks for, and leaves what it says in an empty text.
     fn perform(
         &mut self,
         number: u32,
         asked: Asked<'_>,
         out: &mut String,
-    ) -> Result<Going, AllocError> {
+    ) -> Result<Going, AllocError>
+        requires empty { string_bytes out.old ≡ [] }
+    {
         match asked {
             Asked::Nothing => {}
             Asked::Step(step) => say_step(&mut self.bench, number, step, out)?,
@@ -130,7 +134,9 @@ impl Session {
     }
 
     /// Answers a line: leaves what it says in an empty text.
-    fn answer(&mut self, number: u32, line: &[u8], out: &mut String) -> Result<Going, AllocError> {
+    fn answer(&mut self, number: u32, line: &[u8], out: &mut String) -> Result<Going, AllocError>
+        requires empty { string_bytes out.old ≡ [] }
+    {
         match asked_of(self.alloc, line)? {
             Ok(asked) => self.perform(number, asked, out),
             Err(fault) => {

@@ -112,7 +112,10 @@ fn a_session_s_reader_fails_after_each_byte(rt: HostRuntime) -> Result<(), Fail>
     for cut in 0..=typed.len() {
         let (end, written) = ended(rt.alloc(), &typed[..cut], true, 1_000_000, false)?;
         same_at(&rt, cut, end, Err(RunFault::Unreadable));
-        assert!(rt; session.answered.as_bytes().starts_with(&written), "cut {cut}");
+        assert!(rt;
+            session.answered.as_bytes().starts_with(&written),
+            "cut {cut}"
+        );
     }
     Ok(())
 }
@@ -133,7 +136,13 @@ fn a_session_s_writer_fails_after_each_byte(rt: HostRuntime) -> Result<(), Fail>
 /// A line has 16,384 bytes at most; one that is longer, or that is not ASCII, is at fault alone.
 #[test]
 fn long_lines_are_at_fault_alone(rt: HostRuntime) -> Result<(), Fail> {
-    for (length, feed) in [(16_384, "\n"), (16_384, "\r\n"), (16_385, "\n"), (16_386, "\r\n"), (40_000, "\n")] {
+    for (length, feed) in [
+        (16_384, "\n"),
+        (16_384, "\r\n"),
+        (16_385, "\n"),
+        (16_386, "\r\n"),
+        (40_000, "\n"),
+    ] {
         let mut typed = String::new(rt.alloc());
         typed.push('#')?;
         for _ in 1..length {
@@ -146,7 +155,12 @@ fn long_lines_are_at_fault_alone(rt: HostRuntime) -> Result<(), Fail> {
         } else {
             "2 ring ok\n"
         };
-        same_at(&rt, length, answered(rt.alloc(), typed.as_bytes())?.as_str(), wanted);
+        same_at(
+            &rt,
+            length,
+            answered(rt.alloc(), typed.as_bytes())?.as_str(),
+            wanted,
+        );
     }
     let answers = answered(rt.alloc(), b"# \xC3\xA9\nring 1\n")?;
     assert!(rt; answers.starts_with("line 1: NotAscii\n"));

@@ -131,7 +131,9 @@ fn files_are_tested_and_updated(rt: HostRuntime) -> Result<(), Fail> {
     fs::write(&rt, other, OTHER)?;
     let (tally, text) = said(&rt, &[good, other], false, 10_000)?;
     same(&rt, tally.map(Tally::exit_status), Ok(4));
-    let wanted = format!(in rt.alloc(); "ok {good}\n{other}: line 4: wanted ring refused, came ring ok\n")?;
+    let wanted = format!(in rt.alloc();
+        "ok {good}\n{other}: line 4: wanted ring refused, came ring ok\n"
+    )?;
     same(&rt, text.as_str(), wanted.as_str());
     let (tally, text) = said(&rt, &[good, other], true, 10_000)?;
     same(&rt, tally.map(Tally::exit_status), Ok(0));
@@ -146,6 +148,10 @@ fn files_are_tested_and_updated(rt: HostRuntime) -> Result<(), Fail> {
     let (tally, _) = said(&rt, &[good], false, 10_000)?;
     same(&rt, tally.map(Tally::exit_status), Ok(1));
     let (tally, _) = said(&rt, &[good], false, 3)?;
-    same(&rt, tally.map(Tally::exit_status), Err(RunFault::OutputFailed));
+    same(
+        &rt,
+        tally.map(Tally::exit_status),
+        Err(RunFault::OutputFailed),
+    );
     Ok(())
 }

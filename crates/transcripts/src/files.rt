@@ -5,11 +5,10 @@ use crate::testing::{MAX_TRANSCRIPT, Outcome, test_transcript};
 use script_cli::{ReadFault, RunFault, flush, put, read_first};
 use std::alloc::{AllocError, AllocGlobal};
 use std::convert::AsStr;
-use std::fs;
 use std::fs::File;
-use std::io;
 use std::io::Write;
 use std::rt::Files;
+use std::{fs, io};
 
 /// How many files came out in each way.
 #[derive(Clone, Copy, Debug, Default, PartialEq, Eq)]

@@ -80,11 +80,7 @@ fn compared(
 /// # Errors
 ///
 /// Where memory is refused for what stands around the transcript and its bench.
-pub fn test_transcript(
-    alloc: Global,
-    bytes: &[u8],
-    usual: Options,
-) -> Result<Outcome, AllocError> {
+pub fn test_transcript(alloc: Global, bytes: &[u8], usual: Options) -> Result<Outcome, AllocError> {
     let text = match text_of(bytes) {
         Ok(text) => text,
         Err(fault) => return Ok(Outcome::Fault(fault)),
