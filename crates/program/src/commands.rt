@@ -81,7 +81,7 @@ pub fn perform<
     S: AsStr,
     I: Read,
     W: Write,
->(rt: &R, words: &[S], reader: &mut I, writer: &mut W) -> Result<(), Told<Fault>>
+>(rt: &R, words: &[S], reader: &mut I, writer: &mut W, is_terminal: bool) -> Result<(), Told<Fault>>
     ensures ran { OnOk result (Performs (I.remaining reader.old) (asked (map S.text words.now)) (W.contents writer.old) (W.contents writer.new)) }
     ensures failed { IfErr result (λ told. FailsWith (I.remaining reader.old) (asked (map S.text words.now)) (W.contents writer.old) (W.contents writer.new) told.fault) }
 {
