@@ -2,7 +2,7 @@
 use Rattle.std.proofs.Common.{◌≡◌, ◌⊎◌, ◌∙◌, ap, sym, subst, Option, Some, None, List, ℕ, inl, inr}
 use Rattle.std.specs.Prelude.{IfErr, IsErrAnd, OnOk, Result, Ok, Err}
 use Rattle.clap.specs.Words.{Text}
-use Rattle.command_line.specs.Asked.{Given, check, check_jobs, grammar, steps, threads}
+use Rattle.command_line.specs.Asked.{Given, Tested, check, check_jobs, grammar, shell, steps, test, threads}
 use Rattle.host_core.specs.declared.config.Config.{Config}
 use Rattle.job_cli.proofs.JobRuns.{jobs_are_told, no_jobs_are_told}
 use Rattle.job_cli.specs.JobRuns.{EndsJobsWith, EndsUnwritten, HasJobFault, HasJobs, IsCutJobsText, IsNoJobs, WritesJobs}
@@ -13,7 +13,7 @@ use Rattle.machine_model.specs.State.{State}
 use Rattle.machine_model.specs.declared.words.OpenRefusal.{OpenRefusal}
 use Rattle.program.proofs.Refusing.{kept}
 use Rattle.program.specs.Checking.{AreJobs, AreNoJobs, AreNoSteps, AreSteps}
-use Rattle.program.specs.Performing.{FailsWith, IsFirstImage, IsNoFirstImage, IsNoGrammar, IsRunFault, Performs, script_told}
+use Rattle.program.specs.Performing.{FailsWith, IsFirstImage, IsNoFirstImage, IsNoGrammar, IsRunFault, IsTestFault, Performs, script_told}
 use Rattle.program.specs.declared.fault.Fault.{Fault}
 use Rattle.program.specs.declared.fault.Fault.TheVariants as fault
 use Rattle.script_cli.proofs.Runs.{no_script_is_told, script_is_told}
@@ -164,6 +164,7 @@ run_fails told a path (fault.Run why) none = (none, kept a)
 run_fails told a path (fault.Arguments why) none = absurd none
 run_fails told a path (fault.Image why) none = absurd none
 run_fails told a path fault.PipeClosed none = absurd none
+run_fails told a path (fault.Transcripts tally) none = absurd none
 
 run_fails_jobs : (told a : Option (List ℕ)) (path : Option Text) (submitters : ℕ) (f : Fault) → IsRunFault f (IsNoJobs (script_told path told) submitters)
     → FailsWith told (Some (check_jobs path submitters)) a a f
@@ -171,6 +172,7 @@ run_fails_jobs told a path submitters (fault.Run why) none = (none, kept a)
 run_fails_jobs told a path submitters (fault.Arguments why) none = absurd none
 run_fails_jobs told a path submitters (fault.Image why) none = absurd none
 run_fails_jobs told a path submitters fault.PipeClosed none = absurd none
+run_fails_jobs told a path submitters (fault.Transcripts tally) none = absurd none
 
 pub look_failed : {T U : Type 0} (r : Result T U) (fault_of : U → Fault) (told a : Option (List ℕ)) (path : Option Text)
     → IfErr r (λ why. IsRunFault (fault_of why) (IsNoScript (script_told path told))) → IfErr r (λ why. FailsWith told (Some (check path)) a a (fault_of why))
@@ -188,6 +190,7 @@ grammar_fails told a b (fault.Run why) none = none
 grammar_fails told a b (fault.Arguments why) none = absurd none
 grammar_fails told a b (fault.Image why) none = absurd none
 grammar_fails told a b fault.PipeClosed none = absurd none
+grammar_fails told a b (fault.Transcripts tally) none = absurd none
 
 pub grammar_failed : {T U : Type 0} (r : Result T U) (fault_of : U → Fault) (told a b : Option (List ℕ))
     → IfErr r (λ why. IsRunFault (fault_of why) IsNoGrammar) → IfErr r (λ why. FailsWith told (Some grammar) a b (fault_of why))
@@ -205,3 +208,25 @@ pub script_failed_jobs : {T U : Type 0} (r : Result T U) (fault_of : U → Fault
     → IfErr r (λ x. FailsWith told (Some (threads given submitters)) a a (fault_of x))
 script_failed_jobs (Ok x) fault_of told given submitters image a why same first unread = tt
 script_failed_jobs (Err x) fault_of told given submitters image a why same first unread = script_fails_jobs told given submitters image a why (fault_of x) same first unread
+
+-- How `test` and `shell` do
+
+test_fails : (told a b : Option (List ℕ)) (tested : Tested) (f : Fault) → IsTestFault f → FailsWith told (Some (test tested)) a b f
+test_fails told a b tested (fault.Run why) none = tt
+test_fails told a b tested (fault.Arguments why) none = absurd none
+test_fails told a b tested (fault.Image why) none = absurd none
+test_fails told a b tested fault.PipeClosed none = absurd none
+test_fails told a b tested (fault.Transcripts tally) none = tt
+
+pub test_failed : {T U : Type 0} (r : Result T U) (fault_of : U → Fault) (told a b : Option (List ℕ)) (tested : Tested)
+    → IfErr r (λ why. IsTestFault (fault_of why)) → IfErr r (λ why. FailsWith told (Some (test tested)) a b (fault_of why))
+test_failed (Ok x) fault_of told a b tested none = tt
+test_failed (Err why) fault_of told a b tested none = test_fails told a b tested (fault_of why) none
+
+pub image_fails_shell : (told : Option (List ℕ)) (given : Given) (a : Option (List ℕ)) (why : ImageFault) (f : Fault)
+    → f ≡ fault.Image why → IsNoFirstImage given why → FailsWith told (Some (shell given)) a a f
+image_fails_shell told given a why f same none = subst (λ (g : Fault). FailsWith told (Some (shell given)) a a g) (sym same) (none, kept a)
+
+pub run_fails_shell : (told : Option (List ℕ)) (given : Given) (a b : Option (List ℕ)) (why : RunFault) (f : Fault)
+    → f ≡ fault.Run why → FailsWith told (Some (shell given)) a b f
+run_fails_shell told given a b why f same = subst (λ (g : Fault). FailsWith told (Some (shell given)) a b g) (sym same) tt
