@@ -27,6 +27,7 @@ pub(crate) fn told_of<R: AllocGlobal + Eprint + Files + Print + Sync + Threads +
         Fault::Run(fault) => format!(in rt.alloc(); "{fault}\n{below}{status}\n")?,
         Fault::Arguments(why) => format!(in rt.alloc(); "{why}{status}\n")?,
         Fault::PipeClosed => String::from_str(rt.alloc(), "closed\n")?,
+        Fault::Transcripts(_) => format!(in rt.alloc(); "{below}{status}\n")?,
     })
 }
 
