@@ -1,23 +1,21 @@
 -- What is known of a run over bytes that were read is known of those that the reader had.
-use Rattle.std.proofs.Common.{◌≡◌, ◌⊎◌, ◌∙◌, ap, sym, subst, Option, Some, None, List, ℕ, inl, inr}
-use Rattle.std.specs.Prelude.{IfErr, IsErrAnd, OnOk, Result, Ok, Err}
-use Rattle.clap.specs.Words.{Text}
-use Rattle.command_line.specs.Asked.{Given, Tested, check, check_jobs, grammar, shell, steps, test, threads}
+use Rattle.std.proofs.Common.{◌≡◌, ◌⊎◌, ◌∙◌, ap, sym, subst, Option, Some, List, ℕ, inl, inr}
+use Rattle.std.specs.Prelude.{IfErr, IsErrAnd, Result, Ok, Err}
+use Rattle.command_line.specs.Asked.{Given, threads}
 use Rattle.host_core.specs.declared.config.Config.{Config}
 use Rattle.job_cli.proofs.JobRuns.{jobs_are_told, no_jobs_are_told}
 use Rattle.job_cli.specs.JobRuns.{EndsJobsWith, EndsUnwritten, HasJobFault, HasJobs, IsCutJobsText, IsNoJobs, WritesJobs}
-use Rattle.job_cli.specs.Jobs.{IsReadAs, jobs_of}
+use Rattle.job_cli.specs.Jobs.{jobs_of}
 use Rattle.job_cli.specs.declared.jobs.JobLine.{JobLine}
 use Rattle.machine_model.specs.Script.{Table}
 use Rattle.machine_model.specs.State.{State}
 use Rattle.machine_model.specs.declared.words.OpenRefusal.{OpenRefusal}
 use Rattle.program.proofs.Refusing.{kept}
 use Rattle.program.specs.Checking.{AreJobs, AreNoJobs, AreNoSteps, AreSteps}
-use Rattle.program.specs.Performing.{FailsWith, IsFirstImage, IsNoFirstImage, IsNoGrammar, IsRunFault, IsTestFault, Performs, script_told}
+use Rattle.program.specs.Performing.{FailsWith, IsFirstImage, IsRunFault}
 use Rattle.program.specs.declared.fault.Fault.{Fault}
 use Rattle.program.specs.declared.fault.Fault.TheVariants as fault
 use Rattle.script_cli.proofs.Runs.{no_script_is_told, script_is_told}
-use Rattle.script_cli.specs.Faults.{fault_of_script}
 use Rattle.script_cli.specs.Inputs.{AreFirstOf}
 use Rattle.script_cli.specs.Runs.{EndsWith, HasFault, HasScript, IsCutText, IsNoScript, IsNotOpened, Writes}
 use Rattle.script_cli.specs.Scripts.{script_of}
@@ -25,7 +23,6 @@ use Rattle.script_cli.specs.declared.fault.LineFault.{LineFault}
 use Rattle.script_cli.specs.declared.fault.RunFault.{RunFault}
 use Rattle.script_cli.specs.declared.fault.RunFault.TheVariants as run
 use Rattle.script_cli.specs.declared.fault.ScriptFault.TheVariants as cause
-use Rattle.script_cli.specs.declared.input.ImageFault.{ImageFault}
 use Rattle.script_cli.specs.declared.script.Numbered.{Numbered}
 
 -- Scripts of steps
@@ -108,96 +105,18 @@ no_jobs_told told submitters text why first (script, same, bad) = subst (λ (f :
 
 -- Scripts that were not read
 
-pub unread_steps : (told : Option (List ℕ)) (why : RunFault) → (why ≡ run.Unreadable) ⊎ (why ≡ run.Memory) → IsNoScript told why
-unread_steps told why (inl unreadable) = subst (λ (f : RunFault). IsNoScript told f) (sym unreadable) tt
-unread_steps told why (inr memory) = subst (λ (f : RunFault). IsNoScript told f) (sym memory) tt
-
-pub unread_jobs : (told : Option (List ℕ)) (submitters : ℕ) (why : RunFault) → (why ≡ run.Unreadable) ⊎ (why ≡ run.Memory) → IsNoJobs told submitters why
-unread_jobs told submitters why (inl unreadable) = subst (λ (f : RunFault). IsNoJobs told submitters f) (sym unreadable) tt
-unread_jobs told submitters why (inr memory) = subst (λ (f : RunFault). IsNoJobs told submitters f) (sym memory) tt
-
-unread_ends : (told : Option (List ℕ)) (config : Config) (image : List ℕ) (a : Option (List ℕ)) (why : RunFault)
-    → (why ≡ run.Unreadable) ⊎ (why ≡ run.Memory) → EndsWith told config image a a why
-unread_ends told config image a why (inl unreadable) = subst (λ (f : RunFault). EndsWith told config image a a f) (sym unreadable) (kept a)
-unread_ends told config image a why (inr memory) = subst (λ (f : RunFault). EndsWith told config image a a f) (sym memory) (inl (kept a))
-
 unread_ends_jobs : (told : Option (List ℕ)) (submitters : ℕ) (config : Config) (image : List ℕ) (a : Option (List ℕ)) (why : RunFault)
     → (why ≡ run.Unreadable) ⊎ (why ≡ run.Memory) → EndsJobsWith told submitters config image a a why
 unread_ends_jobs told submitters config image a why (inl unreadable) = subst (λ (f : RunFault). EndsJobsWith told submitters config image a a f) (sym unreadable) (kept a)
 unread_ends_jobs told submitters config image a why (inr memory) = subst (λ (f : RunFault). EndsJobsWith told submitters config image a a f) (sym memory) (inl (kept a))
 
--- How the commands that run end
-
-pub image_fails : (told : Option (List ℕ)) (given : Given) (a : Option (List ℕ)) (why : ImageFault) (f : Fault)
-    → f ≡ fault.Image why → IsNoFirstImage given why → FailsWith told (Some (steps given)) a a f
-image_fails told given a why f same none = subst (λ (g : Fault). FailsWith told (Some (steps given)) a a g) (sym same) (none, kept a)
-
-pub image_fails_jobs : (told : Option (List ℕ)) (given : Given) (submitters : ℕ) (a : Option (List ℕ)) (why : ImageFault) (f : Fault)
-    → f ≡ fault.Image why → IsNoFirstImage given why → FailsWith told (Some (threads given submitters)) a a f
-image_fails_jobs told given submitters a why f same none =
-    subst (λ (g : Fault). FailsWith told (Some (threads given submitters)) a a g) (sym same) (none, kept a)
-
-pub script_fails : (told : Option (List ℕ)) (given : Given) (image : List ℕ) (a : Option (List ℕ)) (why : RunFault) (f : Fault)
-    → f ≡ fault.Run why → IsFirstImage given image → (why ≡ run.Unreadable) ⊎ (why ≡ run.Memory) → FailsWith told (Some (steps given)) a a f
-script_fails told given image a why f same first unread =
-    subst (λ (g : Fault). FailsWith told (Some (steps given)) a a g) (sym same) (image, first, unread_ends _ given.config image a why unread)
-
-pub script_fails_jobs : (told : Option (List ℕ)) (given : Given) (submitters : ℕ) (image : List ℕ) (a : Option (List ℕ)) (why : RunFault) (f : Fault)
+script_fails_jobs : (told : Option (List ℕ)) (given : Given) (submitters : ℕ) (image : List ℕ) (a : Option (List ℕ)) (why : RunFault) (f : Fault)
     → f ≡ fault.Run why → IsFirstImage given image → (why ≡ run.Unreadable) ⊎ (why ≡ run.Memory) → FailsWith told (Some (threads given submitters)) a a f
 script_fails_jobs told given submitters image a why f same first unread =
     subst (λ (g : Fault). FailsWith told (Some (threads given submitters)) a a g) (sym same) (image, first, unread_ends_jobs _ submitters given.config image a why unread)
 
--- How those that look at a script do
+-- Faults that `?` makes of those of a run
 
-pub looked : {T U : Type 0} (r : Result T U) (told a : Option (List ℕ)) (path : Option Text)
-    → OnOk r ((script : List Numbered) × HasScript (script_told path told) script) → OnOk r (Performs told (Some (check path)) a a)
-looked (Ok x) told a path has = (has, kept a)
-looked (Err x) told a path has = tt
-
-pub looked_at_jobs : {T U : Type 0} (r : Result T U) (told a : Option (List ℕ)) (path : Option Text) (submitters : ℕ)
-    → OnOk r ((lines : List JobLine) × HasJobs (script_told path told) submitters lines) → OnOk r (Performs told (Some (check_jobs path submitters)) a a)
-looked_at_jobs (Ok x) told a path submitters has = (has, kept a)
-looked_at_jobs (Err x) told a path submitters has = tt
-
-run_fails : (told a : Option (List ℕ)) (path : Option Text) (f : Fault) → IsRunFault f (IsNoScript (script_told path told)) → FailsWith told (Some (check path)) a a f
-run_fails told a path (fault.Run why) none = (none, kept a)
-run_fails told a path (fault.Arguments why) none = absurd none
-run_fails told a path (fault.Image why) none = absurd none
-run_fails told a path fault.PipeClosed none = absurd none
-run_fails told a path (fault.Transcripts tally) none = absurd none
-
-run_fails_jobs : (told a : Option (List ℕ)) (path : Option Text) (submitters : ℕ) (f : Fault) → IsRunFault f (IsNoJobs (script_told path told) submitters)
-    → FailsWith told (Some (check_jobs path submitters)) a a f
-run_fails_jobs told a path submitters (fault.Run why) none = (none, kept a)
-run_fails_jobs told a path submitters (fault.Arguments why) none = absurd none
-run_fails_jobs told a path submitters (fault.Image why) none = absurd none
-run_fails_jobs told a path submitters fault.PipeClosed none = absurd none
-run_fails_jobs told a path submitters (fault.Transcripts tally) none = absurd none
-
-pub look_failed : {T U : Type 0} (r : Result T U) (fault_of : U → Fault) (told a : Option (List ℕ)) (path : Option Text)
-    → IfErr r (λ why. IsRunFault (fault_of why) (IsNoScript (script_told path told))) → IfErr r (λ why. FailsWith told (Some (check path)) a a (fault_of why))
-look_failed (Ok x) fault_of told a path none = tt
-look_failed (Err why) fault_of told a path none = run_fails told a path (fault_of why) none
-
-pub look_failed_at_jobs : {T U : Type 0} (r : Result T U) (fault_of : U → Fault) (told a : Option (List ℕ)) (path : Option Text) (submitters : ℕ)
-    → IfErr r (λ why. IsRunFault (fault_of why) (IsNoJobs (script_told path told) submitters))
-    → IfErr r (λ why. FailsWith told (Some (check_jobs path submitters)) a a (fault_of why))
-look_failed_at_jobs (Ok x) fault_of told a path submitters none = tt
-look_failed_at_jobs (Err why) fault_of told a path submitters none = run_fails_jobs told a path submitters (fault_of why) none
-
-grammar_fails : (told a b : Option (List ℕ)) (f : Fault) → IsRunFault f IsNoGrammar → FailsWith told (Some grammar) a b f
-grammar_fails told a b (fault.Run why) none = none
-grammar_fails told a b (fault.Arguments why) none = absurd none
-grammar_fails told a b (fault.Image why) none = absurd none
-grammar_fails told a b fault.PipeClosed none = absurd none
-grammar_fails told a b (fault.Transcripts tally) none = absurd none
-
-pub grammar_failed : {T U : Type 0} (r : Result T U) (fault_of : U → Fault) (told a b : Option (List ℕ))
-    → IfErr r (λ why. IsRunFault (fault_of why) IsNoGrammar) → IfErr r (λ why. FailsWith told (Some grammar) a b (fault_of why))
-grammar_failed (Ok x) fault_of told a b none = tt
-grammar_failed (Err why) fault_of told a b none = grammar_fails told a b (fault_of why) none
-
--- a fault that `?` made of one of a run
 pub run_fault_told : {T U : Type 0} (r : Result T U) (fault_of : U → Fault) (why : RunFault) (Holds : RunFault → Type 0)
     → IsErrAnd r (λ x. fault_of x ≡ fault.Run why) → Holds why → IfErr r (λ x. IsRunFault (fault_of x) Holds)
 run_fault_told (Ok x) fault_of why Holds same holds = tt
@@ -208,25 +127,3 @@ pub script_failed_jobs : {T U : Type 0} (r : Result T U) (fault_of : U → Fault
     → IfErr r (λ x. FailsWith told (Some (threads given submitters)) a a (fault_of x))
 script_failed_jobs (Ok x) fault_of told given submitters image a why same first unread = tt
 script_failed_jobs (Err x) fault_of told given submitters image a why same first unread = script_fails_jobs told given submitters image a why (fault_of x) same first unread
-
--- How `test` and `shell` do
-
-test_fails : (told a b : Option (List ℕ)) (tested : Tested) (f : Fault) → IsTestFault f → FailsWith told (Some (test tested)) a b f
-test_fails told a b tested (fault.Run why) none = tt
-test_fails told a b tested (fault.Arguments why) none = absurd none
-test_fails told a b tested (fault.Image why) none = absurd none
-test_fails told a b tested fault.PipeClosed none = absurd none
-test_fails told a b tested (fault.Transcripts tally) none = tt
-
-pub test_failed : {T U : Type 0} (r : Result T U) (fault_of : U → Fault) (told a b : Option (List ℕ)) (tested : Tested)
-    → IfErr r (λ why. IsTestFault (fault_of why)) → IfErr r (λ why. FailsWith told (Some (test tested)) a b (fault_of why))
-test_failed (Ok x) fault_of told a b tested none = tt
-test_failed (Err why) fault_of told a b tested none = test_fails told a b tested (fault_of why) none
-
-pub image_fails_shell : (told : Option (List ℕ)) (given : Given) (a : Option (List ℕ)) (why : ImageFault) (f : Fault)
-    → f ≡ fault.Image why → IsNoFirstImage given why → FailsWith told (Some (shell given)) a a f
-image_fails_shell told given a why f same none = subst (λ (g : Fault). FailsWith told (Some (shell given)) a a g) (sym same) (none, kept a)
-
-pub run_fails_shell : (told : Option (List ℕ)) (given : Given) (a b : Option (List ℕ)) (why : RunFault) (f : Fault)
-    → f ≡ fault.Run why → FailsWith told (Some (shell given)) a b f
-run_fails_shell told given a b why f same = subst (λ (g : Fault). FailsWith told (Some (shell given)) a b g) (sym same) tt

@@ -143,8 +143,10 @@ fn images_of_bad_length(rt: HostRuntime) -> Result<(), Fail> {
         let bytes = vec![in rt.alloc(); 0u8; len]?;
         fs::write(&rt, path, bytes.as_slice())?;
         let told = told_of(&rt, &["nvmesgl", "steps", "--image", path], b"");
-        fs::remove_file(&rt, path)?;
-        same_at(&rt, len, told?.as_str(), wanted);
+        let removed = fs::remove_file(&rt, path);
+        let told = told?;
+        removed?;
+        same_at(&rt, len, told.as_str(), wanted);
     }
     Ok(())
 }

@@ -9,11 +9,15 @@ returns-in_err-text-clause-failed g c =
     c.from_residual-in_err-text.ensures.1 c.in_ok-image.ensures.image c.in_err-text.ensures.fault
 
 pub returns-in-Ok-clause-ran : goal.returns-in-Ok-clause-ran
-returns-in-Ok-clause-ran g c =
-    (c.in_ok-image.image, c.in_ok-image.ensures.image,
-    writes_jobs_told _ c.args.submitters c.in_ok-text.text.items c.args.options.config c.in_ok-image.image _ _ IsJobsText c.in_ok-text.ensures.text (rw c.as_slice-script.ensures.value at c.in-Ok.ensures.ran))
+returns-in-Ok-clause-ran g c = (
+  c.in_ok-image.image,
+  c.in_ok-image.ensures.image,
+  writes_jobs_told _ c.args.submitters c.in_ok-text.text.items c.args.options.config c.in_ok-image.image _ _ IsJobsText c.in_ok-text.ensures.text (rw c.as_slice-script.ensures.value at c.in-Ok.ensures.ran),
+)
 
 pub returns-clause-failed : goal.returns-clause-failed
-returns-clause-failed g c =
-    (c.in_ok-image.image, c.in_ok-image.ensures.image,
-    ends_jobs_told _ c.args.submitters c.in_ok-text.text.items c.args.options.config c.in_ok-image.image _ _ c.in-Err.fault c.in_ok-text.ensures.text (rw c.as_slice-script.ensures.value at c.in-Err.ensures.failed))
+returns-clause-failed g c = (
+  c.in_ok-image.image,
+  c.in_ok-image.ensures.image,
+  ends_jobs_told _ c.args.submitters c.in_ok-text.text.items c.args.options.config c.in_ok-image.image _ _ c.in-Err.fault c.in_ok-text.ensures.text (rw c.as_slice-script.ensures.value at c.in-Err.ensures.failed),
+)
