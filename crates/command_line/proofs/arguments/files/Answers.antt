@@ -1,5 +1,6 @@
 use Rattle.std.proofs.Common.{◌∙◌, ap, List, [], ℕ, Option, map, codes}
 use Rattle.std.proofs.lemmas.Result.{IfOk-weaker}
+use Rattle.std.specs.Borrow.{Bor}
 use Rattle.std.specs.Prelude.{unwrap_or}
 use Rattle.clap.proofs.WalkLemmas.{raw_values-rows}
 use Rattle.clap.specs.Words.{found_of}
@@ -12,4 +13,4 @@ returns-in-Some c =
 
 pub returns-in-None : goal.returns-in-None
 returns-in-None c =
-    ap (λ (o : Option (List (List ℕ))). unwrap_or o []) (c.in-None.ensures ∙ raw_values-rows (found_of c.args.given.now) (codes "files"))
+    ap (map (λ (f : Bor (List ℕ)). f.now)) c.new.ensures.items ∙ ap (λ (o : Option (List (List ℕ))). unwrap_or o []) (c.in-None.ensures ∙ raw_values-rows (found_of c.args.given.now) (codes "files"))
