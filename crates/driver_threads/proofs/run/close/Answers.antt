@@ -1,7 +1,7 @@
 -- The ends of a run are told as lists of ends, which are as long as the lists that hold them.
 use Rattle.std.proofs.Common.{length, subst}
 use Rattle.machine_model.specs.State.{State}
-use Rattle.driver_book.specs.History.{LeadsTo}
+use Rattle.step_log.specs.History.{LeadsTo}
 use Rattle.std.proofs.lemmas.Simd.{map-map}
 use Rattle.driver_threads.proofs.run.close.Goals as goal
 
