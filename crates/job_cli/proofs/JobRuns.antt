@@ -1,6 +1,6 @@
 -- Runs of scripts of jobs: who does which job, what is printed, and how a run ends.
 use Rattle.std.proofs.Common.{arith, ◌≡◌, ◌<◌, ◌==◌, ◌&&◌, ◌⊎◌, inl, inr, ℕ, Bool, true, false, Option, Some, None, Result, Ok, Err, List, [], ◌∷◌, ◌++◌, append_assoc, is_some, length, length-set, length-append, get_or, map, replicate, slice_get, slice_set, if◌then◌else◌, refl, sym, ap, ◌∙◌, subst, eqb-true, zero, suc, ◌+◌, option_and_then}
-use Rattle.std.specs.Prelude.{All, IfErr, OnErr, OnOk}
+use Rattle.std.specs.Prelude.{All, IfErr, IsErrAnd, OnErr, OnOk}
 use Rattle.std.specs.Io.KnownBytes.{Appends, Keeps}
 use Rattle.std.proofs.lemmas.Bool.{eqb-false, eq-eqb}
 use Rattle.std.proofs.lemmas.Grind.{common_steps}
@@ -243,6 +243,12 @@ no_run_ends told n config image k lines (run.Line number why) has why_not = absu
 no_run_ends told n config image k lines run.TooLong has why_not = absurd why_not
 no_run_ends told n config image k lines run.Unreadable has why_not = absurd why_not
 no_run_ends told n config image k lines run.OutputFailed has why_not = absurd why_not
+
+-- so where that is what is answered
+pub no_run_failed : {T : Type 0} (r : Result T RunFault) (told : Option (List ℕ)) (n : ℕ) (config : Config) (image : List ℕ) (k : Option (List ℕ)) (lines : List JobLine) (why : RunFault)
+    → IsErrAnd r (λ x. x ≡ why) → HasJobs told n lines → IsNoRun config why → IfErr r (EndsJobsWith told n config image k k)
+no_run_failed (Ok done) told n config image k lines why same has why_not = tt
+no_run_failed (Err x) told n config image k lines why same has why_not = rw same (no_run_ends told n config image k lines why has why_not)
 
 -- what is written is the text of a run
 pub jobs_text_is : (config : Config) (image : List ℕ) (lines : List JobLine) (headings : List Heading) (ends : List (List JobEnd)) (owners : List Owner) (counts : Counts) → headings ≡ headings_from [] lines

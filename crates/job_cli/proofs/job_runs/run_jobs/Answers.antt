@@ -1,6 +1,6 @@
 -- What was written is the text of the run, or a front of it.
 use Rattle.std.proofs.Common.{ap, subst, ◌≡◌, ◌∙◌, List, map}
-use Rattle.job_cli.proofs.JobRuns.{each_has_ended, jobs_text_is, run_writes, run_is_cut}
+use Rattle.job_cli.proofs.JobRuns.{each_has_ended, jobs_text_is, no_run_failed, run_writes, run_is_cut}
 use Rattle.job_cli.specs.Headings.{headings_of}
 use Rattle.job_cli.specs.JobRuns.{AreListsOf}
 use Rattle.job_cli.specs.declared.jobs.JobLine.{JobLine}
@@ -18,6 +18,11 @@ returns-clause-ran g c =
     headed c.in_ok-left.ensures.ran all in
     run_writes c.write_run.result (g.I.Read.remaining c.args.reader.now) c.args.submitters c.args.config c.args.image (g.W.Write.contents c.args.writer.now) (g.W.Write.contents c.write_run.new.writer)
     c.in_ok-script.script _ c.in_ok-script.ensures.script text c.write_run.ensures.ran
+
+pub returns-in_err-left-clause-failed : goal.returns-in_err-left-clause-failed
+returns-in_err-left-clause-failed g c =
+    no_run_failed c.from_residual-in_err-left.result (g.I.Read.remaining c.args.reader.now) c.args.submitters c.args.config c.args.image (g.W.Write.contents c.args.writer.now) c.in_ok-script.script
+    c.in_err-left.field-0.0 c.from_residual-in_err-left.ensures.1 c.in_ok-script.ensures.script c.in_err-left.ensures.fault
 
 pub returns-clause-failed : goal.returns-clause-failed
 returns-clause-failed g c =
