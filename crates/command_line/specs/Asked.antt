@@ -1,15 +1,16 @@
 -- What the words of a command line ask for.
-use Rattle.std.specs.Prelude.{◌^◌, ◌≤◌, ◌&&◌, ⊤, ℕ, Bool, List, [], ◌∷◌, Option, Some, None, codes, option_map, option_and_then, unwrap_or, false, nat_lt, nat_le, if◌then◌else◌}
+use Rattle.std.specs.Prelude.{◌^◌, ◌≤◌, ◌&&◌, ⊤, ℕ, Bool, List, [], ◌∷◌, Option, Some, None, codes, option_map, option_and_then, unwrap_or, map, false, nat_lt, nat_le, if◌then◌else◌}
 use Rattle.std.specs.Borrow.{Bor}
 use Rattle.std.specs.Option.{option_map_or}
 use Rattle.std.specs.Str.{bytes_eq}
 use Rattle.std.specs.Str.Parse.{digits_value, without_leading_plus}
 use Rattle.clap.specs.ValueTests.{is_numeral}
-use Rattle.clap.specs.Words.{Kinds, Row, Text, fault_of, first_of, one_of, subcommand_of}
+use Rattle.clap.specs.Words.{Kinds, Row, Text, all_of, fault_of, first_of, one_of, subcommand_of}
 use Rattle.command_line.specs.Commands.{nvmesgl}
 use Rattle.command_line.specs.declared.arguments.CommandLine.{CommandLine}
 use Rattle.command_line.specs.declared.arguments.CommandLine.TheVariants as line
 use Rattle.command_line.specs.declared.arguments.Options.{Options}
+use Rattle.command_line.specs.declared.arguments.Testing.{Testing}
 use Rattle.host_core.specs.declared.config.Config.{Config}
 
 -- The options of a command, by what was found for each: a row of the words' values, or of the usual value
@@ -48,12 +49,35 @@ given_in rows = record {
   script = script_in rows;
 }
 
+-- what the transcripts of files are tested with
+pub record Tested : Type 0 where
+  pub sizes : Config
+  pub zeros : ℕ
+  pub updates : Bool
+  pub files : List Text
+
+-- the files that are named
+abbrev pub files_in : List Row → List Text
+files_in rows = unwrap_or (all_of (codes "files") rows) []
+
+-- a flag was typed
+abbrev pub has_flag : Text → List Row → Bool
+has_flag name rows = option_map_or (λ text. bytes_eq text (codes "true")) (first_of name rows) false
+
+abbrev pub tested_in : List Row → Tested
+tested_in rows = record {
+  sizes = (given_in rows).config;
+  zeros = (given_in rows).blocks;
+  updates = has_flag (codes "update") rows;
+  files = files_in rows;
+}
+
 abbrev pub submitters_in : List Row → ℕ
 submitters_in rows = number_under (codes "submitters") 2 rows
 
 -- `--jobs` was typed
 abbrev pub has_jobs : List Row → Bool
-has_jobs rows = option_map_or (λ text. bytes_eq text (codes "true")) (first_of (codes "jobs") rows) false
+has_jobs rows = has_flag (codes "jobs") rows
 
 -- What is asked for
 
@@ -62,6 +86,8 @@ pub data Asked : Type 0 where
   threads : Given → ℕ → Asked
   check : Option Text → Asked
   check_jobs : Option Text → ℕ → Asked
+  test : Tested → Asked
+  shell : Given → Asked
   grammar : Asked
 
 -- there are as many submitters as there may be
@@ -83,6 +109,8 @@ asked_of_name name rows =
     if bytes_eq name (codes "steps") then Some (steps (given_in rows))
     else if bytes_eq name (codes "threads") then if_submitters (submitters_in rows) (λ n. threads (given_in rows) n)
     else if bytes_eq name (codes "check") then check_by rows
+    else if bytes_eq name (codes "test") then Some (test (tested_in rows))
+    else if bytes_eq name (codes "shell") then Some (shell (given_in rows))
     else if bytes_eq name (codes "grammar") then Some grammar
     else None
 
@@ -106,11 +134,16 @@ path_of path = option_map (λ p. p.now) path
 abbrev pub given_of : Options → Given
 given_of options = record { config = options.config; blocks = options.blocks; image = path_of options.image; script = path_of options.script }
 
+abbrev pub tested_of : Testing → Tested
+tested_of testing = record { sizes = testing.config; zeros = testing.blocks; updates = testing.updates; files = map (λ f. f.now) testing.files.items }
+
 abbrev pub asked_of : CommandLine → Asked
 asked_of (line.Steps options) = steps (given_of options)
 asked_of (line.Threads options submitters) = threads (given_of options) submitters
 asked_of (line.Check script) = check (path_of script)
 asked_of (line.CheckJobs script submitters) = check_jobs (path_of script) submitters
+asked_of (line.Test testing) = test (tested_of testing)
+asked_of (line.Shell options) = shell (given_of options)
 asked_of line.Grammar = grammar
 
 -- a command line has as many submitters as there may be
@@ -119,4 +152,6 @@ FitSubmitters (line.Steps options) = ⊤
 FitSubmitters (line.Threads options submitters) = (1 ≤ submitters) × (submitters ≤ 16)
 FitSubmitters (line.Check script) = ⊤
 FitSubmitters (line.CheckJobs script submitters) = (1 ≤ submitters) × (submitters ≤ 16)
+FitSubmitters (line.Test testing) = ⊤
+FitSubmitters (line.Shell options) = ⊤
 FitSubmitters line.Grammar = ⊤

@@ -1,7 +1,7 @@
 -- The commands and their options, as a parse reads them.
 use Rattle.std.specs.Prelude.{pos, true, [], ◌∷◌, Some, codes}
 use Rattle.clap.specs.Words.{App, Rule, Text, new_app, new_rule, with_rule, with_subcommand}
-use Rattle.clap.specs.declared.builder.action.ArgAction.TheVariants.{SetTrue}
+use Rattle.clap.specs.declared.builder.action.ArgAction.TheVariants.{Append, SetTrue}
 use Rattle.clap.specs.declared.builder.value_parser.ValueParser.TheVariants.{Signed}
 
 -- an option with a value: `--NAME VALUE` or `--NAME=VALUE`
@@ -23,11 +23,13 @@ flag_rule name = record (new_rule name) { long = Some name; action = Some SetTru
 abbrev pub word_rule : Text → Rule
 word_rule name = record (new_rule name) { value_names = 1 }
 
--- a command with the options that both have, and the file of its script
-abbrev pub with_options : App → App
-with_options command = with_rule
-    (with_rule
-    (with_rule
+-- words that belong to no option, one or more
+abbrev pub words_rule : Text → Rule
+words_rule name = record (word_rule name) { action = Some Append; required = true }
+
+-- a command with the numbers that a world is opened with
+abbrev pub with_sizes : App → App
+with_sizes command = with_rule
     (with_rule
     (with_rule
     (with_rule
@@ -35,7 +37,12 @@ with_options command = with_rule
     (number_rule (codes "queues") (codes "1")))
     (number_rule (codes "entries") (codes "4")))
     (number_rule (codes "segment") (codes "256")))
-    (number_rule (codes "blocks") (codes "64")))
+    (number_rule (codes "blocks") (codes "64"))
+
+-- a command with these, an image, and the file of its lines
+abbrev pub with_options : App → App
+with_options command = with_rule
+    (with_rule (with_sizes command)
     (option_rule (codes "image")))
     (word_rule (codes "script"))
 
@@ -52,6 +59,14 @@ check = with_rule
     (number_rule (codes "submitters") (codes "2")))
     (word_rule (codes "script"))
 
+abbrev pub test : App
+test = with_sizes (with_rule
+    (with_rule (new_app (codes "test")) (flag_rule (codes "update")))
+    (words_rule (codes "files")))
+
+abbrev pub shell : App
+shell = with_options (new_app (codes "shell"))
+
 abbrev pub grammar : App
 grammar = new_app (codes "grammar")
 
@@ -60,4 +75,6 @@ abbrev pub named : App
 named = record { top = record (new_app (codes "nvmesgl")).top { subcommand_required = true; has_version = true }; subs = [] }
 
 abbrev pub nvmesgl : App
-nvmesgl = with_subcommand (with_subcommand (with_subcommand (with_subcommand named steps.top) threads.top) check.top) grammar.top
+nvmesgl = with_subcommand
+    (with_subcommand (with_subcommand (with_subcommand (with_subcommand (with_subcommand named steps.top) threads.top) check.top) test.top) shell.top)
+    grammar.top

@@ -1,7 +1,7 @@
 -- Worked command lines.
-use Rattle.std.specs.Prelude.{List, [], ◌∷◌, None, Some, codes}
+use Rattle.std.specs.Prelude.{List, [], ◌∷◌, None, Some, false, codes}
 use Rattle.clap.specs.Words.{Text}
-use Rattle.command_line.specs.Asked.{Given}
+use Rattle.command_line.specs.Asked.{Given, Tested}
 
 -- what is given where nothing is
 abbrev pub usual : Given
@@ -21,6 +21,13 @@ threads_with options = codes "nvmesgl" ∷ codes "threads" ∷ options
 
 abbrev pub check_with : List Text → List Text
 check_with options = codes "nvmesgl" ∷ codes "check" ∷ options
+
+abbrev pub test_with : List Text → List Text
+test_with options = codes "nvmesgl" ∷ codes "test" ∷ options
+
+-- one file that is tested
+abbrev pub one_file : Tested
+one_file = record { sizes = usual.config; zeros = usual.blocks; updates = false; files = codes "a" ∷ [] }
 
 -- each option at its end that is farther from the usual value
 abbrev pub extreme_words : List Text

@@ -2,7 +2,7 @@
 
 ghost use Rattle.std.specs.Prelude.{◌≡◌, ◌≤◌, ◌⊎◌, Some, None, IfOk, IfErr, IfSome, IsNone, map, codes, false, true, length};
 ghost use Rattle.clap.specs.Words.{found_of, kind_of, rows_of};
-ghost use Rattle.command_line.specs.Asked.{asked, asked_of, asked_of_name, check_by, given_in, given_of, FitSubmitters, are_submitters, has_jobs, if_submitters, path_of, script_in, submitters_in, threads};
+ghost use Rattle.command_line.specs.Asked.{asked, asked_of, asked_of_name, check_by, files_in, given_in, given_of, FitSubmitters, are_submitters, has_flag, has_jobs, if_submitters, path_of, script_in, submitters_in, tested_in, tested_of, threads};
 ghost use Rattle.clap.specs.declared.error.kind.ErrorKind.TheVariants.{OutOfMemory};
 
 use crate::commands::{
@@ -35,8 +35,21 @@ pub struct Options<'a> {
     pub script: Option<&'a str>,
 }
 
+/// What transcripts are tested with.
+#[derive(Debug, Drop, PartialEq, Eq)]
+pub struct Testing<'a> {
+    /// What a world is opened with, where a transcript does not say otherwise.
+    pub config: Config,
+    /// The zero blocks of its image.
+    pub blocks: u32,
+    /// Whether what came is written into the files that differ.
+    pub updates: bool,
+    /// The paths of the files.
+    pub files: Vec<&'a str>,
+}
+
 /// What a command line asks for.
-#[derive(Clone, Copy, Debug, PartialEq, Eq)]
+#[derive(Debug, Drop, PartialEq, Eq)]
 pub enum CommandLine<'a> {
     /// To play a script of steps.
     Steps(Options<'a>),
@@ -46,6 +59,10 @@ pub enum CommandLine<'a> {
     Check(Option<&'a str>),
     /// To tell the faults of a script of jobs, by its path, for so many submitters, 1 to 16.
     CheckJobs(Option<&'a str>, u16),
+    /// To test transcripts.
+    Test(Testing<'a>),
+    /// To answer one line after the other.
+    Shell(Options<'a>),
     /// To print every verb with its form.
     Grammar,
 }
@@ -76,14 +93,39 @@ fn script<'a>(given: &ArgMatches<'a>) -> Option<&'a str>
     given.get_str("script")
 }
 
-/// Whether the script is one of jobs.
-fn is_of_jobs(given: &ArgMatches<'_>) -> bool
-    ensures { result ≡ has_jobs (rows_of (found_of given.now)) }
+/// Whether an option without a value was given.
+fn flag(given: &ArgMatches<'_>, name: &str) -> bool
+    ensures { result ≡ has_flag name.now (rows_of (found_of given.now)) }
 {
-    match given.get_str("jobs") {
+    match given.get_str(name) {
         Some(text) => text == "true",
         None => false,
     }
+}
+
+/// The files that are named.
+fn files<'a>(alloc: Global, given: &ArgMatches<'a>) -> Result<Vec<&'a str>, AllocError>
+    ensures { IfOk result (λ files. map (λ f. f.now) files.items ≡ files_in (rows_of (found_of given.now))) }
+{
+    match given.get_strs("files") {
+        Some(files) => Vec::from_slice(alloc, files),
+        None => Ok(Vec::new(alloc)),
+    }
+}
+
+/// What `test` with these words asks for.
+fn test_line<'a>(alloc: Global, given: &ArgMatches<'a>) -> Result<CommandLine<'a>, Error>
+    ensures asked { IfOk result (λ line. asked_of_name (codes "test") (rows_of (found_of given.now)) ≡ Some (asked_of line)) }
+    ensures submitters { IfOk result FitSubmitters }
+    ensures refused { IfErr result (λ e. kind_of e ≡ OutOfMemory) }
+{
+    let options = Options::of(given);
+    Ok(CommandLine::Test(Testing {
+        config: options.config,
+        blocks: options.blocks,
+        updates: flag(given, "update"),
+        files: files(alloc, given)?,
+    }))
 }
 
 /// How many submitters there are, if they are 1 to 16.
@@ -135,7 +177,7 @@ fn check_line<'a>(alloc: Global, given: &ArgMatches<'a>) -> Result<CommandLine<'
     ensures refused { IfErr result (λ e. (kind_of e ≡ OutOfMemory) ⊎ (check_by (rows_of (found_of given.now)) ≡ None)) }
 {
     let path = script(given);
-    if !is_of_jobs(given) {
+    if !flag(given, "jobs") {
         return Ok(CommandLine::Check(path));
     }
     match submitters(given) {
@@ -161,6 +203,12 @@ fn line_of<'a>(alloc: Global, name: &str, given: &ArgMatches<'a>) -> Result<Comm
     }
     if name == "check" {
         return check_line(alloc, given);
+    }
+    if name == "test" {
+        return test_line(alloc, given);
+    }
+    if name == "shell" {
+        return Ok(CommandLine::Shell(Options::of(given)));
     }
     if name == "grammar" {
         return Ok(CommandLine::Grammar);

@@ -3,11 +3,12 @@
 ghost use Rattle.std.specs.Prelude.{◌≡◌, IfOk, false, codes};
 ghost use Rattle.clap.specs.Words.{app_of, found_of, rows_of, rule_of};
 ghost use Rattle.clap.specs.declared.builder.command.Command.TheViews.{out-Command};
-ghost use Rattle.command_line.specs.Commands.{check, flag_rule, grammar, number_rule, named, nvmesgl, option_rule, steps, threads, with_options, word_rule};
+ghost use Rattle.command_line.specs.Commands.{check, flag_rule, grammar, number_rule, named, nvmesgl, option_rule, shell, steps, test, threads, with_options, with_sizes, word_rule, words_rule};
 ghost use Rattle.command_line.specs.Asked.{number_under};
 
 use crate::help::{
-    ABOUT, AFTER, CHECK_ABOUT, CHECK_AFTER, STEPS_ABOUT, STEPS_AFTER, THREADS_ABOUT, THREADS_AFTER,
+    ABOUT, AFTER, CHECK_ABOUT, CHECK_AFTER, SHELL_ABOUT, SHELL_AFTER, STEPS_ABOUT, STEPS_AFTER,
+    TEST_ABOUT, TEST_AFTER, THREADS_ABOUT, THREADS_AFTER,
 };
 use clap::{Arg, ArgAction, ArgMatches, Command, value_parser};
 use std::alloc::{AllocError, Global};
@@ -133,9 +134,32 @@ fn jobs_arg<'a>(alloc: Global) -> Arg<'a>
         .help("The script is one of jobs, for `threads`")
 }
 
-/// A command with the options that both have, and the file of its script.
-fn with_options<'a>(alloc: Global, command: Command<'a>) -> Result<Command<'a>, AllocError>
-    ensures shape { IfOk result (λ whole. app_of whole ≡ with_options (app_of command.entry)) }
+/// The words that name the files of transcripts.
+fn files_arg<'a>(alloc: Global) -> Arg<'a>
+    ensures rule { rule_of result ≡ words_rule (codes "files") }
+    ensures local { result.global ≡ false }
+{
+    Arg::new(alloc, "files")
+        .value_name("FILE")
+        .action(ArgAction::Append)
+        .required(true)
+        .help("The files of the transcripts")
+}
+
+/// The option that says that what came is written into the files.
+fn update_arg<'a>(alloc: Global) -> Arg<'a>
+    ensures rule { rule_of result ≡ flag_rule (codes "update") }
+    ensures local { result.global ≡ false }
+{
+    Arg::new(alloc, "update")
+        .long("update")
+        .action(ArgAction::SetTrue)
+        .help("Writes what came into each file that differs")
+}
+
+/// A command with the numbers that a world is opened with.
+fn with_sizes<'a>(alloc: Global, command: Command<'a>) -> Result<Command<'a>, AllocError>
+    ensures shape { IfOk result (λ whole. app_of whole ≡ with_sizes (app_of command.entry)) }
     ensures local { IfOk result (λ whole. (out-Command whole).has_globals ≡ (out-Command command.entry).has_globals) }
 {
     command
@@ -143,7 +167,15 @@ fn with_options<'a>(alloc: Global, command: Command<'a>) -> Result<Command<'a>, 
         .arg(QUEUES.arg(alloc))?
         .arg(ENTRIES.arg(alloc))?
         .arg(SEGMENT.arg(alloc))?
-        .arg(BLOCKS.arg(alloc))?
+        .arg(BLOCKS.arg(alloc))
+}
+
+/// A command with these, an image, and the file of its lines.
+fn with_options<'a>(alloc: Global, command: Command<'a>) -> Result<Command<'a>, AllocError>
+    ensures shape { IfOk result (λ whole. app_of whole ≡ with_options (app_of command.entry)) }
+    ensures local { IfOk result (λ whole. (out-Command whole).has_globals ≡ (out-Command command.entry).has_globals) }
+{
+    with_sizes(alloc, command)?
         .arg(image_arg(alloc))?
         .arg(script_arg(alloc))
 }
@@ -187,6 +219,32 @@ pub(crate) fn check_command<'a>(alloc: Global) -> Result<Command<'a>, AllocError
         .arg(script_arg(alloc))
 }
 
+/// The command that tests transcripts.
+fn test_command<'a>(alloc: Global) -> Result<Command<'a>, AllocError>
+    ensures shape { IfOk result (λ command. app_of command ≡ test) }
+    ensures local { IfOk result (λ command. (out-Command command).has_globals ≡ false) }
+{
+    let command = Command::new(alloc, "test")
+        .about("Plays transcripts, and tells which come out otherwise")
+        .long_about(TEST_ABOUT)
+        .after_help(TEST_AFTER)
+        .arg(update_arg(alloc))?
+        .arg(files_arg(alloc))?;
+    with_sizes(alloc, command)
+}
+
+/// The command that answers one line after the other.
+fn shell_command<'a>(alloc: Global) -> Result<Command<'a>, AllocError>
+    ensures shape { IfOk result (λ command. app_of command ≡ shell) }
+    ensures local { IfOk result (λ command. (out-Command command).has_globals ≡ false) }
+{
+    let command = Command::new(alloc, "shell")
+        .about("Answers one line after the other, each at once")
+        .long_about(SHELL_ABOUT)
+        .after_help(SHELL_AFTER);
+    with_options(alloc, command)
+}
+
 /// The command that prints what a script may say.
 fn grammar_command<'a>(alloc: Global) -> Command<'a>
     ensures shape { app_of result ≡ grammar }
@@ -219,9 +277,13 @@ pub(crate) fn command<'a>(alloc: Global) -> Result<Command<'a>, AllocError>
     let steps = steps_command(alloc)?;
     let threads = threads_command(alloc)?;
     let check = check_command(alloc)?;
+    let test = test_command(alloc)?;
+    let shell = shell_command(alloc)?;
     program(alloc)?
         .subcommand(steps)?
         .subcommand(threads)?
         .subcommand(check)?
+        .subcommand(test)?
+        .subcommand(shell)?
         .subcommand(grammar_command(alloc))
 }

@@ -6,8 +6,9 @@ pub const ABOUT: &str =
 
 It drives no real device. `nvmesgl steps` plays a script over a fresh pool of pages and
 prints what each step answered. `nvmesgl threads` lets several threads do the jobs of a
-script over one pool, and prints how each job ended. `nvmesgl check` tells all faults of a
-script, and `nvmesgl grammar` what a script may say.";
+script over one pool, and prints how each job ended. `nvmesgl shell` answers one step after
+the other. `nvmesgl check` tells all faults of a script, `nvmesgl test` whether scripts still
+answer what stands below their steps, and `nvmesgl grammar` what a script may say.";
 
 /// What `nvmesgl --help` says last.
 pub const AFTER: &str = "One block, read:
@@ -102,3 +103,31 @@ pub const CHECK_AFTER: &str =
     "With --jobs the script is one for `nvmesgl threads` with as many submitters as are given.
 
 Exit status: 0 no fault, 1 the script is at fault, 2 the arguments, 3 memory or the output.";
+
+/// What `nvmesgl test --help` says first.
+pub const TEST_ABOUT: &str = "Plays transcripts, and tells which come out otherwise than they say.
+
+A transcript is a script of steps, and below each step what it answers, each line behind `> `.
+For each file one line is printed: `ok` and the file, or the file and the first difference. The
+options are those of each world, where a transcript does not say others in its first line.";
+
+/// What `nvmesgl test --help` says last.
+pub const TEST_AFTER: &str =
+    "Exit status: 0 all agree, 1 a transcript is at fault, 2 the arguments, 3 memory, the output, or
+a file that is not written, 4 one differs. docs/SCRIPT.md in the repository has the form.";
+
+/// What `nvmesgl shell --help` says first.
+pub const SHELL_ABOUT: &str = "Answers one line after the other, each at once, over one world.
+
+A line is a step of a script, or a word with a dot: `.help` lists them. A line that is at fault
+says so, and the session goes on. On a terminal a prompt stands before each line.";
+
+/// What `nvmesgl shell --help` says last.
+pub const SHELL_AFTER: &str = "Example:
+  printf '.write 1 5 1 ABCD\\n.read 1 5 1\\n' | nvmesgl shell
+prints
+  status 0:00 Successful Completion
+  AB*1,CD*1,00*510
+
+Exit status: 0 done, 1 the input is unreadable, 2 the arguments, the image or the opening, 3
+memory or the output. docs/SCRIPT.md and docs/TEACHING.md in the repository have more.";

@@ -11,6 +11,6 @@ mod help;
 mod ranges;
 pub mod worked;
 
-pub use arguments::{CommandLine, Options, words};
+pub use arguments::{CommandLine, Options, Testing, words};
 pub use commands::VERSION;
 pub use ranges::Ranged;

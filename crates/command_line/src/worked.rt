@@ -1,8 +1,8 @@
 //! Worked command lines. Each function computes some.
 
-ghost use Rattle.std.specs.Prelude.{◌≡◌, ℕ, List, None, Some, [], ◌∷◌, ◌++◌, codes};
-ghost use Rattle.command_line.specs.Asked.{asked, check, check_jobs, grammar, steps, threads};
-ghost use Rattle.command_line.specs.Worked.{check_with, extreme, extreme_words, mixed, mixed_words, steps_with, threads_with, usual};
+ghost use Rattle.std.specs.Prelude.{◌≡◌, ℕ, List, None, Some, [], ◌∷◌, ◌++◌, true, codes};
+ghost use Rattle.command_line.specs.Asked.{asked, check, check_jobs, grammar, shell, steps, test, threads};
+ghost use Rattle.command_line.specs.Worked.{check_with, extreme, extreme_words, mixed, mixed_words, one_file, steps_with, test_with, threads_with, usual};
 
 /// Each option is what its words say, and its usual value where there are none.
 #[tactic(auto, unfolding(clap::proofs::OnLiterals::clap_on_literals))]
@@ -37,6 +37,17 @@ pub fn nothing_is_run()
     ensures no_pages { asked (check_with (codes "--pages" ∷ codes "8" ∷ [])) ≡ None }
     ensures grammar { asked (codes "nvmesgl" ∷ codes "grammar" ∷ []) ≡ Some grammar }
     ensures no_word { asked (codes "nvmesgl" ∷ codes "grammar" ∷ codes "ring" ∷ []) ≡ None }
+{}
+
+/// What `test` and `shell` ask for.
+#[tactic(auto, unfolding(clap::proofs::OnLiterals::clap_on_literals))]
+pub fn files_are_tested()
+    ensures one { asked (test_with (codes "a" ∷ [])) ≡ Some (test one_file) }
+    ensures more { asked (test_with (codes "a" ∷ codes "--update" ∷ codes "b" ∷ [])) ≡ Some (test (record one_file { updates = true; files = codes "a" ∷ codes "b" ∷ [] })) }
+    ensures blocks { asked (test_with (codes "--blocks" ∷ codes "3" ∷ codes "a" ∷ [])) ≡ Some (test (record one_file { zeros = 3 })) }
+    ensures no_file { asked (test_with []) ≡ None }
+    ensures shell { asked (codes "nvmesgl" ∷ codes "shell" ∷ []) ≡ Some (shell usual) }
+    ensures mixed_shell { asked (codes "nvmesgl" ∷ codes "shell" ∷ mixed_words) ≡ Some (shell mixed) }
 {}
 
 /// Words that ask for no command.

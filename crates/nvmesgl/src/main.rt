@@ -5,8 +5,9 @@
 #![tactic(auto)]
 
 use program::run;
+use std::io::IsTerminal;
 use std::process::ExitCode;
 
 fn main(rt: HostRuntime) -> ExitCode {
-    run(&rt)
+    run(&rt, rt.stdin().is_terminal())
 }

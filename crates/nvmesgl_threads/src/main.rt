@@ -5,5 +5,5 @@ use program::run;
 use std::process::ExitCode;
 
 fn main(rt: HostRuntime) -> ExitCode {
-    run(&rt)
+    run(&rt, false)
 }

@@ -4,7 +4,7 @@ use Rattle.std.specs.Io.KnownBytes.{Keeps}
 use Rattle.std.specs.Str.{bytes_eq}
 use Rattle.block_image.specs.Blocks.{most_blocks}
 use Rattle.clap.specs.Words.{Text}
-use Rattle.command_line.specs.Asked.{Asked, Given, check, check_jobs, grammar, steps, threads}
+use Rattle.command_line.specs.Asked.{Asked, Given, check, check_jobs, grammar, shell, steps, test, threads}
 use Rattle.job_cli.specs.JobRuns.{EndsJobsWith, HasJobs, IsJobsText, IsNoJobs, WritesJobs}
 use Rattle.job_cli.specs.declared.jobs.JobLine.{JobLine}
 use Rattle.program.specs.declared.fault.Fault.{Fault}
@@ -31,7 +31,7 @@ script_told None told = told
 script_told (Some path) told = if bytes_eq path (codes "-") then told else None
 
 -- What is written where all goes well: the text of a run of the script, over the configuration and the image that are given; nothing where help is asked for, and
--- nothing of a script that is checked and has no fault. Of the text of the grammar nothing is said.
+-- nothing of a script that is checked and has no fault. Of what `test` and `shell` write and of the text of the grammar nothing is said.
 abbrev pub Performs : Option (List ℕ) → Option Asked → Option (List ℕ) → Option (List ℕ) → Type 0
 Performs told None before after = Keeps before after
 Performs told (Some (steps given)) before after =
@@ -40,6 +40,8 @@ Performs told (Some (threads given submitters)) before after =
     (image : List ℕ) × IsFirstImage given image × WritesJobs (script_told given.script told) submitters given.config image before after IsJobsText
 Performs told (Some (check path)) before after = ((script : List Numbered) × HasScript (script_told path told) script) × Keeps before after
 Performs told (Some (check_jobs path submitters)) before after = ((lines : List JobLine) × HasJobs (script_told path told) submitters lines) × Keeps before after
+Performs told (Some (test tested)) before after = Unit {0}
+Performs told (Some (shell given)) before after = Unit {0}
 Performs told (Some grammar) before after = Unit {0}
 
 -- why the grammar was not written
@@ -52,16 +54,34 @@ IsRunFault (fault.Run why) Holds = Holds why
 IsRunFault (fault.Arguments why) Holds = ⊥
 IsRunFault (fault.Image why) Holds = ⊥
 IsRunFault fault.PipeClosed Holds = ⊥
+IsRunFault (fault.Transcripts tally) Holds = ⊥
+
+-- why transcripts were not all good, or not all tested
+abbrev pub IsTestFault : Fault → Type 0
+IsTestFault (fault.Run why) = Unit {0}
+IsTestFault (fault.Arguments why) = ⊥
+IsTestFault (fault.Image why) = ⊥
+IsTestFault fault.PipeClosed = ⊥
+IsTestFault (fault.Transcripts tally) = Unit {0}
 
 -- what a fault says, and what was then written; only words that ask for no command are at fault themselves
 abbrev pub FailsWith : Option (List ℕ) → Option Asked → Option (List ℕ) → Option (List ℕ) → Fault → Type 0
 FailsWith told None before after why = Keeps before after
 FailsWith told (Some what) before after (fault.Arguments why) = ⊥
 FailsWith told (Some what) before after fault.PipeClosed = ⊥
+FailsWith told (Some (steps given)) before after (fault.Transcripts tally) = ⊥
+FailsWith told (Some (threads given submitters)) before after (fault.Transcripts tally) = ⊥
+FailsWith told (Some (check path)) before after (fault.Transcripts tally) = ⊥
+FailsWith told (Some (check_jobs path submitters)) before after (fault.Transcripts tally) = ⊥
+FailsWith told (Some (test tested)) before after (fault.Transcripts tally) = Unit {0}
+FailsWith told (Some (shell given)) before after (fault.Transcripts tally) = ⊥
+FailsWith told (Some grammar) before after (fault.Transcripts tally) = ⊥
 FailsWith told (Some (steps given)) before after (fault.Image why) = IsNoFirstImage given why × Keeps before after
 FailsWith told (Some (threads given submitters)) before after (fault.Image why) = IsNoFirstImage given why × Keeps before after
 FailsWith told (Some (check path)) before after (fault.Image why) = ⊥
 FailsWith told (Some (check_jobs path submitters)) before after (fault.Image why) = ⊥
+FailsWith told (Some (test tested)) before after (fault.Image why) = ⊥
+FailsWith told (Some (shell given)) before after (fault.Image why) = IsNoFirstImage given why × Keeps before after
 FailsWith told (Some grammar) before after (fault.Image why) = ⊥
 FailsWith told (Some (steps given)) before after (fault.Run why) =
     (image : List ℕ) × IsFirstImage given image × EndsWith (script_told given.script told) given.config image before after why
@@ -69,4 +89,6 @@ FailsWith told (Some (threads given submitters)) before after (fault.Run why) =
     (image : List ℕ) × IsFirstImage given image × EndsJobsWith (script_told given.script told) submitters given.config image before after why
 FailsWith told (Some (check path)) before after (fault.Run why) = IsNoScript (script_told path told) why × Keeps before after
 FailsWith told (Some (check_jobs path submitters)) before after (fault.Run why) = IsNoJobs (script_told path told) submitters why × Keeps before after
+FailsWith told (Some (test tested)) before after (fault.Run why) = Unit {0}
+FailsWith told (Some (shell given)) before after (fault.Run why) = Unit {0}
 FailsWith told (Some grammar) before after (fault.Run why) = IsNoGrammar why

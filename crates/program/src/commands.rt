@@ -1,10 +1,10 @@
 //! The program's commands.
 
 ghost use Rattle.std.specs.Prelude.{◌≡◌, ◌≤◌, List, Some, IfErr, OnOk, map};
-ghost use Rattle.command_line.specs.Asked.{asked, given_of, path_of, steps, threads};
+ghost use Rattle.command_line.specs.Asked.{asked, given_of, path_of, shell, steps, threads};
 ghost use Rattle.job_cli.specs.JobRuns.{HasJobs, IsNoJobs};
 ghost use Rattle.job_cli.specs.declared.jobs.JobLine.{JobLine};
-ghost use Rattle.program.specs.Performing.{FailsWith, IsNoGrammar, IsRunFault, Performs, script_told};
+ghost use Rattle.program.specs.Performing.{FailsWith, IsNoGrammar, IsRunFault, IsTestFault, Performs, script_told};
 ghost use Rattle.script_cli.specs.Runs.{HasScript, IsNoScript};
 ghost use Rattle.script_cli.specs.declared.script.Numbered.{Numbered};
 
@@ -13,10 +13,11 @@ use crate::checking::{check_jobs, check_steps};
 use crate::fault::{Fault, Told};
 use crate::inputs::{open_image, script_text};
 use crate::pipe::Pipe;
-use command_line::{CommandLine, Options, words};
+use command_line::{CommandLine, Options, Testing, words};
 use fault_text::{Grammar, grammar_text};
 use job_cli::run_jobs;
-use script_cli::{RunFault, flush, put, run_steps};
+use script_cli::{MAX_SCRIPT, RunFault, flush, put, run_steps};
+use shell::run_shell;
 use std::alloc::{AllocGlobal, Global};
 use std::convert::AsStr;
 use std::env::Env;
@@ -26,12 +27,14 @@ use std::process::ExitCode;
 use std::rt::Files;
 use std::sync::Wait;
 use std::thread::Threads;
+use transcripts::test_files;
 
-/// Does what the command line asks for, over standard input and output. A fault is told on standard error.
+/// Does what the command line asks for, over standard input and output, and prompts where it is a terminal. A fault is told on standard error.
 pub fn run<R: AllocGlobal + Env + Eprint + Files + Input + Print + Sync + Threads + Wait>(
     rt: &R,
+    is_terminal: bool,
 ) -> ExitCode {
-    match start(rt) {
+    match start(rt, is_terminal) {
         Ok(()) => ExitCode::SUCCESS,
         Err(told) => {
             // Where standard error is closed, the exit status alone tells.
@@ -44,6 +47,7 @@ pub fn run<R: AllocGlobal + Env + Eprint + Files + Input + Print + Sync + Thread
 /// Performs the words of the command line.
 fn start<R: AllocGlobal + Env + Eprint + Files + Input + Print + Sync + Threads + Wait>(
     rt: &R,
+    is_terminal: bool,
 ) -> Result<(), Told<Fault>> {
     let words = match words(rt) {
         Ok(words) => words,
@@ -51,7 +55,7 @@ fn start<R: AllocGlobal + Env + Eprint + Files + Input + Print + Sync + Threads 
     };
     let mut reader = rt.reader();
     let mut writer = Pipe::over(io::writer(rt));
-    let end = perform(rt, words.as_slice(), &mut reader, &mut writer);
+    let end = perform(rt, words.as_slice(), &mut reader, &mut writer, is_terminal);
     match end {
         Err(
             Told {
@@ -67,7 +71,7 @@ fn start<R: AllocGlobal + Env + Eprint + Files + Input + Print + Sync + Threads 
 }
 
 /// Does what words ask for, with the script of a reader where no file has it. What a run prints goes to the writer, a help text to
-/// standard output.
+/// standard output. On a terminal the shell prompts.
 ///
 /// # Errors
 ///
@@ -77,7 +81,7 @@ pub fn perform<
     S: AsStr,
     I: Read,
     W: Write,
->(rt: &R, words: &[S], reader: &mut I, writer: &mut W) -> Result<(), Told<Fault>>
+>(rt: &R, words: &[S], reader: &mut I, writer: &mut W, is_terminal: bool) -> Result<(), Told<Fault>>
     ensures ran { OnOk result (Performs (I.remaining reader.old) (asked (map S.text words.now)) (W.contents writer.old) (W.contents writer.new)) }
     ensures failed { IfErr result (λ told. FailsWith (I.remaining reader.old) (asked (map S.text words.now)) (W.contents writer.old) (W.contents writer.new) told.fault) }
 {
@@ -90,6 +94,8 @@ pub fn perform<
         Ok(CommandLine::CheckJobs(path, submitters)) => {
             look_at_jobs(rt, path, submitters, reader)
         }
+        Ok(CommandLine::Test(testing)) => test(rt, &testing, writer),
+        Ok(CommandLine::Shell(options)) => talk(rt, options, reader, writer, is_terminal),
         Ok(CommandLine::Grammar) => print_grammar(rt.alloc(), writer),
         Err(why) => Fault::shown(rt, why),
     }
@@ -182,6 +188,57 @@ fn look_at_jobs<R: AllocGlobal + Files, I: Read>(
     let text = script_text(rt, path, reader)?;
     check_jobs(rt.alloc(), &text, submitters)?;
     Ok(())
+}
+
+/// Tests the transcripts of files.
+fn test<R: AllocGlobal + Files, W: Write>(
+    rt: &R,
+    testing: &Testing<'_>,
+    writer: &mut W,
+) -> Result<(), Told<Fault>>
+    ensures fault { IfErr result (λ told. IsTestFault told.fault) }
+{
+    let usual = transcripts::Options {
+        config: testing.config,
+        blocks: testing.blocks,
+    };
+    let fault = match test_files(rt, &testing.files, usual, testing.updates, writer) {
+        Ok(tally) if tally.exit_status() == 0 => return Ok(()),
+        Ok(tally) => Fault::Transcripts(tally),
+        Err(fault) => Fault::Run(fault),
+    };
+    Err(Told::alone(rt.alloc(), fault))
+}
+
+/// Answers the lines of a reader, or of a file.
+fn talk<R: AllocGlobal + Files, I: Read, W: Write>(
+    rt: &R,
+    options: Options<'_>,
+    reader: &mut I,
+    writer: &mut W,
+    is_terminal: bool,
+) -> Result<(), Told<Fault>>
+    ensures failed { IfErr result (λ told. FailsWith (I.remaining reader.old) (Some (shell (given_of options.entry))) (W.contents writer.old) (W.contents writer.new) told.fault) }
+{
+    let alloc = rt.alloc();
+    let image = open_image(rt, &options)?;
+    let config = options.config;
+    let end = match options.script {
+        Some(path) if path != "-" => {
+            let text = script_text(rt, options.script, reader)?;
+            if text.len() > MAX_SCRIPT {
+                Err(RunFault::TooLong)
+            } else {
+                let mut lines = text.as_slice();
+                run_shell(alloc, config, image, &mut lines, writer, false)
+            }
+        }
+        _ => run_shell(alloc, config, image, reader, writer, is_terminal),
+    };
+    match end {
+        Ok(()) => Ok(()),
+        Err(fault) => Err(Told::alone(alloc, Fault::Run(fault))),
+    }
 }
 
 /// Prints what a script may say.

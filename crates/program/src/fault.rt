@@ -9,6 +9,7 @@ use clap::error::ErrorKind;
 use script_cli::{ImageFault, RunFault};
 use std::alloc::{AllocGlobal, Global};
 use std::io;
+use transcripts::Tally;
 
 /// Why a run did not end well: its line on standard error, and its exit status.
 #[derive(Debug, Drop)]
@@ -21,6 +22,8 @@ pub enum Fault {
     Run(RunFault),
     /// Who reads the output closed it early. Nothing is told.
     PipeClosed,
+    /// Transcripts came out otherwise, or are at fault. The output told it.
+    Transcripts(Tally),
 }
 
 /// A fault, and the lines that stand below its own on standard error.
@@ -73,6 +76,7 @@ impl Fault {
             Fault::Image(fault) => fault.exit_status(),
             Fault::Run(fault) => fault.exit_status(),
             Fault::PipeClosed => RunFault::OutputFailed.exit_status(),
+            Fault::Transcripts(tally) => tally.exit_status(),
         }
     }
 }
@@ -93,7 +97,7 @@ impl Told<Fault> {
             Fault::Arguments(why) => why.print(rt)?,
             Fault::Image(fault) => eprintln!(rt; "{fault}")?,
             Fault::Run(fault) => eprintln!(rt; "{fault}")?,
-            Fault::PipeClosed => {}
+            Fault::PipeClosed | Fault::Transcripts(_) => {}
         }
         let below = self.below.as_str();
         eprint!(rt; "{below}")

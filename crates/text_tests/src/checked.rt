@@ -134,7 +134,7 @@ fn a_failing_reader_is_told(rt: HostRuntime) -> Result<(), Fail> {
             };
             let mut writer = Vec::new(rt.alloc());
             let words = ["nvmesgl", command];
-            let end = perform(&rt, &words, &mut reader, &mut writer);
+            let end = perform(&rt, &words, &mut reader, &mut writer, false);
             let fault = end.err().map(|told| told.fault.exit_status());
             same_at(&rt, cut, (fault, writer.len()), (Some(1), 0));
         }

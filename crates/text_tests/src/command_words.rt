@@ -177,7 +177,7 @@ fn end<R: AllocGlobal + Eprint + Files + Print + Sync + Threads + Wait>(
 ) -> &'static str {
     let mut reader = b"".as_slice();
     let mut writer = Vec::new(rt.alloc());
-    match perform(rt, words, &mut reader, &mut writer) {
+    match perform(rt, words, &mut reader, &mut writer, false) {
         Ok(()) => "done",
         Err(told) => match told.fault {
             Fault::Arguments(_) => "arguments",

@@ -16,7 +16,7 @@ pub(crate) fn told_of<R: AllocGlobal + Eprint + Files + Print + Sync + Threads +
 ) -> Result<String, Fail> {
     let mut reader = script;
     let mut writer = Vec::new(rt.alloc());
-    let Err(told) = perform(rt, words, &mut reader, &mut writer) else {
+    let Err(told) = perform(rt, words, &mut reader, &mut writer, false) else {
         return Ok(String::from_str(rt.alloc(), "done\n")?);
     };
     let status = told.fault.exit_status();
@@ -27,6 +27,7 @@ pub(crate) fn told_of<R: AllocGlobal + Eprint + Files + Print + Sync + Threads +
         Fault::Run(fault) => format!(in rt.alloc(); "{fault}\n{below}{status}\n")?,
         Fault::Arguments(why) => format!(in rt.alloc(); "{why}{status}\n")?,
         Fault::PipeClosed => String::from_str(rt.alloc(), "closed\n")?,
+        Fault::Transcripts(_) => format!(in rt.alloc(); "{below}{status}\n")?,
     })
 }
 

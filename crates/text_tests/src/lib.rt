@@ -27,6 +27,8 @@ mod job_scripts;
 #[cfg(test)]
 mod options_told;
 #[cfg(test)]
+mod performed;
+#[cfg(test)]
 mod same_faults;
 #[cfg(test)]
 mod script_playing;

@@ -159,7 +159,7 @@ fn a_file_is_played(rt: HostRuntime) -> Result<(), Fail> {
     let mut reader = b"ring 1\n".as_slice();
     let mut writer = Vec::new(rt.alloc());
     let words = ["nvmesgl", "steps", path];
-    let end = perform(&rt, &words, &mut reader, &mut writer);
+    let end = perform(&rt, &words, &mut reader, &mut writer, false);
     fs::remove_file(&rt, path)?;
     same(&rt, end.is_ok(), true);
     same(&rt, reader, b"ring 1\n".as_slice());
@@ -175,7 +175,7 @@ fn the_grammar_is_printed(rt: HostRuntime) -> Result<(), Fail> {
     let words = ["nvmesgl", "grammar"];
     same(
         &rt,
-        perform(&rt, &words, &mut reader, &mut writer).is_ok(),
+        perform(&rt, &words, &mut reader, &mut writer, false).is_ok(),
         true,
     );
     let text = grammar_text(rt.alloc())?;

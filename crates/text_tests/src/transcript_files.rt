@@ -9,7 +9,7 @@ use std::test::Fail;
 use transcripts::{Options, Outcome, Tally, test_files, test_transcript};
 
 /// One that agrees.
-const GOOD: &str = "# A bell.
+pub(crate) const GOOD: &str = "# A bell.
 ring 1
 > ring ok
 ring 0
@@ -18,7 +18,7 @@ ring 0
 ";
 
 /// The same with other answers, and one too many; a comment stands between.
-const OTHER: &str = "# A bell.
+pub(crate) const OTHER: &str = "# A bell.
 ring 1
 # It is heard.
 > ring refused
@@ -27,7 +27,7 @@ ring 0
 ";
 
 /// That one with the answers that came.
-const MENDED: &str = "# A bell.
+pub(crate) const MENDED: &str = "# A bell.
 ring 1
 # It is heard.
 > ring ok
@@ -99,7 +99,7 @@ fn options_are_the_caller_s(rt: HostRuntime) -> Result<(), Fail> {
 }
 
 /// A path in the folder for files of a while.
-fn path(rt: &HostRuntime, name: &str) -> Result<String, Fail> {
+pub(crate) fn path(rt: &HostRuntime, name: &str) -> Result<String, Fail> {
     let id = std::process::id(rt.process());
     Ok(format!(in rt.alloc(); "/tmp/nvmesgl-{id}-{name}")?)
 }

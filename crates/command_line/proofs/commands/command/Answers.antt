@@ -11,5 +11,9 @@ returns c =
     ∙ ap₂ with_subcommand one (ap (λ (a : App). a.top) c.in_ok-threads.ensures.shape) in
     let three = c.in_ok-subcommand-3.ensures.shape c.in_ok-check.ensures.local
     ∙ ap₂ with_subcommand two (ap (λ (a : App). a.top) c.in_ok-check.ensures.shape) in
-    IfOk-weaker c.subcommand-4.result _ _ (λ new adds. adds.shape c.grammar_command.ensures.local
-    ∙ ap₂ with_subcommand three (ap (λ (a : App). a.top) c.grammar_command.ensures.shape)) c.subcommand-4.ensures
+    let four = c.in_ok-subcommand-4.ensures.shape c.in_ok-test.ensures.local
+    ∙ ap₂ with_subcommand three (ap (λ (a : App). a.top) c.in_ok-test.ensures.shape) in
+    let five = c.in_ok-subcommand-5.ensures.shape c.in_ok-shell.ensures.local
+    ∙ ap₂ with_subcommand four (ap (λ (a : App). a.top) c.in_ok-shell.ensures.shape) in
+    IfOk-weaker c.subcommand-6.result _ _ (λ new adds. adds.shape c.grammar_command.ensures.local
+    ∙ ap₂ with_subcommand five (ap (λ (a : App). a.top) c.grammar_command.ensures.shape)) c.subcommand-6.ensures

@@ -1,0 +1,113 @@
+//! The commands `test` and `shell`, from their words to what is written.
+
+use crate::expecting::same;
+use crate::transcript_files::{GOOD, MENDED, OTHER, path};
+use program::perform;
+use std::fs;
+use std::test::Fail;
+
+/// What words write with these lines on standard input, and the exit status.
+fn performed(
+    rt: &HostRuntime,
+    words: &[&str],
+    typed: &[u8],
+    is_terminal: bool,
+) -> Result<(String, u8), Fail> {
+    let mut reader = typed;
+    let mut writer = Vec::new(rt.alloc());
+    let status = match perform(rt, words, &mut reader, &mut writer, is_terminal) {
+        Ok(()) => 0,
+        Err(told) => told.fault.exit_status(),
+    };
+    match String::from_utf8(writer) {
+        Ok(text) => Ok((text, status)),
+        Err(_) => Err(Fail::from("text that is not UTF-8")),
+    }
+}
+
+#[test]
+fn the_files_of_the_words_are_tested(rt: HostRuntime) -> Result<(), Fail> {
+    let good = path(&rt, "words-good")?;
+    let other = path(&rt, "words-other")?;
+    let (good, other) = (good.as_str(), other.as_str());
+    fs::write(&rt, good, GOOD)?;
+    fs::write(&rt, other, OTHER)?;
+    let (text, status) = performed(&rt, &["nvmesgl", "test", good, other], b"", false)?;
+    let wanted = format!(in rt.alloc();
+        "ok {good}\n{other}: line 4: wanted ring refused, came ring ok\n"
+    )?;
+    same(&rt, text.as_str(), wanted.as_str());
+    same(&rt, status, 4);
+    let words = ["nvmesgl", "test", "--update", other];
+    let (text, status) = performed(&rt, &words, b"", false)?;
+    let wanted = format!(in rt.alloc(); "updated {other}\n")?;
+    same(&rt, text.as_str(), wanted.as_str());
+    same(&rt, status, 0);
+    let mended = fs::read_to_string(&rt, other)?;
+    same(&rt, mended.as_str(), MENDED);
+    let words = ["nvmesgl", "test", "--pages", "32", good];
+    let (text, status) = performed(&rt, &words, b"", false)?;
+    let wanted = format!(in rt.alloc();
+        "{good}: line 6: wanted counts free 12 queue 4 chain 0 data 0, came counts free 28 queue 4 chain 0 data 0\n"
+    )?;
+    same(&rt, text.as_str(), wanted.as_str());
+    same(&rt, status, 4);
+    fs::remove_file(&rt, good)?;
+    fs::remove_file(&rt, other)?;
+    let (_, status) = performed(&rt, &["nvmesgl", "test", good], b"", false)?;
+    same(&rt, status, 1);
+    let (text, status) = performed(&rt, &["nvmesgl", "test"], b"", false)?;
+    same(&rt, text.as_str(), "");
+    same(&rt, status, 2);
+    Ok(())
+}
+
+/// What the shell answers to its words and to what is typed.
+const TALKS: [(&[&str], &str, bool, &str, u8); 8] = [
+    (&[], "ring 1\n", false, "1 ring ok\n", 0),
+    (
+        &[],
+        "ring 1\n",
+        true,
+        "nvmesgl> 1 ring ok\nnvmesgl> \n",
+        0,
+    ),
+    (&["-"], "ring 1\n", false, "1 ring ok\n", 0),
+    (
+        &["--pages=8"],
+        ".counts\n",
+        false,
+        "counts free 4 queue 4 chain 0 data 0\n",
+        0,
+    ),
+    (&["--pages", "7"], "ring 1\n", true, "", 2),
+    (&["--blocks=65537"], "ring 1\n", true, "", 2),
+    (&["no.script"], "ring 1\n", true, "", 1),
+    (&["--submitters=2"], "ring 1\n", true, "", 2),
+];
+
+#[test]
+fn the_shell_answers(rt: HostRuntime) -> Result<(), Fail> {
+    for (given, typed, is_terminal, wanted, wanted_status) in TALKS {
+        let mut words = vec![in rt.alloc(); "nvmesgl", "shell"]?;
+        words.extend_from_slice(given)?;
+        let (text, status) = performed(&rt, &words, typed.as_bytes(), is_terminal)?;
+        same(&rt, text.as_str(), wanted);
+        same(&rt, status, wanted_status);
+    }
+    Ok(())
+}
+
+/// A file's lines are answered without a prompt, and standard input is not read.
+#[test]
+fn the_shell_answers_a_file(rt: HostRuntime) -> Result<(), Fail> {
+    let lines = path(&rt, "words-lines")?;
+    let lines = lines.as_str();
+    fs::write(&rt, lines, "ring 1\nring 0\n")?;
+    let words = ["nvmesgl", "shell", lines];
+    let (text, status) = performed(&rt, &words, b".counts\n", true)?;
+    fs::remove_file(&rt, lines)?;
+    same(&rt, text.as_str(), "1 ring ok\n2 ring ok\n");
+    same(&rt, status, 0);
+    Ok(())
+}
