@@ -65,13 +65,7 @@ fn the_files_of_the_words_are_tested(rt: HostRuntime) -> Result<(), Fail> {
 /// What the shell answers to its words and to what is typed.
 const TALKS: [(&[&str], &str, bool, &str, u8); 8] = [
     (&[], "ring 1\n", false, "1 ring ok\n", 0),
-    (
-        &[],
-        "ring 1\n",
-        true,
-        "nvmesgl> 1 ring ok\nnvmesgl> \n",
-        0,
-    ),
+    (&[], "ring 1\n", true, "nvmesgl> 1 ring ok\nnvmesgl> \n", 0),
     (&["-"], "ring 1\n", false, "1 ring ok\n", 0),
     (
         &["--pages=8"],
