@@ -72,7 +72,7 @@ unwritten_told : (told : Option (List ℕ)) (submitters : ℕ) (text : List ℕ)
     → EndsUnwritten (Some text) submitters config why a b → EndsUnwritten told submitters config why a b
 unwritten_told told submitters text config why a b first (lines, has, refused, keeps) = (lines, has_jobs_told told submitters text lines first has, refused, keeps)
 
-pub writes_jobs_told : (told : Option (List ℕ)) (submitters : ℕ) (text : List ℕ) (config : Config) (image : List ℕ) (a b : Option (List ℕ)) (Holds : State → List JobLine → List ℕ → Type 0)
+pub writes_jobs_told : (told : Option (List ℕ)) (submitters : ℕ) (text : List ℕ) (config : Config) (image : List ℕ) (a b : Option (List ℕ)) (Holds : Config → List ℕ → List JobLine → List ℕ → Type 0)
     → AreFirstOf 1048576 told text → WritesJobs (Some text) submitters config image a b Holds → WritesJobs told submitters config image a b Holds
 writes_jobs_told told submitters text config image a b Holds first (lines, has, gains) = (lines, has_jobs_told told submitters text lines first has, gains)
 
