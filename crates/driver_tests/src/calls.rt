@@ -3,10 +3,11 @@
 ghost use Rattle.std.specs.Prelude.{◌≡◌};
 ghost use Rattle.step_core.specs.Opening.{opening_of};
 
+use crate::full::Full;
 use crate::looks::see;
 use crate::part::{Part, USUAL, opened, play_text, run};
 use block_image::Image;
-use driver_book::{Book, FullDriver};
+use driver_book::{Book, Driver, FullDriver};
 use driver_desk::{Access, Desk};
 use entry_codec::Status;
 use std::alloc::Global;
@@ -428,7 +429,7 @@ fn can_do<L: FullDriver, R: Abort + Wait>(
 
 /// Plays a Read through a book, and sees between its steps what the controller can do, whether a completion waits, and whether it can be
 /// collected. No look makes an entry in the log.
-fn look<L: FullDriver, R: Abort + Wait>(
+fn look<L: Driver, R: Abort + Wait>(
     rt: &R,
     alloc: Global,
     config: Config,
@@ -440,7 +441,7 @@ fn look<L: FullDriver, R: Abort + Wait>(
     requires number { blank.parts ≡ 65536 }
     requires opening { L.opening ≡ opening_of config image }
 {
-    let book = opened::<L, R>(rt, alloc, config, image, blank);
+    let book = opened::<Full<L>, R>(rt, alloc, config, image, blank);
     let mut desk = Desk::new(rt, alloc, alloc, Access::Book(book));
     assert!(rt; desk.sit() == Ok(true));
     can_do(rt, &mut desk, None, None);

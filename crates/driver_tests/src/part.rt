@@ -4,9 +4,10 @@ ghost use Rattle.std.specs.Prelude.{◌≡◌};
 ghost use Rattle.step_core.specs.Opening.{opening_of};
 
 use crate::closes::{close, close_each, keep_back, stay_open};
+use crate::full::Full;
 use crate::looks::{Told, alter, has_receipts, see};
 use block_image::Image;
-use driver_book::{Book, CloseFault, FullDriver};
+use driver_book::{Book, CloseFault, Driver, FullDriver};
 use driver_desk::{Access, Desk};
 use driver_threads::Shared;
 use entry_codec::Status;
@@ -102,7 +103,7 @@ pub(crate) fn opened<L: FullDriver, R: Abort>(
 }
 
 /// Does the parts of a run at a desk with a new book, and ends the book: how many entries its log had.
-fn through_book<L: FullDriver, R: Abort + Wait>(
+fn through_book<L: Driver, R: Abort + Wait>(
     rt: &R,
     alloc: Global,
     config: Config,
@@ -115,14 +116,14 @@ fn through_book<L: FullDriver, R: Abort + Wait>(
     requires number { blank.parts ≡ 65536 }
     requires opening { L.opening ≡ opening_of config image }
 {
-    let book = opened::<L, R>(rt, alloc, config, image, blank);
+    let book = opened::<Full<L>, R>(rt, alloc, config, image, blank);
     let mut desk = Desk::new(rt, alloc, alloc, Access::Book(book));
     play_parts(rt, &mut desk, parts);
     desk.end()
 }
 
 /// Does the parts of a run at a desk with a new book behind its lock, and ends the book: how many entries its log had.
-fn behind_lock<L: FullDriver, R: Abort + Wait>(
+fn behind_lock<L: Driver, R: Abort + Wait>(
     rt: &R,
     alloc: Global,
     config: Config,
@@ -135,7 +136,7 @@ fn behind_lock<L: FullDriver, R: Abort + Wait>(
     requires number { blank.parts ≡ 65536 }
     requires opening { L.opening ≡ opening_of config image }
 {
-    let shared = Shared::new(opened::<L, R>(rt, alloc, config, image, blank));
+    let shared = Shared::new(opened::<Full<L>, R>(rt, alloc, config, image, blank));
     let mut desk = Desk::new(rt, alloc, alloc, Access::Lock(shared));
     play_parts(rt, &mut desk, parts);
     desk.end()

@@ -3,12 +3,13 @@
 ghost use Rattle.std.specs.Prelude.{◌≡◌};
 ghost use Rattle.step_core.specs.Opening.{opening_of};
 
+use crate::full::Full;
 use crate::looks::{Told, counts, see, tell};
 use crate::opening::end;
 use crate::part::{USUAL, opened};
 use crate::runs::job;
 use block_image::Image;
-use driver_book::{FullDriver, Seat};
+use driver_book::{Driver, FullDriver, Seat};
 use driver_threads::{Job, Shared};
 use entry_codec::Status;
 use io_commands::{Kind, Request, Ticket};
@@ -147,7 +148,7 @@ fn close<L: FullDriver, R: Abort + Wait>(rt: &R, alloc: Global, shared: &Shared<
 }
 
 /// A Read of one thread and a reset of another, over a new book, whose log has the five steps that they made.
-fn read_and_reset<L: FullDriver + Send + Sync, R: Abort + Threads + Wait + Sync>(
+fn read_and_reset<L: Driver + Send + Sync, R: Abort + Threads + Wait + Sync>(
     rt: &R,
     alloc: Global,
     config: Config,
@@ -160,7 +161,7 @@ fn read_and_reset<L: FullDriver + Send + Sync, R: Abort + Threads + Wait + Sync>
     requires number { blank.parts ≡ 65536 }
     requires opening { L.opening ≡ opening_of config image }
 {
-    let shared = Shared::new(opened::<L, R>(rt, alloc, config, image, blank));
+    let shared = Shared::new(opened::<Full<L>, R>(rt, alloc, config, image, blank));
     let meeting = Meeting {
         submitted: AtomicBool::new(false),
         reset: AtomicBool::new(false),

@@ -3,12 +3,13 @@
 ghost use Rattle.std.specs.Prelude.{◌≡◌};
 ghost use Rattle.step_core.specs.Opening.{opening_of};
 
+use crate::full::Full;
 use crate::looks::{counts, see};
 use crate::opening::end;
 use crate::part::{USUAL, opened};
 use crate::runs::job;
 use block_image::Image;
-use driver_book::FullDriver;
+use driver_book::{Driver, FullDriver};
 use driver_threads::{
     Job, JobEnd, JobRefusal, Open, Shared, Worked, controller, poller, submitter,
 };
@@ -52,7 +53,7 @@ fn see_stopped<L: FullDriver, R: Abort + Wait>(rt: &R, shared: &Shared<L>, alloc
 }
 
 /// Workers whose queue is being deleted, and that are told to stop: the log has one entry, that of the deletion.
-fn turn_away<L: FullDriver, R: Abort + Wait>(
+fn turn_away<L: Driver, R: Abort + Wait>(
     rt: &R,
     alloc: Global,
     config: Config,
@@ -64,7 +65,7 @@ fn turn_away<L: FullDriver, R: Abort + Wait>(
     requires number { blank.parts ≡ 65536 }
     requires opening { L.opening ≡ opening_of config image }
 {
-    let shared = Shared::new(opened::<L, R>(rt, alloc, config, image, blank));
+    let shared = Shared::new(opened::<Full<L>, R>(rt, alloc, config, image, blank));
     see_refused(rt, &shared, alloc);
     see_stopped(rt, &shared, alloc);
     see(rt, &shared.counts(rt), &counts(12, 4, 0));

@@ -3,11 +3,12 @@
 ghost use Rattle.std.specs.Prelude.{◌≡◌};
 ghost use Rattle.step_core.specs.Opening.{opening_of};
 
+use crate::full::Full;
 use crate::looks::see;
 use crate::part::{USUAL, opened, play_text};
 use crate::runs::{is_done, job};
 use block_image::Image;
-use driver_book::FullDriver;
+use driver_book::{Driver, FullDriver};
 use driver_desk::values::draft_of;
 use driver_desk::{Access, Desk, Value};
 use driver_threads::{
@@ -482,7 +483,7 @@ fn see_woken<L: FullDriver + Send + Sync, R: Abort + Threads + Wait + Clock + Sy
 }
 
 /// A submitter waits, over a new book, and is woken.
-fn wake<L: FullDriver + Send + Sync, R: Abort + Threads + Wait + Clock + Sync>(
+fn wake<L: Driver + Send + Sync, R: Abort + Threads + Wait + Clock + Sync>(
     rt: &R,
     alloc: Global,
     config: Config,
@@ -495,7 +496,7 @@ fn wake<L: FullDriver + Send + Sync, R: Abort + Threads + Wait + Clock + Sync>(
     requires number { blank.parts ≡ 65536 }
     requires opening { L.opening ≡ opening_of config image }
 {
-    let shared = Shared::new(opened::<L, R>(rt, alloc, config, image, blank));
+    let shared = Shared::new(opened::<Full<L>, R>(rt, alloc, config, image, blank));
     let mut desk = Desk::new(rt, alloc, alloc, Access::Lock(shared));
     for text in waking.before {
         play_text(rt, &mut desk, text);

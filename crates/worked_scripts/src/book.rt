@@ -5,10 +5,11 @@ ghost use Rattle.step_core.specs.Opening.{opening_of};
 
 use crate::bench::{as_told, wrong_if};
 use crate::fault::{Fault, Wrong};
+use crate::full::Full;
 use crate::refused::OneRefused;
 use crate::standing::{DeskStanding, Heap, Holdings, Stands};
 use crate::way::Way;
-use driver_book::{Book, CloseFault, FullDriver};
+use driver_book::{Book, CloseFault, Driver, FullDriver};
 use driver_desk::{Access, Desk};
 use std::alloc::{AllocError, Allocator, Global};
 use std::marker::Brand;
@@ -135,7 +136,7 @@ fn play_at<'h, L: FullDriver, R: Wait>(
 }
 
 /// Plays a script through a new book in a heap with one growth refused.
-fn play_in<'h, L: FullDriver, R: Wait>(
+fn play_in<'h, L: Driver, R: Wait>(
     rt: &'h R,
     alloc: Global,
     heap: &'h Heap,
@@ -152,7 +153,7 @@ fn play_in<'h, L: FullDriver, R: Wait>(
     requires opening { L.opening ≡ opening_of config image }
 {
     heap.refuse(Refusal::Nth(growth));
-    let book = opened::<L, &'h Heap>(heap, config, image, blank)?;
+    let book = opened::<Full<L>, &'h Heap>(heap, config, image, blank)?;
     let left = growth.saturating_sub(heap.tally().calls);
     heap.refuse(Refusal::Never);
     let mut desk = Desk::new(rt, alloc, heap, Access::Book(book));

@@ -6,9 +6,10 @@ ghost use Rattle.step_core.specs.Opening.{opening_of};
 use crate::bench::{as_told, wrong_if};
 use crate::book::{BookEnd, submissions, zeros};
 use crate::fault::{Fault, Wrong};
+use crate::full::Full;
 use crate::standing::Holdings;
 use crate::way::Way;
-use driver_book::{Book, CloseFault, FullDriver, Receipt};
+use driver_book::{Book, CloseFault, Driver, FullDriver, Receipt};
 use driver_desk::{Access, Desk};
 use driver_threads::Shared;
 use std::alloc::Global;
@@ -45,7 +46,7 @@ fn play_at<L: FullDriver, R: Wait>(
 }
 
 /// Plays a script behind the lock of a new book. It answers what that leaves, and how many entries the log had.
-fn play_in<L: FullDriver, R: Wait>(
+fn play_in<L: Driver, R: Wait>(
     rt: &R,
     alloc: Global,
     config: Config,
@@ -58,7 +59,7 @@ fn play_in<L: FullDriver, R: Wait>(
     requires number { blank.parts ≡ 65536 }
     requires opening { L.opening ≡ opening_of config image }
 {
-    match Book::<L>::open(alloc, config, image, blank) {
+    match Book::<Full<L>>::open(alloc, config, image, blank) {
         Ok(book) => {
             let access = Access::Lock(Shared::new(book));
             let mut desk = Desk::new(rt, alloc, alloc, access);

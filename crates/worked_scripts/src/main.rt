@@ -10,6 +10,7 @@
 mod bench;
 mod book;
 mod fault;
+mod full;
 mod lock;
 mod refused;
 mod report;

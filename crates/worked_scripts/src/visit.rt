@@ -6,10 +6,11 @@ ghost use Rattle.step_core.specs.Opening.{opening_of};
 use crate::bench::{as_told, wrong_if};
 use crate::book::{opened, zeros};
 use crate::fault::{Fault, Wrong};
+use crate::full::Full;
 use crate::refused::OneRefused;
 use crate::standing::Heap;
 use crate::way::Way;
-use driver_book::FullDriver;
+use driver_book::{Driver, FullDriver};
 use driver_desk::{Access, Desk};
 use std::alloc::{AllocError, Global};
 use std::marker::Brand;
@@ -97,7 +98,7 @@ fn visit<'h, L: FullDriver, M: FullDriver, R: Wait>(
 }
 
 /// Opens the other book, and lets a draft visit it.
-fn play_away<'h, L: FullDriver, M: FullDriver, R: Wait>(
+fn play_away<'h, L: FullDriver, M: Driver, R: Wait>(
     heap: &'h Heap,
     home: &mut DeskIn<'h, L, R>,
     config: Config,
@@ -110,7 +111,7 @@ fn play_away<'h, L: FullDriver, M: FullDriver, R: Wait>(
     requires number { blank.parts ≡ 65536 }
     requires opening { M.opening ≡ opening_of config image }
 {
-    let book = opened::<M, &'h Heap>(heap, config, image, blank)?;
+    let book = opened::<Full<M>, &'h Heap>(heap, config, image, blank)?;
     let mut away = Desk::new(home.rt, home.alloc, heap, Access::Book(book));
     let left = visit(home, &mut away, growth);
     away.end();
@@ -118,7 +119,7 @@ fn play_away<'h, L: FullDriver, M: FullDriver, R: Wait>(
 }
 
 /// Opens a draft's own book and another one, and lets the draft visit that one. It answers how many growths are left.
-fn play_home<'h, L: FullDriver, R: Wait>(
+fn play_home<'h, L: Driver, R: Wait>(
     rt: &'h R,
     alloc: Global,
     heap: &'h Heap,
@@ -134,9 +135,16 @@ fn play_home<'h, L: FullDriver, R: Wait>(
 {
     let other_image = zeros(heap, Options::USUAL)?;
     let other_blank = Blank::new(65536);
-    let book = opened::<L, &'h Heap>(heap, config, image, blank)?;
+    let book = opened::<Full<L>, &'h Heap>(heap, config, image, blank)?;
     let mut home = Desk::new(rt, alloc, heap, Access::Book(book));
-    let left = play_away::<L, Brand, R>(heap, &mut home, config, other_image, other_blank, growth);
+    let left = play_away::<Full<L>, Brand, R>(
+        heap,
+        &mut home,
+        config,
+        other_image,
+        other_blank,
+        growth,
+    );
     home.end();
     left
 }

@@ -1,4 +1,4 @@
-use Rattle.std.proofs.Common.{false, refl}
+use Rattle.std.specs.Prelude.{false}
 use Rattle.step_core.specs.Opening.{opening_of}
 use Rattle.driver_tests.proofs.opening.a_book_is_not_opened.Given as goal
 
@@ -8,14 +8,8 @@ ghosts-open_again-K-Ledger g a = record { name = a.blank.name; parts = a.blank.p
 abbrev pub ghosts-open_again-K-Driver : goal.ghosts-open_again-K-Driver
 ghosts-open_again-K-Driver g a = record { opening = opening_of a.wrong a.image; jobs_alone = false }
 
-abbrev pub ghosts-open_again-K-FullDriver : goal.ghosts-open_again-K-FullDriver
-ghosts-open_again-K-FullDriver g a = record { takes_all = refl }
-
 abbrev pub ghosts-open_again-L-Ledger : goal.ghosts-open_again-L-Ledger
 ghosts-open_again-L-Ledger g a = record { name = a.blank.name; parts = a.blank.parts }
 
 abbrev pub ghosts-open_again-L-Driver : goal.ghosts-open_again-L-Driver
 ghosts-open_again-L-Driver g a = record { opening = opening_of a.config a.image; jobs_alone = false }
-
-abbrev pub ghosts-open_again-L-FullDriver : goal.ghosts-open_again-L-FullDriver
-ghosts-open_again-L-FullDriver g a = record { takes_all = refl }

@@ -1,4 +1,4 @@
-use Rattle.std.proofs.Common.{false, refl}
+use Rattle.std.specs.Prelude.{false}
 use Rattle.step_core.specs.Opening.{opening_of}
 use Rattle.driver_tests.proofs.opening.a_book_shows_itself.Given as goal
 
@@ -7,6 +7,3 @@ ghosts-look-L-Ledger g a = record { name = a.blank.name; parts = a.blank.parts }
 
 abbrev pub ghosts-look-L-Driver : goal.ghosts-look-L-Driver
 ghosts-look-L-Driver g a = record { opening = opening_of a.config a.image; jobs_alone = false }
-
-abbrev pub ghosts-look-L-FullDriver : goal.ghosts-look-L-FullDriver
-ghosts-look-L-FullDriver g a = record { takes_all = refl }

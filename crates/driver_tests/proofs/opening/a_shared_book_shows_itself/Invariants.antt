@@ -1,4 +1,4 @@
-use Rattle.std.proofs.Common.{false, refl}
+use Rattle.std.specs.Prelude.{false}
 use Rattle.step_core.specs.Opening.{opening_of}
 use Rattle.driver_tests.proofs.opening.a_shared_book_shows_itself.Given as goal
 
@@ -7,6 +7,3 @@ ghosts-look_behind_lock-L-Ledger g a = record { name = a.blank.name; parts = a.b
 
 abbrev pub ghosts-look_behind_lock-L-Driver : goal.ghosts-look_behind_lock-L-Driver
 ghosts-look_behind_lock-L-Driver g a = record { opening = opening_of a.config a.image; jobs_alone = false }
-
-abbrev pub ghosts-look_behind_lock-L-FullDriver : goal.ghosts-look_behind_lock-L-FullDriver
-ghosts-look_behind_lock-L-FullDriver g a = record { takes_all = refl }

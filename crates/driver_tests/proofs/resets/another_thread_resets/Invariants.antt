@@ -1,4 +1,4 @@
-use Rattle.std.proofs.Common.{false, refl}
+use Rattle.std.specs.Prelude.{false}
 use Rattle.step_core.specs.Opening.{opening_of}
 use Rattle.driver_tests.proofs.resets.another_thread_resets.Given as goal
 
@@ -7,6 +7,3 @@ ghosts-read_and_reset-L-Ledger g a = record { name = a.blank.name; parts = a.bla
 
 abbrev pub ghosts-read_and_reset-L-Driver : goal.ghosts-read_and_reset-L-Driver
 ghosts-read_and_reset-L-Driver g a = record { opening = opening_of a.config a.image; jobs_alone = false }
-
-abbrev pub ghosts-read_and_reset-L-FullDriver : goal.ghosts-read_and_reset-L-FullDriver
-ghosts-read_and_reset-L-FullDriver g a = record { takes_all = refl }

@@ -1,4 +1,4 @@
-use Rattle.std.proofs.Common.{false, refl}
+use Rattle.std.specs.Prelude.{false}
 use Rattle.step_core.specs.Opening.{opening_of}
 use Rattle.driver_tests.proofs.turned_away.workers_are_turned_away.Given as goal
 
@@ -7,6 +7,3 @@ ghosts-turn_away-L-Ledger g a = record { name = a.blank.name; parts = a.blank.pa
 
 abbrev pub ghosts-turn_away-L-Driver : goal.ghosts-turn_away-L-Driver
 ghosts-turn_away-L-Driver g a = record { opening = opening_of a.config a.image; jobs_alone = false }
-
-abbrev pub ghosts-turn_away-L-FullDriver : goal.ghosts-turn_away-L-FullDriver
-ghosts-turn_away-L-FullDriver g a = record { takes_all = refl }

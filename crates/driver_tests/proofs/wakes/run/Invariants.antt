@@ -1,4 +1,4 @@
-use Rattle.std.proofs.Common.{false, refl}
+use Rattle.std.specs.Prelude.{false}
 use Rattle.step_core.specs.Opening.{opening_of}
 use Rattle.driver_tests.proofs.wakes.run.Given as goal
 
@@ -7,6 +7,3 @@ ghosts-wake-L-Ledger g a = record { name = a.blank.name; parts = a.blank.parts }
 
 abbrev pub ghosts-wake-L-Driver : goal.ghosts-wake-L-Driver
 ghosts-wake-L-Driver g a = record { opening = opening_of a.config a.image; jobs_alone = false }
-
-abbrev pub ghosts-wake-L-FullDriver : goal.ghosts-wake-L-FullDriver
-ghosts-wake-L-FullDriver g a = record { takes_all = refl }

@@ -1,4 +1,4 @@
-use Rattle.std.proofs.Common.{false, refl}
+use Rattle.std.specs.Prelude.{false}
 use Rattle.step_core.specs.Opening.{opening_of}
 use Rattle.worked_scripts.proofs.book.play_once.Given as goal
 
@@ -7,6 +7,3 @@ ghosts-play_in-L-Ledger g a = record { name = a.blank.name; parts = a.blank.part
 
 abbrev pub ghosts-play_in-L-Driver : goal.ghosts-play_in-L-Driver
 ghosts-play_in-L-Driver g a = record { opening = opening_of a.config a.image; jobs_alone = false }
-
-abbrev pub ghosts-play_in-L-FullDriver : goal.ghosts-play_in-L-FullDriver
-ghosts-play_in-L-FullDriver g a = record { takes_all = refl }

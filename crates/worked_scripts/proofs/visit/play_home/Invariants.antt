@@ -1,4 +1,4 @@
-use Rattle.std.proofs.Common.{false, refl}
+use Rattle.std.specs.Prelude.{false}
 use Rattle.step_core.specs.Opening.{opening_of}
 use Rattle.worked_scripts.proofs.visit.play_home.Given as goal
 
@@ -7,6 +7,3 @@ ghosts-play_away-M-Ledger g a = record { name = a.blank.name; parts = a.blank.pa
 
 abbrev pub ghosts-play_away-M-Driver : goal.ghosts-play_away-M-Driver
 ghosts-play_away-M-Driver g a = record { opening = opening_of a.config a.image; jobs_alone = false }
-
-abbrev pub ghosts-play_away-M-FullDriver : goal.ghosts-play_away-M-FullDriver
-ghosts-play_away-M-FullDriver g a = record { takes_all = refl }
