@@ -84,7 +84,7 @@ fn play_parts<L: FullDriver, R: Abort + Wait>(rt: &R, desk: &mut Desk<'_, L, R>,
 }
 
 /// A new book.
-pub(crate) fn opened<L: FullDriver, R: Abort>(
+pub(crate) fn opened<L: Driver, R: Abort>(
     rt: &R,
     alloc: Global,
     config: Config,
