@@ -3,12 +3,16 @@
 use crate::expecting::same;
 use crate::transcript_files::{GOOD, MENDED, OTHER, path};
 use program::perform;
+use std::alloc::AllocGlobal;
 use std::fs;
+use std::rt::Files;
+use std::sync::Wait;
 use std::test::Fail;
+use std::thread::Threads;
 
 /// What words write with these lines on standard input, and the exit status.
-fn performed(
-    rt: &HostRuntime,
+fn performed<R: AllocGlobal + Eprint + Files + Print + Sync + Threads + Wait>(
+    rt: &R,
     words: &[&str],
     typed: &[u8],
     is_terminal: bool,
