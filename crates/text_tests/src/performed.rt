@@ -1,7 +1,7 @@
 //! The commands `test` and `shell`, from their words to what is written.
 
 use crate::expecting::same;
-use crate::transcript_files::{GOOD, MENDED, OTHER, path};
+use crate::transcript_files::path;
 use program::perform;
 use std::alloc::AllocGlobal;
 use std::fs;
@@ -27,43 +27,6 @@ fn performed<R: AllocGlobal + Eprint + Files + Print + Sync + Threads + Wait>(
         Ok(text) => Ok((text, status)),
         Err(_) => Err(Fail::from("text that is not UTF-8")),
     }
-}
-
-#[test]
-fn the_files_of_the_words_are_tested(rt: HostRuntime) -> Result<(), Fail> {
-    let good = path(&rt, "words-good")?;
-    let other = path(&rt, "words-other")?;
-    let (good, other) = (good.as_str(), other.as_str());
-    fs::write(&rt, good, GOOD)?;
-    fs::write(&rt, other, OTHER)?;
-    let (text, status) = performed(&rt, &["nvmesgl", "test", good, other], b"", false)?;
-    let wanted = format!(in rt.alloc();
-        "ok {good}\n{other}: line 4: wanted ring refused, came ring ok\n"
-    )?;
-    same(&rt, text.as_str(), wanted.as_str());
-    same(&rt, status, 4);
-    let words = ["nvmesgl", "test", "--update", other];
-    let (text, status) = performed(&rt, &words, b"", false)?;
-    let wanted = format!(in rt.alloc(); "updated {other}\n")?;
-    same(&rt, text.as_str(), wanted.as_str());
-    same(&rt, status, 0);
-    let mended = fs::read_to_string(&rt, other)?;
-    same(&rt, mended.as_str(), MENDED);
-    let words = ["nvmesgl", "test", "--pages", "32", good];
-    let (text, status) = performed(&rt, &words, b"", false)?;
-    let wanted = format!(in rt.alloc();
-        "{good}: line 6: wanted counts free 12 queue 4 chain 0 data 0, came counts free 28 queue 4 chain 0 data 0\n"
-    )?;
-    same(&rt, text.as_str(), wanted.as_str());
-    same(&rt, status, 4);
-    fs::remove_file(&rt, good)?;
-    fs::remove_file(&rt, other)?;
-    let (_, status) = performed(&rt, &["nvmesgl", "test", good], b"", false)?;
-    same(&rt, status, 1);
-    let (text, status) = performed(&rt, &["nvmesgl", "test"], b"", false)?;
-    same(&rt, text.as_str(), "");
-    same(&rt, status, 2);
-    Ok(())
 }
 
 /// What the shell answers to its words and to what is typed.

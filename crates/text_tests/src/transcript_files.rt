@@ -1,15 +1,12 @@
 //! Transcripts that are tested: bytes, and files.
 
 use crate::expecting::same;
-use crate::script_runs::Narrow;
-use script_cli::RunFault;
 use std::alloc::Global;
-use std::fs;
 use std::test::Fail;
-use transcripts::{Options, Outcome, Tally, test_files, test_transcript};
+use transcripts::{Options, Outcome, test_transcript};
 
 /// One that agrees.
-pub(crate) const GOOD: &str = "# A bell.
+const GOOD: &str = "# A bell.
 ring 1
 > ring ok
 ring 0
@@ -18,7 +15,7 @@ ring 0
 ";
 
 /// The same with other answers, and one too many; a comment stands between.
-pub(crate) const OTHER: &str = "# A bell.
+const OTHER: &str = "# A bell.
 ring 1
 # It is heard.
 > ring refused
@@ -27,7 +24,7 @@ ring 0
 ";
 
 /// That one with the answers that came.
-pub(crate) const MENDED: &str = "# A bell.
+const MENDED: &str = "# A bell.
 ring 1
 # It is heard.
 > ring ok
@@ -102,56 +99,4 @@ fn options_are_the_caller_s(rt: HostRuntime) -> Result<(), Fail> {
 pub(crate) fn path(rt: &HostRuntime, name: &str) -> Result<String, Fail> {
     let id = std::process::id(rt.process());
     Ok(format!(in rt.alloc(); "/tmp/nvmesgl-{id}-{name}")?)
-}
-
-/// The lines that a test of files writes, and its tally.
-fn said(
-    rt: &HostRuntime,
-    paths: &[&str],
-    updates: bool,
-    room: usize,
-) -> Result<(Result<Tally, RunFault>, String), Fail> {
-    let mut writer = Narrow {
-        room,
-        taken: Vec::new(rt.alloc()),
-    };
-    let tally = test_files(rt, paths, Options::USUAL, updates, &mut writer);
-    match String::from_utf8(writer.taken) {
-        Ok(text) => Ok((tally, text)),
-        Err(_) => Err(Fail::from("text that is not UTF-8")),
-    }
-}
-
-#[test]
-fn files_are_tested_and_updated(rt: HostRuntime) -> Result<(), Fail> {
-    let good = path(&rt, "good")?;
-    let other = path(&rt, "other")?;
-    let (good, other) = (good.as_str(), other.as_str());
-    fs::write(&rt, good, GOOD)?;
-    fs::write(&rt, other, OTHER)?;
-    let (tally, text) = said(&rt, &[good, other], false, 10_000)?;
-    same(&rt, tally.map(Tally::exit_status), Ok(4));
-    let wanted = format!(in rt.alloc();
-        "ok {good}\n{other}: line 4: wanted ring refused, came ring ok\n"
-    )?;
-    same(&rt, text.as_str(), wanted.as_str());
-    let (tally, text) = said(&rt, &[good, other], true, 10_000)?;
-    same(&rt, tally.map(Tally::exit_status), Ok(0));
-    let wanted = format!(in rt.alloc(); "ok {good}\nupdated {other}\n")?;
-    same(&rt, text.as_str(), wanted.as_str());
-    let mended = fs::read_to_string(&rt, other)?;
-    same(&rt, mended.as_str(), MENDED);
-    let (tally, _) = said(&rt, &[good, other], false, 10_000)?;
-    same(&rt, tally.map(Tally::exit_status), Ok(0));
-    fs::remove_file(&rt, good)?;
-    fs::remove_file(&rt, other)?;
-    let (tally, _) = said(&rt, &[good], false, 10_000)?;
-    same(&rt, tally.map(Tally::exit_status), Ok(1));
-    let (tally, _) = said(&rt, &[good], false, 3)?;
-    same(
-        &rt,
-        tally.map(Tally::exit_status),
-        Err(RunFault::OutputFailed),
-    );
-    Ok(())
 }
