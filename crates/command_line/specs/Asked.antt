@@ -25,12 +25,13 @@ number text =
 abbrev pub number_under : Text → ℕ → List Row → ℕ
 number_under name usual rows = unwrap_or (option_and_then number (one_of name rows)) usual
 
--- what both commands are given; where no file is named, standard input has the script
+-- what these commands are given; where no file is named, standard input has the script. `steps` alone may be given a file to save the image into
 pub record Given : Type 0 where
   pub config : Config
   pub blocks : ℕ
   pub image : Option Text
   pub script : Option Text
+  pub save : Option Text
 
 -- the file of a script
 abbrev pub script_in : List Row → Option Text
@@ -47,6 +48,7 @@ given_in rows = record {
   blocks = number_under (codes "blocks") 64 rows;
   image = first_of (codes "image") rows;
   script = script_in rows;
+  save = first_of (codes "save") rows;
 }
 
 -- what the transcripts of files are tested with
@@ -56,9 +58,13 @@ pub record Tested : Type 0 where
   pub updates : Bool
   pub files : List Text
 
+-- the words that are found under a name
+abbrev pub all_under : Text → List Row → List Text
+all_under name rows = unwrap_or (all_of name rows) []
+
 -- the files that are named
 abbrev pub files_in : List Row → List Text
-files_in rows = unwrap_or (all_of (codes "files") rows) []
+files_in rows = all_under (codes "files") rows
 
 -- a flag was typed
 abbrev pub has_flag : Text → List Row → Bool
@@ -83,12 +89,24 @@ has_jobs rows = has_flag (codes "jobs") rows
 
 pub data Asked : Type 0 where
   steps : Given → Asked
+  traced : Given → Asked
   threads : Given → ℕ → Asked
   check : Option Text → Asked
   check_jobs : Option Text → ℕ → Asked
   test : Tested → Asked
-  shell : Given → Asked
+  shell : Given → Bool → Asked
+  draw : Given → Asked
+  explain : Option Text → Asked
+  show : List Text → Asked
   grammar : Asked
+
+-- `--trace` was typed
+abbrev pub has_trace : List Row → Bool
+has_trace rows = has_flag (codes "trace") rows
+
+-- what `steps` with these rows asks for
+abbrev pub steps_by : List Row → Asked
+steps_by rows = if has_trace rows then traced (given_in rows) else steps (given_in rows)
 
 -- there are as many submitters as there may be
 abbrev pub are_submitters : ℕ → Bool
@@ -106,11 +124,14 @@ check_by rows =
 -- what a named command with these rows asks for
 abbrev pub asked_of_name : Text → List Row → Option Asked
 asked_of_name name rows =
-    if bytes_eq name (codes "steps") then Some (steps (given_in rows))
+    if bytes_eq name (codes "steps") then Some (steps_by rows)
     else if bytes_eq name (codes "threads") then if_submitters (submitters_in rows) (λ n. threads (given_in rows) n)
     else if bytes_eq name (codes "check") then check_by rows
     else if bytes_eq name (codes "test") then Some (test (tested_in rows))
-    else if bytes_eq name (codes "shell") then Some (shell (given_in rows))
+    else if bytes_eq name (codes "shell") then Some (shell (given_in rows) (has_trace rows))
+    else if bytes_eq name (codes "draw") then Some (draw (given_in rows))
+    else if bytes_eq name (codes "explain") then Some (explain (script_in rows))
+    else if bytes_eq name (codes "show") then Some (show (all_under (codes "words") rows))
     else if bytes_eq name (codes "grammar") then Some grammar
     else None
 
@@ -132,26 +153,34 @@ abbrev pub path_of : Option (Bor Text) → Option Text
 path_of path = option_map (λ p. p.now) path
 
 abbrev pub given_of : Options → Given
-given_of options = record { config = options.config; blocks = options.blocks; image = path_of options.image; script = path_of options.script }
+given_of options = record { config = options.config; blocks = options.blocks; image = path_of options.image; script = path_of options.script; save = path_of options.save }
 
 abbrev pub tested_of : Testing → Tested
 tested_of testing = record { sizes = testing.config; zeros = testing.blocks; updates = testing.updates; files = map (λ f. f.now) testing.files.items }
 
 abbrev pub asked_of : CommandLine → Asked
 asked_of (line.Steps options) = steps (given_of options)
+asked_of (line.Traced options) = traced (given_of options)
 asked_of (line.Threads options submitters) = threads (given_of options) submitters
 asked_of (line.Check script) = check (path_of script)
 asked_of (line.CheckJobs script submitters) = check_jobs (path_of script) submitters
 asked_of (line.Test testing) = test (tested_of testing)
-asked_of (line.Shell options) = shell (given_of options)
+asked_of (line.Shell options traces) = shell (given_of options) traces
+asked_of (line.Draw options) = draw (given_of options)
+asked_of (line.Explain script) = explain (path_of script)
+asked_of (line.Show words) = show (map (λ w. w.now) words.items)
 asked_of line.Grammar = grammar
 
 -- a command line has as many submitters as there may be
 abbrev pub FitSubmitters : CommandLine → Type 0
 FitSubmitters (line.Steps options) = ⊤
+FitSubmitters (line.Traced options) = ⊤
 FitSubmitters (line.Threads options submitters) = (1 ≤ submitters) × (submitters ≤ 16)
 FitSubmitters (line.Check script) = ⊤
 FitSubmitters (line.CheckJobs script submitters) = (1 ≤ submitters) × (submitters ≤ 16)
 FitSubmitters (line.Test testing) = ⊤
-FitSubmitters (line.Shell options) = ⊤
+FitSubmitters (line.Shell options traces) = ⊤
+FitSubmitters (line.Draw options) = ⊤
+FitSubmitters (line.Explain script) = ⊤
+FitSubmitters (line.Show words) = ⊤
 FitSubmitters line.Grammar = ⊤

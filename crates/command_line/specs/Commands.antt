@@ -47,7 +47,9 @@ with_options command = with_rule
     (word_rule (codes "script"))
 
 abbrev pub steps : App
-steps = with_options (new_app (codes "steps"))
+steps = with_options (with_rule
+    (with_rule (new_app (codes "steps")) (option_rule (codes "save")))
+    (flag_rule (codes "trace")))
 
 abbrev pub threads : App
 threads = with_options (with_rule (new_app (codes "threads")) (number_rule (codes "submitters") (codes "2")))
@@ -65,7 +67,16 @@ test = with_sizes (with_rule
     (words_rule (codes "files")))
 
 abbrev pub shell : App
-shell = with_options (new_app (codes "shell"))
+shell = with_options (with_rule (new_app (codes "shell")) (flag_rule (codes "trace")))
+
+abbrev pub draw : App
+draw = with_options (new_app (codes "draw"))
+
+abbrev pub explain : App
+explain = with_rule (new_app (codes "explain")) (word_rule (codes "script"))
+
+abbrev pub show : App
+show = with_rule (new_app (codes "show")) (words_rule (codes "words"))
 
 abbrev pub grammar : App
 grammar = new_app (codes "grammar")
@@ -76,5 +87,9 @@ named = record { top = record (new_app (codes "nvmesgl")).top { subcommand_requi
 
 abbrev pub nvmesgl : App
 nvmesgl = with_subcommand
-    (with_subcommand (with_subcommand (with_subcommand (with_subcommand (with_subcommand named steps.top) threads.top) check.top) test.top) shell.top)
+    (with_subcommand
+    (with_subcommand
+    (with_subcommand (with_subcommand (with_subcommand (with_subcommand (with_subcommand (with_subcommand named steps.top) threads.top) check.top) test.top) shell.top) draw.top)
+    explain.top)
+    show.top)
     grammar.top

@@ -10,6 +10,7 @@ usual = record {
   blocks = 64;
   image = None;
   script = None;
+  save = None;
 }
 
 -- the words of a command
@@ -41,6 +42,7 @@ extreme = record {
   blocks = 65536;
   image = None;
   script = None;
+  save = None;
 }
 
 -- other values, in another order and other forms
@@ -53,4 +55,5 @@ mixed = record {
   blocks = 3;
   image = Some (codes "disk");
   script = Some (codes "some.script");
+  save = None;
 }

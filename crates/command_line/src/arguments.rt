@@ -2,7 +2,7 @@
 
 ghost use Rattle.std.specs.Prelude.{◌≡◌, ◌≤◌, ◌⊎◌, Some, None, IfOk, IfErr, IfSome, IsNone, map, codes, false, true, length};
 ghost use Rattle.clap.specs.Words.{found_of, kind_of, rows_of};
-ghost use Rattle.command_line.specs.Asked.{asked, asked_of, asked_of_name, check_by, files_in, given_in, given_of, FitSubmitters, are_submitters, has_flag, has_jobs, if_submitters, path_of, script_in, submitters_in, tested_in, tested_of, threads};
+ghost use Rattle.command_line.specs.Asked.{asked, asked_of, asked_of_name, check_by, given_in, given_of, FitSubmitters, all_under, are_submitters, has_flag, has_jobs, has_trace, if_submitters, path_of, script_in, steps_by, submitters_in, tested_in, tested_of, threads};
 ghost use Rattle.clap.specs.declared.error.kind.ErrorKind.TheVariants.{OutOfMemory};
 
 use crate::commands::{
@@ -22,7 +22,7 @@ const NOT_TEXT: &str = "invalid UTF-8 was detected in one or more arguments";
 /// What is said where no command is named.
 const NO_COMMAND: &str = "a command is wanted";
 
-/// The options that `steps` and `threads` have.
+/// The options that `steps`, `threads`, `shell` and `draw` have.
 #[derive(Clone, Copy, Debug, PartialEq, Eq)]
 pub struct Options<'a> {
     /// What the world is opened with.
@@ -33,6 +33,8 @@ pub struct Options<'a> {
     pub image: Option<&'a str>,
     /// The path of the script. Where there is none, or it is `-`, standard input has it.
     pub script: Option<&'a str>,
+    /// The path of the file which the image is written into, once a run of `steps` has ended.
+    pub save: Option<&'a str>,
 }
 
 /// What transcripts are tested with.
@@ -53,6 +55,8 @@ pub struct Testing<'a> {
 pub enum CommandLine<'a> {
     /// To play a script of steps.
     Steps(Options<'a>),
+    /// To play a script of steps, and to tell what each moved.
+    Traced(Options<'a>),
     /// To run the jobs of so many submitters, 1 to 16, in threads.
     Threads(Options<'a>, u16),
     /// To tell the faults of a script of steps, by its path as in [`Options`].
@@ -61,8 +65,14 @@ pub enum CommandLine<'a> {
     CheckJobs(Option<&'a str>, u16),
     /// To test transcripts.
     Test(Testing<'a>),
-    /// To answer one line after the other.
-    Shell(Options<'a>),
+    /// To answer one line after the other, and whether each step tells what it moved.
+    Shell(Options<'a>, bool),
+    /// To draw a script of steps.
+    Draw(Options<'a>),
+    /// To explain a command, by the path of its case as in [`Options`].
+    Explain(Option<&'a str>),
+    /// To decode bytes: what they are to be, and their digits.
+    Show(Vec<&'a str>),
     /// To print every verb with its form.
     Grammar,
 }
@@ -82,6 +92,7 @@ impl<'a> Options<'a> {
             blocks: BLOCKS.value(given),
             image: given.get_str("image"),
             script: script(given),
+            save: given.get_str("save"),
         }
     }
 }
@@ -103,13 +114,30 @@ fn flag(given: &ArgMatches<'_>, name: &str) -> bool
     }
 }
 
-/// The files that are named.
-fn files<'a>(alloc: Global, given: &ArgMatches<'a>) -> Result<Vec<&'a str>, AllocError>
-    ensures { IfOk result (λ files. map (λ f. f.now) files.items ≡ files_in (rows_of (found_of given.now))) }
+/// The words that were given under a name.
+fn words_under<'a>(
+    alloc: Global,
+    given: &ArgMatches<'a>,
+    name: &str,
+) -> Result<Vec<&'a str>, AllocError>
+    ensures { IfOk result (λ words. map (λ w. w.now) words.items ≡ all_under name.now (rows_of (found_of given.now))) }
 {
-    match given.get_strs("files") {
-        Some(files) => Vec::from_slice(alloc, files),
+    match given.get_strs(name) {
+        Some(words) => Vec::from_slice(alloc, words),
         None => Ok(Vec::new(alloc)),
+    }
+}
+
+/// What `steps` with these words asks for.
+fn steps_line<'a>(given: &ArgMatches<'a>) -> CommandLine<'a>
+    ensures asked { asked_of result ≡ steps_by (rows_of (found_of given.now)) }
+    ensures submitters { FitSubmitters result }
+{
+    let options = Options::of(given);
+    if flag(given, "trace") {
+        CommandLine::Traced(options)
+    } else {
+        CommandLine::Steps(options)
     }
 }
 
@@ -124,8 +152,17 @@ fn test_line<'a>(alloc: Global, given: &ArgMatches<'a>) -> Result<CommandLine<'a
         config: options.config,
         blocks: options.blocks,
         updates: flag(given, "update"),
-        files: files(alloc, given)?,
+        files: words_under(alloc, given, "files")?,
     }))
+}
+
+/// What `show` with these words asks for.
+fn show_line<'a>(alloc: Global, given: &ArgMatches<'a>) -> Result<CommandLine<'a>, Error>
+    ensures asked { IfOk result (λ line. asked_of_name (codes "show") (rows_of (found_of given.now)) ≡ Some (asked_of line)) }
+    ensures submitters { IfOk result FitSubmitters }
+    ensures refused { IfErr result (λ e. kind_of e ≡ OutOfMemory) }
+{
+    Ok(CommandLine::Show(words_under(alloc, given, "words")?))
 }
 
 /// How many submitters there are, if they are 1 to 16.
@@ -196,7 +233,7 @@ fn line_of<'a>(alloc: Global, name: &str, given: &ArgMatches<'a>) -> Result<Comm
     ensures refused { IfErr result (λ e. (kind_of e ≡ OutOfMemory) ⊎ (asked_of_name name.now (rows_of (found_of given.now)) ≡ None)) }
 {
     if name == "steps" {
-        return Ok(CommandLine::Steps(Options::of(given)));
+        return Ok(steps_line(given));
     }
     if name == "threads" {
         return threads_line(alloc, given);
@@ -208,7 +245,16 @@ fn line_of<'a>(alloc: Global, name: &str, given: &ArgMatches<'a>) -> Result<Comm
         return test_line(alloc, given);
     }
     if name == "shell" {
-        return Ok(CommandLine::Shell(Options::of(given)));
+        return Ok(CommandLine::Shell(Options::of(given), flag(given, "trace")));
+    }
+    if name == "draw" {
+        return Ok(CommandLine::Draw(Options::of(given)));
+    }
+    if name == "explain" {
+        return Ok(CommandLine::Explain(script(given)));
+    }
+    if name == "show" {
+        return show_line(alloc, given);
     }
     if name == "grammar" {
         return Ok(CommandLine::Grammar);

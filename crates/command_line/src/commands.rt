@@ -3,12 +3,13 @@
 ghost use Rattle.std.specs.Prelude.{◌≡◌, IfOk, false, codes};
 ghost use Rattle.clap.specs.Words.{app_of, found_of, rows_of, rule_of};
 ghost use Rattle.clap.specs.declared.builder.command.Command.TheViews.{out-Command};
-ghost use Rattle.command_line.specs.Commands.{check, flag_rule, grammar, number_rule, named, nvmesgl, option_rule, shell, steps, test, threads, with_options, with_sizes, word_rule, words_rule};
+ghost use Rattle.command_line.specs.Commands.{check, draw, explain, flag_rule, grammar, number_rule, named, nvmesgl, option_rule, shell, show, steps, test, threads, with_options, with_sizes, word_rule, words_rule};
 ghost use Rattle.command_line.specs.Asked.{number_under};
 
 use crate::help::{
-    ABOUT, AFTER, CHECK_ABOUT, CHECK_AFTER, SHELL_ABOUT, SHELL_AFTER, STEPS_ABOUT, STEPS_AFTER,
-    TEST_ABOUT, TEST_AFTER, THREADS_ABOUT, THREADS_AFTER,
+    ABOUT, AFTER, CHECK_ABOUT, CHECK_AFTER, DRAW_ABOUT, DRAW_AFTER, EXPLAIN_ABOUT, EXPLAIN_AFTER,
+    SHELL_ABOUT, SHELL_AFTER, SHOW_ABOUT, SHOW_AFTER, STEPS_ABOUT, STEPS_AFTER, TEST_ABOUT,
+    TEST_AFTER, THREADS_ABOUT, THREADS_AFTER,
 };
 use clap::{Arg, ArgAction, ArgMatches, Command, value_parser};
 use std::alloc::{AllocError, Global};
@@ -113,6 +114,17 @@ fn image_arg<'a>(alloc: Global) -> Arg<'a>
         .help("The image's bytes, 1 to 65536 whole blocks, in place of --blocks")
 }
 
+/// The option that names the file which the image is written into.
+fn save_arg<'a>(alloc: Global) -> Arg<'a>
+    ensures rule { rule_of result ≡ option_rule (codes "save") }
+    ensures local { result.global ≡ false }
+{
+    Arg::new(alloc, "save")
+        .long("save")
+        .value_name("FILE")
+        .help("Writes the image into this file, once the run has ended")
+}
+
 /// The word that names the file of a script.
 fn script_arg<'a>(alloc: Global) -> Arg<'a>
     ensures rule { rule_of result ≡ word_rule (codes "script") }
@@ -144,6 +156,29 @@ fn files_arg<'a>(alloc: Global) -> Arg<'a>
         .action(ArgAction::Append)
         .required(true)
         .help("The files of the transcripts")
+}
+
+/// The option that says that each step tells what it moved.
+fn trace_arg<'a>(alloc: Global) -> Arg<'a>
+    ensures rule { rule_of result ≡ flag_rule (codes "trace") }
+    ensures local { result.global ≡ false }
+{
+    Arg::new(alloc, "trace")
+        .long("trace")
+        .action(ArgAction::SetTrue)
+        .help("Tells below each answer what the step moved, in bytes and decoded")
+}
+
+/// The words that are decoded.
+fn words_arg<'a>(alloc: Global) -> Arg<'a>
+    ensures rule { rule_of result ≡ words_rule (codes "words") }
+    ensures local { result.global ≡ false }
+{
+    Arg::new(alloc, "words")
+        .value_name("WORD")
+        .action(ArgAction::Append)
+        .required(true)
+        .help("`sqe`, `cqe` or `sgl`, and behind it the bytes")
 }
 
 /// The option that says that what came is written into the files.
@@ -188,7 +223,9 @@ fn steps_command<'a>(alloc: Global) -> Result<Command<'a>, AllocError>
     let command = Command::new(alloc, "steps")
         .about("Plays a script")
         .long_about(STEPS_ABOUT)
-        .after_help(STEPS_AFTER);
+        .after_help(STEPS_AFTER)
+        .arg(save_arg(alloc))?
+        .arg(trace_arg(alloc))?;
     with_options(alloc, command)
 }
 
@@ -241,8 +278,45 @@ fn shell_command<'a>(alloc: Global) -> Result<Command<'a>, AllocError>
     let command = Command::new(alloc, "shell")
         .about("Answers one line after the other, each at once")
         .long_about(SHELL_ABOUT)
-        .after_help(SHELL_AFTER);
+        .after_help(SHELL_AFTER)
+        .arg(trace_arg(alloc))?;
     with_options(alloc, command)
+}
+
+/// The command that draws a script.
+fn draw_command<'a>(alloc: Global) -> Result<Command<'a>, AllocError>
+    ensures shape { IfOk result (λ command. app_of command ≡ draw) }
+    ensures local { IfOk result (λ command. (out-Command command).has_globals ≡ false) }
+{
+    let command = Command::new(alloc, "draw")
+        .about("Draws a script: one page of HTML with a picture of each step")
+        .long_about(DRAW_ABOUT)
+        .after_help(DRAW_AFTER);
+    with_options(alloc, command)
+}
+
+/// The command that explains a command.
+fn explain_command<'a>(alloc: Global) -> Result<Command<'a>, AllocError>
+    ensures shape { IfOk result (λ command. app_of command ≡ explain) }
+    ensures local { IfOk result (λ command. (out-Command command).has_globals ≡ false) }
+{
+    Command::new(alloc, "explain")
+        .about("Tells what the controller makes of an entry and its list")
+        .long_about(EXPLAIN_ABOUT)
+        .after_help(EXPLAIN_AFTER)
+        .arg(script_arg(alloc))
+}
+
+/// The command that decodes bytes.
+fn show_command<'a>(alloc: Global) -> Result<Command<'a>, AllocError>
+    ensures shape { IfOk result (λ command. app_of command ≡ show) }
+    ensures local { IfOk result (λ command. (out-Command command).has_globals ≡ false) }
+{
+    Command::new(alloc, "show")
+        .about("Decodes an entry or a descriptor")
+        .long_about(SHOW_ABOUT)
+        .after_help(SHOW_AFTER)
+        .arg(words_arg(alloc))
 }
 
 /// The command that prints what a script may say.
@@ -279,11 +353,17 @@ pub(crate) fn command<'a>(alloc: Global) -> Result<Command<'a>, AllocError>
     let check = check_command(alloc)?;
     let test = test_command(alloc)?;
     let shell = shell_command(alloc)?;
+    let draw = draw_command(alloc)?;
+    let explain = explain_command(alloc)?;
+    let show = show_command(alloc)?;
     program(alloc)?
         .subcommand(steps)?
         .subcommand(threads)?
         .subcommand(check)?
         .subcommand(test)?
         .subcommand(shell)?
+        .subcommand(draw)?
+        .subcommand(explain)?
+        .subcommand(show)?
         .subcommand(grammar_command(alloc))
 }

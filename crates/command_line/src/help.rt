@@ -7,8 +7,10 @@ pub const ABOUT: &str =
 It drives no real device. `nvmesgl steps` plays a script over a fresh pool of pages and
 prints what each step answered. `nvmesgl threads` lets several threads do the jobs of a
 script over one pool, and prints how each job ended. `nvmesgl shell` answers one step after
-the other. `nvmesgl check` tells all faults of a script, `nvmesgl test` whether scripts still
-answer what stands below their steps, and `nvmesgl grammar` what a script may say.";
+the other, and `nvmesgl draw` makes a page with a picture of each. `nvmesgl check` tells all
+faults of a script, `nvmesgl test` whether scripts still answer what stands below their steps,
+and `nvmesgl grammar` what a script may say. `nvmesgl explain` tells what the controller makes
+of an entry and its list, and `nvmesgl show` decodes single ones.";
 
 /// What `nvmesgl --help` says last.
 pub const AFTER: &str = "One block, read:
@@ -21,7 +23,8 @@ docs/PROFILE.md says what the steps mean, and examples/ has scripts with their o
 pub const STEPS_ABOUT: &str = "Plays a script, step by step, and prints what each step answered.
 
 The script is read and checked whole before its first step. A refused step is an answer too:
-the run goes on, and its exit status is 0.";
+the run goes on, and its exit status is 0. With --save the image is written into a file behind
+the last step, so that a later run can begin with it (--image).";
 
 /// What `nvmesgl steps --help` says last.
 pub const STEPS_AFTER: &str = "A script has one step on each line; `#` begins a comment.
@@ -59,7 +62,7 @@ prints
   counts free 12 queue 4 chain 0 data 0
 
 Exit status: 0 done, 1 the script is at fault, 2 the arguments, the image or the opening,
-3 memory or the output. docs/SCRIPT.md in the repository has all of this in full.";
+3 memory, the output or the saved image. docs/SCRIPT.md in the repository has all of this in full.";
 
 /// What `nvmesgl threads --help` says first.
 pub const THREADS_ABOUT: &str = "Runs the jobs of a script, and prints how each ended.
@@ -131,3 +134,64 @@ prints
 
 Exit status: 0 done, 1 the input is unreadable, 2 the arguments, the image or the opening, 3
 memory or the output. docs/SCRIPT.md and docs/TEACHING.md in the repository have more.";
+
+/// What `nvmesgl draw --help` says first.
+pub const DRAW_ABOUT: &str = "Plays a script, and writes a page of HTML with a picture of each step.
+
+A picture shows the pages of the pool by who owns them, the rings of the queues and where both
+sides stand in them, and the outstanding commands. Arrow keys and a slider go from step to step.";
+
+/// What `nvmesgl draw --help` says last.
+pub const DRAW_AFTER: &str = "Example:
+  nvmesgl draw examples/read.script > read.html
+
+Exit status: 0 done, 1 the script is at fault, 2 the arguments, the image or the opening, 3
+memory or the output.";
+
+/// What `nvmesgl explain --help` says first.
+pub const EXPLAIN_ABOUT: &str =
+    "Tells what the controller makes of a submission entry and its scatter-gather list.
+
+It walks the list over the pages that are given, and prints a line for each descriptor that it
+takes. The last lines say `accepted`, or `refused` with the status, which descriptor, and which
+rule.";
+
+/// What `nvmesgl explain --help` says last.
+pub const EXPLAIN_AFTER: &str = "The input has one thing on each line; `#` begins a comment.
+  sqe BYTES       the entry of an I/O queue, 64 bytes
+  page P BYTES    the bytes of a page, zeros behind them; each page that is not told has zeros
+  out P           the host has this page out: the controller cannot reach it
+  block N BYTES   the bytes of a block, zeros behind them
+  pages N         how many pages the pool has, 8 to 65536, before these; else 16
+  blocks N        how many blocks the image has, 1 to 65536, before these; else 64
+BYTES are hexadecimal digits, blanks anywhere between two bytes, or 00*16 for one byte so often.
+Page P has the addresses from 4096 times P on.
+
+Example:
+  printf 'sqe 02400100 01000000 00*16 0080000000000000 00010000 00000000 00*24\\n' | nvmesgl explain
+prints
+  descriptor 1, SGL1 of the entry: Data Block, address 8000h, length 256, for 256 bytes
+  refused: 0:0F Data SGL Length Invalid
+  descriptor 1, SGL1 of the entry: it ends the list, and bytes are still wanted
+  the command moves 512 bytes, and its list has 256
+
+Exit status: 0 accepted, 4 refused, 1 the input is at fault, 2 the arguments, 3 memory or the
+output. docs/FIRMWARE.md in the repository has more.";
+
+/// What `nvmesgl show --help` says first.
+pub const SHOW_ABOUT: &str =
+    "Decodes an entry or a descriptor: each field by its name, and what of it the controller refuses.
+
+The first word says what the bytes are: `sqe` a submission entry of an I/O queue, 64 bytes, `cqe`
+a completion entry, 16, `sgl` a scatter-gather list descriptor, 16. All others are the bytes.";
+
+/// What `nvmesgl show --help` says last.
+pub const SHOW_AFTER: &str = "Example:
+  nvmesgl show sgl 00700000 00000000 18000000 00000030
+prints
+  Last Segment, address 7000h, length 24
+  SGL1 is refused: 0:0D Invalid SGL Segment Descriptor
+  it is a link whose length is zero or no multiple of 16, or whose address is no multiple of 8
+
+Exit status: 0 decoded, 1 the bytes are at fault, 2 the arguments, 3 memory or the output.
+docs/FIRMWARE.md in the repository has more.";

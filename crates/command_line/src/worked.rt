@@ -1,7 +1,7 @@
 //! Worked command lines. Each function computes some.
 
-ghost use Rattle.std.specs.Prelude.{◌≡◌, ℕ, List, None, Some, [], ◌∷◌, ◌++◌, true, codes};
-ghost use Rattle.command_line.specs.Asked.{asked, check, check_jobs, grammar, shell, steps, test, threads};
+ghost use Rattle.std.specs.Prelude.{◌≡◌, ℕ, List, None, Some, [], ◌∷◌, ◌++◌, false, true, codes};
+ghost use Rattle.command_line.specs.Asked.{asked, check, check_jobs, draw, explain, grammar, shell, show, steps, test, threads, traced};
 ghost use Rattle.command_line.specs.Worked.{check_with, extreme, extreme_words, mixed, mixed_words, one_file, steps_with, test_with, threads_with, usual};
 
 /// Each option is what its words say, and its usual value where there are none.
@@ -24,6 +24,24 @@ pub fn scripts_are_words()
     ensures behind { asked (steps_with (codes "--blocks" ∷ codes "64" ∷ codes "--" ∷ codes "--a" ∷ [])) ≡ Some (steps (record usual { script = Some (codes "--a") })) }
 {}
 
+/// The image of `steps` is saved into a file, and that of no other command.
+#[tactic(auto, unfolding(clap::proofs::OnLiterals::clap_on_literals))]
+pub fn images_are_saved()
+    ensures file { asked (steps_with (codes "--save" ∷ codes "disk" ∷ [])) ≡ Some (steps (record usual { save = Some (codes "disk") })) }
+    ensures image { asked (steps_with (codes "a" ∷ codes "--save=disk" ∷ codes "--image=disk" ∷ [])) ≡ Some (steps (record usual { image = Some (codes "disk"); script = Some (codes "a"); save = Some (codes "disk") })) }
+    ensures no_file { asked (steps_with (codes "--save" ∷ [])) ≡ None }
+    ensures threads { asked (threads_with (codes "--save" ∷ codes "disk" ∷ [])) ≡ None }
+{}
+
+/// Steps tell what they moved where that is asked for.
+#[tactic(auto, unfolding(clap::proofs::OnLiterals::clap_on_literals))]
+pub fn steps_are_traced()
+    ensures steps { asked (steps_with (codes "--trace" ∷ [])) ≡ Some (traced usual) }
+    ensures saved { asked (steps_with (codes "a" ∷ codes "--trace" ∷ codes "--save=disk" ∷ [])) ≡ Some (traced (record usual { script = Some (codes "a"); save = Some (codes "disk") })) }
+    ensures shell { asked (codes "nvmesgl" ∷ codes "shell" ∷ codes "--trace" ∷ []) ≡ Some (shell usual true) }
+    ensures threads { asked (threads_with (codes "--trace" ∷ [])) ≡ None }
+{}
+
 /// What `check` and `grammar` ask for.
 #[tactic(auto, unfolding(clap::proofs::OnLiterals::clap_on_literals))]
 pub fn nothing_is_run()
@@ -39,15 +57,26 @@ pub fn nothing_is_run()
     ensures no_word { asked (codes "nvmesgl" ∷ codes "grammar" ∷ codes "ring" ∷ []) ≡ None }
 {}
 
-/// What `test` and `shell` ask for.
+/// What `test`, `shell` and `draw` ask for.
 #[tactic(auto, unfolding(clap::proofs::OnLiterals::clap_on_literals))]
 pub fn files_are_tested()
     ensures one { asked (test_with (codes "a" ∷ [])) ≡ Some (test one_file) }
     ensures more { asked (test_with (codes "a" ∷ codes "--update" ∷ codes "b" ∷ [])) ≡ Some (test (record one_file { updates = true; files = codes "a" ∷ codes "b" ∷ [] })) }
     ensures blocks { asked (test_with (codes "--blocks" ∷ codes "3" ∷ codes "a" ∷ [])) ≡ Some (test (record one_file { zeros = 3 })) }
     ensures no_file { asked (test_with []) ≡ None }
-    ensures shell { asked (codes "nvmesgl" ∷ codes "shell" ∷ []) ≡ Some (shell usual) }
-    ensures mixed_shell { asked (codes "nvmesgl" ∷ codes "shell" ∷ mixed_words) ≡ Some (shell mixed) }
+    ensures shell { asked (codes "nvmesgl" ∷ codes "shell" ∷ []) ≡ Some (shell usual false) }
+    ensures mixed_shell { asked (codes "nvmesgl" ∷ codes "shell" ∷ mixed_words) ≡ Some (shell mixed false) }
+    ensures draw { asked (codes "nvmesgl" ∷ codes "draw" ∷ []) ≡ Some (draw usual) }
+    ensures mixed_draw { asked (codes "nvmesgl" ∷ codes "draw" ∷ mixed_words) ≡ Some (draw mixed) }
+{}
+
+/// What `explain` and `show` ask for.
+#[tactic(auto, unfolding(clap::proofs::OnLiterals::clap_on_literals))]
+pub fn bytes_are_looked_at()
+    ensures explain { asked (codes "nvmesgl" ∷ codes "explain" ∷ []) ≡ Some (explain None) }
+    ensures file { asked (codes "nvmesgl" ∷ codes "explain" ∷ codes "a" ∷ []) ≡ Some (explain (Some (codes "a"))) }
+    ensures show { asked (codes "nvmesgl" ∷ codes "show" ∷ codes "sgl" ∷ codes "00*16" ∷ []) ≡ Some (show (codes "sgl" ∷ codes "00*16" ∷ [])) }
+    ensures no_word { asked (codes "nvmesgl" ∷ codes "show" ∷ []) ≡ None }
 {}
 
 /// Words that ask for no command.

@@ -1,8 +1,10 @@
 -- A completion can carry each fault of a walk.
-use Rattle.std.proofs.Common.{ℕ, suc, zero, ◌+◌, ◌-◌, ◌<◌, ◌&&◌, Bool, true, false, not, min, nat_lt, nat_eq, cond, Option, Some, None, is_some, List, [], ◌∷◌, arith}
-use Rattle.std.specs.List.{AllByRecursion}
-use Rattle.controller_walk.specs.Units.{Course, Stays, Moves, Closes, Does, Row, after_read, read_at, from_place, behind, goes_on, unless_fault, first_fault, first_passing, named_last, named_on, names_no_segment, passes_end, moving, first_part, pages_spanned, entry_cursor}
+use Rattle.std.proofs.Common.{ℕ, suc, zero, ◌+◌, ◌-◌, ◌<◌, Bool, true, false, min, nat_eq, cond, Option, Some, None, is_some, List, arith}
+use Rattle.std.specs.Option.{option_map}
+use Rattle.controller_walk.specs.Units.{Course, Stays, Moves, Closes, Does, after_read, read_at, from_place, behind, goes_on, unless_fault, cause_status, first_cause, first_fault, moving, first_part, pages_spanned, entry_cursor}
 use Rattle.controller_walk.specs.Walks.{answer, course_in}
+use Rattle.controller_walk.specs.declared.cause.FaultCause.{FaultCause}
+use Rattle.controller_walk.specs.declared.cause.FaultCause.TheVariants.{TooManyDescriptors, UnreadableDescriptor, UnknownType, LinkInLastSegment, LinkNotLast, MalformedLink, MissingLink, PastEndOfAddresses, UnreadableData, ListTooShort}
 use Rattle.controller_walk.specs.declared.cursor.Cursor.{Cursor}
 use Rattle.controller_walk.specs.declared.progress.Progress.{Progress}
 use Rattle.controller_walk.specs.declared.progress.State as progress
@@ -10,13 +12,13 @@ use Rattle.controller_walk.specs.declared.progress.State.TheVariants.{First, Nex
 use Rattle.controller_walk.specs.declared.walk.Walk.{Walk}
 use Rattle.controller_walk.specs.declared.walk.WalkState.TheVariants.{End, Fault}
 use Rattle.entry_codec.specs.declared.status.Status.{Status}
-use Rattle.entry_codec.specs.declared.status.TheConstants.Status.{DATA_TRANSFER_ERROR, INVALID_SGL_SEGMENT, INVALID_SGL_COUNT, DATA_SGL_LENGTH_INVALID}
+use Rattle.entry_codec.specs.declared.status.TheConstants.Status.{DATA_TRANSFER_ERROR, DATA_SGL_LENGTH_INVALID}
 use Rattle.io_commands.specs.Jobs.{course_of_walk, verdict_of}
 use Rattle.page_memory.specs.Memory.{Memory, bytes_at}
 use Rattle.sgl_descriptor.specs.declared.Descriptor.{Descriptor}
 use Rattle.sgl_descriptor.specs.declared.Descriptor.TheVariants.{DataBlock, BitBucket, Segment, LastSegment}
 use Rattle.sgl_descriptor.specs.declared.Direction.{Direction}
-use Rattle.sgl_descriptor.specs.Spelling.{descriptor_of, is_link}
+use Rattle.sgl_descriptor.specs.Spelling.{descriptor_of}
 use Rattle.controller_core.specs.Contents.{FitsVerdict}
 
 -- a course ends with what a completion can carry
@@ -40,24 +42,21 @@ moving_fits m (suc n) place len offset rest h =
     go true h = h
     go false h = omega arith
 
-rows_fit : (rows : List Row) → AllByRecursion (λ (row : Row). row.1.sct < 8) rows → FitsVerdict (first_passing rows)
-rows_fit [] h = tt
-rows_fit ((applies, status) ∷ rows) h = go applies (rows_fit rows h.1)
-  where
-    go : (b : Bool) → FitsVerdict (first_passing rows) → FitsVerdict (cond b (Some status) (first_passing rows))
-    go true rest = h.0
-    go false rest = rest
+cause_fits : (cause : Option FaultCause) → FitsVerdict (option_map cause_status cause)
+cause_fits None = tt
+cause_fits (Some TooManyDescriptors) = omega arith
+cause_fits (Some UnreadableDescriptor) = omega arith
+cause_fits (Some UnknownType) = omega arith
+cause_fits (Some LinkInLastSegment) = omega arith
+cause_fits (Some LinkNotLast) = omega arith
+cause_fits (Some MalformedLink) = omega arith
+cause_fits (Some MissingLink) = omega arith
+cause_fits (Some PastEndOfAddresses) = omega arith
+cause_fits (Some UnreadableData) = omega arith
+cause_fits (Some ListTooShort) = omega arith
 
 fault_fits : (c : Cursor) (d : Descriptor) → FitsVerdict (first_fault c d)
-fault_fits c d =
-    rows_fit (
-    (is_link d && named_last c.named, INVALID_SGL_SEGMENT)
-    ∷ (is_link d && nat_lt 1 c.left, INVALID_SGL_COUNT)
-    ∷ (is_link d && names_no_segment d, INVALID_SGL_SEGMENT)
-    ∷ (not (is_link d) && named_on c.named && nat_eq c.left 1, INVALID_SGL_SEGMENT)
-    ∷ (passes_end d, DATA_SGL_LENGTH_INVALID)
-    ∷ [])
-    (omega arith, (omega arith, (omega arith, (omega arith, (omega arith, tt)))))
+fault_fits c d = cause_fits (first_cause c d)
 
 on_fits : (m : Memory) (dir : Direction) (need : ℕ) (c : Cursor) (wanted : ℕ) (later : Option Cursor → ℕ → Course) (d : Descriptor) → ((o : Option Cursor) (wanted : ℕ) → EndsFit (later o wanted))
     → EndsFit (goes_on m dir need c wanted later d)
@@ -103,7 +102,7 @@ course_fits m w (First sgl1) =
 course_fits m w (Next c) = from_fits w.allowed m w.direction w.need c w.wanted
 course_fits m w (Data block after) =
     moving_fits m (pages_spanned block.place block.len) block.place block.len block.offset _ (behind_fits (from_place w.allowed m w.direction w.need) (from_fits w.allowed m w.direction w.need) after w.wanted)
-course_fits m w Over = omega arith
+course_fits m w (Over fault) = omega arith
 
 -- so each walk does, in each memory
 pub walk_ends_fit : (m : Memory) (o : Option Walk) → EndsFit (course_of_walk m o)

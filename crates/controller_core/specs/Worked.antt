@@ -61,10 +61,10 @@ abbrev pub read_begun : JobContents
 read_begun = read_at (First first_sgl1) 512 None
 
 abbrev pub read_halfway : JobContents
-read_halfway = read_at (Data (record { place = 0x4000; len = 512; offset = 0 }) None) 0 None
+read_halfway = read_at (Data (record { place = 0x4000; len = 512; offset = 0; descriptor = None }) None) 0 None
 
 abbrev pub read_walked : JobContents
-read_walked = read_at Over 0 (Some SUCCESS)
+read_walked = read_at (Over None) 0 (Some SUCCESS)
 
 abbrev pub with_read_begun : Contents
 with_read_begun = begun 1 read_begun rung

@@ -3,6 +3,7 @@ pub mod Along
 pub mod Counts
 pub mod Courses
 pub mod Moves
+pub mod Reading
 pub mod Same
 pub mod Serving
 pub mod Stands

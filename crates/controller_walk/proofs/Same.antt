@@ -114,7 +114,7 @@ state_same at m m' agree w (First sgl1) look =
 state_same at m m' agree w (Next c) look = from_same at m m' agree w.allowed w.direction w.need c w.wanted look
 state_same at m m' agree w (Data block after) look =
     moving_same at m m' (pages_spanned block.place block.len) block.place block.len block.offset _ _ agree.there (rest_same at m m' agree w.allowed w.direction w.need after w.wanted) look
-state_same at m m' agree w Over look = refl
+state_same at m m' agree w (Over fault) look = refl
 
 -- and what is left of a walk is the same in them
 pub walk_same : (at : ℕ → Bool) (m m' : Memory) → Agree at m m' → (w : Progress) → ReadsWithin at (course m w) → course m w ≡ course m' w

@@ -91,7 +91,7 @@ state_served m other w (First sgl1) serves =
 state_served m other w (Next c) serves = served_from m other w.allowed w.direction w.need c w.wanted serves
 state_served m other w (Data block after) serves =
     served_moving m other (pages_spanned block.place block.len) block.place block.len block.offset _ _ (served_rest m other w.allowed w.direction w.need after w.wanted) serves
-state_served m other w Over serves = refl
+state_served m other w (Over fault) serves = refl
 
 pub walk_served : (m other : Memory) → SameWhereServed m other
 walk_served m other w serves = state_served m other w w.state serves

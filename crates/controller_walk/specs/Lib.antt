@@ -1,4 +1,5 @@
 pub mod Along
+pub mod Faults
 pub mod Laws
 pub mod Progress
 pub mod Serving

@@ -31,7 +31,7 @@ abbrev pub IsStateOf : ℕ → ℕ → State → Type 0
 IsStateOf need wanted (First sgl1) = Unit {0}
 IsStateOf need wanted (Next c) = IsCursor c
 IsStateOf need wanted (Data block after) = IsBlock need wanted block × IsAfter after
-IsStateOf need wanted Over = Unit {0}
+IsStateOf need wanted (Over fault) = Unit {0}
 
 -- what holds of a walk whatever it meets next
 pub record IsBounded (w : Progress) : Type 0 where

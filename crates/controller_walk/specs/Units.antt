@@ -1,5 +1,6 @@
 -- What each step of a walk does, and how the walk ends (NVM Express Base Specification 2.0, "Scatter Gather List (SGL)", section 4.1.2).
 use Rattle.std.specs.Prelude.{◌+◌, ◌-◌, ◌/◌, ◌%◌, ◌^◌, ◌&&◌, ◌||◌, ◌∷◌, [], ℕ, Bool, true, false, not, List, Option, Some, None, if◌then◌else◌, nat_eq, nat_le, nat_lt, zero, suc, min, is_some}
+use Rattle.std.specs.Option.{option_map}
 use Rattle.entry_codec.specs.declared.status.Status.{Status}
 use Rattle.entry_codec.specs.declared.status.TheConstants.Status.{DATA_TRANSFER_ERROR, INVALID_SGL_SEGMENT, INVALID_SGL_COUNT, DATA_SGL_LENGTH_INVALID, SGL_TYPE_INVALID}
 use Rattle.page_memory.specs.Memory.{Memory, bytes_at, pages_reached}
@@ -8,6 +9,8 @@ use Rattle.sgl_descriptor.specs.declared.Descriptor.TheVariants.{DataBlock, BitB
 use Rattle.sgl_descriptor.specs.declared.Direction.{Direction}
 use Rattle.sgl_descriptor.specs.Spelling.{descriptor_of, is_link}
 use Rattle.sgl_descriptor.specs.Targets.{counted}
+use Rattle.controller_walk.specs.declared.cause.FaultCause.{FaultCause}
+use Rattle.controller_walk.specs.declared.cause.FaultCause.TheVariants.{TooManyDescriptors, UnreadableDescriptor, UnknownType, LinkInLastSegment, LinkNotLast, MalformedLink, MissingLink, PastEndOfAddresses, UnreadableData, ListTooShort}
 use Rattle.controller_walk.specs.declared.cursor.Named.{Named}
 use Rattle.controller_walk.specs.declared.cursor.Named.TheVariants.{Unnamed, BySegment, ByLastSegment}
 use Rattle.controller_walk.specs.declared.cursor.Cursor.{Cursor}
@@ -36,14 +39,27 @@ pub data Course : Type 0 where
 --   it is the 4,097th descriptor of the list, the entry's being the first    Invalid Number of SGL Descriptors   `from_place`
 --   one of its bytes is unreadable                                           Data Transfer Error                 `read_at`
 --   its type is above 3, or its subtype is not 0                             SGL Descriptor Type Invalid         `after_read`
---   the rows of `first_fault`, in their order
+--   the rows of `first_cause`, in their order
 --   a byte of its data is unreadable                                         Data Transfer Error                 `moving`
 -- The list is over as soon as all bytes that the command moves are counted: what stands behind is no fault. At the end of
 -- a list with bytes still wanted: Data SGL Length Invalid (`behind`).
 
--- a row of the table: whether it applies, and its status
+-- the status of each fault
+abbrev pub cause_status : FaultCause → Status
+cause_status TooManyDescriptors = INVALID_SGL_COUNT
+cause_status UnreadableDescriptor = DATA_TRANSFER_ERROR
+cause_status UnknownType = SGL_TYPE_INVALID
+cause_status LinkInLastSegment = INVALID_SGL_SEGMENT
+cause_status LinkNotLast = INVALID_SGL_COUNT
+cause_status MalformedLink = INVALID_SGL_SEGMENT
+cause_status MissingLink = INVALID_SGL_SEGMENT
+cause_status PastEndOfAddresses = DATA_SGL_LENGTH_INVALID
+cause_status UnreadableData = DATA_TRANSFER_ERROR
+cause_status ListTooShort = DATA_SGL_LENGTH_INVALID
+
+-- a row of the table: whether it applies, and which fault it is
 abbrev pub Row : Type 0
-Row = Bool × Status
+Row = Bool × FaultCause
 
 -- what stands in the first row that applies
 abbrev pub first_passing : {A : Type 0} → List (Bool × A) → Option A
@@ -84,20 +100,24 @@ passes_end d = nat_lt (2 ^ 64) (address d + size d)
 
 -- The first fault of a descriptor that was read and has a type, at a cursor (which says how many descriptors are
 -- left in the segment, itself among them, and what names the segment). How many bytes are wanted is no matter.
-abbrev pub first_fault : Cursor → Descriptor → Option Status
-first_fault c d =
+abbrev pub first_cause : Cursor → Descriptor → Option FaultCause
+first_cause c d =
     first_passing (
     -- a link, in a segment that a Last Segment descriptor names
-    (is_link d && named_last c.named, INVALID_SGL_SEGMENT)
+    (is_link d && named_last c.named, LinkInLastSegment)
     -- a link, not in the last place of its segment
-    ∷ (is_link d && nat_lt 1 c.left, INVALID_SGL_COUNT)
+    ∷ (is_link d && nat_lt 1 c.left, LinkNotLast)
     -- a link with length zero, length no multiple of 16, or address no multiple of 8
-    ∷ (is_link d && names_no_segment d, INVALID_SGL_SEGMENT)
+    ∷ (is_link d && names_no_segment d, MalformedLink)
     -- no link, in the last place of a segment that a Segment descriptor names
-    ∷ (not (is_link d) && named_on c.named && nat_eq c.left 1, INVALID_SGL_SEGMENT)
+    ∷ (not (is_link d) && named_on c.named && nat_eq c.left 1, MissingLink)
     -- a Data Block or a link whose address plus its whole length is above 2 ^ 64
-    ∷ (passes_end d, DATA_SGL_LENGTH_INVALID)
+    ∷ (passes_end d, PastEndOfAddresses)
     ∷ [])
+
+-- and its status
+abbrev pub first_fault : Cursor → Descriptor → Option Status
+first_fault c d = option_map cause_status (first_cause c d)
 
 -- in how many pages a range lies
 abbrev pub pages_spanned : ℕ → ℕ → ℕ

@@ -1,5 +1,5 @@
 -- What a walk still has to do, and what one step does of it.
-use Rattle.std.specs.Prelude.{◌≡◌, ◌+◌, ◌*◌, ◌/◌, ◌++◌, ℕ, Bool, true, false, List, Some, slice_range, take, drop}
+use Rattle.std.specs.Prelude.{◌≡◌, ◌+◌, ◌-◌, ◌*◌, ◌/◌, ◌++◌, ℕ, Bool, true, false, List, Some, slice_range, take, drop}
 use Rattle.sgl_descriptor.specs.Spelling.{descriptor_of}
 use Rattle.sgl_descriptor.specs.declared.Direction.{Direction}
 use Rattle.sgl_descriptor.specs.declared.Direction.TheVariants.{Destination, Source}
@@ -15,6 +15,10 @@ use Rattle.controller_walk.specs.Units.{Act, Stays, Reads, Moves, touched, Cours
 abbrev pub need_of : Walk → ℕ
 need_of w = w.need
 
+-- how many of them the descriptors that were taken have counted
+abbrev pub counted_of : Walk → ℕ
+counted_of w = w.need - w.wanted
+
 -- which way they go
 abbrev pub direction_of : Walk → Direction
 direction_of w = w.direction
@@ -23,7 +27,7 @@ abbrev pub is_over_in : State → Bool
 is_over_in (First sgl1) = false
 is_over_in (Next c) = false
 is_over_in (Data block after) = false
-is_over_in Over = true
+is_over_in (Over fault) = true
 
 -- whether a walk has answered its verdict
 abbrev pub is_over : Walk → Bool
@@ -33,7 +37,7 @@ abbrev pub course_in : Memory → Walk → State → Course
 course_in m w (First sgl1) = Does Stays (after_read m w.direction w.need entry_cursor w.wanted (rest_of w.allowed m w.direction w.need) (descriptor_of sgl1))
 course_in m w (Next c) = from_place w.allowed m w.direction w.need c w.wanted
 course_in m w (Data block after) = moving m (pages_spanned block.place block.len) block.place block.len block.offset (rest_of w.allowed m w.direction w.need after w.wanted)
-course_in m w Over = Closes End
+course_in m w (Over fault) = Closes End
 
 -- what a walk still has to do in a memory; of one that is over nothing is left
 abbrev pub course : Memory → Walk → Course
@@ -90,7 +94,7 @@ abbrev pub left_in : Walk → State → ℕ
 left_in w (First sgl1) = 4 + 3 * w.allowed + w.wanted / 4096
 left_in w (Next c) = 1 + 3 * w.allowed + w.wanted / 4096
 left_in w (Data block after) = 1 + pages_spanned block.place block.len + 3 * w.allowed + w.wanted / 4096
-left_in w Over = 0
+left_in w (Over fault) = 0
 
 -- how many steps a walk may still answer More to, at most
 abbrev pub left_of : Walk → ℕ

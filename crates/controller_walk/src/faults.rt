@@ -1,27 +1,27 @@
 //! The faults of a descriptor that was read.
 
 ghost use Rattle.std.specs.Prelude.{◌≡◌};
-ghost use Rattle.controller_walk.specs.Units.{first_fault as spec_first_fault, names_no_segment as spec_names_no_segment, passes_end as spec_passes_end, address, size};
+ghost use Rattle.controller_walk.specs.Units.{first_cause as spec_first_cause, names_no_segment as spec_names_no_segment, passes_end as spec_passes_end, address, size};
 
+use crate::cause::FaultCause;
 use crate::cursor::{Cursor, Named};
-use entry_codec::Status;
 use sgl_descriptor::Descriptor;
 
 /// The first fault of a descriptor of a valid type, however many bytes are wanted. The order is that of the table of faults.
-pub fn first_fault(cursor: Cursor, descriptor: Descriptor) -> Option<Status>
-    ensures { result ≡ spec_first_fault cursor descriptor }
+pub fn first_cause(cursor: Cursor, descriptor: Descriptor) -> Option<FaultCause>
+    ensures { result ≡ spec_first_cause cursor descriptor }
 {
     let link = descriptor.is_link();
     if link && matches!(cursor.named, Named::ByLastSegment) {
-        Some(Status::INVALID_SGL_SEGMENT)
+        Some(FaultCause::LinkInLastSegment)
     } else if link && cursor.left > 1 {
-        Some(Status::INVALID_SGL_COUNT)
+        Some(FaultCause::LinkNotLast)
     } else if link && names_no_segment(descriptor) {
-        Some(Status::INVALID_SGL_SEGMENT)
+        Some(FaultCause::MalformedLink)
     } else if !link && matches!(cursor.named, Named::BySegment) && cursor.left == 1 {
-        Some(Status::INVALID_SGL_SEGMENT)
+        Some(FaultCause::MissingLink)
     } else if passes_end(descriptor) {
-        Some(Status::DATA_SGL_LENGTH_INVALID)
+        Some(FaultCause::PastEndOfAddresses)
     } else {
         None
     }

@@ -6,7 +6,8 @@
 //! the first of the list and is taken without reading memory. A Bit Bucket and an empty Data Block are finished by the
 //! step that takes them. The step that counts or moves the last of the bytes that the command wants answers `End`; a list may
 //! be longer: of its last part only the wanted front is counted or moved, and no descriptor behind it is read. The step that
-//! finishes the last descriptor of a list that is too short answers a fault, as does each step that meets one.
+//! finishes the last descriptor of a list that is too short answers a fault, as does each step that meets one. [`Walk::fault`] says
+//! which fault of the table it was, and at which descriptor.
 //!
 //! `specs/Units.antt` defines, for any memory, the units of a list and its verdict, with the table of faults. A step's
 //! contract is that it does the first of what is left and leaves the others, and [`laws::steps_do_units`] says that the
@@ -17,6 +18,7 @@
 //! Nothing here takes memory. The order of the faults is this project's own, as is the limit of 4,096 descriptors.
 #![tactic(auto)]
 
+mod cause;
 mod cursor;
 mod faults;
 pub mod laws;
@@ -24,5 +26,6 @@ mod progress;
 mod walk;
 pub mod worked;
 
+pub use cause::{DescriptorAt, FaultCause, WalkFault};
 pub use sgl_descriptor::Direction;
 pub use walk::{Walk, WalkState};

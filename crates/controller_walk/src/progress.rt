@@ -1,19 +1,22 @@
 //! How far a walk is, and what one step does.
 
-ghost use Rattle.std.specs.Prelude.{◌≡◌, ◌<◌, ◌≤◌, ◌+◌, ◌-◌, ◌*◌, ◌/◌, ◌^◌, ◌⊎◌, ◌++◌, ℕ, List, OnOk, OnErr, Some, None, length, min, not, true, false};
+ghost use Rattle.std.specs.Prelude.{◌≡◌, ◌<◌, ◌≤◌, ◌+◌, ◌-◌, ◌*◌, ◌/◌, ◌^◌, ◌⊎◌, ◌++◌, ◌&&◌, ℕ, List, OnOk, OnErr, Some, None, length, min, nat_eq, not, true, false};
 ghost use Rattle.page_memory.specs.Memory.{Memory, bytes_at, pages_reached};
 ghost use Rattle.sgl_descriptor.specs.declared.Descriptor.TheVariants.{BitBucket};
 ghost use Rattle.sgl_descriptor.specs.Spelling.{descriptor_of};
 ghost use Rattle.sgl_descriptor.specs.Targets.{counted as spec_counted};
 ghost use Rattle.controller_walk.specs.declared.progress.State.TheVariants.{Over};
-ghost use Rattle.controller_walk.specs.Units.{next as spec_next, after_read, goes_on, rest_of, from_place, moving, first_part as spec_first_part, pages_spanned};
+ghost use Rattle.controller_walk.specs.Units.{next as spec_next, after_read, goes_on, rest_of, from_place, moving, first_part as spec_first_part, pages_spanned, segment_start, cause_status};
+ghost use Rattle.controller_walk.specs.Faults.{fault_of, fault_met, fault_at, fault_status, answered_status, cause_if, cause_moved, cause_next, cause_taken, counts_next, counts_of, counts_taken, ends_short, is_short, taken_last as spec_taken_last};
+ghost use Rattle.controller_walk.specs.declared.walk.WalkState.TheVariants.{End, Fault};
+ghost use Rattle.controller_walk.specs.declared.cause.FaultCause.TheVariants.{ListTooShort};
 ghost use Rattle.controller_walk.specs.Progress.{IsProgress, IsBounded, IsClear, IsAfter, IsCursor, IsBlock};
 ghost use Rattle.controller_walk.specs.Walks.{course, is_over, is_more, IfMore, DoesFirst, LeavesRest, Leaves, left_of, reads_first, Keeps, Moved};
 
+use crate::cause::{DescriptorAt, FaultCause, WalkFault};
 use crate::cursor::{Cursor, Named};
-use crate::faults::first_fault;
+use crate::faults::first_cause;
 use crate::walk::WalkState;
-use entry_codec::Status;
 use page_memory::{Dma, Unreadable};
 use sgl_descriptor::{Descriptor, Direction};
 
@@ -26,6 +29,8 @@ pub struct Block {
     pub len: u32,
     /// Where the next byte stands among the command's bytes.
     pub offset: u32,
+    /// The address of its descriptor; `None` for the entry's.
+    pub descriptor: Option<u64>,
 }
 
 /// What the next step meets.
@@ -37,8 +42,8 @@ pub enum State {
     Next(Cursor),
     /// A Data Block, and behind it another descriptor or the list's end.
     Data(Block, Option<Cursor>),
-    /// Nothing: the verdict was answered.
-    Over,
+    /// Nothing: the verdict was answered, with that fault.
+    Over(Option<WalkFault>),
 }
 
 /// How far a walk is.
@@ -74,6 +79,10 @@ impl Progress {
         ensures leaves { LeavesRest (course (D.memory dma.old) self) result.1 (course (D.memory dma.old) result.0) }
         ensures proper { IsProgress result.0 }
         ensures over { is_over result.0 ≡ not (is_more result.1) }
+        ensures fault { fault_of result.0 ≡ fault_met (D.memory dma.old) self }
+        ensures status { fault_status (fault_of result.0) ≡ answered_status result.1 }
+        ensures counts { result.0.wanted ≡ self.wanted - counts_of (D.memory dma.old) self }
+        ensures ended { result.1 ≡ End → result.0.wanted ≡ 0 }
         ensures kept { Keeps self result.0 }
         ensures fewer { IfMore result.1 (left_of result.0 < left_of self) }
         ensures reads { reads_first (course (D.memory dma.old) self) + result.0.allowed ≤ self.allowed }
@@ -81,42 +90,65 @@ impl Progress {
         ensures pool { D.page_count dma.new ≡ D.page_count dma.old }
     {
         match self.state {
-            State::First(sgl1) => self.take(ENTRY, &sgl1),
+            State::First(sgl1) => self.take(ENTRY, None, &sgl1),
             State::Next(cursor) => self.take_next(cursor, dma),
             State::Data(block, after) => self.move_part(block, after, dma, staging),
-            State::Over => unreachable!(),
+            State::Over(_) => unreachable!(),
         }
     }
 
-    /// The progress of a walk that is over, and its verdict.
-    fn close(self, verdict: WalkState) -> (Progress, WalkState)
-        ensures { (result.0 ≡ record self { state = Over }) × (result.1 ≡ verdict) }
+    /// The descriptor that was taken last, which stands at that address.
+    pub fn taken_last(self, place: Option<u64>) -> DescriptorAt
+        requires bounded { IsBounded self }
+        ensures { result ≡ spec_taken_last self place }
     {
-        let state = State::Over;
-        (Progress { state, ..self }, verdict)
+        DescriptorAt {
+            number: 4096 - self.allowed,
+            place,
+        }
     }
 
-    /// Goes on behind a descriptor that is done, if bytes are still wanted.
+    /// The progress of a walk that ends well.
+    fn end(self) -> (Progress, WalkState)
+        ensures { (result.0 ≡ record self { state = Over None }) × (result.1 ≡ End) }
+    {
+        let state = State::Over(None);
+        (Progress { state, ..self }, WalkState::End)
+    }
+
+    /// The progress of a walk that meets a fault at a descriptor.
+    fn fail(self, cause: FaultCause, at: DescriptorAt) -> (Progress, WalkState)
+        ensures { (result.0 ≡ record self { state = Over (Some (record { cause = cause; at = at })) }) × (result.1 ≡ Fault (cause_status cause)) }
+    {
+        let state = State::Over(Some(WalkFault { cause, at }));
+        (Progress { state, ..self }, WalkState::Fault(cause.status()))
+    }
+
+    /// Goes on behind a descriptor that is done and stands at `at`, if bytes are still wanted.
     #[tactic(auto, using(crate::proofs::Courses::more_at, crate::proofs::Courses::still_wants))]
-    fn go(self, after: Option<Cursor>) -> (Progress, WalkState)
+    fn go(self, after: Option<Cursor>, at: Option<u64>) -> (Progress, WalkState)
         requires bounded { IsBounded self }
         requires after { IsAfter after }
         ensures leaves { (m : Memory) → Leaves (rest_of self.allowed m self.direction self.need after self.wanted) result.1 (course m result.0) }
         ensures proper { IsProgress result.0 }
         ensures over { is_over result.0 ≡ not (is_more result.1) }
+        ensures fault { fault_of result.0 ≡ fault_at (spec_taken_last self at) (cause_if (ends_short after self.wanted) ListTooShort) }
+        ensures status { fault_status (fault_of result.0) ≡ answered_status result.1 }
+        ensures counts { result.0.wanted ≡ self.wanted }
+        ensures ended { result.1 ≡ End → result.0.wanted ≡ 0 }
         ensures kept { Keeps self result.0 }
         ensures fewer { IfMore result.1 (left_of result.0 ≤ 1 + 3 * self.allowed + self.wanted / 4096) }
         ensures allowed { result.0.allowed ≡ self.allowed }
     {
         if self.wanted == 0 {
-            return self.close(WalkState::End);
+            return self.end();
         }
         match after {
             Some(cursor) => {
                 let state = State::Next(cursor);
                 (Progress { state, ..self }, WalkState::More)
             }
-            None => self.close(WalkState::Fault(Status::DATA_SGL_LENGTH_INVALID)),
+            None => self.fail(FaultCause::ListTooShort, self.taken_last(at)),
         }
     }
 }
@@ -131,70 +163,87 @@ impl Progress {
         ensures leaves { LeavesRest (from_place self.allowed (D.memory dma.old) self.direction self.need cursor self.wanted) result.1 (course (D.memory dma.old) result.0) }
         ensures proper { IsProgress result.0 }
         ensures over { is_over result.0 ≡ not (is_more result.1) }
+        ensures fault { fault_of result.0 ≡ fault_at (record { number = 4097 - self.allowed; place = Some cursor.place }) (cause_next (D.memory dma.old) self.direction self.allowed cursor self.wanted) }
+        ensures status { fault_status (fault_of result.0) ≡ answered_status result.1 }
+        ensures counts { result.0.wanted ≡ self.wanted - counts_next (D.memory dma.old) self.direction self.allowed cursor }
+        ensures ended { result.1 ≡ End → result.0.wanted ≡ 0 }
         ensures kept { Keeps self result.0 }
         ensures fewer { IfMore result.1 (left_of result.0 < 1 + 3 * self.allowed + self.wanted / 4096) }
         ensures reads { reads_first (from_place self.allowed (D.memory dma.old) self.direction self.need cursor self.wanted) + result.0.allowed ≤ self.allowed }
         ensures unlisted { D.unlisted dma.new ≡ D.unlisted dma.old }
         ensures pool { D.page_count dma.new ≡ D.page_count dma.old }
     {
+        let at = DescriptorAt {
+            number: 4097 - self.allowed,
+            place: Some(cursor.place),
+        };
         if self.allowed == 0 {
-            return self.close(WalkState::Fault(Status::INVALID_SGL_COUNT));
+            return self.fail(FaultCause::TooManyDescriptors, at);
         }
         let mut bytes = [0; 16];
         match dma.read(cursor.place, &mut bytes) {
-            Err(_) => self.close(WalkState::Fault(Status::DATA_TRANSFER_ERROR)),
+            Err(_) => self.fail(FaultCause::UnreadableDescriptor, at),
             Ok(()) => {
                 let allowed = self.allowed - 1;
-                Progress { allowed, ..self }.take(cursor, &bytes)
+                Progress { allowed, ..self }.take(cursor, at.place, &bytes)
             }
         }
     }
 
-    /// Takes a descriptor whose bytes were read.
-    fn take(self, cursor: Cursor, bytes: &[u8; 16]) -> (Progress, WalkState)
+    /// Takes a descriptor that stands at `at` and whose bytes were read.
+    fn take(self, cursor: Cursor, at: Option<u64>, bytes: &[u8; 16]) -> (Progress, WalkState)
         requires bounded { IsBounded self }
         requires cursor { IsCursor cursor }
         ensures leaves { (m : Memory) → Leaves (after_read m self.direction self.need cursor self.wanted (rest_of self.allowed m self.direction self.need) (descriptor_of bytes.now)) result.1 (course m result.0) }
         ensures proper { IsProgress result.0 }
         ensures over { is_over result.0 ≡ not (is_more result.1) }
+        ensures fault { fault_of result.0 ≡ fault_at (spec_taken_last self at) (cause_taken self.direction cursor self.wanted (descriptor_of bytes.now)) }
+        ensures status { fault_status (fault_of result.0) ≡ answered_status result.1 }
+        ensures counts { result.0.wanted ≡ self.wanted - counts_taken self.direction cursor (descriptor_of bytes.now) }
+        ensures ended { result.1 ≡ End → result.0.wanted ≡ 0 }
         ensures kept { Keeps self result.0 }
         ensures fewer { IfMore result.1 (left_of result.0 < 4 + 3 * self.allowed + self.wanted / 4096) }
         ensures allowed { result.0.allowed ≡ self.allowed }
     {
         match Descriptor::read(bytes) {
-            Err(_) => self.close(WalkState::Fault(Status::SGL_TYPE_INVALID)),
-            Ok(descriptor) => match first_fault(cursor, descriptor) {
-                Some(status) => self.close(WalkState::Fault(status)),
-                None => self.follow(cursor, descriptor),
+            Err(_) => self.fail(FaultCause::UnknownType, self.taken_last(at)),
+            Ok(descriptor) => match first_cause(cursor, descriptor) {
+                Some(cause) => self.fail(cause, self.taken_last(at)),
+                None => self.follow(cursor, at, descriptor),
             },
         }
     }
 
-    /// Goes on behind a descriptor without fault, or into it.
-    fn follow(self, cursor: Cursor, descriptor: Descriptor) -> (Progress, WalkState)
+    /// Goes on behind a descriptor without fault that stands at `at`, or into it.
+    fn follow(
+        self,
+        cursor: Cursor,
+        at: Option<u64>,
+        descriptor: Descriptor,
+    ) -> (Progress, WalkState)
         requires bounded { IsBounded self }
         requires cursor { IsCursor cursor }
         requires clear { IsClear descriptor }
         ensures leaves { (m : Memory) → Leaves (goes_on m self.direction self.need cursor self.wanted (rest_of self.allowed m self.direction self.need) descriptor) result.1 (course m result.0) }
         ensures proper { IsProgress result.0 }
         ensures over { is_over result.0 ≡ not (is_more result.1) }
+        ensures fault { fault_of result.0 ≡ fault_at (spec_taken_last self at) (cause_if (is_short self.direction cursor self.wanted descriptor) ListTooShort) }
+        ensures status { fault_status (fault_of result.0) ≡ answered_status result.1 }
+        ensures counts { result.0.wanted ≡ self.wanted - spec_counted self.direction descriptor }
+        ensures ended { result.1 ≡ End → result.0.wanted ≡ 0 }
         ensures kept { Keeps self result.0 }
         ensures fewer { IfMore result.1 (left_of result.0 < 4 + 3 * self.allowed + self.wanted / 4096) }
         ensures allowed { result.0.allowed ≡ self.allowed }
     {
         match descriptor {
-            Descriptor::DataBlock { addr, len } => self.start(addr, len, next(cursor)),
-            Descriptor::BitBucket { .. } => self.count(descriptor).go(next(cursor)),
-            Descriptor::Segment { addr, len } => self.go(Some(Cursor {
-                place: addr,
-                left: len / 16,
-                named: Named::BySegment,
-            })),
-            Descriptor::LastSegment { addr, len } => self.go(Some(Cursor {
-                place: addr,
-                left: len / 16,
-                named: Named::ByLastSegment,
-            })),
+            Descriptor::DataBlock { addr, len } => self.start(addr, len, next(cursor), at),
+            Descriptor::BitBucket { .. } => self.count(descriptor).go(next(cursor), at),
+            Descriptor::Segment { addr, len } => {
+                self.go(Some(segment(addr, len, Named::BySegment)), at)
+            }
+            Descriptor::LastSegment { addr, len } => {
+                self.go(Some(segment(addr, len, Named::ByLastSegment)), at)
+            }
         }
     }
 
@@ -210,14 +259,24 @@ impl Progress {
 }
 
 impl Progress {
-    /// Begins to move the wanted front of a Data Block, behind which another descriptor may stand.
-    fn start(self, place: u64, len: u32, after: Option<Cursor>) -> (Progress, WalkState)
+    /// Begins to move the wanted front of a Data Block whose descriptor stands at `at`, and behind which another may stand.
+    fn start(
+        self,
+        place: u64,
+        len: u32,
+        after: Option<Cursor>,
+        at: Option<u64>,
+    ) -> (Progress, WalkState)
         requires bounded { IsBounded self }
         requires after { IsAfter after }
         requires end { place + len ≤ 2 ^ 64 }
         ensures leaves { (m : Memory) → Leaves (moving m (pages_spanned place (min len self.wanted)) place (min len self.wanted) (self.need - self.wanted) (rest_of self.allowed m self.direction self.need after (self.wanted - len))) result.1 (course m result.0) }
         ensures proper { IsProgress result.0 }
         ensures over { is_over result.0 ≡ not (is_more result.1) }
+        ensures fault { fault_of result.0 ≡ fault_at (spec_taken_last self at) (cause_if (nat_eq len 0 && ends_short after self.wanted) ListTooShort) }
+        ensures status { fault_status (fault_of result.0) ≡ answered_status result.1 }
+        ensures counts { result.0.wanted ≡ self.wanted - len }
+        ensures ended { result.1 ≡ End → result.0.wanted ≡ 0 }
         ensures kept { Keeps self result.0 }
         ensures fewer { IfMore result.1 (left_of result.0 < 4 + 3 * self.allowed + self.wanted / 4096) }
         ensures allowed { result.0.allowed ≡ self.allowed }
@@ -229,12 +288,13 @@ impl Progress {
             ..self
         };
         if front == 0 {
-            return counted.go(after);
+            return counted.go(after, at);
         }
         let block = Block {
             place,
             len: front,
             offset,
+            descriptor: at,
         };
         let state = State::Data(block, after);
         (Progress { state, ..counted }, WalkState::More)
@@ -257,6 +317,10 @@ impl Progress {
         ensures leaves { LeavesRest (moving (D.memory dma.old) (pages_spanned block.place block.len) block.place block.len block.offset (rest_of self.allowed (D.memory dma.old) self.direction self.need after self.wanted)) result.1 (course (D.memory dma.old) result.0) }
         ensures proper { IsProgress result.0 }
         ensures over { is_over result.0 ≡ not (is_more result.1) }
+        ensures fault { fault_of result.0 ≡ fault_at (spec_taken_last self block.descriptor) (cause_moved (D.memory dma.old) block after self.wanted) }
+        ensures status { fault_status (fault_of result.0) ≡ answered_status result.1 }
+        ensures counts { result.0.wanted ≡ self.wanted }
+        ensures ended { result.1 ≡ End → result.0.wanted ≡ 0 }
         ensures kept { Keeps self result.0 }
         ensures fewer { IfMore result.1 (left_of result.0 < 1 + pages_spanned block.place block.len + 3 * self.allowed + self.wanted / 4096) }
         ensures reads { reads_first (moving (D.memory dma.old) (pages_spanned block.place block.len) block.place block.len block.offset (rest_of self.allowed (D.memory dma.old) self.direction self.need after self.wanted)) + result.0.allowed ≤ self.allowed }
@@ -273,7 +337,12 @@ impl Progress {
             offset,
             n as usize,
         ) {
-            Err(_) => self.close(WalkState::Fault(Status::DATA_TRANSFER_ERROR)),
+            Err(_) => {
+                self.fail(
+                    FaultCause::UnreadableData,
+                    self.taken_last(block.descriptor),
+                )
+            }
             Ok(()) => self.advance(block, n, after),
         }
     }
@@ -287,17 +356,22 @@ impl Progress {
         ensures leaves { (m : Memory) → Leaves (moving m (pages_spanned (block.place + n) (block.len - n)) (block.place + n) (block.len - n) (block.offset + n) (rest_of self.allowed m self.direction self.need after self.wanted)) result.1 (course m result.0) }
         ensures proper { IsProgress result.0 }
         ensures over { is_over result.0 ≡ not (is_more result.1) }
+        ensures fault { fault_of result.0 ≡ fault_at (spec_taken_last self block.descriptor) (cause_if (nat_eq n block.len && ends_short after self.wanted) ListTooShort) }
+        ensures status { fault_status (fault_of result.0) ≡ answered_status result.1 }
+        ensures counts { result.0.wanted ≡ self.wanted }
+        ensures ended { result.1 ≡ End → result.0.wanted ≡ 0 }
         ensures kept { Keeps self result.0 }
         ensures fewer { IfMore result.1 (left_of result.0 ≤ 1 + pages_spanned (block.place + n) (block.len - n) + 3 * self.allowed + self.wanted / 4096) }
         ensures allowed { result.0.allowed ≡ self.allowed }
     {
         if n == block.len {
-            return self.go(after);
+            return self.go(after, block.descriptor);
         }
         let rest = Block {
             place: block.place + u64::from(n),
             len: block.len - n,
             offset: block.offset + n,
+            descriptor: block.descriptor,
         };
         let state = State::Data(rest, after);
         (Progress { state, ..self }, WalkState::More)
@@ -315,6 +389,17 @@ fn counted(direction: Direction, descriptor: Descriptor) -> u32
             Direction::Source => 0,
         },
         Descriptor::Segment { .. } | Descriptor::LastSegment { .. } => 0,
+    }
+}
+
+/// The first descriptor of a segment, which has `len` bytes.
+fn segment(addr: u64, len: u32, named: Named) -> Cursor
+    ensures { result ≡ segment_start named addr len }
+{
+    Cursor {
+        place: addr,
+        left: len / 16,
+        named,
     }
 }
 

@@ -1,10 +1,14 @@
 //! A walk over one list.
 
-ghost use Rattle.std.specs.Prelude.{◌≡◌, ◌<◌, ◌≤◌, ◌+◌, ◌/◌, length, not, true, false};
+ghost use Rattle.std.specs.Prelude.{◌≡◌, ◌<◌, ◌≤◌, ◌+◌, ◌/◌, ℕ, Some, None, length, min, not, true, false};
+ghost use Rattle.std.specs.Option.{option_and_then};
 ghost use Rattle.page_memory.specs.Memory.{Memory};
-ghost use Rattle.controller_walk.specs.Units.{course_of_list};
-ghost use Rattle.controller_walk.specs.Walks.{course, is_over as spec_is_over, need_of, direction_of, is_more, IfMore, DoesFirst, LeavesRest, left_of, reads_first, reads_left};
+ghost use Rattle.controller_walk.specs.Units.{Course, Reads, Does, course_of_list};
+ghost use Rattle.controller_walk.specs.Faults.{fault_of, fault_met, fault_status, answered_status, next_of, counts_of};
+ghost use Rattle.controller_walk.specs.declared.walk.WalkState.TheVariants.{End};
+ghost use Rattle.controller_walk.specs.Walks.{course, is_over as spec_is_over, need_of, counted_of, direction_of, is_more, IfMore, DoesFirst, LeavesRest, left_of, reads_first, reads_left};
 
+use crate::cause::{DescriptorAt, WalkFault};
 use crate::progress::{Progress, State, pages};
 use entry_codec::Status;
 use page_memory::Dma;
@@ -20,7 +24,7 @@ pub enum WalkState {
     /// not looked at.
     End,
     /// The walk met a fault, and is over: 0:04 for an unreadable byte, 0:0D, 0:0E, 0:0F or 0:11 for a list that breaks a rule (NVM
-    /// Express Base Specification 2.0, Generic Command Status Values; which comes first is this project's own).
+    /// Express Base Specification 2.0, Generic Command Status Values; which comes first is this project's own). [`Walk::fault`] says which.
     Fault(Status),
 }
 
@@ -55,6 +59,9 @@ impl Walk {
         ensures need { need_of result ≡ need }
         ensures left { left_of result ≡ 12289 + need / 4096 }
         ensures reads { reads_left result ≡ 4095 }
+        ensures counted { counted_of result ≡ 0 }
+        ensures next { next_of result ≡ Some (record { number = 1; place = None }) }
+        ensures fault { fault_of result ≡ None }
     {
         Walk {
             progress: Progress {
@@ -80,6 +87,14 @@ impl Walk {
             staging.old staging.new (D.reached dma.old) (D.reached dma.new) }
         ensures leaves { LeavesRest (course (D.memory dma.old) self.old) result (course (D.memory dma.old) self.new) }
         ensures over { spec_is_over self.new ≡ not (is_more result) }
+
+        // The walk has a fault exactly where it answers one: that of the table, at its descriptor.
+        ensures fault { fault_of self.new ≡ fault_met (D.memory dma.old) self.old }
+        ensures status { fault_status (fault_of self.new) ≡ answered_status result }
+
+        // What the descriptor counts that is taken is added, as far as it is wanted; a walk that ends well has counted all.
+        ensures counts { counted_of self.new ≡ min (need_of self.old) (counted_of self.old + counts_of (D.memory dma.old) self.old) }
+        ensures ended { result ≡ End → counted_of self.new ≡ need_of self.new }
         ensures direction { direction_of self.new ≡ direction_of self.old }
         ensures need { need_of self.new ≡ need_of self.old }
         ensures fewer { IfMore result (left_of self.new < left_of self.old) }
@@ -107,7 +122,7 @@ impl Walk {
             State::First(_) => 4 + behind,
             State::Next(_) => 1 + behind,
             State::Data(block, _) => 1 + pages(block) + behind,
-            State::Over => 0,
+            State::Over(_) => 0,
         }
     }
 
@@ -115,7 +130,7 @@ impl Walk {
     pub fn is_over(&self) -> bool
         ensures { result ≡ spec_is_over self.now }
     {
-        matches!(self.progress.state, State::Over)
+        matches!(self.progress.state, State::Over(_))
     }
 
     /// How many bytes the command moves, as many as each step's `staging` has.
@@ -124,5 +139,42 @@ impl Walk {
         ensures most { result ≤ 1048576 }
     {
         self.progress.need
+    }
+
+    /// The fault that the walk has answered, and at which descriptor of its list; `None` while it goes on, and after `End`.
+    pub fn fault(&self) -> Option<WalkFault>
+        ensures fault { result ≡ fault_of self.now }
+        ensures open { spec_is_over self.now ≡ false → result ≡ None }
+    {
+        match self.progress.state {
+            State::Over(fault) => fault,
+            State::First(_) | State::Next(_) | State::Data(_, _) => None,
+        }
+    }
+
+    /// The descriptor that the next step takes; `None` where that step moves data, and where the walk is over.
+    pub fn at(&self) -> Option<DescriptorAt>
+        ensures next { result ≡ next_of self.now }
+
+        // A step that reads a descriptor reads this one.
+        ensures reads { (m : Memory) (place : ℕ) (rest : Course) → course m self.now ≡ Does (Reads place) rest → option_and_then (λ at. at.place) result ≡ Some place }
+    {
+        let progress = self.progress;
+        match progress.state {
+            State::First(_) => Some(progress.taken_last(None)),
+            State::Next(cursor) => Some(DescriptorAt {
+                number: 4097 - progress.allowed,
+                place: Some(cursor.place),
+            }),
+            State::Data(_, _) | State::Over(_) => None,
+        }
+    }
+
+    /// How many of the command's bytes the descriptors that were taken have counted: of the last one also those that are still to be moved.
+    pub fn counted(&self) -> u32
+        ensures counted { result ≡ counted_of self.now }
+        ensures most { result ≤ need_of self.now }
+    {
+        self.progress.need - self.progress.wanted
     }
 }

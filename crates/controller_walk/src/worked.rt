@@ -1,13 +1,16 @@
 //! Worked runs of the definitions, on small lists. Each function does nothing.
 
-ghost use Rattle.std.specs.Prelude.{◌≡◌, ◌∷◌, [], map};
+ghost use Rattle.std.specs.Prelude.{◌≡◌, ◌∷◌, [], Some, None, map};
 ghost use Rattle.sgl_descriptor.specs.declared.Descriptor.TheVariants.{DataBlock, BitBucket, Segment, LastSegment};
 ghost use Rattle.sgl_descriptor.specs.declared.Direction.TheVariants.{Destination, Source};
 ghost use Rattle.sgl_descriptor.specs.declared.Part.TheVariants.{Data, Bucket};
-ghost use Rattle.sgl_descriptor.specs.Spelling.{spelling};
+ghost use Rattle.sgl_descriptor.specs.Spelling.{spelling, descriptor_of};
 ghost use Rattle.controller_walk.specs.declared.walk.WalkState.TheVariants.{End, Fault};
+ghost use Rattle.controller_walk.specs.declared.cause.FaultCause.TheVariants.{TooManyDescriptors, UnreadableDescriptor, UnknownType, LinkInLastSegment, LinkNotLast, MalformedLink, MissingLink, PastEndOfAddresses, UnreadableData, ListTooShort};
+ghost use Rattle.controller_walk.specs.declared.cursor.Named.TheVariants.{BySegment, ByLastSegment};
 ghost use Rattle.controller_walk.specs.Along.{parts_of_list};
-ghost use Rattle.controller_walk.specs.Units.{Stays, Reads, Moves, touched, units_of_list, verdict_of_list};
+ghost use Rattle.controller_walk.specs.Faults.{cause_next, cause_taken, cause_moved};
+ghost use Rattle.controller_walk.specs.Units.{Stays, Reads, Moves, touched, units_of_list, verdict_of_list, entry_cursor, segment_start};
 ghost use Rattle.controller_walk.specs.Worked.{eight_pages, with_descriptors};
 
 /// The pages of units: none, those of a descriptor that crosses a page's end, and that of a part of a block.
@@ -83,4 +86,25 @@ pub fn worked_longer_lists()
     ensures link { units_of_list (with_descriptors 0x1000 (DataBlock 0x2000 512 ∷ Segment 0x3000 16 ∷ [])) (spelling (LastSegment 0x1000 32)) Destination 512
         ≡ Stays ∷ Reads 0x1000 ∷ Moves 0x2000 512 0 ∷ [] }
     ensures link_verdict { verdict_of_list (with_descriptors 0x1000 (DataBlock 0x2000 512 ∷ Segment 0x3000 16 ∷ [])) (spelling (LastSegment 0x1000 32)) Destination 512 ≡ End }
+{}
+
+/// Which fault it is: at the entry's descriptor, and at the first descriptor of a segment at 1000h.
+#[tactic(auto, unfolding(sgl_descriptor::specs::Spelling::descriptor_of, page_memory::specs::Memory::bytes_at))]
+pub fn worked_causes()
+    ensures entry_type { cause_taken Destination entry_cursor 512 (descriptor_of (0 ∷ 0x20 ∷ 0 ∷ 0 ∷ 0 ∷ 0 ∷ 0 ∷ 0 ∷ 0 ∷ 2 ∷ 0 ∷ 0 ∷ 0 ∷ 0 ∷ 0 ∷ 0x40 ∷ [])) ≡ Some UnknownType }
+    ensures entry_empty { cause_taken Destination entry_cursor 512 (Some (DataBlock 0x2000 0)) ≡ Some ListTooShort }
+    ensures entry_bucket { cause_taken Source entry_cursor 512 (Some (BitBucket 512)) ≡ Some ListTooShort }
+    ensures entry_counted { cause_taken Destination entry_cursor 512 (Some (BitBucket 512)) ≡ None }
+    ensures entry_length { cause_taken Destination entry_cursor 512 (Some (Segment 0x1000 24)) ≡ Some MalformedLink }
+    ensures entry_address { cause_taken Destination entry_cursor 512 (Some (LastSegment 0x1004 32)) ≡ Some MalformedLink }
+    ensures entry_past_end { cause_taken Destination entry_cursor 512 (Some (DataBlock 0xFFFFFFFFFFFFFF00 512)) ≡ Some PastEndOfAddresses }
+    ensures too_many { cause_next eight_pages Destination 0 (segment_start BySegment 0x1000 16) 512 ≡ Some TooManyDescriptors }
+    ensures unreadable { cause_next eight_pages Destination 1 (segment_start BySegment 0x8000 16) 512 ≡ Some UnreadableDescriptor }
+    ensures in_last { cause_next (with_descriptors 0x1000 (Segment 0x3000 24 ∷ [])) Destination 1 (segment_start ByLastSegment 0x1000 32) 512 ≡ Some LinkInLastSegment }
+    ensures not_last { cause_next (with_descriptors 0x1000 (Segment 0x3000 24 ∷ [])) Destination 1 (segment_start BySegment 0x1000 32) 512 ≡ Some LinkNotLast }
+    ensures no_link { cause_next (with_descriptors 0x1000 (DataBlock 0x2000 512 ∷ [])) Destination 1 (segment_start BySegment 0x1000 16) 512 ≡ Some MissingLink }
+    ensures bucket_counted { cause_next (with_descriptors 0x1000 (BitBucket 512 ∷ [])) Destination 1 (segment_start ByLastSegment 0x1000 16) 1024 ≡ Some ListTooShort }
+    ensures data { cause_moved eight_pages (record { place = 0x8000; len = 512; offset = 0; descriptor = None }) None 0 ≡ Some UnreadableData }
+    ensures data_short { cause_moved eight_pages (record { place = 0x4000; len = 512; offset = 0; descriptor = None }) None 512 ≡ Some ListTooShort }
+    ensures data_goes_on { cause_moved eight_pages (record { place = 0x4F00; len = 512; offset = 0; descriptor = None }) None 512 ≡ None }
 {}

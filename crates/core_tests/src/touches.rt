@@ -117,9 +117,9 @@ fn of_queues(world: &mut World, counter: &mut Counter, seen: &mut Seen) {
     seen.holds("it is forged", world.forge(1, 0, [0; 16]).is_ok());
     seen.same_at("forge", counter.more(world), 1);
     world.reset();
-    seen.same_at("reset", counter.more(world), 0);
+    seen.same_at("reset", counter.more(world), 2);
     seen.holds("it is sent", world.create_cq(1).is_ok());
-    seen.same_at("create_cq", counter.more(world), 1);
+    seen.same_at("create_cq", counter.more(world), 2);
 }
 
 #[test]

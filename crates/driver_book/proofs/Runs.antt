@@ -1,5 +1,5 @@
 -- A log that grows by a step.
-use Rattle.std.proofs.Common.{◌≡◌, ◌⊎◌, inl, inr, ℕ, ◌+◌, ◌<◌, ◌≤◌, List, [], ◌∷◌, ◌++◌, Option, Some, None, Bool, true, false, not, ◌||◌, cond, Result, Ok, Err, is_ok, is_err, OnOk, OnErr, IfOk, IfErr, length, true≢false, refl, sym, ap, ◌∙◌, subst, arith}
+use Rattle.std.proofs.Common.{◌≡◌, ◌⊎◌, inl, inr, ℕ, ◌+◌, ◌-◌, ◌<◌, ◌≤◌, List, [], ◌∷◌, ◌++◌, Option, Some, None, Bool, true, false, not, ◌||◌, cond, Result, Ok, Err, is_ok, is_err, OnOk, OnErr, IfOk, IfErr, length, true≢false, refl, sym, ap, ◌∙◌, subst, arith}
 use Rattle.std.proofs.lemmas.List.{append-nil}
 use Rattle.std.proofs.lemmas.List.Sums.{sum_by_push}
 use Rattle.std.specs.Prelude.{is_some, MatchBool}
@@ -21,7 +21,7 @@ use Rattle.driver_book.specs.Calls.{noted, entries, Does, WantsMemoryFor, IsLogF
 use Rattle.machine_model.proofs.Headline.{steps_keep, runs_are_sound}
 use Rattle.driver_book.proofs.Histories.{leads_further}
 use Rattle.step_log.specs.History.{asked, told, draft_of, entry_of, is_submission, is_accepted, accepted}
-use Rattle.driver_book.specs.State.{BookContents, IsBook, is_seated, AreSeated, is_of_jobs, AreOfJobs}
+use Rattle.driver_book.specs.State.{BookContents, SeatContents, IsBook, is_seated, AreSeated, is_of_jobs, AreOfJobs}
 use Rattle.step_log.specs.Values.{Entry, Room, LogContents, Takes, Lacks, answered}
 use Rattle.step_log.proofs.Keeping.{answered_last}
 use Rattle.step_core.specs.Replies.{accept_reply, reserve_reply}
@@ -253,6 +253,11 @@ pub log_lacks : {A E : Type 0} {at old : BookContents} → at ≡ old → (piece
     → Lacks old.room pieces pages
 log_lacks same pieces pages (Ok done) is lacks = absurd (true≢false (sym is))
 log_lacks same pieces pages (Err e) is lacks = rw (← same) lacks
+
+-- so of a seat's receipts
+pub receipts_full : {A E : Type 0} {at old : SeatContents} → at ≡ old → (capacity taken : ℕ) → at.spare ≡ capacity - taken → (made : Result A E) → is_err made ≡ true → OnErr made (capacity < taken + 1) → old.spare ≡ 0
+receipts_full same capacity taken spare (Ok done) is full = absurd (true≢false (sym is))
+receipts_full same capacity taken spare (Err e) is full = let none : capacity - taken ≡ 0 = omega (arith, full) in rw (← same) (spare ∙ none)
 
 -- so of a reservation, whose numbers the code found
 pub lacks_to_reserve : {at old : BookContents} → at ≡ old → (q : ℕ) (r : Request) (p n : ℕ) → p ≡ length r.pieces → n ≡ most_pages at.world q r → Lacks old.room p n → LacksRoomToReserve old q r

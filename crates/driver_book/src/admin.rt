@@ -22,7 +22,7 @@ impl<L: FullDriver, A: Allocator + Copy> Book<L, A> {
     /// As there, and `Memory` where the log cannot grow.
     pub fn abort(&mut self, q: u16, cid: u16) -> Result<u16, Refusal>
         ensures step { Does self.old None (events.Abort q cid) (send_reply result) self.new }
-        ensures touches { Touches self.old.touches (events.Abort q cid) (send_reply result) self.new.touches }
+        ensures touches { Touches self.old.world.entries self.old.touches (events.Abort q cid) (send_reply result) self.new.touches }
         ensures memory { WantsMemoryFor (IsLogFull self.old) (send_reply result) }
     {
         if self.log.make_room(0, 0).is_err() {
@@ -40,7 +40,7 @@ impl<L: FullDriver, A: Allocator + Copy> Book<L, A> {
     /// As there, and `Memory` where the log cannot grow.
     pub fn delete_sq(&mut self, q: u16) -> Result<u16, Refusal>
         ensures step { Does self.old None (events.DeleteSq q) (send_reply result) self.new }
-        ensures touches { Touches self.old.touches (events.DeleteSq q) (send_reply result) self.new.touches }
+        ensures touches { Touches self.old.world.entries self.old.touches (events.DeleteSq q) (send_reply result) self.new.touches }
         ensures memory { WantsMemoryFor (IsLogFull self.old) (send_reply result) }
     {
         if self.log.make_room(0, 0).is_err() {
@@ -58,7 +58,7 @@ impl<L: FullDriver, A: Allocator + Copy> Book<L, A> {
     /// As there, and `Memory` where the log cannot grow.
     pub fn delete_cq(&mut self, q: u16) -> Result<u16, Refusal>
         ensures step { Does self.old None (events.DeleteCq q) (send_reply result) self.new }
-        ensures touches { Touches self.old.touches (events.DeleteCq q) (send_reply result) self.new.touches }
+        ensures touches { Touches self.old.world.entries self.old.touches (events.DeleteCq q) (send_reply result) self.new.touches }
         ensures memory { WantsMemoryFor (IsLogFull self.old) (send_reply result) }
     {
         if self.log.make_room(0, 0).is_err() {
@@ -76,7 +76,7 @@ impl<L: FullDriver, A: Allocator + Copy> Book<L, A> {
     /// As there, and `Memory` where the log cannot grow.
     pub fn create_cq(&mut self, q: u16) -> Result<u16, Refusal>
         ensures step { Does self.old None (events.CreateCq q) (send_reply result) self.new }
-        ensures touches { Touches self.old.touches (events.CreateCq q) (send_reply result) self.new.touches }
+        ensures touches { Touches self.old.world.entries self.old.touches (events.CreateCq q) (send_reply result) self.new.touches }
         ensures memory { WantsMemoryFor (IsLogFull self.old) (send_reply result) }
     {
         if self.log.make_room(0, 0).is_err() {
@@ -94,7 +94,7 @@ impl<L: FullDriver, A: Allocator + Copy> Book<L, A> {
     /// As there, and `Memory` where the log cannot grow.
     pub fn create_sq(&mut self, q: u16) -> Result<u16, Refusal>
         ensures step { Does self.old None (events.CreateSq q) (send_reply result) self.new }
-        ensures touches { Touches self.old.touches (events.CreateSq q) (send_reply result) self.new.touches }
+        ensures touches { Touches self.old.world.entries self.old.touches (events.CreateSq q) (send_reply result) self.new.touches }
         ensures memory { WantsMemoryFor (IsLogFull self.old) (send_reply result) }
     {
         if self.log.make_room(0, 0).is_err() {
@@ -112,7 +112,7 @@ impl<L: FullDriver, A: Allocator + Copy> Book<L, A> {
     /// As there, and `Memory` where the log cannot grow.
     pub fn retire(&mut self, q: u16) -> Result<(), Refusal>
         ensures step { Does self.old None (events.Retire q) (ring_reply result) self.new }
-        ensures touches { Touches self.old.touches (events.Retire q) (ring_reply result) self.new.touches }
+        ensures touches { Touches self.old.world.entries self.old.touches (events.Retire q) (ring_reply result) self.new.touches }
         ensures memory { WantsMemoryFor (IsLogFull self.old) (ring_reply result) }
     {
         if self.log.make_room(0, 0).is_err() {
@@ -130,7 +130,7 @@ impl<L: FullDriver, A: Allocator + Copy> Book<L, A> {
     /// As there, and `Memory` where the log cannot grow.
     pub fn forge(&mut self, q: u16, slot: u16, bytes: [u8; 16]) -> Result<(), Refusal>
         ensures step { Does self.old None (events.Forge q slot bytes) (ring_reply result) self.new }
-        ensures touches { Touches self.old.touches (events.Forge q slot bytes) (ring_reply result) self.new.touches }
+        ensures touches { Touches self.old.world.entries self.old.touches (events.Forge q slot bytes) (ring_reply result) self.new.touches }
         ensures memory { WantsMemoryFor (IsLogFull self.old) (ring_reply result) }
     {
         if self.log.make_room(0, 0).is_err() {
@@ -153,7 +153,7 @@ impl<L: FullDriver, A: Allocator + Copy> Book<L, A> {
     /// `Memory` where the log cannot grow.
     pub fn reset(&mut self) -> Result<(), Refusal>
         ensures step { Does self.old None events.Reset (ring_reply result) self.new }
-        ensures touches { Touches self.old.touches events.Reset (ring_reply result) self.new.touches }
+        ensures touches { Touches self.old.world.entries self.old.touches events.Reset (ring_reply result) self.new.touches }
         ensures recovers { OnOk result (SidesAgree self.new.world) }
         ensures memory { IfErr result (λ why. (why ≡ Refusal.Memory) × IsLogFull self.old) }
     {

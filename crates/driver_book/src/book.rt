@@ -109,7 +109,7 @@ impl<L: Driver, A: Allocator + Copy> Book<L, A> {
         requires number { blank.parts ≡ 65536 }
         requires opening { L.opening ≡ opening_of config image }
         ensures fits { IfOk result (λ book. refusal_of_config config ≡ None) }
-        ensures opened { IfOk result (λ book. book ≡ record { opening = opening_of config image; world = opening_of config image; touches = book.touches; log = []; made = 0; out = 0; taken = 0; stopping = false; room = record { entries = 0; pieces = 0; pages = 0 } }) }
+        ensures opened { IfOk result (λ book. book ≡ record { opening = opening_of config image; world = opening_of config image; touches = 0; log = []; made = 0; out = 0; taken = 0; stopping = false; room = record { entries = 0; pieces = 0; pages = 0 } }) }
         ensures refused { IfErr result (λ refused. RefusesOpening config refused.why) }
         ensures image { IfErr result (λ refused. refused.image ≡ image) }
         ensures blank { IfErr result (λ refused. refused.blank ≡ blank) }

@@ -46,7 +46,7 @@ impl<L: Driver, A: Allocator + Copy> Book<L, A> {
     /// page numbers. The request is handed back.
     pub fn reserve(&mut self, q: u16, request: Request<A>) -> Result<Draft<A>, Refused<Request<A>>>
         ensures step { Does self.old None (events.Reserve q request) (reserve_reply result) self.new }
-        ensures touches { Touches self.old.touches (events.Reserve q request) (reserve_reply result) self.new.touches }
+        ensures touches { Touches self.old.world.entries self.old.touches (events.Reserve q request) (reserve_reply result) self.new.touches }
         ensures identifier { IfOk result (λ draft. IsLowest self.old.world.host q draft.cid) }
         ensures pages { IfOk result (λ draft. HasPlacedPages self.old.world.host draft) }
         ensures back { IfErr result (λ r. r.value ≡ request) }
@@ -69,7 +69,7 @@ impl<L: Driver, A: Allocator + Copy> Book<L, A> {
     /// As there, and `Memory` where the log cannot grow. The draft is handed back.
     pub fn cancel(&mut self, draft: Draft<A>) -> Result<(), Refused<Draft<A>>>
         ensures step { Does self.old None (events.Cancel draft) (accept_reply result) self.new }
-        ensures touches { Touches self.old.touches (events.Cancel draft) (accept_reply result) self.new.touches }
+        ensures touches { Touches self.old.world.entries self.old.touches (events.Cancel draft) (accept_reply result) self.new.touches }
         ensures back { IfErr result (λ r. r.value ≡ draft) }
         ensures memory { WantsMemoryFor (IsLogFull self.old) (accept_reply result) }
     {
@@ -92,7 +92,7 @@ impl<L: Driver, A: Allocator + Copy> Book<L, A> {
     /// As there, and `Memory` where the log cannot grow.
     pub fn ring(&mut self, q: u16) -> Result<(), Refusal>
         ensures step { Does self.old None (events.Ring q) (ring_reply result) self.new }
-        ensures touches { Touches self.old.touches (events.Ring q) (ring_reply result) self.new.touches }
+        ensures touches { Touches self.old.world.entries self.old.touches (events.Ring q) (ring_reply result) self.new.touches }
         ensures memory { WantsMemoryFor (IsLogFull self.old) (ring_reply result) }
     {
         if self.log.make_room(0, 0).is_err() {
@@ -110,7 +110,7 @@ impl<L: Driver, A: Allocator + Copy> Book<L, A> {
     /// As there, and `Memory` where the log cannot grow.
     pub fn reap(&mut self, q: u16) -> Result<Reaped, Refusal>
         ensures step { Does self.old None (events.Reap q) (reap_reply result) self.new }
-        ensures touches { Touches self.old.touches (events.Reap q) (reap_reply result) self.new.touches }
+        ensures touches { Touches self.old.world.entries self.old.touches (events.Reap q) (reap_reply result) self.new.touches }
         ensures memory { WantsMemoryFor (IsLogFull self.old) (reap_reply result) }
     {
         if self.log.make_room(0, 0).is_err() {
@@ -128,7 +128,7 @@ impl<L: Driver, A: Allocator + Copy> Book<L, A> {
     /// As there, and `Memory` where the log cannot grow. The ticket is handed back.
     pub fn collect(&mut self, ticket: Ticket) -> Result<Finished<A>, Refused<Ticket>>
         ensures step { Does self.old None (events.Collect ticket.q ticket.cid) (collect_reply result) self.new }
-        ensures touches { Touches self.old.touches (events.Collect ticket.q ticket.cid) (collect_reply result) self.new.touches }
+        ensures touches { Touches self.old.world.entries self.old.touches (events.Collect ticket.q ticket.cid) (collect_reply result) self.new.touches }
         ensures back { IfErr result (λ r. r.value ≡ ticket) }
         ensures memory { WantsMemoryFor (IsLogFull self.old ⊎ MayWorldWant self.old (events.Collect ticket.q ticket.cid)) (collect_reply result) }
     {

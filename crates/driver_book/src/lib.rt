@@ -18,6 +18,7 @@ mod admin;
 mod book;
 mod close;
 mod device;
+mod full;
 mod host;
 pub mod laws;
 mod log;
@@ -27,5 +28,6 @@ mod seat;
 
 pub use book::{Book, BookRefused, Driver, FullDriver};
 pub use close::CloseRefused;
+pub use full::Full;
 pub use log::{CloseFault, NoSeat, Receipt, Receipts, Report, ReportIn};
 pub use seat::Seat;

@@ -110,7 +110,7 @@ impl<L: Driver, A: Allocator + Copy> Book<L, A> {
         draft: Draft<A>,
     ) -> Result<Ticket, Refused<Draft<A>>>
         ensures step { Does self.old (Some seat.old.number) (events.Submit draft) (accept_reply result) self.new }
-        ensures touches { Touches self.old.touches (events.Submit draft) (accept_reply result) self.new.touches }
+        ensures touches { Touches self.old.world.entries self.old.touches (events.Submit draft) (accept_reply result) self.new.touches }
         ensures receipt { Receives self.old.log seat.old draft result seat.new }
         ensures back { IfErr result (λ r. r.value ≡ draft) }
         ensures ticket { IfOk result (λ ticket. ticket ≡ record { q = draft.q; cid = draft.cid }) }
@@ -153,7 +153,7 @@ impl<L: Driver, A: Allocator + Copy> Book<L, A> {
     ) -> Result<(), Refused<Finished<A>>>
         requires { list_any (is_open_receipt finished.q finished.cid) seat.old.receipts ≡ true }
         ensures step { Does self.old (Some seat.old.number) (events.Release finished) (accept_reply result) self.new }
-        ensures touches { Touches self.old.touches (events.Release finished) (accept_reply result) self.new.touches }
+        ensures touches { Touches self.old.world.entries self.old.touches (events.Release finished) (accept_reply result) self.new.touches }
         ensures receipt { Settles self.old.world seat.old finished result seat.new }
         ensures back { IfErr result (λ r. r.value ≡ finished) }
         ensures memory { WantsMemoryFor (IsLogFull self.old) (accept_reply result) }

@@ -3,11 +3,10 @@
 ghost use Rattle.std.specs.Prelude.{◌≡◌};
 ghost use Rattle.step_core.specs.Opening.{opening_of};
 
-use crate::full::Full;
 use crate::looks::see;
 use crate::part::{Part, USUAL, opened, play_text, run};
 use block_image::Image;
-use driver_book::{Book, Driver, FullDriver};
+use driver_book::{Book, Driver, Full, FullDriver};
 use driver_desk::{Access, Desk};
 use entry_codec::Status;
 use std::alloc::Global;

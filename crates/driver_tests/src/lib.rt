@@ -13,8 +13,6 @@ mod crowd;
 #[cfg(test)]
 mod fixed_heap;
 #[cfg(test)]
-mod full;
-#[cfg(test)]
 mod heap;
 #[cfg(test)]
 mod jobs;

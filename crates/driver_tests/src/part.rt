@@ -4,10 +4,9 @@ ghost use Rattle.std.specs.Prelude.{◌≡◌};
 ghost use Rattle.step_core.specs.Opening.{opening_of};
 
 use crate::closes::{close, close_each, keep_back, stay_open};
-use crate::full::Full;
 use crate::looks::{Told, alter, has_receipts, see};
 use block_image::Image;
-use driver_book::{Book, CloseFault, Driver, FullDriver};
+use driver_book::{Book, CloseFault, Driver, Full, FullDriver};
 use driver_desk::{Access, Desk};
 use driver_threads::Shared;
 use entry_codec::Status;

@@ -3,13 +3,12 @@
 ghost use Rattle.std.specs.Prelude.{◌≡◌};
 ghost use Rattle.step_core.specs.Opening.{opening_of};
 
-use crate::full::Full;
 use crate::looks::{Told, counts, see, tell};
 use crate::opening::end;
 use crate::part::{USUAL, opened};
 use crate::runs::job;
 use block_image::Image;
-use driver_book::{Driver, FullDriver, Seat};
+use driver_book::{Driver, Full, FullDriver, Seat};
 use driver_threads::{Job, Shared};
 use entry_codec::Status;
 use io_commands::{Kind, Request, Ticket};

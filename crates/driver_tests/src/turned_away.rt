@@ -3,13 +3,12 @@
 ghost use Rattle.std.specs.Prelude.{◌≡◌};
 ghost use Rattle.step_core.specs.Opening.{opening_of};
 
-use crate::full::Full;
 use crate::looks::{counts, see};
 use crate::opening::end;
 use crate::part::{USUAL, opened};
 use crate::runs::job;
 use block_image::Image;
-use driver_book::{Driver, FullDriver};
+use driver_book::{Driver, Full, FullDriver};
 use driver_threads::{
     Job, JobEnd, JobRefusal, Open, Shared, Worked, controller, poller, submitter,
 };

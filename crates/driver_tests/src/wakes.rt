@@ -3,12 +3,11 @@
 ghost use Rattle.std.specs.Prelude.{◌≡◌};
 ghost use Rattle.step_core.specs.Opening.{opening_of};
 
-use crate::full::Full;
 use crate::looks::see;
 use crate::part::{USUAL, opened, play_text};
 use crate::runs::{is_done, job};
 use block_image::Image;
-use driver_book::{Driver, FullDriver};
+use driver_book::{Driver, Full, FullDriver};
 use driver_desk::values::draft_of;
 use driver_desk::{Access, Desk, Value};
 use driver_threads::{
@@ -54,6 +53,8 @@ enum Call {
     Forge([u8; 16]),
     /// Of the controller.
     Reset,
+    /// Of the workers, which are told so.
+    Stop,
 }
 
 /// How a job ends.
@@ -310,6 +311,28 @@ const SUBMISSION_HALF_COMES: Waking = Waking {
     entries: 18,
 };
 
+/// It waits for the end of its Read, which never comes: it is told to stop.
+const COMMAND_IS_CUT_OFF: Waking = Waking {
+    before: &[],
+    jobs: &[(Kind::Read, 1, &[])],
+    submits: true,
+    polls: false,
+    calls: &[Call::Stop],
+    ends: &[],
+    entries: 3,
+};
+
+/// It waits for an identifier, which never comes: it is told to stop.
+const REQUEST_IS_CUT_OFF: Waking = Waking {
+    before: &[NO_IDENTIFIER],
+    jobs: &[(Kind::Read, 1, &[])],
+    submits: false,
+    polls: false,
+    calls: &[Call::Stop],
+    ends: &[],
+    entries: 3,
+};
+
 /// The jobs of a submitter.
 fn jobs_of(alloc: Global, waking: &Waking) -> Result<Vec<Job>, AllocError> {
     let mut jobs = Vec::new(alloc);
@@ -391,6 +414,10 @@ fn is_accepted<L: FullDriver, R: Wait>(
         Call::Retire(q) => shared.retire(rt, q).is_ok(),
         Call::Forge(bytes) => shared.forge(rt, 1, 0, bytes).is_ok(),
         Call::Reset => shared.reset(rt).is_ok(),
+        Call::Stop => {
+            shared.stop(rt);
+            true
+        }
     }
 }
 
@@ -561,4 +588,14 @@ fn a_completion_half_wakes_who_waits_for_pages(rt: HostRuntime) {
 #[test]
 fn a_submission_half_wakes_who_waits_for_pages(rt: HostRuntime) {
     run(&rt, rt.alloc(), &SUBMISSION_HALF_COMES);
+}
+
+#[test]
+fn a_stop_wakes_who_waits_for_a_command(rt: HostRuntime) {
+    run(&rt, rt.alloc(), &COMMAND_IS_CUT_OFF);
+}
+
+#[test]
+fn a_stop_wakes_who_waits_for_an_identifier(rt: HostRuntime) {
+    run(&rt, rt.alloc(), &REQUEST_IS_CUT_OFF);
 }

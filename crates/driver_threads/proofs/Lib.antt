@@ -1,3 +1,3 @@
 pub mod Collected
-pub mod Stopping
+pub mod Ended
 pub mod Trusted

@@ -1,3 +1,4 @@
 pub mod Values
 pub mod Sharing
+pub mod Ends
 pub mod Runs

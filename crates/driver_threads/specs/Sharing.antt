@@ -1,5 +1,5 @@
 -- What a call of a shared book says: that some book of this opening, whose log leads from there to its world, did it.
-use Rattle.std.specs.Prelude.{◌≡◌, ℕ, ◌<◌, ◌≤◌, Bool, [], Option, Some, None, List, length, Result, MatchOption}
+use Rattle.std.specs.Prelude.{◌≡◌, ℕ, ◌<◌, ◌≤◌, [], Option, Some, None, List, length, Result, MatchOption}
 use Rattle.std.specs.List.{Contains}
 use Rattle.io_commands.specs.Drafts.{DraftContents}
 use Rattle.io_commands.specs.Values.{FinishedContents, TicketContents}
@@ -18,7 +18,7 @@ use Rattle.driver_book.specs.State.{BookContents, SeatContents}
 use Rattle.driver_book.specs.declared.log.CloseFault.{CloseFault}
 use Rattle.driver_book.specs.Values.{Report}
 use Rattle.step_core.specs.Replies.{accept_reply}
-use Rattle.step_core.specs.Touching.{TellsAll}
+use Rattle.step_core.specs.Touching.{StaysAllowed}
 use Rattle.host_core.specs.declared.refused.Refused.{Refused}
 
 -- A book of this opening: its log is that of a run that leads from there to the world as it is, and the world is sound, so each page has one
@@ -35,13 +35,13 @@ pub record Made (opening : State) (seat : Option ℕ) (e : Event) (r : Reply) : 
   pub of : IsBookOf opening old
   pub does : Does old seat e r new
 
--- and each page that it touched is one of those that the controller's reply tells
+-- so of a step of the controller: in a trusted world each page that its reply tells is one that it may touch
 pub record Served (opening : State) (e : Event) (r : Reply) : Type 0 where
   pub old : BookContents
   pub new : BookContents
   pub of : IsBookOf opening old
   pub does : Does old None e r new
-  pub tells : TellsAll old.touches r new.touches
+  pub allowed : StaysAllowed old.world e r
 
 -- and gave the seat a receipt, where the submission was accepted
 pub record Submitted (opening : State) (seat : SeatContents) (d : DraftContents) (result : Result TicketContents (Refused DraftContents)) (next : SeatContents) : Type 0 where
@@ -66,12 +66,6 @@ pub record Recovers (opening : State) : Type 0 where
   pub of : IsBookOf opening old
   pub does : Does old None events.Reset events.Accepted new
   pub agree : SidesAgree new.world
-
--- some book of this opening says whether the workers are told to stop
-pub record IsStopping (opening : State) (answer : Bool) : Type 0 where
-  pub book : BookContents
-  pub of : IsBookOf opening book
-  pub says : book.stopping ≡ answer
 
 -- some book of this opening made this seat, with the next number and no receipts
 pub record Seated (opening : State) (seat : SeatContents) : Type 0 where

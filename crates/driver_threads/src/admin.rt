@@ -5,6 +5,7 @@ ghost use Rattle.driver_threads.specs.Sharing.{Made, Recovers};
 ghost use Rattle.machine_model.specs.Events as events;
 ghost use Rattle.step_core.specs.Replies.{ring_reply, send_reply};
 
+use crate::changes::Changes;
 use crate::shared::Shared;
 use driver_book::FullDriver;
 use std::alloc::Allocator;
@@ -20,7 +21,7 @@ impl<L: FullDriver, A: Allocator + Copy> Shared<L, A> {
     pub fn abort<R: Wait>(&self, rt: &R, q: u16, cid: u16) -> Result<u16, Refusal>
         ensures { Made L.opening None (events.Abort q cid) (send_reply result) }
     {
-        self.lock(rt).abort(q, cid)
+        self.lock(rt).book.abort(q, cid)
     }
 
     /// [`driver_book::Book::delete_sq`].
@@ -31,8 +32,9 @@ impl<L: FullDriver, A: Allocator + Copy> Shared<L, A> {
     pub fn delete_sq<R: Wait>(&self, rt: &R, q: u16) -> Result<u16, Refusal>
         ensures { Made L.opening None (events.DeleteSq q) (send_reply result) }
     {
-        let answer = self.lock(rt).delete_sq(q);
-        self.wake();
+        let mut locked = self.lock(rt);
+        let answer = locked.book.delete_sq(q);
+        self.leave(locked, Changes::ROOM);
         answer
     }
 
@@ -44,7 +46,7 @@ impl<L: FullDriver, A: Allocator + Copy> Shared<L, A> {
     pub fn delete_cq<R: Wait>(&self, rt: &R, q: u16) -> Result<u16, Refusal>
         ensures { Made L.opening None (events.DeleteCq q) (send_reply result) }
     {
-        self.lock(rt).delete_cq(q)
+        self.lock(rt).book.delete_cq(q)
     }
 
     /// [`driver_book::Book::create_cq`].
@@ -55,8 +57,9 @@ impl<L: FullDriver, A: Allocator + Copy> Shared<L, A> {
     pub fn create_cq<R: Wait>(&self, rt: &R, q: u16) -> Result<u16, Refusal>
         ensures { Made L.opening None (events.CreateCq q) (send_reply result) }
     {
-        let answer = self.lock(rt).create_cq(q);
-        self.wake();
+        let mut locked = self.lock(rt);
+        let answer = locked.book.create_cq(q);
+        self.leave(locked, Changes::ROOM);
         answer
     }
 
@@ -68,8 +71,9 @@ impl<L: FullDriver, A: Allocator + Copy> Shared<L, A> {
     pub fn create_sq<R: Wait>(&self, rt: &R, q: u16) -> Result<u16, Refusal>
         ensures { Made L.opening None (events.CreateSq q) (send_reply result) }
     {
-        let answer = self.lock(rt).create_sq(q);
-        self.wake();
+        let mut locked = self.lock(rt);
+        let answer = locked.book.create_sq(q);
+        self.leave(locked, Changes::ROOM);
         answer
     }
 
@@ -81,8 +85,9 @@ impl<L: FullDriver, A: Allocator + Copy> Shared<L, A> {
     pub fn retire<R: Wait>(&self, rt: &R, q: u16) -> Result<(), Refusal>
         ensures { Made L.opening None (events.Retire q) (ring_reply result) }
     {
-        let answer = self.lock(rt).retire(q);
-        self.wake();
+        let mut locked = self.lock(rt);
+        let answer = locked.book.retire(q);
+        self.leave(locked, Changes::ALL);
         answer
     }
 
@@ -94,8 +99,9 @@ impl<L: FullDriver, A: Allocator + Copy> Shared<L, A> {
     pub fn forge<R: Wait>(&self, rt: &R, q: u16, slot: u16, bytes: [u8; 16]) -> Result<(), Refusal>
         ensures { Made L.opening None (events.Forge q slot bytes) (ring_reply result) }
     {
-        let answer = self.lock(rt).forge(q, slot, bytes);
-        self.wake();
+        let mut locked = self.lock(rt);
+        let answer = locked.book.forge(q, slot, bytes);
+        self.leave(locked, Changes::WRITTEN);
         answer
     }
 
@@ -108,8 +114,9 @@ impl<L: FullDriver, A: Allocator + Copy> Shared<L, A> {
         ensures step { Made L.opening None events.Reset (ring_reply result) }
         ensures recovers { OnOk result (Recovers L.opening) }
     {
-        let answer = self.lock(rt).reset();
-        self.wake();
+        let mut locked = self.lock(rt);
+        let answer = locked.book.reset();
+        self.leave(locked, Changes::ALL);
         answer
     }
 }

@@ -4,6 +4,7 @@ ghost use Rattle.driver_threads.specs.Sharing.{Served};
 ghost use Rattle.machine_model.specs.Events as events;
 ghost use Rattle.step_core.specs.Replies.{complete_reply, fetch_reply, walk_reply};
 
+use crate::changes::Changes;
 use crate::shared::Shared;
 use driver_book::Driver;
 use std::alloc::Allocator;
@@ -19,8 +20,9 @@ impl<L: Driver, A: Allocator + Copy> Shared<L, A> {
     pub fn fetch<R: Wait>(&self, rt: &R, q: u16) -> Result<Fetched, StepRefused>
         ensures { Served L.opening (events.Fetch q) (fetch_reply result) }
     {
-        let answer = self.lock(rt).fetch(q);
-        self.wake();
+        let mut locked = self.lock(rt);
+        let answer = locked.book.fetch(q);
+        self.leave(locked, Changes::RUNG);
         answer
     }
 
@@ -32,8 +34,9 @@ impl<L: Driver, A: Allocator + Copy> Shared<L, A> {
     pub fn walk<R: Wait>(&self, rt: &R, q: u16, cid: u16) -> Result<Walked, StepRefused>
         ensures { Served L.opening (events.Walk q cid) (walk_reply result) }
     {
-        let answer = self.lock(rt).walk(q, cid);
-        self.wake();
+        let mut locked = self.lock(rt);
+        let answer = locked.book.walk(q, cid);
+        self.leave(locked, Changes::WRITTEN);
         answer
     }
 
@@ -45,8 +48,9 @@ impl<L: Driver, A: Allocator + Copy> Shared<L, A> {
     pub fn complete<R: Wait>(&self, rt: &R, q: u16, cid: u16) -> Result<Completed, StepRefused>
         ensures { Served L.opening (events.Complete q cid) (complete_reply result) }
     {
-        let answer = self.lock(rt).complete(q, cid);
-        self.wake();
+        let mut locked = self.lock(rt);
+        let answer = locked.book.complete(q, cid);
+        self.leave(locked, Changes::WRITTEN);
         answer
     }
 }

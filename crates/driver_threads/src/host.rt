@@ -7,7 +7,9 @@ ghost use Rattle.driver_threads.specs.Sharing.{Made, Submitted, Released};
 ghost use Rattle.machine_model.specs.Events as events;
 ghost use Rattle.step_core.specs.Replies.{reserve_reply, accept_reply, collect_reply, ring_reply, reap_reply};
 
+use crate::changes::Changes;
 use crate::shared::Shared;
+use crate::waits::changed_by;
 use driver_book::{Driver, Seat};
 use io_commands::{Draft, Finished, Request, Ticket};
 use std::alloc::Allocator;
@@ -29,7 +31,7 @@ impl<L: Driver, A: Allocator + Copy> Shared<L, A> {
         ensures step { Made L.opening None (events.Reserve q request) (reserve_reply result) }
         ensures back { IfErr result (λ r. r.value ≡ request) }
     {
-        self.lock(rt).reserve(q, request)
+        self.lock(rt).book.reserve(q, request)
     }
 
     /// [`driver_book::Book::submit`]. The seat's receipt for the command has no status yet, which is what [`Shared::release`] owes.
@@ -48,7 +50,7 @@ impl<L: Driver, A: Allocator + Copy> Shared<L, A> {
         ensures ticket { IfOk result (λ ticket. ticket ≡ record { q = draft.q; cid = draft.cid }) }
         ensures awaits { IfOk result (λ ticket. list_any (is_open_for ticket.q ticket.cid) seat.new.receipts ≡ true) }
     {
-        self.lock(rt).submit(seat, draft)
+        self.lock(rt).book.submit(seat, draft)
     }
 
     /// [`driver_book::Book::cancel`].
@@ -60,8 +62,9 @@ impl<L: Driver, A: Allocator + Copy> Shared<L, A> {
         ensures step { Made L.opening None (events.Cancel draft) (accept_reply result) }
         ensures back { IfErr result (λ r. r.value ≡ draft) }
     {
-        let answer = self.lock(rt).cancel(draft);
-        self.wake();
+        let mut locked = self.lock(rt);
+        let answer = locked.book.cancel(draft);
+        self.leave(locked, Changes::ROOM);
         answer
     }
 
@@ -73,8 +76,9 @@ impl<L: Driver, A: Allocator + Copy> Shared<L, A> {
     pub fn ring<R: Wait>(&self, rt: &R, q: u16) -> Result<(), Refusal>
         ensures { Made L.opening None (events.Ring q) (ring_reply result) }
     {
-        let answer = self.lock(rt).ring(q);
-        self.wake();
+        let mut locked = self.lock(rt);
+        let answer = locked.book.ring(q);
+        self.leave(locked, Changes::RUNG);
         answer
     }
 
@@ -86,8 +90,13 @@ impl<L: Driver, A: Allocator + Copy> Shared<L, A> {
     pub fn reap<R: Wait>(&self, rt: &R, q: u16) -> Result<Reaped, Refusal>
         ensures { Made L.opening None (events.Reap q) (reap_reply result) }
     {
-        let answer = self.lock(rt).reap(q);
-        self.wake();
+        let mut locked = self.lock(rt);
+        let answer = locked.book.reap(q);
+        let changes = match &answer {
+            Ok(what) => changed_by(q, what),
+            Err(_) => Changes::NONE,
+        };
+        self.leave(locked, changes);
         answer
     }
 
@@ -101,7 +110,7 @@ impl<L: Driver, A: Allocator + Copy> Shared<L, A> {
         ensures back { IfErr result (λ r. r.value ≡ ticket) }
         ensures command { IfOk result (λ finished. (finished.q ≡ ticket.q) × (finished.cid ≡ ticket.cid)) }
     {
-        self.lock(rt).collect(ticket)
+        self.lock(rt).book.collect(ticket)
     }
 
     /// [`driver_book::Book::release`].
@@ -119,8 +128,9 @@ impl<L: Driver, A: Allocator + Copy> Shared<L, A> {
         ensures step { Released L.opening seat.old finished result seat.new }
         ensures back { IfErr result (λ r. r.value ≡ finished) }
     {
-        let answer = self.lock(rt).release(seat, finished);
-        self.wake();
+        let mut locked = self.lock(rt);
+        let answer = locked.book.release(seat, finished);
+        self.leave(locked, Changes::ROOM);
         answer
     }
 }

@@ -15,6 +15,7 @@
 #![tactic(auto)]
 
 mod admin;
+mod changes;
 mod device;
 mod gate;
 mod host;

@@ -4,6 +4,7 @@ ghost use Rattle.std.specs.Prelude.{◌≡◌, ◌≤◌, map, length, vec_len, 
 ghost use Rattle.std.specs.Bool.{OnTrue};
 ghost use Rattle.driver_book.specs.Laws.{IsTrustedLog};
 ghost use Rattle.driver_book.specs.State.{AreOfJobs};
+ghost use Rattle.driver_threads.specs.Ends.{Agree, AllAgree, ends_of, statuses_of};
 ghost use Rattle.driver_threads.specs.Runs.{IsAfterOpening, RanFrom, RefusesRun};
 ghost use Rattle.step_core.specs.Opening.{opening_of};
 
@@ -41,10 +42,27 @@ fn fault_of(failure: Failure) -> RunFault
     }
 }
 
+/// The jobs of a submitter, each with its end, and its seat.
+#[derive(Drop)]
+struct Carried<L: Driver, A: Allocator> {
+    seat: Seat<L, A>,
+    ends: Vec<JobEndIn<A>, A>,
+    ghost agree: { Agree seat.receipts ends.items },
+}
+
+/// What the thread of a submitter gives back.
+#[derive(Drop)]
+struct Returned<L: Driver, A: Allocator> {
+    /// What it carried through, or why one of its jobs has no end.
+    carried: Result<Carried<L, A>, Failure>,
+    /// Whether a gate was closed to it.
+    closed: bool,
+}
+
 /// What the threads gave back.
 #[derive(Drop)]
 struct Work<L: Driver, A: Allocator> {
-    workers: Vec<Worked<L, A>, A>,
+    workers: Vec<Returned<L, A>, A>,
     /// Whether memory was refused to the poller, to the controller, or to the list of the workers.
     short: bool,
 }
@@ -62,11 +80,52 @@ fn as_long_as<T: Drop, A: Allocator + Copy>(
     lists: Vec<Vec<T, A>, A>,
     told: &[usize],
 ) -> Option<Vec<Vec<T, A>, A>>
-    ensures { IfSome result (λ lists. map (λ list. length list.items) lists.items ≡ told.now) }
+    ensures long { IfSome result (λ lists. map (λ list. length list.items) lists.items ≡ told.now) }
+    ensures same { IfSome result (λ same. same ≡ lists) }
 {
     match lengths(alloc, &lists) {
         Ok(lengths) if lengths.as_slice() == told => Some(lists),
         _ => None,
+    }
+}
+
+/// What a submitter carried through. A job without an end was cut off or not begun, as memory was refused to a worker.
+fn all_carried<L: Driver, A: Allocator>(
+    seat: Option<Seat<L, A>>,
+    ends: Vec<JobEndIn<A>, A>,
+    jobs: usize,
+) -> Result<Carried<L, A>, Failure>
+    requires { vec_len ends ≡ jobs → IfSome seat (λ seat. Agree seat.receipts ends.items) }
+{
+    let Some(seat) = seat else {
+        return Err(Failure::NoThread);
+    };
+    if ends.len() == jobs {
+        Ok(Carried { seat, ends })
+    } else {
+        Err(Failure::Memory)
+    }
+}
+
+/// Does the jobs of a submitter.
+fn submit_all<L: Driver, A: Allocator + Copy, G: Gate, R: Wait>(
+    rt: &R,
+    alloc: A,
+    shared: &Shared<L, A>,
+    gate: &G,
+    worker: u16,
+    jobs: Vec<JobIn<A>, A>,
+) -> Returned<L, A> {
+    let many = jobs.len();
+    let Worked {
+        seat,
+        ends,
+        closed,
+        short: _,
+    } = submitter(rt, alloc, shared, gate, worker, jobs);
+    Returned {
+        carried: all_carried(seat, ends, many),
+        closed,
     }
 }
 
@@ -75,7 +134,7 @@ fn join_all<L: Driver, A: Allocator + Copy, R: Threads + Wait>(
     rt: &R,
     alloc: A,
     shared: &Shared<L, A>,
-    submitters: Vec<JoinHandle<Worked<L, A>>, A>,
+    submitters: Vec<JoinHandle<Returned<L, A>>, A>,
     polls: JoinHandle<Result<(), AllocError>>,
     serves: JoinHandle<Result<(), AllocError>>,
 ) -> Work<L, A> {
@@ -117,7 +176,7 @@ fn run_workers<
         let mut all_started = true;
         let mut short = false;
         for (worker, list) in (0..16u16).zip(jobs) {
-            match scope.spawn(move || submitter(rt, alloc, shared, gate, worker, list)) {
+            match scope.spawn(move || submit_all(rt, alloc, shared, gate, worker, list)) {
                 Ok(handle) => short = handles.push(handle).is_err() || short,
                 Err(_) => {
                     all_started = false;
@@ -137,10 +196,10 @@ fn run_workers<
 }
 
 /// The least worker to whom a gate was closed, where none was left out for want of memory.
-fn first_closed<L: Driver, A: Allocator>(workers: &[Worked<L, A>]) -> Option<u16> {
+fn first_closed<L: Driver, A: Allocator>(workers: &[Returned<L, A>]) -> Option<u16> {
     (0..16u16)
         .zip(workers)
-        .find(|(_, worked)| worked.closed)
+        .find(|(_, returned)| returned.closed)
         .map(|(worker, _)| worker)
 }
 
@@ -151,29 +210,22 @@ struct HandedIn<L: Driver, A: Allocator> {
     lists: Vec<Vec<JobEndIn<A>, A>, A>,
 }
 
-/// Takes what the submitters hand in, whose lists of jobs are so long. A job without an end was cut off or not begun, as
-/// memory was refused to a worker.
+/// Takes what the submitters hand in, whose lists of jobs are so long.
 fn handed_in<L: Driver, A: Allocator + Copy>(
     alloc: A,
     work: Work<L, A>,
     jobs: &[usize],
 ) -> Result<HandedIn<L, A>, Failure>
-    ensures { IfOk result (λ hand. map (λ list. length list.items) hand.lists.items ≡ jobs.now) }
+    ensures long { IfOk result (λ hand. map (λ list. length list.items) hand.lists.items ≡ jobs.now) }
+    ensures agree { IfOk result (λ hand. map (λ seat. statuses_of seat.receipts) hand.seats.items ≡ map (λ list. ends_of list.items) hand.lists.items) }
 {
-    let mut short = work.short;
+    let short = work.short;
     let mut seats = Vec::new(alloc);
     let mut lists = Vec::new(alloc);
-    for worked in work.workers {
-        let Worked {
-            seat,
-            ends,
-            closed: _,
-            short: _,
-        } = worked;
-        short = lists.push(ends).is_err() || short;
-        match seat {
-            Some(seat) => short = seats.push(seat).is_err() || short,
-            None => return Err(Failure::NoThread),
+    for returned in work.workers {
+        let Carried { seat, ends } = returned.carried?;
+        if seats.push(seat).is_err() || lists.push(ends).is_err() {
+            return Err(Failure::Memory);
         }
     }
     match as_long_as(alloc, lists, jobs) {
@@ -191,6 +243,7 @@ fn close<L: Driver, A: Allocator + Copy>(
 ) -> Result<(ReportIn<A>, JobEnds<A>), Failure>
     ensures closed { IfOk result (λ r. RanFrom L.opening r.0 book.new) }
     ensures all_jobs { IfOk result (λ r. map length r.1 ≡ jobs.now) }
+    ensures agree { IfOk result (λ r. AllAgree r.0.receipts r.1) }
     ensures jobs { OnOk result (OnTrue L.jobs_alone (AreOfJobs book.new.log)) }
 {
     prove!({
@@ -219,6 +272,7 @@ fn finish<L: Driver, A: Allocator + Copy>(
 ) -> Result<Ran<L, A>, Failure>
     ensures closed { IfOk result (λ ran. RanFrom L.opening ran.report ran.book) }
     ensures all_jobs { IfOk result (λ ran. map length ran.jobs ≡ jobs.now) }
+    ensures agree { IfOk result (λ ran. AllAgree ran.report.receipts ran.jobs) }
     ensures jobs { IfOk result (λ ran. OnTrue L.jobs_alone (AreOfJobs ran.book.log)) }
 {
     let mut book = book;
@@ -243,6 +297,7 @@ fn run_over<
 ) -> Result<Ran<L, A>, Failure>
     ensures closed { IfOk result (λ ran. RanFrom L.opening ran.report ran.book) }
     ensures all_jobs { IfOk result (λ ran. map length ran.jobs ≡ map (λ list. length list.items) jobs.items) }
+    ensures agree { IfOk result (λ ran. AllAgree ran.report.receipts ran.jobs) }
     ensures jobs { IfOk result (λ ran. OnTrue L.jobs_alone (AreOfJobs ran.book.log)) }
 {
     let Ok(many) = lengths(alloc, &jobs) else {
@@ -256,8 +311,8 @@ fn run_over<
 /// Opens a book, runs a submitter for each list of jobs, a poller and a controller over it in threads of their own, and closes it with the
 /// submitters' seats. A list's place, from 0, is the worker of its submitter.
 ///
-/// Where the driver takes the steps of jobs alone, the log has no others: so the run is trusted from its opening to its end, and the laws of
-/// trusted runs speak of its Reads, Writes and Compares.
+/// A job's command ended as its receipt in the report says, and so as the log does. Where the driver takes the steps of jobs alone, the log
+/// has no others: so the run is trusted from its opening to its end, and the laws of trusted runs speak of its Reads, Writes and Compares.
 ///
 /// # Errors
 ///
@@ -286,6 +341,7 @@ pub fn run_threads<
     requires few { vec_len jobs ≤ 16 }
     ensures ran { IfOk result (λ ran. RanFrom (opening_of config image) ran.report ran.book) }
     ensures all_jobs { IfOk result (λ ran. map length ran.jobs ≡ map (λ list. length list.items) jobs.items) }
+    ensures agree { IfOk result (λ ran. AllAgree ran.report.receipts ran.jobs) }
     ensures jobs { IfOk result (λ ran. OnTrue L.jobs_alone (AreOfJobs ran.book.log)) }
     ensures trusted { IfOk result (λ ran. OnTrue L.jobs_alone (IsTrustedLog image ran.book.log ran.book.world)) }
     ensures refused { IfErr result (RefusesRun config) }

@@ -3,53 +3,84 @@
 ghost use Rattle.std.specs.Prelude.{◌≡◌, true, IfOk, IfErr};
 ghost use Rattle.std.specs.Sync.Mutex.{mutex_guard_value};
 ghost use Rattle.driver_book.specs.State.{BookContents};
-ghost use Rattle.driver_threads.specs.Sharing.{IsBookOf, Seated, GivesNoSeat, IsStopping, Tells, Counted, Closes, StaysOpen};
+ghost use Rattle.driver_threads.specs.Sharing.{IsBookOf, Seated, GivesNoSeat, Tells, Counted, Closes, StaysOpen};
 
+use crate::changes::{Change, Changes, Condvars};
 use driver_book::{Book, CloseRefused, Driver, NoSeat, ReportIn, Seat};
 use page_ledger::{Counts, Owner};
 use page_memory::PageNo;
 use std::alloc::{Allocator, Global};
-use std::sync::{Condvar, Mutex, MutexGuard, Wait};
+use std::sync::{Mutex, MutexGuard, Wait};
+
+/// What stands under the lock.
+#[derive(Drop)]
+pub(crate) struct Locked<L: Driver, A: Allocator> {
+    pub(crate) book: Book<L, A>,
+    /// What somebody waits for who was not told since.
+    pub(crate) awaited: Changes,
+}
 
 /// A book under the driver's lock. Each call but [`Shared::new`] and [`Shared::end`] makes one step of it, looks at it, makes a seat, or stops
 /// or closes it, while it has the lock.
 ///
-/// Who waits sleeps on a condition variable, looks at the book as it wakes, and makes its step once it would be answered otherwise.
+/// Who waits sleeps on a condition variable, looks at the book as it wakes, and makes its step once it would be answered otherwise. A call
+/// tells those alone who wait for what it may have changed.
 #[derive(Drop)]
 pub struct Shared<L: Driver, A: Allocator = Global> {
-    book: Mutex<Book<L, A>>,
-    /// Submitters wait here: for identifiers, for pages, and for the end of their commands.
-    pub(crate) freed: Condvar,
-    /// The poller and the controller wait here: for completions, and for something that the controller can do.
-    pub(crate) work: Condvar,
+    locked: Mutex<Locked<L, A>>,
+    condvars: Condvars,
 }
 
 impl<L: Driver, A: Allocator + Copy> Shared<L, A> {
     /// Puts a book under a lock.
     pub fn new(book: Book<L, A>) -> Self {
         Shared {
-            book: Mutex::new(book),
-            freed: Condvar::new(),
-            work: Condvar::new(),
+            locked: Mutex::new(Locked {
+                book,
+                awaited: Changes::NONE,
+            }),
+            condvars: Condvars::new(),
         }
     }
 
     /// Takes the lock. What it finds there is a book of the opening: its log leads from the opening to the world, which is sound.
-    pub(crate) fn lock<R: Wait>(&self, rt: &R) -> MutexGuard<'_, Book<L, A>>
-        ensures { IsBookOf L.opening (mutex_guard_value result) }
+    pub(crate) fn lock<R: Wait>(&self, rt: &R) -> MutexGuard<'_, Locked<L, A>>
+        ensures { IsBookOf L.opening (mutex_guard_value result).book }
     {
-        let book = self.book.lock(rt);
+        let locked = self.locked.lock(rt);
         prove!({
-            book.check();
+            locked.book.check();
             true
         });
-        book
+        locked
     }
 
-    /// Wakes all that wait, since what they look at has changed.
-    pub(crate) fn wake(&self) {
-        self.freed.notify_all();
-        self.work.notify_all();
+    /// Sleeps until a change is told. The lock is free meanwhile, and whoever takes it before finds that this change is awaited.
+    pub(crate) fn wait<'a, R: Wait>(
+        &self,
+        rt: &R,
+        locked: MutexGuard<'a, Locked<L, A>>,
+        change: Change,
+    ) -> MutexGuard<'a, Locked<L, A>> {
+        let mut locked = locked;
+        locked.awaited = locked.awaited.and(Changes::of(change));
+        self.condvars.at(change).wait(rt, locked)
+    }
+
+    /// Wakes those who wait for these changes, and keeps the lock.
+    pub(crate) fn tell(&self, locked: &mut Locked<L, A>, changes: Changes)
+        ensures { locked.new.book ≡ locked.old.book }
+    {
+        let told = locked.awaited.take(changes);
+        self.condvars.notify(told);
+    }
+
+    /// Gives the lock back, and wakes those who waited for these changes.
+    pub(crate) fn leave(&self, locked: MutexGuard<'_, Locked<L, A>>, changes: Changes) {
+        let mut locked = locked;
+        let told = locked.awaited.take(changes);
+        drop(locked);
+        self.condvars.notify(told);
     }
 
     /// Makes a seat, with the next number and no receipts.
@@ -61,31 +92,28 @@ impl<L: Driver, A: Allocator + Copy> Shared<L, A> {
         ensures seat { IfOk result (Seated L.opening) }
         ensures refused { IfErr result (λ none. GivesNoSeat L.opening) }
     {
-        self.lock(rt).seat()
+        self.lock(rt).book.seat()
     }
 
     /// Tells the workers to stop.
-    pub fn stop<R: Wait>(&self, rt: &R)
-        ensures { IsStopping L.opening true }
-    {
-        self.lock(rt).stop();
-        self.wake();
+    pub fn stop<R: Wait>(&self, rt: &R) {
+        let mut locked = self.lock(rt);
+        locked.book.stop();
+        self.leave(locked, Changes::ALL);
     }
 
     /// Whether the workers are told to stop.
-    pub fn stopping<R: Wait>(&self, rt: &R) -> bool
-        ensures { IsStopping L.opening result }
-    {
-        is_stopping(&*self.lock(rt))
+    pub fn stopping<R: Wait>(&self, rt: &R) -> bool {
+        self.lock(rt).book.stopping()
     }
 
     /// Whose a page is; `None` for one that the pool does not have.
     pub fn owner<R: Wait>(&self, rt: &R, p: PageNo) -> Option<Owner>
         ensures { Tells L.opening p result }
     {
-        let book = self.lock(rt);
-        if p.0 < book.pages() {
-            Some(book.owner(p))
+        let locked = self.lock(rt);
+        if p.0 < locked.book.pages() {
+            Some(locked.book.owner(p))
         } else {
             None
         }
@@ -95,7 +123,7 @@ impl<L: Driver, A: Allocator + Copy> Shared<L, A> {
     pub fn counts<R: Wait>(&self, rt: &R) -> Counts
         ensures { Counted L.opening result }
     {
-        self.lock(rt).counts()
+        self.lock(rt).book.counts()
     }
 
     /// Compares the log with the receipts of the seats, as [`Book::close`], and takes the seats.
@@ -112,27 +140,16 @@ impl<L: Driver, A: Allocator + Copy> Shared<L, A> {
         ensures cause { IfErr result (λ refused. StaysOpen L.opening refused.why seats.items) }
         ensures back { IfErr result (λ refused. refused.seats.items ≡ seats.items) }
     {
-        self.lock(rt).close(seats)
+        self.lock(rt).book.close(seats)
     }
 
     /// The book, once nobody shares it.
     pub fn end(self) -> Book<L, A> {
         let Shared {
-            book,
-            freed: _,
-            work: _,
+            locked,
+            condvars: _,
         } = self;
-        book.into_inner()
+        let Locked { book, awaited: _ } = locked.into_inner();
+        book
     }
-}
-
-/// Whether the workers are told to stop, as a book of the opening says.
-pub(crate) fn is_stopping<L: Driver, A: Allocator + Copy>(book: &Book<L, A>) -> bool
-    ensures { IsStopping L.opening result }
-{
-    prove!({
-        book.check();
-        true
-    });
-    book.stopping()
 }

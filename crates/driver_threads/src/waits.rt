@@ -1,16 +1,17 @@
-//! Calls that wait. Who waits looks at the book each time that it is woken, and makes its step once the answer is another: a wait makes no
-//! step, and writes nothing down.
+//! Calls that wait. Who waits looks at the book before it sleeps and each time that it is woken, and makes its step once the answer is another:
+//! a wait makes no step, and writes nothing down.
 
-ghost use Rattle.std.specs.Prelude.{◌≡◌, true, false, IfOk};
-ghost use Rattle.driver_threads.specs.Sharing.{IsStopping};
+ghost use Rattle.std.specs.Prelude.{◌≡◌, true, false, IfOk, IfErr};
+ghost use Rattle.driver_threads.specs.Ends.{refuses};
 
+use crate::changes::{Change, Changes};
 use crate::jobs::JobRefusal;
-use crate::shared::{Shared, is_stopping};
+use crate::shared::{Locked, Shared};
 use driver_book::{Book, Driver};
 use io_commands::{Draft, Finished, Request, Ticket};
 use std::alloc::{AllocError, Allocator};
 use std::sync::Wait;
-use step_core::{ControllerStep, Refusal};
+use step_core::{ControllerStep, Reaped, Refusal};
 
 /// Why a submitter does not go on with a job.
 #[derive(Clone, Copy, Debug, PartialEq, Eq)]
@@ -64,6 +65,164 @@ fn turn_of<L: Driver, A: Allocator + Copy>(
     Turn::Never(Halt::Refused(refusal))
 }
 
+/// Reserves what would be reserved.
+///
+/// # Errors
+///
+/// Where memory is refused. The request is dropped.
+fn reserved<L: Driver, A: Allocator + Copy>(
+    book: &mut Book<L, A>,
+    q: u16,
+    request: Request<A>,
+) -> Result<Draft<A>, Halt> {
+    match book.reserve(q, request) {
+        Ok(draft) => Ok(draft),
+        Err(_) => Err(Halt::Memory),
+    }
+}
+
+/// Collects a command that has ended.
+///
+/// # Errors
+///
+/// Where somebody else has collected it, or memory is refused. The ticket is spent.
+#[tactic(auto, using(crate::proofs::Collected::collects_command))]
+fn collected<L: Driver, A: Allocator + Copy>(
+    book: &mut Book<L, A>,
+    ticket: Ticket,
+) -> Result<Finished<A>, Halt>
+    ensures command { IfOk result (λ finished. (finished.q ≡ ticket.q) × (finished.cid ≡ ticket.cid)) }
+    ensures halted { IfErr result (λ halt. refuses halt ≡ false) }
+{
+    match book.collect(ticket) {
+        Ok(finished) => Ok(finished),
+        Err(refused) => {
+            drop(refused.value.apart());
+            match refused.why {
+                Refusal::Memory => Err(Halt::Memory),
+                _ => Err(Halt::Stopped),
+            }
+        }
+    }
+}
+
+/// The most steps that a poller or a controller makes while it holds the lock once.
+const MOST_STEPS: u32 = 16;
+
+/// Steps that were made while the lock was held once.
+#[derive(Clone, Copy)]
+struct Steps {
+    /// Whether there was any.
+    any: bool,
+    /// What they may have changed.
+    changes: Changes,
+    /// Whether memory was refused to the last one.
+    short: bool,
+}
+
+/// No step.
+const NO_STEPS: Steps = Steps {
+    any: false,
+    changes: Changes::NONE,
+    short: false,
+};
+
+impl Steps {
+    /// These, and one more that came to this end.
+    fn with(self, end: Result<Changes, Refusal>) -> Steps {
+        match end {
+            Ok(changes) => Steps {
+                any: true,
+                changes: self.changes.and(changes),
+                short: false,
+            },
+            Err(why) => Steps {
+                any: true,
+                changes: self.changes,
+                short: matches!(why, Refusal::Memory),
+            },
+        }
+    }
+}
+
+/// What a reap may have changed: its command ended, and there may be room in its queue for a completion. An admin command that ended may have
+/// changed a queue.
+pub(crate) fn changed_by(q: u16, what: &Reaped) -> Changes {
+    match what {
+        Reaped::Done { cid, .. } => { Changes::of(Change::end_of(q, *cid)).and(Changes::RUNG) }
+        Reaped::AdminDone { .. } => Changes::ALL,
+        Reaped::Rejected(_) => Changes::RUNG,
+        Reaped::Empty => Changes::NONE,
+    }
+}
+
+/// Reaps the completions that are there, as many as may be reaped at once.
+fn reap_some<L: Driver, A: Allocator + Copy>(book: &mut Book<L, A>) -> Steps {
+    let mut steps = NO_STEPS;
+    for _ in 0..MOST_STEPS {
+        let Some(q) = book.next_completion() else {
+            break;
+        };
+        let end = match book.reap(q) {
+            Ok(what) => Ok(changed_by(q, &what)),
+            Err(why) => Err(why),
+        };
+        steps = steps.with(end);
+        if steps.short {
+            break;
+        }
+    }
+    steps
+}
+
+/// Does a step of the controller. What it may have changed: once something was forged, a unit of a list too may write where completions stand.
+fn serve<L: Driver, A: Allocator + Copy>(
+    book: &mut Book<L, A>,
+    step: ControllerStep,
+) -> Result<Changes, Refusal> {
+    match step {
+        ControllerStep::Fetch { q } => match book.fetch(q) {
+            Ok(_) => Ok(Changes::NONE),
+            Err(refused) => Err(refused.why),
+        },
+        ControllerStep::Walk { q, cid } => match book.walk(q, cid) {
+            Ok(_) => Ok(Changes::POSTED),
+            Err(refused) => Err(refused.why),
+        },
+        ControllerStep::Complete { q, cid } => match book.complete(q, cid) {
+            Ok(_) => Ok(Changes::POSTED),
+            Err(refused) => Err(refused.why),
+        },
+    }
+}
+
+/// Does what the controller can do, as many steps as it may make at once.
+fn serve_some<L: Driver, A: Allocator + Copy>(book: &mut Book<L, A>) -> Steps {
+    let mut steps = NO_STEPS;
+    for _ in 0..MOST_STEPS {
+        let Some(step) = book.next_step() else {
+            break;
+        };
+        steps = steps.with(serve(book, step));
+        if steps.short {
+            break;
+        }
+    }
+    steps
+}
+
+/// Leaves out what the poller or the controller would be told in vain, since there is nothing to reap, or nothing that can be done.
+fn of_use<L: Driver, A: Allocator + Copy>(locked: &mut Locked<L, A>, changes: Changes) -> Changes {
+    let mut changes = changes;
+    if locked.awaited.has(Change::Posted) && locked.book.next_completion().is_none() {
+        changes = changes.without(Changes::POSTED);
+    }
+    if locked.awaited.has(Change::Rung) && locked.book.next_step().is_none() {
+        changes = changes.without(Changes::RUNG);
+    }
+    changes
+}
+
 impl<L: Driver, A: Allocator + Copy> Shared<L, A> {
     /// Reserves for a request, and waits as long as identifiers or pages are wanting that others hold.
     ///
@@ -76,78 +235,76 @@ impl<L: Driver, A: Allocator + Copy> Shared<L, A> {
         q: u16,
         request: Request<A>,
     ) -> Result<Draft<A>, Halt> {
-        let mut book = self.freed.wait_while(rt, self.lock(rt), |book| {
-            matches!(turn_of(book, q, &request), Turn::Later)
-        });
-        match turn_of(&*book, q, &request) {
-            Turn::Free => match book.reserve(q, request) {
-                Ok(draft) => Ok(draft),
-                Err(_) => Err(Halt::Memory),
-            },
-            Turn::Later => Err(Halt::Stopped),
-            Turn::Never(halt) => Err(halt),
+        let mut locked = self.lock(rt);
+        for _ in rt.forever() {
+            match turn_of(&locked.book, q, &request) {
+                Turn::Free => return reserved(&mut locked.book, q, request),
+                Turn::Later => locked = self.wait(rt, locked, Change::Room),
+                Turn::Never(halt) => return Err(halt),
+            }
         }
+        unreachable!()
     }
 
-    /// Waits until a command has ended, and collects it.
+    /// Rings a queue for a command, waits until the command has ended, and collects it, while it holds the lock but for the wait.
     ///
     /// # Errors
     ///
     /// Where the workers are told to stop, somebody else has collected the command, or memory is refused. The ticket is spent.
-    pub(crate) fn collect_when_held<R: Wait>(
+    pub(crate) fn ring_and_collect<R: Wait>(
         &self,
         rt: &R,
         ticket: Ticket,
     ) -> Result<Finished<A>, Halt>
-        ensures { IfOk result (λ finished. (finished.q ≡ ticket.q) × (finished.cid ≡ ticket.cid)) }
+        ensures command { IfOk result (λ finished. (finished.q ≡ ticket.q) × (finished.cid ≡ ticket.cid)) }
+        ensures halted { IfErr result (λ halt. refuses halt ≡ false) }
     {
         let (q, cid) = (ticket.q(), ticket.cid());
-        let book = self.freed.wait_while(rt, self.lock(rt), |book| {
-            !book.stopping() && matches!(book.collect_refusal(q, cid), Some(Refusal::NotYet))
-        });
-        let stopping = book.stopping();
-        drop(book);
-        if stopping {
+        let mut locked = self.lock(rt);
+        if matches!(locked.book.ring(q), Err(Refusal::Memory)) {
+            drop(locked);
             drop(ticket.apart());
-            return Err(Halt::Stopped);
+            return Err(Halt::Memory);
         }
-        match self.collect(rt, ticket) {
-            Ok(finished) => Ok(finished),
-            Err(refused) => {
-                drop(refused.value.apart());
-                match refused.why {
-                    Refusal::Memory => Err(Halt::Memory),
-                    _ => Err(Halt::Stopped),
+        self.tell(&mut locked, Changes::RUNG);
+        for _ in rt.forever() {
+            if locked.book.stopping() {
+                drop(locked);
+                drop(ticket.apart());
+                return Err(Halt::Stopped);
+            }
+            match locked.book.collect_refusal(q, cid) {
+                Some(Refusal::NotYet) => {
+                    locked = self.wait(rt, locked, Change::end_of(q, cid));
                 }
+                _ => return collected(&mut locked.book, ticket),
             }
         }
+        unreachable!()
     }
 
-    /// Waits until a queue has a completion, and reaps it. False once the workers are told to stop.
+    /// Waits until queues have completions, and reaps them. False once the workers are told to stop.
     ///
     /// # Errors
     ///
     /// Where memory is refused.
-    pub(crate) fn reap_next<R: Wait>(&self, rt: &R) -> Result<bool, AllocError>
-        ensures { IfOk result (λ goes_on. goes_on ≡ false → IsStopping L.opening true) }
-    {
-        let mut book = self.lock(rt);
+    pub(crate) fn reap_next<R: Wait>(&self, rt: &R) -> Result<bool, AllocError> {
+        let mut locked = self.lock(rt);
         for _ in rt.forever() {
-            if is_stopping(&*book) {
+            if locked.book.stopping() {
                 return Ok(false);
             }
-            match book.next_completion() {
-                Some(q) => {
-                    let answer = book.reap(q);
-                    drop(book);
-                    self.wake();
-                    return match answer {
-                        Err(Refusal::Memory) => Err(AllocError),
-                        _ => Ok(true),
-                    };
-                }
-                None => book = self.work.wait(rt, book),
+            let steps = reap_some(&mut locked.book);
+            if steps.any {
+                let changes = of_use(&mut locked, steps.changes);
+                self.leave(locked, changes);
+                return if steps.short {
+                    Err(AllocError)
+                } else {
+                    Ok(true)
+                };
             }
+            locked = self.wait(rt, locked, Change::Posted);
         }
         unreachable!()
     }
@@ -157,41 +314,24 @@ impl<L: Driver, A: Allocator + Copy> Shared<L, A> {
     /// # Errors
     ///
     /// Where memory is refused.
-    pub(crate) fn serve_next<R: Wait>(&self, rt: &R) -> Result<bool, AllocError>
-        ensures { IfOk result (λ goes_on. goes_on ≡ false → IsStopping L.opening true) }
-    {
-        let mut book = self.lock(rt);
+    pub(crate) fn serve_next<R: Wait>(&self, rt: &R) -> Result<bool, AllocError> {
+        let mut locked = self.lock(rt);
         for _ in rt.forever() {
-            if is_stopping(&*book) {
+            if locked.book.stopping() {
                 return Ok(false);
             }
-            match book.next_step() {
-                Some(step) => {
-                    let why = serve(&mut book, step);
-                    drop(book);
-                    self.wake();
-                    return match why {
-                        Some(Refusal::Memory) => Err(AllocError),
-                        _ => Ok(true),
-                    };
-                }
-                None => book = self.work.wait(rt, book),
+            let steps = serve_some(&mut locked.book);
+            if steps.any {
+                let changes = of_use(&mut locked, steps.changes);
+                self.leave(locked, changes);
+                return if steps.short {
+                    Err(AllocError)
+                } else {
+                    Ok(true)
+                };
             }
+            locked = self.wait(rt, locked, Change::Rung);
         }
         unreachable!()
-    }
-}
-
-/// Does a step of the controller. Why it was refused, if it was.
-fn serve<L: Driver, A: Allocator + Copy>(
-    book: &mut Book<L, A>,
-    step: ControllerStep,
-) -> Option<Refusal> {
-    match step {
-        ControllerStep::Fetch { q } => book.fetch(q).err().map(|refused| refused.why),
-        ControllerStep::Walk { q, cid } => book.walk(q, cid).err().map(|refused| refused.why),
-        ControllerStep::Complete { q, cid } => {
-            book.complete(q, cid).err().map(|refused| refused.why)
-        }
     }
 }

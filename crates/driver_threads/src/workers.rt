@@ -1,15 +1,16 @@
 //! What the threads do: submitters carry jobs through, a poller takes completions, a controller serves.
 
-ghost use Rattle.std.specs.Prelude.{◌≡◌, ◌+◌, ◌≤◌, true, length, vec_len, IfOk, OnOk};
+ghost use Rattle.std.specs.Prelude.{◌≡◌, ◌+◌, ◌++◌, ◌<◌, ◌≤◌, [], ◌∷◌, true, false, is_none, length, vec_len, IfOk, IfErr, IfSome, OnOk, OnErr};
 ghost use Rattle.std.specs.List.{list_any};
 ghost use Rattle.driver_book.specs.Calls.{is_open_for};
-ghost use Rattle.driver_threads.specs.Sharing.{IsStopping};
+ghost use Rattle.driver_threads.specs.Ends.{ends_of, statuses_of, Agree, last_status, Awaits, EndsWith, refuses};
 
 use crate::gate::{Gate, Point};
 use crate::jobs::{Job, JobEnd, JobEndIn, JobIn, JobRefusal};
 use crate::shared::Shared;
 use crate::waits::Halt;
-use driver_book::{Driver, Seat};
+use driver_book::{Driver, Receipt, Seat};
+use entry_codec::Status;
 use io_commands::{Draft, Finished, Kind, Ticket};
 use std::alloc::{AllocError, Allocator, Global};
 use std::sync::Wait;
@@ -134,7 +135,9 @@ fn submitted<L: Driver, A: Allocator + Copy, R: Wait>(
     seat: &mut Seat<L, A>,
     draft: Draft<A>,
 ) -> Result<Ticket, Halt>
-    ensures { IfOk result (λ ticket. list_any (is_open_for ticket.q ticket.cid) seat.new.receipts ≡ true) }
+    ensures awaits { IfOk result (λ ticket. list_any (is_open_for ticket.q ticket.cid) seat.new.receipts ≡ true) }
+    ensures receipt { IfOk result (λ ticket. Awaits seat.old.receipts ticket seat.new.receipts) }
+    ensures refused { OnErr result (seat.new.receipts ≡ seat.old.receipts) }
 {
     match shared.submit(rt, seat, draft) {
         Ok(ticket) => Ok(ticket),
@@ -148,7 +151,15 @@ fn submitted<L: Driver, A: Allocator + Copy, R: Wait>(
     }
 }
 
-/// Gathers what a finished command brought, and releases it. Nothing is held while it gathers.
+/// The status of the last receipt.
+fn last_status_of(receipts: &[Receipt]) -> Option<Status>
+    ensures { result ≡ last_status receipts.now }
+{
+    receipts.last().and_then(|receipt| receipt.status)
+}
+
+/// Gathers what a finished command brought, and releases it. No lock is held while it gathers. The command ended as its receipt, the
+/// seat's last one, says.
 fn finished<L: Driver, A: Allocator + Copy, R: Wait>(
     rt: &R,
     alloc: A,
@@ -157,21 +168,23 @@ fn finished<L: Driver, A: Allocator + Copy, R: Wait>(
     finished: Finished<A>,
 ) -> Result<JobEndIn<A>, Halt>
     requires { list_any (is_open_for finished.q finished.cid) seat.old.receipts ≡ true }
+    ensures settled { IfOk result (λ end. EndsWith seat.old.receipts finished.q finished.cid end seat.new.receipts) }
+    ensures halted { IfErr result (λ halt. refuses halt ≡ false) }
 {
-    let status = finished.status();
     let Ok(bytes) = finished.gather(alloc) else {
         drop(finished.apart());
         return Err(Halt::Memory);
     };
-    match shared.release(rt, seat, finished) {
-        Ok(()) => Ok(JobEnd::Done {
+    if let Err(refused) = shared.release(rt, seat, finished) {
+        drop(refused.value.apart());
+        return Err(Halt::Memory);
+    }
+    match last_status_of(seat.receipts()) {
+        Some(status) => Ok(JobEnd::Done {
             status,
             bytes: Bytes::from_vec(bytes),
         }),
-        Err(refused) => {
-            drop(refused.value.apart());
-            Err(Halt::Memory)
-        }
+        None => Err(Halt::Stopped),
     }
 }
 
@@ -183,30 +196,60 @@ fn carry<L: Driver, A: Allocator + Copy, G: Gate, R: Wait>(
     seat: &mut Seat<L, A>,
     watch: &mut Watch<G>,
     job: JobIn<A>,
-) -> Result<JobEndIn<A>, Halt> {
-    let q = job.q;
+) -> Result<JobEndIn<A>, Halt>
+    requires { list_any (λ r. is_none r.status) seat.old.receipts ≡ false }
+    ensures ended { IfOk result (λ end. statuses_of seat.new.receipts ≡ statuses_of seat.old.receipts ++ ends_of (end ∷ [])) }
+    ensures refused { IfErr result (λ halt. refuses halt ≡ true → seat.new.receipts ≡ seat.old.receipts) }
+{
     let draft = drafted(rt, alloc, shared, watch, job)?;
     let ticket = submitted(rt, shared, seat, draft)?;
     watch.pass(Point::Submitted);
-    match shared.ring(rt, q) {
-        Err(Refusal::Memory) => {
-            drop(ticket.apart());
-            return Err(Halt::Memory);
-        }
-        Ok(()) | Err(_) => {}
-    }
-    let command = shared.collect_when_held(rt, ticket)?;
+    let command = shared.ring_and_collect(rt, ticket)?;
     let end = finished(rt, alloc, shared, seat, command)?;
     watch.pass(Point::Released);
     Ok(end)
+}
+
+/// Carries a job through, and notes how it ended.
+///
+/// # Errors
+///
+/// Where the workers are told to stop, somebody else has collected the job's command, or memory is refused. The job has no end then.
+fn carry_one<L: Driver, A: Allocator + Copy, G: Gate, R: Wait>(
+    rt: &R,
+    alloc: A,
+    shared: &Shared<L, A>,
+    seat: &mut Seat<L, A>,
+    watch: &mut Watch<G>,
+    job: JobIn<A>,
+    ends: &mut Vec<JobEndIn<A>, A>,
+) -> Result<(), Halt>
+    requires { Agree seat.old.receipts ends.old.items }
+    ensures one { OnOk result (vec_len ends.new ≡ vec_len ends.old + 1) }
+    ensures none { OnErr result (vec_len ends.new ≡ vec_len ends.old) }
+    ensures agree { OnOk result (Agree seat.new.receipts ends.new.items) }
+{
+    if ends.reserve(1).is_err() {
+        return Err(Halt::Memory);
+    }
+    match carry(rt, alloc, shared, seat, watch, job) {
+        Ok(end) => {
+            ends.push_reserved(end);
+            Ok(())
+        }
+        Err(Halt::Refused(why)) => {
+            ends.push_reserved(JobEnd::Refused(why));
+            Ok(())
+        }
+        Err(halt) => Err(halt),
+    }
 }
 
 /// Carries jobs through, one after the other, and notes how each ended.
 ///
 /// # Errors
 ///
-/// Where the workers are told to stop, somebody else has collected the job's command, or memory is refused. The job and those behind it
-/// have no end then.
+/// As [`carry_one`]. The job and those behind it have no end then.
 fn carry_all<L: Driver, A: Allocator + Copy, G: Gate, R: Wait>(
     rt: &R,
     alloc: A,
@@ -216,16 +259,15 @@ fn carry_all<L: Driver, A: Allocator + Copy, G: Gate, R: Wait>(
     jobs: Vec<JobIn<A>, A>,
     ends: &mut Vec<JobEndIn<A>, A>,
 ) -> Result<(), Halt>
+    requires { Agree seat.old.receipts ends.old.items }
     ensures all { OnOk result (vec_len ends.new ≡ vec_len ends.old + vec_len jobs) }
+    ensures fewer { OnErr result (vec_len ends.new < vec_len ends.old + vec_len jobs) }
     ensures most { vec_len ends.new ≤ vec_len ends.old + vec_len jobs }
+    ensures agree { OnOk result (Agree seat.new.receipts ends.new.items) }
 {
     for job in jobs {
-        if ends.reserve(1).is_err() {
-            return Err(Halt::Memory);
-        }
-        match carry(rt, alloc, shared, seat, watch, job) {
-            Ok(end) => ends.push_reserved(end),
-            Err(Halt::Refused(why)) => ends.push_reserved(JobEnd::Refused(why)),
+        match carry_one(rt, alloc, shared, seat, watch, job, ends) {
+            Ok(()) => {}
             Err(halt) => return Err(halt),
         }
     }
@@ -233,7 +275,8 @@ fn carry_all<L: Driver, A: Allocator + Copy, G: Gate, R: Wait>(
 }
 
 /// Takes a seat, and carries jobs through, one after the other. It waits for identifiers and pages that others hold, and for the end of its
-/// commands. Where memory is refused to it, all workers are told to stop; what it holds is spent.
+/// commands. Where memory is refused to it, all workers are told to stop; what it holds is spent. Where each job has its end, the ends of
+/// its commands are those that its receipts say, in their order, and there is no further receipt.
 pub fn submitter<L: Driver, A: Allocator + Copy, G: Gate, R: Wait>(
     rt: &R,
     alloc: A,
@@ -242,38 +285,34 @@ pub fn submitter<L: Driver, A: Allocator + Copy, G: Gate, R: Wait>(
     worker: u16,
     jobs: Vec<JobIn<A>, A>,
 ) -> Worked<L, A>
-    ensures { vec_len result.ends ≤ vec_len jobs }
+    ensures most { vec_len result.ends ≤ vec_len jobs }
+    ensures agree { vec_len result.ends ≡ vec_len jobs → IfSome result.seat (λ seat. Agree seat.receipts result.ends.items) }
 {
+    let mut ends = Vec::new(alloc);
+    let Ok(mut seat) = shared.seat(rt) else {
+        return Worked {
+            seat: None,
+            ends,
+            closed: false,
+            short: false,
+        };
+    };
     let mut watch = Watch {
         gate,
         worker,
         closed: false,
     };
-    let mut worked = Worked {
-        seat: None,
-        ends: Vec::new(alloc),
-        closed: false,
-        short: false,
-    };
-    let Ok(mut seat) = shared.seat(rt) else {
-        return worked;
-    };
-    let carried = carry_all(
-        rt,
-        alloc,
-        shared,
-        &mut seat,
-        &mut watch,
-        jobs,
-        &mut worked.ends,
-    );
-    if carried == Err(Halt::Memory) {
-        worked.short = true;
+    let carried = carry_all(rt, alloc, shared, &mut seat, &mut watch, jobs, &mut ends);
+    let short = carried == Err(Halt::Memory);
+    if short {
         shared.stop(rt);
     }
-    worked.closed = watch.closed;
-    worked.seat = Some(seat);
-    worked
+    Worked {
+        seat: Some(seat),
+        ends,
+        closed: watch.closed,
+        short,
+    }
 }
 
 /// Takes completions from the queues as they come, until the workers are told to stop.
@@ -284,9 +323,7 @@ pub fn submitter<L: Driver, A: Allocator + Copy, G: Gate, R: Wait>(
 pub fn poller<L: Driver, A: Allocator + Copy, R: Wait>(
     rt: &R,
     shared: &Shared<L, A>,
-) -> Result<(), AllocError>
-    ensures { IsStopping L.opening true }
-{
+) -> Result<(), AllocError> {
     for _ in rt.forever() {
         match shared.reap_next(rt) {
             Ok(true) => {}
@@ -308,9 +345,7 @@ pub fn poller<L: Driver, A: Allocator + Copy, R: Wait>(
 pub fn controller<L: Driver, A: Allocator + Copy, R: Wait>(
     rt: &R,
     shared: &Shared<L, A>,
-) -> Result<(), AllocError>
-    ensures { IsStopping L.opening true }
-{
+) -> Result<(), AllocError> {
     for _ in rt.forever() {
         match shared.serve_next(rt) {
             Ok(true) => {}

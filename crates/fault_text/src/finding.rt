@@ -129,7 +129,7 @@ fn words_after(alloc: Global, line: &[u8], at: usize, slots: &[Slot]) -> Result<
 }
 
 /// Whether a word is a piece, as the parser reads it.
-fn is_piece(alloc: Global, word: &[u8]) -> Result<bool, AllocError> {
+pub(crate) fn is_piece(alloc: Global, word: &[u8]) -> Result<bool, AllocError> {
     match words_of(word) {
         Ok(mut words) => Ok(pieces(alloc, &mut words)?.is_ok()),
         Err(_) => Ok(false),

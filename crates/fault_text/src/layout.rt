@@ -51,7 +51,11 @@ fn put_often(out: &mut String, character: char, times: usize) -> Result<(), Allo
 }
 
 /// Puts a line, cut where it is long, and below it a caret for each byte from `start` to `end`, one at least.
-fn put_line(out: &mut String, line: &[u8], start: usize, end: usize) -> Result<(), AllocError> {
+///
+/// # Errors
+///
+/// Where memory is refused.
+pub fn put_line(out: &mut String, line: &[u8], start: usize, end: usize) -> Result<(), AllocError> {
     let mut from = 0;
     if line.len() > WIDTH {
         from = start.saturating_sub(BEFORE);

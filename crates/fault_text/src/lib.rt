@@ -17,6 +17,7 @@ mod words;
 pub use finding::{Found, Wanted, find};
 pub use forms::{Grammar, Slot, form_text};
 pub use grammar::grammar_text;
-pub use layout::explain;
+pub use layout::{explain, put_line};
 pub use lines::line_at;
 pub use near::nearest;
+pub use words::{Place, word_from};

@@ -1,6 +1,6 @@
 //! What is wrong with a word, in a sentence.
 
-use crate::finding::{Found, JOB, Wanted};
+use crate::finding::{Found, JOB, Wanted, is_piece};
 use crate::forms::{Grammar, Slot, form_text};
 use crate::layout::Shown;
 use crate::near::nearest;
@@ -70,21 +70,10 @@ fn put_bad_number(out: &mut String, word: &[u8], slot: Slot) -> Result<(), Alloc
     out.push_str(".")
 }
 
-/// Whether a word looks like a piece.
-fn is_like_piece(word: &[u8]) -> bool {
-    word.first() == Some(&b'x') || word.contains(&b'+')
-}
-
 /// Puts what is wrong with bytes.
 fn put_bad_bytes(out: &mut String, word: &[u8], slot: Slot) -> Result<(), AllocError> {
     let shown = Shown(word);
     let digits = word.len();
-    if is_like_piece(word) {
-        return write!(
-            out,
-            "'{shown}' is a piece: HEX, the bytes, stands before the pieces."
-        );
-    }
     if !word.iter().all(|byte| byte.is_ascii_hexdigit()) {
         return write!(
             out,
@@ -104,15 +93,18 @@ fn put_bad_bytes(out: &mut String, word: &[u8], slot: Slot) -> Result<(), AllocE
 fn put_bad_word(
     out: &mut String,
     alloc: Global,
+    grammar: Grammar,
     word: &[u8],
     slot: Slot,
 ) -> Result<(), AllocError> {
-    if word.last() == Some(&b'\r') {
-        return out.push_str(
-            "a carriage return ends this word: it ends a line only before a line feed.",
-        );
-    }
     match slot {
+        Slot::Bytes if grammar != Grammar::Steps && is_piece(alloc, word)? => {
+            let shown = Shown(word);
+            write!(
+                out,
+                "'{shown}' is a piece: HEX, the bytes, stands before the pieces."
+            )
+        }
         Slot::Bytes | Slot::EntryBytes => put_bad_bytes(out, word, slot),
         Slot::Kind => {
             let shown = Shown(word);
@@ -161,6 +153,11 @@ pub(crate) fn put_sentence(
     found: Found,
 ) -> Result<(), AllocError> {
     let word = line.get(found.start..found.end).unwrap_or(&[]);
+    if word.last() == Some(&b'\r') {
+        return out.push_str(
+            "a carriage return ends this word: it ends a line only before a line feed.",
+        );
+    }
     match found.wanted {
         Wanted::ShorterLine => {
             let len = line.len();
@@ -172,7 +169,7 @@ pub(crate) fn put_sentence(
             Grammar::Jobs(_) => put_no_job(out, alloc, word),
         },
         Wanted::Slot(slot) if found.fault == LineFault::MissingWord => put_missing(out, slot),
-        Wanted::Slot(slot) => put_bad_word(out, alloc, word, slot),
+        Wanted::Slot(slot) => put_bad_word(out, alloc, grammar, word, slot),
         Wanted::Piece => {
             let shown = Shown(word);
             write!(

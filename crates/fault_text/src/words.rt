@@ -4,9 +4,11 @@ ghost use Rattle.std.specs.Prelude.{◌≤◌, IfSome, length};
 
 /// Where a word stands in its line, in bytes from the left: its first one, and the one behind its last.
 #[derive(Clone, Copy, Debug, PartialEq, Eq)]
-pub(crate) struct Place {
-    pub(crate) start: usize,
-    pub(crate) end: usize,
+pub struct Place {
+    /// Where its first byte stands.
+    pub start: usize,
+    /// Where it ends; a word that is missing has no bytes.
+    pub end: usize,
 }
 
 /// Whether a byte stands between words.
@@ -30,7 +32,7 @@ fn next_where(line: &[u8], from: usize, blank: bool) -> usize
 }
 
 /// The first word from a place on.
-pub(crate) fn word_from(line: &[u8], from: usize) -> Option<Place>
+pub fn word_from(line: &[u8], from: usize) -> Option<Place>
     requires { from ≤ length line.now }
     ensures start { IfSome result (λ place. place.start ≤ place.end) }
     ensures end { IfSome result (λ place. place.end ≤ length line.now) }

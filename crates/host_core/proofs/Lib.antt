@@ -48,3 +48,4 @@ pub mod ResetQueues
 pub mod ResetAdmin
 pub mod Resetting
 pub mod Exact
+pub mod Counted

@@ -1,9 +1,10 @@
 -- A queue and a command of the host's tables, as contracts see them.
-use Rattle.std.specs.Prelude.{ℕ, Option, List}
+use Rattle.std.specs.Prelude.{ℕ, ◌+◌, ◌==◌, Option, List, [], ◌∷◌, if◌then◌else◌}
 use Rattle.entry_codec.specs.declared.status.Status.{Status}
 use Rattle.machine_model.specs.Work.{Work}
 use Rattle.machine_model.specs.declared.words.Phase.{Phase}
 use Rattle.queue_pair.specs.Rings.{HostSide}
+use Rattle.slot_table.specs.Table.{Row}
 use Rattle.host_core.specs.declared.queue.Queue as queue
 
 -- they say nothing of where a queue's lists were made
@@ -17,3 +18,8 @@ pub record Kept : Type 0 where
   pub data_pages : List ℕ
   pub chain_pages : List ℕ
   pub status : Option Status
+
+-- how many of the rows stand in places of a queue
+abbrev pub rows_on : ℕ → List (Row Kept) → ℕ
+rows_on q [] = 0
+rows_on q (row ∷ rows) = if row.q == q then rows_on q rows + 1 else rows_on q rows

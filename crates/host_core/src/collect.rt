@@ -134,7 +134,7 @@ impl<A: Allocator + Copy> Host<A> {
     ) -> Result<Finished<A>, Refused<Ticket>>
         requires { IsOver self.old store.old.pages }
         ensures step { HostStep self.old store.old.pages (events.Collect ticket.q ticket.cid) (collect_reply result) self.new store.new.pages }
-        ensures touches { HostTouches store.old (events.Collect ticket.q ticket.cid) (collect_reply result) store.new }
+        ensures touches { HostTouches self.old.entries store.old (events.Collect ticket.q ticket.cid) (collect_reply result) store.new }
         ensures over { IsOver self.new store.new.pages }
         ensures back { IfErr result (λ r. r.value ≡ ticket) }
     {

@@ -1,6 +1,6 @@
 //! The host makes a queue that is gone once more: first its completion queue, then its submission queue.
 
-ghost use Rattle.std.specs.Prelude.{◌≡◌, ◌==◌, ◌<◌, [], None, Some, OnOk, IfOk, IfErr, find, is_some, length};
+ghost use Rattle.std.specs.Prelude.{◌≡◌, ◌==◌, ◌<◌, ◌+◌, [], None, Some, OnOk, IfOk, IfErr, find, is_some, length};
 ghost use Rattle.std.specs.List.{list_any};
 ghost use Rattle.admin_commands.specs.declared.AdminKind.TheVariants as kinds;
 ghost use Rattle.controller_walk.specs.Units.{first_passing};
@@ -9,6 +9,7 @@ ghost use Rattle.machine_model.specs.Refusals.{run_for};
 ghost use Rattle.machine_model.specs.State.{is_at};
 ghost use Rattle.machine_model.specs.Step.{Refuses};
 ghost use Rattle.page_memory.specs.Pages.{Pages};
+ghost use Rattle.queue_pair.specs.Memory.{half_pages as pages_of_half};
 ghost use Rattle.host_core.specs.Alone.{HostStep, IsLowest, IsOver};
 ghost use Rattle.host_core.specs.Parts.{records_of, tables_of, Over};
 ghost use Rattle.host_core.specs.Replies.{send_reply};
@@ -173,7 +174,7 @@ impl<A: Allocator + Copy> Parts<A> {
         requires run { run_for (state_of (tables_of self.old store.old.pages)) half ≡ Some first }
         requires there { q < length self.old.queues.items }
         ensures granted { tables_of self.new store.new.pages ≡ granted half q first (tables_of self.old store.old.pages) }
-        ensures touches { TouchesBy 0 store.old store.new }
+        ensures touches { TouchesBy (pages_of_half self.old.entries half) store.old store.new }
     {
         let need = half_pages(self.entries, half);
         match self.ledger.grant_run(Owner::Queue { q, half }, need) {
@@ -189,7 +190,7 @@ impl<A: Allocator + Copy> Parts<A> {
         requires whole { IsWhole (tables_of self.old store.old.pages) }
         requires ready { CanCreate (tables_of self.old store.old.pages) half q creation.cid creation.first }
         ensures creates { Creates (tables_of self.old store.old.pages) half q creation.cid creation.first (tables_of self.new store.new.pages) }
-        ensures touches { TouchesBy 1 store.old store.new }
+        ensures touches { TouchesBy (pages_of_half self.old.entries half + 1) store.old store.new }
     {
         let Creation { cid, first } = creation;
         self.grant_half(store, q, half, first);
@@ -204,7 +205,7 @@ impl<A: Allocator + Copy> Host<A> {
     fn create(&mut self, store: &mut Store<A>, q: u16, half: Half) -> Result<u16, Refusal>
         requires { IsOver self.old store.old.pages }
         ensures step { HostStep self.old store.old.pages (creating half q) (send_reply result) self.new store.new.pages }
-        ensures touches { HostTouches store.old (creating half q) (send_reply result) store.new }
+        ensures touches { HostTouches self.old.entries store.old (creating half q) (send_reply result) store.new }
         ensures identifier { IfOk result (λ id. IsLowest self.old.host 0 id) }
         ensures over { IsOver self.new store.new.pages }
     {
@@ -229,7 +230,7 @@ impl<A: Allocator + Copy> Host<A> {
     pub fn create_cq(&mut self, store: &mut Store<A>, q: u16) -> Result<u16, Refusal>
         requires { IsOver self.old store.old.pages }
         ensures step { HostStep self.old store.old.pages (events.CreateCq q) (send_reply result) self.new store.new.pages }
-        ensures touches { HostTouches store.old (events.CreateCq q) (send_reply result) store.new }
+        ensures touches { HostTouches self.old.entries store.old (events.CreateCq q) (send_reply result) store.new }
         ensures identifier { IfOk result (λ id. IsLowest self.old.host 0 id) }
         ensures over { IsOver self.new store.new.pages }
     {
@@ -248,7 +249,7 @@ impl<A: Allocator + Copy> Host<A> {
     pub fn create_sq(&mut self, store: &mut Store<A>, q: u16) -> Result<u16, Refusal>
         requires { IsOver self.old store.old.pages }
         ensures step { HostStep self.old store.old.pages (events.CreateSq q) (send_reply result) self.new store.new.pages }
-        ensures touches { HostTouches store.old (events.CreateSq q) (send_reply result) store.new }
+        ensures touches { HostTouches self.old.entries store.old (events.CreateSq q) (send_reply result) store.new }
         ensures identifier { IfOk result (λ id. IsLowest self.old.host 0 id) }
         ensures over { IsOver self.new store.new.pages }
     {

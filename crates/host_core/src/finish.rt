@@ -73,7 +73,7 @@ impl<A: Allocator> Host<A> {
     pub fn cancel(&mut self, store: &mut Store<A>, draft: Draft<A>) -> Result<(), Refused<Draft<A>>>
         requires { IsOver self.old store.old.pages }
         ensures step { HostStep self.old store.old.pages (events.Cancel draft) (accept_reply result) self.new store.new.pages }
-        ensures touches { HostTouches store.old (events.Cancel draft) (accept_reply result) store.new }
+        ensures touches { HostTouches self.old.entries store.old (events.Cancel draft) (accept_reply result) store.new }
         ensures over { IsOver self.new store.new.pages }
         ensures back { IfErr result (λ r. r.value ≡ draft) }
     {
@@ -102,7 +102,7 @@ impl<A: Allocator> Host<A> {
     ) -> Result<(), Refused<Finished<A>>>
         requires { IsOver self.old store.old.pages }
         ensures step { HostStep self.old store.old.pages (events.Release finished) (accept_reply result) self.new store.new.pages }
-        ensures touches { HostTouches store.old (events.Release finished) (accept_reply result) store.new }
+        ensures touches { HostTouches self.old.entries store.old (events.Release finished) (accept_reply result) store.new }
         ensures over { IsOver self.new store.new.pages }
         ensures back { IfErr result (λ r. r.value ≡ finished) }
     {

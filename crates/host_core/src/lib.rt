@@ -35,6 +35,7 @@ mod reserve;
 mod reset;
 mod retire;
 mod ring;
+mod rings;
 mod send;
 mod submit;
 mod view;

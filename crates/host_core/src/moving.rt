@@ -13,17 +13,16 @@ use page_memory::{Page, PageNo, Store};
 use std::alloc::Allocator;
 
 /// Takes a page that is in, and makes it one of zeros.
-#[tactic(auto, using(crate::proofs::Pages::zeroed_rules))]
 fn take_zeroed<A: Allocator>(store: &mut Store<A>, number: PageNo) -> Page<A>
     requires { IsSome (page_at store.old.pages number) }
     ensures page { result ≡ zero_page }
     ensures out { store.new.pages ≡ slice_set store.old.pages number None }
     ensures touches { TouchesBy 1 store.old store.new }
 {
-    store.zero(number);
-    let Some(page) = store.take(number) else {
+    let Some(mut page) = store.take(number) else {
         unreachable!();
     };
+    page.clear();
     page
 }
 
@@ -51,10 +50,12 @@ pub(crate) fn zero_run<A: Allocator>(store: &mut Store<A>, first: PageNo, count:
     requires few { first + count ≤ 65536 }
     requires can { CanZero (pages_from first count) store.old.pages }
     ensures pages { store.new.pages ≡ with_pages (zeroed_pages (pages_from first count)) store.old.pages }
-    ensures touches { TouchesBy 0 store.old store.new }
+    ensures touches { TouchesBy count store.old store.new }
 {
     for p in first.0..first.0 + count {
-        store.zero(PageNo(p));
+        let number = PageNo(p);
+        let page = take_zeroed(store, number);
+        store.put(number, page);
     }
 }
 

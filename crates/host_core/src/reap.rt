@@ -244,7 +244,7 @@ impl<A: Allocator> Host<A> {
         requires { IsOver self.old store.old.pages }
         ensures step { HostStep self.old store.old.pages (events.Reap q) (reap_reply result) self.new store.new.pages }
         ensures head { IfOk result (λ reap. reap.head ≡ head_rung self.new q reap.found) }
-        ensures touches { HostTouches store.old (events.Reap q) (reap_reply result) store.new }
+        ensures touches { HostTouches self.old.entries store.old (events.Reap q) (reap_reply result) store.new }
         ensures over { IsOver self.new store.new.pages }
     {
         if has_no_completion(&self.parts.queues, q) {

@@ -146,7 +146,7 @@ impl<A: Allocator + Copy> Host<A> {
         ensures step { HostStep self.old store.old.pages (events.Reserve q request) (reserve_reply result) self.new store.new.pages }
         ensures identifier { IfOk result (λ draft. IsLowest self.old.host q draft.cid) }
         ensures pages { IfOk result (λ draft. HasPlacedPages self.old.host draft) }
-        ensures touches { HostTouches store.old (events.Reserve q request) (reserve_reply result) store.new }
+        ensures touches { HostTouches self.old.entries store.old (events.Reserve q request) (reserve_reply result) store.new }
         ensures over { IsOver self.new store.new.pages }
         ensures back { IfErr result (λ r. r.value ≡ request) }
     {

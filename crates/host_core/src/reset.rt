@@ -1,10 +1,12 @@
 //! The controller is reset: the host begins again with its admin queue alone.
 
-ghost use Rattle.std.specs.Prelude.{◌≡◌, [], filter, map};
+ghost use Rattle.std.specs.Prelude.{◌≡◌, ◌+◌, [], filter, map};
 ghost use Rattle.machine_model.specs.After.{is_of_io};
 ghost use Rattle.machine_model.specs.Events as events;
 ghost use Rattle.page_ledger.specs.Owners.{given_back, is_half};
 ghost use Rattle.page_memory.specs.declared.page.Half.{Half as HalfValue};
+ghost use Rattle.page_memory.specs.declared.page.Half.TheVariants.{Submission, Completion};
+ghost use Rattle.queue_pair.specs.Memory.{half_pages as pages_of_half};
 ghost use Rattle.host_core.specs.Alone.{IsOver};
 ghost use Rattle.host_core.specs.Halves.{has_half as spec_has_half};
 ghost use Rattle.host_core.specs.Parts.{tables_of, Becomes};
@@ -59,7 +61,7 @@ impl<A: Allocator> Parts<A> {
     fn renew_admin(&mut self, store: &mut Store<A>)
         requires { IsWhole (tables_of self.old store.old.pages) }
         ensures renewed { tables_of self.new store.new.pages ≡ with_admin_renewed (tables_of self.old store.old.pages) }
-        ensures touches { TouchesBy 0 store.old store.new }
+        ensures touches { TouchesBy (pages_of_half self.old.entries Submission + pages_of_half self.old.entries Completion) store.old store.new }
     {
         let sq = self.queues[0].host.first_page(Half::Submission);
         zero_run(store, sq, half_pages(self.entries, Half::Submission));
@@ -134,7 +136,7 @@ impl<A: Allocator> Host<A> {
         requires { IsOver self.old store.old.pages }
         ensures host { self.new ≡ host_reset self.old store.old.pages }
         ensures pages { store.new.pages ≡ pages_reset self.old store.old.pages }
-        ensures touches { HostTouches store.old events.Reset events.Accepted store.new }
+        ensures touches { HostTouches self.old.entries store.old events.Reset events.Accepted store.new }
         ensures over { IsOver self.new store.new.pages }
     {
         self.parts.renew_admin(store);

@@ -83,7 +83,7 @@ impl<A: Allocator> Host<A> {
     pub fn retire(&mut self, store: &mut Store<A>, q: u16) -> Result<(), Refusal>
         requires { IsOver self.old store.old.pages }
         ensures step { HostStep self.old store.old.pages (events.Retire q) (ring_reply result) self.new store.new.pages }
-        ensures touches { HostTouches store.old (events.Retire q) (ring_reply result) store.new }
+        ensures touches { HostTouches self.old.entries store.old (events.Retire q) (ring_reply result) store.new }
         ensures over { IsOver self.new store.new.pages }
     {
         if !is_deleted(host_state(&self.parts.queues, q)) {

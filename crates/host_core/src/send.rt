@@ -212,7 +212,7 @@ impl<A: Allocator + Copy> Host<A> {
         requires over { IsOver self.old store.old.pages }
         requires plain { grants_none kind ≡ true }
         ensures step { HostStep self.old store.old.pages (sending kind) (send_reply result) self.new store.new.pages }
-        ensures touches { HostTouches store.old (sending kind) (send_reply result) store.new }
+        ensures touches { HostTouches self.old.entries store.old (sending kind) (send_reply result) store.new }
         ensures identifier { IfOk result (λ id. IsLowest self.old.host 0 id) }
         ensures over { IsOver self.new store.new.pages }
     {
@@ -235,7 +235,7 @@ impl<A: Allocator + Copy> Host<A> {
     pub fn abort(&mut self, store: &mut Store<A>, q: u16, cid: u16) -> Result<u16, Refusal>
         requires { IsOver self.old store.old.pages }
         ensures step { HostStep self.old store.old.pages (events.Abort q cid) (send_reply result) self.new store.new.pages }
-        ensures touches { HostTouches store.old (events.Abort q cid) (send_reply result) store.new }
+        ensures touches { HostTouches self.old.entries store.old (events.Abort q cid) (send_reply result) store.new }
         ensures identifier { IfOk result (λ id. IsLowest self.old.host 0 id) }
         ensures over { IsOver self.new store.new.pages }
     {
@@ -254,7 +254,7 @@ impl<A: Allocator + Copy> Host<A> {
     pub fn delete_sq(&mut self, store: &mut Store<A>, q: u16) -> Result<u16, Refusal>
         requires { IsOver self.old store.old.pages }
         ensures step { HostStep self.old store.old.pages (events.DeleteSq q) (send_reply result) self.new store.new.pages }
-        ensures touches { HostTouches store.old (events.DeleteSq q) (send_reply result) store.new }
+        ensures touches { HostTouches self.old.entries store.old (events.DeleteSq q) (send_reply result) store.new }
         ensures identifier { IfOk result (λ id. IsLowest self.old.host 0 id) }
         ensures over { IsOver self.new store.new.pages }
     {
@@ -273,7 +273,7 @@ impl<A: Allocator + Copy> Host<A> {
     pub fn delete_cq(&mut self, store: &mut Store<A>, q: u16) -> Result<u16, Refusal>
         requires { IsOver self.old store.old.pages }
         ensures step { HostStep self.old store.old.pages (events.DeleteCq q) (send_reply result) self.new store.new.pages }
-        ensures touches { HostTouches store.old (events.DeleteCq q) (send_reply result) store.new }
+        ensures touches { HostTouches self.old.entries store.old (events.DeleteCq q) (send_reply result) store.new }
         ensures identifier { IfOk result (λ id. IsLowest self.old.host 0 id) }
         ensures over { IsOver self.new store.new.pages }
     {

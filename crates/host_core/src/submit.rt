@@ -79,7 +79,7 @@ impl<A: Allocator> Host<A> {
     ) -> Result<Ticket, Refused<Draft<A>>>
         requires { IsOver self.old store.old.pages }
         ensures step { HostStep self.old store.old.pages (events.Submit draft) (accept_reply result) self.new store.new.pages }
-        ensures touches { HostTouches store.old (events.Submit draft) (accept_reply result) store.new }
+        ensures touches { HostTouches self.old.entries store.old (events.Submit draft) (accept_reply result) store.new }
         ensures over { IsOver self.new store.new.pages }
         ensures back { IfErr result (λ r. r.value ≡ draft) }
         ensures ticket { IfOk result (λ ticket. ticket ≡ record { q = draft.q; cid = draft.cid }) }

@@ -252,7 +252,7 @@ no_run_failed (Err x) told n config image k lines why same has why_not = rw same
 
 -- what is written is the text of a run
 pub jobs_text_is : (config : Config) (image : List ℕ) (lines : List JobLine) (headings : List Heading) (ends : List (List JobEnd)) (owners : List Owner) (counts : Counts) → headings ≡ headings_from [] lines
-    → IsLeftFrom (opening_of config image) image owners counts → all_ended ends [] lines ≡ true → IsJobsText config image lines (headed_lines ends headings ++ closing_text owners counts)
+    → IsLeftFrom (opening_of config image) image ends owners counts → all_ended ends [] lines ≡ true → IsJobsText config image lines (headed_lines ends headings ++ closing_text owners counts)
 jobs_text_is config image lines headings ends owners counts is left all = record {
   ends = ends;
   owners = owners;

@@ -4,6 +4,7 @@ use Rattle.std.specs.Io.KnownBytes.{Keeps}
 use Rattle.driver_book.specs.Laws.{IsTrustedLog}
 use Rattle.driver_book.specs.State.{AreOfJobs, BookContents}
 use Rattle.driver_book.specs.Values.{Report}
+use Rattle.driver_threads.specs.Ends.{AllAgree}
 use Rattle.driver_threads.specs.Runs.{RanFrom}
 use Rattle.driver_threads.specs.Values.{Job, JobEnd}
 use Rattle.machine_model.specs.Claims.{counts_of}
@@ -67,12 +68,14 @@ all_ended ends before (line ∷ rest) = is_some (end_of ends before line) && all
 abbrev pub closing_text : List Owner → Counts → List ℕ
 closing_text owners counts = owners_text owners ++ counts_line counts
 
--- Some run of threads from an opening over this image left a book with these owners and counts. The book's log has the steps of jobs alone, so the
--- run is one of which the machine's laws of trusted runs speak.
-pub record IsLeftFrom (opening : State) (image : List ℕ) (owners : List Owner) (counts : Counts) : Type 0 where
+-- Some run of threads from an opening over this image left a book with these owners and counts, and jobs that ended so. Each command of theirs
+-- ended as its receipt in the book's report says, and the report has no further receipt. The book's log has the steps of jobs alone, so the run is
+-- one of which the machine's laws of trusted runs speak.
+pub record IsLeftFrom (opening : State) (image : List ℕ) (ends : List (List JobEnd)) (owners : List Owner) (counts : Counts) : Type 0 where
   pub report : Report
   pub book : BookContents
   pub ran : RanFrom opening report book
+  pub agree : AllAgree report.receipts ends
   pub jobs : AreOfJobs book.log
   pub trusted : IsTrustedLog image book.log book.world
   pub owned : AreOwners book.world owners
@@ -84,7 +87,7 @@ pub record IsJobsText (config : Config) (image : List ℕ) (lines : List JobLine
   pub ends : List (List JobEnd)
   pub owners : List Owner
   pub counts : Counts
-  pub left : IsLeftFrom (opening_of config image) image owners counts
+  pub left : IsLeftFrom (opening_of config image) image ends owners counts
   pub ended : all_ended ends [] lines ≡ true
   pub said : text ≡ job_lines ends [] lines ++ closing_text owners counts
 

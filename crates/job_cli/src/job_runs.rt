@@ -158,7 +158,7 @@ fn run_book<L: Driver + Send + Sync, R: Threads + Wait + Sync>(
     requires jobs { L.jobs_alone ≡ true }
     requires some { 1 ≤ vec_len lists }
     requires few { vec_len lists ≤ 16 }
-    ensures ran { IfOk result (λ left. IsLeftFrom (opening_of config image) image left.owners.items left.counts) }
+    ensures ran { IfOk result (λ left. IsLeftFrom (opening_of config image) image left.ends left.owners.items left.counts) }
     ensures ended { IfOk result (λ left. map length left.ends ≡ map (λ list. length list.items) lists.items) }
     ensures owners { IfOk result (λ left. length left.owners.items ≤ 65536) }
     ensures fault { IfErr result (IsNoRun config) }

@@ -41,6 +41,22 @@ pub enum HostState {
     MakingSq,
 }
 
+impl HostState {
+    /// A word or two for people.
+    pub fn name(self) -> &'static str {
+        match self {
+            HostState::Live => "live",
+            HostState::Deleting { noted: false } => "deleting",
+            HostState::Deleting { noted: true } => "deleted",
+            HostState::Retired => "retired",
+            HostState::Gone => "gone",
+            HostState::MakingCq => "making cq",
+            HostState::HalfMade => "half made",
+            HostState::MakingSq => "making sq",
+        }
+    }
+}
+
 /// What an outstanding command is for.
 #[derive(Drop)]
 pub enum Work<R = Request> {

@@ -80,7 +80,7 @@ impl<A: Allocator> Page<A> {
 
     /// Makes every byte zero.
     #[tactic(auto, unfolding(crate::specs::Pages::zero_page))]
-    pub(crate) fn clear(&mut self)
+    pub fn clear(&mut self)
         ensures zero { self.new ≡ zero_page }
         ensures len { length self.new ≡ 4096 }
     {

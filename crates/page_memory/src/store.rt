@@ -123,17 +123,6 @@ impl<A: Allocator> Store<A> {
         self.pages[p.0 as usize] = Some(page);
     }
 
-    /// Makes every byte of a page zero that is in.
-    pub fn zero(&mut self, p: PageNo)
-        requires { IsSome (page_at self.old.pages p) }
-        ensures { self.new ≡ record self.old { pages = slice_set self.old.pages p (Some zero_page) } }
-    {
-        let slot = &mut self.pages[p.0 as usize];
-        if let Some(page) = slot {
-            page.clear();
-        }
-    }
-
     /// Whether a page is in. False outside the pool.
     pub fn is_in(&self, p: PageNo) -> bool
         ensures { IsTrue result ↔ IsSome (page_at self.now.pages p) }

@@ -4,7 +4,7 @@ use Rattle.std.specs.Prelude.{IfErr, Result, Ok, Err, replicate, ◌*◌}
 use Rattle.clap.specs.Words.{kind_of}
 use Rattle.clap.specs.declared.error.Error.{Error}
 use Rattle.clap.specs.declared.error.kind.ErrorKind.TheVariants.{OutOfMemory}
-use Rattle.command_line.specs.Asked.{Asked, check, check_jobs, grammar, shell, steps, test, threads}
+use Rattle.command_line.specs.Asked.{Asked, check, check_jobs, draw, explain, grammar, shell, show, steps, test, threads, traced}
 use Rattle.program.specs.Performing.{FailsWith}
 use Rattle.program.specs.declared.fault.Fault.{Fault}
 use Rattle.program.specs.declared.fault.Fault.TheVariants as fault
@@ -22,7 +22,11 @@ wanting told (threads given submitters) bytes = (replicate (512 * given.blocks) 
 wanting told (check path) bytes = (tt, kept bytes)
 wanting told (check_jobs path submitters) bytes = (tt, kept bytes)
 wanting told (test tested) bytes = tt
-wanting told (shell given) bytes = tt
+wanting told (shell given traces) bytes = tt
+wanting told (draw given) bytes = tt
+wanting told (traced given) bytes = tt
+wanting told (explain path) bytes = tt
+wanting told (show words) bytes = tt
 wanting told grammar bytes = inl refl
 
 refused : (told : Option (List ℕ)) (what : Option Asked) (bytes : Option (List ℕ)) (e : Error) (why : Fault) → (kind_of e ≡ OutOfMemory) ⊎ (what ≡ None)

@@ -1,7 +1,9 @@
 -- What is known of a run over bytes that were read is known of those that the reader had.
-use Rattle.std.proofs.Common.{◌≡◌, ◌⊎◌, ◌∙◌, ap, sym, subst, Option, Some, List, ℕ, inl, inr}
-use Rattle.std.specs.Prelude.{IfErr, IsErrAnd, Result, Ok, Err}
-use Rattle.command_line.specs.Asked.{Given, threads}
+use Rattle.std.proofs.Common.{◌≡◌, ◌⊎◌, ◌∙◌, refl, ap, sym, subst, Option, None, Some, List, ℕ, inl, inr}
+use Rattle.std.specs.Borrow.{Bor}
+use Rattle.std.specs.Prelude.{IfErr, IsErrAnd, IsSome, OnOk, Result, Ok, Err}
+use Rattle.clap.specs.Words.{Text}
+use Rattle.command_line.specs.Asked.{Given, path_of, steps, threads}
 use Rattle.host_core.specs.declared.config.Config.{Config}
 use Rattle.job_cli.proofs.JobRuns.{jobs_are_told, no_jobs_are_told}
 use Rattle.job_cli.specs.JobRuns.{EndsJobsWith, EndsUnwritten, HasJobFault, HasJobs, IsCutJobsText, IsNoJobs, WritesJobs}
@@ -12,7 +14,7 @@ use Rattle.machine_model.specs.State.{State}
 use Rattle.machine_model.specs.declared.words.OpenRefusal.{OpenRefusal}
 use Rattle.program.proofs.Refusing.{kept}
 use Rattle.program.specs.Checking.{AreJobs, AreNoJobs, AreNoSteps, AreSteps}
-use Rattle.program.specs.Performing.{FailsWith, IsFirstImage, IsRunFault}
+use Rattle.program.specs.Performing.{FailsWith, IsFirstImage, IsRunFault, Performs}
 use Rattle.program.specs.declared.fault.Fault.{Fault}
 use Rattle.program.specs.declared.fault.Fault.TheVariants as fault
 use Rattle.script_cli.proofs.Runs.{no_script_is_told, script_is_told}
@@ -127,3 +129,19 @@ pub script_failed_jobs : {T U : Type 0} (r : Result T U) (fault_of : U → Fault
     → IfErr r (λ x. FailsWith told (Some (threads given submitters)) a a (fault_of x))
 script_failed_jobs (Ok x) fault_of told given submitters image a why same first unread = tt
 script_failed_jobs (Err x) fault_of told given submitters image a why same first unread = script_fails_jobs told given submitters image a why (fault_of x) same first unread
+
+-- Images that were not saved
+
+some_path : (path : Option (Bor Text)) → IsSome path → IsSome (path_of path)
+some_path None some = some
+some_path (Some path) some = refl
+
+pub not_saved : {T X : Type 0} (r : Result T X) (fault_in : X → Fault) (told : Option (List ℕ)) (given : Given) (path : Option (Bor Text)) (a b : Option (List ℕ)) → path_of path ≡ given.save
+    → Performs told (Some (steps given)) a b → IfErr r (λ x. fault_in x ≡ fault.NotSaved) → IfErr r (λ x. IsSome path) → IfErr r (λ x. FailsWith told (Some (steps given)) a b (fault_in x))
+not_saved (Ok done) fault_in told given path a b same ran is some = tt
+not_saved (Err x) fault_in told given path a b same ran is some =
+    subst (λ (f : Fault). FailsWith told (Some (steps given)) a b f) (sym is) (ran, subst IsSome same (some_path path some))
+
+pub ran_anyway : {T X : Type 0} (r : Result T X) (P : Type 0) → P → OnOk r P
+ran_anyway (Ok done) P ran = ran
+ran_anyway (Err x) P ran = tt

@@ -1,10 +1,10 @@
 -- What the program does with what words ask for, a script and a writer.
-use Rattle.std.specs.Prelude.{◌≡◌, ◌⊎◌, ◌<◌, ◌*◌, ℕ, List, Option, Some, None, replicate, codes, if◌then◌else◌}
+use Rattle.std.specs.Prelude.{◌≡◌, ◌⊎◌, ◌<◌, ◌*◌, ℕ, List, Option, Some, None, replicate, codes, IsSome, if◌then◌else◌}
 use Rattle.std.specs.Io.KnownBytes.{Keeps}
 use Rattle.std.specs.Str.{bytes_eq}
 use Rattle.block_image.specs.Blocks.{most_blocks}
 use Rattle.clap.specs.Words.{Text}
-use Rattle.command_line.specs.Asked.{Asked, Given, check, check_jobs, grammar, shell, steps, test, threads}
+use Rattle.command_line.specs.Asked.{Asked, Given, check, check_jobs, draw, explain, grammar, shell, show, steps, test, threads, traced}
 use Rattle.job_cli.specs.JobRuns.{EndsJobsWith, HasJobs, IsJobsText, IsNoJobs, WritesJobs}
 use Rattle.job_cli.specs.declared.jobs.JobLine.{JobLine}
 use Rattle.program.specs.declared.fault.Fault.{Fault}
@@ -31,7 +31,7 @@ script_told None told = told
 script_told (Some path) told = if bytes_eq path (codes "-") then told else None
 
 -- What is written where all goes well: the text of a run of the script, over the configuration and the image that are given; nothing where help is asked for, and
--- nothing of a script that is checked and has no fault. Of what `test` and `shell` write and of the text of the grammar nothing is said.
+-- nothing of a script that is checked and has no fault. Of what `test`, `shell`, `draw`, `explain`, `show` and `steps --trace` write and of the text of the grammar nothing is said.
 abbrev pub Performs : Option (List ℕ) → Option Asked → Option (List ℕ) → Option (List ℕ) → Type 0
 Performs told None before after = Keeps before after
 Performs told (Some (steps given)) before after =
@@ -41,7 +41,11 @@ Performs told (Some (threads given submitters)) before after =
 Performs told (Some (check path)) before after = ((script : List Numbered) × HasScript (script_told path told) script) × Keeps before after
 Performs told (Some (check_jobs path submitters)) before after = ((lines : List JobLine) × HasJobs (script_told path told) submitters lines) × Keeps before after
 Performs told (Some (test tested)) before after = Unit {0}
-Performs told (Some (shell given)) before after = Unit {0}
+Performs told (Some (shell given traces)) before after = Unit {0}
+Performs told (Some (draw given)) before after = Unit {0}
+Performs told (Some (traced given)) before after = Unit {0}
+Performs told (Some (explain path)) before after = Unit {0}
+Performs told (Some (show words)) before after = Unit {0}
 Performs told (Some grammar) before after = Unit {0}
 
 -- why the grammar was not written
@@ -54,7 +58,9 @@ IsRunFault (fault.Run why) Holds = Holds why
 IsRunFault (fault.Arguments why) Holds = ⊥
 IsRunFault (fault.Image why) Holds = ⊥
 IsRunFault fault.PipeClosed Holds = ⊥
+IsRunFault fault.NotSaved Holds = ⊥
 IsRunFault (fault.Transcripts tally) Holds = ⊥
+IsRunFault (fault.Bytes why) Holds = ⊥
 
 -- why transcripts were not all good, or not all tested
 abbrev pub IsTestFault : Fault → Type 0
@@ -62,26 +68,68 @@ IsTestFault (fault.Run why) = Unit {0}
 IsTestFault (fault.Arguments why) = ⊥
 IsTestFault (fault.Image why) = ⊥
 IsTestFault fault.PipeClosed = ⊥
+IsTestFault fault.NotSaved = ⊥
 IsTestFault (fault.Transcripts tally) = Unit {0}
+IsTestFault (fault.Bytes why) = ⊥
 
--- what a fault says, and what was then written; only words that ask for no command are at fault themselves
+-- why bytes were not accepted, or not decoded
+abbrev pub IsBytesFault : Fault → Type 0
+IsBytesFault (fault.Run why) = Unit {0}
+IsBytesFault (fault.Arguments why) = ⊥
+IsBytesFault (fault.Image why) = ⊥
+IsBytesFault fault.PipeClosed = ⊥
+IsBytesFault fault.NotSaved = ⊥
+IsBytesFault (fault.Transcripts tally) = ⊥
+IsBytesFault (fault.Bytes why) = Unit {0}
+
+-- What a fault says, and what was then written: where the image was not saved all that goes before went well, and a file was named for it. Only words that ask for no command are at fault themselves
 abbrev pub FailsWith : Option (List ℕ) → Option Asked → Option (List ℕ) → Option (List ℕ) → Fault → Type 0
 FailsWith told None before after why = Keeps before after
 FailsWith told (Some what) before after (fault.Arguments why) = ⊥
 FailsWith told (Some what) before after fault.PipeClosed = ⊥
+FailsWith told (Some (steps given)) before after fault.NotSaved = Performs told (Some (steps given)) before after × IsSome given.save
+FailsWith told (Some (threads given submitters)) before after fault.NotSaved = ⊥
+FailsWith told (Some (check path)) before after fault.NotSaved = ⊥
+FailsWith told (Some (check_jobs path submitters)) before after fault.NotSaved = ⊥
+FailsWith told (Some (test tested)) before after fault.NotSaved = ⊥
+FailsWith told (Some (shell given traces)) before after fault.NotSaved = ⊥
+FailsWith told (Some (draw given)) before after fault.NotSaved = ⊥
+FailsWith told (Some (traced given)) before after fault.NotSaved = IsSome given.save
+FailsWith told (Some (explain path)) before after fault.NotSaved = ⊥
+FailsWith told (Some (show words)) before after fault.NotSaved = ⊥
+FailsWith told (Some grammar) before after fault.NotSaved = ⊥
 FailsWith told (Some (steps given)) before after (fault.Transcripts tally) = ⊥
 FailsWith told (Some (threads given submitters)) before after (fault.Transcripts tally) = ⊥
 FailsWith told (Some (check path)) before after (fault.Transcripts tally) = ⊥
 FailsWith told (Some (check_jobs path submitters)) before after (fault.Transcripts tally) = ⊥
 FailsWith told (Some (test tested)) before after (fault.Transcripts tally) = Unit {0}
-FailsWith told (Some (shell given)) before after (fault.Transcripts tally) = ⊥
+FailsWith told (Some (shell given traces)) before after (fault.Transcripts tally) = ⊥
+FailsWith told (Some (draw given)) before after (fault.Transcripts tally) = ⊥
+FailsWith told (Some (traced given)) before after (fault.Transcripts tally) = ⊥
+FailsWith told (Some (explain path)) before after (fault.Transcripts tally) = ⊥
+FailsWith told (Some (show words)) before after (fault.Transcripts tally) = ⊥
 FailsWith told (Some grammar) before after (fault.Transcripts tally) = ⊥
+FailsWith told (Some (steps given)) before after (fault.Bytes why) = ⊥
+FailsWith told (Some (threads given submitters)) before after (fault.Bytes why) = ⊥
+FailsWith told (Some (check path)) before after (fault.Bytes why) = ⊥
+FailsWith told (Some (check_jobs path submitters)) before after (fault.Bytes why) = ⊥
+FailsWith told (Some (test tested)) before after (fault.Bytes why) = ⊥
+FailsWith told (Some (shell given traces)) before after (fault.Bytes why) = ⊥
+FailsWith told (Some (draw given)) before after (fault.Bytes why) = ⊥
+FailsWith told (Some (traced given)) before after (fault.Bytes why) = ⊥
+FailsWith told (Some (explain path)) before after (fault.Bytes why) = Unit {0}
+FailsWith told (Some (show words)) before after (fault.Bytes why) = Unit {0}
+FailsWith told (Some grammar) before after (fault.Bytes why) = ⊥
 FailsWith told (Some (steps given)) before after (fault.Image why) = IsNoFirstImage given why × Keeps before after
 FailsWith told (Some (threads given submitters)) before after (fault.Image why) = IsNoFirstImage given why × Keeps before after
 FailsWith told (Some (check path)) before after (fault.Image why) = ⊥
 FailsWith told (Some (check_jobs path submitters)) before after (fault.Image why) = ⊥
 FailsWith told (Some (test tested)) before after (fault.Image why) = ⊥
-FailsWith told (Some (shell given)) before after (fault.Image why) = IsNoFirstImage given why × Keeps before after
+FailsWith told (Some (shell given traces)) before after (fault.Image why) = IsNoFirstImage given why × Keeps before after
+FailsWith told (Some (draw given)) before after (fault.Image why) = IsNoFirstImage given why × Keeps before after
+FailsWith told (Some (traced given)) before after (fault.Image why) = IsNoFirstImage given why × Keeps before after
+FailsWith told (Some (explain path)) before after (fault.Image why) = ⊥
+FailsWith told (Some (show words)) before after (fault.Image why) = ⊥
 FailsWith told (Some grammar) before after (fault.Image why) = ⊥
 FailsWith told (Some (steps given)) before after (fault.Run why) =
     (image : List ℕ) × IsFirstImage given image × EndsWith (script_told given.script told) given.config image before after why
@@ -90,5 +138,9 @@ FailsWith told (Some (threads given submitters)) before after (fault.Run why) =
 FailsWith told (Some (check path)) before after (fault.Run why) = IsNoScript (script_told path told) why × Keeps before after
 FailsWith told (Some (check_jobs path submitters)) before after (fault.Run why) = IsNoJobs (script_told path told) submitters why × Keeps before after
 FailsWith told (Some (test tested)) before after (fault.Run why) = Unit {0}
-FailsWith told (Some (shell given)) before after (fault.Run why) = Unit {0}
+FailsWith told (Some (shell given traces)) before after (fault.Run why) = Unit {0}
+FailsWith told (Some (draw given)) before after (fault.Run why) = Unit {0}
+FailsWith told (Some (traced given)) before after (fault.Run why) = Unit {0}
+FailsWith told (Some (explain path)) before after (fault.Run why) = Unit {0}
+FailsWith told (Some (show words)) before after (fault.Run why) = Unit {0}
 FailsWith told (Some grammar) before after (fault.Run why) = IsNoGrammar why

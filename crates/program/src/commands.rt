@@ -1,7 +1,7 @@
 //! The program's commands.
 
 ghost use Rattle.std.specs.Prelude.{◌≡◌, ◌≤◌, List, Some, IfErr, OnOk, map};
-ghost use Rattle.command_line.specs.Asked.{asked, given_of, path_of, shell, steps, threads};
+ghost use Rattle.command_line.specs.Asked.{asked, draw, given_of, path_of, shell, steps, threads, traced};
 ghost use Rattle.job_cli.specs.JobRuns.{HasJobs, IsNoJobs};
 ghost use Rattle.job_cli.specs.declared.jobs.JobLine.{JobLine};
 ghost use Rattle.program.specs.Performing.{FailsWith, IsNoGrammar, IsRunFault, IsTestFault, Performs, script_told};
@@ -9,15 +9,19 @@ ghost use Rattle.script_cli.specs.Runs.{HasScript, IsNoScript};
 ghost use Rattle.script_cli.specs.declared.script.Numbered.{Numbered};
 
 use crate::below::below_run;
+use crate::bytes::{explain_case, show_words};
 use crate::checking::{check_jobs, check_steps};
 use crate::fault::{Fault, Told};
 use crate::inputs::{open_image, script_text};
 use crate::pipe::Pipe;
+use crate::printing::print_text;
+use crate::saving::save_image;
 use command_line::{CommandLine, Options, Testing, words};
+use draw::draw_steps;
 use fault_text::{Grammar, grammar_text};
 use job_cli::run_jobs;
-use script_cli::{MAX_SCRIPT, RunFault, flush, put, run_steps};
-use shell::run_shell;
+use script_cli::{MAX_SCRIPT, RunFault, play_steps};
+use shell::{run_shell, trace_steps};
 use std::alloc::{AllocGlobal, Global};
 use std::convert::AsStr;
 use std::env::Env;
@@ -87,6 +91,7 @@ pub fn perform<
 {
     match CommandLine::parse(rt.alloc(), words) {
         Ok(CommandLine::Steps(options)) => play(rt, options, reader, writer),
+        Ok(CommandLine::Traced(options)) => trace_script(rt, options, reader, writer),
         Ok(CommandLine::Threads(options, submitters)) => {
             run_threads(rt, options, submitters, reader, writer)
         }
@@ -95,7 +100,12 @@ pub fn perform<
             look_at_jobs(rt, path, submitters, reader)
         }
         Ok(CommandLine::Test(testing)) => test(rt, &testing, writer),
-        Ok(CommandLine::Shell(options)) => talk(rt, options, reader, writer, is_terminal),
+        Ok(CommandLine::Shell(options, traces)) => {
+            talk(rt, options, traces, reader, writer, is_terminal)
+        }
+        Ok(CommandLine::Draw(options)) => draw_script(rt, options, reader, writer),
+        Ok(CommandLine::Explain(path)) => explain_case(rt, path, reader, writer),
+        Ok(CommandLine::Show(words)) => show_words(rt.alloc(), &words, writer),
         Ok(CommandLine::Grammar) => print_grammar(rt.alloc(), writer),
         Err(why) => Fault::shown(rt, why),
     }
@@ -115,8 +125,38 @@ fn play<R: AllocGlobal + Files, I: Read, W: Write>(
     let image = open_image(rt, &options)?;
     let text = script_text(rt, options.script, reader)?;
     let mut script = text.as_slice();
-    match run_steps(alloc, options.config, image, &mut script, writer) {
-        Ok(()) => Ok(()),
+    match play_steps(alloc, options.config, image, &mut script, writer) {
+        Ok(bench) => {
+            let saved = save_image(rt, options.save, bench.image());
+            let _ended = bench.end();
+            saved
+        }
+        Err(fault) => {
+            let below = below_run(alloc, Grammar::Steps, &text, &options, fault);
+            let fault = Fault::Run(fault);
+            Err(Told { fault, below })
+        }
+    }
+}
+
+/// Plays a script of steps, and tells what each moved.
+fn trace_script<R: AllocGlobal + Files, I: Read, W: Write>(
+    rt: &R,
+    options: Options<'_>,
+    reader: &mut I,
+    writer: &mut W,
+) -> Result<(), Told<Fault>>
+    ensures failed { IfErr result (λ told. FailsWith (I.remaining reader.old) (Some (traced (given_of options.entry))) (W.contents writer.old) (W.contents writer.new) told.fault) }
+{
+    let alloc = rt.alloc();
+    let image = open_image(rt, &options)?;
+    let text = script_text(rt, options.script, reader)?;
+    match trace_steps(alloc, options.config, image, &text, writer) {
+        Ok(bench) => {
+            let saved = save_image(rt, options.save, bench.image());
+            let _ended = bench.end();
+            saved
+        }
         Err(fault) => {
             let below = below_run(alloc, Grammar::Steps, &text, &options, fault);
             let fault = Fault::Run(fault);
@@ -214,11 +254,12 @@ fn test<R: AllocGlobal + Files, W: Write>(
 fn talk<R: AllocGlobal + Files, I: Read, W: Write>(
     rt: &R,
     options: Options<'_>,
+    traces: bool,
     reader: &mut I,
     writer: &mut W,
     is_terminal: bool,
 ) -> Result<(), Told<Fault>>
-    ensures failed { IfErr result (λ told. FailsWith (I.remaining reader.old) (Some (shell (given_of options.entry))) (W.contents writer.old) (W.contents writer.new) told.fault) }
+    ensures failed { IfErr result (λ told. FailsWith (I.remaining reader.old) (Some (shell (given_of options.entry) traces)) (W.contents writer.old) (W.contents writer.new) told.fault) }
 {
     let alloc = rt.alloc();
     let image = open_image(rt, &options)?;
@@ -230,14 +271,40 @@ fn talk<R: AllocGlobal + Files, I: Read, W: Write>(
                 Err(RunFault::TooLong)
             } else {
                 let mut lines = text.as_slice();
-                run_shell(alloc, config, image, &mut lines, writer, false)
+                run_shell(rt, config, image, traces, &mut lines, writer, false)
             }
         }
-        _ => run_shell(alloc, config, image, reader, writer, is_terminal),
+        _ => run_shell(rt, config, image, traces, reader, writer, is_terminal),
     };
     match end {
         Ok(()) => Ok(()),
-        Err(fault) => Err(Told::alone(alloc, Fault::Run(fault))),
+        Err(fault) => {
+            let below = below_run(alloc, Grammar::Steps, &[], &options, fault);
+            let fault = Fault::Run(fault);
+            Err(Told { fault, below })
+        }
+    }
+}
+
+/// Draws a script of steps.
+fn draw_script<R: AllocGlobal + Files, I: Read, W: Write>(
+    rt: &R,
+    options: Options<'_>,
+    reader: &mut I,
+    writer: &mut W,
+) -> Result<(), Told<Fault>>
+    ensures failed { IfErr result (λ told. FailsWith (I.remaining reader.old) (Some (draw (given_of options.entry))) (W.contents writer.old) (W.contents writer.new) told.fault) }
+{
+    let alloc = rt.alloc();
+    let image = open_image(rt, &options)?;
+    let text = script_text(rt, options.script, reader)?;
+    match draw_steps(alloc, options.config, image, &text, writer) {
+        Ok(()) => Ok(()),
+        Err(fault) => {
+            let below = below_run(alloc, Grammar::Steps, &text, &options, fault);
+            let fault = Fault::Run(fault);
+            Err(Told { fault, below })
+        }
     }
 }
 
@@ -245,15 +312,5 @@ fn talk<R: AllocGlobal + Files, I: Read, W: Write>(
 fn print_grammar<W: Write>(alloc: Global, writer: &mut W) -> Result<(), Told<Fault>>
     ensures fault { IfErr result (λ told. IsRunFault told.fault IsNoGrammar) }
 {
-    let end = match grammar_text(alloc) {
-        Ok(text) => match put(writer, text.as_bytes()) {
-            Ok(()) => flush(writer),
-            Err(fault) => Err(fault),
-        },
-        Err(_) => Err(RunFault::Memory),
-    };
-    match end {
-        Ok(()) => Ok(()),
-        Err(fault) => Err(Told::alone(alloc, Fault::Run(fault))),
-    }
+    print_text(alloc, grammar_text(alloc), writer)
 }

@@ -6,10 +6,34 @@ ghost use Rattle.clap.specs.declared.error.kind.ErrorKind.TheVariants.{OutOfMemo
 ghost use Rattle.script_cli.specs.declared.fault.RunFault.TheVariants as run;
 
 use clap::error::ErrorKind;
+use explain::CaseFault;
 use script_cli::{ImageFault, RunFault};
 use std::alloc::{AllocGlobal, Global};
 use std::io;
 use transcripts::Tally;
+
+/// Why bytes that were pasted in did not end well.
+#[derive(Clone, Copy, Debug, PartialEq, Eq)]
+pub enum BytesFault {
+    /// The controller refuses the command. The output told it.
+    Refused,
+    /// They are no case, or no entry.
+    Case(CaseFault),
+    /// The word before them is not `sqe`, `cqe` or `sgl`.
+    UnknownKind,
+}
+
+impl BytesFault {
+    /// The exit status.
+    fn exit_status(self) -> u8 {
+        match self {
+            BytesFault::Refused => 4,
+            BytesFault::Case(CaseFault::Memory) => 3,
+            BytesFault::Case(_) => 1,
+            BytesFault::UnknownKind => 2,
+        }
+    }
+}
 
 /// Why a run did not end well: its line on standard error, and its exit status.
 #[derive(Debug, Drop)]
@@ -22,8 +46,12 @@ pub enum Fault {
     Run(RunFault),
     /// Who reads the output closed it early. Nothing is told.
     PipeClosed,
+    /// All went well, but the image was not saved.
+    NotSaved,
     /// Transcripts came out otherwise, or are at fault. The output told it.
     Transcripts(Tally),
+    /// Bytes that were pasted in are refused, or at fault.
+    Bytes(BytesFault),
 }
 
 /// A fault, and the lines that stand below its own on standard error.
@@ -75,8 +103,9 @@ impl Fault {
             Fault::Arguments(_) => 2,
             Fault::Image(fault) => fault.exit_status(),
             Fault::Run(fault) => fault.exit_status(),
-            Fault::PipeClosed => RunFault::OutputFailed.exit_status(),
+            Fault::PipeClosed | Fault::NotSaved => RunFault::OutputFailed.exit_status(),
             Fault::Transcripts(tally) => tally.exit_status(),
+            Fault::Bytes(fault) => fault.exit_status(),
         }
     }
 }
@@ -97,7 +126,12 @@ impl Told<Fault> {
             Fault::Arguments(why) => why.print(rt)?,
             Fault::Image(fault) => eprintln!(rt; "{fault}")?,
             Fault::Run(fault) => eprintln!(rt; "{fault}")?,
-            Fault::PipeClosed | Fault::Transcripts(_) => {}
+            Fault::NotSaved => eprintln!(rt; "image: not saved")?,
+            Fault::Bytes(BytesFault::Case(fault)) => eprintln!(rt; "{fault}")?,
+            Fault::Bytes(BytesFault::UnknownKind) => {
+                eprintln!(rt; "show: the first word is sqe, cqe or sgl")?
+            }
+            Fault::PipeClosed | Fault::Transcripts(_) | Fault::Bytes(BytesFault::Refused) => {}
         }
         let below = self.below.as_str();
         eprint!(rt; "{below}")

@@ -5,11 +5,14 @@
 #![tactic(auto)]
 
 mod below;
+mod bytes;
 mod checking;
 mod commands;
 mod fault;
 mod inputs;
 mod pipe;
+mod printing;
+mod saving;
 
 pub use commands::{perform, run};
-pub use fault::{Fault, Told};
+pub use fault::{BytesFault, Fault, Told};

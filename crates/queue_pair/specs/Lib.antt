@@ -5,3 +5,4 @@ pub mod Lists
 pub mod Views
 pub mod Halves
 pub mod Members
+pub mod Positions

@@ -3,6 +3,7 @@
 ghost use Rattle.std.specs.Prelude.{◌≡◌, ◌≢◌, ◌<◌, ◌≤◌, ◌↔◌, ◌++◌, ◌∷◌, [], Err, IfOk, IfSome, IsErr, IsOk, IsSome, IsNone, IsTrue, IsFalse, OnOk, OnErr, Some, None, length};
 ghost use Rattle.page_memory.specs.Memory.{Memory, written};
 ghost use Rattle.entry_codec.specs.Completion.{completion_bytes, FitsCompletion};
+ghost use Rattle.queue_pair.specs.Positions.{device_positions};
 ghost use Rattle.queue_pair.specs.Slots.{is_full, is_in_range};
 ghost use Rattle.queue_pair.specs.Rings.{HostSide, IsHostSide, IsDeviceSide, first_page_at, fresh_device_ring, hearing_tail, hearing_head, entry_taken, answer_posted};
 ghost use Rattle.queue_pair.specs.Memory.{completion_place, submission_page, completion_page, submission_slot, completion_slot, entry_at, phased};
@@ -10,6 +11,7 @@ ghost use Rattle.queue_pair.specs.Lists.{unfetched, rung, answers, front, IsPair
 
 use crate::fault::{BadBell, PostFault, SlotOut};
 use crate::image::completion_image;
+use crate::positions::DevicePositions;
 use crate::slots::{completion_address, lies_between, phase_after, slot_after, submission_address};
 use entry_codec::{ComEntry, SubEntry};
 use page_memory::{Dma, Half, PageNo};
@@ -88,6 +90,19 @@ impl DevicePair {
         match half {
             Half::Submission => self.sq,
             Half::Completion => self.cq,
+        }
+    }
+
+    /// Where the controller stands in both rings, and what it heard by doorbells.
+    pub fn positions(&self) -> DevicePositions
+        ensures { result ≡ device_positions self.now.ring }
+    {
+        DevicePositions {
+            submission_head: self.head,
+            tail_doorbell: self.bell,
+            completion_tail: self.tail,
+            phase: self.phase,
+            head_doorbell: self.known_head,
         }
     }
 

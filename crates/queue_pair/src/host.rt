@@ -3,6 +3,7 @@
 ghost use Rattle.std.specs.Prelude.{◌≡◌, ◌≢◌, ◌+◌, ◌-◌, ◌<◌, ◌≤◌, ◌↔◌, ◌++◌, ◌∷◌, [], ℕ, true, false, not, IfOk, IfSome, IfNone, IsErr, IsOk, IsFalse, IsSome, IsTrue, OnOk, OnErr, Some, length, position, slice_get, slice_set};
 ghost use Rattle.page_memory.specs.Memory.{Memory, written};
 ghost use Rattle.entry_codec.specs.Submission.{submission_bytes, FitsSubmission};
+ghost use Rattle.queue_pair.specs.Positions.{host_positions};
 ghost use Rattle.queue_pair.specs.Slots.{is_full, is_in_range};
 ghost use Rattle.queue_pair.specs.Rings.{DeviceSide, IsHostSide, IsDeviceSide, first_page_of, fresh_host_ring, next_tail, next_head, knowing, none_claimed};
 ghost use Rattle.queue_pair.specs.Memory.{submission_place, completion_place, submission_page, completion_page, submission_slot, completion_slot, completion_at, new_completion_at};
@@ -10,6 +11,7 @@ ghost use Rattle.queue_pair.specs.Lists.{unfetched, answers, front, IsPair, HasP
 
 use crate::fault::{BadHead, QueueFull};
 use crate::image::submission_image;
+use crate::positions::HostPositions;
 use crate::slots::{completion_address, lies_between, phase_after, slot_after, submission_address};
 use bit_list::BitList;
 use entry_codec::{ComEntry, SubEntry};
@@ -149,6 +151,18 @@ impl<A: Allocator> HostPair<A> {
         ensures proper { IsHostSide self.now }
     {
         self.head
+    }
+
+    /// Where the host stands in both rings.
+    pub fn positions(&self) -> HostPositions
+        ensures { result ≡ host_positions self.now.ring }
+    {
+        HostPositions {
+            submission_tail: self.tail,
+            submission_head: self.known_head,
+            completion_head: self.head,
+            phase: self.phase,
+        }
     }
 
     /// The first page of a half.

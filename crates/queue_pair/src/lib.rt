@@ -18,9 +18,11 @@ mod half;
 mod host;
 mod image;
 pub mod laws;
+mod positions;
 mod slots;
 
 pub use device::DevicePair;
 pub use fault::{BadBell, BadHead, PostFault, QueueFull, SlotOut};
 pub use half::{doorbell, half_pages};
 pub use host::HostPair;
+pub use positions::{DevicePositions, HostPositions};

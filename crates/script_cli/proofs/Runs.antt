@@ -10,7 +10,7 @@ use Rattle.script_cli.proofs.Limits.{same_if_short}
 use Rattle.script_cli.proofs.Inputs.{appends_more, appends_none, keeps_then}
 use Rattle.script_cli.specs.Faults.{fault_of_script}
 use Rattle.script_cli.specs.Inputs.{AreFirstOf, Gains, IsFront}
-use Rattle.script_cli.specs.Runs.{PrintsLine, Prints, last_line, IsRunText, IsFrontOfFirst, HasScript, HasFault, IsNoScript, EndsWith}
+use Rattle.script_cli.specs.Runs.{PrintsLine, Prints, last_line, IsRunText, IsRunTo, IsFrontOfFirst, HasScript, HasFault, IsNoScript, EndsWith, Writes}
 use Rattle.script_cli.specs.Lines.{lines}
 use Rattle.script_cli.specs.Scripts.{script_from, script_of, IsReading}
 use Rattle.script_cli.specs.declared.fault.RunFault.{RunFault}
@@ -95,6 +95,14 @@ cut_in_counts t script last a b c (said, run, first) (front, (rest, joined), the
 pub whole_text : (t : Table) (script : List Numbered) (last : Table) (a b c : Option (List ℕ)) →
     HasPrinted t script last a b → Appends b c (last_line [] last) → Gains a c (IsRunText t script)
 whole_text t script last a b c (said, run, first) then = (said ++ last_line [] last, (last, said, run, refl), appends_more a b c said (last_line [] last) first then)
+
+-- and by the table that was left
+pub whole_run : (t : Table) (script : List Numbered) (last : Table) (a b c : Option (List ℕ)) →
+    HasPrinted t script last a b → Appends b c (last_line [] last) → Gains a c (IsRunTo last t script)
+whole_run t script last a b c (said, run, first) then = (said ++ last_line [] last, (said, run, refl), appends_more a b c said (last_line [] last) first then)
+
+pub run_to_text : (told : Option (List ℕ)) (config : Config) (image : List ℕ) (last : Table) (a b : Option (List ℕ)) → Writes told config image a b (IsRunTo last) → Writes told config image a b IsRunText
+run_to_text told config image last a b (script, has, fits, (text, (said, run, joined), gained)) = (script, has, fits, (text, (last, said, run, joined), gained))
 
 pub kept_gains : (a b c : Option (List ℕ)) (Holds : List ℕ → Type 0) → Gains a b Holds → Keeps b c → Gains a c Holds
 kept_gains a b c Holds (bytes, holds, first) kept = (bytes, holds, keeps_then a b c bytes first kept)

@@ -66,6 +66,10 @@ last_line (next ∷ rest) t = []
 abbrev pub IsRunText : Table → List Numbered → List ℕ → Type 0
 IsRunText t script text = (last : Table) × (said : List ℕ) × Prints t script said last × (text ≡ said ++ last_line [] last)
 
+-- the same of a run that leaves this table
+abbrev pub IsRunTo : Table → Table → List Numbered → List ℕ → Type 0
+IsRunTo last t script text = (said : List ℕ) × Prints t script said last × (text ≡ said ++ last_line [] last)
+
 -- what stands where a run was cut off, told by the lines that were done: the front of what these print, with the counts where they are all
 abbrev pub IsFrontOfFirst : Table → List Numbered → List ℕ → Type 0
 IsFrontOfFirst t script text =

@@ -6,7 +6,7 @@ ghost use Rattle.machine_model.specs.Claims.{counts_of};
 ghost use Rattle.machine_model.specs.Script.{table};
 ghost use Rattle.script_cli.specs.Inputs.{Gains};
 ghost use Rattle.script_cli.specs.Owners.{counts_line};
-ghost use Rattle.script_cli.specs.Runs.{AreOwners, PrintsLine, IsRunText, IsFrontOfFirst, HasScript, IsNoScript, IsNoOpening, Writes, EndsWith};
+ghost use Rattle.script_cli.specs.Runs.{AreOwners, PrintsLine, IsRunText, IsRunTo, IsFrontOfFirst, HasScript, IsNoScript, IsNoOpening, Writes, EndsWith};
 ghost use Rattle.script_cli.specs.declared.fault.RunFault.TheVariants as run;
 ghost use Rattle.host_core.specs.Opening.{refusal_of_config};
 ghost use Rattle.step_core.specs.Opening.{opening_of};
@@ -44,7 +44,7 @@ fn load<R: Read>(alloc: Global, reader: &mut R) -> Result<Script, RunFault>
 /// Opens a bench.
 fn open(alloc: Global, config: Config, image: Image) -> Result<Bench, RunFault>
     ensures fits { IfOk result (λ bench. refusal_of_config config ≡ None) }
-    ensures opened { IfOk result (λ bench. bench ≡ table (opening_of config image)) }
+    ensures opened { IfOk result (λ bench. bench.table ≡ table (opening_of config image)) }
     ensures image { IsImage image }
     ensures fault { IfErr result (λ fault. IsNoOpening config fault) }
 {
@@ -57,7 +57,7 @@ fn open(alloc: Global, config: Config, image: Image) -> Result<Bench, RunFault>
 
 /// The owners of all pages, in the pages' order.
 fn all_owners(alloc: Global, bench: &Bench) -> Result<Vec<Owner>, AllocError>
-    ensures owners { IfOk result (λ owners. AreOwners bench.now.world owners.items) }
+    ensures owners { IfOk result (λ owners. AreOwners bench.now.table.world owners.items) }
     ensures few { IfOk result (λ owners. length owners.items ≤ 65536) }
 {
     let pages = bench.pages();
@@ -76,7 +76,7 @@ fn play_line(
     text: &mut String,
 ) -> Result<(), AllocError>
     requires empty { string_bytes text.old ≡ [] }
-    ensures { OnOk result (PrintsLine bench.old numbered.number numbered.line (string_bytes text.new) bench.new) }
+    ensures { OnOk result (PrintsLine bench.old.table numbered.number numbered.line (string_bytes text.new) bench.new.table) }
 {
     let number = numbered.number;
     match numbered.line {
@@ -100,8 +100,8 @@ fn play<W: Write>(
     script: Script,
     writer: &mut W,
 ) -> Result<(), RunFault>
-    ensures ran { OnOk result (Gains (W.contents writer.old) (W.contents writer.new) (IsRunText bench.old script)) }
-    ensures cut { OnErr result (Gains (W.contents writer.old) (W.contents writer.new) (IsFrontOfFirst bench.old script)) }
+    ensures ran { OnOk result (Gains (W.contents writer.old) (W.contents writer.new) (IsRunTo bench.new.table bench.old.table script)) }
+    ensures cut { OnErr result (Gains (W.contents writer.old) (W.contents writer.new) (IsFrontOfFirst bench.old.table script)) }
     ensures fault { IfErr result (λ fault. (fault ≡ run.Memory) ⊎ (fault ≡ run.OutputFailed)) }
 {
     let mut text = String::new(alloc);
@@ -116,12 +116,38 @@ fn play<W: Write>(
     flush(writer)
 }
 
-/// Plays a script, line after line, over a world that it opens, and writes what each step answered: the command `steps`.
+/// Plays a script, line after line, over a world that it opens, and writes what each step answered. The bench is as the last step left it.
 ///
 /// # Errors
 ///
 /// A fault of the script, and then one of the opening; nothing is written then. [`RunFault::Memory`] where memory is refused, and
 /// not inside a step; [`RunFault::OutputFailed`] where a write or the flush fails. What was written by then is the front of a run's text.
+pub fn play_steps<R: Read, W: Write>(
+    alloc: Global,
+    config: Config,
+    image: Image,
+    reader: &mut R,
+    writer: &mut W,
+) -> Result<Bench, RunFault>
+    ensures ran { IfOk result (λ bench. Writes (R.remaining reader.old) config image (W.contents writer.old) (W.contents writer.new) (IsRunTo bench.table)) }
+    ensures failed { IfErr result (λ fault. EndsWith (R.remaining reader.old) config image (W.contents writer.old) (W.contents writer.new) fault) }
+{
+    let script = load(alloc, reader)?;
+    let mut bench = open(alloc, config, image)?;
+    match play(alloc, &mut bench, script, writer) {
+        Ok(()) => Ok(bench),
+        Err(fault) => {
+            let _ended = bench.end();
+            Err(fault)
+        }
+    }
+}
+
+/// Plays a script as [`play_steps`] does, and ends its world: the command `steps`.
+///
+/// # Errors
+///
+/// As [`play_steps`].
 pub fn run_steps<R: Read, W: Write>(
     alloc: Global,
     config: Config,
@@ -132,9 +158,7 @@ pub fn run_steps<R: Read, W: Write>(
     ensures ran { OnOk result (Writes (R.remaining reader.old) config image (W.contents writer.old) (W.contents writer.new) IsRunText) }
     ensures failed { IfErr result (λ fault. EndsWith (R.remaining reader.old) config image (W.contents writer.old) (W.contents writer.new) fault) }
 {
-    let script = load(alloc, reader)?;
-    let mut bench = open(alloc, config, image)?;
-    let played = play(alloc, &mut bench, script, writer);
+    let bench = play_steps(alloc, config, image, reader, writer)?;
     let _ended = bench.end();
-    played
+    Ok(())
 }

@@ -8,26 +8,27 @@ ghost use Rattle.script_cli.specs.declared.script.Line.TheVariants as line;
 
 use script_cli::{Verb, append_counts, append_owners, append_reply};
 use std::alloc::{AllocError, Global};
-use step_core::{Bench, Owner, PageNo, Step};
+use step_core::{Bench, Owner, PageNo, Reply, Step};
 
-/// Does a step, and says what it answered.
+/// Does a step, says what it answered, and answers that.
 pub(crate) fn say_step(
     bench: &mut Bench,
     number: u32,
     step: Step,
     out: &mut String,
-) -> Result<(), AllocError>
+) -> Result<Reply, AllocError>
     requires empty { string_bytes out.old ≡ [] }
-    ensures { OnOk result (PrintsLine bench.old number (line.Step step) (string_bytes out.new) bench.new) }
+    ensures { OnOk result (PrintsLine bench.old.table number (line.Step step) (string_bytes out.new) bench.new.table) }
 {
     let verb = Verb::of(&step);
     let reply = bench.step(step);
-    append_reply(out, number, verb, &reply)
+    append_reply(out, number, verb, &reply)?;
+    Ok(reply)
 }
 
 /// The owners of all pages, in the pages' order.
 fn all_owners(alloc: Global, bench: &Bench) -> Result<Vec<Owner>, AllocError>
-    ensures owners { IfOk result (λ owners. AreOwners bench.now.world owners.items) }
+    ensures owners { IfOk result (λ owners. AreOwners bench.now.table.world owners.items) }
     ensures few { IfOk result (λ owners. length owners.items ≤ 65536) }
 {
     let pages = bench.pages();
@@ -46,7 +47,7 @@ pub(crate) fn say_owners(
     out: &mut String,
 ) -> Result<(), AllocError>
     requires empty { string_bytes out.old ≡ [] }
-    ensures { OnOk result (PrintsLine bench.now number line.Owners (string_bytes out.new) bench.now) }
+    ensures { OnOk result (PrintsLine bench.now.table number line.Owners (string_bytes out.new) bench.now.table) }
 {
     let owners = all_owners(alloc, bench)?;
     append_owners(out, &owners)
@@ -54,7 +55,7 @@ pub(crate) fn say_owners(
 
 /// Says how many pages each class has.
 pub(crate) fn say_counts(bench: &Bench, out: &mut String) -> Result<(), AllocError>
-    ensures { OnOk result (string_bytes out.new ≡ string_bytes out.old ++ counts_line (counts_of bench.now.world.host)) }
+    ensures { OnOk result (string_bytes out.new ≡ string_bytes out.old ++ counts_line (counts_of bench.now.table.world.host)) }
 {
     append_counts(out, bench.counts())
 }

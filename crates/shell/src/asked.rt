@@ -2,11 +2,14 @@
 
 use crate::dot_word::DotWord;
 use crate::fault::Fault;
-use crate::runs::bytes_of;
+use byte_runs::bytes_of;
 use script_cli::{Line, LineFault, ScriptFault, Words, read_script, split_line, words_of};
 use std::alloc::{AllocError, Global};
-use step_core::{Bytes, Step};
+use step_core::{Bytes, PageNo, Step};
 use transcripts::Given;
+
+/// The most bytes that a command moves.
+const MOST: usize = 1_048_576;
 
 /// Blocks, and the queue by which they are moved.
 #[derive(Clone, Copy, Debug, PartialEq, Eq)]
@@ -30,6 +33,12 @@ pub(crate) enum Asked<'a> {
     Owners,
     /// How many pages each class has.
     Counts,
+    /// Where both sides stand in the rings, of all queues or of one.
+    Rings(Option<u16>),
+    /// The bytes of a page.
+    Page(PageNo),
+    /// Whether steps are traced from now on.
+    Trace(bool),
     /// What there is to say, or the form of a word.
     Help(Option<&'a str>),
     /// That the controller works, on all queues or on one.
@@ -38,6 +47,8 @@ pub(crate) enum Asked<'a> {
     Read(Extent),
     /// That blocks are written.
     Write(Extent, Bytes),
+    /// That the image is written into a file.
+    Save(&'a str),
     /// A new world.
     Open(Given),
     /// That a text is printed.
@@ -128,18 +139,54 @@ fn help(mut arguments: Arguments<'_>) -> Result<Asked<'_>, Fault<'_>> {
     Ok(Asked::Help(verb))
 }
 
-/// What follows `.serve`.
-fn serve(mut arguments: Arguments<'_>) -> Result<Asked<'_>, Fault<'_>> {
+/// The queue that follows, if one is named.
+fn of_queues<'a>(mut arguments: Arguments<'a>) -> Result<Option<u16>, Fault<'a>> {
     let Some(word) = arguments.next() else {
-        return Ok(Asked::Serve(None));
+        return Ok(None);
     };
     match number16(word.as_bytes()) {
         Ok(q) => {
             arguments.end()?;
-            Ok(Asked::Serve(Some(q)))
+            Ok(Some(q))
         }
         Err(_) => Err(Fault::Bad(word, arguments.dot)),
     }
+}
+
+/// What follows `.rings`.
+fn rings(arguments: Arguments<'_>) -> Result<Asked<'_>, Fault<'_>> {
+    Ok(Asked::Rings(of_queues(arguments)?))
+}
+
+/// What follows `.serve`.
+fn serve(arguments: Arguments<'_>) -> Result<Asked<'_>, Fault<'_>> {
+    Ok(Asked::Serve(of_queues(arguments)?))
+}
+
+/// What follows `.page`.
+fn page(mut arguments: Arguments<'_>) -> Result<Asked<'_>, Fault<'_>> {
+    let word = arguments.wanted()?;
+    let p = number32(word.as_bytes()).map_err(|_| Fault::Bad(word, arguments.dot))?;
+    arguments.end()?;
+    Ok(Asked::Page(PageNo(p)))
+}
+
+/// What follows `.trace`.
+fn trace(mut arguments: Arguments<'_>) -> Result<Asked<'_>, Fault<'_>> {
+    let word = arguments.wanted()?;
+    let traces = word == "on";
+    if !traces && word != "off" {
+        return Err(Fault::Bad(word, arguments.dot));
+    }
+    arguments.end()?;
+    Ok(Asked::Trace(traces))
+}
+
+/// What follows `.save`.
+fn save(mut arguments: Arguments<'_>) -> Result<Asked<'_>, Fault<'_>> {
+    let path = arguments.wanted()?;
+    arguments.end()?;
+    Ok(Asked::Save(path))
 }
 
 /// What follows `.read`.
@@ -162,9 +209,9 @@ fn write(alloc: Global, mut arguments: Arguments<'_>) -> Reading<'_> {
     if let Err(fault) = arguments.end() {
         return Ok(Err(fault));
     }
-    match bytes_of(alloc, word)? {
-        Some(bytes) => Ok(Ok(Asked::Write(extent, bytes))),
-        None => Ok(Err(Fault::Bad(word, arguments.dot))),
+    match bytes_of(alloc, word.as_bytes(), MOST)? {
+        Ok(bytes) => Ok(Ok(Asked::Write(extent, Bytes::from_vec(bytes)))),
+        Err(_) => Ok(Err(Fault::Bad(word, arguments.dot))),
     }
 }
 
@@ -183,9 +230,13 @@ fn asked_of_dot<'a>(alloc: Global, dot: DotWord, words: Words<'a>, behind: &'a s
         DotWord::Help => help(arguments),
         DotWord::Owners => alone(Asked::Owners, arguments),
         DotWord::Counts => alone(Asked::Counts, arguments),
+        DotWord::Rings => rings(arguments),
+        DotWord::Page => page(arguments),
+        DotWord::Trace => trace(arguments),
         DotWord::Serve => serve(arguments),
         DotWord::Read => read(arguments),
         DotWord::Write => return write(alloc, arguments),
+        DotWord::Save => save(arguments),
         DotWord::Open => open(behind),
         DotWord::Print => Ok(Asked::Print(behind.strip_prefix(' ').unwrap_or(behind))),
         DotWord::Quit => alone(Asked::Quit, arguments),

@@ -9,12 +9,20 @@ pub enum DotWord {
     Owners,
     /// `.counts`
     Counts,
+    /// `.rings`
+    Rings,
+    /// `.page`
+    Page,
+    /// `.trace`
+    Trace,
     /// `.serve`
     Serve,
     /// `.read`
     Read,
     /// `.write`
     Write,
+    /// `.save`
+    Save,
     /// `.open`
     Open,
     /// `.print`
@@ -24,13 +32,17 @@ pub enum DotWord {
 }
 
 /// All of them, in the order of the help.
-pub const DOT_WORDS: [DotWord; 9] = [
+pub const DOT_WORDS: [DotWord; 13] = [
     DotWord::Help,
     DotWord::Owners,
     DotWord::Counts,
+    DotWord::Rings,
+    DotWord::Page,
+    DotWord::Trace,
     DotWord::Serve,
     DotWord::Read,
     DotWord::Write,
+    DotWord::Save,
     DotWord::Open,
     DotWord::Print,
     DotWord::Quit,
@@ -43,9 +55,13 @@ impl DotWord {
             DotWord::Help => ".help",
             DotWord::Owners => ".owners",
             DotWord::Counts => ".counts",
+            DotWord::Rings => ".rings",
+            DotWord::Page => ".page",
+            DotWord::Trace => ".trace",
             DotWord::Serve => ".serve",
             DotWord::Read => ".read",
             DotWord::Write => ".write",
+            DotWord::Save => ".save",
             DotWord::Open => ".open",
             DotWord::Print => ".print",
             DotWord::Quit => ".quit",
@@ -58,9 +74,13 @@ impl DotWord {
             DotWord::Help => ".help [VERB]",
             DotWord::Owners => ".owners",
             DotWord::Counts => ".counts",
+            DotWord::Rings => ".rings [Q]",
+            DotWord::Page => ".page P",
+            DotWord::Trace => ".trace on|off",
             DotWord::Serve => ".serve [Q]",
             DotWord::Read => ".read Q SLBA BLOCKS",
             DotWord::Write => ".write Q SLBA BLOCKS BYTES",
+            DotWord::Save => ".save FILE",
             DotWord::Open => ".open [OPTION=N ..]",
             DotWord::Print => ".print TEXT",
             DotWord::Quit => ".quit",
@@ -73,9 +93,13 @@ impl DotWord {
             DotWord::Help => "the words, or the form of one of them or of a step",
             DotWord::Owners => "who owns which page",
             DotWord::Counts => "how many pages are free, and whose the others are",
+            DotWord::Rings => "where both sides stand in the rings of all queues or of one",
+            DotWord::Page => "the bytes of a page, 16 a line; `*` for more lines of zeros",
+            DotWord::Trace => "whether each step tells below its answer what it moved",
             DotWord::Serve => "lets the controller work until it rests, on all queues or on one",
             DotWord::Read => "reads blocks, and prints their bytes",
             DotWord::Write => "writes blocks: HEX, or runs as AB*1,00*511; zeros behind them",
+            DotWord::Save => "writes the image into a file",
             DotWord::Open => "a new world: pages, queues, entries, segment, blocks",
             DotWord::Print => "prints the text, so that a program knows where an answer ends",
             DotWord::Quit => "ends the session, as the end of input does",

@@ -3,6 +3,7 @@
 use script_cli::{CommandVerb, QueueVerb, Verb, append_reply};
 use std::alloc::{AllocError, Global};
 use step_core::{Bench, Reply};
+use trace_text::{Traced, put_trace};
 
 /// The most steps of the controller that one line asks for.
 pub(crate) const MOST_STEPS: u32 = 1_000_000;
@@ -20,6 +21,8 @@ pub(crate) struct Hand<'a> {
     pub(crate) left: u32,
     /// Whether the controller's steps are said.
     pub(crate) says: bool,
+    /// Whether what they move is said too.
+    pub(crate) traces: bool,
 }
 
 /// What a step answered, as it is printed behind its verb.
@@ -58,6 +61,14 @@ impl Hand<'_> {
         let name = verb.name();
         let answer = answer_text(self.alloc, verb, reply)?;
         write!(self.out, "{name} {q} {cid} -> {answer}")
+    }
+
+    /// Says what a step moved, if that is wanted.
+    pub(crate) fn trace(&mut self, traced: Traced, reply: &Reply) -> Result<(), AllocError> {
+        if self.traces {
+            put_trace(self.out, self.bench, self.entries, traced, reply)?;
+        }
+        Ok(())
     }
 
     /// Makes a step on a queue.

@@ -2,6 +2,7 @@
 //!
 //! [`run_shell`] reads lines and answers each before it reads the next. A line is a step of a script (`script_cli`), which prints what
 //! `nvmesgl steps` prints for it, or a [`DotWord`] with its arguments. A line that is at fault says so and changes nothing; the session goes on.
+//! [`trace_steps`] plays a whole script so, with what each step moved.
 //!
 //! What a step, `owners` and `.counts` say of the world is the world's: their clauses are those of a script's run.
 #![tactic(auto)]
@@ -13,10 +14,12 @@ mod fault;
 mod hand;
 mod help;
 mod lines;
+mod looks;
 mod moves;
-mod runs;
+mod script;
 mod serve;
 mod session;
 
 pub use dot_word::{DOT_WORDS, DotWord};
+pub use script::trace_steps;
 pub use session::run_shell;

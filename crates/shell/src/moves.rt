@@ -5,7 +5,7 @@ use crate::hand::Hand;
 use script_cli::{CommandVerb, QueueVerb, Verb, put_gathered};
 use status_names::Named;
 use std::alloc::{AllocError, Global};
-use step_core::{Bytes, Kind, Piece, Pieces, Reaped, Reply, Request, Status, Step};
+use step_core::{Bytes, Kind, Piece, Pieces, Reaped, Refusal, Reply, Request, Status, Step};
 
 /// The bytes of a page.
 const PAGE: u32 = 4_096;
@@ -39,7 +39,7 @@ fn pieces_of(alloc: Global, blocks: u32) -> Result<Pieces, AllocError> {
 }
 
 impl Hand<'_> {
-    /// Reserves a command, and answers its identifier. Where it is refused that is said.
+    /// Reserves a command, and answers its identifier. Where it is refused that is said, and what is wrong with the request.
     fn reserve(&mut self, kind: Kind, extent: Extent) -> Result<Option<u16>, AllocError> {
         let Extent { q, slba, blocks } = extent;
         let pieces = pieces_of(self.alloc, blocks)?;
@@ -54,6 +54,13 @@ impl Hand<'_> {
             return Ok(Some(cid));
         }
         self.say_on_queue(Verb::Reserve, q, &reply)?;
+        if let Reply::Refused {
+            why: Refusal::Bad(fault),
+            ..
+        } = reply
+        {
+            write!(self.out, "{fault}\n")?;
+        }
         Ok(None)
     }
 
@@ -71,10 +78,14 @@ impl Hand<'_> {
         Ok(false)
     }
 
-    /// Fills a draft. Where it is refused that is said.
+    /// Fills a draft. Where it is refused that is said, and why.
     fn fill(&mut self, (q, cid): (u16, u16), bytes: Bytes) -> Result<bool, AllocError> {
         let reply = self.bench.step(Step::Fill { q, cid, bytes });
-        self.was_done(Verb::Fill, (q, cid), &reply)
+        let done = self.was_done(Verb::Fill, (q, cid), &reply)?;
+        if let Reply::NotFilled(why) = reply {
+            write!(self.out, "{why}\n")?;
+        }
+        Ok(done)
     }
 
     /// Makes a step of the host on a command. Where it is refused that is said.
@@ -94,6 +105,14 @@ impl Hand<'_> {
             return Ok(false);
         }
         self.host_step(CommandVerb::Submit, command)
+    }
+
+    /// Rings the tail doorbell of a queue. Where that is refused it is said.
+    fn ring(&mut self, q: u16) -> Result<(), AllocError> {
+        match self.on_queue(QueueVerb::Ring, q) {
+            Reply::Accepted => Ok(()),
+            other => self.say_on_queue(Verb::OnQueue(QueueVerb::Ring), q, &other),
+        }
     }
 
     /// Takes completions until it is that of a command, or there is none. What else there is is said.
@@ -151,7 +170,7 @@ impl Hand<'_> {
             self.host_step(CommandVerb::Cancel, command)?;
             return Ok(None);
         }
-        let _rung = self.on_queue(QueueVerb::Ring, extent.q);
+        self.ring(extent.q)?;
         if !self.await_own(command)? {
             return Ok(None);
         }

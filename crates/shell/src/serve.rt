@@ -4,6 +4,7 @@ use crate::hand::{Hand, MOST_STEPS};
 use script_cli::{CommandVerb, QueueVerb, Verb};
 use std::alloc::AllocError;
 use step_core::{Refusal, Reply};
+use trace_text::Traced;
 
 impl Hand<'_> {
     /// Lets the controller do a step on a command. False where it is refused, or no step is left.
@@ -18,6 +19,11 @@ impl Hand<'_> {
         self.left = self.left.saturating_sub(1);
         if self.says {
             self.say_on_command(Verb::OnCommand(verb), command, &reply)?;
+            let traced = match verb {
+                CommandVerb::Complete => Traced::Complete(command.0),
+                _ => Traced::Other,
+            };
+            self.trace(traced, &reply)?;
         }
         Ok(true)
     }
@@ -46,6 +52,7 @@ impl Hand<'_> {
         };
         if said {
             self.say_on_queue(Verb::OnQueue(QueueVerb::Fetch), q, &reply)?;
+            self.trace(Traced::Fetch(q), &reply)?;
         }
         if fetched.is_some() {
             self.left = self.left.saturating_sub(1);

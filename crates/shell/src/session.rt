@@ -7,12 +7,15 @@ use crate::asked::{Asked, asked_of};
 use crate::hand::{Hand, MOST_STEPS};
 use crate::help::say_help;
 use crate::lines::read_line;
-use script_cli::{ImageFault, RunFault, flush, not_opened, put, split_line};
-use std::alloc::{AllocError, Global};
+use crate::looks::{say_page, say_rings};
+use script_cli::{ImageFault, Line, Numbered, RunFault, Script, flush, not_opened, put, split_line};
+use std::alloc::{AllocError, AllocGlobal, Global};
 use std::io::{BufRead, BufReader, Read, Write};
 use std::mem;
-use step_core::{Bench, Config, Image, ImageError};
-use transcripts::{Given, OpeningFault, Options};
+use std::rt::Files;
+use step_core::{Bench, Config, Image, ImageError, Step};
+use trace_text::Traced;
+use transcripts::{Given, OpeningFault, Options, not_written, replace_file};
 
 /// What stands before a line on a terminal.
 const PROMPT: &str = "nvmesgl> ";
@@ -25,13 +28,15 @@ enum Going {
 }
 
 /// A world, and what it was opened with.
-struct Session {
+pub(crate) struct Session {
     alloc: Global,
     /// What a new world is opened with, where a line does not say otherwise.
     usual: Options,
     /// What this one was opened with.
     config: Config,
     bench: Bench,
+    /// Whether each step says what it moved.
+    traces: bool,
 }
 
 /// Opens a world over zero blocks.
@@ -48,8 +53,13 @@ fn open_zeros(alloc: Global, options: Options) -> Result<Bench, OpeningFault> {
 }
 
 impl Session {
-    /// A session over a world that it opens.
-    fn open(alloc: Global, config: Config, image: Image) -> Result<Session, RunFault> {
+    /// A session over a world that it opens. With `traces` each step says what it moved.
+    pub(crate) fn open(
+        alloc: Global,
+        config: Config,
+        image: Image,
+        traces: bool,
+    ) -> Result<Session, RunFault> {
         let blocks = image.blocks();
         match Bench::open(alloc, config, image) {
             Ok(bench) => Ok(Session {
@@ -57,20 +67,22 @@ impl Session {
                 usual: Options { config, blocks },
                 config,
                 bench,
+                traces,
             }),
             Err(refused) => Err(not_opened(refused.why)),
         }
     }
 
-    /// Ends the session, and its world.
-    fn end(self) {
+    /// Ends the session, and gives its world out.
+    pub(crate) fn into_bench(self) -> Bench {
         let Session {
             alloc: _,
             usual: _,
             config: _,
             bench,
+            traces: _,
         } = self;
-        let _ended = bench.end();
+        bench
     }
 
     /// Opens a new world in place of the old one. Where that is refused the old one stays.
@@ -95,22 +107,51 @@ impl Session {
             entries: u16::try_from(self.config.entries).unwrap_or(u16::MAX),
             left: MOST_STEPS,
             says,
+            traces: self.traces,
         }
+    }
+
+    /// Does a step, says what it answered in an empty text, and what it moved, if that is wanted.
+    fn step(&mut self, number: u32, step: Step, out: &mut String) -> Result<(), AllocError>
+        requires empty { string_bytes out.old ≡ [] }
+    {
+        let traced = Traced::of(&step);
+        let reply = say_step(&mut self.bench, number, step, out)?;
+        self.hand(out, true).trace(traced, &reply)
     }
 
     /// Lets the controller work, on all queues or on one.
     fn serve(&mut self, q: Option<u16>, out: &mut String) -> Result<(), AllocError> {
-        let all = u16::try_from(self.config.queues).unwrap_or(u16::MAX);
-        let (first, last) = match q {
-            Some(q) => (q, q),
-            None => (0, all),
-        };
+        let (first, last) = self.queues(q);
         self.hand(out, true).serve(first, last)
     }
 
+    /// The numbers of all queues, or of the one that is named.
+    fn queues(&self, q: Option<u16>) -> (u16, u16) {
+        match q {
+            Some(q) => (q, q),
+            None => (0, u16::try_from(self.config.queues).unwrap_or(u16::MAX)),
+        }
+    }
+
+    /// Writes the image into a file. Where this fails, the file is as it was.
+    fn save<R: AllocGlobal + Files>(
+        &self,
+        rt: &R,
+        path: &str,
+        out: &mut String,
+    ) -> Result<(), AllocError> {
+        let image = self.bench.image();
+        match replace_file(rt, path, image.blocks_from(0, image.blocks())) {
+            Ok(()) => out.push_str("ok\n"),
+            Err(why) => out.push_str(&not_written(self.alloc, path, &why)?),
+        }
+    }
+
     /// Does what a line asks for, and leaves what it says in an empty text.
-    fn perform(
+    fn perform<R: AllocGlobal + Files>(
         &mut self,
+        rt: &R,
         number: u32,
         asked: Asked<'_>,
         out: &mut String,
@@ -119,13 +160,23 @@ impl Session {
     {
         match asked {
             Asked::Nothing => {}
-            Asked::Step(step) => say_step(&mut self.bench, number, step, out)?,
+            Asked::Step(step) => self.step(number, step, out)?,
             Asked::Owners => say_owners(self.alloc, &self.bench, number, out)?,
             Asked::Counts => say_counts(&self.bench, out)?,
+            Asked::Rings(q) => {
+                let (first, last) = self.queues(q);
+                say_rings(&self.bench, first, last, out)?;
+            }
+            Asked::Page(p) => say_page(&mut self.bench, p, out)?,
+            Asked::Trace(traces) => {
+                self.traces = traces;
+                out.push_str("ok\n")?;
+            }
             Asked::Help(word) => say_help(self.alloc, out, word)?,
             Asked::Serve(q) => self.serve(q, out)?,
             Asked::Read(extent) => self.hand(out, false).read(extent)?,
             Asked::Write(extent, bytes) => self.hand(out, false).write(extent, bytes)?,
+            Asked::Save(path) => self.save(rt, path, out)?,
             Asked::Open(given) => self.reopen(given, out)?,
             Asked::Print(text) => write!(out, "{text}\n")?,
             Asked::Quit => return Ok(Going::Out),
@@ -134,11 +185,17 @@ impl Session {
     }
 
     /// Answers a line: leaves what it says in an empty text.
-    fn answer(&mut self, number: u32, line: &[u8], out: &mut String) -> Result<Going, AllocError>
+    fn answer<R: AllocGlobal + Files>(
+        &mut self,
+        rt: &R,
+        number: u32,
+        line: &[u8],
+        out: &mut String,
+    ) -> Result<Going, AllocError>
         requires empty { string_bytes out.old ≡ [] }
     {
         match asked_of(self.alloc, line)? {
-            Ok(asked) => self.perform(number, asked, out),
+            Ok(asked) => self.perform(rt, number, asked, out),
             Err(fault) => {
                 let (line, _) = split_line(line);
                 fault.put(self.alloc, out, number, line)?;
@@ -147,9 +204,40 @@ impl Session {
         }
     }
 
-    /// Answers the lines of a reader, one after the other, until one ends the session or there is none.
-    fn talk<B: BufRead, W: Write>(
+    /// Does what a line of a script says, and leaves what it says in an empty text.
+    fn play_line(&mut self, numbered: Numbered, out: &mut String) -> Result<(), AllocError>
+        requires empty { string_bytes out.old ≡ [] }
+    {
+        let number = numbered.number;
+        match numbered.line {
+            Line::Step(step) => self.step(number, step, out),
+            Line::Owners => say_owners(self.alloc, &self.bench, number, out),
+            Line::Nothing => Ok(()),
+        }
+    }
+
+    /// Does what a script says, line after line, and writes what each line says, and the counts behind the last one.
+    pub(crate) fn play<W: Write>(
         &mut self,
+        script: Script,
+        writer: &mut W,
+    ) -> Result<(), RunFault> {
+        let mut out = String::new(self.alloc);
+        for numbered in script.into_lines() {
+            out.clear();
+            self.play_line(numbered, &mut out)?;
+            put(writer, out.as_bytes())?;
+        }
+        out.clear();
+        say_counts(&self.bench, &mut out)?;
+        put(writer, out.as_bytes())?;
+        flush(writer)
+    }
+
+    /// Answers the lines of a reader, one after the other, until one ends the session or there is none.
+    fn talk<R: AllocGlobal + Files, B: BufRead, W: Write>(
+        &mut self,
+        rt: &R,
         reader: &mut B,
         writer: &mut W,
         prompt: bool,
@@ -168,7 +256,7 @@ impl Session {
             }
             number = number.saturating_add(1);
             out.clear();
-            let going = self.answer(number, &line, &mut out)?;
+            let going = self.answer(rt, number, &line, &mut out)?;
             put(writer, out.as_bytes())?;
             if going == Going::Out {
                 break;
@@ -178,26 +266,28 @@ impl Session {
     }
 }
 
-/// Answers the lines of a reader over a world that it opens, each before the next one is read: the command `shell`. With `prompt`, something
-/// stands before each line. What is written is flushed before a line is read, and at the end.
+/// Answers the lines of a reader over a world that it opens, each before the next one is read: the command `shell`. With `traces` each step says what
+/// it moved, until a line ends that. With `prompt`, something stands before each line. What is written is flushed before a line is read, and at the end.
 ///
 /// # Errors
 ///
 /// The fault of an opening, before anything is written. `Unreadable` where a read fails, `OutputFailed` where a write or a flush does, and
 /// `Memory` where memory is refused, and not inside a step. A faulty line and a step that is refused are answers, and no faults.
-pub fn run_shell<R: Read, W: Write>(
-    alloc: Global,
+pub fn run_shell<R: AllocGlobal + Files, I: Read, W: Write>(
+    rt: &R,
     config: Config,
     image: Image,
-    reader: &mut R,
+    traces: bool,
+    reader: &mut I,
     writer: &mut W,
     prompt: bool,
 ) -> Result<(), RunFault> {
-    let mut session = Session::open(alloc, config, image)?;
+    let alloc = rt.alloc();
+    let mut session = Session::open(alloc, config, image, traces)?;
     let talked = match BufReader::new(alloc, reader) {
-        Ok(mut reader) => session.talk(&mut reader, writer, prompt),
+        Ok(mut reader) => session.talk(rt, &mut reader, writer, prompt),
         Err(_) => Err(RunFault::Memory),
     };
-    session.end();
+    let _ended = session.into_bench().end();
     talked
 }

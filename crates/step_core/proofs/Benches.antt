@@ -243,6 +243,16 @@ module _ {A : Type 0} where
     by_name reply world step =
         subst (λ (k : ℕ). machine.Step s (events.Collect k cid) reply world) ticket_name.0 (subst (λ (n : ℕ). machine.Step s (events.Collect ticket.q n) reply world) ticket_name.1 step)
 
+    last_finished : (f : FinishedContents) → picked as_finished (without old.rows q cid ++ record { q = q; cid = cid; value = Some (value.Finished f) } ∷ []) ≡ picked as_finished old.rows ++ f ∷ []
+    last_finished f =
+        filter_map-append (λ (r : Row (Option (Value A))). as_finished r.value) (without old.rows q cid) (record { q = q; cid = cid; value = Some (value.Finished f) } ∷ [])
+        ∙ ap (λ (xs : List FinishedContents). xs ++ f ∷ []) (taken_other as_finished old.rows q cid (Some (value.Ticket ticket)) out.there refl)
+
+    -- the finished command stands behind the others
+    pub collected_last : (world : State) (f : FinishedContents) (new : Values A) → new ≡ with_row (record mid { rows = without mid.rows q cid }) q cid (Some (value.Finished f))
+        → (table_with world new).finished ≡ (table_with s old).finished ++ f ∷ []
+    collected_last world f new left = ap (λ (v : Values A). (table_with world v).finished) (put_next old mid q cid (value.Ticket ticket) out (value.Finished f) new left) ∙ last_finished f
+
     pub collects : (world : State) (f : FinishedContents) (status : Status) (new : Values A) → machine.Step s (events.Collect ticket.q ticket.cid) (events.Collects f) world → status ≡ f.status
         → new ≡ with_row (record mid { rows = without mid.rows q cid }) q cid (Some (value.Finished f))
         → Collects (table_with s old) q cid (list_any (is_ticket q cid) (table_with s old).tickets) (reply.Collected status) (table_with world new) × IsBench world new
@@ -251,7 +261,7 @@ module _ {A : Type 0} where
         finished = f;
         says = ap reply.Collected ends;
         step = by_name (events.Collects f) world step;
-        keeps = ap (table_with world) (put_next old mid q cid (value.Ticket ticket) out (value.Finished f) new left) ∙ tables_same world _ _ _ _ _ _ drafts tickets finished;
+        keeps = ap (table_with world) (put_next old mid q cid (value.Ticket ticket) out (value.Finished f) new left) ∙ tables_same world _ _ _ _ _ _ drafts tickets (last_finished f);
       }),
       subst (IsBench world) (sym (put_next old mid q cid (value.Ticket ticket) out (value.Finished f) new left))
           (followed world old q cid (value.Ticket ticket) (value.Finished f) (goes_on s (events.Collect ticket.q ticket.cid) (events.Collects f) world old step (λ k n. refl) b) out.there name.0 name.1),
@@ -272,11 +282,6 @@ module _ {A : Type 0} where
         tickets =
             filter_map-append (λ (r : Row (Option (Value A))). as_ticket r.value) (without old.rows q cid) (row ∷ []) ∙ append-nil (picked as_ticket (without old.rows q cid))
             ∙ taken_at as_ticket is_ticket old.rows q cid b.distinct (tickets_named s old b)
-
-        finished : picked as_finished (without old.rows q cid ++ row ∷ []) ≡ picked as_finished old.rows ++ f ∷ []
-        finished =
-            filter_map-append (λ (r : Row (Option (Value A))). as_finished r.value) (without old.rows q cid) (row ∷ [])
-            ∙ ap (λ (xs : List FinishedContents). xs ++ f ∷ []) (taken_other as_finished old.rows q cid (Some (value.Ticket ticket)) out.there refl)
 
     pub collect_refused : (world : State) (x : TicketContents) (why : Refusal) (answer : Reply) (new : Values A) → machine.Step s (events.Collect ticket.q ticket.cid) (events.Refused why []) world → x ≡ ticket → answer ≡ reply.Refused why []
         → new ≡ record mid { rows = with_value mid.rows q cid (Some (value.Ticket x)) }

@@ -15,3 +15,4 @@ pub mod Resetting
 pub mod Rows
 pub mod Benches
 pub mod Touches
+pub mod RingLooks

@@ -1,6 +1,6 @@
 -- Each touch is counted, and told.
 use Rattle.std.proofs.Common.{◌≡◌, ℕ, zero, suc, ◌+◌, ◌-◌, ◌*◌, ◌<◌, ◌≤◌, ◌⊎◌, inl, inr, Bool, true, false, Option, Some, None, List, [], ◌∷◌, ◌++◌, Result, Ok, Err, length, get_or, refl, ap, sym, ◌∙◌, arith, if◌then◌else◌}
-use Rattle.std.specs.Prelude.{nat_eq, slice_get}
+use Rattle.std.specs.Prelude.{nat_eq, slice_get, OnOk, OnErr}
 use Rattle.std.specs.Option.{option_map_or}
 use Rattle.std.proofs.lemmas.Bool.{eq-eqb}
 use Rattle.std.proofs.lemmas.Option.{slice_get_cases}
@@ -150,3 +150,11 @@ looked_few c m (Some (Complete q cid)) = omega (arith, heads_few c m (queue_numb
 -- touches that were all taken off the list
 pub cleared_more : (u u' pages : ℕ) (reached reached' : List ℕ) → u' ≡ counted u (length reached + pages) → reached' ≡ [] → TouchesMore u reached pages u' reached'
 cleared_more u u' pages reached reached' is none = rw (none, is) (counted_none u (length reached + pages))
+
+-- a read behind an emptied list touches two pages at most
+pub reads_few : {E : Type 0} (result : Result (Unit {0}) E) (into into' : List ℕ) (touches u u1 u2 : ℕ) (reached reached1 reached2 more : List ℕ) → counted u (length reached) ≡ touches → reached1 ≡ [] → u1 ≡ counted u (length reached) → u2 ≡ u1
+    → length more ≤ 2 → OnOk result (reached2 ≡ reached1 ++ more) → OnErr result ((into' ≡ into) × (reached2 ≡ reached1)) → LooksAtMost 2 touches (counted u2 (length reached2))
+reads_few (Ok done) into into' touches u u1 u2 reached reached1 reached2 more was none cleared same few read stays =
+    record { pages = length more; few = few; counts = rw (read, none, same, cleared, ← was) (counted_so u (length reached) (length more)) }
+reads_few (Err why) into into' touches u u1 u2 reached reached1 reached2 more was none cleared same few read stays =
+    record { pages = 0; few = omega arith; counts = rw (stays.1, none, same, cleared, ← was) (counted_none u (length reached)) }

@@ -71,6 +71,14 @@ table_with world values =
 abbrev pub table_of : {A : Type 0} → Kept A → Table
 table_of kept = table_with kept.world.state kept.values
 
+-- what contracts see of a bench: its table, and how many pages were touched so far
+pub record BenchContents : Type 0 where
+  pub table : Table
+  pub touches : ℕ
+
+abbrev pub contents_of : {A : Type 0} → Kept A → BenchContents
+contents_of kept = record { table = table_of kept; touches = kept.world.touches }
+
 -- What ties the values to the world
 
 -- an I/O command is outstanding under a name

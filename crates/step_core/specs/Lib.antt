@@ -8,3 +8,5 @@ pub mod Kept
 pub mod Laws
 pub mod Going
 pub mod Looks
+pub mod TouchingAll
+pub mod Rings

@@ -3,6 +3,7 @@
 ghost use Rattle.std.specs.Prelude.{◌≡◌, [], length};
 ghost use Rattle.step_core.specs.Bench.{Does};
 ghost use Rattle.step_core.specs.Kept.{table_of, IsBench};
+ghost use Rattle.step_core.specs.Touching.{StepTouches};
 
 use crate::fill::{build_draft, fill_draft, no_memory};
 use crate::kept::{Kept, Value};
@@ -41,6 +42,7 @@ impl<A: Allocator + Copy> Kept<A> {
     fn reserve(&mut self, q: u16, request: Request<A>) -> ReplyIn<A>
         requires { IsBench self.old.world.state self.old.values }
         ensures does { Does (table_of self.old) (Step.Reserve q request) result (table_of self.new) }
+        ensures touches { StepTouches self.old.world.state.entries self.old.world.touches (Step.Reserve q request) result (table_of self.new) self.new.world.touches }
         ensures kept { IsBench self.new.world.state self.new.values }
     {
         match self.world.reserve(q, request) {
@@ -58,6 +60,7 @@ impl<A: Allocator + Copy> Kept<A> {
     fn fill(&mut self, q: u16, cid: u16, bytes: Bytes<A>) -> ReplyIn<A>
         requires { IsBench self.old.world.state self.old.values }
         ensures does { Does (table_of self.old) (Step.Fill q cid bytes) result (table_of self.new) }
+        ensures touches { StepTouches self.old.world.state.entries self.old.world.touches (Step.Fill q cid bytes) result (table_of self.new) self.new.world.touches }
         ensures kept { IsBench self.new.world.state self.new.values }
     {
         let Some(mut draft) = take_draft(&mut self.values, q, cid) else {
@@ -72,6 +75,7 @@ impl<A: Allocator + Copy> Kept<A> {
     fn build(&mut self, q: u16, cid: u16) -> ReplyIn<A>
         requires { IsBench self.old.world.state self.old.values }
         ensures does { Does (table_of self.old) (Step.Build q cid) result (table_of self.new) }
+        ensures touches { StepTouches self.old.world.state.entries self.old.world.touches (Step.Build q cid) result (table_of self.new) self.new.world.touches }
         ensures kept { IsBench self.new.world.state self.new.values }
     {
         let Some(mut draft) = take_draft(&mut self.values, q, cid) else {
@@ -86,6 +90,7 @@ impl<A: Allocator + Copy> Kept<A> {
     fn submit(&mut self, q: u16, cid: u16) -> ReplyIn<A>
         requires { IsBench self.old.world.state self.old.values }
         ensures does { Does (table_of self.old) (Step.Submit q cid) result (table_of self.new) }
+        ensures touches { StepTouches self.old.world.state.entries self.old.world.touches (Step.Submit q cid) result (table_of self.new) self.new.world.touches }
         ensures kept { IsBench self.new.world.state self.new.values }
     {
         let Some(draft) = take_draft(&mut self.values, q, cid) else {
@@ -107,6 +112,7 @@ impl<A: Allocator + Copy> Kept<A> {
     fn cancel(&mut self, q: u16, cid: u16) -> ReplyIn<A>
         requires { IsBench self.old.world.state self.old.values }
         ensures does { Does (table_of self.old) (Step.Cancel q cid) result (table_of self.new) }
+        ensures touches { StepTouches self.old.world.state.entries self.old.world.touches (Step.Cancel q cid) result (table_of self.new) self.new.world.touches }
         ensures kept { IsBench self.new.world.state self.new.values }
     {
         let Some(draft) = take_draft(&mut self.values, q, cid) else {
@@ -128,6 +134,7 @@ impl<A: Allocator + Copy> Kept<A> {
     fn ring(&mut self, q: u16) -> ReplyIn<A>
         requires { IsBench self.old.world.state self.old.values }
         ensures does { Does (table_of self.old) (Step.Ring q) result (table_of self.new) }
+        ensures touches { StepTouches self.old.world.state.entries self.old.world.touches (Step.Ring q) result (table_of self.new) self.new.world.touches }
         ensures kept { IsBench self.new.world.state self.new.values }
     {
         match self.world.ring(q) {
@@ -140,6 +147,7 @@ impl<A: Allocator + Copy> Kept<A> {
     fn fetch(&mut self, q: u16) -> ReplyIn<A>
         requires { IsBench self.old.world.state self.old.values }
         ensures does { Does (table_of self.old) (Step.Fetch q) result (table_of self.new) }
+        ensures touches { StepTouches self.old.world.state.entries self.old.world.touches (Step.Fetch q) result (table_of self.new) self.new.world.touches }
         ensures kept { IsBench self.new.world.state self.new.values }
     {
         match self.world.fetch(q) {
@@ -155,6 +163,7 @@ impl<A: Allocator + Copy> Kept<A> {
     fn walk(&mut self, q: u16, cid: u16) -> ReplyIn<A>
         requires { IsBench self.old.world.state self.old.values }
         ensures does { Does (table_of self.old) (Step.Walk q cid) result (table_of self.new) }
+        ensures touches { StepTouches self.old.world.state.entries self.old.world.touches (Step.Walk q cid) result (table_of self.new) self.new.world.touches }
         ensures kept { IsBench self.new.world.state self.new.values }
     {
         match self.world.walk(q, cid) {
@@ -170,6 +179,7 @@ impl<A: Allocator + Copy> Kept<A> {
     fn complete(&mut self, q: u16, cid: u16) -> ReplyIn<A>
         requires { IsBench self.old.world.state self.old.values }
         ensures does { Does (table_of self.old) (Step.Complete q cid) result (table_of self.new) }
+        ensures touches { StepTouches self.old.world.state.entries self.old.world.touches (Step.Complete q cid) result (table_of self.new) self.new.world.touches }
         ensures kept { IsBench self.new.world.state self.new.values }
     {
         match self.world.complete(q, cid) {
@@ -184,6 +194,7 @@ impl<A: Allocator + Copy> Kept<A> {
     fn reap(&mut self, q: u16) -> ReplyIn<A>
         requires { IsBench self.old.world.state self.old.values }
         ensures does { Does (table_of self.old) (Step.Reap q) result (table_of self.new) }
+        ensures touches { StepTouches self.old.world.state.entries self.old.world.touches (Step.Reap q) result (table_of self.new) self.new.world.touches }
         ensures kept { IsBench self.new.world.state self.new.values }
     {
         match self.world.reap(q) {
@@ -196,6 +207,7 @@ impl<A: Allocator + Copy> Kept<A> {
     fn collect(&mut self, q: u16, cid: u16) -> ReplyIn<A>
         requires { IsBench self.old.world.state self.old.values }
         ensures does { Does (table_of self.old) (Step.Collect q cid) result (table_of self.new) }
+        ensures touches { StepTouches self.old.world.state.entries self.old.world.touches (Step.Collect q cid) result (table_of self.new) self.new.world.touches }
         ensures kept { IsBench self.new.world.state self.new.values }
     {
         let Some(ticket) = take_ticket(&mut self.values, q, cid) else {
@@ -218,6 +230,7 @@ impl<A: Allocator + Copy> Kept<A> {
     fn gather(&mut self, q: u16, cid: u16) -> ReplyIn<A>
         requires { IsBench self.old.world.state self.old.values }
         ensures does { Does (table_of self.old) (Step.Gather q cid) result (table_of self.new) }
+        ensures touches { StepTouches self.old.world.state.entries self.old.world.touches (Step.Gather q cid) result (table_of self.new) self.new.world.touches }
         ensures kept { IsBench self.new.world.state self.new.values }
     {
         let Some(finished) = finished_in(&self.values, q, cid) else {
@@ -233,6 +246,7 @@ impl<A: Allocator + Copy> Kept<A> {
     fn release(&mut self, q: u16, cid: u16) -> ReplyIn<A>
         requires { IsBench self.old.world.state self.old.values }
         ensures does { Does (table_of self.old) (Step.Release q cid) result (table_of self.new) }
+        ensures touches { StepTouches self.old.world.state.entries self.old.world.touches (Step.Release q cid) result (table_of self.new) self.new.world.touches }
         ensures kept { IsBench self.new.world.state self.new.values }
     {
         let Some(finished) = take_finished(&mut self.values, q, cid) else {
@@ -254,6 +268,7 @@ impl<A: Allocator + Copy> Kept<A> {
     fn abort(&mut self, q: u16, cid: u16) -> ReplyIn<A>
         requires { IsBench self.old.world.state self.old.values }
         ensures does { Does (table_of self.old) (Step.Abort q cid) result (table_of self.new) }
+        ensures touches { StepTouches self.old.world.state.entries self.old.world.touches (Step.Abort q cid) result (table_of self.new) self.new.world.touches }
         ensures kept { IsBench self.new.world.state self.new.values }
     {
         match self.world.abort(q, cid) {
@@ -266,6 +281,7 @@ impl<A: Allocator + Copy> Kept<A> {
     fn delete_sq(&mut self, q: u16) -> ReplyIn<A>
         requires { IsBench self.old.world.state self.old.values }
         ensures does { Does (table_of self.old) (Step.DeleteSq q) result (table_of self.new) }
+        ensures touches { StepTouches self.old.world.state.entries self.old.world.touches (Step.DeleteSq q) result (table_of self.new) self.new.world.touches }
         ensures kept { IsBench self.new.world.state self.new.values }
     {
         match self.world.delete_sq(q) {
@@ -278,6 +294,7 @@ impl<A: Allocator + Copy> Kept<A> {
     fn delete_cq(&mut self, q: u16) -> ReplyIn<A>
         requires { IsBench self.old.world.state self.old.values }
         ensures does { Does (table_of self.old) (Step.DeleteCq q) result (table_of self.new) }
+        ensures touches { StepTouches self.old.world.state.entries self.old.world.touches (Step.DeleteCq q) result (table_of self.new) self.new.world.touches }
         ensures kept { IsBench self.new.world.state self.new.values }
     {
         match self.world.delete_cq(q) {
@@ -290,6 +307,7 @@ impl<A: Allocator + Copy> Kept<A> {
     fn create_cq(&mut self, q: u16) -> ReplyIn<A>
         requires { IsBench self.old.world.state self.old.values }
         ensures does { Does (table_of self.old) (Step.CreateCq q) result (table_of self.new) }
+        ensures touches { StepTouches self.old.world.state.entries self.old.world.touches (Step.CreateCq q) result (table_of self.new) self.new.world.touches }
         ensures kept { IsBench self.new.world.state self.new.values }
     {
         match self.world.create_cq(q) {
@@ -302,6 +320,7 @@ impl<A: Allocator + Copy> Kept<A> {
     fn create_sq(&mut self, q: u16) -> ReplyIn<A>
         requires { IsBench self.old.world.state self.old.values }
         ensures does { Does (table_of self.old) (Step.CreateSq q) result (table_of self.new) }
+        ensures touches { StepTouches self.old.world.state.entries self.old.world.touches (Step.CreateSq q) result (table_of self.new) self.new.world.touches }
         ensures kept { IsBench self.new.world.state self.new.values }
     {
         match self.world.create_sq(q) {
@@ -314,6 +333,7 @@ impl<A: Allocator + Copy> Kept<A> {
     fn retire(&mut self, q: u16) -> ReplyIn<A>
         requires { IsBench self.old.world.state self.old.values }
         ensures does { Does (table_of self.old) (Step.Retire q) result (table_of self.new) }
+        ensures touches { StepTouches self.old.world.state.entries self.old.world.touches (Step.Retire q) result (table_of self.new) self.new.world.touches }
         ensures kept { IsBench self.new.world.state self.new.values }
     {
         match self.world.retire(q) {
@@ -326,6 +346,7 @@ impl<A: Allocator + Copy> Kept<A> {
     fn forge(&mut self, q: u16, slot: u16, bytes: [u8; 16]) -> ReplyIn<A>
         requires { IsBench self.old.world.state self.old.values }
         ensures does { Does (table_of self.old) (Step.Forge q slot bytes) result (table_of self.new) }
+        ensures touches { StepTouches self.old.world.state.entries self.old.world.touches (Step.Forge q slot bytes) result (table_of self.new) self.new.world.touches }
         ensures kept { IsBench self.new.world.state self.new.values }
     {
         match self.world.forge(q, slot, bytes) {
@@ -338,6 +359,7 @@ impl<A: Allocator + Copy> Kept<A> {
     fn reset(&mut self) -> ReplyIn<A>
         requires { IsBench self.old.world.state self.old.values }
         ensures does { Does (table_of self.old) Step.Reset result (table_of self.new) }
+        ensures touches { StepTouches self.old.world.state.entries self.old.world.touches Step.Reset result (table_of self.new) self.new.world.touches }
         ensures kept { IsBench self.new.world.state self.new.values }
     {
         self.world.reset();
@@ -348,6 +370,7 @@ impl<A: Allocator + Copy> Kept<A> {
     pub(crate) fn step(&mut self, step: StepIn<A>) -> ReplyIn<A>
         requires { IsBench self.old.world.state self.old.values }
         ensures does { Does (table_of self.old) step result (table_of self.new) }
+        ensures touches { StepTouches self.old.world.state.entries self.old.world.touches step result (table_of self.new) self.new.world.touches }
         ensures kept { IsBench self.new.world.state self.new.values }
     {
         match step {

@@ -25,7 +25,7 @@ impl<A: Allocator + Copy> World<A> {
     /// free. 6. `Memory` where memory is refused.
     pub fn reserve(&mut self, q: u16, request: Request<A>) -> Result<Draft<A>, Refused<Request<A>>>
         ensures step { Step self.old.state (events.Reserve q request) (reserve_reply result) self.new.state }
-        ensures touches { Touches self.old.touches (events.Reserve q request) (reserve_reply result) self.new.touches }
+        ensures touches { Touches self.old.state.entries self.old.touches (events.Reserve q request) (reserve_reply result) self.new.touches }
         ensures identifier { IfOk result (λ draft. IsLowest self.old.state.host q draft.cid) }
         ensures pages { IfOk result (λ draft. HasPlacedPages self.old.state.host draft) }
         ensures back { IfErr result (λ r. r.value ≡ request) }
@@ -44,7 +44,7 @@ impl<A: Allocator + Copy> World<A> {
     /// 4. `QueueFull` where the submission ring of its queue is full.
     pub fn submit(&mut self, draft: Draft<A>) -> Result<Ticket, Refused<Draft<A>>>
         ensures step { Step self.old.state (events.Submit draft) (accept_reply result) self.new.state }
-        ensures touches { Touches self.old.touches (events.Submit draft) (accept_reply result) self.new.touches }
+        ensures touches { Touches self.old.state.entries self.old.touches (events.Submit draft) (accept_reply result) self.new.touches }
         ensures back { IfErr result (λ r. r.value ≡ draft) }
         ensures ticket { IfOk result (λ ticket. ticket ≡ record { q = draft.q; cid = draft.cid }) }
     {
@@ -59,7 +59,7 @@ impl<A: Allocator + Copy> World<A> {
     /// draft is handed back, and nothing changed.
     pub fn cancel(&mut self, draft: Draft<A>) -> Result<(), Refused<Draft<A>>>
         ensures step { Step self.old.state (events.Cancel draft) (accept_reply result) self.new.state }
-        ensures touches { Touches self.old.touches (events.Cancel draft) (accept_reply result) self.new.touches }
+        ensures touches { Touches self.old.state.entries self.old.touches (events.Cancel draft) (accept_reply result) self.new.touches }
         ensures back { IfErr result (λ r. r.value ≡ draft) }
     {
         self.host.cancel(&mut self.store, draft)
@@ -73,7 +73,7 @@ impl<A: Allocator + Copy> World<A> {
     /// identifier. 2. `NotYet` where it has not ended. 3. `Memory` where memory is refused.
     pub fn collect(&mut self, ticket: Ticket) -> Result<Finished<A>, Refused<Ticket>>
         ensures step { Step self.old.state (events.Collect ticket.q ticket.cid) (collect_reply result) self.new.state }
-        ensures touches { Touches self.old.touches (events.Collect ticket.q ticket.cid) (collect_reply result) self.new.touches }
+        ensures touches { Touches self.old.state.entries self.old.touches (events.Collect ticket.q ticket.cid) (collect_reply result) self.new.touches }
         ensures back { IfErr result (λ r. r.value ≡ ticket) }
     {
         self.host.collect(&mut self.store, ticket)
@@ -87,7 +87,7 @@ impl<A: Allocator + Copy> World<A> {
     /// finished command is handed back, and nothing changed.
     pub fn release(&mut self, finished: Finished<A>) -> Result<(), Refused<Finished<A>>>
         ensures step { Step self.old.state (events.Release finished) (accept_reply result) self.new.state }
-        ensures touches { Touches self.old.touches (events.Release finished) (accept_reply result) self.new.touches }
+        ensures touches { Touches self.old.state.entries self.old.touches (events.Release finished) (accept_reply result) self.new.touches }
         ensures back { IfErr result (λ r. r.value ≡ finished) }
     {
         self.host.release(&mut self.store, finished)

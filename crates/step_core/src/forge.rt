@@ -22,7 +22,7 @@ impl<A: Allocator + Copy> World<A> {
     /// 2. `NoSlot` where the ring has no such slot.
     pub fn forge(&mut self, q: u16, slot: u16, bytes: [u8; 16]) -> Result<(), Refusal>
         ensures step { Step self.old.state (events.Forge q slot bytes) (ring_reply result) self.new.state }
-        ensures touches { Touches self.old.touches (events.Forge q slot bytes) (ring_reply result) self.new.touches }
+        ensures touches { Touches self.old.state.entries self.old.touches (events.Forge q slot bytes) (ring_reply result) self.new.touches }
     {
         let Some(base) = self.host.completion_base(q) else {
             return Err(Refusal::NoQueue);

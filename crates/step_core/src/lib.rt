@@ -31,6 +31,7 @@ mod open;
 mod queues;
 mod refused;
 mod reset;
+mod rings;
 mod serve;
 mod step;
 mod view;
@@ -49,7 +50,9 @@ pub use io_commands::{
 pub use machine_model::words::{HostState, OpenRefusal, Phase, Reaped, Refusal, RejectedFor};
 pub use open::OpenRefused;
 pub use page_ledger::{Counts, Owner, Role};
-pub use page_memory::{Half, Page, PageNo};
+pub use page_memory::{Half, Page, PageNo, Unreadable};
+pub use queue_pair::HostPositions;
 pub use refused::{Completed, Fetched, StepRefused, Touched, Walked};
+pub use rings::{FetchPositions, PostPositions, Rings};
 pub use step::{Bytes, Reply, ReplyIn, Step, StepIn};
 pub use world::World;

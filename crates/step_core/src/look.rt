@@ -1,18 +1,21 @@
 //! What would be answered: looks that change nothing but the count of touches, for those who wait until the answer is another.
 
-ghost use Rattle.std.specs.Prelude.{◌≡◌, ◌+◌, ◌*◌, ◌<◌, ℕ, true, false, None, IfOk, IfSome, IfNone, IsTrue, length, option_and_then};
+ghost use Rattle.std.specs.Prelude.{◌≡◌, ◌+◌, ◌*◌, ◌<◌, ◌≤◌, ℕ, true, false, Some, None, OnOk, OnErr, IfOk, IfSome, IfNone, IsTrue, length, option_and_then};
 ghost use Rattle.std.specs.Result.{result_err};
 ghost use Rattle.io_commands.specs.Least.{least_pages as spec_least_pages};
 ghost use Rattle.io_commands.specs.Requests.{fault_of};
 ghost use Rattle.machine_model.specs.Events as events;
 ghost use Rattle.machine_model.specs.Refusals.{refusal_of};
 ghost use Rattle.machine_model.specs.State.{record_at};
+ghost use Rattle.page_memory.specs.Memory.{bytes_at};
+ghost use Rattle.page_memory.specs.Pages.{byte_at};
 
 use crate::world::World;
 use controller_core::ControllerStep;
 use entry_codec::Status;
 use io_commands::{Request, RequestFault};
 use machine_model::words::Refusal;
+use page_memory::{Dma, TouchRecord, Unreadable};
 use std::alloc::Allocator;
 
 impl<A: Allocator + Copy> World<A> {
@@ -69,7 +72,7 @@ impl<A: Allocator + Copy> World<A> {
         self.host.completion_waits(&mut self.store, q)
     }
 
-    /// The first queue from which [`World::reap`] would take a completion. It makes no step, and touches one page of a queue at most.
+    /// The first queue from which [`World::reap`] would take a completion. It makes no step, and touches one page of each queue at most.
     pub fn next_completion(&mut self) -> Option<u16>
         ensures some { IfSome result (λ q. spec_has_completion self.old.state q ≡ true) }
         ensures first { IfSome result (λ q. (p : ℕ) → p < q → spec_has_completion self.old.state p ≡ false) }
@@ -84,6 +87,27 @@ impl<A: Allocator + Copy> World<A> {
             }
         }
         None
+    }
+
+    /// Fills the buffer, of 1 to 4,096 bytes, with the bytes of the pool from an address on, as somebody who looks into a driver reads them. It makes no step; the one
+    /// or two pages in which the bytes lie are touched.
+    ///
+    /// # Errors
+    ///
+    /// `Unreadable` exactly where a byte is missing: outside of the pool, or on a page that a drafted or collected command has. The buffer is as it was.
+    pub fn read(&mut self, addr: u64, into: &mut [u8]) -> Result<(), Unreadable>
+        requires some { 0 < length into.old }
+        requires few { length into.old ≤ 4096 }
+        ensures read { OnOk result (bytes_at (byte_at self.old.state.memory) addr (length into.old) ≡ Some into.new) }
+        ensures missing { OnErr result (bytes_at (byte_at self.old.state.memory) addr (length into.old) ≡ None) }
+        ensures kept { OnErr result (into.new ≡ into.old) }
+        ensures same { self.new.state ≡ self.old.state }
+        ensures looks { LooksAtMost 2 self.old.touches self.new.touches }
+    {
+        self.store.clear();
+        let answer = self.store.read(addr, into);
+        prove!(self.store.pages() <= 65_536);
+        answer
     }
 
     /// A step that the controller can do, if there is one. It makes no step. Where the world is trusted, the answer is exact: what is answered

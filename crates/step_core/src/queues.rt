@@ -19,7 +19,7 @@ impl<A: Allocator + Copy> World<A> {
     /// `NoQueue` where there is no such queue, or its submission half was given back and is not made again.
     pub fn ring(&mut self, q: u16) -> Result<(), Refusal>
         ensures step { Step self.old.state (events.Ring q) (ring_reply result) self.new.state }
-        ensures touches { Touches self.old.touches (events.Ring q) (ring_reply result) self.new.touches }
+        ensures touches { Touches self.old.state.entries self.old.touches (events.Ring q) (ring_reply result) self.new.touches }
     {
         let tail = self.host.ring(q)?;
         self.controller.tail_doorbell(q, tail);
@@ -41,7 +41,7 @@ impl<A: Allocator + Copy> World<A> {
     /// `NoQueue` where there is no such queue, or its completion half was given back and the queue is not made again. Then nothing changed.
     pub fn reap(&mut self, q: u16) -> Result<Reaped, Refusal>
         ensures step { Step self.old.state (events.Reap q) (reap_reply result) self.new.state }
-        ensures touches { Touches self.old.touches (events.Reap q) (reap_reply result) self.new.touches }
+        ensures touches { Touches self.old.state.entries self.old.touches (events.Reap q) (reap_reply result) self.new.touches }
     {
         let reap = self.host.reap(&mut self.store, q)?;
         match reap.head {
@@ -61,7 +61,7 @@ impl<A: Allocator + Copy> World<A> {
     /// 4. `NoIdentifier` where each identifier of queue 0 is outstanding. 5. `QueueFull` where the submission ring of queue 0 is full.
     pub fn abort(&mut self, q: u16, cid: u16) -> Result<u16, Refusal>
         ensures step { Step self.old.state (events.Abort q cid) (send_reply result) self.new.state }
-        ensures touches { Touches self.old.touches (events.Abort q cid) (send_reply result) self.new.touches }
+        ensures touches { Touches self.old.state.entries self.old.touches (events.Abort q cid) (send_reply result) self.new.touches }
     {
         self.host.abort(&mut self.store, q, cid)
     }
@@ -76,7 +76,7 @@ impl<A: Allocator + Copy> World<A> {
     /// submission ring of queue 0 is full.
     pub fn delete_sq(&mut self, q: u16) -> Result<u16, Refusal>
         ensures step { Step self.old.state (events.DeleteSq q) (send_reply result) self.new.state }
-        ensures touches { Touches self.old.touches (events.DeleteSq q) (send_reply result) self.new.touches }
+        ensures touches { Touches self.old.state.entries self.old.touches (events.DeleteSq q) (send_reply result) self.new.touches }
     {
         self.host.delete_sq(&mut self.store, q)
     }
@@ -92,7 +92,7 @@ impl<A: Allocator + Copy> World<A> {
     /// 3. `NoIdentifier` where each identifier of queue 0 is outstanding. 4. `QueueFull` where the submission ring of queue 0 is full.
     pub fn delete_cq(&mut self, q: u16) -> Result<u16, Refusal>
         ensures step { Step self.old.state (events.DeleteCq q) (send_reply result) self.new.state }
-        ensures touches { Touches self.old.touches (events.DeleteCq q) (send_reply result) self.new.touches }
+        ensures touches { Touches self.old.state.entries self.old.touches (events.DeleteCq q) (send_reply result) self.new.touches }
     {
         self.host.delete_cq(&mut self.store, q)
     }
@@ -108,7 +108,7 @@ impl<A: Allocator + Copy> World<A> {
     /// many consecutive pages is free. 6. `QueueFull` where the submission ring of queue 0 is full.
     pub fn create_cq(&mut self, q: u16) -> Result<u16, Refusal>
         ensures step { Step self.old.state (events.CreateCq q) (send_reply result) self.new.state }
-        ensures touches { Touches self.old.touches (events.CreateCq q) (send_reply result) self.new.touches }
+        ensures touches { Touches self.old.state.entries self.old.touches (events.CreateCq q) (send_reply result) self.new.touches }
     {
         self.host.create_cq(&mut self.store, q)
     }
@@ -124,7 +124,7 @@ impl<A: Allocator + Copy> World<A> {
     /// many consecutive pages is free. 5. `QueueFull` where the submission ring of queue 0 is full.
     pub fn create_sq(&mut self, q: u16) -> Result<u16, Refusal>
         ensures step { Step self.old.state (events.CreateSq q) (send_reply result) self.new.state }
-        ensures touches { Touches self.old.touches (events.CreateSq q) (send_reply result) self.new.touches }
+        ensures touches { Touches self.old.state.entries self.old.touches (events.CreateSq q) (send_reply result) self.new.touches }
     {
         self.host.create_sq(&mut self.store, q)
     }
@@ -140,7 +140,7 @@ impl<A: Allocator + Copy> World<A> {
     /// reset since. 2. `NotDrained` where a new completion stands at the head of its completion ring.
     pub fn retire(&mut self, q: u16) -> Result<(), Refusal>
         ensures step { Step self.old.state (events.Retire q) (ring_reply result) self.new.state }
-        ensures touches { Touches self.old.touches (events.Retire q) (ring_reply result) self.new.touches }
+        ensures touches { Touches self.old.state.entries self.old.touches (events.Retire q) (ring_reply result) self.new.touches }
     {
         self.host.retire(&mut self.store, q)
     }

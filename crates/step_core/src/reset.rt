@@ -19,7 +19,7 @@ impl<A: Allocator + Copy> World<A> {
     /// Whatever was forged before, both sides agree then: the world is trusted until an entry is forged again.
     pub fn reset(&mut self)
         ensures step { Step self.old.state events.Reset events.Accepted self.new.state }
-        ensures touches { Touches self.old.touches events.Reset events.Accepted self.new.touches }
+        ensures touches { Touches self.old.state.entries self.old.touches events.Reset events.Accepted self.new.touches }
         ensures recovers { SidesAgree self.new.state }
     {
         self.host.reset(&mut self.store);

@@ -1,5 +1,5 @@
-//! What a world shows: its pages, whose each is and how many each class has, whether it is idle, whether something was forged, and that it is
-//! sound.
+//! What a world shows: its image, whose each page is and how many each class has, whether it is idle, whether something was forged, and that
+//! it is sound.
 
 ghost use Rattle.std.specs.Prelude.{◌≡◌, ◌==◌, ◌<◌, ◌≤◌, length};
 ghost use Rattle.std.specs.List.{Contains};
@@ -7,6 +7,7 @@ ghost use Rattle.machine_model.specs.Claims.{claims_of, counts_of, IsSound};
 ghost use Rattle.page_ledger.specs.Counting.{total};
 
 use crate::world::World;
+use block_image::Image;
 use page_ledger::{Counts, Owner};
 use page_memory::{PageNo, TouchRecord};
 use std::alloc::Allocator;
@@ -35,6 +36,13 @@ impl<A: Allocator> World<A> {
         ensures most { length self.now.state.memory ≤ 65536 }
     {
         self.host.pages()
+    }
+
+    /// The image as it is.
+    pub fn image(&self) -> &Image<A>
+        ensures { result.now ≡ self.now.state.device.image }
+    {
+        self.controller.image()
     }
 
     /// Whether no command is outstanding, of an I/O queue or of queue 0.

@@ -27,6 +27,12 @@ pub record Takes (room : Room) (wanted_pieces wanted_pages : ℕ) : Type 0 where
   pub pieces : wanted_pieces ≤ room.pieces
   pub pages : wanted_pages ≤ room.pages
 
+-- there is as much room, or more
+pub record IsNoLess (before after : Room) : Type 0 where
+  pub entries : before.entries ≤ after.entries
+  pub pieces : before.pieces ≤ after.pieces
+  pub pages : before.pages ≤ after.pages
+
 -- one of the three has too little room for that
 abbrev pub Lacks : Room → ℕ → ℕ → Type 0
 Lacks room pieces pages = (room.entries ≡ 0) ⊎ (room.pieces < pieces) ⊎ (room.pages < pages)

@@ -4,7 +4,7 @@ ghost use Rattle.std.specs.Prelude.{◌≡◌, ◌+◌, ◌<◌, ◌^◌, ◌++�
 ghost use Rattle.machine_model.specs.Events as events;
 ghost use Rattle.step_log.specs.History.{entry, entry_of};
 ghost use Rattle.step_log.specs.Keeping.{HasNoRequest, bare_step};
-ghost use Rattle.step_log.specs.Values.{Takes, Lacks, left, answered};
+ghost use Rattle.step_log.specs.Values.{IsNoLess, Takes, Lacks, left, answered};
 
 use crate::entry::{Entry, KeptEntry, KeptStep, NoBytes};
 use crate::keep::{keep_draft, keep_request, same_request};
@@ -54,10 +54,11 @@ impl<A: Allocator> Log<A> {
     ///
     /// # Errors
     ///
-    /// Where memory is refused. The entries stay; one of the three had too little room.
+    /// Where memory is refused. The entries stay; one of the three had too little room. What room there was is there still.
     pub fn make_room(&mut self, pieces: usize, pages: usize) -> Result<(), AllocError>
         ensures room { OnOk result (Takes self.new.room pieces pages) }
         ensures full { OnErr result (Lacks self.old.room pieces pages) }
+        ensures no_less { IsNoLess self.old.room self.new.room }
         ensures same { self.new.entries ≡ self.old.entries }
     {
         self.kept.reserve(1)?;

@@ -1,7 +1,7 @@
 //! What people are told of a fault: its line, and what stands below.
 
 use crate::expecting::same_at;
-use program::{Fault, Told, perform};
+use program::{BytesFault, Fault, Told, perform};
 use std::alloc::AllocGlobal;
 use std::rt::Files;
 use std::sync::Wait;
@@ -27,7 +27,11 @@ pub(crate) fn told_of<R: AllocGlobal + Eprint + Files + Print + Sync + Threads +
         Fault::Run(fault) => format!(in rt.alloc(); "{fault}\n{below}{status}\n")?,
         Fault::Arguments(why) => format!(in rt.alloc(); "{why}{status}\n")?,
         Fault::PipeClosed => String::from_str(rt.alloc(), "closed\n")?,
-        Fault::Transcripts(_) => format!(in rt.alloc(); "{below}{status}\n")?,
+        Fault::NotSaved => format!(in rt.alloc(); "image: not saved\n{below}{status}\n")?,
+        Fault::Bytes(BytesFault::Case(fault)) => {
+            format!(in rt.alloc(); "{fault}\n{below}{status}\n")?
+        }
+        Fault::Transcripts(_) | Fault::Bytes(_) => format!(in rt.alloc(); "{below}{status}\n")?,
     })
 }
 

@@ -9,7 +9,11 @@ mod command_words;
 #[cfg(test)]
 mod cuts;
 #[cfg(test)]
+mod drawn;
+#[cfg(test)]
 mod expecting;
+#[cfg(test)]
+mod explained;
 #[cfg(test)]
 mod fault_texts;
 #[cfg(test)]
@@ -31,15 +35,23 @@ mod performed;
 #[cfg(test)]
 mod same_faults;
 #[cfg(test)]
+mod saving;
+#[cfg(test)]
 mod script_playing;
 #[cfg(test)]
 mod script_runs;
+#[cfg(test)]
+mod shell_looks;
 #[cfg(test)]
 mod shell_sessions;
 #[cfg(test)]
 mod shell_texts;
 #[cfg(test)]
+mod shell_traces;
+#[cfg(test)]
 mod texts;
+#[cfg(test)]
+mod traced;
 #[cfg(test)]
 mod transcript_files;
 #[cfg(test)]

@@ -11,7 +11,7 @@ use std::test::Fail;
 use std::thread::Threads;
 
 /// What words write with these lines on standard input, and the exit status.
-fn performed<R: AllocGlobal + Eprint + Files + Print + Sync + Threads + Wait>(
+pub(crate) fn performed<R: AllocGlobal + Eprint + Files + Print + Sync + Threads + Wait>(
     rt: &R,
     words: &[&str],
     typed: &[u8],

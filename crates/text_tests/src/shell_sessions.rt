@@ -3,7 +3,9 @@
 use crate::expecting::{same, same_at};
 use crate::script_playing::{USUAL, zeros};
 use crate::script_runs::{Narrow, Slow};
-use crate::shell_texts::{BLOCKS, FAULTS, PIECES, STEPS, TEACHING, WORDS, WORLDS};
+use crate::shell_looks::{LOOKS_AT_FAULT, PAGES, RESETS, RINGS};
+use crate::shell_texts::{BLOCKS, FAULTS, FIRST_MINUTE, PIECES, STEPS, TEACHING, WORDS, WORLDS};
+use crate::shell_traces::TRACES;
 use script_cli::RunFault;
 use shell::run_shell;
 use std::alloc::Global;
@@ -38,7 +40,7 @@ fn sides_of(alloc: Global, text: &str) -> Result<Session, Fail> {
 
 /// How a session ends, and what it writes.
 fn ended(
-    alloc: Global,
+    rt: &HostRuntime,
     typed: &[u8],
     fails: bool,
     room: usize,
@@ -51,12 +53,13 @@ fn ended(
     };
     let mut writer = Narrow {
         room,
-        taken: Vec::new(alloc),
+        taken: Vec::new(rt.alloc()),
     };
     let end = run_shell(
-        alloc,
+        rt,
         USUAL,
-        zeros(alloc)?,
+        zeros(rt.alloc())?,
+        false,
         &mut reader,
         &mut writer,
         prompt,
@@ -65,8 +68,8 @@ fn ended(
 }
 
 /// What a session answers.
-fn answered(alloc: Global, typed: &[u8]) -> Result<String, Fail> {
-    let (end, written) = ended(alloc, typed, false, 1_000_000, false)?;
+pub(crate) fn answered(rt: &HostRuntime, typed: &[u8]) -> Result<String, Fail> {
+    let (end, written) = ended(rt, typed, false, 1_000_000, false)?;
     if end.is_err() {
         return Err(Fail::from("a session ended early"));
     }
@@ -78,9 +81,23 @@ fn answered(alloc: Global, typed: &[u8]) -> Result<String, Fail> {
 
 #[test]
 fn sessions_answer(rt: HostRuntime) -> Result<(), Fail> {
-    for text in [STEPS, TEACHING, WORDS, BLOCKS, PIECES, WORLDS, FAULTS] {
+    for text in [
+        FIRST_MINUTE,
+        STEPS,
+        TEACHING,
+        WORDS,
+        BLOCKS,
+        PIECES,
+        RINGS,
+        RESETS,
+        PAGES,
+        TRACES,
+        WORLDS,
+        FAULTS,
+        LOOKS_AT_FAULT,
+    ] {
         let session = sides_of(rt.alloc(), text)?;
-        let answers = answered(rt.alloc(), session.typed.as_bytes())?;
+        let answers = answered(&rt, session.typed.as_bytes())?;
         same(&rt, answers.as_str(), session.answered.as_str());
     }
     Ok(())
@@ -97,9 +114,9 @@ fn a_session_is_cut_after_each_byte(rt: HostRuntime) -> Result<(), Fail> {
             Some(last) => &front[..last],
             None => &front[..0],
         };
-        let before = answered(rt.alloc(), whole)?;
+        let before = answered(&rt, whole)?;
         assert!(rt; session.answered.starts_with(before.as_str()), "cut {cut}");
-        let all = answered(rt.alloc(), front)?;
+        let all = answered(&rt, front)?;
         assert!(rt; all.starts_with(before.as_str()), "cut {cut}");
     }
     Ok(())
@@ -110,7 +127,7 @@ fn a_session_s_reader_fails_after_each_byte(rt: HostRuntime) -> Result<(), Fail>
     let session = sides_of(rt.alloc(), STEPS)?;
     let typed = session.typed.as_bytes();
     for cut in 0..=typed.len() {
-        let (end, written) = ended(rt.alloc(), &typed[..cut], true, 1_000_000, false)?;
+        let (end, written) = ended(&rt, &typed[..cut], true, 1_000_000, false)?;
         same_at(&rt, cut, end, Err(RunFault::Unreadable));
         assert!(rt;
             session.answered.as_bytes().starts_with(&written),
@@ -126,7 +143,7 @@ fn a_session_s_writer_fails_after_each_byte(rt: HostRuntime) -> Result<(), Fail>
     let answered = session.answered.as_bytes();
     for room in 0..answered.len() {
         let typed = session.typed.as_bytes();
-        let (end, written) = ended(rt.alloc(), typed, false, room, false)?;
+        let (end, written) = ended(&rt, typed, false, room, false)?;
         same_at(&rt, room, end, Err(RunFault::OutputFailed));
         same_at(&rt, room, written.as_slice(), &answered[..room]);
     }
@@ -158,11 +175,11 @@ fn long_lines_are_at_fault_alone(rt: HostRuntime) -> Result<(), Fail> {
         same_at(
             &rt,
             length,
-            answered(rt.alloc(), typed.as_bytes())?.as_str(),
+            answered(&rt, typed.as_bytes())?.as_str(),
             wanted,
         );
     }
-    let answers = answered(rt.alloc(), b"# \xC3\xA9\nring 1\n")?;
+    let answers = answered(&rt, b"# \xC3\xA9\nring 1\n")?;
     assert!(rt; answers.starts_with("line 1: NotAscii\n"));
     assert!(rt; answers.ends_with("2 ring ok\n"));
     Ok(())
@@ -170,14 +187,14 @@ fn long_lines_are_at_fault_alone(rt: HostRuntime) -> Result<(), Fail> {
 
 #[test]
 fn a_prompt_stands_before_each_line(rt: HostRuntime) -> Result<(), Fail> {
-    let (end, written) = ended(rt.alloc(), b"ring 1\n.quit\nring 1\n", false, 1_000, true)?;
+    let (end, written) = ended(&rt, b"ring 1\n.quit\nring 1\n", false, 1_000, true)?;
     same(&rt, end, Ok(()));
     same(
         &rt,
         written.as_slice(),
         b"nvmesgl> 1 ring ok\nnvmesgl> ".as_slice(),
     );
-    let (end, written) = ended(rt.alloc(), b"", false, 1_000, true)?;
+    let (end, written) = ended(&rt, b"", false, 1_000, true)?;
     same(&rt, end, Ok(()));
     same(&rt, written.as_slice(), b"nvmesgl> \n".as_slice());
     Ok(())

@@ -1,5 +1,11 @@
 //! Sessions of the shell as texts: each line that is typed, and behind `> ` each line that is answered.
 
+/// What `README.md` says to type first.
+pub(crate) const FIRST_MINUTE: &str = ".read 1 0 1
+> 00*512
+.quit
+";
+
 /// One block is read step by step; the controller works by one word.
 pub(crate) const STEPS: &str = "# One block is read.
 reserve 1 read 0 1 0+512
@@ -71,10 +77,13 @@ pub(crate) const BLOCKS: &str = ".write 1 5 1 ABCD
 > reserve 2 -> refused NoQueue
 .read 1 0 0
 > reserve 1 -> refused Bad BadCount
+> a command moves 1 to 2,048 blocks
 .read 1 0 4294967295
 > reserve 1 -> refused Bad BadCount
+> a command moves 1 to 2,048 blocks
 .write 1 0 1 00*513
 > fill 1 0 -> refused WrongLength
+> the bytes are not as many as the data pieces take
 reserve 1 read 5 1 0+512
 > 8 reserve q 1 cid 0 data 1 chain 0
 build 1 0

@@ -6,7 +6,7 @@ use std::test::Fail;
 use transcripts::{Options, Outcome, test_transcript};
 
 /// One that agrees.
-const GOOD: &str = "# A bell.
+pub(crate) const GOOD: &str = "# A bell.
 ring 1
 > ring ok
 ring 0
@@ -15,7 +15,7 @@ ring 0
 ";
 
 /// The same with other answers, and one too many; a comment stands between.
-const OTHER: &str = "# A bell.
+pub(crate) const OTHER: &str = "# A bell.
 ring 1
 # It is heard.
 > ring refused
@@ -24,7 +24,7 @@ ring 0
 ";
 
 /// That one with the answers that came.
-const MENDED: &str = "# A bell.
+pub(crate) const MENDED: &str = "# A bell.
 ring 1
 # It is heard.
 > ring ok
@@ -58,7 +58,7 @@ fn transcripts_are_tested(rt: HostRuntime) -> Result<(), Fail> {
         ("# options: --blocks=0\n", "image: BadLength"),
         (
             "# none",
-            "line 0: wanted nothing, came counts free 12 queue 4 chain 0 data 0\n# none\n> counts free 12 queue 4 chain 0 data 0\n",
+            "line 1: wanted nothing, came counts free 12 queue 4 chain 0 data 0\n# none\n> counts free 12 queue 4 chain 0 data 0\n",
         ),
         (
             "> stray\nring 1",

@@ -1,14 +1,15 @@
 //! Files of transcripts.
 
 use crate::options::Options;
+use crate::saving::replace_file;
 use crate::testing::{MAX_TRANSCRIPT, Outcome, test_transcript};
 use script_cli::{ReadFault, RunFault, flush, put, read_first};
 use std::alloc::{AllocError, AllocGlobal};
 use std::convert::AsStr;
 use std::fs::File;
+use std::io;
 use std::io::Write;
 use std::rt::Files;
-use std::{fs, io};
 
 /// How many files came out in each way.
 #[derive(Clone, Copy, Debug, Default, PartialEq, Eq)]
@@ -81,21 +82,6 @@ fn bytes_of<R: AllocGlobal + Files>(rt: &R, path: &str) -> Result<Vec<u8>, Unrea
     }
 }
 
-/// Writes a text into a new file, and puts that in the place of the old one. Where this fails, the old file is as it was.
-fn replace_file<R: AllocGlobal + Files>(rt: &R, path: &str, text: &str) -> io::Result<()> {
-    let new = format!(in rt.alloc(); "{path}.new")?;
-    let mut file = File::create_new(rt, new.as_str())?;
-    let written = match file.write_all(text.as_bytes()) {
-        Ok(()) => fs::rename(rt, new.as_str(), path),
-        Err(why) => Err(why),
-    };
-    if written.is_err() {
-        // What went wrong first is what is told.
-        let _ = fs::remove_file(rt, new.as_str());
-    }
-    written
-}
-
 /// Puts what came into a file that differs, and says so.
 fn update<R: AllocGlobal + Files>(
     rt: &R,
@@ -103,7 +89,7 @@ fn update<R: AllocGlobal + Files>(
     updated: &str,
     line: &mut String,
 ) -> Result<FileEnd, AllocError> {
-    match replace_file(rt, path, updated) {
+    match replace_file(rt, path, updated.as_bytes()) {
         Ok(()) => {
             write!(line, "updated {path}\n")?;
             Ok(FileEnd::Agrees)

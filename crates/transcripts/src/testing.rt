@@ -54,6 +54,18 @@ fn text_of(bytes: &[u8]) -> Result<&str, TranscriptFault> {
     }
 }
 
+/// A difference, told at the last line of the text where it stands before any step, as of a text that has none.
+fn placed(difference: Difference, text: &str) -> Difference {
+    if difference.number > 0 {
+        return difference;
+    }
+    let lines = u32::try_from(text.lines().count()).unwrap_or(u32::MAX);
+    Difference {
+        number: lines.max(1),
+        ..difference
+    }
+}
+
 /// Compares what each line printed with what stands there.
 fn compared(
     alloc: Global,
@@ -66,7 +78,7 @@ fn compared(
         if let Some(difference) = first_difference(alloc, told, came)? {
             let updated = updated_text(alloc, text, transcript.told(), printed)?;
             return Ok(Outcome::Differs {
-                difference,
+                difference: placed(difference, text),
                 updated,
             });
         }

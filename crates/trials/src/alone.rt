@@ -50,12 +50,10 @@ impl Outside {
     }
 }
 
-/// Reserves, after looking twice whether it may, as who finds pages and identifiers at once.
+/// Reserves, after a look whether it may, as who finds pages and identifiers at once.
 fn reserved<L: Driver>(book: &mut Book<L>, request: Request) -> Result<Draft, Fault> {
-    for _ in 0..2u8 {
-        if book.stopping() || book.reserve_refusal(1, &request).is_some() {
-            return Err(Fault::Refused);
-        }
+    if book.stopping() || book.reserve_refusal(1, &request).is_some() {
+        return Err(Fault::Refused);
     }
     match book.reserve(1, request) {
         Ok(draft) => Ok(draft),

@@ -110,7 +110,7 @@ head_in m w (First sgl1) = tt
 head_in m w (Next c) = head_from w.allowed m w.direction w.need c w.wanted
 head_in m w (Data block after) =
     head_moving m (pages_spanned block.place block.len) block.place block.len block.offset _ (some_spanned block.place block.len) (head_behind w.allowed m w.direction w.need after w.wanted)
-head_in m w Over = tt
+head_in m w (Over fault) = tt
 
 pub head_in_page : (m : Memory) (o : Option Walk) → HeadInPage (course_of_walk m o)
 head_in_page m None = tt

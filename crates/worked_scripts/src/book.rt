@@ -5,11 +5,10 @@ ghost use Rattle.step_core.specs.Opening.{opening_of};
 
 use crate::bench::{as_told, wrong_if};
 use crate::fault::{Fault, Wrong};
-use crate::full::Full;
 use crate::refused::OneRefused;
 use crate::standing::{DeskStanding, Heap, Holdings, Stands};
 use crate::way::Way;
-use driver_book::{Book, CloseFault, Driver, FullDriver};
+use driver_book::{Book, CloseFault, Driver, Full, FullDriver};
 use driver_desk::{Access, Desk};
 use std::alloc::{AllocError, Allocator, Global};
 use std::marker::Brand;

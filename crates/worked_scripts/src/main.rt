@@ -10,7 +10,6 @@
 mod bench;
 mod book;
 mod fault;
-mod full;
 mod lock;
 mod refused;
 mod report;

@@ -15,5 +15,11 @@ returns c =
     ∙ ap₂ with_subcommand three (ap (λ (a : App). a.top) c.in_ok-test.ensures.shape) in
     let five = c.in_ok-subcommand-5.ensures.shape c.in_ok-shell.ensures.local
     ∙ ap₂ with_subcommand four (ap (λ (a : App). a.top) c.in_ok-shell.ensures.shape) in
-    IfOk-weaker c.subcommand-6.result _ _ (λ new adds. adds.shape c.grammar_command.ensures.local
-    ∙ ap₂ with_subcommand five (ap (λ (a : App). a.top) c.grammar_command.ensures.shape)) c.subcommand-6.ensures
+    let six = c.in_ok-subcommand-6.ensures.shape c.in_ok-draw.ensures.local
+    ∙ ap₂ with_subcommand five (ap (λ (a : App). a.top) c.in_ok-draw.ensures.shape) in
+    let seven = c.in_ok-subcommand-7.ensures.shape c.in_ok-explain.ensures.local
+    ∙ ap₂ with_subcommand six (ap (λ (a : App). a.top) c.in_ok-explain.ensures.shape) in
+    let eight = c.in_ok-subcommand-8.ensures.shape c.in_ok-show.ensures.local
+    ∙ ap₂ with_subcommand seven (ap (λ (a : App). a.top) c.in_ok-show.ensures.shape) in
+    IfOk-weaker c.subcommand-9.result _ _ (λ new adds. adds.shape c.grammar_command.ensures.local
+    ∙ ap₂ with_subcommand eight (ap (λ (a : App). a.top) c.grammar_command.ensures.shape)) c.subcommand-9.ensures

@@ -1,5 +1,7 @@
 -- The ends of a run are told as lists of ends, which are as long as the lists that hold them.
-use Rattle.std.proofs.Common.{length, subst}
+use Rattle.std.proofs.Common.{ap, length, map, subst}
+use Rattle.driver_book.specs.State.{SeatContents}
+use Rattle.driver_threads.specs.Ends.{ends_of, statuses_of}
 use Rattle.machine_model.specs.State.{State}
 use Rattle.step_log.specs.History.{LeadsTo}
 use Rattle.std.proofs.lemmas.Simd.{map-map}
@@ -8,7 +10,14 @@ use Rattle.driver_threads.proofs.run.close.Goals as goal
 pub returns-in-Ok-clause-all_jobs : goal.returns-in-Ok-clause-all_jobs
 returns-in-Ok-clause-all_jobs g c =
     let told = map-map length (λ list. list.items) c.in_ok-seats.lists.items in
-    cc (told, c.of.ensures, c.in_ok-seats.ensures, c.in_ok-seats.lists-is)
+    cc (told, c.of.ensures, c.in_ok-seats.ensures.long, c.in_ok-seats.lists-is)
+
+pub returns-in-Ok-clause-agree : goal.returns-in-Ok-clause-agree
+returns-in-Ok-clause-agree g c =
+    let receipts = ap (map statuses_of) c.in-Ok.ensures.report.receipts in
+    let seats = map-map statuses_of (λ (seat : SeatContents). seat.receipts) c.in_ok-seats.seats.items in
+    let lists = map-map ends_of (λ list. list.items) c.in_ok-seats.lists.items in
+    cc (receipts, seats, lists, c.of.ensures, c.in_ok-seats.ensures.agree, c.in_ok-seats.seats-is, c.in_ok-seats.lists-is)
 
 pub returns-in-Ok-clause-closed : goal.returns-in-Ok-clause-closed
 returns-in-Ok-clause-closed g c = record {

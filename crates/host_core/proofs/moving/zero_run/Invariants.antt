@@ -9,5 +9,5 @@ abbrev pub invariant-loop-p : goal.invariant-loop-p
 invariant-loop-p g l = record {
   rest : with_pages (zeroed_pages (pages_from l.p (l.fn.first + l.fn.count - l.p))) l.store.pages ≡ with_pages (zeroed_pages (pages_from l.fn.first l.fn.count)) l.fn.store.pages;
   can : CanZero (pages_from l.p (l.fn.first + l.fn.count - l.p)) l.store.pages;
-  touches : TouchesBy 0 l.fn.store l.store;
+  touches : TouchesBy (l.p - l.fn.first) l.fn.store l.store;
 }

@@ -1,13 +1,29 @@
-use Rattle.program.proofs.Telling.{ends_told, writes_told}
+use Rattle.std.proofs.Common.{refl, Some}
+use Rattle.command_line.specs.Asked.{given_of, steps}
+use Rattle.script_cli.proofs.Runs.{run_to_text}
+use Rattle.program.specs.Performing.{Performs}
+use Rattle.program.proofs.Telling.{ends_told, not_saved, ran_anyway, writes_told}
 use Rattle.script_cli.specs.Runs.{IsRunText}
 use Rattle.program.proofs.commands.play.Goals as goal
 
 pub returns-in-Ok-clause-ran : goal.returns-in-Ok-clause-ran
-returns-in-Ok-clause-ran g c = (
-  c.in_ok-image.image,
-  c.in_ok-image.ensures.image,
-  writes_told _ c.in_ok-text.text.items c.args.options.config c.in_ok-image.image _ _ IsRunText c.in_ok-text.ensures.text (rw c.as_slice-script.ensures.value at c.in-Ok.ensures.ran),
-)
+returns-in-Ok-clause-ran g c =
+    ran_anyway c.save_image-saved.result _ (
+      c.in_ok-image.image,
+      c.in_ok-image.ensures.image,
+      writes_told _ c.in_ok-text.text.items c.args.options.config c.in_ok-image.image _ _ IsRunText c.in_ok-text.ensures.text
+          (run_to_text (Some c.in_ok-text.text.items) c.args.options.config c.in_ok-image.image c.in-Ok.bench.table _ _ (rw c.as_slice-script.ensures.value at c.in-Ok.ensures.ran)),
+    )
+
+pub returns-in-Ok-clause-failed : goal.returns-in-Ok-clause-failed
+returns-in-Ok-clause-failed g c =
+    not_saved c.save_image-saved.result (λ told. told.fault) _ (given_of c.args.options) c.args.options.save _ _ refl (
+      c.in_ok-image.image,
+      c.in_ok-image.ensures.image,
+      writes_told _ c.in_ok-text.text.items c.args.options.config c.in_ok-image.image _ _ IsRunText c.in_ok-text.ensures.text
+          (run_to_text (Some c.in_ok-text.text.items) c.args.options.config c.in_ok-image.image c.in-Ok.bench.table _ _ (rw c.as_slice-script.ensures.value at c.in-Ok.ensures.ran)),
+    )
+    c.save_image-saved.ensures.fault c.save_image-saved.ensures.asked
 
 pub returns-clause-failed : goal.returns-clause-failed
 returns-clause-failed g c = (

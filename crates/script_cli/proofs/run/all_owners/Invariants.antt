@@ -10,5 +10,5 @@ abbrev pub invariant-loop-p : goal.invariant-loop-p
 invariant-loop-p l = record {
   count : length l.owners.items ≡ l.p;
   room : vec_len l.owners + (l.pages - l.p) ≤ vec_capacity l.owners;
-  claim : (p : ℕ) (owner : Owner) → owner_at l.owners.items p ≡ Some owner → Contains (claims_of l.bench.world.host) (p, owner);
+  claim : (p : ℕ) (owner : Owner) → owner_at l.owners.items p ≡ Some owner → Contains (claims_of l.bench.table.world.host) (p, owner);
 }

@@ -1,9 +1,9 @@
-use Rattle.std.proofs.Common.{◌⊎◌, ◌∷◌, [], inl, ◌-◌, vec_capacity, vec_len, Some, length, length-append, arith, refl, ap, sym, ◌∙◌, rules}
+use Rattle.std.proofs.Common.{◌⊎◌, ◌∷◌, [], inl, inr, ◌-◌, vec_capacity, vec_len, Some, length, length-append, arith, refl, ap, sym, ◌∙◌, rules}
 use Rattle.io_commands.specs.Asked.{Request}
 use Rattle.step_core.specs.Replies.{accept_reply}
 use Rattle.driver_book.specs.Calls.{LacksRoomToSubmit, AreReceiptsFull}
 use Rattle.driver_book.specs.State.{BookContents}
-use Rattle.driver_book.proofs.Runs.{accepts_book, does_in, has_room, keeps_jobs, log_has_room, log_lacks, refused_submission, submission_entries, submission_written, lacks_as, takes_as, takes_no_memory, wants_room}
+use Rattle.driver_book.proofs.Runs.{accepts_book, does_in, has_room, keeps_jobs, log_has_room, log_lacks, refused_submission, submission_entries, submission_written, lacks_as, receipts_full, takes_as, takes_no_memory, wants_room}
 use Rattle.std.proofs.lemmas.List.Sums.{count_by-le-length}
 use Rattle.step_log.specs.History.{is_accepted, entry_of}
 use Rattle.driver_book.proofs.Seats.{receives_in, receives_none}
@@ -72,3 +72,7 @@ returns-else-is_ok-clause-touches g c = rw (← c.self.view_is) c.submit-answer.
 
 pub returns-then-is_ok-clause-touches : goal.returns-then-is_ok-clause-touches
 returns-then-is_ok-clause-touches g c = rw (← c.self.view_is) c.submit-answer.ensures.touches
+
+pub returns-then-is_err-2-clause-memory : goal.returns-then-is_err-2-clause-memory
+returns-then-is_err-2-clause-memory g c =
+    wants_room _ _ c.unlogged-then-is_err-2.ensures.why (inr (receipts_full c.seat.view_is (vec_capacity c.seat.inside.receipts) (vec_len c.seat.inside.receipts) refl c.reserve.result (sym c.is_err-2.ensures.value ∙ c.if-is_err-2.true) c.reserve.ensures.full))

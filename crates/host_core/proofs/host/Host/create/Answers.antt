@@ -9,7 +9,7 @@ use Rattle.host_core.proofs.Calls.{whole_at, step_at, stays_at}
 use Rattle.host_core.proofs.Creations.{create-refused, created_made}
 use Rattle.host_core.proofs.Granting.{next-lowest}
 use Rattle.host_core.proofs.Keeping.{host_of, over_of}
-use Rattle.host_core.proofs.Touching.{creating_refused, touches_none}
+use Rattle.host_core.proofs.Touching.{creating_refused, creating_sent, touches_none}
 use Rattle.host_core.proofs.host.Host.create.Goals as goal
 
 pub returns-in-Err-clause-step : goal.returns-in-Err-clause-step
@@ -63,3 +63,6 @@ returns-clause-identifier g c =
 
 pub returns-in-Err-clause-touches : goal.returns-in-Err-clause-touches
 returns-in-Err-clause-touches g c = rw (creating_refused c.args.half c.args.q c.in-Err.why) (touches_none c.args.store.now)
+
+pub returns-clause-touches : goal.returns-clause-touches
+returns-clause-touches g c = rw (creating_sent c.args.self.now.entries c.args.half c.args.q, ← c.self.view_is) c.commit_create.ensures.touches

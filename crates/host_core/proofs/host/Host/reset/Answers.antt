@@ -53,3 +53,6 @@ returns-clause-over g c =
     let left : tables_of c.lose_queues.new.self pages ≡ tables_reset t =
     c.lose_queues.ensures pages ∙ ap with_io_queues_gone (c.reset_commands.ensures pages ∙ ap with_records_reset c.renew_admin.ensures.renewed) in
     over_of (tables_of c.lose_queues.new.self pages) (subst IsWhole (sym left) (whole-reset t w))
+
+pub returns-clause-touches : goal.returns-clause-touches
+returns-clause-touches g c = rw (← c.self.view_is) c.renew_admin.ensures.touches

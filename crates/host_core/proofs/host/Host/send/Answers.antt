@@ -10,7 +10,7 @@ use Rattle.host_core.proofs.Calls.{whole_at, step_at, stays_at}
 use Rattle.host_core.proofs.Keeping.{host_of, over_of}
 use Rattle.host_core.proofs.SendChecks.{send-typed}
 use Rattle.host_core.proofs.Sending.{send_made, send-refused}
-use Rattle.host_core.proofs.Touching.{sending_refused, touches_none}
+use Rattle.host_core.proofs.Touching.{sending_refused, sending_sent, touches_none}
 use Rattle.host_core.proofs.host.Host.send.Goals as goal
 
 pub returns-in-Err-clause-step : goal.returns-in-Err-clause-step
@@ -65,3 +65,6 @@ returns-clause-identifier g c =
 
 pub returns-in-Err-clause-touches : goal.returns-in-Err-clause-touches
 returns-in-Err-clause-touches g c = rw (sending_refused c.args.kind c.in-Err.why) (touches_none c.args.store.now)
+
+pub returns-clause-touches : goal.returns-clause-touches
+returns-clause-touches g c = rw (sending_sent c.args.self.now.entries c.args.kind c.requires.plain) c.commit_send.ensures.touches

@@ -4,6 +4,8 @@ use Rattle.host_core.specs.Sending.{creation}
 use Rattle.host_core.specs.Tables.{Tables}
 use Rattle.host_core.proofs.Creations.{bare-of, creates-apart, first-within, granted-can-post, granted-new, granted-next, granted-noted-there, granted-settled, granted-there}
 use Rattle.host_core.proofs.Places.{new-empty, place-of}
+use Rattle.queue_pair.specs.Memory.{half_pages}
+use Rattle.host_core.proofs.Touching.{touches_then}
 use Rattle.host_core.proofs.parts.Parts.commit_create.Goals as goal
 
 pub command-kind-requires : goal.command-kind-requires
@@ -51,3 +53,7 @@ returns-clause-creates g c =
     c.command-kind.ensures ∙ ap (λ (x : Tables). creation c.args.half c.args.q x.entries c.args.creation.first) c.grant_half.ensures.granted in
     creates-apart t u (tables_of c.note_sent.new.self c.grant_half.new.store.pages) (tables_of c.post.new.self c.post.new.store.pages) c.args.half c.args.q c.args.creation.cid c.args.creation.first c.command-kind.result c.entry.result
     (bare-of t c.args.half c.args.q c.requires.whole c.requires.ready.none).other kind c.grant_half.ensures.granted (c.note_sent.ensures c.grant_half.new.store.pages) c.entry.ensures.entry c.post.ensures.posts
+
+pub returns-clause-touches : goal.returns-clause-touches
+returns-clause-touches g c =
+    touches_then (half_pages c.args.self.now.entries c.args.half) 1 c.args.store.now c.grant_half.new.store c.post.new.store c.grant_half.ensures.touches c.post.ensures.touches

@@ -34,3 +34,6 @@ returns-clause-granted g c =
     (c.in-Some.ensures.owners ∙ ap (λ (p : ℕ). with_owner t.owners (pages_from p c.half_pages-need.result) (owner.Queue c.args.q c.args.half)) first)
     (change-at c.from.result (making c.args.half c.args.first) t.queues c.index_mut.result.now c.make.new.queue (subst (λ (k : ℕ). k < length t.queues) (sym c.from.ensures) c.requires.there) c.index_mut.ensures.value c.make.ensures
     ∙ ap (λ (k : ℕ). change k (making c.args.half c.args.first) t.queues) c.from.ensures)
+
+pub returns-clause-touches : goal.returns-clause-touches
+returns-clause-touches g c = rw (← c.half_pages-need.ensures) c.zero_run.ensures.touches

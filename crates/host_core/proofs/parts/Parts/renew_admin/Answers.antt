@@ -7,6 +7,7 @@ use Rattle.host_core.specs.Commands.{CanZero}
 use Rattle.host_core.specs.Parts.{tables_of}
 use Rattle.host_core.specs.Tables.{Tables}
 use Rattle.host_core.proofs.ResetAdmin.{admin-renewed, admin-run, run-can_zero, run-few}
+use Rattle.host_core.proofs.Touching.{touches_then}
 use Rattle.host_core.proofs.parts.Parts.renew_admin.Goals as goal
 
 pub zero_run-requires-clause-few : goal.zero_run-requires-clause-few
@@ -42,3 +43,8 @@ returns-clause-renewed g c =
     (admin-run t Submission c.index.result.now c.first_page-sq.result c.half_pages.result c.requires c.index.ensures c.first_page-sq.ensures c.half_pages.ensures)
     (admin-run t Completion c.index-2.result.now c.first_page-cq.result c.half_pages-2.result c.requires c.index-2.ensures c.first_page-cq.ensures c.half_pages-2.ensures)
     c.zero_run.ensures.pages c.zero_run-2.ensures.pages c.index_mut.ensures.value c.reset_admin.ensures
+
+pub returns-clause-touches : goal.returns-clause-touches
+returns-clause-touches g c =
+    rw (← c.half_pages.ensures, ← c.half_pages-2.ensures)
+    (touches_then c.half_pages.result c.half_pages-2.result c.args.store.now c.zero_run.new.store c.zero_run-2.new.store c.zero_run.ensures.touches c.zero_run-2.ensures.touches)

@@ -1,4 +1,8 @@
-use Rattle.step_core.proofs.Benches.{no_collect, collects, collect_refused}
+use Rattle.step_core.proofs.Benches.{no_collect, collected_last, collects, collect_refused}
+use Rattle.std.proofs.Common.{ℕ, ap, sym, ◌∙◌}
+use Rattle.step_core.specs.Kept.{table_with}
+use Rattle.step_core.specs.Touching.{last_pages, touches_more}
+use Rattle.step_core.proofs.Runs.{pages_of_last}
 use Rattle.step_core.proofs.KeptRows.{is_empty, place_there}
 use Rattle.step_core.specs.declared.kept.Value.TheVariants as value
 use Rattle.step_core.proofs.kept.Kept.collect.Goals as goal
@@ -23,3 +27,8 @@ returns-in-Err-clause-does g c = (collect_refused c.args.self.now.world.state c.
 
 pub returns-in-Err-clause-kept : goal.returns-in-Err-clause-kept
 returns-in-Err-clause-kept g c = (collect_refused c.args.self.now.world.state c.args.self.now.values c.take_ticket.new.values c.args.q c.args.cid c.in-Some.ticket c.requires c.in-Some.ensures.out c.collect.new.self.state c.in-Err.field-0.value c.in-Err.field-0.why c.refused.result c.put_back.new.values c.in-Err.ensures.step c.in-Err.ensures.back c.refused.ensures c.put_back.ensures).1
+
+pub returns-in-Ok-clause-touches : goal.returns-in-Ok-clause-touches
+returns-in-Ok-clause-touches g c =
+    let last = collected_last c.args.self.now.world.state c.args.self.now.values c.take_ticket.new.values c.args.q c.args.cid c.in-Some.ticket c.requires c.in-Some.ensures.out c.collect.new.self.state c.in-Ok.finished c.put_next.new.values c.put_next.ensures in
+    c.in-Ok.ensures.touches ∙ ap (λ (n : ℕ). touches_more c.args.self.now.world.touches n) (sym (ap last_pages last ∙ pages_of_last (table_with c.args.self.now.world.state c.args.self.now.values).finished c.in-Ok.finished))

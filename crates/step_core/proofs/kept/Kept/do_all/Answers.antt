@@ -3,9 +3,10 @@ use Rattle.std.proofs.lemmas.Iterator.Adapters.{YieldsList-from_vec}
 use Rattle.std.proofs.lemmas.Iterator.Consumers.{YieldsList-turn}
 use Rattle.std.proofs.lemmas.List.{length_push}
 use Rattle.step_core.specs.Bench.{DoesAll}
-use Rattle.step_core.specs.Kept.{table_of}
+use Rattle.step_core.specs.Kept.{contents_of, table_of}
+use Rattle.step_core.specs.TouchingAll.{TouchAll}
 use Rattle.step_core.specs.Values.{Reply}
-use Rattle.step_core.proofs.Runs.{does_more}
+use Rattle.step_core.proofs.Runs.{does_more, touch_more}
 use Rattle.step_core.proofs.kept.Kept.do_all.Goals as goal
 
 pub loop-step-preserved : goal.loop-step-preserved
@@ -19,5 +20,10 @@ loop-step-preserved g c =
           (sym {A = List Reply} c.push_reserved.ensures.items)
           (does_more (table_of c.args.self.now) (table_of c.loop-step.self) (table_of c.step-reply.new.self) c.loop-step.yielded c.loop-step.replies.items c.in-Some.step c.step-reply.result
           c.loop-step.invariant.done c.step-reply.ensures.does);
+      touched =
+          subst (λ (answers : List Reply). TouchAll (contents_of c.args.self.now) (c.loop-step.yielded ++ c.in-Some.step ∷ []) answers (contents_of c.step-reply.new.self))
+          (sym {A = List Reply} c.push_reserved.ensures.items)
+          (touch_more (contents_of c.args.self.now) (contents_of c.loop-step.self) (contents_of c.step-reply.new.self) c.loop-step.yielded c.loop-step.replies.items c.in-Some.step c.step-reply.result
+          c.loop-step.invariant.touched c.step-reply.ensures.does c.step-reply.ensures.touches);
       answers = omega arith;
     }

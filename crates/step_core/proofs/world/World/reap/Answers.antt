@@ -30,8 +30,8 @@ returns-in-None-clause-step g c =
 
 pub returns-in-Some-clause-touches : goal.returns-in-Some-clause-touches
 returns-in-Some-clause-touches g c =
-    touches_at c.args.self.now.touches _ c.self.inside.store.unlisted c.reap.new.store.unlisted _ c.self.inside.store.touched c.reap.new.store.touched (ap (λ (w : WorldContents). w.touches) c.self.view_is) refl c.in_ok-reap.ensures.touches
+    rw (← c.self.view_is) (touches_at _ _ c.self.inside.store.unlisted c.reap.new.store.unlisted _ c.self.inside.store.touched c.reap.new.store.touched refl refl c.in_ok-reap.ensures.touches)
 
 pub returns-in-None-clause-touches : goal.returns-in-None-clause-touches
 returns-in-None-clause-touches g c =
-    touches_at c.args.self.now.touches _ c.self.inside.store.unlisted c.reap.new.store.unlisted _ c.self.inside.store.touched c.reap.new.store.touched (ap (λ (w : WorldContents). w.touches) c.self.view_is) refl c.in_ok-reap.ensures.touches
+    rw (← c.self.view_is) (touches_at _ _ c.self.inside.store.unlisted c.reap.new.store.unlisted _ c.self.inside.store.touched c.reap.new.store.touched refl refl c.in_ok-reap.ensures.touches)

@@ -18,4 +18,4 @@ invariant_of-self g c =
 
 pub returns-clause-touches : goal.returns-clause-touches
 returns-clause-touches g c =
-    touches_at c.args.self.now.touches _ c.self.inside.store.unlisted c.reserve.new.store.unlisted _ c.self.inside.store.touched c.reserve.new.store.touched (ap (λ (w : WorldContents). w.touches) c.self.view_is) refl c.reserve.ensures.touches
+    rw (← c.self.view_is) (touches_at _ _ c.self.inside.store.unlisted c.reserve.new.store.unlisted _ c.self.inside.store.touched c.reserve.new.store.touched refl refl c.reserve.ensures.touches)

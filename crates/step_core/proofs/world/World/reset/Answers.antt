@@ -22,4 +22,4 @@ returns-clause-recovers g c =
 
 pub returns-clause-touches : goal.returns-clause-touches
 returns-clause-touches g c =
-    touches_at c.args.self.now.touches _ c.self.inside.store.unlisted c.reset.new.store.unlisted _ c.self.inside.store.touched c.reset.new.store.touched (ap (λ (w : WorldContents). w.touches) c.self.view_is) refl c.reset.ensures.touches
+    rw (← c.self.view_is) (touches_at _ _ c.self.inside.store.unlisted c.reset.new.store.unlisted _ c.self.inside.store.touched c.reset.new.store.touched refl refl c.reset.ensures.touches)

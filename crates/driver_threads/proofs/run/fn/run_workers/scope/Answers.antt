@@ -6,7 +6,7 @@ use Rattle.io_commands.proofs.request.Pieces.TheSendSync as pieces
 use Rattle.io_commands.proofs.request.RequestOf.TheSendSync as requests
 use Rattle.driver_threads.proofs.jobs.Job.TheSendSync as jobs
 use Rattle.driver_threads.proofs.shared.Shared.TheSendSync as books
-use Rattle.driver_threads.proofs.workers.Worked.TheSendSync as ends
+use Rattle.driver_threads.proofs.run.Returned.TheSendSync as returned
 use Rattle.driver_threads.proofs.run.fn.run_workers.scope.Goals as goal
 
 -- each part of the closure that names the allocator, whole: a `search` that goes down to it runs out of steps
@@ -29,6 +29,6 @@ spawn-requires-in-loop-worker-send-T g c κs within =
     let told = c.requires.1.1.1.1 in
     let send : IsSend (copied 1 g.row.A) = search sendable depth 20 in
     let frees : Frees g.A.Allocator g.A.Allocator.dealloc_token = search sendable depth 20 in
-    let field = ends.the_field_send (param 0 g.row.L) (copied 1 g.row.A) g.L.Ledger g.A.Allocator send frees in
-    let row = ends.the_send (param 0 g.row.L) (copied 1 g.row.A) g.L.Ledger g.A.Allocator send frees in
+    let field = returned.the_field_send (param 0 g.row.L) (copied 1 g.row.A) g.L.Driver g.L.Ledger g.A.Allocator send frees in
+    let row = returned.the_send (param 0 g.row.L) (copied 1 g.row.A) g.L.Driver g.L.Ledger g.A.Allocator send frees in
     search sendable depth 30

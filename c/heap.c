@@ -1,0 +1,112 @@
+/* The library's memory: over an array, where nvmesgl_heap_array gave one, else over malloc, where the program has it. */
+#include "heap.h"
+#include "nvmesgl.h"
+
+#include <string.h>
+
+/* A program without malloc links all the same, and is refused memory before it gives an array. */
+#pragma weak malloc
+#pragma weak realloc
+#pragma weak free
+extern void *malloc(size_t);
+extern void *realloc(void *, size_t);
+extern void free(void *);
+
+/* A free run. All runs stand in the order of their addresses, and no two touch. Each block, free or not, has a head of 16 bytes, and a size
+ * that is a multiple of 16 and counts the head. */
+struct run {
+    size_t size;
+    struct run *next;
+};
+
+enum { HEAD = 16, LEAST = 32 };
+
+static struct run *first;
+static unsigned char *array_from, *array_end;
+static unsigned char nothing[16] __attribute__((aligned(16)));
+
+static bool in_array(const void *p) {
+    return (uintptr_t)p - (uintptr_t)array_from < (uintptr_t)array_end - (uintptr_t)array_from;
+}
+
+void nvmesgl_heap_array(void *array, size_t bytes) {
+    size_t skip = (HEAD - (uintptr_t)array % HEAD) % HEAD;
+    first = NULL;
+    array_from = array_end = NULL;
+    if (bytes < skip + LEAST) {
+        /* No block fits: every wish is refused. */
+        array_from = nothing;
+        array_end = nothing;
+        return;
+    }
+    array_from = (unsigned char *)array + skip;
+    array_end = array_from + ((bytes - skip) & ~(size_t)(HEAD - 1));
+    first = (struct run *)(void *)array_from;
+    first->size = (size_t)(array_end - array_from);
+    first->next = NULL;
+}
+
+static struct tried array_alloc(size_t n) {
+    if (n > ((size_t)1 << 62)) return (struct tried){false, nothing};
+    size_t want = ((n == 0 ? 1 : n) + HEAD + HEAD - 1) & ~(size_t)(HEAD - 1);
+    for (struct run **at = &first; *at != NULL; at = &(*at)->next) {
+        struct run *here = *at;
+        if (here->size < want) continue;
+        if (here->size - want >= LEAST) {
+            struct run *rest = (struct run *)(void *)((unsigned char *)here + want);
+            rest->size = here->size - want;
+            rest->next = here->next;
+            here->size = want;
+            *at = rest;
+        } else {
+            *at = here->next;
+        }
+        return (struct tried){true, (unsigned char *)here + HEAD};
+    }
+    return (struct tried){false, nothing};
+}
+
+static void array_dealloc(void *p) {
+    struct run *here = (struct run *)(void *)((unsigned char *)p - HEAD);
+    struct run **at = &first;
+    struct run *before = NULL;
+    while (*at != NULL && *at < here) {
+        before = *at;
+        at = &(*at)->next;
+    }
+    here->next = *at;
+    *at = here;
+    if (here->next != NULL && (unsigned char *)here + here->size == (unsigned char *)here->next) {
+        here->size += here->next->size;
+        here->next = here->next->next;
+    }
+    if (before != NULL && (unsigned char *)before + before->size == (unsigned char *)here) {
+        before->size += here->size;
+        before->next = here->next;
+    }
+}
+
+struct tried rattle_alloc(size_t n, size_t align) {
+    if (array_from != NULL) return array_alloc(n);
+    if (malloc == NULL) return (struct tried){false, nothing};
+    void *p = malloc(n == 0 ? align : n);
+    return p == NULL ? (struct tried){false, nothing} : (struct tried){true, p};
+}
+
+struct tried rattle_realloc(void *p, size_t kept, size_t n, size_t align) {
+    if (array_from == NULL && realloc != NULL) {
+        void *moved = realloc(p, n == 0 ? align : n);
+        return moved == NULL ? (struct tried){false, nothing} : (struct tried){true, moved};
+    }
+    struct tried got = rattle_alloc(n, align);
+    if (got.ok) {
+        memcpy(got.p, p, kept < n ? kept : n);
+        rattle_dealloc(p);
+    }
+    return got;
+}
+
+void rattle_dealloc(void *p) {
+    if (in_array(p)) array_dealloc(p);
+    else if (free != NULL) free(p);
+}

@@ -1,0 +1,102 @@
+/*
+ * nvmectl: the modelled NVMe controller alone, over memory of the caller's, for C (C99) and C++.
+ *
+ * The pool is any array of bytes of the caller's: address a of a command is its byte a, and page p its bytes 4,096 p to 4,096 p + 4,095. Each
+ * call that reaches it is lent it, and keeps nothing of it. An address behind its end is a page that is out. The pool may move or grow between calls, and
+ * anybody may write into it between them: what a call promises it promises for any bytes.
+ *
+ * Of C nothing more is asked than nvmesgl.h asks (1 to 5 there); a pool overlaps no answer and no handle. What is proved of each call stands in
+ * crates/nvmectl_c: a call that is not done changes nothing but the answer.
+ */
+#ifndef NVMECTL_H
+#define NVMECTL_H
+
+#include "nvmesgl.h"
+
+#ifdef __cplusplus
+extern "C" {
+#endif
+
+/* A controller that is open, or none. Opaque: C gives it room. */
+typedef struct nvmectl {
+    void *at;
+    bool full;
+} nvmectl;
+
+#define NVMECTL_CLOSED {NULL, false}
+
+/* What a controller is opened with. The reserved words are 0; a later version may give one a meaning. */
+typedef struct nvmectl_options {
+    uint32_t size;    /* sizeof(nvmectl_options) */
+    uint32_t entries; /* of each ring, 2 to 1,024 */
+    uint32_t blocks;  /* of an image of zeros, 1 to 65,536; looked at only where no image is given */
+    uint32_t reserved[5];
+} nvmectl_options;
+
+#define NVMECTL_OPTIONS {sizeof(nvmectl_options), 4, 64, {0}}
+
+/* Where the two rings of a queue begin: pages of the pool. */
+typedef struct nvmectl_queue {
+    uint32_t sq;
+    uint32_t cq;
+} nvmectl_queue;
+
+/* A command that was fetched and not completed. */
+typedef struct nvmectl_job {
+    uint32_t units; /* of its list that were done */
+    bool ended;     /* it has its verdict: nothing is left to walk */
+    uint8_t sct;    /* status code type of the verdict */
+    uint8_t sc;     /* status code of the verdict */
+} nvmectl_job;
+
+enum nvmectl_step_kind { NVMECTL_REST = 0, NVMECTL_FETCH = 1, NVMECTL_WALK = 2, NVMECTL_COMPLETE = 3 };
+
+/* A call that would be done now. */
+typedef struct nvmectl_step {
+    uint32_t kind; /* enum nvmectl_step_kind */
+    uint16_t q;
+    uint16_t cid; /* of a walk and a completion */
+} nvmectl_step;
+
+/* Opening and closing --------------------------------------------------------------------------------------------- */
+
+/* Opens over the bytes of an image, whole blocks of 512, or over options.blocks blocks of zeros where image_len is 0. Queue i has the i-th
+ * of the pages, and queue 0 is the admin queue; at most 65,536. Each queue is live, with empty rings. A reset behind the opening leaves queue 0 alone, and the
+ * others to Create I/O CQ and SQ. Refused: OPEN_HANDLE, BAD_SIZE, BAD_OPTION, BAD_CONFIG, BAD_IMAGE, MEMORY. */
+uint32_t nvmectl_open(nvmectl *, const nvmectl_options *, const nvmectl_queue *queues, size_t queue_count, const uint8_t *image, size_t image_len);
+/* Closes a handle; one that is closed stays so. */
+void nvmectl_close(nvmectl *);
+/* A Controller Level Reset: no command is left, the I/O queues are gone, and queue 0 stays with empty rings. The image is as it was. */
+uint32_t nvmectl_reset(nvmectl *);
+
+/* The doorbells --------------------------------------------------------------------------------------------------- */
+
+/* A value is written to the tail doorbell of submission queue q. Refused: NO_QUEUE, BAD_DOORBELL (it is no slot of the ring). */
+uint32_t nvmectl_tail(nvmectl *, uint16_t q, uint16_t value);
+/* A value is written to the head doorbell of completion queue q. Refused: NO_QUEUE, BAD_DOORBELL (it is outside the last head to the tail). */
+uint32_t nvmectl_head(nvmectl *, uint16_t q, uint16_t value);
+
+/* Steps over a pool: of at most 268,435,456 bytes, else POOL_TOO_LONG. Each tells the pages that it touched ---------- */
+
+/* Fetches an entry that was rung: answer.cid. One of queue 0 is decided and carried out here. An identifier that is outstanding is answered at once, with Command
+ * ID Conflict. Refused: IDLE, SLOT_OUT, FULL, SLOT_OUT, MEMORY. */
+uint32_t nvmectl_fetch(nvmectl *, uint16_t q, uint8_t *pool, size_t pool_len, nvmesgl_answer *);
+/* Does one unit of a fetched command's list, one descriptor or the bytes of one page: answer.state, one of NVMESGL_WALK_MORE, NVMESGL_WALK_END and NVMESGL_WALK_FAULT.
+ * Refused: NO_JOB, NOTHING. */
+uint32_t nvmectl_walk(nvmectl *, uint16_t q, uint16_t cid, uint8_t *pool, size_t pool_len, nvmesgl_answer *);
+/* Posts a completion; a Write that ends well changes the image here. Refused: NO_JOB, WALKING, WAITS, FULL, SLOT_OUT. */
+uint32_t nvmectl_complete(nvmectl *, uint16_t q, uint16_t cid, uint8_t *pool, size_t pool_len, nvmesgl_answer *);
+
+/* Looks: they change nothing -------------------------------------------------------------------------------------- */
+
+/* A step that would be done now (want of memory left aside), or NVMECTL_REST where each would be refused. It goes over the queues and then over the commands. */
+uint32_t nvmectl_next(nvmectl *, uint8_t *pool, size_t pool_len, nvmectl_step *);
+/* A command that was fetched and not completed. Refused: NO_JOB. */
+uint32_t nvmectl_command(nvmectl *, uint16_t q, uint16_t cid, nvmectl_job *);
+/* Blocks of the image from slba on, as many as the buffer has. Refused: NO_BLOCKS (the image has not so many, or the buffer is not whole blocks of 512). */
+uint32_t nvmectl_blocks(nvmectl *, uint64_t slba, uint8_t *buffer, size_t buffer_len);
+
+#ifdef __cplusplus
+}
+#endif
+#endif

@@ -1,0 +1,293 @@
+/*
+ * nvmesgl: an NVMe host driver and a modelled controller over one pool of 4,096-byte pages, for C (C99) and C++.
+ *
+ * nvmesgl_*  both sides over one pool. A call is one step; the code says whether it was done, the answer what it told.
+ * nvmectl_*  the controller alone over the caller's bytes: nvmectl.h.
+ *
+ * What C must keep, and nothing here checks:
+ *  1. A handle is all zero bytes before its opening (NVMESGL_CLOSED). It is never copied and never written while it is open.
+ *  2. One call at a time on a handle, from the thread that opened it; no call from a signal handler, and none from a forked child.
+ *  3. A pointer to a handle, an answer, options or another struct is not null. A pointer that goes with a length may be null where the
+ *     length is 0. Else it points to so many elements. What a call writes overlaps nothing else that it is given.
+ *  4. A `bool` is 0 or 1.
+ *  5. malloc, realloc and free come from one allocator and align to 16; or nvmesgl_heap_array was called before the first opening.
+ *
+ * What is proved of each call stands in crates/nvmesgl_c: a call that is not done changes nothing but the answer. A wrong queue, identifier, kind,
+ * page or length, a closed handle and a second opening each have a code. So has want of memory: nothing is lost then, and no call
+ * leaks. What is open at nvmesgl_close is let go, whatever is outstanding.
+ */
+#ifndef NVMESGL_H
+#define NVMESGL_H
+
+#include <stdbool.h>
+#include <stddef.h>
+#include <stdint.h>
+
+#ifdef __cplusplus
+extern "C" {
+#endif
+
+/* Codes ----------------------------------------------------------------------------------------------------------- */
+
+enum nvmesgl_code {
+    NVMESGL_DONE = 0,
+    /* The handle is closed: of every call but an opening, before every other code. */
+    NVMESGL_CLOSED_HANDLE = 1,
+    /* The handle is open already. */
+    NVMESGL_OPEN_HANDLE = 2,
+    /* No draft, ticket or finished command, whichever the call takes, has this queue and identifier. */
+    NVMESGL_NO_VALUE = 3,
+    /* No kind of command has this number. */
+    NVMESGL_NO_KIND = 4,
+    /* The buffer is shorter than answer.bytes. */
+    NVMESGL_TOO_SHORT = 5,
+    /* The pool has no such page. */
+    NVMESGL_NO_PAGE = 6,
+    /* options.size is not the size of the struct. */
+    NVMESGL_BAD_SIZE = 7,
+    /* A reserved word of the options is not 0. */
+    NVMESGL_BAD_OPTION = 8,
+    /* The image is not 1 to 65,536 whole blocks of 512 bytes. */
+    NVMESGL_BAD_IMAGE = 9,
+    /* No queue of this number takes the call. */
+    NVMESGL_NO_QUEUE = 10,
+    /* The queue is being deleted. */
+    NVMESGL_DELETING = 11,
+    /* A number of the options is outside its limits. */
+    NVMESGL_BAD_CONFIG = 12,
+    /* Each identifier of the queue is outstanding. */
+    NVMESGL_NO_IDENTIFIER = 13,
+    /* Too few pages are free: answer.need and answer.free. */
+    NVMESGL_NO_PAGES = 14,
+    /* Memory was refused. */
+    NVMESGL_MEMORY = 15,
+    /* No record in the fitting phase belongs to the value. */
+    NVMESGL_STRANGER = 16,
+    /* The draft was not built. */
+    NVMESGL_NOT_BUILT = 17,
+    /* The queue takes no commands any more. */
+    NVMESGL_QUEUE_GONE = 18,
+    /* The submission ring is full. */
+    NVMESGL_QUEUE_FULL = 19,
+    /* The command has not ended. */
+    NVMESGL_NOT_YET = 20,
+    /* The queue's state does not allow the call. */
+    NVMESGL_WRONG_STATE = 21,
+    /* There is no such submitted command. */
+    NVMESGL_NO_SUCH_COMMAND = 22,
+    /* No deleted submission queue of this number waits to be retired. */
+    NVMESGL_NOT_DELETED = 23,
+    /* A completion waits to be reaped. */
+    NVMESGL_NOT_DRAINED = 24,
+    /* A command of the queue is outstanding. */
+    NVMESGL_OUTSTANDING = 25,
+    /* No run of answer.need consecutive pages is free. */
+    NVMESGL_NO_RUN = 26,
+    /* The queue has no such slot. */
+    NVMESGL_NO_SLOT = 27,
+    /* There is nothing to fetch. */
+    NVMESGL_IDLE = 28,
+    /* The slot's page is out of the store. */
+    NVMESGL_SLOT_OUT = 29,
+    /* The completion ring is full. */
+    NVMESGL_FULL = 30,
+    /* There is no such job. */
+    NVMESGL_NO_JOB = 31,
+    /* The job has nothing to walk. */
+    NVMESGL_NOTHING = 32,
+    /* The job has no verdict yet. */
+    NVMESGL_WALKING = 33,
+    /* The job's completion waits for others. */
+    NVMESGL_WAITS = 34,
+    /* A request with more than 1,024 pieces. */
+    NVMESGL_TOO_MANY_PIECES = 40,
+    /* A piece of length 0. */
+    NVMESGL_EMPTY_PIECE = 41,
+    /* A data piece that passes the end of its page. */
+    NVMESGL_CROSSES_PAGE = 42,
+    /* No blocks, or more than 2,048. */
+    NVMESGL_BAD_COUNT = 43,
+    /* Pieces that count are not 512 bytes a block. */
+    NVMESGL_LENGTH_MISMATCH = 44,
+    /* A Read is not filled. */
+    NVMESGL_NOT_A_SOURCE = 45,
+    /* The bytes are not as many as the data pieces take. */
+    NVMESGL_WRONG_LENGTH = 46,
+    /* Of nvmectl.h: the doorbell does not hear the value. */
+    NVMESGL_BAD_DOORBELL = 50,
+    /* The pool has more than 65,536 pages. */
+    NVMESGL_POOL_TOO_LONG = 51,
+    /* The image has not so many blocks there, or the buffer is not whole blocks. */
+    NVMESGL_NO_BLOCKS = 52
+};
+
+/* The code as a sentence for people; "no such code" for other numbers. */
+const char *nvmesgl_text(uint32_t code);
+
+/* The name of a status (NVM Express Base Specification 2.0, section 3.3.3.2.1), or "unnamed status". */
+const char *nvmesgl_status_text(uint8_t sct, uint8_t sc);
+
+/* Values ---------------------------------------------------------------------------------------------------------- */
+
+/* A machine that is open, or none. Opaque: C gives it room. */
+typedef struct nvmesgl {
+    void *at;
+    bool full;
+} nvmesgl;
+
+#define NVMESGL_CLOSED {NULL, false}
+
+/* What a handle is opened with. The reserved words are 0; a later version may give one a meaning. */
+typedef struct nvmesgl_options {
+    uint32_t size;    /* sizeof(nvmesgl_options) */
+    uint32_t pages;   /* of the pool, 8 to 65,536 */
+    uint32_t queues;  /* I/O queues, 1 to 64 */
+    uint32_t entries; /* of each ring, 2 to 1,024 */
+    uint32_t segment; /* the most descriptors of a segment, 2 to 256 */
+    uint32_t blocks;  /* of an image of zeros, 1 to 65,536; looked at only where no image is given */
+    uint32_t reserved[10];
+} nvmesgl_options;
+
+#define NVMESGL_OPTIONS {sizeof(nvmesgl_options), 16, 1, 4, 256, 64, {0}}
+
+enum nvmesgl_kind { NVMESGL_READ = 0, NVMESGL_WRITE = 1, NVMESGL_COMPARE = 2 };
+
+/* A piece of a command's data: `len` bytes from `offset` on in a page of its own, or so many that a Read discards. */
+typedef struct nvmesgl_piece {
+    uint32_t offset;
+    uint32_t len;
+    bool bucket;
+} nvmesgl_piece;
+
+enum nvmesgl_state {
+    NVMESGL_WALK_MORE = 1,       /* a walk goes on */
+    NVMESGL_WALK_END = 2,        /* all bytes are counted */
+    NVMESGL_WALK_FAULT = 3,      /* the list is at fault: sct and sc */
+    NVMESGL_REAP_EMPTY = 4,      /* no new completion */
+    NVMESGL_REAP_DONE = 5,       /* a command of an I/O queue has ended: cid, sct and sc */
+    NVMESGL_REAP_ADMIN_DONE = 6, /* a command of queue 0 has ended: cid, sct, sc and dw0 */
+    NVMESGL_REAP_WRONG_QUEUE = 7, /* a completion of no command was consumed: its queue is another's, */
+    NVMESGL_REAP_BAD_HEAD = 8,    /* its head is outside the known head to the tail, */
+    NVMESGL_REAP_UNKNOWN_ID = 9   /* no submitted command has its identifier */
+};
+
+/* What a call tells besides its code. Each call writes all of it; a field that it has nothing to say in is 0. */
+typedef struct nvmesgl_answer {
+    uint32_t state;         /* of a walk and a reap: enum nvmesgl_state */
+    uint32_t dw0;           /* of a reap of queue 0 */
+    uint32_t need;          /* pages needed: NVMESGL_NO_PAGES, NVMESGL_NO_RUN */
+    uint32_t free;          /* pages free: NVMESGL_NO_PAGES */
+    uint32_t data_pages;    /* of a reservation */
+    uint32_t chain_pages;   /* of a reservation */
+    size_t bytes;           /* of a gather: how many bytes the Read brought */
+    uint32_t touched[4];    /* the pages that fetch, walk or complete touched, in order, also where it was refused */
+    uint32_t touched_count; /* how many of them there are, 0 to 4 */
+    uint16_t cid;           /* reserved, fetched, sent on queue 0, or reaped */
+    uint8_t sct;            /* status code type: of a walk's fault, a reap and a collect */
+    uint8_t sc;             /* status code */
+} nvmesgl_answer;
+
+typedef struct nvmesgl_pages {
+    uint32_t pages;       /* of the pool: the sum of the next four */
+    uint32_t free_pages;
+    uint32_t queue_pages;
+    uint32_t chain_pages;
+    uint32_t data_pages;
+    bool trusted;         /* nothing was forged since the opening or the last reset */
+} nvmesgl_pages;
+
+enum nvmesgl_owner_kind {
+    NVMESGL_FREE = 0,
+    NVMESGL_SUBMISSION_QUEUE = 1,
+    NVMESGL_COMPLETION_QUEUE = 2,
+    NVMESGL_DATA = 3,
+    NVMESGL_CHAIN = 4
+};
+
+typedef struct nvmesgl_page_owner {
+    uint32_t kind; /* enum nvmesgl_owner_kind */
+    uint16_t q;        /* the queue, or the command's queue */
+    uint16_t cid;      /* the command's identifier */
+} nvmesgl_page_owner;
+
+/* Memory ---------------------------------------------------------------------------------------------------------- */
+
+/* All memory from now on comes from this array, and none from malloc, which need not be there. What came from malloc before goes back there.
+ * A second call takes a new array: only where nothing of the first is in use. */
+void nvmesgl_heap_array(void *array, size_t bytes);
+
+/* Opening and closing --------------------------------------------------------------------------------------------- */
+
+/* Opens a closed handle over the bytes of an image, which are copied; with image_len 0 over options->blocks blocks of zeros.
+ * Refused, the first that holds: OPEN_HANDLE, BAD_SIZE, BAD_OPTION, BAD_IMAGE, BAD_CONFIG, NO_PAGES (the queues' rings need more pages than
+ * there are); or MEMORY. */
+uint32_t nvmesgl_open(nvmesgl *, const nvmesgl_options *, const uint8_t *image, size_t image_len, nvmesgl_answer *);
+
+/* Closes a handle. One that is closed stays so. */
+void nvmesgl_close(nvmesgl *);
+
+/* The driver: a command, named by its queue and identifier -------------------------------------------------------- */
+
+/* Below, "Refused" names the codes of a handle that is open, in the order in which they are looked for. MEMORY may also come first. */
+
+/* Reserves a command of blocks of 512 bytes from slba on: an identifier (answer.cid) and pages (data_pages, chain_pages), as a draft.
+ * Refused: NO_KIND, NO_QUEUE, DELETING, a fault of the request (TOO_MANY_PIECES to LENGTH_MISMATCH), NO_IDENTIFIER, NO_PAGES, MEMORY. */
+uint32_t nvmesgl_reserve(nvmesgl *, uint16_t q, uint32_t kind, uint64_t slba, uint32_t blocks, const nvmesgl_piece *pieces, size_t piece_count,
+                         nvmesgl_answer *);
+/* Fills the draft of a Write or a Compare with the bytes, and zeros behind them. Refused: NO_VALUE, NOT_A_SOURCE, WRONG_LENGTH, MEMORY. */
+uint32_t nvmesgl_fill(nvmesgl *, uint16_t q, uint16_t cid, const uint8_t *bytes, size_t byte_count, nvmesgl_answer *);
+/* Lays the draft's chain. Refused: NO_VALUE, MEMORY. */
+uint32_t nvmesgl_build(nvmesgl *, uint16_t q, uint16_t cid, nvmesgl_answer *);
+/* Submits a draft that is built; a ticket takes its place. Refused: NO_VALUE, NOT_BUILT, QUEUE_GONE, QUEUE_FULL. */
+uint32_t nvmesgl_submit(nvmesgl *, uint16_t q, uint16_t cid, nvmesgl_answer *);
+/* Cancels a draft: its pages and its identifier are free. Refused: NO_VALUE. */
+uint32_t nvmesgl_cancel(nvmesgl *, uint16_t q, uint16_t cid, nvmesgl_answer *);
+/* Collects a command that has ended, by its ticket: answer.sct and answer.sc. Refused: NO_VALUE, NOT_YET, MEMORY. */
+uint32_t nvmesgl_collect(nvmesgl *, uint16_t q, uint16_t cid, nvmesgl_answer *);
+/* Gathers the bytes of a finished Read into the front of a buffer: answer.bytes; none of a Write or a Compare.
+ * Refused: NO_VALUE, TOO_SHORT (the buffer stays as it was), MEMORY. */
+uint32_t nvmesgl_gather(nvmesgl *, uint16_t q, uint16_t cid, uint8_t *buffer, size_t buffer_len, nvmesgl_answer *);
+/* Releases a finished command: its pages and its identifier are free. Refused: NO_VALUE. */
+uint32_t nvmesgl_release(nvmesgl *, uint16_t q, uint16_t cid, nvmesgl_answer *);
+/* Sends an Abort of a submitted command on queue 0: answer.cid. It is not rung.
+ * Refused: NO_QUEUE, WRONG_STATE, NO_SUCH_COMMAND, NO_IDENTIFIER, QUEUE_FULL. */
+uint32_t nvmesgl_abort(nvmesgl *, uint16_t q, uint16_t cid, nvmesgl_answer *);
+
+/* The driver: a queue --------------------------------------------------------------------------------------------- */
+
+/* Rings the tail doorbell. Refused: NO_QUEUE. */
+uint32_t nvmesgl_ring(nvmesgl *, uint16_t q, nvmesgl_answer *);
+/* Takes one completion: answer.state says what was found. Refused: NO_QUEUE. */
+uint32_t nvmesgl_reap(nvmesgl *, uint16_t q, nvmesgl_answer *);
+/* Each sends an admin command on queue 0 (answer.cid), which is not rung. Refused: NO_QUEUE, WRONG_STATE, OUTSTANDING (create_cq alone),
+ * NO_IDENTIFIER, NO_RUN (create_cq and create_sq), QUEUE_FULL. */
+uint32_t nvmesgl_delete_sq(nvmesgl *, uint16_t q, nvmesgl_answer *);
+uint32_t nvmesgl_delete_cq(nvmesgl *, uint16_t q, nvmesgl_answer *);
+uint32_t nvmesgl_create_cq(nvmesgl *, uint16_t q, nvmesgl_answer *);
+uint32_t nvmesgl_create_sq(nvmesgl *, uint16_t q, nvmesgl_answer *);
+/* Gives back the submission ring of a queue whose deletion was reaped. Refused: NOT_DELETED, NOT_DRAINED. */
+uint32_t nvmesgl_retire(nvmesgl *, uint16_t q, nvmesgl_answer *);
+/* Overwrites the 16 bytes of a completion slot, as a bad controller may. Refused: NO_QUEUE, NO_SLOT. */
+uint32_t nvmesgl_forge(nvmesgl *, uint16_t q, uint16_t slot, const uint8_t bytes[16], nvmesgl_answer *);
+
+/* The controller -------------------------------------------------------------------------------------------------- */
+
+/* Fetches an entry that was rung: answer.cid. Refused: IDLE, SLOT_OUT, FULL, SLOT_OUT, MEMORY. */
+uint32_t nvmesgl_fetch(nvmesgl *, uint16_t q, nvmesgl_answer *);
+/* Does one unit of a fetched command's list: answer.state. Refused: NO_JOB, NOTHING. */
+uint32_t nvmesgl_walk(nvmesgl *, uint16_t q, uint16_t cid, nvmesgl_answer *);
+/* Posts a completion. Refused: NO_JOB, WALKING, WAITS, FULL, SLOT_OUT. */
+uint32_t nvmesgl_complete(nvmesgl *, uint16_t q, uint16_t cid, nvmesgl_answer *);
+/* Resets the controller: every command that was submitted has ended, aborted. It is done always. */
+uint32_t nvmesgl_reset(nvmesgl *, nvmesgl_answer *);
+
+/* Looks: they change nothing -------------------------------------------------------------------------------------- */
+
+uint32_t nvmesgl_counts(nvmesgl *, nvmesgl_pages *);
+/* Refused: NO_PAGE. */
+uint32_t nvmesgl_owner(nvmesgl *, uint32_t page, nvmesgl_page_owner *);
+
+#ifdef __cplusplus
+}
+#endif
+#endif

@@ -1,0 +1,16 @@
+-- The walk begins with all of the list to do.
+use Rattle.std.proofs.Common.{sym, subst}
+use Rattle.controller_walk.specs.Laws.{IsApart}
+use Rattle.controller_walk.specs.Walks.{direction_of}
+use Rattle.explain.proofs.Walking.{begins}
+use Rattle.explain.specs.Ending.{list_of}
+use Rattle.io_commands.specs.Jobs.{direction_of_entry, need_of_entry}
+use Rattle.sgl_descriptor.specs.declared.Direction.{Direction}
+use Rattle.explain.proofs.command.explain.Goals as goal
+
+pub returns-clause-fault : goal.returns-clause-fault
+returns-clause-fault g c passes at apart =
+    let apart' : IsApart at (direction_of c.walk_of-walk.result) (list_of (g.D.Dma.memory c.args.dma.now) c.args.entry.now) =
+    subst (λ (d : Direction). IsApart at d (list_of (g.D.Dma.memory c.args.dma.now) c.args.entry.now)) (sym c.walk_of-walk.ensures.direction) apart in
+    c.in_ok-taken.ensures.ends at _ _ apart'
+    (begins at (g.D.Dma.memory c.args.dma.now) c.args.entry.now.sgl1 (direction_of_entry c.args.entry.now) (need_of_entry c.args.entry.now) c.walk_of-walk.result apart c.walk_of-walk.ensures.course)

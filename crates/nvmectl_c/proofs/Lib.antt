@@ -1,0 +1,3 @@
+mod Lending
+mod Seen
+mod Told

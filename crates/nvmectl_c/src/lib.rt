@@ -1,0 +1,21 @@
+//! The controller alone over the caller's bytes, for C: `c/nvmectl.h` declares what is exported here.
+//!
+//! A [`Handle`] is a [`controller_core::Controller`] that C keeps between its calls, or none. A call that reaches memory is lent the pool, as a slice, until it
+//! returns. Each export states the clause of the controller's call in one relation: what stands in the handle and in the pool before and
+//! after, the code, and the [`c_words::Answer`] that is written. A call that is not done changes nothing.
+#![tactic(auto)]
+
+mod calls;
+mod code;
+mod doorbells;
+mod handle;
+mod looks;
+mod next;
+mod opening;
+mod options;
+mod over;
+
+pub use handle::Handle;
+pub use looks::CCommand;
+pub use next::CStep;
+pub use options::{CQueue, NotOpened, Options};

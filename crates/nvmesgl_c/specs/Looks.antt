@@ -1,0 +1,50 @@
+-- What the looks at a pool tell.
+use Rattle.std.specs.Prelude.{◌≡◌, ◌≤◌, ◌<◌, ◌⊎◌, ℕ, Option, Some, None, length}
+use Rattle.std.specs.List.{Contains}
+use Rattle.machine_model.specs.Claims.{claims_of}
+use Rattle.machine_model.specs.Claims as claims
+use Rattle.machine_model.specs.Script.{Table}
+use Rattle.nvmesgl_c.specs.declared.looks.CCounts.{CCounts}
+use Rattle.nvmesgl_c.specs.declared.looks.COwner.{COwner}
+use Rattle.page_ledger.specs.declared.owner.Owner.{Owner}
+use Rattle.page_ledger.specs.declared.owner.Owner.TheVariants as owned
+use Rattle.page_ledger.specs.declared.owner.Role.TheVariants as role
+use Rattle.page_memory.specs.declared.page.Half.TheVariants as half
+
+abbrev pub owner_of : Owner → COwner
+owner_of owned.Free = record { class = 0; q = 0; cid = 0 }
+owner_of (owned.Queue q half.Submission) = record { class = 1; q = q; cid = 0 }
+owner_of (owned.Queue q half.Completion) = record { class = 2; q = q; cid = 0 }
+owner_of (owned.Command q cid role.Data) = record { class = 3; q = q; cid = cid }
+owner_of (owned.Command q cid role.Chain) = record { class = 4; q = q; cid = cid }
+
+abbrev pub counts_of : Table → CCounts
+counts_of t =
+    let counts = claims.counts_of t.world.host in
+    record {
+      pages = length t.world.memory;
+      free_pages = counts.free_pages;
+      queue_pages = counts.queue_pages;
+      chain_pages = counts.chain_pages;
+      data_pages = counts.data_pages;
+      trusted = t.world.trusted;
+    }
+
+-- the counts, of a handle that is open
+abbrev pub TellsCounts : Option Table → ℕ → CCounts → CCounts → Option Table → Type 0
+TellsCounts None code old new left = (code ≡ 1) × (new ≡ old) × (left ≡ None)
+TellsCounts (Some t) code old new left = (code ≡ 0) × (new ≡ counts_of t) × (left ≡ Some t)
+
+-- a page is looked for: its owner is that of the one claim in which it stands; there is none outside the pool
+abbrev pub FindsOwner : Table → ℕ → Option Owner → Type 0
+FindsOwner t page None = length t.world.memory ≤ page
+FindsOwner t page (Some owner) = Contains (claims_of t.world.host) (page, owner)
+
+abbrev pub Shows : Option Owner → ℕ → COwner → COwner → Type 0
+Shows None code old new = (code ≡ 6) × (new ≡ old)
+Shows (Some owner) code old new = (code ≡ 0) × (new ≡ owner_of owner)
+
+-- the owner of a page, of a handle that is open
+abbrev pub TellsOwner : Option Table → ℕ → ℕ → COwner → COwner → Option Table → Type 0
+TellsOwner None page code old new left = (code ≡ 1) × (new ≡ old) × (left ≡ None)
+TellsOwner (Some t) page code old new left = (found : Option Owner) × FindsOwner t page found × Shows found code old new × (left ≡ Some t)

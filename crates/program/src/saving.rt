@@ -1,0 +1,33 @@
+//! The image that a run leaves, as a file.
+
+ghost use Rattle.std.specs.Prelude.{◌≡◌, IfErr, IsSome};
+
+use crate::below::lines_or_none;
+use crate::fault::{Fault, Told};
+use block_image::Image;
+use std::alloc::AllocGlobal;
+use std::rt::Files;
+use transcripts::{not_written, replace_file};
+
+/// Writes an image into the file that is named for it, if there is one. Where this fails, the file is as it was.
+pub(crate) fn save_image<R: AllocGlobal + Files>(
+    rt: &R,
+    path: Option<&str>,
+    image: &Image,
+) -> Result<(), Told<Fault>>
+    ensures fault { IfErr result (λ told. told.fault ≡ Fault.NotSaved) }
+    ensures asked { IfErr result (λ told. IsSome path.entry) }
+{
+    let Some(path) = path else {
+        return Ok(());
+    };
+    match replace_file(rt, path, image.blocks_from(0, image.blocks())) {
+        Ok(()) => Ok(()),
+        Err(why) => {
+            let alloc = rt.alloc();
+            let below = lines_or_none(alloc, not_written(alloc, path, &why));
+            let fault = Fault::NotSaved;
+            Err(Told { fault, below })
+        }
+    }
+}

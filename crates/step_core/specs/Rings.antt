@@ -1,0 +1,45 @@
+-- What a look at the rings of a queue tells of the machine's state.
+use Rattle.std.specs.Prelude.{◌≡◌, ℕ, not, Option, Some, None, IfSome, is_some, slice_get, if◌then◌else◌}
+use Rattle.std.specs.Option.{option_map_or}
+use Rattle.admin_commands.specs.Verdicts.{is_absent}
+use Rattle.controller_core.specs.declared.queue.ControllerQueue.{ControllerQueue}
+use Rattle.machine_model.specs.Agreeing.{has_completions_at, is_absent_at}
+use Rattle.machine_model.specs.Refusals.{fetch_slot, post_slot}
+use Rattle.machine_model.specs.State.{State}
+use Rattle.queue_pair.specs.Lists.{expected_phase}
+use Rattle.queue_pair.specs.Slots.{distance}
+use Rattle.step_core.specs.declared.rings.FetchPositions.{FetchPositions}
+use Rattle.step_core.specs.declared.rings.PostPositions.{PostPositions}
+use Rattle.step_core.specs.declared.rings.Rings.{Rings}
+
+-- where a queue of the controller stands, as far as it is there
+abbrev pub fetching_of : ControllerQueue → Option FetchPositions
+fetching_of c = if is_absent c.state then None else Some (record { head = c.device.ring.head; tail_doorbell = c.device.ring.bell })
+
+abbrev pub posting_of : ControllerQueue → Option PostPositions
+posting_of c =
+    if c.cq_there then Some (record { tail = c.device.ring.tail; phase = c.device.ring.phase; head_doorbell = c.device.ring.known_head }) else None
+
+-- the halves that the controller has
+pub record ShowsHalves (s : State) (q : ℕ) (rings : Rings) : Type 0 where
+  pub submission : is_some rings.submission ≡ not (is_absent_at s.device.queues q)
+  pub completion : is_some rings.completion ≡ has_completions_at s.device.queues q
+
+-- as many entries were rung and not fetched as lie from the controller's head to the tail that was rung
+abbrev pub TellsRung : State → ℕ → Rings → Type 0
+TellsRung s q rings =
+    IfSome rings.submission (λ at. distance s.entries at.head at.tail_doorbell ≡ option_map_or (λ queue. queue.rung) (slice_get s.device.queues q) 0)
+
+-- Where nothing was forged: the controller's submission head is where the machine fetches next,
+abbrev pub TellsFetching : State → ℕ → Rings → Type 0
+TellsFetching s q rings = IfSome rings.submission (λ at. at.head ≡ fetch_slot s q)
+
+-- and its completion tail is where the machine posts next, the completion head that was rung is the host's, and the host expects at its head the phase
+-- tag of the controller's pass, or the one of the pass before.
+pub record IsPosting (s : State) (q : ℕ) (rings : Rings) (at : PostPositions) : Type 0 where
+  pub tail : at.tail ≡ post_slot s q
+  pub heard : at.head_doorbell ≡ rings.host.completion_head
+  pub phase : rings.host.phase ≡ expected_phase rings.host.completion_head at.tail at.phase
+
+abbrev pub TellsPosting : State → ℕ → Rings → Type 0
+TellsPosting s q rings = IfSome rings.completion (λ at. IsPosting s q rings at)
