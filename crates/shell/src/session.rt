@@ -8,7 +8,9 @@ use crate::hand::{Hand, MOST_STEPS};
 use crate::help::say_help;
 use crate::lines::read_line;
 use crate::looks::{say_page, say_rings};
-use script_cli::{ImageFault, Line, Numbered, RunFault, Script, flush, not_opened, put, split_line};
+use script_cli::{
+    ImageFault, Line, Numbered, RunFault, Script, flush, not_opened, put, split_line,
+};
 use std::alloc::{AllocError, AllocGlobal, Global};
 use std::io::{BufRead, BufReader, Read, Write};
 use std::mem;

@@ -5,7 +5,8 @@ use crate::performed::performed;
 use std::test::Fail;
 
 /// A Read of two pieces until it is rung, and what a script may have besides.
-const SCRIPT: &[u8] = b"# One block.\nreserve 1 read 0 1 0+256 0+256\nbuild 1 0\nsubmit 1 0\nowners\nring 1\nring 5\n";
+const SCRIPT: &[u8] =
+    b"# One block.\nreserve 1 read 0 1 0+256 0+256\nbuild 1 0\nsubmit 1 0\nowners\nring 1\nring 5\n";
 
 /// What it writes.
 const TOLD: &str = "2 reserve q 1 cid 0 data 2 chain 1
