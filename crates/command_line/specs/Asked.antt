@@ -96,13 +96,17 @@ pub data Asked : Type 0 where
   test : Tested → Asked
   shell : Given → Bool → Asked
   draw : Given → Asked
-  explain : Option Text → Asked
+  explain : Option Text → Bool → Asked
   show : List Text → Asked
   grammar : Asked
 
 -- `--trace` was typed
 abbrev pub has_trace : List Row → Bool
 has_trace rows = has_flag (codes "trace") rows
+
+-- `--json` was typed
+abbrev pub has_json : List Row → Bool
+has_json rows = has_flag (codes "json") rows
 
 -- what `steps` with these rows asks for
 abbrev pub steps_by : List Row → Asked
@@ -130,7 +134,7 @@ asked_of_name name rows =
     else if bytes_eq name (codes "test") then Some (test (tested_in rows))
     else if bytes_eq name (codes "shell") then Some (shell (given_in rows) (has_trace rows))
     else if bytes_eq name (codes "draw") then Some (draw (given_in rows))
-    else if bytes_eq name (codes "explain") then Some (explain (script_in rows))
+    else if bytes_eq name (codes "explain") then Some (explain (script_in rows) (has_json rows))
     else if bytes_eq name (codes "show") then Some (show (all_under (codes "words") rows))
     else if bytes_eq name (codes "grammar") then Some grammar
     else None
@@ -167,7 +171,7 @@ asked_of (line.CheckJobs script submitters) = check_jobs (path_of script) submit
 asked_of (line.Test testing) = test (tested_of testing)
 asked_of (line.Shell options traces) = shell (given_of options) traces
 asked_of (line.Draw options) = draw (given_of options)
-asked_of (line.Explain script) = explain (path_of script)
+asked_of (line.Explain script objects) = explain (path_of script) objects
 asked_of (line.Show words) = show (map (λ w. w.now) words.items)
 asked_of line.Grammar = grammar
 
@@ -181,6 +185,6 @@ FitSubmitters (line.CheckJobs script submitters) = (1 ≤ submitters) × (submit
 FitSubmitters (line.Test testing) = ⊤
 FitSubmitters (line.Shell options traces) = ⊤
 FitSubmitters (line.Draw options) = ⊤
-FitSubmitters (line.Explain script) = ⊤
+FitSubmitters (line.Explain script objects) = ⊤
 FitSubmitters (line.Show words) = ⊤
 FitSubmitters line.Grammar = ⊤

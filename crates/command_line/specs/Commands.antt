@@ -73,7 +73,7 @@ abbrev pub draw : App
 draw = with_options (new_app (codes "draw"))
 
 abbrev pub explain : App
-explain = with_rule (new_app (codes "explain")) (word_rule (codes "script"))
+explain = with_rule (with_rule (new_app (codes "explain")) (flag_rule (codes "json"))) (word_rule (codes "script"))
 
 abbrev pub show : App
 show = with_rule (new_app (codes "show")) (words_rule (codes "words"))

@@ -69,8 +69,8 @@ pub enum CommandLine<'a> {
     Shell(Options<'a>, bool),
     /// To draw a script of steps.
     Draw(Options<'a>),
-    /// To explain a command, by the path of its case as in [`Options`].
-    Explain(Option<&'a str>),
+    /// To explain a command, by the path of its case as in [`Options`], and whether as JSON.
+    Explain(Option<&'a str>, bool),
     /// To decode bytes: what they are to be, and their digits.
     Show(Vec<&'a str>),
     /// To print every verb with its form.
@@ -251,7 +251,7 @@ fn line_of<'a>(alloc: Global, name: &str, given: &ArgMatches<'a>) -> Result<Comm
         return Ok(CommandLine::Draw(Options::of(given)));
     }
     if name == "explain" {
-        return Ok(CommandLine::Explain(script(given)));
+        return Ok(CommandLine::Explain(script(given), flag(given, "json")));
     }
     if name == "show" {
         return show_line(alloc, given);

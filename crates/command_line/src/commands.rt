@@ -169,6 +169,17 @@ fn trace_arg<'a>(alloc: Global) -> Arg<'a>
         .help("Tells below each answer what the step moved, in bytes and decoded")
 }
 
+/// The option that says that an explanation is written as JSON.
+fn json_arg<'a>(alloc: Global) -> Arg<'a>
+    ensures rule { rule_of result ≡ flag_rule (codes "json") }
+    ensures local { result.global ≡ false }
+{
+    Arg::new(alloc, "json")
+        .long("json")
+        .action(ArgAction::SetTrue)
+        .help("Writes JSON, one object on each line")
+}
+
 /// The words that are decoded.
 fn words_arg<'a>(alloc: Global) -> Arg<'a>
     ensures rule { rule_of result ≡ words_rule (codes "words") }
@@ -304,6 +315,7 @@ fn explain_command<'a>(alloc: Global) -> Result<Command<'a>, AllocError>
         .about("Tells what the controller makes of an entry and its list")
         .long_about(EXPLAIN_ABOUT)
         .after_help(EXPLAIN_AFTER)
+        .arg(json_arg(alloc))?
         .arg(script_arg(alloc))
 }
 

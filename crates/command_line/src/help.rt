@@ -164,7 +164,8 @@ pub const EXPLAIN_AFTER: &str = "The input has one thing on each line; `#` begin
   block N BYTES   the bytes of a block, zeros behind them
   pages N         how many pages the pool has, 8 to 65536, before these; else 16
   blocks N        how many blocks the image has, 1 to 65536, before these; else 64
-BYTES are hexadecimal digits, blanks anywhere between two bytes, or 00*16 for one byte so often.
+BYTES are hexadecimal digits, blanks anywhere between two bytes, or 00*16 for one byte so often,
+or @FILE for the bytes of a file.
 Page P has the addresses from 4096 times P on.
 
 Example:
@@ -183,7 +184,8 @@ pub const SHOW_ABOUT: &str =
     "Decodes an entry or a descriptor: each field by its name, and what of it the controller refuses.
 
 The first word says what the bytes are: `sqe` a submission entry of an I/O queue, 64 bytes, `cqe`
-a completion entry, 16, `sgl` a scatter-gather list descriptor, 16. All others are the bytes.";
+a completion entry, 16, `sgl` a scatter-gather list descriptor, 16. All others are the bytes, or
+@FILE for those of a file.";
 
 /// What `nvmesgl show --help` says last.
 pub const SHOW_AFTER: &str = "Example:

@@ -73,8 +73,9 @@ pub fn files_are_tested()
 /// What `explain` and `show` ask for.
 #[tactic(auto, unfolding(clap::proofs::OnLiterals::clap_on_literals))]
 pub fn bytes_are_looked_at()
-    ensures explain { asked (codes "nvmesgl" ∷ codes "explain" ∷ []) ≡ Some (explain None) }
-    ensures file { asked (codes "nvmesgl" ∷ codes "explain" ∷ codes "a" ∷ []) ≡ Some (explain (Some (codes "a"))) }
+    ensures explain { asked (codes "nvmesgl" ∷ codes "explain" ∷ []) ≡ Some (explain None false) }
+    ensures file { asked (codes "nvmesgl" ∷ codes "explain" ∷ codes "a" ∷ []) ≡ Some (explain (Some (codes "a")) false) }
+    ensures json { asked (codes "nvmesgl" ∷ codes "explain" ∷ codes "--json" ∷ codes "a" ∷ []) ≡ Some (explain (Some (codes "a")) true) }
     ensures show { asked (codes "nvmesgl" ∷ codes "show" ∷ codes "sgl" ∷ codes "00*16" ∷ []) ≡ Some (show (codes "sgl" ∷ codes "00*16" ∷ [])) }
     ensures no_word { asked (codes "nvmesgl" ∷ codes "show" ∷ []) ≡ None }
 {}

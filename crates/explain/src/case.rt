@@ -6,7 +6,8 @@ use block_image::{BLOCK_SIZE, Image, ImageError};
 use fault_text::Place;
 use page_memory::{OpenFault, PAGE_BYTES, PageNo, Store};
 use script_cli::{MAX_LINES, MAX_SCRIPT, begins_comment, split_line, words_of};
-use std::alloc::{AllocError, Global};
+use std::alloc::{AllocError, AllocGlobal, Global};
+use std::rt::Files;
 
 /// How many pages a pool has where no line says so.
 const PAGES: u32 = 16;
@@ -131,10 +132,15 @@ impl CaseReader {
     }
 
     /// `page P HEX`: the bytes of a page, and zeros behind them.
-    fn page(&mut self, alloc: Global, key: Place, line: &mut Line<'_>) -> Result<(), Stop> {
+    fn page<R: AllocGlobal + Files>(
+        &mut self,
+        rt: &R,
+        key: Place,
+        line: &mut Line<'_>,
+    ) -> Result<(), Stop> {
         let page = PageNo(line.number(0, self.store.pages().saturating_sub(1))?);
         let mut bytes = [0; PAGE_BYTES];
-        line.fill(alloc, &mut bytes)?;
+        line.fill(rt, &mut bytes)?;
         self.pool_told = true;
         let Some(mut whole) = self.store.take(page) else {
             return Err(Stop::At(key, Wrong::IsOut));
@@ -154,19 +160,24 @@ impl CaseReader {
     }
 
     /// `block N HEX`: the bytes of a block, and zeros behind them.
-    fn block(&mut self, alloc: Global, line: &mut Line<'_>) -> Result<(), Stop> {
+    fn block<R: AllocGlobal + Files>(&mut self, rt: &R, line: &mut Line<'_>) -> Result<(), Stop> {
         let block = line.number(0, self.image.blocks() - 1)?;
         let mut bytes = [0; BLOCK_SIZE];
-        line.fill(alloc, &mut bytes)?;
+        line.fill(rt, &mut bytes)?;
         self.image_told = true;
         self.image.copy_in(u64::from(block), &bytes);
         Ok(())
     }
 
     /// `sqe HEX`: the entry.
-    fn sqe(&mut self, alloc: Global, key: Place, line: &mut Line<'_>) -> Result<(), Stop> {
+    fn sqe<R: AllocGlobal + Files>(
+        &mut self,
+        rt: &R,
+        key: Place,
+        line: &mut Line<'_>,
+    ) -> Result<(), Stop> {
         let mut entry = [0; 64];
-        let found = line.fill(alloc, &mut entry)?;
+        let found = line.fill(rt, &mut entry)?;
         if self.entry.is_some() {
             return Err(Stop::At(key, Wrong::Twice));
         }
@@ -183,7 +194,8 @@ impl CaseReader {
     /// # Errors
     ///
     /// What is wrong with it, and where.
-    pub fn line(&mut self, alloc: Global, bytes: &[u8]) -> Result<(), Stop> {
+    pub fn line<R: AllocGlobal + Files>(&mut self, rt: &R, bytes: &[u8]) -> Result<(), Stop> {
+        let alloc = rt.alloc();
         if words_of(bytes).is_err() {
             let place = Place { start: 0, end: 1 };
             return Err(Stop::At(place, Wrong::NoText));
@@ -198,11 +210,11 @@ impl CaseReader {
         }
         match Key::named(word) {
             Some(Key::Pages) => self.pages(alloc, key, &mut line),
-            Some(Key::Page) => self.page(alloc, key, &mut line),
+            Some(Key::Page) => self.page(rt, key, &mut line),
             Some(Key::Out) => self.out(&mut line),
             Some(Key::Blocks) => self.blocks(alloc, key, &mut line),
-            Some(Key::Block) => self.block(alloc, &mut line),
-            Some(Key::Entry) => self.sqe(alloc, key, &mut line),
+            Some(Key::Block) => self.block(rt, &mut line),
+            Some(Key::Entry) => self.sqe(rt, key, &mut line),
             None => Err(Stop::At(key, Wrong::NoKey)),
         }
     }
@@ -245,11 +257,11 @@ fn at_line(number: u32, stop: Stop) -> CaseFault {
 ///
 /// `TooLong` before any line is looked at, where there are more than 1,048,576 bytes, and where there are more than 65,536 lines; else the first fault of the first line that has one; `NoEntry` where no line has an entry; and `Memory`
 /// where memory is refused.
-pub fn read_case(alloc: Global, text: &[u8]) -> Result<Case, CaseFault> {
+pub fn read_case<R: AllocGlobal + Files>(rt: &R, text: &[u8]) -> Result<Case, CaseFault> {
     if text.len() > MAX_SCRIPT {
         return Err(CaseFault::TooLong);
     }
-    let Ok(mut reader) = CaseReader::begin(alloc) else {
+    let Ok(mut reader) = CaseReader::begin(rt.alloc()) else {
         return Err(CaseFault::Memory);
     };
     let mut rest = text;
@@ -258,7 +270,7 @@ pub fn read_case(alloc: Global, text: &[u8]) -> Result<Case, CaseFault> {
             break;
         }
         let (line, after) = split_line(rest);
-        if let Err(stop) = reader.line(alloc, line) {
+        if let Err(stop) = reader.line(rt, line) {
             return Err(at_line(number, stop));
         }
         rest = after;

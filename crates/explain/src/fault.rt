@@ -1,6 +1,6 @@
 //! Why lines are no case.
 
-use std::fmt;
+use std::{fmt, io};
 
 /// What is wrong with a line.
 #[derive(Clone, Copy, Debug, PartialEq, Eq)]
@@ -18,6 +18,8 @@ pub enum Wrong {
     },
     /// Bytes are wanted.
     NoHex,
+    /// A file that is named cannot be read; why it was not opened, if that was it.
+    NoFile(Option<io::ErrorKind>),
     /// There are more bytes than so many.
     TooManyBytes(usize),
     /// There are so many bytes, and others are wanted.
@@ -45,6 +47,7 @@ impl Wrong {
             Wrong::NoKey => "UnknownWord",
             Wrong::NoNumber { .. } => "BadNumber",
             Wrong::NoHex => "BadHex",
+            Wrong::NoFile(_) => "BadFile",
             Wrong::TooManyBytes(_) | Wrong::NotSoMany { .. } => "BadLength",
             Wrong::Extra => "ExtraWord",
             Wrong::Late => "LateSize",
@@ -66,8 +69,10 @@ impl fmt::Display for Wrong {
                 write!(f, "a decimal number is wanted here, {least} to {most}.")
             }
             Wrong::NoHex => f.write_str(
-                "bytes are wanted here: two hexadecimal digits for each, or a byte so often, as 00*16.",
+                "bytes are wanted here: two hexadecimal digits for each, or a byte so often, as 00*16, or a file, as @FILE.",
             ),
+            Wrong::NoFile(Some(kind)) => write!(f, "this file cannot be read: {kind}."),
+            Wrong::NoFile(None) => f.write_str("this file cannot be read."),
             Wrong::TooManyBytes(most) => write!(f, "there are {most} bytes at most."),
             Wrong::NotSoMany { found, wanted } => {
                 write!(f, "there are {found} bytes here, and {wanted} are wanted.")

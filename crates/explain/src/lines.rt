@@ -5,8 +5,11 @@ ghost use Rattle.std.specs.Prelude.{◌≤◌, IfOk, length};
 use crate::fault::Wrong;
 use byte_runs::{RunsFault, bytes_of};
 use fault_text::{Place, word_from};
-use script_cli::words_of;
-use std::alloc::{AllocError, Global};
+use script_cli::{ReadFault, read_first, words_of};
+use std::alloc::{AllocError, AllocGlobal};
+use std::fs::File;
+use std::rt::Files;
+use std::str;
 
 /// Why a line is not read.
 #[derive(Clone, Copy, Debug, PartialEq, Eq)]
@@ -68,7 +71,11 @@ impl<'a> Line<'a> {
     }
 
     /// Takes all words that are left as bytes, puts these to the front of a buffer, and answers how many they are.
-    pub(crate) fn fill(&mut self, alloc: Global, into: &mut [u8]) -> Result<usize, Stop> {
+    pub(crate) fn fill<R: AllocGlobal + Files>(
+        &mut self,
+        rt: &R,
+        into: &mut [u8],
+    ) -> Result<usize, Stop> {
         let most = into.len();
         let mut filled = 0usize;
         for _ in 0..self.bytes.len() {
@@ -76,10 +83,12 @@ impl<'a> Line<'a> {
                 break;
             };
             let room = most.saturating_sub(filled);
-            let more = match bytes_of(alloc, self.word(place), room)? {
+            let more = match word_bytes(rt, self.word(place), room)? {
                 Ok(more) => more,
-                Err(RunsFault::NoRuns) => return Err(Stop::At(place, Wrong::NoHex)),
-                Err(RunsFault::TooMany) => return Err(Stop::At(place, Wrong::TooManyBytes(most))),
+                Err(Wrong::TooManyBytes(_)) => {
+                    return Err(Stop::At(place, Wrong::TooManyBytes(most)));
+                }
+                Err(wrong) => return Err(Stop::At(place, wrong)),
             };
             for (slot, byte) in into.iter_mut().skip(filled).zip(more.as_slice()) {
                 *slot = *byte;
@@ -95,6 +104,46 @@ impl<'a> Line<'a> {
             Some(place) => Err(Stop::At(place, Wrong::Extra)),
             None => Ok(()),
         }
+    }
+}
+
+/// What names a file in place of bytes.
+const FILE: u8 = b'@';
+
+/// The bytes of a file, so many at most.
+fn file_bytes<R: AllocGlobal + Files>(
+    rt: &R,
+    path: &[u8],
+    most: usize,
+) -> Result<Result<Vec<u8>, Wrong>, AllocError> {
+    let Ok(path) = str::from_utf8(path) else {
+        return Ok(Err(Wrong::NoFile(None)));
+    };
+    let mut file = match File::open(rt, path) {
+        Ok(file) => file,
+        Err(why) => return Ok(Err(Wrong::NoFile(Some(why.kind())))),
+    };
+    match read_first(rt.alloc(), &mut file, most) {
+        Ok(bytes) if bytes.len() <= most => Ok(Ok(bytes)),
+        Ok(_) => Ok(Err(Wrong::TooManyBytes(most))),
+        Err(ReadFault::Unreadable) => Ok(Err(Wrong::NoFile(None))),
+        Err(ReadFault::Memory) => Err(AllocError),
+    }
+}
+
+/// The bytes that a word is, or that are in the file which it names, so many at most.
+fn word_bytes<R: AllocGlobal + Files>(
+    rt: &R,
+    word: &[u8],
+    most: usize,
+) -> Result<Result<Vec<u8>, Wrong>, AllocError> {
+    if let Some((&FILE, path)) = word.split_first() {
+        return file_bytes(rt, path, most);
+    }
+    match bytes_of(rt.alloc(), word, most)? {
+        Ok(bytes) => Ok(Ok(bytes)),
+        Err(RunsFault::NoRuns) => Ok(Err(Wrong::NoHex)),
+        Err(RunsFault::TooMany) => Ok(Err(Wrong::TooManyBytes(most))),
     }
 }
 

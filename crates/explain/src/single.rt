@@ -15,7 +15,8 @@ use io_commands::MAX_BLOCKS;
 use page_memory::{OpenFault, Store};
 use script_cli::words_of;
 use status_names::Named;
-use std::alloc::{AllocError, Global};
+use std::alloc::{AllocError, AllocGlobal, Global};
+use std::rt::Files;
 use trace_text::{put_completion_fields, put_descriptor, put_submission_fields};
 
 /// What bytes are to be.
@@ -45,13 +46,13 @@ impl Shown {
 }
 
 /// So many bytes, of words; the place of a fault is that of the word, or of them all.
-fn array<const N: usize>(alloc: Global, words: &[u8]) -> Result<[u8; N], Stop> {
+fn array<R: AllocGlobal + Files, const N: usize>(rt: &R, words: &[u8]) -> Result<[u8; N], Stop> {
     let (start, end) = (0, words.len());
     if words_of(words).is_err() {
         return Err(Stop::At(Place { start, end }, Wrong::NoText));
     }
     let mut array = [0; N];
-    let found = Line::of(words).fill(alloc, &mut array)?;
+    let found = Line::of(words).fill(rt, &mut array)?;
     if found != N {
         let wanted = N;
         let wrong = Wrong::NotSoMany { found, wanted };
@@ -138,27 +139,29 @@ fn put_sqe(out: &mut String, alloc: Global, bytes: &[u8; 64]) -> Result<(), Allo
 }
 
 /// What bytes are, by their fields.
-fn text_of(alloc: Global, what: Shown, words: &[u8]) -> Result<String, Stop> {
+fn text_of<R: AllocGlobal + Files>(rt: &R, what: Shown, words: &[u8]) -> Result<String, Stop> {
+    let alloc = rt.alloc();
     let mut out = String::new(alloc);
     match what {
-        Shown::Submission => put_sqe(&mut out, alloc, &array(alloc, words)?)?,
-        Shown::Completion => put_completion_fields(
-            &mut out,
-            &ComEntry::read(&array(alloc, words)?),
-        )?,
-        Shown::Descriptor => put_sgl(&mut out, alloc, array(alloc, words)?)?,
+        Shown::Submission => put_sqe(&mut out, alloc, &array(rt, words)?)?,
+        Shown::Completion => put_completion_fields(&mut out, &ComEntry::read(&array(rt, words)?))?,
+        Shown::Descriptor => put_sgl(&mut out, alloc, array(rt, words)?)?,
     }
     Ok(out)
 }
 
-/// Decodes an entry or a descriptor that is typed as hexadecimal digits: each field by its name, and what of it the controller refuses whatever
+/// Decodes an entry or a descriptor that is typed as hexadecimal digits, or stands in a file: each field by its name, and what of it the controller refuses whatever
 /// memory holds.
 ///
 /// # Errors
 ///
 /// A fault of line 1, or `Memory` where memory is refused.
-pub fn show(alloc: Global, what: Shown, words: &[u8]) -> Result<String, CaseFault> {
-    match text_of(alloc, what, words) {
+pub fn show<R: AllocGlobal + Files>(
+    rt: &R,
+    what: Shown,
+    words: &[u8],
+) -> Result<String, CaseFault> {
+    match text_of(rt, what, words) {
         Ok(text) => Ok(text),
         Err(Stop::Memory) => Err(CaseFault::Memory),
         Err(Stop::At(Place { start, end }, wrong)) => Err(CaseFault::Line {

@@ -1,11 +1,12 @@
 //! The lines of an explanation.
 
-use crate::case::{Case, read_case};
-use crate::command::{Explanation, explain};
+use crate::case::Case;
+use crate::command::Explanation;
 use crate::fault::CaseFault;
 use crate::list::Taken;
+use crate::round::round_of;
 use controller_walk::{DescriptorAt, FaultCause, WalkFault};
-use entry_codec::{Status, SubEntry};
+use entry_codec::Status;
 use fault_text::{line_at, put_line};
 use page_memory::Store;
 use sgl_descriptor::Descriptor;
@@ -49,35 +50,19 @@ fn put_taken(out: &mut String, taken: &Taken) -> Result<(), AllocError> {
     out.push('\n')
 }
 
-/// The first descriptor that stands where an earlier one does, by its place among all, and that earlier one.
-fn first_repeated(all: &[Taken]) -> Option<(usize, Taken)> {
-    for (i, taken) in all.iter().enumerate() {
-        for earlier in all.iter().take(i) {
-            if earlier.at.place == taken.at.place {
-                return Some((i, *earlier));
-            }
-        }
-    }
-    None
-}
-
 /// Puts the lines of descriptors. Of a list that goes round they are those of the first round.
 fn put_all(out: &mut String, explanation: &Explanation) -> Result<(), AllocError> {
     let all = explanation.taken.as_slice();
-    let told = match explanation.fault {
-        Some(fault) if fault.cause == FaultCause::TooManyDescriptors => first_repeated(all),
-        _ => None,
-    };
-    let Some((repeated, earlier)) = told else {
+    let Some(round) = round_of(explanation) else {
         for taken in all {
             put_taken(out, taken)?;
         }
         return Ok(());
     };
-    for taken in all.iter().take(repeated) {
+    for taken in all.iter().take(round.len) {
         put_taken(out, taken)?;
     }
-    let (left_out, number) = (all.len().saturating_sub(repeated), earlier.at.number);
+    let (number, left_out) = (round.again, round.left_out);
     write!(
         out,
         "the list goes round: descriptor {number} is next again, and so on, {left_out} more\n"
@@ -120,7 +105,7 @@ fn put_missing(out: &mut String, store: &Store, addr: u64, len: u64) -> Result<(
 }
 
 /// Puts more of a fault, where its sentence does not have all.
-fn put_more(
+pub(crate) fn put_more(
     out: &mut String,
     store: &Store,
     explanation: &Explanation,
@@ -172,7 +157,7 @@ pub(crate) fn rule_of(status: Status) -> &'static str {
 }
 
 /// Puts whether the list has more than was wanted of it.
-fn put_rest(out: &mut String, explanation: &Explanation) -> Result<(), AllocError> {
+pub(crate) fn put_rest(out: &mut String, explanation: &Explanation) -> Result<(), AllocError> {
     let Some(taken) = explanation.taken.last() else {
         return Ok(());
     };
@@ -219,41 +204,6 @@ pub fn put_explanation(
             let rule = rule_of(status);
             write!(out, "{rule}\n")
         }
-    }
-}
-
-/// What is printed of a case, and how its command ends.
-#[derive(Debug, Drop)]
-pub struct Answer {
-    /// The lines, each with its line feed.
-    pub text: String,
-    /// The status that the command completes with.
-    pub status: Status,
-}
-
-/// Explains a case.
-fn answer_of(alloc: Global, case: Case) -> Result<Answer, AllocError> {
-    let mut case = case;
-    let entry = SubEntry::read(&case.entry);
-    let explanation = explain(alloc, &entry, &case.image, &mut case.store)?;
-    let mut text = String::new(alloc);
-    put_explanation(&mut text, &case, &explanation)?;
-    Ok(Answer {
-        text,
-        status: explanation.status,
-    })
-}
-
-/// Reads a case from lines, and explains it.
-///
-/// # Errors
-///
-/// Those of [`read_case`].
-pub fn explain_text(alloc: Global, text: &[u8]) -> Result<Answer, CaseFault> {
-    let case = read_case(alloc, text)?;
-    match answer_of(alloc, case) {
-        Ok(answer) => Ok(answer),
-        Err(_) => Err(CaseFault::Memory),
     }
 }
 

@@ -1,14 +1,15 @@
 //! Arbitrary lines.
 
 use explain::{CaseReader, Shown, Stop, show};
-use std::alloc::{AllocError, Global};
+use std::alloc::{AllocError, AllocGlobal, Global};
+use std::rt::Files;
 use test_support::Numbers;
 
 /// How many lines are read.
 const LINES: u32 = 100_000;
 
 /// Words of which lines are made: those that begin a line, numbers, bytes, and some that stand nowhere.
-const WORDS: [&[u8]; 26] = [
+const WORDS: [&[u8]; 28] = [
     b"page",
     b"page",
     b"block",
@@ -35,6 +36,8 @@ const WORDS: [&[u8]; 26] = [
     b"0",
     b"\xC3\xA9",
     b"\t",
+    b"@list.bytes",
+    b"@",
 ];
 
 /// Puts a word, or a byte.
@@ -43,7 +46,7 @@ fn put_word(line: &mut Vec<u8>, numbers: &mut Numbers) -> Result<(), AllocError>
         let [byte] = numbers.bytes::<1>();
         return Ok(line.push(byte)?);
     }
-    let word = WORDS.get(numbers.below(26) as usize).unwrap_or(&WORDS[0]);
+    let word = WORDS.get(numbers.below(28) as usize).unwrap_or(&WORDS[0]);
     Ok(line.extend_from_slice(word)?)
 }
 
@@ -67,19 +70,20 @@ fn shown_as(numbers: &mut Numbers) -> Shown {
 }
 
 /// Reads arbitrary lines, and tells how many were good.
-pub(crate) fn read_lines(alloc: Global) -> Result<String, AllocError> {
+pub(crate) fn read_lines<R: AllocGlobal + Files>(rt: &R) -> Result<String, AllocError> {
+    let alloc = rt.alloc();
     let mut numbers = Numbers::new(1);
     let mut reader = CaseReader::begin(alloc)?;
     let mut taken = 0u32;
     let mut decoded = 0u32;
     for _ in 0..LINES {
         let line = line(alloc, &mut numbers)?;
-        match reader.line(alloc, &line) {
+        match reader.line(rt, &line) {
             Ok(()) => taken = taken.saturating_add(1),
             Err(Stop::Memory) => return Err(AllocError),
             Err(Stop::At(..)) => {}
         }
-        if show(alloc, shown_as(&mut numbers), &line).is_ok() {
+        if show(rt, shown_as(&mut numbers), &line).is_ok() {
             decoded = decoded.saturating_add(1);
         }
     }

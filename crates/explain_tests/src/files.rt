@@ -1,7 +1,7 @@
 //! Cases that stand in files.
 
 use entry_codec::Status;
-use explain::{explain_text, fault_lines};
+use explain::{Layout, explain_text, fault_lines};
 use std::alloc::{AllocError, AllocGlobal, Global};
 use std::rt::Files;
 use std::{fs, io};
@@ -36,8 +36,9 @@ fn read_played(alloc: Global, text: &str) -> Result<Played, AllocError> {
 }
 
 /// What is printed for a case, also of one that is at fault.
-fn printed(alloc: Global, case: &[u8]) -> Result<String, AllocError> {
-    match explain_text(alloc, case) {
+fn printed<R: AllocGlobal + Files>(rt: &R, case: &[u8]) -> Result<String, AllocError> {
+    let alloc = rt.alloc();
+    match explain_text(rt, case, Layout::Lines) {
         Ok(answer) => Ok(answer.text),
         Err(fault) => {
             let below = fault_lines(alloc, case, fault)?;
@@ -56,8 +57,8 @@ struct Ends {
 
 impl Ends {
     /// Counts the end of a case.
-    fn count(&mut self, alloc: Global, case: &[u8]) {
-        match explain_text(alloc, case) {
+    fn count<R: AllocGlobal + Files>(&mut self, rt: &R, case: &[u8]) {
+        match explain_text(rt, case, Layout::Objects) {
             Ok(answer) if answer.status == Status::SUCCESS => {
                 self.accepted = self.accepted.saturating_add(1);
             }
@@ -68,10 +69,10 @@ impl Ends {
 }
 
 /// Cuts a case after each byte.
-fn cut(alloc: Global, case: &[u8]) -> Ends {
+fn cut<R: AllocGlobal + Files>(rt: &R, case: &[u8]) -> Ends {
     let mut ends = Ends::default();
     for len in 0..case.len() {
-        ends.count(alloc, case.get(..len).unwrap_or(&[]));
+        ends.count(rt, case.get(..len).unwrap_or(&[]));
     }
     ends
 }
@@ -81,7 +82,7 @@ pub(crate) fn play_file<R: AllocGlobal + Files + Print>(rt: &R, file: &str) -> i
     let alloc = rt.alloc();
     let text = fs::read_to_string(rt, file)?;
     let Played { case, wanted } = read_played(alloc, text.as_str())?;
-    let came = printed(alloc, case.as_bytes())?;
+    let came = printed(rt, case.as_bytes())?;
     if came != wanted {
         println!(rt; "{file} differs: there came")?;
         print!(rt; "{came}")?;
@@ -91,7 +92,7 @@ pub(crate) fn play_file<R: AllocGlobal + Files + Print>(rt: &R, file: &str) -> i
         accepted,
         refused,
         at_fault,
-    } = cut(alloc, case.as_bytes());
+    } = cut(rt, case.as_bytes());
     println!(rt; "{file} ok; cut: {accepted} accepted, {refused} refused, {at_fault} at fault")?;
     Ok(true)
 }

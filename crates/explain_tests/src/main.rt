@@ -31,7 +31,7 @@ fn start<R: AllocGlobal + Env + Files + Print>(rt: &R) -> io::Result<bool> {
             good = false;
         }
     }
-    let told = read_lines(rt.alloc())?;
+    let told = read_lines(rt)?;
     println!(rt; "{told}")?;
     Ok(good)
 }

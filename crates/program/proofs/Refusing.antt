@@ -25,7 +25,7 @@ wanting told (test tested) bytes = tt
 wanting told (shell given traces) bytes = tt
 wanting told (draw given) bytes = tt
 wanting told (traced given) bytes = tt
-wanting told (explain path) bytes = tt
+wanting told (explain path objects) bytes = tt
 wanting told (show words) bytes = tt
 wanting told grammar bytes = inl refl
 

@@ -8,7 +8,7 @@ use crate::fault::{BytesFault, Fault, Told};
 use crate::inputs::script_text;
 use crate::printing::print_text;
 use entry_codec::Status;
-use explain::{Answer, CaseFault, Shown, explain_text, fault_lines, show};
+use explain::{Answer, CaseFault, Layout, Shown, explain_text, fault_lines, show};
 use std::alloc::{AllocError, AllocGlobal, Global};
 use std::io::{Read, Write};
 use std::rt::Files;
@@ -26,6 +26,7 @@ fn at_fault(alloc: Global, text: &[u8], fault: CaseFault) -> Told<Fault>
 pub(crate) fn explain_case<R: AllocGlobal + Files, I: Read, W: Write>(
     rt: &R,
     path: Option<&str>,
+    layout: Layout,
     reader: &mut I,
     writer: &mut W,
 ) -> Result<(), Told<Fault>>
@@ -33,7 +34,7 @@ pub(crate) fn explain_case<R: AllocGlobal + Files, I: Read, W: Write>(
 {
     let alloc = rt.alloc();
     let case = script_text(rt, path, reader)?;
-    match explain_text(alloc, &case) {
+    match explain_text(rt, &case, layout) {
         Ok(Answer { text, status }) => {
             print_text(alloc, Ok(text), writer)?;
             if status == Status::SUCCESS {
@@ -57,13 +58,14 @@ fn joined(alloc: Global, words: &[&str]) -> Result<String, AllocError> {
 }
 
 /// Decodes the bytes behind the first word.
-pub(crate) fn show_words<W: Write>(
-    alloc: Global,
+pub(crate) fn show_words<R: AllocGlobal + Files, W: Write>(
+    rt: &R,
     words: &[&str],
     writer: &mut W,
 ) -> Result<(), Told<Fault>>
     ensures fault { IfErr result (λ told. IsBytesFault told.fault) }
 {
+    let alloc = rt.alloc();
     let Some((first, others)) = words.split_first() else {
         return Err(Told::alone(alloc, Fault::Bytes(BytesFault::UnknownKind)));
     };
@@ -73,7 +75,7 @@ pub(crate) fn show_words<W: Write>(
     let Ok(bytes) = joined(alloc, others) else {
         return Err(at_fault(alloc, &[], CaseFault::Memory));
     };
-    match show(alloc, what, bytes.as_bytes()) {
+    match show(rt, what, bytes.as_bytes()) {
         Ok(text) => print_text(alloc, Ok(text), writer),
         Err(fault) => Err(at_fault(alloc, bytes.as_bytes(), fault)),
     }

@@ -18,6 +18,7 @@ use crate::printing::print_text;
 use crate::saving::save_image;
 use command_line::{CommandLine, Options, Testing, words};
 use draw::draw_steps;
+use explain::Layout;
 use fault_text::{Grammar, grammar_text};
 use job_cli::run_jobs;
 use script_cli::{MAX_SCRIPT, RunFault, play_steps};
@@ -42,7 +43,7 @@ pub fn run<R: AllocGlobal + Env + Eprint + Files + Input + Print + Sync + Thread
         Ok(()) => ExitCode::SUCCESS,
         Err(told) => {
             // Where standard error is closed, the exit status alone tells.
-            let _ = told.print(rt);
+            let _ = eprint!(rt; "{told}");
             ExitCode::from(told.fault.exit_status())
         }
     }
@@ -104,8 +105,15 @@ pub fn perform<
             talk(rt, options, traces, reader, writer, is_terminal)
         }
         Ok(CommandLine::Draw(options)) => draw_script(rt, options, reader, writer),
-        Ok(CommandLine::Explain(path)) => explain_case(rt, path, reader, writer),
-        Ok(CommandLine::Show(words)) => show_words(rt.alloc(), &words, writer),
+        Ok(CommandLine::Explain(path, objects)) => {
+            let layout = if objects {
+                Layout::Objects
+            } else {
+                Layout::Lines
+            };
+            explain_case(rt, path, layout, reader, writer)
+        }
+        Ok(CommandLine::Show(words)) => show_words(rt, &words, writer),
         Ok(CommandLine::Grammar) => print_grammar(rt.alloc(), writer),
         Err(why) => Fault::shown(rt, why),
     }

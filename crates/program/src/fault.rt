@@ -9,7 +9,7 @@ use clap::error::ErrorKind;
 use explain::CaseFault;
 use script_cli::{ImageFault, RunFault};
 use std::alloc::{AllocGlobal, Global};
-use std::io;
+use std::{fmt, io};
 use transcripts::Tally;
 
 /// Why bytes that were pasted in did not end well.
@@ -119,22 +119,21 @@ fn not_written(why: &io::Error) -> Fault {
     }
 }
 
-impl Told<Fault> {
-    /// Prints the fault on standard error, and what stands below it.
-    pub fn print<R: Print + Eprint>(&self, rt: &R) -> io::Result<()> {
+impl fmt::Display for Told<Fault> {
+    /// The fault's line and those below it, whole lines; nothing of what the output told, nor of an output that its reader closed.
+    fn fmt<W: fmt::Write>(&self, f: &mut fmt::Formatter<W>) -> fmt::Result {
         match &self.fault {
-            Fault::Arguments(why) => why.print(rt)?,
-            Fault::Image(fault) => eprintln!(rt; "{fault}")?,
-            Fault::Run(fault) => eprintln!(rt; "{fault}")?,
-            Fault::NotSaved => eprintln!(rt; "image: not saved")?,
-            Fault::Bytes(BytesFault::Case(fault)) => eprintln!(rt; "{fault}")?,
+            Fault::Arguments(why) => write!(f, "{why}")?,
+            Fault::Image(fault) => write!(f, "{fault}\n")?,
+            Fault::Run(fault) => write!(f, "{fault}\n")?,
+            Fault::NotSaved => f.write_str("image: not saved\n")?,
+            Fault::Bytes(BytesFault::Case(fault)) => write!(f, "{fault}\n")?,
             Fault::Bytes(BytesFault::UnknownKind) => {
-                eprintln!(rt; "show: the first word is sqe, cqe or sgl")?
+                f.write_str("show: the first word is sqe, cqe or sgl\n")?
             }
             Fault::PipeClosed | Fault::Transcripts(_) | Fault::Bytes(BytesFault::Refused) => {}
         }
-        let below = self.below.as_str();
-        eprint!(rt; "{below}")
+        f.write_str(self.below.as_str())
     }
 }
 
