@@ -5,6 +5,7 @@ ghost use Rattle.std.specs.Prelude.{◌≤◌, IfOk, length};
 use crate::fault::Wrong;
 use byte_runs::{RunsFault, bytes_of};
 use fault_text::{Place, word_from};
+use page_memory::PAGE_BYTES;
 use script_cli::{ReadFault, read_first, words_of};
 use std::alloc::{AllocError, AllocGlobal};
 use std::fs::File;
@@ -110,7 +111,7 @@ impl<'a> Line<'a> {
 /// What names a file in place of bytes.
 const FILE: u8 = b'@';
 
-/// The bytes of a file, so many at most.
+/// The bytes of a file, so many at most, and no more than a page has.
 fn file_bytes<R: AllocGlobal + Files>(
     rt: &R,
     path: &[u8],
@@ -123,6 +124,7 @@ fn file_bytes<R: AllocGlobal + Files>(
         Ok(file) => file,
         Err(why) => return Ok(Err(Wrong::NoFile(Some(why.kind())))),
     };
+    let most = most.min(PAGE_BYTES);
     match read_first(rt.alloc(), &mut file, most) {
         Ok(bytes) if bytes.len() <= most => Ok(Ok(bytes)),
         Ok(_) => Ok(Err(Wrong::TooManyBytes(most))),
