@@ -1,5 +1,5 @@
--- What a reset leaves of a host alone, and what a device's writes leave of its pages.
-use Rattle.std.proofs.Common.{◌≡◌, ℕ, ◌<◌, ◌≤◌, ◌+◌, ◌-◌, ◌*◌, ◌&&◌, Bool, true, false, Option, Some, None, IsSome, is_some, List, [], ◌∷◌, length, slice_get, refl, ap, sym, ◌∙◌, subst, nat_le, nat_lt, arith}
+-- What a reset leaves of a host alone, and what is of the host and not of its pages.
+use Rattle.std.proofs.Common.{◌≡◌, Option, refl, ap, ap₂, sym, subst}
 use Rattle.host_core.specs.Alone.{HostView, IsOver, alone}
 use Rattle.host_core.specs.Resetting.{host_reset, pages_reset}
 use Rattle.host_core.proofs.Exact.{writes_leave_over}
@@ -16,24 +16,26 @@ use Rattle.host_bench.specs.Pool.{Keeps}
 use Rattle.host_bench.specs.declared.kept.Value.{Value}
 use Rattle.host_bench.proofs.KeptRows.{goes_on}
 
--- a reset is a step of the machine, whoever the controller is
-reset_step : (s : State) → Step s events.Reset events.Accepted (after_reset s)
-reset_step s = (tt, permits s.trusted, refl)
-  where
-    permits : (b : Bool) → _
-    permits b = ?
+-- a reset is a step of the machine with no controller
+reset_step : (v : HostView) (pages : Pages) → Step (alone v pages) events.Reset events.Accepted (after_reset (alone v pages))
+reset_step v pages = (tt, ((refl, tt), refl))
+
+-- other pages leave the host's what is its own
+pub over_kept : (v : HostView) (pages pages' : Pages) → IsOver v pages → Keeps pages pages' → IsOver v pages'
+over_kept v pages pages' over keeps = writes_leave_over v pages pages' over keeps.pool keeps.count keeps.stays
 
 module _ {A : Type 0} where
-  -- what ties values to a machine is of its host alone
-  abbrev Values : Type 0
-  Values = TableOf (Option (Value A))
+  pub bench_kept : (v : HostView) (pages pages' : Pages) (values : TableOf (Option (Value A))) → IsBench (alone v pages) values → IsBench (alone v pages') values
+  bench_kept v pages pages' values b = record { queues = b.queues; places = b.places; inside = b.inside; distinct = b.distinct; held = b.held }
 
-  same_host : (s t : State) (values : Values) → t.host ≡ s.host → t.entries ≡ s.entries → IsBench s values → IsBench t values
-  same_host s t values host entries b =
-      record {
-        queues = b.queues ∙ ap (λ (h : _). length h.queues) (sym host);
-        places = b.places ∙ ap (λ (n : ℕ). n - 1) (sym entries);
-        inside = b.inside;
-        distinct = b.distinct;
-        held = subst (λ (h : _). _) (sym host) b.held;
-      }
+  behind_reset : (s : State) (values : TableOf (Option (Value A))) → IsBench (after_reset s) values → IsBench (reset_alone s) values
+  behind_reset s values b = record { queues = b.queues; places = b.places; inside = b.inside; distinct = b.distinct; held = b.held }
+
+  pub resets : (v v' : HostView) (pages pages' : Pages) (values : TableOf (Option (Value A))) → IsBench (alone v pages) values → v' ≡ host_reset v pages → pages' ≡ pages_reset v pages
+      → (table_with (alone v' pages') values ≡ record (table_with (alone v pages) values) { world = reset_alone (alone v pages) }) × IsBench (alone v' pages') values
+  resets v v' pages pages' values b host memory =
+      let is = ap₂ alone host memory in (
+        ap (λ (s : State). table_with s values) is,
+        subst (λ (s : State). IsBench s values) (sym is)
+            (behind_reset (alone v pages) values (goes_on (alone v pages) events.Reset events.Accepted (after_reset (alone v pages)) values (reset_step v pages) (λ q cid. refl) b)),
+      )

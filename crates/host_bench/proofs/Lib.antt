@@ -4,3 +4,4 @@ pub mod Rows
 pub mod KeptRows
 pub mod Benches
 pub mod Alone
+pub mod Writes

@@ -9,7 +9,11 @@ use page_memory::{Dma, Store, TouchRecord, Unreadable};
 use std::alloc::Allocator;
 
 /// Fills the buffer with the bytes of a store from an address on. No page changes.
-pub(crate) fn read<A: Allocator>(store: &mut Store<A>, addr: u64, into: &mut [u8]) -> Result<(), Unreadable>
+pub(crate) fn read<A: Allocator>(
+    store: &mut Store<A>,
+    addr: u64,
+    into: &mut [u8],
+) -> Result<(), Unreadable>
     requires some { 0 < length into.old }
     requires few { length into.old ≤ 4096 }
     ensures read { OnOk result (bytes_at (byte_at store.old.pages) addr (length into.old) ≡ Some into.new) }
@@ -25,7 +29,11 @@ pub(crate) fn read<A: Allocator>(store: &mut Store<A>, addr: u64, into: &mut [u8
 }
 
 /// Puts the bytes into a store from an address on. Each page stays in or out.
-pub(crate) fn write<A: Allocator>(store: &mut Store<A>, addr: u64, bytes: &[u8]) -> Result<(), Unreadable>
+pub(crate) fn write<A: Allocator>(
+    store: &mut Store<A>,
+    addr: u64,
+    bytes: &[u8],
+) -> Result<(), Unreadable>
     requires some { 0 < length bytes.now }
     requires few { length bytes.now ≤ 4096 }
     ensures written { OnOk result (byte_at store.new.pages ≡ written (byte_at store.old.pages) addr bytes.now) }
