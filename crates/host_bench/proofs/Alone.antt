@@ -18,7 +18,7 @@ use Rattle.host_bench.proofs.KeptRows.{goes_on}
 
 -- a reset is a step of the machine with no controller
 reset_step : (v : HostView) (pages : Pages) → Step (alone v pages) events.Reset events.Accepted (after_reset (alone v pages))
-reset_step v pages = (tt, ((refl, tt), refl))
+reset_step v pages = (tt, (refl, tt), refl)
 
 -- other pages leave the host's what is its own
 pub over_kept : (v : HostView) (pages pages' : Pages) → IsOver v pages → Keeps pages pages' → IsOver v pages'

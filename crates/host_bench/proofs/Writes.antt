@@ -52,14 +52,19 @@ keeps_by old new whole whole' few count same =
     }
 
 -- what a write leaves
-pub write_keeps : {E : Type 0} (old new : Pages) (m : Memory) (addr : ℕ) (bytes : List ℕ) (result : Result (Unit {0}) E) → AreWhole old → AreWhole new → length new ≤ 65536 → length new ≡ length old → m ≡ byte_at old
-    → OnOk result (bytes_at m addr (length bytes) ≢ None) → OnOk result (byte_at new ≡ written m addr bytes) → OnErr result (byte_at new ≡ m) → Keeps old new
+pub write_keeps : {E R : Type 0} (old new : Pages) (m : Memory) (addr : ℕ) (bytes : List ℕ) (result : Result (Unit {0}) E) → AreWhole old → AreWhole new → length new ≤ 65536 → length new ≡ length old → m ≡ byte_at old
+    → OnOk result (bytes_at m addr (length bytes) ≢ None) → OnOk result (byte_at new ≡ written m addr bytes) → OnErr result ((byte_at new ≡ m) × R) → Keeps old new
 write_keeps old new m addr bytes (Ok done) whole whole' few count is there wrote stays =
     keeps_by old new whole whole' few count
     (λ place. ap (λ (m : Memory). is_some (m place)) wrote ∙ same_places m addr bytes there place ∙ ap (λ (m : Memory). is_some (m place)) is)
 write_keeps old new m addr bytes (Err why) whole whole' few count is there wrote stays =
-    keeps_by old new whole whole' few count (λ place. ap (λ (m : Memory). is_some (m place)) (stays ∙ is))
+    keeps_by old new whole whole' few count (λ place. ap (λ (m : Memory). is_some (m place)) (stays.0 ∙ is))
 
 -- pages that show the same bytes are the same
 pub same_pages : (old new : Pages) → AreWhole old → AreWhole new → length new ≡ length old → byte_at new ≡ byte_at old → new ≡ old
 same_pages old new whole whole' count same = told new old whole' whole count (λ place. ap (λ (m : Memory). m place) same)
+
+-- a write that is refused leaves the pages
+pub write_stays : {E R : Type 0} (old new : Pages) (m : Memory) (result : Result (Unit {0}) E) → AreWhole old → AreWhole new → length new ≡ length old → m ≡ byte_at old → OnErr result ((byte_at new ≡ m) × R) → OnErr result (new ≡ old)
+write_stays old new m (Ok done) whole whole' count is stays = tt
+write_stays old new m (Err why) whole whole' count is stays = same_pages old new whole whole' count (stays.0 ∙ is)

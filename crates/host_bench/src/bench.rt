@@ -1,6 +1,6 @@
 //! A host whose commands are named by numbers, and its pages, which a device reads and writes.
 
-ghost use Rattle.std.specs.Prelude.{◌≡◌, ◌+◌, ◌<◌, ◌≤◌, length, None, Some, IfOk, IfErr, OnOk, OnErr, slice_get};
+ghost use Rattle.std.specs.Prelude.{◌≡◌, ◌≢◌, ◌+◌, ◌<◌, ◌≤◌, length, None, Some, IfOk, IfErr, OnOk, OnErr, slice_get};
 ghost use Rattle.std.specs.List.{Contains};
 ghost use Rattle.std.specs.Option.{option_map};
 ghost use Rattle.host_core.specs.Alone.{alone, IsSoundHost};
@@ -107,6 +107,7 @@ impl<A: Allocator> HostBench<A> {
     pub fn write(&mut self, addr: u64, bytes: &[u8]) -> Result<(), Unreadable>
         requires some { 0 < length bytes.now }
         requires few { length bytes.now ≤ 4096 }
+        ensures there { OnOk result (bytes_at (byte_at self.old.world.memory) addr (length bytes.now) ≢ None) }
         ensures written { OnOk result (IsWritten self.old addr bytes.now self.new) }
         ensures missing { OnErr result (bytes_at (byte_at self.old.world.memory) addr (length bytes.now) ≡ None) }
         ensures same { OnErr result (self.new ≡ self.old) }

@@ -1,12 +1,9 @@
-use Rattle.host_bench.specs.Kept.{state_of}
-use Rattle.host_core.specs.Alone.{alone}
-use Rattle.std.proofs.Common.{[], refl}
-use Rattle.machine_model.specs.Events as events
-use Rattle.host_bench.proofs.KeptRows.{goes_on}
+use Rattle.std.proofs.Common.{ℕ, Option, Some, ap, sym, refl, ◌∙◌}
+use Rattle.std.specs.Option.{option_map}
+use Rattle.host_bench.specs.Doorbells.{tail_bell}
+use Rattle.host_bench.specs.declared.doorbell.Doorbell.{Doorbell}
 use Rattle.host_bench.proofs.kept.Kept.ring.Goals as goal
 
-pub returns-in-Ok-clause-kept : goal.returns-in-Ok-clause-kept
-returns-in-Ok-clause-kept g c = goes_on (state_of c.args.self.now) (events.Ring c.args.q) events.Accepted (alone c.ring.new.self c.ring.new.store.pages) c.args.self.now.values c.in-Ok.ensures.step (λ k n. refl) c.requires.bench
-
-pub returns-in-Err-clause-kept : goal.returns-in-Err-clause-kept
-returns-in-Err-clause-kept g c = goes_on (state_of c.args.self.now) (events.Ring c.args.q) (events.Refused c.in-Err.why []) (alone c.ring.new.self c.ring.new.store.pages) c.args.self.now.values c.in-Err.ensures.step (λ k n. refl) c.requires.bench
+pub returns-in-Ok-clause-does : goal.returns-in-Ok-clause-does
+returns-in-Ok-clause-does g c =
+    ((c.in-Ok.ensures.step c.args.self.now.store.pages, refl), ap (option_map (tail_bell c.args.q)) c.in-Ok.ensures.tail ∙ ap (λ (b : Doorbell). Some b) (sym c.tail.ensures))
