@@ -1,6 +1,8 @@
 -- What a reset leaves of a host alone, and what is of the host and not of its pages.
-use Rattle.std.proofs.Common.{◌≡◌, Option, refl, ap, ap₂, sym, subst}
+use Rattle.std.proofs.Common.{◌≡◌, ◌+◌, ◌-◌, Option, [], refl, ap, ap₂, sym, subst}
 use Rattle.host_core.specs.Alone.{HostView, IsOver, alone}
+use Rattle.host_core.specs.Opening.{opened_pages, opened_view}
+use Rattle.host_core.specs.declared.config.Config.{Config}
 use Rattle.host_core.specs.Resetting.{host_reset, pages_reset}
 use Rattle.host_core.proofs.Exact.{writes_leave_over}
 use Rattle.machine_model.specs.After.{after_reset}
@@ -14,7 +16,7 @@ use Rattle.host_bench.specs.Calls.{reset_alone}
 use Rattle.host_bench.specs.Kept.{IsBench, table_with}
 use Rattle.host_bench.specs.Pool.{Keeps}
 use Rattle.host_bench.specs.declared.kept.Value.{Value}
-use Rattle.host_bench.proofs.KeptRows.{goes_on}
+use Rattle.host_bench.proofs.KeptRows.{goes_on, opens_tied}
 
 -- a reset is a step of the machine with no controller
 reset_step : (v : HostView) (pages : Pages) → Step (alone v pages) events.Reset events.Accepted (after_reset (alone v pages))
@@ -39,3 +41,7 @@ module _ {A : Type 0} where
         subst (λ (s : State). IsBench s values) (sym is)
             (behind_reset (alone v pages) values (goes_on (alone v pages) events.Reset events.Accepted (after_reset (alone v pages)) values (reset_step v pages) (λ q cid. refl) b)),
       )
+
+  pub opens_kept : (c : Config) (v : HostView) (pages : Pages) (values : TableOf (Option (Value A))) → v ≡ opened_view c → pages ≡ opened_pages c → values ≡ record { queues = c.queues + 1; places = c.entries - 1; rows = [] }
+      → IsBench (alone v pages) values
+  opens_kept c v pages values host memory is = subst (λ (s : State). IsBench s values) (sym (ap₂ alone host memory)) (opens_tied c values is)
