@@ -7,7 +7,6 @@ use Rattle.host_core.specs.Resetting.{host_reset, pages_reset}
 use Rattle.host_core.proofs.Exact.{writes_leave_over}
 use Rattle.machine_model.specs.After.{after_reset}
 use Rattle.machine_model.specs.Events as events
-use Rattle.machine_model.specs.Script.{Table}
 use Rattle.machine_model.specs.State.{State}
 use Rattle.machine_model.specs.Step.{Step}
 use Rattle.page_memory.specs.Pages.{Pages}

@@ -1,5 +1,5 @@
 -- A host over its pages and the values that are about, as a table.
-use Rattle.std.specs.Prelude.{◌≡◌, ℕ, ◌-◌, None, Some, Option, List, [], length, filter_map, find, Result, Ok, Err}
+use Rattle.std.specs.Prelude.{◌≡◌, ℕ, ◌-◌, None, Some, Option, List, length, filter_map, find, Result, Ok, Err}
 use Rattle.std.specs.List.{AllByRecursion}
 use Rattle.io_commands.specs.Asked.{Request}
 use Rattle.io_commands.specs.Drafts.{DraftContents, built}

@@ -1,4 +1,4 @@
-use Rattle.std.proofs.Common.{◌∙◌, ap, arith, length}
+use Rattle.std.proofs.Common.{◌≡◌, ◌∙◌, ap, arith, length}
 use Rattle.page_memory.specs.Pages as store
 use Rattle.page_memory.specs.Pages.{byte_at}
 use Rattle.host_bench.proofs.Writes.{write_keeps, write_stays}
@@ -12,11 +12,11 @@ prove-unreachable-requires g c =
 pub returns-clause-same : goal.returns-clause-same
 returns-clause-same g c =
     let count = c.write-answer.ensures.pool ∙ ap (λ (x : store.Contents). length x.pages) c.clear.ensures.cleared in
-    write_stays c.args.store.now.pages c.write-answer.new.self.pages (byte_at c.clear.new.self.pages) c.write-answer.result c.requires.pool.whole c.pages.ensures.whole count c.clear.ensures.memory
+    write_stays (c.write-answer.new.self.touched ≡ c.clear.new.self.touched) c.args.store.now.pages c.write-answer.new.self.pages (byte_at c.clear.new.self.pages) c.write-answer.result c.requires.pool.whole c.pages.ensures.whole count c.clear.ensures.memory
     c.write-answer.ensures.refused
 
 pub returns-clause-keeps : goal.returns-clause-keeps
 returns-clause-keeps g c =
     let count = c.write-answer.ensures.pool ∙ ap (λ (x : store.Contents). length x.pages) c.clear.ensures.cleared in
-    write_keeps c.args.store.now.pages c.write-answer.new.self.pages (byte_at c.clear.new.self.pages) c.args.addr c.args.bytes.now c.write-answer.result c.requires.pool.whole c.pages.ensures.whole
+    write_keeps (c.write-answer.new.self.touched ≡ c.clear.new.self.touched) c.args.store.now.pages c.write-answer.new.self.pages (byte_at c.clear.new.self.pages) c.args.addr c.args.bytes.now c.write-answer.result c.requires.pool.whole c.pages.ensures.whole
     (omega (arith, count, c.requires.pool.few)) count c.clear.ensures.memory c.write-answer.ensures.there c.write-answer.ensures.written c.write-answer.ensures.refused

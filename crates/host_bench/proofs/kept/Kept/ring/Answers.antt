@@ -1,4 +1,4 @@
-use Rattle.std.proofs.Common.{ℕ, Option, Some, ap, sym, refl, ◌∙◌}
+use Rattle.std.proofs.Common.{Some, ap, sym, refl, ◌∙◌}
 use Rattle.std.specs.Option.{option_map}
 use Rattle.host_bench.specs.Doorbells.{tail_bell}
 use Rattle.host_bench.specs.declared.doorbell.Doorbell.{Doorbell}
