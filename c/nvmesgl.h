@@ -3,6 +3,7 @@
  *
  * nvmesgl_*  both sides over one pool. A call is one step; the code says whether it was done, the answer what it told.
  * nvmectl_*  the controller alone over the caller's bytes: nvmectl.h.
+ * nvmehost_* the driver alone over a pool that any device may read and write: nvmehost.h.
  *
  * What C must keep, and nothing here checks:
  *  1. A handle is all zero bytes before its opening (NVMESGL_CLOSED). It is never copied and never written while it is open.
@@ -118,7 +119,11 @@ enum nvmesgl_code {
     /* The pool has more than 65,536 pages. */
     NVMESGL_POOL_TOO_LONG = 51,
     /* The image has not so many blocks there, or the buffer is not whole blocks. */
-    NVMESGL_NO_BLOCKS = 52
+    NVMESGL_NO_BLOCKS = 52,
+    /* Of nvmehost.h: no bytes, or more than 4,096. */
+    NVMESGL_BAD_LENGTH = 53,
+    /* A byte is outside the pool, or on a page that is out of it. */
+    NVMESGL_PAGE_OUT = 54
 };
 
 /* The code as a sentence for people; "no such code" for other numbers. */

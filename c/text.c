@@ -48,6 +48,8 @@ const char *nvmesgl_text(uint32_t code) {
     case NVMESGL_BAD_DOORBELL: return "the doorbell does not hear the value";
     case NVMESGL_POOL_TOO_LONG: return "a pool has at most 65,536 pages";
     case NVMESGL_NO_BLOCKS: return "the image has not so many blocks there, or the buffer is not whole blocks";
+    case NVMESGL_BAD_LENGTH: return "a call moves 1 to 4,096 bytes";
+    case NVMESGL_PAGE_OUT: return "a byte is outside the pool or on a page that is out";
     default: return "no such code";
     }
 }

@@ -70,6 +70,8 @@ class Code(enum.IntEnum):
     LENGTH_MISMATCH = 44
     NOT_A_SOURCE = 45
     WRONG_LENGTH = 46
+    BAD_LENGTH = 53
+    PAGE_OUT = 54
 
 
 class Kind(enum.IntEnum):

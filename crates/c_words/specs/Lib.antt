@@ -2,3 +2,4 @@ pub mod Answers
 pub mod Codes
 pub mod Images
 pub mod Requests
+pub mod Owners

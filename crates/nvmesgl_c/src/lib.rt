@@ -17,5 +17,5 @@ mod queues;
 mod steps;
 
 pub use handle::Handle;
-pub use looks::{CCounts, COwner};
+pub use looks::CCounts;
 pub use options::{NotOpened, Options};

@@ -7,8 +7,8 @@ ghost use Rattle.nvmesgl_c.specs.Looks.{TellsCounts, TellsOwner};
 use crate::desk::Desk;
 use crate::handle::Handle;
 use c_words::code::{CLOSED, DONE, NO_PAGE};
+use c_words::{COwner, owner_of};
 use std::alloc::Global;
-use step_core::{Half, Owner, PageNo, Role};
 
 /// How many pages a pool has and each class of them, and whether nothing was forged since the opening or the last reset.
 #[repr(C)]
@@ -26,57 +26,6 @@ pub struct CCounts {
     pub data_pages: u32,
     /// Whether nothing was forged.
     pub trusted: bool,
-}
-
-/// Who owns a page.
-#[repr(C)]
-#[derive(Clone, Copy)]
-pub struct COwner {
-    /// 0 nobody, 1 a submission queue, 2 a completion queue, 3 a command for its data, 4 a command for its chain.
-    pub class: u32,
-    /// The queue, or the command's queue.
-    pub q: u16,
-    /// The command's identifier.
-    pub cid: u16,
-}
-
-/// An owner, as C sees it.
-fn owner_of(owner: Owner) -> COwner
-    ensures { result ≡ looks.owner_of owner }
-{
-    match owner {
-        Owner::Free => COwner {
-            class: 0,
-            q: 0,
-            cid: 0,
-        },
-        Owner::Queue {
-            q,
-            half: Half::Submission,
-        } => COwner {
-            class: 1,
-            q,
-            cid: 0,
-        },
-        Owner::Queue {
-            q,
-            half: Half::Completion,
-        } => COwner {
-            class: 2,
-            q,
-            cid: 0,
-        },
-        Owner::Command {
-            q,
-            cid,
-            role: Role::Data,
-        } => COwner { class: 3, q, cid },
-        Owner::Command {
-            q,
-            cid,
-            role: Role::Chain,
-        } => COwner { class: 4, q, cid },
-    }
 }
 
 /// What a desk counts.

@@ -1,0 +1,194 @@
+/* Arbitrary calls of a host whose device writes arbitrary bytes: host SEED CALLS. A call that is refused changes neither a byte of the pool nor a page's owner, nor what the
+ * host knows of its queues; whatever the device writes, the classes of pages add up to the pool, and each page has the owner that they count. */
+#include "nvmehost.h"
+
+#include <stdio.h>
+#include <stdlib.h>
+#include <string.h>
+
+enum { PAGE = 4096, PAGES = 24, QUEUES = 3, ENTRIES = 4 };
+
+/* What can be seen of a host without changing it. */
+typedef struct seen {
+    uint8_t bytes[PAGES][PAGE];
+    uint32_t codes[PAGES];
+    nvmesgl_page_owner owners[PAGES];
+    nvmehost_pages pages;
+    nvmehost_queue queues[QUEUES];
+} seen;
+
+static seen before, after;
+static nvmehost host = NVMEHOST_CLOSED;
+static nvmesgl_answer answer;
+static nvmehost_doorbell bell;
+static unsigned long counts[64], writes, rejected;
+static uint64_t state;
+
+static unsigned below(unsigned n) {
+    state ^= state << 13;
+    state ^= state >> 7;
+    state ^= state << 17;
+    return (unsigned)((state >> 11) % n);
+}
+
+static void fail(const char *why, uint32_t code) {
+    printf("%s: %s (%u)\n", why, nvmesgl_text(code), code);
+    exit(1);
+}
+
+static void see(seen *s) {
+    memset(s, 0, sizeof *s);
+    for (uint32_t p = 0; p < PAGES; p++) {
+        s->codes[p] = nvmehost_read(&host, (uint64_t)p * PAGE, s->bytes[p], PAGE);
+        if (s->codes[p] != NVMESGL_DONE && s->codes[p] != NVMESGL_PAGE_OUT) fail("a page is read", s->codes[p]);
+        uint32_t code = nvmehost_owner(&host, p, &s->owners[p]);
+        if (code != NVMESGL_DONE) fail("an owner", code);
+    }
+    uint32_t code = nvmehost_counts(&host, &s->pages);
+    if (code != NVMESGL_DONE) fail("counts", code);
+    for (uint16_t q = 0; q < QUEUES; q++) {
+        nvmehost_queue found;
+        code = nvmehost_look(&host, q, &found);
+        if (code != NVMESGL_DONE) fail("a queue", code);
+        s->queues[q].state = found.state;
+        s->queues[q].submission_tail = found.submission_tail;
+        s->queues[q].submission_head = found.submission_head;
+        s->queues[q].completion_head = found.completion_head;
+        s->queues[q].phase = found.phase;
+    }
+}
+
+/* The owners are those that are counted, and each page that is out is a command's. */
+static void recount(const seen *s) {
+    uint32_t classes[5] = {0};
+    for (uint32_t p = 0; p < PAGES; p++) {
+        if (s->owners[p].kind > NVMESGL_CHAIN) fail("an owner of no kind", s->owners[p].kind);
+        classes[s->owners[p].kind]++;
+        if (s->codes[p] == NVMESGL_PAGE_OUT && s->owners[p].kind < NVMESGL_DATA) fail("a page is out that is no command's", p);
+    }
+    if (classes[NVMESGL_FREE] != s->pages.free_pages || classes[NVMESGL_SUBMISSION_QUEUE] + classes[NVMESGL_COMPLETION_QUEUE] != s->pages.queue_pages
+        || classes[NVMESGL_DATA] != s->pages.data_pages || classes[NVMESGL_CHAIN] != s->pages.chain_pages)
+        fail("the owners are not as they are counted", 0);
+    if (s->pages.free_pages + s->pages.queue_pages + s->pages.data_pages + s->pages.chain_pages != s->pages.pages || s->pages.pages != PAGES)
+        fail("the classes do not add up", 0);
+}
+
+/* The device writes: any bytes anywhere, or a completion that fits now and then. */
+static void device(void) {
+    uint8_t bytes[PAGE];
+    writes++;
+    if (below(3) == 0) {
+        uint32_t count = 1 + below(below(4) == 0 ? PAGE : 64);
+        for (uint32_t i = 0; i < count; i++) bytes[i] = (uint8_t)below(256);
+        counts[nvmehost_write(&host, below(PAGES * PAGE + 200), bytes, count)]++;
+        return;
+    }
+    uint16_t q = (uint16_t)below(QUEUES);
+    nvmehost_queue queue;
+    if (nvmehost_look(&host, q, &queue) != NVMESGL_DONE) fail("a queue", 0);
+    uint32_t page = 0;
+    for (uint32_t p = PAGES; p-- > 0;) {
+        nvmesgl_page_owner owner;
+        if (nvmehost_owner(&host, p, &owner) == NVMESGL_DONE && owner.kind == NVMESGL_COMPLETION_QUEUE && owner.q == q) page = p;
+    }
+    memset(bytes, 0, 16);
+    bytes[8] = (uint8_t)(below(8) == 0 ? below(ENTRIES) : queue.submission_tail);
+    bytes[10] = (uint8_t)(below(16) == 0 ? below(QUEUES) : q);
+    bytes[12] = (uint8_t)below(ENTRIES);
+    bytes[14] = (uint8_t)((queue.phase ? 1 : 0) ^ (below(32) == 0));
+    if (below(6) == 0) bytes[14] = (uint8_t)(bytes[14] | below(128) << 1);
+    counts[nvmehost_write(&host, (uint64_t)page * PAGE + 16u * queue.completion_head, bytes, 16)]++;
+}
+
+static uint32_t arbitrary(void) {
+    uint16_t q = (uint16_t)below(QUEUES + 1), cid = (uint16_t)below(ENTRIES);
+    uint8_t bytes[2 * PAGE];
+    switch (below(22)) {
+    case 0:
+    case 1: {
+        nvmesgl_piece pieces[4];
+        uint32_t blocks = below(3);
+        size_t count = below(4);
+        for (size_t i = 0; i < count; i++) pieces[i] = (nvmesgl_piece){8 * below(500), 512 * below(3), below(5) == 0};
+        if (below(3) != 0) pieces[0] = (nvmesgl_piece){0, 512 * blocks, false}, count = 1;
+        return nvmehost_reserve(&host, q, below(4), below(16), blocks, pieces, count, &answer);
+    }
+    case 2:
+    case 3: memset(bytes, 7, sizeof bytes); return nvmehost_fill(&host, q, cid, bytes, below(2) == 0 ? 512 : below(sizeof bytes), &answer);
+    case 4:
+    case 5: return nvmehost_build(&host, q, cid, &answer);
+    case 6:
+    case 7: return nvmehost_submit(&host, q, cid, &answer);
+    case 8: return below(4) == 0 ? nvmehost_cancel(&host, q, cid, &answer) : nvmehost_build(&host, q, cid, &answer);
+    case 9: return nvmehost_ring(&host, q, &bell, &answer);
+    case 10:
+    case 11:
+    case 12: {
+        uint32_t code = nvmehost_reap(&host, q, &bell, &answer);
+        if (code == NVMESGL_DONE && bell.rings != (answer.state != NVMESGL_REAP_EMPTY)) fail("a head is told where nothing was taken", answer.state);
+        if (code == NVMESGL_DONE && answer.state >= NVMESGL_REAP_WRONG_QUEUE) rejected++;
+        return code;
+    }
+    case 13:
+    case 14: return nvmehost_collect(&host, q, cid, &answer);
+    case 15: return nvmehost_gather(&host, q, cid, bytes, below(3) == 0 ? 100 : sizeof bytes, &answer);
+    case 16: return nvmehost_release(&host, q, cid, &answer);
+    case 17: return nvmehost_abort(&host, q, cid, &answer);
+    case 18: return below(3) == 0 ? nvmehost_delete_sq(&host, q, &answer) : nvmehost_create_cq(&host, q, &answer);
+    case 19: return below(3) == 0 ? nvmehost_delete_cq(&host, q, &answer) : nvmehost_create_sq(&host, q, &answer);
+    case 20: return nvmehost_retire(&host, q, &answer);
+    default: return below(40) == 0 ? nvmehost_reset(&host, &answer) : nvmehost_write(&host, below(PAGES) * PAGE, bytes, below(2) == 0 ? 0 : PAGE + 1);
+    }
+}
+
+static void refuses_bad_use(const nvmehost_options *options) {
+    uint8_t byte;
+    nvmehost_options wrong = *options;
+    if (nvmehost_ring(&host, 1, &bell, &answer) != NVMESGL_CLOSED_HANDLE || bell.rings) fail("a closed handle", 0);
+    if (nvmehost_read(&host, 0, &byte, 1) != NVMESGL_CLOSED_HANDLE) fail("a closed handle", 0);
+    wrong.size = 8;
+    if (nvmehost_open(&host, &wrong, &answer) != NVMESGL_BAD_SIZE) fail("another size", 0);
+    wrong = *options;
+    wrong.reserved[2] = 1;
+    if (nvmehost_open(&host, &wrong, &answer) != NVMESGL_BAD_OPTION) fail("a reserved word", 0);
+    wrong = *options;
+    wrong.pages = 7;
+    if (nvmehost_open(&host, &wrong, &answer) != NVMESGL_BAD_CONFIG) fail("too few pages", 0);
+    wrong = *options;
+    wrong.pages = 8;
+    wrong.queues = 64;
+    if (nvmehost_open(&host, &wrong, &answer) != NVMESGL_NO_PAGES || answer.need != 130 || answer.free != 8) fail("too few pages for the rings", 0);
+}
+
+int main(int argc, char **argv) {
+    nvmehost_options options = NVMEHOST_OPTIONS;
+    if (argc != 3) return 2;
+    state = strtoull(argv[1], NULL, 10) * UINT64_C(0x9E3779B97F4A7C15) + 1;
+    options.pages = PAGES;
+    options.queues = QUEUES - 1;
+    options.entries = ENTRIES;
+    refuses_bad_use(&options);
+    uint32_t code = nvmehost_open(&host, &options, &answer);
+    if (code != NVMESGL_DONE) fail("open", code);
+    if (nvmehost_open(&host, &options, &answer) != NVMESGL_OPEN_HANDLE) fail("a second opening", 0);
+    if (nvmehost_read(&host, 0, NULL, 0) != NVMESGL_BAD_LENGTH || nvmehost_write(&host, 0, NULL, 0) != NVMESGL_BAD_LENGTH) fail("no byte", 0);
+    for (unsigned long left = strtoul(argv[2], NULL, 10); left != 0; left--) {
+        if (below(3) == 0) device();
+        bool looks = below(8) == 0;
+        if (looks) see(&before);
+        code = arbitrary();
+        counts[code]++;
+        if (!looks) continue;
+        see(&after);
+        recount(&after);
+        if (code != NVMESGL_DONE && memcmp(&before, &after, sizeof before) != 0) fail("a refused call changed what is seen", code);
+    }
+    nvmehost_close(&host);
+    nvmehost_close(&host);
+    if (nvmehost_reset(&host, &answer) != NVMESGL_CLOSED_HANDLE) fail("a closed handle", 0);
+    printf("%lu writes of the device, %lu completions rejected; codes:", writes, rejected);
+    for (unsigned i = 0; i < 64; i++)
+        if (counts[i] != 0) printf(" %u:%lu", i, counts[i]);
+    printf("\n");
+    return 0;
+}

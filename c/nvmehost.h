@@ -1,0 +1,156 @@
+/*
+ * nvmehost: the NVMe host driver alone, over a pool of 4,096-byte pages that any device may read and write, for C (C99) and C++.
+ *
+ * A handle keeps the driver and its pool. The controller is the caller's: what crosses is the pool's bytes (nvmehost_read and nvmehost_write, as a device reads and
+ * writes memory), and the values that the caller writes to the device's doorbells (nvmehost_ring and nvmehost_reap tell them). Address a is byte a
+ * of the pool, and page p its bytes 4,096 p to 4,096 p + 4,095.
+ *
+ * What each call promises it promises against any device, whatever stands in the pool and whatever is written there between calls: each page has one
+ * owner, no identifier of a queue is outstanding twice, and a completion that fits no submitted command is rejected. What is proved of each call stands in
+ * crates/nvmehost_c: a call that is not done changes nothing but the answer.
+ *
+ * Of C nothing more is asked than nvmesgl.h asks (1 to 5 there): a handle is all zero bytes before its opening (NVMEHOST_CLOSED), it is never copied, and one
+ * call at a time is made on it. Codes, kinds, pieces, answers and owners are those of nvmesgl.h.
+ */
+#ifndef NVMEHOST_H
+#define NVMEHOST_H
+
+#include "nvmesgl.h"
+
+#ifdef __cplusplus
+extern "C" {
+#endif
+
+/* A host that is open, or none. Opaque: C gives it room. */
+typedef struct nvmehost {
+    void *at;
+    bool full;
+} nvmehost;
+
+#define NVMEHOST_CLOSED {NULL, false}
+
+/* What a host is opened with. The reserved words are 0; a later version may give one a meaning. */
+typedef struct nvmehost_options {
+    uint32_t size;    /* sizeof(nvmehost_options) */
+    uint32_t pages;   /* of the pool, 8 to 65,536 */
+    uint32_t queues;  /* I/O queues, 1 to 64 */
+    uint32_t entries; /* of each ring, 2 to 1,024 */
+    uint32_t segment; /* the most descriptors of a segment, 2 to 256 */
+    uint32_t reserved[3];
+} nvmehost_options;
+
+#define NVMEHOST_OPTIONS {sizeof(nvmehost_options), 16, 1, 4, 256, {0}}
+
+/* A value for a doorbell register of the device (NVM Express over PCIe Transport Specification 1.0, section 3.1.2). */
+typedef struct nvmehost_doorbell {
+    uint32_t offset; /* of the register, from the device's first one on, where doorbells lie 4 bytes apart (CAP.DSTRD is 0): 4,096 + 4 * (2 q) of a tail and
+                      * 4,096 + 4 * (2 q + 1) of a head. Another stride: 4,096 + ((offset - 4,096) << CAP.DSTRD) */
+    uint32_t value;  /* to write there */
+    bool rings;      /* whether there is one; else the others are 0 */
+} nvmehost_doorbell;
+
+enum nvmehost_queue_state {
+    NVMEHOST_LIVE = 0,
+    NVMEHOST_DELETING = 1,  /* the deletion of its submission queue was sent, */
+    NVMEHOST_DELETED = 2,   /* and has ended: it waits to be retired */
+    NVMEHOST_RETIRED = 3,   /* its submission half is given back */
+    NVMEHOST_GONE = 4,      /* both halves are given back */
+    NVMEHOST_MAKING_CQ = 5, /* the creation of its completion queue was sent, */
+    NVMEHOST_HALF_MADE = 6, /* and has ended */
+    NVMEHOST_MAKING_SQ = 7  /* the creation of its submission queue was sent */
+};
+
+/* Where the host stands in the rings of a queue. */
+typedef struct nvmehost_queue {
+    uint32_t state;           /* enum nvmehost_queue_state */
+    uint16_t submission_tail; /* the slot of the next entry */
+    uint16_t submission_head; /* of the controller, as a completion told it last */
+    uint16_t completion_head; /* the slot where the next completion is looked for */
+    bool phase;               /* the phase tag of a new completion there */
+} nvmehost_queue;
+
+typedef struct nvmehost_pages {
+    uint32_t pages; /* of the pool: the sum of the next four */
+    uint32_t free_pages;
+    uint32_t queue_pages;
+    uint32_t chain_pages;
+    uint32_t data_pages;
+} nvmehost_pages;
+
+/* Opening and closing --------------------------------------------------------------------------------------------- */
+
+/* Opens a closed handle: every page is zero and every queue is live with empty rings. Queue q, from the admin queue 0 on, has the lowest pages: first its submission ring of
+ * S = ceil(entries / 64) pages, from page q (S + C) on, and then its completion ring of C = ceil(entries / 256) pages, from page q (S + C) + S on. A device whose I/O
+ * queues are to be made by Create I/O CQ and SQ is met by nvmehost_reset first: then queue 0 alone is live, at the same pages.
+ * Refused, the first that holds: OPEN_HANDLE, BAD_SIZE, BAD_OPTION, BAD_CONFIG, NO_PAGES; or MEMORY. */
+uint32_t nvmehost_open(nvmehost *, const nvmehost_options *, nvmesgl_answer *);
+
+/* Closes a handle: what is open is let go, whatever is outstanding. One that is closed stays so. */
+void nvmehost_close(nvmehost *);
+
+/* A command, named by its queue and identifier ---------------------------------------------------------------------- */
+
+/* Below, "Refused" names the codes of a handle that is open, in the order in which they are looked for. MEMORY may also come first. */
+
+/* Reserves a command of blocks of 512 bytes from slba on: the lowest free identifier (answer.cid) and pages (data_pages, chain_pages), as a draft. The pages are out of the
+ * pool until the draft is submitted or cancelled.
+ * Refused: NO_KIND, NO_QUEUE, DELETING, a fault of the request (TOO_MANY_PIECES to LENGTH_MISMATCH), NO_IDENTIFIER, NO_PAGES, MEMORY. */
+uint32_t nvmehost_reserve(nvmehost *, uint16_t q, uint32_t kind, uint64_t slba, uint32_t blocks, const nvmesgl_piece *pieces, size_t piece_count,
+                          nvmesgl_answer *);
+/* Fills the draft of a Write or a Compare with the bytes, and zeros behind them. Refused: NO_VALUE, NOT_A_SOURCE, WRONG_LENGTH, MEMORY. */
+uint32_t nvmehost_fill(nvmehost *, uint16_t q, uint16_t cid, const uint8_t *bytes, size_t byte_count, nvmesgl_answer *);
+/* Lays the draft's chain. Refused: NO_VALUE, MEMORY. */
+uint32_t nvmehost_build(nvmehost *, uint16_t q, uint16_t cid, nvmesgl_answer *);
+/* Submits a draft that is built: its pages are in the pool, and its entry stands behind the tail. A ticket takes its place. Refused: NO_VALUE, NOT_BUILT, QUEUE_GONE, QUEUE_FULL. */
+uint32_t nvmehost_submit(nvmehost *, uint16_t q, uint16_t cid, nvmesgl_answer *);
+/* Cancels a draft: its pages and its identifier are free. Refused: NO_VALUE. */
+uint32_t nvmehost_cancel(nvmehost *, uint16_t q, uint16_t cid, nvmesgl_answer *);
+/* Collects a command that has ended, by its ticket: answer.sct and answer.sc. Its pages are out of the pool. Refused: NO_VALUE, NOT_YET, MEMORY. */
+uint32_t nvmehost_collect(nvmehost *, uint16_t q, uint16_t cid, nvmesgl_answer *);
+/* Gathers the bytes of a finished Read into the front of a buffer: answer.bytes; none of a Write or a Compare.
+ * Refused: NO_VALUE, TOO_SHORT (the buffer stays as it was), MEMORY. */
+uint32_t nvmehost_gather(nvmehost *, uint16_t q, uint16_t cid, uint8_t *buffer, size_t buffer_len, nvmesgl_answer *);
+/* Releases a finished command: its pages and its identifier are free. Refused: NO_VALUE. */
+uint32_t nvmehost_release(nvmehost *, uint16_t q, uint16_t cid, nvmesgl_answer *);
+/* Sends an Abort of a submitted command on queue 0: answer.cid. It is not rung.
+ * Refused: NO_QUEUE, WRONG_STATE, NO_SUCH_COMMAND, NO_IDENTIFIER, QUEUE_FULL. */
+uint32_t nvmehost_abort(nvmehost *, uint16_t q, uint16_t cid, nvmesgl_answer *);
+
+/* A queue ----------------------------------------------------------------------------------------------------------- */
+
+/* Tells the value for the queue's tail doorbell, with which the device hears all that was submitted. Refused: NO_QUEUE. */
+uint32_t nvmehost_ring(nvmehost *, uint16_t q, nvmehost_doorbell *, nvmesgl_answer *);
+/* Takes one completion: answer.state says what was found (NVMESGL_REAP_EMPTY to NVMESGL_REAP_UNKNOWN_ID). Where one was taken, the value for the completion queue's head doorbell is told.
+ * Refused: NO_QUEUE. */
+uint32_t nvmehost_reap(nvmehost *, uint16_t q, nvmehost_doorbell *, nvmesgl_answer *);
+/* Each sends an admin command on queue 0 (answer.cid), which is not rung. Refused: NO_QUEUE, WRONG_STATE, OUTSTANDING (create_cq alone),
+ * NO_IDENTIFIER, NO_RUN (create_cq and create_sq), QUEUE_FULL. */
+uint32_t nvmehost_delete_sq(nvmehost *, uint16_t q, nvmesgl_answer *);
+uint32_t nvmehost_delete_cq(nvmehost *, uint16_t q, nvmesgl_answer *);
+uint32_t nvmehost_create_cq(nvmehost *, uint16_t q, nvmesgl_answer *);
+uint32_t nvmehost_create_sq(nvmehost *, uint16_t q, nvmesgl_answer *);
+/* Gives back the submission ring of a queue whose deletion was reaped. Refused: NOT_DELETED, NOT_DRAINED. */
+uint32_t nvmehost_retire(nvmehost *, uint16_t q, nvmesgl_answer *);
+/* Begins again, where the device is reset: queue 0 is as it opened, the I/O queues are gone, and every command that was submitted has ended, aborted. It is done always. */
+uint32_t nvmehost_reset(nvmehost *, nvmesgl_answer *);
+
+/* The device's side of the pool: 1 to 4,096 bytes from an address on -------------------------------------------------- */
+
+/* Copies bytes of the pool into a buffer. Refused, and the buffer stays as it was: BAD_LENGTH (the buffer has 0 or more than 4,096 bytes), PAGE_OUT (a byte is outside the pool, or on a page that
+ * is out: one of a draft or of a finished command). */
+uint32_t nvmehost_read(nvmehost *, uint64_t addr, uint8_t *buffer, size_t buffer_len);
+/* Writes bytes into the pool. Refused, and no byte changed: BAD_LENGTH, PAGE_OUT. */
+uint32_t nvmehost_write(nvmehost *, uint64_t addr, const uint8_t *bytes, size_t byte_count);
+
+/* Looks: they change nothing -------------------------------------------------------------------------------------- */
+
+uint32_t nvmehost_counts(nvmehost *, nvmehost_pages *);
+/* Refused: NO_PAGE. */
+uint32_t nvmehost_owner(nvmehost *, uint32_t page, nvmesgl_page_owner *);
+/* What the host knows of a queue. Refused: NO_QUEUE. */
+uint32_t nvmehost_look(nvmehost *, uint16_t q, nvmehost_queue *);
+
+#ifdef __cplusplus
+}
+#endif
+#endif

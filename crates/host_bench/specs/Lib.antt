@@ -1,0 +1,5 @@
+pub mod Values
+pub mod Doorbells
+pub mod Calls
+pub mod Kept
+pub mod Pool

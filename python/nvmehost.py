@@ -1,0 +1,344 @@
+"""nvmehost for Python: the NVMe host driver alone, over a pool of 4,096-byte pages that any device may read and write.
+
+    from nvmehost import Host
+    from nvmesgl import Kind, Piece
+
+    with Host(pages=64, entries=16) as host:
+        cid = host.reserve(1, Kind.READ, 0, 1, [Piece(0, 512)]).cid
+        host.build(1, cid)
+        host.submit(1, cid)
+        bell = host.ring(1)          # write bell.value to the device's register at bell.offset
+        page = host.read(0, 4096)    # as the device reads its memory
+
+Each method is one call of c/nvmehost.h and returns what the call tells. A call that is not done raises `nvmesgl.Refused`, which has its
+code, and changes nothing. The shared library is that of the module nvmesgl. A host is used by one thread at a time, and by the
+one that opened it.
+"""
+
+from __future__ import annotations
+
+import ctypes
+import enum
+from ctypes import POINTER, Structure, byref, c_bool, c_char_p, c_size_t, c_uint8, c_uint16, c_uint32, c_void_p
+from typing import Iterable, List, NamedTuple, Optional, Union
+
+import nvmesgl
+from nvmesgl import Code, Kind, Owner, OwnerKind, Piece, Refused, Reserved, State, Status
+
+__all__ = ["Counts", "Doorbell", "Host", "PAGE_BYTES", "Queue", "QueueState", "Reaped", "Rings"]
+
+PAGE_BYTES = 4096
+
+
+class QueueState(enum.IntEnum):
+    """What the host knows of a queue."""
+
+    LIVE = 0
+    DELETING = 1
+    DELETED = 2
+    RETIRED = 3
+    GONE = 4
+    MAKING_CQ = 5
+    HALF_MADE = 6
+    MAKING_SQ = 7
+
+
+class Doorbell(NamedTuple):
+    """A value to write to a doorbell register of the device. The offset is from the device's first register on, where doorbells lie 4
+    bytes apart (CAP.DSTRD is 0)."""
+
+    offset: int
+    value: int
+
+
+class Reaped(NamedTuple):
+    """What a reap found. The identifier and the status are there where a command has ended; dw0 is that of queue 0. The doorbell is that
+    of the completion queue's head, where a completion was taken."""
+
+    state: State
+    cid: Optional[int]
+    status: Optional[Status]
+    dw0: Optional[int]
+    doorbell: Optional[Doorbell]
+
+
+class Queue(NamedTuple):
+    """Where the host stands in the rings of a queue, in slots: its submission tail, the controller's submission head as a completion told it last,
+    its completion head, and the phase tag of a new completion there."""
+
+    state: QueueState
+    submission_tail: int
+    submission_head: int
+    completion_head: int
+    phase: bool
+
+
+class Rings(NamedTuple):
+    """The addresses where the two rings of a queue begin, as the device is told them: for AQA, ASQ and ACQ of queue 0, and as Create I/O CQ
+    and SQ carry them. None of a half that the queue has not."""
+
+    submission: Optional[int]
+    completion: Optional[int]
+
+
+class Counts(NamedTuple):
+    """How many pages the pool has and each class of them."""
+
+    pages: int
+    free_pages: int
+    queue_pages: int
+    chain_pages: int
+    data_pages: int
+
+
+class _Handle(Structure):
+    _fields_ = [("at", c_void_p), ("full", c_bool)]
+
+
+class _Options(Structure):
+    _fields_ = [
+        ("size", c_uint32),
+        ("pages", c_uint32),
+        ("queues", c_uint32),
+        ("entries", c_uint32),
+        ("segment", c_uint32),
+        ("reserved", c_uint32 * 3),
+    ]
+
+
+class _Doorbell(Structure):
+    _fields_ = [("offset", c_uint32), ("value", c_uint32), ("rings", c_bool)]
+
+
+class _Queue(Structure):
+    _fields_ = [
+        ("state", c_uint32),
+        ("submission_tail", c_uint16),
+        ("submission_head", c_uint16),
+        ("completion_head", c_uint16),
+        ("phase", c_bool),
+    ]
+
+
+class _Pages(Structure):
+    _fields_ = [(name, c_uint32) for name in Counts._fields]
+
+
+_declared = False
+
+_QUEUE_CALLS = ("delete_sq", "delete_cq", "create_cq", "create_sq", "retire")
+_COMMAND_CALLS = ("build", "submit", "cancel", "collect", "release", "abort")
+
+
+def _library() -> ctypes.CDLL:
+    """The shared library, with the types of the functions that are called here."""
+    global _declared
+    lib = nvmesgl._library()
+    if not _declared:
+        handle, answer, doorbell = POINTER(_Handle), POINTER(nvmesgl._Answer), POINTER(_Doorbell)
+        u16, u32, u64 = nvmesgl._U16, nvmesgl._U32, nvmesgl._U64
+        words = {
+            "open": [handle, POINTER(_Options), answer],
+            "reserve": [handle, u16, u32, u64, u32, POINTER(nvmesgl._Piece), c_size_t, answer],
+            "fill": [handle, u16, u16, c_char_p, c_size_t, answer],
+            "gather": [handle, u16, u16, POINTER(c_uint8), c_size_t, answer],
+            "ring": [handle, u16, doorbell, answer],
+            "reap": [handle, u16, doorbell, answer],
+            "reset": [handle, answer],
+            "read": [handle, u64, POINTER(c_uint8), c_size_t],
+            "write": [handle, u64, c_char_p, c_size_t],
+            "counts": [handle, POINTER(_Pages)],
+            "owner": [handle, u32, POINTER(nvmesgl._PageOwner)],
+            "look": [handle, u16, POINTER(_Queue)],
+            **{name: [handle, u16, answer] for name in _QUEUE_CALLS},
+            **{name: [handle, u16, u16, answer] for name in _COMMAND_CALLS},
+        }
+        for name, types in words.items():
+            function = getattr(lib, "nvmehost_" + name)
+            function.argtypes = types
+            function.restype = c_uint32
+        lib.nvmehost_close.argtypes = [handle]
+        lib.nvmehost_close.restype = None
+        _declared = True
+    return lib
+
+
+class Host:
+    """The host alone, with its pool. Used by `with`, or closed by `close`."""
+
+    def __init__(self, *, pages: int = 16, queues: int = 1, entries: int = 4, segment: int = 256) -> None:
+        """Opens a host: `pages` pages (8 to 65,536), all zero; `queues` I/O queues (1 to 64) beside the admin queue 0; `entries` entries of each
+        ring (2 to 1,024); segments of `segment` descriptors at most (2 to 256).
+
+        Every queue is live with empty rings. Where the I/O queues are to be made at the device (Create I/O CQ and SQ), call `reset` next."""
+        self._lib = _library()
+        self._handle = _Handle()
+        self._answer = nvmesgl._Answer()
+        self._bell = _Doorbell()
+        options = _Options(ctypes.sizeof(_Options), *(nvmesgl._fits(n, 32) for n in (pages, queues, entries, segment)))
+        self._call("open", byref(options))
+        self.pages = pages
+        self.queues = queues
+        self.entries = entries
+
+    def __enter__(self) -> "Host":
+        return self
+
+    def __exit__(self, *_: object) -> None:
+        self.close()
+
+    def __del__(self) -> None:
+        if getattr(self, "_handle", None) is not None:
+            self.close()
+
+    def close(self) -> None:
+        """Lets all go, whatever is outstanding. A host that is closed refuses each call with CLOSED_HANDLE."""
+        self._lib.nvmehost_close(byref(self._handle))
+
+    def _call(self, name: str, *arguments: object) -> nvmesgl._Answer:
+        code = getattr(self._lib, "nvmehost_" + name)(byref(self._handle), *arguments, byref(self._answer))
+        if code != Code.DONE:
+            raise Refused(code, self._answer.need, self._answer.free)
+        return self._answer
+
+    def _look(self, name: str, *arguments: object) -> None:
+        code = getattr(self._lib, "nvmehost_" + name)(byref(self._handle), *arguments)
+        if code != Code.DONE:
+            raise Refused(code)
+
+    # A command
+
+    def reserve(self, q: int, kind: Kind, slba: int, blocks: int, pieces: Iterable[Piece]) -> Reserved:
+        """Reserves a command of `blocks` blocks of 512 bytes from `slba` on, as a draft: `cid`, `data_pages`, `chain_pages`. Its pages are out of the
+        pool until it is submitted."""
+        items = [nvmesgl._Piece(nvmesgl._fits(p.offset, 32), nvmesgl._fits(p.len, 32), p.bucket) for p in pieces]
+        array = (nvmesgl._Piece * len(items))(*items)
+        told = self._call("reserve", q, kind, slba, blocks, array, len(items))
+        return Reserved(told.cid, told.data_pages, told.chain_pages)
+
+    def fill(self, q: int, cid: int, content: Union[bytes, bytearray]) -> None:
+        """Fills the draft of a Write or a Compare with the bytes, and zeros behind them."""
+        self._call("fill", q, cid, bytes(content), len(content))
+
+    def build(self, q: int, cid: int) -> None:
+        """Lays the draft's chain."""
+        self._call("build", q, cid)
+
+    def submit(self, q: int, cid: int) -> None:
+        """Submits a draft that is built: its pages are in the pool, and its entry stands behind the tail. It is not rung."""
+        self._call("submit", q, cid)
+
+    def cancel(self, q: int, cid: int) -> None:
+        """Cancels a draft: its pages and its identifier are free."""
+        self._call("cancel", q, cid)
+
+    def collect(self, q: int, cid: int) -> Status:
+        """Collects a command that has ended. Its pages are out of the pool."""
+        self._call("collect", q, cid)
+        return Status(self._answer.sct, self._answer.sc)
+
+    def gather(self, q: int, cid: int) -> bytes:
+        """The bytes of a finished Read; none of a Write or a Compare."""
+        try:
+            size = self._call("gather", q, cid, (c_uint8 * 0)(), 0).bytes
+        except Refused as refused:
+            if refused.code != Code.TOO_SHORT:
+                raise
+            size = self._answer.bytes
+        buffer = (c_uint8 * size)()
+        self._call("gather", q, cid, buffer, size)
+        return bytes(buffer)
+
+    def release(self, q: int, cid: int) -> None:
+        """Releases a finished command: its pages and its identifier are free."""
+        self._call("release", q, cid)
+
+    def abort(self, q: int, cid: int) -> int:
+        """Sends an Abort of a submitted command. The identifier on queue 0; it is not rung."""
+        return self._call("abort", q, cid).cid
+
+    # A queue
+
+    def ring(self, q: int) -> Doorbell:
+        """The value for the queue's tail doorbell, with which the device hears all that was submitted."""
+        self._call("ring", q, byref(self._bell))
+        return Doorbell(self._bell.offset, self._bell.value)
+
+    def reap(self, q: int) -> Reaped:
+        """Takes one completion, if a new one stands there: `state`, `cid`, `status`, `dw0`, and the `doorbell` to write then."""
+        told = self._call("reap", q, byref(self._bell))
+        state = State(told.state)
+        doorbell = Doorbell(self._bell.offset, self._bell.value) if self._bell.rings else None
+        if state not in (State.REAP_DONE, State.REAP_ADMIN_DONE):
+            return Reaped(state, None, None, None, doorbell)
+        status = Status(told.sct, told.sc)
+        return Reaped(state, told.cid, status, told.dw0 if state == State.REAP_ADMIN_DONE else None, doorbell)
+
+    def delete_sq(self, q: int) -> int:
+        """Sends the deletion of a submission queue. The identifier on queue 0; it is not rung."""
+        return self._call("delete_sq", q).cid
+
+    def delete_cq(self, q: int) -> int:
+        """Sends the deletion of a completion queue. The identifier on queue 0; it is not rung."""
+        return self._call("delete_cq", q).cid
+
+    def create_cq(self, q: int) -> int:
+        """Sends the creation of a completion queue. The identifier on queue 0; it is not rung."""
+        return self._call("create_cq", q).cid
+
+    def create_sq(self, q: int) -> int:
+        """Sends the creation of a submission queue. The identifier on queue 0; it is not rung."""
+        return self._call("create_sq", q).cid
+
+    def retire(self, q: int) -> None:
+        """Gives back the submission ring of a queue whose deletion was reaped."""
+        self._call("retire", q)
+
+    def reset(self) -> None:
+        """Begins again, where the device is reset: queue 0 is as it opened, the I/O queues are gone, and every command that was submitted has ended,
+        aborted."""
+        self._call("reset")
+
+    # The device's side of the pool
+
+    def read(self, addr: int, count: int) -> bytes:
+        """1 to 4,096 bytes of the pool from an address on, as the device reads them. BAD_LENGTH for another count; PAGE_OUT where a byte is outside
+        the pool, or on a page of a draft or of a finished command."""
+        buffer = (c_uint8 * count)()
+        self._look("read", addr, buffer, count)
+        return bytes(buffer)
+
+    def write(self, addr: int, content: Union[bytes, bytearray]) -> None:
+        """Writes 1 to 4,096 bytes into the pool from an address on, as the device writes them. Refused as `read`; then no byte changed."""
+        self._look("write", addr, bytes(content), len(content))
+
+    # Looks
+
+    def counts(self) -> Counts:
+        """How many pages there are, and of each class."""
+        pages = _Pages()
+        self._look("counts", byref(pages))
+        return Counts(*(getattr(pages, name) for name in Counts._fields))
+
+    def owner(self, page: int) -> Owner:
+        """Who owns a page."""
+        owner = nvmesgl._PageOwner()
+        self._look("owner", page, byref(owner))
+        return Owner(OwnerKind(owner.kind), owner.q, owner.cid)
+
+    def queue(self, q: int) -> Queue:
+        """What the host knows of a queue, and where it stands in its rings."""
+        queue = _Queue()
+        self._look("look", q, byref(queue))
+        return Queue(QueueState(queue.state), queue.submission_tail, queue.submission_head, queue.completion_head, queue.phase)
+
+    def rings(self, q: int) -> Rings:
+        """Where the rings of a queue begin. A ring lies in consecutive pages: it begins at the lowest page that its half owns. This looks at each page
+        of the pool."""
+        first: List[Optional[int]] = [None, None]
+        for page in range(self.pages):
+            owner = self.owner(page)
+            half = owner.kind - OwnerKind.SUBMISSION_QUEUE
+            if half in (0, 1) and owner.q == q and first[half] is None:
+                first[half] = page * PAGE_BYTES
+        return Rings(first[0], first[1])
