@@ -24,12 +24,9 @@ READY, FATAL = 1, 2
 PAGE = 4096
 
 
-def nvme(image, read_only=False, **more):
-    """What QEMU's command line says for a controller whose namespace 1 is a file. MDTS is a mebibyte: 2,048 blocks."""
-    device = {"serial": "nvmesgl", "drive": "image", "mdts": 8, **more}
-    said = ",".join(f"{name.replace('_', '-')}={value}" for name, value in device.items())
-    drive = f"file={image},if=none,format=raw,id=image" + (",read-only=on" if read_only else "")
-    return ["-drive", drive, "-device", f"nvme,{said}"]
+def nvme(image, drive=""):
+    """What QEMU's command line says for a controller whose namespace 1 is a file; `drive` is said of the file too. MDTS 8 is a mebibyte: 2,048 blocks."""
+    return ["-drive", f"file={image},if=none,format=raw,id=image{drive}", "-device", "nvme,serial=nvmesgl,drive=image,mdts=8"]
 
 
 class Link:
