@@ -27,12 +27,12 @@ SEGMENT = re.compile(r"  segment at page (\d+) \+ (\w+)h$")
 TYPES = {"Data Block": 0, "Bit Bucket": 1, "Segment": 2, "Last Segment": 3}
 
 
-def shell_of(program):
+def shell_of(program, options=tuple(OPTIONS)):
     """A running shell, driven as examples/shell.py drives it."""
     spec = importlib.util.spec_from_file_location("shell", os.path.join(ROOT, "examples", "shell.py"))
     module = importlib.util.module_from_spec(spec)
     spec.loader.exec_module(module)
-    return module.Shell([program, "shell", *OPTIONS])
+    return module.Shell([program, "shell", *options])
 
 
 def pieces(rng, blocks, buckets, most):
