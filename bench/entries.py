@@ -88,11 +88,12 @@ def entry_of(lines):
     """The fields that a trace tells of an entry."""
     fields = {}
     for line in lines:
-        if found := OPCODE.match(line):
+        opcode, words = OPCODE.match(line), WORDS.match(line)
+        if opcode:
             names = ["cmd.opc", "cmd.fuse_op", "cmd.psdt", "cmd.cid", "cmd.nsid", "cmd.mptr"]
-            fields.update(zip(names, [int(found[1], 16), *map(int, found.groups()[1:5]), int(found[6], 16)]))
-        elif found := WORDS.match(line):
-            fields.update(blocks_of(fields["cmd.opc"], *(int(found[at], 16) for at in (1, 2, 3))))
+            fields.update(zip(names, [int(opcode[1], 16), *map(int, opcode.groups()[1:5]), int(opcode[6], 16)]))
+        elif words:
+            fields.update(blocks_of(fields["cmd.opc"], *(int(words[at], 16) for at in (1, 2, 3))))
         elif line.startswith("    SGL1"):
             fields.update(descriptor_of(line))
     return fields
@@ -120,7 +121,8 @@ def lists_of(shell, lines):
     """Each descriptor of a traced list: its bytes in the pool, and its fields as they are told."""
     data, at = b"", 0
     for line in lines:
-        if found := SEGMENT.match(line):
+        found = SEGMENT.match(line)
+        if found:
             data, at = page_bytes(shell, int(found[1])), int(found[2], 16)
         elif data and DESCRIPTOR.match(line) and not line.startswith("    SGL1"):
             yield data[at : at + 16], descriptor_of(line)

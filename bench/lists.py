@@ -1,4 +1,7 @@
-"""Commands of one's own, each with its list, its data and its blocks: arbitrary ones, most good and some with one mistake; and what `nvmesgl explain` says of each."""
+"""Commands with lists of their own, each with its data and its blocks: arbitrary ones, every second one with one mistake.
+
+And what `nvmesgl explain` says of each, as what it leaves behind: a status, the pool and the image.
+"""
 
 import random
 import re

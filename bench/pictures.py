@@ -1,7 +1,7 @@
 """The part `draw` of bench/peers: the page that `nvmesgl draw` writes of a script of sixty steps, as a browser without a screen shows it.
 
-What a program can see is looked at: how many pictures there are, whether one of them is shown and which, whether each cell says the owner that the shell says, what
-keys and slider do, what is there without scripts, and of a picture of the window whether its colours are there and nothing is cut off.
+What a program can see is looked at: how many pictures there are, which one is shown, whether each cell says the owner that the shell says, what keys and
+slider do, what is there without scripts, and of a picture of the window whether its colours are there and nothing is cut off.
 """
 
 import html
