@@ -95,14 +95,14 @@ class Segment:
 
 
 class Command:
-    """An arbitrary command. `spoil` puts one mistake into it; `case` spells it."""
+    """An arbitrary command. `case` spells it; whoever wants a mistake in it changes it before."""
 
     def __init__(self, rng):
         self.rng = rng
         self.kind = rng.choice([READ, WRITE, COMPARE])
         self.blocks = rng.choice([1, 1, 2, 3, rng.randrange(1, 9), rng.randrange(1, 9 if self.kind == COMPARE else 33)])
         self.slba = rng.randrange(BLOCKS - self.blocks + 1)
-        self.nsid, self.fields = 1, {}
+        self.fields = {}
         self.parts = self._parts()
         self.segments = self._segments([[DATA_BLOCK, at, size] for at, size in self.parts])
         self.image = {number: some(rng, BLOCK) for number in range(self.slba, self.slba + self.blocks)}

@@ -8,6 +8,7 @@ import random
 import re
 import tempfile
 
+from admin import alike
 from entries import asked, page_bytes, request, shell_of
 from lists import LISTS, PAGE, arbitrary, explained
 from otherwise import otherwise
@@ -145,8 +146,8 @@ def qemu(program, shows_others, count=1000):
     try:
         if shows_others:
             return otherwise(program)
-        good = commands(program, count)
-        return own_lists(program, count) and good
+        good = [alike(), commands(program, count), own_lists(program, count)]
+        return all(good)
     except Missing as why:
         print(f"qemu: {why}")
         return False
