@@ -1,4 +1,4 @@
-"""Commands with lists of their own, each with its data and its blocks: arbitrary ones, every second one with one mistake.
+"""Commands with lists of their own, each with its data and its blocks: arbitrary ones, about half of them with one mistake.
 
 And what `nvmesgl explain` says of each, as what it leaves behind: a status, the pool and the image.
 """
@@ -289,7 +289,7 @@ SPOILS = [
 
 
 def arbitrary(count, seed=1):
-    """So many arbitrary commands, every second one as it should be."""
+    """So many arbitrary commands, about half of them as they should be."""
     rng = random.Random(seed)
     while count:
         command = Command(rng)
