@@ -48,6 +48,8 @@ class Qtest:
             try:
                 self.socket, _ = door.accept()
             except socket.timeout:
+                self.process.kill()
+                self.process.wait()
                 raise Late(f"QEMU did not begin: {self.said()}") from None
         self.socket.settimeout(patience)
         self.file = self.socket.makefile("rb", buffering=1 << 16)
