@@ -16,6 +16,8 @@ import tempfile
 ROOT = os.path.dirname(os.path.dirname(os.path.abspath(__file__)))
 BLOCK, PAGE, PORT, COMPARE = 512, 4096, 4420, 0x05
 OPTIONS = ["--pages", "64", "--queues", "2", "--entries", "8", "--segment", "4", "--blocks", "64"]
+# What blocks are filled with: few enough that a Compare now and then finds what it looks for.
+FILLS = [bytes(at * step & 0xFF for at in range(BLOCK)) for step in (1, 7)]
 BYTES = re.compile(r"    ((?:[0-9A-F]{2} ){15}[0-9A-F]{2})$")
 OPCODE = re.compile(r"    OPC (\w+)h [^,]*, FUSE (\d+), PSDT (\d+), CID (\d+), NSID (\d+), MPTR (\w+)h$")
 WORDS = re.compile(r"    CDW10 (\w+)h, CDW11 (\w+)h, CDW12 (\w+)h, CDW13 (\w+)h, CDW14 (\w+)h, CDW15 (\w+)h$")
@@ -25,18 +27,18 @@ SEGMENT = re.compile(r"  segment at page (\d+) \+ (\w+)h$")
 TYPES = {"Data Block": 0, "Bit Bucket": 1, "Segment": 2, "Last Segment": 3}
 
 
-def shell_of(program):
+def shell_of(program, options=tuple(OPTIONS)):
     """A running shell, driven as examples/shell.py drives it."""
     spec = importlib.util.spec_from_file_location("shell", os.path.join(ROOT, "examples", "shell.py"))
     module = importlib.util.module_from_spec(spec)
     spec.loader.exec_module(module)
-    return module.Shell([program, "shell", *OPTIONS])
+    return module.Shell([program, "shell", *options])
 
 
-def pieces(rng, blocks, buckets):
+def pieces(rng, blocks, buckets, most):
     """Random pieces of so many blocks, each in one page; some of a Read's go nowhere."""
     left, found = blocks * BLOCK, []
-    while left and len(found) < 12:
+    while left and len(found) < most:
         offset = rng.randrange(0, PAGE, 4)
         size = min(left, rng.choice([4, 64, 512, 512, 2048, PAGE]), PAGE - offset)
         found.append(f"x{size}" if buckets and rng.random() < 0.2 else f"{offset}+{size}")
@@ -44,13 +46,22 @@ def pieces(rng, blocks, buckets):
     return found + [f"0+{left}"] * (left > 0)
 
 
-def request(rng):
+def request(rng, most=12, buckets=True):
     """The lines that a command begins with, up to its submission, and its queue. It is alone, so it has identifier 0."""
     q, kind, blocks = rng.randrange(1, 3), rng.choice(["read", "write", "compare"]), rng.randrange(1, 9)
-    lines = [f"reserve {q} {kind} {rng.randrange(60)} {blocks} {' '.join(pieces(rng, blocks, kind == 'read'))}"]
+    lines = [f"reserve {q} {kind} {rng.randrange(60)} {blocks} {' '.join(pieces(rng, blocks, buckets and kind == 'read', most))}"]
     if kind != "read":
-        lines.append(f"fill {q} 0 {rng.randrange(256):02X}*{blocks * BLOCK}")
+        lines.append(f"fill {q} 0 {FILLS[rng.randrange(256) % len(FILLS)].hex() * blocks}")
     return q, lines + [f"build {q} 0", f"submit {q} 0"]
+
+
+def asked(shell, lines):
+    """The answers to lines; none of them may be at fault or refused."""
+    answers = [shell.ask(line) for line in lines]
+    bad = [said for answer in answers for said in answer[:1] if said.startswith("line ") or " refused " in said]
+    if bad:
+        raise ValueError(f"the shell answers {bad[0]}")
+    return answers
 
 
 def raw_of(lines):
@@ -77,11 +88,12 @@ def entry_of(lines):
     """The fields that a trace tells of an entry."""
     fields = {}
     for line in lines:
-        if found := OPCODE.match(line):
+        opcode, words = OPCODE.match(line), WORDS.match(line)
+        if opcode:
             names = ["cmd.opc", "cmd.fuse_op", "cmd.psdt", "cmd.cid", "cmd.nsid", "cmd.mptr"]
-            fields.update(zip(names, [int(found[1], 16), *map(int, found.groups()[1:5]), int(found[6], 16)]))
-        elif found := WORDS.match(line):
-            fields.update(blocks_of(fields["cmd.opc"], *(int(found[at], 16) for at in (1, 2, 3))))
+            fields.update(zip(names, [int(opcode[1], 16), *map(int, opcode.groups()[1:5]), int(opcode[6], 16)]))
+        elif words:
+            fields.update(blocks_of(fields["cmd.opc"], *(int(words[at], 16) for at in (1, 2, 3))))
         elif line.startswith("    SGL1"):
             fields.update(descriptor_of(line))
     return fields
@@ -99,7 +111,7 @@ def page_bytes(shell, page):
     """The bytes of a page that is in."""
     data = bytearray(PAGE)
     for line in shell.ask(f".page {page}"):
-        at, *row = line.split(" ")
+        at, *row = line.split()
         if row:
             data[int(at, 16) : int(at, 16) + len(row)] = bytes.fromhex("".join(row))
     return bytes(data)
@@ -109,7 +121,8 @@ def lists_of(shell, lines):
     """Each descriptor of a traced list: its bytes in the pool, and its fields as they are told."""
     data, at = b"", 0
     for line in lines:
-        if found := SEGMENT.match(line):
+        found = SEGMENT.match(line)
+        if found:
             data, at = page_bytes(shell, int(found[1])), int(found[2], 16)
         elif data and DESCRIPTOR.match(line) and not line.startswith("    SGL1"):
             yield data[at : at + 16], descriptor_of(line)
@@ -122,17 +135,14 @@ def carried(program, count):
     shell.ask(".trace on")
     for _ in range(count):
         q, lines = request(rng)
-        traced = [shell.ask(line) for line in lines][-1]
+        traced = asked(shell, lines)[-1]
         entry = raw_of(traced)
         yield "entry", entry, entry_of(traced)
         for raw, fields in lists_of(shell, traced):
             yield "descriptor", entry[:24] + raw + entry[40:], fields
-        for line in [f"ring {q}", ".serve"]:
-            shell.ask(line)
-        traced = shell.ask(f"reap {q}")
+        traced = asked(shell, [f"ring {q}", ".serve", f"reap {q}"])[-1]
         yield "completion", raw_of(traced), completion_of(traced)
-        for line in [f"collect {q} 0", f"release {q} 0"]:
-            shell.ask(line)
+        asked(shell, [f"collect {q} 0", f"release {q} 0"])
     shell.close()
 
 
