@@ -1,5 +1,7 @@
 //! What a driver needs of a device, and a small one that stands in its place.
 
+ghost use Rattle.std.specs.Prelude.{◌<◌, IfOk};
+
 use entry_codec::{ComEntry, Status, SubEntry, io_opcode};
 use host_bench::{Doorbell, HostBench, Unreadable};
 use sgl_descriptor::Descriptor;
@@ -50,11 +52,9 @@ impl SmallDevice {
     }
 
     /// Moves the block that an entry names, and answers the command's status.
-    fn carry_out(
-        &mut self,
-        entry: &SubEntry,
-        memory: &mut HostBench,
-    ) -> Result<Status, Unreadable> {
+    fn carry_out(&mut self, entry: &SubEntry, memory: &mut HostBench) -> Result<Status, Unreadable>
+        ensures fits { IfOk result (λ status. status.sct < 8) }
+    {
         let Some(block) = self.disk.get_mut(entry.cdw10 as usize) else {
             return Ok(Status::LBA_OUT_OF_RANGE);
         };
@@ -70,7 +70,9 @@ impl SmallDevice {
     }
 
     /// Posts the completion of a command.
-    fn post(&mut self, cid: u16, status: Status, memory: &mut HostBench) -> Result<(), Unreadable> {
+    fn post(&mut self, cid: u16, status: Status, memory: &mut HostBench) -> Result<(), Unreadable>
+        requires fits { status.sct < 8 }
+    {
         let completion = ComEntry {
             dw0: 0,
             sqhd: self.head,
