@@ -102,7 +102,7 @@ static void device(void) {
 
 static uint32_t arbitrary(void) {
     uint16_t q = (uint16_t)below(QUEUES + 1), cid = (uint16_t)below(ENTRIES);
-    uint8_t bytes[2 * PAGE];
+    uint8_t bytes[2 * PAGE] = {0};
     switch (below(22)) {
     case 0:
     case 1: {

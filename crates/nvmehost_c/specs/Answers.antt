@@ -1,5 +1,5 @@
 -- What C is told of each reply besides its code.
-use Rattle.std.specs.Prelude.{ℕ, true, false, Option, Some, None, [], length}
+use Rattle.std.specs.Prelude.{true, false, Option, Some, None, [], length}
 use Rattle.c_words.specs.Answers as words
 use Rattle.c_words.specs.Answers.{nothing, ended, reaped, refused}
 use Rattle.c_words.specs.declared.answer.Answer.{Answer}

@@ -1,6 +1,5 @@
 -- What each call answers, and what it leaves of the host that a handle keeps.
 use Rattle.std.specs.Prelude.{◌≡◌, ◌⊎◌, ◌<◌, ◌++◌, ℕ, Option, Some, None, List, length, drop, map}
-use Rattle.io_commands.specs.Asked.{Request}
 use Rattle.io_commands.specs.declared.request.Kind.{Kind}
 use Rattle.machine_model.specs.Script.{Table}
 use Rattle.c_words.specs.Answers.{nothing}
