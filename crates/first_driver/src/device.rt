@@ -93,7 +93,7 @@ impl SmallDevice {
 impl Device for SmallDevice {
     fn write_register(&mut self, doorbell: Doorbell) {
         if doorbell.offset == TAIL {
-            self.rung = doorbell.value as u16 % ENTRIES;
+            self.rung = (doorbell.value % u32::from(ENTRIES)) as u16;
         }
     }
 
