@@ -1,0 +1,83 @@
+"""The part `headers` of bench/peers: what the shell traces of arbitrary commands, and where libnvme's headers find the same fields in the same bytes.
+
+An entry lies in memory as `struct nvme_passthru_cmd` does up to its time limit: the address of that struct's data is the first word of SGL1, and the length of its
+metadata the word behind. A completion's status is taken apart by `nvme_status_code_type` and `nvme_status_code`.
+"""
+
+import os
+import subprocess
+import tempfile
+
+from entries import COMPARE, carried
+
+# Reads a line for each entry and completion, `e` or `c` and its bytes, and writes its fields, all in hexadecimal digits.
+READS = r"""#include <libnvme.h>
+#include <stddef.h>
+#include <stdio.h>
+#include <string.h>
+int main(void) {
+    char kind, text[129];
+    while (scanf(" %c %128s", &kind, text) == 2) {
+        unsigned char bytes[64] = {0};
+        for (size_t i = 0; text[2 * i] && i < sizeof bytes; i++) sscanf(text + 2 * i, "%2hhx", &bytes[i]);
+        if (kind == 'e') {
+            struct nvme_passthru_cmd at;
+            memset(&at, 0, sizeof at);
+            memcpy(&at, bytes, offsetof(struct nvme_passthru_cmd, timeout_ms));
+            printf("%x %x %x %x %llx %llx %x %x %x %x\n", at.opcode, at.flags, at.rsvd1, at.nsid, (unsigned long long)at.metadata,
+                   (unsigned long long)at.addr, at.metadata_len, at.cdw10, at.cdw11, at.cdw12);
+        } else {
+            unsigned status = (bytes[14] | bytes[15] << 8) >> 1;
+            printf("%x %x\n", nvme_status_code_type(status), nvme_status_code(status));
+        }
+    }
+    return 0;
+}
+"""
+
+
+def of_entry(told, words):
+    """The fields of an entry that libnvme's struct has, under the names of the trace."""
+    opcode, flags, cid, nsid, metadata, address, length, low, high, count = words
+    found = {"cmd.opc": opcode, "cmd.fuse_op": flags & 3, "cmd.psdt": flags >> 6, "cmd.cid": cid, "cmd.nsid": nsid, "cmd.mptr": metadata}
+    found.update({"cmd.sgl1.addr": address, "cmd.sgl1.len": length})
+    if opcode == COMPARE:
+        found.update({"cmd.dword10": low, "cmd.dword11": high, "cmd.dword12": count})
+    else:
+        found.update({"cmd.slba": high << 32 | low, "cmd.nlb": (count & 0xFFFF) + 1})
+    return {name: value for name, value in found.items() if name in told}
+
+
+def read(rows):
+    """What a C program over libnvme's headers reads in each row; none where there are no headers."""
+    with tempfile.TemporaryDirectory() as folder:
+        source, program = os.path.join(folder, "reads.c"), os.path.join(folder, "reads")
+        with open(source, "w", encoding="utf-8") as file:
+            file.write(READS)
+        if subprocess.run(["cc", "-Wall", source, "-o", program], capture_output=True).returncode != 0:
+            return None
+        text = "".join(f"{kind[0]} {raw.hex()}\n" for kind, raw, _ in rows)
+        ran = subprocess.run([program], input=text, capture_output=True, text=True, check=True)
+    return [[int(word, 16) for word in line.split()] for line in ran.stdout.splitlines()]
+
+
+def headers(program, count=1000):
+    """Whether libnvme's headers have the fields of arbitrary entries and completions where they are traced."""
+    rows = [row for row in carried(program, count) if row[0] != "descriptor"]
+    lines = read(rows)
+    if lines is None:
+        print("headers: libnvme or a C compiler is not there: apt-get install libnvme-dev gcc")
+        return False
+    whole, alike = {}, {}
+    for (kind, _, told), words in zip(rows, lines):
+        if kind == "entry":
+            found = of_entry(told, words)
+        else:
+            found = {"cqe.status.sct": words[0], "cqe.status.sc": words[1]}
+        good = all(told[name] == value for name, value in found.items())
+        whole[kind], alike[kind] = whole.get(kind, 0) + 1, alike.get(kind, 0) + good
+        if not good:
+            print(f"headers: {kind}: {told} is told, {found} is read")
+    for kind in whole:
+        print(f"headers: {kind}: {alike[kind]} of {whole[kind]} as libnvme's headers have them")
+    return len(lines) == len(rows) and alike == whole
