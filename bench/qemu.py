@@ -125,7 +125,7 @@ class World:
             return file.read()
 
     def exchange(self, q, owned, written):
-        """Lets both controllers do what was submitted on a queue: the status here, and in what they differ. `written` are the parts that a controller may write."""
+        """Lets both controllers do what was submitted on a queue; they may write the parts `written`. The status here, and in what they differ."""
         ring, here = self.rings[q], self.pages([number for _, _, number in owned])
         self.peer.put(here)
         asked(self.shell, [f"ring {q}", ".serve"])
