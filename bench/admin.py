@@ -6,7 +6,7 @@ Each command has a QEMU of its own, with no I/O queue but those that the case ma
 import tempfile
 
 from lists import DATA_BLOCK, PAGE, READ, descriptor, entry_of
-from peer import RINGS, Peer, Ring, said, status_of
+from peer import RINGS, Peer, said, status_of
 
 # A Data Block of 512 bytes; opcodes; the size of a ring of four entries, in its place; and statuses, SCT and SC in one number.
 DATA = descriptor(DATA_BLOCK, 8 * PAGE, 512)
@@ -68,7 +68,7 @@ def alike():
 
 def aborted(peer):
     """An Abort of a command that is under way: the drive lets one request through, and no second one while the clock stands still."""
-    ring = Ring(peer, 1, RINGS, RINGS + PAGE)
+    ring = peer.make()
     for cid in (0, 1):
         ring.post(entry_of(READ, DATA, cid=cid), ahead=cid)
     peer.link.tail(1, 2)
@@ -80,7 +80,7 @@ def aborted(peer):
 
 def twice(peer):
     """The second of two entries with one identifier."""
-    ring = Ring(peer, 1, RINGS, RINGS + PAGE)
+    ring = peer.make()
     for ahead in (0, 1):
         ring.post(entry_of(READ, DATA, cid=5), ahead=ahead)
     peer.link.tail(1, 2)

@@ -18,12 +18,11 @@ ADMIN, RINGS, ENTRIES = 0x100000, 0x110000, 8
 
 
 class Ring:
-    """An I/O queue of QEMU's, with one command at a time."""
+    """A queue that QEMU has at two addresses, with one command at a time."""
 
     def __init__(self, peer, q, sq, cq, entries=ENTRIES):
         self.peer, self.q, self.sq, self.cq, self.entries = peer, q, sq, cq, entries
         self.slot, self.phase = 0, 1
-        peer.admin.make_queue(q, entries, sq, cq)
 
     def post(self, entry, ahead=0):
         """Puts an entry into the slot at the tail, or so many ahead of it."""
@@ -54,6 +53,11 @@ class Peer:
         self.qemu = Qtest(nvme(self.path, drive), patience=patience)
         self.link = Link(self.qemu)
         self.admin = Admin(self.link, ADMIN)
+
+    def make(self, q=1, sq=RINGS, cq=RINGS + PAGE):
+        """Makes an I/O queue at two addresses."""
+        self.admin.make_queue(q, ENTRIES, sq, cq)
+        return Ring(self, q, sq, cq)
 
     def begin(self, image):
         """Puts the image into its file."""

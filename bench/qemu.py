@@ -12,8 +12,10 @@ from admin import alike
 from entries import asked, page_bytes, request, shell_of
 from lists import LISTS, PAGE, arbitrary, explained
 from otherwise import otherwise
-from peer import RINGS, Missing, Peer, Ring, said, status_of
+from peer import ENTRIES, Missing, Peer, Ring, said, status_of
 
+# The I/O queues of the shell's world, by entries.OPTIONS.
+QUEUES = [1, 2]
 OWNER = re.compile(r"(\d+)-(\d+) (command|queue) (\d+) (?:\d+ )?(\w+)$")
 
 
@@ -53,7 +55,7 @@ def own_lists(program, count):
     with tempfile.TemporaryDirectory() as folder:
         peer = Peer(folder, 64)
         with peer.qemu:
-            ring = Ring(peer, 1, RINGS, RINGS + PAGE)
+            ring = peer.make()
             for case in arbitrary(count):
                 here, there = explained(program, case), peer.answer(ring, case)
                 tally.count(here.status, differences(here, there), case.entry.hex())
@@ -61,28 +63,55 @@ def own_lists(program, count):
 
 
 class World:
-    """A shell's world, whose pool is mirrored in QEMU's memory: the commands of this project's driver go to both controllers."""
+    """A shell's world, whose pool is mirrored in QEMU's memory: the commands of this project's driver go to both controllers, its admin commands too."""
 
     def __init__(self, program, folder):
         self.folder = folder
         self.shell = shell_of(program)
         self.peer = Peer(folder, 64)
-        self.rings = {}
-        for q, halves in self._halves().items():
-            if q:
-                self.rings[q] = Ring(self.peer, q, halves["sq"] * PAGE, halves["cq"] * PAGE)
+        self.admin = Tally("admin commands of the driver")
+        self.reset()
 
-    def _owned(self):
-        """Who has which pages: what, queue, which part, pages."""
+    def reset(self):
+        """Resets both controllers, and makes the queues again: the admin queue by registers, at the pages that the driver has it in."""
+        asked(self.shell, ["reset"])
+        self.peer.link.disable()
+        self.rings = {0: self.ring_of(0)}
+        self.peer.put(self.pages([self.rings[0].sq // PAGE, self.rings[0].cq // PAGE]))
+        self.peer.link.enable(self.rings[0].sq, self.rings[0].cq, ENTRIES)
+        for q in QUEUES:
+            self.make(q)
+
+    def owned(self, *queues):
+        """The pages of these queues and of their commands: which part, queue and number."""
         for found in filter(None, map(OWNER.match, self.shell.ask(".owners"))):
-            yield found[3], int(found[4]), found[5], range(int(found[1]), int(found[2]) + 1)
+            if int(found[4]) in queues:
+                for number in range(int(found[1]), int(found[2]) + 1):
+                    yield found[5], int(found[4]), number
 
-    def _halves(self):
-        halves = {}
-        for what, q, half, pages in self._owned():
-            if what == "queue":
-                halves.setdefault(q, {})[half] = pages[0]
-        return halves
+    def ring_of(self, q):
+        """A queue where the driver has it now, empty."""
+        halves = {part: number * PAGE for part, _, number in self.owned(q)}
+        return Ring(self.peer, q, halves["sq"], halves["cq"])
+
+    def make(self, q):
+        """Makes a queue by the driver's commands."""
+        self.send(f"create_cq {q}", q)
+        self.send(f"create_sq {q}", q)
+        self.rings[q] = self.ring_of(q)
+
+    def delete(self, q):
+        """Deletes a queue by the driver's commands."""
+        self.send(f"delete_sq {q}", q)
+        asked(self.shell, [f"retire {q}"])
+        self.send(f"delete_cq {q}", q)
+
+    def send(self, line, q):
+        """Sends one of the driver's admin commands, which names a queue, to both controllers."""
+        asked(self.shell, [line])
+        status, others = self.exchange(0, list(self.owned(0, q)), ["cq"])
+        self.admin.count(status, others, line)
+        asked(self.shell, ["reap 0"])
 
     def pages(self, numbers):
         """The bytes of these pages of the world's pool."""
@@ -95,25 +124,28 @@ class World:
         with open(path, "rb") as file:
             return file.read()
 
-    def carry(self, rng):
-        """Carries one command out on both sides: its status here, and in what they differ."""
-        q, lines = request(rng, most=6, buckets=False)
-        asked(self.shell, lines)
-        kind, ring = lines[0].split()[2], self.rings[q]
-        owned = [(part, number) for _, own, part, pages in self._owned() if own == q for number in pages]
-        here = self.pages([number for _, number in owned])
+    def exchange(self, q, owned, written):
+        """Lets both controllers do what was submitted on a queue; they may write the parts `written`. The status here, and in what they differ."""
+        ring, here = self.rings[q], self.pages([number for _, _, number in owned])
         self.peer.put(here)
         asked(self.shell, [f"ring {q}", ".serve"])
         at = ring.cq + 16 * ring.slot
         posted = ring.ring()
-        here.update(self.pages([number for part, number in owned if part == "cq" or part == "data" and kind == "read"]))
+        here.update(self.pages([number for part, own, number in owned if own == q and part in written]))
         there = self.peer.pages(list(here))
         own = here[at // PAGE][at % PAGE : at % PAGE + 16]
-        others = compared(own, posted, here, there, at)
+        return status_of(own), compared(own, posted, here, there, at)
+
+    def carry(self, rng):
+        """Carries one command out on both sides: its status here, in what they differ, and its line."""
+        q, lines = request(rng, most=6, buckets=False)
+        kind = lines[0].split()[2]
+        asked(self.shell, lines)
+        status, others = self.exchange(q, list(self.owned(q)), ["cq", "data"] if kind == "read" else ["cq"])
         if kind == "write" and self.image() != self.peer.image():
             others.append("the image")
         asked(self.shell, [f"reap {q}", f"collect {q} 0", f"release {q} 0"])
-        return status_of(own), others, lines[0]
+        return status, others, lines[0]
 
 
 def compared(own, posted, here, there, at):
@@ -130,15 +162,20 @@ def compared(own, posted, here, there, at):
 
 
 def commands(program, count):
-    """Whether the driver's commands have the same completion, data and image as in QEMU."""
+    """Whether the driver's commands have the same completion, data and image as in QEMU; now and then a queue is deleted and made again, or all is reset."""
     tally = Tally("commands of the driver")
     with tempfile.TemporaryDirectory() as folder:
         world, rng = World(program, folder), random.Random(1)
         with world.peer.qemu:
-            for _ in range(count):
+            for number in range(count):
                 tally.count(*world.carry(rng))
+                if number % 100 == 50:
+                    world.reset()
+                elif number % 10 == 9:
+                    world.delete(number // 10 % 2 + 1)
+                    world.make(number // 10 % 2 + 1)
         world.shell.close()
-    return tally.good()
+    return all([world.admin.good(), tally.good()])
 
 
 def qemu(program, shows_others, count=1000):
