@@ -3,8 +3,6 @@
 use crate::expecting::same;
 use crate::fault_texts::told_of;
 use crate::performed::performed;
-use crate::transcript_files::path;
-use std::fs;
 use std::test::Fail;
 
 /// A Read of one block into page 8.
@@ -36,19 +34,6 @@ fn a_command_is_explained(rt: HostRuntime) -> Result<(), Fail> {
         let (text, status) = performed(&rt, &words, typed.as_bytes(), false)?;
         same(&rt, (text.as_str(), status), ("", 1));
     }
-    Ok(())
-}
-
-#[test]
-fn a_file_is_explained(rt: HostRuntime) -> Result<(), Fail> {
-    let file = path(&rt, "explained.case")?;
-    let file = file.as_str();
-    fs::write(&rt, file, READ)?;
-    let (text, status) = performed(&rt, &["nvmesgl", "explain", file], b"sge", false)?;
-    fs::remove_file(&rt, file)?;
-    same(&rt, (text.as_str(), status), (ACCEPTED, 0));
-    let (text, status) = performed(&rt, &["nvmesgl", "explain", file], b"", false)?;
-    same(&rt, (text.as_str(), status), ("", 1));
     Ok(())
 }
 
