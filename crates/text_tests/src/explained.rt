@@ -111,7 +111,7 @@ fn what_is_at_fault_is_told(rt: HostRuntime) -> Result<(), Fail> {
         "line 1: BadHex
   00*15 0G 
         ^^
-bytes are wanted here: two hexadecimal digits for each, or a byte so often, as 00*16.
+bytes are wanted here: two hexadecimal digits for each, or a byte so often, as 00*16, or a file, as @FILE.
 1
 ",
     );
