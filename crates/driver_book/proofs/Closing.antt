@@ -28,20 +28,22 @@ wanted zero made none is = absurd (true≢false (sym (subst IsOk is (none refl))
 wanted (suc n) made none is = omega arith
 
 -- once as many seats as are out were handed in, all parts of the ledger are back
-pub all_parts_back : {b : Bool} {o w : State} {log : List Entry} {tally subs parts out made ledger : ℕ} → IsBook b o w log tally subs parts out made ledger
+pub all_parts_back : {b : Bool} {o s w : State} {past log : List Entry} {tally subs parts out made ledger : ℕ} → IsBook b o past s w log tally subs parts out made ledger
     → (n joined : ℕ) → out ≤ n → joined ≡ parts + n → (0 < n → joined ≤ ledger) → joined ≡ ledger
 all_parts_back b zero joined all is bound = omega (arith, b.shares, b.all_parts, all, is)
 all_parts_back b (suc n) joined all is bound = omega (arith, b.shares, b.all_parts, all, is, bound (omega arith))
 
-pub closes_book : {b : Bool} {o w : State} {log : List Entry} {tally total subs parts joined out made ledger : ℕ} → IsBook b o w log tally subs parts out made ledger
-    → total ≡ tally → joined ≡ ledger → IsBook b o w log total subs joined 0 made ledger
+pub closes_book : {b : Bool} {o s w : State} {past log : List Entry} {tally total subs parts joined out made ledger : ℕ} → IsBook b o past s w log tally subs parts out made ledger
+    → total ≡ tally → joined ≡ ledger → IsBook b o past s w log total subs joined 0 made ledger
 closes_book b same back = record {
+  begun = b.begun;
   legal = b.legal;
   sound = b.sound;
   counted = omega (arith, b.counted, same);
   numbered = b.numbered;
   seated = b.seated;
   jobs = b.jobs;
+  past_jobs = b.past_jobs;
   shares = omega (arith, back, b.all_parts);
   all_parts = b.all_parts;
   given = omega arith;

@@ -31,6 +31,11 @@ pub leads_further : (old mid new : State) (log : List Entry) (e : Entry) → Lea
 leads_further old mid new [] e same tells = (new, subst (λ (s : State). TellsOf s e new) same tells, refl)
 leads_further old mid new (first ∷ log) e (next, made, rest) tells = (next, made, leads_further next mid new log e rest tells)
 
+-- one log behind another
+pub leads_on : (old mid new : State) (before after : List Entry) → LeadsTo old before mid → LeadsTo mid after new → LeadsTo old (before ++ after) new
+leads_on old mid new [] after same leads = subst (λ (s : State). LeadsTo s after new) same leads
+leads_on old mid new (e ∷ before) after (next, made, rest) leads = (next, made, leads_on next mid new before after rest leads)
+
 -- where a log is cut, there is a state
 leads_apart : (old new : State) (before after : List Entry) → LeadsTo old (before ++ after) new → (mid : State) × LeadsTo old before mid × LeadsTo mid after new
 leads_apart old new [] after leads = (old, refl, leads)

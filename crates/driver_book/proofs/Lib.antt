@@ -4,3 +4,4 @@ pub mod Standing
 pub mod Runs
 pub mod Seats
 pub mod Closing
+pub mod Carrying

@@ -21,9 +21,11 @@ use Rattle.driver_book.specs.Calls.{noted, entries, Does, WantsMemoryFor, IsLogF
 use Rattle.machine_model.proofs.Headline.{steps_keep, runs_are_sound}
 use Rattle.driver_book.proofs.Histories.{leads_further}
 use Rattle.step_log.specs.History.{asked, told, draft_of, entry_of, is_submission, is_accepted, accepted}
+use Rattle.driver_book.specs.Past.{start_of, past_of}
 use Rattle.driver_book.specs.State.{BookContents, SeatContents, IsBook, is_seated, AreSeated, is_of_jobs, AreOfJobs}
 use Rattle.step_log.specs.Values.{Entry, Room, LogContents, Takes, Lacks, answered}
 use Rattle.step_log.proofs.Keeping.{answered_last}
+use Rattle.step_core.specs.World.{WorldContents}
 use Rattle.step_core.specs.Replies.{accept_reply, reserve_reply}
 use Rattle.step_core.specs.declared.step.Step.TheVariants as step
 use Rattle.host_core.specs.Opening.{refusal_of_config}
@@ -76,19 +78,21 @@ not_accepted None b isnt = ap not isnt
 -- Books
 
 -- an entry that is no accepted submission
-book_step : {b : Bool} {o w v : State} {log : List Entry} {tally subs parts out made ledger : ℕ} (seat : Option ℕ) (e : Event) (r : events.Reply)
-    → IsBook b o w log tally subs parts out made ledger → machine.Step w e r v → Admits b e → is_submission (asked e) (told r) ≡ false
-    → IsBook b o v (log ++ entry_of seat e r ∷ []) tally subs parts out made ledger
-book_step {b = alone} {o = o} {w = w} {v = v} {log = log} seat e r b step takes other =
+book_step : {b : Bool} {o s w v : State} {past log : List Entry} {tally subs parts out made ledger : ℕ} (seat : Option ℕ) (e : Event) (r : events.Reply)
+    → IsBook b o past s w log tally subs parts out made ledger → machine.Step w e r v → Admits b e → is_submission (asked e) (told r) ≡ false
+    → IsBook b o past s v (log ++ entry_of seat e r ∷ []) tally subs parts out made ledger
+book_step {b = alone} {s = s} {w = w} {v = v} {log = log} seat e r b step takes other =
     let written : Entry = entry_of seat e r in
     let same : accepted (log ++ written ∷ []) ≡ accepted log = accepted_other log written other in
     record {
-      legal = leads_further o w v log written b.legal (record { event = e; answer = r; asks = refl; tells = refl; drafts = refl; step = step });
+      begun = b.begun;
+      legal = leads_further s w v log written b.legal (record { event = e; answer = r; asks = refl; tells = refl; drafts = refl; step = step });
       sound = steps_keep w e r v step b.sound;
       counted = same ∙ b.counted;
       numbered = b.numbered ∙ sym same;
       seated = seated_push log written b.seated (not_accepted seat (is_submission (asked e) (told r)) other);
       jobs = taken_push alone seat e r log b.jobs takes;
+      past_jobs = b.past_jobs;
       shares = b.shares;
       all_parts = b.all_parts;
       given = b.given;
@@ -96,19 +100,21 @@ book_step {b = alone} {o = o} {w = w} {v = v} {log = log} seat e r b step takes 
     }
 
 -- an accepted submission of a seat that is counted
-book_accept : {b : Bool} {o w v : State} {log : List Entry} {tally more subs parts out made ledger : ℕ} (seat : ℕ) (d : DraftContents)
-    → IsBook b o w log tally subs parts out made ledger → machine.Step w (events.Submit d) events.Accepted v → more ≡ tally + 1
-    → IsBook b o v (log ++ entry_of (Some seat) (events.Submit d) events.Accepted ∷ []) more (subs + 1) parts out made ledger
-book_accept {b = alone} {o = o} {w = w} {v = v} {log = log} seat d b step counted =
+book_accept : {b : Bool} {o s w v : State} {past log : List Entry} {tally more subs parts out made ledger : ℕ} (seat : ℕ) (d : DraftContents)
+    → IsBook b o past s w log tally subs parts out made ledger → machine.Step w (events.Submit d) events.Accepted v → more ≡ tally + 1
+    → IsBook b o past s v (log ++ entry_of (Some seat) (events.Submit d) events.Accepted ∷ []) more (subs + 1) parts out made ledger
+book_accept {b = alone} {s = s} {w = w} {v = v} {log = log} seat d b step counted =
     let written : Entry = entry_of (Some seat) (events.Submit d) events.Accepted in
     let one : accepted (log ++ written ∷ []) ≡ accepted log + 1 = accepted_more log written refl in
     record {
-      legal = leads_further o w v log written b.legal (record { event = events.Submit d; answer = events.Accepted; asks = refl; tells = refl; drafts = refl; step = step });
+      begun = b.begun;
+      legal = leads_further s w v log written b.legal (record { event = events.Submit d; answer = events.Accepted; asks = refl; tells = refl; drafts = refl; step = step });
       sound = steps_keep w (events.Submit d) events.Accepted v step b.sound;
       counted = one ∙ ap (λ (n : ℕ). n + 1) b.counted ∙ sym counted;
       numbered = ap (λ (n : ℕ). n + 1) b.numbered ∙ sym one;
       seated = seated_push log written b.seated refl;
       jobs = taken_push alone (Some seat) (events.Submit d) events.Accepted log b.jobs (takes_jobs alone (events.Submit d) refl);
+      past_jobs = b.past_jobs;
       shares = b.shares;
       all_parts = b.all_parts;
       given = b.given;
@@ -116,17 +122,17 @@ book_accept {b = alone} {o = o} {w = w} {v = v} {log = log} seat d b step counte
     }
 
 -- What a step leaves is a book of the log with what was written of it: nothing, where memory was refused.
-pub keeps_book : {b : Bool} {o w v : State} {log now : List Entry} {tally subs parts out made ledger : ℕ} (seat : Option ℕ) (e : Event) (r : events.Reply)
-    → IsBook b o w log tally subs parts out made ledger → machine.Step w e r v → Admits b e → is_submission (asked e) (told r) ≡ false
-    → now ≡ log ++ entries seat (asked e) (draft_of e r) (noted r) → IsBook b o v now tally subs parts out made ledger
+pub keeps_book : {b : Bool} {o s w v : State} {past log now : List Entry} {tally subs parts out made ledger : ℕ} (seat : Option ℕ) (e : Event) (r : events.Reply)
+    → IsBook b o past s w log tally subs parts out made ledger → machine.Step w e r v → Admits b e → is_submission (asked e) (told r) ≡ false
+    → now ≡ log ++ entries seat (asked e) (draft_of e r) (noted r) → IsBook b o past s v now tally subs parts out made ledger
 keeps_book {log = log} seat e (events.Refused refusal.Memory pages) b step takes other is = rw (is ∙ append-nil log, step.2) b
 keeps_book seat e (events.Refused why pages) b step takes other is = rw is (book_step seat e (events.Refused why pages) b step takes other)
 keeps_book seat e r b step takes other is = rw is (book_step seat e r b step takes other)
 
 -- so does a step of jobs, which every driver takes
-pub keeps_jobs : {b : Bool} {o w v : State} {log now : List Entry} {tally subs parts out made ledger : ℕ} (seat : Option ℕ) (e : Event) (r : events.Reply)
-    → IsBook b o w log tally subs parts out made ledger → machine.Step w e r v → is_of_jobs (asked e) ≡ true → is_submission (asked e) (told r) ≡ false
-    → now ≡ log ++ entries seat (asked e) (draft_of e r) (noted r) → IsBook b o v now tally subs parts out made ledger
+pub keeps_jobs : {b : Bool} {o s w v : State} {past log now : List Entry} {tally subs parts out made ledger : ℕ} (seat : Option ℕ) (e : Event) (r : events.Reply)
+    → IsBook b o past s w log tally subs parts out made ledger → machine.Step w e r v → is_of_jobs (asked e) ≡ true → is_submission (asked e) (told r) ≡ false
+    → now ≡ log ++ entries seat (asked e) (draft_of e r) (noted r) → IsBook b o past s v now tally subs parts out made ledger
 keeps_jobs {b = alone} seat e r b step jobs other is = keeps_book seat e r b step (takes_jobs alone e jobs) other is
 
 reserved_by : (s : State) (q : ℕ) (request : Request) (d : DraftContents) → machine.Permits s (events.Reserve q request) (events.Reserved d) → machine.IsReserved s q request d
@@ -144,10 +150,10 @@ not_refused s q request d permits = go (s.trusted || true) permits
     go false p = absurd p
 
 -- so does an accepted submission, where it is counted, ..
-pub accepts_book : {b : Bool} {o w v : State} {log now : List Entry} {tally more subs parts out made ledger : ℕ} (seat : ℕ) (d : DraftContents) (answer : Result TicketContents (Refused DraftContents))
-    → is_ok answer ≡ true → IsBook b o w log tally subs parts out made ledger → machine.Step w (events.Submit d) (accept_reply answer) v
+pub accepts_book : {b : Bool} {o s w v : State} {past log now : List Entry} {tally more subs parts out made ledger : ℕ} (seat : ℕ) (d : DraftContents) (answer : Result TicketContents (Refused DraftContents))
+    → is_ok answer ≡ true → IsBook b o past s w log tally subs parts out made ledger → machine.Step w (events.Submit d) (accept_reply answer) v
     → now ≡ log ++ entry_of (Some seat) (events.Submit d) (accept_reply answer) ∷ [] → more ≡ tally + 1
-    → IsBook b o v now more (subs + 1) parts out made ledger
+    → IsBook b o past s v now more (subs + 1) parts out made ledger
 accepts_book seat d (Ok ticket) ok b step is counted = rw is (book_accept seat d b step counted)
 accepts_book seat d (Err r) ok b step is counted = absurd (true≢false (sym ok))
 
@@ -156,20 +162,23 @@ pub refused_submission : (d : DraftContents) (answer : Result TicketContents (Re
 refused_submission d (Ok ticket) isnt = absurd (true≢false isnt)
 refused_submission d (Err r) isnt = refl
 
-none_of_jobs : (b : Bool) → OnTrue b (AreOfJobs [])
+pub none_of_jobs : (b : Bool) → OnTrue b (AreOfJobs [])
 none_of_jobs true = tt
 none_of_jobs false = tt
 
 -- a book as it opens
-pub empty_book : (config : Config) (image : List ℕ) (alone : Bool) {o w : State} {log : List Entry} {tally parts ledger : ℕ}
-    → refusal_of_config config ≡ None → o ≡ opening_of config image → w ≡ opening_of config image → log ≡ [] → tally ≡ 0 → parts ≡ ledger → ledger ≡ 65536 → IsBook alone o w log tally 0 parts 0 0 ledger
-empty_book config image alone fits opens is none zero all number = rw (opens, is, none, zero) (record {
+pub empty_book : (config : Config) (image : List ℕ) (alone : Bool) {o w : State} {closed : List (WorldContents × LogContents)} {log : List Entry} {tally parts ledger : ℕ}
+    → refusal_of_config config ≡ None → o ≡ opening_of config image → closed ≡ [] → w ≡ opening_of config image → log ≡ [] → tally ≡ 0 → parts ≡ ledger → ledger ≡ 65536
+    → IsBook alone o (past_of closed) (start_of o closed) w log tally 0 parts 0 0 ledger
+empty_book config image alone fits opens first is none zero all number = rw (opens, first, is, none, zero) (record {
+  begun = refl;
   legal = refl;
   sound = runs_are_sound config.pages config.queues config.entries config.segment image [] [] (opening_of config image) fits refl;
   counted = refl;
   numbered = refl;
   seated = tt;
   jobs = none_of_jobs alone;
+  past_jobs = none_of_jobs alone;
   shares = omega (arith, all, number);
   all_parts = number;
   given = omega arith;

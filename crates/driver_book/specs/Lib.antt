@@ -1,3 +1,4 @@
+pub mod Past
 pub mod State
 pub mod Calls
 pub mod Close

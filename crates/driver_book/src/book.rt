@@ -1,6 +1,6 @@
 //! The book itself: how it opens and ends, and what it shows.
 
-ghost use Rattle.std.specs.Prelude.{◌≡◌, ◌+◌, ◌<◌, ◌≤◌, [], false, true, length, None, IfOk, IfErr, OnOk, OnErr};
+ghost use Rattle.std.specs.Prelude.{◌≡◌, ◌+◌, ◌<◌, ◌≤◌, ◌++◌, [], false, true, length, None, IfOk, IfErr, OnOk, OnErr};
 ghost use Rattle.std.specs.Bool.{OnTrue};
 ghost use Rattle.std.specs.List.{Contains};
 ghost use Rattle.machine_model.specs.Claims.{claims_of, counts_of, IsSound};
@@ -8,11 +8,12 @@ ghost use Rattle.page_ledger.specs.Counting.{total};
 ghost use Rattle.host_core.specs.Opening.{refusal_of_config, RefusesOpening};
 ghost use Rattle.step_core.specs.Opening.{opening_of};
 ghost use Rattle.step_log.specs.History.{accepted, LeadsTo};
-ghost use Rattle.driver_book.specs.State.{AreOfJobs, BookContents};
+ghost use Rattle.driver_book.specs.State.{AreOfJobs, BookContents, empty_room};
 
 use crate::log::NoSeat;
 use crate::seat::Seat;
 use block_image::Image;
+use http_server::Log as ShownToProofs;
 use page_ledger::{Counts, Owner};
 use page_memory::PageNo;
 use std::alloc::{Allocator, Global};
@@ -66,13 +67,17 @@ pub struct BookRefused<A: Allocator = Global> {
     pub blank: Blank,
 }
 
-/// A world, and the log of all its steps since it opened, in the memory of one allocator. Contracts see both, and the
-/// rest of `BookContents`.
+/// The logs that were closed as a book went on, each with the world to which it led. It takes no memory: proofs alone see them.
+pub(crate) type ClosedLogs<A> = ShownToProofs<World<A>, Log<A>>;
+
+/// A world, and the log of all its steps since it opened, or since the book went on ([`Book::carry_on`]), in the memory of one allocator.
+/// Contracts see both, and the rest of `BookContents`.
 #[derive(Drop)]
 pub struct Book<L: Driver, A: Allocator = Global> {
     pub(crate) alloc: A,
     pub(crate) world: World<A>,
     pub(crate) log: Log<A>,
+    pub(crate) past: ClosedLogs<A>,
     pub(crate) submissions: u64,
     pub(crate) tally: ledger::Book<L>,
     pub(crate) rest: Share<L>,
@@ -82,13 +87,14 @@ pub struct Book<L: Driver, A: Allocator = Global> {
 }
 
 impl<L: Driver, A: Allocator> Model for Book<L, A> {
+    ghost use Rattle.driver_book.specs.Past.{past_of, start_of};
     ghost use Rattle.driver_book.specs.State.{BookContents, IsBook};
 
     ghost Value = { BookContents };
 
-    ghost view = { λ b. record { opening = L.opening; world = b.world.state; touches = b.world.touches; log = b.log.entries; made = b.made; out = b.out; taken = b.rest.amount; stopping = b.stopping; room = b.log.room } };
+    ghost view = { λ b. record { opening = L.opening; past = past_of b.past.items; start = start_of L.opening b.past.items; world = b.world.state; touches = b.world.touches; log = b.log.entries; made = b.made; out = b.out; taken = b.rest.amount; stopping = b.stopping; room = b.log.room } };
 
-    ghost invariant = { λ b. IsBook L.jobs_alone L.opening b.world.state b.log.entries b.tally.total b.submissions b.rest.parts b.out b.made L.parts };
+    ghost invariant = { λ b. IsBook L.jobs_alone L.opening (past_of b.past.items) (start_of L.opening b.past.items) b.world.state b.log.entries b.tally.total b.submissions b.rest.parts b.out b.made L.parts };
 }
 
 impl<L: Driver, A: Allocator + Copy> Book<L, A> {
@@ -109,7 +115,7 @@ impl<L: Driver, A: Allocator + Copy> Book<L, A> {
         requires number { blank.parts ≡ 65536 }
         requires opening { L.opening ≡ opening_of config image }
         ensures fits { IfOk result (λ book. refusal_of_config config ≡ None) }
-        ensures opened { IfOk result (λ book. book ≡ record { opening = opening_of config image; world = opening_of config image; touches = 0; log = []; made = 0; out = 0; taken = 0; stopping = false; room = record { entries = 0; pieces = 0; pages = 0 } }) }
+        ensures opened { IfOk result (λ book. book ≡ record { opening = opening_of config image; past = []; start = opening_of config image; world = opening_of config image; touches = 0; log = []; made = 0; out = 0; taken = 0; stopping = false; room = empty_room }) }
         ensures refused { IfErr result (λ refused. RefusesOpening config refused.why) }
         ensures image { IfErr result (λ refused. refused.image ≡ image) }
         ensures blank { IfErr result (λ refused. refused.blank ≡ blank) }
@@ -125,10 +131,12 @@ impl<L: Driver, A: Allocator + Copy> Book<L, A> {
             }
         };
         let (tally, rest) = blank.open::<L>();
+        let past = ClosedLogs::new();
         Ok(Book {
             alloc,
             world,
             log: Log::new(alloc),
+            past,
             submissions: 0,
             tally,
             rest,
@@ -138,19 +146,21 @@ impl<L: Driver, A: Allocator + Copy> Book<L, A> {
         })
     }
 
-    /// Shows that the log leads from the opening to the world as it is: its entries tell of the steps of a run of the machine. And that
-    /// the world is sound, that the ledger counts the accepted submissions, and, of a driver that takes the steps of jobs alone, that there
-    /// is no other entry. It does nothing.
+    /// Shows that all entries since the book opened, those of the logs that were closed as it went on and then those of its log, lead from
+    /// the opening to the world as it is: they tell of the steps of a run of the machine. And that its log leads there from where it starts, that
+    /// the world is sound, and, of a driver that takes the steps of jobs alone, that there is no other entry. It does nothing.
     pub fn check(&self)
         ensures opening { self.now.opening ≡ L.opening }
-        ensures legal { LeadsTo self.now.opening self.now.log self.now.world }
+        ensures legal { LeadsTo self.now.opening (self.now.past ++ self.now.log) self.now.world }
+        ensures begun { LeadsTo self.now.opening self.now.past self.now.start }
+        ensures goes_on { LeadsTo self.now.start self.now.log self.now.world }
         ensures sound { IsSound self.now.world }
-        ensures jobs { OnTrue L.jobs_alone (AreOfJobs self.now.log) }
+        ensures jobs { OnTrue L.jobs_alone (AreOfJobs (self.now.past ++ self.now.log)) }
     {
         prove!(self.out <= self.made);
     }
 
-    /// The log, the oldest entry first.
+    /// The log since the book opened, or since it went on, the oldest entry first.
     pub fn log(&self) -> &Log<A>
         ensures entries { result.now.entries ≡ self.now.log }
         ensures room { result.now.room ≡ self.now.room }
@@ -162,7 +172,7 @@ impl<L: Driver, A: Allocator + Copy> Book<L, A> {
     ///
     /// # Errors
     ///
-    /// Where 65,535 seats were made.
+    /// Where 65,535 seats were made since the book opened, or went on.
     pub fn seat(&mut self) -> Result<Seat<L, A>, NoSeat>
         ensures seat { IfOk result (λ seat. seat ≡ record { number = self.old.made; receipts = []; spare = 0 }) }
         ensures made { OnOk result (self.new ≡ record self.old { made = self.old.made + 1; out = self.old.out + 1 }) }
@@ -209,7 +219,7 @@ impl<L: Driver, A: Allocator + Copy> Book<L, A> {
         self.world.counts()
     }
 
-    /// How many submissions were accepted: the ledger's tally, and one for each receipt that a seat of this book got.
+    /// How many submissions of the log were accepted: the ledger's tally, and one for each receipt that a seat of this book got.
     pub fn submissions(&self) -> u64
         ensures { result ≡ accepted self.now.log }
     {

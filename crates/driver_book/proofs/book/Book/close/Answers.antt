@@ -66,25 +66,25 @@ returns-clause-book g c =
     closed_book c.self.view_is c.audit.new.share.amount (c.audit.ensures.amount ∙ c.audit.ensures.whole back ∙ sym c.self.invariant.counted)
 
 pub returns-in-Some-clause-legal : goal.returns-in-Some-clause-legal
-returns-in-Some-clause-legal g c = subst (λ (b : BookContents). LeadsTo b.opening b.log b.world) c.self.view_is c.self.invariant.legal
+returns-in-Some-clause-legal g c = subst (λ (b : BookContents). LeadsTo b.start b.log b.world) c.self.view_is c.self.invariant.legal
 
 pub returns-then-len-from-clause-legal : goal.returns-then-len-from-clause-legal
-returns-then-len-from-clause-legal g c = subst (λ (b : BookContents). LeadsTo b.opening b.log b.world) c.self.view_is c.self.invariant.legal
+returns-then-len-from-clause-legal g c = subst (λ (b : BookContents). LeadsTo b.start b.log b.world) c.self.view_is c.self.invariant.legal
 
 pub returns-then-any_open-clause-legal : goal.returns-then-any_open-clause-legal
-returns-then-any_open-clause-legal g c = subst (λ (b : BookContents). LeadsTo b.opening b.log b.world) c.self.view_is c.self.invariant.legal
+returns-then-any_open-clause-legal g c = subst (λ (b : BookContents). LeadsTo b.start b.log b.world) c.self.view_is c.self.invariant.legal
 
 pub returns-then-not-is_idle-clause-legal : goal.returns-then-not-is_idle-clause-legal
-returns-then-not-is_idle-clause-legal g c = subst (λ (b : BookContents). LeadsTo b.opening b.log b.world) c.self.view_is c.self.invariant.legal
+returns-then-not-is_idle-clause-legal g c = subst (λ (b : BookContents). LeadsTo b.start b.log b.world) c.self.view_is c.self.invariant.legal
 
 pub returns-in_default-with_capacity-clause-legal : goal.returns-in_default-with_capacity-clause-legal
-returns-in_default-with_capacity-clause-legal g c = subst (λ (b : BookContents). LeadsTo b.opening b.log b.world) c.self.view_is c.self.invariant.legal
+returns-in_default-with_capacity-clause-legal g c = subst (λ (b : BookContents). LeadsTo b.start b.log b.world) c.self.view_is c.self.invariant.legal
 
 pub returns-clause-opening : goal.returns-clause-opening
 returns-clause-opening g c = sym (ap (λ (b : BookContents). b.opening) c.self.view_is)
 
 pub returns-clause-legal : goal.returns-clause-legal
-returns-clause-legal g c = subst (λ (b : BookContents). LeadsTo b.opening b.log b.world) c.self.view_is c.self.invariant.legal
+returns-clause-legal g c = subst (λ (b : BookContents). LeadsTo b.start b.log b.world) c.self.view_is c.self.invariant.legal
 
 pub returns-clause-all_seats : goal.returns-clause-all_seats
 returns-clause-all_seats g c =
