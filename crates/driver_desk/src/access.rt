@@ -5,7 +5,7 @@ ghost use Rattle.std.specs.List.{list_any};
 ghost use Rattle.driver_book.specs.Calls.{is_open_for};
 
 use crate::answers::{completed, done, fetched, reaped, sent, walked};
-use driver_book::{Book, CloseRefused, FullDriver, NoSeat, ReportIn, Seat};
+use driver_book::{Book, CloseRefused, ClosedLog, FullDriver, NoSeat, ReportIn, Seat};
 use driver_threads::Shared;
 use io_commands::{Draft, Finished, Request, Ticket};
 use page_ledger::{Counts, Owner};
@@ -178,6 +178,18 @@ impl<L: FullDriver, A: Allocator + Copy> Access<L, A> {
         match self {
             Access::Book(book) => book.close(seats),
             Access::Lock(shared) => shared.close(rt, seats),
+        }
+    }
+
+    /// Closes the book's log, and has the book go on.
+    pub(crate) fn carry_on<R: Wait>(
+        &mut self,
+        rt: &R,
+        seats: Vec<Seat<L, A>, A>,
+    ) -> Result<ClosedLog<A>, CloseRefused<L, A>> {
+        match self {
+            Access::Book(book) => book.carry_on(seats),
+            Access::Lock(shared) => shared.carry_on(rt, seats),
         }
     }
 

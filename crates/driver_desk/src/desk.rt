@@ -4,7 +4,7 @@ use crate::access::Access;
 use crate::answers::{Answer, cancelled, collected, released, reserved, submitted};
 use crate::steps::{build, fill, gather};
 use crate::values::{Value, draft_of, finished_of, ticket_of};
-use driver_book::{CloseFault, FullDriver, NoSeat, Receipt, ReportIn, Seat};
+use driver_book::{CloseFault, ClosedLog, FullDriver, NoSeat, Receipt, ReportIn, Seat};
 use page_ledger::{Counts, Owner};
 use page_memory::PageNo;
 use std::alloc::{AllocError, Allocator, Global};
@@ -134,6 +134,22 @@ impl<'r, L: FullDriver, R: Wait, A: Allocator + Copy> Desk<'r, L, R, A> {
         let seats = mem::replace(&mut self.seats, Vec::new(self.heap));
         match self.access.close(self.rt, seats) {
             Ok(report) => Ok(report),
+            Err(refused) => {
+                self.seats = refused.seats;
+                Err(refused.why)
+            }
+        }
+    }
+
+    /// Hands in all seats, closes the book's log, which is handed out with its report, and has the book go on.
+    ///
+    /// # Errors
+    ///
+    /// Where the log is not closed. The seats came back.
+    pub fn carry_on(&mut self) -> Result<ClosedLog<A>, CloseFault> {
+        let seats = mem::replace(&mut self.seats, Vec::new(self.heap));
+        match self.access.carry_on(self.rt, seats) {
+            Ok(closed) => Ok(closed),
             Err(refused) => {
                 self.seats = refused.seats;
                 Err(refused.why)

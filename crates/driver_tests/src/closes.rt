@@ -58,6 +58,37 @@ pub(crate) fn close_each<L: FullDriver, R: Abort + Wait>(
     }
 }
 
+/// All seats are handed in, and the book goes on: these are the receipts of each, and so many entries had the log that was handed out.
+pub(crate) fn carry_on<L: FullDriver, R: Abort + Wait>(
+    rt: &R,
+    desk: &mut Desk<'_, L, R>,
+    want: &[&[Told]],
+    entries: usize,
+) {
+    match desk.carry_on() {
+        Ok(closed) => {
+            see_report(rt, &closed.report, want);
+            see(rt, &closed.log.len(), &entries);
+        }
+        Err(_) => panic!(rt; "it did not go on"),
+    }
+    assert!(rt; desk.seats.is_empty());
+}
+
+/// All seats are handed in, and come back, so many of them, as the book does not go on.
+pub(crate) fn stay_behind<L: FullDriver, R: Abort + Wait>(
+    rt: &R,
+    desk: &mut Desk<'_, L, R>,
+    want: CloseFault,
+    seats: usize,
+) {
+    match desk.carry_on() {
+        Ok(_) => panic!(rt; "it went on"),
+        Err(why) => see(rt, &why, &want),
+    }
+    see(rt, &desk.seats.len(), &seats);
+}
+
 /// All seats are handed in, and come back, so many of them, as the book is not closed.
 pub(crate) fn stay_open<L: FullDriver, R: Abort + Wait>(
     rt: &R,

@@ -5,6 +5,8 @@
 #[cfg(test)]
 mod calls;
 #[cfg(test)]
+mod carrying;
+#[cfg(test)]
 mod closes;
 #[cfg(test)]
 mod closing;

@@ -3,7 +3,7 @@
 ghost use Rattle.std.specs.Prelude.{◌≡◌};
 ghost use Rattle.step_core.specs.Opening.{opening_of};
 
-use crate::closes::{close, close_each, keep_back, stay_open};
+use crate::closes::{carry_on, close, close_each, keep_back, stay_behind, stay_open};
 use crate::looks::{Told, alter, has_receipts, see};
 use block_image::Image;
 use driver_book::{Book, CloseFault, Driver, Full, FullDriver};
@@ -37,6 +37,10 @@ pub(crate) enum Part {
     Close(&'static [&'static [Told]]),
     /// All seats are handed in, and the book is closed: each of so many has one receipt, of the command of its number, which ended well.
     CloseEach(u64),
+    /// All seats are handed in, and the book goes on: these are the receipts of each, and so many entries had the log that was handed out.
+    CarryOn(&'static [&'static [Told]], usize),
+    /// All seats are handed in, and come back, so many of them, as the book does not go on.
+    StayBehind(CloseFault, usize),
     /// All seats are handed in, and come back, so many of them, as the book is not closed.
     StayOpen(CloseFault, usize),
     /// The last seat is kept back and the others are handed in: they come back, so many of them, as the book is not closed.
@@ -70,6 +74,8 @@ fn play_part<L: FullDriver, R: Abort + Wait>(rt: &R, desk: &mut Desk<'_, L, R>, 
         Part::HasReceipts(number, told) => has_receipts(rt, &desk.seats, number, told),
         Part::Close(told) => close(rt, desk, told),
         Part::CloseEach(seats) => close_each(rt, desk, seats),
+        Part::CarryOn(told, entries) => carry_on(rt, desk, told, entries),
+        Part::StayBehind(why, seats) => stay_behind(rt, desk, why, seats),
         Part::StayOpen(why, seats) => stay_open(rt, desk, why, seats),
         Part::KeepBack(why, seats) => keep_back(rt, desk, why, seats),
     }

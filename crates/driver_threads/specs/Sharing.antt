@@ -1,5 +1,5 @@
 -- What a call of a shared book says: that some book of this opening, whose log leads from there to its world, did it.
-use Rattle.std.specs.Prelude.{◌≡◌, ℕ, ◌<◌, ◌≤◌, [], Option, Some, None, List, length, Result, MatchOption}
+use Rattle.std.specs.Prelude.{◌≡◌, ℕ, ◌<◌, ◌≤◌, [], ◌++◌, Option, Some, None, List, length, Result, MatchOption}
 use Rattle.std.specs.List.{Contains}
 use Rattle.io_commands.specs.Drafts.{DraftContents}
 use Rattle.io_commands.specs.Values.{FinishedContents, TicketContents}
@@ -14,18 +14,20 @@ use Rattle.page_ledger.specs.declared.owner.Owner.{Owner}
 use Rattle.driver_book.specs.Calls.{Does, Receives, Settles}
 use Rattle.driver_book.specs.Close.{AllStand, IsDone, RefusesClose, Reports, receipts_of}
 use Rattle.step_log.specs.History.{LeadsTo, accepted}
-use Rattle.driver_book.specs.State.{BookContents, SeatContents}
+use Rattle.driver_book.specs.State.{BookContents, SeatContents, carried_on}
 use Rattle.driver_book.specs.declared.log.CloseFault.{CloseFault}
 use Rattle.driver_book.specs.Values.{Report}
+use Rattle.step_log.specs.Values.{Entry}
 use Rattle.step_core.specs.Replies.{accept_reply}
 use Rattle.step_core.specs.Touching.{StaysAllowed}
 use Rattle.host_core.specs.declared.refused.Refused.{Refused}
 
--- A book of this opening: its log is that of a run that leads from there to the world as it is, and the world is sound, so each page has one
--- owner, the counts add up, and the identifiers of a queue are distinct.
+-- A book of this opening: its past and its log are those of a run that leads from there to the world as it is, by where the log starts, and the world is
+-- sound, so each page has one owner, the counts add up, and the identifiers of a queue are distinct.
 pub record IsBookOf (opening : State) (book : BookContents) : Type 0 where
   pub opens : book.opening ≡ opening
-  pub legal : LeadsTo opening book.log book.world
+  pub legal : LeadsTo opening (book.past ++ book.log) book.world
+  pub goes_on : LeadsTo book.start book.log book.world
   pub sound : IsSound book.world
 
 -- some book of this opening made this step
@@ -101,6 +103,13 @@ pub record Closes (opening : State) (report : Report) (seats : List SeatContents
   pub all_seats : book.out ≤ length seats
   pub done : IsDone book seats
   pub reports : Reports report book seats
+
+-- A book of this opening was closed so and went on from its world: this is its log, which leads from where it started to where the next one
+-- starts, and the past of the book that goes on leads there from the opening.
+pub record CarriesOn (opening : State) (log : List Entry) (report : Report) (seats : List SeatContents) (book : BookContents) : Type 0 where
+  pub closes : Closes opening report seats book
+  pub log_is : log ≡ book.log
+  pub history : LeadsTo opening (carried_on book).past (carried_on book).start
 
 -- some book of this opening was not closed, for this cause and no earlier one
 pub record StaysOpen (opening : State) (why : CloseFault) (seats : List SeatContents) : Type 0 where

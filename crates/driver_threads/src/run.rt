@@ -1,6 +1,6 @@
 //! A run of threads over a new book, and what it leaves.
 
-ghost use Rattle.std.specs.Prelude.{◌≡◌, ◌≤◌, map, length, vec_len, IfOk, IfErr, IfSome, OnOk};
+ghost use Rattle.std.specs.Prelude.{◌≡◌, ◌≤◌, ◌++◌, map, length, vec_len, IfOk, IfErr, IfSome, OnOk};
 ghost use Rattle.std.specs.Bool.{OnTrue};
 ghost use Rattle.driver_book.specs.Laws.{IsTrustedLog};
 ghost use Rattle.driver_book.specs.State.{AreOfJobs};
@@ -244,7 +244,7 @@ fn close<L: Driver, A: Allocator + Copy>(
     ensures closed { IfOk result (λ r. RanFrom L.opening r.0 book.new) }
     ensures all_jobs { IfOk result (λ r. map length r.1 ≡ jobs.now) }
     ensures agree { IfOk result (λ r. AllAgree r.0.receipts r.1) }
-    ensures jobs { OnOk result (OnTrue L.jobs_alone (AreOfJobs book.new.log)) }
+    ensures jobs { OnOk result (OnTrue L.jobs_alone (AreOfJobs (book.new.past ++ book.new.log))) }
 {
     prove!({
         book.check();
@@ -273,7 +273,7 @@ fn finish<L: Driver, A: Allocator + Copy>(
     ensures closed { IfOk result (λ ran. RanFrom L.opening ran.report ran.book) }
     ensures all_jobs { IfOk result (λ ran. map length ran.jobs ≡ jobs.now) }
     ensures agree { IfOk result (λ ran. AllAgree ran.report.receipts ran.jobs) }
-    ensures jobs { IfOk result (λ ran. OnTrue L.jobs_alone (AreOfJobs ran.book.log)) }
+    ensures jobs { IfOk result (λ ran. OnTrue L.jobs_alone (AreOfJobs (ran.book.past ++ ran.book.log))) }
 {
     let mut book = book;
     match close(alloc, &mut book, work, jobs) {
@@ -298,7 +298,7 @@ fn run_over<
     ensures closed { IfOk result (λ ran. RanFrom L.opening ran.report ran.book) }
     ensures all_jobs { IfOk result (λ ran. map length ran.jobs ≡ map (λ list. length list.items) jobs.items) }
     ensures agree { IfOk result (λ ran. AllAgree ran.report.receipts ran.jobs) }
-    ensures jobs { IfOk result (λ ran. OnTrue L.jobs_alone (AreOfJobs ran.book.log)) }
+    ensures jobs { IfOk result (λ ran. OnTrue L.jobs_alone (AreOfJobs (ran.book.past ++ ran.book.log))) }
 {
     let Ok(many) = lengths(alloc, &jobs) else {
         return Err(Failure::Memory);
@@ -311,8 +311,8 @@ fn run_over<
 /// Opens a book, runs a submitter for each list of jobs, a poller and a controller over it in threads of their own, and closes it with the
 /// submitters' seats. A list's place, from 0, is the worker of its submitter.
 ///
-/// A job's command ended as its receipt in the report says, and so as the log does. Where the driver takes the steps of jobs alone, the log
-/// has no others: so the run is trusted from its opening to its end, and the laws of trusted runs speak of its Reads, Writes and Compares.
+/// A job's command ended as its receipt in the report says, and so as the log does. Where the driver takes the steps of jobs alone, past and log
+/// have no others: so the run is trusted from its opening to its end, and the laws of trusted runs speak of its Reads, Writes and Compares.
 ///
 /// # Errors
 ///
@@ -342,8 +342,8 @@ pub fn run_threads<
     ensures ran { IfOk result (λ ran. RanFrom (opening_of config image) ran.report ran.book) }
     ensures all_jobs { IfOk result (λ ran. map length ran.jobs ≡ map (λ list. length list.items) jobs.items) }
     ensures agree { IfOk result (λ ran. AllAgree ran.report.receipts ran.jobs) }
-    ensures jobs { IfOk result (λ ran. OnTrue L.jobs_alone (AreOfJobs ran.book.log)) }
-    ensures trusted { IfOk result (λ ran. OnTrue L.jobs_alone (IsTrustedLog image ran.book.log ran.book.world)) }
+    ensures jobs { IfOk result (λ ran. OnTrue L.jobs_alone (AreOfJobs (ran.book.past ++ ran.book.log))) }
+    ensures trusted { IfOk result (λ ran. OnTrue L.jobs_alone (IsTrustedLog image (ran.book.past ++ ran.book.log) ran.book.world)) }
     ensures refused { IfErr result (RefusesRun config) }
 {
     prove!({

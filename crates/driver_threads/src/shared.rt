@@ -3,10 +3,10 @@
 ghost use Rattle.std.specs.Prelude.{◌≡◌, true, IfOk, IfErr};
 ghost use Rattle.std.specs.Sync.Mutex.{mutex_guard_value};
 ghost use Rattle.driver_book.specs.State.{BookContents};
-ghost use Rattle.driver_threads.specs.Sharing.{IsBookOf, Seated, GivesNoSeat, Tells, Counted, Closes, StaysOpen};
+ghost use Rattle.driver_threads.specs.Sharing.{IsBookOf, Seated, GivesNoSeat, Tells, Counted, Closes, CarriesOn, StaysOpen};
 
 use crate::changes::{Change, Changes, Condvars};
-use driver_book::{Book, CloseRefused, Driver, NoSeat, ReportIn, Seat};
+use driver_book::{Book, CloseRefused, ClosedLog, Driver, NoSeat, ReportIn, Seat};
 use page_ledger::{Counts, Owner};
 use page_memory::PageNo;
 use std::alloc::{Allocator, Global};
@@ -21,7 +21,7 @@ pub(crate) struct Locked<L: Driver, A: Allocator> {
 }
 
 /// A book under the driver's lock. Each call but [`Shared::new`] and [`Shared::end`] makes one step of it, looks at it, makes a seat, or stops
-/// or closes it, while it has the lock.
+/// it, closes it or has it go on, while it has the lock.
 ///
 /// Who waits sleeps on a condition variable, looks at the book as it wakes, and makes its step once it would be answered otherwise. A call
 /// tells those alone who wait for what it may have changed.
@@ -43,7 +43,7 @@ impl<L: Driver, A: Allocator + Copy> Shared<L, A> {
         }
     }
 
-    /// Takes the lock. What it finds there is a book of the opening: its log leads from the opening to the world, which is sound.
+    /// Takes the lock. What it finds there is a book of the opening: its past and its log lead from the opening to the world, which is sound.
     pub(crate) fn lock<R: Wait>(&self, rt: &R) -> MutexGuard<'_, Locked<L, A>>
         ensures { IsBookOf L.opening (mutex_guard_value result).book }
     {
@@ -141,6 +141,23 @@ impl<L: Driver, A: Allocator + Copy> Shared<L, A> {
         ensures back { IfErr result (λ refused. refused.seats.items ≡ seats.items) }
     {
         self.lock(rt).book.close(seats)
+    }
+
+    /// Closes the log and goes on from the world as it is, as [`Book::carry_on`], and takes the seats. It tells nobody: the world stays.
+    ///
+    /// # Errors
+    ///
+    /// As there; the seats are handed back.
+    pub fn carry_on<R: Wait>(
+        &self,
+        rt: &R,
+        seats: Vec<Seat<L, A>, A>,
+    ) -> Result<ClosedLog<A>, CloseRefused<L, A>>
+        ensures carried { IfOk result (λ closed. (book : BookContents) × CarriesOn L.opening closed.log.entries closed.report seats.items book) }
+        ensures cause { IfErr result (λ refused. StaysOpen L.opening refused.why seats.items) }
+        ensures back { IfErr result (λ refused. refused.seats.items ≡ seats.items) }
+    {
+        self.lock(rt).book.carry_on(seats)
     }
 
     /// The book, once nobody shares it.

@@ -69,15 +69,15 @@ abbrev pub closing_text : List Owner → Counts → List ℕ
 closing_text owners counts = owners_text owners ++ counts_line counts
 
 -- Some run of threads from an opening over this image left a book with these owners and counts, and jobs that ended so. Each command of theirs
--- ended as its receipt in the book's report says, and the report has no further receipt. The book's log has the steps of jobs alone, so the run is
+-- ended as its receipt in the book's report says, and the report has no further receipt. The book's past and log have the steps of jobs alone, so the run is
 -- one of which the machine's laws of trusted runs speak.
 pub record IsLeftFrom (opening : State) (image : List ℕ) (ends : List (List JobEnd)) (owners : List Owner) (counts : Counts) : Type 0 where
   pub report : Report
   pub book : BookContents
   pub ran : RanFrom opening report book
   pub agree : AllAgree report.receipts ends
-  pub jobs : AreOfJobs book.log
-  pub trusted : IsTrustedLog image book.log book.world
+  pub jobs : AreOfJobs (book.past ++ book.log)
+  pub trusted : IsTrustedLog image (book.past ++ book.log) book.world
   pub owned : AreOwners book.world owners
   pub counted : counts ≡ counts_of book.world.host
 

@@ -1,5 +1,5 @@
 -- The ends of a run are told as lists of ends, which are as long as the lists that hold them.
-use Rattle.std.proofs.Common.{ap, length, map, subst}
+use Rattle.std.proofs.Common.{ap, ◌++◌, length, map, subst}
 use Rattle.driver_book.specs.State.{SeatContents}
 use Rattle.driver_threads.specs.Ends.{ends_of, statuses_of}
 use Rattle.machine_model.specs.State.{State}
@@ -26,7 +26,8 @@ returns-in-Ok-clause-closed g c = record {
   closed = record {
     of = record {
       opens = c.in-Ok.ensures.opening;
-      legal = subst (λ (opening : State). LeadsTo opening c.args.book.now.log c.args.book.now.world) c.in-Ok.ensures.opening c.in-Ok.ensures.legal;
+      legal = subst (λ (opening : State). LeadsTo opening (c.args.book.now.past ++ c.args.book.now.log) c.args.book.now.world) c.in-Ok.ensures.opening c.in-Ok.ensures.legal;
+      goes_on = c.in-Ok.ensures.goes_on;
       sound = c.in-Ok.ensures.sound;
     };
     stand = c.in-Ok.ensures.stand;
