@@ -5,7 +5,7 @@ use Rattle.std.proofs.lemmas.List.{append-nil, append_assoc}
 use Rattle.machine_model.specs.State.{State}
 use Rattle.step_core.specs.World.{WorldContents}
 use Rattle.step_log.specs.History.{LeadsTo, accepted}
-use Rattle.step_log.specs.Values.{Entry, LogContents}
+use Rattle.step_log.specs.Values.{Entry, LogContents, Room}
 use Rattle.driver_book.specs.Past.{start_of, past_of}
 use Rattle.driver_book.specs.State.{BookContents, IsBook, AreOfJobs, carried_on, empty_room}
 use Rattle.driver_book.proofs.Histories.{leads_on}
@@ -33,9 +33,14 @@ pub whole_history : {b : Bool} {o s w : State} {past log : List Entry} {tally su
 whole_history {o = o} {s = s} {w = w} {past = past} {log = log} b = leads_on o s w past log b.begun b.legal
 
 -- a book whose log is past
+pub begins : {b : Bool} {o s w : State} {past log : List Entry} {tally subs parts out made ledger : ℕ} → IsBook b o past s w log tally subs parts out made ledger
+    → {gone : List Entry} {start : State} → gone ≡ past ++ log → start ≡ w → LeadsTo o gone start
+begins b all starts = rw (all, starts) (whole_history b)
+
 pub goes_on : {b : Bool} {o s w : State} {past log : List Entry} {tally subs parts out made ledger : ℕ} → IsBook b o past s w log tally subs parts out made ledger
-    → {gone now : List Entry} {start : State} {total : ℕ} → gone ≡ past ++ log → start ≡ w → now ≡ [] → total ≡ 0 → parts ≡ 65536 → IsBook b o gone start w now total 0 parts 0 0 ledger
-goes_on {b = alone} {past = past} {log = log} b all starts none zero whole = rw (all, starts, none, zero) (record {
+    → {gone now : List Entry} {start : State} {total kept : ℕ} → gone ≡ past ++ log → start ≡ w → now ≡ [] → total ≡ 0 → out ≡ 0 → kept ≡ parts
+    → IsBook b o gone start w now total 0 kept out 0 ledger
+goes_on {b = alone} {past = past} {log = log} b all starts none zero back kept = rw (all, starts, none, zero) (record {
   begun = whole_history b;
   legal = refl;
   sound = b.sound;
@@ -44,8 +49,13 @@ goes_on {b = alone} {past = past} {log = log} b all starts none zero whole = rw 
   seated = tt;
   jobs = none_of_jobs alone;
   past_jobs = all_of_jobs alone past log b.past_jobs b.jobs;
-  shares = omega (arith, whole);
+  shares = omega (arith, kept, b.shares);
   all_parts = b.all_parts;
-  given = omega arith;
+  given = omega (arith, back);
   most = omega arith;
 })
+
+pub went_on : {at : BookContents} (now : BookContents) (n : ℕ) → at ≡ (let closed : BookContents = record now { out = 0; taken = n } in closed)
+    → {gone log : List Entry} {start : State} {amount : ℕ} {room : Room} → gone ≡ at.past ++ at.log → start ≡ at.world → log ≡ [] → amount ≡ 0 → room ≡ empty_room
+    → (let new : BookContents = record at { past = gone; start = start; log = log; made = 0; taken = amount; room = room } in new) ≡ carried_on now
+went_on now n same all starts none zero empty = rw (all, starts, none, zero, empty, same) refl

@@ -1,6 +1,6 @@
 //! How a book goes on: its log is closed and handed out, and the next one starts from the world as it is.
 
-ghost use Rattle.std.specs.Prelude.{◌≡◌, ◌≤◌, length, IfOk, IfErr, OnOk, OnErr};
+ghost use Rattle.std.specs.Prelude.{◌≡◌, ◌≤◌, ◌++◌, length, IfOk, IfErr, OnOk, OnErr};
 ghost use Rattle.machine_model.specs.Claims.{IsSound};
 ghost use Rattle.step_log.specs.History.{LeadsTo, accepted};
 ghost use Rattle.driver_book.specs.State.{carried_on};
@@ -37,8 +37,8 @@ impl<L: Driver, A: Allocator + Copy> Book<L, A> {
         seats: Vec<Seat<L, A>, A>,
     ) -> Result<ClosedLog<A>, CloseRefused<L, A>>
         ensures opening { self.old.opening ≡ L.opening }
-        ensures begun { LeadsTo self.old.opening self.old.past self.old.start }
-        ensures legal { LeadsTo self.old.start self.old.log self.old.world }
+        ensures legal { LeadsTo self.old.opening (self.old.past ++ self.old.log) self.old.world }
+        ensures goes_on { LeadsTo self.old.start self.old.log self.old.world }
         ensures sound { IsSound self.old.world }
         ensures stand { OnOk result (AllStand self.old.log seats.items) }
         ensures no_more { OnOk result (receipts_of seats.items ≡ accepted self.old.log) }

@@ -1,6 +1,6 @@
 //! How a book is closed: its log is compared with the receipts of its seats.
 
-ghost use Rattle.std.specs.Prelude.{◌≡◌, ℕ, ◌+◌, ◌<◌, ◌≤◌, ◌&&◌, length, map, take, drop, Some, is_none, MatchOption, IfSome, IfNone, slice_get, vec_len, vec_capacity, IfOk, IfErr, OnOk, OnErr};
+ghost use Rattle.std.specs.Prelude.{◌≡◌, ℕ, ◌+◌, ◌<◌, ◌≤◌, ◌&&◌, ◌++◌, length, map, take, drop, Some, is_none, MatchOption, IfSome, IfNone, slice_get, vec_len, vec_capacity, IfOk, IfErr, OnOk, OnErr};
 ghost use Rattle.std.specs.List.{list_any};
 ghost use Rattle.machine_model.specs.Claims.{IsSound};
 ghost use Rattle.machine_model.specs.Status.{same_status as same_statuses};
@@ -332,8 +332,8 @@ impl<L: Driver, A: Allocator + Copy> Book<L, A> {
     /// Compares the log with the receipts of the seats, and takes the seats. `Ok` says that each accepted submission of the log
     /// stands in the receipts, as the j-th of its seat in that seat's j-th receipt, with its number, queue and identifier and the
     /// status that the log gave it; that there is no further receipt; that each seat out was handed in; and that no receipt is
-    /// without a status and no command outstanding. Whatever is answered, the log tells of a run of the machine that leads from where
-    /// the log starts to the world, which is sound; that is the opening, unless the book went on ([`Book::carry_on`]).
+    /// without a status and no command outstanding. Whatever is answered, past and log tell of a run of the machine that leads from the opening to
+    /// the world, which is sound. A book has a past where it went on ([`Book::carry_on`]).
     ///
     /// # Errors
     ///
@@ -347,8 +347,8 @@ impl<L: Driver, A: Allocator + Copy> Book<L, A> {
     /// The seats are handed back, and the book is as it was.
     pub fn close(&mut self, seats: Vec<Seat<L, A>, A>) -> Result<ReportIn<A>, CloseRefused<L, A>>
         ensures opening { self.old.opening ≡ L.opening }
-        ensures begun { LeadsTo self.old.opening self.old.past self.old.start }
-        ensures legal { LeadsTo self.old.start self.old.log self.old.world }
+        ensures legal { LeadsTo self.old.opening (self.old.past ++ self.old.log) self.old.world }
+        ensures goes_on { LeadsTo self.old.start self.old.log self.old.world }
         ensures sound { IsSound self.old.world }
         ensures stand { OnOk result (AllStand self.old.log seats.items) }
         ensures no_more { OnOk result (receipts_of seats.items ≡ accepted self.old.log) }

@@ -1,10 +1,11 @@
-use Rattle.std.proofs.Common.{◌≡◌, refl, inl, inr, ◌<◌, ◌≤◌, length, vec_len, true, false, eqb-true, arith, ap, sym, ◌∙◌, subst}
+use Rattle.std.proofs.Common.{◌≡◌, ◌++◌, refl, inl, inr, ◌<◌, ◌≤◌, length, vec_len, true, false, eqb-true, arith, ap, sym, ◌∙◌, subst}
 use Rattle.driver_book.specs.Close.{AllStand, RefusesClose, has_open, receipts_of}
 use Rattle.machine_model.specs.Claims.{counts_of}
 use Rattle.step_log.specs.History.{accepted, LeadsTo}
 use Rattle.driver_book.specs.State.{BookContents}
 use Rattle.driver_book.specs.declared.log.CloseFault.TheVariants.{Missing, SeatOut, StillOut, Memory}
 use Rattle.driver_book.proofs.Closing.{all_parts_back, closed_book, closes_book, missing_in, not_none, stand_in, wanted}
+use Rattle.driver_book.proofs.Carrying.{whole_history}
 use Rattle.driver_book.proofs.EachReceipt.{enough_receipts}
 use Rattle.driver_book.proofs.book.Book.close.Goals as goal
 
@@ -66,25 +67,43 @@ returns-clause-book g c =
     closed_book c.self.view_is c.audit.new.share.amount (c.audit.ensures.amount ∙ c.audit.ensures.whole back ∙ sym c.self.invariant.counted)
 
 pub returns-in-Some-clause-legal : goal.returns-in-Some-clause-legal
-returns-in-Some-clause-legal g c = subst (λ (b : BookContents). LeadsTo b.start b.log b.world) c.self.view_is c.self.invariant.legal
+returns-in-Some-clause-legal g c = subst (λ (b : BookContents). LeadsTo b.opening (b.past ++ b.log) b.world) c.self.view_is (whole_history c.self.invariant)
+
+pub returns-in-Some-clause-goes_on : goal.returns-in-Some-clause-goes_on
+returns-in-Some-clause-goes_on g c = subst (λ (b : BookContents). LeadsTo b.start b.log b.world) c.self.view_is c.self.invariant.legal
 
 pub returns-then-len-from-clause-legal : goal.returns-then-len-from-clause-legal
-returns-then-len-from-clause-legal g c = subst (λ (b : BookContents). LeadsTo b.start b.log b.world) c.self.view_is c.self.invariant.legal
+returns-then-len-from-clause-legal g c = subst (λ (b : BookContents). LeadsTo b.opening (b.past ++ b.log) b.world) c.self.view_is (whole_history c.self.invariant)
+
+pub returns-then-len-from-clause-goes_on : goal.returns-then-len-from-clause-goes_on
+returns-then-len-from-clause-goes_on g c = subst (λ (b : BookContents). LeadsTo b.start b.log b.world) c.self.view_is c.self.invariant.legal
 
 pub returns-then-any_open-clause-legal : goal.returns-then-any_open-clause-legal
-returns-then-any_open-clause-legal g c = subst (λ (b : BookContents). LeadsTo b.start b.log b.world) c.self.view_is c.self.invariant.legal
+returns-then-any_open-clause-legal g c = subst (λ (b : BookContents). LeadsTo b.opening (b.past ++ b.log) b.world) c.self.view_is (whole_history c.self.invariant)
+
+pub returns-then-any_open-clause-goes_on : goal.returns-then-any_open-clause-goes_on
+returns-then-any_open-clause-goes_on g c = subst (λ (b : BookContents). LeadsTo b.start b.log b.world) c.self.view_is c.self.invariant.legal
 
 pub returns-then-not-is_idle-clause-legal : goal.returns-then-not-is_idle-clause-legal
-returns-then-not-is_idle-clause-legal g c = subst (λ (b : BookContents). LeadsTo b.start b.log b.world) c.self.view_is c.self.invariant.legal
+returns-then-not-is_idle-clause-legal g c = subst (λ (b : BookContents). LeadsTo b.opening (b.past ++ b.log) b.world) c.self.view_is (whole_history c.self.invariant)
+
+pub returns-then-not-is_idle-clause-goes_on : goal.returns-then-not-is_idle-clause-goes_on
+returns-then-not-is_idle-clause-goes_on g c = subst (λ (b : BookContents). LeadsTo b.start b.log b.world) c.self.view_is c.self.invariant.legal
 
 pub returns-in_default-with_capacity-clause-legal : goal.returns-in_default-with_capacity-clause-legal
-returns-in_default-with_capacity-clause-legal g c = subst (λ (b : BookContents). LeadsTo b.start b.log b.world) c.self.view_is c.self.invariant.legal
+returns-in_default-with_capacity-clause-legal g c = subst (λ (b : BookContents). LeadsTo b.opening (b.past ++ b.log) b.world) c.self.view_is (whole_history c.self.invariant)
+
+pub returns-in_default-with_capacity-clause-goes_on : goal.returns-in_default-with_capacity-clause-goes_on
+returns-in_default-with_capacity-clause-goes_on g c = subst (λ (b : BookContents). LeadsTo b.start b.log b.world) c.self.view_is c.self.invariant.legal
 
 pub returns-clause-opening : goal.returns-clause-opening
 returns-clause-opening g c = sym (ap (λ (b : BookContents). b.opening) c.self.view_is)
 
 pub returns-clause-legal : goal.returns-clause-legal
-returns-clause-legal g c = subst (λ (b : BookContents). LeadsTo b.start b.log b.world) c.self.view_is c.self.invariant.legal
+returns-clause-legal g c = subst (λ (b : BookContents). LeadsTo b.opening (b.past ++ b.log) b.world) c.self.view_is (whole_history c.self.invariant)
+
+pub returns-clause-goes_on : goal.returns-clause-goes_on
+returns-clause-goes_on g c = subst (λ (b : BookContents). LeadsTo b.start b.log b.world) c.self.view_is c.self.invariant.legal
 
 pub returns-clause-all_seats : goal.returns-clause-all_seats
 returns-clause-all_seats g c =
