@@ -47,7 +47,7 @@ impl<L: Driver, A: Allocator + Copy> Book<L, A> {
         ensures log { IfOk result (λ closed. closed.log ≡ record { entries = self.old.log; room = self.old.room }) }
         ensures report { IfOk result (λ closed. Reports closed.report self.old seats.items) }
         ensures book { OnOk result (self.new ≡ carried_on self.old) }
-        ensures history { LeadsTo self.new.opening self.new.past self.new.start }
+        ensures history { OnOk result (LeadsTo self.new.opening self.new.past self.new.start) }
         ensures cause { IfErr result (λ refused. RefusesClose refused.why self.old seats.items) }
         ensures back { IfErr result (λ refused. refused.seats.items ≡ seats.items) }
         ensures same { OnErr result (self.new ≡ self.old) }
