@@ -4,7 +4,7 @@ use Rattle.std.specs.Bool.{OnTrue}
 use Rattle.std.proofs.lemmas.List.{append-nil, append_assoc}
 use Rattle.machine_model.specs.State.{State}
 use Rattle.step_core.specs.World.{WorldContents}
-use Rattle.step_log.specs.History.{LeadsTo, accepted}
+use Rattle.step_log.specs.History.{LeadsTo}
 use Rattle.step_log.specs.Values.{Entry, LogContents, Room}
 use Rattle.driver_book.specs.Past.{start_of, past_of}
 use Rattle.driver_book.specs.State.{BookContents, IsBook, AreOfJobs, carried_on, empty_room}

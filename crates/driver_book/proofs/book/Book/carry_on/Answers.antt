@@ -1,7 +1,6 @@
-use Rattle.std.proofs.Common.{◌≡◌, ◌++◌, [], arith, ap, sym, ◌∙◌}
-use Rattle.machine_model.specs.State.{State}
+use Rattle.std.proofs.Common.{◌≡◌, arith, ap, ◌∙◌}
 use Rattle.step_log.specs.History.{accepted}
-use Rattle.step_log.specs.Values.{Entry, LogContents}
+use Rattle.step_log.specs.Values.{LogContents}
 use Rattle.driver_book.specs.Past.{past_of, start_of}
 use Rattle.driver_book.specs.State.{BookContents}
 use Rattle.driver_book.proofs.Carrying.{begins, goes_on, past_more, start_more, went_on}

@@ -1,4 +1,4 @@
-use Rattle.std.proofs.Common.{◌≡◌, ◌++◌, subst}
+use Rattle.std.proofs.Common.{◌++◌, subst}
 use Rattle.std.specs.Bool.{OnTrue}
 use Rattle.step_log.specs.History.{LeadsTo}
 use Rattle.driver_book.specs.State.{AreOfJobs, BookContents}
