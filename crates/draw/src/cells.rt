@@ -33,7 +33,7 @@ fn put_owner(out: &mut String, page: usize, owner: Owner, marks: &str) -> Result
 }
 
 /// The colour of a command, in degrees. Neighbours lie far apart.
-fn hue_of(q: u16, cid: u16) -> u32 {
+pub(crate) fn hue_of(q: u16, cid: u16) -> u32 {
     (u32::from(q) * 101 + u32::from(cid) * 137) % 360
 }
 

@@ -1,5 +1,6 @@
 //! A script is played and drawn.
 
+use crate::commands::Requests;
 use crate::picture::{Caption, put_picture, touched_by};
 use crate::style::{FOOT, HEAD};
 use page_ledger::Owner;
@@ -10,7 +11,7 @@ use script_cli::{
 };
 use std::alloc::{AllocError, Global};
 use std::io::Write;
-use step_core::{Bench, Config, Image, Step};
+use step_core::{Bench, Config, Image, Reply, Step};
 
 /// The most pages that a picture has; of a larger pool it has the first ones.
 pub const MOST_CELLS: u32 = 1_024;
@@ -59,6 +60,8 @@ struct Drawing<'a> {
     bench: &'a mut Bench,
     /// How many slots a ring has.
     entries: u16,
+    /// What its commands were asked for.
+    requests: Requests,
     /// The owners of its pages as they were drawn last.
     owners: Vec<Owner>,
     /// The text of a picture.
@@ -81,6 +84,7 @@ impl Drawing<'_> {
             &caption,
             self.bench,
             self.entries,
+            &self.requests,
             owners,
             owners,
             &[],
@@ -91,6 +95,9 @@ impl Drawing<'_> {
     fn step(&mut self, number: u32, line: &str, step: Step) -> Result<(), AllocError> {
         let verb = Verb::of(&step);
         let reply = self.bench.step(step);
+        if let Reply::Reserved { q, cid, .. } = &reply {
+            self.requests.note(self.alloc, *q, *cid, line)?;
+        }
         let mut told = String::new(self.alloc);
         append_reply(&mut told, number, verb, &reply)?;
         let caption = Caption {
@@ -106,6 +113,7 @@ impl Drawing<'_> {
             &caption,
             self.bench,
             self.entries,
+            &self.requests,
             &self.owners,
             &owners,
             touched_by(&reply),
@@ -166,6 +174,7 @@ pub fn draw_steps<W: Write>(
                 alloc,
                 bench: &mut bench,
                 entries: u16::try_from(config.entries).unwrap_or(u16::MAX),
+                requests: Requests::new(alloc),
                 owners,
                 out: String::new(alloc),
             };

@@ -1,7 +1,7 @@
 //! A picture: what a step was and answered, and what the world is behind it.
 
 use crate::cells::put_cells;
-use crate::commands::put_commands;
+use crate::commands::{Requests, put_commands};
 use crate::escaped::put_escaped;
 use crate::rings::put_rings;
 use page_ledger::Owner;
@@ -55,13 +55,14 @@ pub(crate) fn put_picture(
     caption: &Caption<'_>,
     bench: &Bench,
     entries: u16,
+    requests: &Requests,
     before: &[Owner],
     owners: &[Owner],
     touched: &[PageNo],
 ) -> Result<(), AllocError> {
     put_caption(out, caption)?;
     put_cells(out, before, owners, touched)?;
-    put_commands(alloc, out, owners)?;
+    put_commands(alloc, out, requests, owners)?;
     put_rings(out, bench, entries)?;
     out.push_str("<p class=\"key\">")?;
     append_counts(out, bench.counts())?;

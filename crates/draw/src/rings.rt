@@ -42,7 +42,9 @@ fn put_strip(out: &mut String, strip: &Strip, entries: u16) -> Result<(), AllocE
             (true, false) => "w",
             (false, _) => "",
         };
-        write!(out, "<b class=\"{class}\">{slot}</b>")?;
+        let head = if slot == from { " h" } else { "" };
+        let tail = if slot == to { " e" } else { "" };
+        write!(out, "<b class=\"{class}{head}{tail}\">{slot}</b>")?;
     }
     out.push_str("</div>")
 }
@@ -60,9 +62,12 @@ fn put_submission(out: &mut String, rings: &Rings, entries: u16) -> Result<(), A
                 told: doorbell,
             };
             put_strip(out, &strip, entries)?;
-            write!(out, "head {head}, tail {tail}, tail doorbell {doorbell}")
+            write!(
+                out,
+                "controller: head {head}, tail doorbell {doorbell}; host: tail {tail}"
+            )
         }
-        None => write!(out, "tail {tail}; the controller has none"),
+        None => write!(out, "host: tail {tail}; the controller has none"),
     }
 }
 
@@ -82,10 +87,13 @@ fn put_completion(out: &mut String, rings: &Rings, entries: u16) -> Result<(), A
             put_strip(out, &strip, entries)?;
             write!(
                 out,
-                "head {head}, phase {phase}, tail {tail}, phase {posted}, head doorbell {doorbell}"
+                "host: head {head}, phase {phase}; controller: tail {tail}, phase {posted}, head doorbell {doorbell}"
             )
         }
-        None => write!(out, "head {head}, phase {phase}; the controller has none"),
+        None => write!(
+            out,
+            "host: head {head}, phase {phase}; the controller has none"
+        ),
     }
 }
 

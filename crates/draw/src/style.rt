@@ -8,7 +8,7 @@ pub(crate) const HEAD: &str = "<!DOCTYPE html>
 <meta name=\"viewport\" content=\"width=device-width, initial-scale=1\">
 <title>nvmesgl: a script, step by step</title>
 <style>
-:root { --ink: #1b1f24; --dim: #68707a; --line: #c9ced6; --paper: #fff; --free: #eef0f3; }
+:root { --ink: #1b1f24; --dim: #59616b; --line: #c9ced6; --paper: #fff; --free: #eef0f3; }
 body { font: 15px/1.45 system-ui, sans-serif; color: var(--ink); background: var(--paper); max-width: 76rem; margin: 0 auto; padding: 0 1rem 2rem; }
 nav { position: sticky; top: 0; background: var(--paper); border-bottom: 1px solid var(--line); padding: .6rem 0; display: flex; gap: .6rem; align-items: center; z-index: 1; }
 nav[hidden], section[hidden] { display: none; }
@@ -31,13 +31,19 @@ th { color: var(--dim); font-weight: 600; }
 .ring b { font: 11px ui-monospace, monospace; min-width: 1.5rem; text-align: center; padding: .15rem 0; border-radius: 3px; background: var(--free); color: var(--dim); }
 .ring .p { background: #f2b134; color: var(--ink); }
 .ring .w { background: #fbe3b0; color: var(--ink); }
+.ring .h { box-shadow: inset 3px 0 var(--ink); }
+.ring .e { box-shadow: inset -3px 0 var(--ink); }
+.ring .h.e { box-shadow: inset 3px 0 var(--ink), inset -3px 0 var(--ink); }
+td i { display: inline-block; width: .8em; height: .8em; margin-right: .4em; border-radius: 2px; background: hsl(var(--h) 75% 72%); }
+@media (max-width: 48rem) { .pool { grid-template-columns: repeat(8, minmax(2.6rem, 1fr)); } }
 .key { color: var(--dim); font-size: 13px; margin: .4rem 0 0; }
 </style>
 </head>
 <body>
 <nav hidden><button type=\"button\" title=\"the step before (left arrow)\">&larr;</button><input type=\"range\" min=\"0\" value=\"0\" aria-label=\"step\"><button type=\"button\" title=\"the next step (right arrow)\">&rarr;</button><output></output></nav>
 <p class=\"key\">A cell is a page of the pool. Dark blue: a submission queue; light blue: a completion queue; a colour for each command, plain where its data lies and
-striped where its list lies; grey: free. A frame: it has another owner than before the step. Underlined: the controller touched it. In a ring, yellow: posted and not taken; pale: posted, and the doorbell not rung for it.</p>
+striped where its list lies; grey: free. A frame: it has another owner than before the step. Underlined: the controller touched it. In a ring, yellow: posted and not taken; pale: posted, and the doorbell not rung for it;
+a bar at the left: the head, where the next one is taken; at the right: the tail, where the next one is posted.</p>
 ";
 
 /// The end of the page: with it the browser shows one picture at a time.
@@ -52,8 +58,9 @@ function show(place) {
   shown = Math.max(0, Math.min(pictures.length - 1, place));
   pictures.forEach((picture, i) => { picture.hidden = i !== shown; });
   slider.value = shown;
-  told.textContent = shown + ' of ' + (pictures.length - 1);
+  told.textContent = 'step ' + shown + ' of ' + (pictures.length - 1);
   history.replaceState(null, '', '#' + pictures[shown].id);
+  scrollTo(0, 0);
 }
 slider.max = pictures.length - 1;
 slider.oninput = () => show(Number(slider.value));

@@ -13,8 +13,8 @@ const PARTS: [&str; 8] = [
     "<h2>line 2: <code>reserve 1 read 0 1 0+512</code></h2>",
     "<code>2 reserve q 1 cid 0 data 1 chain 0\n</code>",
     "<b class=\"d n\" style=\"--h:101\" title=\"page 4: data of command 1 0\">4</b>",
-    "<tr><td>1 0</td><td></td><td>4</td></tr>",
-    "head 0, tail 1, tail doorbell 0",
+    "</i>1, 0</td><td>reserve 1 read 0 1 0+512</td><td></td><td>4</td></tr>",
+    "controller: head 0, tail doorbell 0; host: tail 1",
     "counts free 11 queue 4 chain 0 data 1",
     "<b class=\"f\" title=\"page 15: free\">15</b>",
 ];
