@@ -43,7 +43,7 @@ impl Requests {
                 return Ok(());
             }
         }
-        self.all.push(Asked { q, cid, line })
+        Ok(self.all.push(Asked { q, cid, line })?)
     }
 
     /// The line that reserved a command; empty for one that no line reserved, as one of queue 0.
