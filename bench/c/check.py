@@ -2,17 +2,8 @@
 
 import ctypes
 
-from nvmesgl import Code, Kind, Machine, OwnerKind, Piece, Refused
-
-
-def refused(code, call, *arguments):
-    """The refusal of a call, which has this code."""
-    try:
-        call(*arguments)
-    except Refused as why:
-        assert why.code == code, why.code
-        return why
-    raise AssertionError("it was done")
+from nvmesgl import Code, Kind, Machine, OwnerKind, Piece
+from refusals import refused
 
 
 image = bytes(range(256)) * 4

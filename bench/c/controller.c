@@ -1,5 +1,6 @@
 /* Arbitrary calls of a controller over arbitrary bytes: controller SEED CALLS. A call that is refused changes no byte of the pool, a step that the controller
  * says it can do is done, and a controller that says it can do nothing refuses what is tried. */
+#include "arbitrary.h"
 #include "nvmectl.h"
 
 #include <stdio.h>
@@ -13,14 +14,6 @@ static const nvmectl_queue queues[QUEUES] = {{0, 1}, {2, 3}, {4, 5}};
 static nvmectl controller = NVMECTL_CLOSED;
 static nvmesgl_answer answer;
 static unsigned long counts[64], steps;
-static uint64_t state;
-
-static unsigned below(unsigned n) {
-    state ^= state << 13;
-    state ^= state >> 7;
-    state ^= state << 17;
-    return (unsigned)((state >> 11) % n);
-}
 
 static void put(uint8_t *at, uint64_t value, int bytes) {
     for (int i = 0; i < bytes; i++) at[i] = (uint8_t)(value >> 8 * i);

@@ -1,5 +1,6 @@
 /* Arbitrary calls of a host whose device writes arbitrary bytes: host SEED CALLS. A call that is refused changes neither a byte of the pool nor a page's owner, nor what the
  * host knows of its queues; whatever the device writes, the classes of pages add up to the pool, and each page has the owner that they count. */
+#include "arbitrary.h"
 #include "nvmehost.h"
 
 #include <stdio.h>
@@ -22,14 +23,6 @@ static nvmehost host = NVMEHOST_CLOSED;
 static nvmesgl_answer answer;
 static nvmehost_doorbell bell;
 static unsigned long counts[64], writes, rejected;
-static uint64_t state;
-
-static unsigned below(unsigned n) {
-    state ^= state << 13;
-    state ^= state >> 7;
-    state ^= state << 17;
-    return (unsigned)((state >> 11) % n);
-}
 
 static void fail(const char *why, uint32_t code) {
     printf("%s: %s (%u)\n", why, nvmesgl_text(code), code);

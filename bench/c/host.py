@@ -4,17 +4,8 @@ import ctypes
 import struct
 
 from nvmehost import Doorbell, Host, QueueState, Rings
-from nvmesgl import Code, Kind, OwnerKind, Piece, Refused, State
-
-
-def refused(code, call, *arguments):
-    """The refusal of a call, which has this code."""
-    try:
-        call(*arguments)
-    except Refused as why:
-        assert why.code == code, why.code
-        return why
-    raise AssertionError("it was done")
+from nvmesgl import Code, Kind, OwnerKind, Piece, State
+from refusals import refused
 
 
 class Device:

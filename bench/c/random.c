@@ -1,16 +1,8 @@
 /* Writes a script of arbitrary steps: random SEED STEPS. The same seed gives the same script. */
+#include "arbitrary.h"
 #include <stdint.h>
 #include <stdio.h>
 #include <stdlib.h>
-
-static uint64_t state;
-
-static unsigned below(unsigned n) {
-    state ^= state << 13;
-    state ^= state >> 7;
-    state ^= state << 17;
-    return (unsigned)((state >> 11) % n);
-}
 
 static unsigned queue(void) { return below(16) == 0 ? below(4) : 1 + below(2); }
 static unsigned command(void) { return below(16) == 0 ? below(6) : below(3); }
