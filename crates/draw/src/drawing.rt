@@ -1,5 +1,8 @@
 //! A script is played and drawn.
 
+ghost use Rattle.std.specs.Prelude.{◌≡◌, ◌≤◌, IfOk, length, min};
+ghost use Rattle.draw.specs.Drawn.{AreFirstOwners};
+
 use crate::commands::Requests;
 use crate::picture::{Caption, put_picture, touched_by};
 use crate::style::{FOOT, HEAD};
@@ -19,15 +22,25 @@ pub const MOST_CELLS: u32 = 1_024;
 /// The most pictures of a script, behind that of the opening. The steps behind them are not made.
 pub const MOST_PICTURES: usize = 1_000;
 
-/// The owners of the pages that are drawn, in the pages' order.
-fn owners_of(alloc: Global, bench: &Bench) -> Result<Vec<Owner>, AllocError> {
-    let pages = bench.pages();
-    let drawn = pages.min(MOST_CELLS);
-    let mut owners = Vec::with_capacity(alloc, drawn as usize)?;
-    for p in 0..drawn {
-        owners.push(bench.owner(PageNo(p)))?;
+/// The owners of so many pages, the first ones, in their order.
+fn first_owners(alloc: Global, bench: &Bench, pages: u32) -> Result<Vec<Owner>, AllocError>
+    requires { pages ≤ length bench.now.table.world.memory }
+    ensures many { IfOk result (λ owners. length owners.items ≡ pages) }
+    ensures owners { IfOk result (λ owners. AreFirstOwners bench.now.table.world owners.items) }
+{
+    let mut owners = Vec::with_capacity(alloc, pages as usize)?;
+    for p in 0..pages {
+        owners.push_reserved(bench.owner(PageNo(p)));
     }
     Ok(owners)
+}
+
+/// The owners of the pages that are drawn.
+fn owners_of(alloc: Global, bench: &Bench) -> Result<Vec<Owner>, AllocError>
+    ensures many { IfOk result (λ owners. length owners.items ≡ min (length bench.now.table.world.memory) 1024) }
+    ensures owners { IfOk result (λ owners. AreFirstOwners bench.now.table.world owners.items) }
+{
+    first_owners(alloc, bench, bench.pages().min(MOST_CELLS))
 }
 
 /// A text, of which lines are taken in rising order.

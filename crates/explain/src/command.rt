@@ -3,10 +3,12 @@
 ghost use Rattle.std.specs.Prelude.{◌≡◌, ◌≤◌, ◌<◌, ◌*◌, [], ℕ, Bool, List, None, Some, IfOk, IfSome, false, length};
 ghost use Rattle.std.specs.Result.{result_err};
 ghost use Rattle.block_image.specs.Blocks.{block_count};
+ghost use Rattle.controller_walk.specs.Faults.{next_of};
 ghost use Rattle.controller_walk.specs.Laws.{IsApart};
 ghost use Rattle.controller_walk.specs.Units.{course_of_list};
 ghost use Rattle.controller_walk.specs.Walks.{course, direction_of, is_over, need_of};
 ghost use Rattle.explain.specs.Ending.{Ends, ends_with, list_of};
+ghost use Rattle.explain.specs.Taking.{AreOf, own};
 ghost use Rattle.io_commands.specs.Jobs.{kind_of_opcode, first_block as spec_first_block, block_number as spec_block_number, need_of_entry, direction_of_entry, io_fault, first_bytes as spec_first_bytes};
 ghost use Rattle.page_memory.specs.Memory.{Memory};
 
@@ -127,6 +129,7 @@ pub(crate) fn walk_of(entry: &SubEntry, kind: Kind) -> Walk
     ensures open { is_over result ≡ false }
     ensures direction { direction_of result ≡ direction_of_entry entry.now }
     ensures need { need_of result ≡ need_of_entry entry.now }
+    ensures next { next_of result ≡ Some own }
 {
     Walk::begin(entry.sgl1, kind.direction(), 512 * block_number(entry))
 }
@@ -152,6 +155,10 @@ pub fn explain<D: TouchRecord>(
     // Else the fault is that with which its list ends, where that list moves no byte onto its own descriptors,
     ensures fault { IfOk result (λ told. io_fault (block_count image.now) entry.now ≡ None → (at : ℕ → Bool) → IsApart at (direction_of_entry entry.now) (list_of (D.memory dma.old) entry.now)
         → Ends at (D.memory dma.old) (list_of (D.memory dma.old) entry.now) told.fault) }
+
+    // the descriptors told are those that its list reads, all of them, each with the bytes that stand at its place,
+    ensures told { IfOk result (λ told. io_fault (block_count image.now) entry.now ≡ None → (at : ℕ → Bool) → IsApart at (direction_of_entry entry.now) (list_of (D.memory dma.old) entry.now)
+        → AreOf (D.memory dma.old) entry.now.sgl1 (list_of (D.memory dma.old) entry.now) told.taken.items) }
 
     // and the status is that of the fault, or, of a command whose list was accepted, that of its bytes.
     ensures status { IfOk result (λ told. io_fault (block_count image.now) entry.now ≡ None → (bytes : List ℕ) × (told.status ≡ ends_with image.now entry.now bytes told.fault)) }

@@ -1,13 +1,17 @@
 //! The list of a command, descriptor by descriptor.
 
-ghost use Rattle.std.specs.Prelude.{◌≡◌, ◌<◌, ◌≤◌, [], ℕ, Bool, false, length, IfOk};
+ghost use Rattle.std.specs.Prelude.{◌≡◌, ◌<◌, ◌≤◌, [], ℕ, Bool, List, false, length, option_and_then, Some, IfOk};
+ghost use Rattle.std.specs.Option.{option_map};
+ghost use Rattle.controller_walk.specs.Faults.{next_of};
 ghost use Rattle.controller_walk.specs.Laws.{IsApart};
-ghost use Rattle.controller_walk.specs.Units.{Course};
-ghost use Rattle.controller_walk.specs.Walks.{direction_of, is_over, left_of, need_of};
+ghost use Rattle.controller_walk.specs.Units.{Course, Does, Reads};
+ghost use Rattle.controller_walk.specs.Walks.{course, direction_of, is_over, left_of, need_of};
 ghost use Rattle.explain.specs.Ending.{Ends, Goes, WalkedTo};
+ghost use Rattle.explain.specs.Taking.{AreOf, Tells, ToldTo, taken_at, taken_next, with_next};
+ghost use Rattle.explain.specs.declared.list.Taken.{Taken};
 ghost use Rattle.page_memory.specs.Memory.{Memory};
 
-use controller_walk::{DescriptorAt, FaultCause, Walk, WalkFault};
+use controller_walk::{DescriptorAt, Walk, WalkFault};
 use page_memory::{Dma, TouchRecord};
 use std::alloc::{AllocError, Global};
 
@@ -31,13 +35,21 @@ pub(crate) struct Walked {
     pub(crate) fault: Option<WalkFault>,
 }
 
-/// The descriptor that the next step takes, where that step takes one whose bytes can be read.
+/// The most descriptors of a list (`controller_walk`).
+const MOST_DESCRIPTORS: u32 = 4096;
+
+/// The descriptor that the next step takes, if it takes one: there is one more, and its bytes can be read. What it counts is left out.
 fn next_taken<D: Dma>(walk: &Walk, sgl1: &[u8; 16], dma: &mut D) -> Option<Taken>
     requires { D.reached dma.old ≡ [] }
+    ensures taken { result ≡ option_and_then (taken_at (D.memory dma.old) sgl1.now 0) (next_of walk.now) }
+    ensures reads { (m : Memory) (place : ℕ) (rest : Course) → course m walk.now ≡ Does (Reads place) rest → option_and_then (λ at. at.place) (next_of walk.now) ≡ Some place }
     ensures memory { D.memory dma.new ≡ D.memory dma.old }
     ensures room { length (D.reached dma.new) ≤ 2 }
 {
     let at = walk.at()?;
+    if at.number > MOST_DESCRIPTORS {
+        return None;
+    }
     let mut bytes = *sgl1;
     if let Some(place) = at.place {
         dma.read(place, &mut bytes).ok()?;
@@ -49,22 +61,10 @@ fn next_taken<D: Dma>(walk: &Walk, sgl1: &[u8; 16], dma: &mut D) -> Option<Taken
     })
 }
 
-/// Whether a walk ended before it read a descriptor.
-fn is_unread(fault: Option<WalkFault>) -> bool {
-    match fault {
-        Some(fault) => matches!(
-            fault.cause,
-            FaultCause::TooManyDescriptors | FaultCause::UnreadableDescriptor
-        ),
-        None => false,
-    }
-}
-
-/// The descriptor that a step took, with how many bytes it counts; nothing where the step read none.
-fn read_by_step(next: Option<Taken>, counted: u32, fault: Option<WalkFault>) -> Option<Taken> {
-    if is_unread(fault) {
-        return None;
-    }
+/// The descriptor, with how many of the command's bytes it counts.
+fn counting(next: Option<Taken>, counted: u32) -> Option<Taken>
+    ensures { result ≡ option_map (λ (taken : Taken). record taken { counted = counted }) next }
+{
     Some(Taken { counted, ..next? })
 }
 
@@ -79,6 +79,14 @@ fn step<D: TouchRecord>(
     requires staging { length staging.old ≡ need_of walk.old }
     ensures walked { (at : ℕ → Bool) (m : Memory) (c : Course) → IsApart at (direction_of walk.old) c → Goes at m c walk.old (D.memory dma.old)
         → WalkedTo (is_over walk.new) at m c walk.new (D.memory dma.new) }
+
+    // The descriptor is the one that the step reads, as it stands in memory then,
+    ensures taken { result ≡ taken_next (D.memory dma.old) sgl1.now walk.old }
+
+    // and it is told exactly where it is read: behind it, the other ones of the list are left to be told.
+    ensures tells { (at : ℕ → Bool) (m : Memory) (c : Course) (told : List Taken) → IsApart at (direction_of walk.old) c
+        → Tells at m sgl1.now c told walk.old (D.memory dma.old)
+        → ToldTo (is_over walk.new) at m sgl1.now c (with_next told (taken_next (D.memory dma.old) sgl1.now walk.old)) walk.new (D.memory dma.new) }
     ensures direction { direction_of walk.new ≡ direction_of walk.old }
     ensures need { need_of walk.new ≡ need_of walk.old }
     ensures fewer { left_of walk.new < left_of walk.old }
@@ -87,7 +95,7 @@ fn step<D: TouchRecord>(
     let next = next_taken(walk, sgl1, dma);
     let before = walk.counted();
     let _answer = walk.step(dma, staging);
-    read_by_step(next, walk.counted() - before, walk.fault())
+    counting(next, walk.counted() - before)
 }
 
 /// Walks a list to its end. The walk is one that begins with this descriptor, and `staging` has as many bytes as the command moves.
@@ -102,6 +110,8 @@ pub(crate) fn walk_list<D: TouchRecord>(
     requires staging { length staging.old ≡ need_of begun }
     ensures ends { IfOk result (λ walked. (at : ℕ → Bool) (m : Memory) (c : Course) → IsApart at (direction_of begun) c → Goes at m c begun (D.memory dma.old)
         → Ends at m c walked.fault) }
+    ensures told { IfOk result (λ walked. (at : ℕ → Bool) (m : Memory) (c : Course) → IsApart at (direction_of begun) c
+        → Tells at m sgl1.now c [] begun (D.memory dma.old) → AreOf m sgl1.now c walked.taken.items) }
     ensures staging { length staging.new ≡ length staging.old }
 {
     let mut walk = begun;

@@ -4,7 +4,7 @@
 //! `nvmesgl steps` prints for it, or a [`DotWord`] with its arguments. A line that is at fault says so and changes nothing; the session goes on.
 //! [`trace_steps`] plays a whole script so, with what each step moved.
 //!
-//! What a step, `owners` and `.counts` say of the world is the world's: their clauses are those of a script's run.
+//! What a step, `owners`, `.counts`, `.page` and `.rings` say of the world is the world's: `specs/`, and the clauses of a script's run.
 #![tactic(auto)]
 
 mod answers;
@@ -16,6 +16,7 @@ mod help;
 mod lines;
 mod looks;
 mod moves;
+mod pages;
 mod script;
 mod serve;
 mod session;

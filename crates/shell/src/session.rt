@@ -7,7 +7,8 @@ use crate::asked::{Asked, asked_of};
 use crate::hand::{Hand, MOST_STEPS};
 use crate::help::say_help;
 use crate::lines::read_line;
-use crate::looks::{say_page, say_rings};
+use crate::looks::say_rings;
+use crate::pages::say_page;
 use script_cli::{
     ImageFault, Line, Numbered, RunFault, Script, flush, not_opened, put, split_line,
 };

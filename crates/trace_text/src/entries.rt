@@ -1,12 +1,11 @@
 //! Entries of queues, field by field.
 
-use crate::bytes::{put_bytes, put_place, sixteen_at, sixty_four_at};
 use crate::lists::{put_descriptor, put_list};
-use crate::rings::slot_address;
+use crate::slots::{put_completion_slot, put_submission_slot};
 use entry_codec::{ComEntry, SubEntry, admin_opcode, io_opcode};
 use status_names::Named;
 use std::alloc::AllocError;
-use step_core::{Bench, Half};
+use step_core::Bench;
 
 /// What an opcode asks for, on queue 0 or another one.
 fn opcode_name(q: u16, opcode: u8) -> &'static str {
@@ -70,16 +69,9 @@ pub(crate) fn put_submission(
     slot: u16,
     list: bool,
 ) -> Result<(), AllocError> {
-    let Some(addr) = slot_address(bench, q, Half::Submission, slot) else {
+    let Some(bytes) = put_submission_slot(out, bench, q, slot)? else {
         return Ok(());
     };
-    let Some(bytes) = sixty_four_at(bench, addr) else {
-        return Ok(());
-    };
-    write!(out, "  submission queue {q} slot {slot}, ")?;
-    put_place(out, addr)?;
-    out.push_str("\n")?;
-    put_bytes(out, &bytes)?;
     let entry = SubEntry::read(&bytes);
     put_submission_fields(out, q, &entry)?;
     if list {
@@ -116,15 +108,8 @@ pub(crate) fn put_completion(
     q: u16,
     slot: u16,
 ) -> Result<(), AllocError> {
-    let Some(addr) = slot_address(bench, q, Half::Completion, slot) else {
+    let Some(bytes) = put_completion_slot(out, bench, q, slot)? else {
         return Ok(());
     };
-    let Some(bytes) = sixteen_at(bench, addr) else {
-        return Ok(());
-    };
-    write!(out, "  completion queue {q} slot {slot}, ")?;
-    put_place(out, addr)?;
-    out.push_str("\n")?;
-    put_bytes(out, &bytes)?;
     put_completion_fields(out, &ComEntry::read(&bytes))
 }

@@ -10,6 +10,7 @@ mod bytes;
 mod entries;
 mod lists;
 mod rings;
+mod slots;
 mod trace;
 
 pub use entries::{put_completion_fields, put_submission_fields};

@@ -2,6 +2,8 @@
 use Rattle.std.proofs.Common.{sym, subst}
 use Rattle.controller_walk.specs.Laws.{IsApart}
 use Rattle.controller_walk.specs.Walks.{direction_of}
+use Rattle.controller_walk.proofs.Stands.{stands_at_first}
+use Rattle.explain.proofs.Telling.{tells_none}
 use Rattle.explain.proofs.Walking.{begins}
 use Rattle.explain.specs.Ending.{list_of}
 use Rattle.io_commands.specs.Jobs.{direction_of_entry, need_of_entry}
@@ -14,3 +16,11 @@ returns-clause-fault g c passes at apart =
     subst (λ (d : Direction). IsApart at d (list_of (g.D.Dma.memory c.args.dma.now) c.args.entry.now)) (sym c.walk_of-walk.ensures.direction) apart in
     c.in_ok-taken.ensures.ends at _ _ apart'
     (begins at (g.D.Dma.memory c.args.dma.now) c.args.entry.now.sgl1 (direction_of_entry c.args.entry.now) (need_of_entry c.args.entry.now) c.walk_of-walk.result apart c.walk_of-walk.ensures.course)
+
+pub returns-clause-told : goal.returns-clause-told
+returns-clause-told g c passes at apart =
+    let apart' : IsApart at (direction_of c.walk_of-walk.result) (list_of (g.D.Dma.memory c.args.dma.now) c.args.entry.now) =
+    subst (λ (d : Direction). IsApart at d (list_of (g.D.Dma.memory c.args.dma.now) c.args.entry.now)) (sym c.walk_of-walk.ensures.direction) apart in
+    c.in_ok-taken.ensures.told at _ _ apart'
+    (tells_none at (g.D.Dma.memory c.args.dma.now) c.args.entry.now.sgl1 _ c.walk_of-walk.result
+    (stands_at_first at (g.D.Dma.memory c.args.dma.now) c.args.entry.now.sgl1 (direction_of_entry c.args.entry.now) (need_of_entry c.args.entry.now) c.walk_of-walk.result apart.reads c.walk_of-walk.ensures.course) c.walk_of-walk.ensures.next)

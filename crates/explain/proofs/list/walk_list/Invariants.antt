@@ -1,10 +1,14 @@
--- the walk stands in its list, or has ended as that does
+-- the walk stands in its list, or has ended as that does, and the descriptors that it read are told
 use Rattle.controller_walk.specs.Walks.{left_of}
+use Rattle.explain.proofs.Telling.{Telling}
 use Rattle.explain.proofs.Walking.{Standing}
 use Rattle.explain.proofs.list.walk_list.Given as goal
 
 abbrev pub invariant-walk : goal.invariant-walk
-invariant-walk g l = Standing l.fn.begun l.walk (g.D.Dma.memory l.fn.dma) (g.D.Dma.memory l.dma) l.staging
+invariant-walk g l = record {
+  stands : Standing l.fn.begun l.walk (g.D.Dma.memory l.fn.dma) (g.D.Dma.memory l.dma) l.staging;
+  tells : Telling l.fn.begun l.walk (g.D.Dma.memory l.fn.dma) (g.D.Dma.memory l.dma) l.sgl1 l.taken.items;
+}
 
 abbrev pub decreases-walk : goal.decreases-walk
 decreases-walk g l = left_of l.walk

@@ -1,0 +1,3 @@
+pub mod RingTexts
+pub mod Rows
+pub mod Said
