@@ -23,7 +23,7 @@ fn lower_case(alloc: Global, word: &[u8]) -> Result<Option<String>, AllocError> 
 
 /// Whether so many edits are few for a word of this length.
 fn are_few(edits: usize, len: usize) -> bool {
-    edits <= MAX_EDITS && edits.saturating_mul(2) <= len
+    edits <= MAX_EDITS && edits.saturating_mul(3) <= len
 }
 
 /// The name that a word is nearest to, of those to which few edits lead: a byte more, less or other, or two that are swapped. Upper and lower
