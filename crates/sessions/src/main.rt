@@ -6,6 +6,8 @@
 
 mod command;
 mod play;
+mod printed;
+mod terminal;
 
 use play::play_file;
 use std::alloc::AllocGlobal;

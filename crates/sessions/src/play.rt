@@ -1,6 +1,7 @@
 //! Sessions that are played.
 
-use crate::command::Typed;
+use crate::command::{Action, Command, Input};
+use crate::terminal::Terminal;
 use program::perform;
 use std::alloc::AllocGlobal;
 use std::rt::Files;
@@ -8,56 +9,86 @@ use std::sync::Wait;
 use std::thread::Threads;
 use std::{fs, io};
 
+/// What begins a line that is typed while a command runs.
+const PROMPT: &str = "nvmesgl> ";
+
 /// Prints the lines of a file, and below each command what it prints.
 pub(crate) fn play_file<R: AllocGlobal + Eprint + Files + Print + Sync + Threads + Wait>(
     rt: &R,
     file: &str,
 ) -> io::Result<()> {
     let text = fs::read_to_string(rt, file)?;
+    let mut before: Option<Command<'_>> = None;
+    let mut typed = String::new(rt.alloc());
     for line in text.lines() {
-        println!(rt; "{line}")?;
-        if let Some(typed) = Typed::read(rt.alloc(), line)? {
-            play(rt, &typed)?;
+        if let Some(line) = line.strip_prefix(PROMPT) {
+            typed.push_str(line)?;
+            typed.push('\n')?;
+            continue;
         }
+        if let Some(command) = before {
+            play(rt, &command, typed.as_str())?;
+            typed.clear();
+        }
+        println!(rt; "{line}")?;
+        before = Command::read(rt.alloc(), line)?;
     }
-    Ok(())
+    match before {
+        Some(command) => play(rt, &command, typed.as_str()),
+        None => Ok(()),
+    }
 }
 
-/// Does what a command says, and prints its exit status where that is asked for.
+/// Does what a command says while lines are typed, and prints its exit status where that is asked for.
 fn play<R: AllocGlobal + Eprint + Files + Print + Sync + Threads + Wait>(
     rt: &R,
-    typed: &Typed<'_>,
+    command: &Command<'_>,
+    typed: &str,
 ) -> io::Result<()> {
-    let status = match typed.words.split_first() {
-        Some((&"cat", [file])) => show(rt, file)?,
-        Some((&"nvmesgl", _)) => run(rt, typed)?,
-        _ => return Err(io::Error::from(io::ErrorKind::InvalidInput)),
+    let status = match &command.action {
+        Action::Show(file) => {
+            let text = fs::read_to_string(rt, file)?;
+            print!(rt; "{text}")?;
+            0
+        }
+        Action::Write(text, file) => {
+            fs::write(rt, file, text.as_slice())?;
+            0
+        }
+        Action::Run(words, input) => run(rt, words, input, typed)?,
     };
-    if typed.asks_status {
+    if command.asks_status {
         println!(rt; "{status}")?;
     }
     Ok(())
 }
 
-/// Prints a file.
-fn show<R: AllocGlobal + Files + Print>(rt: &R, file: &str) -> io::Result<u8> {
-    let text = fs::read_to_string(rt, file)?;
-    print!(rt; "{text}")?;
-    Ok(0)
-}
-
 /// Runs the program, and tells its exit status.
 fn run<R: AllocGlobal + Eprint + Files + Print + Sync + Threads + Wait>(
     rt: &R,
-    typed: &Typed<'_>,
+    words: &[&str],
+    input: &Input<'_>,
+    typed: &str,
 ) -> io::Result<u8> {
-    let input = match typed.input {
-        Some(file) => fs::read(rt, file)?,
-        None => Vec::new(rt.alloc()),
-    };
-    let mut reader = input.as_slice();
+    match input {
+        Input::Terminal => status_of(rt, words, &mut Terminal::typing(rt, typed), true),
+        Input::File(file) => {
+            let text = fs::read(rt, file)?;
+            status_of(rt, words, &mut text.as_slice(), false)
+        }
+        Input::Printed(text) => status_of(rt, words, &mut text.as_slice(), false),
+    }
+}
+
+/// Runs the program over a reader, and tells its exit status.
+fn status_of<R: AllocGlobal + Eprint + Files + Print + Sync + Threads + Wait, I: io::Read>(
+    rt: &R,
+    words: &[&str],
+    reader: &mut I,
+    is_terminal: bool,
+) -> io::Result<u8> {
     let mut writer = io::writer(rt);
-    match perform(rt, typed.words.as_slice(), &mut reader, &mut writer, false) {
+    match perform(rt, words, reader, &mut writer, is_terminal) {
         Ok(()) => Ok(0),
         Err(told) => {
             print!(rt; "{told}")?;

@@ -1,62 +1,11 @@
-//! Transcripts that are at fault, and the first difference of one that is played.
+//! The first difference of a transcript that is played on a bench. That of `nvmesgl test` names a line where this names none.
 
 use crate::expecting::same;
-use crate::script_playing::USUAL;
 use std::alloc::Global;
 use std::test::Fail;
-use step_core::Config;
-use transcripts::{OnBench, Options, play, read_transcript};
+use transcripts::{OnBench, play, read_transcript};
 
-/// The first fault of a transcript, as it is printed.
-fn fault_of(alloc: Global, text: &str) -> Result<String, Fail> {
-    match read_transcript(alloc, text) {
-        Ok(_) => Ok(String::from_str(alloc, "none")?),
-        Err(fault) => Ok(format!(in alloc; "{fault}")?),
-    }
-}
-
-#[test]
-fn transcripts_have_faults(rt: HostRuntime) -> Result<(), Fail> {
-    for (text, fault) in [
-        ("", "none"),
-        ("# options:\nring 1\n> ring ok\n>\n", "none"),
-        ("# a comment\n\n  ring 1\r\n> ring ok\r\n", "none"),
-        ("ring 1\n> ring ok\nraed 1\n", "line 3: UnknownVerb"),
-        (" > ring ok\n", "line 1: UnknownVerb"),
-        ("# options: --pages\n", "line 1: BadOptions"),
-        ("# options: --pages x\n", "line 1: BadOptions"),
-        ("# options: --pages 8 --pages 8\n", "line 1: BadOptions"),
-        ("# options: --image file\n", "line 1: BadOptions"),
-        ("# pages\n# options: --pages 8\n", "line 2: BadOptions"),
-    ] {
-        same(&rt, fault_of(rt.alloc(), text)?.as_str(), fault);
-    }
-    Ok(())
-}
-
-#[test]
-fn transcripts_have_options(rt: HostRuntime) -> Result<(), Fail> {
-    let usual = Options {
-        config: USUAL,
-        blocks: 64,
-    };
-    let small = Options {
-        config: Config {
-            pages: 32,
-            queues: 2,
-            entries: 8,
-            segment: 4,
-        },
-        blocks: 5,
-    };
-    let given = "# options: --pages 32 --queues 2 --entries 8 --segment 4 --blocks 5";
-    for (text, options) in [("ring 1", usual), (given, small)] {
-        same(&rt, read_transcript(rt.alloc(), text)?.options(), options);
-    }
-    Ok(())
-}
-
-/// The first difference of a transcript that is played on a bench, as it is printed.
+/// The first difference, as it is printed.
 fn difference_of(alloc: Global, text: &str) -> Result<String, Fail> {
     let transcript = read_transcript(alloc, text)?;
     let mut bench = OnBench::open(alloc, alloc, transcript.options())?;
