@@ -115,14 +115,18 @@ fn submit_all<L: Driver, A: Allocator + Copy, G: Gate, R: Wait>(
     gate: &G,
     worker: u16,
     jobs: Vec<JobIn<A>, A>,
-) -> Returned<L, A> {
+    depth: usize,
+) -> Returned<L, A>
+    requires at_least_one { 1 ≤ depth }
+    requires at_most { depth ≤ 256 }
+{
     let many = jobs.len();
     let Worked {
         seat,
         ends,
         closed,
         short: _,
-    } = submitter(rt, alloc, shared, gate, worker, jobs);
+    } = submitter(rt, alloc, shared, gate, worker, jobs, depth);
     Returned {
         carried: all_carried(seat, ends, many),
         closed,
@@ -161,7 +165,11 @@ fn run_workers<
     shared: &Shared<L, A>,
     gate: &G,
     jobs: Vec<Vec<JobIn<A>, A>, A>,
-) -> Result<Work<L, A>, Failure> {
+    depth: usize,
+) -> Result<Work<L, A>, Failure>
+    requires at_least_one { 1 ≤ depth }
+    requires at_most { depth ≤ 256 }
+{
     let Ok(mut handles) = Vec::with_capacity(alloc, jobs.len()) else {
         return Err(Failure::Memory);
     };
@@ -176,7 +184,7 @@ fn run_workers<
         let mut all_started = true;
         let mut short = false;
         for (worker, list) in (0..16u16).zip(jobs) {
-            match scope.spawn(move || submit_all(rt, alloc, shared, gate, worker, list)) {
+            match scope.spawn(move || submit_all(rt, alloc, shared, gate, worker, list, depth)) {
                 Ok(handle) => short = handles.push(handle).is_err() || short,
                 Err(_) => {
                     all_started = false;
@@ -294,7 +302,10 @@ fn run_over<
     book: Book<L, A>,
     gate: &G,
     jobs: Vec<Vec<JobIn<A>, A>, A>,
+    depth: usize,
 ) -> Result<Ran<L, A>, Failure>
+    requires at_least_one { 1 ≤ depth }
+    requires at_most { depth ≤ 256 }
     ensures closed { IfOk result (λ ran. RanFrom L.opening ran.report ran.book) }
     ensures all_jobs { IfOk result (λ ran. map length ran.jobs ≡ map (λ list. length list.items) jobs.items) }
     ensures agree { IfOk result (λ ran. AllAgree ran.report.receipts ran.jobs) }
@@ -304,12 +315,13 @@ fn run_over<
         return Err(Failure::Memory);
     };
     let shared = Shared::new(book);
-    let work = run_workers(rt, alloc, &shared, gate, jobs)?;
+    let work = run_workers(rt, alloc, &shared, gate, jobs, depth)?;
     finish(alloc, shared.end(), work, &many)
 }
 
 /// Opens a book, runs a submitter for each list of jobs, a poller and a controller over it in threads of their own, and closes it with the
-/// submitters' seats. A list's place, from 0, is the worker of its submitter.
+/// submitters' seats. A list's place, from 0, is the worker of its submitter. Each submitter has at most `depth` jobs, 1 to 256, in flight at a
+/// time.
 ///
 /// A job's command ended as its receipt in the report says, and so as the log does. Where the driver takes the steps of jobs alone, the log
 /// has no others: so the run is trusted from its opening to its end, and the laws of trusted runs speak of its Reads, Writes and Compares.
@@ -330,6 +342,7 @@ pub fn run_threads<
     config: Config,
     image: Image<A>,
     jobs: Vec<Vec<JobIn<A>, A>, A>,
+    depth: usize,
     gate: &G,
     blank: Blank,
 ) -> Result<Ran<L, A>, RunFault>
@@ -339,6 +352,8 @@ pub fn run_threads<
     requires opening { L.opening ≡ opening_of config image }
     requires some { 1 ≤ vec_len jobs }
     requires few { vec_len jobs ≤ 16 }
+    requires at_least_one { 1 ≤ depth }
+    requires at_most { depth ≤ 256 }
     ensures ran { IfOk result (λ ran. RanFrom (opening_of config image) ran.report ran.book) }
     ensures all_jobs { IfOk result (λ ran. map length ran.jobs ≡ map (λ list. length list.items) jobs.items) }
     ensures agree { IfOk result (λ ran. AllAgree ran.report.receipts ran.jobs) }
@@ -359,7 +374,7 @@ pub fn run_threads<
             };
         }
     };
-    match run_over(rt, alloc, book, gate, jobs) {
+    match run_over(rt, alloc, book, gate, jobs, depth) {
         Ok(ran) => Ok(ran),
         Err(failure) => Err(fault_of(failure)),
     }
