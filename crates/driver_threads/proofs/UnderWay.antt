@@ -1,5 +1,5 @@
 -- A submitter under way: commands are taken into flight, and the oldest ones end.
-use Rattle.std.proofs.Common.{◌≡◌, ℕ, ◌-◌, ◌+◌, ◌≤◌, ◌==◌, ◌&&◌, ◌||◌, true, Option, Some, None, List, [], ◌∷◌, ◌++◌, length, refl, sym, ap, ◌∙◌, arith, eq-eqb}
+use Rattle.std.proofs.Common.{◌≡◌, ℕ, ◌-◌, ◌+◌, ◌≤◌, ◌||◌, Bool, true, false, suc, Option, None, List, [], ◌∷◌, ◌++◌, length, refl, sym, ap, ◌∙◌, arith, eq-eqb}
 use Rattle.std.specs.List.{list_any}
 use Rattle.std.proofs.lemmas.List.{append-nil, append_assoc, length-append}
 use Rattle.entry_codec.specs.declared.status.Status.{Status}
@@ -14,15 +14,19 @@ use Rattle.driver_threads.proofs.Ended.{none_open, settled_oldest, status_is, st
 
 -- Nothing is in flight
 
-pub begins : (receipts : List Receipt) (ends : List JobEnd) (tickets : List TicketContents) → Agree receipts ends → tickets ≡ [] → IsUnderWay receipts ends tickets
-begins receipts ends tickets agree none = record { ended = receipts; awaited = []; receipts_are = sym (append-nil receipts); agree = agree; await = rw none tt }
+none_is : (tickets : List TicketContents) (n : ℕ) → n ≡ length tickets → n ≡ 0 → tickets ≡ []
+none_is [] n long none = refl
+none_is (t ∷ tickets) n long none = absurd (omega (arith, long, none))
+
+pub begins : (receipts : List Receipt) (ends : List JobEnd) (tickets : List TicketContents) → receipts ≡ [] → ends ≡ [] → tickets ≡ [] → IsUnderWay receipts ends tickets
+begins receipts ends tickets no_receipts no_ends no_tickets = rw (no_receipts, no_ends, no_tickets) (record { ended = []; awaited = []; receipts_are = refl; agree = refl; await = tt })
 
 all_ended : (awaited ended receipts : List Receipt) (ends : List JobEnd) → receipts ≡ ended ++ awaited → Agree ended ends → AwaitEach awaited [] → Agree receipts ends
 all_ended [] ended receipts ends are agree await = ap statuses_of (are ∙ append-nil ended) ∙ agree
 all_ended (r ∷ awaited) ended receipts ends are agree await = absurd await
 
-pub landed : (receipts : List Receipt) (ends : List JobEnd) (tickets : List TicketContents) → tickets ≡ [] → IsUnderWay receipts ends tickets → Agree receipts ends
-landed receipts ends tickets none u = all_ended u.awaited u.ended receipts ends u.receipts_are u.agree (rw (sym none) u.await)
+pub landed : (receipts : List Receipt) (ends : List JobEnd) (tickets : List TicketContents) (n : ℕ) → n ≡ length tickets → n ≡ 0 → IsUnderWay receipts ends tickets → Agree receipts ends
+landed receipts ends tickets n long none u = all_ended u.awaited u.ended receipts ends u.receipts_are u.agree (rw (sym (none_is tickets n long none)) u.await)
 
 -- One command more
 
@@ -57,9 +61,13 @@ in_flight_fit receipts ends tickets u =
     let same : length u.awaited ≡ length tickets = await_length u.awaited tickets u.await in
     omega (arith, long, same)
 
+or_true : (b : Bool) → (b || true) ≡ true
+or_true true = refl
+or_true false = refl
+
 is_open : (number q cid : ℕ) (ended awaited : List Receipt) → list_any (is_open_for q cid) (ended ++ receipt number q cid None ∷ awaited) ≡ true
 is_open number q cid [] awaited = rw (eq-eqb q q refl, eq-eqb cid cid refl) refl
-is_open number q cid (r ∷ ended) awaited = rw (is_open number q cid ended awaited) (search bool)
+is_open number q cid (r ∷ ended) awaited = rw (is_open number q cid ended awaited) (or_true (is_open_for q cid r))
 
 oldest_open : (awaited ended receipts : List Receipt) (t : TicketContents) (tickets : List TicketContents) → receipts ≡ ended ++ awaited → AwaitEach awaited (t ∷ tickets) → list_any (is_open_for t.q t.cid) receipts ≡ true
 oldest_open [] ended receipts t tickets are await = absurd await

@@ -1,6 +1,6 @@
 //! Commands in flight: a submitter has submitted and rung them, and not collected them yet.
 
-ghost use Rattle.std.specs.Prelude.{◌≡◌, ◌+◌, ◌-◌, ◌<◌, ◌≤◌, true, vec_len, IfErr, OnOk, OnErr};
+ghost use Rattle.std.specs.Prelude.{◌≡◌, ◌+◌, ◌-◌, ◌<◌, ◌≤◌, true, false, vec_len, IfErr, OnOk, OnErr};
 ghost use Rattle.std.specs.VecDeque.{deque_len, deque_capacity};
 ghost use Rattle.driver_threads.specs.Ends.{Agree, IsUnderWay, refuses};
 
@@ -75,6 +75,7 @@ impl<L: Driver, A: Allocator + Copy> Flight<L, A> {
         ensures under_way { OnOk result (IsUnderWay self.new.seat.receipts self.new.ends.items self.new.tickets.items) }
         ensures all { OnOk result (vec_len self.new.ends ≡ vec_len self.old.ends + deque_len self.old.tickets) }
         ensures none { OnOk result (deque_len self.new.tickets ≡ 0) }
+        ensures agree { OnOk result (Agree self.new.seat.receipts self.new.ends.items) }
         ensures fewer { OnErr result (vec_len self.new.ends < vec_len self.old.ends + deque_len self.old.tickets) }
         ensures places { deque_capacity self.new.tickets ≡ deque_capacity self.old.tickets }
     {
@@ -130,7 +131,7 @@ impl<L: Driver, A: Allocator + Copy> Flight<L, A> {
         ensures refused { IfErr result (λ halt. refuses halt ≡ true → IsUnderWay self.new.seat.receipts self.new.ends.items self.new.tickets.items) }
         ensures all_refused { IfErr result (λ halt. refuses halt ≡ true → vec_len self.new.ends + deque_len self.new.tickets ≡ vec_len self.old.ends + deque_len self.old.tickets) }
         ensures most { vec_len self.new.ends ≤ vec_len self.old.ends + deque_len self.old.tickets }
-        ensures fewer { deque_len self.new.tickets ≤ deque_len self.old.tickets }
+        ensures fewer { OnOk result (deque_len self.new.tickets ≤ deque_len self.old.tickets) }
         ensures places { deque_capacity self.new.tickets ≡ deque_capacity self.old.tickets }
     {
         let mut request = request;
@@ -196,9 +197,10 @@ impl<L: Driver, A: Allocator + Copy> Flight<L, A> {
         ensures places { deque_capacity self.new.tickets ≡ deque_capacity self.old.tickets }
     {
         self.finish_all(rt, alloc, shared, watch)?;
-        if self.ends.push(JobEnd::Refused(why)).is_err() {
+        if self.ends.reserve(1).is_err() {
             return Err(Halt::Memory);
         }
+        self.ends.push_reserved(JobEnd::Refused(why));
         Ok(())
     }
 
@@ -248,6 +250,7 @@ impl<L: Driver, A: Allocator + Copy> Flight<L, A> {
         requires places { 0 < deque_capacity self.old.tickets }
         ensures all { OnOk result (vec_len self.new.ends ≡ vec_len self.old.ends + vec_len jobs) }
         ensures fewer { OnErr result (vec_len self.new.ends < vec_len self.old.ends + vec_len jobs) }
+        ensures most { vec_len self.new.ends ≤ vec_len self.old.ends + vec_len jobs }
         ensures agree { OnOk result (Agree self.new.seat.receipts self.new.ends.items) }
     {
         for job in jobs {

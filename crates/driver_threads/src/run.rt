@@ -107,26 +107,38 @@ fn all_carried<L: Driver, A: Allocator>(
     }
 }
 
+/// How many jobs a submitter has in flight at most.
+#[derive(Clone, Copy)]
+struct Depth {
+    jobs: usize,
+    ghost at_least_one: { 1 ≤ jobs },
+    ghost at_most: { jobs ≤ 256 },
+}
+
+/// Which submitter it is, and how deep it goes.
+#[derive(Clone, Copy)]
+struct Post {
+    worker: u16,
+    depth: Depth,
+}
+
 /// Does the jobs of a submitter.
 fn submit_all<L: Driver, A: Allocator + Copy, G: Gate, R: Wait>(
     rt: &R,
     alloc: A,
     shared: &Shared<L, A>,
     gate: &G,
-    worker: u16,
+    post: Post,
     jobs: Vec<JobIn<A>, A>,
-    depth: usize,
-) -> Returned<L, A>
-    requires at_least_one { 1 ≤ depth }
-    requires at_most { depth ≤ 256 }
-{
+) -> Returned<L, A> {
+    let Post { worker, depth } = post;
     let many = jobs.len();
     let Worked {
         seat,
         ends,
         closed,
         short: _,
-    } = submitter(rt, alloc, shared, gate, worker, jobs, depth);
+    } = submitter(rt, alloc, shared, gate, worker, jobs, depth.jobs);
     Returned {
         carried: all_carried(seat, ends, many),
         closed,
@@ -165,11 +177,8 @@ fn run_workers<
     shared: &Shared<L, A>,
     gate: &G,
     jobs: Vec<Vec<JobIn<A>, A>, A>,
-    depth: usize,
-) -> Result<Work<L, A>, Failure>
-    requires at_least_one { 1 ≤ depth }
-    requires at_most { depth ≤ 256 }
-{
+    depth: Depth,
+) -> Result<Work<L, A>, Failure> {
     let Ok(mut handles) = Vec::with_capacity(alloc, jobs.len()) else {
         return Err(Failure::Memory);
     };
@@ -184,7 +193,8 @@ fn run_workers<
         let mut all_started = true;
         let mut short = false;
         for (worker, list) in (0..16u16).zip(jobs) {
-            match scope.spawn(move || submit_all(rt, alloc, shared, gate, worker, list, depth)) {
+            let post = Post { worker, depth };
+            match scope.spawn(move || submit_all(rt, alloc, shared, gate, post, list)) {
                 Ok(handle) => short = handles.push(handle).is_err() || short,
                 Err(_) => {
                     all_started = false;
@@ -302,10 +312,8 @@ fn run_over<
     book: Book<L, A>,
     gate: &G,
     jobs: Vec<Vec<JobIn<A>, A>, A>,
-    depth: usize,
+    depth: Depth,
 ) -> Result<Ran<L, A>, Failure>
-    requires at_least_one { 1 ≤ depth }
-    requires at_most { depth ≤ 256 }
     ensures closed { IfOk result (λ ran. RanFrom L.opening ran.report ran.book) }
     ensures all_jobs { IfOk result (λ ran. map length ran.jobs ≡ map (λ list. length list.items) jobs.items) }
     ensures agree { IfOk result (λ ran. AllAgree ran.report.receipts ran.jobs) }
@@ -374,6 +382,7 @@ pub fn run_threads<
             };
         }
     };
+    let depth = Depth { jobs: depth };
     match run_over(rt, alloc, book, gate, jobs, depth) {
         Ok(ran) => Ok(ran),
         Err(failure) => Err(fault_of(failure)),

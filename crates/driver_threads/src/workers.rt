@@ -33,6 +33,7 @@ pub struct Worked<L: Ledger, A: Allocator = Global> {
 /// hold while it has nothing in flight, and for the end of its oldest command. Where memory is refused to it, all workers are told to stop; what
 /// it holds is spent. Where each job has its end, the ends of its commands are those that its receipts say, in their order, and there is no
 /// further receipt.
+#[tactic(auto, using(crate::proofs::UnderWay::begins))]
 pub fn submitter<L: Driver, A: Allocator + Copy, G: Gate, R: Wait>(
     rt: &R,
     alloc: A,
