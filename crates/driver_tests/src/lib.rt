@@ -11,7 +11,11 @@ mod closing;
 #[cfg(test)]
 mod crowd;
 #[cfg(test)]
+mod depth;
+#[cfg(test)]
 mod fixed_heap;
+#[cfg(test)]
+mod flight;
 #[cfg(test)]
 mod heap;
 #[cfg(test)]

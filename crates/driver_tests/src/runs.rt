@@ -57,6 +57,7 @@ fn outcome_of<L: Driver + Send + Sync, G: Gate + Sync, R: Threads + Wait + Sync>
     config: Config,
     image: Image,
     jobs: Vec<Vec<Job>>,
+    depth: usize,
     gate: &G,
     blank: Blank,
 ) -> Result<Outcome, RunFault>
@@ -66,8 +67,10 @@ fn outcome_of<L: Driver + Send + Sync, G: Gate + Sync, R: Threads + Wait + Sync>
     requires opening { L.opening ≡ opening_of config image }
     requires some { 1 ≤ vec_len jobs }
     requires few { vec_len jobs ≤ 16 }
+    requires at_least_one { 1 ≤ depth }
+    requires at_most { depth ≤ 256 }
 {
-    let ran: Ran<L> = run_threads(rt, alloc, config, image, jobs, gate, blank)?;
+    let ran: Ran<L> = run_threads(rt, alloc, config, image, jobs, depth, gate, blank)?;
     let Ran { report, jobs, book } = ran;
     Ok(Outcome {
         report,
@@ -78,7 +81,28 @@ fn outcome_of<L: Driver + Send + Sync, G: Gate + Sync, R: Threads + Wait + Sync>
     })
 }
 
-/// Runs jobs over a new book, whose image has so many zero blocks.
+/// Runs jobs over a new book, whose image has so many zero blocks, each submitter with so many in flight at most.
+pub(crate) fn play_at<G: Gate + Sync, R: Threads + Wait + Sync>(
+    rt: &R,
+    alloc: Global,
+    config: Config,
+    blocks: u32,
+    jobs: Vec<Vec<Job>>,
+    depth: usize,
+    gate: &G,
+) -> Result<Outcome, RunFault>
+    requires some { 1 ≤ vec_len jobs }
+    requires few { vec_len jobs ≤ 16 }
+    requires at_least_one { 1 ≤ depth }
+    requires at_most { depth ≤ 256 }
+{
+    let Ok(image) = Image::zeroed(alloc, blocks) else {
+        return Err(RunFault::Memory);
+    };
+    outcome_of::<Brand, G, R>(rt, alloc, config, image, jobs, depth, gate, Blank::new(65536))
+}
+
+/// Runs jobs one after the other for each submitter, over a new book, whose image has so many zero blocks.
 pub(crate) fn play<G: Gate + Sync, R: Threads + Wait + Sync>(
     rt: &R,
     alloc: Global,
@@ -90,10 +114,7 @@ pub(crate) fn play<G: Gate + Sync, R: Threads + Wait + Sync>(
     requires some { 1 ≤ vec_len jobs }
     requires few { vec_len jobs ≤ 16 }
 {
-    let Ok(image) = Image::zeroed(alloc, blocks) else {
-        return Err(RunFault::Memory);
-    };
-    outcome_of::<Brand, G, R>(rt, alloc, config, image, jobs, gate, Blank::new(65536))
+    play_at(rt, alloc, config, blocks, jobs, 1, gate)
 }
 
 /// So many pieces of one block each.

@@ -28,7 +28,7 @@ fn worked<L: FullDriver, R: Abort + Wait>(rt: &R, shared: &Shared<L>, alloc: Glo
         Ok(job) => assert!(rt; jobs.push(job).is_ok()),
         Err(_) => panic!(rt; "no memory for the job"),
     }
-    submitter(rt, alloc, shared, &Open, 0, jobs)
+    submitter(rt, alloc, shared, &Open, 0, jobs, 1)
 }
 
 /// A job on a queue that is being deleted is refused, and leaves no receipt.

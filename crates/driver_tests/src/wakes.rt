@@ -371,7 +371,7 @@ fn submit_all<L: FullDriver, R: Wait>(
         ends,
         closed: _,
         short: _,
-    } = submitter(rt, alloc, shared, progress, 0, jobs);
+    } = submitter(rt, alloc, shared, progress, 0, jobs, 1);
     progress.back.store(true, Ordering::SeqCst);
     ends
 }

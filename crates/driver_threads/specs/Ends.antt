@@ -1,5 +1,5 @@
 -- How jobs ended, beside the receipts of their submitter's seat.
-use Rattle.std.specs.Prelude.{◌≡◌, ℕ, ◌-◌, Bool, true, false, Option, Some, None, List, [], ◌∷◌, ◌++◌, map, length, slice_get, option_and_then}
+use Rattle.std.specs.Prelude.{◌≡◌, ℕ, Bool, true, false, Option, Some, None, List, [], ◌∷◌, ◌++◌, map, slice_get, option_and_then}
 use Rattle.entry_codec.specs.declared.status.Status.{Status}
 use Rattle.io_commands.specs.Values.{TicketContents}
 use Rattle.driver_book.specs.Calls.{receipt, settled}
@@ -27,17 +27,32 @@ Agree receipts ends = statuses_of receipts ≡ ends_of ends
 abbrev pub AllAgree : List (List Receipt) → List (List JobEnd) → Type 0
 AllAgree receipts ends = map statuses_of receipts ≡ map ends_of ends
 
--- the last receipt's status
-abbrev pub last_status : List Receipt → Option Status
-last_status receipts = option_and_then (λ r. r.status) (slice_get receipts (length receipts - 1))
+-- the status of the receipt at a place
+abbrev pub status_of : List Receipt → ℕ → Option Status
+status_of receipts place = option_and_then (λ r. r.status) (slice_get receipts place)
 
 -- one receipt more, for the command of a ticket, without a status
 abbrev pub Awaits : List Receipt → TicketContents → List Receipt → Type 0
 Awaits old ticket new = (number : ℕ) × (new ≡ old ++ receipt number ticket.q ticket.cid None ∷ [])
 
--- the command's receipt got a status, and the job's end is what the last receipt says
-abbrev pub EndsWith : List Receipt → ℕ → ℕ → JobEnd → List Receipt → Type 0
-EndsWith old q cid end new = (status : Option Status) × (new ≡ settled q cid status old) × (ends_of (end ∷ []) ≡ last_status new ∷ [])
+-- the command's receipt got a status, and the job's end is what the receipt at this place says
+abbrev pub EndsWith : List Receipt → ℕ → ℕ → ℕ → JobEnd → List Receipt → Type 0
+EndsWith old q cid place end new = (status : Option Status) × (new ≡ settled q cid status old) × (ends_of (end ∷ []) ≡ status_of new place ∷ [])
+
+-- these receipts are those of the commands of these tickets, in their order, and none has a status yet
+abbrev pub AwaitEach : List Receipt → List TicketContents → Type 0
+AwaitEach [] [] = Unit {0}
+AwaitEach (r ∷ receipts) (t ∷ tickets) = (r ≡ receipt r.number t.q t.cid None) × AwaitEach receipts tickets
+AwaitEach receipts tickets = ⊥
+
+-- A submitter is under way: its receipts are those of the commands that ended, which agree with the ends of its jobs so far, and then those of
+-- the commands in flight, which have these tickets.
+pub record IsUnderWay (receipts : List Receipt) (ends : List JobEnd) (tickets : List TicketContents) : Type 0 where
+  pub ended : List Receipt
+  pub awaited : List Receipt
+  pub receipts_are : receipts ≡ ended ++ awaited
+  pub agree : Agree ended ends
+  pub await : AwaitEach awaited tickets
 
 -- a job is refused, and not cut off
 abbrev pub refuses : Halt → Bool

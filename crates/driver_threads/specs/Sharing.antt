@@ -1,5 +1,5 @@
 -- What a call of a shared book says: that some book of this opening, whose log leads from there to its world, did it.
-use Rattle.std.specs.Prelude.{◌≡◌, ℕ, ◌<◌, ◌≤◌, [], Option, Some, None, List, length, Result, MatchOption}
+use Rattle.std.specs.Prelude.{◌≡◌, ℕ, ◌<◌, ◌≤◌, Bool, true, [], Option, Some, None, List, length, Result, MatchOption}
 use Rattle.std.specs.List.{Contains}
 use Rattle.io_commands.specs.Drafts.{DraftContents}
 use Rattle.io_commands.specs.Values.{FinishedContents, TicketContents}
@@ -79,6 +79,19 @@ pub record GivesNoSeat (opening : State) : Type 0 where
   pub book : BookContents
   pub of : IsBookOf opening book
   pub all : book.made ≡ 65535
+
+-- some book of this opening was told to stop, and is otherwise as it was
+pub record Stops (opening : State) : Type 0 where
+  pub old : BookContents
+  pub new : BookContents
+  pub of : IsBookOf opening old
+  pub stops : new ≡ record old { stopping = true }
+
+-- some book of this opening says whether it was told to stop
+pub record TellsStopping (opening : State) (answer : Bool) : Type 0 where
+  pub book : BookContents
+  pub of : IsBookOf opening book
+  pub tells : answer ≡ book.stopping
 
 -- some book of this opening says whose a page is, or that it has no such page
 pub record Tells (opening : State) (p : ℕ) (answer : Option Owner) : Type 0 where

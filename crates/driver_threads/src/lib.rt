@@ -4,8 +4,8 @@
 //! machine that leads to the world as it is. Each call but [`Shared::new`] and [`Shared::end`] makes one step of it, looks at it, makes a seat, or stops or
 //! closes it.
 //!
-//! [`submitter`]s carry jobs through, one after the other; a [`poller`] takes completions, a [`controller`] serves. Data is filled, lists are
-//! built and bytes are gathered outside the lock. Who waits sleeps on a condition variable and looks at the book as it wakes: a wait makes no
+//! [`submitter`]s carry jobs through, each with so many in flight at most; a [`poller`] takes completions, a [`controller`] serves. Data is filled,
+//! lists are built and bytes are gathered outside the lock. Who waits sleeps on a condition variable and looks at the book as it wakes: a wait makes no
 //! step and writes nothing down, so no wait lengthens the log.
 //!
 //! All of it stands in the memory of the allocator with which the book was opened, from which threads take memory side by side: it is
@@ -15,8 +15,10 @@
 #![tactic(auto)]
 
 mod admin;
+mod carry;
 mod changes;
 mod device;
+mod flight;
 mod gate;
 mod host;
 mod jobs;

@@ -107,22 +107,38 @@ fn all_carried<L: Driver, A: Allocator>(
     }
 }
 
+/// How many jobs a submitter has in flight at most.
+#[derive(Clone, Copy)]
+struct Depth {
+    jobs: usize,
+    ghost at_least_one: { 1 ≤ jobs },
+    ghost at_most: { jobs ≤ 256 },
+}
+
+/// Which submitter it is, and how deep it goes.
+#[derive(Clone, Copy)]
+struct Post {
+    worker: u16,
+    depth: Depth,
+}
+
 /// Does the jobs of a submitter.
 fn submit_all<L: Driver, A: Allocator + Copy, G: Gate, R: Wait>(
     rt: &R,
     alloc: A,
     shared: &Shared<L, A>,
     gate: &G,
-    worker: u16,
+    post: Post,
     jobs: Vec<JobIn<A>, A>,
 ) -> Returned<L, A> {
+    let Post { worker, depth } = post;
     let many = jobs.len();
     let Worked {
         seat,
         ends,
         closed,
         short: _,
-    } = submitter(rt, alloc, shared, gate, worker, jobs);
+    } = submitter(rt, alloc, shared, gate, worker, jobs, depth.jobs);
     Returned {
         carried: all_carried(seat, ends, many),
         closed,
@@ -161,6 +177,7 @@ fn run_workers<
     shared: &Shared<L, A>,
     gate: &G,
     jobs: Vec<Vec<JobIn<A>, A>, A>,
+    depth: Depth,
 ) -> Result<Work<L, A>, Failure> {
     let Ok(mut handles) = Vec::with_capacity(alloc, jobs.len()) else {
         return Err(Failure::Memory);
@@ -176,7 +193,8 @@ fn run_workers<
         let mut all_started = true;
         let mut short = false;
         for (worker, list) in (0..16u16).zip(jobs) {
-            match scope.spawn(move || submit_all(rt, alloc, shared, gate, worker, list)) {
+            let post = Post { worker, depth };
+            match scope.spawn(move || submit_all(rt, alloc, shared, gate, post, list)) {
                 Ok(handle) => short = handles.push(handle).is_err() || short,
                 Err(_) => {
                     all_started = false;
@@ -294,6 +312,7 @@ fn run_over<
     book: Book<L, A>,
     gate: &G,
     jobs: Vec<Vec<JobIn<A>, A>, A>,
+    depth: Depth,
 ) -> Result<Ran<L, A>, Failure>
     ensures closed { IfOk result (λ ran. RanFrom L.opening ran.report ran.book) }
     ensures all_jobs { IfOk result (λ ran. map length ran.jobs ≡ map (λ list. length list.items) jobs.items) }
@@ -304,12 +323,13 @@ fn run_over<
         return Err(Failure::Memory);
     };
     let shared = Shared::new(book);
-    let work = run_workers(rt, alloc, &shared, gate, jobs)?;
+    let work = run_workers(rt, alloc, &shared, gate, jobs, depth)?;
     finish(alloc, shared.end(), work, &many)
 }
 
 /// Opens a book, runs a submitter for each list of jobs, a poller and a controller over it in threads of their own, and closes it with the
-/// submitters' seats. A list's place, from 0, is the worker of its submitter.
+/// submitters' seats. A list's place, from 0, is the worker of its submitter. Each submitter has at most `depth` jobs, 1 to 256, in flight at a
+/// time.
 ///
 /// A job's command ended as its receipt in the report says, and so as the log does. Where the driver takes the steps of jobs alone, the log
 /// has no others: so the run is trusted from its opening to its end, and the laws of trusted runs speak of its Reads, Writes and Compares.
@@ -330,6 +350,7 @@ pub fn run_threads<
     config: Config,
     image: Image<A>,
     jobs: Vec<Vec<JobIn<A>, A>, A>,
+    depth: usize,
     gate: &G,
     blank: Blank,
 ) -> Result<Ran<L, A>, RunFault>
@@ -339,6 +360,8 @@ pub fn run_threads<
     requires opening { L.opening ≡ opening_of config image }
     requires some { 1 ≤ vec_len jobs }
     requires few { vec_len jobs ≤ 16 }
+    requires at_least_one { 1 ≤ depth }
+    requires at_most { depth ≤ 256 }
     ensures ran { IfOk result (λ ran. RanFrom (opening_of config image) ran.report ran.book) }
     ensures all_jobs { IfOk result (λ ran. map length ran.jobs ≡ map (λ list. length list.items) jobs.items) }
     ensures agree { IfOk result (λ ran. AllAgree ran.report.receipts ran.jobs) }
@@ -359,7 +382,8 @@ pub fn run_threads<
             };
         }
     };
-    match run_over(rt, alloc, book, gate, jobs) {
+    let depth = Depth { jobs: depth };
+    match run_over(rt, alloc, book, gate, jobs, depth) {
         Ok(ran) => Ok(ran),
         Err(failure) => Err(fault_of(failure)),
     }

@@ -3,7 +3,7 @@
 ghost use Rattle.std.specs.Prelude.{◌≡◌, true, IfOk, IfErr};
 ghost use Rattle.std.specs.Sync.Mutex.{mutex_guard_value};
 ghost use Rattle.driver_book.specs.State.{BookContents};
-ghost use Rattle.driver_threads.specs.Sharing.{IsBookOf, Seated, GivesNoSeat, Tells, Counted, Closes, StaysOpen};
+ghost use Rattle.driver_threads.specs.Sharing.{IsBookOf, Seated, GivesNoSeat, Stops, TellsStopping, Tells, Counted, Closes, StaysOpen};
 
 use crate::changes::{Change, Changes, Condvars};
 use driver_book::{Book, CloseRefused, Driver, NoSeat, ReportIn, Seat};
@@ -96,14 +96,18 @@ impl<L: Driver, A: Allocator + Copy> Shared<L, A> {
     }
 
     /// Tells the workers to stop.
-    pub fn stop<R: Wait>(&self, rt: &R) {
+    pub fn stop<R: Wait>(&self, rt: &R)
+        ensures { Stops L.opening }
+    {
         let mut locked = self.lock(rt);
         locked.book.stop();
         self.leave(locked, Changes::ALL);
     }
 
     /// Whether the workers are told to stop.
-    pub fn stopping<R: Wait>(&self, rt: &R) -> bool {
+    pub fn stopping<R: Wait>(&self, rt: &R) -> bool
+        ensures { TellsStopping L.opening result }
+    {
         self.lock(rt).book.stopping()
     }
 

@@ -35,6 +35,14 @@ enum Turn {
     Never(Halt),
 }
 
+/// What became of a request on a queue.
+pub(crate) enum Reservation<A: Allocator> {
+    /// It was reserved.
+    Now(Draft<A>),
+    /// It has to wait, for an identifier or for pages.
+    Later(Request<A>),
+}
+
 /// What a request on a queue is answered now. It waits for pages only where those that no queue owns are at least as many as the
 /// fewest that the request could take.
 fn turn_of<L: Driver, A: Allocator + Copy>(
@@ -224,6 +232,25 @@ fn of_use<L: Driver, A: Allocator + Copy>(locked: &mut Locked<L, A>, changes: Ch
 }
 
 impl<L: Driver, A: Allocator + Copy> Shared<L, A> {
+    /// Reserves for a request where that need not wait, and hands it back where it has to.
+    ///
+    /// # Errors
+    ///
+    /// Where the request is refused, the workers are told to stop, or memory is refused. The request is dropped.
+    pub(crate) fn reserve_now<R: Wait>(
+        &self,
+        rt: &R,
+        q: u16,
+        request: Request<A>,
+    ) -> Result<Reservation<A>, Halt> {
+        let mut locked = self.lock(rt);
+        match turn_of(&locked.book, q, &request) {
+            Turn::Free => Ok(Reservation::Now(reserved(&mut locked.book, q, request)?)),
+            Turn::Later => Ok(Reservation::Later(request)),
+            Turn::Never(halt) => Err(halt),
+        }
+    }
+
     /// Reserves for a request, and waits as long as identifiers or pages are wanting that others hold.
     ///
     /// # Errors
@@ -246,12 +273,12 @@ impl<L: Driver, A: Allocator + Copy> Shared<L, A> {
         unreachable!()
     }
 
-    /// Rings a queue for a command, waits until the command has ended, and collects it, while it holds the lock but for the wait.
+    /// Waits until a command has ended, and collects it.
     ///
     /// # Errors
     ///
     /// Where the workers are told to stop, somebody else has collected the command, or memory is refused. The ticket is spent.
-    pub(crate) fn ring_and_collect<R: Wait>(
+    pub(crate) fn collect_when_ended<R: Wait>(
         &self,
         rt: &R,
         ticket: Ticket,
@@ -261,12 +288,6 @@ impl<L: Driver, A: Allocator + Copy> Shared<L, A> {
     {
         let (q, cid) = (ticket.q(), ticket.cid());
         let mut locked = self.lock(rt);
-        if matches!(locked.book.ring(q), Err(Refusal::Memory)) {
-            drop(locked);
-            drop(ticket.apart());
-            return Err(Halt::Memory);
-        }
-        self.tell(&mut locked, Changes::RUNG);
         for _ in rt.forever() {
             if locked.book.stopping() {
                 drop(locked);

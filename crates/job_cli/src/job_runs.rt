@@ -163,7 +163,7 @@ fn run_book<L: Driver + Send + Sync, R: Threads + Wait + Sync>(
     ensures owners { IfOk result (λ left. length left.owners.items ≤ 65536) }
     ensures fault { IfErr result (IsNoRun config) }
 {
-    let ran: Ran<L> = match run_threads(rt, alloc, config, image, lists, &Open, blank) {
+    let ran: Ran<L> = match run_threads(rt, alloc, config, image, lists, 1, &Open, blank) {
         Ok(ran) => ran,
         Err(why) => return Err(not_run(why)),
     };

@@ -2,13 +2,16 @@
 
 ghost use Rattle.std.specs.Prelude.{◌≤◌};
 
-use crate::reads::{MOST_BLOCKS, MOST_JOBS, Shape};
+use crate::reads::{MOST_BLOCKS, MOST_DEPTH, MOST_JOBS, Shape};
 
 /// How Reads are carried through.
 #[derive(Clone, Copy)]
 pub enum Way {
     /// By submitters, a poller and a controller, each in a thread of its own, over a shared book.
-    Threads,
+    Threads {
+        /// How many Reads a submitter has in flight at most, 1 to 256.
+        depth: u32,
+    },
     /// One after the other over a book without a lock.
     Alone {
         /// How often the work is done that threads do outside of the lock: once, or more often to find out how long it takes.
@@ -72,6 +75,18 @@ fn alone(words: &[String]) -> Option<Asked> {
     })
 }
 
+/// The Reads in threads that three words name, or four with a depth.
+fn threads(words: &[String]) -> Option<Asked> {
+    let (words, depth) = match words.split_last() {
+        Some((depth, first)) if first.len() == 3 => (first, number(depth, 1, MOST_DEPTH)?),
+        _ => (words, 1),
+    };
+    Some(Asked::Reads {
+        way: Way::Threads { depth },
+        shape: shape(words)?,
+    })
+}
+
 /// The random steps that two words name.
 fn hostile(words: &[String]) -> Option<Asked> {
     let [seed, steps] = words else {
@@ -89,10 +104,7 @@ impl Asked {
         let (verb, numbers) = words.get(1..)?.split_first()?;
         match verb.as_str() {
             "hostile" => hostile(numbers),
-            "threads" => Some(Asked::Reads {
-                way: Way::Threads,
-                shape: shape(numbers)?,
-            }),
+            "threads" => threads(numbers),
             "alone" => alone(numbers),
             "heap" => Some(Asked::Heap),
             "all" => Some(Asked::All),

@@ -7,7 +7,7 @@ use thiserror::Error;
 #[derive(Clone, Copy, Debug, Error)]
 pub enum Fault {
     /// The arguments are at fault.
-    #[error("usage: trials hostile SEED STEPS | threads SUBMITTERS JOBS BLOCKS | alone SUBMITTERS JOBS BLOCKS TIMES | heap | all")]
+    #[error("usage: trials hostile SEED STEPS | threads SUBMITTERS JOBS BLOCKS [DEPTH] | alone SUBMITTERS JOBS BLOCKS TIMES | heap | all")]
     Usage,
     /// A world or a bench was not opened.
     #[error("a world was not opened")]

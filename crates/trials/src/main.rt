@@ -5,7 +5,7 @@
 //! the world is compared with a recount of its pages that is made of the answers alone; a difference ends the program with exit status 1.
 //! It prints how many steps of each kind were accepted and refused, what reaps found, and a digest of all answers.
 //!
-//! `trials threads SUBMITTERS JOBS BLOCKS` and `trials alone SUBMITTERS JOBS BLOCKS TIMES` carry Reads of one shape through, by threads over a
+//! `trials threads SUBMITTERS JOBS BLOCKS [DEPTH]` and `trials alone SUBMITTERS JOBS BLOCKS TIMES` carry Reads of one shape through, by threads over a
 //! shared book, or one after the other over a book of their own; `bench/threads` measures how long that takes. They print how many commands
 //! were carried through, how many entries the log has and how many bytes were read, and nothing that depends on the schedule.
 //!
@@ -91,7 +91,7 @@ fn start<R: Env + AllocGlobal + Print + Threads + Wait + Sync>(rt: &R) -> Result
                 jobs: 3,
                 blocks: 9,
             };
-            carry_reads(rt, Way::Threads, shape)?;
+            carry_reads(rt, Way::Threads { depth: 1 }, shape)?;
             carry_reads(rt, Way::Alone { times: 1 }, shape)?;
             fill_heaps(rt)
         }
@@ -109,8 +109,8 @@ fn carry_reads<R: AllocGlobal + Print + Threads + Wait + Sync>(
         return Err(Fault::Memory);
     };
     let done = match way {
-        Way::Threads => {
-            read_in_threads::<Brand, R>(rt, alloc, ROOMY, shape, image, Blank::new(65536))?
+        Way::Threads { depth } => {
+            read_in_threads::<Brand, R>(rt, alloc, ROOMY, shape, depth, image, Blank::new(65536))?
         }
         Way::Alone { times } => {
             read_alone::<Brand>(alloc, ROOMY, shape, times, image, Blank::new(65536))?

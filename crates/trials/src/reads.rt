@@ -7,6 +7,9 @@ use step_core::Config;
 /// The most Reads of a submitter.
 pub const MOST_JOBS: u32 = 1_000_000;
 
+/// The most Reads that a submitter has in flight.
+pub const MOST_DEPTH: u32 = 256;
+
 /// The most blocks of a Read: 64 KiB.
 pub const MOST_BLOCKS: u32 = 128;
 

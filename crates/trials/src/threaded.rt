@@ -4,7 +4,7 @@ ghost use Rattle.std.specs.Prelude.{◌≡◌, ◌≤◌, vec_len, IfOk};
 ghost use Rattle.step_core.specs.Opening.{opening_of};
 
 use crate::fault::Fault;
-use crate::reads::{Done, Shape, request};
+use crate::reads::{Done, MOST_DEPTH, Shape, request};
 use block_image::Image;
 use driver_book::Driver;
 use driver_threads::{Job, JobEnd, JobEnds, Open, Ran, run_threads};
@@ -53,17 +53,18 @@ fn bytes_of(jobs: &JobEnds) -> Option<u64> {
     Some(all)
 }
 
-/// Carries the Reads through in threads, over a new world.
+/// Carries the Reads through in threads, over a new world. Each submitter has at most so many in flight at a time.
 ///
 /// # Errors
 ///
-/// `Refused` where the run fails or a Read does not end well, `Usage` where there is no submitter, and `Memory` where it is
-/// refused for the jobs.
+/// `Refused` where the run fails or a Read does not end well, `Usage` where there is no submitter or the depth is not 1 to 256, and `Memory`
+/// where it is refused for the jobs.
 pub fn read_in_threads<L: Driver + Send + Sync, R: Threads + Wait + Sync>(
     rt: &R,
     alloc: Global,
     config: Config,
     shape: Shape,
+    depth: u32,
     image: Image,
     blank: Blank,
 ) -> Result<Done, Fault>
@@ -73,10 +74,11 @@ pub fn read_in_threads<L: Driver + Send + Sync, R: Threads + Wait + Sync>(
     requires opening { L.opening ≡ opening_of config image }
 {
     let jobs = all_jobs(alloc, shape)?;
-    if jobs.is_empty() || jobs.len() > 16 {
+    if jobs.is_empty() || jobs.len() > 16 || depth == 0 || depth > MOST_DEPTH {
         return Err(Fault::Usage);
     }
-    let ran: Ran<L> = match run_threads(rt, alloc, config, image, jobs, &Open, blank) {
+    let depth = depth as usize;
+    let ran: Ran<L> = match run_threads(rt, alloc, config, image, jobs, depth, &Open, blank) {
         Ok(ran) => ran,
         Err(_) => return Err(Fault::Refused),
     };

@@ -84,7 +84,7 @@ fn run<L: Driver + Send + Sync, A: Allocator + Copy + Send + Sync, R: Threads + 
     requires some { 1 ≤ vec_len jobs }
     requires few { vec_len jobs ≤ 16 }
 {
-    let ran: Ran<L, A> = run_threads(rt, alloc, config, image, jobs, &Open, blank)?;
+    let ran: Ran<L, A> = run_threads(rt, alloc, config, image, jobs, 1, &Open, blank)?;
     outcome_of(alloc, ran)
 }
 

@@ -6,6 +6,7 @@ use Rattle.io_commands.proofs.request.Pieces.TheSendSync as pieces
 use Rattle.io_commands.proofs.request.RequestOf.TheSendSync as requests
 use Rattle.driver_threads.proofs.jobs.Job.TheSendSync as jobs
 use Rattle.driver_threads.proofs.shared.Shared.TheSendSync as books
+use Rattle.driver_threads.proofs.run.Post.TheSendSync as posts
 use Rattle.driver_threads.proofs.run.Returned.TheSendSync as returned
 use Rattle.driver_threads.proofs.run.fn.run_workers.scope.Goals as goal
 
@@ -21,6 +22,8 @@ spawn-requires-in-loop-worker-send-F g c κs within =
     let book = books.the_field_sync (param 0 g.row.L) A g.L.Driver g.L.Ledger g.A.Allocator send frees in
     let list = vectors.the_send _ A g.A.Allocator (jobs.the_field_send _ _ (requests.the_field_send _ piece) byte) send frees in
     let row = vectors.the_send _ A g.A.Allocator (jobs.the_send _ _ (requests.the_send _ piece) byte) send frees in
+    let post = posts.the_send in
+    let post_field = posts.the_field_send in
     let mixed = vectors.the_send _ A g.A.Allocator (jobs.the_field_send _ _ (requests.the_send _ piece) byte) send frees in
     search sendable depth 30
 

@@ -1,6 +1,6 @@
 use Rattle.std.specs.Prelude.{true}
 use Rattle.step_core.specs.Opening.{opening_of}
-use Rattle.driver_tests.proofs.runs.play.Given as goal
+use Rattle.driver_tests.proofs.runs.play_at.Given as goal
 
 abbrev pub ghosts-outcome_of-L-Ledger : goal.ghosts-outcome_of-L-Ledger
 ghosts-outcome_of-L-Ledger g a = record { name = a.blank.name; parts = a.blank.parts }

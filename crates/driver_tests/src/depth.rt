@@ -1,0 +1,342 @@
+//! Submitters with several jobs in flight, run by threads: over a pool so small that they wait, with refused jobs between, and in a heap that
+//! refuses.
+
+ghost use Rattle.std.specs.Prelude.{◌≡◌, ◌≤◌, vec_len};
+ghost use Rattle.step_core.specs.Opening.{opening_of};
+
+use crate::heap::{Heap, MANY};
+use crate::looks::{counts, see, see_at};
+use crate::part::USUAL;
+use crate::runs::{Outcome, is_done, job, play_at};
+use block_image::Image;
+use driver_book::Driver;
+use driver_threads::{Job, JobEnd, JobEndIn, JobIn, JobRefusal, Open, Ran, RunFault, run_threads};
+use entry_codec::Status;
+use io_commands::{Kind, Piece, Pieces, Request};
+use std::alloc::{AllocError, Allocator, Global};
+use std::marker::Brand;
+use std::process::Abort;
+use std::sync::Wait;
+use std::sync::ledger::Blank;
+use std::test::Fail;
+use std::thread::Threads;
+use step_core::{Bytes, Config};
+use test_support::{Refusal, Refusing};
+
+/// A job on a queue, of so many blocks from a first one on, with bytes that are all alike, and how it ends where the image has zeros.
+struct Asked {
+    q: u16,
+    kind: Kind,
+    slba: u64,
+    blocks: u32,
+    byte: u8,
+    bytes: usize,
+    end: Wanted,
+}
+
+/// How a job ends.
+#[derive(Clone, Copy)]
+enum Wanted {
+    /// With a status, and so many zeros.
+    Done(Status, usize),
+    /// It is refused.
+    Refused(JobRefusal),
+}
+
+/// Reads and Compares of zeros and Writes that nobody reads. Those that are refused are so at their reservation, and as they are filled.
+const MIXED: [Asked; 12] = [
+    Asked {
+        q: 1,
+        kind: Kind::Read,
+        slba: 0,
+        blocks: 1,
+        byte: 0,
+        bytes: 0,
+        end: Wanted::Done(Status::SUCCESS, 512),
+    },
+    Asked {
+        q: 1,
+        kind: Kind::Read,
+        slba: 0,
+        blocks: 2,
+        byte: 0,
+        bytes: 0,
+        end: Wanted::Done(Status::SUCCESS, 1_024),
+    },
+    Asked {
+        q: 1,
+        kind: Kind::Compare,
+        slba: 1,
+        blocks: 1,
+        byte: 7,
+        bytes: 512,
+        end: Wanted::Done(Status::COMPARE_FAILURE, 0),
+    },
+    Asked {
+        q: 2,
+        kind: Kind::Read,
+        slba: 0,
+        blocks: 1,
+        byte: 0,
+        bytes: 0,
+        end: Wanted::Refused(JobRefusal::NoQueue),
+    },
+    Asked {
+        q: 1,
+        kind: Kind::Read,
+        slba: 0,
+        blocks: 3,
+        byte: 0,
+        bytes: 0,
+        end: Wanted::Done(Status::SUCCESS, 1_536),
+    },
+    Asked {
+        q: 1,
+        kind: Kind::Write,
+        slba: 40,
+        blocks: 1,
+        byte: 1,
+        bytes: 1,
+        end: Wanted::Done(Status::SUCCESS, 0),
+    },
+    Asked {
+        q: 1,
+        kind: Kind::Write,
+        slba: 40,
+        blocks: 1,
+        byte: 1,
+        bytes: 513,
+        end: Wanted::Refused(JobRefusal::WrongLength),
+    },
+    Asked {
+        q: 1,
+        kind: Kind::Read,
+        slba: 0,
+        blocks: 1,
+        byte: 0,
+        bytes: 0,
+        end: Wanted::Done(Status::SUCCESS, 512),
+    },
+    Asked {
+        q: 1,
+        kind: Kind::Compare,
+        slba: 1,
+        blocks: 1,
+        byte: 0,
+        bytes: 512,
+        end: Wanted::Done(Status::SUCCESS, 0),
+    },
+    Asked {
+        q: 1,
+        kind: Kind::Read,
+        slba: 0,
+        blocks: 2,
+        byte: 0,
+        bytes: 0,
+        end: Wanted::Done(Status::SUCCESS, 1_024),
+    },
+    Asked {
+        q: 2,
+        kind: Kind::Read,
+        slba: 0,
+        blocks: 1,
+        byte: 0,
+        bytes: 0,
+        end: Wanted::Refused(JobRefusal::NoQueue),
+    },
+    Asked {
+        q: 2,
+        kind: Kind::Read,
+        slba: 0,
+        blocks: 1,
+        byte: 0,
+        bytes: 0,
+        end: Wanted::Refused(JobRefusal::NoQueue),
+    },
+];
+
+/// How many of them get a command, and how many entries they leave: eight for each command, 2 for the walk of one piece and 5 and 7 for those of
+/// two and three, and two for the draft of the one that was refused as it was filled.
+const MIXED_COMMANDS: usize = 8;
+const MIXED_ENTRIES: usize = 8 * MIXED_COMMANDS + 5 * 2 + 2 * 5 + 7 + 2;
+
+/// The jobs that are asked for, over and over.
+fn jobs_of(alloc: Global, asked: &[Asked], times: usize) -> Result<Vec<Job>, AllocError> {
+    let mut jobs = Vec::new(alloc);
+    for _ in 0..times {
+        for one in asked {
+            let bytes = vec![in alloc; one.byte; one.bytes]?;
+            jobs.push(job(alloc, one.q, one.kind, one.slba, one.blocks, &bytes)?)?;
+        }
+    }
+    Ok(jobs)
+}
+
+/// Whether a job ended as is wanted.
+fn is_wanted(end: &JobEnd, wanted: Wanted) -> bool {
+    match wanted {
+        Wanted::Done(status, zeros) => is_done(end, status, &[0; 1_536][..zeros.min(1_536)]),
+        Wanted::Refused(why) => matches!(end, JobEnd::Refused(told) if *told == why),
+    }
+}
+
+/// Whether the ends are those of the jobs that are asked for, over and over, in their order.
+fn are_wanted(ends: &[JobEnd], asked: &[Asked], times: usize) -> bool {
+    ends.len() == times.saturating_mul(asked.len())
+        && ends.chunks(asked.len().max(1)).all(|ends| {
+            ends.iter()
+                .zip(asked)
+                .all(|(end, one)| is_wanted(end, one.end))
+        })
+}
+
+/// Sees that each of so many submitters' jobs ended as is wanted.
+fn see_ends<R: Abort>(rt: &R, outcome: &Outcome, submitters: usize, times: usize) {
+    let lists = outcome.jobs.as_slice();
+    see(rt, &lists.len(), &submitters);
+    for list in lists {
+        assert!(rt; are_wanted(list, &MIXED, times));
+    }
+}
+
+/// So many submitters do the jobs so many times, each with so many in flight at most.
+fn run_mixed<R: Abort + Threads + Wait + Sync>(
+    rt: &R,
+    alloc: Global,
+    config: Config,
+    submitters: usize,
+    times: usize,
+    depth: usize,
+) -> Result<(), Fail>
+    requires at_least_one { 1 ≤ depth }
+    requires at_most { depth ≤ 256 }
+{
+    let mut lists = Vec::new(alloc);
+    for _ in 0..submitters {
+        lists.push(jobs_of(alloc, &MIXED, times)?)?;
+    }
+    assert!(rt; !lists.is_empty() && lists.len() <= 16);
+    let outcome = play_at(rt, alloc, config, 64, lists, depth, &Open)?;
+    see_ends(rt, &outcome, submitters, times);
+    let rounds = submitters.saturating_mul(times);
+    see(rt, &outcome.report.submissions, &(rounds.saturating_mul(MIXED_COMMANDS) as u64));
+    see(rt, &outcome.entries, &rounds.saturating_mul(MIXED_ENTRIES));
+    see(rt, &outcome.refusals, &0);
+    see(rt, &outcome.report.counts, &counts(config.pages.saturating_sub(4), 4, 0));
+    Ok(())
+}
+
+#[test]
+fn refused_jobs_end_in_their_place(rt: HostRuntime) -> Result<(), Fail> {
+    for depth in [1usize, 2, 3, 4, 16, 256] {
+        run_mixed(&rt, rt.alloc(), USUAL, 1, 4, depth)?;
+    }
+    Ok(())
+}
+
+/// 8 pages that no queue owns, of which a job takes up to 4, and 3 identifiers.
+const SMALL: Config = Config {
+    pages: 12,
+    queues: 1,
+    entries: 4,
+    segment: 256,
+};
+
+#[test]
+fn submitters_wait_for_room_with_nothing_in_flight(rt: HostRuntime) -> Result<(), Fail> {
+    run_mixed(&rt, rt.alloc(), SMALL, 8, 20, 4)?;
+    run_mixed(&rt, rt.alloc(), SMALL, 16, 10, 16)?;
+    Ok(())
+}
+
+/// Three Reads of one block each, in a heap.
+fn three_reads<'a>(heap: &'a Heap) -> Result<Vec<JobIn<&'a Heap>, &'a Heap>, AllocError> {
+    let mut jobs = Vec::new(heap);
+    for slba in 0..3u64 {
+        let mut pieces = Pieces::new(heap);
+        pieces.push(Piece::Data {
+            offset: 0,
+            len: 512,
+        })?;
+        jobs.push(Job {
+            q: 1,
+            request: Request {
+                kind: Kind::Read,
+                slba,
+                blocks: 1,
+                pieces,
+            },
+            bytes: Bytes::from_vec(Vec::new(heap)),
+        })?;
+    }
+    Ok(jobs)
+}
+
+/// Runs the jobs of two submitters, each with two in flight at most, and answers whether all ended well.
+fn run_deep<L: Driver + Send + Sync, A: Allocator + Copy + Send + Sync, R: Threads + Wait + Sync>(
+    rt: &R,
+    alloc: A,
+    image: Image<A>,
+    jobs: Vec<Vec<JobIn<A>, A>, A>,
+    blank: Blank,
+) -> Result<bool, RunFault>
+    requires name { blank.name ≡ L.name }
+    requires parts { blank.parts ≡ L.parts }
+    requires number { blank.parts ≡ 65536 }
+    requires opening { L.opening ≡ opening_of USUAL image }
+    requires some { 1 ≤ vec_len jobs }
+    requires few { vec_len jobs ≤ 16 }
+{
+    let ran: Ran<L, A> = run_threads(rt, alloc, USUAL, image, jobs, 2, &Open, blank)?;
+    Ok(ran.jobs.as_slice().iter().all(|list| are_read(list)))
+}
+
+/// Whether these are the ends of three Reads of one block of zeros.
+fn are_read<A: Allocator>(ends: &[JobEndIn<A>]) -> bool {
+    ends.len() == 3
+        && ends.iter().all(|end| match end {
+            JobEnd::Done { status, bytes } => {
+                *status == Status::SUCCESS && bytes.as_slice() == [0; 512].as_slice()
+            }
+            JobEnd::Refused(_) => false,
+        })
+}
+
+/// The jobs of two submitters in a heap, of which one growth is refused then, and whether all ended well.
+fn run_in<'a, R: Abort + Threads + Wait + Sync>(
+    rt: &R,
+    heap: &'a Heap,
+    growth: u64,
+) -> Result<Result<bool, RunFault>, Fail> {
+    let mut lists = Vec::new(heap);
+    lists.push(three_reads(heap)?)?;
+    lists.push(three_reads(heap)?)?;
+    assert!(rt; !lists.is_empty() && lists.len() <= 16);
+    heap.refuse(Refusal::Nth(growth));
+    let Ok(image) = Image::zeroed(heap, 64) else {
+        return Ok(Err(RunFault::Memory));
+    };
+    Ok(run_deep::<Brand, &'a Heap, R>(rt, heap, image, lists, Blank::new(65536)))
+}
+
+/// Where a growth is refused the run ends well without it, or tells want of memory. The heap is empty then.
+#[test]
+fn each_growth_is_refused_with_two_in_flight(rt: HostRuntime) -> Result<(), Fail> {
+    let mut wanting: u64 = 0;
+    for growth in 1..MANY {
+        let heap = Refusing::new(rt.alloc());
+        let ran = run_in(&rt, &heap, growth)?;
+        let was_refused = heap.tally().refused > 0;
+        if was_refused && ran == Err(RunFault::Memory) {
+            wanting = wanting.saturating_add(1);
+        } else {
+            see_at(&rt, growth, &ran, &Ok(true));
+        }
+        see_at(&rt, growth, &heap.tally().blocks, &0);
+        if !was_refused {
+            break;
+        }
+    }
+    assert!(rt; wanting > 20);
+    Ok(())
+}

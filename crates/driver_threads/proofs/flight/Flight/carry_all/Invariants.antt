@@ -1,0 +1,14 @@
+-- each job so far has its end, or is in flight
+use Rattle.std.proofs.Common.{◌≡◌, ◌+◌, vec_len, length}
+use Rattle.std.specs.Vec.Iter.{into_iter_len}
+use Rattle.std.specs.VecDeque.{deque_len, deque_capacity}
+use Rattle.driver_threads.specs.Ends.{IsUnderWay}
+use Rattle.driver_threads.proofs.flight.Flight.carry_all.Given as goal
+
+abbrev pub invariant-loop-job : goal.invariant-loop-job
+invariant-loop-job g l = record {
+  under_way : IsUnderWay l.self.seat.receipts l.self.ends.items l.self.tickets.items;
+  all : vec_len l.self.ends + deque_len l.self.tickets ≡ vec_len l.initial.self.ends + length l.yielded;
+  left : length l.yielded + into_iter_len l.job-iterator ≡ vec_len l.fn.jobs;
+  places : deque_capacity l.self.tickets ≡ deque_capacity l.initial.self.tickets;
+}

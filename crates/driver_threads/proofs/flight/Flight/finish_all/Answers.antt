@@ -1,0 +1,12 @@
+-- Once nothing is in flight, each command ended as its receipt says.
+use Rattle.std.proofs.Common.{rules, ◌≡◌, arith}
+use Rattle.std.specs.VecDeque.{deque_len}
+use Rattle.std.proofs.lemmas.Bool.Decides.{nat_tests}
+use Rattle.driver_threads.proofs.UnderWay.{landed}
+use Rattle.driver_threads.proofs.flight.Flight.finish_all.Goals as goal
+
+pub returns-clause-agree : goal.returns-clause-agree
+returns-clause-agree g c =
+    let flight = c.loop-alloc.self in
+    let none : deque_len flight.tickets ≡ 0 = first_of (search rules, grind (arith, nat_tests)) in
+    landed flight.seat.receipts flight.ends.items flight.tickets.items (deque_len flight.tickets) flight.tickets.ok.0 none c.loop-alloc.invariant.under_way

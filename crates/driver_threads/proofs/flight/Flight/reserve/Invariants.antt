@@ -1,0 +1,16 @@
+-- each command that is finished has its end
+use Rattle.std.proofs.Common.{◌≡◌, ◌+◌, ◌≤◌, vec_len}
+use Rattle.std.specs.VecDeque.{deque_len, deque_capacity}
+use Rattle.driver_threads.specs.Ends.{IsUnderWay}
+use Rattle.driver_threads.proofs.flight.Flight.reserve.Given as goal
+
+abbrev pub invariant-loop-alloc : goal.invariant-loop-alloc
+invariant-loop-alloc g l = record {
+  under_way : IsUnderWay l.self.seat.receipts l.self.ends.items l.self.tickets.items;
+  all : vec_len l.self.ends + deque_len l.self.tickets ≡ vec_len l.initial.self.ends + deque_len l.initial.self.tickets;
+  fewer : deque_len l.self.tickets ≤ deque_len l.initial.self.tickets;
+  places : deque_capacity l.self.tickets ≡ deque_capacity l.initial.self.tickets;
+}
+
+abbrev pub decreases-loop-alloc : goal.decreases-loop-alloc
+decreases-loop-alloc g l = deque_len l.self.tickets

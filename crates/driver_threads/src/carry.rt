@@ -1,0 +1,223 @@
+//! What a submitter does for one job.
+
+ghost use Rattle.std.specs.Prelude.{◌≡◌, ◌≤◌, true, false, length, IfOk, IfErr, OnErr};
+ghost use Rattle.std.specs.List.{list_any};
+ghost use Rattle.std.specs.Sync.Mutex.{mutex_guard_value};
+ghost use Rattle.driver_book.specs.Calls.{is_open_for};
+ghost use Rattle.driver_threads.specs.Ends.{status_of as spec_status_of, Awaits, EndsWith, refuses};
+
+use crate::changes::Changes;
+use crate::gate::{Gate, Point};
+use crate::jobs::{JobEnd, JobEndIn, JobRefusal};
+use crate::shared::Shared;
+use crate::waits::Halt;
+use driver_book::{Driver, Receipt, Seat};
+use entry_codec::Status;
+use io_commands::{Draft, Finished, Kind, Ticket};
+use std::alloc::{AllocError, Allocator};
+use std::sync::Wait;
+use step_core::{Bytes, Refusal};
+
+/// A submitter's gate, and whether it was closed once.
+#[derive(Drop)]
+pub(crate) struct Watch<'a, G> {
+    gate: &'a G,
+    worker: u16,
+    closed: bool,
+}
+
+impl<'a, G: Gate> Watch<'a, G> {
+    /// The gate of this worker, which was not closed yet.
+    pub(crate) fn new(gate: &'a G, worker: u16) -> Self {
+        Watch {
+            gate,
+            worker,
+            closed: false,
+        }
+    }
+
+    /// Whether the gate was closed once.
+    pub(crate) fn was_closed(&self) -> bool {
+        self.closed
+    }
+
+    /// The submitter is at this point of a job.
+    pub(crate) fn pass(&mut self, point: Point) {
+        if self.gate.at(self.worker, point).is_err() {
+            self.closed = true;
+        }
+    }
+}
+
+/// The bytes, with zeros behind them up to a length.
+fn padded<A: Allocator>(bytes: Bytes<A>, whole: usize) -> Result<Vec<u8, A>, AllocError>
+    requires { length bytes ≤ whole }
+{
+    let mut padded = bytes.into_vec();
+    padded.resize(whole, 0)?;
+    Ok(padded)
+}
+
+/// Fills a source with its bytes, and with zeros behind them. No lock is held.
+fn fill<A: Allocator>(draft: &mut Draft<A>, bytes: Bytes<A>) -> Result<(), Halt> {
+    let request = draft.request();
+    if matches!(request.kind, Kind::Read) {
+        return Ok(());
+    }
+    let whole = request.data_bytes() as usize;
+    if whole < bytes.as_slice().len() {
+        return Err(Halt::Refused(JobRefusal::WrongLength));
+    }
+    let Ok(padded) = padded(bytes, whole) else {
+        return Err(Halt::Memory);
+    };
+    match draft.fill(&padded) {
+        Ok(()) => Ok(()),
+        Err(_) => Err(Halt::Refused(JobRefusal::WrongLength)),
+    }
+}
+
+/// Fills a draft and builds it. No lock is held.
+fn prepare<A: Allocator + Copy>(
+    alloc: A,
+    draft: &mut Draft<A>,
+    bytes: Bytes<A>,
+) -> Result<(), Halt> {
+    fill(draft, bytes)?;
+    match draft.build(alloc) {
+        Ok(()) => Ok(()),
+        Err(_) => Err(Halt::Memory),
+    }
+}
+
+/// Gives a draft up: a refused job leaves nothing, and who stops spends what he holds.
+fn give_up<L: Driver, A: Allocator + Copy, R: Wait>(
+    rt: &R,
+    shared: &Shared<L, A>,
+    draft: Draft<A>,
+    halt: Halt,
+) -> Halt {
+    match halt {
+        Halt::Refused(_) => match shared.cancel(rt, draft) {
+            Ok(()) => halt,
+            Err(refused) => {
+                drop(refused.value.apart());
+                Halt::Memory
+            }
+        },
+        Halt::Stopped | Halt::Memory => {
+            drop(draft.apart());
+            halt
+        }
+    }
+}
+
+/// Fills a draft and builds it. No lock is held.
+pub(crate) fn prepared<L: Driver, A: Allocator + Copy, R: Wait>(
+    rt: &R,
+    alloc: A,
+    shared: &Shared<L, A>,
+    draft: Draft<A>,
+    bytes: Bytes<A>,
+) -> Result<Draft<A>, Halt> {
+    let mut draft = draft;
+    match prepare(alloc, &mut draft, bytes) {
+        Ok(()) => Ok(draft),
+        Err(halt) => Err(give_up(rt, shared, draft, halt)),
+    }
+}
+
+/// Why a submission was refused: a queue that takes no more commands refuses the job.
+fn halt_of(why: Refusal) -> Halt {
+    match why {
+        Refusal::Memory => Halt::Memory,
+        _ => Halt::Refused(JobRefusal::QueueGone),
+    }
+}
+
+/// Submits a draft for a seat and rings its queue, while the lock is held once.
+pub(crate) fn submitted<L: Driver, A: Allocator + Copy, R: Wait>(
+    rt: &R,
+    shared: &Shared<L, A>,
+    seat: &mut Seat<L, A>,
+    draft: Draft<A>,
+) -> Result<Ticket, Halt>
+    ensures receipt { IfOk result (λ ticket. Awaits seat.old.receipts ticket seat.new.receipts) }
+    ensures refused { IfErr result (λ halt. refuses halt ≡ true → seat.new.receipts ≡ seat.old.receipts) }
+{
+    let q = draft.q();
+    let mut locked = shared.lock(rt);
+    let ticket = match locked.book.submit(seat, draft) {
+        Ok(ticket) => ticket,
+        Err(refused) => {
+            drop(locked);
+            return Err(give_up(rt, shared, refused.value, halt_of(refused.why)));
+        }
+    };
+    if matches!(locked.book.ring(q), Err(Refusal::Memory)) {
+        drop(locked);
+        drop(ticket.apart());
+        return Err(Halt::Memory);
+    }
+    shared.leave(locked, Changes::RUNG);
+    Ok(ticket)
+}
+
+/// The status of the receipt at a place.
+fn status_of(receipts: &[Receipt], place: usize) -> Option<Status>
+    ensures { result ≡ spec_status_of receipts.now place }
+{
+    receipts.get(place).and_then(|receipt| receipt.status)
+}
+
+/// Gathers what a finished command brought, and releases it. No lock is held while it gathers. The command ended as the receipt at this place
+/// of the seat's says.
+fn released<L: Driver, A: Allocator + Copy, R: Wait>(
+    rt: &R,
+    alloc: A,
+    shared: &Shared<L, A>,
+    seat: &mut Seat<L, A>,
+    finished: Finished<A>,
+    place: usize,
+) -> Result<JobEndIn<A>, Halt>
+    requires { list_any (is_open_for finished.q finished.cid) seat.old.receipts ≡ true }
+    ensures settled { IfOk result (λ end. EndsWith seat.old.receipts finished.q finished.cid place end seat.new.receipts) }
+    ensures halted { IfErr result (λ halt. refuses halt ≡ false) }
+{
+    let Ok(bytes) = finished.gather(alloc) else {
+        drop(finished.apart());
+        return Err(Halt::Memory);
+    };
+    if let Err(refused) = shared.release(rt, seat, finished) {
+        drop(refused.value.apart());
+        return Err(Halt::Memory);
+    }
+    match status_of(seat.receipts(), place) {
+        Some(status) => Ok(JobEnd::Done {
+            status,
+            bytes: Bytes::from_vec(bytes),
+        }),
+        None => Err(Halt::Stopped),
+    }
+}
+
+/// Finishes a command: waits for its end, collects, gathers, releases. It ended as the receipt at this place of the seat's says.
+///
+/// # Errors
+///
+/// Where the workers are told to stop, somebody else has collected the command, or memory is refused. The ticket is spent.
+pub(crate) fn finished<L: Driver, A: Allocator + Copy, R: Wait>(
+    rt: &R,
+    alloc: A,
+    shared: &Shared<L, A>,
+    seat: &mut Seat<L, A>,
+    ticket: Ticket,
+    place: usize,
+) -> Result<JobEndIn<A>, Halt>
+    requires { list_any (is_open_for ticket.q ticket.cid) seat.old.receipts ≡ true }
+    ensures settled { IfOk result (λ end. EndsWith seat.old.receipts ticket.q ticket.cid place end seat.new.receipts) }
+    ensures halted { IfErr result (λ halt. refuses halt ≡ false) }
+{
+    let command = shared.collect_when_ended(rt, ticket)?;
+    released(rt, alloc, shared, seat, command, place)
+}
