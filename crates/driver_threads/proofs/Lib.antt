@@ -1,3 +1,4 @@
 pub mod Collected
 pub mod Ended
 pub mod Trusted
+pub mod Behinds
