@@ -17,7 +17,7 @@ use Rattle.machine_model.specs.Step as machine_step
 use Rattle.step_core.specs.Going.{forges_by}
 use Rattle.step_core.specs.Opening.{opening_of}
 use Rattle.step_log.specs.History.{asked, told, draft_of, TellsOf, LeadsTo}
-use Rattle.driver_book.specs.Laws.{IsEntryOf, is_forgery, entries_name_allowed_pages, logs_are_trusted_runs, logs_of_jobs_are_trusted_runs, resets, is_reset, since_reset, trusted_ends_are_unforged}
+use Rattle.driver_book.specs.Laws.{IsEntryOf, is_forgery, entries_name_allowed_pages, logs_are_trusted_runs, logs_of_jobs_are_trusted_runs, pieces_are_one_history, resets, is_reset, since_reset, trusted_ends_are_unforged}
 use Rattle.driver_book.specs.State.{is_of_jobs, AreOfJobs}
 use Rattle.step_log.specs.Values.{Entry}
 use Rattle.host_core.specs.Opening.{refusal_of_config}
@@ -30,6 +30,11 @@ use Rattle.step_core.specs.declared.step.Step.TheVariants as step
 pub leads_further : (old mid new : State) (log : List Entry) (e : Entry) → LeadsTo old log mid → TellsOf mid e new → LeadsTo old (log ++ e ∷ []) new
 leads_further old mid new [] e same tells = (new, subst (λ (s : State). TellsOf s e new) same tells, refl)
 leads_further old mid new (first ∷ log) e (next, made, rest) tells = (next, made, leads_further next mid new log e rest tells)
+
+-- one log behind the other
+pub leads_on : pieces_are_one_history
+leads_on old [] mid after new same leads = subst (λ (s : State). LeadsTo s after new) same leads
+leads_on old (e ∷ before) mid after new (next, made, rest) leads = (next, made, leads_on next before mid after new rest leads)
 
 -- where a log is cut, there is a state
 leads_apart : (old new : State) (before after : List Entry) → LeadsTo old (before ++ after) new → (mid : State) × LeadsTo old before mid × LeadsTo mid after new

@@ -12,13 +12,14 @@ use Rattle.io_commands.proofs.Building.{joined_parts_few}
 use Rattle.sgl_chain.proofs.Counts.{needed_few}
 use Rattle.machine_model.specs.Events as events
 use Rattle.machine_model.specs.Events.{Event}
+use Rattle.machine_model.specs.Claims.{IsSound}
 use Rattle.machine_model.specs.State.{State}
 use Rattle.machine_model.specs.Refusals.{refusal_of}
 use Rattle.machine_model.specs.Step as machine
 use Rattle.machine_model.specs.declared.words.Refusal.{Refusal}
 use Rattle.machine_model.specs.declared.words.Refusal.TheVariants as refusal
 use Rattle.driver_book.specs.Calls.{noted, entries, Does, WantsMemoryFor, IsLogFull, MayWorldWant, LacksRoomToReserve, most_of, most_pages}
-use Rattle.machine_model.proofs.Headline.{steps_keep, runs_are_sound}
+use Rattle.machine_model.proofs.Headline.{steps_keep}
 use Rattle.driver_book.proofs.Histories.{leads_further}
 use Rattle.step_log.specs.History.{asked, told, draft_of, entry_of, is_submission, is_accepted, accepted}
 use Rattle.driver_book.specs.State.{BookContents, SeatContents, IsBook, is_seated, AreSeated, is_of_jobs, AreOfJobs}
@@ -26,10 +27,7 @@ use Rattle.step_log.specs.Values.{Entry, Room, LogContents, Takes, Lacks, answer
 use Rattle.step_log.proofs.Keeping.{answered_last}
 use Rattle.step_core.specs.Replies.{accept_reply, reserve_reply}
 use Rattle.step_core.specs.declared.step.Step.TheVariants as step
-use Rattle.host_core.specs.Opening.{refusal_of_config}
-use Rattle.host_core.specs.declared.config.Config.{Config}
 use Rattle.host_core.specs.declared.refused.Refused.{Refused}
-use Rattle.step_core.specs.Opening.{opening_of}
 use Rattle.step_core.specs.Touching.{StaysAllowed}
 
 -- Counts
@@ -161,11 +159,11 @@ none_of_jobs true = tt
 none_of_jobs false = tt
 
 -- a book as it opens
-pub empty_book : (config : Config) (image : List ℕ) (alone : Bool) {o w : State} {log : List Entry} {tally parts ledger : ℕ}
-    → refusal_of_config config ≡ None → o ≡ opening_of config image → w ≡ opening_of config image → log ≡ [] → tally ≡ 0 → parts ≡ ledger → ledger ≡ 65536 → IsBook alone o w log tally 0 parts 0 0 ledger
-empty_book config image alone fits opens is none zero all number = rw (opens, is, none, zero) (record {
-  legal = refl;
-  sound = runs_are_sound config.pages config.queues config.entries config.segment image [] [] (opening_of config image) fits refl;
+pub empty_book : (alone : Bool) {o w : State} {log : List Entry} {tally parts ledger : ℕ}
+    → IsSound w → w ≡ o → log ≡ [] → tally ≡ 0 → parts ≡ ledger → ledger ≡ 65536 → IsBook alone o w log tally 0 parts 0 0 ledger
+empty_book alone sound opens none zero all number = rw (none, zero) (record {
+  legal = opens;
+  sound = sound;
   counted = refl;
   numbered = refl;
   seated = tt;

@@ -56,6 +56,12 @@ logs_of_jobs_are_trusted_runs =
     (config : Config) (image : List ℕ) (log : List Entry) (world : State)
     → refusal_of_config config ≡ None → IsImage image → LeadsTo (opening_of config image) log world → AreOfJobs log → IsTrustedLog image log world
 
+-- Pieces are one history: a log that leads from a state, and one that leads on from where it led, lead there one behind the other.
+abbrev pub pieces_are_one_history : Type 0
+pieces_are_one_history =
+    (opening : State) (first : List Entry) (mid : State) (second : List Entry) (world : State)
+    → LeadsTo opening first mid → LeadsTo mid second world → LeadsTo opening (first ++ second) world
+
 -- the entries behind the last reset, and all of them where there is none
 abbrev pub resets : Step → Bool
 resets step.Reset = true

@@ -124,8 +124,25 @@ impl<L: Driver, A: Allocator + Copy> Book<L, A> {
                 });
             }
         };
+        Ok(Book::over(alloc, world, blank))
+    }
+
+    /// Opens a book over a world that is there, with an empty log and no seat. The world's state, whatever led to it, is the book's
+    /// opening. The allocator is that of all that the book will hold, but for what the world holds already. The blank ledger has 65,536
+    /// parts and opens this book alone.
+    pub fn over(alloc: A, world: World<A>, blank: Blank) -> Book<L, A>
+        requires name { blank.name ≡ L.name }
+        requires parts { blank.parts ≡ L.parts }
+        requires number { blank.parts ≡ 65536 }
+        requires opening { L.opening ≡ world.state }
+        ensures { result ≡ record { opening = world.state; world = world.state; touches = world.touches; log = []; made = 0; out = 0; taken = 0; stopping = false; room = record { entries = 0; pieces = 0; pages = 0 } } }
+    {
+        prove!({
+            world.check();
+            true
+        });
         let (tally, rest) = blank.open::<L>();
-        Ok(Book {
+        Book {
             alloc,
             world,
             log: Log::new(alloc),
@@ -135,7 +152,7 @@ impl<L: Driver, A: Allocator + Copy> Book<L, A> {
             made: 0,
             out: 0,
             stopping: false,
-        })
+        }
     }
 
     /// Shows that the log leads from the opening to the world as it is: its entries tell of the steps of a run of the machine. And that

@@ -1,6 +1,6 @@
 //! Laws of logs. Each function does nothing.
 
-ghost use Rattle.driver_book.specs.Laws.{entries_name_allowed_pages, logs_are_trusted_runs, logs_of_jobs_are_trusted_runs, trusted_ends_are_unforged};
+ghost use Rattle.driver_book.specs.Laws.{entries_name_allowed_pages, logs_are_trusted_runs, logs_of_jobs_are_trusted_runs, pieces_are_one_history, trusted_ends_are_unforged};
 
 /// Each entry of a log that leads from an opening tells of a step between two states; and where the first is trusted, it names
 /// allowed pages alone: a fetch and a completion those of their own queue, a walk those of its own command.
@@ -22,4 +22,10 @@ pub fn law_of_logs_of_jobs()
 /// A log that leads to a trusted state, from wherever it began, has no accepted forgery since the last reset in it.
 pub fn law_of_trusted_ends()
     ensures { trusted_ends_are_unforged }
+{}
+
+/// The logs of two books, of which the second opened over the world of the first, are one history: one behind the other, they lead from where the
+/// first opened to where the second leads. So are the logs of any number of such books.
+pub fn law_of_pieces()
+    ensures { pieces_are_one_history }
 {}

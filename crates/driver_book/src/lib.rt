@@ -3,7 +3,8 @@
 //! [`Book`] is the value that a driver keeps under its one lock. Each step of the world is one method, which makes the step and writes it
 //! down, but for one that answers `Memory`. The log, from the opening on, is a run of the machine that leads to the world as it is
 //! ([`Book::check`]). Who submits has a [`Seat`], which keeps a receipt for each accepted submission. [`Book::close`] compares the log with the receipts: an
-//! answer means that the receipts handed in are the accepted submissions of the log, all of them and no more.
+//! answer means that the receipts handed in are the accepted submissions of the log, all of them and no more. [`Book::carry_on`] does so too,
+//! and gives the log and the world out, over which a new book opens ([`Book::over`]): so a driver's memory need not grow with all that was done.
 //!
 //! A ledger of the standard library (`std::sync::ledger`) counts the submissions on either side. It is the type parameter of a book and
 //! of its seats, so a seat is always one of its own book.
@@ -16,6 +17,7 @@
 
 mod admin;
 mod book;
+mod carry;
 mod close;
 mod device;
 mod full;
@@ -27,6 +29,7 @@ mod note;
 mod seat;
 
 pub use book::{Book, BookRefused, Driver, FullDriver};
+pub use carry::{CarryRefused, ClosedLog};
 pub use close::CloseRefused;
 pub use full::Full;
 pub use log::{CloseFault, NoSeat, Receipt, Receipts, Report, ReportIn};

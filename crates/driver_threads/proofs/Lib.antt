@@ -2,3 +2,4 @@ pub mod Collected
 pub mod Ended
 pub mod Trusted
 pub mod UnderWay
+pub mod Behinds

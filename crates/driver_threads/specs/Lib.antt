@@ -2,3 +2,4 @@ pub mod Values
 pub mod Sharing
 pub mod Ends
 pub mod Runs
+pub mod Behind

@@ -1,6 +1,8 @@
 -- What a run of threads leaves.
 use Rattle.std.specs.Prelude.{◌≡◌, Some, None, List}
+use Rattle.step_core.specs.World.{WorldContents}
 use Rattle.step_log.specs.History.{accepted}
+use Rattle.step_log.specs.Values.{LogContents}
 use Rattle.driver_book.specs.State.{BookContents, SeatContents}
 use Rattle.driver_book.specs.Values.{Report}
 use Rattle.machine_model.specs.State.{State}
@@ -16,6 +18,15 @@ pub record RanFrom (opening : State) (report : Report) (book : BookContents) : T
   pub before : BookContents
   pub closed : Closes opening report seats before
   pub same : book ≡ record before { out = 0; taken = accepted before.log }
+
+-- A round over a world that was there: a book of this opening was closed with some seats; the report is its report, the log is its log, and the
+-- world its world.
+pub record EndsRound (opening : State) (log : LogContents) (report : Report) (world : WorldContents) : Type 0 where
+  pub seats : List SeatContents
+  pub book : BookContents
+  pub closed : Closes opening report seats book
+  pub same_log : log ≡ record { entries = book.log; room = book.room }
+  pub same_world : world ≡ record { state = book.world; touches = book.touches }
 
 -- a fault of a run whose book was opened
 abbrev pub IsAfterOpening : RunFault → Type 0

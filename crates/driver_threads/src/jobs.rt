@@ -1,13 +1,15 @@
 //! What submitters are told to do, and how their jobs and a whole run end.
 
-ghost use Rattle.std.specs.Prelude.{◌≡◌, map};
+ghost use Rattle.std.specs.Prelude.{◌≡◌, ◌≤◌, [], map, vec_len, OnOk};
+ghost use Rattle.driver_threads.specs.Behind.{added, behind};
 
 use driver_book::{Book, CloseFault, Driver, ReportIn};
 use entry_codec::Status;
 use io_commands::{Request, RequestFault};
-use std::alloc::{Allocator, Global};
+use std::alloc::{AllocError, Allocator, Global};
 use std::marker::Model;
-use step_core::{Bytes, OpenRefusal};
+use step_core::{Bytes, OpenRefusal, World};
+use step_log::Log;
 use thiserror::Error;
 
 /// A command that a submitter carries through.
@@ -68,6 +70,39 @@ pub enum JobRefusal {
     WrongLength,
 }
 
+/// Adds ends of a submitter behind those that it has, or as those of the next submitter.
+fn add_ends<A: Allocator>(
+    lists: &mut Vec<Vec<JobEndIn<A>, A>, A>,
+    submitter: usize,
+    later: Vec<JobEndIn<A>, A>,
+) -> Result<(), AllocError>
+    requires { submitter ≤ vec_len lists.old }
+    ensures { OnOk result (map (λ list. list.items) lists.new.items ≡ added (map (λ list. list.items) lists.old.items) submitter later.items) }
+{
+    let mut later = later;
+    if submitter < lists.len() {
+        lists[submitter].append(&mut later)?;
+    } else {
+        lists.push(later)?;
+    }
+    Ok(())
+}
+
+/// Adds ends of submitters: each submitter's behind those that it has.
+fn add_all<A: Allocator>(
+    lists: &mut Vec<Vec<JobEndIn<A>, A>, A>,
+    later: Vec<Vec<JobEndIn<A>, A>, A>,
+) -> Result<(), AllocError>
+    ensures { OnOk result (map (λ list. list.items) lists.new.items ≡ behind (map (λ list. list.items) lists.old.items) (map (λ list. list.items) later.items)) }
+{
+    let mut submitter = 0;
+    for list in later {
+        add_ends(lists, submitter, list)?;
+        submitter += 1;
+    }
+    Ok(())
+}
+
 /// How the jobs of submitters ended, one list for each submitter. Contracts see these lists.
 #[derive(Debug, Drop)]
 pub struct JobEnds<A: Allocator = Global> {
@@ -91,6 +126,26 @@ impl<A: Allocator> JobEnds<A> {
         JobEnds { lists }
     }
 
+    /// No ends of no submitter. It takes no memory.
+    pub fn none(alloc: A) -> Self
+        ensures { result ≡ [] }
+    {
+        JobEnds {
+            lists: Vec::new(alloc),
+        }
+    }
+
+    /// Adds how later jobs of the same submitters ended: each submitter's ends behind those that it has.
+    ///
+    /// # Errors
+    ///
+    /// Where memory is refused. Some of them may then stand there.
+    pub fn append(&mut self, later: JobEnds<A>) -> Result<(), AllocError>
+        ensures { OnOk result (self.new ≡ behind self.old later) }
+    {
+        add_all(&mut self.lists, later.lists)
+    }
+
     /// The lists, one for each submitter, in their order.
     pub fn as_slice(&self) -> &[Vec<JobEndIn<A>, A>]
         ensures { map (λ list. list.items) result.now ≡ self.now }
@@ -108,6 +163,19 @@ pub struct Ran<L: Driver, A: Allocator = Global> {
     pub jobs: JobEnds<A>,
     /// The book.
     pub book: Book<L, A>,
+}
+
+/// What a round of jobs over a world that was there leaves.
+#[derive(Drop)]
+pub struct Round<A: Allocator = Global> {
+    /// The log of its book.
+    pub log: Log<A>,
+    /// What the book said as it was closed.
+    pub report: ReportIn<A>,
+    /// The world to which the log leads.
+    pub world: World<A>,
+    /// How the jobs ended.
+    pub jobs: JobEnds<A>,
 }
 
 /// Why a run of threads failed.

@@ -12,6 +12,8 @@
 //! `Send` and `Sync` where threads are started, and [`Global`](std::alloc::Global) where none is named.
 //!
 //! [`run_threads`] opens a book, runs submitters over it with a poller and a controller, each in a thread of its own, and closes it.
+//! [`run_round`] does so over a world that is there, and gives the log and the world out: rounds that go on each over the world of the one before need no
+//! more memory than the longest of them.
 #![tactic(auto)]
 
 mod admin;
@@ -28,7 +30,7 @@ mod waits;
 mod workers;
 
 pub use gate::{Gate, GateClosed, Open, Point};
-pub use jobs::{Job, JobEnd, JobEndIn, JobEnds, JobIn, JobRefusal, Ran, RunFault};
-pub use run::run_threads;
+pub use jobs::{Job, JobEnd, JobEndIn, JobEnds, JobIn, JobRefusal, Ran, Round, RunFault};
+pub use run::{run_round, run_threads};
 pub use shared::Shared;
 pub use workers::{Worked, controller, poller, submitter};

@@ -1,25 +1,25 @@
-//! A run of threads over a new book, and what it leaves.
+//! Runs of threads, over a new world or over one that is there, and what they leave.
 
-ghost use Rattle.std.specs.Prelude.{◌≡◌, ◌≤◌, map, length, vec_len, IfOk, IfErr, IfSome, OnOk};
+ghost use Rattle.std.specs.Prelude.{◌≡◌, ◌≤◌, map, length, vec_len, IfOk, IfErr, IfSome};
 ghost use Rattle.std.specs.Bool.{OnTrue};
 ghost use Rattle.driver_book.specs.Laws.{IsTrustedLog};
 ghost use Rattle.driver_book.specs.State.{AreOfJobs};
 ghost use Rattle.driver_threads.specs.Ends.{Agree, AllAgree, ends_of, statuses_of};
-ghost use Rattle.driver_threads.specs.Runs.{IsAfterOpening, RanFrom, RefusesRun};
+ghost use Rattle.driver_threads.specs.Runs.{EndsRound, IsAfterOpening, RanFrom, RefusesRun};
 ghost use Rattle.step_core.specs.Opening.{opening_of};
 
 use crate::gate::Gate;
-use crate::jobs::{JobEndIn, JobEnds, JobIn, Ran, RunFault};
+use crate::jobs::{JobEndIn, JobEnds, JobIn, Ran, Round, RunFault};
 use crate::shared::Shared;
 use crate::workers::{Worked, controller, poller, submitter};
 use block_image::Image;
-use driver_book::{Book, CloseFault, Driver, ReportIn, Seat};
+use driver_book::{Book, CloseFault, ClosedLog, Driver, Seat};
 use std::alloc::{AllocError, Allocator};
 use std::sync::Wait;
 use std::sync::ledger::Blank;
 use std::thread;
 use std::thread::{JoinHandle, Threads};
-use step_core::{Config, OpenRefusal};
+use step_core::{Config, OpenRefusal, World};
 
 /// Why a run failed whose book was opened.
 #[derive(Clone, Copy)]
@@ -252,52 +252,98 @@ fn handed_in<L: Driver, A: Allocator + Copy>(
     }
 }
 
-/// Closes the book with the seats of the workers, whose lists of jobs are so long: its report, and how the jobs ended.
+/// The failure of a run whose book was not closed.
+fn unclosed(why: CloseFault) -> Failure {
+    match why {
+        CloseFault::Memory => Failure::Memory,
+        why => Failure::Close(why),
+    }
+}
+
+/// Closes a book with what the submitters handed in.
 fn close<L: Driver, A: Allocator + Copy>(
-    alloc: A,
-    book: &mut Book<L, A>,
-    work: Work<L, A>,
-    jobs: &[usize],
-) -> Result<(ReportIn<A>, JobEnds<A>), Failure>
-    ensures closed { IfOk result (λ r. RanFrom L.opening r.0 book.new) }
-    ensures all_jobs { IfOk result (λ r. map length r.1 ≡ jobs.now) }
-    ensures agree { IfOk result (λ r. AllAgree r.0.receipts r.1) }
-    ensures jobs { OnOk result (OnTrue L.jobs_alone (AreOfJobs book.new.log)) }
+    book: Book<L, A>,
+    hand: HandedIn<L, A>,
+) -> Result<Ran<L, A>, Failure>
+    requires agree { map (λ seat. statuses_of seat.receipts) hand.seats.items ≡ map (λ list. ends_of list.items) hand.lists.items }
+    ensures closed { IfOk result (λ ran. RanFrom L.opening ran.report ran.book) }
+    ensures ends { IfOk result (λ ran. map length ran.jobs ≡ map (λ list. length list.items) hand.lists.items) }
+    ensures agree { IfOk result (λ ran. AllAgree ran.report.receipts ran.jobs) }
+    ensures jobs { IfOk result (λ ran. OnTrue L.jobs_alone (AreOfJobs ran.book.log)) }
 {
     prove!({
         book.check();
         true
     });
-    if let Some(worker) = first_closed(&work.workers) {
-        return Err(Failure::GateClosed { worker });
-    }
-    let HandedIn { seats, lists } = handed_in(alloc, work, jobs)?;
+    let mut book = book;
+    let HandedIn { seats, lists } = hand;
     match book.close(seats) {
-        Ok(report) => Ok((report, JobEnds::of(lists))),
-        Err(refused) => match refused.why {
-            CloseFault::Memory => Err(Failure::Memory),
-            why => Err(Failure::Close(why)),
-        },
+        Ok(report) => Ok(Ran {
+            report,
+            jobs: JobEnds::of(lists),
+            book,
+        }),
+        Err(refused) => Err(unclosed(refused.why)),
     }
 }
 
-/// Closes the book with the seats of the workers, whose lists of jobs are so long.
-fn finish<L: Driver, A: Allocator + Copy>(
+/// Closes a book with what the submitters handed in, and gives its log and its world.
+fn carry_on<L: Driver, A: Allocator + Copy>(
+    book: Book<L, A>,
+    hand: HandedIn<L, A>,
+) -> Result<Round<A>, Failure>
+    requires agree { map (λ seat. statuses_of seat.receipts) hand.seats.items ≡ map (λ list. ends_of list.items) hand.lists.items }
+    ensures ended { IfOk result (λ round. EndsRound L.opening round.log round.report round.world) }
+    ensures ends { IfOk result (λ round. map length round.jobs ≡ map (λ list. length list.items) hand.lists.items) }
+    ensures agree { IfOk result (λ round. AllAgree round.report.receipts round.jobs) }
+    ensures jobs { IfOk result (λ round. OnTrue L.jobs_alone (AreOfJobs round.log.entries)) }
+{
+    prove!({
+        book.check();
+        true
+    });
+    let HandedIn { seats, lists } = hand;
+    match book.carry_on(seats) {
+        Ok(closed) => {
+            let ClosedLog { log, report, world } = closed;
+            Ok(Round {
+                log,
+                report,
+                world,
+                jobs: JobEnds::of(lists),
+            })
+        }
+        Err(refused) => Err(unclosed(refused.why)),
+    }
+}
+
+/// Runs submitters, a poller and a controller over a book: the book, and what the submitters hand in.
+fn work_over<
+    L: Driver + Send + Sync,
+    A: Allocator + Copy + Send + Sync,
+    G: Gate + Sync,
+    R: Threads + Wait + Sync,
+>(
+    rt: &R,
     alloc: A,
     book: Book<L, A>,
-    work: Work<L, A>,
-    jobs: &[usize],
-) -> Result<Ran<L, A>, Failure>
-    ensures closed { IfOk result (λ ran. RanFrom L.opening ran.report ran.book) }
-    ensures all_jobs { IfOk result (λ ran. map length ran.jobs ≡ jobs.now) }
-    ensures agree { IfOk result (λ ran. AllAgree ran.report.receipts ran.jobs) }
-    ensures jobs { IfOk result (λ ran. OnTrue L.jobs_alone (AreOfJobs ran.book.log)) }
+    gate: &G,
+    jobs: Vec<Vec<JobIn<A>, A>, A>,
+    depth: Depth,
+) -> Result<(Book<L, A>, HandedIn<L, A>), Failure>
+    ensures long { IfOk result (λ done. map (λ list. length list.items) done.1.lists.items ≡ map (λ list. length list.items) jobs.items) }
+    ensures agree { IfOk result (λ done. map (λ seat. statuses_of seat.receipts) done.1.seats.items ≡ map (λ list. ends_of list.items) done.1.lists.items) }
 {
-    let mut book = book;
-    match close(alloc, &mut book, work, jobs) {
-        Ok((report, jobs)) => Ok(Ran { report, jobs, book }),
-        Err(failure) => Err(failure),
+    let Ok(many) = lengths(alloc, &jobs) else {
+        return Err(Failure::Memory);
+    };
+    let shared = Shared::new(book);
+    let work = run_workers(rt, alloc, &shared, gate, jobs, depth)?;
+    if let Some(worker) = first_closed(&work.workers) {
+        return Err(Failure::GateClosed { worker });
     }
+    let hand = handed_in(alloc, work, &many)?;
+    Ok((shared.end(), hand))
 }
 
 /// Runs submitters, a poller and a controller over a book, and closes it.
@@ -319,12 +365,31 @@ fn run_over<
     ensures agree { IfOk result (λ ran. AllAgree ran.report.receipts ran.jobs) }
     ensures jobs { IfOk result (λ ran. OnTrue L.jobs_alone (AreOfJobs ran.book.log)) }
 {
-    let Ok(many) = lengths(alloc, &jobs) else {
-        return Err(Failure::Memory);
-    };
-    let shared = Shared::new(book);
-    let work = run_workers(rt, alloc, &shared, gate, jobs, depth)?;
-    finish(alloc, shared.end(), work, &many)
+    let (book, hand) = work_over(rt, alloc, book, gate, jobs, depth)?;
+    close(book, hand)
+}
+
+/// Runs submitters, a poller and a controller over a book, closes it, and gives its log and its world.
+fn round_over<
+    L: Driver + Send + Sync,
+    A: Allocator + Copy + Send + Sync,
+    G: Gate + Sync,
+    R: Threads + Wait + Sync,
+>(
+    rt: &R,
+    alloc: A,
+    book: Book<L, A>,
+    gate: &G,
+    jobs: Vec<Vec<JobIn<A>, A>, A>,
+    depth: Depth,
+) -> Result<Round<A>, Failure>
+    ensures ended { IfOk result (λ round. EndsRound L.opening round.log round.report round.world) }
+    ensures all_jobs { IfOk result (λ round. map length round.jobs ≡ map (λ list. length list.items) jobs.items) }
+    ensures agree { IfOk result (λ round. AllAgree round.report.receipts round.jobs) }
+    ensures jobs { IfOk result (λ round. OnTrue L.jobs_alone (AreOfJobs round.log.entries)) }
+{
+    let (book, hand) = work_over(rt, alloc, book, gate, jobs, depth)?;
+    carry_on(book, hand)
 }
 
 /// Opens a book, runs a submitter for each list of jobs, a poller and a controller over it in threads of their own, and closes it with the
@@ -385,6 +450,53 @@ pub fn run_threads<
     let depth = Depth { jobs: depth };
     match run_over(rt, alloc, book, gate, jobs, depth) {
         Ok(ran) => Ok(ran),
+        Err(failure) => Err(fault_of(failure)),
+    }
+}
+
+/// Does a round of jobs over a world that is there: opens a book over it, runs a submitter for each list of jobs, a poller and a controller in
+/// threads of their own, as [`run_threads`], and closes the book with the submitters' seats. It gives the book's log and its world, over which the next round
+/// may go on: whoever drops the log of each round needs no more memory for many rounds than for the longest of them.
+///
+/// A job's command ended as its receipt in the report says, and so as the log does. The logs of rounds that go on each over the world of the one before, one
+/// behind the other, are one history ([`law_of_pieces`](driver_book::laws::law_of_pieces)). Each round takes a new ledger.
+///
+/// # Errors
+///
+/// No clause says which of them comes: `NoThread` where a thread cannot be made, `GateClosed` where a gate was closed to a worker, `Close`
+/// where the book is not closed, `Memory` where memory is refused to the round, to a worker or to the closing. What was moved in is dropped, the world too.
+pub fn run_round<
+    L: Driver + Send + Sync,
+    A: Allocator + Copy + Send + Sync,
+    G: Gate + Sync,
+    R: Threads + Wait + Sync,
+>(
+    rt: &R,
+    alloc: A,
+    world: World<A>,
+    jobs: Vec<Vec<JobIn<A>, A>, A>,
+    depth: usize,
+    gate: &G,
+    blank: Blank,
+) -> Result<Round<A>, RunFault>
+    requires name { blank.name ≡ L.name }
+    requires parts { blank.parts ≡ L.parts }
+    requires number { blank.parts ≡ 65536 }
+    requires opening { L.opening ≡ world.state }
+    requires some { 1 ≤ vec_len jobs }
+    requires few { vec_len jobs ≤ 16 }
+    requires at_least_one { 1 ≤ depth }
+    requires at_most { depth ≤ 256 }
+    ensures ended { IfOk result (λ round. EndsRound world.state round.log round.report round.world) }
+    ensures all_jobs { IfOk result (λ round. map length round.jobs ≡ map (λ list. length list.items) jobs.items) }
+    ensures agree { IfOk result (λ round. AllAgree round.report.receipts round.jobs) }
+    ensures jobs { IfOk result (λ round. OnTrue L.jobs_alone (AreOfJobs round.log.entries)) }
+    ensures refused { IfErr result IsAfterOpening }
+{
+    let book = Book::<L, A>::over(alloc, world, blank);
+    let depth = Depth { jobs: depth };
+    match round_over(rt, alloc, book, gate, jobs, depth) {
+        Ok(round) => Ok(round),
         Err(failure) => Err(fault_of(failure)),
     }
 }

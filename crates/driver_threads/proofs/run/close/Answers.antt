@@ -1,5 +1,5 @@
 -- The ends of a run are told as lists of ends, which are as long as the lists that hold them.
-use Rattle.std.proofs.Common.{ap, length, map, subst}
+use Rattle.std.proofs.Common.{ap, length, map, subst, ◌∙◌}
 use Rattle.driver_book.specs.State.{SeatContents}
 use Rattle.driver_threads.specs.Ends.{ends_of, statuses_of}
 use Rattle.machine_model.specs.State.{State}
@@ -7,26 +7,24 @@ use Rattle.step_log.specs.History.{LeadsTo}
 use Rattle.std.proofs.lemmas.Simd.{map-map}
 use Rattle.driver_threads.proofs.run.close.Goals as goal
 
-pub returns-in-Ok-clause-all_jobs : goal.returns-in-Ok-clause-all_jobs
-returns-in-Ok-clause-all_jobs g c =
-    let told = map-map length (λ list. list.items) c.in_ok-seats.lists.items in
-    cc (told, c.of.ensures, c.in_ok-seats.ensures.long, c.in_ok-seats.lists-is)
+pub returns-in-Ok-clause-ends : goal.returns-in-Ok-clause-ends
+returns-in-Ok-clause-ends g c = ap (map length) c.of.ensures ∙ map-map length (λ list. list.items) c.args.hand.lists.items
 
 pub returns-in-Ok-clause-agree : goal.returns-in-Ok-clause-agree
 returns-in-Ok-clause-agree g c =
     let receipts = ap (map statuses_of) c.in-Ok.ensures.report.receipts in
-    let seats = map-map statuses_of (λ (seat : SeatContents). seat.receipts) c.in_ok-seats.seats.items in
-    let lists = map-map ends_of (λ list. list.items) c.in_ok-seats.lists.items in
-    cc (receipts, seats, lists, c.of.ensures, c.in_ok-seats.ensures.agree, c.in_ok-seats.seats-is, c.in_ok-seats.lists-is)
+    let seats = map-map statuses_of (λ (seat : SeatContents). seat.receipts) c.args.hand.seats.items in
+    let lists = map-map ends_of (λ list. list.items) c.args.hand.lists.items in
+    cc (receipts, seats, lists, c.of.ensures, c.requires.agree)
 
 pub returns-in-Ok-clause-closed : goal.returns-in-Ok-clause-closed
 returns-in-Ok-clause-closed g c = record {
-  seats = c.in_ok-seats.field-0.seats.items;
-  before = c.args.book.now;
+  seats = c.args.hand.seats.items;
+  before = c.args.book;
   closed = record {
     of = record {
       opens = c.in-Ok.ensures.opening;
-      legal = subst (λ (opening : State). LeadsTo opening c.args.book.now.log c.args.book.now.world) c.in-Ok.ensures.opening c.in-Ok.ensures.legal;
+      legal = subst (λ (opening : State). LeadsTo opening c.args.book.log c.args.book.world) c.in-Ok.ensures.opening c.in-Ok.ensures.legal;
       sound = c.in-Ok.ensures.sound;
     };
     stand = c.in-Ok.ensures.stand;

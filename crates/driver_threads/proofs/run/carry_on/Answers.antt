@@ -1,0 +1,43 @@
+-- The ends of a round are told as lists of ends, which are as long as the lists that hold them.
+use Rattle.std.proofs.Common.{ap, length, map, subst, sym, ◌∙◌}
+use Rattle.std.specs.Bool.{OnTrue}
+use Rattle.driver_book.specs.State.{AreOfJobs, SeatContents}
+use Rattle.driver_threads.specs.Ends.{ends_of, statuses_of}
+use Rattle.machine_model.specs.State.{State}
+use Rattle.step_log.specs.History.{LeadsTo}
+use Rattle.step_log.specs.Values.{LogContents}
+use Rattle.std.proofs.lemmas.Simd.{map-map}
+use Rattle.driver_threads.proofs.run.carry_on.Goals as goal
+
+pub returns-in-Ok-clause-ends : goal.returns-in-Ok-clause-ends
+returns-in-Ok-clause-ends g c = ap (map length) c.of.ensures ∙ map-map length (λ list. list.items) c.args.hand.lists.items
+
+pub returns-in-Ok-clause-agree : goal.returns-in-Ok-clause-agree
+returns-in-Ok-clause-agree g c =
+    let receipts = ap (map statuses_of) c.in-Ok.ensures.report.receipts in
+    let seats = map-map statuses_of (λ (seat : SeatContents). seat.receipts) c.args.hand.seats.items in
+    let lists = map-map ends_of (λ list. list.items) c.args.hand.lists.items in
+    cc (receipts, seats, lists, c.of.ensures, c.requires.agree)
+
+pub returns-in-Ok-clause-ended : goal.returns-in-Ok-clause-ended
+returns-in-Ok-clause-ended g c = record {
+  seats = c.args.hand.seats.items;
+  book = c.args.book;
+  closed = record {
+    of = record {
+      opens = c.in-Ok.ensures.opening;
+      legal = subst (λ (opening : State). LeadsTo opening c.args.book.log c.args.book.world) c.in-Ok.ensures.opening c.in-Ok.ensures.legal;
+      sound = c.in-Ok.ensures.sound;
+    };
+    stand = c.in-Ok.ensures.stand;
+    no_more = c.in-Ok.ensures.no_more;
+    all_seats = c.in-Ok.ensures.all_seats;
+    done = c.in-Ok.ensures.done;
+    reports = c.in-Ok.ensures.report;
+  };
+  same_log = c.in-Ok.ensures.log;
+  same_world = c.in-Ok.ensures.world;
+}
+
+pub returns-in-Ok-clause-jobs : goal.returns-in-Ok-clause-jobs
+returns-in-Ok-clause-jobs g c = subst (λ (log : LogContents). OnTrue g.L.Driver.jobs_alone (AreOfJobs log.entries)) (sym c.in-Ok.ensures.log) c.check.ensures.jobs
