@@ -1,5 +1,5 @@
 -- What the words of a command line ask for.
-use Rattle.std.specs.Prelude.{◌^◌, ◌≤◌, ◌&&◌, ⊤, ℕ, Bool, List, [], ◌∷◌, Option, Some, None, codes, option_map, option_and_then, unwrap_or, map, false, nat_lt, nat_le, if◌then◌else◌}
+use Rattle.std.specs.Prelude.{◌^◌, ◌≤◌, ◌&&◌, ⊤, ℕ, Bool, List, [], ◌∷◌, Option, Some, None, codes, option_map, option_and_then, unwrap_or, map, true, false, nat_lt, nat_le, if◌then◌else◌}
 use Rattle.std.specs.Borrow.{Bor}
 use Rattle.std.specs.Option.{option_map_or}
 use Rattle.std.specs.Str.{bytes_eq}
@@ -11,6 +11,7 @@ use Rattle.command_line.specs.declared.arguments.CommandLine.{CommandLine}
 use Rattle.command_line.specs.declared.arguments.CommandLine.TheVariants as line
 use Rattle.command_line.specs.declared.arguments.Options.{Options}
 use Rattle.command_line.specs.declared.arguments.Testing.{Testing}
+use Rattle.command_line.specs.declared.threads.Threading.{Threading}
 use Rattle.host_core.specs.declared.config.Config.{Config}
 
 -- The options of a command, by what was found for each: a row of the words' values, or of the usual value
@@ -85,12 +86,37 @@ submitters_in rows = number_under (codes "submitters") 2 rows
 abbrev pub has_jobs : List Row → Bool
 has_jobs rows = has_flag (codes "jobs") rows
 
+-- How jobs are run
+
+-- the number that is found under a name, if there is one
+abbrev pub amount_under : Text → List Row → Option ℕ
+amount_under name rows = option_and_then number (one_of name rows)
+
+abbrev pub threading_in : List Row → Threading
+threading_in rows = record {
+  submitters = submitters_in rows;
+  depth = number_under (codes "depth") 1 rows;
+  log_limit = amount_under (codes "log-limit") rows;
+}
+
+abbrev pub is_within : ℕ → ℕ → ℕ → Bool
+is_within least most n = nat_le least n && nat_le n most
+
+-- there is an entry at least, if there is a limit
+abbrev pub is_limit : Option ℕ → Bool
+is_limit None = true
+is_limit (Some entries) = nat_le 1 entries
+
+-- all three lie in their ranges
+abbrev pub is_threading : Threading → Bool
+is_threading what = is_within 1 16 what.submitters && (is_within 1 256 what.depth && is_limit what.log_limit)
+
 -- What is asked for
 
 pub data Asked : Type 0 where
   steps : Given → Asked
   traced : Given → Asked
-  threads : Given → ℕ → Asked
+  threads : Given → Threading → Asked
   check : Option Text → Asked
   check_jobs : Option Text → ℕ → Asked
   test : Tested → Asked
@@ -120,6 +146,10 @@ are_submitters n = nat_le 1 n && nat_le n 16
 abbrev pub if_submitters : ℕ → (ℕ → Asked) → Option Asked
 if_submitters n wanted = if are_submitters n then Some (wanted n) else None
 
+-- what `threads` with these rows asks for
+abbrev pub threads_by : List Row → Option Asked
+threads_by rows = if is_threading (threading_in rows) then Some (threads (given_in rows) (threading_in rows)) else None
+
 -- what `check` with these rows asks for
 abbrev pub check_by : List Row → Option Asked
 check_by rows =
@@ -129,7 +159,7 @@ check_by rows =
 abbrev pub asked_of_name : Text → List Row → Option Asked
 asked_of_name name rows =
     if bytes_eq name (codes "steps") then Some (steps_by rows)
-    else if bytes_eq name (codes "threads") then if_submitters (submitters_in rows) (λ n. threads (given_in rows) n)
+    else if bytes_eq name (codes "threads") then threads_by rows
     else if bytes_eq name (codes "check") then check_by rows
     else if bytes_eq name (codes "test") then Some (test (tested_in rows))
     else if bytes_eq name (codes "shell") then Some (shell (given_in rows) (has_trace rows))
@@ -165,7 +195,7 @@ tested_of testing = record { sizes = testing.config; zeros = testing.blocks; upd
 abbrev pub asked_of : CommandLine → Asked
 asked_of (line.Steps options) = steps (given_of options)
 asked_of (line.Traced options) = traced (given_of options)
-asked_of (line.Threads options submitters) = threads (given_of options) submitters
+asked_of (line.Threads options what) = threads (given_of options) what
 asked_of (line.Check script) = check (path_of script)
 asked_of (line.CheckJobs script submitters) = check_jobs (path_of script) submitters
 asked_of (line.Test testing) = test (tested_of testing)
@@ -175,16 +205,23 @@ asked_of (line.Explain script objects) = explain (path_of script) objects
 asked_of (line.Show words) = show (map (λ w. w.now) words.items)
 asked_of line.Grammar = grammar
 
--- a command line has as many submitters as there may be
-abbrev pub FitSubmitters : CommandLine → Type 0
-FitSubmitters (line.Steps options) = ⊤
-FitSubmitters (line.Traced options) = ⊤
-FitSubmitters (line.Threads options submitters) = (1 ≤ submitters) × (submitters ≤ 16)
-FitSubmitters (line.Check script) = ⊤
-FitSubmitters (line.CheckJobs script submitters) = (1 ≤ submitters) × (submitters ≤ 16)
-FitSubmitters (line.Test testing) = ⊤
-FitSubmitters (line.Shell options traces) = ⊤
-FitSubmitters (line.Draw options) = ⊤
-FitSubmitters (line.Explain script objects) = ⊤
-FitSubmitters (line.Show words) = ⊤
-FitSubmitters line.Grammar = ⊤
+-- submitters and depth lie in their ranges
+pub record FitsThreading (what : Threading) : Type 0 where
+  pub some : 1 ≤ what.submitters
+  pub few : what.submitters ≤ 16
+  pub at_least_one : 1 ≤ what.depth
+  pub at_most : what.depth ≤ 256
+
+-- a command line has as many submitters as there may be, and a depth in its range
+abbrev pub FitsLine : CommandLine → Type 0
+FitsLine (line.Steps options) = ⊤
+FitsLine (line.Traced options) = ⊤
+FitsLine (line.Threads options what) = FitsThreading what
+FitsLine (line.Check script) = ⊤
+FitsLine (line.CheckJobs script submitters) = (1 ≤ submitters) × (submitters ≤ 16)
+FitsLine (line.Test testing) = ⊤
+FitsLine (line.Shell options traces) = ⊤
+FitsLine (line.Draw options) = ⊤
+FitsLine (line.Explain script objects) = ⊤
+FitsLine (line.Show words) = ⊤
+FitsLine line.Grammar = ⊤

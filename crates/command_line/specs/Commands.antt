@@ -51,8 +51,20 @@ steps = with_options (with_rule
     (with_rule (new_app (codes "steps")) (option_rule (codes "save")))
     (flag_rule (codes "trace")))
 
+-- an option that is a number below 2^32, without a usual value
+abbrev pub optional_number_rule : Text → Rule
+optional_number_rule name = record (option_rule name) { parser = Some (Signed (pos 0) (pos 4294967295)) }
+
+-- how jobs are run
+abbrev pub with_threading : App → App
+with_threading command = with_rule
+    (with_rule
+    (with_rule command (number_rule (codes "submitters") (codes "2")))
+    (number_rule (codes "depth") (codes "1")))
+    (optional_number_rule (codes "log-limit"))
+
 abbrev pub threads : App
-threads = with_options (with_rule (new_app (codes "threads")) (number_rule (codes "submitters") (codes "2")))
+threads = with_options (with_threading (new_app (codes "threads")))
 
 abbrev pub check : App
 check = with_rule

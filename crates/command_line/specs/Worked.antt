@@ -1,7 +1,8 @@
 -- Worked command lines.
-use Rattle.std.specs.Prelude.{List, [], ◌∷◌, None, Some, false, codes}
+use Rattle.std.specs.Prelude.{ℕ, List, [], ◌∷◌, None, Some, false, codes}
 use Rattle.clap.specs.Words.{Text}
 use Rattle.command_line.specs.Asked.{Given, Tested}
+use Rattle.command_line.specs.declared.threads.Threading.{Threading}
 
 -- what is given where nothing is
 abbrev pub usual : Given
@@ -12,6 +13,10 @@ usual = record {
   script = None;
   save = None;
 }
+
+-- so many submitters, one job in flight each, all jobs at once
+abbrev pub alone : ℕ → Threading
+alone n = record { submitters = n; depth = 1; log_limit = None }
 
 -- the words of a command
 abbrev pub steps_with : List Text → List Text

@@ -3,7 +3,7 @@
 ghost use Rattle.std.specs.Prelude.{◌≡◌, IfOk, false, codes};
 ghost use Rattle.clap.specs.Words.{app_of, found_of, rows_of, rule_of};
 ghost use Rattle.clap.specs.declared.builder.command.Command.TheViews.{out-Command};
-ghost use Rattle.command_line.specs.Commands.{check, draw, explain, flag_rule, grammar, number_rule, named, nvmesgl, option_rule, shell, show, steps, test, threads, with_options, with_sizes, word_rule, words_rule};
+ghost use Rattle.command_line.specs.Commands.{check, draw, explain, flag_rule, grammar, number_rule, named, nvmesgl, option_rule, optional_number_rule, shell, show, steps, test, threads, with_options, with_sizes, with_threading, word_rule, words_rule};
 ghost use Rattle.command_line.specs.Asked.{number_under};
 
 use crate::help::{
@@ -74,6 +74,23 @@ pub(crate) const SUBMITTERS: Number = Number {
     shown: "2",
     range: (1, 16),
     help: "Submitters, each in a thread of its own: 1 to 16",
+};
+
+pub(crate) const DEPTH: Number = Number {
+    name: "depth",
+    usual: 1,
+    shown: "1",
+    range: (1, 256),
+    help: "Jobs that each submitter has in flight at a time: 1 to 256",
+};
+
+/// It has no usual value.
+pub(crate) const LOG_LIMIT: Number = Number {
+    name: "log-limit",
+    usual: 0,
+    shown: "",
+    range: (1, u32::MAX),
+    help: "Entries of a log: the jobs are done in rounds, and the log of each is dropped",
 };
 
 impl Number {
@@ -240,6 +257,29 @@ fn steps_command<'a>(alloc: Global) -> Result<Command<'a>, AllocError>
     with_options(alloc, command)
 }
 
+/// The option that limits a log.
+fn log_limit_arg<'a>(alloc: Global) -> Arg<'a>
+    ensures rule { rule_of result ≡ optional_number_rule (codes "log-limit") }
+    ensures local { result.global ≡ false }
+{
+    Arg::new(alloc, "log-limit")
+        .long("log-limit")
+        .value_name("N")
+        .value_parser(value_parser!(u32))
+        .help(LOG_LIMIT.help)
+}
+
+/// A command with how jobs are run.
+fn with_threading<'a>(alloc: Global, command: Command<'a>) -> Result<Command<'a>, AllocError>
+    ensures shape { IfOk result (λ whole. app_of whole ≡ with_threading (app_of command.entry)) }
+    ensures local { IfOk result (λ whole. (out-Command whole).has_globals ≡ (out-Command command.entry).has_globals) }
+{
+    command
+        .arg(SUBMITTERS.arg(alloc))?
+        .arg(DEPTH.arg(alloc))?
+        .arg(log_limit_arg(alloc))
+}
+
 /// The command that runs jobs in threads.
 pub(crate) fn threads_command<'a>(alloc: Global) -> Result<Command<'a>, AllocError>
     ensures shape { IfOk result (λ command. app_of command ≡ threads) }
@@ -248,9 +288,8 @@ pub(crate) fn threads_command<'a>(alloc: Global) -> Result<Command<'a>, AllocErr
     let command = Command::new(alloc, "threads")
         .about("Runs the jobs of a script in threads")
         .long_about(THREADS_ABOUT)
-        .after_help(THREADS_AFTER)
-        .arg(SUBMITTERS.arg(alloc))?;
-    with_options(alloc, command)
+        .after_help(THREADS_AFTER);
+    with_options(alloc, with_threading(alloc, command)?)
 }
 
 /// The command that looks for the faults of a script.

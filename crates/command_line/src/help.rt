@@ -68,8 +68,11 @@ Exit status: 0 done, 1 the script is at fault, 2 the arguments, the image or the
 pub const THREADS_ABOUT: &str = "Runs the jobs of a script, and prints how each ended.
 
 Each submitter does its jobs in a thread of its own, one after the other in the order of their
-lines; all share one pool. The script is read and checked whole before its first job. A refused
-job is an answer too: the run goes on, and its exit status is 0.";
+lines; all share one pool. With --depth it has several of them in flight, and takes their ends in
+that order. With --log-limit the jobs are done in rounds, of each submitter one job at least, and
+what is kept of a round to check it by is dropped at its end; what is printed is the same. The script
+is read and checked whole before its first job. A refused job is an answer too: the run goes on,
+and its exit status is 0.";
 
 /// What `nvmesgl threads --help` says last.
 pub const THREADS_AFTER: &str = "A script has one job on each line; `#` begins a comment.

@@ -9,8 +9,10 @@ mod arguments;
 mod commands;
 mod help;
 mod ranges;
+mod threads;
 pub mod worked;
 
 pub use arguments::{CommandLine, Options, Testing, words};
 pub use commands::VERSION;
 pub use ranges::Ranged;
+pub use threads::Threading;

@@ -18,7 +18,7 @@ kept (Some bytes) = refl
 -- want of memory, before anything is written
 wanting : (told : Option (List ℕ)) (what : Asked) (bytes : Option (List ℕ)) → FailsWith told (Some what) bytes bytes (fault.Run run.Memory)
 wanting told (steps given) bytes = (replicate (512 * given.blocks) 0, λ none. refl, inl (kept bytes))
-wanting told (threads given submitters) bytes = (replicate (512 * given.blocks) 0, λ none. refl, inl (kept bytes))
+wanting told (threads given what) bytes = (replicate (512 * given.blocks) 0, λ none. refl, inl (kept bytes))
 wanting told (check path) bytes = (tt, kept bytes)
 wanting told (check_jobs path submitters) bytes = (tt, kept bytes)
 wanting told (test tested) bytes = tt

@@ -4,6 +4,7 @@ use Rattle.std.specs.Borrow.{Bor}
 use Rattle.std.specs.Prelude.{IfErr, IsErrAnd, IsSome, OnOk, Result, Ok, Err}
 use Rattle.clap.specs.Words.{Text}
 use Rattle.command_line.specs.Asked.{Given, path_of, steps, threads}
+use Rattle.command_line.specs.declared.threads.Threading.{Threading}
 use Rattle.host_core.specs.declared.config.Config.{Config}
 use Rattle.job_cli.proofs.JobRuns.{jobs_are_told, no_jobs_are_told}
 use Rattle.job_cli.specs.JobRuns.{EndsJobsWith, EndsUnwritten, HasJobFault, HasJobs, IsCutJobsText, IsNoJobs, WritesJobs}
@@ -112,10 +113,10 @@ unread_ends_jobs : (told : Option (List ℕ)) (submitters : ℕ) (config : Confi
 unread_ends_jobs told submitters config image a why (inl unreadable) = subst (λ (f : RunFault). EndsJobsWith told submitters config image a a f) (sym unreadable) (kept a)
 unread_ends_jobs told submitters config image a why (inr memory) = subst (λ (f : RunFault). EndsJobsWith told submitters config image a a f) (sym memory) (inl (kept a))
 
-script_fails_jobs : (told : Option (List ℕ)) (given : Given) (submitters : ℕ) (image : List ℕ) (a : Option (List ℕ)) (why : RunFault) (f : Fault)
-    → f ≡ fault.Run why → IsFirstImage given image → (why ≡ run.Unreadable) ⊎ (why ≡ run.Memory) → FailsWith told (Some (threads given submitters)) a a f
-script_fails_jobs told given submitters image a why f same first unread =
-    subst (λ (g : Fault). FailsWith told (Some (threads given submitters)) a a g) (sym same) (image, first, unread_ends_jobs _ submitters given.config image a why unread)
+script_fails_jobs : (told : Option (List ℕ)) (given : Given) (what : Threading) (image : List ℕ) (a : Option (List ℕ)) (why : RunFault) (f : Fault)
+    → f ≡ fault.Run why → IsFirstImage given image → (why ≡ run.Unreadable) ⊎ (why ≡ run.Memory) → FailsWith told (Some (threads given what)) a a f
+script_fails_jobs told given what image a why f same first unread =
+    subst (λ (g : Fault). FailsWith told (Some (threads given what)) a a g) (sym same) (image, first, unread_ends_jobs _ what.submitters given.config image a why unread)
 
 -- Faults that `?` makes of those of a run
 
@@ -124,11 +125,11 @@ pub run_fault_told : {T U : Type 0} (r : Result T U) (fault_of : U → Fault) (w
 run_fault_told (Ok x) fault_of why Holds same holds = tt
 run_fault_told (Err x) fault_of why Holds same holds = subst (λ (f : Fault). IsRunFault f Holds) (sym same) holds
 
-pub script_failed_jobs : {T U : Type 0} (r : Result T U) (fault_of : U → Fault) (told : Option (List ℕ)) (given : Given) (submitters : ℕ) (image : List ℕ)
+pub script_failed_jobs : {T U : Type 0} (r : Result T U) (fault_of : U → Fault) (told : Option (List ℕ)) (given : Given) (what : Threading) (image : List ℕ)
     (a : Option (List ℕ)) (why : RunFault) → IsErrAnd r (λ x. fault_of x ≡ fault.Run why) → IsFirstImage given image → (why ≡ run.Unreadable) ⊎ (why ≡ run.Memory)
-    → IfErr r (λ x. FailsWith told (Some (threads given submitters)) a a (fault_of x))
-script_failed_jobs (Ok x) fault_of told given submitters image a why same first unread = tt
-script_failed_jobs (Err x) fault_of told given submitters image a why same first unread = script_fails_jobs told given submitters image a why (fault_of x) same first unread
+    → IfErr r (λ x. FailsWith told (Some (threads given what)) a a (fault_of x))
+script_failed_jobs (Ok x) fault_of told given what image a why same first unread = tt
+script_failed_jobs (Err x) fault_of told given what image a why same first unread = script_fails_jobs told given what image a why (fault_of x) same first unread
 
 -- Images that were not saved
 

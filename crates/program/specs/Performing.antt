@@ -36,8 +36,8 @@ abbrev pub Performs : Option (List ℕ) → Option Asked → Option (List ℕ) �
 Performs told None before after = Keeps before after
 Performs told (Some (steps given)) before after =
     (image : List ℕ) × IsFirstImage given image × Writes (script_told given.script told) given.config image before after IsRunText
-Performs told (Some (threads given submitters)) before after =
-    (image : List ℕ) × IsFirstImage given image × WritesJobs (script_told given.script told) submitters given.config image before after IsJobsText
+Performs told (Some (threads given what)) before after =
+    (image : List ℕ) × IsFirstImage given image × WritesJobs (script_told given.script told) what.submitters given.config image before after IsJobsText
 Performs told (Some (check path)) before after = ((script : List Numbered) × HasScript (script_told path told) script) × Keeps before after
 Performs told (Some (check_jobs path submitters)) before after = ((lines : List JobLine) × HasJobs (script_told path told) submitters lines) × Keeps before after
 Performs told (Some (test tested)) before after = Unit {0}
@@ -88,7 +88,7 @@ FailsWith told None before after why = Keeps before after
 FailsWith told (Some what) before after (fault.Arguments why) = ⊥
 FailsWith told (Some what) before after fault.PipeClosed = ⊥
 FailsWith told (Some (steps given)) before after fault.NotSaved = Performs told (Some (steps given)) before after × IsSome given.save
-FailsWith told (Some (threads given submitters)) before after fault.NotSaved = ⊥
+FailsWith told (Some (threads given what)) before after fault.NotSaved = ⊥
 FailsWith told (Some (check path)) before after fault.NotSaved = ⊥
 FailsWith told (Some (check_jobs path submitters)) before after fault.NotSaved = ⊥
 FailsWith told (Some (test tested)) before after fault.NotSaved = ⊥
@@ -99,7 +99,7 @@ FailsWith told (Some (explain path objects)) before after fault.NotSaved = ⊥
 FailsWith told (Some (show words)) before after fault.NotSaved = ⊥
 FailsWith told (Some grammar) before after fault.NotSaved = ⊥
 FailsWith told (Some (steps given)) before after (fault.Transcripts tally) = ⊥
-FailsWith told (Some (threads given submitters)) before after (fault.Transcripts tally) = ⊥
+FailsWith told (Some (threads given what)) before after (fault.Transcripts tally) = ⊥
 FailsWith told (Some (check path)) before after (fault.Transcripts tally) = ⊥
 FailsWith told (Some (check_jobs path submitters)) before after (fault.Transcripts tally) = ⊥
 FailsWith told (Some (test tested)) before after (fault.Transcripts tally) = Unit {0}
@@ -110,7 +110,7 @@ FailsWith told (Some (explain path objects)) before after (fault.Transcripts tal
 FailsWith told (Some (show words)) before after (fault.Transcripts tally) = ⊥
 FailsWith told (Some grammar) before after (fault.Transcripts tally) = ⊥
 FailsWith told (Some (steps given)) before after (fault.Bytes why) = ⊥
-FailsWith told (Some (threads given submitters)) before after (fault.Bytes why) = ⊥
+FailsWith told (Some (threads given what)) before after (fault.Bytes why) = ⊥
 FailsWith told (Some (check path)) before after (fault.Bytes why) = ⊥
 FailsWith told (Some (check_jobs path submitters)) before after (fault.Bytes why) = ⊥
 FailsWith told (Some (test tested)) before after (fault.Bytes why) = ⊥
@@ -121,7 +121,7 @@ FailsWith told (Some (explain path objects)) before after (fault.Bytes why) = Un
 FailsWith told (Some (show words)) before after (fault.Bytes why) = Unit {0}
 FailsWith told (Some grammar) before after (fault.Bytes why) = ⊥
 FailsWith told (Some (steps given)) before after (fault.Image why) = IsNoFirstImage given why × Keeps before after
-FailsWith told (Some (threads given submitters)) before after (fault.Image why) = IsNoFirstImage given why × Keeps before after
+FailsWith told (Some (threads given what)) before after (fault.Image why) = IsNoFirstImage given why × Keeps before after
 FailsWith told (Some (check path)) before after (fault.Image why) = ⊥
 FailsWith told (Some (check_jobs path submitters)) before after (fault.Image why) = ⊥
 FailsWith told (Some (test tested)) before after (fault.Image why) = ⊥
@@ -133,8 +133,8 @@ FailsWith told (Some (show words)) before after (fault.Image why) = ⊥
 FailsWith told (Some grammar) before after (fault.Image why) = ⊥
 FailsWith told (Some (steps given)) before after (fault.Run why) =
     (image : List ℕ) × IsFirstImage given image × EndsWith (script_told given.script told) given.config image before after why
-FailsWith told (Some (threads given submitters)) before after (fault.Run why) =
-    (image : List ℕ) × IsFirstImage given image × EndsJobsWith (script_told given.script told) submitters given.config image before after why
+FailsWith told (Some (threads given what)) before after (fault.Run why) =
+    (image : List ℕ) × IsFirstImage given image × EndsJobsWith (script_told given.script told) what.submitters given.config image before after why
 FailsWith told (Some (check path)) before after (fault.Run why) = IsNoScript (script_told path told) why × Keeps before after
 FailsWith told (Some (check_jobs path submitters)) before after (fault.Run why) = IsNoJobs (script_told path told) submitters why × Keeps before after
 FailsWith told (Some (test tested)) before after (fault.Run why) = Unit {0}

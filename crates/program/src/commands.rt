@@ -16,11 +16,11 @@ use crate::inputs::{open_image, script_text};
 use crate::pipe::Pipe;
 use crate::printing::print_text;
 use crate::saving::save_image;
-use command_line::{CommandLine, Options, Testing, words};
+use command_line::{CommandLine, Options, Testing, Threading, words};
 use draw::draw_steps;
 use explain::Layout;
 use fault_text::{Grammar, grammar_text};
-use job_cli::run_jobs;
+use job_cli::{Pace, run_jobs};
 use script_cli::{MAX_SCRIPT, RunFault, play_steps};
 use shell::{run_shell, trace_steps};
 use std::alloc::{AllocGlobal, Global};
@@ -93,8 +93,8 @@ pub fn perform<
     match CommandLine::parse(rt.alloc(), words) {
         Ok(CommandLine::Steps(options)) => play(rt, options, reader, writer),
         Ok(CommandLine::Traced(options)) => trace_script(rt, options, reader, writer),
-        Ok(CommandLine::Threads(options, submitters)) => {
-            run_threads(rt, options, submitters, reader, writer)
+        Ok(CommandLine::Threads(options, threading)) => {
+            run_threads(rt, options, threading, reader, writer)
         }
         Ok(CommandLine::Check(path)) => look_at_steps(rt, path, reader),
         Ok(CommandLine::CheckJobs(path, submitters)) => {
@@ -177,25 +177,34 @@ fn trace_script<R: AllocGlobal + Files, I: Read, W: Write>(
 fn run_threads<R: AllocGlobal + Files + Sync + Threads + Wait, I: Read, W: Write>(
     rt: &R,
     options: Options<'_>,
-    submitters: u16,
+    threading: Threading,
     reader: &mut I,
     writer: &mut W,
 ) -> Result<(), Told<Fault>>
-    requires least { 1 ≤ submitters }
-    requires most { submitters ≤ 16 }
-    ensures ran { OnOk result (Performs (I.remaining reader.old) (Some (threads (given_of options.entry) submitters)) (W.contents writer.old) (W.contents writer.new)) }
-    ensures failed { IfErr result (λ told. FailsWith (I.remaining reader.old) (Some (threads (given_of options.entry) submitters)) (W.contents writer.old) (W.contents writer.new) told.fault) }
+    requires some { 1 ≤ threading.submitters }
+    requires few { threading.submitters ≤ 16 }
+    requires at_least_one { 1 ≤ threading.depth }
+    requires at_most { threading.depth ≤ 256 }
+    ensures ran { OnOk result (Performs (I.remaining reader.old) (Some (threads (given_of options.entry) threading)) (W.contents writer.old) (W.contents writer.new)) }
+    ensures failed { IfErr result (λ told. FailsWith (I.remaining reader.old) (Some (threads (given_of options.entry) threading)) (W.contents writer.old) (W.contents writer.new) told.fault) }
 {
     let alloc = rt.alloc();
     let image = open_image(rt, &options)?;
     let text = script_text(rt, options.script, reader)?;
     let mut script = text.as_slice();
+    let Threading {
+        submitters,
+        depth,
+        log_limit,
+    } = threading;
+    let pace = Pace { depth, log_limit };
     match run_jobs(
         rt,
         alloc,
         options.config,
         image,
         submitters,
+        pace,
         &mut script,
         writer,
     ) {

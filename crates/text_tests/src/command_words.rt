@@ -120,7 +120,9 @@ fn given_by<'a>(submitters: Option<u16>, options: Options<'a>) -> Given<'a> {
 fn asked<'a>(alloc: Global, words: &'a [&'a str]) -> Option<Given<'a>> {
     match CommandLine::parse(alloc, words) {
         Ok(CommandLine::Steps(options)) => Some(given_by(None, options)),
-        Ok(CommandLine::Threads(options, submitters)) => Some(given_by(Some(submitters), options)),
+        Ok(CommandLine::Threads(options, threading)) => {
+            Some(given_by(Some(threading.submitters), options))
+        }
         _ => None,
     }
 }

@@ -5,19 +5,19 @@ use Rattle.program.proofs.commands.run_threads.Goals as goal
 
 pub returns-in_err-text-clause-failed : goal.returns-in_err-text-clause-failed
 returns-in_err-text-clause-failed g c =
-    script_failed_jobs c.from_residual-in_err-text.result (λ told. told.fault) (g.I.Read.remaining c.args.reader.now) (given_of c.args.options) c.args.submitters c.in_ok-image.image _ c.in_err-text.field-0.0.fault
+    script_failed_jobs c.from_residual-in_err-text.result (λ told. told.fault) (g.I.Read.remaining c.args.reader.now) (given_of c.args.options) c.args.threading c.in_ok-image.image _ c.in_err-text.field-0.0.fault
     c.from_residual-in_err-text.ensures.1 c.in_ok-image.ensures.image c.in_err-text.ensures.fault
 
 pub returns-in-Ok-clause-ran : goal.returns-in-Ok-clause-ran
 returns-in-Ok-clause-ran g c = (
   c.in_ok-image.image,
   c.in_ok-image.ensures.image,
-  writes_jobs_told _ c.args.submitters c.in_ok-text.text.items c.args.options.config c.in_ok-image.image _ _ IsJobsText c.in_ok-text.ensures.text (rw c.as_slice-script.ensures.value at c.in-Ok.ensures.ran),
+  writes_jobs_told _ c.args.threading.submitters c.in_ok-text.text.items c.args.options.config c.in_ok-image.image _ _ IsJobsText c.in_ok-text.ensures.text (rw c.as_slice-script.ensures.value at c.in-Ok.ensures.ran),
 )
 
 pub returns-clause-failed : goal.returns-clause-failed
 returns-clause-failed g c = (
   c.in_ok-image.image,
   c.in_ok-image.ensures.image,
-  ends_jobs_told _ c.args.submitters c.in_ok-text.text.items c.args.options.config c.in_ok-image.image _ _ c.in-Err.fault c.in_ok-text.ensures.text (rw c.as_slice-script.ensures.value at c.in-Err.ensures.failed),
+  ends_jobs_told _ c.args.threading.submitters c.in_ok-text.text.items c.args.options.config c.in_ok-image.image _ _ c.in-Err.fault c.in_ok-text.ensures.text (rw c.as_slice-script.ensures.value at c.in-Err.ensures.failed),
 )
