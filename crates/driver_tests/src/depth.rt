@@ -158,6 +158,7 @@ const MIXED: [Asked; 12] = [
 /// How many of them get a command, and how many entries they leave: eight for each command, 2 for the walk of one piece and 5 and 7 for those of
 /// two and three, and two for the draft of the one that was refused as it was filled.
 const MIXED_COMMANDS: usize = 8;
+
 const MIXED_ENTRIES: usize = 8 * MIXED_COMMANDS + 5 * 2 + 2 * 5 + 7 + 2;
 
 /// The jobs that are asked for, over and over.
@@ -219,10 +220,18 @@ fn run_mixed<R: Abort + Threads + Wait + Sync>(
     let outcome = play_at(rt, alloc, config, 64, lists, depth, &Open)?;
     see_ends(rt, &outcome, submitters, times);
     let rounds = submitters.saturating_mul(times);
-    see(rt, &outcome.report.submissions, &(rounds.saturating_mul(MIXED_COMMANDS) as u64));
+    see(
+        rt,
+        &outcome.report.submissions,
+        &(rounds.saturating_mul(MIXED_COMMANDS) as u64),
+    );
     see(rt, &outcome.entries, &rounds.saturating_mul(MIXED_ENTRIES));
     see(rt, &outcome.refusals, &0);
-    see(rt, &outcome.report.counts, &counts(config.pages.saturating_sub(4), 4, 0));
+    see(
+        rt,
+        &outcome.report.counts,
+        &counts(config.pages.saturating_sub(4), 4, 0),
+    );
     Ok(())
 }
 

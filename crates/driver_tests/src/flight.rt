@@ -95,8 +95,7 @@ fn worked<L: FullDriver + Send + Sync, R: Abort + Threads + Wait + Sync>(
     are_served: bool,
 ) -> Worked<L> {
     thread::scope(thread::scope_env(), rt, |scope| {
-        let Ok(submits) =
-            scope.spawn(move || submitter(rt, alloc, shared, submitted, 0, jobs, 3))
+        let Ok(submits) = scope.spawn(move || submitter(rt, alloc, shared, submitted, 0, jobs, 3))
         else {
             panic!(rt; "no thread was made");
         };
@@ -130,7 +129,13 @@ fn fly<L: Driver + Send + Sync, R: Abort + Threads + Wait + Sync>(
     };
     let left = worked(rt, alloc, &shared, jobs, &submitted, are_served);
     assert!(rt; !left.closed && !left.short);
-    assert!(rt; if are_served { are_read(&left.ends) } else { left.ends.is_empty() });
+    assert!(rt;
+        if are_served {
+            are_read(&left.ends)
+        } else {
+            left.ends.is_empty()
+        }
+    );
     let Some(seat) = left.seat else {
         panic!(rt; "it has a seat");
     };

@@ -99,7 +99,16 @@ pub(crate) fn play_at<G: Gate + Sync, R: Threads + Wait + Sync>(
     let Ok(image) = Image::zeroed(alloc, blocks) else {
         return Err(RunFault::Memory);
     };
-    outcome_of::<Brand, G, R>(rt, alloc, config, image, jobs, depth, gate, Blank::new(65536))
+    outcome_of::<Brand, G, R>(
+        rt,
+        alloc,
+        config,
+        image,
+        jobs,
+        depth,
+        gate,
+        Blank::new(65536),
+    )
 }
 
 /// Runs jobs one after the other for each submitter, over a new book, whose image has so many zero blocks.
