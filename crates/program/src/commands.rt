@@ -20,7 +20,7 @@ use command_line::{CommandLine, Options, Testing, words};
 use draw::draw_steps;
 use explain::Layout;
 use fault_text::{Grammar, grammar_text};
-use job_cli::run_jobs;
+use job_cli::{Pace, run_jobs};
 use script_cli::{MAX_SCRIPT, RunFault, play_steps};
 use shell::{run_shell, trace_steps};
 use std::alloc::{AllocGlobal, Global};
@@ -190,12 +190,17 @@ fn run_threads<R: AllocGlobal + Files + Sync + Threads + Wait, I: Read, W: Write
     let image = open_image(rt, &options)?;
     let text = script_text(rt, options.script, reader)?;
     let mut script = text.as_slice();
+    let pace = Pace {
+        depth: 1,
+        log_limit: None,
+    };
     match run_jobs(
         rt,
         alloc,
         options.config,
         image,
         submitters,
+        pace,
         &mut script,
         writer,
     ) {

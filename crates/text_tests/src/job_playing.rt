@@ -1,7 +1,7 @@
 //! How a script of jobs is played.
 
 use block_image::Image;
-use job_cli::run_jobs;
+use job_cli::{Pace, run_jobs};
 use script_cli::RunFault;
 use std::alloc::Global;
 use std::io;
@@ -18,6 +18,18 @@ pub(crate) const USUAL: Config = Config {
     queues: 1,
     entries: 4,
     segment: 256,
+};
+
+/// All jobs at once, one command of a submitter after the other.
+pub(crate) const AT_ONCE: Pace = Pace {
+    depth: 1,
+    log_limit: None,
+};
+
+/// In rounds of about two jobs of each of two submitters.
+pub(crate) const IN_ROUNDS: Pace = Pace {
+    depth: 1,
+    log_limit: Some(60),
 };
 
 /// What stands behind the lines of the jobs of a usual run.
@@ -97,18 +109,21 @@ pub(crate) fn played<R: Threads + Wait + Sync + Abort>(
     alloc: Global,
     config: Config,
     submitters: u16,
+    pace: Pace,
     script: &[u8],
 ) -> Result<String, Fail> {
     let image = Image::zeroed(alloc, 64)?;
     let mut reader = script;
     let mut writer = Vec::new(alloc);
     assert!(rt; 1 <= submitters && submitters <= 16);
+    assert!(rt; 1 <= pace.depth && pace.depth <= 256);
     let end = run_jobs(
         rt,
         alloc,
         config,
         image,
         submitters,
+        pace,
         &mut reader,
         &mut writer,
     );

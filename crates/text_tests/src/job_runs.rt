@@ -1,9 +1,9 @@
 //! Runs of scripts of jobs, with all that they write.
 
-use crate::job_playing::{Narrow, Slow, USUAL, USUAL_END, append_end, played};
+use crate::job_playing::{AT_ONCE, IN_ROUNDS, Narrow, Slow, USUAL, USUAL_END, append_end, played};
 use crate::job_scripts::{FAILING, Failing, LONG, Length, Long, RUNS, Run};
 use block_image::Image;
-use job_cli::run_jobs;
+use job_cli::{Pace, run_jobs};
 use script_cli::RunFault;
 use std::alloc::{AllocError, Global};
 use std::io;
@@ -28,13 +28,14 @@ fn see_run<R: Threads + Wait + Sync + Abort>(
     alloc: Global,
     seen: &mut Seen,
     run: &Run,
+    pace: Pace,
 ) -> Result<(), Fail> {
     let behind = if run.is_usual { USUAL_END } else { "" };
     let prints = run.prints;
     let wanted = format!(in alloc; "{prints}{behind}")?;
     for _ in 0..run.times {
         let script = run.script.as_bytes();
-        let found = played(rt, alloc, run.config, run.submitters, script)?;
+        let found = played(rt, alloc, run.config, run.submitters, pace, script)?;
         seen.same_at(run.script, found.as_str(), wanted.as_str());
     }
     Ok(())
@@ -45,7 +46,17 @@ fn see_run<R: Threads + Wait + Sync + Abort>(
 fn jobs_are_run(rt: HostRuntime) -> Result<(), Fail> {
     let mut seen = Seen::new(rt.alloc());
     for run in &RUNS {
-        see_run(&rt, rt.alloc(), &mut seen, run)?;
+        see_run(&rt, rt.alloc(), &mut seen, run, AT_ONCE)?;
+    }
+    Ok(seen.end()?)
+}
+
+/// In rounds the same is written.
+#[test]
+fn jobs_are_run_in_rounds(rt: HostRuntime) -> Result<(), Fail> {
+    let mut seen = Seen::new(rt.alloc());
+    for run in &RUNS {
+        see_run(&rt, rt.alloc(), &mut seen, run, IN_ROUNDS)?;
     }
     Ok(seen.end()?)
 }
@@ -68,7 +79,7 @@ fn long_scripts_are_run(rt: HostRuntime) -> Result<(), Fail> {
         let prints = long.prints;
         let behind = if long.is_usual { USUAL_END } else { "" };
         let wanted = format!(in alloc; "{prints}{behind}")?;
-        let found = played(&rt, alloc, USUAL, 2, script.as_bytes())?;
+        let found = played(&rt, alloc, USUAL, 2, AT_ONCE, script.as_bytes())?;
         seen.same_at(long.length.times, found.as_str(), wanted.as_str());
     }
     Ok(seen.end()?)
@@ -89,7 +100,16 @@ fn failed<R: Threads + Wait + Sync>(
         room: failing.room,
         taken: Vec::new(alloc),
     };
-    let end = run_jobs(rt, alloc, USUAL, image, 2, &mut reader, &mut writer);
+    let end = run_jobs(
+        rt,
+        alloc,
+        USUAL,
+        image,
+        2,
+        AT_ONCE,
+        &mut reader,
+        &mut writer,
+    );
     let Ok(mut text) = String::from_utf8(writer.taken) else {
         return Err(Fail::from("text that is not ASCII"));
     };
@@ -114,7 +134,16 @@ fn a_reader_without_end(rt: HostRuntime) -> Result<(), Fail> {
     let image = Image::zeroed(rt.alloc(), 1)?;
     let mut out = Vec::new(rt.alloc());
     let mut reader = io::repeat(b'#');
-    let end = run_jobs(&rt, rt.alloc(), USUAL, image, 2, &mut reader, &mut out);
+    let end = run_jobs(
+        &rt,
+        rt.alloc(),
+        USUAL,
+        image,
+        2,
+        AT_ONCE,
+        &mut reader,
+        &mut out,
+    );
     seen.same(end, Err(RunFault::TooLong));
     seen.same(out.len(), 0);
     Ok(seen.end()?)
