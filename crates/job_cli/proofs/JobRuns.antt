@@ -1,5 +1,5 @@
 -- Runs of scripts of jobs: who does which job, what is printed, and how a run ends.
-use Rattle.std.proofs.Common.{arith, ◌≡◌, ◌<◌, ◌==◌, ◌&&◌, ◌⊎◌, inl, inr, ℕ, Bool, true, false, Option, Some, None, Result, Ok, Err, List, [], ◌∷◌, ◌++◌, append_assoc, is_some, length, length-set, length-append, get_or, map, replicate, slice_get, slice_set, if◌then◌else◌, refl, sym, ap, ◌∙◌, subst, eqb-true, zero, suc, ◌+◌, option_and_then}
+use Rattle.std.proofs.Common.{arith, ◌≡◌, ◌<◌, ◌==◌, ◌⊎◌, inl, inr, ℕ, Bool, true, false, Option, Some, None, Result, Ok, Err, List, [], ◌∷◌, ◌++◌, append_assoc, is_some, length, length-set, length-append, get_or, map, replicate, slice_get, slice_set, if◌then◌else◌, refl, sym, ap, ◌∙◌, subst, eqb-true, zero, suc, ◌+◌, option_and_then}
 use Rattle.std.specs.Prelude.{All, IfErr, IsErrAnd, OnErr, OnOk}
 use Rattle.std.specs.Io.KnownBytes.{Appends, Keeps}
 use Rattle.std.proofs.lemmas.Bool.{eqb-false, eq-eqb}
@@ -12,7 +12,6 @@ use Rattle.driver_threads.specs.declared.jobs.RunFault as threads_fault
 use Rattle.driver_threads.specs.declared.jobs.RunFault.TheVariants as threads
 use Rattle.driver_book.specs.declared.log.CloseFault.TheVariants as closing
 use Rattle.machine_model.specs.declared.words.OpenRefusal.TheVariants as opening
-use Rattle.machine_model.specs.State.{State}
 use Rattle.page_ledger.specs.declared.owner.Counts.{Counts}
 use Rattle.page_ledger.specs.declared.owner.Owner.{Owner}
 use Rattle.page_ledger.proofs.Tables.{slice_get-set_same, slice_get-set_other}

@@ -1,3 +1,4 @@
 mod JobReading
 pub mod JobRuns
 mod Submitters
+pub mod GoneOn

@@ -2,10 +2,6 @@
 use Rattle.std.specs.Prelude.{◌≡◌, ◌<◌, ◌⊎◌, ◌==◌, ◌&&◌, ℕ, Bool, true, Option, Some, None, is_some, option_and_then, Ok, Err, List, [], ◌∷◌, ◌++◌, length, slice_get, if◌then◌else◌}
 use Rattle.std.specs.Io.KnownBytes.{Keeps}
 use Rattle.driver_book.specs.Laws.{IsTrustedLog}
-use Rattle.driver_book.specs.State.{AreOfJobs, BookContents}
-use Rattle.driver_book.specs.Values.{Report}
-use Rattle.driver_threads.specs.Ends.{AllAgree}
-use Rattle.driver_threads.specs.Runs.{RanFrom}
 use Rattle.driver_threads.specs.Values.{Job, JobEnd}
 use Rattle.machine_model.specs.Claims.{counts_of}
 use Rattle.machine_model.specs.State.{State}
@@ -16,6 +12,7 @@ use Rattle.page_ledger.specs.declared.owner.Owner.{Owner}
 use Rattle.script_cli.specs.Inputs.{IsTold, Gains, IsFront}
 use Rattle.job_cli.specs.JobLines.{job_text}
 use Rattle.job_cli.specs.Jobs.{jobs_of}
+use Rattle.job_cli.specs.GoneOn.{HasGoneOn, logs_of}
 use Rattle.script_cli.specs.Owners.{owners_text, counts_line}
 use Rattle.script_cli.specs.Runs.{AreOwners}
 use Rattle.script_cli.specs.declared.fault.RunFault.{RunFault}
@@ -68,21 +65,18 @@ all_ended ends before (line ∷ rest) = is_some (end_of ends before line) && all
 abbrev pub closing_text : List Owner → Counts → List ℕ
 closing_text owners counts = owners_text owners ++ counts_line counts
 
--- Some run of threads from an opening over this image left a book with these owners and counts, and jobs that ended so. Each command of theirs
--- ended as its receipt in the book's report says, and the report has no further receipt. The book's log has the steps of jobs alone, so the run is
--- one of which the machine's laws of trusted runs speak.
+-- Rounds of threads, the first over this opening, each other over the world to which the one before led, left a world with these owners and counts, and jobs that ended so. Each
+-- command of theirs ended as its receipt in the report of its round's book says, and the reports have no further receipt. The logs of all rounds have the steps of jobs alone, so
+-- that they are, one behind the other, one run of which the machine's laws of trusted runs speak.
 pub record IsLeftFrom (opening : State) (image : List ℕ) (ends : List (List JobEnd)) (owners : List Owner) (counts : Counts) : Type 0 where
-  pub report : Report
-  pub book : BookContents
-  pub ran : RanFrom opening report book
-  pub agree : AllAgree report.receipts ends
-  pub jobs : AreOfJobs book.log
-  pub trusted : IsTrustedLog image book.log book.world
-  pub owned : AreOwners book.world owners
-  pub counted : counts ≡ counts_of book.world.host
+  pub world : State
+  pub gone_on : HasGoneOn opening ends world
+  pub trusted : IsTrustedLog image (logs_of gone_on.rounds) world
+  pub owned : AreOwners world owners
+  pub counted : counts ≡ counts_of world.host
 
 -- The text of a run of jobs over a world that opens so over an image: the line of each job, in the order of the script's lines, by its end; then the owners of the world that
--- some run of threads left, and then its counts.
+-- some rounds of threads left, and then its counts.
 pub record IsJobsText (config : Config) (image : List ℕ) (lines : List JobLine) (text : List ℕ) : Type 0 where
   pub ends : List (List JobEnd)
   pub owners : List Owner
@@ -121,6 +115,13 @@ IsNoRun config run.NoThread = refusal_of_config config ≡ None
 IsNoRun config (run.Close why) = refusal_of_config config ≡ None
 IsNoRun config run.Memory = Unit {0}
 IsNoRun config other = ⊥
+
+-- why jobs over a world that was opened did not all end
+abbrev pub IsWanting : RunFault → Type 0
+IsWanting run.NoThread = Unit {0}
+IsWanting (run.Close why) = Unit {0}
+IsWanting run.Memory = Unit {0}
+IsWanting other = ⊥
 
 -- a reader has a script without faults, and a text of which something holds is written
 abbrev pub WritesJobs : Option (List ℕ) → ℕ → Config → List ℕ → Option (List ℕ) → Option (List ℕ) → (Config → List ℕ → List JobLine → List ℕ → Type 0) → Type 0

@@ -3,3 +3,4 @@ pub mod Headings
 pub mod JobLines
 pub mod JobRuns
 pub mod Jobs
+pub mod GoneOn

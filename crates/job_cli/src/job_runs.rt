@@ -9,26 +9,24 @@ ghost use Rattle.script_cli.specs.Runs.{AreOwners};
 ghost use Rattle.script_cli.specs.declared.fault.RunFault.TheVariants as run;
 ghost use Rattle.step_core.specs.Opening.{opening_of};
 
-use crate::fault::not_run;
 use crate::job_lines::append_job_line;
 use crate::jobs::{JobLine, JobScript, read_jobs};
+use crate::rounds::{Done, Pace, do_jobs};
 use block_image::Image;
-use driver_book::{Book, Driver};
-use driver_threads::{Job, JobEnd, JobEnds, Open, Ran, run_threads};
+use driver_threads::{Job, JobEnd, JobEnds};
 use io_commands::Kind;
 use page_ledger::{Counts, Owner};
 use page_memory::PageNo;
 use script_cli::{
-    MAX_SCRIPT, ReadFault, RunFault, append_counts, append_owners, flush, put, read_first,
-    script_at_fault,
+    MAX_SCRIPT, ReadFault, RunFault, append_counts, append_owners, flush, not_opened, put,
+    read_first, script_at_fault,
 };
 use std::alloc::{AllocError, Global};
+use std::collections::VecDeque;
 use std::io::{Read, Write};
-use std::marker::Brand;
 use std::sync::Wait;
-use std::sync::ledger::Blank;
 use std::thread::Threads;
-use step_core::Config;
+use step_core::{Config, World};
 
 /// What the line of a job begins with, and which of its submitter's jobs it is.
 #[derive(Clone, Copy, Debug)]
@@ -46,7 +44,7 @@ struct Orders {
     /// One for each job, in the order of the lines.
     headings: Vec<Heading>,
     /// One list for each submitter, in the order of the lines.
-    lists: Vec<Vec<Job>>,
+    lists: Vec<VecDeque<Job>>,
 }
 
 /// What a run of threads left.
@@ -77,20 +75,20 @@ fn load_jobs<I: Read>(alloc: Global, submitters: u16, reader: &mut I) -> Result<
 
 /// An empty list for each submitter.
 #[tactic(auto, using(crate::proofs::JobRuns::lists_of_none))]
-fn no_jobs(alloc: Global, submitters: u16) -> Result<Vec<Vec<Job>>, AllocError>
+fn no_jobs(alloc: Global, submitters: u16) -> Result<Vec<VecDeque<Job>>, AllocError>
     ensures count { IfOk result (λ lists. vec_len lists ≡ submitters) }
     ensures empty { IfOk result (λ lists. AreListsOf submitters [] (map (λ list. list.items) lists.items)) }
 {
     let count = usize::from(submitters);
     let mut lists = Vec::with_capacity(alloc, count)?;
     while lists.len() < count {
-        lists.push_reserved(Vec::new(alloc));
+        lists.push_reserved(VecDeque::new(alloc));
     }
     Ok(lists)
 }
 
 /// Hands a job to its submitter, and answers how many the submitter had before.
-fn give(lists: &mut Vec<Vec<Job>>, submitter: u16, job: Job) -> Result<usize, AllocError>
+fn give(lists: &mut Vec<VecDeque<Job>>, submitter: u16, job: Job) -> Result<usize, AllocError>
     requires { submitter < vec_len lists.old }
     ensures count { vec_len lists.new ≡ vec_len lists.old }
     ensures given { OnOk result (map (λ list. list.items) lists.new.items ≡ slice_set (map (λ list. list.items) lists.old.items) submitter (slice_index_or (map (λ list. list.items) lists.old.items) submitter [] ++ job ∷ [])) }
@@ -98,7 +96,7 @@ fn give(lists: &mut Vec<Vec<Job>>, submitter: u16, job: Job) -> Result<usize, Al
 {
     let list = &mut lists[usize::from(submitter)];
     let place = list.len();
-    list.push(job)?;
+    list.push_back(job)?;
     Ok(place)
 }
 
@@ -129,53 +127,54 @@ fn hand_out(alloc: Global, submitters: u16, lines: Vec<JobLine>) -> Result<Order
     Ok(Orders { headings, lists })
 }
 
-/// The owners of all pages of a book, in the pages' order.
-fn owners_of<L: Driver>(alloc: Global, book: &Book<L>) -> Result<Vec<Owner>, AllocError>
-    ensures owners { IfOk result (λ owners. AreOwners book.now.world owners.items) }
+/// The owners of all pages of a world, in the pages' order.
+fn owners_of(alloc: Global, world: &World) -> Result<Vec<Owner>, AllocError>
+    ensures owners { IfOk result (λ owners. AreOwners world.now.state owners.items) }
     ensures few { IfOk result (λ owners. length owners.items ≤ 65536) }
 {
-    let pages = book.pages();
+    let pages = world.pages();
     let mut owners = Vec::with_capacity(alloc, pages as usize)?;
     for p in 0..pages {
-        owners.push_reserved(book.owner(PageNo(p)));
+        owners.push_reserved(world.owner(PageNo(p)));
     }
     Ok(owners)
 }
 
-/// Runs jobs over a new book.
-fn run_book<L: Driver + Send + Sync, R: Threads + Wait + Sync>(
+/// Does jobs over a world that is opened for them.
+fn run_world<R: Threads + Wait + Sync>(
     rt: &R,
     alloc: Global,
     config: Config,
     image: Image,
-    lists: Vec<Vec<Job>>,
-    blank: Blank,
+    jobs: Vec<VecDeque<Job>>,
+    pace: Pace,
 ) -> Result<Left, RunFault>
-    requires name { blank.name ≡ L.name }
-    requires parts { blank.parts ≡ L.parts }
-    requires number { blank.parts ≡ 65536 }
-    requires opening { L.opening ≡ opening_of config image }
-    requires jobs { L.jobs_alone ≡ true }
-    requires some { 1 ≤ vec_len lists }
-    requires few { vec_len lists ≤ 16 }
+    requires some { 1 ≤ vec_len jobs }
+    requires few { vec_len jobs ≤ 16 }
+    requires at_least_one { 1 ≤ pace.depth }
+    requires at_most { pace.depth ≤ 256 }
     ensures ran { IfOk result (λ left. IsLeftFrom (opening_of config image) image left.ends left.owners.items left.counts) }
-    ensures ended { IfOk result (λ left. map length left.ends ≡ map (λ list. length list.items) lists.items) }
+    ensures ended { IfOk result (λ left. map length left.ends ≡ map (λ queue. length queue.items) jobs.items) }
     ensures owners { IfOk result (λ left. length left.owners.items ≤ 65536) }
     ensures fault { IfErr result (IsNoRun config) }
 {
-    let ran: Ran<L> = match run_threads(rt, alloc, config, image, lists, 1, &Open, blank) {
-        Ok(ran) => ran,
-        Err(why) => return Err(not_run(why)),
+    prove!({
+        image.blocks();
+        true
+    });
+    let world = match World::open(alloc, config, image) {
+        Ok(world) => world,
+        Err(refused) => return Err(not_opened(refused.why)),
     };
-    let owners = owners_of(alloc, &ran.book)?;
-    let counts = ran.book.counts();
-    let Ran {
-        report: _,
-        jobs,
-        book: _,
-    } = ran;
+    let done = match do_jobs(rt, alloc, world, jobs, pace) {
+        Ok(done) => done,
+        Err(why) => return Err(why),
+    };
+    let owners = owners_of(alloc, &done.world)?;
+    let counts = done.world.counts();
+    let Done { ends, world: _ } = done;
     Ok(Left {
-        ends: jobs,
+        ends,
         owners,
         counts,
     })
@@ -240,7 +239,8 @@ fn write_run<W: Write>(
 
 /// Runs a script of jobs: each submitter does its jobs in a thread of its own, one after the other in the order of their lines, over a
 /// world that is opened for them. When all have ended, it writes the line of each job, in the order of the script's lines, then the
-/// owners of all pages and the counts: the command `threads`. There are 1 to 16 submitters.
+/// owners of all pages and the counts: the command `threads`. There are 1 to 16 submitters. Where the pace has a limit for logs, the jobs are done in rounds: each goes on over the
+/// world that the one before left, and its log is dropped at its end. What is written is the same.
 ///
 /// # Errors
 ///
@@ -253,17 +253,19 @@ pub fn run_jobs<R: Threads + Wait + Sync, I: Read, W: Write>(
     config: Config,
     image: Image,
     submitters: u16,
+    pace: Pace,
     reader: &mut I,
     writer: &mut W,
 ) -> Result<(), RunFault>
     requires some { 1 ≤ submitters }
     requires few { submitters ≤ 16 }
+    requires at_least_one { 1 ≤ pace.depth }
+    requires at_most { pace.depth ≤ 256 }
     ensures ran { OnOk result (WritesJobs (I.remaining reader.old) submitters config image (W.contents writer.old) (W.contents writer.new) IsJobsText) }
     ensures failed { IfErr result (λ fault. EndsJobsWith (I.remaining reader.old) submitters config image (W.contents writer.old) (W.contents writer.new) fault) }
 {
     let script = load_jobs(alloc, submitters, reader)?;
     let orders = hand_out(alloc, submitters, script.into_jobs())?;
-    let blank = Blank::new(65536);
-    let left = run_book::<Brand, R>(rt, alloc, config, image, orders.lists, blank)?;
+    let left = run_world(rt, alloc, config, image, orders.lists, pace)?;
     write_run(alloc, orders.headings, &left, writer)
 }

@@ -5,7 +5,7 @@ use crate::script_playing::{USUAL, zeros};
 use crate::script_runs::{Narrow, Slow};
 use driver_threads::{JobEnd, JobRefusal};
 use io_commands::Kind;
-use job_cli::{append_job_line, run_jobs};
+use job_cli::{Pace, append_job_line, run_jobs};
 use script_cli::RunFault;
 use std::alloc::AllocGlobal;
 use std::io;
@@ -20,6 +20,12 @@ struct Run {
     room: usize,
     prints: &'static str,
 }
+
+/// One job in flight for each submitter, and one round.
+const ONE: Pace = Pace {
+    depth: 1,
+    log_limit: None,
+};
 
 /// The text of `examples/two_submitters.script`: two submitters write three blocks each, and read them.
 static TWO_SUBMITTERS: Run = Run {
@@ -126,7 +132,7 @@ fn played<R: AllocGlobal + Sync + Threads + Wait>(rt: &R, run: &Run) -> Result<S
         taken: Vec::new(alloc),
     };
     let image = zeros(alloc)?;
-    let end = run_jobs(rt, alloc, USUAL, image, 2, &mut reader, &mut writer);
+    let end = run_jobs(rt, alloc, USUAL, image, 2, ONE, &mut reader, &mut writer);
     let Ok(mut text) = String::from_utf8(writer.taken) else {
         return Err(Fail::from("text that is not ASCII"));
     };
@@ -162,7 +168,7 @@ fn a_reader_without_end(rt: HostRuntime) -> Result<(), Fail> {
     let image = zeros(rt.alloc())?;
     let mut out = Vec::new(rt.alloc());
     let mut reader = io::repeat(b'#');
-    let end = run_jobs(&rt, rt.alloc(), USUAL, image, 2, &mut reader, &mut out);
+    let end = run_jobs(&rt, rt.alloc(), USUAL, image, 2, ONE, &mut reader, &mut out);
     same(&rt, (end, out.len()), (Err(RunFault::TooLong), 0));
     Ok(())
 }

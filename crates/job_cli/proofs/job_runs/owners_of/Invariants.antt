@@ -7,8 +7,8 @@ use Rattle.page_ledger.specs.declared.owner.Owner.{Owner}
 use Rattle.job_cli.proofs.job_runs.owners_of.Given as goal
 
 abbrev pub invariant-loop-p : goal.invariant-loop-p
-invariant-loop-p g l = record {
+invariant-loop-p l = record {
   count : length l.owners.items ≡ l.p;
   room : vec_len l.owners + (l.pages - l.p) ≤ vec_capacity l.owners;
-  claim : (p : ℕ) (owner : Owner) → owner_at l.owners.items p ≡ Some owner → Contains (claims_of l.book.world.host) (p, owner);
+  claim : (p : ℕ) (owner : Owner) → owner_at l.owners.items p ≡ Some owner → Contains (claims_of l.world.state.host) (p, owner);
 }

@@ -4,7 +4,6 @@ use Rattle.job_cli.proofs.JobRuns.{each_has_ended, jobs_text_is, no_run_failed, 
 use Rattle.job_cli.specs.Headings.{headings_of}
 use Rattle.job_cli.specs.JobRuns.{AreListsOf}
 use Rattle.job_cli.specs.declared.jobs.JobLine.{JobLine}
-use Rattle.step_core.specs.Opening.{opening_of}
 use Rattle.job_cli.proofs.job_runs.run_jobs.Goals as goal
 
 pub returns-clause-ran : goal.returns-clause-ran

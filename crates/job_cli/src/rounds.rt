@@ -1,0 +1,172 @@
+//! Jobs in rounds: each opens a book over the world that the one before left, and its log is dropped.
+
+ghost use Rattle.std.specs.Prelude.{◌≡◌, ◌≤◌, ◌==◌, ◌++◌, [], not, map, length, take, vec_len, IfOk, IfErr, IfSome, IfNone};
+ghost use Rattle.std.specs.List.{list_any};
+ghost use Rattle.driver_threads.specs.Behind.{behind};
+ghost use Rattle.job_cli.specs.JobRuns.{IsWanting};
+ghost use Rattle.job_cli.specs.GoneOn.{Fit, HasGoneOn, entries_for};
+
+use crate::fault::not_run;
+use driver_threads::{Job, JobEnds, Open, Round, run_round};
+use script_cli::RunFault;
+use std::alloc::{AllocError, Global};
+use std::collections::VecDeque;
+use std::marker::Brand;
+use std::sync::Wait;
+use std::sync::ledger::Blank;
+use std::thread::Threads;
+use step_core::World;
+
+/// How jobs are done.
+#[derive(Clone, Copy, Debug, PartialEq, Eq)]
+pub struct Pace {
+    /// How many jobs each submitter may have in flight at a time, 1 to 256.
+    pub depth: u16,
+    /// How many entries the log of a round of jobs may have, as far as that is known before: the jobs are done in rounds, of each submitter
+    /// one job at least, and the log of a round is dropped at its end. `None`: all jobs are one round.
+    pub log_limit: Option<u32>,
+}
+
+/// The most pieces of a request that is not refused.
+const MOST_PIECES: usize = 1024;
+
+/// How many entries of a log a job writes at most, where no step of it is refused.
+fn entries_of(job: &Job) -> u64
+    ensures { result ≡ entries_for job.now }
+{
+    let pieces = job.request.pieces().len();
+    8 + 3 * pieces.min(MOST_PIECES) as u64
+}
+
+/// How many of a submitter's next jobs write no more entries than a share of a log has; one at least, where there is one.
+fn fitting(left: &VecDeque<Job>, share: u32) -> usize
+    ensures most { result ≤ length left.now.items }
+    ensures least { result ≡ 0 → left.now.items ≡ [] }
+    ensures fit { Fit share (take result left.now.items) }
+{
+    let mut entries = 0;
+    for place in 0..left.len() {
+        entries += entries_of(&left[place]);
+        if place > 0 && entries > u64::from(share) {
+            return place;
+        }
+    }
+    left.len()
+}
+
+/// Takes a submitter's next jobs.
+fn take_next(alloc: Global, left: &mut VecDeque<Job>, count: usize) -> Result<Vec<Job>, AllocError>
+    requires { count ≤ length left.old.items }
+    ensures next { IfOk result (λ jobs. jobs.items ++ left.new.items ≡ left.old.items) }
+    ensures count { IfOk result (λ jobs. length jobs.items ≡ count) }
+{
+    let mut jobs = Vec::with_capacity(alloc, count)?;
+    while jobs.len() < count {
+        let Some(job) = left.pop_front() else {
+            break;
+        };
+        jobs.push_reserved(job);
+    }
+    Ok(jobs)
+}
+
+/// Takes the jobs that a submitter does in the next round: all, or those that fit into its share of a log.
+fn next_jobs(
+    alloc: Global,
+    left: &mut VecDeque<Job>,
+    share: Option<u32>,
+) -> Result<Vec<Job>, AllocError>
+    ensures next { IfOk result (λ jobs. jobs.items ++ left.new.items ≡ left.old.items) }
+    ensures fit { IfOk result (λ jobs. IfSome share (λ share. Fit share jobs.items)) }
+    ensures all { IfNone share (IfOk result (λ jobs. jobs.items ≡ left.old.items)) }
+{
+    let count = match share {
+        None => left.len(),
+        Some(share) => fitting(left, share),
+    };
+    take_next(alloc, left, count)
+}
+
+/// Takes the jobs of the next round, of each submitter its own.
+fn next_round(
+    alloc: Global,
+    left: &mut Vec<VecDeque<Job>>,
+    share: Option<u32>,
+) -> Result<Vec<Vec<Job>>, AllocError>
+    ensures next { IfOk result (λ round. behind (map (λ list. list.items) round.items) (map (λ queue. queue.items) left.new.items) ≡ map (λ queue. queue.items) left.old.items) }
+    ensures count { IfOk result (λ round. vec_len round ≡ vec_len left.old) }
+    ensures left { vec_len left.new ≡ vec_len left.old }
+{
+    let count = left.len();
+    let mut round = Vec::with_capacity(alloc, count)?;
+    for place in 0..count {
+        let jobs = next_jobs(alloc, &mut left[place], share)?;
+        round.push_reserved(jobs);
+    }
+    Ok(round)
+}
+
+/// Whether a submitter has jobs left.
+fn has_jobs(queue: &VecDeque<Job>) -> bool
+    ensures { result ≡ not (length queue.now.items == 0) }
+{
+    !queue.is_empty()
+}
+
+/// Whether some submitter has jobs left.
+fn some_has_jobs(left: &[VecDeque<Job>]) -> bool
+    ensures { result ≡ list_any (λ queue. not (length queue.items == 0)) left.now }
+{
+    left.iter().any(|queue| has_jobs(queue))
+}
+
+/// What rounds of jobs left.
+#[derive(Drop)]
+pub(crate) struct Done {
+    /// How the jobs ended.
+    pub(crate) ends: JobEnds,
+    /// The world to which the last round led.
+    pub(crate) world: World,
+}
+
+/// Does the jobs of submitters over a world, in rounds.
+pub(crate) fn do_jobs<R: Threads + Wait + Sync>(
+    rt: &R,
+    alloc: Global,
+    world: World,
+    jobs: Vec<VecDeque<Job>>,
+    pace: Pace,
+) -> Result<Done, RunFault>
+    requires some { 1 ≤ vec_len jobs }
+    requires few { vec_len jobs ≤ 16 }
+    requires at_least_one { 1 ≤ pace.depth }
+    requires at_most { pace.depth ≤ 256 }
+    ensures gone_on { IfOk result (λ done. HasGoneOn world.state done.ends done.world.state) }
+    ensures ended { IfOk result (λ done. map length done.ends ≡ map (λ queue. length queue.items) jobs.items) }
+    ensures fault { IfErr result IsWanting }
+{
+    let share = match pace.log_limit {
+        None => None,
+        Some(limit) => Some(limit / jobs.len() as u32),
+    };
+    let depth = usize::from(pace.depth);
+    let mut left = jobs;
+    let mut world = world;
+    let mut ends = JobEnds::none(alloc);
+    for _ in rt.forever() {
+        let round = next_round(alloc, &mut left, share)?;
+        let blank = Blank::new(65536);
+        let round: Round = match run_round::<Brand, Global, Open, R>(
+            rt, alloc, world, round, depth, &Open, blank,
+        ) {
+            Ok(round) => round,
+            Err(why) => return Err(not_run(why)),
+        };
+        world = round.world;
+        ends.append(round.jobs)?;
+        if !some_has_jobs(&left) {
+            return Ok(Done { ends, world });
+        }
+    }
+    unreachable!()
+}
