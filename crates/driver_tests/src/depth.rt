@@ -1,27 +1,17 @@
-//! Submitters with several jobs in flight, run by threads: over a pool so small that they wait, with refused jobs between, and in a heap that
-//! refuses.
+//! Submitters with several jobs in flight, run by threads: over a pool so small that they wait, and with refused jobs between.
 
-ghost use Rattle.std.specs.Prelude.{◌≡◌, ◌≤◌, vec_len};
-ghost use Rattle.step_core.specs.Opening.{opening_of};
-
-use crate::heap::{Heap, MANY};
-use crate::looks::{counts, see, see_at};
+use crate::looks::{counts, see};
 use crate::part::USUAL;
 use crate::runs::{Outcome, is_done, job, play_at};
-use block_image::Image;
-use driver_book::Driver;
-use driver_threads::{Job, JobEnd, JobEndIn, JobIn, JobRefusal, Open, Ran, RunFault, run_threads};
+use driver_threads::{Job, JobEnd, JobRefusal, Open};
 use entry_codec::Status;
-use io_commands::{Kind, Piece, Pieces, Request};
-use std::alloc::{AllocError, Allocator, Global};
-use std::marker::Brand;
+use io_commands::Kind;
+use std::alloc::{AllocError, Global};
 use std::process::Abort;
 use std::sync::Wait;
-use std::sync::ledger::Blank;
 use std::test::Fail;
 use std::thread::Threads;
-use step_core::{Bytes, Config};
-use test_support::{Refusal, Refusing};
+use step_core::Config;
 
 /// A job on a queue, of so many blocks from a first one on, with bytes that are all alike, and how it ends where the image has zeros.
 struct Asked {
@@ -255,97 +245,5 @@ const SMALL: Config = Config {
 fn submitters_wait_for_room_with_nothing_in_flight(rt: HostRuntime) -> Result<(), Fail> {
     run_mixed(&rt, rt.alloc(), SMALL, 8, 20, 4)?;
     run_mixed(&rt, rt.alloc(), SMALL, 16, 10, 16)?;
-    Ok(())
-}
-
-/// Three Reads of one block each, in a heap.
-fn three_reads<'a>(heap: &'a Heap) -> Result<Vec<JobIn<&'a Heap>, &'a Heap>, AllocError> {
-    let mut jobs = Vec::new(heap);
-    for slba in 0..3u64 {
-        let mut pieces = Pieces::new(heap);
-        pieces.push(Piece::Data {
-            offset: 0,
-            len: 512,
-        })?;
-        jobs.push(Job {
-            q: 1,
-            request: Request {
-                kind: Kind::Read,
-                slba,
-                blocks: 1,
-                pieces,
-            },
-            bytes: Bytes::from_vec(Vec::new(heap)),
-        })?;
-    }
-    Ok(jobs)
-}
-
-/// Runs the jobs of two submitters, each with two in flight at most, and answers whether all ended well.
-fn run_deep<L: Driver + Send + Sync, A: Allocator + Copy + Send + Sync, R: Threads + Wait + Sync>(
-    rt: &R,
-    alloc: A,
-    image: Image<A>,
-    jobs: Vec<Vec<JobIn<A>, A>, A>,
-    blank: Blank,
-) -> Result<bool, RunFault>
-    requires name { blank.name ≡ L.name }
-    requires parts { blank.parts ≡ L.parts }
-    requires number { blank.parts ≡ 65536 }
-    requires opening { L.opening ≡ opening_of USUAL image }
-    requires some { 1 ≤ vec_len jobs }
-    requires few { vec_len jobs ≤ 16 }
-{
-    let ran: Ran<L, A> = run_threads(rt, alloc, USUAL, image, jobs, 2, &Open, blank)?;
-    Ok(ran.jobs.as_slice().iter().all(|list| are_read(list)))
-}
-
-/// Whether these are the ends of three Reads of one block of zeros.
-fn are_read<A: Allocator>(ends: &[JobEndIn<A>]) -> bool {
-    ends.len() == 3
-        && ends.iter().all(|end| match end {
-            JobEnd::Done { status, bytes } => {
-                *status == Status::SUCCESS && bytes.as_slice() == [0; 512].as_slice()
-            }
-            JobEnd::Refused(_) => false,
-        })
-}
-
-/// The jobs of two submitters in a heap, of which one growth is refused then, and whether all ended well.
-fn run_in<'a, R: Abort + Threads + Wait + Sync>(
-    rt: &R,
-    heap: &'a Heap,
-    growth: u64,
-) -> Result<Result<bool, RunFault>, Fail> {
-    let mut lists = Vec::new(heap);
-    lists.push(three_reads(heap)?)?;
-    lists.push(three_reads(heap)?)?;
-    assert!(rt; !lists.is_empty() && lists.len() <= 16);
-    heap.refuse(Refusal::Nth(growth));
-    let Ok(image) = Image::zeroed(heap, 64) else {
-        return Ok(Err(RunFault::Memory));
-    };
-    Ok(run_deep::<Brand, &'a Heap, R>(rt, heap, image, lists, Blank::new(65536)))
-}
-
-/// Where a growth is refused the run ends well without it, or tells want of memory. The heap is empty then.
-#[test]
-fn each_growth_is_refused_with_two_in_flight(rt: HostRuntime) -> Result<(), Fail> {
-    let mut wanting: u64 = 0;
-    for growth in 1..MANY {
-        let heap = Refusing::new(rt.alloc());
-        let ran = run_in(&rt, &heap, growth)?;
-        let was_refused = heap.tally().refused > 0;
-        if was_refused && ran == Err(RunFault::Memory) {
-            wanting = wanting.saturating_add(1);
-        } else {
-            see_at(&rt, growth, &ran, &Ok(true));
-        }
-        see_at(&rt, growth, &heap.tally().blocks, &0);
-        if !was_refused {
-            break;
-        }
-    }
-    assert!(rt; wanting > 20);
     Ok(())
 }

@@ -15,8 +15,6 @@ mod depth;
 #[cfg(test)]
 mod fixed_heap;
 #[cfg(test)]
-mod flight;
-#[cfg(test)]
 mod heap;
 #[cfg(test)]
 mod jobs;
