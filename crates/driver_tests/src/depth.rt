@@ -1,5 +1,7 @@
 //! Submitters with several jobs in flight, run by threads: over a pool so small that they wait, and with refused jobs between.
 
+ghost use Rattle.std.specs.Prelude.{◌≤◌};
+
 use crate::looks::{counts, see};
 use crate::part::USUAL;
 use crate::runs::{Outcome, is_done, job, play_at};
