@@ -7,9 +7,12 @@ use Rattle.std.specs.Str.Parse.{digits_value, without_leading_plus}
 use Rattle.clap.specs.ValueTests.{is_numeral}
 use Rattle.clap.specs.Words.{Kinds, Row, Text, all_of, fault_of, first_of, one_of, subcommand_of}
 use Rattle.command_line.specs.Commands.{nvmesgl}
+use Rattle.command_line.specs.Patterns.{pattern_named}
 use Rattle.command_line.specs.declared.arguments.CommandLine.{CommandLine}
 use Rattle.command_line.specs.declared.arguments.CommandLine.TheVariants as line
 use Rattle.command_line.specs.declared.arguments.Options.{Options}
+use Rattle.command_line.specs.declared.load.Load.{Load}
+use Rattle.command_line.specs.declared.load.Pattern.{Pattern}
 use Rattle.command_line.specs.declared.arguments.Testing.{Testing}
 use Rattle.host_core.specs.declared.config.Config.{Config}
 
@@ -85,12 +88,75 @@ submitters_in rows = number_under (codes "submitters") 2 rows
 abbrev pub has_jobs : List Row → Bool
 has_jobs rows = has_flag (codes "jobs") rows
 
+-- What is loaded
+
+-- the number that is found under a name, if there is one
+abbrev pub amount_under : Text → List Row → Option ℕ
+amount_under name rows = option_and_then number (one_of name rows)
+
+-- what a load is made of, beside its world
+pub record Loaded : Type 0 where
+  pub pattern : Pattern
+  pub command_blocks : ℕ
+  pub submitters : ℕ
+  pub depth : ℕ
+  pub seed : ℕ
+  pub count : Option ℕ
+  pub runtime : Option ℕ
+  pub verify : Bool
+  pub quiet : Bool
+  pub stats : Option Text
+
+-- commands in all: 10,000 where there is neither a number nor a time
+abbrev pub count_of : Option ℕ → Option ℕ → Option ℕ
+count_of None None = Some 10000
+count_of None (Some seconds) = None
+count_of (Some count) runtime = Some count
+
+abbrev pub count_in : List Row → Option ℕ
+count_in rows = count_of (amount_under (codes "count") rows) (amount_under (codes "runtime") rows)
+
+-- the pattern that is named
+abbrev pub pattern_in : List Row → Option Pattern
+pattern_in rows = option_and_then pattern_named (first_of (codes "rw") rows)
+
+abbrev pub is_within : ℕ → ℕ → ℕ → Bool
+is_within least most n = nat_le least n && nat_le n most
+
+-- blocks, submitters and depth lie in their ranges
+abbrev pub are_load_numbers : ℕ → ℕ → ℕ → Bool
+are_load_numbers blocks submitters depth = is_within 1 256 blocks && (is_within 1 16 submitters && is_within 1 256 depth)
+
+abbrev pub blocks_in : List Row → ℕ
+blocks_in rows = number_under (codes "bs") 1 rows
+
+abbrev pub numjobs_in : List Row → ℕ
+numjobs_in rows = number_under (codes "numjobs") 1 rows
+
+abbrev pub depth_in : List Row → ℕ
+depth_in rows = number_under (codes "iodepth") 1 rows
+
+abbrev pub loaded_in : List Row → Pattern → Loaded
+loaded_in rows pattern = record {
+  pattern = pattern;
+  command_blocks = blocks_in rows;
+  submitters = numjobs_in rows;
+  depth = depth_in rows;
+  seed = number_under (codes "seed") 1 rows;
+  count = count_in rows;
+  runtime = amount_under (codes "runtime") rows;
+  verify = has_flag (codes "verify") rows;
+  quiet = has_flag (codes "quiet") rows;
+  stats = first_of (codes "stats") rows;
+}
+
 -- What is asked for
 
 pub data Asked : Type 0 where
   steps : Given → Asked
   traced : Given → Asked
   threads : Given → ℕ → Asked
+  load : Given → Loaded → Asked
   check : Option Text → Asked
   check_jobs : Option Text → ℕ → Asked
   test : Tested → Asked
@@ -125,11 +191,18 @@ abbrev pub check_by : List Row → Option Asked
 check_by rows =
     if has_jobs rows then if_submitters (submitters_in rows) (λ n. check_jobs (script_in rows) n) else Some (check (script_in rows))
 
+-- what `load` with these rows asks for
+abbrev pub load_by : List Row → Option Asked
+load_by rows =
+    if are_load_numbers (blocks_in rows) (numjobs_in rows) (depth_in rows) then option_map (λ pattern. load (given_in rows) (loaded_in rows pattern)) (pattern_in rows)
+    else None
+
 -- what a named command with these rows asks for
 abbrev pub asked_of_name : Text → List Row → Option Asked
 asked_of_name name rows =
     if bytes_eq name (codes "steps") then Some (steps_by rows)
     else if bytes_eq name (codes "threads") then if_submitters (submitters_in rows) (λ n. threads (given_in rows) n)
+    else if bytes_eq name (codes "load") then load_by rows
     else if bytes_eq name (codes "check") then check_by rows
     else if bytes_eq name (codes "test") then Some (test (tested_in rows))
     else if bytes_eq name (codes "shell") then Some (shell (given_in rows) (has_trace rows))
@@ -162,10 +235,25 @@ given_of options = record { config = options.config; blocks = options.blocks; im
 abbrev pub tested_of : Testing → Tested
 tested_of testing = record { sizes = testing.config; zeros = testing.blocks; updates = testing.updates; files = map (λ f. f.now) testing.files.items }
 
+abbrev pub loaded_of : Load → Loaded
+loaded_of load = record {
+  pattern = load.pattern;
+  command_blocks = load.command_blocks;
+  submitters = load.submitters;
+  depth = load.depth;
+  seed = load.seed;
+  count = load.count;
+  runtime = load.runtime;
+  verify = load.verify;
+  quiet = load.quiet;
+  stats = path_of load.stats;
+}
+
 abbrev pub asked_of : CommandLine → Asked
 asked_of (line.Steps options) = steps (given_of options)
 asked_of (line.Traced options) = traced (given_of options)
 asked_of (line.Threads options submitters) = threads (given_of options) submitters
+asked_of (line.Load options what) = load (given_of options) (loaded_of what)
 asked_of (line.Check script) = check (path_of script)
 asked_of (line.CheckJobs script submitters) = check_jobs (path_of script) submitters
 asked_of (line.Test testing) = test (tested_of testing)
@@ -175,16 +263,26 @@ asked_of (line.Explain script objects) = explain (path_of script) objects
 asked_of (line.Show words) = show (map (λ w. w.now) words.items)
 asked_of line.Grammar = grammar
 
--- a command line has as many submitters as there may be
-abbrev pub FitSubmitters : CommandLine → Type 0
-FitSubmitters (line.Steps options) = ⊤
-FitSubmitters (line.Traced options) = ⊤
-FitSubmitters (line.Threads options submitters) = (1 ≤ submitters) × (submitters ≤ 16)
-FitSubmitters (line.Check script) = ⊤
-FitSubmitters (line.CheckJobs script submitters) = (1 ≤ submitters) × (submitters ≤ 16)
-FitSubmitters (line.Test testing) = ⊤
-FitSubmitters (line.Shell options traces) = ⊤
-FitSubmitters (line.Draw options) = ⊤
-FitSubmitters (line.Explain script objects) = ⊤
-FitSubmitters (line.Show words) = ⊤
-FitSubmitters line.Grammar = ⊤
+-- what is loaded lies in its ranges
+pub record FitsLoad (what : Load) : Type 0 where
+  pub some_blocks : 1 ≤ what.command_blocks
+  pub few_blocks : what.command_blocks ≤ 256
+  pub some_submitters : 1 ≤ what.submitters
+  pub few_submitters : what.submitters ≤ 16
+  pub some_depth : 1 ≤ what.depth
+  pub little_depth : what.depth ≤ 256
+
+-- a command line has as many submitters as there may be, and a load that lies in its ranges
+abbrev pub FitsLine : CommandLine → Type 0
+FitsLine (line.Steps options) = ⊤
+FitsLine (line.Traced options) = ⊤
+FitsLine (line.Threads options submitters) = (1 ≤ submitters) × (submitters ≤ 16)
+FitsLine (line.Load options what) = FitsLoad what
+FitsLine (line.Check script) = ⊤
+FitsLine (line.CheckJobs script submitters) = (1 ≤ submitters) × (submitters ≤ 16)
+FitsLine (line.Test testing) = ⊤
+FitsLine (line.Shell options traces) = ⊤
+FitsLine (line.Draw options) = ⊤
+FitsLine (line.Explain script objects) = ⊤
+FitsLine (line.Show words) = ⊤
+FitsLine line.Grammar = ⊤

@@ -2,12 +2,14 @@
 
 ghost use Rattle.std.specs.Prelude.{◌≡◌, ◌≤◌, ◌⊎◌, Some, None, IfOk, IfErr, IfSome, IsNone, map, codes, false, true, length};
 ghost use Rattle.clap.specs.Words.{found_of, kind_of, rows_of};
-ghost use Rattle.command_line.specs.Asked.{asked, asked_of, asked_of_name, check_by, given_in, given_of, FitSubmitters, all_under, are_submitters, has_flag, has_jobs, has_trace, if_submitters, path_of, script_in, steps_by, submitters_in, tested_in, tested_of, threads};
+ghost use Rattle.command_line.specs.Asked.{asked, asked_of, asked_of_name, check_by, given_in, given_of, FitsLine, all_under, are_submitters, has_flag, has_jobs, has_trace, if_submitters, path_of, script_in, steps_by, submitters_in, tested_in, tested_of, threads};
 ghost use Rattle.clap.specs.declared.error.kind.ErrorKind.TheVariants.{OutOfMemory};
 
 use crate::commands::{
-    BLOCKS, ENTRIES, PAGES, QUEUES, SEGMENT, SUBMITTERS, check_command, command, threads_command,
+    BLOCKS, ENTRIES, Number, PAGES, QUEUES, SEGMENT, SUBMITTERS, check_command, command,
+    threads_command,
 };
+use crate::load::{Load, load_line};
 use clap::error::ErrorKind;
 use clap::{ArgMatches, Command, Error};
 use host_core::Config;
@@ -22,7 +24,7 @@ const NOT_TEXT: &str = "invalid UTF-8 was detected in one or more arguments";
 /// What is said where no command is named.
 const NO_COMMAND: &str = "a command is wanted";
 
-/// The options that `steps`, `threads`, `shell` and `draw` have.
+/// The options that `steps`, `threads`, `load`, `shell` and `draw` have.
 #[derive(Clone, Copy, Debug, PartialEq, Eq)]
 pub struct Options<'a> {
     /// What the world is opened with.
@@ -59,6 +61,8 @@ pub enum CommandLine<'a> {
     Traced(Options<'a>),
     /// To run the jobs of so many submitters, 1 to 16, in threads.
     Threads(Options<'a>, u16),
+    /// To make jobs, and to run them in threads.
+    Load(Options<'a>, Load<'a>),
     /// To tell the faults of a script of steps, by its path as in [`Options`].
     Check(Option<&'a str>),
     /// To tell the faults of a script of jobs, by its path, for so many submitters, 1 to 16.
@@ -79,7 +83,7 @@ pub enum CommandLine<'a> {
 
 impl<'a> Options<'a> {
     /// The options that were given to a command.
-    fn of(given: &ArgMatches<'a>) -> Options<'a>
+    pub(crate) fn of(given: &ArgMatches<'a>) -> Options<'a>
         ensures { given_of result ≡ given_in (rows_of (found_of given.now)) }
     {
         Options {
@@ -105,7 +109,7 @@ fn script<'a>(given: &ArgMatches<'a>) -> Option<&'a str>
 }
 
 /// Whether an option without a value was given.
-fn flag(given: &ArgMatches<'_>, name: &str) -> bool
+pub(crate) fn flag(given: &ArgMatches<'_>, name: &str) -> bool
     ensures { result ≡ has_flag name.now (rows_of (found_of given.now)) }
 {
     match given.get_str(name) {
@@ -131,7 +135,7 @@ fn words_under<'a>(
 /// What `steps` with these words asks for.
 fn steps_line<'a>(given: &ArgMatches<'a>) -> CommandLine<'a>
     ensures asked { asked_of result ≡ steps_by (rows_of (found_of given.now)) }
-    ensures submitters { FitSubmitters result }
+    ensures fits { FitsLine result }
 {
     let options = Options::of(given);
     if flag(given, "trace") {
@@ -144,7 +148,7 @@ fn steps_line<'a>(given: &ArgMatches<'a>) -> CommandLine<'a>
 /// What `test` with these words asks for.
 fn test_line<'a>(alloc: Global, given: &ArgMatches<'a>) -> Result<CommandLine<'a>, Error>
     ensures asked { IfOk result (λ line. asked_of_name (codes "test") (rows_of (found_of given.now)) ≡ Some (asked_of line)) }
-    ensures submitters { IfOk result FitSubmitters }
+    ensures fits { IfOk result FitsLine }
     ensures refused { IfErr result (λ e. kind_of e ≡ OutOfMemory) }
 {
     let options = Options::of(given);
@@ -159,7 +163,7 @@ fn test_line<'a>(alloc: Global, given: &ArgMatches<'a>) -> Result<CommandLine<'a
 /// What `show` with these words asks for.
 fn show_line<'a>(alloc: Global, given: &ArgMatches<'a>) -> Result<CommandLine<'a>, Error>
     ensures asked { IfOk result (λ line. asked_of_name (codes "show") (rows_of (found_of given.now)) ≡ Some (asked_of line)) }
-    ensures submitters { IfOk result FitSubmitters }
+    ensures fits { IfOk result FitsLine }
     ensures refused { IfErr result (λ e. kind_of e ≡ OutOfMemory) }
 {
     Ok(CommandLine::Show(words_under(alloc, given, "words")?))
@@ -178,15 +182,17 @@ fn submitters(given: &ArgMatches<'_>) -> Option<u16>
     }
 }
 
-/// Says of a command that its submitters are too few or too many.
-fn bad_submitters(
+/// Says of a command that the number of an option lies outside of its range.
+pub(crate) fn out_of_range(
     alloc: Global,
-    given: &ArgMatches<'_>,
+    number: &Number,
+    value: u32,
     command: Command<'_>,
 ) -> Result<Error, AllocError> {
-    let n = SUBMITTERS.value(given);
+    let name = number.name();
+    let (least, most) = number.range;
     let text = format!(in alloc;
-        "invalid value '{n}' for '--submitters <N>': {n} is not in 1..=16"
+        "invalid value '{value}' for '--{name} <N>': {value} is not in {least}..={most}"
     )?;
     let mut command = command;
     command.error(ErrorKind::ValueValidation, text.as_str())
@@ -195,14 +201,19 @@ fn bad_submitters(
 /// What `threads` with these words asks for.
 fn threads_line<'a>(alloc: Global, given: &ArgMatches<'a>) -> Result<CommandLine<'a>, Error>
     ensures asked { IfOk result (λ line. asked_of_name (codes "threads") (rows_of (found_of given.now)) ≡ Some (asked_of line)) }
-    ensures submitters { IfOk result FitSubmitters }
+    ensures fits { IfOk result FitsLine }
     ensures refused { IfErr result (λ e. (kind_of e ≡ OutOfMemory) ⊎ (asked_of_name (codes "threads") (rows_of (found_of given.now)) ≡ None)) }
 {
     match submitters(given) {
         Some(n) => Ok(CommandLine::Threads(Options::of(given), n)),
         None => {
             let command = threads_command(alloc)?.bin_name("nvmesgl threads")?;
-            Err(bad_submitters(alloc, given, command)?)
+            Err(out_of_range(
+                alloc,
+                &SUBMITTERS,
+                SUBMITTERS.value(given),
+                command,
+            )?)
         }
     }
 }
@@ -210,7 +221,7 @@ fn threads_line<'a>(alloc: Global, given: &ArgMatches<'a>) -> Result<CommandLine
 /// What `check` with these words asks for.
 fn check_line<'a>(alloc: Global, given: &ArgMatches<'a>) -> Result<CommandLine<'a>, Error>
     ensures asked { IfOk result (λ line. check_by (rows_of (found_of given.now)) ≡ Some (asked_of line)) }
-    ensures submitters { IfOk result FitSubmitters }
+    ensures fits { IfOk result FitsLine }
     ensures refused { IfErr result (λ e. (kind_of e ≡ OutOfMemory) ⊎ (check_by (rows_of (found_of given.now)) ≡ None)) }
 {
     let path = script(given);
@@ -221,7 +232,12 @@ fn check_line<'a>(alloc: Global, given: &ArgMatches<'a>) -> Result<CommandLine<'
         Some(n) => Ok(CommandLine::CheckJobs(path, n)),
         None => {
             let command = check_command(alloc)?.bin_name("nvmesgl check")?;
-            Err(bad_submitters(alloc, given, command)?)
+            Err(out_of_range(
+                alloc,
+                &SUBMITTERS,
+                SUBMITTERS.value(given),
+                command,
+            )?)
         }
     }
 }
@@ -229,7 +245,7 @@ fn check_line<'a>(alloc: Global, given: &ArgMatches<'a>) -> Result<CommandLine<'
 /// What a command with these words asks for.
 fn line_of<'a>(alloc: Global, name: &str, given: &ArgMatches<'a>) -> Result<CommandLine<'a>, Error>
     ensures asked { IfOk result (λ line. asked_of_name name.now (rows_of (found_of given.now)) ≡ Some (asked_of line)) }
-    ensures submitters { IfOk result FitSubmitters }
+    ensures fits { IfOk result FitsLine }
     ensures refused { IfErr result (λ e. (kind_of e ≡ OutOfMemory) ⊎ (asked_of_name name.now (rows_of (found_of given.now)) ≡ None)) }
 {
     if name == "steps" {
@@ -237,6 +253,9 @@ fn line_of<'a>(alloc: Global, name: &str, given: &ArgMatches<'a>) -> Result<Comm
     }
     if name == "threads" {
         return threads_line(alloc, given);
+    }
+    if name == "load" {
+        return load_line(alloc, given);
     }
     if name == "check" {
         return check_line(alloc, given);
@@ -268,10 +287,10 @@ impl<'a> CommandLine<'a> {
     /// # Errors
     ///
     /// `OutOfMemory` where memory is refused, and else only where the words ask for no command: where help or the version is
-    /// asked for (`DisplayHelp`, `DisplayVersion`), or by the first fault that is found, the number of submitters last.
+    /// asked for (`DisplayHelp`, `DisplayVersion`), or by the first fault that is found; numbers outside of their ranges and names of patterns last.
     pub fn parse<S: AsStr>(alloc: Global, words: &'a [S]) -> Result<CommandLine<'a>, Error>
         ensures asked { IfOk result (λ line. asked (map S.text words.now) ≡ Some (asked_of line)) }
-        ensures submitters { IfOk result FitSubmitters }
+        ensures fits { IfOk result FitsLine }
         ensures refused { IfErr result (λ e. (kind_of e ≡ OutOfMemory) ⊎ (asked (map S.text words.now) ≡ None)) }
     {
         let matches = command(alloc)?.try_get_matches_from(words)?;

@@ -11,6 +11,7 @@ use crate::help::{
     SHELL_ABOUT, SHELL_AFTER, SHOW_ABOUT, SHOW_AFTER, STEPS_ABOUT, STEPS_AFTER, TEST_ABOUT,
     TEST_AFTER, THREADS_ABOUT, THREADS_AFTER,
 };
+use crate::load_options::load_command;
 use clap::{Arg, ArgAction, ArgMatches, Command, value_parser};
 use std::alloc::{AllocError, Global};
 
@@ -20,12 +21,12 @@ pub const VERSION: &str = "0.1.0";
 /// An option that is a number.
 #[derive(Clone, Copy)]
 pub(crate) struct Number {
-    name: &'static str,
-    usual: u32,
-    shown: &'static str,
+    pub(crate) name: &'static str,
+    pub(crate) usual: u32,
+    pub(crate) shown: &'static str,
     /// The least and the most that it may be.
     pub(crate) range: (u32, u32),
-    help: &'static str,
+    pub(crate) help: &'static str,
 }
 
 pub(crate) const PAGES: Number = Number {
@@ -78,7 +79,7 @@ pub(crate) const SUBMITTERS: Number = Number {
 
 impl Number {
     /// The option, as the command line has it.
-    fn arg<'a>(&self, alloc: Global) -> Arg<'a>
+    pub(crate) fn arg<'a>(&self, alloc: Global) -> Arg<'a>
         ensures rule { rule_of result ≡ number_rule self.now.name.now self.now.shown.now }
         ensures local { result.global ≡ false }
     {
@@ -104,7 +105,7 @@ impl Number {
 }
 
 /// The option that names the file of an image.
-fn image_arg<'a>(alloc: Global) -> Arg<'a>
+pub(crate) fn image_arg<'a>(alloc: Global) -> Arg<'a>
     ensures rule { rule_of result ≡ option_rule (codes "image") }
     ensures local { result.global ≡ false }
 {
@@ -204,7 +205,7 @@ fn update_arg<'a>(alloc: Global) -> Arg<'a>
 }
 
 /// A command with the numbers that a world is opened with.
-fn with_sizes<'a>(alloc: Global, command: Command<'a>) -> Result<Command<'a>, AllocError>
+pub(crate) fn with_sizes<'a>(alloc: Global, command: Command<'a>) -> Result<Command<'a>, AllocError>
     ensures shape { IfOk result (λ whole. app_of whole ≡ with_sizes (app_of command.entry)) }
     ensures local { IfOk result (λ whole. (out-Command whole).has_globals ≡ (out-Command command.entry).has_globals) }
 {
@@ -362,6 +363,7 @@ pub(crate) fn command<'a>(alloc: Global) -> Result<Command<'a>, AllocError>
 {
     let steps = steps_command(alloc)?;
     let threads = threads_command(alloc)?;
+    let load = load_command(alloc)?;
     let check = check_command(alloc)?;
     let test = test_command(alloc)?;
     let shell = shell_command(alloc)?;
@@ -371,6 +373,7 @@ pub(crate) fn command<'a>(alloc: Global) -> Result<Command<'a>, AllocError>
     program(alloc)?
         .subcommand(steps)?
         .subcommand(threads)?
+        .subcommand(load)?
         .subcommand(check)?
         .subcommand(test)?
         .subcommand(shell)?

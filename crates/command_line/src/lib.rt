@@ -8,9 +8,12 @@
 mod arguments;
 mod commands;
 mod help;
+mod load;
+mod load_options;
 mod ranges;
 pub mod worked;
 
 pub use arguments::{CommandLine, Options, Testing, words};
 pub use commands::VERSION;
+pub use load::{Load, Pattern};
 pub use ranges::Ranged;

@@ -1,0 +1,190 @@
+//! What `load` is asked for.
+
+ghost use Rattle.std.specs.Prelude.{◌≡◌, ◌⊎◌, Some, None, IfOk, IfErr, IsNone, IsSome, true, false};
+ghost use Rattle.clap.specs.Words.{found_of, kind_of, rows_of};
+ghost use Rattle.clap.specs.declared.error.kind.ErrorKind.TheVariants.{OutOfMemory};
+ghost use Rattle.command_line.specs.Asked.{amount_under, are_load_numbers, asked_of, count_in, FitsLine, load_by, pattern_in};
+ghost use Rattle.command_line.specs.Patterns.{pattern_name, pattern_named};
+
+use crate::arguments::{CommandLine, Options, flag, out_of_range};
+use crate::commands::Number;
+use crate::load_options::{
+    COMMAND_BLOCKS, DEPTH, SEED, SUBMITTERS, USUAL_COUNT, load_command,
+};
+use clap::error::ErrorKind;
+use clap::{ArgMatches, Error};
+use std::alloc::{AllocError, Global};
+use std::fmt;
+
+/// Which commands a load has, and which slots they go to.
+#[derive(Clone, Copy, Debug, PartialEq, Eq)]
+pub enum Pattern {
+    /// Reads of the slots in turn.
+    Read,
+    /// Writes of the slots in turn.
+    Write,
+    /// Reads of slots at random.
+    RandRead,
+    /// Writes of slots at random.
+    RandWrite,
+    /// Reads and writes of slots at random, each half of the time.
+    RandRw,
+}
+
+impl Pattern {
+    /// The pattern of this name.
+    pub fn named(text: &str) -> Option<Pattern>
+        ensures { result ≡ pattern_named text.now }
+    {
+        if text == "read" {
+            Some(Pattern::Read)
+        } else if text == "write" {
+            Some(Pattern::Write)
+        } else if text == "randread" {
+            Some(Pattern::RandRead)
+        } else if text == "randwrite" {
+            Some(Pattern::RandWrite)
+        } else if text == "randrw" {
+            Some(Pattern::RandRw)
+        } else {
+            None
+        }
+    }
+
+    /// Its name on the command line.
+    pub fn name(self) -> &'static str
+        ensures { result.now ≡ pattern_name self }
+    {
+        match self {
+            Pattern::Read => "read",
+            Pattern::Write => "write",
+            Pattern::RandRead => "randread",
+            Pattern::RandWrite => "randwrite",
+            Pattern::RandRw => "randrw",
+        }
+    }
+}
+
+impl fmt::Display for Pattern {
+    ghost use Rattle.std.specs.Prelude.{Some};
+    ghost use Rattle.command_line.specs.Patterns.{pattern_name};
+
+    ghost output = { λ pattern. Some (pattern_name pattern) };
+
+    fn fmt<W: fmt::Write>(&self, f: &mut fmt::Formatter<W>) -> fmt::Result {
+        f.write_str(self.name())
+    }
+}
+
+/// What `load` is asked for, beside its world.
+#[derive(Clone, Copy, Debug, PartialEq, Eq)]
+pub struct Load<'a> {
+    /// Which commands there are.
+    pub pattern: Pattern,
+    /// The blocks of each command, 1 to 256.
+    pub command_blocks: u32,
+    /// Submitters, 1 to 16.
+    pub submitters: u16,
+    /// How many commands each submitter keeps outstanding, 1 to 256.
+    pub depth: u16,
+    /// What the order and the bytes are made of.
+    pub seed: u32,
+    /// How many commands there are in all; no number where the time alone bounds them.
+    pub count: Option<u32>,
+    /// The seconds after which no more commands are begun.
+    pub runtime: Option<u32>,
+    /// Whether what is read is compared with what was written.
+    pub verify: bool,
+    /// Whether no times are told.
+    pub quiet: bool,
+    /// The path of the file of the statistics.
+    pub stats: Option<&'a str>,
+}
+
+/// The first number that lies outside of its range, and its option.
+fn first_unfit(blocks: u32, submitters: u32, depth: u32) -> Option<(Number, u32)>
+    ensures fit { IsNone result → are_load_numbers blocks submitters depth ≡ true }
+    ensures unfit { IsSome result → are_load_numbers blocks submitters depth ≡ false }
+{
+    if blocks < 1 || blocks > 256 {
+        return Some((COMMAND_BLOCKS, blocks));
+    }
+    if submitters < 1 || submitters > 16 {
+        return Some((SUBMITTERS, submitters));
+    }
+    if depth < 1 || depth > 256 {
+        return Some((DEPTH, depth));
+    }
+    None
+}
+
+/// A number that may be left out.
+fn amount(given: &ArgMatches<'_>, name: &str) -> Option<u32>
+    ensures { result ≡ amount_under name.now (rows_of (found_of given.now)) }
+{
+    given.get_one::<u32>(name)
+}
+
+/// How many commands there are.
+fn count(given: &ArgMatches<'_>) -> Option<u32>
+    ensures { result ≡ count_in (rows_of (found_of given.now)) }
+{
+    match (amount(given, "count"), amount(given, "runtime")) {
+        (None, None) => Some(USUAL_COUNT),
+        (count, _) => count,
+    }
+}
+
+/// The pattern that was named.
+fn pattern_of(given: &ArgMatches<'_>) -> Option<Pattern>
+    ensures { result ≡ pattern_in (rows_of (found_of given.now)) }
+{
+    match given.get_str("rw") {
+        Some(text) => Pattern::named(text),
+        None => None,
+    }
+}
+
+/// Says that no pattern has the name that was given.
+fn no_pattern(alloc: Global, given: &ArgMatches<'_>) -> Result<Error, AllocError> {
+    let name = given.get_str("rw").unwrap_or("");
+    let text = format!(in alloc;
+        "invalid value '{name}' for '--rw <PATTERN>'\n  [possible values: read, write, randread, randwrite, randrw]"
+    )?;
+    let mut command = load_command(alloc)?.bin_name("nvmesgl load")?;
+    command.error(ErrorKind::InvalidValue, text.as_str())
+}
+
+/// What `load` with these words asks for.
+pub(crate) fn load_line<'a>(
+    alloc: Global,
+    given: &ArgMatches<'a>,
+) -> Result<CommandLine<'a>, Error>
+    ensures asked { IfOk result (λ line. load_by (rows_of (found_of given.now)) ≡ Some (asked_of line)) }
+    ensures fits { IfOk result FitsLine }
+    ensures refused { IfErr result (λ e. (kind_of e ≡ OutOfMemory) ⊎ (load_by (rows_of (found_of given.now)) ≡ None)) }
+{
+    let blocks = COMMAND_BLOCKS.value(given);
+    let submitters = SUBMITTERS.value(given);
+    let depth = DEPTH.value(given);
+    if let Some((number, value)) = first_unfit(blocks, submitters, depth) {
+        let command = load_command(alloc)?.bin_name("nvmesgl load")?;
+        return Err(out_of_range(alloc, &number, value, command)?);
+    }
+    let Some(pattern) = pattern_of(given) else {
+        return Err(no_pattern(alloc, given)?);
+    };
+    let load = Load {
+        pattern,
+        command_blocks: blocks,
+        submitters: submitters as u16,
+        depth: depth as u16,
+        seed: SEED.value(given),
+        count: count(given),
+        runtime: amount(given, "runtime"),
+        verify: flag(given, "verify"),
+        quiet: flag(given, "quiet"),
+        stats: given.get_str("stats"),
+    };
+    Ok(CommandLine::Load(Options::of(given), load))
+}

@@ -1,0 +1,179 @@
+//! What goes on from round to round.
+
+ghost use Rattle.std.specs.Prelude.{◌≡◌, ◌≤◌, ◌<◌, ◌+◌, ◌*◌, ◌/◌, ◌%◌, IfOk, IfSome, length, map, sum_by, vec_len};
+ghost use Rattle.load.specs.Course.{IsRoundOf, jobs_for, share_of};
+
+use crate::bad::Bad;
+use crate::content::Content;
+use crate::layout::Layout;
+use crate::look::{Looked, look_at, note_writes};
+use crate::measured::Measured;
+use crate::picks::Picks;
+use crate::plan::{Planned, jobs_of, plan_one, plan_some};
+use crate::tally::Tally;
+use command_line::Load;
+use driver_threads::{Job, JobEnds};
+use io_commands::Kind;
+use std::alloc::{AllocError, Global};
+
+/// The most commands of a round: so many leave a log of some thousand entries.
+pub(crate) const MAX_ROUND: u64 = 800;
+
+/// What goes on from round to round, beside the world.
+#[derive(Drop)]
+pub(crate) struct Course {
+    layout: Layout,
+    seed: u32,
+    /// How many I/O queues there are.
+    queues: u16,
+    picks: Vec<Picks>,
+    /// How often each slot was written.
+    generations: Vec<u32>,
+    /// What the slots hold, where that is compared.
+    content: Option<Content>,
+    tally: Tally,
+    bad: Option<Bad>,
+    measured: Measured,
+    ghost some_queues: { 1 ≤ queues },
+    ghost all_picks: { vec_len picks ≡ layout.submitters },
+    ghost all_slots: { vec_len generations ≡ layout.submitters * layout.slots },
+    ghost same_layout: { IfSome content (λ c. c.layout ≡ layout) },
+}
+
+/// How many of so many commands a submitter does.
+fn share_of(commands: u64, submitters: u16, submitter: u16) -> u64
+    requires { submitter < submitters }
+    ensures { result ≡ share_of commands submitters submitter }
+{
+    let all = u64::from(submitters);
+    let more = if u64::from(submitter) < commands % all { 1 } else { 0 };
+    commands / all + more
+}
+
+impl Course {
+    /// Before the first round, over an image of these bytes where reads are compared.
+    pub(crate) fn new(
+        alloc: Global,
+        load: &Load<'_>,
+        layout: Layout,
+        queues: u16,
+        content: Option<Content>,
+    ) -> Result<Course, AllocError>
+        requires queues { 1 ≤ queues }
+        requires same { IfSome content (λ c. c.layout ≡ layout) }
+    {
+        let mut picks = Vec::with_capacity(alloc, usize::from(layout.submitters))?;
+        for submitter in 0..layout.submitters {
+            picks.push_reserved(Picks::new(load.pattern, load.seed, submitter));
+        }
+        Ok(Course {
+            layout,
+            seed: load.seed,
+            queues,
+            picks,
+            generations: vec![in alloc; 0; layout.all_slots()]?,
+            content,
+            tally: Tally::NONE,
+            bad: None,
+            measured: Measured::new(alloc)?,
+        })
+    }
+
+    /// How many commands ended how.
+    pub(crate) fn tally(&self) -> Tally {
+        self.tally
+    }
+
+    /// The next commands of the load, so many at most.
+    pub(crate) fn plan(
+        &mut self,
+        alloc: Global,
+        most: u64,
+    ) -> Result<Vec<Vec<Planned>>, AllocError> {
+        let commands = most.min(MAX_ROUND);
+        let layout = self.layout;
+        let mut plans = Vec::with_capacity(alloc, usize::from(layout.submitters))?;
+        for submitter in 0..layout.submitters {
+            let share = share_of(commands, layout.submitters, submitter) as usize;
+            let picks = &mut self.picks[usize::from(submitter)];
+            let plan = plan_some(alloc, layout, submitter, picks, &self.generations, share)?;
+            plans.push_reserved(plan);
+        }
+        Ok(plans)
+    }
+
+    /// Reads of slots that were written, of each submitter those from a slot on, and the slot that is next.
+    pub(crate) fn plan_reads(
+        &self,
+        alloc: Global,
+        from: usize,
+    ) -> Result<Vec<Vec<Planned>>, AllocError> {
+        let layout = self.layout;
+        let mut plans = Vec::with_capacity(alloc, usize::from(layout.submitters))?;
+        for submitter in 0..layout.submitters {
+            let first = layout.first_slot(submitter);
+            let to = layout.slots.min(from.saturating_add(self.round_slots()));
+            let mut plan = Vec::new(alloc);
+            for slot in first + from.min(to)..first + to {
+                let read = plan_one(&self.generations, slot, Kind::Read);
+                if read.generation > 0 {
+                    plan.push(read)?;
+                }
+            }
+            plans.push_reserved(plan);
+        }
+        Ok(plans)
+    }
+
+    /// How many slots each submitter has.
+    pub(crate) fn slots(&self) -> usize {
+        self.layout.slots
+    }
+
+    /// How many slots of each submitter are read once more in a round.
+    pub(crate) fn round_slots(&self) -> usize {
+        (MAX_ROUND / u64::from(self.layout.submitters)) as usize
+    }
+
+    /// The jobs of a round. A submitter has one queue, and submitters share queues where there are fewer.
+    pub(crate) fn jobs(
+        &self,
+        alloc: Global,
+        plans: &[Vec<Planned>],
+    ) -> Result<Vec<Vec<Job>>, AllocError> {
+        let mut lists = Vec::with_capacity(alloc, plans.len())?;
+        for (submitter, plan) in (0..self.layout.submitters).zip(plans) {
+            let q = 1 + submitter % self.queues;
+            lists.push_reserved(jobs_of(alloc, self.layout, self.seed, q, plan)?);
+        }
+        Ok(lists)
+    }
+
+    /// Looks at how the commands of a round ended.
+    pub(crate) fn look(
+        &mut self,
+        alloc: Global,
+        plans: &[Vec<Planned>],
+        ends: &JobEnds,
+    ) -> Result<(), AllocError> {
+        for (plan, list) in plans.iter().zip(ends.as_slice()) {
+            let Looked { tally, bad } = look_at(alloc, self.layout, &self.content, plan, list)?;
+            self.tally = self.tally.and(tally);
+            self.bad = self.bad.or(bad);
+            note_writes(&mut self.generations, plan, list);
+        }
+        Ok(())
+    }
+
+    /// Counts how long the commands of a round took.
+    pub(crate) fn measure(&mut self, plans: &[Vec<Planned>], ends: &JobEnds, times: &[Vec<u64>]) {
+        for ((plan, list), took) in plans.iter().zip(ends.as_slice()).zip(times) {
+            self.measured.add(plan, list, took);
+        }
+    }
+
+    /// What is left at the end: the first command that did not end well, and how long commands took.
+    pub(crate) fn end(self) -> (Option<Bad>, Measured) {
+        (self.bad, self.measured)
+    }
+}
