@@ -7,14 +7,15 @@ use Rattle.std.specs.Str.Parse.{digits_value, without_leading_plus}
 use Rattle.clap.specs.ValueTests.{is_numeral}
 use Rattle.clap.specs.Words.{Kinds, Row, Text, all_of, fault_of, first_of, one_of, subcommand_of}
 use Rattle.command_line.specs.Commands.{nvmesgl}
-use Rattle.command_line.specs.Patterns.{pattern_named}
 use Rattle.command_line.specs.declared.arguments.CommandLine.{CommandLine}
 use Rattle.command_line.specs.declared.arguments.CommandLine.TheVariants as line
 use Rattle.command_line.specs.declared.arguments.Options.{Options}
-use Rattle.command_line.specs.declared.load.Load.{Load}
-use Rattle.command_line.specs.declared.load.Pattern.{Pattern}
 use Rattle.command_line.specs.declared.arguments.Testing.{Testing}
 use Rattle.host_core.specs.declared.config.Config.{Config}
+use Rattle.workload.specs.Loads.{FitsLoad}
+use Rattle.workload.specs.Patterns.{pattern_named}
+use Rattle.workload.specs.declared.Load.{Load}
+use Rattle.workload.specs.declared.Pattern.{Pattern}
 
 -- The options of a command, by what was found for each: a row of the words' values, or of the usual value
 
@@ -236,17 +237,17 @@ abbrev pub tested_of : Testing → Tested
 tested_of testing = record { sizes = testing.config; zeros = testing.blocks; updates = testing.updates; files = map (λ f. f.now) testing.files.items }
 
 abbrev pub loaded_of : Load → Loaded
-loaded_of load = record {
-  pattern = load.pattern;
-  command_blocks = load.command_blocks;
-  submitters = load.submitters;
-  depth = load.depth;
-  seed = load.seed;
-  count = load.count;
-  runtime = load.runtime;
-  verify = load.verify;
-  quiet = load.quiet;
-  stats = path_of load.stats;
+loaded_of what = record {
+  pattern = what.pattern;
+  command_blocks = what.command_blocks;
+  submitters = what.submitters;
+  depth = what.depth;
+  seed = what.seed;
+  count = what.count;
+  runtime = what.runtime;
+  verify = what.verify;
+  quiet = what.quiet;
+  stats = path_of what.stats;
 }
 
 abbrev pub asked_of : CommandLine → Asked
@@ -262,15 +263,6 @@ asked_of (line.Draw options) = draw (given_of options)
 asked_of (line.Explain script objects) = explain (path_of script) objects
 asked_of (line.Show words) = show (map (λ w. w.now) words.items)
 asked_of line.Grammar = grammar
-
--- what is loaded lies in its ranges
-pub record FitsLoad (what : Load) : Type 0 where
-  pub some_blocks : 1 ≤ what.command_blocks
-  pub few_blocks : what.command_blocks ≤ 256
-  pub some_submitters : 1 ≤ what.submitters
-  pub few_submitters : what.submitters ≤ 16
-  pub some_depth : 1 ≤ what.depth
-  pub little_depth : what.depth ≤ 256
 
 -- a command line has as many submitters as there may be, and a load that lies in its ranges
 abbrev pub FitsLine : CommandLine → Type 0

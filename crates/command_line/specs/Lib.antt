@@ -1,4 +1,3 @@
 pub mod Asked
 pub mod Commands
 pub mod Worked
-pub mod Patterns

@@ -9,7 +9,7 @@ use crate::commands::{
     BLOCKS, ENTRIES, Number, PAGES, QUEUES, SEGMENT, SUBMITTERS, check_command, command,
     threads_command,
 };
-use crate::load::{Load, load_line};
+use crate::load::load_line;
 use clap::error::ErrorKind;
 use clap::{ArgMatches, Command, Error};
 use host_core::Config;
@@ -17,6 +17,7 @@ use std::alloc::{AllocError, AllocGlobal, Global};
 use std::convert::AsStr;
 use std::env::Env;
 use std::io;
+use workload::Load;
 
 /// What is said of a word that is not text.
 const NOT_TEXT: &str = "invalid UTF-8 was detected in one or more arguments";

@@ -110,8 +110,8 @@ the run goes on.";
 pub const LOAD_AFTER: &str = "With --verify each read is compared with what was written there last, or else with the image, and
 each slot that was written is read once more at the end. One line says how it went:
   load randrw done 10000 refused 0 failed 0 verified 5012 differ 0
-Without --runtime it is the same for the same words. `done` are commands with status 0:00; the
-reads at the end are `verified` or `differ`, and count as `refused` or `failed` where they are.
+Without --runtime it is the same for the same words. `done` are commands with status 0:00, and
+`verified` reads that brought what stands there. The reads at the end are none of those `done`.
 
 Times go to standard error: commands and MiB a second, and the latencies, from the submission of a
 command until its pages are free again. --stats writes them as JSON, with the words of fio.

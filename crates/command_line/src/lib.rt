@@ -15,5 +15,4 @@ pub mod worked;
 
 pub use arguments::{CommandLine, Options, Testing, words};
 pub use commands::VERSION;
-pub use load::{Load, Pattern};
 pub use ranges::Ranged;

@@ -232,38 +232,6 @@ impl<L: Driver, A: Allocator + Copy> Book<L, A> {
         self.world.touches()
     }
 
-    /// Scratch.
-    pub fn over(alloc: A, world: World<A>, blank: Blank) -> Book<L, A> {
-        let (tally, rest) = blank.open::<L>();
-        Book {
-            alloc,
-            world,
-            log: Log::new(alloc),
-            submissions: 0,
-            tally,
-            rest,
-            made: 0,
-            out: 0,
-            stopping: false,
-        }
-    }
-
-    /// Scratch.
-    pub fn apart(self) -> (World<A>, Log<A>) {
-        let Book {
-            alloc: _,
-            world,
-            log,
-            submissions: _,
-            tally: _,
-            rest: _,
-            made: _,
-            out: _,
-            stopping: _,
-        } = self;
-        (world, log)
-    }
-
     /// Ends the book and its world. It takes no memory.
     pub fn end(self) -> Ended {
         self.world.end()

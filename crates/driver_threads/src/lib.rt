@@ -20,7 +20,6 @@ mod device;
 mod gate;
 mod host;
 mod jobs;
-mod round;
 mod run;
 mod shared;
 mod waits;
@@ -28,7 +27,6 @@ mod workers;
 
 pub use gate::{Gate, GateClosed, Open, Point};
 pub use jobs::{Job, JobEnd, JobEndIn, JobEnds, JobIn, JobRefusal, Ran, RunFault};
-pub use round::{Round, run_round};
 pub use run::run_threads;
 pub use shared::Shared;
 pub use workers::{Worked, controller, poller, submitter};

@@ -364,22 +364,3 @@ pub fn run_threads<
         Err(failure) => Err(fault_of(failure)),
     }
 }
-
-/// Scratch.
-pub(crate) fn run_round_of<
-    L: Driver + Send + Sync,
-    A: Allocator + Copy + Send + Sync,
-    G: Gate + Sync,
-    R: Threads + Wait + Sync,
->(
-    rt: &R,
-    alloc: A,
-    book: Book<L, A>,
-    gate: &G,
-    jobs: Vec<Vec<JobIn<A>, A>, A>,
-) -> Result<Ran<L, A>, RunFault> {
-    match run_over(rt, alloc, book, gate, jobs) {
-        Ok(ran) => Ok(ran),
-        Err(failure) => Err(fault_of(failure)),
-    }
-}

@@ -6,7 +6,6 @@ use Rattle.rand_core.specs.Steps.{steps_u32, stream_of}
 use Rattle.rand_core.specs.Stream.{fill_bytes}
 use Rattle.rand_pcg.specs.Lcg.{increment_of, started}
 use Rattle.rand_pcg.specs.Pcg.{multiplier_64, pcg32}
-use Rattle.load.specs.declared.content.Content.{Content}
 use Rattle.load.specs.declared.layout.Layout.{Layout}
 
 -- so many bytes of the generator PCG32 at this state, on this stream
@@ -27,8 +26,7 @@ blocks_bytes seed generation first (suc many) = block_bytes seed first generatio
 abbrev pub written : Layout → ℕ → ℕ → ℕ → List ℕ
 written layout seed slot generation = blocks_bytes seed generation (slot * layout.slot_blocks) layout.slot_blocks
 
--- a slot that was written so often; before, it is as the image was
-abbrev pub slot_content : Content → ℕ → ℕ → List ℕ
-slot_content content slot generation =
-    if generation == 0 then blocks_at content.first.items (slot * content.layout.slot_blocks) content.layout.slot_blocks
-    else written content.layout content.seed slot generation
+-- a slot over an image of these bytes that was written so often; before, it is as the image
+abbrev pub slot_content : Layout → ℕ → List ℕ → ℕ → ℕ → List ℕ
+slot_content layout seed first slot generation =
+    if generation == 0 then blocks_at first (slot * layout.slot_blocks) layout.slot_blocks else written layout seed slot generation

@@ -1,6 +1,6 @@
 -- From round to round.
-use Rattle.std.specs.Prelude.{◌≡◌, ℕ, ◌+◌, ◌-◌, ◌*◌, ◌/◌, ◌%◌, ◌<◌, Option, Some, None, List, [], ◌∷◌, map, nat_lt, if◌then◌else◌}
-use Rattle.command_line.specs.declared.load.Load.{Load}
+use Rattle.std.specs.Prelude.{◌≡◌, ℕ, ◌+◌, ◌-◌, ◌*◌, ◌/◌, ◌%◌, ◌<◌, Option, Some, None, List, length, map, nat_lt, slice_index_or, if◌then◌else◌}
+use Rattle.workload.specs.declared.Load.{Load}
 use Rattle.driver_threads.specs.Values.{Job}
 use Rattle.load.specs.Planning.{IsPlanOf, job_for}
 use Rattle.load.specs.declared.layout.Layout.{Layout}
@@ -10,21 +10,19 @@ use Rattle.load.specs.declared.plan.Planned.{Planned}
 abbrev pub share_of : ℕ → ℕ → ℕ → ℕ
 share_of commands submitters submitter = commands / submitters + (if nat_lt submitter (commands % submitters) then 1 else 0)
 
--- the plans of submitters, from one on
-abbrev pub ArePlansOf : Layout → List ℕ → ℕ → ℕ → List (List Planned) → Type 0
-ArePlansOf layout generations commands submitter [] = Unit {0}
-ArePlansOf layout generations commands submitter (plan ∷ plans) =
-    IsPlanOf layout generations submitter (share_of commands layout.submitters submitter) plan × ArePlansOf layout generations commands (submitter + 1) plans
+-- each submitter has its plan, of its share of so many commands
+pub record ArePlans (layout : Layout) (generations : List ℕ) (commands : ℕ) (plans : List (List Planned)) : Type 0 where
+  pub all : length plans ≡ layout.submitters
+  pub each : (s : ℕ) (d : List Planned) → s < length plans → IsPlanOf layout generations s (share_of commands layout.submitters s) (slice_index_or plans s d)
 
 -- the queue of a submitter
 abbrev pub queue_of : ℕ → ℕ → ℕ
 queue_of queues submitter = 1 + submitter % queues
 
--- the jobs of submitters, from one on
-abbrev pub jobs_for : Layout → ℕ → ℕ → ℕ → List (List Planned) → List (List Job)
-jobs_for layout seed queues submitter [] = []
-jobs_for layout seed queues submitter (plan ∷ plans) =
-    map (job_for layout seed (queue_of queues submitter)) plan ∷ jobs_for layout seed queues (submitter + 1) plans
+-- each submitter has the jobs of its plan, for its queue
+pub record AreJobs (layout : Layout) (seed queues : ℕ) (plans : List (List Planned)) (lists : List (List Job)) : Type 0 where
+  pub all : length lists ≡ length plans
+  pub each : (s : ℕ) (d : List Job) (e : List Planned) → s < length lists → slice_index_or lists s d ≡ map (job_for layout seed (queue_of queues s)) (slice_index_or plans s e)
 
 -- how many commands may be begun after so many: 800 where their number does not bound them
 abbrev pub by_count : Option ℕ → ℕ → ℕ
@@ -38,4 +36,4 @@ in_time (Some seconds) None left = 0
 in_time (Some seconds) (Some nanos) left = if nat_lt nanos (seconds * 1000000000) then left else 0
 
 abbrev pub commands_left : Load → ℕ → Option ℕ → ℕ
-commands_left load begun nanos = in_time load.runtime nanos (by_count load.count begun)
+commands_left what begun nanos = in_time what.runtime nanos (by_count what.count begun)

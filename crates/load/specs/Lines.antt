@@ -1,8 +1,7 @@
 -- The line of a load.
-use Rattle.std.specs.Prelude.{ℕ, List, [], ◌∷◌, ◌++◌, codes}
-use Rattle.std.specs.Str.Parse.{decimal}
-use Rattle.command_line.specs.Patterns.{pattern_name}
-use Rattle.command_line.specs.declared.load.Pattern.{Pattern}
+use Rattle.std.specs.Prelude.{ℕ, List, [], ◌∷◌, ◌++◌, codes, decimal}
+use Rattle.workload.specs.Patterns.{pattern_name}
+use Rattle.workload.specs.declared.Pattern.{Pattern}
 use Rattle.load.specs.declared.tally.Tally.{Tally}
 use Rattle.script_cli.specs.Inputs.{IsFront}
 

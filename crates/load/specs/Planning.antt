@@ -1,5 +1,5 @@
 -- The commands of a round.
-use Rattle.std.specs.Prelude.{◌≡◌, ◌≢◌, ℕ, ◌+◌, ◌-◌, ◌*◌, ◌/◌, ◌^◌, ◌<◌, zero, suc, Bool, List, [], ◌∷◌, All, AllPairs, map, min, slice_index}
+use Rattle.std.specs.Prelude.{◌≡◌, ℕ, ◌+◌, ◌-◌, ◌*◌, ◌/◌, ◌^◌, ◌<◌, zero, suc, List, [], ◌∷◌, All, map, min, slice_index}
 use Rattle.driver_threads.specs.Values.{Job}
 use Rattle.io_commands.specs.declared.request.Kind.{Kind}
 use Rattle.io_commands.specs.declared.request.Kind.TheVariants as kind

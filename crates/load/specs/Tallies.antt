@@ -8,6 +8,7 @@ use Rattle.io_commands.specs.declared.request.Kind.{Kind}
 use Rattle.io_commands.specs.declared.request.Kind.TheVariants as kind
 use Rattle.load.specs.Content.{slot_content}
 use Rattle.load.specs.declared.content.Content.{Content}
+use Rattle.load.specs.declared.layout.Layout.{Layout}
 use Rattle.load.specs.declared.plan.Planned.{Planned}
 use Rattle.load.specs.declared.tally.Tally.{Tally}
 
@@ -41,9 +42,9 @@ wanted_by kind.Write bytes = None
 wanted_by kind.Compare bytes = None
 
 -- what a command must bring, where that is compared
-abbrev pub wanted_of : Option Content → Planned → Option (List ℕ)
-wanted_of None planned = None
-wanted_of (Some content) planned = wanted_by planned.kind (slot_content content planned.slot planned.generation)
+abbrev pub wanted_of : Layout → Option Content → Planned → Option (List ℕ)
+wanted_of layout None planned = None
+wanted_of layout (Some content) planned = wanted_by planned.kind (slot_content layout content.seed content.first.items planned.slot planned.generation)
 
 -- a command with status 0:00 that brought these bytes, of which these are wanted
 abbrev pub compared : Option (List ℕ) → List ℕ → Tally

@@ -1,17 +1,19 @@
 //! What goes on from round to round.
 
-ghost use Rattle.std.specs.Prelude.{◌≡◌, ◌≤◌, ◌<◌, ◌+◌, ◌*◌, ◌/◌, ◌%◌, IfOk, IfSome, length, map, sum_by, vec_len};
-ghost use Rattle.load.specs.Course.{IsRoundOf, jobs_for, share_of};
+ghost use Rattle.load.specs.Planning.{IsInside};
+ghost use Rattle.std.specs.Prelude.{◌≡◌, ◌≤◌, ◌<◌, ◌*◌, All, IfOk, IfSome, length, map, min, vec_len};
+ghost use Rattle.std.proofs.Props.{props};
+ghost use Rattle.load.specs.Course.{AreJobs, ArePlans, share_of as spec_share_of};
 
 use crate::bad::Bad;
 use crate::content::Content;
 use crate::layout::Layout;
-use crate::look::{Looked, look_at, note_writes};
+use crate::look::{look_at, note_writes};
 use crate::measured::Measured;
 use crate::picks::Picks;
 use crate::plan::{Planned, jobs_of, plan_one, plan_some};
 use crate::tally::Tally;
-use command_line::Load;
+use workload::Load;
 use driver_threads::{Job, JobEnds};
 use io_commands::Kind;
 use std::alloc::{AllocError, Global};
@@ -37,13 +39,13 @@ pub(crate) struct Course {
     ghost some_queues: { 1 ≤ queues },
     ghost all_picks: { vec_len picks ≡ layout.submitters },
     ghost all_slots: { vec_len generations ≡ layout.submitters * layout.slots },
-    ghost same_layout: { IfSome content (λ c. c.layout ≡ layout) },
+    ghost whole: { IfSome content (λ c. vec_len c.first ≡ 512 * layout.blocks) } by { Prim.hlevel props },
 }
 
 /// How many of so many commands a submitter does.
 fn share_of(commands: u64, submitters: u16, submitter: u16) -> u64
     requires { submitter < submitters }
-    ensures { result ≡ share_of commands submitters submitter }
+    ensures { result ≡ spec_share_of commands submitters submitter }
 {
     let all = u64::from(submitters);
     let more = if u64::from(submitter) < commands % all { 1 } else { 0 };
@@ -60,11 +62,11 @@ impl Course {
         content: Option<Content>,
     ) -> Result<Course, AllocError>
         requires queues { 1 ≤ queues }
-        requires same { IfSome content (λ c. c.layout ≡ layout) }
+        requires whole { IfSome content (λ c. vec_len c.first ≡ 512 * layout.blocks) }
     {
         let mut picks = Vec::with_capacity(alloc, usize::from(layout.submitters))?;
         for submitter in 0..layout.submitters {
-            picks.push_reserved(Picks::new(load.pattern, load.seed, submitter));
+            picks.push(Picks::new(load.pattern, load.seed, submitter))?;
         }
         Ok(Course {
             layout,
@@ -89,7 +91,11 @@ impl Course {
         &mut self,
         alloc: Global,
         most: u64,
-    ) -> Result<Vec<Vec<Planned>>, AllocError> {
+    ) -> Result<Vec<Vec<Planned>>, AllocError>
+        ensures planned { IfOk result (λ plans. ArePlans self.old.layout self.old.generations.items (min most 800) (map (λ plan. plan.items) plans.items)) }
+        ensures layout { self.new.layout ≡ self.old.layout }
+        ensures generations { self.new.generations ≡ self.old.generations }
+    {
         let commands = most.min(MAX_ROUND);
         let layout = self.layout;
         let mut plans = Vec::with_capacity(alloc, usize::from(layout.submitters))?;
@@ -97,7 +103,7 @@ impl Course {
             let share = share_of(commands, layout.submitters, submitter) as usize;
             let picks = &mut self.picks[usize::from(submitter)];
             let plan = plan_some(alloc, layout, submitter, picks, &self.generations, share)?;
-            plans.push_reserved(plan);
+            plans.push(plan)?;
         }
         Ok(plans)
     }
@@ -107,7 +113,10 @@ impl Course {
         &self,
         alloc: Global,
         from: usize,
-    ) -> Result<Vec<Vec<Planned>>, AllocError> {
+    ) -> Result<Vec<Vec<Planned>>, AllocError>
+        ensures all { IfOk result (λ plans. vec_len plans ≡ self.now.layout.submitters) }
+        ensures inside { IfOk result (λ plans. All (λ plan. All (IsInside self.now.layout) plan.items) plans.items) }
+    {
         let layout = self.layout;
         let mut plans = Vec::with_capacity(alloc, usize::from(layout.submitters))?;
         for submitter in 0..layout.submitters {
@@ -120,7 +129,7 @@ impl Course {
                     plan.push(read)?;
                 }
             }
-            plans.push_reserved(plan);
+            plans.push(plan)?;
         }
         Ok(plans)
     }
@@ -140,29 +149,49 @@ impl Course {
         &self,
         alloc: Global,
         plans: &[Vec<Planned>],
-    ) -> Result<Vec<Vec<Job>>, AllocError> {
+    ) -> Result<Vec<Vec<Job>>, AllocError>
+        requires all { length plans.now ≡ self.now.layout.submitters }
+        requires inside { All (λ plan. All (IsInside self.now.layout) plan.items) plans.now }
+        ensures jobs { IfOk result (λ lists. AreJobs self.now.layout self.now.seed self.now.queues (map (λ plan. plan.items) plans.now) (map (λ list. list.items) lists.items)) }
+        ensures some { IfOk result (λ lists. 1 ≤ vec_len lists) }
+        ensures few { IfOk result (λ lists. vec_len lists ≤ 16) }
+    {
         let mut lists = Vec::with_capacity(alloc, plans.len())?;
-        for (submitter, plan) in (0..self.layout.submitters).zip(plans) {
+        for submitter in 0..self.layout.submitters {
+            let plan = plans[usize::from(submitter)].as_slice();
             let q = 1 + submitter % self.queues;
-            lists.push_reserved(jobs_of(alloc, self.layout, self.seed, q, plan)?);
+            lists.push(jobs_of(alloc, self.layout, self.seed, q, plan)?)?;
         }
         Ok(lists)
     }
 
-    /// Looks at how the commands of a round ended.
+    /// Looks at how the commands of a round ended, and notes what they wrote.
     pub(crate) fn look(
         &mut self,
         alloc: Global,
         plans: &[Vec<Planned>],
         ends: &JobEnds,
-    ) -> Result<(), AllocError> {
+    ) -> Result<Tally, AllocError>
+        requires inside { All (λ plan. All (IsInside self.old.layout) plan.items) plans.now }
+        ensures layout { self.new.layout ≡ self.old.layout }
+    {
+        let layout = self.layout;
+        let mut tally = Tally::NONE;
         for (plan, list) in plans.iter().zip(ends.as_slice()) {
-            let Looked { tally, bad } = look_at(alloc, self.layout, &self.content, plan, list)?;
-            self.tally = self.tally.and(tally);
-            self.bad = self.bad.or(bad);
+            let looked = look_at(alloc, layout, &self.content, plan, list)?;
+            tally = tally.and(looked.tally);
+            self.bad = self.bad.or(looked.bad);
             note_writes(&mut self.generations, plan, list);
         }
-        Ok(())
+        Ok(tally)
+    }
+
+    /// Counts commands of the load, or reads behind them, which are no commands of it: of these none is done.
+    pub(crate) fn count(&mut self, tally: Tally, of_load: bool)
+        ensures layout { self.new.layout ≡ self.old.layout }
+    {
+        let done = if of_load { tally.done } else { 0 };
+        self.tally = self.tally.and(Tally { done, ..tally });
     }
 
     /// Counts how long the commands of a round took.

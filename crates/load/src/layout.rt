@@ -22,6 +22,7 @@ pub(crate) struct Layout {
     ghost some: { 1 ≤ slots },
     ghost few: { slots ≤ 65536 },
     ghost inside: { submitters * slots * slot_blocks ≤ blocks },
+    ghost all: { submitters * slots ≤ 65536 },
 }
 
 impl Layout {

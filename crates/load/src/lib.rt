@@ -19,7 +19,6 @@ mod picks;
 mod plan;
 mod progress;
 mod ran;
-mod run;
 mod stats;
 mod tally;
 mod timing;
@@ -28,7 +27,4 @@ pub use bad::{Bad, Why};
 pub use fault::LoadFault;
 pub use line::append_line;
 pub use ran::Ran;
-pub use run::run_load;
 pub use tally::Tally;
-#[cfg(test)]
-mod trial;

@@ -4,7 +4,7 @@ ghost use Rattle.std.specs.Prelude.{◌≡◌, ◌++◌, OnOk, string_bytes};
 ghost use Rattle.load.specs.Lines.{line_text};
 
 use crate::tally::Tally;
-use command_line::Pattern;
+use workload::Pattern;
 use std::alloc::AllocError;
 
 /// Puts the line that says how a load went.

@@ -1,6 +1,6 @@
 //! How commands ended.
 
-ghost use Rattle.std.specs.Prelude.{◌≡◌, ◌<◌, ◌*◌, All, IfOk, IfSome, None, MatchOption, length, option_map, vec_len};
+ghost use Rattle.std.specs.Prelude.{◌≡◌, ◌<◌, ◌*◌, All, IfOk, IfSome, length, option_map, vec_len};
 ghost use Rattle.load.specs.Planning.{IsInside};
 ghost use Rattle.load.specs.Tallies.{is_success as spec_is_success, no_tally, of_end as spec_of_end, tally_from, wanted_of};
 
@@ -31,15 +31,17 @@ pub(crate) fn is_success(status: Status) -> bool
 /// What a command must bring, where that is looked at.
 fn wanted_of(
     alloc: Global,
+    layout: Layout,
     content: &Option<Content>,
     planned: Planned,
 ) -> Result<Option<Vec<u8>>, AllocError>
-    requires { IfSome content.now (λ content. IsInside content.layout planned) }
-    ensures { IfOk result (λ wanted. option_map (λ bytes. bytes.items) wanted ≡ wanted_of content.now planned) }
+    requires inside { IsInside layout planned }
+    requires whole { IfSome content.now (λ c. vec_len c.first ≡ 512 * layout.blocks) }
+    ensures { IfOk result (λ wanted. option_map (λ bytes. bytes.items) wanted ≡ wanted_of layout content.now planned) }
 {
     match (content, planned.kind) {
         (Some(content), Kind::Read) => {
-            let bytes = content.of_slot(alloc, planned.slot, planned.generation)?;
+            let bytes = content.of_slot(alloc, layout, planned.slot, planned.generation)?;
             Ok(Some(bytes))
         }
         _ => Ok(None),
@@ -97,15 +99,15 @@ pub(crate) fn look_at(
     ends: &[JobEnd],
 ) -> Result<Looked, AllocError>
     requires inside { All (IsInside layout) plan.now }
-    requires content { IfSome content.now (λ content. content.layout ≡ layout) }
-    ensures { IfOk result (λ looked. looked.tally ≡ tally_from (wanted_of content.now) no_tally plan.now ends.now) }
+    requires whole { IfSome content.now (λ c. vec_len c.first ≡ 512 * layout.blocks) }
+    ensures { IfOk result (λ looked. looked.tally ≡ tally_from (wanted_of layout content.now) no_tally plan.now ends.now) }
 {
     let mut looked = Looked {
         tally: Tally::NONE,
         bad: None,
     };
     for (planned, end) in plan.iter().zip(ends) {
-        let wanted = wanted_of(alloc, content, *planned)?;
+        let wanted = wanted_of(alloc, layout, content, *planned)?;
         let tally = of_end(&wanted, end);
         looked.tally = looked.tally.and(tally);
         if let (None, Some(why)) = (looked.bad, why_of(tally, end)) {

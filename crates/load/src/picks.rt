@@ -1,9 +1,9 @@
 //! Which slots come next.
 
-ghost use Rattle.std.specs.Prelude.{◌≡◌, ◌≤◌, IfOk, false, true};
-ghost use Rattle.load.specs.Picking.{ArePicked, counted, is_random};
+ghost use Rattle.std.specs.Prelude.{◌≡◌, ◌≤◌, ◌-◌, IfOk, false, true};
+ghost use Rattle.load.specs.Picking.{AreCounted, AreNext, ArePicked, fits_kind, is_random as spec_is_random};
 
-use command_line::Pattern;
+use workload::Pattern;
 use io_commands::Kind;
 use rand::seq::index;
 use rand_core::Rng;
@@ -21,7 +21,7 @@ pub(crate) struct Picks {
 
 /// Whether the slots of a pattern come at random.
 fn is_random(pattern: Pattern) -> bool
-    ensures { result ≡ is_random pattern }
+    ensures { result ≡ spec_is_random pattern }
 {
     match pattern {
         Pattern::Read | Pattern::Write => false,
@@ -32,11 +32,11 @@ fn is_random(pattern: Pattern) -> bool
 /// The numbers of a range.
 fn in_turn(alloc: Global, from: usize, to: usize) -> Result<Vec<usize>, AllocError>
     requires { from ≤ to }
-    ensures { IfOk result (λ slots. slots.items ≡ counted from to) }
+    ensures { IfOk result (λ slots. AreCounted from (to - from) slots.items) }
 {
     let mut slots = Vec::with_capacity(alloc, to - from)?;
     for slot in from..to {
-        slots.push_reserved(slot);
+        slots.push(slot)?;
     }
     Ok(slots)
 }
@@ -60,7 +60,7 @@ impl Picks {
     ) -> Result<Vec<usize>, AllocError>
         requires { 1 ≤ slots }
         ensures picked { IfOk result (λ picked. ArePicked slots most picked.items) }
-        ensures in_turn { is_random self.old.pattern ≡ false → IfOk result (λ picked. AreNext self.old.next slots most picked.items self.new.next) }
+        ensures in_turn { spec_is_random self.old.pattern ≡ false → IfOk result (λ picked. AreNext self.old.next slots most picked.items self.new.next) }
     {
         if is_random(self.pattern) {
             let some = index::sample(alloc, &mut self.words, slots, most.min(slots))?;
@@ -73,7 +73,9 @@ impl Picks {
     }
 
     /// Whether the next command reads or writes.
-    pub(crate) fn kind(&mut self) -> Kind {
+    pub(crate) fn kind(&mut self) -> Kind
+        ensures { fits_kind self.old.pattern result ≡ true }
+    {
         match self.pattern {
             Pattern::Read | Pattern::RandRead => Kind::Read,
             Pattern::Write | Pattern::RandWrite => Kind::Write,

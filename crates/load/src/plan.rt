@@ -56,7 +56,7 @@ pub(crate) fn plan_some(
     let mut plan = Vec::with_capacity(alloc, picked.len())?;
     for slot in &picked {
         let kind = picks.kind();
-        plan.push_reserved(plan_one(generations, first + slot, kind));
+        plan.push(plan_one(generations, first + slot, kind))?;
     }
     Ok(plan)
 }
@@ -122,7 +122,7 @@ pub(crate) fn jobs_of(
 {
     let mut jobs = Vec::with_capacity(alloc, plan.len())?;
     for planned in plan {
-        jobs.push_reserved(job_of(alloc, layout, seed, q, *planned)?);
+        jobs.push(job_of(alloc, layout, seed, q, *planned)?)?;
     }
     Ok(jobs)
 }

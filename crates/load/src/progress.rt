@@ -9,9 +9,6 @@ use std::time::Instant;
 /// How long a line stands before another takes its place, in nanoseconds.
 const EVERY: u64 = 200_000_000;
 
-/// How wide a line is.
-const WIDTH: usize = 72;
-
 /// The time since a load began.
 #[derive(Clone, Copy)]
 pub(crate) struct Stopwatch {
@@ -74,7 +71,7 @@ impl Standing {
             ..
         } = *self;
         let mut text = String::new(alloc);
-        write!(text, "\r{done}")?;
+        write!(text, "{done}")?;
         if let Some(all) = all {
             write!(text, " of {all}")?;
         }
@@ -82,10 +79,7 @@ impl Standing {
             text,
             " done, {rate} a second, {in_flight} in flight, {left} s left"
         )?;
-        while text.len() < WIDTH {
-            text.push(' ')?;
-        }
-        Ok(text)
+        format!(in alloc; "\r{text:<72}")
     }
 }
 
@@ -129,7 +123,7 @@ impl Progress {
     /// Takes the line away.
     pub(crate) fn end<R: Eprint>(self, rt: &R) {
         if self.shown {
-            let _ = eprint!(rt; "\r{:WIDTH$}\r", "");
+            let _ = eprint!(rt; "\r{:<72}\r", "");
         }
     }
 }

@@ -41,10 +41,10 @@ impl<'a, R: Clock + Wait> Timing<'a, R> {
     ) -> Result<Timing<'a, R>, AllocError> {
         let mut all = Vec::with_capacity(alloc, usize::from(submitters))?;
         for _ in 0..submitters {
-            all.push_reserved(Mutex::new(Times {
+            all.push(Mutex::new(Times {
                 submitted: VecDeque::new(alloc),
                 took: Vec::new(alloc),
-            }));
+            }))?;
         }
         Ok(Timing {
             rt,
@@ -57,7 +57,7 @@ impl<'a, R: Clock + Wait> Timing<'a, R> {
         let mut all = Vec::with_capacity(alloc, self.submitters.len())?;
         for times in &self.submitters {
             let mut times = times.lock(self.rt);
-            all.push_reserved(Vec::from_slice(alloc, &times.took)?);
+            all.push(Vec::from_slice(alloc, &times.took)?)?;
             times.took.clear();
             times.submitted.clear();
         }

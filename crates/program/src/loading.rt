@@ -1,13 +1,14 @@
 //! A load, and what is told of it.
 
-ghost use Rattle.std.specs.Prelude.{◌≡◌, Some, IfErr, OnOk, IsSome};
-ghost use Rattle.command_line.specs.Asked.{FitsLoad, given_of, load, loaded_of};
-ghost use Rattle.program.specs.Performing.{FailsWith, Performs};
+ghost use Rattle.std.specs.Prelude.{◌≡◌, IfErr, IsSome, None, OnOk, Some};
+ghost use Rattle.command_line.specs.Asked.{given_of, load, loaded_of};
+ghost use Rattle.workload.specs.Loads.{FitsLoad};
+ghost use Rattle.program.specs.Performing.{FailsWith, fault_of_load, Performs};
 
 use crate::below::{below_run, lines_or_none};
 use crate::fault::{Fault, Told};
 use crate::inputs::open_image;
-use command_line::{Load, Options};
+use command_line::Options;
 use fault_text::Grammar;
 use load::{Bad, LoadFault, Ran, run_load};
 use std::alloc::{AllocGlobal, Global};
@@ -16,6 +17,7 @@ use std::rt::{Clock, Files};
 use std::sync::Wait;
 use std::thread::Threads;
 use transcripts::{not_written, replace_file};
+use workload::Load;
 
 /// Says on standard error what was measured.
 fn tell_times<R: AllocGlobal + Eprint>(rt: &R, ran: &Ran) {

@@ -1,0 +1,5 @@
+mod Blocks
+mod Buckets
+mod Lists
+mod Pieces
+mod Tallying
