@@ -3,3 +3,4 @@ mod Buckets
 mod Lists
 mod Pieces
 mod Tallying
+mod Written

@@ -1,5 +1,5 @@
 -- Lists of lists, one behind the other.
-use Rattle.std.proofs.Common.{◌≡◌, ◌∙◌, ℕ, ◌+◌, ◌<◌, ◌≤◌, List, [], ◌∷◌, ◌++◌, length, map, inl, inr, arith, ap, subst, sym}
+use Rattle.std.proofs.Common.{All, ◌≡◌, ◌∙◌, ℕ, ◌+◌, ◌<◌, ◌≤◌, List, [], ◌∷◌, ◌++◌, length, map, inl, inr, arith, ap, subst, sym}
 use Rattle.std.proofs.Math.ListN.{get_or-append}
 use Rattle.std.proofs.Math.Seq.{get_or-append_seam}
 use Rattle.std.proofs.lemmas.Bool.{cases_lt}
@@ -26,3 +26,8 @@ each_more {V} {X} seen P vs ws v more each last =
     let is : map seen ws ≡ map seen vs ++ seen v ∷ [] = ap (map seen) more ∙ map-append seen vs (v ∷ []) in
     subst (λ (xs : List X). (s : ℕ) (d : X) → s < length xs → P s (slice_index_or xs s d)) (sym is)
     (each_behind P (map seen vs) (seen v) each (subst (λ (k : ℕ). P k (seen v)) (sym (length-map vs seen)) last))
+
+-- and so of all
+pub one_more : {V : Type 0} (P : V → Type 0) (vs ws : List V) (v : V) → ws ≡ vs ++ v ∷ [] → All P vs → P v → All P ws
+one_more {V} P vs ws v more all last =
+    subst (λ (xs : List V). All P xs) (sym more) (λ k d below. each_behind (λ (s : ℕ) (x : V). P x) vs v (λ s e under. all s e under) last k d below)

@@ -92,6 +92,8 @@ impl Course {
         alloc: Global,
         most: u64,
     ) -> Result<Vec<Vec<Planned>>, AllocError>
+        ensures all { IfOk result (λ plans. vec_len plans ≡ self.new.layout.submitters) }
+        ensures inside { IfOk result (λ plans. All (λ plan. All (IsInside self.new.layout) plan.items) plans.items) }
         ensures planned { IfOk result (λ plans. ArePlans self.old.layout self.old.generations.items (min most 800) (map (λ plan. plan.items) plans.items)) }
         ensures layout { self.new.layout ≡ self.old.layout }
         ensures generations { self.new.generations ≡ self.old.generations }
@@ -140,7 +142,9 @@ impl Course {
     }
 
     /// How many slots of each submitter are read once more in a round.
-    pub(crate) fn round_slots(&self) -> usize {
+    pub(crate) fn round_slots(&self) -> usize
+        ensures { 1 ≤ result }
+    {
         (MAX_ROUND / u64::from(self.layout.submitters)) as usize
     }
 
@@ -195,7 +199,9 @@ impl Course {
     }
 
     /// Counts how long the commands of a round took.
-    pub(crate) fn measure(&mut self, plans: &[Vec<Planned>], ends: &JobEnds, times: &[Vec<u64>]) {
+    pub(crate) fn measure(&mut self, plans: &[Vec<Planned>], ends: &JobEnds, times: &[Vec<u64>])
+        ensures layout { self.new.layout ≡ self.old.layout }
+    {
         for ((plan, list), took) in plans.iter().zip(ends.as_slice()).zip(times) {
             self.measured.add(plan, list, took);
         }

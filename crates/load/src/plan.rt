@@ -49,7 +49,8 @@ pub(crate) fn plan_some(
 ) -> Result<Vec<Planned>, AllocError>
     requires submitter { submitter < layout.submitters }
     requires slots { length generations.now ≡ layout.submitters * layout.slots }
-    ensures { IfOk result (λ plan. IsPlanOf layout generations.now submitter most plan.items) }
+    ensures planned { IfOk result (λ plan. IsPlanOf layout generations.now submitter most plan.items) }
+    ensures inside { IfOk result (λ plan. All (IsInside layout) plan.items) }
 {
     let first = layout.first_slot(submitter);
     let picked = picks.slots(alloc, layout.slots, most)?;

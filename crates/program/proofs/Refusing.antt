@@ -22,7 +22,7 @@ kept (Some bytes) = refl
 wanting : (told : Option (List ℕ)) (what : Asked) (bytes : Option (List ℕ)) → FailsWith told (Some what) bytes bytes (fault.Run run.Memory)
 wanting told (steps given) bytes = (replicate (512 * given.blocks) 0, λ none. refl, inl (kept bytes))
 wanting told (threads given submitters) bytes = (replicate (512 * given.blocks) 0, λ none. refl, inl (kept bytes))
-wanting told (load given what) bytes = ([], (no_tally, line_text what.pattern no_tally, refl), appends_none bytes)
+wanting told (load given what) bytes = ([], (no_tally, (line_text what.pattern no_tally, refl)), appends_none bytes)
 wanting told (check path) bytes = (tt, kept bytes)
 wanting told (check_jobs path submitters) bytes = (tt, kept bytes)
 wanting told (test tested) bytes = tt
