@@ -10,6 +10,8 @@
 
 mod shared;
 mod steps;
+#[cfg(test)]
+mod tests;
 mod waits;
 
 pub use shared::SharedWorld;
