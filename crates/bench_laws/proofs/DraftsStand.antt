@@ -16,12 +16,10 @@ use Rattle.step_core.specs.Values.{Reply}
 use Rattle.step_core.specs.Values.{Step}
 use Rattle.step_core.specs.Bench.{with_first, without_first}
 use Rattle.bench_laws.specs.Values.{Done, Goes}
-use Rattle.bench_laws.proofs.Changed.{any_with, few_with}
+use Rattle.bench_laws.proofs.Standing.{any_with, few_with, Few, few_more, few_without, gone, any_without, any_of_more, Drafts, step_drafts, takes_by}
 use Rattle.step_core.proofs.Outstanding.{none_there, record_reserved}
 use Rattle.step_core.proofs.Records.{found_any}
-use Rattle.bench_laws.proofs.DraftMoves.{DraftMove, Rested, Stepped, Added, Filled, Built, Taken, moves}
-use Rattle.bench_laws.proofs.Lists.{Few, few_more, few_without, gone, any_without, any_of_more}
-use Rattle.bench_laws.proofs.Standing.{Drafts, step_drafts, takes_by}
+use Rattle.bench_laws.proofs.Filled.{DraftMove, Rested, Stepped, Added, Filled, Built, Taken, moves}
 
 pub record DraftsStand (t : Table) : Type 0 where
   pub drafted : (q cid : ℕ) → list_any (is_draft q cid) t.drafts ≡ true → Drafts q cid t.world.host.records
@@ -111,5 +109,5 @@ none_kept = record { drafted = λ q cid there. absurd cc; few = λ q cid. tt }
 
 pub stand_along : (done : List Done) (t end : Table) → Goes t done end → DraftsStand t → DraftsStand end
 stand_along [] t end is h = subst DraftsStand (sym is) h
-stand_along (d ∷ done) t end (at, does, rest) h =
-    stand_along done d.after end rest (stand_on d.before d.what d.answer d.after (moves d.before d.what d.answer d.after does) (subst DraftsStand (sym at) h))
+stand_along (d ∷ done) t end (at, rest) h =
+    stand_along done d.after end rest (stand_on d.before d.what d.answer d.after (moves d) (subst DraftsStand (sym at) h))

@@ -1,31 +1,31 @@
 -- What a bench gathers is of a command that it submitted and collected; so the laws of collected commands tell of the bytes.
-use Rattle.std.proofs.Common.{◌≡◌, ℕ, true, false, not, Option, Some, None, List, [], ◌∷◌, ◌++◌, refl, ap, sym, ◌∙◌, subst, eqb-true, ◌==◌}
+use Rattle.std.proofs.Common.{◌≡◌, ℕ, true, false, not, Option, Some, None, List, ◌∷◌, ◌++◌, refl, ap, sym, ◌∙◌, subst, eqb-true, ◌==◌}
 use Rattle.std.specs.List.{list_any}
 use Rattle.std.proofs.lemmas.Bool.{true≢false, and_parts}
 use Rattle.io_commands.specs.DataBytes.{gathered}
 use Rattle.io_commands.specs.Values.{FinishedContents, gathered_from, gathered_by}
 use Rattle.io_commands.specs.declared.request.Kind.{Kind}
 use Rattle.io_commands.specs.declared.request.Kind.TheVariants.{Read, Write, Compare}
+use Rattle.machine_model.specs.Events as events
 use Rattle.machine_model.specs.Image.{Made, draft_of}
 use Rattle.machine_model.specs.Trusted.{TrustedRun}
 use Rattle.run_laws.specs.Statuses.{fetches}
 use Rattle.run_laws.specs.Blocks.{is_read}
-use Rattle.machine_model.specs.Script.{Table, table, finished_at, is_finished}
+use Rattle.machine_model.specs.Script.{Table, finished_at, is_finished}
 use Rattle.machine_agreement.proofs.Members.{all_at_found}
 use Rattle.host_core.proofs.Lists.{found_is}
-use Rattle.step_core.specs.Opening.{opening_of}
 use Rattle.run_laws.specs.Submitted.{CollectedCommand, FetchedCommand, was_fetched, bytes_collected}
 use Rattle.run_laws.proofs.DataLaws.{bytes_kept, successes_fetched, prefix_given, blocks_given}
-use Rattle.step_core.specs.Bench.{Gathers}
-use Rattle.step_core.specs.Laws.{Says}
+use Rattle.step_core.specs.Bench.{Gathers, event_at, told}
+use Rattle.step_core.specs.Values.{Step}
 use Rattle.step_core.specs.declared.step.Reply.TheVariants as reply
 use Rattle.step_core.specs.declared.step.Step.TheVariants as step
-use Rattle.bench_laws.specs.Values.{Done, MadeBy, TrustedBench}
+use Rattle.step_core.proofs.Events.{asked_at}
+use Rattle.bench_laws.specs.Values.{Done, TrustedBench, made_by}
 use Rattle.bench_laws.specs.Gathering.{collects, IsOfSteps, KeepsCommand, GathersCommand, gathered_bytes_are_of_collected_commands, GathersRead, gathered_reads_have_their_blocks}
-use Rattle.bench_laws.proofs.Lists.{HasLast, split_last}
-use Rattle.bench_laws.proofs.KeptValues.{WasCollected}
-use Rattle.bench_laws.proofs.Recognised.{SubmitsAt, submits_at, submission_is, collects_at, collection_is, says_collected, SplitAt, split_made}
-use Rattle.bench_laws.proofs.RunsMade.{Ran, ran_of, run_of}
+use Rattle.bench_laws.proofs.Standing.{HasLast, split_last}
+use Rattle.bench_laws.proofs.KeptValues.{WasCollected, kept_from, makes_run}
+use Rattle.bench_laws.proofs.Recognised.{submitted_draft, submission_is, collection_is, SplitAt, split_made}
 
 -- The command that a bench keeps
 
@@ -51,7 +51,7 @@ command_of image end f made w run =
 
 -- its two steps
 steps_of : (image : List ℕ) (done : List Done) (end : Table) (q cid : ℕ) (f : FinishedContents) (made : List Made) (w : WasCollected made f) (run : TrustedRun image made end.world)
-    → MadeBy done made → f.q ≡ q → f.cid ≡ cid → IsOfSteps done q cid (command_of image end f made w run)
+    → made_by done ≡ made → f.q ≡ q → f.cid ≡ cid → IsOfSteps done q cid (command_of image end f made w run)
 steps_of image done end q cid f made w run values queue identifier =
     record {
       earlier = first.earlier;
@@ -60,31 +60,31 @@ steps_of image done end q cid f made w run values queue identifier =
       collection = last.at;
       later = last.later;
       parts = last.parts ∙ ap (λ (l : List Done). l ++ last.at ∷ last.later) first.parts;
-      submits = submits.is ∙ ap (λ (k : ℕ). step.Submit k w.draft.cid) (w.queue ∙ queue) ∙ ap (step.Submit q) (w.identifier ∙ identifier);
+      submits = asked_at first.at.before first.at.what (events.Submit w.draft) submits ∙ ap (λ (k : ℕ). step.Submit k w.draft.cid) (w.queue ∙ queue) ∙ ap (step.Submit q) (w.identifier ∙ identifier);
       draft =
           ap (λ (k : ℕ). draft_of k cid first.at.before.drafts) (sym (w.queue ∙ queue)) ∙ ap (λ (k : ℕ). draft_of w.draft.q k first.at.before.drafts) (sym (w.identifier ∙ identifier))
-          ∙ submits.found;
-      collects = collects_at last.at.before f.q f.cid last.at.what (last.is_of.event ∙ ap Some w.event) ∙ ap (λ (k : ℕ). step.Collect k f.cid) queue ∙ ap (step.Collect q) identifier;
-      answers = says_collected last.at.answer f (subst (Says last.at.answer) (collection_is w.collected.event w.collected.reply f w.is_collection) last.is_of.says);
+          ∙ submitted_draft first.at.before w.draft (subst (λ (what : Step). event_at first.at.before what ≡ Some (events.Submit w.draft)) (asked_at first.at.before first.at.what (events.Submit w.draft) submits) submits);
+      collects = asked_at last.at.before last.at.what (events.Collect f.q f.cid) (last.is_of.event ∙ ap Some w.event) ∙ ap (λ (k : ℕ). step.Collect k f.cid) queue ∙ ap (step.Collect q) identifier;
+      answers = last.is_of.tells ∙ ap told (collection_is w.collected.event w.collected.reply f w.is_collection);
       made_before = first.before;
       made_between = first.behind;
       made_later = last.behind;
     }
   where
     last : SplitAt done (w.before ++ w.submitted ∷ w.between) w.collected w.later
-    last = split_made done (w.before ++ w.submitted ∷ w.between) w.collected w.later (subst (MadeBy done) w.parts values)
+    last = split_made done (w.before ++ w.submitted ∷ w.between) w.collected w.later (values ∙ w.parts)
 
     first : SplitAt last.earlier w.before w.submitted w.between
     first = split_made last.earlier w.before w.submitted w.between last.before
 
-    submits : SubmitsAt first.at.before w.draft first.at.what
-    submits = submits_at first.at.before w.draft first.at.what (first.is_of.event ∙ ap Some (submission_is w.submitted.event w.submitted.reply w.draft w.is_submission))
+    submits : event_at first.at.before first.at.what ≡ Some (events.Submit w.draft)
+    submits = first.is_of.event ∙ ap Some (submission_is w.submitted.event w.submitted.reply w.draft w.is_submission)
 
 keeps_command : (image : List ℕ) (done : List Done) (end : Table) (q cid : ℕ) (f : FinishedContents) → TrustedBench image done end → finished_at q cid end.finished ≡ Some f
     → (k : KeepsCommand image done end q cid) × (k.command.finished ≡ f)
 keeps_command image done end q cid f b kept = (
   record {
-    command = command_of image end f r.made w run;
+    command = command_of image end f (made_by done) w run;
     image_is = refl;
     end_is = refl;
     queue = eqb-true f.q q named.0;
@@ -96,20 +96,17 @@ keeps_command image done end q cid f b kept = (
   refl,
 )
   where
-    r : Ran [] (table (opening_of b.config image)) done end
-    r = ran_of image done end b
+    w : WasCollected (made_by done) f
+    w = all_at_found (WasCollected (made_by done)) (is_finished q cid) end.finished f kept (kept_from image done end b).finished
 
-    w : WasCollected r.made f
-    w = all_at_found (WasCollected r.made) (is_finished q cid) end.finished f kept r.are_from.finished
-
-    run : TrustedRun image r.made end.world
-    run = run_of image done end b
+    run : TrustedRun image (made_by done) end.world
+    run = makes_run image done end b
 
     named : ((f.q == q) ≡ true) × ((f.cid == cid) ≡ true)
     named = and_parts (f.q == q) (f.cid == cid) (found_is (is_finished q cid) end.finished f kept)
 
-    steps : IsOfSteps done q cid (command_of image end f r.made w run)
-    steps = steps_of image done end q cid f r.made w run r.values (eqb-true f.q q named.0) (eqb-true f.cid cid named.1)
+    steps : IsOfSteps done q cid (command_of image end f (made_by done) w run)
+    steps = steps_of image done end q cid f (made_by done) w run refl (eqb-true f.q q named.0) (eqb-true f.cid cid named.1)
 
 pub gathers_command : gathered_bytes_are_of_collected_commands
 gathers_command image done end new q cid bytes b does = go (finished_at q cid end.finished) refl does

@@ -1,24 +1,81 @@
--- What stands behind the tickets and the finished commands that a bench keeps, in the steps that the machine made.
-use Rattle.std.proofs.Common.{◌≡◌, ℕ, ◌==◌, Bool, true, false, ◌&&◌, ◌||◌, Some, List, [], ◌∷◌, ◌++◌, refl, ap, sym, ◌∙◌, subst, eqb-true, append_assoc, eq-eqb}
+-- The machine's steps that a bench's steps are, with the values that it keeps.
+use Rattle.machine_model.specs.Events as events
+use Rattle.machine_model.specs.Step as machine
+use Rattle.step_core.specs.declared.step.Step.TheVariants as step
+use Rattle.machine_agreement.specs.Histories as histories
+use Rattle.machine_model.specs.Trusted as laws
+use Rattle.step_core.specs.declared.step.Reply.TheVariants as reply
+use Rattle.std.proofs.Common.{◌≡◌, Option, Some, None, List, [], ◌∷◌, ◌++◌, refl, ap, ◌∙◌, ℕ, ◌==◌, Bool, true, false, ◌&&◌, ◌||◌, sym, subst, eqb-true, append_assoc, eq-eqb, if◌then◌else◌, ap₂, not, append-nil}
+use Rattle.machine_model.specs.Events.{Event}
+use Rattle.machine_model.specs.Image.{Made, is_draft, submitted_by, image_after}
+use Rattle.machine_model.specs.Script.{Table, is_ticket, is_finished, table}
+use Rattle.machine_model.specs.State.{State}
+use Rattle.step_core.specs.Bench.{DoesBy, IsOwn, Makes, event_at, without_first, asked, kept, told}
+use Rattle.step_core.specs.Laws.{made_from}
+use Rattle.step_core.specs.Values.{Reply, Step}
+use Rattle.bench_laws.specs.Values.{Done, made_by, is_forgery, is_reset, resets_by, since_reset, Goes, benches_have_tables, TrustedBench, benches_make_runs_of_their_values, benches_of_trusted_worlds_are_unforged}
 use Rattle.std.specs.List.{AllByRecursion, list_any}
-use Rattle.std.proofs.lemmas.Bool.{true≢false, and_parts, or_right}
+use Rattle.std.proofs.lemmas.Bool.{true≢false, and_parts, or_right, or_parts}
 use Rattle.io_commands.specs.Drafts.{DraftContents}
 use Rattle.io_commands.specs.Values.{FinishedContents}
-use Rattle.machine_model.specs.Events as events
-use Rattle.machine_model.specs.Events.{Event}
-use Rattle.machine_model.specs.Image.{Made, is_draft, submitted_by}
-use Rattle.run_laws.specs.Blocks.{collected_of}
-use Rattle.machine_model.specs.Script.{Table, is_ticket, is_finished}
-use Rattle.machine_model.specs.State.{State}
-use Rattle.machine_model.specs.Step as machine
-use Rattle.machine_model.specs.Step.{finished_from, asked_by, pages_with_bytes}
+use Rattle.run_laws.specs.Blocks.{collected_of, blocks_of_request}
+use Rattle.machine_model.specs.Step.{finished_from, asked_by, pages_with_bytes, resets}
 use Rattle.host_core.proofs.Lists.{all-append}
 use Rattle.run_laws.specs.Submitted.{submits}
-use Rattle.step_core.specs.Bench.{without_first}
 use Rattle.step_core.proofs.Outstanding.{collected_named}
-use Rattle.bench_laws.specs.Gathering.{collects}
-use Rattle.bench_laws.proofs.Standing.{Stands, releases_by, step_stands, not_again, collected_stands}
-use Rattle.bench_laws.proofs.Lists.{Few, none_last, few_more, few_without, gone, any_without, all_without, any_on, any_last, any_of_more, HasLast, split_last}
+use Rattle.bench_laws.specs.Gathering.{collects, collects_by}
+use Rattle.bench_laws.proofs.Standing.{Stands, releases_by, step_stands, not_again, collected_stands, Few, none_last, few_more, few_without, gone, any_without, all_without, any_on, any_last, any_of_more, HasLast, split_last}
+use Rattle.step_core.proofs.Events.{asked_at, inside}
+use Rattle.step_core.proofs.KeptDrafts.{OwnLeft, Same, Changed, own_left}
+use Rattle.step_core.specs.Going.{forges_by}
+use Rattle.step_core.proofs.Lawful.{same_forgery, none_forged}
+use Rattle.machine_model.specs.Trusted.{Steps, TrustedRun}
+use Rattle.step_core.specs.Opening.{opening_of}
+use Rattle.step_core.proofs.RunsOf.{steps_from}
+use Rattle.machine_agreement.proofs.NeverRestored.{ends_unforged}
+use Rattle.std.specs.Option.{option_map}
+use Rattle.std.specs.Str.{bytes_eq}
+use Rattle.entry_codec.specs.declared.status.TheConstants.Status.{SUCCESS, COMPARE_FAILURE}
+use Rattle.io_commands.specs.DataBytes.{gathered}
+use Rattle.machine_model.specs.After.{final_status}
+use Rattle.run_laws.specs.Statuses.{status_by}
+use Rattle.machine_model.specs.Refusals.{job_at}
+use Rattle.machine_model.specs.Opening.{opening}
+use Rattle.machine_agreement.proofs.Unforged.{unforged_front, unforged_run}
+use Rattle.run_laws.proofs.Images.{images_are_runs, compares_told}
+use Rattle.machine_agreement.proofs.Along.{cut}
+use Rattle.bench_laws.specs.Blocks.{benches_write_their_blocks, benches_compare_their_blocks}
+
+-- A step of a bench is a step of the machine, or one of a kept value alone; and the machine's steps of several, one behind the other.
+
+abbrev pub made_at : State → Event → events.Reply → Made
+made_at s e r = record { before = s; event = e; reply = r }
+
+-- the machine's steps from one step of a bench on
+abbrev pub first_made : Done → List Made → List Made
+first_made d made = made_from (event_at d.before d.what) d.before d.what d.answer d.after d.does made
+
+pub data Kind (d : Done) : Type 0 where
+  OfMachine : (e : Event) → event_at d.before d.what ≡ Some e → (m : Makes d.before d.what e d.answer d.after) → ((made : List Made) → first_made d made ≡ made_at d.before.world e m.reply ∷ made) → Kind d
+  OfBench : event_at d.before d.what ≡ None → IsOwn d.before d.what d.answer d.after → ((made : List Made) → first_made d made ≡ made) → Kind d
+
+pub kind : (d : Done) → Kind d
+kind d = go (event_at d.before d.what) refl d.does (λ made. refl)
+  where
+    go : (o : Option Event) → event_at d.before d.what ≡ o → (does : DoesBy o d.before d.what d.answer d.after) → ((made : List Made) → first_made d made ≡ made_from o d.before d.what d.answer d.after does made) → Kind d
+    go (Some e) at m same = OfMachine e at m same
+    go None at own same = OfBench at own same
+
+from_behind : (o : Option Event) (t : Table) (what : Step) (answer : Reply) (new : Table) (does : DoesBy o t what answer new) (made more : List Made)
+    → made_from o t what answer new does (made ++ more) ≡ made_from o t what answer new does made ++ more
+from_behind (Some e) t what answer new does made more = refl
+from_behind None t what answer new does made more = refl
+
+pub made_by-append : (xs ys : List Done) → made_by (xs ++ ys) ≡ made_by xs ++ made_by ys
+made_by-append [] ys = refl
+made_by-append (d ∷ xs) ys = ap (first_made d) (made_by-append xs ys) ∙ from_behind (event_at d.before d.what) d.before d.what d.answer d.after d.does (made_by xs) (made_by ys)
+
+-- What stands behind the tickets and the finished commands that a bench keeps, in the steps that the machine made.
 
 -- a command was submitted and collected in these steps
 pub record WasCollected (made : List Made) (f : FinishedContents) : Type 0 where
@@ -78,16 +135,6 @@ all_on made m (f ∷ fs) far all =
     own : (f.q == f.q) ≡ true → (f.cid == f.cid) ≡ true → (((f.q == f.q) && (f.cid == f.cid)) || list_any (is_finished f.q f.cid) fs) ≡ true
     own x y = rw (x, y) refl
 
--- a step outside the machine, that keeps the tickets and the finished commands
-pub same_kept : (made : List Made) (t new : Table) → new.world ≡ t.world → new.tickets ≡ t.tickets → new.finished ≡ t.finished → AreFrom made t → AreFrom made new
-same_kept made t new world tickets finished h =
-    record {
-      tickets = λ q cid there. h.tickets q cid (ap (list_any (is_ticket q cid)) (sym tickets) ∙ there);
-      finished = subst (AllByRecursion (WasCollected made)) (sym finished) h.finished;
-      stands = λ q cid there. subst (λ (s : State). Stands q cid s.host.records) (sym world) (h.stands q cid (ap (list_any (is_finished q cid)) (sym finished) ∙ there));
-      few = λ q cid. subst (Few (is_finished q cid)) (sym finished) (h.few q cid);
-    }
-
 -- a step of the machine that keeps the finished commands
 pub made_on : (made : List Made) (m : Made) (t new : Table) → ((q cid : ℕ) → list_any (is_ticket q cid) new.tickets ≡ true → list_any (submits q cid) (made ++ m ∷ []) ≡ true) → new.finished ≡ t.finished
     → machine.Step t.world m.event m.reply new.world → ((q cid : ℕ) → releases_by q cid m.event m.reply ≡ false) → ((q cid : ℕ) → collects q cid m ≡ false) → AreFrom made t → AreFrom (made ++ m ∷ []) new
@@ -102,41 +149,40 @@ made_on made m t new tickets finished step unreleased uncollected h =
 pub same_tickets : (made : List Made) (m : Made) (t new : Table) → new.tickets ≡ t.tickets → AreFrom made t → (q cid : ℕ) → list_any (is_ticket q cid) new.tickets ≡ true → list_any (submits q cid) (made ++ m ∷ []) ≡ true
 same_tickets made m t new same h q cid there = any_on (submits q cid) made m (h.tickets q cid (ap (list_any (is_ticket q cid)) (sym same) ∙ there))
 
+-- what a step of the machine leaves
+abbrev pub left_at : Table → Event → events.Reply → State → Table
+left_at t e r world = record (kept t (asked e) r) { world = world }
+
 -- A release
 
-pub released_more : (made : List Made) (m : Made) (t new : Table) (q cid : ℕ) → new.tickets ≡ t.tickets → new.finished ≡ without_first (is_finished q cid) t.finished
-    → machine.Step t.world m.event m.reply new.world → ((k n : ℕ) → releases_by k n m.event m.reply ≡ ((q == k) && (cid == n))) → ((k n : ℕ) → collects k n m ≡ false) → AreFrom made t
-    → AreFrom (made ++ m ∷ []) new
-released_more made m t new q cid tickets finished step its uncollected h =
+pub released_more : (made : List Made) (t : Table) (f : FinishedContents) (world : State) → machine.Step t.world (events.Release f) events.Accepted world → AreFrom made t
+    → AreFrom (made ++ made_at t.world (events.Release f) events.Accepted ∷ []) (left_at t (events.Release f) events.Accepted world)
+released_more made t f world step h =
     record {
-      tickets = same_tickets made m t new tickets h;
-      finished =
-          subst (AllByRecursion (WasCollected (made ++ m ∷ []))) (sym finished)
-          (all_without (WasCollected (made ++ m ∷ [])) (is_finished q cid) t.finished (all_on made m t.finished (λ k n there. uncollected k n) h.finished));
-      stands = λ k n there. left k n (ap (list_any (is_finished k n)) (sym finished) ∙ there) ((q == k) && (cid == n)) refl;
-      few = λ k n. subst (Few (is_finished k n)) (sym finished) (few_without (is_finished k n) (is_finished q cid) t.finished (h.few k n));
+      tickets = same_tickets made m t t refl h;
+      finished = all_without (WasCollected (made ++ m ∷ [])) (is_finished f.q f.cid) t.finished (all_on made m t.finished (λ k n there. refl) h.finished);
+      stands = λ k n there. left k n there ((f.q == k) && (f.cid == n)) refl;
+      few = λ k n. few_without (is_finished k n) (is_finished f.q f.cid) t.finished (h.few k n);
     }
   where
-    left : (k n : ℕ) → list_any (is_finished k n) (without_first (is_finished q cid) t.finished) ≡ true → (b : Bool) → ((q == k) && (cid == n)) ≡ b → Stands k n new.world.host.records
-    left k n there false e = step_stands k n t.world m.event m.reply new.world step (its k n ∙ e) (h.stands k n (any_without (is_finished k n) (is_finished q cid) t.finished there))
+    m : Made
+    m = made_at t.world (events.Release f) events.Accepted
+
+    left : (k n : ℕ) → list_any (is_finished k n) (without_first (is_finished f.q f.cid) t.finished) ≡ true → (b : Bool) → ((f.q == k) && (f.cid == n)) ≡ b → Stands k n world.host.records
+    left k n there false e = step_stands k n t.world (events.Release f) events.Accepted world step e (h.stands k n (any_without (is_finished k n) (is_finished f.q f.cid) t.finished there))
     left k n there true e =
-        let both = and_parts (q == k) (cid == n) e in
-        absurd (true≢false (sym there ∙ ap (λ (x : ℕ). list_any (is_finished x n) (without_first (is_finished q cid) t.finished)) (sym (eqb-true q k both.0))
-        ∙ ap (λ (x : ℕ). list_any (is_finished q x) (without_first (is_finished q cid) t.finished)) (sym (eqb-true cid n both.1)) ∙ gone (is_finished q cid) t.finished (h.few q cid)))
+        let both = and_parts (f.q == k) (f.cid == n) e in
+        absurd (true≢false (sym there ∙ ap (λ (x : ℕ). list_any (is_finished x n) (without_first (is_finished f.q f.cid) t.finished)) (sym (eqb-true f.q k both.0))
+        ∙ ap (λ (x : ℕ). list_any (is_finished f.q x) (without_first (is_finished f.q f.cid) t.finished)) (sym (eqb-true f.cid n both.1)) ∙ gone (is_finished f.q f.cid) t.finished (h.few f.q f.cid)))
 
 -- A submission
 
-submits_own : (q cid a b : ℕ) (d : DraftContents) (m : Made) → submitted_by m.event m.reply ≡ d ∷ [] → d.q ≡ a → d.cid ≡ b → is_ticket q cid (a, b) ≡ true → submits q cid m ≡ true
-submits_own q cid a b d m is queue id named =
-    ap (list_any (is_draft q cid)) is ∙ ap (λ (n : ℕ). ((n == q) && (d.cid == cid)) || false) queue ∙ ap (λ (n : ℕ). ((a == q) && (n == cid)) || false) id
-    ∙ ap (λ (y : Bool). y || false) named
-
-pub submitted_tickets : (made : List Made) (m : Made) (t new : Table) (q cid : ℕ) (d : DraftContents) → submitted_by m.event m.reply ≡ d ∷ [] → d.q ≡ q → d.cid ≡ cid
-    → new.tickets ≡ t.tickets ++ (q, cid) ∷ [] → AreFrom made t → (k n : ℕ) → list_any (is_ticket k n) new.tickets ≡ true → list_any (submits k n) (made ++ m ∷ []) ≡ true
-submitted_tickets made m t new q cid d is queue id tickets h k n there =
-    any_of_more (is_ticket k n) t.tickets (q, cid) (list_any (submits k n) (made ++ m ∷ []) ≡ true) (ap (list_any (is_ticket k n)) (sym tickets) ∙ there)
-    (λ early. any_on (submits k n) made m (h.tickets k n early))
-    (λ late. any_last (submits k n) made m (submits_own k n q cid d m is queue id late))
+pub submitted_tickets : (made : List Made) (t : Table) (d : DraftContents) → AreFrom made t → (k n : ℕ) → list_any (is_ticket k n) (t.tickets ++ (d.q, d.cid) ∷ []) ≡ true
+    → list_any (submits k n) (made ++ made_at t.world (events.Submit d) events.Accepted ∷ []) ≡ true
+submitted_tickets made t d h k n there =
+    any_of_more (is_ticket k n) t.tickets (d.q, d.cid) (list_any (submits k n) (made ++ made_at t.world (events.Submit d) events.Accepted ∷ []) ≡ true) there
+    (λ early. any_on (submits k n) made (made_at t.world (events.Submit d) events.Accepted) (h.tickets k n early))
+    (λ late. any_last (submits k n) made (made_at t.world (events.Submit d) events.Accepted) (ap (λ (b : Bool). b || false) late))
 
 -- A collection
 
@@ -178,28 +224,25 @@ was_collected made m f there is event =
       once = refl;
     }
 
-pub collected_more : (made : List Made) (t new : Table) (q cid : ℕ) (f : FinishedContents) → list_any (is_ticket q cid) t.tickets ≡ true
-    → machine.Step t.world (events.Collect q cid) (events.Collects f) new.world
-    → ((k n : ℕ) → list_any (is_ticket k n) new.tickets ≡ true → list_any (is_ticket k n) t.tickets ≡ true) → new.finished ≡ t.finished ++ f ∷ [] → AreFrom made t
-    → AreFrom (made ++ record { before = t.world; event = events.Collect q cid; reply = events.Collects f } ∷ []) new
-collected_more made t new q cid f there step fewer finished h =
+pub collected_more : (made : List Made) (t : Table) (q cid : ℕ) (f : FinishedContents) (world : State) → list_any (is_ticket q cid) t.tickets ≡ true
+    → machine.Step t.world (events.Collect q cid) (events.Collects f) world → AreFrom made t
+    → AreFrom (made ++ made_at t.world (events.Collect q cid) (events.Collects f) ∷ []) (left_at t (events.Collect q cid) (events.Collects f) world)
+collected_more made t q cid f world there step h =
     record {
-      tickets = λ k n there. any_on (submits k n) made m (h.tickets k n (fewer k n there));
-      finished =
-          subst (AllByRecursion (WasCollected (made ++ m ∷ []))) (sym finished)
-          (all-append (WasCollected (made ++ m ∷ [])) t.finished f (all_on made m t.finished far h.finished) (was_collected made m f own refl named));
+      tickets = λ k n there. any_on (submits k n) made m (h.tickets k n (any_without (is_ticket k n) (is_ticket q cid) t.tickets there));
+      finished = all-append (WasCollected (made ++ m ∷ [])) t.finished f (all_on made m t.finished far h.finished) (was_collected made m f own refl named);
       stands = λ k n there.
-          any_of_more (is_finished k n) t.finished f (Stands k n new.world.host.records) (ap (list_any (is_finished k n)) (sym finished) ∙ there)
-          (λ early. step_stands k n t.world (events.Collect q cid) (events.Collects f) new.world step refl (h.stands k n early))
+          any_of_more (is_finished k n) t.finished f (Stands k n world.host.records) there
+          (λ early. step_stands k n t.world (events.Collect q cid) (events.Collects f) world step refl (h.stands k n early))
           (λ late. own_stands k n late);
-      few = λ k n. subst (Few (is_finished k n)) (sym finished) (few_more (is_finished k n) t.finished f (h.few k n) (λ late. new_name k n late (list_any (is_finished k n) t.finished) refl));
+      few = λ k n. few_more (is_finished k n) t.finished f (h.few k n) (λ late. new_name k n late (list_any (is_finished k n) t.finished) refl);
     }
   where
     m : Made
-    m = record { before = t.world; event = events.Collect q cid; reply = events.Collects f }
+    m = made_at t.world (events.Collect q cid) (events.Collects f)
 
     name : (f.q ≡ q) × (f.cid ≡ cid)
-    name = collected_named t.world new.world q cid f step
+    name = collected_named t.world world q cid f step
 
     named : events.Collect q cid ≡ events.Collect f.q f.cid
     named = ap (λ (k : ℕ). events.Collect k cid) (sym name.0) ∙ ap (events.Collect f.q) (sym name.1)
@@ -208,17 +251,17 @@ collected_more made t new q cid f there step fewer finished h =
     own = ap (λ (k : ℕ). list_any (submits k f.cid) made) name.0 ∙ ap (λ (n : ℕ). list_any (submits q n) made) name.1 ∙ h.tickets q cid there
 
     far : CollectsNone m t.finished
-    far k n early = not_again k n q cid t.world new.world f step (h.stands k n early)
+    far k n early = not_again k n q cid t.world world f step (h.stands k n early)
 
     is_name : (k n : ℕ) → is_finished k n f ≡ true → (q ≡ k) × (cid ≡ n)
     is_name k n late =
         let both = and_parts (f.q == k) (f.cid == n) late in
         (sym name.0 ∙ eqb-true f.q k both.0, sym name.1 ∙ eqb-true f.cid n both.1)
 
-    own_stands : (k n : ℕ) → is_finished k n f ≡ true → Stands k n new.world.host.records
+    own_stands : (k n : ℕ) → is_finished k n f ≡ true → Stands k n world.host.records
     own_stands k n late =
         let is = is_name k n late in
-        subst (λ (x : ℕ). Stands x n new.world.host.records) is.0 (subst (λ (x : ℕ). Stands q x new.world.host.records) is.1 (collected_stands q cid t.world new.world f step))
+        subst (λ (x : ℕ). Stands x n world.host.records) is.0 (subst (λ (x : ℕ). Stands q x world.host.records) is.1 (collected_stands q cid t.world world f step))
 
     new_name : (k n : ℕ) → is_finished k n f ≡ true → (b : Bool) → list_any (is_finished k n) t.finished ≡ b → b ≡ false
     new_name k n late false e = refl
@@ -228,3 +271,232 @@ collected_more made t new q cid f there step fewer finished h =
       where
         both_same : (q == k) ≡ true → (cid == n) ≡ true → ((q == k) && (cid == n)) ≡ true
         both_same x y = rw (x, y) refl
+
+-- What stands behind the values that a bench keeps, behind each of its steps.
+
+-- a step of a kept value alone keeps the tickets and the finished commands
+pub own_from : (past : List Made) (t : Table) (what : Step) (answer : Reply) (new : Table) → IsOwn t what answer new → AreFrom past t → AreFrom past new
+own_from past t what answer new is h = go (own_left t what answer new is)
+  where
+    go : OwnLeft t new → AreFrom past new
+    go (Same same) = subst (AreFrom past) (sym same) h
+    go (Changed test f proper same) = subst (AreFrom past) (sym same) (record { tickets = h.tickets; finished = h.finished; stands = h.stands; few = h.few })
+
+ticket_there : (t : Table) (q cid : ℕ) → event_at t (step.Collect q cid) ≡ Some (events.Collect q cid) → list_any (is_ticket q cid) t.tickets ≡ true
+ticket_there t q cid at = go (list_any (is_ticket q cid) t.tickets) at
+  where
+    go : (b : Bool) → (if b then Some (events.Collect q cid) else None) ≡ Some (events.Collect q cid) → b ≡ true
+    go true at = refl
+    go false at = absurd cc
+
+-- an event that keeps the tickets and the finished commands
+others_from : (past : List Made) (t : Table) (e : Event) (r : events.Reply) (world : State) → (left_at t e r world).tickets ≡ t.tickets → (left_at t e r world).finished ≡ t.finished
+    → ((k n : ℕ) → releases_by k n e r ≡ false) → ((k n : ℕ) → collects_by k n e r ≡ false) → machine.Step t.world e r world → AreFrom past t
+    → AreFrom (past ++ made_at t.world e r ∷ []) (left_at t e r world)
+others_from past t e r world tickets finished unreleased uncollected step h =
+    made_on past (made_at t.world e r) t (left_at t e r world) (same_tickets past (made_at t.world e r) t (left_at t e r world) tickets h) finished step unreleased uncollected h
+
+event_from : (past : List Made) (t : Table) (e : Event) (r : events.Reply) (world : State) → event_at t (asked e) ≡ Some e → machine.Step t.world e r world → AreFrom past t
+    → AreFrom (past ++ made_at t.world e r ∷ []) (left_at t e r world)
+event_from past t (events.Submit d) events.Accepted world at step h =
+    made_on past (made_at t.world (events.Submit d) events.Accepted) t (left_at t (events.Submit d) events.Accepted world) (submitted_tickets past t d h) refl step (λ k n. refl) (λ k n. refl) h
+event_from past t (events.Release f) events.Accepted world at step h = released_more past t f world step h
+event_from past t (events.Collect q cid) (events.Collects f) world at step h = collected_more past t q cid f world (ticket_there t q cid at) step h
+event_from past t (events.Reserve q request) (events.Reserved d) world at step h = others_from past t (events.Reserve q request) (events.Reserved d) world refl refl (λ k n. refl) (λ k n. refl) step h
+event_from past t (events.Cancel d) events.Accepted world at step h = others_from past t (events.Cancel d) events.Accepted world refl refl (λ k n. refl) (λ k n. refl) step h
+event_from past t e r world at step h = others_from past t e r world refl refl (λ k n. refl) (λ k n. refl) step h
+
+pub makes_from : (past : List Made) (t : Table) (what : Step) (e : Event) (answer : Reply) (new : Table) → event_at t what ≡ Some e → (m : Makes t what e answer new) → AreFrom past t
+    → AreFrom (past ++ made_at t.world e m.reply ∷ []) new
+makes_from past t what e answer new at m h =
+    let asks = asked_at t what e at in
+    subst (AreFrom (past ++ made_at t.world e m.reply ∷ [])) (sym (subst (λ (w : Step). new ≡ record (kept t w m.reply) { world = new.world }) asks m.keeps))
+    (event_from past t e m.reply new.world (subst (λ (w : Step). event_at t w ≡ Some e) asks at) m.step h)
+
+-- A bench's steps forge an entry, and reset the controller, where the machine's steps that they are do.
+
+-- One step
+
+same_reset : (e : Event) → resets_by (asked e) ≡ resets e
+same_reset events.Reset = refl
+same_reset e = refl
+
+none_reset : (t : Table) (what : Step) → event_at t what ≡ None → resets_by what ≡ false
+none_reset t step.Reset at = absurd cc
+none_reset t what at = refl
+
+-- a test of a bench's steps that goes by the machine's steps
+record GoesBy (test : Done → Bool) (its : Made → Bool) : Type 0 where
+  outside : (d : Done) → event_at d.before d.what ≡ None → test d ≡ false
+  same : (d : Done) (e : Event) (r : events.Reply) → d.what ≡ asked e → d.answer ≡ told r → test d ≡ its (made_at d.before.world e r)
+
+forgery : GoesBy is_forgery laws.is_forgery
+forgery = record { outside = λ d at. none_forged d.before d.what d.answer at; same = λ d e r asks tells. ap₂ forges_by asks tells ∙ same_forgery e r }
+
+reset : GoesBy is_reset laws.is_reset
+reset = record { outside = λ d at. none_reset d.before d.what at; same = λ d e r asks tells. ap resets_by asks ∙ same_reset e }
+
+-- Steps
+
+same_any : (test : Done → Bool) (its : Made → Bool) → GoesBy test its → (done : List Done) → list_any test done ≡ list_any its (made_by done)
+same_any test its by [] = refl
+same_any test its by (d ∷ done) = go (kind d) (same_any test its by done)
+  where
+    go : Kind d → list_any test done ≡ list_any its (made_by done) → (test d || list_any test done) ≡ list_any its (first_made d (made_by done))
+    go (OfMachine e at m same) rest = ap₂ (λ (x y : Bool). x || y) (by.same d e m.reply (asked_at d.before d.what e at) m.tells) rest ∙ sym (ap (list_any its) (same (made_by done)))
+    go (OfBench at own same) rest = ap (λ (x : Bool). x || list_any test done) (by.outside d at) ∙ rest ∙ sym (ap (list_any its) (same (made_by done)))
+
+pub same_forgeries : (done : List Done) → list_any is_forgery done ≡ list_any laws.is_forgery (made_by done)
+same_forgeries = same_any is_forgery laws.is_forgery forgery
+
+same_resets : (done : List Done) → list_any is_reset done ≡ list_any laws.is_reset (made_by done)
+same_resets = same_any is_reset laws.is_reset reset
+
+-- Steps behind the last reset
+
+all_since : (made : List Made) → list_any laws.is_reset made ≡ false → histories.since_reset made ≡ made
+all_since [] none = refl
+all_since (m ∷ made) none = let both = or_parts (laws.is_reset m) (list_any laws.is_reset made) none in rw (both.1, both.0) refl
+
+-- are those of the machine's steps behind its last reset
+pub same_since : (done : List Done) → made_by (since_reset done) ≡ histories.since_reset (made_by done)
+same_since [] = refl
+same_since (d ∷ done) = parts (list_any is_reset done) (is_reset d) ∙ go (kind d) (same_since done)
+  where
+    parts : (b c : Bool) → made_by (if b then since_reset done else if c then done else (d ∷ done)) ≡ (if b then made_by (since_reset done) else if c then made_by done else first_made d (made_by done))
+    parts true c = refl
+    parts false true = refl
+    parts false false = refl
+
+    stays : (b c : Bool) → b ≡ list_any laws.is_reset (made_by done) → (if b then histories.since_reset (made_by done) else if c then made_by done else made_by done) ≡ histories.since_reset (made_by done)
+    stays true c any = refl
+    stays false true any = sym (all_since (made_by done) (sym any))
+    stays false false any = sym (all_since (made_by done) (sym any))
+
+    go : Kind d → made_by (since_reset done) ≡ histories.since_reset (made_by done)
+        → (if list_any is_reset done then made_by (since_reset done) else if is_reset d then made_by done else first_made d (made_by done)) ≡ histories.since_reset (first_made d (made_by done))
+    go (OfMachine e at m same) rest =
+        rw (same (made_by done), rest, same_resets done, reset.same d e m.reply (asked_at d.before d.what e at) m.tells) refl
+    go (OfBench at own same) rest = rw (same (made_by done), rest) (stays (list_any is_reset done) (is_reset d) (same_resets done))
+
+-- The steps of a bench make a trusted run with the values that it keeps.
+
+-- Tables between steps
+
+pub have_tables : benches_have_tables
+have_tables t end [] [] is = record { done = []; steps_are = refl; answers_are = refl; goes = is }
+have_tables t end [] (answer ∷ answers) is = absurd is
+have_tables t end (what ∷ steps) [] is = absurd is
+have_tables t end (what ∷ steps) (answer ∷ answers) is =
+    let rest = have_tables is.0 end steps answers is.2 in
+    record {
+      done = record { before = t; what = what; answer = answer; after = is.0; does = is.1 } ∷ rest.done;
+      steps_are = ap (λ (l : List Step). what ∷ l) rest.steps_are;
+      answers_are = ap (λ (l : List Reply). answer ∷ l) rest.answers_are;
+      goes = (refl, rest.goes);
+    }
+
+-- Steps
+
+steps_made : (t : Table) (done : List Done) (end : Table) → Goes t done end → Steps t.world (made_by done) end.world
+steps_made t [] end is = ap (λ (x : Table). x.world) is
+steps_made t (d ∷ done) end (at, rest) =
+    subst (λ (x : Table). Steps x.world (made_by (d ∷ done)) end.world) at
+    (steps_from (event_at d.before d.what) d.before d.what d.answer d.after end d.does (made_by done) (steps_made d.after done end rest))
+
+-- what stands behind the kept values then
+pub are_from : (past : List Made) (t : Table) (done : List Done) (end : Table) → AreFrom past t → Goes t done end → AreFrom (past ++ made_by done) end
+are_from past t [] end from is = subst (λ (l : List Made). AreFrom l end) (sym (append-nil past)) (subst (AreFrom past) (sym is) from)
+are_from past t (d ∷ done) end from (at, rest) = go (kind d) (subst (AreFrom past) (sym at) from) (λ past from. are_from past d.after done end from rest)
+  where
+    go : Kind d → AreFrom past d.before → ((past : List Made) → AreFrom past d.after → AreFrom (past ++ made_by done) end) → AreFrom (past ++ first_made d (made_by done)) end
+    go (OfMachine e is m same) from rest =
+        let made = made_at d.before.world e m.reply in
+        subst (λ (l : List Made). AreFrom l end) (append_assoc past (made ∷ []) (made_by done) ∙ ap (λ (l : List Made). past ++ l) (sym (same (made_by done))))
+        (rest (past ++ made ∷ []) (makes_from past d.before d.what e d.answer d.after is m from))
+    go (OfBench is own same) from rest =
+        subst (λ (l : List Made). AreFrom (past ++ l) end) (sym (same (made_by done))) (rest past (own_from past d.before d.what d.answer d.after own from))
+
+-- Runs since the opening
+
+nothing_kept : {s : State} → AreFrom [] (table s)
+nothing_kept = record { tickets = λ q cid there. there; finished = tt; stands = λ q cid there. absurd cc; few = λ q cid. tt }
+
+pub makes_run : benches_make_runs_of_their_values
+makes_run image done end b =
+    record {
+      pages = b.config.pages;
+      queues = b.config.queues;
+      entries = b.config.entries;
+      segment = b.config.segment;
+      opens = b.opens;
+      is_image = b.is_image;
+      steps = steps_made (table (opening_of b.config image)) done end b.goes;
+      unforged = ap not (sym (same_forgeries done)) ∙ b.unforged;
+    }
+
+pub kept_from : (image : List ℕ) (done : List Done) (end : Table) → TrustedBench image done end → AreFrom (made_by done) end
+kept_from image done end b = are_from [] (table (opening_of b.config image)) done end nothing_kept b.goes
+
+-- Where the flag is set
+
+pub unforged_where_trusted : benches_of_trusted_worlds_are_unforged
+unforged_where_trusted config image done end goes trusted =
+    ap not (same_forgeries (since_reset done) ∙ ap (list_any laws.is_forgery) (same_since done))
+    ∙ ends_unforged (made_by done) (opening_of config image) end.world (steps_made (table (opening_of config image)) done end goes) trusted
+
+-- What a bench's Writes change and its Compares tell.
+
+pub writes_told : benches_write_their_blocks
+writes_told image done end b = images_are_runs image (made_by done) end.world (makes_run image done end b)
+
+completed_told : (r : events.Reply) (touched : List ℕ) → told r ≡ reply.Completed touched → r ≡ events.Completed touched
+completed_told (events.Completed x) touched e = cc
+completed_told r touched e = absurd cc
+
+own_status : (s : State) (q cid : ℕ) (touched : List ℕ) → status_by s (events.Complete q cid) (events.Completed touched) q cid ≡ option_map (final_status s) (job_at s q cid)
+own_status s q cid touched = rw (eq-eqb q q refl, eq-eqb cid cid refl) refl
+
+-- the machine's step that a completion is
+record IsCompletion (q cid : ℕ) (d : Done) : Type 0 where
+  touched : List ℕ
+  first : (made : List Made) → first_made d made ≡ made_at d.before.world (events.Complete q cid) (events.Completed touched) ∷ made
+
+completion : (q cid : ℕ) (d : Done) (touched : List ℕ) → d.what ≡ step.Complete q cid → d.answer ≡ reply.Completed touched → IsCompletion q cid d
+completion q cid d touched what answer = go (kind d)
+  where
+    event : event_at d.before d.what ≡ Some (events.Complete q cid)
+    event = ap (event_at d.before) what
+
+    go : Kind d → IsCompletion q cid d
+    go (OfMachine e at m same) =
+        let asks : e ≡ events.Complete q cid = inside (sym at ∙ event) in
+        let tells : m.reply ≡ events.Completed touched = completed_told m.reply touched (sym m.tells ∙ answer) in
+        record { touched = touched; first = λ made. same made ∙ ap₂ (λ (x : Event) (r : events.Reply). made_at d.before.world x r ∷ made) asks tells }
+    go (OfBench at own same) = absurd (let bad : None ≡ Some (events.Complete q cid) = sym at ∙ event in cc)
+
+-- the image before a step of a run
+image_then : (image : List ℕ) (before : List Made) (m : Made) (later : List Made) (end : State) → TrustedRun image (before ++ m ∷ later) end → m.before.device.image ≡ image_after image before
+image_then image before m later end run =
+    let parts = cut before (m ∷ later) (opening run.pages run.queues run.entries run.segment image) end run.steps in
+    ap (λ (s : State). s.device.image) parts.2.0
+    ∙ images_are_runs image before parts.0
+    (record {
+      pages = run.pages;
+      queues = run.queues;
+      entries = run.entries;
+      segment = run.segment;
+      opens = run.opens;
+      is_image = run.is_image;
+      steps = parts.1;
+      unforged = ap not (unforged_front before (m ∷ later) (opening run.pages run.queues run.entries run.segment image) (unforged_run image (before ++ m ∷ later) end run)).none;
+    })
+
+pub compares_told_by_steps : benches_compare_their_blocks
+compares_told_by_steps image earlier later d end status draft b c fine =
+    let its = completion c.q c.cid d c.touched c.what c.answer in
+    let m = made_at d.before.world (events.Complete c.q c.cid) (events.Completed its.touched) in
+    let run = subst (λ (l : List Made). TrustedRun image l end.world) (made_by-append earlier (d ∷ later) ∙ ap (λ (l : List Made). made_by earlier ++ l) (its.first (made_by later))) (makes_run image (earlier ++ d ∷ later) end b) in
+    subst (λ (bytes : List ℕ). status ≡ (if bytes_eq (gathered draft.request.pieces draft.data_pages) (blocks_of_request draft.request bytes) then SUCCESS else COMPARE_FAILURE))
+    (image_then image (made_by earlier) m (made_by later) end.world run)
+    (compares_told image (made_by earlier) (made_by later) m end.world c.q c.cid status draft run (own_status d.before.world c.q c.cid its.touched ∙ c.status_is) c.draft_is c.is_compare fine)

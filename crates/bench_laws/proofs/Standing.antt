@@ -1,8 +1,13 @@
--- A drafted command stays so until it is submitted or cancelled, and a collected one until it is released, whatever else happens. A
--- collected command is not collected again before.
-use Rattle.std.proofs.Common.{◌≡◌, ℕ, ◌==◌, nat_eq, Bool, true, false, not, ◌&&◌, ◌||◌, Option, Some, None, List, [], ◌∷◌, ◌++◌, map, find, is_none, if◌then◌else◌, refl, ap, sym, ◌∙◌, subst, MatchBool}
+-- What stands in a bench's lists, and what a step of it changes.
+use Rattle.machine_model.specs.After as a
+use Rattle.machine_model.specs.Events as events
+use Rattle.machine_model.specs.declared.words.Refusal.TheVariants as refusals
+use Rattle.std.proofs.Common.{◌≡◌, Bool, true, false, ◌||◌, List, [], ◌∷◌, ◌++◌, if◌then◌else◌, refl, ap, ap₂, sym, ◌∙◌, MatchBool, Some, find, cond, ℕ, ◌==◌, nat_eq, not, ◌&&◌, Option, None, map, is_none, subst}
+use Rattle.std.specs.List.{AllByRecursion, list_any}
+use Rattle.std.proofs.lemmas.Bool.{true≢false, or_right, not-false, and_parts, or_parts}
+use Rattle.std.proofs.lemmas.List.Folds.{list_any-append}
+use Rattle.step_core.specs.Bench.{without_first, with_first}
 use Rattle.std.specs.Option.{option_and_then, option_map, option_map_or}
-use Rattle.std.proofs.lemmas.Bool.{true≢false, not-false, and_parts, or_parts}
 use Rattle.std.specs.Cmp.Lexicographic.{pointwise}
 use Rattle.io_commands.specs.Asked.{Request}
 use Rattle.admin_commands.specs.declared.AdminKind.TheVariants.{Abort, DeleteSq, DeleteCq}
@@ -17,10 +22,7 @@ use Rattle.machine_model.specs.declared.words.Phase.TheVariants.{Drafted, Submit
 use Rattle.machine_model.specs.State.{State, Record, is_at, record_at, pages_of, with_record, without_record}
 use Rattle.machine_model.specs.Refusals.{asks_for, is_submitted, is_drafted, is_held, is_collected, is_live, refusal_of, record_is, is_of, in_state, queue_full}
 use Rattle.machine_model.specs.Step.{Step, HostPart, IsController, asked_by, finished_from, pages_with_bytes}
-use Rattle.machine_model.specs.After as a
-use Rattle.machine_model.specs.Events as events
 use Rattle.machine_model.specs.Events.{Event, Reply}
-use Rattle.machine_model.specs.declared.words.Refusal.TheVariants as refusals
 use Rattle.machine_agreement.proofs.Ended.{io_left}
 use Rattle.machine_model.proofs.Moves.{creates_cq, creates_sq, host_moves, sent_record}
 use Rattle.machine_model.proofs.Steps.{Accepts, part_left}
@@ -28,6 +30,173 @@ use Rattle.machine_model.proofs.Refused.{first_fails, found}
 use Rattle.host_core.proofs.Lists.{found_is}
 use Rattle.step_core.proofs.Outstanding.{one_step}
 use Rattle.step_core.proofs.Records.{find_more, find_changed, other_than, off_name, apart, found_with, found_without}
+
+-- Steps of a run that pass a test: when one is added, and split at the last one.
+
+pub any_on : {X : Type 0} (p : X → Bool) (xs : List X) (y : X) → list_any p xs ≡ true → list_any p (xs ++ y ∷ []) ≡ true
+any_on p xs y h = list_any-append p xs (y ∷ []) ∙ ap (λ (b : Bool). b || list_any p (y ∷ [])) h
+
+pub any_last : {X : Type 0} (p : X → Bool) (xs : List X) (y : X) → p y ≡ true → list_any p (xs ++ y ∷ []) ≡ true
+any_last p xs y h = list_any-append p xs (y ∷ []) ∙ or_right (list_any p xs) (p y || false) (ap (λ (b : Bool). b || false) h)
+
+-- an element more: an earlier one passes, or it does
+pub any_of_more : {X : Type 0} (p : X → Bool) (xs : List X) (y : X) (Q : Type 0) → list_any p (xs ++ y ∷ []) ≡ true → (list_any p xs ≡ true → Q) → (p y ≡ true → Q) → Q
+any_of_more p xs y Q h early late = go (list_any p xs) (p y) early late (sym (list_any-append p xs (y ∷ [])) ∙ h)
+  where
+    go : (a b : Bool) → (a ≡ true → Q) → (b ≡ true → Q) → (a || (b || false)) ≡ true → Q
+    go true b f g h = f refl
+    go false true f g h = g refl
+    go false false f g h = absurd (true≢false (sym h))
+
+pub any_without : {X : Type 0} (p test : X → Bool) (xs : List X) → list_any p (without_first test xs) ≡ true → list_any p xs ≡ true
+any_without p test [] h = h
+any_without {X} p test (x ∷ xs) h = go (test x) h (any_without p test xs)
+  where
+    rest : (b : Bool) → (b || list_any p (without_first test xs)) ≡ true → (list_any p (without_first test xs) ≡ true → list_any p xs ≡ true) → (b || list_any p xs) ≡ true
+    rest true h ih = refl
+    rest false h ih = ih h
+
+    go : (b : Bool) → list_any p (if b then xs else (x ∷ without_first test xs)) ≡ true → (list_any p (without_first test xs) ≡ true → list_any p xs ≡ true) → (p x || list_any p xs) ≡ true
+    go true h ih = or_right (p x) (list_any p xs) h
+    go false h ih = rest (p x) h ih
+
+pub all_without : {X : Type 0} (P : X → Type 0) (test : X → Bool) (xs : List X) → AllByRecursion P xs → AllByRecursion P (without_first test xs)
+all_without P test [] all = tt
+all_without {X} P test (x ∷ xs) all = go (test x) (all_without P test xs all.1)
+  where
+    go : (b : Bool) → AllByRecursion P (without_first test xs) → AllByRecursion P (if b then xs else (x ∷ without_first test xs))
+    go true rest = all.1
+    go false rest = (all.0, rest)
+
+-- the last element that passes
+pub record HasLast {X : Type 0} (p : X → Bool) (xs : List X) : Type 0 where
+  pub before : List X
+  pub last : X
+  pub later : List X
+  pub parts : xs ≡ before ++ last ∷ later
+  pub passes : p last ≡ true
+  pub none_later : list_any p later ≡ false
+
+pub split_last : {X : Type 0} (p : X → Bool) (xs : List X) → list_any p xs ≡ true → HasLast p xs
+split_last p [] h = absurd (true≢false (sym h))
+split_last {X} p (x ∷ xs) h = go (list_any p xs) refl (p x) refl h (split_last p xs)
+  where
+    go : (c : Bool) → list_any p xs ≡ c → (b : Bool) → p x ≡ b → (b || list_any p xs) ≡ true → (list_any p xs ≡ true → HasLast p xs) → HasLast p (x ∷ xs)
+    go true e b here h ih =
+        let l = ih e in
+        record { before = x ∷ l.before; last = l.last; later = l.later; parts = ap (λ (ys : List X). x ∷ ys) l.parts; passes = l.passes; none_later = l.none_later }
+    go false e true here h ih = record { before = []; last = x; later = xs; parts = refl; passes = here; none_later = e }
+    go false e false here h ih = absurd (true≢false (sym h ∙ e))
+
+-- Lists of which one element passes at most
+
+pub none_last : {X : Type 0} (p : X → Bool) (xs : List X) (y : X) → list_any p xs ≡ false → p y ≡ false → list_any p (xs ++ y ∷ []) ≡ false
+none_last p xs y h k = list_any-append p xs (y ∷ []) ∙ ap₂ (λ (a b : Bool). a || (b || false)) h k
+
+abbrev pub Few : {X : Type 0} → (X → Bool) → List X → Type 0
+Few p [] = Unit {0}
+Few p (x ∷ xs) = MatchBool (p x) (list_any p xs ≡ false) (Few p xs)
+
+few_none : {X : Type 0} (p : X → Bool) (xs : List X) → list_any p xs ≡ false → Few p xs
+few_none p [] h = tt
+few_none {X} p (x ∷ xs) h = go (p x) h (few_none p xs)
+  where
+    go : (b : Bool) → (b || list_any p xs) ≡ false → (list_any p xs ≡ false → Few p xs) → MatchBool b (list_any p xs ≡ false) (Few p xs)
+    go true h ih = absurd (true≢false h)
+    go false h ih = ih h
+
+none_without : {X : Type 0} (p test : X → Bool) (xs : List X) → list_any p xs ≡ false → list_any p (without_first test xs) ≡ false
+none_without p test xs h = go (list_any p (without_first test xs)) refl
+  where
+    go : (b : Bool) → list_any p (without_first test xs) ≡ b → b ≡ false
+    go false e = refl
+    go true e = absurd (true≢false (sym (any_without p test xs e) ∙ h))
+
+pub few_without : {X : Type 0} (p test : X → Bool) (xs : List X) → Few p xs → Few p (without_first test xs)
+few_without p test [] h = tt
+few_without {X} p test (x ∷ xs) h = go (test x) (p x) refl h (few_without p test xs)
+  where
+    go : (c b : Bool) → p x ≡ b → MatchBool b (list_any p xs ≡ false) (Few p xs) → (Few p xs → Few p (without_first test xs)) → Few p (if c then xs else (x ∷ without_first test xs))
+    go true true e h ih = few_none p xs h
+    go true false e h ih = h
+    go false true e h ih = rw e (none_without p test xs h)
+    go false false e h ih = rw e (ih h)
+
+pub gone : {X : Type 0} (p : X → Bool) (xs : List X) → Few p xs → list_any p (without_first p xs) ≡ false
+gone p [] h = refl
+gone {X} p (x ∷ xs) h = go (p x) refl h (gone p xs)
+  where
+    go : (b : Bool) → p x ≡ b → MatchBool b (list_any p xs ≡ false) (Few p xs) → (Few p xs → list_any p (without_first p xs) ≡ false) → list_any p (if b then xs else (x ∷ without_first p xs)) ≡ false
+    go true e h ih = h
+    go false e h ih = ap (λ (b : Bool). b || list_any p (without_first p xs)) e ∙ ih h
+
+pub few_more : {X : Type 0} (p : X → Bool) (xs : List X) (y : X) → Few p xs → (p y ≡ true → list_any p xs ≡ false) → Few p (xs ++ y ∷ [])
+few_more p [] y h new = one (p y)
+  where
+    one : (b : Bool) → MatchBool b (list_any p [] ≡ false) (Few p [])
+    one true = refl
+    one false = tt
+few_more {X} p (x ∷ xs) y h new = go (p x) h new (few_more p xs y)
+  where
+    other : (b : Bool) → p y ≡ b → (p y ≡ true → true ≡ false) → b ≡ false
+    other true e f = f e
+    other false e f = refl
+
+    go : (b : Bool) → MatchBool b (list_any p xs ≡ false) (Few p xs) → (p y ≡ true → (b || list_any p xs) ≡ false) → (Few p xs → (p y ≡ true → list_any p xs ≡ false) → Few p (xs ++ y ∷ []))
+        → MatchBool b (list_any p (xs ++ y ∷ []) ≡ false) (Few p (xs ++ y ∷ []))
+    go true h new ih = none_last p xs y h (other (p y) refl new)
+    go false h new ih = ih h new
+
+-- Lists of which one element is changed, added or taken out: what is found in them.
+
+-- With the first element changed that passes a test
+
+pub any_with : {X : Type 0} (p test : X → Bool) (f : X → X) → ((x : X) → p (f x) ≡ p x) → (xs : List X) → list_any p (with_first test f xs) ≡ list_any p xs
+any_with p test f same [] = refl
+any_with {X} p test f same (x ∷ xs) = go (test x) (any_with p test f same xs)
+  where
+    go : (b : Bool) → list_any p (with_first test f xs) ≡ list_any p xs → list_any p (if b then f x ∷ xs else x ∷ with_first test f xs) ≡ (p x || list_any p xs)
+    go true ih = ap (λ (c : Bool). c || list_any p xs) (same x)
+    go false ih = ap (λ (c : Bool). p x || c) ih
+
+pub few_with : {X : Type 0} (p test : X → Bool) (f : X → X) → ((x : X) → p (f x) ≡ p x) → (xs : List X) → Few p xs → Few p (with_first test f xs)
+few_with p test f same [] h = tt
+few_with {X} p test f same (x ∷ xs) h = go (test x) (p x) refl h (few_with p test f same xs)
+  where
+    go : (b c : Bool) → p x ≡ c → MatchBool c (list_any p xs ≡ false) (Few p xs) → (Few p xs → Few p (with_first test f xs)) → Few p (if b then f x ∷ xs else x ∷ with_first test f xs)
+    go true true e h ih = rw (same x ∙ e) h
+    go true false e h ih = rw (same x ∙ e) h
+    go false true e h ih = rw e (any_with p test f same xs ∙ h)
+    go false false e h ih = rw e (ih h)
+
+pub find_with : {X : Type 0} (p : X → Bool) (f : X → X) → ((x : X) → p (f x) ≡ p x) → (xs : List X) (y : X) → find p xs ≡ Some y → find p (with_first p f xs) ≡ Some (f y)
+find_with p f same [] y e = absurd cc
+find_with {X} p f same (x ∷ xs) y e = go (p x) refl e (find_with p f same xs y)
+  where
+    go : (b : Bool) → p x ≡ b → cond b (Some x) (find p xs) ≡ Some y → (find p xs ≡ Some y → find p (with_first p f xs) ≡ Some (f y)) → find p (if b then f x ∷ xs else x ∷ with_first p f xs) ≡ Some (f y)
+    go true is e ih = let here : x ≡ y = cc in ap (λ (c : Bool). cond c (Some (f x)) (find p xs)) (same x ∙ is) ∙ ap (λ (z : X). Some (f z)) here
+    go false is e ih = ap (λ (c : Bool). cond c (Some x) (find p (with_first p f xs))) is ∙ ih e
+
+pub find_with_other : {X : Type 0} (p test : X → Bool) (f : X → X) → ((x : X) → p (f x) ≡ p x) → ((x : X) → test x ≡ true → p x ≡ false) → (xs : List X) → find p (with_first test f xs) ≡ find p xs
+find_with_other p test f same far [] = refl
+find_with_other {X} p test f same far (x ∷ xs) = go (test x) refl (find_with_other p test f same far xs)
+  where
+    go : (b : Bool) → test x ≡ b → find p (with_first test f xs) ≡ find p xs → find p (if b then f x ∷ xs else x ∷ with_first test f xs) ≡ cond (p x) (Some x) (find p xs)
+    go true is ih =
+        ap (λ (c : Bool). cond c (Some (f x)) (find p xs)) (same x ∙ far x is) ∙ sym (ap (λ (c : Bool). cond c (Some x) (find p xs)) (far x is))
+    go false is ih = ap (cond (p x) (Some x)) ih
+
+-- Without it
+
+pub find_without_other : {X : Type 0} (p test : X → Bool) → ((x : X) → test x ≡ true → p x ≡ false) → (xs : List X) → find p (without_first test xs) ≡ find p xs
+find_without_other p test far [] = refl
+find_without_other {X} p test far (x ∷ xs) = go (test x) refl (find_without_other p test far xs)
+  where
+    go : (b : Bool) → test x ≡ b → find p (without_first test xs) ≡ find p xs → find p (if b then xs else x ∷ without_first test xs) ≡ cond (p x) (Some x) (find p xs)
+    go true is ih = sym (ap (λ (c : Bool). cond c (Some x) (find p xs)) (far x is))
+    go false is ih = ap (cond (p x) (Some x)) ih
+
+-- A drafted command stays so until it is submitted or cancelled, and a collected one until it is released, whatever else happens. A collected command is not collected again before.
 
 -- an I/O command in a phase that passes a test
 pub record IsIn (test : Phase → Bool) (r : Record) : Type 0 where

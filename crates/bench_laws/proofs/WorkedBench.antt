@@ -112,22 +112,24 @@ second_reserved = record {
 -- The bench's steps
 
 reserves_first : Does (table (opening_of config image)) (step.Reserve 1 (write_at 0 at_start)) (reply.Reserved 1 0 1 0) one_kept
-reserves_first = record { draft = draft; says = refl; step = (fits 0 0 (omega arith) (omega arith), (refl, first_reserved), refl); keeps = refl }
+reserves_first = record { reply = events.Reserved draft; tells = refl; step = (fits 0 0 (omega arith) (omega arith), (refl, first_reserved), refl); keeps = refl }
 
 reserves_second : Does one_kept (step.Reserve 1 (write_at 1 behind)) (reply.Reserved 1 1 1 0) (both_kept draft other)
-reserves_second = record { draft = other; says = refl; step = (fits 100 1 (omega arith) (omega arith), (refl, second_reserved), refl); keeps = refl }
+reserves_second = record { reply = events.Reserved other; tells = refl; step = (fits 100 1 (omega arith) (omega arith), (refl, second_reserved), refl); keeps = refl }
 
 proper : IsProperDraft draft
 proper = (bench_keeps (table (opening_of config image)) (step.Reserve 1 (write_at 0 at_start)) (reply.Reserved 1 0 1 0) one_kept (bench_opens config image refl is_image) reserves_first).drafts.0
 
 submits_first : Does (both_kept filled_again filled_other) (step.Submit 1 0) reply.Accepted one_submitted
-submits_first = (
-  (filled_stays_proper (5 ∷ 6 ∷ []) (built filled_once) (built_stays_proper filled_once (filled_stays_proper (7 ∷ 7 ∷ 7 ∷ []) draft proper)), (refl, tt), refl),
-  refl,
-)
+submits_first = record {
+  reply = events.Accepted;
+  tells = refl;
+  step = (filled_stays_proper (5 ∷ 6 ∷ []) (built filled_once) (built_stays_proper filled_once (filled_stays_proper (7 ∷ 7 ∷ 7 ∷ []) draft proper)), (refl, tt), refl);
+  keeps = refl;
+}
 
-abbrev done : Table → Step → Reply → Table → Done
-done before what answer after = record { before = before; what = what; answer = answer; after = after }
+abbrev done : (before : Table) (what : Step) (answer : Reply) (after : Table) → Does before what answer after → Done
+done before what answer after does = record { before = before; what = what; answer = answer; after = after; does = does }
 
 pub fills_twice : a_bench_fills_twice
 fills_twice = (
@@ -137,17 +139,17 @@ fills_twice = (
     opens = refl;
     is_image = is_image;
     earlier = [];
-    reservation = done (table (opening_of config image)) (step.Reserve 1 (write_at 0 at_start)) (reply.Reserved 1 0 1 0) one_kept;
-    between = done one_kept (step.Reserve 1 (write_at 1 behind)) (reply.Reserved 1 1 1 0) (both_kept draft other)
-        ∷ done (both_kept draft other) (step.Fill 1 0 (7 ∷ 7 ∷ 7 ∷ [])) reply.Accepted (both_kept filled_once other)
-        ∷ done (both_kept filled_once other) (step.Fill 1 1 (9 ∷ [])) reply.Accepted (both_kept filled_once filled_other)
-        ∷ done (both_kept filled_once filled_other) (step.Build 1 0) reply.Accepted (both_kept (built filled_once) filled_other)
-        ∷ done (both_kept (built filled_once) filled_other) (step.Fill 1 0 (5 ∷ 6 ∷ [])) reply.Accepted (both_kept filled_again filled_other)
-        ∷ done (both_kept filled_again filled_other) (step.Fill 1 0 too_many) (reply.NotFilled WrongLength) (both_kept filled_again filled_other) ∷ [];
-    submission = done (both_kept filled_again filled_other) (step.Submit 1 0) reply.Accepted one_submitted;
+    reservation = done (table (opening_of config image)) (step.Reserve 1 (write_at 0 at_start)) (reply.Reserved 1 0 1 0) one_kept reserves_first;
+    between = done one_kept (step.Reserve 1 (write_at 1 behind)) (reply.Reserved 1 1 1 0) (both_kept draft other) reserves_second
+        ∷ done (both_kept draft other) (step.Fill 1 0 (7 ∷ 7 ∷ 7 ∷ [])) reply.Accepted (both_kept filled_once other) (refl, refl)
+        ∷ done (both_kept filled_once other) (step.Fill 1 1 (9 ∷ [])) reply.Accepted (both_kept filled_once filled_other) (refl, refl)
+        ∷ done (both_kept filled_once filled_other) (step.Build 1 0) reply.Accepted (both_kept (built filled_once) filled_other) refl
+        ∷ done (both_kept (built filled_once) filled_other) (step.Fill 1 0 (5 ∷ 6 ∷ [])) reply.Accepted (both_kept filled_again filled_other) (refl, refl)
+        ∷ done (both_kept filled_again filled_other) (step.Fill 1 0 too_many) (reply.NotFilled WrongLength) (both_kept filled_again filled_other) (refl, refl) ∷ [];
+    submission = done (both_kept filled_again filled_other) (step.Submit 1 0) reply.Accepted one_submitted submits_first;
     later = [];
     end = one_submitted;
-    goes = (refl, reserves_first, (refl, reserves_second, (refl, (refl, refl), (refl, (refl, refl), (refl, refl, (refl, (refl, refl), (refl, (refl, refl), (refl, submits_first, refl))))))));
+    goes = (refl, (refl, (refl, (refl, (refl, (refl, (refl, (refl, refl))))))));
     q = 1;
     cid = 0;
     request = write_at 0 at_start;

@@ -10,6 +10,7 @@ use Rattle.machine_model.specs.Events as events
 use Rattle.machine_model.specs.Image.{draft_of}
 use Rattle.machine_model.specs.Script.{Table, table}
 use Rattle.machine_model.specs.Step as machine
+use Rattle.step_core.specs.Bench.{event_at}
 use Rattle.step_core.specs.Values.{Reply}
 use Rattle.step_core.specs.declared.step.Reply.TheVariants as reply
 use Rattle.step_core.specs.Values.{Step}
@@ -17,7 +18,7 @@ use Rattle.step_core.specs.declared.step.Step.TheVariants as step
 use Rattle.host_core.specs.Opening.{refusal_of_config}
 use Rattle.step_core.specs.Opening.{opening_of}
 use Rattle.host_core.specs.declared.config.Config.{Config}
-use Rattle.bench_laws.specs.Values.{Done, Goes, event_at}
+use Rattle.bench_laws.specs.Values.{Done, Goes}
 
 -- Steps of a draft
 

@@ -15,7 +15,7 @@ use Rattle.run_laws.specs.Submitted.{CollectedCommand, FetchedCommand, was_fetch
 use Rattle.step_core.specs.Bench.{Does}
 use Rattle.step_core.specs.declared.step.Reply.TheVariants as reply
 use Rattle.step_core.specs.declared.step.Step.TheVariants as step
-use Rattle.bench_laws.specs.Values.{Done, MadeBy, TrustedBench}
+use Rattle.bench_laws.specs.Values.{Done, made_by, TrustedBench}
 
 -- a command that a bench submitted and collected: the two steps, the draft that the bench kept as it submitted it, and what the machine
 -- made before, between and behind them
@@ -30,9 +30,9 @@ pub record IsOfSteps (done : List Done) (q cid : ℕ) (c : CollectedCommand) : T
   pub draft : draft_of q cid submission.before.drafts ≡ Some c.draft
   pub collects : collection.what ≡ step.Collect q cid
   pub answers : collection.answer ≡ reply.Collected c.finished.status
-  pub made_before : MadeBy earlier c.before
-  pub made_between : MadeBy between c.between
-  pub made_later : MadeBy later c.later
+  pub made_before : made_by earlier ≡ c.before
+  pub made_between : made_by between ≡ c.between
+  pub made_later : made_by later ≡ c.later
 
 -- whether a step collects this name
 abbrev pub collects_by : ℕ → ℕ → Event → events.Reply → Bool

@@ -16,7 +16,7 @@ use Rattle.machine_model.specs.Script.{Table, finished_at, is_ticket, filled_dra
 use Rattle.machine_model.specs.declared.words.Refusal.{Refusal}
 use Rattle.machine_model.specs.declared.words.Refusal.TheVariants as refusal
 use Rattle.slot_table.specs.Table.{Row, TableOf, IsPlace, value_at, with_row, with_value, without}
-use Rattle.step_core.specs.Bench.{Does, without_first, with_first, Fills, Builds, Submits, Cancels, Collects, Gathers, Releases}
+use Rattle.step_core.specs.Bench.{Does, without_first, with_first, Fills, Builds, Gathers}
 use Rattle.step_core.specs.Kept.{as_draft, as_ticket, as_finished, picked, table_with, IsBench, IsOut, FillsDraft, BuildsDraft}
 use Rattle.step_core.specs.Values.{Reply}
 use Rattle.step_core.specs.declared.kept.Value.{Value}
@@ -51,42 +51,14 @@ Values A = TableOf (Option (Value A))
 module _ {A : Type 0} where
   -- What is found under a name
 
-  draft_at : (s : State) (values : Values A) (q cid : ℕ) → IsBench s values → draft_of q cid (table_with s values).drafts ≡ option_and_then as_draft (value_at values.rows q cid)
+  pub draft_at : (s : State) (values : Values A) (q cid : ℕ) → IsBench s values → draft_of q cid (table_with s values).drafts ≡ option_and_then as_draft (value_at values.rows q cid)
   draft_at s values q cid b = found_at as_draft is_draft values.rows q cid b.distinct (drafts_named s values b)
 
-  ticket_at : (s : State) (values : Values A) (q cid : ℕ) (o : Option (ℕ × ℕ)) → IsBench s values → option_and_then as_ticket (value_at values.rows q cid) ≡ o → list_any (is_ticket q cid) (table_with s values).tickets ≡ elim o [ None ↦ false | Some x ↦ true ]
+  pub ticket_at : (s : State) (values : Values A) (q cid : ℕ) (o : Option (ℕ × ℕ)) → IsBench s values → option_and_then as_ticket (value_at values.rows q cid) ≡ o → list_any (is_ticket q cid) (table_with s values).tickets ≡ elim o [ None ↦ false | Some x ↦ true ]
   ticket_at s values q cid o b e = any_found (is_ticket q cid) (table_with s values).tickets o (found_at as_ticket is_ticket values.rows q cid b.distinct (tickets_named s values b) ∙ e)
 
-  finished_there : (s : State) (values : Values A) (q cid : ℕ) → IsBench s values → finished_at q cid (table_with s values).finished ≡ option_and_then as_finished (value_at values.rows q cid)
+  pub finished_there : (s : State) (values : Values A) (q cid : ℕ) → IsBench s values → finished_at q cid (table_with s values).finished ≡ option_and_then as_finished (value_at values.rows q cid)
   finished_there s values q cid b = found_at as_finished is_finished values.rows q cid b.distinct (finished_named s values b)
-
-  pub no_fill : (s : State) (values : Values A) (q cid : ℕ) (bytes : List ℕ) → IsBench s values → option_and_then as_draft (value_at values.rows q cid) ≡ None
-      → Fills (table_with s values) q cid bytes (draft_of q cid (table_with s values).drafts) reply.NoValue (table_with s values)
-  no_fill s values q cid bytes b none = rw (draft_at s values q cid b ∙ none) (refl, refl)
-
-  pub no_build : (s : State) (values : Values A) (q cid : ℕ) → IsBench s values → option_and_then as_draft (value_at values.rows q cid) ≡ None
-      → Builds (table_with s values) q cid (draft_of q cid (table_with s values).drafts) reply.NoValue (table_with s values)
-  no_build s values q cid b none = rw (draft_at s values q cid b ∙ none) (refl, refl)
-
-  pub no_submit : (s : State) (values : Values A) (q cid : ℕ) → IsBench s values → option_and_then as_draft (value_at values.rows q cid) ≡ None
-      → Submits (table_with s values) q cid (draft_of q cid (table_with s values).drafts) reply.NoValue (table_with s values)
-  no_submit s values q cid b none = rw (draft_at s values q cid b ∙ none) (refl, refl)
-
-  pub no_cancel : (s : State) (values : Values A) (q cid : ℕ) → IsBench s values → option_and_then as_draft (value_at values.rows q cid) ≡ None
-      → Cancels (table_with s values) q cid (draft_of q cid (table_with s values).drafts) reply.NoValue (table_with s values)
-  no_cancel s values q cid b none = rw (draft_at s values q cid b ∙ none) (refl, refl)
-
-  pub no_collect : (s : State) (values : Values A) (q cid : ℕ) → IsBench s values → option_and_then as_ticket (value_at values.rows q cid) ≡ None
-      → Collects (table_with s values) q cid (list_any (is_ticket q cid) (table_with s values).tickets) reply.NoValue (table_with s values)
-  no_collect s values q cid b none = rw (ticket_at s values q cid None b none) (refl, refl)
-
-  pub no_gather : (s : State) (values : Values A) (q cid : ℕ) → IsBench s values → option_and_then as_finished (value_at values.rows q cid) ≡ None
-      → Gathers (table_with s values) (finished_at q cid (table_with s values).finished) reply.NoValue (table_with s values)
-  no_gather s values q cid b none = rw (finished_there s values q cid b ∙ none) (refl, refl)
-
-  pub no_release : (s : State) (values : Values A) (q cid : ℕ) → IsBench s values → option_and_then as_finished (value_at values.rows q cid) ≡ None
-      → Releases (table_with s values) q cid (finished_at q cid (table_with s values).finished) reply.NoValue (table_with s values)
-  no_release s values q cid b none = rw (finished_there s values q cid b ∙ none) (refl, refl)
 
   -- A command is reserved
 
@@ -94,8 +66,8 @@ module _ {A : Type 0} where
       → answer ≡ reply.Reserved d.q d.cid (length d.data_pages) (length d.chain_pages) → new ≡ with_row old q cid (Some (value.Draft d)) → Does (table_with s old) (step.Reserve q request) answer (table_with world new) × IsBench world new
   reserves s old q cid request d b world answer new made same says left = (
     rw says (record {
-      draft = d;
-      says = refl;
+      reply = events.Reserved d;
+      tells = refl;
       step = made;
       keeps = ap (table_with world) is
           ∙ tables_same world _ _ _ _ _ _
@@ -172,9 +144,14 @@ module _ {A : Type 0} where
 
     pub submits : (world : State) (ticket : TicketContents) (new : Values A) → machine.Step s (events.Submit d) events.Accepted world → ticket ≡ record { q = d.q; cid = d.cid }
         → new ≡ with_row (record mid { rows = without mid.rows q cid }) q cid (Some (value.Ticket ticket))
-        → Submits (table_with s old) q cid (draft_of q cid (table_with s old).drafts) reply.Accepted (table_with world new) × IsBench world new
+        → Does (table_with s old) (step.Submit q cid) reply.Accepted (table_with world new) × IsBench world new
     submits world ticket new step is left = (
-      rw found_draft (step, ap (table_with world) (put_next old mid q cid (value.Draft d) out (value.Ticket ticket) new left) ∙ tables_same world _ _ _ _ _ _ drafts tickets finished),
+      rw found_draft (record {
+        reply = events.Accepted;
+        tells = refl;
+        step = step;
+        keeps = ap (table_with world) (put_next old mid q cid (value.Draft d) out (value.Ticket ticket) new left) ∙ tables_same world _ _ _ _ _ _ drafts tickets finished;
+      }),
       subst (IsBench world) (sym (put_next old mid q cid (value.Draft d) out (value.Ticket ticket) new left))
           (followed world old q cid (value.Draft d) (value.Ticket ticket) (goes_on s (events.Submit d) events.Accepted world old step (λ k n. refl) b) out.there pair.0 pair.1),
     )
@@ -205,28 +182,28 @@ module _ {A : Type 0} where
 
     pub submit_refused : (world : State) (x : DraftContents) (why : Refusal) (answer : Reply) (new : Values A) → machine.Step s (events.Submit d) (events.Refused why []) world → x ≡ d → answer ≡ reply.Refused why []
         → new ≡ record mid { rows = with_value mid.rows q cid (Some (value.Draft x)) }
-        → Submits (table_with s old) q cid (draft_of q cid (table_with s old).drafts) answer (table_with world new) × IsBench world new
+        → Does (table_with s old) (step.Submit q cid) answer (table_with world new) × IsBench world new
     submit_refused world x why answer new step back says left =
         let stays = put_same old mid q cid (value.Draft d) out (value.Draft x) new (ap value.Draft back) left in (
-          rw (found_draft, says) (step, ap (table_with world) stays),
+          rw (found_draft, says) (record { reply = events.Refused why []; tells = refl; step = step; keeps = ap (table_with world) stays }),
           subst (IsBench world) (sym stays) (goes_on s (events.Submit d) (events.Refused why []) world old step (λ k n. refl) b),
         )
 
     pub cancels : (world : State) (new : Values A) → machine.Step s (events.Cancel d) events.Accepted world → new ≡ record mid { rows = without mid.rows q cid }
-        → Cancels (table_with s old) q cid (draft_of q cid (table_with s old).drafts) reply.Accepted (table_with world new) × IsBench world new
+        → Does (table_with s old) (step.Cancel q cid) reply.Accepted (table_with world new) × IsBench world new
     cancels world new step left =
         let name = named_there s old q cid (value.Draft d) b out.there in
         let is = row_dropped old mid q cid (value.Draft d) out new left in (
-          rw found_draft (step, ap (table_with world) is ∙ tables_same world _ _ _ _ _ _ (taken_at as_draft is_draft old.rows q cid b.distinct (drafts_named s old b)) (taken_other as_ticket old.rows q cid (Some (value.Draft d)) out.there refl) (taken_other as_finished old.rows q cid (Some (value.Draft d)) out.there refl)),
+          rw found_draft (record { reply = events.Accepted; tells = refl; step = step; keeps = ap (table_with world) is ∙ tables_same world _ _ _ _ _ _ (taken_at as_draft is_draft old.rows q cid b.distinct (drafts_named s old b)) (taken_other as_ticket old.rows q cid (Some (value.Draft d)) out.there refl) (taken_other as_finished old.rows q cid (Some (value.Draft d)) out.there refl) }),
           subst (IsBench world) (sym is) (ended s (events.Cancel d) events.Accepted world old q cid step (λ k n. ap₂ (λ (x y : ℕ). (x == k) && (y == n)) name.0 name.1) b),
         )
 
     pub cancel_refused : (world : State) (x : DraftContents) (why : Refusal) (answer : Reply) (new : Values A) → machine.Step s (events.Cancel d) (events.Refused why []) world → x ≡ d → answer ≡ reply.Refused why []
         → new ≡ record mid { rows = with_value mid.rows q cid (Some (value.Draft x)) }
-        → Cancels (table_with s old) q cid (draft_of q cid (table_with s old).drafts) answer (table_with world new) × IsBench world new
+        → Does (table_with s old) (step.Cancel q cid) answer (table_with world new) × IsBench world new
     cancel_refused world x why answer new step back says left =
         let stays = put_same old mid q cid (value.Draft d) out (value.Draft x) new (ap value.Draft back) left in (
-          rw (found_draft, says) (step, ap (table_with world) stays),
+          rw (found_draft, says) (record { reply = events.Refused why []; tells = refl; step = step; keeps = ap (table_with world) stays }),
           subst (IsBench world) (sym stays) (goes_on s (events.Cancel d) (events.Refused why []) world old step (λ k n. refl) b),
         )
 
@@ -255,11 +232,11 @@ module _ {A : Type 0} where
 
     pub collects : (world : State) (f : FinishedContents) (status : Status) (new : Values A) → machine.Step s (events.Collect ticket.q ticket.cid) (events.Collects f) world → status ≡ f.status
         → new ≡ with_row (record mid { rows = without mid.rows q cid }) q cid (Some (value.Finished f))
-        → Collects (table_with s old) q cid (list_any (is_ticket q cid) (table_with s old).tickets) (reply.Collected status) (table_with world new) × IsBench world new
+        → Does (table_with s old) (step.Collect q cid) (reply.Collected status) (table_with world new) × IsBench world new
     collects world f status new step ends left = (
       rw found_ticket (record {
-        finished = f;
-        says = ap reply.Collected ends;
+        reply = events.Collects f;
+        tells = ap reply.Collected ends;
         step = by_name (events.Collects f) world step;
         keeps = ap (table_with world) (put_next old mid q cid (value.Ticket ticket) out (value.Finished f) new left) ∙ tables_same world _ _ _ _ _ _ drafts tickets (last_finished f);
       }),
@@ -285,10 +262,10 @@ module _ {A : Type 0} where
 
     pub collect_refused : (world : State) (x : TicketContents) (why : Refusal) (answer : Reply) (new : Values A) → machine.Step s (events.Collect ticket.q ticket.cid) (events.Refused why []) world → x ≡ ticket → answer ≡ reply.Refused why []
         → new ≡ record mid { rows = with_value mid.rows q cid (Some (value.Ticket x)) }
-        → Collects (table_with s old) q cid (list_any (is_ticket q cid) (table_with s old).tickets) answer (table_with world new) × IsBench world new
+        → Does (table_with s old) (step.Collect q cid) answer (table_with world new) × IsBench world new
     collect_refused world x why answer new step back says left =
         let stays = put_same old mid q cid (value.Ticket ticket) out (value.Ticket x) new (ap value.Ticket back) left in (
-          rw (found_ticket, says) (by_name (events.Refused why []) world step, ap (table_with world) stays),
+          rw (found_ticket, says) (record { reply = events.Refused why []; tells = refl; step = by_name (events.Refused why []) world step; keeps = ap (table_with world) stays }),
           subst (IsBench world) (sym stays) (goes_on s (events.Collect ticket.q ticket.cid) (events.Refused why []) world old step (λ k n. refl) b),
         )
 
@@ -311,19 +288,19 @@ module _ {A : Type 0} where
     found_finished = finished_there s old q cid b ∙ ap (option_and_then as_finished) out.there
 
     pub releases : (world : State) (new : Values A) → machine.Step s (events.Release f) events.Accepted world → new ≡ record mid { rows = without mid.rows q cid }
-        → Releases (table_with s old) q cid (finished_at q cid (table_with s old).finished) reply.Accepted (table_with world new) × IsBench world new
+        → Does (table_with s old) (step.Release q cid) reply.Accepted (table_with world new) × IsBench world new
     releases world new step left =
         let name = named_there s old q cid (value.Finished f) b out.there in
         let is = row_dropped old mid q cid (value.Finished f) out new left in (
-          rw found_finished (step, ap (table_with world) is ∙ tables_same world _ _ _ _ _ _ (taken_other as_draft old.rows q cid (Some (value.Finished f)) out.there refl) (taken_other as_ticket old.rows q cid (Some (value.Finished f)) out.there refl) (taken_at as_finished is_finished old.rows q cid b.distinct (finished_named s old b))),
+          rw found_finished (record { reply = events.Accepted; tells = refl; step = step; keeps = ap (table_with world) is ∙ tables_same world _ _ _ _ _ _ (taken_other as_draft old.rows q cid (Some (value.Finished f)) out.there refl) (taken_other as_ticket old.rows q cid (Some (value.Finished f)) out.there refl) (taken_at as_finished is_finished old.rows q cid b.distinct (finished_named s old b)) }),
           subst (IsBench world) (sym is) (ended s (events.Release f) events.Accepted world old q cid step (λ k n. ap₂ (λ (x y : ℕ). (x == k) && (y == n)) name.0 name.1) b),
         )
 
     pub release_refused : (world : State) (x : FinishedContents) (why : Refusal) (answer : Reply) (new : Values A) → machine.Step s (events.Release f) (events.Refused why []) world → x ≡ f → answer ≡ reply.Refused why []
         → new ≡ record mid { rows = with_value mid.rows q cid (Some (value.Finished x)) }
-        → Releases (table_with s old) q cid (finished_at q cid (table_with s old).finished) answer (table_with world new) × IsBench world new
+        → Does (table_with s old) (step.Release q cid) answer (table_with world new) × IsBench world new
     release_refused world x why answer new step back says left =
         let stays = put_same old mid q cid (value.Finished f) out (value.Finished x) new (ap value.Finished back) left in (
-          rw (found_finished, says) (step, ap (table_with world) stays),
+          rw (found_finished, says) (record { reply = events.Refused why []; tells = refl; step = step; keeps = ap (table_with world) stays }),
           subst (IsBench world) (sym stays) (goes_on s (events.Release f) (events.Refused why []) world old step (λ k n. refl) b),
         )

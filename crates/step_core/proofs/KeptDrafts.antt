@@ -1,5 +1,5 @@
--- Proper drafts stay proper when they are filled and when they are built.
-use Rattle.std.proofs.Common.{◌≡◌, ◌≤◌, ◌+◌, ◌-◌, ℕ, Bool, true, false, nat_lt, nat_le, List, [], ◌∷◌, ◌++◌, length, map, take, drop, replicate, sum_by, if◌then◌else◌, refl, sym, ◌∙◌, arith}
+-- Proper drafts stay proper when they are filled and when they are built; and all else stays.
+use Rattle.std.proofs.Common.{◌≡◌, ◌≤◌, ◌+◌, ◌-◌, ℕ, Bool, true, false, Option, Some, None, nat_lt, nat_le, List, [], ◌∷◌, ◌++◌, length, map, take, drop, replicate, sum_by, if◌then◌else◌, refl, ap, sym, ◌∙◌, arith}
 use Rattle.std.specs.List.{AllByRecursion, list_any}
 use Rattle.std.proofs.lemmas.Bool.{or_parts}
 use Rattle.std.proofs.lemmas.Bool.Decides.{nat_tests}
@@ -15,16 +15,22 @@ use Rattle.page_memory.specs.Pages.{with_bytes}
 use Rattle.io_commands.specs.DataBytes.{PagesOut, data_length, filled}
 use Rattle.io_commands.specs.Drafts.{DraftContents, IsDraft, built, laid, draft_parts, draft_segments}
 use Rattle.io_commands.specs.Requests.{crosses_page}
-use Rattle.io_commands.specs.Values.{numbers_of}
+use Rattle.io_commands.specs.Values.{FinishedContents, numbers_of}
 use Rattle.io_commands.specs.declared.request.Piece.{Piece}
 use Rattle.io_commands.specs.declared.request.Piece.TheVariants.{Data, Bucket}
 use Rattle.io_commands.proofs.Building.{some_parts, built_keeps}
 use Rattle.io_commands.proofs.Filling.{fill_keeps}
 use Rattle.machine_model.specs.Proper.{IsPage, IsProperDraft}
-use Rattle.machine_model.specs.Script.{filled_draft}
+use Rattle.machine_model.specs.Image.{is_draft, draft_of}
+use Rattle.machine_model.specs.Script.{Table, finished_at, filled_draft}
+use Rattle.machine_model.specs.declared.words.Refusal.TheVariants as refusal
 use Rattle.machine_agreement.proofs.Entered.{good_is}
 use Rattle.machine_agreement.proofs.Lengths.{length_put}
 use Rattle.host_core.proofs.Lists.{all-from, all-to}
+use Rattle.step_core.specs.Bench.{with_first, Fills, Builds, Gathers, IsOwn}
+use Rattle.step_core.specs.Values.{Reply, Step}
+use Rattle.step_core.specs.declared.step.Reply.TheVariants as reply
+use Rattle.step_core.specs.declared.step.Step.TheVariants as step
 
 abbrev IsPageOut : ℕ × List ℕ → Type 0
 IsPageOut page = IsPage page.1
@@ -120,3 +126,43 @@ built_stays_proper d h =
           (laid_pages (draft_segments d) d.chain_pages (segments_fit d.segment (numbers_of d.chain_pages) (draft_parts d) h.draft.low h.draft.high) (all-from IsPageOut d.chain_pages h.chain_pages));
       draft = built_keeps d (segment_on_each d h.draft) h.draft;
     }
+
+-- Steps of a kept value alone
+
+-- all stays, or a draft changes that stays proper
+pub data OwnLeft (t new : Table) : Type 0 where
+  Same : new ≡ t → OwnLeft t new
+  Changed : (test : DraftContents → Bool) → (f : DraftContents → DraftContents) → ((d : DraftContents) → IsProperDraft d → IsProperDraft (f d)) → new ≡ record t { drafts = with_first test f t.drafts }
+      → OwnLeft t new
+
+fills_left : (t : Table) (q cid : ℕ) (bytes : List ℕ) (o : Option DraftContents) (answer : Reply) (new : Table) → Fills t q cid bytes o answer new → OwnLeft t new
+fills_left t q cid bytes None answer new is = Same is.1
+fills_left t q cid bytes (Some d) reply.Accepted new is = Changed (is_draft q cid) (filled_draft bytes) (filled_stays_proper bytes) is.1
+fills_left t q cid bytes (Some d) (reply.NotFilled why) new is = Same is.1
+fills_left t q cid bytes (Some d) (reply.Refused refusal.Memory []) new is = Same is.1
+fills_left t q cid bytes (Some d) answer new is = absurd is
+
+builds_left : (t : Table) (q cid : ℕ) (o : Option DraftContents) (answer : Reply) (new : Table) → Builds t q cid o answer new → OwnLeft t new
+builds_left t q cid None answer new is = Same is.1
+builds_left t q cid (Some d) reply.Accepted new is = Changed (is_draft q cid) built built_stays_proper is
+builds_left t q cid (Some d) (reply.Refused refusal.Memory []) new is = Same is
+builds_left t q cid (Some d) answer new is = absurd is
+
+gathers_left : (t : Table) (o : Option FinishedContents) (answer : Reply) (new : Table) → Gathers t o answer new → OwnLeft t new
+gathers_left t None answer new is = Same is.1
+gathers_left t (Some f) (reply.Gathered bytes) new is = Same is.1
+gathers_left t (Some f) (reply.Refused refusal.Memory []) new is = Same is
+gathers_left t (Some f) answer new is = absurd is
+
+pub own_left : (t : Table) (what : Step) (answer : Reply) (new : Table) → IsOwn t what answer new → OwnLeft t new
+own_left t (step.Fill q cid bytes) answer new is = fills_left t q cid bytes (draft_of q cid t.drafts) answer new is
+own_left t (step.Build q cid) answer new is = builds_left t q cid (draft_of q cid t.drafts) answer new is
+own_left t (step.Gather q cid) answer new is = gathers_left t (finished_at q cid t.finished) answer new is
+own_left t what answer new is = Same is.1
+
+pub own_world : (t : Table) (what : Step) (answer : Reply) (new : Table) → IsOwn t what answer new → new.world ≡ t.world
+own_world t what answer new is = go (own_left t what answer new is)
+  where
+    go : OwnLeft t new → new.world ≡ t.world
+    go (Same same) = ap (λ (x : Table). x.world) same
+    go (Changed test f proper same) = ap (λ (x : Table). x.world) same

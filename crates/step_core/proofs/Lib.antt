@@ -1,4 +1,5 @@
 pub mod Runs
+pub mod Events
 pub mod RunsOf
 pub mod Lawful
 pub mod KeptDrafts

@@ -1,6 +1,7 @@
 -- A bench: a world, with the drafts, the tickets and the finished commands that are about. What each of its steps may answer, and what it leaves.
 use Rattle.std.specs.Prelude.{◌≡◌, ℕ, Bool, true, false, Option, Some, None, List, [], ◌∷◌, ◌++◌, length, if◌then◌else◌}
 use Rattle.std.specs.List.{list_any}
+use Rattle.std.specs.Option.{option_map}
 use Rattle.io_commands.specs.Drafts.{DraftContents, built}
 use Rattle.io_commands.specs.Values.{FinishedContents, gathered_from}
 use Rattle.machine_model.specs.Events as events
@@ -25,22 +26,85 @@ abbrev pub with_first : {X : Type 0} → (X → Bool) → (X → X) → List X �
 with_first p f [] = []
 with_first p f (x ∷ xs) = if p x then f x ∷ xs else x ∷ with_first p f xs
 
--- Steps
+-- The machine's steps
 
--- a step of the machine that keeps what is kept
-abbrev pub Passes : Table → Event → events.Reply → Table → Type 0
-Passes t e answer new = machine.Step t.world e answer new.world × (new ≡ record t { world = new.world })
+-- the event of the machine that a step is, with the value that the bench keeps under the step's name: none where it keeps none, and
+-- none of a step of a kept value alone
+abbrev pub event_at : Table → Step → Option Event
+event_at t (step.Reserve q request) = Some (events.Reserve q request)
+event_at t (step.Submit q cid) = option_map events.Submit (draft_of q cid t.drafts)
+event_at t (step.Cancel q cid) = option_map events.Cancel (draft_of q cid t.drafts)
+event_at t (step.Ring q) = Some (events.Ring q)
+event_at t (step.Fetch q) = Some (events.Fetch q)
+event_at t (step.Walk q cid) = Some (events.Walk q cid)
+event_at t (step.Complete q cid) = Some (events.Complete q cid)
+event_at t (step.Reap q) = Some (events.Reap q)
+event_at t (step.Collect q cid) = if list_any (is_ticket q cid) t.tickets then Some (events.Collect q cid) else None
+event_at t (step.Release q cid) = option_map events.Release (finished_at q cid t.finished)
+event_at t (step.Abort q cid) = Some (events.Abort q cid)
+event_at t (step.DeleteSq q) = Some (events.DeleteSq q)
+event_at t (step.DeleteCq q) = Some (events.DeleteCq q)
+event_at t (step.CreateCq q) = Some (events.CreateCq q)
+event_at t (step.CreateSq q) = Some (events.CreateSq q)
+event_at t (step.Retire q) = Some (events.Retire q)
+event_at t (step.Forge q slot bytes) = Some (events.Forge q slot bytes)
+event_at t step.Reset = Some events.Reset
+event_at t what = None
+
+-- the step that asks for an event, by the names of its values
+abbrev pub asked : Event → Step
+asked (events.Reserve q request) = step.Reserve q request
+asked (events.Submit d) = step.Submit d.q d.cid
+asked (events.Cancel d) = step.Cancel d.q d.cid
+asked (events.Ring q) = step.Ring q
+asked (events.Reap q) = step.Reap q
+asked (events.Collect q cid) = step.Collect q cid
+asked (events.Release f) = step.Release f.q f.cid
+asked (events.Abort q cid) = step.Abort q cid
+asked (events.DeleteSq q) = step.DeleteSq q
+asked (events.DeleteCq q) = step.DeleteCq q
+asked (events.CreateCq q) = step.CreateCq q
+asked (events.CreateSq q) = step.CreateSq q
+asked (events.Retire q) = step.Retire q
+asked (events.Fetch q) = step.Fetch q
+asked (events.Walk q cid) = step.Walk q cid
+asked (events.Complete q cid) = step.Complete q cid
+asked (events.Forge q slot bytes) = step.Forge q slot bytes
+asked events.Reset = step.Reset
+
+-- what a step answers of the machine's reply: all of it, but for a draft's and a finished command's contents
+abbrev pub told : events.Reply → Reply
+told (events.Reserved d) = reply.Reserved d.q d.cid (length d.data_pages) (length d.chain_pages)
+told events.Accepted = reply.Accepted
+told (events.Reaps what) = reply.Reaps what
+told (events.Collects f) = reply.Collected f.status
+told (events.Sent cid) = reply.Sent cid
+told (events.Fetched cid touched) = reply.Fetched cid touched
+told (events.Walked state touched) = reply.Walked state touched
+told (events.Completed touched) = reply.Completed touched
+told (events.Refused why touched) = reply.Refused why touched
+
+-- the values that are kept behind a reply: what comes is kept, and what was taken is gone
+abbrev pub kept : Table → Step → events.Reply → Table
+kept t (step.Reserve q request) (events.Reserved d) = record t { drafts = t.drafts ++ d ∷ [] }
+kept t (step.Submit q cid) events.Accepted = record t { drafts = without_first (is_draft q cid) t.drafts; tickets = t.tickets ++ (q, cid) ∷ [] }
+kept t (step.Cancel q cid) events.Accepted = record t { drafts = without_first (is_draft q cid) t.drafts }
+kept t (step.Collect q cid) (events.Collects f) = record t { tickets = without_first (is_ticket q cid) t.tickets; finished = t.finished ++ f ∷ [] }
+kept t (step.Release q cid) events.Accepted = record t { finished = without_first (is_finished q cid) t.finished }
+kept t what answer = t
+
+-- a step of the machine: its event is answered, the answer tells of that reply, and the values are kept behind it
+pub record Makes (t : Table) (what : Step) (event : Event) (answer : Reply) (new : Table) : Type 0 where
+  pub reply : events.Reply
+  pub tells : answer ≡ told reply
+  pub step : machine.Step t.world event reply new.world
+  pub keeps : new ≡ record (kept t what reply) { world = new.world }
+
+-- Steps of a kept value alone
 
 -- a step without a fitting value: nothing changes
 abbrev pub HasNoValue : Table → Reply → Table → Type 0
 HasNoValue t answer new = (answer ≡ reply.NoValue) × (new ≡ t)
-
--- a command is reserved, and its draft is kept
-pub record Reserves (t : Table) (q : ℕ) (event : Event) (answer : Reply) (new : Table) : Type 0 where
-  pub draft : DraftContents
-  pub says : answer ≡ reply.Reserved draft.q draft.cid (length draft.data_pages) (length draft.chain_pages)
-  pub step : machine.Step t.world event (events.Reserved draft) new.world
-  pub keeps : new ≡ record t { world = new.world; drafts = t.drafts ++ draft ∷ [] }
 
 abbrev pub Fills : Table → ℕ → ℕ → List ℕ → Option DraftContents → Reply → Table → Type 0
 Fills t q cid bytes None answer new = HasNoValue t answer new
@@ -55,85 +119,26 @@ Builds t q cid (Some d) reply.Accepted new = new ≡ record t { drafts = with_fi
 Builds t q cid (Some d) (reply.Refused refusal.Memory []) new = new ≡ t
 Builds t q cid (Some d) answer new = ⊥
 
-abbrev pub Submits : Table → ℕ → ℕ → Option DraftContents → Reply → Table → Type 0
-Submits t q cid None answer new = HasNoValue t answer new
-Submits t q cid (Some d) reply.Accepted new =
-    machine.Step t.world (events.Submit d) events.Accepted new.world
-    × (new ≡ record t { world = new.world; drafts = without_first (is_draft q cid) t.drafts; tickets = t.tickets ++ (q, cid) ∷ [] })
-Submits t q cid (Some d) (reply.Refused why touched) new = Passes t (events.Submit d) (events.Refused why touched) new
-Submits t q cid (Some d) answer new = ⊥
-
-abbrev pub Cancels : Table → ℕ → ℕ → Option DraftContents → Reply → Table → Type 0
-Cancels t q cid None answer new = HasNoValue t answer new
-Cancels t q cid (Some d) reply.Accepted new =
-    machine.Step t.world (events.Cancel d) events.Accepted new.world
-    × (new ≡ record t { world = new.world; drafts = without_first (is_draft q cid) t.drafts })
-Cancels t q cid (Some d) (reply.Refused why touched) new = Passes t (events.Cancel d) (events.Refused why touched) new
-Cancels t q cid (Some d) answer new = ⊥
-
--- a command is collected, and the finished command is kept
-pub record Collected (t : Table) (q cid : ℕ) (answer : Reply) (new : Table) : Type 0 where
-  pub finished : FinishedContents
-  pub says : answer ≡ reply.Collected finished.status
-  pub step : machine.Step t.world (events.Collect q cid) (events.Collects finished) new.world
-  pub keeps : new ≡ record t { world = new.world; tickets = without_first (is_ticket q cid) t.tickets; finished = t.finished ++ finished ∷ [] }
-
-abbrev pub Collects : Table → ℕ → ℕ → Bool → Reply → Table → Type 0
-Collects t q cid false answer new = HasNoValue t answer new
-Collects t q cid true (reply.Refused why touched) new = Passes t (events.Collect q cid) (events.Refused why touched) new
-Collects t q cid true answer new = Collected t q cid answer new
-
 abbrev pub Gathers : Table → Option FinishedContents → Reply → Table → Type 0
 Gathers t None answer new = HasNoValue t answer new
 Gathers t (Some f) (reply.Gathered bytes) new = (bytes ≡ gathered_from f) × (new ≡ t)
 Gathers t (Some f) (reply.Refused refusal.Memory []) new = new ≡ t
 Gathers t (Some f) answer new = ⊥
 
-abbrev pub Releases : Table → ℕ → ℕ → Option FinishedContents → Reply → Table → Type 0
-Releases t q cid None answer new = HasNoValue t answer new
-Releases t q cid (Some f) reply.Accepted new =
-    machine.Step t.world (events.Release f) events.Accepted new.world
-    × (new ≡ record t { world = new.world; finished = without_first (is_finished q cid) t.finished })
-Releases t q cid (Some f) (reply.Refused why touched) new = Passes t (events.Release f) (events.Refused why touched) new
-Releases t q cid (Some f) answer new = ⊥
+abbrev pub IsOwn : Table → Step → Reply → Table → Type 0
+IsOwn t (step.Fill q cid bytes) answer new = Fills t q cid bytes (draft_of q cid t.drafts) answer new
+IsOwn t (step.Build q cid) answer new = Builds t q cid (draft_of q cid t.drafts) answer new
+IsOwn t (step.Gather q cid) answer new = Gathers t (finished_at q cid t.finished) answer new
+IsOwn t what answer new = HasNoValue t answer new
 
--- What a step may answer, and what it leaves
+-- What a step may answer, and what it leaves: as a step of the machine where it is an event, and else of the bench's own
+
+abbrev pub DoesBy : Option Event → Table → Step → Reply → Table → Type 0
+DoesBy (Some event) t what answer new = Makes t what event answer new
+DoesBy None t what answer new = IsOwn t what answer new
+
 abbrev pub Does : Table → Step → Reply → Table → Type 0
-Does t (step.Reserve q r) (reply.Refused why touched) new = Passes t (events.Reserve q r) (events.Refused why touched) new
-Does t (step.Reserve q r) answer new = Reserves t q (events.Reserve q r) answer new
-Does t (step.Fill q cid bytes) answer new = Fills t q cid bytes (draft_of q cid t.drafts) answer new
-Does t (step.Build q cid) answer new = Builds t q cid (draft_of q cid t.drafts) answer new
-Does t (step.Submit q cid) answer new = Submits t q cid (draft_of q cid t.drafts) answer new
-Does t (step.Cancel q cid) answer new = Cancels t q cid (draft_of q cid t.drafts) answer new
-Does t (step.Ring q) reply.Accepted new = Passes t (events.Ring q) events.Accepted new
-Does t (step.Ring q) (reply.Refused why touched) new = Passes t (events.Ring q) (events.Refused why touched) new
-Does t (step.Fetch q) (reply.Fetched cid touched) new = Passes t (events.Fetch q) (events.Fetched cid touched) new
-Does t (step.Fetch q) (reply.Refused why touched) new = Passes t (events.Fetch q) (events.Refused why touched) new
-Does t (step.Walk q cid) (reply.Walked state touched) new = Passes t (events.Walk q cid) (events.Walked state touched) new
-Does t (step.Walk q cid) (reply.Refused why touched) new = Passes t (events.Walk q cid) (events.Refused why touched) new
-Does t (step.Complete q cid) (reply.Completed touched) new = Passes t (events.Complete q cid) (events.Completed touched) new
-Does t (step.Complete q cid) (reply.Refused why touched) new = Passes t (events.Complete q cid) (events.Refused why touched) new
-Does t (step.Reap q) (reply.Reaps what) new = Passes t (events.Reap q) (events.Reaps what) new
-Does t (step.Reap q) (reply.Refused why touched) new = Passes t (events.Reap q) (events.Refused why touched) new
-Does t (step.Collect q cid) answer new = Collects t q cid (list_any (is_ticket q cid) t.tickets) answer new
-Does t (step.Gather q cid) answer new = Gathers t (finished_at q cid t.finished) answer new
-Does t (step.Release q cid) answer new = Releases t q cid (finished_at q cid t.finished) answer new
-Does t (step.Abort q cid) (reply.Sent id) new = Passes t (events.Abort q cid) (events.Sent id) new
-Does t (step.Abort q cid) (reply.Refused why touched) new = Passes t (events.Abort q cid) (events.Refused why touched) new
-Does t (step.DeleteSq q) (reply.Sent id) new = Passes t (events.DeleteSq q) (events.Sent id) new
-Does t (step.DeleteSq q) (reply.Refused why touched) new = Passes t (events.DeleteSq q) (events.Refused why touched) new
-Does t (step.DeleteCq q) (reply.Sent id) new = Passes t (events.DeleteCq q) (events.Sent id) new
-Does t (step.DeleteCq q) (reply.Refused why touched) new = Passes t (events.DeleteCq q) (events.Refused why touched) new
-Does t (step.CreateCq q) (reply.Sent id) new = Passes t (events.CreateCq q) (events.Sent id) new
-Does t (step.CreateCq q) (reply.Refused why touched) new = Passes t (events.CreateCq q) (events.Refused why touched) new
-Does t (step.CreateSq q) (reply.Sent id) new = Passes t (events.CreateSq q) (events.Sent id) new
-Does t (step.CreateSq q) (reply.Refused why touched) new = Passes t (events.CreateSq q) (events.Refused why touched) new
-Does t (step.Retire q) reply.Accepted new = Passes t (events.Retire q) events.Accepted new
-Does t (step.Retire q) (reply.Refused why touched) new = Passes t (events.Retire q) (events.Refused why touched) new
-Does t (step.Forge q slot bytes) reply.Accepted new = Passes t (events.Forge q slot bytes) events.Accepted new
-Does t (step.Forge q slot bytes) (reply.Refused why touched) new = Passes t (events.Forge q slot bytes) (events.Refused why touched) new
-Does t step.Reset reply.Accepted new = Passes t events.Reset events.Accepted new
-Does t what answer new = ⊥
+Does t what answer new = DoesBy (event_at t what) t what answer new
 
 -- Steps and answers of which each is what a step does from where the one before led
 abbrev pub DoesAll : Table → List Step → List Reply → Table → Type 0

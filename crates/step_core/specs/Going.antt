@@ -1,20 +1,18 @@
 -- Benches go on: each step whose numbers fit has an answer, from each table that steps of a bench lead to; what they tell of its controller;
 -- and which of their runs are trusted.
-use Rattle.std.specs.Prelude.{◌≡◌, ℕ, Bool, true, false, ◌&&◌, ◌||◌, not, IsTrue, None, List, ◌∷◌, length, map}
+use Rattle.std.specs.Prelude.{◌≡◌, ℕ, Bool, true, false, ◌&&◌, ◌||◌, not, IsTrue, None, List, ◌∷◌, length}
 use Rattle.std.specs.List.{AllByRecursion}
 use Rattle.block_image.specs.Blocks.{IsImage}
 use Rattle.io_commands.specs.Requests.{FitsRequest}
 use Rattle.machine_model.specs.Events as events
 use Rattle.machine_model.specs.Events.{Event}
-use Rattle.machine_model.specs.Image.{Made}
 use Rattle.machine_agreement.specs.InOrder.{IsInOrder}
 use Rattle.machine_model.specs.Trusted.{TrustedRun}
 use Rattle.machine_model.specs.Proper.{IsProper, IsProperDraft}
 use Rattle.machine_model.specs.Script.{Table, table}
-use Rattle.machine_model.specs.State.{State}
 use Rattle.machine_model.specs.Touch.{stays_allowed, stays_own}
-use Rattle.step_core.specs.Bench.{Does, DoesAll}
-use Rattle.step_core.specs.Laws.{Asks, Says, AreOf}
+use Rattle.step_core.specs.Bench.{Does, DoesAll, asked, told}
+use Rattle.step_core.specs.Laws.{made_by}
 use Rattle.step_core.specs.Values.{Reply, Step}
 use Rattle.step_core.specs.declared.step.Step.TheVariants as step
 use Rattle.step_core.specs.declared.step.Reply.TheVariants as reply
@@ -56,14 +54,8 @@ benches_go_on = (t : Table) (what : Step) → IsTableInOrder t → IsFitStep wha
 abbrev pub benches_touch_what_they_may : Type 0
 benches_touch_what_they_may =
     (t : Table) (what : Step) (answer : Reply) (new : Table) (e : Event) (r : events.Reply)
-    → IsTableInOrder t → IsTrue t.world.trusted → Does t what answer new → Asks what e → Says answer r
+    → IsTableInOrder t → IsTrue t.world.trusted → Does t what answer new → what ≡ asked e → answer ≡ told r
     → IsTrue (stays_allowed t.world r && stays_own t.world e r)
-
--- steps of the machine as they were made, which are those of a bench's steps and answers
-pub record IsTrustedRunOfBench (steps : List Step) (answers : List Reply) (image : List ℕ) (end : State) : Type 0 where
-  pub made : List Made
-  pub are_of : AreOf steps answers (map (λ m. m.event) made) (map (λ m. m.reply) made)
-  pub run : TrustedRun image made end
 
 -- whether a step forged an entry
 abbrev pub forges_by : Step → Reply → Bool
@@ -78,6 +70,6 @@ has_forgery steps answers = false
 -- what a bench did since it opened, if none of its steps is an accepted forgery, is a run of which the machine's laws speak, resets and all
 abbrev pub benches_make_trusted_runs : Type 0
 benches_make_trusted_runs =
-    (config : Config) (image : List ℕ) (steps : List Step) (answers : List Reply) (new : Table)
-    → refusal_of_config config ≡ None → IsImage image → DoesAll (table (opening_of config image)) steps answers new → IsTrue (not (has_forgery steps answers))
-    → IsTrustedRunOfBench steps answers image new.world
+    (config : Config) (image : List ℕ) (steps : List Step) (answers : List Reply) (new : Table) → refusal_of_config config ≡ None → IsImage image
+    → (does : DoesAll (table (opening_of config image)) steps answers new) → IsTrue (not (has_forgery steps answers))
+    → TrustedRun image (made_by (table (opening_of config image)) steps answers new does) new.world

@@ -1,11 +1,12 @@
 -- A log, and the run of the machine that it tells of.
-use Rattle.std.specs.Prelude.{◌≡◌, ℕ, List, [], ◌∷◌, Option, Some, None, Bool, true, false, count_by, length}
+use Rattle.std.specs.Prelude.{◌≡◌, ℕ, List, [], ◌∷◌, Option, Some, None, Bool, true, false, count_by}
 use Rattle.io_commands.specs.Drafts.{DraftContents}
 use Rattle.io_commands.specs.Values.{numbers_of}
 use Rattle.machine_model.specs.Events as events
 use Rattle.machine_model.specs.Events.{Event}
 use Rattle.machine_model.specs.State.{State}
 use Rattle.machine_model.specs.Step as machine
+pub use Rattle.step_core.specs.Bench.{asked, told}
 use Rattle.step_core.specs.Values.{Reply}
 use Rattle.step_core.specs.declared.step.Reply.TheVariants as reply
 use Rattle.step_core.specs.Values.{Step}
@@ -13,37 +14,6 @@ use Rattle.step_core.specs.declared.step.Step.TheVariants as step
 use Rattle.step_log.specs.Values.{Entry, LoggedDraft}
 
 -- An event and its reply, as a log has them: without the bytes of drafts and finished commands
-
-abbrev pub asked : Event → Step
-asked (events.Reserve q request) = step.Reserve q request
-asked (events.Submit d) = step.Submit d.q d.cid
-asked (events.Cancel d) = step.Cancel d.q d.cid
-asked (events.Ring q) = step.Ring q
-asked (events.Reap q) = step.Reap q
-asked (events.Collect q cid) = step.Collect q cid
-asked (events.Release f) = step.Release f.q f.cid
-asked (events.Abort q cid) = step.Abort q cid
-asked (events.DeleteSq q) = step.DeleteSq q
-asked (events.DeleteCq q) = step.DeleteCq q
-asked (events.CreateCq q) = step.CreateCq q
-asked (events.CreateSq q) = step.CreateSq q
-asked (events.Retire q) = step.Retire q
-asked (events.Fetch q) = step.Fetch q
-asked (events.Walk q cid) = step.Walk q cid
-asked (events.Complete q cid) = step.Complete q cid
-asked (events.Forge q slot bytes) = step.Forge q slot bytes
-asked events.Reset = step.Reset
-
-abbrev pub told : events.Reply → Reply
-told (events.Reserved d) = reply.Reserved d.q d.cid (length d.data_pages) (length d.chain_pages)
-told events.Accepted = reply.Accepted
-told (events.Reaps what) = reply.Reaps what
-told (events.Collects f) = reply.Collected f.status
-told (events.Sent cid) = reply.Sent cid
-told (events.Fetched cid touched) = reply.Fetched cid touched
-told (events.Walked state touched) = reply.Walked state touched
-told (events.Completed touched) = reply.Completed touched
-told (events.Refused why touched) = reply.Refused why touched
 
 -- a draft without the bytes of its pages
 abbrev pub logged : DraftContents → LoggedDraft

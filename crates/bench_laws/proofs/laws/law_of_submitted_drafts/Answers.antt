@@ -1,5 +1,4 @@
-use Rattle.bench_laws.proofs.Reserved.{were_reserved}
-use Rattle.bench_laws.proofs.SubmitsDrafts.{submits_filled}
+use Rattle.bench_laws.proofs.Submitted.{were_reserved, submits_filled}
 use Rattle.bench_laws.proofs.laws.law_of_submitted_drafts.Goals as goal
 
 pub returns-clause-reservation : goal.returns-clause-reservation

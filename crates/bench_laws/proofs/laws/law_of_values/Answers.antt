@@ -1,4 +1,4 @@
-use Rattle.bench_laws.proofs.RunsMade.{have_tables, makes_run, unforged_where_trusted}
+use Rattle.bench_laws.proofs.KeptValues.{have_tables, makes_run, unforged_where_trusted}
 use Rattle.bench_laws.proofs.laws.law_of_values.Goals as goal
 
 pub returns-clause-tables : goal.returns-clause-tables

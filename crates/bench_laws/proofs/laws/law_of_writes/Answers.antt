@@ -1,4 +1,4 @@
-use Rattle.bench_laws.proofs.Told.{writes_told}
+use Rattle.bench_laws.proofs.KeptValues.{writes_told}
 use Rattle.bench_laws.proofs.laws.law_of_writes.Goals as goal
 
 pub returns : goal.returns

@@ -1,4 +1,3 @@
-use Rattle.machine_agreement.proofs.MadeRuns.{run_is_made}
 use Rattle.step_core.proofs.Lawful.{makes_trusted_run}
 use Rattle.step_core.proofs.RunsOf.{runs_of}
 use Rattle.step_core.proofs.laws.law_of_benches.Goals as goal
@@ -7,4 +6,4 @@ pub returns-clause-run : goal.returns-clause-run
 returns-clause-run c = runs_of
 
 pub returns-clause-lawful : goal.returns-clause-lawful
-returns-clause-lawful c = makes_trusted_run run_is_made
+returns-clause-lawful c = makes_trusted_run

@@ -1,5 +1,5 @@
-use Rattle.step_core.proofs.Benches.{no_collect, collected_last, collects, collect_refused}
-use Rattle.std.proofs.Common.{ℕ, ap, sym, ◌∙◌}
+use Rattle.step_core.proofs.Benches.{ticket_at, collected_last, collects, collect_refused}
+use Rattle.std.proofs.Common.{ℕ, None, refl, ap, sym, ◌∙◌}
 use Rattle.step_core.specs.Kept.{table_with}
 use Rattle.step_core.specs.Touching.{last_pages, touches_more}
 use Rattle.step_core.proofs.Runs.{pages_of_last}
@@ -8,7 +8,7 @@ use Rattle.step_core.specs.declared.kept.Value.TheVariants as value
 use Rattle.step_core.proofs.kept.Kept.collect.Goals as goal
 
 pub returns-in_default-clause-does : goal.returns-in_default-clause-does
-returns-in_default-clause-does g c = rw c.in_default.ensures.kept (no_collect c.args.self.now.world.state c.args.self.now.values c.args.q c.args.cid c.requires c.in_default.ensures.none)
+returns-in_default-clause-does g c = rw (c.in_default.ensures.kept, ticket_at c.args.self.now.world.state c.args.self.now.values c.args.q c.args.cid None c.requires c.in_default.ensures.none) (refl, refl)
 
 pub put_next-requires : goal.put_next-requires
 put_next-requires g c = place_there c.args.self.now.values c.take_ticket.new.values c.args.q c.args.cid (value.Ticket c.in-Some.ticket) c.in-Some.ensures.out c.args.self.now.world.state c.requires

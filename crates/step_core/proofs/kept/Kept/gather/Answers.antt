@@ -1,9 +1,9 @@
-use Rattle.std.proofs.Common.{◌∙◌, sym}
-use Rattle.step_core.proofs.Benches.{no_gather, gathers, gathers_nothing}
+use Rattle.std.proofs.Common.{refl, ◌∙◌, sym}
+use Rattle.step_core.proofs.Benches.{finished_there, gathers, gathers_nothing}
 use Rattle.step_core.proofs.kept.Kept.gather.Goals as goal
 
 pub returns-in_default-clause-does : goal.returns-in_default-clause-does
-returns-in_default-clause-does g c = no_gather c.args.self.now.world.state c.args.self.now.values c.args.q c.args.cid c.requires (sym c.in_default.ensures)
+returns-in_default-clause-does g c = rw (finished_there c.args.self.now.world.state c.args.self.now.values c.args.q c.args.cid c.requires ∙ sym c.in_default.ensures) (refl, refl)
 
 pub returns-in-Ok-clause-does : goal.returns-in-Ok-clause-does
 returns-in-Ok-clause-does g c =

@@ -1,10 +1,11 @@
-use Rattle.step_core.proofs.Benches.{no_release, releases, release_refused}
+use Rattle.std.proofs.Common.{refl, ◌∙◌}
+use Rattle.step_core.proofs.Benches.{finished_there, releases, release_refused}
 use Rattle.step_core.proofs.KeptRows.{is_empty}
 use Rattle.step_core.specs.declared.kept.Value.TheVariants as value
 use Rattle.step_core.proofs.kept.Kept.release.Goals as goal
 
 pub returns-in_default-clause-does : goal.returns-in_default-clause-does
-returns-in_default-clause-does g c = rw c.in_default.ensures.kept (no_release c.args.self.now.world.state c.args.self.now.values c.args.q c.args.cid c.requires c.in_default.ensures.none)
+returns-in_default-clause-does g c = rw (c.in_default.ensures.kept, finished_there c.args.self.now.world.state c.args.self.now.values c.args.q c.args.cid c.requires ∙ c.in_default.ensures.none) (refl, refl)
 
 pub put_back-requires : goal.put_back-requires
 put_back-requires g c = is_empty c.args.self.now.values c.take_finished.new.values c.args.q c.args.cid (value.Finished c.in-Some.finished) c.in-Some.ensures.out

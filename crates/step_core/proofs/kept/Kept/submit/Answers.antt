@@ -1,10 +1,11 @@
-use Rattle.step_core.proofs.Benches.{no_submit, submits, submit_refused}
+use Rattle.std.proofs.Common.{refl, ◌∙◌}
+use Rattle.step_core.proofs.Benches.{draft_at, submits, submit_refused}
 use Rattle.step_core.proofs.KeptRows.{is_empty, place_there}
 use Rattle.step_core.specs.declared.kept.Value.TheVariants as value
 use Rattle.step_core.proofs.kept.Kept.submit.Goals as goal
 
 pub returns-in_default-clause-does : goal.returns-in_default-clause-does
-returns-in_default-clause-does g c = rw c.in_default.ensures.kept (no_submit c.args.self.now.world.state c.args.self.now.values c.args.q c.args.cid c.requires c.in_default.ensures.none)
+returns-in_default-clause-does g c = rw (c.in_default.ensures.kept, draft_at c.args.self.now.world.state c.args.self.now.values c.args.q c.args.cid c.requires ∙ c.in_default.ensures.none) (refl, refl)
 
 pub put_next-requires : goal.put_next-requires
 put_next-requires g c = place_there c.args.self.now.values c.take_draft.new.values c.args.q c.args.cid (value.Draft c.in-Some.draft) c.in-Some.ensures.out c.args.self.now.world.state c.requires
