@@ -1,5 +1,5 @@
 -- Once something was forged, nothing of the controller's part tells on the host's events.
-use Rattle.std.proofs.Common.{◌≡◌, ℕ, Bool, true, false, not, ◌&&◌, ◌||◌, Option, Some, None, List, [], ◌∷◌, ◌++◌, map, MatchBool, if◌then◌else◌, refl, ap, sym, ◌∙◌, subst}
+use Rattle.std.proofs.Common.{◌≡◌, ℕ, Bool, true, false, not, ◌&&◌, ◌||◌, Option, Some, None, List, [], ◌∷◌, ◌++◌, map, MatchBool, if◌then◌else◌, refl, ap, sym, ◌∙◌, subst, arith}
 use Rattle.std.specs.Option.{option_map_or}
 use Rattle.std.proofs.lemmas.Bool.{true≢false}
 use Rattle.entry_codec.specs.Submission.{submission_bytes}
@@ -46,8 +46,7 @@ seen-option f g None t u e each = e
 seen-option f g (Some x) t u e each = each x
 
 seen-if : (b : Bool) (t t' u u' : State) → seen t ≡ seen t' → seen u ≡ seen u' → seen (if b then t else u) ≡ seen (if b then t' else u')
-seen-if true t t' u u' e e' = e
-seen-if false t t' u u' e e' = e'
+seen-if b t t' u u' e e' = grind arith
 
 seen-posted : (q : ℕ) (entry : SubEntry) (s : State) (d d' : Device) → seen (a.posted q entry (over s d)) ≡ seen (a.posted q entry (over s d'))
 seen-posted q entry s d d' = along (seen-option (λ queue. a.on_memory (write queue) (over s d)) (λ queue. a.on_memory (write queue) (over s d')) (host_queue s q) (over s d) (over s d') refl (λ queue. refl))
@@ -102,10 +101,9 @@ seen-done q cid st s d d' (Some e) =
     (λ r. seen-work r.work q cid st (a.heard q e s) (a.heard q e (over s d)).device (a.heard q e (over s d')).device)
 
 seen-reap : (q : ℕ) (what : Reaped) (s : State) (d d' : Device) → seen (a.after_reap q what (over s d)) ≡ seen (a.after_reap q what (over s d'))
-seen-reap q reaped.Empty s d d' = refl
-seen-reap q (reaped.Rejected why) s d d' = refl
 seen-reap q (reaped.Done cid st) s d d' = seen-done q cid st s d d' (seen_entry (over s d) q)
 seen-reap q (reaped.AdminDone cid st dw0) s d d' = seen-done q cid st s d d' (seen_entry (over s d) q)
+seen-reap q what s d d' = refl
 
 seen-submit : (dr : DraftContents) (s : State) (d d' : Device) → seen (a.after_submit dr (over s d)) ≡ seen (a.after_submit dr (over s d'))
 seen-submit dr s d d' =
@@ -159,14 +157,10 @@ seen_after s d d' e reply c ok = absurd ok
 -- and its answers are the same
 
 same_refusal : (s : State) (d d' : Device) (e : Event) → IsController e ≡ false → refusal_of (over s d) e ≡ refusal_of (over s d') e
-same_refusal s d d' (events.Fetch q) c = absurd (true≢false c)
-same_refusal s d d' (events.Walk q cid) c = absurd (true≢false c)
-same_refusal s d d' (events.Complete q cid) c = absurd (true≢false c)
-same_refusal s d d' e c = refl
+same_refusal s d d' e c = grind arith
 
 same_touch : (s : State) (d d' : Device) (e : Event) (why : Refusal) → IsController e ≡ false → touched_by_refusal (over s d) e why ≡ touched_by_refusal (over s d') e why
-same_touch s d d' (events.Fetch q) why c = absurd (true≢false c)
-same_touch s d d' e why c = refl
+same_touch s d d' e why c = grind arith
 
 refuses_same : (s : State) (d d' : Device) (e : Event) (why : Refusal) (touched : List ℕ) → IsController e ≡ false → Refuses (over s d) e why touched → Refuses (over s d') e why touched
 refuses_same s d d' e refusal.Memory touched c h = (h.0, sym (same_refusal s d d' e c) ∙ h.1, h.2 ∙ same_touch s d d' e refusal.Memory c)
@@ -197,7 +191,7 @@ answers_same s d d' (events.Walk q cid) reply c h = absurd (true≢false c)
 answers_same s d d' (events.Complete q cid) reply c h = absurd (true≢false c)
 answers_same s d d' e reply c h = absurd h
 
-out_of : {A : Type 0} (B : Type 0) (c : Bool) → c ≡ false → MatchBool (false || not c) A B → A
+pub out_of : {A : Type 0} (B : Type 0) (c : Bool) → c ≡ false → MatchBool (false || not c) A B → A
 out_of B true e h = absurd (true≢false e)
 out_of B false e h = h
 

@@ -1,5 +1,5 @@
 -- What of the controller's part and of memory each command's list hangs on, and how records change.
-use Rattle.std.proofs.Common.{◌≡◌, ℕ, ◌-◌, ◌%◌, ◌==◌, Bool, true, false, not, ◌&&◌, Option, Some, None, List, [], ◌∷◌, ◌++◌, length, map, filter, drop, slice_get, if◌then◌else◌, refl, ap, sym, ◌∙◌, subst}
+use Rattle.std.proofs.Common.{◌≡◌, ℕ, ◌-◌, ◌%◌, ◌==◌, Bool, true, false, not, ◌&&◌, Option, Some, None, List, [], ◌∷◌, ◌++◌, length, map, filter, drop, slice_get, if◌then◌else◌, refl, ap, sym, ◌∙◌, subst, arith}
 use Rattle.std.specs.Option.{option_map_or, option_and_then}
 use Rattle.std.specs.List.{AllByRecursion}
 use Rattle.std.proofs.lemmas.Bool.{true≢false}
@@ -31,7 +31,8 @@ use Rattle.machine_model.proofs.Managed.{managed_by}
 use Rattle.machine_agreement.proofs.Members.{In, all_in_both, all_map, all_filter, all_append, all_drop_one}
 use Rattle.machine_model.specs.Agreeing.{CommandsStand as Commands}
 use Rattle.machine_agreement.proofs.Queues.{all_list}
-use Rattle.machine_agreement.proofs.Placements.{InHand, in_hand, first_is, on_job_q, on_job_entry, stopped_q, stopped_entry}
+use Rattle.machine_agreement.proofs.Placements.{InHand, in_hand, first_is, on_job_q, on_job_entry, stopped_entry}
+use Rattle.machine_agreement.proofs.Tied.{stopped_q}
 use Rattle.machine_agreement.proofs.DeviceMoves.{unit_done, finished, cleared, fetch_by, walk_by, complete_by}
 
 -- Where the controller has an entry
@@ -89,6 +90,7 @@ keeps_answered s t q an keeps =
 
 keeps_managed : (s : State) (e : SubEntry) → InHand s 0 e → Keeps s.device.queues s.device.jobs (a.managed e (a.taken_off 0 s)).device.queues (a.managed e (a.taken_off 0 s)).device.jobs
 keeps_managed s e hand =
+    let s0 : State = a.taken_off 0 s in
     managed_by (λ (t : State). Keeps s.device.queues s.device.jobs t.device.queues t.device.jobs) e s0
     (record {
       refuses = λ st bad. decided s0 off st 0;
@@ -108,9 +110,6 @@ keeps_managed s e hand =
   where
     stop : Job → Job
     stop j = record j { verdict = Some ABORT_REQUESTED; waiting_abort = Some e.cid }
-
-    s0 : State
-    s0 = a.taken_off 0 s
 
     qs : List DeviceQueue
     qs = (a.taken_off 0 s).device.queues
@@ -139,23 +138,17 @@ keeps_walk s q cid =
 
 pub keeps_complete : (s : State) (q cid : ℕ) → Keeps s.device.queues s.device.jobs (a.after_complete q cid s).device.queues (a.after_complete q cid s).device.jobs
 keeps_complete s q cid =
+    let less : Keeps s.device.queues s.device.jobs s.device.queues (filter (λ x. not (is_job q cid x)) s.device.jobs) = keeps_filter s.device.queues s.device.jobs (λ x. not (is_job q cid x)) in
     complete_by (λ (t : State). Keeps s.device.queues s.device.jobs t.device.queues t.device.jobs) s q cid (λ k c entry h. h)
     (λ j at c. keeps_answered s (a.on_device_queue (named_queue j.entry) cleared (finished q cid j s)) q _
     (keeps_both s.device.queues s.device.queues (change (named_queue j.entry) cleared s.device.queues) s.device.jobs (finished q cid j s).device.jobs (finished q cid j s).device.jobs less
     (keeps_queue s.device.queues (finished q cid j s).device.jobs (named_queue j.entry) cleared (λ P at all. tt))))
     (λ j at c. keeps_answered s (finished q cid j s) q _ less)
-  where
-    less : Keeps s.device.queues s.device.jobs s.device.queues (filter (λ x. not (is_job q cid x)) s.device.jobs)
-    less = keeps_filter s.device.queues s.device.jobs (λ x. not (is_job q cid x))
 
 -- Lists that stay while their chain pages stay
 
-only_same : (m m' : Pages) (chain : List ℕ) → ((p : ℕ) → is_among chain p ≡ true → page_at m' p ≡ page_at m p) → HasBytesOf (only (on_pages chain) (byte_at m')) (only (on_pages chain) (byte_at m))
-only_same m m' chain same place byte e = go (is_among chain (page_of place)) refl e
-  where
-    go : (b : Bool) → is_among chain (page_of place) ≡ b → (if b then byte_at m place else None) ≡ Some byte → (if b then byte_at m' place else None) ≡ Some byte
-    go true t e = ap (λ (o : Option (List ℕ)). option_and_then (λ bytes. slice_get bytes (place % 4096)) o) (same (page_of place) t) ∙ e
-    go false t e = absurd cc
+pub only_same : (m m' : Pages) (chain : List ℕ) → ((p : ℕ) → is_among chain p ≡ true → page_at m' p ≡ page_at m p) → HasBytesOf (only (on_pages chain) (byte_at m')) (only (on_pages chain) (byte_at m))
+only_same m m' chain same place byte e = grind arith
 
 pub list_still : (m m' : Pages) (qs qs' : List DeviceQueue) (js js' : List Job) (r : Record) (request : Request) → ((p : ℕ) → is_among r.chain_pages p ≡ true → page_at m' p ≡ page_at m p)
     → ((entry : SubEntry) → HasEntry qs js r.q r.cid entry → HasEntry qs' js' r.q r.cid entry) → ListStands m qs js r request → ListStands m' qs' js' r request

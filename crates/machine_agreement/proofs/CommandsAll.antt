@@ -1,7 +1,7 @@
 -- Every event keeps the lists of submitted commands: the other events, a walk last.
-use Rattle.std.proofs.Common.{◌≡◌, ℕ, zero, suc, ◌+◌, ◌/◌, ◌%◌, ◌==◌, Bool, true, false, not, ◌&&◌, ◌||◌, Option, Some, None, List, [], ◌∷◌, ◌++◌, length, take, drop, slice_get, is_some, if◌then◌else◌, refl, ap, sym, ◌∙◌, arith, subst, eqb-true, eq-eqb, add-zero}
+use Rattle.std.proofs.Common.{◌≡◌, ℕ, zero, suc, ◌+◌, ◌/◌, ◌%◌, ◌==◌, Bool, true, false, not, ◌&&◌, ◌||◌, Option, Some, None, List, [], ◌∷◌, ◌++◌, length, take, drop, slice_get, is_some, if◌then◌else◌, refl, ap, sym, ◌∙◌, arith, subst, eqb-true, eq-eqb, add-zero, inl, inr}
 use Rattle.std.specs.Option.{option_map_or}
-use Rattle.std.proofs.lemmas.Bool.{true≢false, and_parts, or_parts}
+use Rattle.std.proofs.lemmas.Bool.{true≢false, and_parts, or_parts, cases_Bool}
 use Rattle.page_ledger.specs.Owners.{is_among}
 use Rattle.controller_walk.specs.Units.{Act, Stays, Reads, Moves, Course, Closes, Does, units}
 use Rattle.sgl_descriptor.specs.declared.Direction.{Direction}
@@ -40,7 +40,7 @@ use Rattle.machine_model.specs.Agreeing.{CommandsStand as Commands}
 use Rattle.machine_agreement.proofs.Served.{Stood, JobList, job_list, course_in, chain_of, counts_sent}
 use Rattle.machine_agreement.proofs.Queues.{all_list}
 use Rattle.machine_agreement.proofs.Commanding.{Keeps, keeps_queue, keeps_fetch, keeps_walk, keeps_complete, commands_still, quiet_stands}
-use Rattle.machine_agreement.proofs.CommandsKept.{CommandsIn, SamePages, still, commands_reserve, commands_submit}
+use Rattle.machine_agreement.proofs.CommandsKept.{CommandsIn, SamePages, still, commands_reserve, commands_submit, keeps_nothing}
 use Rattle.machine_model.specs.Claims.{OwnsFit}
 use Rattle.machine_model.proofs.Emptied.{reset_command, sized_of}
 use Rattle.machine_model.proofs.Resetting.{all_reset}
@@ -50,10 +50,6 @@ use Rattle.machine_model.proofs.Refused.{unrefused}
 
 same_pages : (s : State) (e : Event) (reply : Reply) → Accepts s e reply → is_walk e ≡ false → Grounds s → SamePages s (a.after s e reply).memory
 same_pages s e reply ok w g p some = untouched s e reply ok w g p some
-
--- the same pages and the same controller's part
-nothing : (qs : List DeviceQueue) (js : List Job) → Keeps qs js qs js
-nothing qs js q cid entry h = h
 
 with_still : (m : Pages) (qs : List DeviceQueue) (js : List Job) (q cid : ℕ) (f : Record → Record) (s : State) (r : Record) → record_at s.host q cid ≡ Some r → Grounds s
     → ((r : Record) → (f r).work ≡ r.work) → ((r : Record) → (f r).data_pages ≡ r.data_pages) → is_submitted (f r).phase ≡ false
@@ -66,7 +62,7 @@ with_still m qs js q cid f s r e g work pages far h =
 commands_ended : (q cid : ℕ) (pages : List (ℕ × List ℕ)) (s : State) → Grounds s → SamePages s (with_pages pages s.memory) → CommandsIn s → CommandsIn (a.after_end q cid pages s)
 commands_ended q cid pages s g same h =
     all_filter (CommandStands (with_pages pages s.memory) s.device.queues s.device.jobs) (λ r. not (is_at q cid r)) s.host.records
-    (still s (with_pages pages s.memory) s.device.queues s.device.jobs g same (nothing s.device.queues s.device.jobs) h)
+    (still s (with_pages pages s.memory) s.device.queues s.device.jobs g same (keeps_nothing s.device.queues s.device.jobs) h)
 
 -- Sending
 
@@ -118,7 +114,7 @@ commands_host s e reply pr ok c w h =
       unmakes_sq = λ q cid st what e r k n base queue t heard w at bad pr same. without q cid;
       collects = λ q cid r f at held is pr same.
           with_still (without_pages (pages_of r) s.memory) s.device.queues s.device.jobs q cid a.collected s r at h.grounds (λ x. refl) (λ x. refl) refl
-          (still s (without_pages (pages_of r) s.memory) s.device.queues s.device.jobs h.grounds same (nothing s.device.queues s.device.jobs) h.commands);
+          (still s (without_pages (pages_of r) s.memory) s.device.queues s.device.jobs h.grounds same (keeps_nothing s.device.queues s.device.jobs) h.commands);
       releases = λ f r its pr same. commands_ended f.q f.cid (f.data_pages ++ f.chain_pages) s h.grounds same h.commands;
       aborts = λ q cid id none new pr same. commands_sent (Abort q cid) id s (sends (Abort q cid) id s).memory h.grounds same h.commands;
       asks = λ q id queue none new live pr same. commands_sent (DeleteSq q) id s (sends (DeleteSq q) id s).memory h.grounds same h.commands;
@@ -128,7 +124,7 @@ commands_host s e reply pr ok c w h =
       retires = λ q queue none at deleted pr same.
           all_map (CommandStands s.memory s.device.queues s.device.jobs) (CommandStands s.memory s.device.queues s.device.jobs) (a.lost q) s.host.records (λ r c. lose r ((r.q == q) && is_submitted r.phase) c) h.commands;
       forges = λ q slot bytes queue none at pr same.
-          still s (with_page_bytes s.memory (slot_page queue.cq_pages 16 slot) (slot_offset 16 slot) bytes) s.device.queues s.device.jobs h.grounds same (nothing s.device.queues s.device.jobs) h.commands;
+          still s (with_page_bytes s.memory (slot_page queue.cq_pages 16 slot) (slot_offset 16 slot) bytes) s.device.queues s.device.jobs h.grounds same (keeps_nothing s.device.queues s.device.jobs) h.commands;
       resets = λ pr same.
           let m = with_pages (zeroed_pages (a.admin_pages s.host.queues)) s.memory in
           all_reset (CommandStands s.memory s.device.queues s.device.jobs) (CommandStands m (a.reset_device_queues s.device.queues) [])
@@ -180,14 +176,10 @@ walking s q cid j none stood e =
       its_queue = eqb-true j.q q ids.0;
       its_id = eqb-true j.entry.cid cid ids.1;
       other = parts.1;
-      verdict = no_verdict j.verdict parts.0;
+      verdict = (let e = parts.0 in grind arith);
       list = job_list s stood j (in_found (is_job q cid) s.device.jobs j e) parts.1 (λ P all. all_at_found P (is_job q cid) s.device.jobs j e all);
     }
   where
-    no_verdict : (o : Option Status) → is_some o ≡ false → o ≡ None
-    no_verdict None e = refl
-    no_verdict (Some st) e = absurd (true≢false e)
-
     idle : job_is (λ j. is_some j.verdict || (j.q == 0)) s q cid ≡ false
     idle = (unrefused s (events.Walk q cid) none).1.0
 
@@ -217,16 +209,14 @@ walk_writes s q cid none stood p far = walk_writes_to s q cid none stood p (λ j
 
 -- so no chain page of a submitted command is written
 times_of : (s : State) → Grounds s → (r r' : Record) → In r s.host.records → In r' s.host.records → (p : ℕ) → is_among r.chain_pages p ≡ true → is_among r'.data_pages p ≡ false
-times_of s g r r' within within' p chain = go (is_among r'.data_pages p) refl
+times_of s g r r' within within' p chain = elim (cases_Bool (is_among r'.data_pages p)) [
+  | inl e ↦ absurd (omega (arith, owned_once _ p s.host g.stands.0, both s.host.records, within (λ (x : Record). times p x.chain_pages), within' (λ (x : Record). times p x.data_pages), held_once p r.chain_pages chain, held_once p r'.data_pages e))
+  | inr e ↦ e
+]
   where
     both : (rs : List Record) → total (λ (x : Record). times p x.data_pages) rs + total (λ (x : Record). times p x.chain_pages) rs ≡ total (in_record p) rs
     both [] = refl
     both (x ∷ rs) = omega (arith, both rs, times-append p x.data_pages x.chain_pages)
-
-    go : (b : Bool) → is_among r'.data_pages p ≡ b → is_among r'.data_pages p ≡ false
-    go false e = e
-    go true e =
-        absurd (omega (arith, owned_once _ p s.host g.stands.0, both s.host.records, within (λ (x : Record). times p x.chain_pages), within' (λ (x : Record). times p x.data_pages), held_once p r.chain_pages chain, held_once p r'.data_pages e))
 
 pub chains_walk : (s : State) (q cid : ℕ) → refusal_of s (events.Walk q cid) ≡ None → Stood s → (r : Record) → In r s.host.records → (p : ℕ) → is_among r.chain_pages p ≡ true
     → page_at (a.after_walk q cid s).memory p ≡ page_at s.memory p

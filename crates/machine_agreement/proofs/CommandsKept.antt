@@ -68,7 +68,7 @@ still s m qs js g same keeps h =
     (λ r within sub p c. same p (counts_sent s r within sub p (chain_of r p c)))
     (λ r x other sub entry e. keeps r.q r.cid entry e) (fine s.host.records g.stands.0.admins) h
 
-keeps_nothing : (qs : List DeviceQueue) (js : List Job) → Keeps qs js qs js
+pub keeps_nothing : (qs : List DeviceQueue) (js : List Job) → Keeps qs js qs js
 keeps_nothing qs js q cid entry h = h
 
 -- Reserving
@@ -90,12 +90,8 @@ commands_reserve s q r d proper ok g h =
       tt,
     )
   where
-    no_fault : (o : Option RequestFault) → is_some o ≡ false → o ≡ None
-    no_fault None e = refl
-    no_fault (Some x) e = absurd (true≢false e)
-
     good : fault_of r.kind r.blocks r.pieces ≡ None
-    good = no_fault (fault_of r.kind r.blocks r.pieces) (unrefused s (events.Reserve q r) ok.0).1.1.0
+    good = let e = (unrefused s (events.Reserve q r) ok.0).1.1.0 in grind arith
 
 -- Submitting
 
@@ -182,20 +178,13 @@ commands_submit d entry r s proper e its live g few places same h =
             absurd (true≢false (sym x.2 ∙ ap (λ (y : Record). is_submitted y.phase) same ∙ its.quiet))
 
     not_past : past_at s.host.queues d.q ≡ false
-    not_past = at (slice_get s.host.queues d.q) live
-      where
-        at : (o : Option HostQueue) → option_map_or (λ queue. is_live queue.state) o false ≡ true → option_map_or (λ h. not (in_service h.state)) o false ≡ false
-        at None e = refl
-        at (Some queue) e = ap not (live_serves queue.state e)
+    not_past = grind arith
 
     no_entries : AllByRecursion (λ (e : SubEntry). e.cid ≡ d.cid → e ≡ draft_entry d) (unfetched_at s.device.queues d.q)
     no_entries =
         let counted : unfetched_count d.q (λ n. one (n == d.cid)) s.host.queues s.device.queues ≡ total (λ (e : SubEntry). one (e.cid == d.cid)) (unfetched_at s.device.queues d.q) =
         ap (λ (b : Bool). if b then 0 else total (λ (e : SubEntry). one (e.cid == d.cid)) (unfetched_at s.device.queues d.q)) not_past in
         nobody (λ (e : SubEntry). e.cid) d.cid (λ e. e ≡ draft_entry d) (unfetched_at s.device.queues d.q) (omega (arith, counted, places d.q (λ n. one (n == d.cid)), unsent))
-
-    no_jobs : AllByRecursion (λ (j : Job). j.q ≡ d.q → j.entry.cid ≡ d.cid → j.entry ≡ draft_entry d) s.device.jobs
-    no_jobs = no_job d.q d.cid (λ j. j.entry ≡ draft_entry d) s.device.jobs (omega (arith, places d.q (λ n. one (n == d.cid)), unsent))
 
     appended : SubEntry → DeviceQueue → DeviceQueue
     appended entry at = record at { unfetched = at.unfetched ++ entry ∷ [] }
@@ -204,7 +193,7 @@ commands_submit d entry r s proper e its live g few places same h =
     new_entry entry is = record {
       unfetched = all_list (λ e. e.cid ≡ d.cid → e ≡ draft_entry d) (λ at. at.unfetched) d.q (λ at. record at { unfetched = at.unfetched ++ entry ∷ [] }) s.device.queues d.q
           (λ at z all. all_append (λ e. e.cid ≡ d.cid → e ≡ draft_entry d) at.unfetched (entry ∷ []) all ((λ c. is), tt)) no_entries;
-      fetched = no_jobs;
+      fetched = (no_job d.q d.cid (λ j. j.entry ≡ draft_entry d) s.device.jobs (omega (arith, places d.q (λ n. one (n == d.cid)), unsent)));
     }
 
     -- the chain pages stand in the store

@@ -1,5 +1,6 @@
 -- What an event of the controller leaves, case by case: a statement that holds of what each case leaves holds after the event.
-use Rattle.std.proofs.Common.{◌≡◌, ℕ, ◌+◌, ◌/◌, ◌%◌, ◌==◌, Bool, true, false, ◌&&◌, Option, Some, None, List, [], ◌∷◌, ◌++◌, map, take, drop, if◌then◌else◌, refl, ap, ap₂, sym, ◌∙◌, subst, eqb-true}
+use Rattle.std.proofs.Common.{◌≡◌, ℕ, ◌+◌, ◌/◌, ◌%◌, ◌==◌, Bool, true, false, ◌&&◌, Option, Some, None, List, [], ◌∷◌, ◌++◌, map, take, drop, if◌then◌else◌, refl, ap, ap₂, sym, ◌∙◌, subst, eqb-true, inl, inr}
+use Rattle.machine_agreement.proofs.Cases.{option_is}
 use Rattle.std.specs.Option.{option_map_or}
 use Rattle.admin_commands.specs.Entries.{named_queue}
 use Rattle.admin_commands.specs.declared.SqState.TheVariants.{Absent}
@@ -61,11 +62,10 @@ pub fetch_by : (P : State → Type 0) (s : State) (q : ℕ) → P s
     → ((e : SubEntry) → next_rung s q ≡ Some e → conflicts s q ≡ true → P (answers q e.cid COMMAND_ID_CONFLICT 0 (a.taken_off q s)))
     → ((e : SubEntry) → next_rung s q ≡ Some e → conflicts s q ≡ false → q ≡ 0 → P (a.managed e (a.taken_off 0 s)))
     → ((e : SubEntry) → next_rung s q ≡ Some e → conflicts s q ≡ false → (q == 0) ≡ false → P (a.begun q e (a.taken_off q s))) → P (a.after_fetch q s)
-fetch_by P s q idle conflict manages begins = go (next_rung s q) refl
-  where
-    go : (o : Option SubEntry) → next_rung s q ≡ o → P (a.after_fetch q s)
-    go None n = subst (λ (o : Option SubEntry). P (option_map_or (λ e. if conflicts s q then a.answered q e.cid COMMAND_ID_CONFLICT 0 (a.taken_off q s) else if q == 0 then a.managed e (a.taken_off 0 s) else a.begun q e (a.taken_off q s)) o s)) (sym n) idle
-    go (Some e) n = fetch_of P s q e n (conflict e n) (manages e n) (begins e n)
+fetch_by P s q idle conflict manages begins = elim (option_is (next_rung s q)) [
+  | inl n ↦ subst (λ (o : Option SubEntry). P (option_map_or (λ e. if conflicts s q then a.answered q e.cid COMMAND_ID_CONFLICT 0 (a.taken_off q s) else if q == 0 then a.managed e (a.taken_off 0 s) else a.begun q e (a.taken_off q s)) o s)) (sym n) idle
+  | inr (e, n) ↦ fetch_of P s q e n (conflict e n) (manages e n) (begins e n)
+]
 
 -- Walking: the bytes that a unit leaves a job, the memory behind it, and both
 
@@ -117,17 +117,7 @@ walk_is s q cid j act at u =
     ∙ ap (λ (o : Option Job). option_map_or (λ j. option_map_or (λ act. a.on_job q cid (λ k. record k { units_done = k.units_done + 1; verdict = verdict_of (a.next_answer s j) }) (a.moved (direction_of_entry j.entry) act q cid s)) (a.next_unit s j) s) o s) (sym at)
 
 pub walk_by : (P : State → Type 0) (s : State) (q cid : ℕ) → P s → ((j : Job) (act : Act) → job_at s q cid ≡ Some j → a.next_unit s j ≡ Some act → P (walks_on q cid j act s)) → P (a.after_walk q cid s)
-walk_by P s q cid idle walks = go (job_at s q cid) refl
-  where
-    inner : (j : Job) → job_at s q cid ≡ Some j → (o : Option Act) → a.next_unit s j ≡ o
-        → P (option_map_or (λ act. a.on_job q cid (λ k. record k { units_done = k.units_done + 1; verdict = verdict_of (a.next_answer s j) }) (a.moved (direction_of_entry j.entry) act q cid s)) o s)
-    inner j at None u = idle
-    inner j at (Some act) u = subst P (walks_is s q cid j (direction_of_entry j.entry) act at) (walks j act at u)
-
-    go : (o : Option Job) → job_at s q cid ≡ o
-        → P (option_map_or (λ j. option_map_or (λ act. a.on_job q cid (λ k. record k { units_done = k.units_done + 1; verdict = verdict_of (a.next_answer s j) }) (a.moved (direction_of_entry j.entry) act q cid s)) (a.next_unit s j) s) o s)
-    go None at = idle
-    go (Some j) at = inner j at (a.next_unit s j) refl
+walk_by P s q cid idle walks = elim (option_is (job_at s q cid)) [ inl at ↦ rw at idle | inr (j, at) ↦ rw at (elim (option_is (a.next_unit s j)) [ inl u ↦ rw u idle | inr (act, u) ↦ rw u (subst P (walks_is s q cid j (direction_of_entry j.entry) act at) (walks j act at u)) ]) ]
 
 -- Completing
 
@@ -143,14 +133,9 @@ clears s j = (j.q == 0) && (j.entry.opcode == DELETE_IO_SQ) && is_success (a.fin
 pub complete_by : (P : State → Type 0) (s : State) (q cid : ℕ) → P s
     → ((j : Job) → job_at s q cid ≡ Some j → clears s j ≡ true → P (answers q cid (a.final_status s j) j.dw0 (a.on_device_queue (named_queue j.entry) cleared (finished q cid j s))))
     → ((j : Job) → job_at s q cid ≡ Some j → clears s j ≡ false → P (answers q cid (a.final_status s j) j.dw0 (finished q cid j s))) → P (a.after_complete q cid s)
-complete_by P s q cid idle clearing plain = go (job_at s q cid) refl
+complete_by P s q cid idle clearing plain = elim (option_is (job_at s q cid)) [ inl at ↦ rw at idle | inr (j, at) ↦ rw at (inner j at (clears s j) refl) ]
   where
     inner : (j : Job) → job_at s q cid ≡ Some j → (b : Bool) → clears s j ≡ b
         → P (a.answered q cid (a.final_status s j) j.dw0 (if b then a.on_device_queue (named_queue j.entry) (λ at. record at { state = Absent; unfetched = []; rung = 0 }) (finished q cid j s) else finished q cid j s))
     inner j at true c = subst P (answers_is q cid (a.final_status s j) j.dw0 (a.on_device_queue (named_queue j.entry) cleared (finished q cid j s))) (clearing j at c)
     inner j at false c = subst P (answers_is q cid (a.final_status s j) j.dw0 (finished q cid j s)) (plain j at c)
-
-    go : (o : Option Job) → job_at s q cid ≡ o
-        → P (option_map_or (λ j. let st = a.final_status s j in a.answered q cid st j.dw0 (a.deletion_done j st (a.on_device (λ d. record d { image = a.image_completed j d.image }) (a.without_job q cid s)))) o s)
-    go None at = idle
-    go (Some j) at = inner j at (clears s j) refl

@@ -1,7 +1,7 @@
 -- No step writes a page of a submitted command, except that a walk moves data of its own command.
-use Rattle.std.proofs.Common.{◌≡◌, ℕ, zero, suc, ◌+◌, ◌<◌, ◌≤◌, ◌==◌, nat_lt, Bool, true, false, ◌||◌, Option, Some, None, List, [], ◌∷◌, length, slice_get, slice_set, slice_index, if◌then◌else◌, refl, ap, sym, ◌∙◌, arith, subst, eq-eqb}
+use Rattle.std.proofs.Common.{◌≡◌, ℕ, zero, suc, ◌+◌, ◌<◌, ◌≤◌, ◌==◌, nat_lt, Bool, true, false, ◌||◌, Option, Some, None, List, [], ◌∷◌, length, slice_get, slice_set, slice_index, if◌then◌else◌, refl, ap, sym, ◌∙◌, arith, subst, eq-eqb, inl, inr}
 use Rattle.std.specs.Option.{option_and_then}
-use Rattle.std.proofs.lemmas.Bool.{true≢false, eqb-false, or_parts, or_right}
+use Rattle.std.proofs.lemmas.Bool.{true≢false, eqb-false, or_parts, or_right, cases_Bool}
 use Rattle.page_ledger.specs.Owners.{is_among}
 use Rattle.io_commands.specs.Values.{numbers_of}
 use Rattle.page_memory.specs.Pages.{Pages, page_at, with_page_bytes, with_bytes}
@@ -13,6 +13,8 @@ use Rattle.machine_model.specs.Weights.{one, total}
 use Rattle.machine_model.proofs.Counting.{held_once}
 use Rattle.machine_agreement.proofs.Members.{In, in_at}
 use Rattle.machine_model.proofs.Owned.{Holds, in_queue, in_record}
+use Rattle.machine_agreement.proofs.Touching.{or_left, holds_index}
+use Rattle.machine_agreement.proofs.TiedAll.{small}
 
 -- Pages set
 
@@ -46,19 +48,11 @@ sent_page p r = if is_submitted r.phase then in_record p r else 0
 
 pub sent_less : (p : ℕ) (rs : List Record) → total (sent_page p) rs ≤ total (in_record p) rs
 sent_less p [] = omega arith
-sent_less p (r ∷ rs) = go (is_submitted r.phase) (sent_less p rs)
-  where
-    go : (b : Bool) → total (sent_page p) rs ≤ total (in_record p) rs → (if b then in_record p r else 0) + total (sent_page p) rs ≤ in_record p r + total (in_record p) rs
-    go true ih = omega (arith, ih)
-    go false ih = omega (arith, ih)
-
-pub at_most_one : (b : Bool) → one b ≤ 1
-at_most_one true = omega arith
-at_most_one false = omega arith
+sent_less p (r ∷ rs) = let h1 = sent_less p rs in grind arith
 
 -- a page is in one place
 pub owned_once : (count p : ℕ) (h : Host) → Holds count h → times p h.free + (total (in_queue p) h.queues + total (in_record p) h.records) ≤ 1
-owned_once count p h holds = omega (arith, holds.owner p, at_most_one (nat_lt p count))
+owned_once count p h holds = omega (arith, holds.owner p, small (nat_lt p count))
 
 -- so a free page, a queue's and a command's that is not submitted are no submitted command's
 pub not_free : (count p : ℕ) (h : Host) → Holds count h → 0 < total (sent_page p) h.records → times p h.free ≡ 0
@@ -81,8 +75,7 @@ not_others count p h r holds within far some =
       where
         go : (b : Bool) → total (sent_page p) rs + total (λ x. if is_submitted x.phase then 0 else in_record p x) rs ≡ total (in_record p) rs
             → (if b then in_record p x else 0) + total (sent_page p) rs + ((if b then 0 else in_record p x) + total (λ x. if is_submitted x.phase then 0 else in_record p x) rs) ≡ in_record p x + total (in_record p) rs
-        go true ih = omega (arith, ih)
-        go false ih = omega (arith, ih)
+        go b ih = grind arith
 
     split : (rs : List Record) → In r rs → total (sent_page p) rs + in_record p r ≤ total (in_record p) rs
     split rs within =
@@ -92,21 +85,8 @@ not_others count p h r holds within far some =
 
 -- a page that does not stand in a list is not in it
 pub among_counts : (p : ℕ) (xs : List ℕ) → times p xs ≡ 0 → is_among xs p ≡ false
-among_counts p xs none = go (is_among xs p) refl
-  where
-    go : (b : Bool) → is_among xs p ≡ b → is_among xs p ≡ false
-    go true e = absurd (omega (arith, none, held_once p xs e))
-    go false e = e
+among_counts p xs none = elim (cases_Bool (is_among xs p)) [ inl e ↦ absurd (omega (arith, none, held_once p xs e)) | inr e ↦ e ]
 
 -- a slot's page is one of its half's
 pub index_counts : (xs : List ℕ) (k p : ℕ) → k < length xs → times p xs ≡ 0 → slice_index xs k ≡ p → ⊥
 index_counts xs k p l none same = true≢false (sym (ap (is_among xs) (sym same) ∙ holds_index xs k l) ∙ among_counts p xs none)
-  where
-    holds_index : (xs : List ℕ) (k : ℕ) → k < length xs → is_among xs (slice_index xs k) ≡ true
-    holds_index [] k l = absurd (omega (arith, l))
-    holds_index (x ∷ xs) zero l = or_here (x == x) (is_among xs x) (eq-eqb x x refl)
-      where
-        or_here : (a b : Bool) → a ≡ true → (a || b) ≡ true
-        or_here true b e = refl
-        or_here false b e = absurd (true≢false (sym e))
-    holds_index (x ∷ xs) (suc k) l = or_right (x == slice_index xs k) (is_among xs (slice_index xs k)) (holds_index xs k (omega (arith, l)))

@@ -2,7 +2,7 @@
 use Rattle.std.proofs.Common.{arith, ◌≡◌, ◌≢◌, ◌<◌, ◌≤◌, ◌⊎◌, inl, inr, ◌+◌, ◌-◌, ◌*◌, ◌%◌, ◌^◌, ◌++◌, ◌&&◌, ◌∷◌, [], ℕ, zero, suc, Bool, true, false, not, List, Option, Some, None, refl, sym, ap, subst, ◌∙◌, cond, is_some, length, map, replicate, min, take, nat_lt, nat_eq, add-zero, append-nil, append_assoc, if◌then◌else◌}
 use Rattle.std.specs.List.{AllByRecursion, range_with_len}
 use Rattle.std.specs.Option.{option_and_then}
-use Rattle.std.proofs.lemmas.Bool.{true≢false, cases_lt}
+use Rattle.std.proofs.lemmas.Bool.{true≢false, cases_lt, cases_Bool}
 use Rattle.std.proofs.lemmas.Bool.Decides.{nat_tests}
 use Rattle.std.proofs.lemmas.List.{take_all, take-replicate, length-replicate}
 use Rattle.std.proofs.lemmas.List.Concat.{flat_map-cons}
@@ -46,17 +46,11 @@ bytes_there m (suc n) place there =
     one_more place k = omega arith
 
     go : (a : Option ℕ) (b : Option (List ℕ)) → is_some a ≡ true → is_some b ≡ true → is_some (joined a b) ≡ true
-    go (Some x) (Some xs) e f = refl
-    go (Some x) None e f = absurd (true≢false (sym f))
-    go None b e f = absurd (true≢false (sym e))
+    go a b e f = grind arith
 
 last_there : (m : Memory) (n place : ℕ) (bytes : List ℕ) → bytes_at m place (suc n) ≡ Some bytes → is_some (m (place + n)) ≡ true
 unfolding bytes_at
-last_there m zero place bytes e = rw (add-zero place) (go (m place) (bytes_at m (place + 1) 0) e)
-  where
-    go : (a : Option ℕ) (b : Option (List ℕ)) → joined a b ≡ Some bytes → is_some a ≡ true
-    go (Some x) b e = refl
-    go None b e = absurd cc
+last_there m zero place bytes e = rw (add-zero place) (grind arith)
 last_there m (suc n) place bytes e =
     let rest = go (m place) (bytes_at m (place + 1) (suc n)) e in
     subst (λ (q : ℕ). is_some (m q) ≡ true) (one_more place n) (last_there m n (place + 1) rest.0 rest.1)
@@ -71,14 +65,8 @@ last_there m (suc n) place bytes e =
 
 -- where descriptors stand, their last byte does
 end_of_stand : (m : Memory) (place : ℕ) (d : Descriptor) (ds : List Descriptor) → Stand m place (d ∷ ds) → is_some (m (place + 16 * length ds + 15)) ≡ true
-end_of_stand m place d [] ((bytes, there, is), stand) = subst (λ (q : ℕ). is_some (m q) ≡ true) (same place) (last_there m 15 place bytes there)
-  where
-    same : (place : ℕ) → place + 15 ≡ place + 16 * 0 + 15
-    same place = omega arith
-end_of_stand m place d (e ∷ es) (first, stand) = subst (λ (q : ℕ). is_some (m q) ≡ true) (same place (length es)) (end_of_stand m (place + 16) e es stand)
-  where
-    same : (place l : ℕ) → place + 16 + 16 * l + 15 ≡ place + 16 * suc l + 15
-    same place l = omega arith
+end_of_stand m place d [] ((bytes, there, is), stand) = subst (λ (q : ℕ). is_some (m q) ≡ true) (omega arith) (last_there m 15 place bytes there)
+end_of_stand m place d (e ∷ es) (first, stand) = subst (λ (q : ℕ). is_some (m q) ≡ true) (omega arith) (end_of_stand m (place + 16) e es stand)
 
 -- The table of faults, where none applies
 
@@ -103,8 +91,7 @@ part_fits m (Data addr len) there = not_less (2 ^ 64) (addr + len) there.0
 part_fits m (Bucket len) there = not_less (2 ^ 64) (0 + len) (omega (arith, there))
 
 no_link : (part : Part) → is_link (descriptor_of_part part) ≡ false
-no_link (Data addr len) = refl
-no_link (Bucket len) = refl
+no_link part = grind arith
 
 no_fault_of_part : (c : Cursor) (m : Memory) (part : Part) → IsThere m part → (c.left ≡ 1 → named_on c.named ≡ false) → first_fault c (descriptor_of_part part) ≡ None
 no_fault_of_part c m part there last =
@@ -200,11 +187,8 @@ moves_on m dir need wanted parts rest h (suc n) place len offset pages there =
     (moved (moves_on m dir need wanted parts rest h n (place + first_part place len) (len - first_part place len) (offset + first_part place len) less
     (λ k lt. subst (λ (q : ℕ). is_some (m q) ≡ true) (sum place (first_part place len) k) (there (first_part place len + k) (omega arith)))))
   where
-    some : (place len n : ℕ) → suc n ≡ pages_spanned place len → 0 < len
-    some place len n e = grind (arith, nat_tests)
-
     less : n ≡ pages_spanned (place + first_part place len) (len - first_part place len)
-    less = omega (arith, pages, pages_step place len (some place len n pages))
+    less = omega (arith, pages, pages_step place len (grind (arith, nat_tests)))
 
     sum : (a b c : ℕ) → a + (b + c) ≡ a + b + c
     sum a b c = omega arith
@@ -238,17 +222,16 @@ next_ends : (m : Memory) (dir : Direction) (need k : ℕ) → FromEnds m dir nee
     → wanted ≤ counted_in dir parts → AllByRecursion (IsThere m) parts → EndsWith m dir need wanted parts (rest_of k m dir need (next c) wanted)
 next_ends m dir need k from c wanted d [] segments parts left stand ahead none few count there =
     let zero' : counted_in dir parts ≡ 0 = ap (counted_in dir) (none refl) in over_ends m dir need k (next c) wanted parts (omega (arith, count, zero'))
-next_ends m dir need k from c wanted d (e ∷ es) segments parts left stand ahead none few count there = either (nat_eq wanted 0) refl
+next_ends m dir need k from c wanted d (e ∷ es) segments parts left stand ahead none few count there = elim (cases_Bool (nat_eq wanted 0)) [
+  | inl z ↦ over_ends m dir need k (next c) wanted parts ((is_wanted wanted).0 z)
+  | inr z ↦
+      subst (λ (b : Bool). EndsWith m dir need wanted parts (rest_of k m dir need (if b then Some (record { place = c.place + 16; left = c.left - 1; named = c.named }) else None) wanted)) (sym (more c.left (length es) left))
+      (wanted_ends m dir need k (record { place = c.place + 16; left = c.left - 1; named = c.named }) wanted parts ((is_wanted wanted).1 z)
+      (from (record { place = c.place + 16; left = c.left - 1; named = c.named }) wanted e es segments parts (omega (arith, left)) stand ahead few count there))
+]
   where
     more : (n l : ℕ) → n ≡ suc (suc l) → nat_lt 1 n ≡ true
     more n l e = grind (arith, nat_tests)
-
-    either : (b : Bool) → nat_eq wanted 0 ≡ b → EndsWith m dir need wanted parts (rest_of k m dir need (next c) wanted)
-    either true z = over_ends m dir need k (next c) wanted parts ((is_wanted wanted).0 z)
-    either false z =
-        subst (λ (b : Bool). EndsWith m dir need wanted parts (rest_of k m dir need (if b then Some (record { place = c.place + 16; left = c.left - 1; named = c.named }) else None) wanted)) (sym (more c.left (length es) left))
-        (wanted_ends m dir need k (record { place = c.place + 16; left = c.left - 1; named = c.named }) wanted parts ((is_wanted wanted).1 z)
-        (from (record { place = c.place + 16; left = c.left - 1; named = c.named }) wanted e es segments parts (omega (arith, left)) stand ahead few count there))
 
 -- a part's course, its descriptor taken already
 abbrev EndsBehind : Memory → Direction → ℕ → ℕ → Descriptor → List Part → Course → Type 0
@@ -284,14 +267,13 @@ start_ends : (m : Memory) (dir : Direction) (need k : ℕ) → FromEnds m dir ne
     → LinkedTo m named addr len segments parts → descriptors_in segments ≤ k → wanted ≤ counted_in dir parts → AllByRecursion (IsThere m) parts
     → EndsWith m dir need wanted parts (rest_of k m dir need (Some (segment_start named addr len)) wanted)
 start_ends m dir need k from named addr len wanted segments parts to few count there =
-    either (nat_eq wanted 0) refl
-  where
-    either : (b : Bool) → nat_eq wanted 0 ≡ b → EndsWith m dir need wanted parts (rest_of k m dir need (Some (segment_start named addr len)) wanted)
-    either true z = over_ends m dir need k (Some (segment_start named addr len)) wanted parts ((is_wanted wanted).0 z)
-    either false z =
-        wanted_ends m dir need k (segment_start named addr len) wanted parts ((is_wanted wanted).1 z)
-        (from (segment_start named addr len) wanted to.first to.others to.segments parts (omega (arith, to.whole)) to.stand to.ahead
-        (subst (λ (xs : List (List Descriptor)). descriptors_in xs ≤ k) to.are few) count there)
+    elim (cases_Bool (nat_eq wanted 0)) [
+      | inl z ↦ over_ends m dir need k (Some (segment_start named addr len)) wanted parts ((is_wanted wanted).0 z)
+      | inr z ↦
+          wanted_ends m dir need k (segment_start named addr len) wanted parts ((is_wanted wanted).1 z)
+          (from (segment_start named addr len) wanted to.first to.others to.segments parts (omega (arith, to.whole)) to.stand to.ahead
+          (subst (λ (xs : List (List Descriptor)). descriptors_in xs ≤ k) to.are few) count there)
+    ]
 
 unless_ends : (m : Memory) (dir : Direction) (need wanted : ℕ) (d : Descriptor) (parts : List Part) (f : Option Status) (c : Course) → f ≡ None → EndsBehind m dir need wanted d parts c → EndsBehind m dir need wanted d parts (unless_fault f c)
 unless_ends m dir need wanted d parts f c none h = rw none h
@@ -360,11 +342,8 @@ long_lists_end m sgl1 first parts dir need low spelled (segments, few, by) there
     let ends = read_ends m dir need 4095 low (from_ends m dir need low 4095) entry_cursor need first [] segments parts refl tt (spells_ahead m first segments parts by) (omega (arith, few)) count there in (
       subst (λ (o : Option Descriptor). verdict (after_read m dir need entry_cursor need (rest_of 4095 m dir need) o) ≡ End) (sym spelled) ends.0,
       subst (λ (o : Option Descriptor). targets dir (parts_taken m dir need (taken dir need [] o) (after_read m dir need entry_cursor need (rest_of 4095 m dir need) o)) ≡ take need (targets dir parts)) (sym spelled)
-          (ends.1 [] (none_yet need)),
+          (ends.1 [] (omega arith)),
     )
-  where
-    none_yet : (n : ℕ) → 0 + n ≡ n
-    none_yet n = omega arith
 
 pub lists_end : lists_end_well
 lists_end m sgl1 first parts dir need low spelled spells there count =

@@ -47,7 +47,7 @@ good_is r h =
       crosses = first_fails (list_any crosses_page r.pieces) CrossesPage fourth h3;
       some = positive r.blocks (or_parts (r.blocks == 0) (nat_lt 2048 r.blocks) bad).0;
       few = at_most r.blocks (or_parts (r.blocks == 0) (nat_lt 2048 r.blocks) bad).1;
-      counted = same (counted_lengths r.kind r.pieces) (512 * r.blocks) (first_fails (not (counted_lengths r.kind r.pieces == 512 * r.blocks)) LengthMismatch [] h5);
+      counted = (let e = first_fails (not (counted_lengths r.kind r.pieces == 512 * r.blocks)) LengthMismatch [] h5 in grind (arith, nat_tests));
     }
   where
     positive : (n : ℕ) → (n == 0) ≡ false → 0 < n
@@ -56,18 +56,10 @@ good_is r h =
     at_most : (n : ℕ) → nat_lt 2048 n ≡ false → n ≤ 2048
     at_most n e = grind (arith, nat_tests)
 
-    same : (a b : ℕ) → not (a == b) ≡ false → a ≡ b
-    same a b e = grind (arith, nat_tests)
-
 -- The entry moves the request's bytes in its direction
 
 pub entry_direction : (cid : ℕ) (r : Request) (sgl1 : List ℕ) → direction_of_entry (io_entry cid r sgl1) ≡ direction_of r.kind
-entry_direction cid r sgl1 = go r.kind
-  where
-    go : (k : Kind) → direction_of_entry (io_entry cid (record r { kind = k }) sgl1) ≡ direction_of k
-    go Read = refl
-    go Write = refl
-    go Compare = refl
+entry_direction cid r sgl1 = grind arith
 
 pub entry_need : (cid : ℕ) (r : Request) (sgl1 : List ℕ) → IsGood r → need_of_entry (io_entry cid r sgl1) ≡ 512 * r.blocks
 entry_need cid r sgl1 good = let g = good_is r good in omega (arith, g.some, g.few)
@@ -90,10 +82,10 @@ pub parts_count : (r : Request) (pages : List ℕ) → IsGood r → length pages
 parts_count r pages good has = counted_parts r.kind r.pieces pages (omega (arith, has)) ∙ (good_is r good).counted
 
 -- each part that has a place lies in one of the pages
-in_page : (page offset len k : ℕ) → offset + len ≤ 4096 → k < len → page_of (4096 * page + offset + k) ≡ page
+pub in_page : (page offset len k : ℕ) → offset + len ≤ 4096 → k < len → page_of (4096 * page + offset + k) ≡ page
 in_page page offset len k fits lt = omega (arith, fits, lt)
 
-not_crossing : (a b : ℕ) → nat_lt 4096 (a + b) ≡ false → a + b ≤ 4096
+pub not_crossing : (a b : ℕ) → nat_lt 4096 (a + b) ≡ false → a + b ≤ 4096
 not_crossing a b h = grind (arith, nat_tests)
 
 pub parts_lie : (all : List ℕ) (pieces : List Piece) (pages : List ℕ) → list_any crosses_page pieces ≡ false → ((p : ℕ) → is_among pages p ≡ true → is_among all p ≡ true)
@@ -108,12 +100,8 @@ parts_lie all (Data offset len ∷ pieces) (page ∷ pages) crosses within =
     )
 
 -- and is there, where the pages are in
-there_in : (m : Pages) (place : ℕ) → is_some (page_at m (page_of place)) ≡ true → is_some (memory_of m place) ≡ true
-there_in m place h = go (page_at m (page_of place)) h
-  where
-    go : (o : Option (List ℕ)) → is_some o ≡ true → is_some (option_map (λ page. slice_index page (place % 4096)) o) ≡ true
-    go None h = h
-    go (Some bytes) h = refl
+pub there_in : (m : Pages) (place : ℕ) → is_some (page_at m (page_of place)) ≡ true → is_some (memory_of m place) ≡ true
+there_in m place h = grind arith
 
 pub parts_there : (m : Pages) (pieces : List Piece) (pages : List ℕ) → list_any crosses_page pieces ≡ false → All FitsPiece pieces → ((p : ℕ) → is_among pages p ≡ true → (p < 65536) × (is_some (page_at m p) ≡ true))
     → AllByRecursion (IsThere (memory_of m)) (parts_of pieces pages)

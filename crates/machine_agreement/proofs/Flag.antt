@@ -1,6 +1,6 @@
 -- The flag of trust: no event but a forgery and a reset changes it, and a reset sets it.
-use Rattle.std.proofs.Common.{◌≡◌, Bool, true, false, not, refl, ap, ◌∙◌}
-use Rattle.std.proofs.lemmas.Bool.{true≢false}
+use Rattle.std.proofs.Common.{◌≡◌, Bool, true, false, not, refl, ap, ◌∙◌, inl, inr}
+use Rattle.std.proofs.lemmas.Bool.{true≢false, cases_Bool}
 use Rattle.machine_model.specs.State.{State}
 use Rattle.machine_model.specs.Step.{Step, IsController, HostPart, forges, resets}
 use Rattle.machine_model.specs.After as a
@@ -44,11 +44,10 @@ flag_event s e reply ok c far other =
     far other
 
 flag_after : (s : State) (e : Event) (reply : Reply) → Accepts s e reply → forges e ≡ false → resets e ≡ false → (a.after s e reply).trusted ≡ s.trusted
-flag_after s e reply ok n m = go (IsController e) refl
-  where
-    go : (c : Bool) → IsController e ≡ c → (a.after s e reply).trusted ≡ s.trusted
-    go true c = ap (λ (part : HostPart). part.trusted) (part_controller s e reply c)
-    go false c = flag_event s e reply ok c n m
+flag_after s e reply ok n m = elim (cases_Bool (IsController e)) [
+  | inl c ↦ ap (λ (part : HostPart). part.trusted) (part_controller s e reply c)
+  | inr c ↦ flag_event s e reply ok c n m
+]
 
 -- A step
 

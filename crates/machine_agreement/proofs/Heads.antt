@@ -10,6 +10,7 @@ use Rattle.machine_model.specs.Refusals.{is_submitted}
 use Rattle.queue_pair.specs.Members.{change}
 use Rattle.machine_model.specs.Weights.{one, total, here}
 use Rattle.machine_model.specs.Agreeing.{sent_count, AreAnswersBehind as AnswersBehind}
+use Rattle.machine_model.proofs.Lists.{get_other}
 
 -- Answers, as something changes
 
@@ -61,15 +62,10 @@ low_id q b r = if (r.q == q) && nat_lt r.cid b then 1 else 0
 
 none_low : (q : ℕ) (rs : List Record) → total (low_id q 0) rs ≡ 0
 none_low q [] = refl
-none_low q (r ∷ rs) = omega (arith, none_low q rs, each (r.q == q) (nat_lt r.cid 0) (not_below r.cid))
+none_low q (r ∷ rs) = omega (arith, none_low q rs, each (r.q == q) (nat_lt r.cid 0) (grind (arith, nat_tests)))
   where
-    not_below : (c : ℕ) → nat_lt c 0 ≡ false
-    not_below c = grind (arith, nat_tests)
-
     each : (a b : Bool) → b ≡ false → (if a && b then 1 else 0) ≡ zero
-    each true true e = absurd (true≢false e)
-    each true false e = refl
-    each false b e = refl
+    each a b e = grind arith
 
 low_step : (q b : ℕ) (rs : List Record) → total (low_id q (suc b)) rs ≤ total (low_id q b) rs + total (here q b) rs
 low_step q b [] = omega arith
@@ -79,11 +75,7 @@ low_step q b (r ∷ rs) = omega (arith, low_step q b rs, each (r.q == q) (nat_lt
     cases c b h g = grind (arith, nat_tests)
 
     each : (a x y z : Bool) → (x ≡ true → y ≡ false → z ≡ true) → (if a && x then 1 else 0) ≤ (if a && y then 1 else 0) + one (a && z)
-    each true true true z h = omega arith
-    each true true false true h = omega arith
-    each true true false false h = absurd (true≢false (sym (h refl refl)))
-    each true false y z h = omega arith
-    each false x y z h = omega arith
+    each a x y z h = grind arith
 
 low_few : (q b : ℕ) (rs : List Record) → ((c : ℕ) → total (here q c) rs < 2) → total (low_id q b) rs ≤ b
 low_few q zero rs once = omega (arith, none_low q rs)
@@ -94,15 +86,10 @@ on_queue' q r = one (r.q == q)
 
 all_low : (q b : ℕ) (rs : List Record) → AllByRecursion (λ r. r.cid < b) rs → total (on_queue' q) rs ≡ total (low_id q b) rs
 all_low q b [] h = refl
-all_low q b (r ∷ rs) h = omega (arith, all_low q b rs h.1, each (r.q == q) (nat_lt r.cid b) (below r.cid b h.0))
+all_low q b (r ∷ rs) h = omega (arith, all_low q b rs h.1, each (r.q == q) (nat_lt r.cid b) (let l = h.0 in grind (arith, nat_tests)))
   where
-    below : (c b : ℕ) → c < b → nat_lt c b ≡ true
-    below c b l = grind (arith, nat_tests)
-
     each : (a x : Bool) → x ≡ true → one a ≡ (if a && x then 1 else 0)
-    each true true e = refl
-    each true false e = absurd (true≢false (sym e))
-    each false x e = refl
+    each a x e = grind arith
 
 pub few_outstanding : (q b : ℕ) (rs : List Record) → AllByRecursion (λ r. r.cid < b) rs → ((q c : ℕ) → total (here q c) rs < 2) → total (on_queue' q) rs ≤ b
 few_outstanding q b rs h once = omega (arith, all_low q b rs h, low_few q b rs (once q))
@@ -113,18 +100,11 @@ sent_outstanding q [] = omega arith
 sent_outstanding q (r ∷ rs) = omega (arith, sent_outstanding q rs, each (r.q == q) (is_submitted r.phase))
   where
     each : (a b : Bool) → (if a && b then 1 else 0) ≤ one a
-    each true true = omega arith
-    each true false = omega arith
-    each false b = omega arith
+    each a b = grind arith
 
 pub length_outstanding : (q : ℕ) (rs : List Record) → length (map (λ r. r.cid) (filter (λ r. r.q == q) rs)) ≡ total (on_queue' q) rs
 length_outstanding q [] = refl
-length_outstanding q (r ∷ rs) = go (r.q == q) (length_outstanding q rs)
-  where
-    go : (b : Bool) → length (map (λ r. r.cid) (filter (λ r. r.q == q) rs)) ≡ total (on_queue' q) rs
-        → length (map (λ r. r.cid) (if b then r ∷ filter (λ r. r.q == q) rs else filter (λ r. r.q == q) rs)) ≡ one b + total (on_queue' q) rs
-    go true ih = omega (arith, ih)
-    go false ih = omega (arith, ih)
+length_outstanding q (r ∷ rs) = let h1 = length_outstanding q rs in grind arith
 
 -- a queue's place in a changed list
 pub changed_at : {A : Type 0} (k : ℕ) (f : A → A) (xs : List A) (q : ℕ) (y : A) → slice_get (change k f xs) q ≡ Some y → ((k ≡ q) × ((x : A) × (slice_get xs q ≡ Some x) × (y ≡ f x))) ⊎ ((k ≡ q → ⊥) × (slice_get xs q ≡ Some y))
@@ -136,13 +116,6 @@ changed_at (suc k) f (x ∷ xs) (suc q) y e = elim (changed_at k f xs q y e) [
   | inl h ↦ inl (ap suc h.0, h.1)
   | inr h ↦ inr ((λ z. h.0 (omega (arith, z))), h.1)
 ]
-
-pub changed_elsewhere : {A : Type 0} (k : ℕ) (f : A → A) (xs : List A) (q : ℕ) → (k ≡ q → ⊥) → slice_get (change k f xs) q ≡ slice_get xs q
-changed_elsewhere k f [] q far = refl
-changed_elsewhere zero f (x ∷ xs) zero far = absurd (far refl)
-changed_elsewhere zero f (x ∷ xs) (suc q) far = refl
-changed_elsewhere (suc k) f (x ∷ xs) zero far = refl
-changed_elsewhere (suc k) f (x ∷ xs) (suc q) far = changed_elsewhere k f xs q (λ e. far (ap suc e))
 
 pub total_ones : {A : Type 0} (xs : List A) → total (λ x. 1) xs ≡ length xs
 total_ones [] = refl

@@ -39,7 +39,8 @@ use Rattle.machine_model.specs.Agreeing.{is_out_of_service_at as past_at, unfetc
 use Rattle.machine_agreement.proofs.Queues.{list_same}
 use Rattle.machine_agreement.proofs.Placements.{InHand, in_hand, first_is}
 use Rattle.machine_agreement.proofs.PlacesKept.{sent_is, ids_of, held_not, PlacesIn, places_event, running_not_past, sent_not}
-use Rattle.machine_agreement.proofs.Heads.{behind_answered, head_at, few_outstanding, sent_outstanding, changed_at, changed_elsewhere, total_ones}
+use Rattle.machine_agreement.proofs.Heads.{behind_answered, head_at, few_outstanding, sent_outstanding, changed_at, total_ones}
+use Rattle.machine_model.proofs.Lists.{get_other as changed_elsewhere}
 use Rattle.machine_agreement.proofs.HeadsKept.{drafted_room, heads_less, ids_with, heads_heard, heads_consumed, heads_posted, HeadsIn, HeadsS, heads_records, heads_device, heads_fewer, heads_made, heads_out, heads_state, heads_sent, list_emptied}
 use Rattle.queue_pair.specs.Rings.{HostRing, next_tail, next_head, knowing, fresh_host_ring}
 use Rattle.queue_pair.specs.Memory.{half_pages}
@@ -65,8 +66,7 @@ heads_retire q s h = record { ids = ids; behind = λ k x ex open'. at k x open' 
     ids = all_map (λ (r : Record). r.cid < s.entries - 1) (λ (r : Record). r.cid < s.entries - 1) (a.lost q) s.host.records (λ x low. each x ((x.q == q) && is_submitted x.phase) low) h.ids
       where
         each : (x : Record) (b : Bool) → x.cid < s.entries - 1 → (if b then record x { phase = Held; status = Some ABORTED_SQ_DELETION } else x).cid < s.entries - 1
-        each x true low = low
-        each x false low = low
+        each x b low = grind arith
 
     same_sent : (k : ℕ) → (q == k) ≡ false → sent_count k (map (a.lost q) s.host.records) ≡ sent_count k s.host.records
     same_sent k far = total-map (sent k (λ c. 1)) (a.lost q) (λ r. each r ((r.q == q) && is_submitted r.phase) refl) s.host.records
@@ -78,13 +78,10 @@ heads_retire q s h = record { ids = ids; behind = λ k x ex open'. at k x open' 
             sent_not k (λ c. 1) (record r { phase = Held; status = Some ABORTED_SQ_DELETION }) refl ∙ sym (ap (λ (b : Bool). one (b && is_submitted r.phase)) elsewhere)
         each r false e = refl
 
-    other : (q k : ℕ) → (q ≡ k → ⊥) → (q == k) ≡ false
-    other q k far = grind (arith, nat_tests)
-
     at : (k : ℕ) (x : HostQueue) → in_service x.state ≡ true → ((q ≡ k) × ((y : HostQueue) × (slice_get s.host.queues k ≡ Some y) × (x ≡ a.retired y))) ⊎ ((q ≡ k → ⊥) × (slice_get s.host.queues k ≡ Some x))
         → HeadBehind s.entries (sent_count k (map (a.lost q) s.host.records)) x (answers_at s.device.queues k)
     at k x open' (inl (same, (y, e, is))) = absurd (true≢false (sym open' ∙ ap (λ (z : HostQueue). in_service z.state) is))
-    at k x open' (inr (far, e)) = subst (λ (m : ℕ). HeadBehind s.entries m x (answers_at s.device.queues k)) (sym (same_sent k (other q k far))) (h.behind k x e open')
+    at k x open' (inr (far, e)) = subst (λ (m : ℕ). HeadBehind s.entries m x (answers_at s.device.queues k)) (sym (same_sent k (grind (arith, nat_tests)))) (h.behind k x e open')
 
 -- Fetching
 
@@ -105,9 +102,7 @@ no_conflict s stood q e hand = go (job_at s q e.cid) refl
     few (r ∷ rs) = omega (arith, few rs, each (r.q == q) (is_submitted r.phase) (r.cid == e.cid))
       where
         each : (x y z : Bool) → (if x && y then one z else 0) ≤ one (x && z)
-        each true true z = omega arith
-        each true false z = omega arith
-        each false y z = omega arith
+        each x y z = grind arith
 
     go : (o : Option Job) → job_at s q e.cid ≡ o → is_some o ≡ false
     go None n = refl

@@ -47,25 +47,28 @@ heads_device n hs rs qs qs' same h = record {
   behind = λ q queue e past. subst (HeadBehind n (sent_count q rs) queue) (sym (same q)) (h.behind q queue e past);
 }
 
--- a queue of the host changes, its ring left alone, and is past where it was
-pub heads_state : (n k : ℕ) (f : HostQueue → HostQueue) (hs : List HostQueue) (rs : List Record) (qs : List DeviceQueue) → ((x : HostQueue) → (f x).ring ≡ x.ring)
-    → ((x : HostQueue) → slice_get hs k ≡ Some x → in_service (f x).state ≡ true → in_service x.state ≡ true) → Heads n hs rs qs → Heads n (change k f hs) rs qs
-heads_state n k f hs rs qs ring past h = record {
-  ids = h.ids;
-  behind = λ q queue e open'. at q queue open' (changed_at k f hs q queue e);
-}
+-- a queue of the host changes: what is said of it, and what stood of the others
+heads_change : (n k : ℕ) (f : HostQueue → HostQueue) (hs : List HostQueue) (rs : List Record) (qs : List DeviceQueue)
+    → ((x : HostQueue) → slice_get hs k ≡ Some x → in_service (f x).state ≡ true → HeadBehind n (sent_count k rs) (f x) (answers_at qs k)) → Heads n hs rs qs → Heads n (change k f hs) rs qs
+heads_change n k f hs rs qs here h = record { ids = h.ids; behind = λ q queue e past. at q queue past (changed_at k f hs q queue e) }
   where
     at : (q : ℕ) (queue : HostQueue) → in_service queue.state ≡ true → ((k ≡ q) × ((x : HostQueue) × (slice_get hs q ≡ Some x) × (queue ≡ f x))) ⊎ ((k ≡ q → ⊥) × (slice_get hs q ≡ Some queue))
         → HeadBehind n (sent_count q rs) queue (answers_at qs q)
-    at q queue open' (inl (same, (x, e, is))) =
-        let before : in_service x.state ≡ true = past x (subst (λ (z : ℕ). slice_get hs z ≡ Some x) (sym same) e) (ap (λ (y : HostQueue). in_service y.state) (sym is) ∙ open') in
-        let b = h.behind q x e before in
-        let r : queue.ring ≡ x.ring = ap (λ (y : HostQueue). y.ring) is ∙ ring x in
-        record {
-          known = subst (λ (g : HostRing). distance n g.known_head g.tail ≤ sent_count q rs) (sym r) b.known;
-          answers = subst (λ (g : HostRing). AnswersBehind n g.tail (sent_count q rs) (answers_at qs q)) (sym r) b.answers;
-        }
-    at q queue open' (inr (far, e)) = h.behind q queue e open'
+    at q queue past (inl (same, (x, e, is))) =
+        let behind = here x (subst (λ (z : ℕ). slice_get hs z ≡ Some x) (sym same) e) (ap (λ (y : HostQueue). in_service y.state) (sym is) ∙ past) in
+        subst (λ (z : ℕ). HeadBehind n (sent_count z rs) queue (answers_at qs z)) same (subst (λ (y : HostQueue). HeadBehind n (sent_count k rs) y (answers_at qs k)) (sym is) behind)
+    at q queue past (inr (far, e)) = h.behind q queue e past
+
+-- its ring is left alone, and it is past where it was
+pub heads_state : (n k : ℕ) (f : HostQueue → HostQueue) (hs : List HostQueue) (rs : List Record) (qs : List DeviceQueue) → ((x : HostQueue) → (f x).ring ≡ x.ring)
+    → ((x : HostQueue) → slice_get hs k ≡ Some x → in_service (f x).state ≡ true → in_service x.state ≡ true) → Heads n hs rs qs → Heads n (change k f hs) rs qs
+heads_state n k f hs rs qs ring past h = heads_change n k f hs rs qs (λ x e open'.
+    let b = h.behind k x e (past x e open') in
+    let r = sym (ring x) in
+    record {
+      known = subst (λ (g : HostRing). distance n g.known_head g.tail ≤ sent_count k rs) r b.known;
+      answers = subst (λ (g : HostRing). AnswersBehind n g.tail (sent_count k rs) (answers_at qs k)) r b.answers;
+    }) h
 
 -- answers stay, or are gone
 pub list_emptied : {B : Type 0} (get : DeviceQueue → List B) (k : ℕ) (f : DeviceQueue → DeviceQueue) (qs : List DeviceQueue) (q : ℕ) → ((at : DeviceQueue) → get (f at) ≡ [])
@@ -85,25 +88,13 @@ heads_fewer n hs rs qs qs' fewer h = record { ids = h.ids; behind = λ q queue e
 
 -- a queue is out of service from now on
 pub heads_out : (n k : ℕ) (f : HostQueue → HostQueue) (hs : List HostQueue) (rs : List Record) (qs : List DeviceQueue) → ((x : HostQueue) → in_service (f x).state ≡ false) → Heads n hs rs qs → Heads n (change k f hs) rs qs
-heads_out n k f hs rs qs out h = record { ids = h.ids; behind = λ q queue e open'. at q queue open' (changed_at k f hs q queue e) }
-  where
-    at : (q : ℕ) (queue : HostQueue) → in_service queue.state ≡ true → ((k ≡ q) × ((x : HostQueue) × (slice_get hs q ≡ Some x) × (queue ≡ f x))) ⊎ ((k ≡ q → ⊥) × (slice_get hs q ≡ Some queue))
-        → HeadBehind n (sent_count q rs) queue (answers_at qs q)
-    at q queue open' (inl (same, (x, e, is))) = absurd (true≢false (sym open' ∙ ap (λ (y : HostQueue). in_service y.state) is ∙ out x))
-    at q queue open' (inr (far, e)) = h.behind q queue e open'
+heads_out n k f hs rs qs out h = heads_change n k f hs rs qs (λ x e open'. absurd (true≢false (sym open' ∙ out x))) h
 
 -- a queue comes into service with rings as they open, and no answers
 pub heads_made : (n k : ℕ) (hs : List HostQueue) (rs : List Record) (qs : List DeviceQueue) → ((x : HostQueue) → slice_get hs k ≡ Some x → (x.ring ≡ fresh_host_ring) × (answers_at qs k ≡ [])) → Heads n hs rs qs → Heads n (change k a.live hs) rs qs
-heads_made n k hs rs qs fresh h = record { ids = h.ids; behind = λ q queue e open'. at q queue open' (changed_at k a.live hs q queue e) }
-  where
-    at : (q : ℕ) (queue : HostQueue) → in_service queue.state ≡ true → ((k ≡ q) × ((x : HostQueue) × (slice_get hs q ≡ Some x) × (queue ≡ a.live x))) ⊎ ((k ≡ q → ⊥) × (slice_get hs q ≡ Some queue))
-        → HeadBehind n (sent_count q rs) queue (answers_at qs q)
-    at q queue open' (inl (same, (x, e, is))) =
-        let f = fresh x (subst (λ (z : ℕ). slice_get hs z ≡ Some x) (sym same) e) in
-        let ring : queue.ring ≡ fresh_host_ring = ap (λ (y : HostQueue). y.ring) is ∙ f.0 in
-        let none : answers_at qs q ≡ [] = subst (λ (z : ℕ). answers_at qs z ≡ []) same f.1 in
-        subst (HeadBehind n (sent_count q rs) queue) (sym none) (record { known = omega (arith, ap (λ (r : HostRing). distance n r.known_head r.tail) ring, distance_same n 0); answers = tt })
-    at q queue open' (inr (far, e)) = h.behind q queue e open'
+heads_made n k hs rs qs fresh h = heads_change n k a.live hs rs qs (λ x e open'.
+    let f = fresh x e in
+    subst (HeadBehind n (sent_count k rs) (a.live x)) (sym f.1) (record { known = omega (arith, ap (λ (r : HostRing). distance n r.known_head r.tail) f.0, distance_same n 0); answers = tt })) h
 
 -- Posting
 
@@ -167,10 +158,7 @@ drafted_room s q r same within quiet g h =
     both (x ∷ rs) = omega (arith, both rs, each (x.q == q) (is_submitted x.phase))
       where
         each : (a b : Bool) → (if a && b then 1 else 0) + (if b then 0 else one a) ≡ one a
-        each true true = refl
-        each true false = refl
-        each false true = refl
-        each false false = refl
+        each a b = grind arith
 
 -- Records that go, or change without being sent
 
@@ -178,11 +166,7 @@ pub heads_less : (keep : Record → Bool) (s : State) → ((q : ℕ) → sent_co
 heads_less keep s same h = heads_records s.entries s.host.queues s.host.records (filter keep s.host.records) s.device.queues (all_filter (λ r. r.cid < s.entries - 1) keep s.host.records h.ids) same h
 
 pub ids_with : (n q cid : ℕ) (f : Record → Record) (rs : List Record) → ((r : Record) → (f r).cid ≡ r.cid) → AllByRecursion (λ r. r.cid < n) rs → AllByRecursion (λ r. r.cid < n) (with_record q cid f rs)
-ids_with n q cid f rs same h = all_map (λ r. r.cid < n) (λ r. r.cid < n) (λ r. if is_at q cid r then f r else r) rs (λ x low. each x (is_at q cid x) low) h
-  where
-    each : (x : Record) (b : Bool) → x.cid < n → (if b then f x else x).cid < n
-    each x true low = subst (λ (c : ℕ). c < n) (sym (same x)) low
-    each x false low = low
+ids_with n q cid f rs same h = all_map (λ r. r.cid < n) (λ r. r.cid < n) (λ r. if is_at q cid r then f r else r) rs (λ x low. (grind arith)) h
 
 -- Reaping
 

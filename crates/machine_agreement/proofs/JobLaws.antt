@@ -2,7 +2,7 @@
 use Rattle.std.proofs.Common.{◌≡◌, ◌⊎◌, inl, inr, ℕ, ◌==◌, nat_lt, Bool, true, false, not, ◌&&◌, ◌||◌, Option, Some, None, List, [], ◌∷◌, ◌++◌, filter, find, flat_map, slice_get, is_some, All, if◌then◌else◌, refl, ap, sym, ◌∙◌, arith, subst, eqb-true}
 use Rattle.std.specs.Option.{option_map_or}
 use Rattle.std.specs.List.{AllByRecursion, list_all}
-use Rattle.std.proofs.lemmas.Bool.{true≢false, and_parts, and_from}
+use Rattle.std.proofs.lemmas.Bool.{true≢false, and_parts, and_from, cases_Bool}
 use Rattle.std.proofs.lemmas.Bool.Decides.{nat_tests}
 use Rattle.std.proofs.lemmas.List.Elements.{All-nil, All-cons}
 use Rattle.page_ledger.specs.Owners.{is_among}
@@ -36,19 +36,20 @@ use Rattle.machine_model.specs.Standing.{HasEntry, StandsAs, CommandStands, HasU
 use Rattle.machine_model.proofs.Steps.{Accepts, part_left, permitted, exact}
 use Rattle.machine_agreement.proofs.Trusted.{forged_untrusted}
 use Rattle.machine_model.proofs.Placed.{find_sound}
-use Rattle.machine_agreement.proofs.Members.{in_found, all_at_found}
+use Rattle.machine_agreement.proofs.Members.{in_found, all_at_found, all_append}
 use Rattle.machine_agreement.proofs.Along.{along_proper}
 use Rattle.machine_agreement.proofs.Keeping.{lists_keep, act_touches}
-use Rattle.machine_agreement.proofs.Served.{Stood, JobList, job_list, list_of_job, course_in, course_ends, same_list, apart_in, chain_of, data_of, more_than_only, among_left, among_right}
+use Rattle.machine_agreement.proofs.Served.{Stood, JobList, job_list, list_of_job, course_in, course_ends, same_list, apart_in, chain_of, data_of, more_than_only}
+use Rattle.machine_agreement.proofs.Touching.{holds_left as among_left, holds_right as among_right, stays}
 use Rattle.machine_agreement.proofs.Commanding.{keeps_fetch, keeps_walk, keeps_complete}
 use Rattle.machine_agreement.proofs.CommandsAll.{Walking, walking, unit_in}
 use Rattle.machine_agreement.proofs.WalksKept.{stood_on, stood_at_opening, ListsStay, stay_untouched, stay_walk}
 use Rattle.machine_agreement.proofs.Frames.{host_jobs}
 use Rattle.machine_model.specs.Linked.{IsLinked}
-use Rattle.machine_agreement.proofs.Touching.{stays}
 use Rattle.machine_agreement.proofs.Paired.{linked_from_tied}
 use Rattle.machine_agreement.proofs.Tied.{tied_from_fit}
 use Rattle.io_commands.specs.Jobs.{direction_of_entry, need_of_entry}
+use Rattle.machine_agreement.proofs.NeverFull.{all_of}
 
 -- what stands so is linked
 pub stood_linked : (s : State) → Stood s → IsLinked s
@@ -79,26 +80,16 @@ step_is old e reply new step t =
 
 -- Chains
 
-pub all_of : {A : Type 0} (P : A → Type 0) (xs : List A) → AllByRecursion P xs → All P xs
-all_of P [] h = All-nil P
-all_of P (x ∷ xs) h = All-cons P x xs h.0 (all_of P xs h.1)
-
-joined : {A : Type 0} (P : A → Type 0) (xs ys : List A) → AllByRecursion P xs → AllByRecursion P ys → AllByRecursion P (xs ++ ys)
-joined P [] ys a b = b
-joined P (x ∷ xs) ys a b = (a.0, joined P xs ys a.1 b)
-
 of_entry : (cid : ℕ) (entry : SubEntry) (xs : List SubEntry) → AllByRecursion (λ e. e.cid ≡ cid → e ≡ entry) xs → AllByRecursion (λ e. e.sgl1 ≡ entry.sgl1) (filter (λ e. e.cid == cid) xs)
 of_entry cid entry [] h = tt
-of_entry cid entry (x ∷ xs) h = go (x.cid == cid) refl (of_entry cid entry xs h.1)
-  where
-    go : (b : Bool) → (x.cid == cid) ≡ b → AllByRecursion (λ e. e.sgl1 ≡ entry.sgl1) (filter (λ e. e.cid == cid) xs)
-        → AllByRecursion (λ e. e.sgl1 ≡ entry.sgl1) (if b then x ∷ filter (λ e. e.cid == cid) xs else filter (λ e. e.cid == cid) xs)
-    go true e ih = (ap (λ (y : SubEntry). y.sgl1) (h.0 (eqb-true x.cid cid e)), ih)
-    go false e ih = ih
+of_entry cid entry (x ∷ xs) h = elim (cases_Bool (x.cid == cid)) [
+  | inl e ↦ let ih = of_entry cid entry xs h.1 in rw e (ap (λ (y : SubEntry). y.sgl1) (h.0 (eqb-true x.cid cid e)), ih)
+  | inr e ↦ let ih = of_entry cid entry xs h.1 in rw e ih
+]
 
 pub entries_named : (s : State) (q cid : ℕ) (entry : SubEntry) → HasEntry s.device.queues s.device.jobs q cid entry → AllByRecursion (λ e. e.sgl1 ≡ entry.sgl1) (entries_of s q cid)
 entries_named s q cid entry has =
-    joined (λ e. e.sgl1 ≡ entry.sgl1) (option_map_or (λ at. filter (λ e. e.cid == cid) at.unfetched) (slice_get s.device.queues q) []) (option_map_or (λ j. j.entry ∷ []) (job_at s q cid) [])
+    all_append (λ e. e.sgl1 ≡ entry.sgl1) (option_map_or (λ at. filter (λ e. e.cid == cid) at.unfetched) (slice_get s.device.queues q) []) (option_map_or (λ j. j.entry ∷ []) (job_at s q cid) [])
     (waiting (slice_get s.device.queues q) has.unfetched) (running (job_at s q cid) refl)
   where
     waiting : (o : Option DeviceQueue) → AllByRecursion (λ e. e.cid ≡ cid → e ≡ entry) (option_map_or (λ at. at.unfetched) o []) → AllByRecursion (λ e. e.sgl1 ≡ entry.sgl1) (option_map_or (λ at. filter (λ e. e.cid == cid) at.unfetched) o [])
@@ -142,7 +133,7 @@ stood_keeps_chains old event reply new q cid r p stood trusted step found sub ch
 
 -- Jobs
 
-not_zero : (q : ℕ) → nat_lt 0 q ≡ true → (q == 0) ≡ false
+pub not_zero : (q : ℕ) → nat_lt 0 q ≡ true → (q == 0) ≡ false
 not_zero q h = grind (arith, nat_tests)
 
 pub list_at : (s : State) → Stood s → (q cid : ℕ) (j : Job) → nat_lt 0 q ≡ true → job_at s q cid ≡ Some j → JobList s j
@@ -219,11 +210,7 @@ either_among chain own all (x ∷ xs) sub h =
 
 -- a command's pages hold both
 of_command : (r : Record) (p : ℕ) → (is_among r.chain_pages p || is_among r.data_pages p) ≡ true → is_among (pages_of r) p ≡ true
-of_command r p h = go (is_among r.chain_pages p) refl h
-  where
-    go : (b : Bool) → is_among r.chain_pages p ≡ b → (b || is_among r.data_pages p) ≡ true → is_among (pages_of r) p ≡ true
-    go true e h = chain_of r p e
-    go false e h = data_of r p h
+of_command r p h = elim (cases_Bool (is_among r.chain_pages p)) [ inl e ↦ chain_of r p e | inr e ↦ let h = rw e at h in data_of r p h ]
 
 -- the pages of a command that is a job are allowed
 job_pages : (s : State) (rs : List Record) (r : Record) (q cid : ℕ) → find (is_at q cid) rs ≡ Some r → is_some (job_at s q cid) ≡ true → (p : ℕ) → is_among (pages_of r) p ≡ true

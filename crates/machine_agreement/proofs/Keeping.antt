@@ -24,11 +24,7 @@ moves_out chain own apart (Does (Moves place n offset) rest) h = (λ k lt. apart
 
 -- the pages of a range whose first and last byte lie on pages that pass a test
 range_pages : (f : ℕ → Bool) (place n : ℕ) → f (page_of place) ≡ true → f (page_of (place + n - 1)) ≡ true → list_all f (pages_reached place n) ≡ true
-range_pages f place n first last = go (nat_eq (page_of place) (page_of (place + n - 1)))
-  where
-    go : (b : Bool) → list_all f (if b then page_of place ∷ [] else page_of place ∷ page_of (place + n - 1) ∷ []) ≡ true
-    go true = rw first refl
-    go false = rw (first, last) refl
+range_pages f place n first last = grind arith
 
 abbrev of_either : List ℕ → List ℕ → ℕ → Bool
 of_either chain_pages data_pages p = is_among chain_pages p || is_among data_pages p

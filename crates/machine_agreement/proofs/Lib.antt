@@ -1,3 +1,4 @@
+pub mod Cases
 pub mod Members
 pub mod Elsewhere
 pub mod Reaching

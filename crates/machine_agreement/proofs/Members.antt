@@ -81,7 +81,7 @@ all_map P Q f (x ∷ xs) step all = (step x all.0, all_map P Q f xs step all.1)
 
 -- The record of a command
 
-some_is : {A : Type 0} {x y : A} → Some x ≡ Some y → x ≡ y
+pub some_is : {A : Type 0} {x y : A} → Some x ≡ Some y → x ≡ y
 some_is e = cc
 
 -- where one passes a test, it is the only one
@@ -127,9 +127,7 @@ sent_found q cid (r ∷ rs) some once = go (r.q == q) (r.cid == cid) (is_submitt
     less (x ∷ rs) = omega (arith, less rs, each (x.q == q) (is_submitted x.phase) (x.cid == cid))
       where
         each : (a b c : Bool) → (if a && b then one c else 0) ≤ one (a && c)
-        each true true c = omega arith
-        each true false c = omega arith
-        each false b c = omega arith
+        each a b c = grind arith
 
     go : (a b c : Bool) → is_submitted r.phase ≡ c → 0 < (if a && c then one b else 0) + total (sent q (λ c. one (c == cid))) rs → one (a && b) + total (here q cid) rs < 2
         → (0 < total (sent q (λ c. one (c == cid))) rs → total (here q cid) rs < 2 → (x : Record) × (find (is_at q cid) rs ≡ Some x) × (is_submitted x.phase ≡ true))
@@ -139,6 +137,5 @@ sent_found q cid (r ∷ rs) some once = go (r.q == q) (r.cid == cid) (is_submitt
     go true false c e some once ih = ih (omega (arith, some, nothing c)) (omega (arith, once))
       where
         nothing : (c : Bool) → (if true && c then one false else 0) ≡ 0
-        nothing true = refl
-        nothing false = refl
+        nothing c = grind arith
     go false b c e some once ih = ih (omega (arith, some)) (omega (arith, once))

@@ -1,7 +1,7 @@
 -- Every event of the host leaves each creation that is outstanding with the name of the half that was granted for it.
-use Rattle.std.proofs.Common.{true≢false, ◌≡◌, ℕ, zero, suc, ◌==◌, Bool, true, false, not, ◌&&◌, Some, List, [], ◌∷◌, ◌++◌, map, slice_get, slice_index, if◌then◌else◌, refl, ap, sym, ◌∙◌, arith, subst, eqb-true, eq-eqb}
+use Rattle.std.proofs.Common.{true≢false, ◌≡◌, ℕ, zero, suc, ◌==◌, Bool, true, false, not, ◌&&◌, Some, List, [], ◌∷◌, ◌++◌, map, slice_get, slice_index, if◌then◌else◌, refl, ap, sym, ◌∙◌, arith, subst, eqb-true, eq-eqb, inl, inr}
 use Rattle.std.specs.List.{AllByRecursion}
-use Rattle.std.proofs.lemmas.Bool.{eqb-false}
+use Rattle.std.proofs.lemmas.Bool.{eqb-false, cases_Bool}
 use Rattle.admin_commands.specs.declared.AdminKind.TheVariants.{Abort, DeleteSq, DeleteCq, CreateCq, CreateSq}
 use Rattle.admin_commands.specs.declared.AdminKind.{AdminKind}
 use Rattle.entry_codec.specs.declared.completion.ComEntry.{ComEntry}
@@ -54,22 +54,18 @@ named_queue : (n : ℕ) (half : Half) (pages : HostQueue → List ℕ) (k q : �
     → ((k ≡ q) → (x : HostQueue) → slice_get hs k ≡ Some x → pages (f x) ≡ pages x)
     → (queue : HostQueue) × (slice_get hs q ≡ Some queue) × LieAt n half base (pages queue)
     → (queue : HostQueue) × (slice_get (change k f hs) q ≡ Some queue) × LieAt n half base (pages queue)
-named_queue n half pages k q f hs base same (queue, at, lies) = go (k == q) refl
-  where
-    go : (b : Bool) → (k == q) ≡ b → (queue : HostQueue) × (slice_get (change k f hs) q ≡ Some queue) × LieAt n half base (pages queue)
-    go true e =
-        let is : k ≡ q = eqb-true k q e in
-        let here : slice_get hs k ≡ Some queue = subst (λ (z : ℕ). slice_get hs z ≡ Some queue) (sym is) at in
-        (f queue, subst (λ (z : ℕ). slice_get (change k f hs) z ≡ Some (f queue)) is (get_changed k f hs queue here), subst (LieAt n half base) (sym (same is queue here)) lies)
-    go false e = (queue, get_other k f hs q (eqb-false k q e) ∙ at, lies)
+named_queue n half pages k q f hs base same (queue, at, lies) = elim (cases_Bool (k == q)) [
+  | inl e ↦
+      let is : k ≡ q = eqb-true k q e in
+      let here : slice_get hs k ≡ Some queue = subst (λ (z : ℕ). slice_get hs z ≡ Some queue) (sym is) at in
+      (f queue, subst (λ (z : ℕ). slice_get (change k f hs) z ≡ Some (f queue)) is (get_changed k f hs queue here), subst (LieAt n half base) (sym (same is queue here)) lies)
+  | inr e ↦ (queue, get_other k f hs q (eqb-false k q e) ∙ at, lies)
+]
 
 names_changed : (n k : ℕ) (f : HostQueue → HostQueue) (hs : List HostQueue) (w : Work) → LeavesNamed k f hs w → NamesItsHalf n hs w → NamesItsHalf n (change k f hs) w
-names_changed n k f hs (Io request) leaves h = tt
-names_changed n k f hs (Management (Abort q cid)) leaves h = tt
-names_changed n k f hs (Management (DeleteSq q)) leaves h = tt
-names_changed n k f hs (Management (DeleteCq q)) leaves h = tt
 names_changed n k f hs (Management (CreateCq q size base)) leaves h = let x = named_queue n Completion (λ x. x.cq_pages) k q f hs base (λ same x e. leaves.cq (eq-eqb q k (sym same)) x e) (h.1, h.2, h.3) in (h.0, x.0, x.1, x.2)
 names_changed n k f hs (Management (CreateSq q size base)) leaves h = let x = named_queue n Submission (λ x. x.sq_pages) k q f hs base (λ same x e. leaves.sq (eq-eqb q k (sym same)) x e) (h.1, h.2, h.3) in (h.0, x.0, x.1, x.2)
+names_changed n k f hs work leaves h = tt
 
 names_queues : (n k : ℕ) (f : HostQueue → HostQueue) (hs : List HostQueue) (rs : List Record) → ((r : Record) → In r rs → LeavesNamed k f hs r.work) → NamesAll n hs rs → NamesAll n (change k f hs) rs
 names_queues n k f hs rs leaves all = all_in (Names n hs) (Names n (change k f hs)) rs (λ r within h. names_changed n k f hs r.work (leaves r within) h) all
@@ -108,6 +104,7 @@ NamesS s = NamesAll s.entries s.host.queues s.host.records
 
 pub names_event : (s : State) (e : Event) (reply : Reply) → Accepts s e reply → IsController e ≡ false → HoldsPart (host_part s) → NamesS s → NamesS (a.after s e reply)
 names_event s e reply ok c holds h =
+    let fits : CreationsFit (a.after s e reply).host = creations_event s e reply ok c holds in
     host_moves (λ (e : Event) (reply : Reply) (t : State). CreationsAwaited t → NamesS t) s e reply ok c
     (record {
       reserves = λ q request d none is fit. began (drafted_record d) s.host.queues tt h;
@@ -169,9 +166,6 @@ names_event s e reply ok c holds h =
     names_io : (w : Work) → a.is_of_io w ≡ true → NamesItsHalf s.entries (a.reset_queues s.host.queues) w
     names_io (Io request) io = tt
     names_io (Management adm) io = absurd (true≢false (sym io))
-
-    fits : CreationsFit (a.after s e reply).host
-    fits = creations_event s e reply ok c holds
 
     with : (q cid : ℕ) (f : Record → Record) → ((r : Record) → Names s.entries s.host.queues r → Names s.entries s.host.queues (f r)) → NamesAll s.entries s.host.queues (with_record q cid f s.host.records)
     with q cid f each = all_map (Names s.entries s.host.queues) (Names s.entries s.host.queues) (λ r. if is_at q cid r then f r else r) s.host.records (λ r p. go r (is_at q cid r) p) h

@@ -1,8 +1,9 @@
 -- Where nothing was forged no ring is full and no slot's page is out.
-use Rattle.std.proofs.Common.{◌≡◌, ℕ, ◌-◌, ◌<◌, ◌≤◌, ◌==◌, nat_lt, nat_le, Bool, true, false, not, Option, Some, None, List, [], ◌∷◌, ◌++◌, length, slice_get, is_some, is_none, All, IsTrue, if◌then◌else◌, refl, ap, sym, ◌∙◌, arith, ltb-true}
+use Rattle.std.proofs.Common.{◌≡◌, ℕ, ◌-◌, ◌<◌, ◌≤◌, ◌==◌, nat_lt, nat_le, Bool, true, false, not, Option, Some, None, List, [], ◌∷◌, ◌++◌, length, slice_get, is_some, is_none, All, IsTrue, if◌then◌else◌, refl, ap, sym, ◌∙◌, arith, ltb-true, inl, inr}
+use Rattle.machine_agreement.proofs.Cases.{option_is}
 use Rattle.std.specs.Option.{option_map_or}
 use Rattle.std.specs.List.{AllByRecursion}
-use Rattle.std.proofs.lemmas.Bool.{true≢false, not-false, and_parts, or_parts}
+use Rattle.std.proofs.lemmas.Bool.{true≢false, not-false, and_parts, or_parts, cases_Bool}
 use Rattle.std.proofs.lemmas.Bool.Decides.{nat_tests}
 use Rattle.std.proofs.lemmas.List.Elements.{All-nil, All-cons}
 use Rattle.page_ledger.specs.Owners.{is_among}
@@ -38,7 +39,7 @@ use Rattle.machine_agreement.proofs.Paired.{linked_from_tied}
 use Rattle.machine_agreement.proofs.Touching.{fetch_stays_in, post_stays_in, rung_there}
 use Rattle.machine_model.proofs.Placed.{find_sound}
 use Rattle.machine_agreement.proofs.Tied.{tied_from_fit}
-use Rattle.machine_agreement.proofs.Members.{all_append, in_at, in_found}
+use Rattle.machine_agreement.proofs.Members.{all_append, in_at, in_found, some_is}
 use Rattle.machine_agreement.proofs.Elsewhere.{owned_once}
 use Rattle.machine_agreement.proofs.Along.{Keeps, each_proper_step, run_along}
 use Rattle.machine_agreement.proofs.Grounds.{Grounds}
@@ -63,9 +64,6 @@ pub record Roomy (s : State) : Type 0 where
 queue_page_in : (s : State) → Grounds s → (q p : ℕ) → is_among (pages_of_queue s q) p ≡ true → is_in s.memory p ≡ true
 queue_page_in s g q p h = go (host_queue s q) refl h
   where
-    some_same : {x y : Bool} → Some x ≡ Some y → x ≡ y
-    some_same e = cc
-
     below : (queue : HostQueue) → host_queue s q ≡ Some queue → 0 < in_queue p queue → p < length s.memory
     below queue e some = at (nat_lt p (length (in_store s.memory))) refl
       where
@@ -79,7 +77,7 @@ queue_page_in s g q p h = go (host_queue s q) refl h
         let some : 0 < in_queue p queue = omega (arith, held_once p (queue.sq_pages ++ queue.cq_pages) h, times-append p queue.sq_pages queue.cq_pages) in
         let l = below queue e some in
         let nobody : total (taken p) s.host.records ≡ 0 = omega (arith, owned_once _ p s.host g.stands.0, in_at s.host.queues q queue e (in_queue p), some, taken_le p s.host.records) in
-        some_same (sym (in_is s.memory p l) ∙ g.taken p (omega (arith, l, length-in_store s.memory)) ∙ ap Some (none_here (total (taken p) s.host.records) nobody))
+        some_is (sym (in_is s.memory p l) ∙ g.taken p (omega (arith, l, length-in_store s.memory)) ∙ ap Some (none_here (total (taken p) s.host.records) nobody))
 
 -- No ring is full
 
@@ -115,21 +113,13 @@ no_io_there s q h =
     queue_known in_service s q (or_parts (q == 0) (not (in_state in_service s q)) h).1
 
 named_there : (s : State) (q : ℕ) → not (is_io_queue s q) ≡ false → is_none (host_queue s q) ≡ false
-named_there s q h = there (host_queue s q) (and_parts (not (q == 0)) (is_some (host_queue s q)) (not-false _ h)).1
-  where
-    there : (o : Option HostQueue) → is_some o ≡ true → is_none o ≡ false
-    there None e = absurd (true≢false (sym e))
-    there (Some queue) e = refl
+named_there s q h = let h1 = (and_parts (not (q == 0)) (is_some (host_queue s q)) (not-false _ h)).1 in grind arith
 
 linked : (s : State) → Roomy s → IsLinked s
 linked s r = linked_from_tied s r.stood.grounds.rings (tied_from_fit s r.stood.grounds.fit)
 
 no_conflicts : (s : State) → Roomy s → (q : ℕ) → conflicts s q ≡ false
-no_conflicts s r q = go (next_rung s q) refl
-  where
-    go : (o : Option SubEntry) → next_rung s q ≡ o → option_map_or (λ e. is_some (job_at s q e.cid)) o false ≡ false
-    go None n = refl
-    go (Some e) n = no_conflict s r.stood q e (in_hand s q e n)
+no_conflicts s r q = elim (option_is (next_rung s q)) [ inl n ↦ rw n refl | inr (e, n) ↦ rw n (no_conflict s r.stood q e (in_hand s q e n)) ]
 
 -- where a job is, its queue has room for its answer
 room_for_answer : (s : State) → Roomy s → (q cid : ℕ) → is_none (job_at s q cid) ≡ false → answers_full s q ≡ false
@@ -146,8 +136,7 @@ room_for_answer s r q cid job = go (device_queue s q) refl
     there = (linked s r).jobs_have_queues q cid (not_none (job_at s q cid) job)
       where
         not_none : (o : Option Job) → is_none o ≡ false → is_some o ≡ true
-        not_none None h = absurd (true≢false h)
-        not_none (Some j) h = refl
+        not_none o h = grind arith
 
     far : (d n : ℕ) → d < n → (d == n) ≡ false
     far d n l = grind (arith, nat_tests)
@@ -169,19 +158,16 @@ Rows (row ∷ rows) = (row.0 ≡ true → full row.1 ≡ false) × (row.0 ≡ fa
 
 rows_say : (rows : List (Bool × Refusal)) → Rows rows → (why : Refusal) → first_passing rows ≡ Some why → full why ≡ false
 rows_say [] h why e = absurd cc
-rows_say (row ∷ rows) h why e = go row.0 refl e (λ r e'. rows_say rows r why e')
-  where
-    go : (b : Bool) → row.0 ≡ b → (if b then Some row.1 else first_passing rows) ≡ Some why → (Rows rows → first_passing rows ≡ Some why → full why ≡ false) → full why ≡ false
-    go true t e ih = let same : row.1 ≡ why = cc in ap full (sym same) ∙ h.0 t
-    go false t e ih = ih (h.1 t) e
+rows_say (row ∷ rows) h why e = elim (cases_Bool row.0) [
+  | inl t ↦ let e = rw t at e in let same : row.1 ≡ why = cc in ap full (sym same) ∙ h.0 t
+  | inr t ↦ rows_say rows (h.1 t) why (rw t at e)
+]
 
 bad_row : (o : Option RequestFault) → full (option_map_or refusal.Bad o refusal.NoQueue) ≡ false
-bad_row None = refl
-bad_row (Some fault) = refl
+bad_row o = grind arith
 
 in_after : (b : Bool) → b ≡ true → not b ≡ true → ⊥
-in_after true e f = true≢false (sym f)
-in_after false e f = true≢false (sym e)
+in_after b e f = grind arith
 
 no_cause : (s : State) → Roomy s → (e : Event) → Rows (causes s e)
 no_cause s r (events.Reserve q request) =
@@ -193,8 +179,7 @@ no_cause s r (events.Submit d) =
     some_there live = go (host_queue s d.q) live
       where
         go : (o : Option HostQueue) → option_map_or (λ queue. is_live queue.state) o false ≡ true → is_some o ≡ true
-        go None e = absurd (true≢false (sym e))
-        go (Some queue) e = refl
+        go o e = grind arith
 
     room : record_is (is_of is_drafted d.request (numbers_of d.data_pages) (numbers_of d.chain_pages)) s d.q d.cid ≡ true → in_state is_live s d.q ≡ true → queue_full s d.q ≡ false
     room own live =
@@ -256,25 +241,18 @@ no_cause s r (events.Complete q cid) = (
         (λ t. absurd (true≢false (sym t ∙ room_for_answer s r q cid job))),
         λ f. (
           (λ t. absurd (in_after (is_in s.memory (post_page s q)) (queue_page_in s r.stood.grounds q (post_page s q)
-              (post_stays_in s q (linked s r) ((linked s r).jobs_have_queues q cid (there (job_at s q cid) job))).1) t)),
+              (post_stays_in s q (linked s r) ((linked s r).jobs_have_queues q cid (grind arith))).1) t)),
           λ f. tt,
         ),
       ),
     ),
   ),
 )
-  where
-    there : (o : Option Job) → is_none o ≡ false → is_some o ≡ true
-    there None h = absurd (true≢false h)
-    there (Some j) h = refl
 
 -- Replies
 
 same_full : (why : Refusal) (touched : List ℕ) → is_full (events.Refused why touched) ≡ full why
-same_full refusal.QueueFull touched = refl
-same_full refusal.Full touched = refl
-same_full refusal.SlotOut touched = refl
-same_full why touched = refl
+same_full why touched = grind arith
 
 refused_not_full : (s : State) → Roomy s → (e : Event) (why : Refusal) (touched : List ℕ) → Refuses s e why touched → full why ≡ false
 refused_not_full s r e refusal.Memory touched h = refl
@@ -297,7 +275,7 @@ keeps_room done m new step t u h = record {
   roomy = each_proper_step Roomy roomy_on m.before m.event m.reply new step t u h.roomy;
 }
 
-all_of : {A : Type 0} (P : A → Type 0) (xs : List A) → AllByRecursion P xs → All P xs
+pub all_of : {A : Type 0} (P : A → Type 0) (xs : List A) → AllByRecursion P xs → All P xs
 all_of P [] h = All-nil P
 all_of P (x ∷ xs) h = All-cons P x xs h.0 (all_of P xs h.1)
 

@@ -1,7 +1,7 @@
 -- Once something was forged, it stays so until a reset: no other event restores the trust. So where the flag is set, nothing was forged since.
-use Rattle.std.proofs.Common.{◌≡◌, Bool, true, false, not, ◌||◌, List, [], ◌∷◌, if◌then◌else◌, refl, ap, sym, ◌∙◌}
+use Rattle.std.proofs.Common.{◌≡◌, Bool, true, false, not, ◌||◌, List, [], ◌∷◌, if◌then◌else◌, refl, ap, sym, ◌∙◌, inl, inr, arith}
 use Rattle.std.specs.List.{list_any}
-use Rattle.std.proofs.lemmas.Bool.{true≢false, or_parts}
+use Rattle.std.proofs.lemmas.Bool.{true≢false, or_parts, cases_Bool}
 use Rattle.machine_model.specs.Events as events
 use Rattle.machine_model.specs.declared.words.Refusal.TheVariants as refusal
 use Rattle.machine_model.specs.Events.{Event, Reply}
@@ -22,13 +22,12 @@ distrust_event : (s : State) (e : Event) (reply : Reply) → resets e ≡ false 
 distrust_event s e reply other ok c h = (host_leaves s e reply ok c).distrusts other h
 
 pub trusted_before : (old : State) (e : Event) (reply : Reply) (new : State) → Step old e reply new → resets e ≡ false → new.trusted ≡ true → old.trusted ≡ true
-trusted_before old e reply new step other t = go old.trusted refl
-  where
-    go : (b : Bool) → old.trusted ≡ b → old.trusted ≡ true
-    go true e' = e'
-    go false e' =
-        absurd (true≢false (sym t ∙ (ap (λ (part : HostPart). part.trusted) (part_left old e reply new step.2)
-        ∙ kept_anyway Distrusts old e reply (IsController e) refl step.1 (λ ok c. distrust_event old e reply other ok c) e')))
+trusted_before old e reply new step other t = elim (cases_Bool old.trusted) [
+  | inl e' ↦ e'
+  | inr e' ↦
+      absurd (true≢false (sym t ∙ (ap (λ (part : HostPart). part.trusted) (part_left old e reply new step.2)
+      ∙ kept_anyway Distrusts old e reply (IsController e) refl step.1 (λ ok c. distrust_event old e reply other ok c) e')))
+]
 
 -- a reset is never refused, and leaves one state
 pub reset_leaves : (old : State) (reply : Reply) (new : State) → Step old events.Reset reply new → new ≡ a.after_reset old
@@ -46,8 +45,7 @@ trusted_or_reset old e reply new step t = go (resets e) refl
     go true other = or_true old.trusted
       where
         or_true : (b : Bool) → (b || true) ≡ true
-        or_true true = refl
-        or_true false = refl
+        or_true b = grind arith
     go false other = ap (λ (b : Bool). b || false) (trusted_before old e reply new step other t)
 
 -- a step between trusted states forges nothing
@@ -64,10 +62,7 @@ came_trusted (m ∷ made) s end (is, mid, step, rest) none t =
     let both = or_parts (is_reset m) (list_any is_reset made) none in
     let behind = came_trusted made mid end rest both.1 t in
     let before = trusted_before s m.event m.reply mid step both.0 behind.0 in
-    (before, either (is_forgery m) (unforged_step s m.event m.reply mid step before behind.0) behind.1)
-  where
-    either : (b : Bool) → b ≡ false → list_any is_forgery made ≡ false → (b || list_any is_forgery made) ≡ false
-    either b none rest = ap (λ (x : Bool). x || list_any is_forgery made) none ∙ rest
+    (before, (ap (λ (x : Bool). x || list_any is_forgery made) (unforged_step s m.event m.reply mid step before behind.0) ∙ behind.1))
 
 pub unforged_without_reset : (made : List Made) (s end : State) → Steps s made end → list_any is_reset made ≡ false → end.trusted ≡ true → not (list_any is_forgery made) ≡ true
 unforged_without_reset made s end steps none t = ap not (came_trusted made s end steps none t).1

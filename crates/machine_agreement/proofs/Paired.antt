@@ -1,5 +1,6 @@
 -- Where nothing was forged: what the host knows of a queue fits what the controller has of it.
-use Rattle.std.proofs.Common.{◌≡◌, ℕ, zero, suc, ◌+◌, ◌<◌, ◌==◌, Bool, true, false, Option, Some, None, List, [], ◌∷◌, length, find, slice_get, is_some, if◌then◌else◌, refl, ap, sym, ◌∙◌, arith, subst}
+use Rattle.std.proofs.Common.{◌≡◌, ℕ, zero, suc, ◌+◌, ◌<◌, ◌==◌, Bool, true, false, Option, Some, None, List, [], ◌∷◌, length, find, slice_get, is_some, if◌then◌else◌, refl, ap, sym, ◌∙◌, arith, subst, inl, inr}
+use Rattle.machine_agreement.proofs.Cases.{option_is}
 use Rattle.std.specs.Option.{option_map_or}
 use Rattle.std.proofs.lemmas.Bool.{true≢false, and_parts}
 use Rattle.machine_model.specs.Linked.{absent, IsLinked}
@@ -56,34 +57,19 @@ pub record Tied (s : State) : Type 0 where
 
 pub found_counts : (q cid : ℕ) (js : List Job) (j : Job) → find (is_job q cid) js ≡ Some j → 0 < total (on_queue q) js
 found_counts q cid [] j e = absurd cc
-found_counts q cid (x ∷ js) j e = go (is_job q cid x) refl e (found_counts q cid js j)
-  where
-    go : (b : Bool) → is_job q cid x ≡ b → (if b then Some x else find (is_job q cid) js) ≡ Some j → (find (is_job q cid) js ≡ Some j → 0 < total (on_queue q) js) → 0 < on_queue q x + total (on_queue q) js
-    go true t e ih = omega (arith, ap one (and_parts (x.q == q) (x.entry.cid == cid) t).0)
-    go false t e ih = omega (arith, ih e)
+found_counts q cid (x ∷ js) j e = let h3 = found_counts q cid js j in grind arith
 
 there_queue : (s : State) (q : ℕ) → absent s q ≡ false → (d : DeviceQueue) × (slice_get s.device.queues q ≡ Some d) × (is_absent d.state ≡ false)
-there_queue s q h = go (slice_get s.device.queues q) refl h
-  where
-    go : (o : Option DeviceQueue) → slice_get s.device.queues q ≡ o → option_map_or (λ at. is_absent at.state) o true ≡ false → (d : DeviceQueue) × (slice_get s.device.queues q ≡ Some d) × (is_absent d.state ≡ false)
-    go None e h = absurd (true≢false h)
-    go (Some d) e h = (d, e, h)
+there_queue s q h = elim (option_is (slice_get s.device.queues q)) [ inl e ↦ let h = rw e at h in absurd (true≢false h) | inr (d, e) ↦ let h = rw e at h in (d, e, h) ]
 
 completion_queue : (s : State) (q : ℕ) → cq_there s q ≡ true → (d : DeviceQueue) × (slice_get s.device.queues q ≡ Some d) × (d.cq_there ≡ true)
-completion_queue s q h = go (slice_get s.device.queues q) refl h
-  where
-    go : (o : Option DeviceQueue) → slice_get s.device.queues q ≡ o → option_map_or (λ at. at.cq_there) o false ≡ true → (d : DeviceQueue) × (slice_get s.device.queues q ≡ Some d) × (d.cq_there ≡ true)
-    go None e h = absurd (true≢false (sym h))
-    go (Some d) e h = (d, e, h)
+completion_queue s q h = elim (option_is (slice_get s.device.queues q)) [
+  | inl e ↦ let h = rw e at h in absurd (true≢false (sym h))
+  | inr (d, e) ↦ let h = rw e at h in (d, e, h)
+]
 
 no_cq_is_gone : (st : HostState) → has_cq st ≡ false → is_gone st ≡ true
-no_cq_is_gone Live o = absurd (true≢false o)
-no_cq_is_gone (Deleting noted) o = absurd (true≢false o)
-no_cq_is_gone Retired o = absurd (true≢false o)
-no_cq_is_gone Gone o = refl
-no_cq_is_gone MakingCq o = absurd (true≢false o)
-no_cq_is_gone HalfMade o = absurd (true≢false o)
-no_cq_is_gone MakingSq o = absurd (true≢false o)
+no_cq_is_gone st o = grind arith
 
 pub linked_from_tied : (s : State) → InRings (host_part s) → Tied s → IsLinked s
 linked_from_tied s rings tied = record {

@@ -1,5 +1,6 @@
 -- Each event keeps the entries of a queue's commands in as many places as it has submitted commands.
-use Rattle.std.proofs.Common.{◌≡◌, ℕ, zero, ◌+◌, ◌-◌, ◌≤◌, ◌==◌, nat_lt, Bool, true, false, not, ◌&&◌, Option, Some, None, List, [], ◌∷◌, ◌++◌, map, filter, find, drop, slice_get, is_none, option_and_then, if◌then◌else◌, refl, ap, sym, ◌∙◌, arith, subst, eqb-true}
+use Rattle.std.proofs.Common.{◌≡◌, ℕ, zero, ◌+◌, ◌-◌, ◌≤◌, ◌==◌, nat_lt, Bool, true, false, not, ◌&&◌, Option, Some, None, List, [], ◌∷◌, ◌++◌, map, filter, find, drop, slice_get, is_none, option_and_then, if◌then◌else◌, refl, ap, sym, ◌∙◌, arith, subst, eqb-true, inl, inr}
+use Rattle.machine_agreement.proofs.Cases.{option_is}
 use Rattle.std.proofs.lemmas.Bool.{true≢false, and_parts}
 use Rattle.admin_commands.specs.Entries.{named_queue, named_command}
 use Rattle.admin_commands.specs.declared.SqState.TheVariants.{Absent, Stopping}
@@ -19,6 +20,7 @@ use Rattle.machine_model.proofs.Managed.{managed_by}
 use Rattle.machine_model.specs.Agreeing.{CommandsStandOnce as Places, is_out_of_service_at as past_at, answers_at, unfetched_count, job_weight}
 use Rattle.machine_agreement.proofs.Queues.{list_same, more_at, less_at}
 use Rattle.machine_agreement.proofs.DeviceMoves.{answers, answer_of, unit_done, finished, cleared, fetch_by, walk_by, complete_by}
+use Rattle.machine_agreement.proofs.Tied.{stopped_q}
 
 -- Weights
 
@@ -30,12 +32,10 @@ answers_weigh w an = w an.cid
 
 -- where the queue counts, what is there counts more or less
 count_more : (b : Bool) (n n' extra : ℕ) → n' ≤ n + extra → (if b then 0 else n') ≤ (if b then 0 else n) + extra
-count_more true n n' extra h = omega arith
-count_more false n n' extra h = h
+count_more b n n' extra h = grind arith
 
 count_less : (b : Bool) (n n' less : ℕ) → (b ≡ true → less ≡ 0) → n' + less ≤ n → (if b then 0 else n') + less ≤ (if b then 0 else n)
-count_less true n n' less none h = omega (arith, none refl)
-count_less false n n' less none h = h
+count_less b n n' less none h = grind arith
 
 -- Changes of the controller's part: what one queue's places count afterwards, for each of the host's states
 
@@ -64,12 +64,8 @@ lessens_less : (hs : List HostQueue) (qs : List DeviceQueue) (js : List Job) (k 
 lessens_less hs qs js k f un an q w =
     let u = more_at (λ at. at.unfetched) (entries_weigh w) k f 0 qs q (λ at. omega (arith, un w at)) in
     let v = more_at (λ at. at.answers) (answers_weigh w) k f 0 qs q (λ at. omega (arith, an w at)) in
-    let none : (if k == q then 0 else 0) ≡ 0 = nothing (k == q) in
+    let none : (if k == q then zero else zero) ≡ zero = grind arith in
     omega (arith, count_more (past_at hs q) (total (entries_weigh w) (unfetched_at qs q)) (total (entries_weigh w) (unfetched_at (change k f qs) q)) 0 (omega (arith, u, none)), v, none)
-  where
-    nothing : (b : Bool) → (if b then 0 else 0) ≡ zero
-    nothing true = refl
-    nothing false = refl
 
 lessens_cleared : (hs : List HostQueue) (qs : List DeviceQueue) (js : List Job) (k : ℕ) → Lessens hs qs js (change k (λ at. record at { state = Absent; unfetched = []; rung = 0 }) qs) js
 lessens_cleared hs qs js k = lessens_less hs qs js k (λ at. record at { state = Absent; unfetched = []; rung = 0 }) (λ w at. omega arith) (λ w at. omega arith)
@@ -80,10 +76,7 @@ dropped w [] = omega arith
 dropped w (x ∷ xs) = omega arith
 
 dropped_head : {B : Type 0} (w : B → ℕ) (first : List B → Option B) (xs : List B) (x : B) → (xs ≡ x ∷ drop 1 xs) → total w (drop 1 xs) + w x ≡ total w xs
-dropped_head w first xs x e = sym (ap (total w) e ∙ swap (w x) (total w (drop 1 xs)))
-  where
-    swap : (m n : ℕ) → m + n ≡ n + m
-    swap m n = omega arith
+dropped_head w first xs x e = sym (ap (total w) e ∙ (omega arith))
 
 head_of : (xs : List Answer) (an : Answer) → first_answer xs ≡ Some an → xs ≡ an ∷ drop 1 xs
 head_of [] an h = absurd cc
@@ -105,9 +98,6 @@ on_job_q q cid f same j = (elim ((j.q == q) && (j.entry.cid == cid)) as (λ b. (
 pub on_job_entry : (q cid : ℕ) (f : Job → Job) → ((j : Job) → (f j).entry ≡ j.entry) → (j : Job) → (if (j.q == q) && (j.entry.cid == cid) then f j else j).entry ≡ j.entry
 on_job_entry q cid f same j = (elim ((j.q == q) && (j.entry.cid == cid)) as (λ b. (if b then f j else j).entry ≡ j.entry) [ true ↦ same j | false ↦ refl ])
 
-pub stopped_q : (q : ℕ) (j : Job) → (a.stopped q j).q ≡ j.q
-stopped_q q j = (elim ((j.q == q) && is_none j.verdict) as (λ b. (if b then record j { verdict = Some ABORTED_SQ_DELETION } else j).q ≡ j.q) [ true ↦ refl | false ↦ refl ])
-
 pub stopped_entry : (q : ℕ) (j : Job) → (a.stopped q j).entry ≡ j.entry
 stopped_entry q j = (elim ((j.q == q) && is_none j.verdict) as (λ b. (if b then record j { verdict = Some ABORTED_SQ_DELETION } else j).entry ≡ j.entry) [ true ↦ refl | false ↦ refl ])
 
@@ -121,16 +111,15 @@ pub record InHand (s : State) (q : ℕ) (e : SubEntry) : Type 0 where
   pub runs : is_running queue.state ≡ true
 
 pub in_hand : (s : State) (q : ℕ) (e : SubEntry) → next_rung s q ≡ Some e → InHand s q e
-in_hand s q e h = go (device_queue s q) refl h
+in_hand s q e h = elim (option_is (device_queue s q)) [
+  | inl o ↦ let h = rw o at h in absurd cc
+  | inr (queue, o) ↦ let h = rw o at h in at queue (nat_lt 0 queue.rung) (is_running queue.state) o refl h
+]
   where
     at : (queue : DeviceQueue) (b r : Bool) → device_queue s q ≡ Some queue → is_running queue.state ≡ r → (if r && b then slice_get queue.unfetched 0 else None) ≡ Some e → InHand s q e
     at queue true true o r h = record { queue = queue; at = o; first = h; runs = r }
     at queue false true o r h = absurd cc
     at queue b false o r h = absurd cc
-
-    go : (o : Option DeviceQueue) → device_queue s q ≡ o → option_and_then (λ queue. if is_running queue.state && nat_lt 0 queue.rung then slice_get queue.unfetched 0 else None) o ≡ Some e → InHand s q e
-    go None o h = absurd cc
-    go (Some queue) o h = at queue (nat_lt 0 queue.rung) (is_running queue.state) o refl h
 
 pub first_is : (xs : List SubEntry) (e : SubEntry) → slice_get xs 0 ≡ Some e → xs ≡ e ∷ drop 1 xs
 first_is [] e h = absurd cc
@@ -146,8 +135,7 @@ taken_off_load hs s q e hand past k w =
     omega (arith, v, count_less (past_at hs k) (total (entries_weigh w) (unfetched_at qs k)) (total (entries_weigh w) (unfetched_at (change q f qs) k)) (if q == k then w e.cid else 0) (none (q == k) refl) u)
   where
     none : (b : Bool) → (q == k) ≡ b → past_at hs k ≡ true → (if b then w e.cid else 0) ≡ 0
-    none true z p = absurd (true≢false (sym p ∙ ap (past_at hs) (sym (eqb-true q k z)) ∙ past))
-    none false z p = refl
+    none b z p = grind arith
 
 -- an answer more
 answered_load : (hs : List HostQueue) (qs : List DeviceQueue) (js : List Job) (q : ℕ) (an : Answer) (k : ℕ) (w : ℕ → ℕ)
@@ -173,6 +161,9 @@ fetches_decided hs s t q e st dw0 zero' less k w =
 
 fetches_managed : (hs : List HostQueue) (s : State) (e : SubEntry) → Fetches hs s 0 e (a.managed e (a.taken_off 0 s)).device
 fetches_managed hs s e =
+    let s0 : State = a.taken_off 0 s in
+    let qs : List DeviceQueue = (a.taken_off 0 s).device.queues in
+    let nothing : Lessens hs (a.taken_off 0 s).device.queues s.device.jobs (a.taken_off 0 s).device.queues s.device.jobs = λ k w. omega arith in
     managed_by (λ (t : State). Fetches hs s 0 e t.device) e s0
     (record {
       refuses = λ st bad. decided s0 nothing st 0;
@@ -192,15 +183,6 @@ fetches_managed hs s e =
           decided (a.on_device_queue (named_queue e) a.submission_made s0) (lessens_less hs qs s.device.jobs (named_queue e) a.submission_made (λ w at. omega arith) (λ w at. omega arith)) _ 0;
     })
   where
-    s0 : State
-    s0 = a.taken_off 0 s
-
-    qs : List DeviceQueue
-    qs = (a.taken_off 0 s).device.queues
-
-    nothing : Lessens hs (a.taken_off 0 s).device.queues s.device.jobs (a.taken_off 0 s).device.queues s.device.jobs
-    nothing = λ k w. omega arith
-
     decided : (t : State) → Lessens hs (a.taken_off 0 s).device.queues s.device.jobs t.device.queues t.device.jobs → (st : Status) (dw0 : ℕ) → Fetches hs s 0 e (a.decided e st dw0 t).device
     decided t less st dw0 = fetches_decided hs s t 0 e st dw0 refl less
 
@@ -269,32 +251,27 @@ reaped_load hs qs js q k w =
     omega (arith, u, v, nothing (q == k))
   where
     nothing : (b : Bool) → (if b then 0 else 0) ≡ zero
-    nothing true = refl
-    nothing false = refl
+    nothing b = grind arith
 
 -- and it was this one
 pub heard_load : (hs : List HostQueue) (qs : List DeviceQueue) (js : List Job) (q : ℕ) (an : Answer) → option_and_then (λ (queue : DeviceQueue). first_answer queue.answers) (slice_get qs q) ≡ Some an → (k : ℕ) (w : ℕ → ℕ)
     → load k w hs (change q (λ at. record at { answers = drop 1 at.answers }) qs) js + (if q == k then w an.cid else 0) ≤ load k w hs qs js
-heard_load hs qs js q an h k w = go (slice_get qs q) refl h
+heard_load hs qs js q an h k w = elim (option_is (slice_get qs q)) [
+  | inl e ↦ let h = rw e at h in absurd cc
+  | inr (queue, e) ↦
+      let h = rw e at h in
+      let u : unfetched_count k w hs (change q (λ at. record at { answers = drop 1 at.answers }) qs) ≡ unfetched_count k w hs qs =
+      ap (λ (xs : List SubEntry). if past_at hs k then 0 else total (entries_weigh w) xs) (list_same (λ at. at.unfetched) q (λ at. record at { answers = drop 1 at.answers }) qs k (λ at. refl)) in
+      let v = less_at (λ at. at.answers) (answers_weigh w) q (λ at. record at { answers = drop 1 at.answers }) (w an.cid) qs k queue e (omega (arith, dropped_head (answers_weigh w) first_answer queue.answers an (head_of queue.answers an h))) in
+      omega (arith, u, v)
+]
   where
     f : DeviceQueue → DeviceQueue
     f at = record at { answers = drop 1 at.answers }
 
-    go : (o : Option DeviceQueue) → slice_get qs q ≡ o → option_and_then (λ (queue : DeviceQueue). first_answer queue.answers) o ≡ Some an
-        → load k w hs (change q (λ at. record at { answers = drop 1 at.answers }) qs) js + (if q == k then w an.cid else 0) ≤ load k w hs qs js
-    go None e h = absurd cc
-    go (Some queue) e h =
-        let u : unfetched_count k w hs (change q (λ at. record at { answers = drop 1 at.answers }) qs) ≡ unfetched_count k w hs qs =
-        ap (λ (xs : List SubEntry). if past_at hs k then 0 else total (entries_weigh w) xs) (list_same (λ at. at.unfetched) q (λ at. record at { answers = drop 1 at.answers }) qs k (λ at. refl)) in
-        let v = less_at (λ at. at.answers) (answers_weigh w) q (λ at. record at { answers = drop 1 at.answers }) (w an.cid) qs k queue e (omega (arith, dropped_head (answers_weigh w) first_answer queue.answers an (head_of queue.answers an h))) in
-        omega (arith, u, v)
-
 -- Queues of the host that are no more retired than before
 pub retired_count : (b b' : Bool) (n : ℕ) → (b ≡ true → b' ≡ true) → (if b' then 0 else n) ≤ (if b then 0 else n)
-retired_count true true n h = omega arith
-retired_count true false n h = absurd (true≢false (sym (h refl)))
-retired_count false true n h = omega arith
-retired_count false false n h = omega arith
+retired_count b b' n h = grind arith
 
 pub places_hosts : (hs hs' : List HostQueue) (rs : List Record) (qs : List DeviceQueue) (js : List Job) → ((q : ℕ) → past_at hs q ≡ true → past_at hs' q ≡ true) → Places hs rs qs js → Places hs' rs qs js
 places_hosts hs hs' rs qs js past h q w = omega (arith, h q w, retired_count (past_at hs q) (past_at hs' q) (total (entries_weigh w) (unfetched_at qs q)) (past q))

@@ -1,7 +1,8 @@
 -- Every event keeps an entry of a submitted command in one place at most.
-use Rattle.std.proofs.Common.{◌≡◌, ℕ, zero, suc, ◌+◌, ◌≤◌, ◌==◌, Bool, true, false, ◌&&◌, Option, Some, None, List, [], ◌∷◌, ◌++◌, length, map, drop, slice_get, is_some, option_and_then, option_map, if◌then◌else◌, refl, ap, sym, ◌∙◌, arith, subst, eqb-true, eq-eqb, not}
+use Rattle.std.proofs.Common.{◌≡◌, ℕ, zero, suc, ◌+◌, ◌≤◌, ◌==◌, Bool, true, false, ◌&&◌, Option, Some, None, List, [], ◌∷◌, ◌++◌, length, map, drop, slice_get, is_some, option_and_then, option_map, if◌then◌else◌, refl, ap, sym, ◌∙◌, arith, subst, eqb-true, eq-eqb, not, inl, inr}
+use Rattle.machine_agreement.proofs.Cases.{option_is}
 use Rattle.std.specs.Option.{option_map_or}
-use Rattle.std.proofs.lemmas.Bool.{true≢false, and_parts, eqb-false}
+use Rattle.std.proofs.lemmas.Bool.{true≢false, and_parts, eqb-false, cases_Bool}
 use Rattle.admin_commands.specs.Entries.{admin_entry}
 use Rattle.admin_commands.specs.declared.AdminKind.TheVariants.{Abort, DeleteSq, DeleteCq, CreateCq, CreateSq}
 use Rattle.admin_commands.specs.declared.AdminKind.{AdminKind}
@@ -52,18 +53,10 @@ PlacesIn s = Places s.host.queues s.host.records s.device.queues s.device.jobs
 -- What a record counts
 
 pub sent_not : (q : ℕ) (w : ℕ → ℕ) (r : Record) → is_submitted r.phase ≡ false → sent q w r ≡ 0
-sent_not q w r far = rw far (go (r.q == q))
-  where
-    go : (b : Bool) → (if b && false then w r.cid else 0) ≡ 0
-    go true = refl
-    go false = refl
+sent_not q w r far = rw far (grind arith)
 
 pub sent_is : (q cid k : ℕ) (w : ℕ → ℕ) (r : Record) → r.q ≡ q → r.cid ≡ cid → is_submitted r.phase ≡ true → sent k w r ≡ (if q == k then w cid else 0)
-sent_is q cid k w r rq rc sub = rw (rq, rc, sub) (go (q == k))
-  where
-    go : (b : Bool) → (if b && true then w cid else 0) ≡ (if b then w cid else 0)
-    go true = refl
-    go false = refl
+sent_is q cid k w r rq rc sub = rw (rq, rc, sub) (grind arith)
 
 pub ids_of : (s : State) (q cid : ℕ) (r : Record) → record_at s.host q cid ≡ Some r → (r.q ≡ q) × (r.cid ≡ cid)
 ids_of s q cid r e = let p = and_parts (r.q == q) (r.cid == cid) (find_sound (is_at q cid) s.host.records r e) in (eqb-true r.q q p.0, eqb-true r.cid cid p.1)
@@ -82,11 +75,7 @@ places_posted q entry s rs more h =
     (λ k w. omega (arith, posted_load s.host.queues s.device.queues s.device.jobs q entry k w, h k w, more k w))
 
 admin_cid : (adm : AdminKind) (id : ℕ) → (admin_entry adm id).cid ≡ id
-admin_cid (Abort q cid) id = refl
-admin_cid (DeleteSq q) id = refl
-admin_cid (DeleteCq q) id = refl
-admin_cid (CreateCq q n base) id = refl
-admin_cid (CreateSq q n base) id = refl
+admin_cid adm id = grind arith
 
 places_sent : (adm : AdminKind) (id : ℕ) (s : State) → PlacesIn s → PlacesIn (sends adm id s)
 places_sent adm id s h =
@@ -97,16 +86,10 @@ places_sent adm id s h =
     omega (arith, total-append (sent k w) s.host.records (sent_record adm id ∷ []), mine, same)) h
 
 pub drafted_not : (ph : Phase) → is_drafted ph ≡ true → is_submitted ph ≡ false
-drafted_not Drafted e = refl
-drafted_not Submitted e = absurd (true≢false (sym e))
-drafted_not Held e = refl
-drafted_not Collected e = refl
+drafted_not ph e = grind arith
 
 pub held_not : (ph : Phase) → is_held ph ≡ true → is_submitted ph ≡ false
-held_not Drafted e = absurd (true≢false (sym e))
-held_not Submitted e = absurd (true≢false (sym e))
-held_not Held e = refl
-held_not Collected e = absurd (true≢false (sym e))
+held_not ph e = grind arith
 
 -- Reaping
 
@@ -140,16 +123,13 @@ places_out k f s out h = places_hosts s.host.queues (change k f s.host.queues) s
 
 -- one comes into service that has no entry
 places_opens : (k : ℕ) (f : HostQueue → HostQueue) (s : State) → unfetched_at s.device.queues k ≡ [] → PlacesIn s → Places (change k f s.host.queues) s.host.records s.device.queues s.device.jobs
-places_opens k f s none h q w = go (k == q) refl
+places_opens k f s none h q w = elim (cases_Bool (k == q)) [
+  | inl is ↦ omega (arith, h q w, nothing (past_at (change k f s.host.queues) q) (unfetched_at s.device.queues q) (subst (λ (z : ℕ). unfetched_at s.device.queues z ≡ []) (eqb-true k q is) none))
+  | inr is ↦ omega (arith, h q w, ap (λ (b : Bool). if b then 0 else total (λ (e : SubEntry). w e.cid) (unfetched_at s.device.queues q)) (past_other k f s.host.queues q (eqb-false k q is)))
+]
   where
     nothing : (b : Bool) (xs : List SubEntry) → xs ≡ [] → (if b then 0 else total (λ (e : SubEntry). w e.cid) xs) ≡ 0
-    nothing true xs e = refl
-    nothing false xs e = ap (total (λ (e : SubEntry). w e.cid)) e
-
-    go : (b : Bool) → (k == q) ≡ b
-        → unfetched_count q w (change k f s.host.queues) s.device.queues + (total (job_weight q w) s.device.jobs + total (λ (an : Answer). w an.cid) (answers_at s.device.queues q)) ≤ total (sent q w) s.host.records
-    go true is = omega (arith, h q w, nothing (past_at (change k f s.host.queues) q) (unfetched_at s.device.queues q) (subst (λ (z : ℕ). unfetched_at s.device.queues z ≡ []) (eqb-true k q is) none))
-    go false is = omega (arith, h q w, ap (λ (b : Bool). if b then 0 else total (λ (e : SubEntry). w e.cid) (unfetched_at s.device.queues q)) (past_other k f s.host.queues q (eqb-false k q is)))
+    nothing b xs e = grind arith
 
 -- the answer is gone, and so is the submitted command
 places_heard : (q cid : ℕ) (st : Status) (e : ComEntry) (r : Record) (s : State) (rs : List Record) → s.trusted ≡ true → IsHeard s q cid st e r
@@ -180,15 +160,23 @@ places_rejected q s h =
 
 no_jobs : (q : ℕ) (w : ℕ → ℕ) (js : List Job) → total (on_queue q) js ≡ 0 → total (job_weight q w) js ≡ 0
 no_jobs q w [] none = refl
-no_jobs q w (j ∷ js) none = go (j.q == q) refl none (no_jobs q w js)
-  where
-    go : (b : Bool) → (j.q == q) ≡ b → one b + total (on_queue q) js ≡ 0 → (total (on_queue q) js ≡ 0 → total (job_weight q w) js ≡ 0) → (if b then w j.entry.cid else 0) + total (job_weight q w) js ≡ 0
-    go true e none ih = absurd (omega (arith, none))
-    go false e none ih = omega (arith, ih (omega (arith, none)))
+no_jobs q w (j ∷ js) none = let h3 = no_jobs q w js in grind arith
 
 places_retire : (q : ℕ) (queue : HostQueue) (s : State) → s.trusted ≡ true → refusal_of s (events.Retire q) ≡ None → host_queue s q ≡ Some queue → queue.state ≡ Deleting true → Grounds s → PlacesIn s
     → Places (change q a.retired s.host.queues) (map (a.lost q) s.host.records) s.device.queues s.device.jobs
-places_retire q queue s t none e deleted g h = λ k w. places k w (q == k) refl
+places_retire q queue s t none e deleted g h = λ k w. elim (cases_Bool (q == k)) [
+  | inl same ↦
+      let here' : q ≡ k = eqb-true q k same in
+      let past : past_at (change q a.retired s.host.queues) k ≡ true = subst (λ (n : ℕ). past_at (change q a.retired s.host.queues) n ≡ true) here' (past_here q a.retired s.host.queues (λ x. refl) queue e) in
+      let none_un : unfetched_count k w (change q a.retired s.host.queues) s.device.queues ≡ 0 = ap (λ (b : Bool). if b then 0 else total (λ (e : SubEntry). w e.cid) (unfetched_at s.device.queues k)) past in
+      let none_jobs : total (job_weight k w) s.device.jobs ≡ 0 = no_jobs k w s.device.jobs (subst (λ (n : ℕ). total (on_queue n) s.device.jobs ≡ 0) here' jobless) in
+      let none_answers : total (λ (an : Answer). w an.cid) (answers_at s.device.queues k) ≡ 0 = ap (total (λ (an : Answer). w an.cid)) (subst (λ (n : ℕ). answers_at s.device.queues n ≡ []) here' no_answers) in
+      omega (arith, none_un, none_jobs, none_answers)
+  | inr far ↦
+      let past : past_at (change q a.retired s.host.queues) k ≡ past_at s.host.queues k = past_other q a.retired s.host.queues k (eqb-false q k far) in
+      let un : unfetched_count k w (change q a.retired s.host.queues) s.device.queues ≡ unfetched_count k w s.host.queues s.device.queues = ap (λ (b : Bool). if b then 0 else total (λ (e : SubEntry). w e.cid) (unfetched_at s.device.queues k)) past in
+      omega (arith, un, h k w, same_sent k w far)
+]
   where
     no_answers : answers_at s.device.queues q ≡ []
     no_answers = at (device_queue s q) (subst (λ (o : Option ComEntry). is_some o ≡ false) (seen_trusted s q t) (unrefused s (events.Retire q) none).1.0)
@@ -219,24 +207,13 @@ places_retire q queue s t none e deleted g h = λ k w. places k w (q == k) refl
             sent_not k w (record r { phase = Held; status = Some ABORTED_SQ_DELETION }) refl ∙ sym (ap (λ (b : Bool). if b && is_submitted r.phase then w r.cid else 0) elsewhere)
         each r false e = refl
 
-    places : (k : ℕ) (w : ℕ → ℕ) (b : Bool) → (q == k) ≡ b
-        → unfetched_count k w (change q a.retired s.host.queues) s.device.queues + (total (job_weight k w) s.device.jobs + total (λ (an : Answer). w an.cid) (answers_at s.device.queues k)) ≤ total (sent k w) (map (a.lost q) s.host.records)
-    places k w true same =
-        let here' : q ≡ k = eqb-true q k same in
-        let past : past_at (change q a.retired s.host.queues) k ≡ true = subst (λ (n : ℕ). past_at (change q a.retired s.host.queues) n ≡ true) here' (past_here q a.retired s.host.queues (λ x. refl) queue e) in
-        let none_un : unfetched_count k w (change q a.retired s.host.queues) s.device.queues ≡ 0 = ap (λ (b : Bool). if b then 0 else total (λ (e : SubEntry). w e.cid) (unfetched_at s.device.queues k)) past in
-        let none_jobs : total (job_weight k w) s.device.jobs ≡ 0 = no_jobs k w s.device.jobs (subst (λ (n : ℕ). total (on_queue n) s.device.jobs ≡ 0) here' jobless) in
-        let none_answers : total (λ (an : Answer). w an.cid) (answers_at s.device.queues k) ≡ 0 = ap (total (λ (an : Answer). w an.cid)) (subst (λ (n : ℕ). answers_at s.device.queues n ≡ []) here' no_answers) in
-        omega (arith, none_un, none_jobs, none_answers)
-    places k w false far =
-        let past : past_at (change q a.retired s.host.queues) k ≡ past_at s.host.queues k = past_other q a.retired s.host.queues k (eqb-false q k far) in
-        let un : unfetched_count k w (change q a.retired s.host.queues) s.device.queues ≡ unfetched_count k w s.host.queues s.device.queues = ap (λ (b : Bool). if b then 0 else total (λ (e : SubEntry). w e.cid) (unfetched_at s.device.queues k)) past in
-        omega (arith, un, h k w, same_sent k w far)
-
 -- Every event
 
 pub running_not_past : (s : State) → Grounds s → (q : ℕ) (e : SubEntry) → InHand s q e → past_at s.host.queues q ≡ false
-running_not_past s g q e hand = go (slice_get s.host.queues q) refl
+running_not_past s g q e hand = elim (option_is (slice_get s.host.queues q)) [
+  | inl o ↦ rw o refl
+  | inr (queue, o) ↦ rw o (ap not (serves queue o (in_service queue.state) refl))
+]
   where
     has : (un : List SubEntry) → slice_get un 0 ≡ Some e → un ≡ [] → ⊥
     has un first none = let no : ◌≡◌ {A = Option SubEntry} None (Some e) = sym (ap (λ (xs : List SubEntry). slice_get xs 0) none) ∙ first in absurd cc
@@ -247,10 +224,6 @@ running_not_past s g q e hand = go (slice_get s.host.queues q) refl
         let pair = pair_at s g q queue o in
         let same : pair.0 ≡ hand.queue = cc (pair.1, hand.at) in
         absurd (has hand.queue.unfetched hand.first (ap (λ (d : DeviceQueue). d.unfetched) (sym same) ∙ pair.2.unfetched is))
-
-    go : (o : Option HostQueue) → slice_get s.host.queues q ≡ o → option_map_or (λ h. not (in_service h.state)) o false ≡ false
-    go None o = refl
-    go (Some queue) o = ap not (serves queue o (in_service queue.state) refl)
 
 by_controller : (s : State) (e : Event) (reply : Reply) → IsController e ≡ true → Lessens s.host.queues s.device.queues s.device.jobs (a.after s e reply).device.queues (a.after s e reply).device.jobs → PlacesIn s → PlacesIn (a.after s e reply)
 by_controller s e reply c less h =
@@ -287,7 +260,7 @@ places_host s e reply pr ok c t g h =
           let hs = (a.heard q e s).host.queues in
           places_hosts hs (change k (λ queue. record queue { state = if is_success st then Deleting true else Live }) hs) (without_record q cid s.host.records) (a.heard q e s).device.queues s.device.jobs
           (λ n p. past_same k (λ queue. record queue { state = if is_success st then Deleting true else Live }) hs n
-          (λ x ex. noted (is_success st) ∙ sym (asked_serves x.state (asked_note s q cid st e r k g.stands.0 g.fit.asked heard w x ex))) ∙ p) (without q cid st e r heard);
+          (λ x ex. (grind arith) ∙ sym (asked_serves x.state (asked_note s q cid st e r k g.stands.0 g.fit.asked heard w x ex))) ∙ p) (without q cid st e r heard);
       frees = λ q cid st what e r k queue told heard w at retired good pr. places_out k a.gone (heard_without q cid e s) (λ x. refl) (without q cid st e r heard);
       makes_cq = λ q cid st what e r k n base told heard w good pr. places_out k a.half_made (heard_without q cid e s) (λ x. refl) (without q cid st e r heard);
       unmakes_cq = λ q cid st what e r k n base queue told heard w at bad pr. places_out k a.gone (heard_without q cid e s) (λ x. refl) (without q cid st e r heard);
@@ -322,20 +295,15 @@ places_host s e reply pr ok c t g h =
 
     -- a queue that is being made has no entry
     unstarted : (q cid : ℕ) (st : Status) (e : ComEntry) (r : Record) (k n base : ℕ) → IsHeard s q cid st e r → r.work ≡ Management (CreateSq k n base) → unfetched_at (a.heard q e s).device.queues k ≡ []
-    unstarted q cid st e r k n base heard w = list_same (λ (at : DeviceQueue). at.unfetched) q (λ at. record at { answers = drop 1 at.answers }) s.device.queues k (λ at. refl) ∙ go (slice_get s.host.queues k) refl
+    unstarted q cid st e r k n base heard w = list_same (λ (at : DeviceQueue). at.unfetched) q (λ at. record at { answers = drop 1 at.answers }) s.device.queues k (λ at. refl) ∙ elim (option_is (slice_get s.host.queues k)) [
+      | inl o ↦ absurd (true≢false (sym (ap (λ (o : Option HostQueue). option_map_or (λ h. is_making_sq h.state) o false) (sym o) ∙ making)))
+      | inr (x, o) ↦
+          let pair = pair_at s g k x o in
+          ap (λ (o : Option DeviceQueue). option_map_or (λ at. at.unfetched) o []) pair.1 ∙ pair.2.unfetched (ap in_service (making_sq_is x.state (awaited_is is_making_sq s.host.queues k x making o)))
+    ]
       where
         making : awaited_at is_making_sq s.host.queues k ≡ true
         making = was_awaited creates_sq_of is_making_sq s.host.records s.host.queues k q cid r heard.found (ap (creates_sq_of k) w ∙ eq-eqb k k refl) (g.stands.0.once q cid) (submissions_awaited s.host g.stands.0.creations)
-
-        go : (o : Option HostQueue) → slice_get s.host.queues k ≡ o → unfetched_at s.device.queues k ≡ []
-        go None o = absurd (true≢false (sym (ap (λ (o : Option HostQueue). option_map_or (λ h. is_making_sq h.state) o false) (sym o) ∙ making)))
-        go (Some x) o =
-            let pair = pair_at s g k x o in
-            ap (λ (o : Option DeviceQueue). option_map_or (λ at. at.unfetched) o []) pair.1 ∙ pair.2.unfetched (ap in_service (making_sq_is x.state (awaited_is is_making_sq s.host.queues k x making o)))
-
-    noted : (b : Bool) → in_service (if b then Deleting true else Live) ≡ true
-    noted true = refl
-    noted false = refl
 
 pub places_event : (s : State) (e : Event) (reply : Reply) → IsProper e → Accepts s e reply → s.trusted ≡ true → Grounds s → PlacesIn s → PlacesIn (a.after s e reply)
 places_event s (events.Fetch q) (events.Fetched c touched) pr ok t g h =

@@ -31,6 +31,7 @@ use Rattle.machine_model.proofs.Placed.{find_all, find_sound, MildJob, placed_jo
 use Rattle.entry_codec.specs.declared.admin_opcode.TheConstants.{ABORT, DELETE_IO_SQ, DELETE_IO_CQ, CREATE_IO_CQ, CREATE_IO_SQ}
 pub use Rattle.machine_model.specs.Agreeing.{waiting, answering}
 use Rattle.machine_agreement.proofs.DeviceMoves.{answer_of, unit_done, finished, cleared, clears, fetch_by, walk_by, complete_by}
+use Rattle.machine_agreement.proofs.Queues.{far_suc}
 
 pub record PlacedIn (rs : List Record) (d : Device) : Type 0 where
   pub placed : Placed rs (waiting d.queues) d.jobs (answering d.queues)
@@ -84,11 +85,7 @@ device-answered q cid st dw0 s =
 pub device-posted : (q : ℕ) (entry : SubEntry) (s : State)
     → (a.posted q entry s).device ≡ record s.device { queues = change q (λ at. record at { unfetched = at.unfetched ++ entry ∷ [] }) s.device.queues }
 device-posted q entry s =
-    ap (λ (d : Device). record d { queues = change q (λ at. record at { unfetched = at.unfetched ++ entry ∷ [] }) d.queues }) (go (host_queue s q))
-  where
-    go : (o : Option HostQueue) → (option_map_or (λ queue. a.on_memory (λ m. with_page_bytes m (slot_page queue.sq_pages 64 queue.ring.tail) (slot_offset 64 queue.ring.tail) (submission_bytes entry)) s) o s).device ≡ s.device
-    go None = refl
-    go (Some queue) = refl
+    ap (λ (d : Device). record d { queues = change q (λ at. record at { unfetched = at.unfetched ++ entry ∷ [] }) d.queues }) (grind arith)
 
 -- The entry that is fetched from queue 0
 
@@ -121,11 +118,8 @@ decide rs e st dw0 s promise h = record {
 
 -- a success deletes no submission queue but an I/O queue's
 deletes_io : (e : SubEntry) → ((e.opcode == DELETE_IO_SQ) ≡ true → (named_queue e == 0) ≡ false) → (adm : AdminKind) → e ≡ admin_entry adm e.cid → DeletesIo adm
-deletes_io e io (Abort q cid) same = tt
 deletes_io e io (DeleteSq q) same = ap (λ (x : SubEntry). named_queue x == 0) (sym same) ∙ io (ap (λ (x : SubEntry). x.opcode == DELETE_IO_SQ) same)
-deletes_io e io (DeleteCq q) same = tt
-deletes_io e io (CreateCq q n base) same = tt
-deletes_io e io (CreateSq q n base) same = tt
+deletes_io e io adm same = tt
 
 pub wrong_opcode : (e : SubEntry) (adm : AdminKind) (n : ℕ) (b : Bool) → e ≡ admin_entry adm e.cid → (e.opcode == n) ≡ b → ((admin_entry adm e.cid).opcode == n) ≡ b
 wrong_opcode e adm n b same h = ap (λ (x : SubEntry). x.opcode == n) (sym same) ∙ h
@@ -155,14 +149,9 @@ stops_mild q = record {
 pub runs_there : (s : State) (q : ℕ) → is_running (a.sq_state s q) ≡ true → gone_at s.device.queues q ≡ false
 runs_there s q h = go (device_queue s q) h
   where
-    state : (st : SqState) → is_running st ≡ true → is_absent st ≡ false
-    state Absent h = absurd (true≢false (sym h))
-    state Running h = refl
-    state Stopping h = refl
-
     go : (o : Option DeviceQueue) → is_running (option_map_or (λ at. at.state) o Absent) ≡ true → option_map_or (λ at. is_absent at.state) o true ≡ false
     go None h = absurd (true≢false (sym h))
-    go (Some at) h = state at.state h
+    go (Some at) h = grind arith
 
 placed_managed : (rs : List Record) (e : SubEntry) (s : State) → Holding rs e s.device → PlacedIn rs (a.managed e s).device
 placed_managed rs e s h =
@@ -196,9 +185,6 @@ placed_managed rs e s h =
         (λ adm same ok. deletes_io e (λ z. q0) adm same)
         (rw (waiting_other stop (named_queue e) s.device.queues q0, answering_other stop (named_queue e) s.device.queues q0)
         (placed_jobs rs (e ∷ waiting s.device.queues) s.device.jobs (answering s.device.queues) (a.stopped (named_queue e)) (stops_mild (named_queue e)) h))
-
-pub ne_zero : (k : ℕ) → (suc k == 0) ≡ false
-ne_zero k = ne_eqb (suc k) 0 (λ e. absurd (omega arith))
 
 placed_answered_other : (rs : List Record) (q : ℕ) (an : Answer) (d : Device) → (q == 0) ≡ false → PlacedIn rs d → PlacedIn rs (record d { queues = change q (λ at. record at { answers = at.answers ++ an ∷ [] }) d.queues })
 placed_answered_other rs q an d other h = placed_other rs d q (λ at. record at { answers = at.answers ++ an ∷ [] }) other h
@@ -238,14 +224,12 @@ placed_fetch rs zero s h =
     in_hand e next =
         rw (answering_same off (λ at. refl) 0 s.device.queues) (subst (λ un. Placed rs un s.device.jobs (answering s.device.queues)) (taken_entry s.device.queues e next) h.placed)
 placed_fetch rs (suc k) s h =
+    let base : PlacedIn rs (a.taken_off (suc k) s).device = placed_other rs s.device (suc k) (λ at. record at { unfetched = drop 1 at.unfetched; rung = at.rung - 1 }) (far_suc k) h in
     fetch_by (λ (t : State). PlacedIn rs t.device) s (suc k) h
-    (λ e next c. placed_answered_other rs (suc k) (answer_of (suc k) e.cid COMMAND_ID_CONFLICT 0 (a.taken_off (suc k) s)) (a.taken_off (suc k) s).device (ne_zero k) base)
+    (λ e next c. placed_answered_other rs (suc k) (answer_of (suc k) e.cid COMMAND_ID_CONFLICT 0 (a.taken_off (suc k) s)) (a.taken_off (suc k) s).device (far_suc k) base)
     (λ e next c z. absurd (omega arith))
     (λ e next c other. let fault = io_fault (a.image_blocks (a.taken_off (suc k) s)) e in
-    record { placed = placed_job_more rs _ (a.taken_off (suc k) s).device.jobs _ (a.new_job (suc k) e fault 0 (bytes_after_check s.device.image e fault)) (ne_zero k) base.placed })
-  where
-    base : PlacedIn rs (a.taken_off (suc k) s).device
-    base = placed_other rs s.device (suc k) (λ at. record at { unfetched = drop 1 at.unfetched; rung = at.rung - 1 }) (ne_zero k) h
+    record { placed = placed_job_more rs _ (a.taken_off (suc k) s).device.jobs _ (a.new_job (suc k) e fault 0 (bytes_after_check s.device.image e fault)) (far_suc k) base.placed })
 
 -- Walking
 
@@ -290,14 +274,7 @@ pub clears_io : (rs : List Record) (s : State) (j : Job) (st : Status) → JobKn
 clears_io rs s j st known jq v c =
     let deletes = and_parts ((j.q == 0) && (j.entry.opcode == DELETE_IO_SQ)) (is_success (a.final_status s j)) c in
     let k = known jq in
-    of k.0 k.2 (and_parts (j.q == 0) (j.entry.opcode == DELETE_IO_SQ) deletes.0).1 (k.3 st v (ap (λ (x : Status). is_success x) (sym (final_admin s j st jq v)) ∙ deletes.1))
-  where
-    of : (adm : AdminKind) → j.entry ≡ admin_entry adm j.entry.cid → (j.entry.opcode == DELETE_IO_SQ) ≡ true → DeletesIo adm → (named_queue j.entry == 0) ≡ false
-    of (Abort q c) same z io = absurd (true≢false (sym (wrong_opcode j.entry (Abort q c) 0 true same z)))
-    of (DeleteSq q) same z io = ap (λ (x : SubEntry). named_queue x == 0) same ∙ io
-    of (DeleteCq q) same z io = absurd (true≢false (sym (wrong_opcode j.entry (DeleteCq q) 0 true same z)))
-    of (CreateCq q n base) same z io = absurd (true≢false (sym (wrong_opcode j.entry (CreateCq q n base) 0 true same z)))
-    of (CreateSq q n base) same z io = absurd (true≢false (sym (wrong_opcode j.entry (CreateSq q n base) 0 true same z)))
+    let h1 = k.2 in let h2 = (and_parts (j.q == 0) (j.entry.opcode == DELETE_IO_SQ) deletes.0).1 in let h3 = k.3 st v (ap (λ (x : Status). is_success x) (sym (final_admin s j st jq v)) ∙ deletes.1) in grind arith
 
 -- the answer of a job of queue 0 takes its place
 placed_answer : (rs : List Record) (cid : ℕ) (d : Device) (ds : List DeviceQueue) (j : Job) (an : Answer) → find (is_job 0 cid) d.jobs ≡ Some j → an.cid ≡ cid
@@ -308,11 +285,7 @@ placed_answer rs cid d ds j an found same w an' there h =
     (placed_completed rs (waiting d.queues) d.jobs (answering d.queues) cid j an found same h.placed)
 
 pub queue_there : (s : State) → answers_full s 0 ≡ false → is_some (slice_get s.device.queues 0) ≡ true
-queue_there s h = go (device_queue s 0) h
-  where
-    go : (o : Option DeviceQueue) → option_map_or (λ at. length at.answers == s.entries - 1) o true ≡ false → is_some o ≡ true
-    go None h = absurd (true≢false h)
-    go (Some at) h = refl
+queue_there s h = grind arith
 
 abbrev pub full_or_out : State → ℕ → List (Bool × Refusal)
 full_or_out s q = (answers_full s q, refusal.Full) ∷ (not (is_in s.memory (post_page s q)), refusal.SlotOut) ∷ []
@@ -341,8 +314,8 @@ placed_complete rs zero cid s none h =
     (λ j e c. record { placed = placed_answer rs cid s.device s.device.queues j (answer_of 0 cid (a.final_status s j) j.dw0 (finished 0 cid j s)) e refl refl refl there h })
 placed_complete rs (suc k) cid s none h =
     complete_by (λ (t : State). PlacedIn rs t.device) s (suc k) cid h (λ j e c. absurd (true≢false (sym (and_parts (j.q == 0) (j.entry.opcode == DELETE_IO_SQ) (and_parts ((j.q == 0) && (j.entry.opcode == DELETE_IO_SQ)) (is_success (a.final_status s j)) c).0).0 ∙ its_queue j e)))
-    (λ j e c. placed_answered_other rs (suc k) (answer_of (suc k) cid (a.final_status s j) j.dw0 (finished (suc k) cid j s)) (finished (suc k) cid j s).device (ne_zero k)
+    (λ j e c. placed_answered_other rs (suc k) (answer_of (suc k) cid (a.final_status s j) j.dw0 (finished (suc k) cid j s)) (finished (suc k) cid j s).device (far_suc k)
     (record { placed = placed_job_less rs (waiting s.device.queues) s.device.jobs (answering s.device.queues) (λ j'. not (is_job (suc k) cid j')) h.placed }))
   where
     its_queue : (j : Job) → job_at s (suc k) cid ≡ Some j → (j.q == 0) ≡ false
-    its_queue j e = ap (λ (n : ℕ). n == 0) (eqb-true j.q (suc k) (and_parts (j.q == suc k) (j.entry.cid == cid) (find_sound (is_job (suc k) cid) s.device.jobs j e)).0) ∙ ne_zero k
+    its_queue j e = ap (λ (n : ℕ). n == 0) (eqb-true j.q (suc k) (and_parts (j.q == suc k) (j.entry.cid == cid) (find_sound (is_job (suc k) cid) s.device.jobs j e)).0) ∙ far_suc k

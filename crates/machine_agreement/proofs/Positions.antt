@@ -1,8 +1,8 @@
 -- Every step leaves the host's positions in their rings.
-use Rattle.std.proofs.Common.{◌∷◌, [], ◌≡◌, ℕ, zero, suc, ◌+◌, ◌<◌, Bool, true, false, Option, Some, None, List, refl, sym, arith, subst}
+use Rattle.std.proofs.Common.{◌∷◌, [], ◌≡◌, ℕ, zero, suc, ◌+◌, ◌<◌, Bool, true, false, Option, Some, None, List, refl, sym, arith, subst, inl, inr}
 use Rattle.std.specs.Option.{option_map_or}
 use Rattle.std.specs.List.{AllByRecursion}
-use Rattle.std.proofs.lemmas.Bool.{true≢false}
+use Rattle.std.proofs.lemmas.Bool.{true≢false, cases_Bool}
 use Rattle.std.proofs.lemmas.Bool.Decides.{nat_tests}
 use Rattle.entry_codec.specs.declared.completion.ComEntry.{ComEntry}
 use Rattle.queue_pair.specs.Slots.{next_slot, is_in_range}
@@ -24,6 +24,7 @@ use Rattle.machine_model.proofs.Lists.{all_changed}
 pub use Rattle.machine_model.proofs.Lists.{all_at}
 use Rattle.machine_model.proofs.Resetting.{all_reset_queues}
 use Rattle.machine_model.proofs.Moves.{host_moves, half_from}
+use Rattle.queue_pair.proofs.Order.{in_range_below, next_below}
 
 abbrev pub InRings : HostPart → Type 0
 InRings part = AllByRecursion (λ queue. IsInRing part.entries queue.ring) part.host.queues
@@ -32,12 +33,6 @@ abbrev In : State → Type 0
 In s = InRings (host_part s)
 
 -- moves stay inside
-
-pub next_below : (n slot : ℕ) → slot < n → next_slot n slot < n
-next_below n slot h = grind (arith, nat_tests)
-
-range_below : (n from to slot : ℕ) → is_in_range n from to slot ≡ true → slot < n
-range_below n from to slot h = grind (arith, nat_tests)
 
 ring_moved : (n q : ℕ) (g : HostRing → HostRing) (hs : List HostQueue) → ((ring : HostRing) → IsInRing n ring → IsInRing n (g ring)) → AllByRecursion (λ queue. IsInRing n queue.ring) hs
     → AllByRecursion (λ queue. IsInRing n queue.ring) (change q (λ queue. record queue { ring = g queue.ring }) hs)
@@ -53,7 +48,7 @@ fits_below s q e h = go (host_queue s q) h
   where
     go : (o : Option HostQueue) → option_map_or (λ queue. is_in_range s.entries queue.ring.known_head queue.ring.tail e.sqhd) o false ≡ true → e.sqhd < s.entries
     go None h = absurd (true≢false (sym h))
-    go (Some queue) h = range_below s.entries queue.ring.known_head queue.ring.tail e.sqhd h
+    go (Some queue) h = in_range_below s.entries queue.ring.known_head queue.ring.tail e.sqhd h
 
 pub rings_event : (s : State) (e : Event) (reply : Reply) → Accepts s e reply → IsController e ≡ false → IsKept InRings s e reply
 rings_event s e reply ok c h =
@@ -110,11 +105,7 @@ rings_event s e reply ok c h =
 
 -- whatever the event
 pub rings_on : (s : State) (e : Event) (reply : Reply) → Accepts s e reply → In s → In (a.after s e reply)
-rings_on s e reply ok h = go (IsController e) refl
-  where
-    go : (b : Bool) → IsController e ≡ b → In (a.after s e reply)
-    go true c = subst InRings (sym (part_controller s e reply c)) h
-    go false c = rings_event s e reply ok c h
+rings_on s e reply ok h = elim (cases_Bool (IsController e)) [ inl c ↦ subst InRings (sym (part_controller s e reply c)) h | inr c ↦ rings_event s e reply ok c h ]
 
 -- The statements
 

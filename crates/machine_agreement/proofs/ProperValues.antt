@@ -30,12 +30,14 @@ use Rattle.machine_model.proofs.Counting.{held_once}
 use Rattle.machine_model.proofs.Parts.{in_store, length-in_store}
 use Rattle.machine_model.proofs.Owned.{in_record, holds_from_sound}
 use Rattle.machine_agreement.proofs.Elsewhere.{owned_once}
-use Rattle.machine_agreement.proofs.Served.{among_right, chain_of, data_of}
+use Rattle.machine_agreement.proofs.Served.{chain_of, data_of}
+use Rattle.machine_agreement.proofs.Touching.{holds_right as among_right}
 use Rattle.machine_model.proofs.Taken.{taken, taken_le, taken_from_out, in_is, is_out, none_here}
 use Rattle.machine_model.proofs.Refused.{first_fails, rest_fails, found}
+use Rattle.machine_agreement.proofs.Members.{some_is}
 
 -- what the host's event is answered, whatever was forged
-hosts_own : {A : Type 0} (B : Type 0) (t : Bool) → MatchBool (t || true) A B → A
+pub hosts_own : {A : Type 0} (B : Type 0) (t : Bool) → MatchBool (t || true) A B → A
 hosts_own B true h = h
 hosts_own B false h = h
 
@@ -62,20 +64,15 @@ both_zeroed (x ∷ xs) ys h =
 -- a request that is not refused passes its check
 reserved_is_good : (s : State) (q : ℕ) (r : Request) → refusal_of s (events.Reserve q r) ≡ None → IsGood r
 reserved_is_good s q r h =
+    let bad : Option RequestFault = fault_of r.kind r.blocks r.pieces in
+    let later : List (Bool × Refusal) = (no_identifier s q, refusal.NoIdentifier) ∷ (nat_lt (length s.host.free) (pages_wanted s r), refusal.NoPages (pages_wanted s r) (length s.host.free)) ∷ [] in
     go bad
     (first_fails (is_some bad) (option_map_or refusal.Bad bad refusal.NoQueue) later
     (rest_fails (in_state is_deleting s q) refusal.Deleting ((is_some bad, option_map_or refusal.Bad bad refusal.NoQueue) ∷ later)
     (rest_fails (no_io_queue s q) refusal.NoQueue ((in_state is_deleting s q, refusal.Deleting) ∷ (is_some bad, option_map_or refusal.Bad bad refusal.NoQueue) ∷ later) h)))
   where
-    bad : Option RequestFault
-    bad = fault_of r.kind r.blocks r.pieces
-
-    later : List (Bool × Refusal)
-    later = (no_identifier s q, refusal.NoIdentifier) ∷ (nat_lt (length s.host.free) (pages_wanted s r), refusal.NoPages (pages_wanted s r) (length s.host.free)) ∷ []
-
     go : (o : Option RequestFault) → is_some o ≡ false → o ≡ None
-    go None e = refl
-    go (Some fault) e = absurd (true≢false e)
+    go o e = grind arith
 
 reserved_draft : (s : State) (q : ℕ) (r : Request) (d : DraftContents) → IsInOrder s → IsGood r → IsReserved s q r d → IsDraft d
 reserved_draft s q r d order good reserved = record {
@@ -110,8 +107,7 @@ out_beside p q cid [] r e stays = absurd cc
 out_beside p q cid (x ∷ rs) r e stays = go (is_at q cid x) e (λ e. out_beside p q cid rs r e stays)
   where
     one_record : (b : Bool) → (if b then in_record p x else 0) ≤ in_record p x
-    one_record true = omega arith
-    one_record false = omega arith
+    one_record b = grind arith
 
     go : (b : Bool) → (if b then Some x else find (is_at q cid) rs) ≡ Some r → (find (is_at q cid) rs ≡ Some r → total (taken p) rs + in_record p r ≤ total (in_record p) rs)
         → total (taken p) (x ∷ rs) + in_record p r ≤ total (in_record p) (x ∷ rs)
@@ -125,11 +121,9 @@ out_beside p q cid (x ∷ rs) r e stays = go (is_at q cid x) e (λ e. out_beside
 page_in : (s : State) → IsSound s → (q cid : ℕ) (r : Record) → record_at s.host q cid ≡ Some r → is_out r.phase ≡ false
     → (p : ℕ) → is_among (pages_of r) p ≡ true → is_in s.memory p ≡ true
 page_in s sound q cid r e stays p h =
-    some_same (sym (in_is s.memory p inside) ∙ taken_from_out s sound.out p (omega (arith, inside, length-in_store s.memory)) ∙ ap Some (none_here (total (taken p) s.host.records) nobody))
+    let nobody : total (taken p) s.host.records ≡ 0 = omega (arith, owned_once (length (in_store s.memory)) p s.host (holds_from_sound s sound), beside, has) in
+    some_is (sym (in_is s.memory p inside) ∙ taken_from_out s sound.out p (omega (arith, inside, length-in_store s.memory)) ∙ ap Some (none_here (total (taken p) s.host.records) nobody))
   where
-    some_same : {x y : Bool} → Some x ≡ Some y → x ≡ y
-    some_same e = cc
-
     has : 0 < in_record p r
     has = held_once p (pages_of r) h
 
@@ -142,9 +136,6 @@ page_in s sound q cid r e stays p h =
         at : (b : Bool) → nat_lt p (length (in_store s.memory)) ≡ b → p < length s.memory
         at true l = omega (arith, ltb-true p (length (in_store s.memory)) l, length-in_store s.memory)
         at false l = absurd (omega (arith, ap one l, (holds_from_sound s sound).owner p, beside, has))
-
-    nobody : total (taken p) s.host.records ≡ 0
-    nobody = omega (arith, owned_once (length (in_store s.memory)) p s.host (holds_from_sound s sound), beside, has)
 
 whole_bytes : (o : Option (List ℕ)) → is_some o ≡ true → IfSome o (λ page. length page ≡ 4096) → IsPage (option_map_or (λ bytes. bytes) o [])
 whole_bytes None there whole = absurd (true≢false (sym there))
@@ -159,10 +150,7 @@ whole_pages m (k ∷ pages) whole there =
     (whole_pages m pages whole (λ p h. there p (among_right p (k ∷ []) pages h)))
 
 waiting_stays : (ph : Phase) → (is_submitted ph || is_held ph) ≡ true → is_out ph ≡ false
-waiting_stays Drafted e = absurd (true≢false (sym e))
-waiting_stays Submitted e = refl
-waiting_stays Held e = refl
-waiting_stays Collected e = absurd (true≢false (sym e))
+waiting_stays ph e = grind arith
 
 -- a collected command has the pages of its record, with their bytes
 collected_pages : (s : State) (r : Record) (f : FinishedContents) → finished_from s r ≡ Some f

@@ -18,7 +18,7 @@ same_suc k q = grind (arith, nat_tests)
 far_zero : (q : ℕ) → (0 == suc q) ≡ false
 far_zero q = grind (arith, nat_tests)
 
-far_suc : (k : ℕ) → (suc k == 0) ≡ false
+pub far_suc : (k : ℕ) → (suc k == 0) ≡ false
 far_suc k = grind (arith, nat_tests)
 
 at_suc : (k q n : ℕ) → (if suc k == suc q then n else 0) ≡ (if k == q then n else 0)

@@ -28,22 +28,12 @@ use Rattle.machine_model.specs.Reached.{only, LiesIn, CourseIn}
 pub only_bytes : (chain : ℕ → Bool) (m : Memory) (n place : ℕ) (bytes : List ℕ) → bytes_at (only chain m) place n ≡ Some bytes → bytes_at m place n ≡ Some bytes
 unfolding bytes_at
 only_bytes chain m zero place bytes e = e
-only_bytes chain m (suc n) place bytes e = go (chain place) (m place) (bytes_at (only chain m) (place + 1) n) (bytes_at m (place + 1) n) (only_bytes chain m n (place + 1)) e
-  where
-    go : (b : Bool) (o : Option ℕ) (r r' : Option (List ℕ)) → ((bs : List ℕ) → r ≡ Some bs → r' ≡ Some bs) → joined (if b then o else None) r ≡ Some bytes → joined o r' ≡ Some bytes
-    go true (Some byte) (Some bs) r' ih e = rw (ih bs refl) e
-    go true (Some byte) None r' ih e = absurd cc
-    go true None r r' ih e = absurd cc
-    go false o r r' ih e = absurd cc
+only_bytes chain m (suc n) place bytes e = let h4 = only_bytes chain m n (place + 1) in grind arith
 
 only_places : (chain : ℕ → Bool) (m : Memory) (n place : ℕ) (bytes : List ℕ) → bytes_at (only chain m) place n ≡ Some bytes → (k : ℕ) → k < n → chain (place + k) ≡ true
 unfolding bytes_at
 only_places chain m zero place bytes e k lt = absurd (omega arith)
-only_places chain m (suc n) place bytes e zero lt = rw (add-zero place) (go (chain place) (m place) (bytes_at (only chain m) (place + 1) n) e)
-  where
-    go : (b : Bool) (o : Option ℕ) (r : Option (List ℕ)) → joined (if b then o else None) r ≡ Some bytes → b ≡ true
-    go true o r e = refl
-    go false o r e = absurd cc
+only_places chain m (suc n) place bytes e zero lt = rw (add-zero place) (grind arith)
 only_places chain m (suc n) place bytes e (suc k) lt =
     let rest = go (if chain place then m place else None) (bytes_at (only chain m) (place + 1) n) e in
     subst (λ (q : ℕ). chain q ≡ true) (one_more place k) (only_places chain m n (place + 1) rest.0 rest.1 k (omega arith))
@@ -82,16 +72,10 @@ pub record LinkFirst (m : Memory) (named : Named) (d : Descriptor) (ds : List De
 
 pub first_ahead : (m : Memory) (named : Named) (d : Descriptor) (ds : List Descriptor) (segments : List (List Descriptor)) (parts : List Part)
     → Ahead m named (d ∷ ds) segments parts → PartFirst m named d ds segments parts ⊎ LinkFirst m named d ds segments parts
-first_ahead m named d ds segments [] (inl e) = absurd (none e.2)
-  where
-    none : d ∷ ds ≡ [] → ⊥
-    none e = cc
+first_ahead m named d ds segments [] (inl e) = absurd (let e = e.2 in cc)
 first_ahead m named d ds segments (p ∷ ps) (inl (by, none, e)) =
-    inl (record { part = p; parts' = ps; is = cc; all = refl; behind_it = λ z. (by, none, no_parts ps (others e ∙ z)); ahead = inl (by, none, others' e) })
+    inl (record { part = p; parts' = ps; is = cc; all = refl; behind_it = λ z. (by, none, no_parts ps (others e ∙ z)); ahead = inl (by, none, cc) })
   where
-    others' : d ∷ ds ≡ descriptor_of_part p ∷ map descriptor_of_part ps → ds ≡ map descriptor_of_part ps
-    others' e = cc
-
     others : d ∷ ds ≡ descriptor_of_part p ∷ map descriptor_of_part ps → map descriptor_of_part ps ≡ ds
     others e = cc
 
@@ -145,15 +129,13 @@ moves_in : (chain own : ℕ → Bool) (m : Memory) (rest : Course) → CourseIn 
 unfolding moving
 moves_in chain own m rest h zero place len offset pages lies = h
 moves_in chain own m rest h (suc n) place len offset pages lies =
+    let less : n ≡ pages_spanned (place + first_part place len) (len - first_part place len) = omega (arith, pages, pages_step place len (some place len n pages)) in
     both (is_some (bytes_at m place (first_part place len))) _
     (moves_in chain own m rest h n (place + first_part place len) (len - first_part place len) (offset + first_part place len) less
     (λ k lt. subst (λ (q : ℕ). own q ≡ true) (sum place (first_part place len) k) (lies (first_part place len + k) (omega arith))))
   where
     some : (place len n : ℕ) → suc n ≡ pages_spanned place len → 0 < len
     some place len n e = grind (arith, nat_tests)
-
-    less : n ≡ pages_spanned (place + first_part place len) (len - first_part place len)
-    less = omega (arith, pages, pages_step place len (some place len n pages))
 
     sum : (a b c : ℕ) → a + (b + c) ≡ a + b + c
     sum a b c = omega arith

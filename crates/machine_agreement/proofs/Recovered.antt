@@ -1,7 +1,7 @@
 -- A reset can make any world's sides agree: what that takes holds in an opening, and each step keeps it, whatever was forged.
-use Rattle.std.proofs.Common.{◌≡◌, ℕ, ◌<◌, ◌≤◌, ◌==◌, Bool, true, false, not, ◌&&◌, Option, Some, None, List, [], ◌∷◌, ◌++◌, length, is_some, MatchBool, if◌then◌else◌, refl, sym, ◌∙◌, subst}
+use Rattle.std.proofs.Common.{◌≡◌, ℕ, ◌<◌, ◌≤◌, ◌==◌, Bool, true, false, not, ◌&&◌, Option, Some, None, List, [], ◌∷◌, ◌++◌, length, is_some, MatchBool, if◌then◌else◌, refl, sym, ◌∙◌, subst, inl, inr, arith}
 use Rattle.std.specs.List.{AllByRecursion}
-use Rattle.std.proofs.lemmas.Bool.{true≢false}
+use Rattle.std.proofs.lemmas.Bool.{true≢false, cases_Bool}
 use Rattle.admin_commands.specs.declared.AdminKind.TheVariants.{Abort, DeleteSq, DeleteCq}
 use Rattle.entry_codec.specs.declared.status.TheConstants.Status.{ABORTED_SQ_DELETION}
 use Rattle.io_commands.specs.Asked.{Request}
@@ -74,8 +74,7 @@ checked_event s e reply proper ok c h =
     proper
   where
     no_fault : (o : Option RequestFault) → is_some o ≡ false → o ≡ None
-    no_fault None e = refl
-    no_fault (Some x) e = absurd (true≢false e)
+    no_fault o e = grind arith
 
     good : (q : ℕ) (request : Request) → refusal_of s (events.Reserve q request) ≡ None → IsGood request
     good q request none = no_fault (fault_of request.kind request.blocks request.pieces) (unrefused s (events.Reserve q request) none).1.1.0
@@ -124,20 +123,18 @@ paired_step old e (events.Refused why touched) new step agree hosts h = subst (�
 paired_step old (events.Forge q slot bytes) reply new step agree hosts h = step.2.device.queues ∙ h ∙ sym hosts
 paired_step old events.Reset reply new step agree hosts h =
     subst (λ (s : State). length s.device.queues ≡ length s.host.queues) (sym (reset_leaves old reply new step)) (reset_device_length old.device.queues ∙ h ∙ sym (reset_length old.host.queues))
-paired_step old e (events.Reserved d) new step agree hosts h = go old.trusted refl
-  where
-    go : (b : Bool) → old.trusted ≡ b → length new.device.queues ≡ length new.host.queues
-    go true t =
-        let after = (step_keeps_agreement old e (events.Reserved d) new step (stays_trusted old e (events.Reserved d) new step refl t)).1 (agree t) in
-        same_length new.entries new.host.queues new.device.queues after.pairs
-    go false t = (device_kept old.trusted (IsController e) old (a.after old e (events.Reserved d)) new _ t step.2).queues ∙ h ∙ sym hosts
-paired_step old e reply new step agree hosts h = go old.trusted refl
-  where
-    go : (b : Bool) → old.trusted ≡ b → length new.device.queues ≡ length new.host.queues
-    go true t =
-        let after = (step_keeps_agreement old e reply new step (stays_trusted old e reply new step refl t)).1 (agree t) in
-        same_length new.entries new.host.queues new.device.queues after.pairs
-    go false t = (device_kept old.trusted (IsController e) old (a.after old e reply) new _ t step.2).queues ∙ h ∙ sym hosts
+paired_step old e (events.Reserved d) new step agree hosts h = elim (cases_Bool old.trusted) [
+  | inl t ↦
+      let after = (step_keeps_agreement old e (events.Reserved d) new step (stays_trusted old e (events.Reserved d) new step refl t)).1 (agree t) in
+      same_length new.entries new.host.queues new.device.queues after.pairs
+  | inr t ↦ (device_kept old.trusted (IsController e) old (a.after old e (events.Reserved d)) new _ t step.2).queues ∙ h ∙ sym hosts
+]
+paired_step old e reply new step agree hosts h = elim (cases_Bool old.trusted) [
+  | inl t ↦
+      let after = (step_keeps_agreement old e reply new step (stays_trusted old e reply new step refl t)).1 (agree t) in
+      same_length new.entries new.host.queues new.device.queues after.pairs
+  | inr t ↦ (device_kept old.trusted (IsController e) old (a.after old e reply) new _ t step.2).queues ∙ h ∙ sym hosts
+]
 
 -- The statements
 

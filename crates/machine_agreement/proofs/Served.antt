@@ -1,8 +1,8 @@
 -- A job's list: the record that it belongs to, what its walk reaches, and that it stays the same list.
-use Rattle.std.proofs.Common.{◌≡◌, ℕ, zero, suc, ◌+◌, ◌*◌, ◌%◌, ◌^◌, ◌<◌, ◌≤◌, ◌==◌, nat_lt, Bool, true, false, Option, Some, None, List, [], ◌∷◌, ◌++◌, length, slice_get, slice_index, is_some, find, if◌then◌else◌, refl, ap, sym, ◌∙◌, arith, subst, eqb-true, eq-eqb, add-zero, ltb-true}
+use Rattle.std.proofs.Common.{◌≡◌, ℕ, zero, suc, ◌+◌, ◌*◌, ◌%◌, ◌^◌, ◌<◌, ◌≤◌, ◌==◌, nat_lt, Bool, true, false, Option, Some, None, List, [], ◌∷◌, ◌++◌, length, slice_get, slice_index, is_some, find, if◌then◌else◌, refl, ap, sym, ◌∙◌, arith, subst, eqb-true, eq-eqb, add-zero, ltb-true, inl, inr}
 use Rattle.std.specs.List.{AllByRecursion}
 use Rattle.std.specs.Prelude.{option_map, option_and_then}
-use Rattle.std.proofs.lemmas.Bool.{true≢false, and_parts}
+use Rattle.std.proofs.lemmas.Bool.{true≢false, and_parts, cases_Bool}
 use Rattle.std.proofs.lemmas.Option.{slice_get-get_or, slice_get_within}
 use Rattle.page_ledger.specs.Owners.{is_among}
 use Rattle.page_memory.specs.Memory.{Memory, bytes_at, page_of}
@@ -39,14 +39,16 @@ use Rattle.machine_model.proofs.Counting.{times-append, held_once, not_held}
 use Rattle.machine_model.proofs.Parts.{in_store, length-in_store}
 use Rattle.machine_model.proofs.Owned.{in_record}
 use Rattle.machine_model.proofs.Taken.{is_out, taken, none_here, in_is}
-use Rattle.machine_model.proofs.Placed.{find_sound}
-use Rattle.machine_agreement.proofs.Members.{In, in_found, all_at_found, sent_found}
+use Rattle.machine_model.proofs.Placed.{find_sound, find_all}
+use Rattle.machine_agreement.proofs.Members.{In, in_found, all_at_found, sent_found, some_is}
 use Rattle.machine_agreement.proofs.Elsewhere.{sent_page, owned_once}
 use Rattle.machine_agreement.proofs.Grounds.{Grounds}
 use Rattle.machine_agreement.proofs.Reaching.{list_in}
 use Rattle.machine_agreement.proofs.Ending.{lists_end, bytes_there}
 use Rattle.machine_agreement.proofs.JoinedParts.{joined_lie, joined_there}
-use Rattle.machine_agreement.proofs.Entered.{good_is, entry_direction, entry_need, parts_count, parts_lie, parts_there}
+use Rattle.machine_agreement.proofs.Entered.{good_is, entry_direction, entry_need, parts_count, parts_lie, parts_there, there_in}
+use Rattle.queue_pair.proofs.Bytes.{bytes_agree}
+use Rattle.machine_agreement.proofs.Touching.{holds_right, holds_left}
 pub use Rattle.machine_model.specs.Agreeing.{is_out_of_service_at as past_at, answers_at, unfetched_count, job_weight, CommandsStandOnce as Places, CommandsStand as Commands}
 
 -- The invariant
@@ -74,9 +76,6 @@ pub record JobList (s : State) (j : Job) : Type 0 where
 one_self : (n : ℕ) → one (n == n) ≡ 1
 one_self n = ap one (eq-eqb n n refl)
 
-at_all : {A : Type 0} (P : A → Type 0) (test : A → Bool) (xs : List A) (x : A) → find test xs ≡ Some x → AllByRecursion P xs → P x
-at_all P test xs x e all = all_at_found P test xs x e all
-
 pub job_list : (s : State) → Stood s → (j : Job) → In j s.device.jobs → (j.q == 0) ≡ false
     → ((P : Job → Type 0) → AllByRecursion P s.device.jobs → P j) → JobList s j
 job_list s stood j within other at =
@@ -87,8 +86,8 @@ job_list s stood j within other at =
     let r = sent_found j.q j.entry.cid s.host.records (omega (arith, counts, stood.places j.q w)) (stood.grounds.stands.0.once j.q j.entry.cid) in
     let ids = and_parts (r.0.q == j.q) (r.0.cid == j.entry.cid) (find_sound (is_at j.q j.entry.cid) s.host.records r.0 r.1) in
     of_work r.0 r.1 r.2 (eqb-true r.0.q j.q ids.0) (eqb-true r.0.cid j.entry.cid ids.1) r.0.work refl
-    (at_all (λ r. OwnsFit r.q r.work (pages_of r)) (is_at j.q j.entry.cid) s.host.records r.0 r.1 stood.grounds.stands.0.admins)
-    (at_all (CommandStands s.memory s.device.queues s.device.jobs) (is_at j.q j.entry.cid) s.host.records r.0 r.1 stood.commands)
+    (find_all (λ r. OwnsFit r.q r.work (pages_of r)) (is_at j.q j.entry.cid) s.host.records r.0 r.1 stood.grounds.stands.0.admins)
+    (find_all (CommandStands s.memory s.device.queues s.device.jobs) (is_at j.q j.entry.cid) s.host.records r.0 r.1 stood.commands)
   where
     of_work : (r : Record) → record_at s.host j.q j.entry.cid ≡ Some r → is_submitted r.phase ≡ true → r.q ≡ j.q → r.cid ≡ j.entry.cid → (work : Work) → r.work ≡ work
         → OwnsFit r.q r.work (pages_of r) → CommandStands s.memory s.device.queues s.device.jobs r → JobList s j
@@ -116,21 +115,20 @@ once_of : (s : State) → Grounds s → (p : ℕ) → total (in_record p) s.host
 once_of s g p = omega (arith, owned_once _ p s.host g.stands.0)
 
 pub page_below : (s : State) → Grounds s → (r : Record) → In r s.host.records → (p : ℕ) → is_among (pages_of r) p ≡ true → p < length s.memory
-page_below s g r within p h = go (nat_lt p (length (in_store s.memory))) refl
-  where
-    go : (b : Bool) → nat_lt p (length (in_store s.memory)) ≡ b → p < length s.memory
-    go true e = omega (arith, ltb-true p (length (in_store s.memory)) e, length-in_store s.memory)
-    go false e = absurd (omega (arith, ap one e, g.stands.0.owner p, within (in_record p), held_once p (pages_of r) h))
+page_below s g r within p h = elim (cases_Bool (nat_lt p (length (in_store s.memory)))) [
+  | inl e ↦ omega (arith, ltb-true p (length (in_store s.memory)) e, length-in_store s.memory)
+  | inr e ↦ absurd (omega (arith, ap one e, g.stands.0.owner p, within (in_record p), held_once p (pages_of r) h))
+]
 
 -- a page of a submitted command is in
 pub page_there : (s : State) → Grounds s → (r : Record) → In r s.host.records → is_submitted r.phase ≡ true → (p : ℕ) → is_among (pages_of r) p ≡ true → is_some (page_at s.memory p) ≡ true
 page_there s g r within sub p h =
+    let nobody : total (taken p) s.host.records ≡ 0 =
+    let mine : sent_page p r ≡ in_record p r = subst (λ (b : Bool). (if b then in_record p r else 0) ≡ in_record p r) (sym sub) refl in
+    omega (arith, apart s.host.records, once_of s g p, within (sent_page p), mine, held_once p (pages_of r) h) in
     let below = page_below s g r within p h in
-    some_same (sym (in_is s.memory p below) ∙ g.taken p (omega (arith, below, length-in_store s.memory)) ∙ ap Some (none_here (total (taken p) s.host.records) nobody))
+    some_is (sym (in_is s.memory p below) ∙ g.taken p (omega (arith, below, length-in_store s.memory)) ∙ ap Some (none_here (total (taken p) s.host.records) nobody))
   where
-    some_same : {x y : Bool} → Some x ≡ Some y → x ≡ y
-    some_same e = cc
-
     apart : (rs : List Record) → total (taken p) rs + total (sent_page p) rs ≤ total (in_record p) rs
     apart [] = omega arith
     apart (x ∷ rs) = omega (arith, apart rs, each x)
@@ -143,42 +141,22 @@ page_there s g r within sub p h =
           | Collected ↦ omega arith
         ])
 
-    nobody : total (taken p) s.host.records ≡ 0
-    nobody =
-        let mine : sent_page p r ≡ in_record p r = subst (λ (b : Bool). (if b then in_record p r else 0) ≡ in_record p r) (sym sub) refl in
-        omega (arith, apart s.host.records, once_of s g p, within (sent_page p), mine, held_once p (pages_of r) h)
-
 pub counts_sent : (s : State) (r : Record) → In r s.host.records → is_submitted r.phase ≡ true → (p : ℕ) → is_among (pages_of r) p ≡ true → 0 < total (sent_page p) s.host.records
 counts_sent s r within sub p h =
     let mine : sent_page p r ≡ in_record p r = subst (λ (b : Bool). (if b then in_record p r else 0) ≡ in_record p r) (sym sub) refl in
     omega (arith, within (sent_page p), mine, held_once p (pages_of r) h)
 
-pub among_left : (p : ℕ) (xs ys : List ℕ) → is_among xs p ≡ true → is_among (xs ++ ys) p ≡ true
-among_left p xs ys h = go (is_among (xs ++ ys) p) refl
-  where
-    go : (b : Bool) → is_among (xs ++ ys) p ≡ b → is_among (xs ++ ys) p ≡ true
-    go true e = e
-    go false e = absurd (omega (arith, held_once p xs h, times-append p xs ys, not_held p (xs ++ ys) e))
-
-pub among_right : (p : ℕ) (xs ys : List ℕ) → is_among ys p ≡ true → is_among (xs ++ ys) p ≡ true
-among_right p xs ys h = go (is_among (xs ++ ys) p) refl
-  where
-    go : (b : Bool) → is_among (xs ++ ys) p ≡ b → is_among (xs ++ ys) p ≡ true
-    go true e = e
-    go false e = absurd (omega (arith, held_once p ys h, times-append p xs ys, not_held p (xs ++ ys) e))
-
 pub data_of : (r : Record) (p : ℕ) → is_among r.data_pages p ≡ true → is_among (pages_of r) p ≡ true
-data_of r p h = among_left p r.data_pages r.chain_pages h
+data_of r p h = holds_left p r.data_pages r.chain_pages h
 
 pub chain_of : (r : Record) (p : ℕ) → is_among r.chain_pages p ≡ true → is_among (pages_of r) p ≡ true
-chain_of r p h = among_right p r.data_pages r.chain_pages h
+chain_of r p h = holds_right p r.data_pages r.chain_pages h
 
 pub apart_in : (s : State) → Grounds s → (r : Record) → In r s.host.records → AreApart r.chain_pages r.data_pages
-apart_in s g r within p h = go (is_among r.chain_pages p) refl
-  where
-    go : (b : Bool) → is_among r.chain_pages p ≡ b → is_among r.chain_pages p ≡ false
-    go true e = absurd (omega (arith, held_once p r.chain_pages e, held_once p r.data_pages h, times-append p r.data_pages r.chain_pages, within (in_record p), once_of s g p))
-    go false e = e
+apart_in s g r within p h = elim (cases_Bool (is_among r.chain_pages p)) [
+  | inl e ↦ absurd (omega (arith, held_once p r.chain_pages e, held_once p r.data_pages h, times-append p r.data_pages r.chain_pages, within (in_record p), once_of s g p))
+  | inr e ↦ e
+]
 
 -- The memory of a walk has what the pool has
 
@@ -213,22 +191,14 @@ course_in s j l =
     list.spelled list.spells list.parts_lie
 
 pub more_than_only : (at : ℕ → Bool) (m : Memory) → HasBytesOf m (only at m)
-more_than_only at m place byte e = go (at place) e
-  where
-    go : (b : Bool) → (if b then m place else None) ≡ Some byte → m place ≡ Some byte
-    go true e = e
-    go false e = absurd cc
+more_than_only at m place byte e = grind arith
 
 low_places : (m : Pages) → length m ≤ 65536 → (place : ℕ) → is_some (memory_of m place) ≡ true → place < 2 ^ 64
 low_places m few place h =
-    let page : is_some (page_at m (page_of place)) ≡ true = back (page_at m (page_of place)) h in
+    let page : is_some (page_at m (page_of place)) ≡ true = (grind arith) in
     let low : page_of place < length m = inside m (page_of place) page in
     omega (arith, low, few)
   where
-    back : (o : Option (List ℕ)) → is_some (option_map (λ page. slice_index page (place % 4096)) o) ≡ true → is_some o ≡ true
-    back None h = h
-    back (Some bytes) h = refl
-
     inside : (m : Pages) (p : ℕ) → is_some (page_at m p) ≡ true → p < length m
     inside [] p h = absurd (true≢false (sym h))
     inside (x ∷ m) zero h = omega arith
@@ -262,24 +232,6 @@ course_ends s stood j l = (course_whole s stood j l).ends
 
 -- Its list stays where its chain pages stay, and its data pages are in
 
-bytes_same : (m m' : Memory) (place n : ℕ) → ((k : ℕ) → k < n → m (place + k) ≡ m' (place + k)) → bytes_at m place n ≡ bytes_at m' place n
-unfolding bytes_at
-bytes_same m m' place zero h = refl
-bytes_same m m' place (suc n) h =
-    let first : m place ≡ m' place = subst (λ (q : ℕ). m q ≡ m' q) (add-zero place) (h 0 (omega arith)) in
-    let rest : bytes_at m (place + 1) n ≡ bytes_at m' (place + 1) n = bytes_same m m' (place + 1) n (λ k lt. subst (λ (q : ℕ). m q ≡ m' q) (one_more place k) (h (suc k) (omega (arith, lt)))) in
-    rw (first, rest) refl
-  where
-    one_more : (place k : ℕ) → place + suc k ≡ place + 1 + k
-    one_more place k = omega arith
-
-there_in : (m : Pages) (place : ℕ) → is_some (page_at m (page_of place)) ≡ true → is_some (memory_of m place) ≡ true
-there_in m place h = go (page_at m (page_of place)) h
-  where
-    go : (o : Option (List ℕ)) → is_some o ≡ true → is_some (option_map (λ page. slice_index page (place % 4096)) o) ≡ true
-    go None h = h
-    go (Some bytes) h = refl
-
 pub serves_in : (m m' : Pages) (chain own : List ℕ) → ((p : ℕ) → is_among chain p ≡ true → page_at m' p ≡ page_at m p) → ((p : ℕ) → is_among own p ≡ true → is_some (page_at m' p) ≡ true)
     → (c : Course) → CourseIn (on_pages chain) (on_pages own) c → verdict c ≡ End → Serves (memory_of m) (memory_of m') c
 serves_in m m' chain own same there (Closes v) h e = λ f. ended (sym e ∙ f)
@@ -288,7 +240,7 @@ serves_in m m' chain own same there (Closes v) h e = λ f. ended (sym e ∙ f)
     ended e = cc
 serves_in m m' chain own same there (Does Stays rest) h e = serves_in m m' chain own same there rest h.1 e
 serves_in m m' chain own same there (Does (Reads place) rest) h e = (
-  bytes_same (memory_of m') (memory_of m) place 16 (λ k lt. ap (λ (o : Option (List ℕ)). option_map (λ page. slice_index page ((place + k) % 4096)) o) (same (page_of (place + k)) (h.0 k lt))),
+  bytes_agree (memory_of m') (memory_of m) place 16 (λ k lt. ap (λ (o : Option (List ℕ)). option_map (λ page. slice_index page ((place + k) % 4096)) o) (same (page_of (place + k)) (h.0 k lt))),
   serves_in m m' chain own same there rest h.1 e,
 )
 serves_in m m' chain own same there (Does (Moves place n offset) rest) h e = (

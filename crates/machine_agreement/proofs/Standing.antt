@@ -1,6 +1,7 @@
 -- The host's events keep where admin commands stand; every trusted run does.
-use Rattle.std.proofs.Common.{◌≡◌, ℕ, zero, suc, ◌+◌, ◌<◌, ◌≤◌, ◌==◌, Bool, true, false, not, ◌&&◌, ◌||◌, Option, Some, None, List, [], ◌∷◌, ◌++◌, length, map, drop, slice_get, is_some, is_none, option_and_then, if◌then◌else◌, refl, ap, sym, ◌∙◌, arith, subst, eqb-true, eq-eqb}
-use Rattle.std.proofs.lemmas.Bool.{true≢false, and_parts, or_parts}
+use Rattle.std.proofs.Common.{◌≡◌, ℕ, zero, suc, ◌+◌, ◌<◌, ◌≤◌, ◌==◌, Bool, true, false, not, ◌&&◌, ◌||◌, Option, Some, None, List, [], ◌∷◌, ◌++◌, length, map, drop, slice_get, is_some, is_none, option_and_then, if◌then◌else◌, refl, ap, sym, ◌∙◌, arith, subst, eqb-true, eq-eqb, inl, inr}
+use Rattle.machine_agreement.proofs.Cases.{option_is}
+use Rattle.std.proofs.lemmas.Bool.{true≢false, and_parts, or_parts, cases_Bool}
 use Rattle.admin_commands.specs.Entries.{admin_entry}
 use Rattle.entry_codec.specs.declared.completion.ComEntry.{ComEntry}
 use Rattle.entry_codec.specs.declared.submission.SubEntry.{SubEntry}
@@ -32,7 +33,8 @@ use Rattle.machine_model.proofs.Totals.{total-append, total-map}
 use Rattle.machine_model.proofs.Owned.{HoldsPart}
 use Rattle.machine_model.specs.Agreeing.{AdminCommandsStand as Placed, Knows, waiting, answering}
 use Rattle.machine_model.proofs.Placed.{find_more, find_map, find_filter, find_sound, placed_records, placed_sent, placed_reaped}
-use Rattle.machine_agreement.proofs.Placing.{PlacedIn, placed_other, placed_change, waiting_same, answering_same, ne_zero, placed_fetch, placed_walk, placed_complete}
+use Rattle.machine_agreement.proofs.Placing.{PlacedIn, placed_other, placed_change, waiting_same, answering_same, placed_fetch, placed_walk, placed_complete}
+use Rattle.machine_agreement.proofs.Queues.{far_suc as ne_zero}
 pub use Rattle.machine_model.proofs.Moves.{named, seen_trusted}
 use Rattle.machine_model.proofs.Resetting.{no_waiting, no_answering, reset_admin_commands}
 use Rattle.machine_model.proofs.Moves.{host_moves, posts, sends, sent_record, drafted_record, heard_without, creates_cq, creates_sq, grants_cq, grants_sq, IsHeard, answer_heard}
@@ -65,14 +67,10 @@ records_with rs q cid f d fq fc fw h =
 records_less : (rs : List Record) (q cid : ℕ) (d : Device) → (q == 0) ≡ false → PlacedIn rs d → PlacedIn (without_record q cid rs) d
 records_less rs q cid d other h =
     records_change rs (without_record q cid rs) d (λ c. all c rs)
-    (λ c adm k. (k.0, find_filter (is_at 0 c) (λ r. not (is_at q cid r)) (λ r t. keeps c r t (is_at q cid r) refl) rs k.0 k.1, k.2)) h
+    (λ c adm k. (k.0, find_filter (is_at 0 c) (λ r. not (is_at q cid r)) (λ r t. (elim (cases_Bool (is_at q cid r)) [ inl e ↦ absurd (differs r (and_parts (r.q == 0) (r.cid == c) t).0 (and_parts (r.q == q) (r.cid == cid) e).0) | inr e ↦ rw e refl ])) rs k.0 k.1, k.2)) h
   where
     differs : (r : Record) → (r.q == 0) ≡ true → (r.q == q) ≡ true → ⊥
     differs r z e = true≢false (sym (eq-eqb q 0 (sym (eqb-true r.q q e) ∙ eqb-true r.q 0 z)) ∙ other)
-
-    keeps : (c : ℕ) (r : Record) → is_at 0 c r ≡ true → (b : Bool) → is_at q cid r ≡ b → not b ≡ true
-    keeps c r t true e = absurd (differs r (and_parts (r.q == 0) (r.cid == c) t).0 (and_parts (r.q == q) (r.cid == cid) e).0)
-    keeps c r t false e = refl
 
     all : (c : ℕ) (rs : List Record) → total (here 0 c) rs ≤ total (here 0 c) (without_record q cid rs)
     all c [] = omega arith
@@ -80,9 +78,7 @@ records_less rs q cid d other h =
       where
         go : (b z : Bool) → is_at q cid r ≡ b → is_at 0 c r ≡ z → total (here 0 c) rs ≤ total (here 0 c) (without_record q cid rs)
             → here 0 c r + total (here 0 c) rs ≤ total (here 0 c) (if not b then r ∷ without_record q cid rs else without_record q cid rs)
-        go true true eb ez ih = absurd (differs r (and_parts (r.q == 0) (r.cid == c) ez).0 (and_parts (r.q == q) (r.cid == cid) eb).0)
-        go true false eb ez ih = omega (arith, ap one ez)
-        go false z eb ez ih = omega arith
+        go b z eb ez ih = grind arith
 
 -- Posting
 
@@ -209,24 +205,20 @@ stands_host s e reply ok c t h =
         (stands_reaped cid an.answer s (subst (λ (z : ℕ). option_and_then (λ (queue : DeviceQueue). first_answer queue.answers) (device_queue s z) ≡ Some an.answer) zero' an.first) an.its_id (h.0.once 0 cid) h.1)
 
 stands_walk : (q cid : ℕ) (s : State) → refusal_of s (events.Walk q cid) ≡ None → Stands s → PlacedIn s.host.records (a.after_walk q cid s).device
-stands_walk q cid s none h = go (job_at s q cid) refl
+stands_walk q cid s none h = elim (option_is (job_at s q cid)) [
+  | inl e ↦ absurd (true≢false (rw e at (first_fails (is_none (job_at s q cid)) refusal.NoJob ((refusals.job_is (λ j. is_some j.verdict || (j.q == 0)) s q cid, refusal.Nothing) ∷ []) none)))
+  | inr (j, e) ↦
+      let judged : (is_some j.verdict || (j.q == 0)) ≡ false = rw e at nothing in
+      let jq : (j.q == 0) ≡ false = (or_parts (is_some j.verdict) (j.q == 0) judged).1 in
+      let at = and_parts (j.q == q) (j.entry.cid == cid) (find_sound (is_job q cid) s.device.jobs j e) in
+      placed_walk s.host.records q cid s (ap (λ (k : ℕ). k == 0) (sym (eqb-true j.q q at.0)) ∙ jq) h
+]
   where
     rest : List (Bool × Refusal)
     rest = (refusals.job_is (λ j. is_some j.verdict || (j.q == 0)) s q cid, refusal.Nothing) ∷ []
 
-    no : is_none (job_at s q cid) ≡ false
-    no = first_fails (is_none (job_at s q cid)) refusal.NoJob ((refusals.job_is (λ j. is_some j.verdict || (j.q == 0)) s q cid, refusal.Nothing) ∷ []) none
-
     nothing : refusals.job_is (λ j. is_some j.verdict || (j.q == 0)) s q cid ≡ false
     nothing = first_fails (refusals.job_is (λ j. is_some j.verdict || (j.q == 0)) s q cid) refusal.Nothing [] (rest_fails (is_none (job_at s q cid)) refusal.NoJob ((refusals.job_is (λ j. is_some j.verdict || (j.q == 0)) s q cid, refusal.Nothing) ∷ []) none)
-
-    go : (o : Option Job) → job_at s q cid ≡ o → PlacedIn s.host.records (a.after_walk q cid s).device
-    go None e = absurd (true≢false (rw e at no))
-    go (Some j) e =
-        let judged : (is_some j.verdict || (j.q == 0)) ≡ false = rw e at nothing in
-        let jq : (j.q == 0) ≡ false = (or_parts (is_some j.verdict) (j.q == 0) judged).1 in
-        let at = and_parts (j.q == q) (j.entry.cid == cid) (find_sound (is_job q cid) s.device.jobs j e) in
-        placed_walk s.host.records q cid s (ap (λ (k : ℕ). k == 0) (sym (eqb-true j.q q at.0)) ∙ jq) h
 
 controller_records : (s : State) (e : Event) (reply : Reply) → IsController e ≡ true → (a.after s e reply).host.records ≡ s.host.records
 controller_records s e reply c = ap (λ (part : HostPart). part.host.records) (part_controller s e reply c)

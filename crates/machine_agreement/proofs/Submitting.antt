@@ -52,15 +52,7 @@ lists_same (x ∷ xs) [] h = absurd (true≢false (sym h))
 lists_same (x ∷ xs) (y ∷ ys) h = let both = and_parts (same_piece x y) (same_pieces xs ys) h in rw (pieces_same x y both.0, lists_same xs ys both.1) refl
 
 kinds_same : (a b : Kind) → same_kind a b ≡ true → a ≡ b
-kinds_same Read Read h = refl
-kinds_same Read Write h = absurd (true≢false (sym h))
-kinds_same Read Compare h = absurd (true≢false (sym h))
-kinds_same Write Read h = absurd (true≢false (sym h))
-kinds_same Write Write h = refl
-kinds_same Write Compare h = absurd (true≢false (sym h))
-kinds_same Compare Read h = absurd (true≢false (sym h))
-kinds_same Compare Write h = absurd (true≢false (sym h))
-kinds_same Compare Compare h = refl
+kinds_same a b h = grind arith
 
 pub requests_same : (a b : Request) → same_request a b ≡ true → a ≡ b
 requests_same a b h =

@@ -1,8 +1,8 @@
 -- Every event keeps the controller's queues tied to the host's.
-use Rattle.std.proofs.Common.{◌≡◌, ℕ, zero, suc, ◌+◌, ◌-◌, ◌<◌, ◌==◌, nat_lt, Bool, true, false, not, ◌&&◌, Option, Some, None, List, [], ◌∷◌, ◌++◌, map, filter, length, drop, slice_get, is_none, is_some, option_and_then, if◌then◌else◌, refl, ap, sym, ◌∙◌, arith, subst, eqb-true}
+use Rattle.std.proofs.Common.{◌≡◌, ℕ, zero, suc, ◌+◌, ◌-◌, ◌<◌, ◌==◌, nat_lt, Bool, true, false, not, ◌&&◌, Option, Some, None, List, [], ◌∷◌, ◌++◌, map, filter, length, drop, slice_get, is_none, is_some, option_and_then, if◌then◌else◌, refl, ap, sym, ◌∙◌, arith, subst, eqb-true, inl, inr}
 use Rattle.std.specs.Option.{option_map_or}
 use Rattle.std.specs.List.{list_any}
-use Rattle.std.proofs.lemmas.Bool.{true≢false, and_parts, or_parts}
+use Rattle.std.proofs.lemmas.Bool.{true≢false, and_parts, or_parts, cases_Bool}
 use Rattle.machine_model.proofs.Managed.{managed_by, absent_state}
 use Rattle.admin_commands.specs.declared.SqState.TheVariants.{Absent, Live as Running, Stopping}
 use Rattle.admin_commands.specs.declared.SqState.{SqState}
@@ -51,18 +51,13 @@ deleted_is_gone s h q queue e over = go (gone_at s.device.queues q) refl
     known = ap (λ (o : Option HostQueue). option_map_or (λ h. is_over h.state) o false) e ∙ over
 
     go : (b : Bool) → gone_at s.device.queues q ≡ b → gone_at s.device.queues q ≡ true
-    go true is = is
-    go false is = absurd (omega (arith, h.tokens.submission q, ap one known, ap (λ (b : Bool). one (not b)) is))
+    go b is = grind arith
 
 pub freed_is_gone : (s : State) → FitS s → (q : ℕ) (queue : HostQueue) → host_queue s q ≡ Some queue → is_gone queue.state ≡ true → there_at s.device.queues q ≡ false
-freed_is_gone s h q queue e gone = go (there_at s.device.queues q) refl
-  where
-    known : is_gone_at s.host.queues q ≡ true
-    known = ap (λ (o : Option HostQueue). option_map_or (λ h. is_gone h.state) o false) e ∙ gone
-
-    go : (b : Bool) → there_at s.device.queues q ≡ b → there_at s.device.queues q ≡ false
-    go false is = is
-    go true is = absurd (omega (arith, h.tokens.completion q, ap one known, ap one is))
+freed_is_gone s h q queue e gone = elim (cases_Bool (there_at s.device.queues q)) [
+  | inl is ↦ absurd (omega (arith, h.tokens.completion q, ap one (ap (λ (o : Option HostQueue). option_map_or (λ h. is_gone h.state) o false) e ∙ gone), ap one is))
+  | inr is ↦ is
+]
 
 pub tied_from_fit : (s : State) → FitS s → Tied s
 tied_from_fit s h = record { some_entries = h.some_entries; pairs = h.pairs; jobs = h.jobs; over = deleted_is_gone s h; gone = freed_is_gone s h }
@@ -91,7 +86,7 @@ tie_on_job part q cid f s same h =
     tie_jobs_map part s.device (λ j. if (j.q == q) && (j.entry.cid == cid) then f j else j)
     (λ j. (elim ((j.q == q) && (j.entry.cid == cid)) as (λ b. (if b then f j else j).q ≡ j.q) [ true ↦ same j | false ↦ refl ])) h
 
-stopped_q : (q : ℕ) (j : Job) → (a.stopped q j).q ≡ j.q
+pub stopped_q : (q : ℕ) (j : Job) → (a.stopped q j).q ≡ j.q
 stopped_q q j = (elim ((j.q == q) && is_none j.verdict) as (λ b. (if b then record j { verdict = Some ABORTED_SQ_DELETION } else j).q ≡ j.q) [ true ↦ refl | false ↦ refl ])
 
 tie_managed : (part : HostPart) (e : SubEntry) (s : State) → gone_at s.device.queues 0 ≡ false → out_at part.host.queues 0 ≡ false → TieP part s.device → TieP part (a.managed e s).device
@@ -124,14 +119,9 @@ tie_managed part e s there served h =
 pub rung_gone : (s : State) (q : ℕ) (e : SubEntry) → next_rung s q ≡ Some e → gone_at s.device.queues q ≡ false
 rung_gone s q e h = go (device_queue s q) h
   where
-    state : (b : Bool) (at : DeviceQueue) (st : SqState) → (if is_running st && nat_lt 0 at.rung then slice_get at.unfetched 0 else None) ≡ Some e → is_absent st ≡ false
-    state b at Absent h = absurd cc
-    state b at Running h = refl
-    state b at Stopping h = refl
-
     go : (o : Option DeviceQueue) → option_and_then (λ queue. if is_running queue.state && nat_lt 0 queue.rung then slice_get queue.unfetched 0 else None) o ≡ Some e → option_map_or (λ at. is_absent at.state) o true ≡ false
     go None h = absurd cc
-    go (Some at) h = state true at at.state h
+    go (Some at) h = grind arith
 
 -- an entry that is fetched is one of a queue in service
 rung_served : (part : HostPart) (s : State) (q : ℕ) (e : SubEntry) → next_rung s q ≡ Some e → Paired part.entries part.host.queues s.device.queues → out_at part.host.queues q ≡ false
@@ -141,14 +131,9 @@ rung_served part s q e h pairs = go (slice_get s.device.queues q) refl h
     fetched true un is none = let no : ◌≡◌ {A = Option SubEntry} None (Some e) = sym (ap (λ (xs : List SubEntry). slice_get xs 0) none) ∙ is in absurd cc
     fetched false un is none = absurd cc
 
-    served : (x : HostQueue) (at : DeviceQueue) → slice_get part.host.queues q ≡ Some x → PairOk part.entries x at → (if is_running at.state && nat_lt 0 at.rung then slice_get at.unfetched 0 else None) ≡ Some e
-        → (b : Bool) → in_service x.state ≡ b → out_at part.host.queues q ≡ false
-    served x at ex pair is true o = ap (λ (o : Option HostQueue). option_map_or (λ h. not (in_service h.state)) o false) ex ∙ ap not o
-    served x at ex pair is false o = absurd (fetched (is_running at.state && nat_lt 0 at.rung) at.unfetched is (pair.unfetched o))
-
     go : (o : Option DeviceQueue) → slice_get s.device.queues q ≡ o → option_and_then (λ queue. if is_running queue.state && nat_lt 0 queue.rung then slice_get queue.unfetched 0 else None) o ≡ Some e → out_at part.host.queues q ≡ false
     go None at is = absurd cc
-    go (Some d) at is = let x = paired_at part.entries q part.host.queues s.device.queues d at pairs in served x.0 d x.1 x.2 is (in_service x.0.state) refl
+    go (Some d) at is = let x = paired_at part.entries q part.host.queues s.device.queues d at pairs in let ex = x.1 in let pair = x.2 in grind arith
 
 pub tie_fetch : (part : HostPart) (q : ℕ) (s : State) → TieP part s.device → TieP part (a.after_fetch q s).device
 tie_fetch part q s h =
@@ -184,8 +169,7 @@ waited s j st v ok q0 op w = none_left (named_queue j.entry) s.device.jobs (go (
         absurd (true≢false (sym right ∙ inner.1))
       where
         left_true : (x y : Bool) → x ≡ true → (x && y) ≡ false → y ≡ false
-        left_true true y e h = h
-        left_true false y e h = absurd (true≢false (sym e))
+        left_true x y e h = grind arith
 
 pub tie_complete : (part : HostPart) (q cid : ℕ) (s : State) → refusal_of s (events.Complete q cid) ≡ None → TieP part s.device → TieP part (a.after_complete q cid s).device
 tie_complete part q cid s none h =

@@ -24,7 +24,7 @@ use Rattle.machine_model.proofs.Steps.{Accepts, part_controller}
 use Rattle.machine_model.proofs.Owned.{HoldsPart}
 use Rattle.machine_model.proofs.Placed.{find_sound}
 use Rattle.machine_agreement.proofs.Standing.{StandsSound, stands_event}
-use Rattle.machine_model.proofs.Asked.{asks, asked_event, asked_at, opened_quiet}
+use Rattle.machine_model.proofs.Asked.{asks, asked_event, asked_at, opened_quiet, opened_waits_not}
 use Rattle.machine_model.proofs.AwaitedKept.{submissions_awaited}
 use Rattle.machine_model.proofs.Awaited.{awaited_at}
 use Rattle.machine_agreement.proofs.Tying.{tie_of, length-change}
@@ -39,6 +39,7 @@ use Rattle.machine_model.proofs.Moves.{host_moves, half_from, grants_cq, grants_
 use Rattle.machine_model.proofs.Opening.{in_limits, limits_say, length-range}
 use Rattle.machine_agreement.proofs.Trusted.{both_on}
 use Rattle.machine_model.proofs.Refused.{unrefused}
+use Rattle.machine_agreement.proofs.Frames.{host_leaves}
 
 -- What the tokens say of a live queue
 
@@ -73,42 +74,46 @@ whole s pos few asked tie held = record {
   tokens = tokens_to s.host.records s.host.queues s.device.queues s.device.jobs held;
 }
 
--- how many queues and entries there are stays
-pub limits_stay : (n : ℕ) (s : State) (e : Event) (reply : Reply) → Accepts s e reply → IsController e ≡ false → (0 < s.entries) × (length s.host.queues ≡ n) → (0 < (a.after s e reply).entries) × (length (a.after s e reply).host.queues ≡ n)
-limits_stay n s e reply ok c h =
-    host_moves (λ (e : Event) (reply : Reply) (t : State). (0 < t.entries) × (length t.host.queues ≡ n)) s e reply ok c
+-- how many queues there are stays
+pub queues_stay : (s : State) (e : Event) (reply : Reply) → Accepts s e reply → IsController e ≡ false → length (a.after s e reply).host.queues ≡ length s.host.queues
+queues_stay s e reply ok c =
+    host_moves (λ (e : Event) (reply : Reply) (t : State). length t.host.queues ≡ length s.host.queues) s e reply ok c
     (record {
-      reserves = λ q request d none is. h;
-      submits = λ d entry r none built its live. (h.0, few d.q (λ x. record x { ring = next_tail s.entries x.ring }) s.host.queues h.1);
-      cancels = λ d r its. h;
-      rings = λ q none. h;
-      rests = λ q is. h;
-      rejects = λ q why is. (h.0, few q (λ x. record x { ring = next_head s.entries x.ring }) s.host.queues h.1);
-      tells = λ q cid st what e r request told heard w. (h.0, heard_few q e);
-      hears = λ q cid st what e r adm told heard w quiet unmade. (h.0, heard_few q e);
-      notes = λ q cid st what e r k told heard w. (h.0, few k (λ queue. record queue { state = if is_success st then Deleting true else Live }) (a.heard q e s).host.queues (heard_few q e));
-      frees = λ q cid st what e r k queue told heard w at alone good. (h.0, few k a.gone (a.heard q e s).host.queues (heard_few q e));
-      makes_cq = λ q cid st what e r k size base told heard w good. (h.0, few k a.half_made (a.heard q e s).host.queues (heard_few q e));
-      unmakes_cq = λ q cid st what e r k size base queue told heard w at bad. (h.0, few k a.gone (a.heard q e s).host.queues (heard_few q e));
-      makes_sq = λ q cid st what e r k size base told heard w good. (h.0, few k a.live (a.heard q e s).host.queues (heard_few q e));
-      unmakes_sq = λ q cid st what e r k size base queue told heard w at bad. (h.0, few k a.unmade_sq (a.heard q e s).host.queues (heard_few q e));
-      collects = λ q cid r f at held is. h;
-      releases = λ f r its. h;
-      aborts = λ q cid id none new. (h.0, few 0 (λ x. record x { ring = next_tail s.entries x.ring }) s.host.queues h.1);
-      asks = λ q id queue none new live. (h.0, few q a.deleting (a.on_ring 0 (next_tail s.entries) s).host.queues (few 0 (λ x. record x { ring = next_tail s.entries x.ring }) s.host.queues h.1));
-      drops = λ q id none new. (h.0, few 0 (λ x. record x { ring = next_tail s.entries x.ring }) s.host.queues h.1);
-      creates_cqs = λ q id first queue none new granted. (h.0, few 0 (λ x. record x { ring = next_tail s.entries x.ring }) (grants_cq q first s).host.queues (few q (a.making_cq (half_from Completion first s)) s.host.queues h.1));
-      creates_sqs = λ q id first queue none new granted. (h.0, few 0 (λ x. record x { ring = next_tail s.entries x.ring }) (grants_sq q first s).host.queues (few q (a.making_sq (half_from Submission first s)) s.host.queues h.1));
-      retires = λ q queue none at deleted. (h.0, few q a.retired s.host.queues h.1);
-      forges = λ q slot bytes queue none at. h;
-      resets = (h.0, reset_length s.host.queues ∙ h.1);
+      reserves = λ q request d none is. refl;
+      submits = λ d entry r none built its live. few d.q (λ x. record x { ring = next_tail s.entries x.ring }) s.host.queues refl;
+      cancels = λ d r its. refl;
+      rings = λ q none. refl;
+      rests = λ q is. refl;
+      rejects = λ q why is. few q (λ x. record x { ring = next_head s.entries x.ring }) s.host.queues refl;
+      tells = λ q cid st what e r request told heard w. heard_few q e;
+      hears = λ q cid st what e r adm told heard w quiet unmade. heard_few q e;
+      notes = λ q cid st what e r k told heard w. few k (λ queue. record queue { state = if is_success st then Deleting true else Live }) (a.heard q e s).host.queues (heard_few q e);
+      frees = λ q cid st what e r k queue told heard w at alone good. few k a.gone (a.heard q e s).host.queues (heard_few q e);
+      makes_cq = λ q cid st what e r k size base told heard w good. few k a.half_made (a.heard q e s).host.queues (heard_few q e);
+      unmakes_cq = λ q cid st what e r k size base queue told heard w at bad. few k a.gone (a.heard q e s).host.queues (heard_few q e);
+      makes_sq = λ q cid st what e r k size base told heard w good. few k a.live (a.heard q e s).host.queues (heard_few q e);
+      unmakes_sq = λ q cid st what e r k size base queue told heard w at bad. few k a.unmade_sq (a.heard q e s).host.queues (heard_few q e);
+      collects = λ q cid r f at held is. refl;
+      releases = λ f r its. refl;
+      aborts = λ q cid id none new. few 0 (λ x. record x { ring = next_tail s.entries x.ring }) s.host.queues refl;
+      asks = λ q id queue none new live. few q a.deleting (a.on_ring 0 (next_tail s.entries) s).host.queues (few 0 (λ x. record x { ring = next_tail s.entries x.ring }) s.host.queues refl);
+      drops = λ q id none new. few 0 (λ x. record x { ring = next_tail s.entries x.ring }) s.host.queues refl;
+      creates_cqs = λ q id first queue none new granted. few 0 (λ x. record x { ring = next_tail s.entries x.ring }) (grants_cq q first s).host.queues (few q (a.making_cq (half_from Completion first s)) s.host.queues refl);
+      creates_sqs = λ q id first queue none new granted. few 0 (λ x. record x { ring = next_tail s.entries x.ring }) (grants_sq q first s).host.queues (few q (a.making_sq (half_from Submission first s)) s.host.queues refl);
+      retires = λ q queue none at deleted. few q a.retired s.host.queues refl;
+      forges = λ q slot bytes queue none at. refl;
+      resets = reset_length s.host.queues;
     })
   where
-    few : (k : ℕ) (f : HostQueue → HostQueue) (hs : List HostQueue) → length hs ≡ n → length (change k f hs) ≡ n
+    few : (k : ℕ) (f : HostQueue → HostQueue) (hs : List HostQueue) → length hs ≡ length s.host.queues → length (change k f hs) ≡ length s.host.queues
     few k f hs l = length-change k f hs ∙ l
 
-    heard_few : (q : ℕ) (e : ComEntry) → length (a.heard q e s).host.queues ≡ n
-    heard_few q e = length-change q (λ x. record x { ring = knowing e.sqhd x.ring }) (a.consumed q s).host.queues ∙ length-change q (λ x. record x { ring = next_head s.entries x.ring }) s.host.queues ∙ h.1
+    heard_few : (q : ℕ) (e : ComEntry) → length (a.heard q e s).host.queues ≡ length s.host.queues
+    heard_few q e = length-change q (λ x. record x { ring = knowing e.sqhd x.ring }) (a.consumed q s).host.queues ∙ length-change q (λ x. record x { ring = next_head s.entries x.ring }) s.host.queues
+
+-- and so do the entries of each
+pub limits_stay : (n : ℕ) (s : State) (e : Event) (reply : Reply) → Accepts s e reply → IsController e ≡ false → (0 < s.entries) × (length s.host.queues ≡ n) → (0 < (a.after s e reply).entries) × (length (a.after s e reply).host.queues ≡ n)
+limits_stay n s e reply ok c h = (omega (arith, (host_leaves s e reply ok c).entries, h.0), queues_stay s e reply ok c ∙ h.1)
 
 -- of the controller
 by_controller : (s : State) (e : Event) (reply : Reply) → IsController e ≡ true → FitS s → TieP (host_part s) (a.after s e reply).device → TokensP s.host.records s.host.queues (a.after s e reply).device → FitS (a.after s e reply)
@@ -182,14 +187,8 @@ opened_length : (page n count : ℕ) → length (queues_from page n count) ≡ c
 opened_length page n zero = refl
 opened_length page n (suc count) = ap suc (opened_length (page + half_pages n Submission + half_pages n Completion) n count)
 
-opened_state : (test : HostState → Bool) → test Live ≡ false → (page n count q : ℕ) → awaited_at test (queues_from page n count) q ≡ false
-opened_state test live page n zero q = refl
-opened_state test live page n (suc count) zero = live
-opened_state test live page n (suc count) (suc q) = opened_state test live (page + half_pages n Submission + half_pages n Completion) n count q
-
-small : (b : Bool) → one b ≤ 1
-small true = omega arith
-small false = omega arith
+pub small : (b : Bool) → one b ≤ 1
+small b = grind arith
 
 opened_there : (count q : ℕ) → q < count → gone_at (replicate count opened) q ≡ false
 opened_there zero q l = absurd (omega (arith, l))
@@ -205,8 +204,8 @@ opened_tokens n count =
     tokens_to [] (queues_from 0 n count) (replicate count opened) []
     (rw ((opened_waiting count).0, (opened_waiting count).1)
     (record {
-      submission = λ q. omega (arith, ap one (opened_state is_known_deleted refl 0 n count q), small (not (gone_at (replicate count opened) q)));
-      completion = λ q. omega (arith, ap one (opened_state is_gone refl 0 n count q), small (there_at (replicate count opened) q));
+      submission = λ q. omega (arith, ap one (opened_waits_not is_known_deleted refl 0 n count q), small (not (gone_at (replicate count opened) q)));
+      completion = λ q. omega (arith, ap one (opened_waits_not is_gone refl 0 n count q), small (there_at (replicate count opened) q));
       there = λ q inside some. opened_there count q (omega (arith, inside, opened_length 0 n count));
     }))
 

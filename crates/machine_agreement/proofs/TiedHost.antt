@@ -29,7 +29,7 @@ use Rattle.machine_agreement.proofs.Tying.{Tie, tie_host, tie_ring, tie_less, ti
 use Rattle.machine_model.proofs.Refused.{unrefused}
 use Rattle.machine_model.proofs.Opening.{length-range}
 use Rattle.machine_model.proofs.Owned.{HoldsPart}
-use Rattle.machine_model.proofs.Halves.{live_serves}
+use Rattle.machine_model.proofs.Halves.{live_serves, reaped_in_use, live_in_use}
 use Rattle.machine_model.proofs.Lists.{get_other}
 use Rattle.machine_model.proofs.Asked.{still_live}
 use Rattle.machine_model.proofs.AwaitedKept.{ring_at, asked_as_heard, making_cq_as_heard, making_sq_as_heard}
@@ -45,18 +45,9 @@ pub record TakesEntries (s : State) (q : ℕ) : Type 0 where
   pub live : (x : HostQueue) → slice_get s.host.queues q ≡ Some x → is_live x.state ≡ true
   pub there : (x : HostQueue) → slice_get s.host.queues q ≡ Some x → gone_at s.device.queues q ≡ false
 
-live_is_made : (st : HostState) → is_live st ≡ true → is_making st ≡ false
-live_is_made Live h = refl
-live_is_made (Deleting noted) h = refl
-live_is_made Retired h = refl
-live_is_made Gone h = refl
-live_is_made MakingCq h = absurd (true≢false (sym h))
-live_is_made HalfMade h = absurd (true≢false (sym h))
-live_is_made MakingSq h = absurd (true≢false (sym h))
-
 pub tie_posts : (q : ℕ) (entry : SubEntry) (s : State) → TakesEntries s q → TieS s → TieS (posts q entry s)
 tie_posts q entry s takes h =
-    tie_ring s.entries s.host.queues (change q (λ at. record at { unfetched = at.unfetched ++ entry ∷ [] }) s.device.queues) s.device.jobs q (next_tail s.entries) (λ x e. live_is_made x.state (takes.live x e))
+    tie_ring s.entries s.host.queues (change q (λ at. record at { unfetched = at.unfetched ++ entry ∷ [] }) s.device.queues) s.device.jobs q (next_tail s.entries) (λ x e. live_in_use x.state (takes.live x e))
     (tie_posted s.entries s.host.queues s.device.queues s.device.jobs q entry takes.there (served (slice_get s.host.queues q) refl) h)
   where
     served : (o : Option HostQueue) → slice_get s.host.queues q ≡ o → out_at s.host.queues q ≡ false
@@ -65,20 +56,11 @@ tie_posts q entry s takes h =
 
 -- Reaping
 
-reaped_is_made : (st : HostState) → is_reaped st ≡ true → is_making st ≡ false
-reaped_is_made Live h = refl
-reaped_is_made (Deleting noted) h = refl
-reaped_is_made Retired h = refl
-reaped_is_made Gone h = refl
-reaped_is_made MakingCq h = absurd (true≢false (sym h))
-reaped_is_made HalfMade h = absurd (true≢false (sym h))
-reaped_is_made MakingSq h = absurd (true≢false (sym h))
-
 made : (s : State) (q : ℕ) → refusal_of s (events.Reap q) ≡ None → (x : HostQueue) → slice_get s.host.queues q ≡ Some x → is_making x.state ≡ false
 made s q none x e =
     let y = queue_found is_reaped s q (not-false _ (unrefused s (events.Reap q) none).0) in
     let same : y.0 ≡ x = cc (y.1, e) in
-    ap (λ (z : HostQueue). is_making z.state) (sym same) ∙ reaped_is_made y.0.state y.2
+    ap (λ (z : HostQueue). is_making z.state) (sym same) ∙ reaped_in_use y.0.state y.2
 
 tie_consumed : (q : ℕ) (s : State) → refusal_of s (events.Reap q) ≡ None → TieS s → TieS (a.consumed q s)
 tie_consumed q s none h =
@@ -103,13 +85,7 @@ no_answers s q t none d ed = empty d.answers (ap (λ (o : Option DeviceQueue). i
 -- Every event
 
 alone_is_out : (st : HostState) → has_cq_alone st ≡ true → in_service st ≡ false
-alone_is_out Live h = absurd (true≢false (sym h))
-alone_is_out (Deleting noted) h = absurd (true≢false (sym h))
-alone_is_out Retired h = refl
-alone_is_out Gone h = refl
-alone_is_out MakingCq h = refl
-alone_is_out HalfMade h = refl
-alone_is_out MakingSq h = refl
+alone_is_out st h = grind arith
 
 pub record Ground (s : State) : Type 0 where
   pub trusted : s.trusted ≡ true
@@ -146,7 +122,7 @@ tie_host_event s e reply ok c g h =
       notes = λ q cid st what e r k told heard w none'.
           let u = a.heard q e s in
           tie_host s.entries u.host.queues u.device.queues s.device.jobs k (λ queue. record queue { state = if is_success st then Deleting true else Live })
-          (λ x d ex ed p. noted x d (asked_as_heard s q cid st e r k g.holds heard w x ex) p (is_success st)) (λ x ex some o. serves (is_success st)) (tie_heard q e s none' h);
+          (λ x d ex ed p. noted x d (asked_as_heard s q cid st e r k g.holds heard w x ex) p (is_success st)) (λ x ex some o. (grind arith)) (tie_heard q e s none' h);
       frees = λ q cid st what e r k queue told heard w at alone good none'.
           let u = a.heard q e s in
           let is : (x : HostQueue) → slice_get u.host.queues k ≡ Some x → in_service x.state ≡ false = λ x ex. let same : queue ≡ x = cc (at, ex) in ap (λ (z : HostQueue). in_service z.state) (sym same) ∙ alone_is_out queue.state alone in
@@ -239,7 +215,3 @@ tie_host_event s e reply ok c g h =
     noted : (x : HostQueue) (d : DeviceQueue) → x.state ≡ Deleting false → PairOk s.entries x d → (b : Bool) → PairOk s.entries (record x { state = if b then Deleting true else Live }) d
     noted x d is p true = pair_moves s.entries x (record x { state = Deleting true }) d (λ o. p.sub (ap has_sq is)) (λ o. p.comp (ap has_cq is)) (λ o. absurd (true≢false o)) (λ o. absurd (true≢false (sym o))) p
     noted x d is p false = pair_moves s.entries x (record x { state = Live }) d (λ o. p.sub (ap has_sq is)) (λ o. p.comp (ap has_cq is)) (λ o. absurd (true≢false o)) (λ o. absurd (true≢false (sym o))) p
-
-    serves : (b : Bool) → in_service (if b then Deleting true else Live) ≡ true
-    serves true = refl
-    serves false = refl

@@ -32,7 +32,8 @@ use Rattle.machine_model.proofs.Emptied.{reset_tokens}
 use Rattle.machine_model.proofs.Resetting.{no_waiting, no_answering}
 use Rattle.machine_model.proofs.Moves.{host_moves, sends, sent_record, drafted_record, half_from, creates_cq, creates_sq, IsHeard, answer_heard}
 use Rattle.machine_model.proofs.Placed.{find_more, find_new, find_map}
-use Rattle.machine_agreement.proofs.Placing.{PlacedIn, waiting_same, answering_same, waiting_other, answering_other, ne_zero}
+use Rattle.machine_agreement.proofs.Placing.{PlacedIn, waiting_same, answering_same, waiting_other, answering_other}
+use Rattle.machine_agreement.proofs.Queues.{far_suc as ne_zero}
 use Rattle.machine_model.proofs.Sound.{unused}
 use Rattle.machine_agreement.proofs.Standing.{Stands, admin_zero, io_other, answering_rest}
 use Rattle.machine_agreement.proofs.Tied.{below}
@@ -151,17 +152,16 @@ heard_tokens zero cid st e r adm s hs is t heard w placed moved h =
 -- Every event
 
 alone_known : (st : HostState) → has_cq_alone st ≡ true → is_known_deleted st ≡ true
-alone_known Live h = absurd (true≢false (sym h))
-alone_known (Deleting noted) h = absurd (true≢false (sym h))
-alone_known Retired h = refl
-alone_known Gone h = absurd (true≢false (sym h))
-alone_known MakingCq h = absurd (true≢false (sym h))
-alone_known HalfMade h = refl
-alone_known MakingSq h = absurd (true≢false (sym h))
+alone_known st h = grind arith
 
 pub tokens_host_event : (s : State) (e : Event) (reply : Reply) → Accepts s e reply → IsController e ≡ false → s.trusted ≡ true → length s.host.queues ≤ 65536 → length s.device.queues ≡ length s.host.queues → HoldsPart (host_part s) → Stands s → Stands (a.after s e reply)
     → TokensS s → TokensS (a.after s e reply)
 tokens_host_event s e reply ok c t few long holds stands left h =
+    let rs : List Record = s.host.records in
+    let ds : List DeviceQueue = s.device.queues in
+    let un : List SubEntry = waiting s.device.queues in
+    let js : List Job = s.device.jobs in
+    let ans : List Answer = answering s.device.queues in
     host_moves (λ (e : Event) (reply : Reply) (u : State). Stands u → TokensS u) s e reply ok c
     (record {
       reserves = λ q request d none is left. tokens_fewer rs (rs ++ drafted_record d ∷ []) hs ds un un js js ans ans
@@ -239,23 +239,8 @@ tokens_host_event s e reply ok c t few long holds stands left h =
       resets = λ left. rw (no_waiting s.device.queues, no_answering s.device.queues) (reset_tokens (a.reset_records s.host.records) s.host.queues s.device.queues long);
     }) left
   where
-    rs : List Record
-    rs = s.host.records
-
     hs : List HostQueue
     hs = s.host.queues
-
-    ds : List DeviceQueue
-    ds = s.device.queues
-
-    un : List SubEntry
-    un = waiting s.device.queues
-
-    js : List Job
-    js = s.device.jobs
-
-    ans : List Answer
-    ans = answering s.device.queues
 
     posted : AdminKind → ℕ → List DeviceQueue
     posted adm id = change 0 (λ at. record at { unfetched = at.unfetched ++ admin_entry adm id ∷ [] }) s.device.queues
@@ -275,8 +260,7 @@ tokens_host_event s e reply ok c t few long holds stands left h =
         (sent_tokens adm id s s.host.queues none stands (turns_not adm s.host.queues quiet) h)
 
     both : (x y : Bool) → x ≡ true → y ≡ true → (x && y) ≡ true
-    both true y e f = f
-    both false y e f = absurd (true≢false (sym e))
+    both x y e f = grind arith
 
     -- a queue of the host is named by its number
     named : (k : ℕ) (x : HostQueue) (hs : List HostQueue) → slice_get hs k ≡ Some x → length hs ≤ 65536 → ((k % 65536 == k) ≡ true) × (k % 65536 ≡ k)

@@ -1,8 +1,8 @@
 -- Every event of the controller keeps the tokens of what is deleted and made.
-use Rattle.std.proofs.Common.{◌≡◌, ℕ, zero, suc, ◌+◌, ◌-◌, ◌%◌, ◌<◌, ◌≤◌, ◌==◌, Bool, true, false, not, ◌&&◌, Option, Some, None, List, [], ◌∷◌, ◌++◌, filter, find, length, map, drop, slice_get, is_some, is_none, if◌then◌else◌, refl, ap, sym, ◌∙◌, arith, subst, eqb-true, eq-eqb}
+use Rattle.std.proofs.Common.{◌≡◌, inl, inr, ℕ, zero, suc, ◌+◌, ◌-◌, ◌%◌, ◌<◌, ◌≤◌, ◌==◌, Bool, true, false, not, ◌&&◌, Option, Some, None, List, [], ◌∷◌, ◌++◌, filter, find, length, map, drop, slice_get, is_some, is_none, if◌then◌else◌, refl, ap, sym, ◌∙◌, arith, subst, eqb-true, eq-eqb}
 use Rattle.std.specs.Option.{option_map_or}
 use Rattle.std.specs.List.{AllByRecursion}
-use Rattle.std.proofs.lemmas.Bool.{true≢false, and_parts}
+use Rattle.std.proofs.lemmas.Bool.{true≢false, and_parts, cases_Bool}
 use Rattle.admin_commands.specs.Entries.{named_queue, named_command}
 use Rattle.admin_commands.specs.Verdicts.{is_absent}
 use Rattle.admin_commands.specs.declared.AdminKind.{AdminKind}
@@ -14,6 +14,7 @@ use Rattle.entry_codec.specs.declared.status.Status.{Status}
 use Rattle.entry_codec.specs.declared.submission.SubEntry.{SubEntry}
 use Rattle.io_commands.specs.Jobs.{is_success, io_fault, bytes_after_check}
 use Rattle.machine_model.specs.Work.{Work}
+use Rattle.machine_model.specs.declared.words.Work.TheVariants.{Management}
 use Rattle.machine_model.specs.State.{State, HostQueue, DeviceQueue, Device, Record, Job, Answer, is_at, without_record}
 use Rattle.machine_model.specs.declared.words.HostState.{HostState}
 use Rattle.machine_model.specs.Refusals.{is_asked, is_live, is_making_sq, deletes_sq_of, creates_sq_of, job_at, next_rung, refusal_of, is_job}
@@ -28,17 +29,15 @@ use Rattle.machine_agreement.proofs.Members.{only_found}
 use Rattle.machine_model.proofs.Awaited.{Awaited, awaited_at, awaits, was_awaited}
 use Rattle.machine_model.proofs.Placed.{find_sound, find_all, find_filter, total_gone}
 use Rattle.machine_agreement.proofs.DeviceMoves.{answer_of, unit_done, finished, cleared, clears, fetch_by, walk_by, complete_by}
-use Rattle.machine_agreement.proofs.Placing.{clears_io, answering_more, some_zero, some_still, queue_there, waiting_same, answering_same, waiting_other, answering_other, runs_there, taken_entry, ne_zero, verdict_there, final_admin}
-use Rattle.machine_model.proofs.Tokens.{Named, Fewer, named, total_below, total_none, total_map_all, kind_found, failing, succeeding, failed, succeeded}
+use Rattle.machine_agreement.proofs.Placing.{clears_io, answering_more, some_zero, some_still, queue_there, waiting_same, answering_same, waiting_other, answering_other, runs_there, taken_entry, verdict_there, final_admin}
+use Rattle.machine_agreement.proofs.Queues.{far_suc as ne_zero}
+use Rattle.machine_agreement.proofs.Cases.{option_is}
+use Rattle.machine_model.proofs.Tokens.{all_into, Named, Fewer, named, total_below, total_none, total_map_all, kind_found, failing, succeeding, failed, succeeded}
 use Rattle.machine_model.proofs.Moves.{asked_is}
 use Rattle.machine_model.proofs.Refused.{unrefused}
 use Rattle.machine_agreement.proofs.Tied.{below}
 use Rattle.machine_agreement.proofs.Tying.{length-change}
 use Rattle.machine_model.proofs.TokensKept.{TokensHeld, Fetched, fetched, tokens_fewer, tokens_device, tokens_plain, tokens_drop, tokens_completion, tokens_submission, device_same, device_other}
-
-and_no : (a b : Bool) → b ≡ false → (a && b) ≡ false
-and_no true b e = e
-and_no false b e = refl
 
 all_each : {A : Type 0} (P : A → Type 0) → ((x : A) → P x) → (xs : List A) → AllByRecursion P xs
 all_each P f [] = tt
@@ -49,23 +48,14 @@ all_each P f (x ∷ xs) = (f x, all_each P f xs)
 fewer_jobs : (rs : List Record) (un : List SubEntry) (js : List Job) (ans : List Answer) (f : Job → Job)
     → AllByRecursion (λ j. ((f j).q ≡ j.q) × ((f j).entry ≡ j.entry) × ((j.q ≡ 0) → succeeds (f j) ≡ succeeds j)) js → Fewer rs un js ans rs un (map f js) ans
 fewer_jobs rs un js ans f same = record {
-  unmade = λ test. omega (arith, total_map_all (failing test rs) f js (each test not js same));
+  unmade = λ test. omega (arith, total_map_all (failing test rs) f js (all_into _ _ (one_job test not) js same));
   answered = λ test. omega arith;
-  done = λ test. omega (arith, total_map_all (succeeding test rs) f js (each test (λ b. b) js same));
+  done = λ test. omega (arith, total_map_all (succeeding test rs) f js (all_into _ _ (one_job test (λ b. b)) js same));
 }
   where
-    one_job : (test : AdminKind → Bool) (g : Bool → Bool) (j : Job) → (f j).q ≡ j.q → (f j).entry ≡ j.entry → ((j.q ≡ 0) → succeeds (f j) ≡ succeeds j)
+    one_job : (test : AdminKind → Bool) (g : Bool → Bool) (j : Job) → ((f j).q ≡ j.q) × ((f j).entry ≡ j.entry) × ((j.q ≡ 0) → succeeds (f j) ≡ succeeds j)
         → one (((f j).q == 0) && is_kind test rs (f j).entry.cid && g (succeeds (f j))) ≡ one ((j.q == 0) && is_kind test rs j.entry.cid && g (succeeds j))
-    one_job test g j fq fe fs = rw (fq, fe) (go (j.q == 0) refl)
-      where
-        go : (b : Bool) → (j.q == 0) ≡ b → one (b && is_kind test rs j.entry.cid && g (succeeds (f j))) ≡ one (b && is_kind test rs j.entry.cid && g (succeeds j))
-        go true e = ap (λ (b : Bool). one (is_kind test rs j.entry.cid && g b)) (fs (eqb-true j.q 0 e))
-        go false e = refl
-
-    each : (test : AdminKind → Bool) (g : Bool → Bool) (xs : List Job) → AllByRecursion (λ j. ((f j).q ≡ j.q) × ((f j).entry ≡ j.entry) × ((j.q ≡ 0) → succeeds (f j) ≡ succeeds j)) xs
-        → AllByRecursion (λ j. one (((f j).q == 0) && is_kind test rs (f j).entry.cid && g (succeeds (f j))) ≡ one ((j.q == 0) && is_kind test rs j.entry.cid && g (succeeds j))) xs
-    each test g [] all = tt
-    each test g (j ∷ xs) all = (one_job test g j all.0.0 all.0.1 all.0.2, each test g xs all.1)
+    one_job test g j h = rw (h.0, h.1) (elim (cases_Bool (j.q == 0)) [ inl e ↦ rw (h.2 (eqb-true j.q 0 e)) | inr e ↦ rw e ])
 
 -- a job of another queue more, or less
 fewer_more : (rs : List Record) (un : List SubEntry) (js : List Job) (ans : List Answer) (j : Job) → (j.q == 0) ≡ false → Fewer rs un js ans rs un (js ++ j ∷ []) ans
@@ -85,21 +75,13 @@ fewer_less rs un js ans keep = record {
 -- an entry is answered at once, without success
 fewer_conflict : (rs : List Record) (e : SubEntry) (un : List SubEntry) (js : List Job) (ans : List Answer) (an : Answer) → an.cid ≡ e.cid → is_success an.status ≡ false → Fewer rs (e ∷ un) js ans rs un js (ans ++ an ∷ [])
 fewer_conflict rs e un js ans an same bad = record {
-  unmade = λ test. omega (arith, total-append (failed test rs) ans (an ∷ []), fails test);
+  unmade = λ test. let fails : failed test rs an ≤ one (is_kind test rs e.cid) = rw same (grind arith) in omega (arith, total-append (failed test rs) ans (an ∷ []), fails);
   answered = λ test. omega (arith, total-append (succeeded test rs) ans (an ∷ []), wins test);
   done = λ test. omega (arith, total-append (succeeded test rs) ans (an ∷ []), wins test);
 }
   where
-    small : (a b : Bool) → one (a && b) ≤ one a
-    small true true = omega arith
-    small true false = omega arith
-    small false b = omega arith
-
-    fails : (test : AdminKind → Bool) → failed test rs an ≤ one (is_kind test rs e.cid)
-    fails test = subst (λ (c : ℕ). one (is_kind test rs c && not (is_success an.status)) ≤ one (is_kind test rs e.cid)) (sym same) (small (is_kind test rs e.cid) (not (is_success an.status)))
-
     wins : (test : AdminKind → Bool) → succeeded test rs an ≡ 0
-    wins test = ap one (and_no (is_kind test rs an.cid) (is_success an.status) bad)
+    wins test = grind (arith, bad)
 
 -- What is known where a controller's event begins
 
@@ -113,53 +95,35 @@ pub record Knowing (rs : List Record) (hs : List HostQueue) (ds : List DeviceQue
 
 -- Fetching
 
+abbrev Same : (Job → Job) → Job → Type 0
+Same f j = ((f j).q ≡ j.q) × ((f j).entry ≡ j.entry) × ((j.q ≡ 0) → succeeds (f j) ≡ succeeds j)
+
+-- where a test passes, one that changes neither its queue nor its entry
+same_where : (f : Job → Job) (test : Job → Bool) (j : Job) → (test j ≡ true → Same f j) → Same (λ j. if test j then f j else j) j
+same_where f test j same = elim (cases_Bool (test j)) [ inl e ↦ rw e (same e) | inr e ↦ rw e (refl, refl, λ z. refl) ]
+
 marks_same : (s : State) (q cid : ℕ) (f : Job → Job) → ((j : Job) → (f j).q ≡ j.q) → ((j : Job) → (f j).entry ≡ j.entry) → ((j : Job) → succeeds (f j) ≡ false)
-    → a.walks s q cid ≡ true → total (job_is cid) s.device.jobs < 2
-    → AllByRecursion (λ j. ((if is_job q cid j then f j else j).q ≡ j.q) × ((if is_job q cid j then f j else j).entry ≡ j.entry) × ((j.q ≡ 0) → succeeds (if is_job q cid j then f j else j) ≡ succeeds j)) s.device.jobs
-marks_same s q cid f fq fe fs walks few = go (job_at s q cid) refl walks
+    → a.walks s q cid ≡ true → total (job_is cid) s.device.jobs < 2 → AllByRecursion (Same (λ j. if is_job q cid j then f j else j)) s.device.jobs
+marks_same s q cid f fq fe fs walks few = elim (cases_Bool (q == 0)) [
+  | inl z ↦
+      let (j, e, none) = walking in
+      all_into (λ x. is_job 0 cid x ≡ true → x ≡ j) _ (λ x only. mark x (λ is at. ap succeeds (only (rw (eqb-true q 0 z) at is)) ∙ none)) s.device.jobs
+      (only_found (is_job 0 cid) s.device.jobs j (subst (λ (n : ℕ). find (is_job n cid) s.device.jobs ≡ Some j) (eqb-true q 0 z) e) few)
+  | inr z ↦ all_each _ (λ x. mark x (λ is at. absurd (true≢false (sym (eq-eqb q 0 (sym (eqb-true x.q q (and_parts (x.q == q) (x.entry.cid == cid) is).0) ∙ at)) ∙ z)))) s.device.jobs
+]
   where
-    P : Job → Type 0
-    P j = ((if is_job q cid j then f j else j).q ≡ j.q) × ((if is_job q cid j then f j else j).entry ≡ j.entry) × ((j.q ≡ 0) → succeeds (if is_job q cid j then f j else j) ≡ succeeds j)
+    walking : (j : Job) × (job_at s q cid ≡ Some j) × (succeeds j ≡ false)
+    walking = elim (option_is (job_at s q cid)) [
+      | inl none ↦ absurd (true≢false (sym (rw none at walks)))
+      | inr (j, e) ↦ (j, e, elim (option_is j.verdict) [ inl none ↦ rw none | inr (st, some) ↦ absurd (true≢false (sym (rw (e, some) at walks))) ])
+    ]
 
-    walking : (j : Job) → is_none j.verdict ≡ true → succeeds j ≡ false
-    walking j none = at j.verdict none
-      where
-        at : (o : Option Status) → is_none o ≡ true → option_map_or is_success o false ≡ false
-        at None e = refl
-        at (Some st) e = absurd (true≢false (sym e))
+    mark : (j : Job) → (is_job q cid j ≡ true → (j.q ≡ 0) → succeeds j ≡ false) → Same (λ j. if is_job q cid j then f j else j) j
+    mark j quiet = same_where f (is_job q cid) j (λ e. (fq j, fe j, λ z. fs j ∙ sym (quiet e z)))
 
-    mark : (j : Job) → (is_job q cid j ≡ true → (j.q ≡ 0) → succeeds j ≡ false) → P j
-    mark j quiet = by (is_job q cid j) refl
-      where
-        by : (b : Bool) → is_job q cid j ≡ b → ((if b then f j else j).q ≡ j.q) × ((if b then f j else j).entry ≡ j.entry) × ((j.q ≡ 0) → succeeds (if b then f j else j) ≡ succeeds j)
-        by true e = (fq j, fe j, λ z. fs j ∙ sym (quiet e z))
-        by false e = (refl, refl, λ z. refl)
-
-    each : (xs : List Job) → AllByRecursion (λ x. is_job q cid x ≡ true → (x.q ≡ 0) → succeeds x ≡ false) xs → AllByRecursion P xs
-    each [] all = tt
-    each (x ∷ xs) all = (mark x all.0, each xs all.1)
-
-    only : (j : Job) → is_none j.verdict ≡ true → (xs : List Job) → AllByRecursion (λ x. is_job 0 cid x ≡ true → x ≡ j) xs → (q ≡ 0) → AllByRecursion (λ x. is_job q cid x ≡ true → (x.q ≡ 0) → succeeds x ≡ false) xs
-    only j none [] all z = tt
-    only j none (x ∷ xs) all z = ((λ is at. ap succeeds (all.0 (subst (λ (n : ℕ). is_job n cid x ≡ true) z is)) ∙ walking j none), only j none xs all.1 z)
-
-    go : (o : Option Job) → job_at s q cid ≡ o → option_map_or (λ j. is_none j.verdict) o false ≡ true → AllByRecursion P s.device.jobs
-    go None e h = absurd (true≢false (sym h))
-    go (Some j) e h = by (q == 0) refl
-      where
-        by : (b : Bool) → (q == 0) ≡ b → AllByRecursion P s.device.jobs
-        by true z =
-            let q0 : q ≡ 0 = eqb-true q 0 z in
-            each s.device.jobs (only j h s.device.jobs (only_found (is_job 0 cid) s.device.jobs j (subst (λ (n : ℕ). find (is_job n cid) s.device.jobs ≡ Some j) q0 e) few) q0)
-        by false z =
-            each s.device.jobs (all_each _ (λ x is at. absurd (true≢false (sym (eq-eqb q 0 (sym (eqb-true x.q q (and_parts (x.q == q) (x.entry.cid == cid) is).0) ∙ at)) ∙ z))) s.device.jobs)
-
-stops_same : (q : ℕ) → (q == 0) ≡ false → (js : List Job) → AllByRecursion (λ j. ((a.stopped q j).q ≡ j.q) × ((a.stopped q j).entry ≡ j.entry) × ((j.q ≡ 0) → succeeds (a.stopped q j) ≡ succeeds j)) js
-stops_same q other js = all_each _ (λ j. by j ((j.q == q) && is_none j.verdict) refl) js
-  where
-    by : (j : Job) (b : Bool) → ((j.q == q) && is_none j.verdict) ≡ b → let k = (if b then record j { verdict = Some ABORTED_SQ_DELETION } else j) in (k.q ≡ j.q) × (k.entry ≡ j.entry) × ((j.q ≡ 0) → succeeds k ≡ succeeds j)
-    by j true e = (refl, refl, λ z. absurd (true≢false (sym (eq-eqb q 0 (sym (eqb-true j.q q (and_parts (j.q == q) (is_none j.verdict) e).0) ∙ z)) ∙ other)))
-    by j false e = (refl, refl, λ z. refl)
+stops_same : (q : ℕ) → (q == 0) ≡ false → (js : List Job) → AllByRecursion (Same (a.stopped q)) js
+stops_same q other js = all_each _ (λ j. same_where (λ j. record j { verdict = Some ABORTED_SQ_DELETION }) (λ j. (j.q == q) && is_none j.verdict) j
+    (λ e. (refl, refl, λ z. absurd (true≢false (sym (eq-eqb q 0 (sym (eqb-true j.q q (and_parts (j.q == q) (is_none j.verdict) e).0) ∙ z)) ∙ other))))) js
 
 -- the tokens with an entry in hand
 abbrev InHand : List Record → List HostQueue → SubEntry → Device → Type 0
@@ -171,10 +135,14 @@ TokensP rs hs d = TokensHeld rs hs d.queues (waiting d.queues) d.jobs (answering
 tokens_managed : (rs : List Record) (hs : List HostQueue) (e : SubEntry) (s : State) → Knowing rs hs s.device.queues (e ∷ waiting s.device.queues) s.device.jobs (answering s.device.queues)
     → InHand rs hs e s.device → TokensP rs hs (a.managed e s).device
 tokens_managed rs hs e s g h =
+    let ds : List DeviceQueue = s.device.queues in
+    let un : List SubEntry = waiting s.device.queues in
+    let ans : List Answer = answering s.device.queues in
+    let names : Named rs e = named rs e g.placed.entries.0.0 g.placed.entries.0.1 g.placed.entries.0.2 in
     managed_by (λ (t : State). TokensP rs hs t.device) e s
     (record {
       refuses = λ st bad. tokens_plain rs hs ds e un js (js ++ a.new_job 0 e (Some st) 0 [] ∷ []) ans (is_success st) (fetched rs e un js ans (a.new_job 0 e (Some st) 0 []) st refl refl refl)
-          (λ q. and_no (is_kind (deletes_cq q) rs e.cid) (is_success st) bad) (λ q. and_no (is_kind (creates_sq q) rs e.cid) (is_success st) bad) h;
+          (λ q. grind (arith, bad)) (λ q. grind (arith, bad)) h;
       aborts = λ is8 w.
           let f : Job → Job = λ j. record j { verdict = Some ABORT_REQUESTED; waiting_abort = Some e.cid } in
           let js' = map (λ j. if is_job (named_queue e) (named_command e) j then f j else j) js in
@@ -198,20 +166,8 @@ tokens_managed rs hs e s g h =
           (tokens_submission rs hs ds e un js (js ++ a.new_job 0 e (Some SUCCESS) 0 [] ∷ []) ans g.long (taken js 0) names is1 (absent_state s (named_queue e) gone) h);
     })
   where
-    ds : List DeviceQueue
-    ds = s.device.queues
-
-    un : List SubEntry
-    un = waiting s.device.queues
-
     js : List Job
     js = s.device.jobs
-
-    ans : List Answer
-    ans = answering s.device.queues
-
-    names : Named rs e
-    names = named rs e g.placed.entries.0.0 g.placed.entries.0.1 g.placed.entries.0.2
 
     taken : (js : List Job) (dw0 : ℕ) → Fetched rs e (waiting s.device.queues) js (js ++ a.new_job 0 e (Some SUCCESS) dw0 [] ∷ []) (answering s.device.queues) true
     taken js dw0 = fetched rs e (waiting s.device.queues) js (answering s.device.queues) (a.new_job 0 e (Some SUCCESS) dw0 []) SUCCESS refl refl refl
@@ -282,6 +238,9 @@ tokens_fetch rs hs zero s g h =
       making = g.making;
     }
 tokens_fetch rs hs (suc k) s g h =
+    let base : TokensP rs hs (a.taken_off (suc k) s).device =
+    let f : DeviceQueue → DeviceQueue = λ at. record at { unfetched = drop 1 at.unfetched; rung = at.rung - 1 } in
+    rw (waiting_other f (suc k) s.device.queues (ne_zero k), answering_other f (suc k) s.device.queues (ne_zero k)) (taken_off_tokens rs hs (suc k) s.device h) in
     fetch_by (λ (t : State). TokensP rs hs t.device) s (suc k) h
     (λ e next c. answered_elsewhere rs hs (suc k) (answer_of (suc k) e.cid COMMAND_ID_CONFLICT 0 (a.taken_off (suc k) s)) (a.taken_off (suc k) s).device (ne_zero k) base)
     (λ e next c z. absurd (omega arith))
@@ -290,11 +249,6 @@ tokens_fetch rs hs (suc k) s g h =
     let t = (a.taken_off (suc k) s).device in
     let j = a.new_job (suc k) e fault 0 (bytes_after_check s.device.image e fault) in
     tokens_fewer rs rs hs t.queues (waiting t.queues) (waiting t.queues) t.jobs (t.jobs ++ j ∷ []) (answering t.queues) (answering t.queues) (fewer_more rs (waiting t.queues) t.jobs (answering t.queues) j (ne_zero k)) base)
-  where
-    base : TokensP rs hs (a.taken_off (suc k) s).device
-    base =
-        let f : DeviceQueue → DeviceQueue = λ at. record at { unfetched = drop 1 at.unfetched; rung = at.rung - 1 } in
-        rw (waiting_other f (suc k) s.device.queues (ne_zero k), answering_other f (suc k) s.device.queues (ne_zero k)) (taken_off_tokens rs hs (suc k) s.device h)
 
 -- Walking, a job of another queue
 
@@ -305,12 +259,8 @@ tokens_walk rs hs q cid s other h =
     let f : Job → Job = unit_done s j act in
     tokens_fewer rs rs hs s.device.queues (waiting s.device.queues) (waiting s.device.queues) s.device.jobs (map (λ j. if is_job q cid j then f j else j) s.device.jobs) (answering s.device.queues) (answering s.device.queues)
     (fewer_jobs rs (waiting s.device.queues) s.device.jobs (answering s.device.queues) (λ j. if is_job q cid j then f j else j)
-    (all_each _ (λ k. by f (λ j. refl) (λ j. refl) k (is_job q cid k) refl) s.device.jobs)) h)
-  where
-    by : (f : Job → Job) → ((j : Job) → (f j).q ≡ j.q) → ((j : Job) → (f j).entry ≡ j.entry) → (k : Job) (b : Bool) → is_job q cid k ≡ b
-        → ((if b then f k else k).q ≡ k.q) × ((if b then f k else k).entry ≡ k.entry) × ((k.q ≡ 0) → succeeds (if b then f k else k) ≡ succeeds k)
-    by f fq fe k true e = (fq k, fe k, λ z. absurd (true≢false (sym (eq-eqb q 0 (sym (eqb-true k.q q (and_parts (k.q == q) (k.entry.cid == cid) e).0) ∙ z)) ∙ other)))
-    by f fq fe k false e = (refl, refl, λ z. refl)
+    (all_each _ (λ k. same_where f (is_job q cid) k
+    (λ e. (refl, refl, λ z. absurd (true≢false (sym (eq-eqb q 0 (sym (eqb-true k.q q (and_parts (k.q == q) (k.entry.cid == cid) e).0) ∙ z)) ∙ other))))) s.device.jobs)) h)
 
 -- Completing
 
@@ -323,25 +273,16 @@ pub record Completed (rs : List Record) (un : List SubEntry) (js js' : List Job)
 completed : (rs : List Record) (un : List SubEntry) (js : List Job) (ans : List Answer) (cid : ℕ) (j : Job) (an : Answer) (st : Status) → find (is_job 0 cid) js ≡ Some j → j.verdict ≡ Some st → an.cid ≡ cid → an.status ≡ st
     → Completed rs un js (filter (λ k. not (is_job 0 cid k)) js) ans (ans ++ an ∷ []) cid (is_success st)
 completed rs un js ans cid j an st found jv ac as' = record {
-  unmade = λ test. omega (arith, total_gone (failing test rs) (is_job 0 cid) js j found, total-append (failed test rs) ans (an ∷ []), ap one (job_fails test), ap one (answer_fails test));
-  answered = λ test. omega (arith, total-append (succeeded test rs) ans (an ∷ []), ap one (answer_wins test));
-  done = λ test. omega (arith, total_gone (succeeding test rs) (is_job 0 cid) js j found, total-append (succeeded test rs) ans (an ∷ []), ap one (job_wins test), ap one (answer_wins test));
+  unmade = λ test. omega (arith, total_gone (failing test rs) (is_job 0 cid) js j found, total-append (failed test rs) ans (an ∷ []), job test not, answer test not);
+  answered = λ test. omega (arith, total-append (succeeded test rs) ans (an ∷ []), answer test (λ b. b));
+  done = λ test. omega (arith, total_gone (succeeding test rs) (is_job 0 cid) js j found, total-append (succeeded test rs) ans (an ∷ []), job test (λ b. b), answer test (λ b. b));
 }
   where
-    ids : (j.q ≡ 0) × (j.entry.cid ≡ cid)
-    ids = let p = and_parts (j.q == 0) (j.entry.cid == cid) (find_sound (is_job 0 cid) js j found) in (eqb-true j.q 0 p.0, eqb-true j.entry.cid cid p.1)
+    job : (test : AdminKind → Bool) (g : Bool → Bool) → one ((j.q == 0) && is_kind test rs j.entry.cid && g (succeeds j)) ≡ one (is_kind test rs cid && g (is_success st))
+    job test g = let p = and_parts (j.q == 0) (j.entry.cid == cid) (find_sound (is_job 0 cid) js j found) in rw (p.0, eqb-true j.entry.cid cid p.1, jv)
 
-    job_fails : (test : AdminKind → Bool) → ((j.q == 0) && is_kind test rs j.entry.cid && not (succeeds j)) ≡ (is_kind test rs cid && not (is_success st))
-    job_fails test = rw (eq-eqb j.q 0 ids.0, ids.1, jv) refl
-
-    job_wins : (test : AdminKind → Bool) → ((j.q == 0) && is_kind test rs j.entry.cid && succeeds j) ≡ (is_kind test rs cid && is_success st)
-    job_wins test = rw (eq-eqb j.q 0 ids.0, ids.1, jv) refl
-
-    answer_fails : (test : AdminKind → Bool) → (is_kind test rs an.cid && not (is_success an.status)) ≡ (is_kind test rs cid && not (is_success st))
-    answer_fails test = rw (ac, as') refl
-
-    answer_wins : (test : AdminKind → Bool) → (is_kind test rs an.cid && is_success an.status) ≡ (is_kind test rs cid && is_success st)
-    answer_wins test = rw (ac, as') refl
+    answer : (test : AdminKind → Bool) (g : Bool → Bool) → one (is_kind test rs an.cid && g (is_success an.status)) ≡ one (is_kind test rs cid && g (is_success st))
+    answer test g = rw (ac, as')
 
 -- one that doesn't delete a submission queue with success
 tokens_answered : (rs : List Record) (hs : List HostQueue) (ds : List DeviceQueue) (un : List SubEntry) (js js' : List Job) (ans ans' : List Answer) (c : ℕ) (ok : Bool) → Completed rs un js js' ans ans' c ok
@@ -357,27 +298,19 @@ tokens_answered rs hs ds un js js' ans ans' c ok f quiet h = record {
 none_stands : (rs : List Record) (test : AdminKind → Bool) → ((c : ℕ) → is_kind test rs c ≡ false) → (un : List SubEntry) (js : List Job) (ans : List Answer)
     → (unmade test rs un js ans ≡ 0) × (answered_well test rs ans ≡ 0) × (done_well test rs js ans ≡ 0)
 none_stands rs test none un js ans = (
-  omega (arith, total_none (λ (e : SubEntry). one (is_kind test rs e.cid)) (λ e. ap one (none e.cid)) un, total_none (failing test rs) (λ j. job (λ j. not (succeeds j)) j) js, total_none (failed test rs) (λ an. ap (λ (b : Bool). one (b && not (is_success an.status))) (none an.cid)) ans),
-  total_none (succeeded test rs) (λ an. ap (λ (b : Bool). one (b && is_success an.status)) (none an.cid)) ans,
-  omega (arith, total_none (succeeding test rs) (λ j. job succeeds j) js, total_none (succeeded test rs) (λ an. ap (λ (b : Bool). one (b && is_success an.status)) (none an.cid)) ans),
+  omega (arith, total_none (λ (e : SubEntry). one (is_kind test rs e.cid)) (λ e. ap one (none e.cid)) un, total_none (failing test rs) (λ j. job not j) js, total_none (failed test rs) (λ an. rw (none an.cid)) ans),
+  total_none (succeeded test rs) (λ an. rw (none an.cid)) ans,
+  omega (arith, total_none (succeeding test rs) (λ j. job (λ b. b) j) js, total_none (succeeded test rs) (λ an. rw (none an.cid)) ans),
 )
   where
-    job : (g : Job → Bool) (j : Job) → one ((j.q == 0) && is_kind test rs j.entry.cid && g j) ≡ 0
-    job g j = ap one (by (j.q == 0))
-      where
-        by : (b : Bool) → (b && is_kind test rs j.entry.cid && g j) ≡ false
-        by true = ap (λ (b : Bool). b && g j) (none j.entry.cid)
-        by false = refl
+    job : (g : Bool → Bool) (j : Job) → one ((j.q == 0) && is_kind test rs j.entry.cid && g (succeeds j)) ≡ 0
+    job g j = rw (none j.entry.cid) (grind arith)
 
 pub small : (k n : ℕ) → k < n → n ≤ 65536 → k % 65536 ≡ k
 small k n l m = omega arith
 
 pub awaited_below : (test : HostState → Bool) (hs : List HostQueue) (k : ℕ) → awaited_at test hs k ≡ true → k < length hs
-awaited_below test hs k h = below hs k (go (slice_get hs k) h)
-  where
-    go : (o : Option HostQueue) → option_map_or (λ x. test x.state) o false ≡ true → is_some o ≡ true
-    go None h = absurd (true≢false (sym h))
-    go (Some x) h = refl
+awaited_below test hs k h = below hs k (elim (option_is (slice_get hs k)) [ inl none ↦ absurd (true≢false (sym (rw none at h))) | inr (x, some) ↦ rw some ])
 
 -- an outstanding command that a queue waits for names that queue
 its_own : (of : ℕ → Work → Bool) (test : HostState → Bool) (rs : List Record) (hs : List HostQueue) (a c : ℕ) (r : Record) → find (is_at 0 c) rs ≡ Some r → of a r.work ≡ true → total (here 0 c) rs < 2 → length hs ≤ 65536 → Awaited of test rs hs
@@ -387,87 +320,66 @@ its_own of test rs hs a c r e is once few h =
     let same = small a (length hs) (awaited_below test hs a was) few in
     (subst (λ (z : ℕ). awaited_at test hs z ≡ true) (sym same) was, same)
 
-pub no_creation : (rs : List Record) (hs : List HostQueue) (q : ℕ) → ((a c : ℕ) → total (here a c) rs < 2) → length hs ≤ 65536 → Awaited creates_sq_of is_making_sq rs hs → awaited_at is_making_sq hs q ≡ false → (c : ℕ) → is_kind (creates_sq q) rs c ≡ false
-no_creation rs hs q once few h quiet c = go (is_kind (creates_sq q) rs c) refl
-  where
-    of : (adm : AdminKind) → Knows rs c adm → creates_sq q adm ≡ true → ⊥
-    of (Abort a cid) k t = true≢false (sym t)
-    of (DeleteSq a) k t = true≢false (sym t)
-    of (DeleteCq a) k t = true≢false (sym t)
-    of (CreateCq a n base) k t = true≢false (sym t)
-    of (CreateSq a n base) k t =
-        let own = its_own creates_sq_of is_making_sq rs hs a c k.0 k.1 (ap (creates_sq_of a) k.2 ∙ eq-eqb a a refl) (once 0 c) few h in
-        true≢false (sym own.0 ∙ ap (λ (z : ℕ). awaited_at is_making_sq hs z) (eqb-true (a % 65536) q t) ∙ quiet)
-
-    go : (b : Bool) → is_kind (creates_sq q) rs c ≡ b → is_kind (creates_sq q) rs c ≡ false
-    go false e = e
-    go true e = let k = kind_found (creates_sq q) rs c e in absurd (of k.0 k.1 k.2)
-
-pub no_deletion : (rs : List Record) (hs : List HostQueue) (q : ℕ) → ((a c : ℕ) → total (here a c) rs < 2) → length hs ≤ 65536 → Awaited deletes_sq_of is_asked rs hs → awaited_at is_asked hs q ≡ false → (c : ℕ) → is_kind (deletes_sq q) rs c ≡ false
-no_deletion rs hs q once few h quiet c = go (is_kind (deletes_sq q) rs c) refl
-  where
-    of : (adm : AdminKind) → Knows rs c adm → deletes_sq q adm ≡ true → ⊥
-    of (Abort a cid) k t = true≢false (sym t)
-    of (DeleteSq a) k t =
-        let own = its_own deletes_sq_of is_asked rs hs a c k.0 k.1 (ap (deletes_sq_of a) k.2 ∙ eq-eqb a a refl) (once 0 c) few h in
-        true≢false (sym own.0 ∙ ap (λ (z : ℕ). awaited_at is_asked hs z) (eqb-true (a % 65536) q t) ∙ quiet)
-    of (DeleteCq a) k t = true≢false (sym t)
-    of (CreateCq a n base) k t = true≢false (sym t)
-    of (CreateSq a n base) k t = true≢false (sym t)
-
-    go : (b : Bool) → is_kind (deletes_sq q) rs c ≡ b → is_kind (deletes_sq q) rs c ≡ false
-    go false e = e
-    go true e = let k = kind_found (deletes_sq q) rs c e in absurd (of k.0 k.1 k.2)
-
--- the deletion of a submission queue, and its queue, which waits for it
-record Deletes (rs : List Record) (hs : List HostQueue) (q c : ℕ) : Type 0 where
+-- the command that deletes a queue's submission side, or makes it, names a queue that waits for it
+record Asks (of : ℕ → Work → Bool) (test : HostState → Bool) (rs : List Record) (hs : List HostQueue) (q c : ℕ) : Type 0 where
   pub r : Record
   pub found : find (is_at 0 c) rs ≡ Some r
-  pub asks : deletes_sq_of q r.work ≡ true
-  pub waits : awaited_at is_asked hs q ≡ true
+  pub asks : of q r.work ≡ true
+  pub waits : awaited_at test hs q ≡ true
+
+asks_by : (of : ℕ → Work → Bool) (test : HostState → Bool) (kind : ℕ → AdminKind → Bool) → ((q : ℕ) (adm : AdminKind) → kind q adm ≡ true → (a : ℕ) × (of a (Management adm) ≡ true) × ((a % 65536 == q) ≡ true))
+    → (rs : List Record) (hs : List HostQueue) (q c : ℕ) → ((a c : ℕ) → total (here a c) rs < 2) → length hs ≤ 65536 → Awaited of test rs hs → is_kind (kind q) rs c ≡ true → Asks of test rs hs q c
+asks_by of test kind names rs hs q c once few h e =
+    let (adm, (r, found, work), t) = kind_found (kind q) rs c e in
+    let (a, is, at) = names q adm t in
+    let own = its_own of test rs hs a c r found (ap (of a) work ∙ is) (once 0 c) few h in
+    let same : a ≡ q = sym own.1 ∙ eqb-true (a % 65536) q at in
+    record { r = r; found = found; asks = subst (λ (z : ℕ). of z r.work ≡ true) same (ap (of a) work ∙ is); waits = subst (λ (z : ℕ). awaited_at test hs z ≡ true) (eqb-true (a % 65536) q at) own.0 }
+
+quiet_by : (of : ℕ → Work → Bool) (test : HostState → Bool) (kind : AdminKind → Bool) (rs : List Record) (hs : List HostQueue) (q : ℕ) → ((c : ℕ) → is_kind kind rs c ≡ true → Asks of test rs hs q c) → awaited_at test hs q ≡ false → (c : ℕ) → is_kind kind rs c ≡ false
+quiet_by of test kind rs hs q asks quiet c = elim (cases_Bool (is_kind kind rs c)) [ inl e ↦ absurd (true≢false (sym (asks c e).waits ∙ quiet)) | inr e ↦ e ]
+
+names_creation : (q : ℕ) (adm : AdminKind) → creates_sq q adm ≡ true → (a : ℕ) × (creates_sq_of a (Management adm) ≡ true) × ((a % 65536 == q) ≡ true)
+names_creation q (CreateSq a n base) t = (a, eq-eqb a a refl, t)
+names_creation q adm t = absurd (true≢false (sym t))
+
+names_deletion : (q : ℕ) (adm : AdminKind) → deletes_sq q adm ≡ true → (a : ℕ) × (deletes_sq_of a (Management adm) ≡ true) × ((a % 65536 == q) ≡ true)
+names_deletion q (DeleteSq a) t = (a, eq-eqb a a refl, t)
+names_deletion q adm t = absurd (true≢false (sym t))
+
+abbrev Deletes : List Record → List HostQueue → ℕ → ℕ → Type 0
+Deletes rs hs q c = Asks deletes_sq_of is_asked rs hs q c
 
 deletes : (rs : List Record) (hs : List HostQueue) (q c : ℕ) → ((a c : ℕ) → total (here a c) rs < 2) → length hs ≤ 65536 → Awaited deletes_sq_of is_asked rs hs → is_kind (deletes_sq q) rs c ≡ true → Deletes rs hs q c
-deletes rs hs q c once few h e = let k = kind_found (deletes_sq q) rs c e in of k.0 k.1 k.2
-  where
-    of : (adm : AdminKind) → Knows rs c adm → deletes_sq q adm ≡ true → Deletes rs hs q c
-    of (Abort a cid) k t = absurd (true≢false (sym t))
-    of (DeleteSq a) k t =
-        let own = its_own deletes_sq_of is_asked rs hs a c k.0 k.1 (ap (deletes_sq_of a) k.2 ∙ eq-eqb a a refl) (once 0 c) few h in
-        let is : a ≡ q = sym own.1 ∙ eqb-true (a % 65536) q t in
-        record { r = k.0; found = k.1; asks = ap (deletes_sq_of q) k.2 ∙ eq-eqb a q is; waits = subst (λ (z : ℕ). awaited_at is_asked hs z ≡ true) (eqb-true (a % 65536) q t) own.0 }
-    of (DeleteCq a) k t = absurd (true≢false (sym t))
-    of (CreateCq a n base) k t = absurd (true≢false (sym t))
-    of (CreateSq a n base) k t = absurd (true≢false (sym t))
+deletes = asks_by deletes_sq_of is_asked deletes_sq names_deletion
+
+pub no_creation : (rs : List Record) (hs : List HostQueue) (q : ℕ) → ((a c : ℕ) → total (here a c) rs < 2) → length hs ≤ 65536 → Awaited creates_sq_of is_making_sq rs hs → awaited_at is_making_sq hs q ≡ false → (c : ℕ) → is_kind (creates_sq q) rs c ≡ false
+no_creation rs hs q once few h = quiet_by creates_sq_of is_making_sq (creates_sq q) rs hs q (λ c. asks_by creates_sq_of is_making_sq creates_sq names_creation rs hs q c once few h)
+
+pub no_deletion : (rs : List Record) (hs : List HostQueue) (q : ℕ) → ((a c : ℕ) → total (here a c) rs < 2) → length hs ≤ 65536 → Awaited deletes_sq_of is_asked rs hs → awaited_at is_asked hs q ≡ false → (c : ℕ) → is_kind (deletes_sq q) rs c ≡ false
+no_deletion rs hs q once few h = quiet_by deletes_sq_of is_asked (deletes_sq q) rs hs q (λ c. deletes rs hs q c once few h)
 
 -- there is one
 one_deletion : (rs : List Record) (hs : List HostQueue) (q c c' : ℕ) → ((a c : ℕ) → total (here a c) rs < 2) → length hs ≤ 65536 → Awaited deletes_sq_of is_asked rs hs → is_kind (deletes_sq q) rs c ≡ true → is_kind (deletes_sq q) rs c' ≡ true → (c' == c) ≡ true
-one_deletion rs hs q c c' once few h e e' = go (c' == c) refl
-  where
-    d : Deletes rs hs q c
-    d = deletes rs hs q c once few h e
-
-    d' : Deletes rs hs q c'
-    d' = deletes rs hs q c' once few h e'
-
-    bit : (b : Bool) → one b ≤ 1
-    bit true = omega arith
-    bit false = omega arith
-
-    go : (b : Bool) → (c' == c) ≡ b → (c' == c) ≡ true
-    go true is = is
-    go false far =
-        let keeps : (x : Record) → is_at 0 c' x ≡ true → not (is_at 0 c x) ≡ true = λ x t. let is = eqb-true x.cid c' (and_parts (x.q == 0) (x.cid == c') t).1 in
-        ap not (and_no (x.q == 0) (x.cid == c) (ap (λ (z : ℕ). z == c) is ∙ far)) in
-        let other : find (is_at 0 c') (without_record 0 c rs) ≡ Some d'.r = find_filter (is_at 0 c') (λ x. not (is_at 0 c x)) keeps rs d'.r d'.found in
-        absurd (omega (
-          arith,
-          total_without (awaits deletes_sq_of q) 0 c rs d.r d.found (once 0 c),
-          total_gone (awaits deletes_sq_of q) (is_at 0 c') (without_record 0 c rs) d'.r other,
-          ap one d.asks,
-          ap one d'.asks,
-          h q,
-          bit (awaited_at is_asked hs q),
-        ))
+one_deletion rs hs q c c' once few h e e' = elim (cases_Bool (c' == c)) [
+  | inl is ↦ is
+  | inr far ↦
+      let d = deletes rs hs q c once few h e in
+      let d' = deletes rs hs q c' once few h e' in
+      let keeps : (x : Record) → is_at 0 c' x ≡ true → not (is_at 0 c x) ≡ true = λ x t. let is = eqb-true x.cid c' (and_parts (x.q == 0) (x.cid == c') t).1 in
+      let other : (x.cid == c) ≡ false = ap (λ (z : ℕ). z == c) is ∙ far in grind (arith, other) in
+      let other : find (is_at 0 c') (without_record 0 c rs) ≡ Some d'.r = find_filter (is_at 0 c') (λ x. not (is_at 0 c x)) keeps rs d'.r d'.found in
+      let bit : one (awaited_at is_asked hs q) ≤ 1 = grind arith in
+      absurd (omega (
+        arith,
+        total_without (awaits deletes_sq_of q) 0 c rs d.r d.found (once 0 c),
+        total_gone (awaits deletes_sq_of q) (is_at 0 c') (without_record 0 c rs) d'.r other,
+        ap one d.asks,
+        ap one d'.asks,
+        h q,
+        bit,
+      ))
+]
 
 -- a submission queue goes: its deletion is the only one, and it is not being made
 tokens_cleared : (rs : List Record) (hs : List HostQueue) (ds : List DeviceQueue) (un : List SubEntry) (js : List Job) (ans : List Answer) (cid : ℕ) (j : Job) (an : Answer) (st : Status)
@@ -493,27 +405,16 @@ tokens_cleared rs hs ds un js ans cid j an st found jv ac as' ok op names g h = 
 
     -- what the host's state of such a queue says
     not_other : (q : ℕ) (test : HostState → Bool) → ((st : HostState) → is_asked st ≡ true → test st ≡ false) → awaited_at is_asked hs q ≡ true → awaited_at test hs q ≡ false
-    not_other q test differs waits = go (slice_get hs q) waits
-      where
-        go : (o : Option HostQueue) → option_map_or (λ h. is_asked h.state) o false ≡ true → option_map_or (λ h. test h.state) o false ≡ false
-        go None e = refl
-        go (Some x) e = differs x.state e
+    not_other q test differs waits = elim (option_is (slice_get hs q)) [ inl none ↦ rw none | inr (x, some) ↦ rw some (differs x.state (rw some at waits)) ]
 
-    less_one : (c' : ℕ) (q : ℕ) (at : (named_queue j.entry == q) ≡ true) → one (is_kind (deletes_sq q) rs c') ≤ one (c' == cid)
-    less_one c' q at = go (is_kind (deletes_sq q) rs c') refl
-      where
-        go : (b : Bool) → is_kind (deletes_sq q) rs c' ≡ b → one (is_kind (deletes_sq q) rs c') ≤ one (c' == cid)
-        go false e = omega (arith, ap one e)
-        go true e = omega (arith, ap one e, ap one (one_deletion rs hs q cid c' g.once g.few g.asked (kind q true at) e))
+    less_one : (c' q : ℕ) → (named_queue j.entry == q) ≡ true → one (is_kind (deletes_sq q) rs c') ≤ one (c' == cid)
+    less_one c' q at = elim (cases_Bool (is_kind (deletes_sq q) rs c')) [
+      | inl e ↦ omega (arith, ap one e, ap one (one_deletion rs hs q cid c' g.once g.few g.asked (kind q true at) e))
+      | inr e ↦ omega (arith, ap one e)
+    ]
 
     below_both : (a b : Bool) (n : ℕ) → one a ≤ n → one (a && b) ≤ n
-    below_both true true n l = l
-    below_both true false n l = omega arith
-    below_both false b n l = l
-
-    below_job : (a b c : Bool) (d : Bool) → one b ≤ one d → one (a && b && c) ≤ one (a && d)
-    below_job true b c d l = below_both b c (one d) l
-    below_job false b c d l = omega arith
+    below_both a b n l = grind (arith, l)
 
     answers_less : (q : ℕ) → (named_queue j.entry == q) ≡ true → answered_well (deletes_sq q) rs ans ≤ total (answer_is cid) ans
     answers_less q at = total_below (succeeded (deletes_sq q) rs) (answer_is cid) (λ x. below_both (is_kind (deletes_sq q) rs x.cid) (is_success x.status) (one (x.cid == cid)) (less_one x.cid q at)) ans
@@ -522,10 +423,10 @@ tokens_cleared rs hs ds un js ans cid j an st found jv ac as' ok op names g h = 
     counts q at = omega (
       arith,
       total_below (λ (e : SubEntry). one (is_kind (deletes_sq q) rs e.cid)) (entry_is cid) (λ e. less_one e.cid q at) un,
-      total_below (failing (deletes_sq q) rs) (job_is cid) (λ k. below_job (k.q == 0) (is_kind (deletes_sq q) rs k.entry.cid) (not (succeeds k)) (k.entry.cid == cid) (less_one k.entry.cid q at)) (filter (λ k. not (is_job 0 cid k)) js),
+      total_below (failing (deletes_sq q) rs) (job_is cid) (λ k. (let l = less_one k.entry.cid q at in grind (arith, l))) (filter (λ k. not (is_job 0 cid k)) js),
       total_below (failed (deletes_sq q) rs) (answer_is cid) (λ x. below_both (is_kind (deletes_sq q) rs x.cid) (not (is_success x.status)) (one (x.cid == cid)) (less_one x.cid q at)) ans,
       total-append (failed (deletes_sq q) rs) ans (an ∷ []),
-      ap one (and_no (is_kind (deletes_sq q) rs an.cid) (not (is_success an.status)) (ap (λ (x : Status). not (is_success x)) as' ∙ ap not ok)),
+      let none : failed (deletes_sq q) rs an ≡ 0 = rw (as', ok) (grind arith) in none,
     )
 
     -- the job is the only place of its command
@@ -550,14 +451,10 @@ tokens_cleared rs hs ds un js ans cid j an st found jv ac as' ok op names g h = 
           f.answered (deletes_sq q),
           answers_less q at,
           alone,
-          below_both (is_kind (deletes_sq q) rs cid) (is_success st) 1 (bit (is_kind (deletes_sq q) rs cid)),
+          let bit : one (is_kind (deletes_sq q) rs cid && is_success st) ≤ 1 = grind arith in bit,
           ap one (not_other q is_known_deleted (λ st e. ap is_known_deleted (asked_is st e)) (own q at).waits),
         )
       where
-        bit : (b : Bool) → one b ≤ 1
-        bit true = omega arith
-        bit false = omega arith
-
         gone_cleared : (k : ℕ) (ds : List DeviceQueue) → gone_at (change k cleared ds) k ≡ true
         gone_cleared k [] = refl
         gone_cleared zero (d ∷ ds) = refl
@@ -586,7 +483,7 @@ tokens_complete rs hs zero cid s none g h =
     complete_by (λ (t : State). TokensP rs hs t.device) s 0 cid h
     (λ j e c.
     let v = verdict j e in
-    let n0 = clears_io rs s j v.0 (known j e) (its_queue j e) v.1 c in
+    let n0 = clears_io rs s j v.0 (find_all (JobKnown rs) (is_job 0 cid) s.device.jobs j e g.placed.jobs) (its_queue j e) v.1 c in
     let parts = and_parts ((j.q == 0) && (j.entry.opcode == DELETE_IO_SQ)) (is_success (a.final_status s j)) c in
     let an = answer_of 0 cid (a.final_status s j) j.dw0 (a.on_device_queue (named_queue j.entry) cleared (finished 0 cid j s)) in
     let ds = s.device.queues in
@@ -612,9 +509,6 @@ tokens_complete rs hs zero cid s none g h =
     verdict : (j : Job) → job_at s 0 cid ≡ Some j → (st : Status) × (j.verdict ≡ Some st)
     verdict j e = verdict_there j (rw e at (unrefused s (events.Complete 0 cid) none).1.0)
 
-    known : (j : Job) → job_at s 0 cid ≡ Some j → JobKnown rs j
-    known j e = find_all (JobKnown rs) (is_job 0 cid) s.device.jobs j e g.placed.jobs
-
     names : (j : Job) → job_at s 0 cid ≡ Some j → Named rs j.entry
     names j e =
         let k = find_all (JobKnown rs) (is_job 0 cid) s.device.jobs j e g.placed.jobs (eqb-true j.q 0 (and_parts (j.q == 0) (j.entry.cid == cid) (find_sound (is_job 0 cid) s.device.jobs j e)).0) in
@@ -623,16 +517,9 @@ tokens_complete rs hs zero cid s none g h =
     quiet : (j : Job) (e : job_at s 0 cid ≡ Some j) (st : Status) → j.verdict ≡ Some st → clears s j ≡ false → (q : ℕ) → (is_kind (deletes_sq q) rs cid && is_success st) ≡ false
     quiet j e st v c q =
         let p = and_parts (j.q == 0) (j.entry.cid == cid) (find_sound (is_job 0 cid) s.device.jobs j e) in
-        let jq : j.q ≡ 0 = eqb-true j.q 0 p.0 in
-        let k = find_all (JobKnown rs) (is_job 0 cid) s.device.jobs j e g.placed.jobs jq in
-        let c' : ((j.entry.opcode == DELETE_IO_SQ) && is_success st) ≡ false = rw (final_admin s j st jq v, p.0) at c in
-        ap (λ (b : Bool). b && is_success st) (ap (λ (x : ℕ). is_kind (deletes_sq q) rs x) (sym (eqb-true j.entry.cid cid p.1)) ∙ (named rs j.entry k.0 k.1 k.2).deletes_sq q)
-        ∙ apart (j.entry.opcode == DELETE_IO_SQ) (named_queue j.entry == q) (is_success st) c'
-      where
-        apart : (x y z : Bool) → (x && z) ≡ false → ((x && y) && z) ≡ false
-        apart true true z e = e
-        apart true false z e = refl
-        apart false y z e = refl
+        let k : is_kind (deletes_sq q) rs cid ≡ ((j.entry.opcode == DELETE_IO_SQ) && (named_queue j.entry == q)) = rw (eqb-true j.entry.cid cid p.1) at (names j e).deletes_sq q in
+        let c' : ((j.entry.opcode == DELETE_IO_SQ) && is_success st) ≡ false = rw (final_admin s j st (eqb-true j.q 0 p.0) v, p.0) at c in
+        rw k (grind (arith, c'))
 tokens_complete rs hs (suc k) cid s none g h =
     complete_by (λ (t : State). TokensP rs hs t.device) s (suc k) cid h
     (λ j e c. absurd (true≢false (sym (and_parts (j.q == 0) (j.entry.opcode == DELETE_IO_SQ) (and_parts ((j.q == 0) && (j.entry.opcode == DELETE_IO_SQ)) (is_success (a.final_status s j)) c).0).0 ∙ other j e)))

@@ -1,6 +1,6 @@
 -- What the host's events do to the tokens of what is deleted and made.
-use Rattle.std.proofs.Common.{◌≡◌, ℕ, zero, suc, ◌+◌, ◌≤◌, ◌==◌, Bool, true, false, not, ◌&&◌, Some, List, [], ◌∷◌, ◌++◌, length, slice_get, refl, ap, ◌∙◌, arith, subst, eqb-true}
-use Rattle.std.proofs.lemmas.Bool.{eqb-false}
+use Rattle.std.proofs.Common.{◌≡◌, ℕ, zero, suc, ◌+◌, ◌≤◌, ◌==◌, Bool, true, false, not, ◌&&◌, Some, List, [], ◌∷◌, ◌++◌, length, slice_get, refl, ap, ◌∙◌, arith, subst, eqb-true, inl, inr}
+use Rattle.std.proofs.lemmas.Bool.{eqb-false, cases_Bool}
 use Rattle.admin_commands.specs.Entries.{admin_entry}
 use Rattle.admin_commands.specs.declared.AdminKind.{AdminKind}
 use Rattle.entry_codec.specs.declared.submission.SubEntry.{SubEntry}
@@ -80,14 +80,13 @@ tokens_sends rs rs' hs hs' ds un un' js ans adm f t h = record {
 turn_at : (test : HostState → Bool) (kind : ℕ → AdminKind → Bool) (adm : AdminKind) (hs : List HostQueue) (k : ℕ) (f : HostQueue → HostQueue) (x : HostQueue) → slice_get hs k ≡ Some x
     → ((q : ℕ) → (k == q) ≡ false → kind q adm ≡ false) → one (test (f x).state) + one (kind k adm) ≤ one (test x.state)
     → (q : ℕ) → one (awaited_at test (change k f hs) q) + one (kind q adm) ≤ one (awaited_at test hs q)
-turn_at test kind adm hs k f x e far own q = go (k == q) refl
+turn_at test kind adm hs k f x e far own q = elim (cases_Bool (k == q)) [
+  | inl is ↦ subst (λ (z : ℕ). one (awaited_at test (change k f hs) z) + one (kind z adm) ≤ one (awaited_at test hs z)) (eqb-true k q is) here'
+  | inr is ↦ omega (arith, ap one (at_other test f k hs q (eqb-false k q is)), ap one (far q is))
+]
   where
     here' : one (awaited_at test (change k f hs) k) + one (kind k adm) ≤ one (awaited_at test hs k)
     here' = omega (arith, own, ap one (at_changed test f k hs x e), ap one (at_found test hs k x e))
-
-    go : (b : Bool) → (k == q) ≡ b → one (awaited_at test (change k f hs) q) + one (kind q adm) ≤ one (awaited_at test hs q)
-    go true is = subst (λ (z : ℕ). one (awaited_at test (change k f hs) z) + one (kind z adm) ≤ one (awaited_at test hs z)) (eqb-true k q is) here'
-    go false is = omega (arith, ap one (at_other test f k hs q (eqb-false k q is)), ap one (far q is))
 
 pub turns : (adm : AdminKind) (hs : List HostQueue) (k : ℕ) (f : HostQueue → HostQueue) (x : HostQueue) → slice_get hs k ≡ Some x
     → ((q : ℕ) → (k == q) ≡ false → (creates_sq q adm ≡ false) × (creates_cq q adm ≡ false) × (deletes_sq q adm ≡ false))

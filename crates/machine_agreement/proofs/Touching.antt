@@ -1,10 +1,11 @@
 -- What a fetch and a completion touch.
-use Rattle.std.proofs.Common.{◌≡◌, ℕ, zero, suc, ◌-◌, ◌*◌, ◌/◌, ◌<◌, ◌==◌, Bool, true, false, not, ◌&&◌, ◌||◌, Option, Some, None, List, [], ◌∷◌, ◌++◌, length, flat_map, slice_get, slice_index, is_some, is_none, if◌then◌else◌, refl, ap, sym, ◌∙◌, arith, subst, nat_lt, option_and_then}
+use Rattle.std.proofs.Common.{◌≡◌, ℕ, zero, suc, ◌-◌, ◌*◌, ◌/◌, ◌<◌, ◌==◌, Bool, true, false, not, ◌&&◌, ◌||◌, Option, Some, None, List, [], ◌∷◌, ◌++◌, length, flat_map, slice_get, slice_index, is_some, is_none, if◌then◌else◌, refl, ap, sym, ◌∙◌, arith, subst, nat_lt, option_and_then, inl, inr}
+use Rattle.machine_agreement.proofs.Cases.{option_is}
 use Rattle.std.specs.Option.{option_map_or}
 use Rattle.std.specs.List.{list_all}
 use Rattle.std.proofs.lemmas.Bool.{true≢false, not-false, eq-eqb, or_right}
 use Rattle.page_ledger.specs.Owners.{is_among}
-use Rattle.machine_model.specs.Linked.{absent}
+use Rattle.machine_model.specs.Linked.{absent, IsLinked}
 use Rattle.machine_model.specs.Touch.{allowed, pages_at_queue, pages_at_queues, pages_of_queue, own_pages, stays_allowed, stays_own}
 use Rattle.admin_commands.specs.declared.SqState.TheVariants.{Live as Running, Absent, Stopping}
 use Rattle.admin_commands.specs.declared.SqState.{SqState}
@@ -23,9 +24,9 @@ use Rattle.queue_pair.specs.Memory.{half_pages}
 use Rattle.page_memory.specs.declared.page.Half.TheVariants.{Submission, Completion}
 use Rattle.queue_pair.specs.Slots.{next_slot, moved}
 use Rattle.machine_model.specs.Positions.{IsInRing}
-use Rattle.machine_agreement.proofs.Positions.{next_below}
-use Rattle.machine_model.specs.Linked.{IsLinked}
+use Rattle.queue_pair.proofs.Order.{next_below}
 use Rattle.machine_model.proofs.Steps.{permitted}
+use Rattle.queue_pair.proofs.Round.{moved_below}
 
 abbrev pub is_walk : Event → Bool
 is_walk (events.Walk q cid) = true
@@ -33,11 +34,10 @@ is_walk e = false
 
 -- Numbers of lists
 
-or_left : (x y : Bool) → x ≡ true → (x || y) ≡ true
-or_left true y e = refl
-or_left false y e = absurd (true≢false (sym e))
+pub or_left : (x y : Bool) → x ≡ true → (x || y) ≡ true
+or_left x y e = grind arith
 
-holds_left : (p : ℕ) (xs ys : List ℕ) → is_among xs p ≡ true → is_among (xs ++ ys) p ≡ true
+pub holds_left : (p : ℕ) (xs ys : List ℕ) → is_among xs p ≡ true → is_among (xs ++ ys) p ≡ true
 holds_left p [] ys h = absurd (true≢false (sym h))
 holds_left p (x ∷ xs) ys h = go (x == p) h (holds_left p xs ys)
   where
@@ -45,11 +45,11 @@ holds_left p (x ∷ xs) ys h = go (x == p) h (holds_left p xs ys)
     go true h ih = refl
     go false h ih = ih h
 
-holds_right : (p : ℕ) (xs ys : List ℕ) → is_among ys p ≡ true → is_among (xs ++ ys) p ≡ true
+pub holds_right : (p : ℕ) (xs ys : List ℕ) → is_among ys p ≡ true → is_among (xs ++ ys) p ≡ true
 holds_right p [] ys h = h
 holds_right p (x ∷ xs) ys h = or_right (x == p) (is_among (xs ++ ys) p) (holds_right p xs ys h)
 
-holds_index : (xs : List ℕ) (k : ℕ) → k < length xs → is_among xs (slice_index xs k) ≡ true
+pub holds_index : (xs : List ℕ) (k : ℕ) → k < length xs → is_among xs (slice_index xs k) ≡ true
 holds_index [] k l = absurd (omega arith)
 holds_index (x ∷ xs) zero l = or_left (x == x) (is_among xs x) (eq-eqb x x refl)
 holds_index (x ∷ xs) (suc k) l = or_right (x == slice_index xs k) (is_among xs (slice_index xs k)) (holds_index xs k (omega arith))
@@ -67,15 +67,11 @@ at_queues p (suc k) (x ∷ queues) (y ∷ ats) queue at e e' h =
     holds_right p (pages_at_queue x y) (pages_at_queues queues ats) (at_queues p k queues ats queue at e e' h)
 
 -- a slot of a ring lies on a page of a whole half
-entry_inside : (n k : ℕ) → k < n → k * 64 / 4096 < half_pages n Submission
+pub entry_inside : (n k : ℕ) → k < n → k * 64 / 4096 < half_pages n Submission
 entry_inside n k l = omega arith
 
 pub answer_inside : (n k : ℕ) → k < n → k * 16 / 4096 < half_pages n Completion
 answer_inside n k l = omega arith
-
-pub moved_below : (n slot many : ℕ) → slot < n → moved n slot many < n
-moved_below n slot zero h = h
-moved_below n slot (suc many) h = moved_below n (next_slot n slot) many (next_below n slot h)
 
 fetch_slot_below : (s : State) (q : ℕ) → IsLinked s → fetch_slot s q < s.entries
 fetch_slot_below s q linked = go (host_queue s q) (device_queue s q) (linked.inside q)
@@ -100,11 +96,7 @@ abbrev pub StaysIn : State → ℕ → ℕ → Type 0
 StaysIn s q p = (is_among (allowed s) p ≡ true) × (is_among (pages_of_queue s q) p ≡ true)
 
 in_device : (s : State) (q : ℕ) → absent s q ≡ false → (at : DeviceQueue) × (device_queue s q ≡ Some at) × (is_absent at.state ≡ false)
-in_device s q there = go (device_queue s q) refl there
-  where
-    go : (o : Option DeviceQueue) → device_queue s q ≡ o → option_map_or (λ at. is_absent at.state) o true ≡ false → (at : DeviceQueue) × (device_queue s q ≡ Some at) × (is_absent at.state ≡ false)
-    go None e h = absurd (true≢false h)
-    go (Some at) e h = (at, e, h)
+in_device s q there = elim (option_is (device_queue s q)) [ inl e ↦ let h = rw e at there in absurd (true≢false h) | inr (at, e) ↦ let h = rw e at there in (at, e, h) ]
 
 of_half : (s : State) (q p : ℕ) (queue : HostQueue) (at : DeviceQueue) → host_queue s q ≡ Some queue → device_queue s q ≡ Some at
     → is_among (pages_at_queue queue at) p ≡ true → is_among (queue.sq_pages ++ queue.cq_pages) p ≡ true → StaysIn s q p
@@ -152,19 +144,13 @@ post_stays_in s q linked there = go (host_queue s q) refl
 pub rung_there : (s : State) (q : ℕ) → is_none (next_rung s q) ≡ false → absent s q ≡ false
 rung_there s q h = go (device_queue s q) h
   where
-    in_state : (at : DeviceQueue) (st : SqState) → is_none (if is_running st && nat_lt 0 at.rung then slice_get at.unfetched 0 else None) ≡ false → is_absent st ≡ false
-    in_state at Absent h = absurd (true≢false h)
-    in_state at Running h = refl
-    in_state at Stopping h = refl
-
     go : (o : Option DeviceQueue) → is_none (option_and_then (λ queue. if is_running queue.state && nat_lt 0 queue.rung then slice_get queue.unfetched 0 else None) o) ≡ false
         → option_map_or (λ at. is_absent at.state) o true ≡ false
     go None h = absurd (true≢false h)
-    go (Some at) h = in_state at at.state h
+    go (Some at) h = grind arith
 
 first_other : {A : Type 0} (c : Bool) (x y : A) (rest : List (Bool × A)) → first_passing ((c, x) ∷ rest) ≡ Some y → (x ≡ y → ⊥) → c ≡ false
-first_other true x y rest h far = absurd (far cc)
-first_other false x y rest h far = refl
+first_other c x y rest h far = grind arith
 
 abbrev after_idle : State → ℕ → List (Bool × Refusal)
 after_idle s q =

@@ -1,8 +1,8 @@
 -- Runs in which nothing was forged.
-use Rattle.std.proofs.Common.{◌≡◌, ℕ, suc, ◌+◌, ◌≤◌, ◌==◌, Bool, true, false, ◌&&◌, Option, Some, None, List, [], ◌∷◌, ◌++◌, map, filter, replicate, if◌then◌else◌, refl, ap, sym, ◌∙◌, arith, subst, not}
+use Rattle.std.proofs.Common.{◌≡◌, ℕ, suc, ◌+◌, ◌≤◌, ◌==◌, Bool, true, false, ◌&&◌, Option, Some, None, List, [], ◌∷◌, ◌++◌, map, filter, replicate, if◌then◌else◌, refl, ap, sym, ◌∙◌, arith, subst, not, inl, inr}
 use Rattle.std.specs.Option.{option_map_or}
 use Rattle.std.specs.Prelude.{nat_le}
-use Rattle.std.proofs.lemmas.Bool.{true≢false, not-false}
+use Rattle.std.proofs.lemmas.Bool.{true≢false, not-false, cases_Bool}
 use Rattle.entry_codec.specs.declared.submission.SubEntry.{SubEntry}
 use Rattle.page_memory.specs.Pages.{with_page_bytes}
 use Rattle.machine_model.specs.State.{State, HostQueue, Job, Answer, outstanding_on}
@@ -37,11 +37,7 @@ forged_untrusted s q slot bytes ok =
 -- Admin commands stand in one place
 
 holds_on : (s : State) (e : Event) (reply : Reply) → Accepts s e reply → HoldsPart (host_part s) → HoldsPart (host_part (a.after s e reply))
-holds_on s e reply ok h = go (IsController e) refl
-  where
-    go : (b : Bool) → IsController e ≡ b → HoldsPart (host_part (a.after s e reply))
-    go true c = subst HoldsPart (sym (part_controller s e reply c)) h
-    go false c = host_event s e reply ok c h
+holds_on s e reply ok h = elim (cases_Bool (IsController e)) [ inl c ↦ subst HoldsPart (sym (part_controller s e reply c)) h | inr c ↦ host_event s e reply ok c h ]
 
 pub both_on : (s : State) (e : Event) (reply : Reply) → Accepts s e reply → s.trusted ≡ true → StandsSound s → StandsSound (a.after s e reply)
 both_on s e reply ok t h = (holds_on s e reply ok h.0, stands_event s e reply ok t h)

@@ -71,8 +71,7 @@ tie_host n hs ds js k f pair served h = record {
 }
   where
     still : (x : HostQueue) → slice_get hs k ≡ Some x → 0 < total (on_queue k) js → (b : Bool) → in_service x.state ≡ b → not (in_service x.state) ≡ false → not (in_service (f x).state) ≡ false
-    still x e some true is out = ap not (served x e some is)
-    still x e some false is out = absurd (true≢false (ap not (sym is) ∙ out))
+    still x e some b is out = grind arith
 
 -- one of the controller's
 pub tie_device : (n : ℕ) (hs : List HostQueue) (ds : List DeviceQueue) (js : List Job) (k : ℕ) (f : DeviceQueue → DeviceQueue)

@@ -1,7 +1,7 @@
 -- No step but a walk writes a page of a submitted command.
-use Rattle.std.proofs.Common.{◌≡◌, ℕ, ◌*◌, ◌/◌, ◌<◌, Bool, true, false, not, ◌&&◌, ◌||◌, Option, Some, None, List, [], ◌∷◌, ◌++◌, length, slice_get, nat_le, nat_lt, ◌==◌, option_and_then, if◌then◌else◌, refl, ap, sym, ◌∙◌, arith, subst}
+use Rattle.std.proofs.Common.{inl, inr, ◌≡◌, ℕ, ◌*◌, ◌/◌, ◌<◌, Bool, true, false, not, ◌&&◌, ◌||◌, Option, Some, None, List, [], ◌∷◌, ◌++◌, length, slice_get, nat_le, nat_lt, ◌==◌, option_and_then, if◌then◌else◌, refl, ap, sym, ◌∙◌, arith, subst}
 use Rattle.std.specs.Option.{option_map_or}
-use Rattle.std.proofs.lemmas.Bool.{true≢false, not-false, eqb-false, and_parts}
+use Rattle.std.proofs.lemmas.Bool.{true≢false, not-false, eqb-false, and_parts, cases_Bool}
 use Rattle.page_ledger.specs.Owners.{is_among}
 use Rattle.admin_commands.specs.Entries.{admin_entry, named_queue}
 use Rattle.admin_commands.specs.Verdicts.{is_live as is_running}
@@ -29,15 +29,17 @@ use Rattle.machine_model.specs.After as a
 use Rattle.queue_pair.specs.Members.{change}
 use Rattle.machine_model.specs.Events as events
 use Rattle.machine_model.specs.Events.{Event, Reply}
-use Rattle.machine_agreement.proofs.Touching.{is_walk, answer_inside, moved_below}
+use Rattle.machine_agreement.proofs.Touching.{is_walk, answer_inside, entry_inside}
+use Rattle.queue_pair.proofs.Round.{moved_below}
 use Rattle.machine_model.proofs.Managed.{managed_by}
 use Rattle.machine_model.proofs.Counting.{times-append}
 use Rattle.machine_model.specs.Weights.{one, total}
 use Rattle.machine_agreement.proofs.Members.{In, in_found}
+use Rattle.machine_agreement.proofs.Cases.{option_is}
 use Rattle.machine_model.proofs.Steps.{Accepts}
 use Rattle.machine_model.proofs.Owned.{in_queue, in_record}
 use Rattle.machine_model.specs.Agreeing.{QueueFits as PairOk, on_queue}
-use Rattle.machine_agreement.proofs.Grounds.{Grounds, pair_at, ring_in}
+use Rattle.machine_agreement.proofs.Grounds.{Grounds, pair_at, ring_in, zero_lives}
 use Rattle.machine_agreement.proofs.Elsewhere.{sent_page, bytes_elsewhere, without_elsewhere, with_elsewhere, not_free, not_queues, not_others, among_counts, index_counts}
 use Rattle.machine_model.proofs.Moves.{host_moves, posts, posted_is, sends, sent_record, half_from, creates_cq, creates_sq, grants_cq, grants_sq}
 use Rattle.machine_model.proofs.Refused.{unrefused}
@@ -57,9 +59,6 @@ pub record Kept (s : State) (p : ℕ) : Type 0 where
 
 -- Writing a slot
 
-entry_inside : (n k : ℕ) → k < n → k * 64 / 4096 < half_pages n Submission
-entry_inside n k l = omega arith
-
 -- what is known of the queue whose slot is written: its half is whole, the page is none of it, and the position is in the ring
 abbrev pub PostsElsewhere : State → ℕ → ℕ → Type 0
 PostsElsewhere s q p = (queue : HostQueue) → host_queue s q ≡ Some queue → (times p queue.sq_pages ≡ 0) × (length queue.sq_pages ≡ half_pages s.entries Submission) × (queue.ring.tail < s.entries)
@@ -68,25 +67,18 @@ abbrev AnswersElsewhere : State → ℕ → ℕ → Type 0
 AnswersElsewhere s q p = (queue : HostQueue) → host_queue s q ≡ Some queue → (times p queue.cq_pages ≡ 0) × (length queue.cq_pages ≡ half_pages s.entries Completion) × (queue.ring.head < s.entries)
 
 pub posted_elsewhere : (q : ℕ) (entry : SubEntry) (s : State) (p : ℕ) → PostsElsewhere s q p → Same (a.posted q entry s).memory s p
-posted_elsewhere q entry s p known = go (host_queue s q) known
-  where
-    go : (o : Option HostQueue) → ((queue : HostQueue) → o ≡ Some queue → (times p queue.sq_pages ≡ 0) × (length queue.sq_pages ≡ half_pages s.entries Submission) × (queue.ring.tail < s.entries))
-        → Same (option_map_or (λ queue. a.on_memory (λ m. with_page_bytes m (slot_page queue.sq_pages 64 queue.ring.tail) (slot_offset 64 queue.ring.tail) (submission_bytes entry)) s) o s).memory s p
-    go None known = refl
-    go (Some queue) known =
-        let k = known queue refl in
-        bytes_elsewhere s.memory (slot_page queue.sq_pages 64 queue.ring.tail) p (slot_offset 64 queue.ring.tail) (submission_bytes entry)
-        (index_counts queue.sq_pages (queue.ring.tail * 64 / 4096) p (subst (λ (n : ℕ). queue.ring.tail * 64 / 4096 < n) (sym k.1) (entry_inside s.entries queue.ring.tail k.2)) k.0)
+posted_elsewhere q entry s p known = elim (option_is (host_queue s q)) [
+  | inl none ↦ rw none refl
+  | inr (queue, e) ↦ let k = known queue e in
+      rw e (bytes_elsewhere s.memory (slot_page queue.sq_pages 64 queue.ring.tail) p (slot_offset 64 queue.ring.tail) (submission_bytes entry)
+      (index_counts queue.sq_pages (queue.ring.tail * 64 / 4096) p (rw k.1 (entry_inside s.entries queue.ring.tail k.2)) k.0))
+]
 
 pub posts_elsewhere : (q : ℕ) (entry : SubEntry) (s : State) (p : ℕ) → PostsElsewhere s q p → Same (posts q entry s).memory s p
 posts_elsewhere q entry s p known = ap (λ (t : State). page_at t.memory p) (posted_is q entry s) ∙ posted_elsewhere q entry s p known
 
 post_below : (s : State) (q : ℕ) (queue : HostQueue) → host_queue s q ≡ Some queue → queue.ring.head < s.entries → post_slot s q < s.entries
-post_below s q queue e l = subst (λ (o : Option HostQueue). option_map_or (λ queue. option_map_or (λ at. moved s.entries queue.ring.head (length at.answers)) (device_queue s q) 0) o 0 < s.entries) (sym e) (go (device_queue s q))
-  where
-    go : (o : Option DeviceQueue) → option_map_or (λ at. moved s.entries queue.ring.head (length at.answers)) o 0 < s.entries
-    go None = omega (arith, l)
-    go (Some at) = moved_below s.entries queue.ring.head (length at.answers) l
+post_below s q queue e l = rw e (elim (option_is (device_queue s q)) [ inl none ↦ rw none (omega (arith, l)) | inr (at, d) ↦ rw d (moved_below s.entries queue.ring.head (length at.answers) l) ])
 
 answered_elsewhere : (q cid : ℕ) (st : Status) (dw0 : ℕ) (s : State) (p : ℕ) → AnswersElsewhere s q p → Same (a.answered q cid st dw0 s).memory s p
 answered_elsewhere q cid st dw0 s p known = go (host_queue s q) refl
@@ -110,9 +102,6 @@ posts_live s g q p live some queue e =
     let pair = pair_at s g q queue e in
     (omega (arith, some.queues q queue e), pair.2.sub (live_has_sq queue.state (live queue e)), (ring_in s g q queue e).tail)
 
-zero_is_live : (s : State) → Grounds s → (queue : HostQueue) → host_queue s 0 ≡ Some queue → is_live queue.state ≡ true
-zero_is_live s g queue e = sym (ap (λ (o : Option HostQueue). option_map_or (λ h. is_live h.state) o true) e) ∙ g.zero_live
-
 answers_there : (s : State) → Grounds s → (q p : ℕ) → ((queue : HostQueue) → host_queue s q ≡ Some queue → has_cq queue.state ≡ true) → Kept s p → AnswersElsewhere s q p
 answers_there s g q p there some queue e =
     let pair = pair_at s g q queue e in
@@ -124,20 +113,14 @@ served_there st h = reaped_has_cq st (service_is_reaped st h)
 
 -- an entry that is fetched is one of a queue in service
 fetched_there : (s : State) → Grounds s → (q : ℕ) (e : SubEntry) → next_rung s q ≡ Some e → (queue : HostQueue) → host_queue s q ≡ Some queue → has_cq queue.state ≡ true
-fetched_there s g q e rung queue at = go (in_service queue.state) refl
-  where
-    pair : (d : DeviceQueue) × (slice_get s.device.queues q ≡ Some d) × PairOk s.entries queue d
-    pair = pair_at s g q queue at
-
-    nothing : (b : Bool) → (if b then slice_get pair.0.unfetched 0 else None) ≡ Some e → pair.0.unfetched ≡ [] → ⊥
-    nothing true is none = let no : ◌≡◌ {A = Option SubEntry} None (Some e) = sym (ap (λ (xs : List SubEntry). slice_get xs 0) none) ∙ is in absurd cc
-    nothing false is none = absurd cc
-
-    go : (b : Bool) → in_service queue.state ≡ b → has_cq queue.state ≡ true
-    go true served = served_there queue.state served
-    go false out =
-        absurd (nothing (is_running pair.0.state && nat_lt 0 pair.0.rung)
-        (sym (ap (λ (o : Option DeviceQueue). option_and_then (λ at. if is_running at.state && nat_lt 0 at.rung then slice_get at.unfetched 0 else None) o) pair.1) ∙ rung) (pair.2.unfetched out))
+fetched_there s g q e rung queue at = elim (cases_Bool (in_service queue.state)) [
+  | inl served ↦ served_there queue.state served
+  | inr out ↦ let (d, there, fits) = pair_at s g q queue at in
+      absurd (elim (cases_Bool (is_running d.state && nat_lt 0 d.rung)) [
+        | inl runs ↦ let none : None ≡ Some e = rw (there, runs, fits.unfetched out) at rung in cc
+        | inr stops ↦ let none : None ≡ Some e = rw (there, stops) at rung in cc
+      ])
+]
 
 -- so is the queue of a job
 completed_there : (s : State) → Grounds s → (q cid : ℕ) (j : Job) → job_at s q cid ≡ Some j → (queue : HostQueue) → host_queue s q ≡ Some queue → has_cq queue.state ≡ true
@@ -168,12 +151,7 @@ same-page m s p e = ap (λ (x : Pages). page_at x p) e
 
 -- free pages are others
 free_elsewhere : (s : State) (pages : List ℕ) (p : ℕ) → ((p : ℕ) → times p pages ≡ (if is_among pages p && is_among s.host.free p then 1 else 0)) → Kept s p → is_among pages p ≡ false
-free_elsewhere s pages p are some = among_counts p pages (are p ∙ go (is_among pages p) (is_among s.host.free p) (among_counts p s.host.free some.free))
-  where
-    go : (b c : Bool) → c ≡ false → one (b && c) ≡ 0
-    go true true e = absurd (true≢false e)
-    go true false e = refl
-    go false c e = refl
+free_elsewhere s pages p are some = among_counts p pages (are p ∙ rw (among_counts p s.host.free some.free) (grind arith))
 
 -- the pages of a drafted or collected record
 others_elsewhere : (s : State) (q cid p : ℕ) (r : Record) → record_at s.host q cid ≡ Some r → (is_drafted r.phase || is_collected r.phase) ≡ true → Kept s p → is_among (pages_of r) p ≡ false
@@ -225,9 +203,9 @@ untouched_kept s e reply ok w g p some away =
       unmakes_sq = λ q cid st what e r k n base queue t heard w at bad away. refl;
       collects = λ q cid r f at held is away. without_elsewhere (pages_of r) s.memory p (away q cid r refl at);
       releases = λ f r its away. ended f.q f.cid r (f.data_pages ++ f.chain_pages) its.found its.away its.pages;
-      aborts = λ q cid id none new away. sent (Abort q cid) id s (posts_live s g 0 p (zero_is_live s g) some);
-      asks = λ q id queue none new live away. sent (DeleteSq q) id s (posts_live s g 0 p (zero_is_live s g) some);
-      drops = λ q id none new away. sent (DeleteCq q) id s (posts_live s g 0 p (zero_is_live s g) some);
+      aborts = λ q cid id none new away. sent (Abort q cid) id s (posts_live s g 0 p (zero_lives s g) some);
+      asks = λ q id queue none new live away. sent (DeleteSq q) id s (posts_live s g 0 p (zero_lives s g) some);
+      drops = λ q id none new away. sent (DeleteCq q) id s (posts_live s g 0 p (zero_lives s g) some);
       creates_cqs = λ q id first queue none new granted away.
           sent (creates_cq q first s) id (grants_cq q first s) (posts_beside q (a.making_cq (half_from Completion first s)) granted.other)
           ∙ granted_elsewhere (half_from Completion first s) (run_times s.host.free (half_pages s.entries Completion) first granted.run);
@@ -261,7 +239,7 @@ untouched_kept s e reply ok w g p some away =
     -- a half that another queue gets leaves queue 0 as it is, and is made of free pages
     posts_beside : (q : ℕ) (f : HostQueue → HostQueue) → (q == 0) ≡ false → (queue : HostQueue) → slice_get (change q f s.host.queues) 0 ≡ Some queue
         → (times p queue.sq_pages ≡ 0) × (length queue.sq_pages ≡ half_pages s.entries Submission) × (queue.ring.tail < s.entries)
-    posts_beside q f other queue at = posts_live s g 0 p (zero_is_live s g) some queue (sym (get_other q f s.host.queues 0 (eqb-false q 0 other)) ∙ at)
+    posts_beside q f other queue at = posts_live s g 0 p (zero_lives s g) some queue (sym (get_other q f s.host.queues 0 (eqb-false q 0 other)) ∙ at)
 
     granted_elsewhere : (pages : List ℕ) → ((p : ℕ) → times p pages ≡ (if is_among pages p && is_among s.host.free p then 1 else 0)) → Same (with_pages (zeroed_pages pages) s.memory) s p
     granted_elsewhere pages are = with_elsewhere (zeroed_pages pages) s.memory p (ap (λ (ps : List ℕ). is_among ps p) (zeroed_numbers pages) ∙ free_elsewhere s pages p are some)
@@ -275,10 +253,7 @@ kept_sent s g p some = record {
 }
   where
     away_not : (ph : Phase) → (is_drafted ph || is_collected ph) ≡ true → is_submitted ph ≡ false
-    away_not Drafted e = refl
-    away_not Submitted e = absurd (true≢false (sym e))
-    away_not Held e = refl
-    away_not Collected e = refl
+    away_not ph e = grind arith
 
 collects_no_sent : (s : State) (e : Event) (reply : Reply) → Accepts s e reply → (q cid : ℕ) (r : Record) → e ≡ events.Collect q cid → record_at s.host q cid ≡ Some r → is_submitted r.phase ≡ false
 collects_no_sent s e reply ok q cid r is at =

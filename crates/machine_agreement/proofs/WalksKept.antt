@@ -1,7 +1,7 @@
 -- Every event keeps walks within their lists, and all that stands while nothing is forged.
-use Rattle.std.proofs.Common.{◌≡◌, ℕ, zero, suc, ◌+◌, ◌<◌, ◌≤◌, ◌==◌, Bool, true, false, not, ◌&&◌, Some, None, List, [], ◌∷◌, length, map, slice_get, is_some, is_none, if◌then◌else◌, refl, ap, sym, ◌∙◌, arith, subst, replicate}
+use Rattle.std.proofs.Common.{◌≡◌, ℕ, zero, suc, ◌+◌, ◌<◌, ◌≤◌, ◌==◌, Bool, true, false, not, ◌&&◌, Some, None, List, [], ◌∷◌, length, map, slice_get, is_some, is_none, if◌then◌else◌, refl, ap, sym, ◌∙◌, arith, subst, replicate, inl, inr}
 use Rattle.std.specs.List.{AllByRecursion}
-use Rattle.std.proofs.lemmas.Bool.{true≢false}
+use Rattle.std.proofs.lemmas.Bool.{true≢false, cases_Bool}
 use Rattle.std.proofs.lemmas.List.{length-replicate}
 use Rattle.page_ledger.specs.Owners.{is_among}
 use Rattle.controller_walk.specs.Units.{Act, Course, Closes, Does, units, verdict, course_of_list}
@@ -34,7 +34,7 @@ use Rattle.machine_model.proofs.Steps.{Accepts, part_controller}
 use Rattle.machine_model.proofs.Managed.{managed_by}
 use Rattle.machine_model.proofs.Taken.{in_is}
 use Rattle.machine_model.proofs.Opening.{in_limits, limits_of}
-use Rattle.machine_agreement.proofs.Members.{In, in_at, all_indexed, all_in_both, all_map, all_filter, all_append, only_found}
+use Rattle.machine_agreement.proofs.Members.{In, in_at, all_indexed, all_in_both, all_map, all_filter, all_append, only_found, some_is}
 use Rattle.machine_model.proofs.Lists.{all_at}
 use Rattle.machine_agreement.proofs.Grounds.{grounds_on, grounds_at_opening}
 use Rattle.machine_agreement.proofs.Untouched.{untouched}
@@ -77,10 +77,7 @@ stay_untouched s e reply ok w stood = record {
 still_in : (m m' : Pages) (p : ℕ) → in_store m' ≡ in_store m → p < length m → is_some (page_at m p) ≡ true → is_some (page_at m' p) ≡ true
 still_in m m' p same l h =
     let len : length m' ≡ length m = sym (length-in_store m') ∙ ap length same ∙ length-in_store m in
-    some_same (sym (in_is m' p (omega (arith, l, len))) ∙ ap (λ (bits : List Bool). slice_get bits p) same ∙ in_is m p l) ∙ h
-  where
-    some_same : {x y : Bool} → Some x ≡ Some y → x ≡ y
-    some_same e = cc
+    some_is (sym (in_is m' p (omega (arith, l, len))) ∙ ap (λ (bits : List Bool). slice_get bits p) same ∙ in_is m p l) ∙ h
 
 pub stay_walk : (s : State) (q cid : ℕ) → refusal_of s (events.Walk q cid) ≡ None → Stood s → ListsStay s (a.after_walk q cid s).memory
 stay_walk s q cid none stood = record {
@@ -94,7 +91,7 @@ stay_walk s q cid none stood = record {
 abbrev Units : Pages → State → Type 0
 Units m s = AllByRecursion (UnitLeft m) s.device.jobs
 
-some_none : {st : Status} → Some st ≡ None → ⊥
+pub some_none : {st : Status} → Some st ≡ None → ⊥
 some_none e = cc
 
 units_decided : (m : Pages) (e : SubEntry) (st : Status) (dw0 : ℕ) (s : State) → Units m s → Units m (a.decided e st dw0 s)
@@ -138,14 +135,8 @@ units_complete m q cid s h =
 
 -- a step that has no verdict leaves a unit to do
 more_left : (c : Course) (k : ℕ) → verdict c ≡ End → verdict_of (answer (after_units k c)) ≡ None → k < length (units c)
-more_left (Closes v) zero e h = absurd (over v e h)
-  where
-    over : (v : WalkState) → v ≡ End → verdict_of v ≡ None → ⊥
-    over v e h = let ended : verdict_of End ≡ None = ap verdict_of (sym e) ∙ h in some_none ended
-more_left (Closes v) (suc k) e h = absurd (over v e h)
-  where
-    over : (v : WalkState) → v ≡ End → verdict_of v ≡ None → ⊥
-    over v e h = let ended : verdict_of End ≡ None = ap verdict_of (sym e) ∙ h in some_none ended
+more_left (Closes v) zero e h = absurd (let ended : verdict_of End ≡ None = ap verdict_of (sym e) ∙ h in some_none ended)
+more_left (Closes v) (suc k) e h = absurd (let ended : verdict_of End ≡ None = ap verdict_of (sym e) ∙ h in some_none ended)
 more_left (Does x rest) zero e h = omega arith
 more_left (Does x rest) (suc k) e h = omega (arith, more_left rest k e h)
 
@@ -159,17 +150,14 @@ one_job s stood q cid =
     same (j ∷ js) = omega (arith, same js, each (j.q == q) (j.entry.cid == cid))
       where
         each : (x y : Bool) → one (x && y) ≤ (if x then one y else 0)
-        each true y = omega arith
-        each false y = omega arith
+        each x y = grind arith
 
     few : (rs : List Record) → total (sent q (λ c. one (c == cid))) rs ≤ total (here q cid) rs
     few [] = omega arith
     few (r ∷ rs) = omega (arith, few rs, each (r.q == q) (is_submitted r.phase) (r.cid == cid))
       where
         each : (x y z : Bool) → (if x && y then one z else 0) ≤ one (x && z)
-        each true true z = omega arith
-        each true false z = omega arith
-        each false y z = omega arith
+        each x y z = grind arith
 
 -- a job before its unit, and after it
 abbrev Either : Pages → ℕ → ℕ → (Job → Job) → Job → Type 0
@@ -220,11 +208,10 @@ walks_event s e reply ok h =
 -- The pool keeps its size
 
 bits_event : (s : State) (e : Event) (reply : Reply) → Accepts s e reply → length (a.after s e reply).memory ≡ length s.memory
-bits_event s e reply ok = go (IsController e) refl
-  where
-    go : (b : Bool) → IsController e ≡ b → length (a.after s e reply).memory ≡ length s.memory
-    go true c = sym (length-in_store (a.after s e reply).memory) ∙ ap (λ (part : HostPart). length part.in_store) (part_controller s e reply c) ∙ length-in_store s.memory
-    go false c = (host_leaves s e reply ok c).size
+bits_event s e reply ok = elim (cases_Bool (IsController e)) [
+  | inl c ↦ sym (length-in_store (a.after s e reply).memory) ∙ ap (λ (part : HostPart). length part.in_store) (part_controller s e reply c) ∙ length-in_store s.memory
+  | inr c ↦ (host_leaves s e reply ok c).size
+]
 
 -- All that stands, at every step
 

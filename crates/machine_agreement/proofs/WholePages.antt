@@ -1,7 +1,7 @@
 -- A page that is in has all its 4,096 bytes, whatever happens.
 use Rattle.std.proofs.Common.{◌≡◌, ◌⊎◌, inl, inr, ℕ, zero, suc, ◌+◌, ◌/◌, ◌%◌, ◌≤◌, Bool, true, false, not, ◌&&◌, ◌||◌, Option, Some, None, List, [], ◌∷◌, ◌++◌, length, take, drop, slice_set, option_and_then, IfSome, MatchBool, refl, ap, sym, ◌∙◌, arith, subst, length-append}
 use Rattle.std.specs.Option.{option_map_or}
-use Rattle.std.proofs.lemmas.Bool.{true≢false}
+use Rattle.std.proofs.lemmas.Bool.{true≢false, cases_Bool}
 use Rattle.std.proofs.lemmas.List.Elements.{All-head, All-tail, All-append}
 use Rattle.sgl_descriptor.specs.declared.Direction.{Direction}
 use Rattle.sgl_descriptor.specs.declared.Direction.TheVariants.{Destination, Source}
@@ -34,7 +34,7 @@ use Rattle.machine_model.specs.Events as events
 use Rattle.machine_model.specs.Events.{Event, Reply}
 use Rattle.machine_model.proofs.Managed.{managed_by}
 use Rattle.machine_agreement.proofs.Lengths.{length_put}
-use Rattle.machine_model.proofs.Steps.{Accepts}
+use Rattle.machine_model.proofs.Steps.{Accepts, surely}
 use Rattle.machine_agreement.proofs.Served.{Stood, course_in}
 use Rattle.machine_agreement.proofs.CommandsAll.{walking, unit_in}
 use Rattle.machine_agreement.proofs.JobLaws.{step_is}
@@ -83,7 +83,7 @@ length-submission_bytes : (entry : SubEntry) → length entry.sgl1 ≡ 16 → le
 unfolding submission_bytes
 length-submission_bytes entry count = omega (arith, length-append entry.sgl1 (command_words entry), count)
 
-length-completion_bytes : (entry : ComEntry) → length (completion_bytes entry) ≡ 16
+pub length-completion_bytes : (entry : ComEntry) → length (completion_bytes entry) ≡ 16
 unfolding completion_bytes
 length-completion_bytes entry = refl
 
@@ -212,11 +212,6 @@ whole_after s e reply pr ok stood whole =
 
 -- Steps
 
-of_host : {A : Type 0} (B : Type 0) (t c : Bool) → c ≡ false → MatchBool (t || not c) A B → A
-of_host B true c e h = h
-of_host B false true e h = absurd (true≢false e)
-of_host B false false e h = h
-
 -- what an event leaves in a state in which something was forged
 whole_forged : (t f c : Bool) (old next new : State) → t ≡ false → (c ≡ false → AreWhole next.memory)
     → MatchBool (not f && t) (new ≡ next) (MatchBool c (LeavesByController old next new) (LeavesByHost old next new)) → AreWhole new.memory
@@ -229,13 +224,13 @@ whole_forged false false false old next new untrusted due h = subst AreWhole (sy
 untrusted_step : (old : State) (e : Event) (reply : Reply) (new : State) → old.trusted ≡ false → Step old e reply new → AreWhole old.memory → AreWhole new.memory
 untrusted_step old e (events.Refused why touched) new untrusted step whole = subst (λ (s : State). AreWhole s.memory) (sym step.2) whole
 untrusted_step old events.Reset reply new untrusted step whole =
-    subst (λ (s : State). AreWhole s.memory) (sym step.2) (whole_after old events.Reset reply step.0 (of_host _ old.trusted false refl step.1) (λ is. absurd (true≢false (sym is))) whole)
+    subst (λ (s : State). AreWhole s.memory) (sym step.2) (whole_after old events.Reset reply step.0 (surely _ old.trusted false refl step.1) (λ is. absurd (true≢false (sym is))) whole)
 untrusted_step old e (events.Reserved d) new untrusted step whole =
     whole_forged old.trusted (forges e) (IsController e) old (a.after old e (events.Reserved d)) new untrusted
-    (λ c. whole_after old e (events.Reserved d) step.0 (of_host _ old.trusted (IsController e) c step.1) (λ is. absurd (true≢false (sym is ∙ c))) whole) step.2
+    (λ c. whole_after old e (events.Reserved d) step.0 (surely _ old.trusted (IsController e) c step.1) (λ is. absurd (true≢false (sym is ∙ c))) whole) step.2
 untrusted_step old e reply new untrusted step whole =
     whole_forged old.trusted (forges e) (IsController e) old (a.after old e reply) new untrusted
-    (λ c. whole_after old e reply step.0 (of_host _ old.trusted (IsController e) c step.1) (λ is. absurd (true≢false (sym is ∙ c))) whole) step.2
+    (λ c. whole_after old e reply step.0 (surely _ old.trusted (IsController e) c step.1) (λ is. absurd (true≢false (sym is ∙ c))) whole) step.2
 
 trusted_step : (old : State) (e : Event) (reply : Reply) (new : State) → old.trusted ≡ true → Stood old → Step old e reply new → AreWhole old.memory → AreWhole new.memory
 trusted_step old e reply new trusted stood step whole = go (step_is old e reply new step trusted)
@@ -246,8 +241,7 @@ trusted_step old e reply new trusted stood step whole = go (step_is old e reply 
 
 -- each step keeps pages whole; of a walk that writes this takes that its job stands
 pub stood_keeps_pages_whole : (old : State) (e : Event) (reply : Reply) (new : State) → (old.trusted ≡ true → Stood old) → Step old e reply new → AreWhole old.memory → AreWhole new.memory
-stood_keeps_pages_whole old e reply new stood step whole = go old.trusted refl
-  where
-    go : (b : Bool) → old.trusted ≡ b → AreWhole new.memory
-    go true trusted = trusted_step old e reply new trusted (stood trusted) step whole
-    go false untrusted = untrusted_step old e reply new untrusted step whole
+stood_keeps_pages_whole old e reply new stood step whole = elim (cases_Bool old.trusted) [
+  | inl trusted ↦ trusted_step old e reply new trusted (stood trusted) step whole
+  | inr untrusted ↦ untrusted_step old e reply new untrusted step whole
+]

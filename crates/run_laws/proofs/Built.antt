@@ -1,6 +1,6 @@
 -- A built draft's pages, brought in.
-use Rattle.std.proofs.Common.{◌≡◌, ◌≢◌, ℕ, ◌+◌, ◌*◌, ◌<◌, ◌≤◌, ◌==◌, Bool, true, false, Some, List, [], ◌∷◌, length, slice_set, option_and_then, refl, ap, sym, ◌∙◌, arith, subst, eq-eqb, length-set}
-use Rattle.std.proofs.lemmas.Bool.{eqb-false}
+use Rattle.std.proofs.Common.{◌≡◌, ◌≢◌, ℕ, ◌+◌, ◌*◌, ◌<◌, ◌≤◌, ◌==◌, Some, List, [], ◌∷◌, length, slice_set, option_and_then, refl, ap, sym, ◌∙◌, arith, subst, eq-eqb, length-set, inl, inr}
+use Rattle.std.proofs.lemmas.Bool.{eqb-false, cases_Bool}
 use Rattle.std.proofs.lemmas.Option.{slice_get-get_or}
 use Rattle.std.proofs.lemmas.List.Elements.{All-head, All-tail}
 use Rattle.sgl_chain.specs.Spells.{Holds}
@@ -19,17 +19,16 @@ use Rattle.machine_model.proofs.Counting.{times-cons}
 -- a page that is not brought in stays
 page_stays : (pages : List (ℕ × List ℕ)) (m : Pages) (p : ℕ) → times p (numbers_of pages) ≡ 0 → page_at (with_pages pages m) p ≡ page_at m p
 page_stays [] m p none = refl
-page_stays (page ∷ more) m p none = go (page.0 == p) refl (page_stays more (slice_set m page.0 (Some page.1)) p)
+page_stays (page ∷ more) m p none = elim (cases_Bool (page.0 == p)) [
+  | inl e ↦ let here : one (page.0 == p) ≡ 1 = ap one e in absurd (omega (arith, parts))
+  | inr e ↦
+      let ih = page_stays more (slice_set m page.0 (Some page.1)) p in
+      let other : p ≢ page.0 = λ same. eqb-false page.0 p e (sym same) in
+      ih (omega (arith, parts)) ∙ ap (option_and_then (λ slot. slot)) (slice_get-set_other m page.0 p (Some page.1) other)
+]
   where
     parts : one (page.0 == p) + times p (numbers_of more) ≡ 0
     parts = sym (times-cons p page.0 (numbers_of more)) ∙ none
-
-    go : (b : Bool) → (page.0 == p) ≡ b → (times p (numbers_of more) ≡ 0 → page_at (with_pages more (slice_set m page.0 (Some page.1))) p ≡ page_at (slice_set m page.0 (Some page.1)) p)
-        → page_at (with_pages (page ∷ more) m) p ≡ page_at m p
-    go true e ih = let here : one (page.0 == p) ≡ 1 = ap one e in absurd (omega (arith, parts))
-    go false e ih =
-        let other : p ≢ page.0 = λ same. eqb-false page.0 p e (sym same) in
-        ih (omega (arith, parts)) ∙ ap (option_and_then (λ slot. slot)) (slice_get-set_other m page.0 p (Some page.1) other)
 
 -- a page that is in stands in memory
 stands : (m : Pages) (p : ℕ) (page : List ℕ) → page_at m p ≡ Some page → length page ≡ 4096 → Holds (byte_at m) (4096 * p) page

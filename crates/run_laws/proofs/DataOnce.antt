@@ -1,39 +1,69 @@
--- A command is fetched once: behind its fetch no entry of it is left to fetch.
-use Rattle.std.proofs.Common.{◌≡◌, ℕ, ◌+◌, ◌-◌, ◌≤◌, ◌==◌, Bool, true, false, ◌&&◌, ◌||◌, Option, Some, None, List, [], ◌∷◌, ◌++◌, drop, slice_get, is_some, MatchBool, if◌then◌else◌, refl, ap, sym, ◌∙◌, arith, subst, eqb-true, eq-eqb}
+-- Data is moved once, and lies where the chain says.
+use Rattle.machine_model.specs.After as a
+use Rattle.machine_model.specs.Events as events
+use Rattle.machine_model.specs.declared.words.Refusal.TheVariants as refusals
+use Rattle.std.proofs.Common.{◌≡◌, ℕ, ◌+◌, ◌-◌, ◌≤◌, ◌==◌, Bool, true, false, ◌&&◌, ◌||◌, Option, Some, None, List, [], ◌∷◌, ◌++◌, drop, slice_get, is_some, if◌then◌else◌, refl, ap, sym, ◌∙◌, arith, subst, eqb-true, eq-eqb, inl, inr, zero, suc, ◌<◌, not, All, is_none, append-nil, append_assoc}
+use Rattle.machine_agreement.proofs.Cases.{option_is}
 use Rattle.std.specs.Option.{option_map_or, option_map}
 use Rattle.std.specs.List.{AllByRecursion, list_any}
-use Rattle.std.proofs.lemmas.Bool.{true≢false, and_parts, or_parts}
+use Rattle.std.proofs.lemmas.Bool.{true≢false, and_parts, or_parts, cases_Bool, not-false}
 use Rattle.entry_codec.specs.declared.submission.SubEntry.{SubEntry}
 use Rattle.entry_codec.specs.declared.status.TheConstants.Status.{COMMAND_ID_CONFLICT}
-use Rattle.io_commands.specs.Drafts.{DraftContents}
+use Rattle.io_commands.specs.Drafts.{DraftContents, draft_first, draft_entry, io_entry}
 use Rattle.io_commands.proofs.Spelled.{carries_entry}
-use Rattle.machine_model.specs.State.{State, DeviceQueue, Record}
-use Rattle.machine_model.specs.Refusals.{is_submitted, next_rung, job_at, conflicts}
-use Rattle.machine_model.specs.Standing.{unfetched_at}
-use Rattle.machine_model.specs.Image.{Made}
-use Rattle.machine_model.specs.Trusted.{Steps}
+use Rattle.machine_model.specs.State.{State, DeviceQueue, Device, Record, Job, is_at, record_at, with_record, pages_of}
+use Rattle.machine_model.specs.Refusals.{next_rung, job_at, conflicts, host_queue, is_submitted, is_drafted, is_live, in_state, is_of, queue_full, record_is}
+use Rattle.machine_model.specs.Standing.{unfetched_at, HasEntry, ListStands, StandsAs, CommandStands}
+use Rattle.machine_model.specs.Image.{Made, draft_of, submitted_by}
+use Rattle.machine_model.specs.Trusted.{Steps, drafts_of}
 use Rattle.run_laws.specs.Statuses.{fetches, fetches_by}
 use Rattle.machine_model.specs.Proper.{IsProper}
 use Rattle.machine_model.specs.Step.{Step}
-use Rattle.machine_model.specs.After as a
 use Rattle.machine_model.specs.After.{change}
-use Rattle.machine_model.specs.Events as events
 use Rattle.machine_model.specs.Events.{Event, Reply}
 use Rattle.machine_model.proofs.Counting.{one}
-use Rattle.machine_model.proofs.Totals.{total, here}
-use Rattle.machine_agreement.proofs.Members.{all_append, all_drop_one, sent}
-use Rattle.machine_agreement.proofs.Unforged.{Unforged, unforged_next}
-use Rattle.machine_agreement.proofs.Served.{Stood, unfetched_count}
+use Rattle.machine_model.proofs.Totals.{total}
+use Rattle.machine_agreement.proofs.Members.{all_append, all_drop_one, some_is, In, in_found, all_at_found, all_in_both, sent}
+use Rattle.machine_agreement.proofs.Unforged.{Unforged, unforged_next, unforged_run}
+use Rattle.machine_agreement.proofs.Served.{Stood, unfetched_count, page_below, data_of, chain_of, more_than_only}
 use Rattle.machine_agreement.proofs.Queues.{list_at, less_at}
 use Rattle.machine_agreement.proofs.Placements.{InHand, in_hand, first_is}
-use Rattle.machine_agreement.proofs.PlacesKept.{running_not_past}
+use Rattle.machine_agreement.proofs.PlacesKept.{running_not_past, ids_of, drafted_not}
 use Rattle.machine_agreement.proofs.CommandsKept.{nobody}
-use Rattle.run_laws.proofs.CausedKept.{not_conflicting}
-use Rattle.run_laws.proofs.QueuesMove.{QueueMove, queues_event}
-use Rattle.run_laws.specs.Submitted.{submits}
-use Rattle.run_laws.proofs.DataAlong.{Going, one_step, stood_step}
-use Rattle.machine_model.proofs.Steps.{permitted}
-use Rattle.run_laws.proofs.DataKept.{submits_far}
+use Rattle.run_laws.proofs.Causes.{not_conflicting}
+use Rattle.run_laws.proofs.Moves.{QueueMove, queues_event, RecordsMove, records_event}
+use Rattle.run_laws.specs.Submitted.{submits, HasListOf, chains_are_the_drafts}
+use Rattle.run_laws.proofs.DataKept.{Going, one_step, stood_step, left_step, submits_far, IsOfDraft, Found, found_draft, submits_of}
+use Rattle.machine_model.proofs.Steps.{permitted, exact, Accepts}
+use Rattle.run_laws.proofs.ReadsWalked.{sent_few}
+use Rattle.page_ledger.specs.Owners.{is_among}
+use Rattle.page_memory.specs.Pages.{Pages, page_at, byte_at}
+use Rattle.sgl_descriptor.specs.declared.Descriptor.{Descriptor}
+use Rattle.sgl_descriptor.specs.Spelling.{spelling, descriptor_of}
+use Rattle.sgl_chain.specs.Spells.{Spells}
+use Rattle.sgl_chain.proofs.Larger.{spells_there}
+use Rattle.io_commands.specs.Asked.{Request}
+use Rattle.io_commands.specs.Requests.{joined_parts}
+use Rattle.io_commands.specs.Values.{numbers_of}
+use Rattle.machine_model.specs.Memory.{with_pages}
+use Rattle.machine_model.specs.Work.{Work}
+use Rattle.machine_model.specs.declared.words.Work.TheVariants.{Io, Management}
+use Rattle.machine_model.specs.Reached.{only, on_pages}
+use Rattle.machine_model.specs.Claims.{OwnsFit}
+use Rattle.machine_agreement.specs.Laws.{entries_of}
+use Rattle.machine_model.specs.Opening.{opening}
+use Rattle.machine_model.specs.declared.words.Refusal.{Refusal}
+use Rattle.machine_model.proofs.Refused.{first_fails, rest_fails}
+use Rattle.machine_agreement.proofs.Placing.{device-posted}
+use Rattle.machine_agreement.proofs.Grounds.{pair_at}
+use Rattle.machine_agreement.proofs.Commanding.{keeps_fetch, keeps_walk, keeps_complete, only_same}
+use Rattle.machine_agreement.proofs.Submitting.{first_read}
+use Rattle.machine_agreement.proofs.WalksKept.{host_jobs, stood_on, stood_at_opening}
+use Rattle.machine_agreement.proofs.JobLaws.{stay_after, entries_named}
+use Rattle.machine_agreement.proofs.NeverFull.{all_of}
+use Rattle.run_laws.proofs.Known.{unsent, same_draft}
+
+-- A command is fetched once: behind its fetch no entry of it is left to fetch.
 
 -- no entry of an identifier is left to fetch
 abbrev pub NoEntry : ℕ → ℕ → State → Type 0
@@ -76,14 +106,7 @@ first_of P qs q queue e at first all = go queue.unfetched first (subst (AllByRec
 
 -- the entry that a fetch takes
 pub fetched_entry : (s : State) (q cid c : ℕ) → option_map (λ (e : SubEntry). e.cid) (next_rung s q) ≡ Some c → c ≡ cid → (e : SubEntry) × (next_rung s q ≡ Some e) × (e.cid ≡ cid)
-fetched_entry s q cid c h same = go (next_rung s q) refl h
-  where
-    inside : {x y : ℕ} → Some x ≡ Some y → x ≡ y
-    inside is = cc
-
-    go : (o : Option SubEntry) → next_rung s q ≡ o → option_map (λ (e : SubEntry). e.cid) o ≡ Some c → (e : SubEntry) × (next_rung s q ≡ Some e) × (e.cid ≡ cid)
-    go None r h = absurd cc
-    go (Some e) r h = (e, r, inside h ∙ same)
+fetched_entry s q cid c h same = elim (option_is (next_rung s q)) [ inl r ↦ let h = rw r at h in absurd cc | inr (e, r) ↦ let h = rw r at h in (e, r, some_is h ∙ same) ]
 
 -- a fetch as it was made
 pub record IsFetch (s : State) (q cid : ℕ) (e : Event) (reply : Reply) : Type 0 where
@@ -96,10 +119,6 @@ is_fetch s q cid (events.Fetch k) (events.Fetched c touched) h =
     let both = and_parts (k == q) (c == cid) h in
     record { touched = touched; is_event = ap events.Fetch (eqb-true k q both.0); is_reply = ap (λ (n : ℕ). events.Fetched n touched) (eqb-true c cid both.1) }
 is_fetch s q cid e reply h = absurd (true≢false (sym h))
-
-exact : {A : Type 0} (B : Type 0) (t : Bool) → t ≡ true → MatchBool t A B → A
-exact B true e h = h
-exact B false e h = absurd (true≢false (sym e))
 
 -- the state before a fetch, its entry, and the state behind it
 pub record Fetches (s new : State) (q cid : ℕ) : Type 0 where
@@ -126,15 +145,6 @@ none_next q cid s entry h next its =
 
 -- Behind a fetch
 
-pub sent_less : (q cid : ℕ) (rs : List Record) → total (sent q (λ c. one (c == cid))) rs ≤ total (here q cid) rs
-sent_less q cid [] = omega arith
-sent_less q cid (x ∷ rs) = omega (arith, sent_less q cid rs, each (x.q == q) (is_submitted x.phase) (x.cid == cid))
-  where
-    each : (a b c : Bool) → (if a && b then one c else 0) ≤ one (a && c)
-    each true true c = omega arith
-    each true false c = omega arith
-    each false b c = omega arith
-
 pub fetched_clears : (s new : State) (q cid : ℕ) → (q == 0) ≡ false → Fetches s new q cid → NoEntry q cid new
 fetched_clears s new q cid other f = subst (NoEntry q cid) (sym f.left) (go (next_rung s q) refl)
   where
@@ -160,7 +170,7 @@ fetched_clears s new q cid other f = subst (NoEntry q cid) (sym f.left) (go (nex
     self = rw (eq-eqb q q refl) refl
 
     few : total (λ (x : SubEntry). one (x.cid == cid)) (list_at (λ at. at.unfetched) (change q off s.device.queues) q) ≡ 0
-    few = omega (arith, un, one_less, self, f.going.stood.places q (λ c. one (c == cid)), sent_less q cid s.host.records, f.going.stood.grounds.stands.0.once q cid)
+    few = omega (arith, un, one_less, self, f.going.stood.places q (λ c. one (c == cid)), sent_few q cid s.host.records, f.going.stood.grounds.stands.0.once q cid)
 
     rest : AllByRecursion (λ (e : SubEntry). e.cid ≡ cid → ⊥) (list_at (λ at. at.unfetched) (change q (λ at. record at { unfetched = drop 1 at.unfetched; rung = at.rung - 1 }) s.device.queues) q)
     rest = nobody (λ (e : SubEntry). e.cid) cid (λ e. ⊥) (list_at (λ at. at.unfetched) (change q off s.device.queues) q) few
@@ -204,17 +214,16 @@ once d other [] ys m s end (is, mid, step, rest) u stood none f =
     no_more d other ys mid end rest next (stood_step s m.event m.reply mid step u.trusted next.trusted stood) both.1
     (fetched_clears s mid d.q d.cid other (fetch_made s m.event m.reply mid d.q d.cid step u.trusted stood f))
 once d other (x ∷ xs) ys m s end (is, mid, step, rest) u stood none f =
-    go (fetches d.q d.cid x) refl (once d other xs ys m mid end rest next stood_mid both.1 f)
+    let both : (submits d.q d.cid x ≡ false) × (list_any (submits d.q d.cid) (xs ++ m ∷ ys) ≡ false) = or_parts (submits d.q d.cid x) (list_any (submits d.q d.cid) (xs ++ m ∷ ys)) none in
+    let next : Unforged mid (xs ++ m ∷ ys) = unforged_next x (xs ++ m ∷ ys) s mid step u in
+    let stood_mid : Stood mid = stood_step s x.event x.reply mid step u.trusted next.trusted stood in
+    elim (cases_Bool (fetches d.q d.cid x)) [
+      | inl e ↦
+          absurd (true≢false (sym (among xs) ∙ no_more d other (xs ++ m ∷ ys) mid end rest next stood_mid both.1
+          (fetched_clears s mid d.q d.cid other (fetch_made s x.event x.reply mid d.q d.cid step u.trusted stood e))))
+      | inr e ↦ let ih = once d other xs ys m mid end rest next stood_mid both.1 f in rw e ih
+    ]
   where
-    both : (submits d.q d.cid x ≡ false) × (list_any (submits d.q d.cid) (xs ++ m ∷ ys) ≡ false)
-    both = or_parts (submits d.q d.cid x) (list_any (submits d.q d.cid) (xs ++ m ∷ ys)) none
-
-    next : Unforged mid (xs ++ m ∷ ys)
-    next = unforged_next x (xs ++ m ∷ ys) s mid step u
-
-    stood_mid : Stood mid
-    stood_mid = stood_step s x.event x.reply mid step u.trusted next.trusted stood
-
     among : (zs : List Made) → list_any (fetches d.q d.cid) (zs ++ m ∷ ys) ≡ true
     among [] = ap (λ (b : Bool). b || list_any (fetches d.q d.cid) ys) f
     among (z ∷ zs) = at (fetches d.q d.cid z) (among zs)
@@ -223,8 +232,264 @@ once d other (x ∷ xs) ys m s end (is, mid, step, rest) u stood none f =
         at true ih = refl
         at false ih = ih
 
-    go : (b : Bool) → fetches d.q d.cid x ≡ b → list_any (fetches d.q d.cid) (xs ++ ys) ≡ false → (b || list_any (fetches d.q d.cid) (xs ++ ys)) ≡ false
-    go true e ih =
-        absurd (true≢false (sym (among xs) ∙ no_more d other (xs ++ m ∷ ys) mid end rest next stood_mid both.1
-        (fetched_clears s mid d.q d.cid other (fetch_made s x.event x.reply mid d.q d.cid step u.trusted stood e))))
-    go false e ih = ih
+-- The list of a submitted command is its draft's, from its submission to its completion.
+
+-- What is known
+
+pub record Chained (drafts : List DraftContents) (s : State) (r : Record) (request : Request) : Type 0 where
+  pub draft : DraftContents
+  pub latest : draft_of r.q r.cid drafts ≡ Some draft
+  pub entry : SubEntry
+  pub built : draft.entry ≡ Some entry
+  pub of : IsOfDraft draft r
+  pub list : ListStands s.memory s.device.queues s.device.jobs r request
+  pub first : list.first ≡ draft_first draft
+
+abbrev pub ChainedIfIo : List DraftContents → State → Record → Work → Type 0
+ChainedIfIo drafts s r (Io request) = Chained drafts s r request
+ChainedIfIo drafts s r (Management adm) = Unit {0}
+
+abbrev pub ChainKnown : List DraftContents → State → Record → Type 0
+ChainKnown drafts s r = is_submitted r.phase ≡ true → ChainedIfIo drafts s r r.work
+
+-- Its entry stays the one
+
+-- a draft that is submitted is not of another submitted command's identifier
+other_draft : (s : State) (e : Event) (reply : Reply) → Going s e reply → (r : Record) → In r s.host.records → is_submitted r.phase ≡ true → (d : DraftContents) → e ≡ events.Submit d → ((d.q == r.q) && (d.cid == r.cid)) ≡ false
+other_draft s e reply g r within sub d is = go ((d.q == r.q) && (d.cid == r.cid)) refl
+  where
+    go : (b : Bool) → ((d.q == r.q) && (d.cid == r.cid)) ≡ b → b ≡ false
+    go false e = refl
+    go true e =
+        let ids = and_parts (d.q == r.q) (d.cid == r.cid) e in
+        let x = found_draft s d reply (subst (λ (x : Event). Going s x reply) is g) in
+        let counts : sent d.q (λ n. one (n == d.cid)) r ≡ 1 = rw (eq-eqb r.q d.q (sym (eqb-true d.q r.q ids.0)), sub, eq-eqb r.cid d.cid (sym (eqb-true d.cid r.cid ids.1))) refl in
+        absurd (omega (arith, within (sent d.q (λ n. one (n == d.cid))), counts, unsent s d g.stood.grounds x.command x.at (drafted_not x.command.phase x.drafted)))
+
+entry_on : (s : State) (e : Event) (reply : Reply) → Going s e reply → (q cid : ℕ) (wanted : SubEntry) → (q == 0) ≡ false → ((d : DraftContents) → e ≡ events.Submit d → ((d.q == q) && (d.cid == cid)) ≡ false)
+    → QueueMove (λ at. at.unfetched) (λ (x : SubEntry). x.cid ≡ cid → x ≡ wanted) q s e
+entry_on s e reply g q cid wanted other far = record {
+  posts = λ x entry at is built z all. all_append (λ (y : SubEntry). y.cid ≡ cid → y ≡ wanted) at.unfetched (entry ∷ []) all ((λ c. absurd (clash x entry is built z c)), tt);
+  sends = λ entry at z all. absurd (true≢false (sym (eq-eqb q 0 (sym z)) ∙ other));
+  rings = λ rung at all. all;
+  reaps = λ at all. all;
+  fetches = λ rung at all. all_drop_one (λ (y : SubEntry). y.cid ≡ cid → y ≡ wanted) at.unfetched all;
+  stops = λ at all. all;
+  drops = λ at all. all;
+  makes_completion = λ at all. all;
+  makes_submission = λ at all. tt;
+  clears = λ at all. tt;
+  empties = (tt, tt);
+  completes = λ c j head at is found all. all;
+}
+  where
+    clash : (x : DraftContents) (entry : SubEntry) → e ≡ events.Submit x → x.entry ≡ Some entry → x.q ≡ q → entry.cid ≡ cid → ⊥
+    clash x entry is built z c =
+        let g' : Going s (events.Submit x) reply = subst (λ (y : Event). Going s y reply) is g in
+        let its : entry.cid ≡ x.cid = ap (λ (y : SubEntry). y.cid) (carries_entry x entry g'.proper.draft built) in
+        true≢false (sym (rw (eq-eqb x.q q z, eq-eqb x.cid cid (sym its ∙ c)) refl) ∙ far x is)
+
+jobs_keep : (s : State) (e : Event) (reply : Reply) → Accepts s e reply → (q cid : ℕ) (entry : SubEntry) → HasEntry s.device.queues s.device.jobs q cid entry
+    → AllByRecursion (λ j. j.q ≡ q → j.entry.cid ≡ cid → j.entry ≡ entry) (a.after s e reply).device.jobs
+jobs_keep s e (events.Refused why touched) ok q cid entry has = has.fetched
+jobs_keep s (events.Fetch k) reply ok q cid entry has = (keeps_fetch s k q cid entry has).fetched
+jobs_keep s (events.Walk k c) reply ok q cid entry has = (keeps_walk s k c q cid entry has).fetched
+jobs_keep s (events.Complete k c) reply ok q cid entry has = (keeps_complete s k c q cid entry has).fetched
+jobs_keep s events.Reset reply ok q cid entry has = tt
+jobs_keep s e reply ok q cid entry has = subst (AllByRecursion (λ j. j.q ≡ q → j.entry.cid ≡ cid → j.entry ≡ entry)) (sym (host_jobs s e reply ok refl refl)) has.fetched
+
+entry_kept : (s : State) (e : Event) (reply : Reply) → Going s e reply → (q cid : ℕ) → (q == 0) ≡ false → ((d : DraftContents) → e ≡ events.Submit d → ((d.q == q) && (d.cid == cid)) ≡ false)
+    → (wanted : SubEntry) → HasEntry s.device.queues s.device.jobs q cid wanted → HasEntry (a.after s e reply).device.queues (a.after s e reply).device.jobs q cid wanted
+entry_kept s e reply g q cid other far wanted has = record {
+  unfetched = queues_event (λ at. at.unfetched) (λ (x : SubEntry). x.cid ≡ cid → x ≡ wanted) q s e reply (entry_on s e reply g q cid wanted other far) g.ok g.stood has.unfetched;
+  fetched = jobs_keep s e reply g.ok q cid wanted has;
+}
+
+list_kept : (m m' : Pages) (qs qs' : List DeviceQueue) (js js' : List Job) (r : Record) (request : Request) → ((p : ℕ) → is_among r.chain_pages p ≡ true → page_at m' p ≡ page_at m p)
+    → ((entry : SubEntry) → HasEntry qs js r.q r.cid entry → HasEntry qs' js' r.q r.cid entry) → (l : ListStands m qs js r request) → (l' : ListStands m' qs' js' r request) × (l'.first ≡ l.first)
+list_kept m m' qs qs' js js' r request same keeps l = (
+  record {
+    first = l.first;
+    read = l.read;
+    spells = spells_there (only (on_pages r.chain_pages) (byte_at m)) (only (on_pages r.chain_pages) (byte_at m')) (only_same m m' r.chain_pages same) l.first (joined_parts request.pieces r.data_pages) l.spells;
+    entry = keeps (io_entry r.cid request (spelling l.first)) l.entry;
+  },
+  refl,
+)
+
+-- Its submission
+
+-- behind it the entry is among those of its queue
+entry_posted : (qs : List DeviceQueue) (q : ℕ) (at : DeviceQueue) (entry : SubEntry) (P : SubEntry → Type 0) → slice_get qs q ≡ Some at
+    → AllByRecursion P (unfetched_at (change q (λ at. record at { unfetched = at.unfetched ++ entry ∷ [] }) qs) q) → P entry
+entry_posted [] q at entry P e all = absurd cc
+entry_posted (x ∷ qs) zero at entry P e all = last x.unfetched all
+  where
+    last : (xs : List SubEntry) → AllByRecursion P (xs ++ entry ∷ []) → P entry
+    last [] h = h.0
+    last (y ∷ ys) h = last ys h.1
+entry_posted (x ∷ qs) (suc q) at entry P e all = entry_posted qs q at entry P e all
+
+pub submitted_first : (s : State) (d : DraftContents) → Going s (events.Submit d) events.Accepted → (entry : SubEntry) → d.entry ≡ Some entry → (r : Record) (request : Request) → r.q ≡ d.q → r.cid ≡ d.cid → d.request ≡ request
+    → (l : ListStands (a.after_submit d s).memory (a.after_submit d s).device.queues (a.after_submit d s).device.jobs r request) → l.first ≡ draft_first d
+submitted_first s d g entry built r request its_queue its_cid asked l = elim (option_is (host_queue s d.q)) [
+  | inl e ↦ let h = rw e at live in absurd (true≢false (sym h))
+  | inr (queue, e) ↦
+      let pair = pair_at s g.stood.grounds d.q queue e in
+      let its : entry ≡ draft_entry d = carries_entry d entry g.proper.draft built in
+      let all : AllByRecursion (λ (y : SubEntry). y.cid ≡ r.cid → y ≡ io_entry r.cid request (spelling l.first)) (unfetched_at (change d.q (λ at. record at { unfetched = at.unfetched ++ entry ∷ [] }) s.device.queues) d.q) =
+      subst (λ (qs : List DeviceQueue). AllByRecursion (λ (y : SubEntry). y.cid ≡ r.cid → y ≡ io_entry r.cid request (spelling l.first)) (unfetched_at qs d.q)) queues
+      (subst (λ (n : ℕ). AllByRecursion (λ (y : SubEntry). y.cid ≡ r.cid → y ≡ io_entry r.cid request (spelling l.first)) (unfetched_at (a.after_submit d s).device.queues n)) its_queue l.entry.unfetched) in
+      let is : entry ≡ io_entry r.cid request (spelling l.first) =
+      entry_posted s.device.queues d.q pair.0 entry (λ (y : SubEntry). y.cid ≡ r.cid → y ≡ io_entry r.cid request (spelling l.first)) pair.1 all (ap (λ (y : SubEntry). y.cid) its ∙ sym its_cid) in
+      let spelled : spelling l.first ≡ spelling (draft_first d) = sym (ap (λ (y : SubEntry). y.sgl1) is) ∙ ap (λ (y : SubEntry). y.sgl1) its in
+      some_is (sym l.read ∙ ap descriptor_of spelled ∙ read)
+]
+  where
+    x : Found s d
+    x = found_draft s d events.Accepted g
+
+    within : In x.command s.host.records
+    within = in_found (is_at d.q d.cid) s.host.records (found_draft s d events.Accepted g).command (found_draft s d events.Accepted g).at
+
+    low : (p : ℕ) → is_among (pages_of (found_draft s d events.Accepted g).command) p ≡ true → p < 65536
+    low p h = omega (arith, page_below s g.stood.grounds (found_draft s d events.Accepted g).command within p h, g.stood.few)
+
+    read : descriptor_of (spelling (draft_first d)) ≡ Some (draft_first d)
+    read = first_read d g.proper
+        (λ p h. low p (data_of (found_draft s d events.Accepted g).command p (ap (λ (xs : List ℕ). is_among xs p) (sym (found_draft s d events.Accepted g).of.data_pages) ∙ h)))
+        (λ p h. low p (chain_of (found_draft s d events.Accepted g).command p (ap (λ (xs : List ℕ). is_among xs p) (sym (found_draft s d events.Accepted g).of.chain_pages) ∙ h)))
+
+    live : in_state is_live s d.q ≡ true
+    live =
+        not-false _ (first_fails (not (in_state is_live s d.q)) refusals.QueueGone ((queue_full s d.q, refusals.QueueFull) ∷ [])
+        (rest_fails (is_none d.entry) refusals.NotBuilt ((not (in_state is_live s d.q), refusals.QueueGone) ∷ (queue_full s d.q, refusals.QueueFull) ∷ [])
+        (rest_fails (not (record_is (is_of is_drafted d.request (numbers_of d.data_pages) (numbers_of d.chain_pages)) s d.q d.cid)) refusals.Stranger
+        ((is_none d.entry, refusals.NotBuilt) ∷ (not (in_state is_live s d.q), refusals.QueueGone) ∷ (queue_full s d.q, refusals.QueueFull) ∷ []) g.ok.0)))
+
+    s1 : State
+    s1 = a.on_records (with_record d.q d.cid a.submitted) (a.on_memory (with_pages (d.data_pages ++ d.chain_pages)) s)
+
+    queues : (a.after_submit d s).device.queues ≡ change d.q (λ at. record at { unfetched = at.unfetched ++ entry ∷ [] }) s.device.queues
+    queues =
+        ap (λ (o : Option SubEntry). (option_map_or (λ entry. a.posted d.q entry (a.on_records (with_record d.q d.cid a.submitted) (a.on_memory (with_pages (d.data_pages ++ d.chain_pages)) s))) o s).device.queues) built
+        ∙ ap (λ (dev : Device). dev.queues) (device-posted d.q entry (a.on_records (with_record d.q d.cid a.submitted) (a.on_memory (with_pages (d.data_pages ++ d.chain_pages)) s)))
+
+-- Every event
+
+chains_move : (drafts : List DraftContents) (s : State) (e : Event) (reply : Reply) → Going s e reply
+    → RecordsMove (λ r. OwnsFit r.q r.work (pages_of r) × ChainKnown drafts s r) (λ r. CommandStands (a.after s e reply).memory (a.after s e reply).device.queues (a.after s e reply).device.jobs r → ChainKnown (submitted_by e reply ++ drafts) (a.after s e reply) r) s e
+chains_move drafts s e reply g = record {
+  stays = λ r within free p stands sub. kept r within sub r.work p.0 (p.1 sub);
+  reserves = λ d stands sub. absurd (true≢false (sym sub));
+  sends = λ adm id stands sub. tt;
+  submits = λ d entry r is built at fits p stands sub.
+      subst (λ (x : Event). Going s x reply → CommandStands (a.after s x reply).memory (a.after s x reply).device.queues (a.after s x reply).device.jobs (a.submitted r) → ChainedIfIo (submitted_by x reply ++ drafts) (a.after s x reply) (a.submitted r) r.work) (sym is)
+      (λ g' stands'. new d reply g' entry r built at fits r.work refl stands') g stands;
+  reaps = λ q cid st request r is n x at w p stands sub. absurd (true≢false (sym sub));
+  loses = λ r within sent free p stands sub. absurd (true≢false (sym sub));
+  collects = λ r p stands sub. absurd (true≢false (sym sub));
+}
+  where
+    kept : (r : Record) → In r s.host.records → is_submitted r.phase ≡ true → (w : Work) → OwnsFit r.q w (pages_of r) → ChainedIfIo drafts s r w → ChainedIfIo (submitted_by e reply ++ drafts) (a.after s e reply) r w
+    kept r within sub (Management adm) fit h = tt
+    kept r within sub (Io request) fit h = record {
+      draft = h.draft;
+      latest = same_draft s e reply drafts r.q r.cid (other_draft s e reply g r within sub) ∙ h.latest;
+      entry = h.entry;
+      built = h.built;
+      of = h.of;
+      list = still.0;
+      first = still.1 ∙ h.first;
+    }
+      where
+        still : (l' : ListStands (a.after s e reply).memory (a.after s e reply).device.queues (a.after s e reply).device.jobs r request) × (l'.first ≡ h.list.first)
+        still = list_kept s.memory (a.after s e reply).memory s.device.queues (a.after s e reply).device.queues s.device.jobs (a.after s e reply).device.jobs r request
+            ((stay_after s e reply g.ok g.stood).chains r within sub) (λ wanted has. entry_kept s e reply g r.q r.cid fit (other_draft s e reply g r within sub) wanted has) h.list
+
+    new : (d : DraftContents) (reply : Reply) → Going s (events.Submit d) reply → (entry : SubEntry) (r : Record) → d.entry ≡ Some entry → record_at s.host d.q d.cid ≡ Some r
+        → is_of is_drafted d.request (numbers_of d.data_pages) (numbers_of d.chain_pages) r ≡ true → (w : Work) → r.work ≡ w
+        → StandsAs (a.after s (events.Submit d) reply).memory (a.after s (events.Submit d) reply).device.queues (a.after s (events.Submit d) reply).device.jobs (a.submitted r) r.work
+        → ChainedIfIo (submitted_by (events.Submit d) reply ++ drafts) (a.after s (events.Submit d) reply) (a.submitted r) w
+    new d reply g entry r built at fits (Management adm) w stands = tt
+    new d events.Accepted g entry r built at fits (Io request) w stands =
+        let ids = ids_of s d.q d.cid r at in
+        let of = (submits_of d r fits).0 in
+        let asked : d.request ≡ request = inside (sym of.work ∙ w) in
+        let l = (subst (StandsAs (a.after_submit d s).memory (a.after_submit d s).device.queues (a.after_submit d s).device.jobs (a.submitted r)) w stands).1 refl in
+        record {
+          draft = d;
+          latest = rw (ids.0, ids.1) (rw (eq-eqb d.q d.q refl, eq-eqb d.cid d.cid refl) refl);
+          entry = entry;
+          built = built;
+          of = record { work = of.work; data_pages = of.data_pages; chain_pages = of.chain_pages };
+          list = l;
+          first = submitted_first s d g entry built (a.submitted r) request ids.0 ids.1 asked l;
+        }
+      where
+        inside : {x y : Request} → Io x ≡ Io y → x ≡ y
+        inside e = cc
+    new d reply g entry r built at fits (Io request) w stands = absurd g.ok.1
+
+abbrev pub AllChained : List DraftContents → State → Type 0
+AllChained drafts s = AllByRecursion (ChainKnown drafts s) s.host.records
+
+chained_on : (drafts : List DraftContents) (s : State) (e : Event) (reply : Reply) → Going s e reply → AllByRecursion (ChainKnown drafts s) s.host.records
+    → AllByRecursion (ChainKnown (submitted_by e reply ++ drafts) (a.after s e reply)) (a.after s e reply).host.records
+chained_on drafts s e reply g h =
+    let t = a.after s e reply in
+    let stood = stood_on s e reply g.proper g.ok g.trusted g.stood in
+    all_in_both (CommandStands t.memory t.device.queues t.device.jobs) (λ r. CommandStands t.memory t.device.queues t.device.jobs r → ChainKnown (submitted_by e reply ++ drafts) t r) (ChainKnown (submitted_by e reply ++ drafts) t) t.host.records
+    (λ r within f c. f c)
+    (records_event (λ r. OwnsFit r.q r.work (pages_of r) × ChainKnown drafts s r) (λ r. CommandStands t.memory t.device.queues t.device.jobs r → ChainKnown (submitted_by e reply ++ drafts) t r) s e reply (chains_move drafts s e reply g) g.ok g.stood.grounds
+    (all_in_both (ChainKnown drafts s) (λ r. OwnsFit r.q r.work (pages_of r)) (λ r. OwnsFit r.q r.work (pages_of r) × ChainKnown drafts s r) s.host.records (λ r within f p. (f, p)) g.stood.grounds.stands.0.admins h))
+    stood.commands
+
+refused_same : (drafts : List DraftContents) (e : Event) (why : Refusal) (touched : List ℕ) (s : State) → AllChained drafts s → AllChained (submitted_by e (events.Refused why touched) ++ drafts) s
+refused_same drafts (events.Submit d) why touched s h = h
+refused_same drafts e why touched s h = h
+
+-- a refused event submits nothing, so the drafts are as they were
+chained_step : (s : State) (e : Event) (reply : Reply) (new : State) (drafts : List DraftContents) → Step s e reply new → s.trusted ≡ true → new.trusted ≡ true → Stood s → AllChained drafts s → AllChained (submitted_by e reply ++ drafts) new
+chained_step s e reply new drafts step t u stood h =
+    left_step (AllChained (submitted_by e reply ++ drafts)) s e reply new step t u stood
+    (λ why touched is. subst (λ (x : Reply). AllChained (submitted_by e x ++ drafts) s) (sym is) (refused_same drafts e why touched s h)) (λ g. chained_on drafts s e reply g h)
+
+chained_along : (made : List Made) (s end : State) (drafts : List DraftContents) → Steps s made end → Unforged s made → Stood s → AllChained drafts s → AllChained (drafts_of made ++ drafts) end
+chained_along [] s end drafts steps u stood h = subst (AllChained drafts) (sym steps) h
+chained_along (m ∷ made) s end drafts (is, mid, step, rest) u stood h =
+    let next = unforged_next m made s mid step u in
+    subst (λ (ds : List DraftContents). AllChained ds end) (sym (append_assoc (drafts_of made) (submitted_by m.event m.reply) drafts))
+    (chained_along made mid end (submitted_by m.event m.reply ++ drafts) rest next (stood_step s m.event m.reply mid step u.trusted next.trusted stood)
+    (chained_step s m.event m.reply mid drafts step u.trusted next.trusted stood h))
+
+-- The law
+
+pub chains_drafted : chains_are_the_drafts
+chains_drafted image made end q cid r request run found sub work =
+    let s0 : State = opening run.pages run.queues run.entries run.segment image in
+    let all : AllChained (drafts_of made ++ []) end =
+    chained_along made s0 end [] run.steps (unforged_run image made end run) (stood_at_opening run.pages run.queues run.entries run.segment image run.opens) tt in
+    let known : Chained (drafts_of made ++ []) end r request =
+    subst (ChainedIfIo (drafts_of made ++ []) end r) work (all_at_found (ChainKnown (drafts_of made ++ []) end) (is_at q cid) end.host.records r found all sub) in
+    of known
+  where
+    of : Chained (drafts_of made ++ []) end r request → (d : DraftContents) × (draft_of q cid (drafts_of made) ≡ Some d) × HasListOf d end r request
+    of h =
+        let ids = ids_of end q cid r found in (
+          h.draft,
+          ap (λ (n : ℕ). draft_of n cid (drafts_of made)) (sym ids.0) ∙ ap (λ (n : ℕ). draft_of r.q n (drafts_of made)) (sym ids.1) ∙ ap (draft_of r.q r.cid) (sym (append-nil (drafts_of made))) ∙ h.latest,
+          record {
+            is_built = ap is_some h.built;
+            request_is = inside (sym h.of.work ∙ work);
+            data_pages = h.of.data_pages;
+            chain_pages = h.of.chain_pages;
+            spells = subst (λ (x : Descriptor). Spells (byte_at end.memory) x (joined_parts request.pieces r.data_pages)) h.first
+                (spells_there (only (on_pages r.chain_pages) (byte_at end.memory)) (byte_at end.memory) (more_than_only (on_pages r.chain_pages) (byte_at end.memory)) h.list.first (joined_parts request.pieces r.data_pages) h.list.spells);
+            named = subst (λ (x : Descriptor). All (λ (e : SubEntry). e.sgl1 ≡ spelling x) (entries_of end r.q r.cid)) h.first
+                (all_of (λ e. e.sgl1 ≡ spelling h.list.first) (entries_of end r.q r.cid) (entries_named end r.q r.cid (io_entry r.cid request (spelling h.list.first)) h.list.entry));
+          },
+        )
+      where
+        inside : {x y : Request} → Io x ≡ Io y → x ≡ y
+        inside e = cc

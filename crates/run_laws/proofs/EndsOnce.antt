@@ -1,8 +1,9 @@
 -- Between two completions of a command it was submitted anew: from its completion on no entry and no job of it is at the controller.
-use Rattle.std.proofs.Common.{◌≡◌, ℕ, ◌<◌, ◌≤◌, ◌==◌, Bool, true, false, not, ◌&&◌, Option, Some, None, List, [], ◌∷◌, ◌++◌, filter, if◌then◌else◌, refl, ap, sym, ◌∙◌, arith, subst, eqb-true, eq-eqb}
+use Rattle.machine_agreement.proofs.Cases.{none_some}
+use Rattle.std.proofs.Common.{◌≡◌, ℕ, ◌<◌, ◌≤◌, ◌==◌, Bool, true, false, not, ◌&&◌, Option, Some, None, List, [], ◌∷◌, ◌++◌, filter, if◌then◌else◌, refl, ap, sym, ◌∙◌, arith, subst, eqb-true, eq-eqb, inl, inr}
 use Rattle.std.specs.Option.{option_map, option_map_or}
 use Rattle.std.specs.List.{AllByRecursion, list_any}
-use Rattle.std.proofs.lemmas.Bool.{true≢false, and_parts}
+use Rattle.std.proofs.lemmas.Bool.{true≢false, and_parts, cases_Bool}
 use Rattle.entry_codec.specs.declared.status.Status.{Status}
 use Rattle.entry_codec.specs.declared.submission.SubEntry.{SubEntry}
 use Rattle.io_commands.specs.Drafts.{DraftContents}
@@ -18,13 +19,10 @@ use Rattle.run_laws.specs.Statuses.{status_by}
 use Rattle.machine_agreement.proofs.Along.{cut}
 use Rattle.machine_agreement.proofs.CommandsKept.{nobody}
 use Rattle.machine_model.proofs.Counting.{one}
-use Rattle.machine_agreement.proofs.DeviceMoves.{finished, cleared}
+use Rattle.machine_agreement.proofs.DeviceMoves.{finished}
 use Rattle.machine_agreement.proofs.Placing.{device-answered}
-use Rattle.admin_commands.specs.Entries.{named_queue}
-use Rattle.entry_codec.specs.declared.admin_opcode.TheConstants.{DELETE_IO_SQ}
-use Rattle.io_commands.specs.Jobs.{is_success}
-use Rattle.run_laws.proofs.EveryStatus.{positive}
-use Rattle.run_laws.proofs.JobsMove.{JobsMove, jobs_event}
+use Rattle.machine_agreement.proofs.JobLaws.{not_zero as positive}
+use Rattle.run_laws.proofs.Moves.{JobsMove, jobs_event}
 use Rattle.machine_agreement.proofs.Members.{in_found, all_at_found}
 use Rattle.machine_model.proofs.Placed.{find_sound}
 use Rattle.machine_agreement.proofs.Served.{Stood, job_weight, unfetched_count}
@@ -32,11 +30,11 @@ use Rattle.machine_model.proofs.Steps.{Accepts}
 use Rattle.machine_model.proofs.Totals.{total}
 use Rattle.machine_agreement.proofs.Unforged.{unforged_front}
 use Rattle.run_laws.specs.Ends.{submits_by, submits, commands_complete_once}
-use Rattle.run_laws.proofs.DataAlong.{Going, left_step, along_steps}
-use Rattle.run_laws.proofs.DataOnce.{NoEntry, no_entry_step, none_next, sent_less}
-use Rattle.run_laws.proofs.EndsPhases.{submit_at}
-use Rattle.run_laws.proofs.EndsTwice.{At, at_step}
-use Rattle.run_laws.proofs.VerdictsCount.{given_job}
+use Rattle.run_laws.proofs.DataKept.{Going, left_step, along_steps}
+use Rattle.run_laws.proofs.DataOnce.{NoEntry, no_entry_step, none_next}
+use Rattle.run_laws.proofs.ReadsWalked.{sent_few as sent_less}
+use Rattle.run_laws.proofs.OneEnd.{submit_at, At, at_step}
+use Rattle.run_laws.proofs.Verdicts.{given_job}
 
 -- no job of a command is left
 abbrev IsOther : ℕ → ℕ → Job → Type 0
@@ -76,33 +74,24 @@ over_step q cid other s e reply g far h = record {
 
 none_left : (q cid : ℕ) (js : List Job) → AllByRecursion (IsOther q cid) (filter (λ j. not (is_job q cid j)) js)
 none_left q cid [] = tt
-none_left q cid (j ∷ js) = go (is_job q cid j) refl (none_left q cid js)
-  where
-    go : (b : Bool) → is_job q cid j ≡ b → AllByRecursion (IsOther q cid) (filter (λ j. not (is_job q cid j)) js)
-        → AllByRecursion (IsOther q cid) (if not b then j ∷ filter (λ j. not (is_job q cid j)) js else filter (λ j. not (is_job q cid j)) js)
-    go true is ih = ih
-    go false is ih = ((λ same its. true≢false (sym (rw (eq-eqb j.q q same, eq-eqb j.entry.cid cid its) refl) ∙ is)), ih)
+none_left q cid (j ∷ js) = elim (cases_Bool (is_job q cid j)) [
+  | inl is ↦ let ih = none_left q cid js in rw is ih
+  | inr is ↦ let ih = none_left q cid js in rw is ((λ same its. true≢false (sym (rw (eq-eqb j.q q same, eq-eqb j.entry.cid cid its) refl) ∙ is)), ih)
+]
 
 -- a job's command has no entry besides
 job_alone : (s : State) (q cid : ℕ) (j : Job) → Stood s → job_at s q cid ≡ Some j → NoEntry q cid s
-job_alone s q cid j stood at = nobody (λ (x : SubEntry). x.cid) cid (λ x. ⊥) (unfetched_at s.device.queues q) few
-  where
-    ids : ((j.q == q) ≡ true) × ((j.entry.cid == cid) ≡ true)
-    ids = and_parts (j.q == q) (j.entry.cid == cid) (find_sound (is_job q cid) s.device.jobs j at)
-
-    counts : 1 ≤ total (job_weight q (λ c. one (c == cid))) s.device.jobs
-    counts =
-        let mine : job_weight q (λ c. one (c == cid)) j ≡ 1 = rw ids.0 (ap one ids.1) in
-        omega (arith, mine, in_found (is_job q cid) s.device.jobs j at (job_weight q (λ c. one (c == cid))))
-
-    there : 0 < total (on_queue q) s.device.jobs
-    there = omega (arith, ap one ids.0, in_found (is_job q cid) s.device.jobs j at (on_queue q))
-
-    un : unfetched_count q (λ c. one (c == cid)) s.host.queues s.device.queues ≡ total (λ (x : SubEntry). one (x.cid == cid)) (unfetched_at s.device.queues q)
-    un = ap (λ (b : Bool). if b then 0 else total (λ (x : SubEntry). one (x.cid == cid)) (unfetched_at s.device.queues q)) (stood.grounds.fit.service q there)
-
-    few : total (λ (x : SubEntry). one (x.cid == cid)) (unfetched_at s.device.queues q) ≡ 0
-    few = omega (arith, counts, un, stood.places q (λ c. one (c == cid)), sent_less q cid s.host.records, stood.grounds.stands.0.once q cid)
+job_alone s q cid j stood at =
+    let ids : ((j.q == q) ≡ true) × ((j.entry.cid == cid) ≡ true) = and_parts (j.q == q) (j.entry.cid == cid) (find_sound (is_job q cid) s.device.jobs j at) in
+    let counts : 1 ≤ total (job_weight q (λ c. one (c == cid))) s.device.jobs =
+    let mine : job_weight q (λ c. one (c == cid)) j ≡ 1 = rw ids.0 (ap one ids.1) in
+    omega (arith, mine, in_found (is_job q cid) s.device.jobs j at (job_weight q (λ c. one (c == cid)))) in
+    let there : 0 < total (on_queue q) s.device.jobs = omega (arith, ap one ids.0, in_found (is_job q cid) s.device.jobs j at (on_queue q)) in
+    let un : unfetched_count q (λ c. one (c == cid)) s.host.queues s.device.queues ≡ total (λ (x : SubEntry). one (x.cid == cid)) (unfetched_at s.device.queues q) =
+    ap (λ (b : Bool). if b then 0 else total (λ (x : SubEntry). one (x.cid == cid)) (unfetched_at s.device.queues q)) (stood.grounds.fit.service q there) in
+    let few : total (λ (x : SubEntry). one (x.cid == cid)) (unfetched_at s.device.queues q) ≡ 0 =
+    omega (arith, counts, un, stood.places q (λ c. one (c == cid)), sent_less q cid s.host.records, stood.grounds.stands.0.once q cid) in
+    nobody (λ (x : SubEntry). x.cid) cid (λ x. ⊥) (unfetched_at s.device.queues q) few
 
 -- a completion takes the job away
 jobs_completed : (s : State) (q cid : ℕ) (j : Job) → job_at s q cid ≡ Some j → (a.after_complete q cid s).device.jobs ≡ filter (λ k. not (is_job q cid k)) s.device.jobs
@@ -110,11 +99,7 @@ jobs_completed s q cid j at =
     let st = a.final_status s j in
     ap (λ (o : Option Job). (option_map_or (λ j. let st = a.final_status s j in a.answered q cid st j.dw0 (a.deletion_done j st (a.on_device (λ d. record d { image = a.image_completed j d.image }) (a.without_job q cid s)))) o s).device.jobs) at
     ∙ ap (λ (d : Device). d.jobs) (device-answered q cid st j.dw0 (a.deletion_done j st (finished q cid j s)))
-    ∙ go ((j.q == 0) && (j.entry.opcode == DELETE_IO_SQ) && is_success st)
-  where
-    go : (b : Bool) → (if b then a.on_device_queue (named_queue j.entry) cleared (finished q cid j s) else finished q cid j s).device.jobs ≡ filter (λ k. not (is_job q cid k)) s.device.jobs
-    go true = refl
-    go false = refl
+    ∙ grind arith
 
 -- behind it nothing of the command is left
 over_completion : (s : State) (e : Event) (reply : Reply) (q cid : ℕ) (st : Status) → (q == 0) ≡ false → Going s e reply → status_by s e reply q cid ≡ Some st → IsOver q cid (a.after s e reply)
@@ -140,34 +125,24 @@ over_completion s (events.Complete k c) (events.Completed touched) q cid st othe
 over_completion s e reply q cid st other g given = absurd cc
 
 refused_gives : (s : State) (e : Event) (why : Refusal) (touched : List ℕ) (q cid : ℕ) → status_by s e (events.Refused why touched) q cid ≡ None
-refused_gives s (events.Complete k c) why touched q cid = refl
-refused_gives s e why touched q cid = refl
-
-some_none : {x : Status} → None ≡ Some x → ⊥
-some_none e = cc
+refused_gives s e why touched q cid = grind arith
 
 pub runs_complete_once : commands_complete_once
-runs_complete_once image earlier first between second later end q cid st st' run io given given' = go (list_any (submits q cid) between) refl
-  where
-    at : At first (between ++ second ∷ later) end
-    at = at_step image earlier first between later second end run
-
-    other : (q == 0) ≡ false
-    other = positive q io
-
-    over : IsOver q cid at.mid
-    over =
-        left_step (IsOver q cid) first.before first.event first.reply at.mid at.step at.trusted at.unforged.trusted at.fronted.stood
-        (λ why touched is. absurd (some_none (sym (refused_gives first.before first.event why touched q cid) ∙ subst (λ (r : Reply). status_by first.before first.event r q cid ≡ Some st) is given)))
-        (λ g. over_completion first.before first.event first.reply q cid st other g given)
-
-    go : (b : Bool) → list_any (submits q cid) between ≡ b → list_any (submits q cid) between ≡ true
-    go true e = e
-    go false e =
-        let two = cut between (second ∷ later) at.mid end at.steps in
-        let front = unforged_front between (second ∷ later) at.mid at.unforged in
-        let still = along_steps (IsOver q cid) (submits q cid) (λ s e reply g far. over_step q cid other s e reply g far) between at.mid two.0 two.1 front at.fronted_mid.stood e over in
-        let j = given_job second.before second.event second.reply q cid st' given' in
-        let ids = and_parts (j.0.q == q) (j.0.entry.cid == cid) (find_sound (is_job q cid) second.before.device.jobs j.0 j.1) in
-        let over' = subst (IsOver q cid) (sym two.2.0) still.1 in
-        absurd (all_at_found (IsOther q cid) (is_job q cid) second.before.device.jobs j.0 j.1 over'.jobs (eqb-true j.0.q q ids.0) (eqb-true j.0.entry.cid cid ids.1))
+runs_complete_once image earlier first between second later end q cid st st' run io given given' =
+    let at : At first (between ++ second ∷ later) end = at_step image earlier first between later second end run in
+    let other : (q == 0) ≡ false = positive q io in
+    let over : IsOver q cid at.mid =
+    left_step (IsOver q cid) first.before first.event first.reply at.mid at.step at.trusted at.unforged.trusted at.fronted.stood
+    (λ why touched is. absurd (none_some (sym (refused_gives first.before first.event why touched q cid) ∙ subst (λ (r : Reply). status_by first.before first.event r q cid ≡ Some st) is given)))
+    (λ g. over_completion first.before first.event first.reply q cid st other g given) in
+    elim (cases_Bool (list_any (submits q cid) between)) [
+      | inl e ↦ e
+      | inr e ↦
+          let two = cut between (second ∷ later) at.mid end at.steps in
+          let front = unforged_front between (second ∷ later) at.mid at.unforged in
+          let still = along_steps (IsOver q cid) (submits q cid) (λ s e reply g far. over_step q cid other s e reply g far) between at.mid two.0 two.1 front at.fronted_mid.stood e over in
+          let j = given_job second.before second.event second.reply q cid st' given' in
+          let ids = and_parts (j.0.q == q) (j.0.entry.cid == cid) (find_sound (is_job q cid) second.before.device.jobs j.0 j.1) in
+          let over' = subst (IsOver q cid) (sym two.2.0) still.1 in
+          absurd (all_at_found (IsOther q cid) (is_job q cid) second.before.device.jobs j.0 j.1 over'.jobs (eqb-true j.0.q q ids.0) (eqb-true j.0.entry.cid cid ids.1))
+    ]

@@ -1,62 +1,65 @@
--- The image of a run is the opening's, changed by the writes that succeeded.
-use Rattle.std.proofs.Common.{◌≡◌, ℕ, ◌==◌, Bool, true, false, ◌&&◌, Option, Some, None, List, [], ◌∷◌, ◌++◌, is_some, if◌then◌else◌, refl, ap, sym, ◌∙◌, arith, subst, eqb-true, append-nil, append_assoc}
-use Rattle.std.specs.Option.{option_map_or}
+-- Images, and what Compares find in them.
+use Rattle.io_commands.specs.Jobs as jobs
+use Rattle.machine_model.specs.After as a
+use Rattle.machine_model.specs.Events as events
+use Rattle.std.proofs.Common.{◌≡◌, ℕ, ◌==◌, Bool, true, false, Option, Some, None, List, [], ◌∷◌, ◌++◌, is_some, if◌then◌else◌, refl, ap, sym, ◌∙◌, arith, subst, eqb-true, append-nil, append_assoc, ◌+◌, nat_lt, not, ◌&&◌, ◌||◌, ap₂, inl, inr}
+use Rattle.std.specs.Option.{option_map_or, option_map}
 use Rattle.std.specs.Prelude.{unwrap_or}
 use Rattle.std.specs.Str.{bytes_eq}
-use Rattle.std.proofs.lemmas.Bool.{true≢false, and_parts}
-use Rattle.admin_commands.specs.Entries.{named_queue}
-use Rattle.admin_commands.specs.declared.SqState.TheVariants.{Absent}
+use Rattle.std.proofs.lemmas.Bool.{true≢false, and_parts, cases_Bool}
 use Rattle.block_image.specs.Blocks.{blocks_at, with_blocks}
 use Rattle.sgl_descriptor.specs.declared.Direction.TheVariants.{Source}
 use Rattle.sgl_descriptor.specs.Spelling.{spelling}
 use Rattle.entry_codec.specs.declared.submission.SubEntry.{SubEntry}
 use Rattle.entry_codec.specs.declared.status.Status.{Status}
-use Rattle.entry_codec.specs.declared.status.TheConstants.Status.{SUCCESS, COMPARE_FAILURE}
-use Rattle.entry_codec.specs.declared.admin_opcode.TheConstants.{DELETE_IO_SQ}
+use Rattle.entry_codec.specs.declared.status.TheConstants.Status.{SUCCESS, COMPARE_FAILURE, ABORT_REQUESTED, ABORTED_SQ_DELETION, LBA_OUT_OF_RANGE}
 use Rattle.io_commands.specs.Asked.{Request}
 use Rattle.io_commands.specs.declared.request.Kind.{Kind}
 use Rattle.io_commands.specs.declared.request.Kind.TheVariants.{Read, Write, Compare}
-use Rattle.io_commands.specs.Requests.{direction_of, opcode_of}
+use Rattle.io_commands.specs.Requests.{direction_of}
 use Rattle.io_commands.specs.DataBytes.{gathered}
 use Rattle.io_commands.specs.Drafts.{DraftContents, io_entry}
-use Rattle.io_commands.specs.Jobs as jobs
-use Rattle.io_commands.specs.Jobs.{is_success, verdict_of, direction_of_entry, direction_by, kind_of_opcode, first_block}
+use Rattle.io_commands.specs.Jobs.{is_success, verdict_of, direction_of_entry, direction_by, kind_of_opcode, first_block, block_number}
 use Rattle.machine_model.specs.Proper.{IsProper}
 use Rattle.machine_model.specs.State.{State, Device, Job, is_at}
 use Rattle.machine_model.specs.Refusals.{refusal_of, job_at, is_job}
 use Rattle.machine_model.specs.Image.{Made, is_write, draft_of, submitted_by, written_by, succeeds, image_by, image_from}
 use Rattle.machine_model.specs.Trusted.{TrustedRun, drafts_of}
-use Rattle.run_laws.specs.Blocks.{the_image_is_the_runs}
-use Rattle.machine_model.specs.After as a
+use Rattle.run_laws.specs.Blocks.{the_image_is_the_runs, blocks_of_request, compares_tell_equality}
 use Rattle.machine_model.specs.After.{final_status}
-use Rattle.machine_model.specs.Events as events
 use Rattle.machine_model.specs.Events.{Event, Reply}
 use Rattle.machine_model.specs.declared.words.Refusal.{Refusal}
 use Rattle.machine_model.proofs.Managed.{managed_by}
 use Rattle.machine_agreement.proofs.Placing.{device-answered}
 use Rattle.machine_model.proofs.Placed.{find_sound}
-use Rattle.machine_model.proofs.Steps.{Accepts}
-use Rattle.machine_agreement.proofs.Members.{in_found, all_at_found}
+use Rattle.machine_model.proofs.Steps.{Accepts, permitted}
+use Rattle.machine_agreement.proofs.Members.{in_found, all_at_found, some_is}
 use Rattle.machine_agreement.proofs.PlacesKept.{ids_of}
 use Rattle.machine_agreement.proofs.Served.{Stood, JobList, job_list}
 use Rattle.machine_agreement.proofs.WalksKept.{stood_on, stood_at_opening}
 use Rattle.machine_agreement.proofs.Frames.{host_image}
-use Rattle.run_laws.proofs.Caused.{goes_well}
-use Rattle.run_laws.proofs.EveryStatus.{has_verdict}
-use Rattle.run_laws.proofs.Known.{OfDraft, OfDraftIfIo, JobKnown, RecordKnown, Known}
-use Rattle.run_laws.proofs.KnownJobs.{known_on, all_carried}
+use Rattle.run_laws.proofs.Causes.{goes_well, cause, CausedIfIo, has_verdict, Traced, traced_before, statuses_have_causes, compare_opcode}
+use Rattle.run_laws.proofs.Known.{OfDraft, OfDraftIfIo, JobKnown, RecordKnown, Known, known_on, all_carried}
 use Rattle.machine_agreement.proofs.DeviceMoves.{fetch_by, walk_by}
 use Rattle.machine_agreement.proofs.Along.{Carried, AtOpenings, Before, keeps, made_of, run_along, run_before}
+use Rattle.machine_agreement.proofs.Cases.{option_is}
+use Rattle.std.specs.List.{list_any}
+use Rattle.entry_codec.specs.declared.io_opcode.TheConstants.{COMPARE}
+use Rattle.io_commands.specs.Values.{IsGood}
+use Rattle.machine_model.specs.Status.{same_status}
+use Rattle.machine_model.specs.Step.{Step}
+use Rattle.run_laws.specs.Statuses.{status_by, aborts, deletes, since_fetch, has_cause, is_compare}
+use Rattle.machine_model.proofs.Refused.{same_lists}
+use Rattle.machine_agreement.proofs.Entered.{good_is}
+use Rattle.machine_agreement.proofs.JobLaws.{not_zero as positive}
+use Rattle.run_laws.specs.Walked.{compares_by_their_drafts, compare_failures_are_of_compares}
+
+-- The image of a run is the opening's, changed by the writes that succeeded.
 
 -- The entry of a request
 
 pub entry_kind : (cid : ℕ) (r : Request) (sgl1 : List ℕ) → kind_of_opcode (io_entry cid r sgl1).opcode ≡ Some r.kind
-entry_kind cid r sgl1 = go r.kind
-  where
-    go : (k : Kind) → kind_of_opcode (opcode_of k) ≡ Some k
-    go Read = refl
-    go Write = refl
-    go Compare = refl
+entry_kind cid r sgl1 = grind arith
 
 pub entry_block : (cid : ℕ) (r : Request) (sgl1 : List ℕ) → first_block (io_entry cid r sgl1) ≡ r.slba
 entry_block cid r sgl1 = omega arith
@@ -94,8 +97,7 @@ job_draft drafts s q cid j stood known other at =
 -- Completing
 
 same_if : {A : Type 0} (b : Bool) (x : A) → (if b then x else x) ≡ x
-same_if true x = refl
-same_if false x = refl
+same_if b x = grind arith
 
 -- what the draft of a job that went well writes is what the job does
 by_kind : (drafts : List DraftContents) (s : State) (q cid : ℕ) (j : Job) (d : JobDraft drafts s q cid j) (v : Status) → j.verdict ≡ Some v → is_success v ≡ true → (k : Kind) → d.list.request.kind ≡ k
@@ -143,10 +145,6 @@ complete_image : (drafts : List DraftContents) (s : State) (q cid : ℕ) → ref
     → (a.after_complete q cid s).device.image ≡ (if succeeds s q cid then option_map_or (λ d. written_by d s.device.image) (draft_of q cid drafts) s.device.image else s.device.image)
 complete_image drafts s q cid none stood known = go (job_at s q cid) refl
   where
-    deleted : (s1 : State) (j : Job) (b : Bool) → (if b then a.on_device_queue (named_queue j.entry) (λ at. record at { state = Absent; unfetched = []; rung = 0 }) s1 else s1).device.image ≡ s1.device.image
-    deleted s1 j true = refl
-    deleted s1 j false = refl
-
     go : (o : Option Job) → job_at s q cid ≡ o
         → (option_map_or (λ j. let st = a.final_status s j in a.answered q cid st j.dw0 (a.deletion_done j st (a.on_device (λ d. record d { image = a.image_completed j d.image }) (a.without_job q cid s)))) o s).device.image
         ≡ (if option_map_or (λ j. is_success (final_status s j)) o false then option_map_or (λ d. written_by d s.device.image) (draft_of q cid drafts) s.device.image else s.device.image)
@@ -154,8 +152,7 @@ complete_image drafts s q cid none stood known = go (job_at s q cid) refl
     go (Some j) e =
         let s1 = a.on_device (λ d. record d { image = a.image_completed j d.image }) (a.without_job q cid s) in
         ap (λ (d : Device). d.image) (device-answered q cid (a.final_status s j) j.dw0 (a.deletion_done j (a.final_status s j) s1))
-        ∙ deleted s1 j ((j.q == 0) && (j.entry.opcode == DELETE_IO_SQ) && is_success (a.final_status s j))
-        ∙ completed drafts s q cid j stood known e (has_verdict s q cid j none e)
+        ∙ (grind arith) ∙ completed drafts s q cid j stood known e (has_verdict s q cid j none e)
 
 -- The others
 
@@ -199,13 +196,11 @@ accepted_known drafts s e reply proper ok t stood known = record {
   image = image_on drafts s e reply ok stood known;
 }
 
-refused_drafts : (e : Event) (why : Refusal) (touched : List ℕ) → submitted_by e (events.Refused why touched) ≡ []
-refused_drafts (events.Submit d) why touched = refl
-refused_drafts e why touched = refl
+pub refused_drafts : (e : Event) (why : Refusal) (touched : List ℕ) → submitted_by e (events.Refused why touched) ≡ []
+refused_drafts e why touched = grind arith
 
 refused_image : (s : State) (drafts : List DraftContents) (image : List ℕ) (e : Event) (why : Refusal) (touched : List ℕ) → image_by s drafts image e (events.Refused why touched) ≡ image
-refused_image s drafts image (events.Complete q cid) why touched = refl
-refused_image s drafts image e why touched = refl
+refused_image s drafts image e why touched = grind arith
 
 -- one step more
 pub drafts_more : (done : List Made) (m : Made) → drafts_of (done ++ m ∷ []) ≡ submitted_by m.event m.reply ++ drafts_of done
@@ -257,3 +252,170 @@ imaged_before image = run_before (Imaged image) (keeps (Imaged image) (images_ca
 
 pub images_are_runs : the_image_is_the_runs
 images_are_runs image made end run = (run_along (Imaged image) (keeps (Imaged image) (images_carried image)) image (imaged_at_opening image) made end run).image_is
+
+-- A compare succeeds exactly where its blocks are its draft's bytes.
+
+-- The status of a compare
+
+bytes_swap : (xs ys : List ℕ) → bytes_eq xs ys ≡ bytes_eq ys xs
+bytes_swap xs ys = go (bytes_eq xs ys) refl (bytes_eq ys xs) refl
+  where
+    turned : (xs ys : List ℕ) → bytes_eq xs ys ≡ true → bytes_eq ys xs ≡ true
+    turned xs ys e = let same : xs ≡ ys = same_lists xs ys e in ap₂ bytes_eq (sym same) same ∙ e
+
+    go : (b : Bool) → bytes_eq xs ys ≡ b → (c : Bool) → bytes_eq ys xs ≡ c → bytes_eq xs ys ≡ bytes_eq ys xs
+    go true e c f = e ∙ sym (turned xs ys e)
+    go false e true f = absurd (true≢false (sym (turned ys xs f) ∙ e))
+    go false e false f = e ∙ sym f
+
+pub entry_blocks : (cid : ℕ) (r : Request) (sgl1 : List ℕ) → IsGood r → block_number (io_entry cid r sgl1) ≡ r.blocks
+entry_blocks cid r sgl1 good = let g = good_is r good in omega (arith, g.some, g.few)
+
+one_of_three : (s a x b y c z : Bool) → s ≡ false → (s || (a && x) || (b && y) || (c && z)) ≡ true → (a || b || c) ≡ true
+one_of_three s a x b y c z f h = grind arith
+
+cause_of_three : (done : List Made) (blocks : ℕ) (j : Job) (v : Status) → is_success v ≡ false → cause done blocks j v ≡ true → (same_status v ABORT_REQUESTED || same_status v ABORTED_SQ_DELETION || same_status v LBA_OUT_OF_RANGE) ≡ true
+cause_of_three done blocks j v failed h =
+    one_of_three (is_success v) (same_status v ABORT_REQUESTED) (list_any (aborts j.q j.entry.cid) (since_fetch j.q j.entry.cid done)) (same_status v ABORTED_SQ_DELETION) (list_any (deletes j.q) (since_fetch j.q j.entry.cid done))
+    (same_status v LBA_OUT_OF_RANGE) (nat_lt blocks (first_block j.entry + block_number j.entry)) failed h
+
+pub compare_kind : (opcode : ℕ) (k : Kind) → (opcode == COMPARE) ≡ true → kind_of_opcode opcode ≡ Some k → k ≡ Compare
+compare_kind opcode k is h = let h' : kind_of_opcode COMPARE ≡ Some k = subst (λ (n : ℕ). kind_of_opcode n ≡ Some k) (eqb-true opcode COMPARE is) h in sym (some_is h')
+
+told : (done : List Made) (drafts : List DraftContents) (s : State) (q cid : ℕ) (j : Job) (d : DraftContents) → Traced done s → Known drafts s → job_at s q cid ≡ Some j → refusal_of s (events.Complete q cid) ≡ None
+    → (j.entry.opcode == COMPARE) ≡ true → draft_of q cid drafts ≡ Some d
+    → not (same_status (final_status s j) ABORT_REQUESTED || same_status (final_status s j) ABORTED_SQ_DELETION || same_status (final_status s j) LBA_OUT_OF_RANGE) ≡ true
+    → final_status s j ≡ (if bytes_eq (gathered d.request.pieces d.data_pages) (blocks_of_request d.request s.device.image) then SUCCESS else COMPARE_FAILURE)
+told done drafts s q cid j d traced known at none compare latest fine = elim (cases_Bool (j.q == 0)) [
+  | inl z ↦ absurd (no_draft (sym (subst (λ (n : ℕ). draft_of n cid drafts ≡ None) (sym (eqb-true j.q 0 z) ∙ its_queue) (known.no_admin cid)) ∙ latest))
+  | inr z ↦ (elim (option_is j.verdict) [ inl is ↦ let some = rw is at (has_verdict s q cid j none at) in absurd (true≢false (sym some)) | inr (v, is) ↦ io z v is ])
+]
+  where
+    its_queue : j.q ≡ q
+    its_queue = eqb-true j.q q (and_parts (j.q == q) (j.entry.cid == cid) (find_sound (is_job q cid) s.device.jobs j at)).0
+
+    io : (other : (j.q == 0) ≡ false) → (v : Status) → j.verdict ≡ Some v
+        → final_status s j ≡ (if bytes_eq (gathered d.request.pieces d.data_pages) (blocks_of_request d.request s.device.image) then SUCCESS else COMPARE_FAILURE)
+    io other v is = by (is_success v) refl
+      where
+        k : JobDraft drafts s q cid j
+        k = job_draft drafts s q cid j traced.stood known other at
+
+        same : k.of.draft ≡ d
+        same = some_is (sym k.latest ∙ latest)
+
+        kind : k.list.request.kind ≡ Compare
+        kind = compare_kind j.entry.opcode k.list.request.kind compare k.kind
+
+        final : final_status s j ≡ jobs.status_after s.device.image j.entry j.bytes (Some v)
+        final = ap (λ (b : Bool). if b then unwrap_or j.verdict SUCCESS else jobs.status_after s.device.image j.entry j.bytes j.verdict) other ∙ ap (jobs.status_after s.device.image j.entry j.bytes) is
+
+        request : k.list.request ≡ d.request
+        request = sym k.of.asked ∙ ap (λ (x : DraftContents). x.request) same
+
+        by : (b : Bool) → is_success v ≡ b → final_status s j ≡ (if bytes_eq (gathered d.request.pieces d.data_pages) (blocks_of_request d.request s.device.image) then SUCCESS else COMPARE_FAILURE)
+        by true ok =
+            let bytes : j.bytes ≡ gathered d.request.pieces d.data_pages =
+            k.bytes (ap direction_of kind) v is ok ∙ ap (λ (r : Request). gathered r.pieces k.of.draft.data_pages) request ∙ ap (λ (x : DraftContents). gathered d.request.pieces x.data_pages) same in
+            let first : first_block j.entry ≡ d.request.slba = k.block ∙ ap (λ (r : Request). r.slba) request in
+            let count : block_number j.entry ≡ d.request.blocks =
+            ap block_number k.list.entry ∙ entry_blocks k.list.command.cid k.list.request (spelling k.list.list.first) k.list.sized.good ∙ ap (λ (r : Request). r.blocks) request in
+            final ∙ ap (λ (b : Bool). if b then jobs.status_by s.device.image j.entry j.bytes (kind_of_opcode j.entry.opcode) else v) ok
+            ∙ ap (jobs.status_by s.device.image j.entry j.bytes) (k.kind ∙ ap (λ (x : Kind). Some x) kind)
+            ∙ ap (λ (n : ℕ). if bytes_eq (blocks_at s.device.image n (block_number j.entry)) j.bytes then SUCCESS else COMPARE_FAILURE) first
+            ∙ ap (λ (n : ℕ). if bytes_eq (blocks_at s.device.image d.request.slba n) j.bytes then SUCCESS else COMPARE_FAILURE) count
+            ∙ ap (λ (bs : List ℕ). if bytes_eq (blocks_at s.device.image d.request.slba d.request.blocks) bs then SUCCESS else COMPARE_FAILURE) bytes
+            ∙ ap (λ (b : Bool). if b then SUCCESS else COMPARE_FAILURE) (bytes_swap (blocks_at s.device.image d.request.slba d.request.blocks) (gathered d.request.pieces d.data_pages))
+        by false failed =
+            let st : final_status s j ≡ v = final ∙ ap (λ (b : Bool). if b then jobs.status_by s.device.image j.entry j.bytes (kind_of_opcode j.entry.opcode) else v) failed in
+            let c = all_at_found (CausedIfIo done (a.image_blocks s)) (is_job q cid) s.device.jobs j at traced.caused other in
+            let three : (same_status v ABORT_REQUESTED || same_status v ABORTED_SQ_DELETION || same_status v LBA_OUT_OF_RANGE) ≡ true = cause_of_three done (a.image_blocks s) j v failed (c.cause v is) in
+            absurd (true≢false (sym fine ∙ ap (λ (x : Status). not (same_status x ABORT_REQUESTED || same_status x ABORTED_SQ_DELETION || same_status x LBA_OUT_OF_RANGE)) st ∙ ap not three))
+
+    no_draft : None ≡ Some d → ⊥
+    no_draft e = cc
+
+given : (done : List Made) (drafts : List DraftContents) (s : State) (e : Event) (reply : Reply) (new : State) (q cid : ℕ) (st : Status) (d : DraftContents) → Step s e reply new → s.trusted ≡ true → Traced done s → Known drafts s
+    → status_by s e reply q cid ≡ Some st → option_map_or (λ (j : Job). j.entry.opcode == COMPARE) (job_at s q cid) false ≡ true → draft_of q cid drafts ≡ Some d
+    → not (same_status st ABORT_REQUESTED || same_status st ABORTED_SQ_DELETION || same_status st LBA_OUT_OF_RANGE) ≡ true
+    → st ≡ (if bytes_eq (gathered d.request.pieces d.data_pages) (blocks_of_request d.request s.device.image) then SUCCESS else COMPARE_FAILURE)
+given done drafts s (events.Complete q' cid') (events.Completed touched) new q cid st d step t traced known status compare latest fine = elim (cases_Bool ((q' == q) && (cid' == cid))) [
+  | inl is ↦
+      let g = rw is at status in
+      let ids = and_parts (q' == q) (cid' == cid) is in
+      let ok = permitted _ s.trusted false t step.1 in
+      let none : refusal_of s (events.Complete q cid) ≡ None = rw (sym (eqb-true q' q ids.0), sym (eqb-true cid' cid ids.1)) ok.0 in
+      at (job_at s q cid) refl none g compare
+  | inr is ↦ let g = rw is at status in absurd cc
+]
+  where
+    at : (o : Option Job) → job_at s q cid ≡ o → refusal_of s (events.Complete q cid) ≡ None → option_map (final_status s) o ≡ Some st → option_map_or (λ (j : Job). j.entry.opcode == COMPARE) o false ≡ true
+        → st ≡ (if bytes_eq (gathered d.request.pieces d.data_pages) (blocks_of_request d.request s.device.image) then SUCCESS else COMPARE_FAILURE)
+    at None e none g c = absurd cc
+    at (Some j) e none g c =
+        let same : final_status s j ≡ st = some_is g in
+        sym same ∙ told done drafts s q cid j d traced known e none c latest (subst (λ (x : Status). not (same_status x ABORT_REQUESTED || same_status x ABORTED_SQ_DELETION || same_status x LBA_OUT_OF_RANGE) ≡ true) (sym same) fine)
+given done drafts s e reply new q cid st d step t traced known status compare latest fine = absurd cc
+
+pub compares_tell : compares_tell_equality
+compares_tell image earlier later m end q cid st d run status compare latest fine =
+    let b = traced_before image earlier later m end run in
+    given earlier (drafts_of earlier) m.before m.event m.reply b.next q cid st d b.step b.trusted b.holds (imaged_before image earlier later m end run).holds.known status compare latest fine
+
+-- A Compare is told by its draft.
+
+-- the job of a step that gives a status
+completed_job : (s : State) (e : Event) (reply : Reply) (q cid : ℕ) (st : Status) → status_by s e reply q cid ≡ Some st → (j : Job) × (job_at s q cid ≡ Some j)
+completed_job s (events.Complete q' cid') (events.Completed touched) q cid st h = go ((q' == q) && (cid' == cid)) h
+  where
+    at : (o : Option Job) → job_at s q cid ≡ o → option_map (final_status s) o ≡ Some st → (j : Job) × (job_at s q cid ≡ Some j)
+    at None f h = absurd cc
+    at (Some j) f h = (j, f)
+
+    go : (b : Bool) → (if b then option_map (final_status s) (job_at s q cid) else None) ≡ Some st → (j : Job) × (job_at s q cid ≡ Some j)
+    go true h = at (job_at s q cid) refl h
+    go false h = absurd cc
+completed_job s e reply q cid st h = absurd cc
+
+-- its opcode is what its draft asks for
+told_by_draft : (drafts : List DraftContents) (s : State) (q cid : ℕ) (j : Job) (d : DraftContents) → Stood s → Known drafts s → job_at s q cid ≡ Some j → draft_of q cid drafts ≡ Some d → d.request.kind ≡ Compare
+    → (j.entry.opcode == COMPARE) ≡ true
+told_by_draft drafts s q cid j d stood known at latest kind = elim (cases_Bool (j.q == 0)) [
+  | inl z ↦ absurd (no_draft (sym (subst (λ (n : ℕ). draft_of n cid drafts ≡ None) (sym (eqb-true j.q 0 z) ∙ its_queue) (known.no_admin cid)) ∙ latest))
+  | inr z ↦
+      let k = job_draft drafts s q cid j stood known z at in
+      let same : k.of.draft ≡ d = some_is (sym k.latest ∙ latest) in
+      compare_opcode j.entry.opcode (k.kind ∙ ap (λ (r : Request). Some r.kind) (sym k.of.asked) ∙ ap (λ (x : DraftContents). Some x.request.kind) same ∙ ap (λ (x : Kind). Some x) kind)
+]
+  where
+    its_queue : j.q ≡ q
+    its_queue = eqb-true j.q q (and_parts (j.q == q) (j.entry.cid == cid) (find_sound (is_job q cid) s.device.jobs j at)).0
+
+    no_draft : None ≡ Some d → ⊥
+    no_draft e = cc
+
+pub compares_told : compares_by_their_drafts
+compares_told image earlier later m end q cid st d run status latest kind fine =
+    let b = (imaged_before image earlier later m end run).holds in
+    let x = completed_job m.before m.event m.reply q cid st status in
+    let opcode = told_by_draft (drafts_of earlier) m.before q cid x.0 d b.stood b.known x.1 latest kind in
+    compares_tell image earlier later m end q cid st d run status (ap (λ (o : Option Job). option_map_or (λ j. j.entry.opcode == COMPARE) o false) x.1 ∙ opcode) latest fine
+
+-- No other command fails as a Compare
+
+only_compare : (earlier : List Made) (m : Made) (q cid : ℕ) → has_cause earlier m q cid COMPARE_FAILURE ≡ true → is_compare m q cid ≡ true
+only_compare earlier m q cid h = h
+
+pub failures_of_compares : compare_failures_are_of_compares
+failures_of_compares image earlier later m end q cid run io status =
+    let b = (imaged_before image earlier later m end run).holds in
+    let x = completed_job m.before m.event m.reply q cid COMPARE_FAILURE status in
+    let ids = and_parts (x.0.q == q) (x.0.entry.cid == cid) (find_sound (is_job q cid) m.before.device.jobs x.0 x.1) in
+    let other : (x.0.q == 0) ≡ false = ap (λ (n : ℕ). n == 0) (eqb-true x.0.q q ids.0) ∙ positive q io in
+    let k = job_draft (drafts_of earlier) m.before q cid x.0 b.stood b.known other x.1 in
+    let opcode : (x.0.entry.opcode == COMPARE) ≡ true =
+    sym (ap (λ (o : Option Job). option_map_or (λ j. j.entry.opcode == COMPARE) o false) x.1) ∙ only_compare earlier m q cid (statuses_have_causes image earlier later m end q cid COMPARE_FAILURE run io status) in (
+      k.of.draft,
+      k.latest,
+      ap (λ (r : Request). r.kind) k.of.asked ∙ compare_kind x.0.entry.opcode k.list.request.kind opcode k.kind,
+    )

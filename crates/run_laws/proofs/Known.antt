@@ -1,57 +1,72 @@
--- What is known of source commands: their data pages hold what their drafts gathered, and their jobs carry it.
-use Rattle.std.proofs.Common.{◌≡◌, ℕ, zero, suc, ◌+◌, ◌≤◌, ◌==◌, Bool, true, false, ◌&&◌, Option, Some, None, List, [], ◌∷◌, ◌++◌, length, take, replicate, nat_eq, if◌then◌else◌, refl, ap, sym, ◌∙◌, arith, subst, eqb-true, eq-eqb}
+-- Records and jobs are those of commands that were reserved and fetched.
+use Rattle.machine_model.specs.After as a
+use Rattle.machine_model.specs.Events as events
+use Rattle.std.proofs.Common.{◌≡◌, ℕ, zero, suc, ◌+◌, ◌≤◌, ◌==◌, Bool, true, false, ◌&&◌, Option, Some, None, List, [], ◌∷◌, ◌++◌, length, take, replicate, nat_eq, if◌then◌else◌, refl, ap, sym, ◌∙◌, arith, subst, eqb-true, eq-eqb, inl, inr, nat_lt, not, ◌||◌, slice_get, is_none}
 use Rattle.std.specs.Option.{option_map_or}
 use Rattle.std.specs.List.{AllByRecursion}
 use Rattle.std.specs.Cmp.Lexicographic.{pointwise}
-use Rattle.std.proofs.lemmas.Bool.{true≢false, and_parts, or_left, or_right}
+use Rattle.std.proofs.lemmas.Bool.{true≢false, and_parts, or_left, or_right, cases_Bool}
 use Rattle.std.proofs.lemmas.List.Elements.{All-head, All-tail}
 use Rattle.page_ledger.specs.Owners.{is_among}
 use Rattle.page_memory.specs.Pages.{Pages, page_at}
 use Rattle.sgl_descriptor.specs.declared.Direction.{Direction}
 use Rattle.sgl_descriptor.specs.declared.Direction.TheVariants.{Destination, Source}
-use Rattle.sgl_descriptor.specs.Spelling.{spelling}
-use Rattle.controller_walk.specs.Units.{units}
+use Rattle.sgl_descriptor.specs.Spelling.{spelling, descriptor_of}
+use Rattle.controller_walk.specs.Units.{units, Act, Course, Closes, Does, first_passing}
 use Rattle.entry_codec.specs.declared.submission.SubEntry.{SubEntry}
 use Rattle.entry_codec.specs.declared.status.Status.{Status}
 use Rattle.io_commands.specs.Asked.{Request}
-use Rattle.io_commands.specs.Requests.{direction_of}
-use Rattle.io_commands.specs.DataBytes.{PagesOut}
+use Rattle.io_commands.specs.Requests.{direction_of, parts_of}
+use Rattle.io_commands.specs.DataBytes.{PagesOut, gathered}
 use Rattle.io_commands.specs.Drafts.{DraftContents}
 use Rattle.io_commands.specs.Values.{numbers_of}
-use Rattle.io_commands.specs.Jobs.{need_of_entry, direction_of_entry}
+use Rattle.io_commands.specs.Jobs.{need_of_entry, direction_of_entry, is_success, verdict_of, io_fault, bytes_after_check, first_bytes, direction_by, kind_of_opcode, block_number, first_block}
 use Rattle.machine_model.specs.Proper.{IsProper, IsPage, ArePages}
-use Rattle.machine_model.specs.Memory.{with_pages}
+use Rattle.machine_model.specs.Memory.{with_pages, memory_of}
 use Rattle.machine_model.specs.Work.{Work}
 use Rattle.machine_model.specs.declared.words.Work.TheVariants.{Io, Management}
-use Rattle.machine_model.specs.State.{State, Record, Job, record_at, pages_of, with_record}
+use Rattle.machine_model.specs.State.{State, Record, Job, record_at, pages_of, with_record, is_at}
 use Rattle.machine_model.specs.Refusals.{is_submitted, is_drafted, refusal_of, is_of, asks_for}
 use Rattle.machine_model.specs.Image.{draft_of, submitted_by}
-use Rattle.machine_model.specs.After as a
 use Rattle.machine_model.specs.After.{course_of}
-use Rattle.machine_model.specs.Events as events
 use Rattle.machine_model.specs.Events.{Event, Reply}
 use Rattle.machine_model.specs.Weights.{one, total, sent}
 use Rattle.machine_model.proofs.Counting.{held_once}
-use Rattle.machine_agreement.proofs.Touching.{is_walk}
 use Rattle.machine_model.proofs.Steps.{Accepts}
 use Rattle.machine_model.proofs.Refused.{pages_match, same_lists}
 use Rattle.machine_model.proofs.Owned.{in_record}
-use Rattle.machine_agreement.proofs.Members.{In, sent_found}
+use Rattle.machine_agreement.proofs.Members.{In, sent_found, in_at, all_at_found, some_is}
 use Rattle.machine_agreement.proofs.Elsewhere.{owned_once}
 use Rattle.machine_agreement.proofs.Grounds.{Grounds}
 use Rattle.machine_agreement.proofs.Untouched.{untouched}
 use Rattle.machine_agreement.proofs.PlacesKept.{ids_of, drafted_not}
 use Rattle.machine_agreement.proofs.Submitting.{requests_same}
-use Rattle.machine_agreement.proofs.Entered.{entry_direction}
-use Rattle.machine_agreement.proofs.Served.{Stood, counts_sent, data_of}
+use Rattle.machine_agreement.proofs.Entered.{entry_direction, good_is}
+use Rattle.machine_agreement.proofs.Served.{Stood, counts_sent, data_of, JobList, job_list, same_list, course_in, CourseWhole, course_whole}
 use Rattle.machine_agreement.proofs.CommandsAll.{walk_writes_to, Walking}
-use Rattle.machine_agreement.proofs.WalksKept.{ListsStay, stay_untouched, stay_walk}
-use Rattle.run_laws.proofs.Caused.{goes_well}
-use Rattle.run_laws.proofs.Carried.{carried}
-use Rattle.run_laws.proofs.Gathered.{Stands}
-use Rattle.run_laws.proofs.RecordsMove.{RecordsMove}
+use Rattle.run_laws.proofs.Causes.{goes_well}
+use Rattle.run_laws.proofs.Carrying.{carried, did, carried_more, carried_same, MovesTo, moves_to, carried_length, carried_byte, Stands, Gathers, IsPlace, gathers_pieces, all_stand, none_discarded, source_places}
+use Rattle.run_laws.proofs.Moves.{RecordsMove, records_event, JobsMove, jobs_event, walked_bytes}
 use Rattle.machine_model.proofs.Moves.{draft_found, draft_lives, posts, posted_is}
 use Rattle.machine_agreement.proofs.CommandsKept.{submitted_pages}
+use Rattle.machine_agreement.proofs.Cases.{none_some}
+use Rattle.std.proofs.lemmas.List.{length-replicate}
+use Rattle.sgl_descriptor.specs.declared.Part.{Part}
+use Rattle.sgl_descriptor.specs.Targets.{Target, Place, targets}
+use Rattle.sgl_descriptor.proofs.Counts.{length-targets}
+use Rattle.controller_walk.specs.Walks.{answer}
+use Rattle.controller_walk.specs.Laws.{after_units}
+use Rattle.controller_walk.specs.Along.{taken, MovesByte}
+use Rattle.controller_walk.proofs.Along.{list_moves_along}
+use Rattle.controller_walk.proofs.All.{list_moves_all}
+use Rattle.entry_codec.specs.declared.status.TheConstants.Status.{INVALID_OPCODE, INVALID_FIELD, INVALID_NAMESPACE, LBA_OUT_OF_RANGE}
+use Rattle.io_commands.specs.declared.request.Kind.{Kind}
+use Rattle.io_commands.specs.declared.request.Kind.TheVariants.{Read, Write, Compare}
+use Rattle.machine_model.specs.Claims.{OwnsFit}
+use Rattle.machine_model.proofs.Lists.{all_at}
+use Rattle.machine_agreement.proofs.JobLaws.{stay_after as lists_stay}
+
+-- What is known of source commands: their data pages hold what their drafts gathered, and their jobs carry it.
 
 -- What is known
 
@@ -98,24 +113,22 @@ source_asks r request w d = ap asks_source w ∙ ap is_source d
 
 -- a walk to a destination writes on no source's pages
 other_pages : (s : State) → Grounds s → (r r' : Record) → In r s.host.records → In r' s.host.records → asks_source r.work ≡ true → asks_source r'.work ≡ false → (p : ℕ) → is_among r.data_pages p ≡ true → is_among r'.data_pages p ≡ false
-other_pages s g r r' within within' src far p own = go (is_among r'.data_pages p) refl
+other_pages s g r r' within within' src far p own = elim (cases_Bool (is_among r'.data_pages p)) [
+  | inl e ↦
+      let a : in_record p r ≤ total (λ x. if asks_source x.work then in_record p x else 0) s.host.records =
+      subst (λ (b : Bool). (if b then in_record p r else 0) ≤ total (λ x. if asks_source x.work then in_record p x else 0) s.host.records) src (within (λ x. if asks_source x.work then in_record p x else 0)) in
+      let b : in_record p r' ≤ total (λ x. if asks_source x.work then 0 else in_record p x) s.host.records =
+      subst (λ (b : Bool). (if b then 0 else in_record p r') ≤ total (λ x. if asks_source x.work then 0 else in_record p x) s.host.records) far (within' (λ x. if asks_source x.work then 0 else in_record p x)) in
+      absurd (omega (arith, a, b, both s.host.records, owned_once _ p s.host g.stands.0, held_once p (pages_of r) (data_of r p own), held_once p (pages_of r') (data_of r' p e)))
+  | inr e ↦ e
+]
   where
     both : (rs : List Record) → total (λ x. if asks_source x.work then in_record p x else 0) rs + total (λ x. if asks_source x.work then 0 else in_record p x) rs ≡ total (in_record p) rs
     both [] = refl
     both (x ∷ rs) = omega (arith, both rs, each (asks_source x.work))
       where
         each : (b : Bool) → (if b then in_record p x else 0) + (if b then 0 else in_record p x) ≡ in_record p x
-        each true = omega arith
-        each false = omega arith
-
-    go : (b : Bool) → is_among r'.data_pages p ≡ b → is_among r'.data_pages p ≡ false
-    go false e = e
-    go true e =
-        let a : in_record p r ≤ total (λ x. if asks_source x.work then in_record p x else 0) s.host.records =
-        subst (λ (b : Bool). (if b then in_record p r else 0) ≤ total (λ x. if asks_source x.work then in_record p x else 0) s.host.records) src (within (λ x. if asks_source x.work then in_record p x else 0)) in
-        let b : in_record p r' ≤ total (λ x. if asks_source x.work then 0 else in_record p x) s.host.records =
-        subst (λ (b : Bool). (if b then 0 else in_record p r') ≤ total (λ x. if asks_source x.work then 0 else in_record p x) s.host.records) far (within' (λ x. if asks_source x.work then 0 else in_record p x)) in
-        absurd (omega (arith, a, b, both s.host.records, owned_once _ p s.host g.stands.0, held_once p (pages_of r) (data_of r p own), held_once p (pages_of r') (data_of r' p e)))
+        each b = grind arith
 
 source_walk : (s : State) (q cid : ℕ) → refusal_of s (events.Walk q cid) ≡ None → Stood s → (r : Record) → In r s.host.records → asks_source r.work ≡ true → (p : ℕ) → is_among r.data_pages p ≡ true
     → page_at (a.after_walk q cid s).memory p ≡ page_at s.memory p
@@ -134,16 +147,6 @@ source_stays s e (events.Refused why touched) ok stood r within sub src p own = 
 source_stays s (events.Walk q cid) reply ok stood r within sub src p own = source_walk s q cid ok.0 stood r within src p own
 source_stays s e reply ok stood r within sub src p own = untouched s e reply ok refl stood.grounds p (counts_sent s r within sub p (data_of r p own))
 
--- every job's list stays
-pub lists_stay : (s : State) (e : Event) (reply : Reply) → Accepts s e reply → Stood s → ListsStay s (a.after s e reply).memory
-lists_stay s e (events.Refused why touched) ok stood = stay_untouched s e (events.Refused why touched) ok (no_walk e ok) stood
-  where
-    no_walk : (e : Event) → Accepts s e (events.Refused why touched) → is_walk e ≡ false
-    no_walk (events.Walk q cid) ok = absurd ok.1
-    no_walk e ok = refl
-lists_stay s (events.Walk q cid) reply ok stood = stay_walk s q cid ok.0 stood
-lists_stay s e reply ok stood = stay_untouched s e reply ok refl stood
-
 -- Records
 
 pub stand_still : (m m' : Pages) (own : List ℕ) → ((p : ℕ) → is_among own p ≡ true → page_at m' p ≡ page_at m p) → (pages : PagesOut) → ((p : ℕ) → is_among (numbers_of pages) p ≡ true → is_among own p ≡ true)
@@ -157,8 +160,7 @@ stand_still m m' own same (page ∷ pages) sub h = (
 -- where the identifier is not one that was just submitted, its latest draft stays
 pub same_draft : (s : State) (e : Event) (reply : Reply) (drafts : List DraftContents) (q cid : ℕ) → ((d : DraftContents) → e ≡ events.Submit d → ((d.q == q) && (d.cid == cid)) ≡ false)
     → draft_of q cid (submitted_by e reply ++ drafts) ≡ draft_of q cid drafts
-same_draft s (events.Submit d) events.Accepted drafts q cid far = ap (λ (b : Bool). if b then Some d else draft_of q cid drafts) (far d refl)
-same_draft s e reply drafts q cid far = refl
+same_draft s e reply drafts q cid far = grind arith
 
 -- the record of a draft that is submitted, and that no submitted command has its identifier
 pub unsent : (s : State) (d : DraftContents) → Grounds s → (r : Record) → record_at s.host d.q d.cid ≡ Some r → is_submitted r.phase ≡ false → total (sent d.q (λ n. one (n == d.cid))) s.host.records ≡ 0
@@ -177,29 +179,22 @@ submit_record s d none = let x = draft_found s d none in (x.0, x.1.found, x.1.is
 
 -- so another submitted command's identifier is not the draft's
 other_draft : (s : State) (e : Event) (reply : Reply) → Accepts s e reply → Grounds s → (r : Record) → In r s.host.records → is_submitted r.phase ≡ true → (d : DraftContents) → e ≡ events.Submit d → ((d.q == r.q) && (d.cid == r.cid)) ≡ false
-other_draft s (events.Submit d') reply ok g r within sub d is = go ((d.q == r.q) && (d.cid == r.cid)) refl
+other_draft s (events.Submit d') reply ok g r within sub d is = elim (cases_Bool ((d.q == r.q) && (d.cid == r.cid))) [
+  | inl e ↦
+      let ids = and_parts (d.q == r.q) (d.cid == r.cid) e in
+      let x = submit_record s d (subst (λ (x : DraftContents). refusal_of s (events.Submit x) ≡ None) same ok.0) in
+      let quiet = drafted_not x.0.phase (pages_match is_drafted d.request d.data_pages d.chain_pages x.0 x.2).1 in
+      let counts : sent d.q (λ n. one (n == d.cid)) r ≡ 1 = rw (eq-eqb r.q d.q (sym (eqb-true d.q r.q ids.0)), sub, eq-eqb r.cid d.cid (sym (eqb-true d.cid r.cid ids.1))) refl in
+      absurd (omega (arith, within (sent d.q (λ n. one (n == d.cid))), counts, unsent s d g x.0 x.1 quiet))
+  | inr e ↦ e
+]
   where
     same : d' ≡ d
     same = draft_is is
       where
         draft_is : {x y : DraftContents} → events.Submit x ≡ events.Submit y → x ≡ y
         draft_is e = cc
-
-    none : refusal_of s (events.Submit d) ≡ None
-    none = subst (λ (x : DraftContents). refusal_of s (events.Submit x) ≡ None) same ok.0
-
-    go : (b : Bool) → ((d.q == r.q) && (d.cid == r.cid)) ≡ b → ((d.q == r.q) && (d.cid == r.cid)) ≡ false
-    go false e = e
-    go true e =
-        let ids = and_parts (d.q == r.q) (d.cid == r.cid) e in
-        let x = submit_record s d none in
-        let quiet = drafted_not x.0.phase (pages_match is_drafted d.request d.data_pages d.chain_pages x.0 x.2).1 in
-        let counts : sent d.q (λ n. one (n == d.cid)) r ≡ 1 = rw (eq-eqb r.q d.q (sym (eqb-true d.q r.q ids.0)), sub, eq-eqb r.cid d.cid (sym (eqb-true d.cid r.cid ids.1))) refl in
-        absurd (omega (arith, within (sent d.q (λ n. one (n == d.cid))), counts, unsent s d g x.0 x.1 quiet))
-other_draft s e reply ok g r within sub d is = absurd (no_submit is)
-  where
-    no_submit : e ≡ events.Submit d → ⊥
-    no_submit is = cc
+other_draft s e reply ok g r within sub d is = absurd (cc)
 
 all_pages : (m : Pages) (pages : PagesOut) → ArePages pages → AllByRecursion (λ (page : ℕ × List ℕ). page_at m page.0 ≡ Some page.1) pages → AllByRecursion (Stands m) pages
 all_pages m [] whole h = tt
@@ -271,3 +266,158 @@ records_known drafts s e reply proper ok stood = record {
         asks : asks_for d.request (Io request) ≡ true
         asks = ap (asks_for d.request) (sym w) ∙ (and_parts (is_drafted r.phase) (asks_for d.request r.work) both.0).1
     new d reply proper ok entry r built at fits w w' = absurd ok.1
+
+-- Each event keeps what is known of source commands, and a source's job that went well has its draft's bytes.
+
+-- The jobs of sources
+
+pub source_request : (s : State) (j : Job) (l : JobList s j) → direction_of_entry j.entry ≡ Source → direction_of l.request.kind ≡ Source
+source_request s j l dir = sym (entry_direction l.command.cid l.request (spelling l.list.first)) ∙ ap direction_of_entry (sym l.entry) ∙ dir
+
+pub course_stays : (s : State) (e : Event) (reply : Reply) → Accepts s e reply → Stood s → (j : Job) (l : JobList s j) → course_of (a.after s e reply) j ≡ course_of s j
+course_stays s e reply ok stood j l =
+    let stay = lists_stay s e reply ok stood in
+    same_list s (a.after s e reply) stood j l (stay.chains l.command l.within l.phase) (stay.own l.command l.within l.phase)
+
+-- what so many units carry is the same after the event
+still_carried : (s : State) (e : Event) (reply : Reply) → Accepts s e reply → Stood s → (j : Job) (l : JobList s j) → direction_of_entry j.entry ≡ Source → (t : ℕ) (bytes : List ℕ)
+    → carried (a.after s e reply).memory (take t (units (course_of (a.after s e reply) j))) bytes ≡ carried s.memory (take t (units (course_of s j))) bytes
+still_carried s e reply ok stood j l dir t bytes =
+    ap (λ (c : Course). carried (a.after s e reply).memory (take t (units c)) bytes) (course_stays s e reply ok stood j l)
+    ∙ carried_same l.command.chain_pages l.command.data_pages s.memory (a.after s e reply).memory
+    (source_stays s e reply ok stood l.command l.within l.phase (source_asks l.command l.request l.work (source_request s j l dir))) (course_of s j) t bytes (course_in s j l)
+
+pub fault_fails : (blocks : ℕ) (e : SubEntry) (st : Status) → io_fault blocks e ≡ Some st → is_success st ≡ false
+fault_fails blocks e st h =
+    go (is_none (kind_of_opcode e.opcode)) (not (e.nsid == 1)) (not (e.fuse == 0) || not (e.psdt == 1)) (nat_lt 2048 (block_number e)) (nat_lt blocks (first_block e + block_number e)) h
+  where
+    is_it : {x y : Status} → Some x ≡ Some y → is_success x ≡ false → is_success y ≡ false
+    is_it e h = subst (λ (s : Status). is_success s ≡ false) (some_is e) h
+
+    go : (a b c d f : Bool) → first_passing ((a, INVALID_OPCODE) ∷ (b, INVALID_NAMESPACE) ∷ (c, INVALID_FIELD) ∷ (d, INVALID_FIELD) ∷ (f, LBA_OUT_OF_RANGE) ∷ []) ≡ Some st → is_success st ≡ false
+    go true b c d f h = is_it h refl
+    go false true c d f h = is_it h refl
+    go false false true d f h = is_it h refl
+    go false false false true f h = is_it h refl
+    go false false false false true h = is_it h refl
+    go false false false false false h = absurd cc
+
+-- a job that has its verdict from a walk has done all its units
+pub over_units : (k : ℕ) (c : Course) (st : Status) → verdict_of (answer (after_units k c)) ≡ Some st → length (units c) ≤ k
+over_units zero (Closes v) st h = omega arith
+over_units (suc k) (Closes v) st h = omega arith
+over_units zero (Does x rest) st h = absurd cc
+over_units (suc k) (Does x rest) st h = omega (arith, over_units k rest st h)
+
+begun_carries : (t : State) (image : List ℕ) (blocks q : ℕ) (e : SubEntry) → direction_of_entry e ≡ Source → (o : Option Status) → io_fault blocks e ≡ o → goes_well o ≡ true
+    → Carries t (a.new_job q e o 0 (bytes_after_check image e o))
+begun_carries t image blocks q e dir (Some st) f well = absurd (true≢false (sym well ∙ fault_fails blocks e st f))
+begun_carries t image blocks q e dir None f well = record { bytes = go (kind_of_opcode e.opcode) refl dir; over = λ st v. absurd (none_some v) }
+  where
+    go : (k : Option Kind) → kind_of_opcode e.opcode ≡ k → direction_by k ≡ Source → first_bytes image e k ≡ replicate (need_of_entry e) 0
+    go None is d = absurd (none_some (sym f ∙ ap (λ (k : Option Kind). first_passing ((is_none k, INVALID_OPCODE) ∷ (not (e.nsid == 1), INVALID_NAMESPACE) ∷ (not (e.fuse == 0) || not (e.psdt == 1), INVALID_FIELD)
+        ∷ (nat_lt 2048 (block_number e), INVALID_FIELD) ∷ (nat_lt blocks (first_block e + block_number e), LBA_OUT_OF_RANGE) ∷ [])) is))
+    go (Some Read) is d = absurd cc
+    go (Some Write) is d = refl
+    go (Some Compare) is d = refl
+
+is_did : (s : State) (j : Job) (act : Act) → walked_bytes s j Source act ≡ did s.memory act j.bytes
+is_did s j act = grind arith
+
+pub jobs_known : (s : State) (e : Event) (reply : Reply) → Accepts s e reply → Stood s → JobsMove (JobKnown s) (JobKnown (a.after s e reply)) s e
+jobs_known s e reply ok stood = record {
+  stays = λ k j at far known other dir well.
+      let c = known other dir well in
+      let l = job_list s stood j (in_at s.device.jobs k j at) other (λ P all. all_at P s.device.jobs k j at all) in
+      record {
+        bytes = c.bytes ∙ sym (still_carried s e reply ok stood j l dir j.units_done (replicate (need_of_entry j.entry) 0));
+        over = λ st v. subst (λ (x : Course). length (units x) ≤ j.units_done) (sym (course_stays s e reply ok stood j l)) (c.over st v);
+      };
+  fails = λ k j st waiting at far lost none known other dir well. absurd (true≢false (sym well ∙ lost));
+  manages = λ entry st dw0 is next free other. absurd (true≢false other);
+  begins = λ q entry is next not0 free other dir well. begun_carries (a.after s e reply) s.device.image (a.image_blocks s) q entry dir (io_fault (a.image_blocks s) entry) refl well;
+  walks = λ q cid j act is w u known other dir well.
+      let c = known other dir (ap goes_well w.verdict) in
+      record {
+        bytes = ap (λ (d : Direction). walked_bytes s j d act) dir ∙ is_did s j act ∙ ap (did s.memory act) c.bytes
+            ∙ sym (carried_more s.memory (units (course_of s j)) j.units_done act (replicate (need_of_entry j.entry) 0) u)
+            ∙ sym (still_carried s e reply ok stood j w.list dir (j.units_done + 1) (replicate (need_of_entry j.entry) 0));
+        over = λ st v. subst (λ (x : Course). length (units x) ≤ j.units_done + 1) (sym (course_stays s e reply ok stood j w.list)) (over_units (j.units_done + 1) (course_of s j) st v);
+      };
+}
+
+-- Every event
+
+-- no draft is of queue 0
+drafts_elsewhere : (s : State) (e : Event) (reply : Reply) → Accepts s e reply → Stood s → (d : DraftContents) → e ≡ events.Submit d → (d.q == 0) ≡ false
+drafts_elsewhere s e reply ok stood d is =
+    let none : refusal_of s (events.Submit d) ≡ None = subst (λ (x : Event). refusal_of s x ≡ None) is ok.0 in
+    let r = submit_record s d none in
+    of r.0 (ids_of s d.q d.cid r.0 r.1).0 r.0.work refl (asked r.0 r.2) (all_at_found (λ r. OwnsFit r.q r.work (pages_of r)) (is_at d.q d.cid) s.host.records r.0 r.1 stood.grounds.stands.0.admins)
+  where
+    asked : (r : Record) → is_of is_drafted d.request (numbers_of d.data_pages) (numbers_of d.chain_pages) r ≡ true → asks_for d.request r.work ≡ true
+    asked r h = (and_parts (is_drafted r.phase) (asks_for d.request r.work) (and_parts (is_drafted r.phase && asks_for d.request r.work) _ (and_parts (is_drafted r.phase && asks_for d.request r.work && _) _ h).0).0).1
+
+    of : (r : Record) → r.q ≡ d.q → (w : Work) → r.work ≡ w → asks_for d.request r.work ≡ true → OwnsFit r.q r.work (pages_of r) → (d.q == 0) ≡ false
+    of r same (Io request) is asks fit =
+        let fit' : OwnsFit r.q (Io request) (pages_of r) = subst (λ (x : Work). OwnsFit r.q x (pages_of r)) is fit in
+        ap (λ (n : ℕ). n == 0) (sym same) ∙ fit'
+    of r same (Management adm) is asks fit = absurd (true≢false (sym asks ∙ ap (asks_for d.request) is))
+
+pub known_on : (drafts : List DraftContents) (s : State) (e : Event) (reply : Reply) → IsProper e → Accepts s e reply → Stood s → Known drafts s → Known (submitted_by e reply ++ drafts) (a.after s e reply)
+known_on drafts s e reply proper ok stood h = record {
+  records = records_event (RecordKnown drafts s.memory) (RecordKnown (submitted_by e reply ++ drafts) (a.after s e reply).memory) s e reply (records_known drafts s e reply proper ok stood) ok stood.grounds h.records;
+  jobs = jobs_event (JobKnown s) (JobKnown (a.after s e reply)) s e reply (jobs_known s e reply ok stood) ok stood h.jobs;
+  no_admin = λ cid. same_draft s e reply drafts 0 cid (λ d is. ap (λ (b : Bool). b && (d.cid == cid)) (drafts_elsewhere s e reply ok stood d is)) ∙ h.no_admin cid;
+}
+
+-- What a job has carried in the end
+
+pub page_found : (m : Pages) (pages : PagesOut) → AllByRecursion (Stands m) pages → (p : ℕ) → is_among (numbers_of pages) p ≡ true → (page : List ℕ) × (page_at m p ≡ Some page) × (length page ≡ 4096)
+page_found m [] h p e = absurd (true≢false (sym e))
+page_found m (page ∷ pages) h p e = go (page.0 == p) refl e (λ e'. page_found m pages h.1 p e')
+  where
+    go : (b : Bool) → (page.0 == p) ≡ b → (b || is_among (numbers_of pages) p) ≡ true → (is_among (numbers_of pages) p ≡ true → (x : List ℕ) × (page_at m p ≡ Some x) × (length x ≡ 4096)) → (x : List ℕ) × (page_at m p ≡ Some x) × (length x ≡ 4096)
+    go true is e ih = (page.1, ap (page_at m) (sym (eqb-true page.0 p is)) ∙ h.0.0, h.0.1)
+    go false is e ih = ih e
+
+take_all : {A : Type 0} (xs : List A) (k : ℕ) → length xs ≤ k → take k xs ≡ xs
+take_all [] zero h = refl
+take_all [] (suc k) h = refl
+take_all (x ∷ xs) zero h = absurd (omega (arith, h))
+take_all (x ∷ xs) (suc k) h = ap (λ ys. x ∷ ys) (take_all xs k (omega (arith, h)))
+
+pub all_carried : (s : State) → Stood s → (j : Job) (l : JobList s j) → direction_of_entry j.entry ≡ Source → (pages : PagesOut) → numbers_of pages ≡ l.command.data_pages → AllByRecursion (Stands s.memory) pages
+    → (st : Status) → j.verdict ≡ Some st → Carries s j → j.bytes ≡ gathered l.request.pieces pages
+all_carried s stood j l dir pages numbers stand st v c =
+    c.bytes ∙ ap (λ (us : List Act). carried s.memory us (replicate (need_of_entry j.entry) 0)) (take_all (units (course_of s j)) j.units_done (c.over st v))
+    ∙ sym (none_discarded (targets (direction_of_entry j.entry) parts) (carried s.memory (units (course_of s j)) (replicate (need_of_entry j.entry) 0))
+    (subst (λ (d : Direction). AllByRecursion IsPlace (targets d parts)) (sym dir) (source_places parts)) long)
+    ∙ all_stand s.memory (targets (direction_of_entry j.entry) parts) (gathered l.request.pieces pages) (carried s.memory (units (course_of s j)) (replicate (need_of_entry j.entry) 0))
+    (subst (λ (ns : List ℕ). Gathers' ns) numbers (gathers_pieces s.memory (direction_of_entry j.entry) l.request.pieces pages (good_is l.request l.sized.good).crosses stand))
+    long (λ i p x target is. carried_byte s.memory (targets (direction_of_entry j.entry) parts) i p x target is (course_of s j) (replicate (need_of_entry j.entry) 0) to start (inl (all i p target)))
+  where
+    parts : List Part
+    parts = parts_of l.request.pieces l.command.data_pages
+
+    Gathers' : List ℕ → Type 0
+    Gathers' ns = Gathers s.memory (targets (direction_of_entry j.entry) (parts_of l.request.pieces ns)) (gathered l.request.pieces pages)
+
+    whole : CourseWhole s j (parts_of l.request.pieces l.command.data_pages)
+    whole = course_whole s stood j l
+
+    to : MovesTo s.memory (targets (direction_of_entry j.entry) (parts_of l.request.pieces l.command.data_pages)) (course_of s j)
+    to = moves_to s.memory (memory_of s.memory) (direction_of_entry j.entry) (need_of_entry j.entry) l.command.chain_pages l.command.data_pages (targets (direction_of_entry j.entry) (parts_of l.request.pieces l.command.data_pages))
+        (λ p own. page_found s.memory pages stand p (ap (λ (ns : List ℕ). is_among ns p) numbers ∙ own)) (course_of s j) (taken (direction_of_entry j.entry) (need_of_entry j.entry) [] (descriptor_of j.entry.sgl1))
+        (list_moves_along (memory_of s.memory) j.entry.sgl1 (direction_of_entry j.entry) (need_of_entry j.entry)) whole.takes (course_in s j l)
+
+    start : length {A = ℕ} (replicate (need_of_entry j.entry) 0) ≡ length (targets (direction_of_entry j.entry) (parts_of l.request.pieces l.command.data_pages))
+    start = length-replicate (need_of_entry j.entry) 0 ∙ sym whole.counts ∙ sym (length-targets (direction_of_entry j.entry) (parts_of l.request.pieces l.command.data_pages))
+
+    long : length (carried s.memory (units (course_of s j)) (replicate (need_of_entry j.entry) 0)) ≡ length (targets (direction_of_entry j.entry) (parts_of l.request.pieces l.command.data_pages))
+    long = carried_length s.memory (targets (direction_of_entry j.entry) (parts_of l.request.pieces l.command.data_pages)) (course_of s j) (replicate (need_of_entry j.entry) 0) to start
+
+    all : (i p : ℕ) → slice_get (targets (direction_of_entry j.entry) (parts_of l.request.pieces l.command.data_pages)) i ≡ Some (Place p) → MovesByte i (course_of s j)
+    all i p target =
+        list_moves_all (memory_of s.memory) j.entry.sgl1 (direction_of_entry j.entry) (need_of_entry j.entry) whole.ends i p
+        (ap (λ (ts : List Target). slice_get ts i) whole.takes ∙ target)

@@ -1,47 +1,198 @@
--- The laws of Reads: one that ended well gives its blocks, and one that was stopped so many of their first bytes.
-use Rattle.std.proofs.Common.{◌≡◌, ℕ, zero, suc, ◌==◌, Bool, true, false, not, ◌||◌, Option, Some, None, List, [], ◌∷◌, ◌++◌, length, replicate, if◌then◌else◌, refl, ap, sym, ◌∙◌, arith, subst, eq-eqb, append_assoc}
-use Rattle.std.specs.Option.{option_map_or, option_map, option_and_then}
-use Rattle.std.specs.List.{AllByRecursion, list_any}
-use Rattle.std.proofs.lemmas.Bool.{true≢false, not-false, or_parts, or_left, or_right}
+-- The laws of ends and of Reads.
+use Rattle.machine_model.specs.declared.words.Refusal.TheVariants as refusal
+use Rattle.machine_model.specs.Events as events
+use Rattle.std.proofs.Common.{◌≡◌, ◌⊎◌, inl, inr, ℕ, ◌==◌, nat_lt, Bool, true, false, not, ◌&&◌, ◌||◌, Option, Some, None, List, [], ◌∷◌, ◌++◌, option_and_then, refl, ap, ap₂, sym, ◌∙◌, arith, subst, eqb-true, zero, suc, length, replicate, if◌then◌else◌, eq-eqb, append_assoc}
+use Rattle.std.specs.Option.{option_map_or, option_map}
+use Rattle.std.specs.List.{list_any, AllByRecursion}
+use Rattle.std.proofs.lemmas.Bool.{true≢false, and_parts, not-false, or_parts, or_left, or_right, not-true}
+use Rattle.std.proofs.lemmas.Bool.Decides.{nat_tests}
 use Rattle.std.proofs.lemmas.List.{length-replicate}
+use Rattle.entry_codec.specs.declared.completion.ComEntry.{ComEntry}
+use Rattle.entry_codec.specs.declared.status.Status.{Status}
+use Rattle.entry_codec.specs.declared.status.TheConstants.Status.{SUCCESS, ABORT_REQUESTED, ABORTED_SQ_DELETION, LBA_OUT_OF_RANGE, COMPARE_FAILURE}
+use Rattle.io_commands.specs.Jobs.{is_success}
+use Rattle.io_commands.specs.Values.{FinishedContents, numbers_of}
+use Rattle.machine_model.specs.Status.{same_status}
+use Rattle.machine_model.specs.Work.{Work}
+use Rattle.machine_model.specs.declared.words.Work.TheVariants.{Io, Management}
+use Rattle.machine_model.specs.declared.words.Phase.{Phase}
+use Rattle.machine_model.specs.declared.words.Reaped.TheVariants.{Empty, Done}
+use Rattle.machine_model.specs.Claims.{OwnsFit}
+use Rattle.machine_model.specs.State.{State, Record, is_at, record_at, pages_of}
+use Rattle.machine_model.specs.Refusals.{is_submitted, is_held, record_is, entry_of, refusal_of}
+use Rattle.machine_model.specs.Step.{Step, reaped_entry, finished_from, asked_by, pages_with_bytes}
+use Rattle.machine_model.specs.Events.{Event, Reply}
+use Rattle.machine_model.specs.Image.{Made, draft_of, image_after, undiscarded}
+use Rattle.machine_model.specs.Trusted.{TrustedRun, drafts_of}
+use Rattle.run_laws.specs.Statuses.{aborts, deletes, since_fetch, passes_image, is_compare, fetches}
+use Rattle.machine_model.proofs.Steps.{Accepts, permitted}
+use Rattle.machine_model.proofs.Refused.{first_fails, rest_fails}
+use Rattle.run_laws.proofs.Causes.{statuses_have_causes}
+use Rattle.machine_agreement.proofs.JobLaws.{not_zero as positive}
+use Rattle.run_laws.proofs.Moves.{told_entry}
+use Rattle.machine_model.proofs.Out.{named, status_in}
+use Rattle.machine_agreement.proofs.Members.{all_at_found, some_is}
+use Rattle.machine_agreement.proofs.PlacesKept.{reaped_answer, ids_of}
+use Rattle.run_laws.specs.Ends.{retires_by, WasCompleted, WasLost, WasLostByReset, CauseOfEnd, Succeeded, Aborted, Stopped, Lost, LostByReset, PastImage, Differed, ends_come_from_completions, retired_queues_were_deleted, collects_tell_how_commands_ended, every_collect_has_its_cause}
+use Rattle.machine_agreement.proofs.Along.{Before, keeps, run_before}
+use Rattle.run_laws.proofs.EndsTold.{DeletedSince, CompletedIn, EndedIn, AnswerTold, HeldTold, Told, told_carried, told_at_opening, deleted_before, first_told}
+use Rattle.machine_agreement.proofs.Cases.{option_is}
 use Rattle.page_ledger.specs.Owners.{is_among}
 use Rattle.block_image.specs.Blocks.{blocks_at}
 use Rattle.page_memory.specs.Pages.{Pages, page_at}
 use Rattle.sgl_descriptor.specs.declared.Direction.TheVariants.{Destination}
 use Rattle.sgl_descriptor.specs.Targets.{targets}
-use Rattle.entry_codec.specs.declared.status.Status.{Status}
 use Rattle.io_commands.specs.Asked.{Request}
-use Rattle.io_commands.specs.declared.request.Kind.{Kind}
-use Rattle.io_commands.specs.declared.request.Kind.TheVariants.{Read, Write, Compare}
+use Rattle.io_commands.specs.declared.request.Kind.TheVariants.{Read}
 use Rattle.io_commands.specs.Requests.{parts_of}
 use Rattle.io_commands.specs.DataBytes.{PagesOut, gathered}
 use Rattle.io_commands.specs.Drafts.{DraftContents}
-use Rattle.io_commands.specs.Values.{FinishedContents, numbers_of}
-use Rattle.machine_model.specs.Work.{Work}
-use Rattle.machine_model.specs.declared.words.Work.TheVariants.{Io, Management}
-use Rattle.machine_model.specs.State.{State, Record, is_at, record_at}
-use Rattle.machine_model.specs.declared.words.Phase.{Phase}
-use Rattle.machine_model.specs.declared.words.Phase.TheVariants.{Drafted, Submitted, Held, Collected}
-use Rattle.machine_model.specs.Refusals.{is_submitted, is_held, record_is, refusal_of}
-use Rattle.machine_model.specs.Image.{Made, draft_of, image_after, undiscarded}
-use Rattle.machine_model.specs.Trusted.{TrustedRun, drafts_of}
-use Rattle.run_laws.specs.Statuses.{fetches}
 use Rattle.run_laws.specs.Blocks.{collected_of, is_read, blocks_of_request, partly, reads_give_their_blocks, stopped_reads_give_a_prefix}
-use Rattle.machine_model.specs.Step.{Step, finished_from, asked_by, pages_with_bytes}
-use Rattle.machine_model.specs.Events as events
-use Rattle.machine_model.specs.declared.words.Refusal.TheVariants as refusal
-use Rattle.machine_model.specs.Events.{Event, Reply}
-use Rattle.machine_model.proofs.Refused.{first_fails, rest_fails}
-use Rattle.machine_agreement.proofs.Members.{all_at_found}
 use Rattle.machine_agreement.proofs.Entered.{good_is}
 use Rattle.machine_agreement.proofs.Served.{Stood}
-use Rattle.machine_agreement.proofs.Along.{Before}
 use Rattle.run_laws.proofs.Images.{imaged_before}
-use Rattle.run_laws.proofs.Gathered.{Gathers, Stands, gathers_pieces, all_stand, some_stand}
-use Rattle.run_laws.proofs.Reading.{Images, fetched_in, read_targets, read_blocks, ReadSoFar, ReadIfIo, ReadRecord, Member, members, sized_of}
-use Rattle.run_laws.proofs.ReadsKept.{targets_length, blocks_length}
-use Rattle.run_laws.proofs.ReadsAlong.{ReadsSo, images_of, images_append, reads_before}
-use Rattle.machine_model.proofs.Steps.{permitted}
+use Rattle.run_laws.proofs.Carrying.{Gathers, Stands, gathers_pieces, all_stand, some_stand}
+use Rattle.run_laws.proofs.ReadsKept.{Images, fetched_in, read_targets, read_blocks, ReadSoFar, ReadIfIo, ReadRecord, Member, members, sized_of, targets_length, blocks_length}
+use Rattle.run_laws.proofs.ReadsWalked.{ReadsSo, images_of, images_append, reads_before}
+
+-- How commands end, in each trusted run.
+
+told_before : (image : List ℕ) (earlier later : List Made) (m : Made) (end : State) → TrustedRun image (earlier ++ m ∷ later) end → Before Told earlier m
+told_before image = run_before Told (keeps Told told_carried) image (λ pages queues n s opens. told_at_opening pages queues n s image opens)
+
+with_cause : (image : List ℕ) (earlier later : List Made) (m : Made) (end : State) (q cid : ℕ) (st : Status) → TrustedRun image (earlier ++ m ∷ later) end → nat_lt 0 q ≡ true → CompletedIn earlier q cid st → WasCompleted earlier q cid st
+with_cause image earlier later m end q cid st run io c = record {
+  before = c.before;
+  completion = c.completion;
+  between = c.between;
+  parts = c.parts;
+  given = c.given;
+  since = ap not c.since;
+  cause = statuses_have_causes image c.before (c.between ++ m ∷ later) c.completion end q cid st
+      (subst (λ (ms : List Made). TrustedRun image ms end) (ap (λ (xs : List Made). xs ++ m ∷ later) c.parts ∙ append_assoc c.before (c.completion ∷ c.between) (m ∷ later)) run) io c.given;
+}
+
+above : (q : ℕ) → (q == 0) ≡ false → nat_lt 0 q ≡ true
+above q h = grind (arith, nat_tests, h)
+
+-- Reaping
+
+reap_told : (done : List Made) (s next : State) (q cid : ℕ) (st : Status) → Step s (events.Reap q) (events.Reaps (Done cid st)) next → s.trusted ≡ true → (q == 0) ≡ false → Told done s → CompletedIn done q cid st
+reap_told done s next q cid st step t other h =
+    let ok = permitted _ s.trusted true t step.1 in
+    let an = reaped_answer s q cid t (ap named (sym ok.1)) in
+    let told = first_told (AnswerTold done q) s.device.queues q an.0 an.1 (h.answers q other) in
+    let status : an.0.status ≡ st = told_entry s q (entry_of q an.0) st (sym (ap (λ (o : Option ComEntry). status_in (option_map_or (reaped_entry s q) o Empty)) an.3) ∙ ap status_in (sym ok.1)) in
+    subst (λ (x : ℕ). CompletedIn done q x st) an.2 (subst (CompletedIn done q an.0.cid) status told)
+
+pub runs_end_by_completions : ends_come_from_completions
+runs_end_by_completions image earlier later m end q cid st run io is_event is_reply =
+    let b = told_before image earlier later m end run in
+    let step = subst (λ (r : Reply). Step m.before (events.Reap q) r b.next) is_reply (subst (λ (e : Event). Step m.before e m.reply b.next) is_event b.step) in
+    with_cause image earlier later m end q cid st run io (reap_told earlier m.before b.next q cid st step b.trusted (positive q io) b.holds)
+
+-- Retiring
+
+retire_told : (done : List Made) (s next : State) (e : Event) (reply : Reply) (q : ℕ) → Step s e reply next → s.trusted ≡ true → Told done s → retires_by q e reply ≡ true → DeletedSince q done
+retire_told done s next (events.Retire k) events.Accepted q step t h is =
+    let ok = permitted _ s.trusted true t step.1 in
+    let same : k ≡ q = eqb-true k q is in
+    subst (λ (n : ℕ). DeletedSince n done) same (deleted_before done s k h.stood h.gone ok.0)
+retire_told done s next e reply q step t h is = absurd (true≢false (sym is))
+
+pub runs_retire_deleted : retired_queues_were_deleted
+runs_retire_deleted image earlier later m end q run is =
+    let b = told_before image earlier later m end run in
+    retire_told earlier m.before b.next m.event m.reply q b.step b.trusted b.holds is
+
+-- Collecting
+
+pub only_held : (ph : Phase) → (is_submitted ph || is_held ph) ≡ true → is_submitted ph ≡ false → is_held ph ≡ true
+only_held ph e f = grind arith
+
+record CollectTold (done : List Made) (q cid : ℕ) (st : Status) : Type 0 where
+  io : (q == 0) ≡ false
+  ended : EndedIn done q cid st
+
+collect_told : (done : List Made) (s next : State) (q cid : ℕ) (f : FinishedContents) → Step s (events.Collect q cid) (events.Collects f) next → s.trusted ≡ true → Told done s → CollectTold done q cid f.status
+collect_told done s next q cid f step t h = go (record_at s.host q cid) refl (not-false _ there) sent ok.1
+  where
+    ok : Accepts s (events.Collect q cid) (events.Collects f)
+    ok = permitted _ s.trusted true t step.1
+
+    there : not (record_is (λ r. is_submitted r.phase || is_held r.phase) s q cid) ≡ false
+    there = first_fails (not (record_is (λ r. is_submitted r.phase || is_held r.phase) s q cid)) refusal.Stranger ((record_is (λ r. is_submitted r.phase) s q cid, refusal.NotYet) ∷ []) ok.0
+
+    sent : record_is (λ r. is_submitted r.phase) s q cid ≡ false
+    sent = first_fails (record_is (λ r. is_submitted r.phase) s q cid) refusal.NotYet []
+        (rest_fails (not (record_is (λ r. is_submitted r.phase || is_held r.phase) s q cid)) refusal.Stranger ((record_is (λ r. is_submitted r.phase) s q cid, refusal.NotYet) ∷ []) ok.0)
+
+    of_work : (r : Record) → record_at s.host q cid ≡ Some r → is_held r.phase ≡ true → (w : Work) → r.work ≡ w → OwnsFit r.q w (pages_of r)
+        → option_and_then (λ asked. option_map (λ st. record { q = r.q; cid = r.cid; request = asked; status = st; data_pages = pages_with_bytes s.memory r.data_pages; chain_pages = pages_with_bytes s.memory r.chain_pages }) r.status) (asked_by w) ≡ Some f
+        → CollectTold done q cid f.status
+    of_work r at held (Io request) is fit e =
+        let ids = ids_of s q cid r at in
+        let told = all_at_found (HeldTold done) (is_at q cid) s.host.records r at h.held held f.status (grind arith) in
+        record {
+          io = ap (λ (x : ℕ). x == 0) (sym ids.0) ∙ fit;
+          ended = subst (λ (x : ℕ). EndedIn done x cid f.status) ids.0 (subst (λ (x : ℕ). EndedIn done r.q x f.status) ids.1 told);
+        }
+    of_work r at held (Management adm) is fit e = absurd cc
+
+    go : (o : Option Record) → record_at s.host q cid ≡ o → option_map_or (λ r. is_submitted r.phase || is_held r.phase) o false ≡ true → option_map_or (λ r. is_submitted r.phase) o false ≡ false → option_and_then (finished_from s) o ≡ Some f
+        → CollectTold done q cid f.status
+    go None at e g k = absurd (true≢false (sym e))
+    go (Some r) at e g k =
+        of_work r at (only_held r.phase e g) r.work refl (all_at_found (λ r. OwnsFit r.q r.work (pages_of r)) (is_at q cid) s.host.records r at h.stood.grounds.stands.0.admins) k
+
+collect_at : (image : List ℕ) (earlier later : List Made) (m : Made) (end : State) (q cid : ℕ) (f : FinishedContents) → TrustedRun image (earlier ++ m ∷ later) end
+    → m.event ≡ events.Collect q cid → m.reply ≡ events.Collects f → CollectTold earlier q cid f.status
+collect_at image earlier later m end q cid f run is_event is_reply =
+    let b = told_before image earlier later m end run in
+    let step = subst (λ (r : Reply). Step m.before (events.Collect q cid) r b.next) is_reply (subst (λ (e : Event). Step m.before e m.reply b.next) is_event b.step) in
+    collect_told earlier m.before b.next q cid f step b.trusted b.holds
+
+pub runs_tell_ends : collects_tell_how_commands_ended
+runs_tell_ends image earlier later m end q cid f run is_event is_reply = go told.ended
+  where
+    told : CollectTold earlier q cid f.status
+    told = collect_at image earlier later m end q cid f run is_event is_reply
+
+    go : EndedIn earlier q cid f.status → WasCompleted earlier q cid f.status ⊎ WasLost earlier q cid f.status ⊎ WasLostByReset earlier q cid f.status
+    go (inl c) = inl (with_cause image earlier later m end q cid f.status run (above q told.io) c)
+    go (inr c) = inr c
+
+-- The five statuses
+
+same_is : (a b : Status) → same_status a b ≡ true → a ≡ b
+same_is a b h =
+    let parts = and_parts (a.sct == b.sct) (a.sc == b.sc) h in
+    ap₂ (λ (x y : ℕ). record { sct = x; sc = y }) (eqb-true a.sct b.sct parts.0) (eqb-true a.sc b.sc parts.1)
+
+one_of_five : (earlier : List Made) (q cid : ℕ) (st : Status) (c : WasCompleted earlier q cid st) → CauseOfEnd earlier q cid st
+one_of_five earlier q cid st c =
+    go (is_success st) refl (same_status st ABORT_REQUESTED && list_any (aborts q cid) (since_fetch q cid c.before)) refl (same_status st ABORTED_SQ_DELETION && list_any (deletes q) (since_fetch q cid c.before)) refl
+    (same_status st LBA_OUT_OF_RANGE && passes_image c.completion q cid) refl (same_status st COMPARE_FAILURE && is_compare c.completion q cid) refl c.cause
+  where
+    go : (v : Bool) → is_success st ≡ v → (w : Bool) → (same_status st ABORT_REQUESTED && list_any (aborts q cid) (since_fetch q cid c.before)) ≡ w
+        → (x : Bool) → (same_status st ABORTED_SQ_DELETION && list_any (deletes q) (since_fetch q cid c.before)) ≡ x → (y : Bool) → (same_status st LBA_OUT_OF_RANGE && passes_image c.completion q cid) ≡ y
+        → (z : Bool) → (same_status st COMPARE_FAILURE && is_compare c.completion q cid) ≡ z → (v || w || x || y || z) ≡ true → CauseOfEnd earlier q cid st
+    go true e w ew x ex y ey z ez h = Succeeded c (same_is st SUCCESS e)
+    go false e true ew x ex y ey z ez h = let p = and_parts (same_status st ABORT_REQUESTED) (list_any (aborts q cid) (since_fetch q cid c.before)) ew in Aborted c (same_is st ABORT_REQUESTED p.0) p.1
+    go false e false ew true ex y ey z ez h = let p = and_parts (same_status st ABORTED_SQ_DELETION) (list_any (deletes q) (since_fetch q cid c.before)) ex in Stopped c (same_is st ABORTED_SQ_DELETION p.0) p.1
+    go false e false ew false ex true ey z ez h = let p = and_parts (same_status st LBA_OUT_OF_RANGE) (passes_image c.completion q cid) ey in PastImage c (same_is st LBA_OUT_OF_RANGE p.0) p.1
+    go false e false ew false ex false ey true ez h = let p = and_parts (same_status st COMPARE_FAILURE) (is_compare c.completion q cid) ez in Differed c (same_is st COMPARE_FAILURE p.0) p.1
+    go false e false ew false ex false ey false ez h = absurd (true≢false (sym h))
+
+pub runs_have_causes : every_collect_has_its_cause
+runs_have_causes image earlier later m end q cid f run is_event is_reply = go (runs_tell_ends image earlier later m end q cid f run is_event is_reply)
+  where
+    go : WasCompleted earlier q cid f.status ⊎ WasLost earlier q cid f.status ⊎ WasLostByReset earlier q cid f.status → CauseOfEnd earlier q cid f.status
+    go (inl c) = one_of_five earlier q cid f.status c
+    go (inr (inl c)) = Lost c
+    go (inr (inr c)) = LostByReset c
+
+-- The laws of Reads: one that ended well gives its blocks, and one that was stopped so many of their first bytes.
 
 images_none : (at : Images) (ys : List Made) (q cid : ℕ) → list_any (fetches q cid) ys ≡ false → images_of at ys q cid ≡ at q cid
 images_none at [] q cid h = refl
@@ -80,16 +231,13 @@ found_record : (s : State) (q cid : ℕ) (r : Record) (f : FinishedContents) →
 found_record s q cid r f found held (Management adm) w o st e = absurd cc
 found_record s q cid r f found held (Io request) w None st e = absurd cc
 found_record s q cid r f found held (Io request) w (Some v) st e =
-    let same = inside e in
+    let same = some_is e in
     subst (Found s) same (record { command = r; at_q = q; at_cid = cid; found = found; its_queue = refl; its_id = refl; work = w; status = st; pages = refl; held = held })
-  where
-    inside : {a b : FinishedContents} → Some a ≡ Some b → a ≡ b
-    inside e = cc
 
 -- where a collection is not refused, its command's record is held
 pub held_where_collected : (s : State) (q cid : ℕ) → refusal_of s (events.Collect q cid) ≡ None → (r : Record) → record_at s.host q cid ≡ Some r → is_held r.phase ≡ true
 held_where_collected s q cid none r e =
-    by r.phase (sym (ap (λ (o : Option Record). option_map_or (λ r. is_submitted r.phase || is_held r.phase) o false) e) ∙ known) (sym (ap (λ (o : Option Record). option_map_or (λ r. is_submitted r.phase) o false) e) ∙ ended)
+    only_held r.phase (sym (ap (λ (o : Option Record). option_map_or (λ r. is_submitted r.phase || is_held r.phase) o false) e) ∙ known) (sym (ap (λ (o : Option Record). option_map_or (λ r. is_submitted r.phase) o false) e) ∙ ended)
   where
     known : record_is (λ r. is_submitted r.phase || is_held r.phase) s q cid ≡ true
     known = not-false _ (first_fails (not (record_is (λ r. is_submitted r.phase || is_held r.phase) s q cid)) refusal.Stranger ((record_is (λ r. is_submitted r.phase) s q cid, refusal.NotYet) ∷ []) none)
@@ -98,30 +246,18 @@ held_where_collected s q cid none r e =
     ended = first_fails (record_is (λ r. is_submitted r.phase) s q cid) refusal.NotYet []
         (rest_fails (not (record_is (λ r. is_submitted r.phase || is_held r.phase) s q cid)) refusal.Stranger ((record_is (λ r. is_submitted r.phase) s q cid, refusal.NotYet) ∷ []) none)
 
-    by : (ph : Phase) → (is_submitted ph || is_held ph) ≡ true → is_submitted ph ≡ false → is_held ph ≡ true
-    by Drafted h g = h
-    by Submitted h g = absurd (true≢false g)
-    by Held h g = refl
-    by Collected h g = h
-
 found_in : (s : State) (e : Event) (reply : Reply) (new : State) (f : FinishedContents) → Step s e reply new → s.trusted ≡ true → collected_of e reply ≡ Some f → Found s f
-found_in s (events.Collect q cid) (events.Collects g) new f step t is = go (record_at s.host q cid) refl (ok.1 ∙ is)
+found_in s (events.Collect q cid) (events.Collects g) new f step t is = elim (option_is (record_at s.host q cid)) [
+  | inl e ↦ let h = rw e at (ok.1 ∙ is) in absurd cc
+  | inr (r, e) ↦ let h = rw e at (ok.1 ∙ is) in found_record s q cid r f e (held_where_collected s q cid ok.0 r e) r.work refl r.status refl h
+]
   where
     ok : (refusal_of s (events.Collect q cid) ≡ None) × (option_and_then (finished_from s) (record_at s.host q cid) ≡ Some g)
     ok = permitted _ s.trusted true t step.1
-
-    go : (o : Option Record) → record_at s.host q cid ≡ o → option_and_then (finished_from s) o ≡ Some f → Found s f
-    go None e h = absurd cc
-    go (Some r) e h = found_record s q cid r f e (held_where_collected s q cid ok.0 r e) r.work refl r.status refl h
 found_in s e reply new f step t is = absurd cc
 
 reads_kind : (f : FinishedContents) → is_read f ≡ true → f.request.kind ≡ Read
-reads_kind f h = go f.request.kind h
-  where
-    go : (k : Kind) → is_read (record f { request = record f.request { kind = k } }) ≡ true → k ≡ Read
-    go Read h = refl
-    go Write h = absurd (true≢false (sym h))
-    go Compare h = absurd (true≢false (sym h))
+reads_kind f h = grind arith
 
 -- The pages that are handed out
 
@@ -151,6 +287,8 @@ collected_read : (image : List ℕ) (before : List Made) (fetched : Made) (betwe
     → TrustedRun image (before ++ fetched ∷ between ++ collected ∷ later) end → collected_of collected.event collected.reply ≡ Some f → is_read f ≡ true
     → fetches f.q f.cid fetched ≡ true → list_any (fetches f.q f.cid) between ≡ false → CollectedRead image before fetched between f
 collected_read image before fetched between collected later end f run is reads fetch none =
+    let known : Before (ReadsSo image) (before ++ fetched ∷ between) collected = reads_before image (before ++ fetched ∷ between) later collected end run in
+    let found : Found collected.before f = found_in collected.before collected.event collected.reply known.next f known.step known.trusted is in
     record {
       s = collected.before;
       stood = known.holds.traced.stood;
@@ -167,17 +305,8 @@ collected_read image before fetched between collected later end f run is reads f
       image_long = known.holds.reads.images found.command.q found.command.cid;
     }
   where
-    known : Before (ReadsSo image) (before ++ fetched ∷ between) collected
-    known = reads_before image (before ++ fetched ∷ between) later collected end run
-
-    found : Found collected.before f
-    found = found_in collected.before collected.event collected.reply known.next f known.step known.trusted is
-
     stays : (ph : Phase) → is_held ph ≡ true → (is_submitted ph || is_held ph) ≡ true
-    stays Drafted h = h
-    stays Submitted h = refl
-    stays Held h = refl
-    stays Collected h = h
+    stays ph h = grind arith
 
 -- its pages hold, byte for byte
 gathers_found : (image : List ℕ) (before : List Made) (fetched : Made) (between : List Made) (f : FinishedContents) (x : CollectedRead image before fetched between f)
@@ -195,7 +324,7 @@ same_numbers image before fetched between f x = ap numbers_of x.found.pages ∙ 
 
 pub reads_give : reads_give_their_blocks
 reads_give image before fetched between collected later end f run is reads well fetch none =
-    let x = collected_read image before fetched between collected later end f run is reads fetch (not_any (list_any (fetches f.q f.cid) between) none) in
+    let x = collected_read image before fetched between collected later end f run is reads fetch (not-true (list_any (fetches f.q f.cid) between) none) in
     let full = x.soFar.full x.found.held f.status x.found.status well in
     let long : length (read_blocks (images_of (λ q cid. image) (before ++ fetched ∷ between)) x.found.command f.request) ≡ length (read_targets x.found.command f.request) =
     blocks_length (images_of (λ q cid. image) (before ++ fetched ∷ between) x.found.command.q x.found.command.cid) f.request.slba f.request.blocks (omega (arith, full.1, x.image_long))
@@ -204,14 +333,10 @@ reads_give image before fetched between collected later end f run is reads well 
     (gathers_found image before fetched between f x) long (λ i p b target e. sym (x.soFar.received.first i p target (full.0 i p target)) ∙ e))
     ∙ ap (λ (ns : List ℕ). undiscarded (targets Destination (parts_of f.request.pieces ns)) (blocks_at (images_of (λ q cid. image) (before ++ fetched ∷ between) x.found.command.q x.found.command.cid) f.request.slba f.request.blocks)) (sym (same_numbers image before fetched between f x))
     ∙ ap (λ (bytes : List ℕ). undiscarded (targets Destination (parts_of f.request.pieces (numbers_of f.data_pages))) (blocks_at bytes f.request.slba f.request.blocks)) x.image_is
-  where
-    not_any : (b : Bool) → not b ≡ true → b ≡ false
-    not_any true h = absurd (true≢false (sym h))
-    not_any false h = refl
 
 pub stopped_reads : stopped_reads_give_a_prefix
 stopped_reads image before fetched between collected later end f d run is reads fetch none latest =
-    let x = collected_read image before fetched between collected later end f run is reads fetch (not_any (list_any (fetches f.q f.cid) between) none) in (
+    let x = collected_read image before fetched between collected later end f run is reads fetch (not-true (list_any (fetches f.q f.cid) between) none) in (
       x.soFar.k,
       prefix x x.soFar.k refl
           ∙ ap (λ (ns : List ℕ). partly x.soFar.k (targets Destination (parts_of f.request.pieces ns)) (blocks_at (images_of (λ q cid. image) (before ++ fetched ∷ between) x.found.command.q x.found.command.cid) f.request.slba f.request.blocks) (gathered x.soFar.draft.request.pieces x.soFar.draft.data_pages)) (sym (same_numbers image before fetched between f x))
@@ -219,17 +344,10 @@ stopped_reads image before fetched between collected later end f d run is reads 
           ∙ ap (λ (y : DraftContents). partly x.soFar.k (targets Destination (parts_of f.request.pieces (numbers_of f.data_pages))) (blocks_of_request f.request (image_after image before)) (gathered y.request.pieces y.data_pages)) (same_draft x),
     )
   where
-    not_any : (b : Bool) → not b ≡ true → b ≡ false
-    not_any true h = absurd (true≢false (sym h))
-    not_any false h = refl
-
     same_draft : (x : CollectedRead image before fetched between f) → x.soFar.draft ≡ d
     same_draft x =
-        inside (sym x.soFar.latest ∙ ap (λ (n : ℕ). draft_of n x.found.command.cid (drafts_of (before ++ fetched ∷ between))) (sym x.found.its_queue)
+        some_is (sym x.soFar.latest ∙ ap (λ (n : ℕ). draft_of n x.found.command.cid (drafts_of (before ++ fetched ∷ between))) (sym x.found.its_queue)
         ∙ ap (λ (n : ℕ). draft_of f.q n (drafts_of (before ++ fetched ∷ between))) (sym x.found.its_id) ∙ latest)
-      where
-        inside : {a b : DraftContents} → Some a ≡ Some b → a ≡ b
-        inside e = cc
 
     -- its own bytes, as they were submitted
     own : (x : CollectedRead image before fetched between f) → Gathers x.soFar.own (read_targets x.found.command f.request) (gathered x.soFar.draft.request.pieces x.soFar.draft.data_pages)

@@ -1,5 +1,5 @@
 -- Queue 0 keeps its halves on both sides, whatever was forged: no event of the host gives them back, and no entry makes it anew at the controller.
-use Rattle.std.proofs.Common.{◌≡◌, ℕ, zero, suc, ◌==◌, nat_lt, Bool, true, false, Option, Some, None, List, [], ◌∷◌, slice_get, if◌then◌else◌, refl, ap, sym, ◌∙◌, subst}
+use Rattle.std.proofs.Common.{◌≡◌, ℕ, zero, suc, ◌==◌, nat_lt, Bool, true, false, Option, Some, None, List, [], ◌∷◌, slice_get, if◌then◌else◌, refl, ap, sym, ◌∙◌, subst, arith}
 use Rattle.std.specs.Option.{option_map_or}
 use Rattle.std.proofs.lemmas.Bool.{cond_both, true≢false}
 use Rattle.admin_commands.specs.Entries.{named_queue}
@@ -77,12 +77,12 @@ stands_ring : (n k : ℕ) (g : HostRing → HostRing) (hs : List HostQueue) (cs 
 stands_ring n k g hs cs h = record { lives = lives_ring k g hs h.lives; shares = shares_left n k (λ x. record x { ring = g x.ring }) hs cs (λ x. (refl, refl)) h.shares }
 
 alone_past : (st : HostState) → has_cq_alone st ≡ true → is_live st ≡ false
-alone_past states.Live e = absurd (true≢false (sym e))
-alone_past st e = refl
+alone_past st e = grind arith
 
 event : (cs : List ControllerQueue) (s : State) (e : Event) (reply : Reply) → Accepts s e reply → IsController e ≡ false → HoldsPart (host_part s)
     → SharesAdmin s.entries s.host.queues cs → SharesAdmin (a.after s e reply).entries (a.after s e reply).host.queues cs
 event cs s e reply ok c holds share =
+    let sent : AdminStands n (change 0 (λ x. record x { ring = next_tail n x.ring }) hs) cs = stands_ring n 0 (next_tail n) hs cs h in
     host_moves (λ (e : Event) (reply : Reply) (t : State). SharesAdmin t.entries t.host.queues cs) s e reply ok c
     (record {
       reserves = λ q request d none is. share;
@@ -126,9 +126,6 @@ event cs s e reply ok c holds share =
 
     told : (q : ℕ) (e : ComEntry) → AdminStands n (a.heard q e s).host.queues cs
     told q e = stands_ring n q (knowing e.sqhd) (change q (λ x. record x { ring = next_head n x.ring }) hs) cs (stands_ring n q (next_head n) hs cs h)
-
-    sent : AdminStands n (change 0 (λ x. record x { ring = next_tail n x.ring }) hs) cs
-    sent = stands_ring n 0 (next_tail n) hs cs h
 
     same : {o : Option HostQueue} {x y : HostQueue} → o ≡ Some x → o ≡ Some y → is_live x.state ≡ false → is_live y.state ≡ false
     same {o} {x} {y} at ex past = let is : x ≡ y = cc (at, ex) in subst (λ (z : HostQueue). is_live z.state ≡ false) is past
@@ -193,13 +190,11 @@ hearing e reply v n hs c h = h
 pub admin_behind : (s : Sides) (e : Event) (reply : Reply) (host : HostView) (pages : Pages) → IsController e ≡ false → HostStep s.host s.pages e reply host pages → IsSound (alone s.host s.pages)
     → SharesAdmin s.host.entries s.host.host.queues s.controller.queues → SharesAdmin host.entries host.host.queues (heard e reply host s.controller).queues
 admin_behind s e reply host pages c step sound share =
+    let before : State = alone s.host s.pages in
     hearing e reply host host.entries host.host.queues s.controller
     (subst Shares (sym (part_left before e reply (alone host pages) step.2))
     (kept_anyway Shares before e reply (IsController e) refl step.1 (λ ok c'. event s.controller.queues before e reply ok c' (holds_from_sound before sound)) share))
   where
-    before : State
-    before = alone s.host s.pages
-
     Shares : HostPart → Type 0
     Shares part = SharesAdmin part.entries part.host.queues s.controller.queues
 

@@ -123,10 +123,9 @@ alike-done q cid st s d d' b b' o o' same =
 
 alike-reap : (q : ℕ) (what : Reaped) (s : State) (d d' : Device) (b b' : Bool) → option_map head_of_entry (seen_entry (over s d b) q) ≡ option_map head_of_entry (seen_entry (over s d' b') q)
     → Alike b (a.after_reap q what (over s d b)) (a.after_reap q what (over s d' b'))
-alike-reap q reaped.Empty s d d' b b' same = refl
-alike-reap q (reaped.Rejected why) s d d' b b' same = refl
 alike-reap q (reaped.Done cid st) s d d' b b' same = alike-done q cid st s d d' b b' (seen_entry (over s d b) q) (seen_entry (over s d' b') q) same
 alike-reap q (reaped.AdminDone cid st dw0) s d d' b b' same = alike-done q cid st s d d' b b' (seen_entry (over s d b) q) (seen_entry (over s d' b') q) same
+alike-reap q what s d d' b b' same = refl
 
 alike-submit : (dr : DraftContents) (s : State) (d d' : Device) (b b' : Bool) → Alike b (a.after_submit dr (over s d b)) (a.after_submit dr (over s d' b'))
 alike-submit dr s d d' b b' =

@@ -1,5 +1,6 @@
 -- A completion that the controller posts is the machine's answer, and leaves rings that stand.
-use Rattle.std.proofs.Common.{◌≡◌, ◌≢◌, ℕ, ◌+◌, ◌*◌, ◌/◌, ◌%◌, ◌<◌, Bool, true, false, Option, Some, None, IsSome, List, [], ◌∷◌, ◌++◌, length, map, is_none, is_some, slice_get, if◌then◌else◌, refl, ap, ap₂, sym, ◌∙◌, arith, subst, lt-ltb, le-leb}
+use Rattle.std.proofs.Common.{◌≡◌, ◌≢◌, ℕ, ◌+◌, ◌*◌, ◌/◌, ◌%◌, ◌<◌, Bool, true, false, Option, Some, None, IsSome, List, [], ◌∷◌, ◌++◌, length, map, is_none, is_some, slice_get, if◌then◌else◌, refl, ap, ap₂, sym, ◌∙◌, arith, subst, lt-ltb, le-leb, inl, inr}
+use Rattle.machine_agreement.proofs.Cases.{option_is}
 use Rattle.std.specs.List.{AllByRecursion}
 use Rattle.std.specs.Option.{option_and_then}
 use Rattle.std.proofs.lemmas.Bool.{true≢false}
@@ -41,10 +42,8 @@ use Rattle.two_sides.specs.Ties.{HeadsFollow, IsWorld, QueueStands, RingsStand, 
 use Rattle.two_sides.proofs.Frames.{SparesQueue, SparesSubmitted, apart_from_queues, halves_apart, own_halves_apart}
 use Rattle.two_sides.proofs.Known.{IsKnown, queue_ring}
 use Rattle.two_sides.proofs.Places.{Shows, map-append, fetch_slot_is, post_slot_is, own_page, in_ring}
-
-pub length-completion_bytes : (e : ComEntry) → length (completion_bytes e) ≡ 16
-unfolding completion_bytes
-length-completion_bytes e = refl
+use Rattle.two_sides.proofs.Quiet.{ends_in_range}
+use Rattle.machine_agreement.proofs.WholePages.{length-completion_bytes}
 
 -- The pages, whatever was forged: a slot that is not missing is in, and what is written to it are those bytes of its page.
 
@@ -52,12 +51,10 @@ slot_place : (cq slot : ℕ) → 4096 * completion_page cq slot + slot_offset 16
 slot_place cq slot = omega arith
 
 pub slot_is_in : (pages : Pages) (cq slot : ℕ) → completion_slot (byte_at pages) cq slot ≢ None → is_in pages (completion_page cq slot) ≡ true
-slot_is_in pages cq slot there = go (page_at pages (completion_page cq slot)) refl
-  where
-    go : (o : Option (List ℕ)) → page_at pages (completion_page cq slot) ≡ o → is_some o ≡ true
-    go None out =
-        absurd (there (ap (λ (p : ℕ). bytes_at (byte_at pages) p 16) (sym (slot_place cq slot)) ∙ bytes_missing pages (completion_page cq slot) 16 (slot_offset 16 slot) out (omega arith) (omega arith)))
-    go (Some page) out = refl
+slot_is_in pages cq slot there = elim (option_is (page_at pages (completion_page cq slot))) [
+  | inl out ↦ absurd (there (ap (λ (p : ℕ). bytes_at (byte_at pages) p 16) (sym (slot_place cq slot)) ∙ bytes_missing pages (completion_page cq slot) 16 (slot_offset 16 slot) out (omega arith) (omega arith)))
+  | inr (page, out) ↦ rw out refl
+]
 
 pub slot_written : (pages new : Pages) (cq slot : ℕ) (bytes : List ℕ) → IsPool pages → LeavesPages pages new → is_in pages (completion_page cq slot) ≡ true → length bytes ≡ 16
     → byte_at new ≡ written (byte_at pages) (completion_place cq slot) bytes → new ≡ with_page_bytes pages (completion_page cq slot) (slot_offset 16 slot) bytes
@@ -124,11 +121,7 @@ page_is_own s q h c known has =
     (among-from c.device.cq (half_pages s.host.entries Completion) (c.device.ring.tail / 256) (omega (arith, known.placed.share.entries, known.placed.share.side.tail)))
 
 pub byte_in_page : (pages : Pages) (place : ℕ) → IsSome (byte_at pages place) → is_in pages (place / 4096) ≡ true
-byte_in_page pages place some = go (page_at pages (place / 4096)) some
-  where
-    go : (o : Option (List ℕ)) → IsSome (option_and_then (λ bytes. slice_get bytes (place % 4096)) o) → is_some o ≡ true
-    go None some = cc
-    go (Some page) some = refl
+byte_in_page pages place some = grind arith
 
 pub page_is_in : (s : Sides) (q : ℕ) (h : HostQueue) (c : ControllerQueue) → IsKnown s q h c → has_ring h c ≡ true → is_in s.pages (page_posted c.device) ≡ true
 page_is_in s q h c known has =
@@ -209,12 +202,8 @@ answer_seen s q h c e world at can =
     more true there = ap (map answer_of) (completions_grow s q h c e world can) ∙ map-append answer_of old e
     more false there = absurd (true≢false (sym there))
 
--- its rings stand
-ends_inside : (n from to : ℕ) → to < n → is_in_range n from to to ≡ true
-ends_inside n from to l = rw (lt-ltb to n l, le-leb (distance n from to) (distance n from to) (omega arith)) refl
-
 heads_grow : (n from to : ℕ) (e : ComEntry) (es : List ComEntry) → to < n → e.sqhd ≡ to → HeadsFollow n from to es → HeadsFollow n from to (es ++ e ∷ [])
-heads_grow n from to e [] l same h = (subst (λ (x : ℕ). is_in_range n from to x ≡ true) (sym same) (ends_inside n from to l), ends_inside n e.sqhd to l)
+heads_grow n from to e [] l same h = (subst (λ (x : ℕ). is_in_range n from to x ≡ true) (sym same) (ends_in_range n from to l), ends_in_range n e.sqhd to l)
 heads_grow n from to e (x ∷ es) l same h = (h.0, heads_grow n x.sqhd to e es l same h.1)
 
 answer_rings : (s : Sides) (q cid : ℕ) (st : Status) (dw0 : ℕ) (h : HostQueue) (c : ControllerQueue) → IsWorld s → CanAnswer s q h c (completion_by q cid st dw0 c.device)

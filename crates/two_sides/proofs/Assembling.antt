@@ -1,5 +1,5 @@
 -- What each event has to show, so that it is a step of the machine and leaves both sides tied.
-use Rattle.std.proofs.Common.{◌≡◌, ℕ, zero, suc, ◌≤◌, Bool, true, false, not, ◌&&◌, ◌||◌, MatchBool, Option, Some, None, List, [], ◌∷◌, length, map, is_some, slice_get, refl, ap, ap₂, sym, ◌∙◌, subst}
+use Rattle.std.proofs.Common.{◌≡◌, ℕ, zero, suc, ◌≤◌, Bool, true, false, not, ◌&&◌, ◌||◌, MatchBool, Option, Some, None, List, [], ◌∷◌, length, map, is_some, slice_get, refl, ap, ap₂, sym, ◌∙◌, subst, arith}
 use Rattle.std.specs.Option.{option_map, option_map_or}
 use Rattle.std.proofs.lemmas.Bool.{OnTrue_from, true≢false}
 use Rattle.block_image.specs.Blocks.{block_count}
@@ -39,7 +39,7 @@ use Rattle.two_sides.specs.Stepping.{StepsTo, LeavesPages, served}
 use Rattle.two_sides.specs.Ties.{AreSides, IsWorld, AllQueuesStand, ShareQueues, SharesAdmin, WalksStand}
 use Rattle.two_sides.proofs.AdminKept.{admin_behind}
 use Rattle.two_sides.proofs.Alike.{SeesAlike, bare, head_of_entry, left_alike}
-use Rattle.two_sides.proofs.Refusing.{out_of}
+use Rattle.machine_agreement.proofs.Blind.{out_of}
 use Rattle.two_sides.proofs.Deletions.{step_keeps_serving}
 use Rattle.two_sides.proofs.Forged.{refused_leaves, length-device, forged_step, commands-heard, image-heard, length-heard}
 use Rattle.two_sides.proofs.Known.{tied_of}
@@ -118,18 +118,11 @@ exactly_left s e reply host pages t f same = due (machine.resets e) (forges e) s
 
 -- the same completion stands at the head for the host and for the machine
 heads_alike : (o p : Option ComEntry) → told o ≡ told p → option_map head_of_entry p ≡ option_map head_of_entry o
-heads_alike None None same = refl
-heads_alike None (Some e) same = absurd cc
-heads_alike (Some e) None same = absurd cc
-heads_alike (Some e) (Some e') same = sym (ap (option_map head_of_entry) same)
+heads_alike o p same = grind arith
 
 pub sees_alike : (s : Sides) (e : Event) → IsWorld s → refusal_of (alone s.host s.pages) e ≡ None → SeesAlike (state_of s) (alone s.host s.pages) e
-sees_alike s (events.Reap q) world none = go (slice_get s.host.host.queues q) refl (unrefused (option_map_or (λ queue. is_reaped queue.state) (host_queue (alone s.host s.pages) q) false) none)
+sees_alike s (events.Reap q) world none = go (slice_get s.host.host.queues q) refl (grind arith)
   where
-    unrefused : (b : Bool) → first_passing ((not b, refusal.NoQueue) ∷ []) ≡ None → b ≡ true
-    unrefused true h = refl
-    unrefused false h = absurd cc
-
     go : (o : Option HostQueue) → slice_get s.host.host.queues q ≡ o → option_map_or (λ queue. is_reaped queue.state) (slice_get s.host.host.queues q) false ≡ true
         → option_map head_of_entry (seen_entry (state_of s) q) ≡ option_map head_of_entry (seen_entry (alone s.host s.pages) q)
     go None at has = absurd (true≢false (sym has ∙ ap (λ (o : Option HostQueue). option_map_or (λ queue. is_reaped queue.state) o false) at))

@@ -40,7 +40,8 @@ use Rattle.two_sides.specs.Sides.{Sides, state_of, answer_of, device_of, device_
 use Rattle.two_sides.specs.Stepping.{LeavesPages, StepsTo, served, completes_step, completes_refuse_alike}
 use Rattle.two_sides.specs.Ties.{IsWorld, ShareQueues, SharesAdmin, AllQueuesStand, QueueStands, WalkStands, WalksStand, has_ring}
 use Rattle.two_sides.proofs.AdminKept.{admin_ended, places_left}
-use Rattle.two_sides.proofs.Answering.{CanAnswer, answer_is, answer_seen, answer_shares, answer_spares_commands, answer_spares_queues, answer_stands, length-completion_bytes, page_is_in, post_room, slot_is_in, slot_written, with_completion}
+use Rattle.two_sides.proofs.Answering.{CanAnswer, answer_is, answer_seen, answer_shares, answer_spares_commands, answer_spares_queues, answer_stands, page_is_in, post_room, slot_is_in, slot_written, with_completion}
+use Rattle.machine_agreement.proofs.WholePages.{length-completion_bytes}
 use Rattle.two_sides.proofs.Assembling.{ServesOver, serve_refused, served_stepped}
 use Rattle.two_sides.proofs.Changed.{devices_changed, stands_changed}
 use Rattle.two_sides.proofs.Ending.{devices_end_behind, devices_end_elsewhere, devices_ended, devices_of_end, end_fits, ended, share_ended, stands_ended, status_seen}
@@ -95,8 +96,7 @@ pub complete_refused_alike : completes_refuse_alike
 complete_refused_alike s q cid world t = go (find (is_command q cid) s.controller.commands) refl
   where
     none_some : {X : Type 0} (o : Option X) → IsSome o → is_none o ≡ false
-    none_some None e = cc
-    none_some (Some x) e = refl
+    none_some o e = grind arith
 
     go : (o : Option FetchedCommand) → find (is_command q cid) s.controller.commands ≡ o
         → refusal_of (state_of s) (events.Complete q cid) ≡ option_map why_of (option_map_or (command_refusal s.controller (byte_at s.pages) q) o (Some because.NoJob))

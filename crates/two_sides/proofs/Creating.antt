@@ -42,8 +42,7 @@ use Rattle.two_sides.proofs.Tokens.{known_absent, known_gone}
 -- States
 
 gone_known : (st : HostState) → is_gone st ≡ true → is_known_deleted st ≡ true
-gone_known states.Gone e = refl
-gone_known st e = absurd (true≢false (sym e))
+gone_known st e = grind arith
 
 half_known : (st : HostState) → is_half_made st ≡ true → (is_known_deleted st ≡ true) × (is_making st ≡ true) × (in_service st ≡ false)
 half_known states.HalfMade e = (refl, refl, refl)

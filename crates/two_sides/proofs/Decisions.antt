@@ -1,5 +1,5 @@
 -- What the rule of an admin entry saw where it decided so.
-use Rattle.std.proofs.Common.{◌≡◌, ℕ, zero, suc, ◌+◌, ◌/◌, ◌%◌, ◌==◌, nat_lt, Bool, true, false, not, ◌&&◌, ◌||◌, Option, refl, ap}
+use Rattle.std.proofs.Common.{◌≡◌, ℕ, zero, suc, ◌+◌, ◌/◌, ◌%◌, ◌==◌, nat_lt, Bool, true, false, not, ◌&&◌, ◌||◌, Option, refl, ap, arith}
 use Rattle.std.specs.Option.{option_map_or}
 use Rattle.std.proofs.lemmas.Bool.{not-false, or_parts, and_parts, cond_both, true≢false}
 use Rattle.admin_commands.specs.Entries.{named_queue, named_command, named_size, named_base, named_completion_queue, is_contiguous, is_opcode}
@@ -10,7 +10,7 @@ use Rattle.admin_commands.specs.declared.DeviceView.{DeviceView}
 use Rattle.entry_codec.specs.declared.admin_opcode.TheConstants.{ABORT, DELETE_IO_SQ, DELETE_IO_CQ, CREATE_IO_CQ, CREATE_IO_SQ}
 use Rattle.entry_codec.specs.declared.status.Status.{Status}
 use Rattle.entry_codec.specs.declared.submission.SubEntry.{SubEntry}
-use Rattle.machine_agreement.proofs.Placing.{ne_zero}
+use Rattle.machine_agreement.proofs.Queues.{far_suc as ne_zero}
 use Rattle.page_memory.specs.declared.page.Half.{Half}
 use Rattle.page_memory.specs.declared.page.Half.TheVariants.{Submission, Completion}
 use Rattle.queue_pair.specs.Memory.{half_pages}
@@ -41,8 +41,7 @@ Decides e view (MakeCompletion q base) = MakesFree e view q base
 Decides e view (MakeSubmission q base) = MakesPaired e view q base
 
 last : (u v w x y : Bool) → u ≡ false → v ≡ false → w ≡ false → x ≡ false → (u || v || w || x || y) ≡ true → y ≡ true
-last false false false false y eu ev ew ex h = h
-last u v w x y eu ev ew ex h = cc
+last u v w x y eu ev ew ex h = grind arith
 
 -- an I/O queue isn't queue 0
 not_admin : (q : ℕ) (view : DeviceView) → not (is_io_queue q view) ≡ false → (q == 0) ≡ false
@@ -53,7 +52,7 @@ pub decides : (e : SubEntry) (view : DeviceView) → Decides e view (decision e 
 decides e view =
     cond_both (not (is_opcode e.opcode)) _ _ Q (λ c. tt)
     (λ known. cond_both (not (e.fuse == 0)) _ _ Q (λ c. tt)
-    (λ unfused. cond_both (e.opcode == ABORT) _ _ Q (λ is8. aborting)
+    (λ unfused. cond_both (e.opcode == ABORT) _ _ Q (λ is8. (cond_both (view.target_walks && not (q == 0)) _ _ Q (λ w. (refl, refl, (and_parts view.target_walks (not (q == 0)) w).0)) (λ w. tt)))
     (λ not8. cond_both (e.opcode == DELETE_IO_SQ) _ _ Q (λ is0. stopping)
     (λ not0. cond_both (e.opcode == DELETE_IO_CQ) _ _ Q dropping
     (λ not4. cond_both (e.opcode == CREATE_IO_CQ) _ _ Q completing
@@ -64,9 +63,6 @@ decides e view =
 
     q : ℕ
     q = named_queue e
-
-    aborting : Q (abort_verdict q (named_command e) view)
-    aborting = cond_both (view.target_walks && not (q == 0)) _ _ Q (λ w. (refl, refl, (and_parts view.target_walks (not (q == 0)) w).0)) (λ w. tt)
 
     stopping : Q (delete_sq_verdict q view)
     stopping = cond_both ((q == 0) || not (is_live view.sq)) _ _ Q (λ w. tt) (λ w. (refl, not-false (is_live view.sq) (or_parts (q == 0) (not (is_live view.sq)) w).1))
@@ -115,8 +111,4 @@ decides e view =
 
 -- The size of the rings is looked at where an I/O queue is named.
 pub same_decision : (e : SubEntry) (view : DeviceView) (n : ℕ) → (is_io_queue (named_queue e) view ≡ true → view.entries ≡ n) → decision e view ≡ decision e (record view { entries = n })
-same_decision e view n same = go (is_io_queue (named_queue e) view) refl
-  where
-    go : (b : Bool) → is_io_queue (named_queue e) view ≡ b → decision e view ≡ decision e (record view { entries = n })
-    go true io = ap (λ (k : ℕ). decision e (record view { entries = k })) (same io)
-    go false io = rw io refl
+same_decision e view n same = grind arith

@@ -1,6 +1,6 @@
 -- How a command ends: on both sides, and at the machine.
-use Rattle.std.proofs.Common.{◌≡◌, ℕ, zero, ◌<◌, Bool, true, false, not, Option, Some, None, List, map, filter, slice_get, if◌then◌else◌, refl, ap₂, sym, ◌∙◌, arith}
-use Rattle.std.proofs.lemmas.Bool.{eqb-false, true≢false}
+use Rattle.std.proofs.Common.{◌≡◌, ℕ, zero, ◌<◌, Bool, true, false, not, Option, Some, None, List, map, filter, slice_get, if◌then◌else◌, refl, ap₂, sym, ◌∙◌, arith, inl, inr}
+use Rattle.std.proofs.lemmas.Bool.{eqb-false, true≢false, cases_Bool}
 use Rattle.admin_commands.specs.Entries.{named_queue}
 use Rattle.controller_core.specs.Completing.{image_of_end, queues_of_end, status_of_end, without_command, without_submission}
 use Rattle.controller_core.specs.Contents.{FetchedCommand, FitsVerdict, FitsWork, Work, is_deletion}
@@ -29,14 +29,7 @@ use Rattle.two_sides.proofs.Shared.{belled}
 -- A completion can carry each end.
 
 by_kind : (image : List ℕ) (e : SubEntry) (bytes : List ℕ) (kind : Option Kind) → (status_by image e bytes kind).sct < 8
-by_kind image e bytes None = omega arith
-by_kind image e bytes (Some Read) = omega arith
-by_kind image e bytes (Some Write) = omega arith
-by_kind image e bytes (Some Compare) = go _
-  where
-    go : (b : Bool) → (if b then SUCCESS else COMPARE_FAILURE).sct < 8
-    go true = omega arith
-    go false = omega arith
+by_kind image e bytes kind = grind arith
 
 by_verdict : (image : List ℕ) (e : SubEntry) (bytes : List ℕ) (v : Option Status) → FitsVerdict v → (status_after image e bytes v).sct < 8
 by_verdict image e bytes None fits = omega arith
@@ -96,11 +89,10 @@ share_ended n (Admin entry status dw0) hs cs share = go (is_deletion entry statu
 -- A command's own queue isn't the one that it deletes.
 pub devices_end_elsewhere : (blocks q done : ℕ) (work : Work) (queues : List DeviceQueue) → FitsWork blocks q done work → slice_get (devices_of_end work queues) q ≡ slice_get queues q
 devices_end_elsewhere blocks q done (Io job) queues fits = refl
-devices_end_elsewhere blocks q done (Admin entry status dw0) queues fits = go (is_deletion entry status) refl
-  where
-    go : (b : Bool) → is_deletion entry status ≡ b → slice_get (if b then change (named_queue entry) cleared queues else queues) q ≡ slice_get queues q
-    go true e = change-other (named_queue entry) q cleared queues (λ same. eqb-false (named_queue entry) 0 (fits.2 e) (same ∙ fits.0))
-    go false e = refl
+devices_end_elsewhere blocks q done (Admin entry status dw0) queues fits = elim (cases_Bool (is_deletion entry status)) [
+  | inl e ↦ rw e (change-other (named_queue entry) q cleared queues (λ same. eqb-false (named_queue entry) 0 (fits.2 e) (same ∙ fits.0)))
+  | inr e ↦ rw e refl
+]
 
 -- Another change of a queue bears it.
 pub devices_end_behind : (work : Work) (q : ℕ) (f : DeviceQueue → DeviceQueue) (queues : List DeviceQueue) → ((at : DeviceQueue) → cleared (f at) ≡ f (cleared at))
@@ -115,20 +107,10 @@ devices_end_behind (Admin entry status dw0) q f queues bears = go (is_deletion e
 -- At the machine
 
 pub status_seen : (s : State) (k : FetchedCommand) (blocks : ℕ) → FitsWork blocks k.q k.units_done k.work → final_status s (job_of k) ≡ status_of_end s.device.image k.work
-status_seen s k blocks fits = go k.q k.units_done k.waiting_abort k.work fits
-  where
-    go : (q done : ℕ) (waiting : Option ℕ) (work : Work) → FitsWork blocks q done work
-        → final_status s (job_of (record { q = q; units_done = done; waiting_abort = waiting; work = work })) ≡ status_of_end s.device.image work
-    go q done waiting (Io job) fits = rw fits.0 refl
-    go q done waiting (Admin entry status dw0) fits = rw fits.0 refl
+status_seen s k blocks fits = grind arith
 
 image_seen : (image : List ℕ) (k : FetchedCommand) (blocks : ℕ) → FitsWork blocks k.q k.units_done k.work → image_completed (job_of k) image ≡ image_of_end image k.work
-image_seen image k blocks fits = go k.q k.units_done k.waiting_abort k.work fits
-  where
-    go : (q done : ℕ) (waiting : Option ℕ) (work : Work) → FitsWork blocks q done work
-        → image_completed (job_of (record { q = q; units_done = done; waiting_abort = waiting; work = work })) image ≡ image_of_end image work
-    go q done waiting (Io job) fits = rw fits.0 refl
-    go q done waiting (Admin entry status dw0) fits = rw fits.0 refl
+image_seen image k blocks fits = grind arith
 
 deletion_seen : (s : State) (image : List ℕ) (k : FetchedCommand) (blocks : ℕ) → FitsWork blocks k.q k.units_done k.work
     → deletion_done (job_of k) (status_of_end image k.work) s ≡ with_served s s.memory (devices_of_end k.work s.device.queues) s.device.jobs s.device.image

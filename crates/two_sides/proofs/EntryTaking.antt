@@ -22,11 +22,9 @@ use Rattle.two_sides.specs.Sides.{Sides, completions_between, device_queue_of, p
 use Rattle.two_sides.specs.Ties.{HeadsFollow, QueueStands, RingsStand, ShareQueue}
 use Rattle.two_sides.proofs.Known.{IsKnown, queue_ring}
 use Rattle.two_sides.proofs.Places.{in_ring}
+use Rattle.two_sides.proofs.Posted.{in_range}
 
 -- Positions behind a take
-
-in_range-is : (n from to slot : ℕ) → slot < n → distance n from slot ≤ distance n from to → is_in_range n from to slot ≡ true
-in_range-is n from to slot l near = rw (lt-ltb slot n l, le-leb (distance n from slot) (distance n from to) near) refl
 
 not_last : (n known head tail : ℕ) → known < n → head < n → tail < n → is_in_range n known tail head ≡ true → head ≢ tail → distance n known head + 1 < n
 not_last n known head tail k h t inside some =
@@ -41,14 +39,14 @@ head_inside n known head tail k h t inside some =
     let grows = distance_grows n known head k h (λ e. absurd (omega arith)) in
     let parts = distance_parts n known head tail k h t (in_range_near n known tail head inside) in
     let apart : distance n head tail ≢ 0 = λ e. some (distance_none n head tail h t e) in
-    in_range-is n known tail (next_slot n head) (next_below n head h) (omega arith)
+    in_range n known tail (next_slot n head) (next_below n head h) (omega arith)
 
 bell_inside : (n head bell tail : ℕ) → head < n → bell < n → tail < n → is_in_range n head tail bell ≡ true → head ≢ bell → head ≢ tail → is_in_range n (next_slot n head) tail bell ≡ true
 bell_inside n head bell tail h b t inside some some' =
     let near = in_range_near n head tail bell inside in
     let first = distance_shrinks n head bell h b some in
     let second = distance_shrinks n head tail h t some' in
-    in_range-is n (next_slot n head) tail bell b (omega arith)
+    in_range n (next_slot n head) tail bell b (omega arith)
 
 not_taken : (n head bell tail : ℕ) → head < n → bell < n → is_in_range n head tail bell ≡ true → head ≢ bell → head ≢ tail
 not_taken n head bell tail h b inside some e =
@@ -57,13 +55,13 @@ not_taken n head bell tail h b inside some e =
     some (distance_none n head bell h b (omega arith))
 
 heads_on : (n from to : ℕ) (es : List ComEntry) → from < n → to < n → distance n from to + 1 < n → HeadsFollow n from to es → HeadsFollow n from (next_slot n to) es
-heads_on n from to [] f t last h = in_range-is n from (next_slot n to) (next_slot n to) (next_below n to t) (omega arith)
+heads_on n from to [] f t last h = in_range n from (next_slot n to) (next_slot n to) (next_below n to t) (omega arith)
 heads_on n from to (e ∷ es) f t last h =
     let below = in_range_below n from to e.sqhd h.0 in
     let near = in_range_near n from to e.sqhd h.0 in
     let grows = distance_grows n from to f t (λ x. absurd (omega arith)) in
     let parts = distance_parts n from e.sqhd to f below t near in
-    (in_range-is n from (next_slot n to) e.sqhd below (omega arith), heads_on n e.sqhd to es below t (omega arith) h.1)
+    (in_range n from (next_slot n to) e.sqhd below (omega arith), heads_on n e.sqhd to es below t (omega arith) h.1)
 
 -- The queue itself
 
@@ -74,9 +72,7 @@ pub record CanTake (s : Sides) (q : ℕ) (h : HostQueue) (c : ControllerQueue) :
   pub rung : c.device.ring.head ≢ c.device.ring.bell
 
 pub not_absent : (sq : SqState) → is_live sq ≡ true → is_absent sq ≡ false
-not_absent Absent e = absurd (true≢false (sym e))
-not_absent Live e = refl
-not_absent Stopping e = refl
+not_absent sq e = grind arith
 
 -- its rings are in use, and stand
 rings_of : (s : Sides) (q : ℕ) (h : HostQueue) (c : ControllerQueue) → CanTake s q h c → RingsStand (byte_at s.pages) q h c

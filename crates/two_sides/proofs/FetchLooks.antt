@@ -1,7 +1,8 @@
 -- What the controller finds at the head of a queue is what the machine has there, where nothing was forged; so both refuse a fetch alike.
 use Rattle.std.proofs.Common.{◌≡◌, ◌≢◌, ◌⊎◌, inl, inr, ℕ, zero, suc, ◌+◌, ◌*◌, ◌/◌, ◌==◌, ◌&&◌, nat_lt, not, Bool, true, false, Option, Some, None, is_none, is_some, List, [], ◌∷◌, find, slice_get, if◌then◌else◌, refl, ap, sym, ◌∙◌, arith, subst, lt-ltb, eqb-true}
+use Rattle.machine_agreement.proofs.Cases.{option_is}
 use Rattle.std.specs.Option.{option_map, option_map_or}
-use Rattle.std.proofs.lemmas.Bool.{true≢false, eqb-false, OnTrue_at}
+use Rattle.std.proofs.lemmas.Bool.{true≢false, eqb-false, OnTrue_at, cases_Bool}
 use Rattle.admin_commands.specs.Verdicts.{is_absent, is_live}
 use Rattle.controller_core.specs.Contents.{FetchedCommand, is_command}
 use Rattle.controller_core.specs.Fetching.{LooksAt, fetch_refusal, is_known, live_side, look_refusal}
@@ -46,11 +47,10 @@ page_of_head c = submission_page c.device.sq c.device.ring.head
 
 live_queue : (o : Option ControllerQueue) (device : DeviceSide) → live_side o ≡ Some device → (c : ControllerQueue) × (o ≡ Some c) × (is_live c.state ≡ true) × (c.device ≡ device)
 live_queue None device e = absurd cc
-live_queue (Some c) device e = go (is_live c.state) refl e
-  where
-    go : (b : Bool) → is_live c.state ≡ b → (if b then Some c.device else None) ≡ Some device → (x : ControllerQueue) × (Some c ≡ Some x) × (is_live x.state ≡ true) × (x.device ≡ device)
-    go true live f = (c, refl, live, (let same : c.device ≡ device = cc in same))
-    go false live f = absurd cc
+live_queue (Some c) device e = elim (cases_Bool (is_live c.state)) [
+  | inl live ↦ let f = rw live at e in (c, refl, live, (let same : c.device ≡ device = cc in same))
+  | inr live ↦ let f = rw live at e in absurd cc
+]
 
 pub looked : (s : Sides) (q : ℕ) (e : SubEntry) (touched : List ℕ) → LooksAt s.controller (byte_at s.pages) [] q e touched → (c : ControllerQueue) × IsLooked s q c e × (touched ≡ page_of_head c ∷ [])
 looked s q e touched l =
@@ -114,13 +114,9 @@ seen s q c e world t l =
       inside = ap (is_in s.pages) page ∙ subst (λ (p : ℕ). is_in s.pages p ≡ true) head
           (byte_in_page s.pages (4096 * c.device.sq + 64 * c.device.ring.head)
           ((can.known.submission_in (not_absent c.state l.live)).there (64 * c.device.ring.head) (omega (arith, placed.share.entries, placed.share.side.head))));
-      unknown = mapped (find (is_command q e.cid) s.controller.commands) ∙ sym (ap is_some (job-at s q e.cid)) ∙ alone;
+      unknown = (grind arith) ∙ sym (ap is_some (job-at s q e.cid)) ∙ alone;
       alone = ap (λ (o : Option SubEntry). option_map_or (λ e. is_some (job_at (state_of s) q e.cid)) o false) next ∙ alone;
     }
-  where
-    mapped : (o : Option FetchedCommand) → is_some o ≡ is_some (option_map job_of o)
-    mapped None = refl
-    mapped (Some k) = refl
 
 -- nothing is rung where the controller finds nothing
 no_device : (m : Memory) (hs : List HostQueue) (cs : List ControllerQueue) (q : ℕ) → slice_get cs q ≡ None → slice_get (device_queues_of m hs cs) q ≡ None
@@ -143,13 +139,8 @@ next_idle s q c world here idle =
       | inl dead ↦ ap (λ (b : Bool). if b && nat_lt 0 d.rung then slice_get d.unfetched 0 else None) dead
       | inr same ↦
           let none : distance n ring.head ring.bell ≡ 0 = ap (distance n ring.head) (sym (eqb-true ring.head ring.bell same)) ∙ distance_same n ring.head in
-          by (is_live c.state) (is_absent c.state) (distance n ring.head ring.bell) none (slice_get d.unfetched 0)
+          (grind arith)
     ]
-  where
-    by : (l b : Bool) (k : ℕ) → k ≡ 0 → (o : Option SubEntry) → (if l && nat_lt 0 (if b then 0 else k) then o else None) ≡ None
-    by false b k e o = refl
-    by true true k e o = refl
-    by true false k e o = ap (λ (k : ℕ). if nat_lt 0 k then o else None) e
 
 -- The controller finds nothing to fetch, or an entry.
 abbrev pub Looks : Sides → ℕ → Type 0
@@ -158,7 +149,10 @@ Looks s q =
     ⊎ ((look_refusal s.controller (byte_at s.pages) q ≡ None) × (fetch_refusal s.controller (byte_at s.pages) q ≡ None) × ((c : ControllerQueue) × (e : SubEntry) × IsSeen s q c e))
 
 pub looks : (s : Sides) (q : ℕ) → IsWorld s → s.trusted ≡ true → Looks s q
-looks s q world t = go (slice_get s.controller.queues q) refl
+looks s q world t = elim (option_is (slice_get s.controller.queues q)) [
+  | inl e ↦ inl (rw e refl, rw e refl, next_none (state_of s) q (no_device m s.host.host.queues s.controller.queues q e))
+  | inr (c, e) ↦ found c e (is_live c.state) refl (c.device.ring.head == c.device.ring.bell) refl
+]
   where
     m : Memory
     m = byte_at s.pages
@@ -172,10 +166,6 @@ looks s q world t = go (slice_get s.controller.queues q) refl
         let (e, entry) = entry_there s q h c (record { known = known s world t q h c at here; live = live; rung = rung }) in
         let is : IsSeen s q c e = seen s q c e world t (record { here = here; live = live; rung = rung; at = entry }) in
         inr (rw (here, live, same, entry) refl, rw (here, live, same, entry, is.unknown) refl, (c, e, is))
-
-    go : (o : Option ControllerQueue) → slice_get s.controller.queues q ≡ o → Looks s q
-    go None e = inl (rw e refl, rw e refl, next_none (state_of s) q (no_device m s.host.host.queues s.controller.queues q e))
-    go (Some c) e = found c e (is_live c.state) refl (c.device.ring.head == c.device.ring.bell) refl
 
 -- The machine refuses what the controller does.
 

@@ -39,7 +39,8 @@ use Rattle.two_sides.specs.Sides.{Sides, state_of, job_of}
 use Rattle.two_sides.specs.Stepping.{LeavesPages, StepsTo, fetches_step, served}
 use Rattle.two_sides.specs.Ties.{AllQueuesStand, IsWorld, ShareQueues, SharesAdmin, WalkStands, WalksStand}
 use Rattle.two_sides.proofs.AdminKept.{admin_verdict, places_left}
-use Rattle.two_sides.proofs.Answering.{answer_shares, length-completion_bytes, post_room, slot_is_in, slot_written}
+use Rattle.two_sides.proofs.Answering.{answer_shares, post_room, slot_is_in, slot_written}
+use Rattle.machine_agreement.proofs.WholePages.{length-completion_bytes}
 use Rattle.two_sides.proofs.Assembling.{ServesOver, serve_refused, served_stepped}
 use Rattle.two_sides.proofs.Changed.{devices_changed, stands_changed}
 use Rattle.two_sides.proofs.EntryTaking.{CanTake, taken_seen, taken_shares, taken_stands}

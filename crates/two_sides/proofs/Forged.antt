@@ -1,5 +1,5 @@
 -- After a forged entry a step of the host is one of the machine.
-use Rattle.std.proofs.Common.{◌≡◌, ℕ, zero, suc, Bool, true, false, not, ◌&&◌, ◌||◌, Option, Some, None, List, [], ◌∷◌, length, MatchBool, refl, ap, sym, ◌∙◌, subst}
+use Rattle.std.proofs.Common.{◌≡◌, ℕ, zero, suc, Bool, true, false, not, ◌&&◌, ◌||◌, Option, Some, None, List, [], ◌∷◌, length, MatchBool, refl, ap, sym, ◌∙◌, subst, arith}
 use Rattle.std.specs.Option.{option_map_or}
 use Rattle.std.proofs.lemmas.Bool.{true≢false}
 use Rattle.controller_core.specs.Contents as controller
@@ -22,13 +22,9 @@ use Rattle.two_sides.specs.Sides.{Sides, state_of, device_of, device_queues_of}
 use Rattle.two_sides.specs.Ties.{ShareQueues}
 use Rattle.two_sides.proofs.Shared.{share_queues}
 use Rattle.two_sides.proofs.Unreset.{unreset}
+use Rattle.machine_agreement.proofs.Tying.{length-change}
 
 -- The controller keeps its queues and its image
-
-length-change : {A : Type 0} (k : ℕ) (f : A → A) (xs : List A) → length (controller.change k f xs) ≡ length xs
-length-change k f [] = refl
-length-change zero f (x ∷ xs) = refl
-length-change (suc k) f (x ∷ xs) = ap suc (length-change k f xs)
 
 pub length-heard : (e : Event) (reply : Reply) (v : HostView) (c : Contents) → length (heard e reply v c).queues ≡ length c.queues
 length-heard e (events.Refused why touched) v c = refl
@@ -45,32 +41,10 @@ length-heard (events.Reap q) (events.Reaps what) v c = go (head_rung v q what)
 length-heard e reply v c = refl
 
 pub image-heard : (e : Event) (reply : Reply) (v : HostView) (c : Contents) → (heard e reply v c).image ≡ c.image
-image-heard e (events.Refused why touched) v c = refl
-image-heard (events.Ring q) events.Accepted v c = go (tail_of v q)
-  where
-    go : (o : Option ℕ) → (option_map_or (λ tail. record c { queues = controller.change q (with_tail tail) c.queues }) o c).image ≡ c.image
-    go None = refl
-    go (Some tail) = refl
-image-heard (events.Reap q) (events.Reaps what) v c = go (head_rung v q what)
-  where
-    go : (o : Option ℕ) → (option_map_or (λ head. record c { queues = controller.change q (with_head head) c.queues }) o c).image ≡ c.image
-    go None = refl
-    go (Some head) = refl
-image-heard e reply v c = refl
+image-heard e reply v c = grind arith
 
 pub commands-heard : (e : Event) (reply : Reply) (v : HostView) (c : Contents) → (heard e reply v c).commands ≡ c.commands
-commands-heard e (events.Refused why touched) v c = refl
-commands-heard (events.Ring q) events.Accepted v c = go (tail_of v q)
-  where
-    go : (o : Option ℕ) → (option_map_or (λ tail. record c { queues = controller.change q (with_tail tail) c.queues }) o c).commands ≡ c.commands
-    go None = refl
-    go (Some tail) = refl
-commands-heard (events.Reap q) (events.Reaps what) v c = go (head_rung v q what)
-  where
-    go : (o : Option ℕ) → (option_map_or (λ head. record c { queues = controller.change q (with_head head) c.queues }) o c).commands ≡ c.commands
-    go None = refl
-    go (Some head) = refl
-commands-heard e reply v c = refl
+commands-heard e reply v c = grind arith
 
 pub length-device : (m : Memory) (n q : ℕ) (hs : List HostQueue) (cs : List ControllerQueue) → ShareQueues n q hs cs → length (device_queues_of m hs cs) ≡ length cs
 length-device m n q [] [] h = refl
@@ -97,11 +71,7 @@ by_host false true false s next new y e h = h
 by_host false false false s next new y e h = h
 
 to_host : (z f t c : Bool) (s next new : State) → z ≡ false → t ≡ false → c ≡ false → LeavesByHost s next new → MatchBool (z || (not f && t)) (new ≡ next) (MatchBool c (LeavesByController s next new) (LeavesByHost s next new))
-to_host true f t c s next new y e g h = absurd (true≢false y)
-to_host false f true c s next new y e g h = absurd (true≢false e)
-to_host false f false true s next new y e g h = absurd (true≢false g)
-to_host false true false false s next new y e g h = h
-to_host false false false false s next new y e g h = h
+to_host z f t c s next new y e g h = grind arith
 
 pub refused_leaves : (s : Sides) (host : HostView) (pages : Pages) → alone host pages ≡ alone s.host s.pages → state_of (record s { host = host; pages = pages }) ≡ state_of s
 refused_leaves s host pages same =

@@ -33,17 +33,12 @@ use Rattle.two_sides.proofs.Known.{half_in, half_lies, tied_of}
 use Rattle.two_sides.proofs.Owning.{queue_page_in}
 use Rattle.two_sides.proofs.Places.{completion_slot_page}
 use Rattle.two_sides.proofs.Refusing.{into}
+use Rattle.machine_model.proofs.Halves.{reaped_has_cq}
 
 -- A slot that may be forged: the host has the completion half, whose pages lie together, and the slot is one of it.
 record IsSlot (s : Sides) (slot : ℕ) (h : HostQueue) : Type 0 where
   below : slot < s.host.entries
   half : h.cq_pages ≡ pages_from (first_completion_page h) (half_pages s.host.entries Completion)
-
-reaped_has_cq : (st : HostState) → is_reaped st ≡ true → has_cq st ≡ true
-reaped_has_cq states.Live e = refl
-reaped_has_cq (states.Deleting noted) e = refl
-reaped_has_cq states.Retired e = refl
-reaped_has_cq st e = absurd (true≢false (sym e))
 
 slot_of : (s : Sides) (q slot : ℕ) (bytes : List ℕ) (h : HostQueue) → IsWorld s → refusal_of (state_of s) (events.Forge q slot bytes) ≡ None → slice_get s.host.host.queues q ≡ Some h → IsSlot s slot h
 slot_of s q slot bytes h world none at =
@@ -61,12 +56,7 @@ slot_of s q slot bytes h world none at =
 pub slots_are_in : completion_slots_are_in
 slots_are_in s q slot bytes h world none at out =
     let is = slot_of s q slot bytes h world none at in
-    missing _ (completion_there (byte_at s.pages) (first_completion_page h) s.host.entries slot
-    (half_in s world q h at h.cq_pages (λ p l. omega (arith, l)) (first_completion_page h) (half_pages s.host.entries Completion) is.half) is.below) out
-  where
-    missing : {X : Type 0} (o : Option X) → IsSome o → o ≡ None → ⊥
-    missing None there e = cc
-    missing (Some x) there e = cc
+    let h1 = completion_there (byte_at s.pages) (first_completion_page h) s.host.entries slot (half_in s world q h at h.cq_pages (λ p l. omega (arith, l)) (first_completion_page h) (half_pages s.host.entries Completion) is.half) is.below in grind arith
 
 -- Its page is in, and the bytes are written there.
 
@@ -93,38 +83,18 @@ pages_forged s q slot bytes h pages world at is count leaves wrote =
     ∙ ap (λ (p : ℕ). with_page_bytes s.pages p (slot_offset 16 slot) bytes) (sym page)
 
 pub forged_stepped : forged_entries_step
-forged_stepped s q slot bytes h pages world count none at leaves wrote = (
-  step,
-  record {
-    sides = record { over = sides.over; sound = sides.sound; kept = sides.kept; provided = sides.provided; controller = sides.controller; queues = sides.queues; admin = sides.admin };
-    recovers = recovery_kept (state_of s) (events.Forge q slot bytes) events.Accepted (state_of (forged s pages)) step (λ t. (tied_of s world t).agree) world.recovers;
-    tied = tt;
-  },
-)
-  where
-    memory : pages ≡ with_page_bytes s.pages (slot_page h.cq_pages 16 slot) (slot_offset 16 slot) bytes
-    memory = pages_forged s q slot bytes h pages world at (slot_of s q slot bytes h world none at) count leaves wrote
-
-    forges_at : (u : State) (h : HostQueue) → host_queue u q ≡ Some h
-        → after u (events.Forge q slot bytes) events.Accepted ≡ record (on_memory (λ m. with_page_bytes m (slot_page h.cq_pages 16 slot) (slot_offset 16 slot) bytes) u) { trusted = false }
-    forges_at u h e = rw e refl
-
-    due : after (state_of s) (events.Forge q slot bytes) events.Accepted
-        ≡ record (on_memory (λ m. with_page_bytes m (slot_page h.cq_pages 16 slot) (slot_offset 16 slot) bytes) (state_of s)) { trusted = false }
-    due = forges_at (state_of s) h at
-
-    sides : AreSides (served s s.controller pages)
-    sides = sides_served s s.controller pages world.sides (record {
+forged_stepped s q slot bytes h pages world count none at leaves wrote =
+    let memory : pages ≡ with_page_bytes s.pages (slot_page h.cq_pages 16 slot) (slot_offset 16 slot) bytes =
+    pages_forged s q slot bytes h pages world at (slot_of s q slot bytes h world none at) count leaves wrote in
+    let sides : AreSides (served s s.controller pages) = sides_served s s.controller pages world.sides (record {
       leaves = leaves;
       in_store = ap (λ (m : Pages). map is_some m) memory ∙ in_store-with_bytes s.pages (slot_page h.cq_pages 16 slot) (slot_offset 16 slot) bytes;
       controller = world.sides.controller;
       queues = world.sides.queues;
       admin = world.sides.admin;
       image = refl;
-    })
-
-    step : Step (state_of s) (events.Forge q slot bytes) events.Accepted (state_of (forged s pages))
-    step = (
+    }) in
+    let step : Step (state_of s) (events.Forge q slot bytes) events.Accepted (state_of (forged s pages)) = (
       count,
       into _ s.trusted false refl (none, tt),
       record {
@@ -136,4 +106,19 @@ forged_stepped s q slot bytes h pages world count none at leaves wrote = (
               ∙ sym (length-device (byte_at s.pages) s.host.entries 0 s.host.host.queues s.controller.queues world.sides.queues);
         };
       },
+    ) in (
+      step,
+      record {
+        sides = record { over = sides.over; sound = sides.sound; kept = sides.kept; provided = sides.provided; controller = sides.controller; queues = sides.queues; admin = sides.admin };
+        recovers = recovery_kept (state_of s) (events.Forge q slot bytes) events.Accepted (state_of (forged s pages)) step (λ t. (tied_of s world t).agree) world.recovers;
+        tied = tt;
+      },
     )
+  where
+    forges_at : (u : State) (h : HostQueue) → host_queue u q ≡ Some h
+        → after u (events.Forge q slot bytes) events.Accepted ≡ record (on_memory (λ m. with_page_bytes m (slot_page h.cq_pages 16 slot) (slot_offset 16 slot) bytes) u) { trusted = false }
+    forges_at u h e = rw e refl
+
+    due : after (state_of s) (events.Forge q slot bytes) events.Accepted
+        ≡ record (on_memory (λ m. with_page_bytes m (slot_page h.cq_pages 16 slot) (slot_offset 16 slot) bytes) (state_of s)) { trusted = false }
+    due = forges_at (state_of s) h at

@@ -13,7 +13,8 @@ use Rattle.machine_model.specs.State.{Answer, HostQueue, DeviceQueue, Record, pa
 use Rattle.machine_model.specs.Refusals.{in_service, is_making_cq, is_submitted}
 use Rattle.machine_model.specs.declared.words.HostState.{HostState}
 use Rattle.machine_agreement.proofs.JobLaws.{stay_after}
-use Rattle.machine_agreement.proofs.Served.{counts_sent, page_there, among_left, among_right}
+use Rattle.machine_agreement.proofs.Served.{counts_sent, page_there}
+use Rattle.machine_agreement.proofs.Touching.{holds_left as among_left, holds_right as among_right}
 use Rattle.machine_model.proofs.Steps.{Accepts}
 use Rattle.machine_model.proofs.Totals.{total}
 use Rattle.machine_model.specs.Step.{times}
@@ -321,13 +322,10 @@ free_apart_from_commands s world i r p e free =
 pub halves_apart : (s : Sides) → IsWorld s → (q k : ℕ) (h x : HostQueue) (p : ℕ) → slice_get s.host.host.queues q ≡ Some h → slice_get s.host.host.queues k ≡ Some x → q ≢ k
     → (is_among h.sq_pages p ≡ true → (is_among x.sq_pages p ≡ false) × (is_among x.cq_pages p ≡ false))
     × (is_among h.cq_pages p ≡ true → (is_among x.sq_pages p ≡ false) × (is_among x.cq_pages p ≡ false))
-halves_apart s world q k h x p e f apart = (λ sq. other (held_queue (held_once p h.sq_pages sq)), λ cq. other (held_queue' (held_once p h.cq_pages cq)))
+halves_apart s world q k h x p e f apart = (λ sq. other (held_queue (held_once p h.sq_pages sq)), λ cq. other (let l = held_once p h.cq_pages cq in omega (arith, l)))
   where
     held_queue : 0 < times p h.sq_pages → 0 < in_queue p h
     held_queue l = omega (arith, l)
-
-    held_queue' : 0 < times p h.cq_pages → 0 < in_queue p h
-    held_queue' l = omega (arith, l)
 
     other : 0 < in_queue p h → (is_among x.sq_pages p ≡ false) × (is_among x.cq_pages p ≡ false)
     other own =

@@ -1,7 +1,7 @@
 -- A half that the host grants a queue: free pages, which come in as zeros.
-use Rattle.std.proofs.Common.{◌≡◌, ℕ, zero, suc, ◌+◌, ◌<◌, ◌==◌, ◌||◌, ◌&&◌, Bool, true, false, Some, List, [], ◌∷◌, length, length-set, slice_set, if◌then◌else◌, refl, ap, sym, ◌∙◌, subst, arith, eqb-true}
+use Rattle.std.proofs.Common.{◌≡◌, ℕ, zero, suc, ◌+◌, ◌<◌, ◌==◌, ◌||◌, ◌&&◌, Bool, true, false, Some, List, [], ◌∷◌, length, length-set, slice_set, if◌then◌else◌, refl, ap, sym, ◌∙◌, subst, arith, eqb-true, inl, inr}
 use Rattle.std.specs.List.{AllByRecursion}
-use Rattle.std.proofs.lemmas.Bool.{eqb-false, true≢false}
+use Rattle.std.proofs.lemmas.Bool.{eqb-false, true≢false, cases_Bool}
 use Rattle.host_core.proofs.Pages.{among-from, pool-with, set-other}
 use Rattle.machine_model.specs.Memory.{with_pages, zeroed_pages}
 use Rattle.machine_model.specs.Placement.{first_of_run}
@@ -64,11 +64,7 @@ module _ (s : Sides) (world : IsWorld s) (count first : ℕ) (run : first_of_run
 
   -- a page of another owner is none of them
   not_granted : (own : List ℕ) (p : ℕ) → is_among own p ≡ true → (is_among s.host.host.free p ≡ true → is_among own p ≡ false) → is_among (pages_from first count) p ≡ false
-  not_granted own p mine apart = go (is_among (pages_from first count) p) refl
-    where
-      go : (b : Bool) → is_among (pages_from first count) p ≡ b → b ≡ false
-      go false e = refl
-      go true e = absurd (true≢false (sym mine ∙ apart (free p e)))
+  not_granted own p mine apart = elim (cases_Bool (is_among (pages_from first count) p)) [ inl e ↦ absurd (true≢false (sym mine ∙ apart (free p e))) | inr e ↦ rw e refl ]
 
   pub granted_spares : Spares s granted_pool
   granted_spares q h at =

@@ -1,5 +1,6 @@
 -- Queues that are deleted and keep their completion queues: what a change of one queue, or of the entries of queue 0, leaves of that.
-use Rattle.std.proofs.Common.{◌≡◌, ℕ, zero, suc, ◌-◌, ◌==◌, ◌||◌, Bool, true, false, Option, Some, None, List, [], ◌∷◌, ◌++◌, drop, slice_get, refl, ap, sym, ◌∙◌, subst}
+use Rattle.std.proofs.Common.{◌≡◌, ℕ, zero, suc, ◌-◌, ◌==◌, ◌||◌, Bool, true, false, Option, Some, None, List, [], ◌∷◌, ◌++◌, drop, slice_get, refl, ap, sym, ◌∙◌, subst, inl, inr, arith}
+use Rattle.machine_agreement.proofs.Cases.{option_is}
 use Rattle.std.specs.List.{list_any}
 use Rattle.std.specs.Option.{option_map_or}
 use Rattle.std.proofs.lemmas.Bool.{true≢false}
@@ -13,7 +14,8 @@ use Rattle.machine_model.specs.declared.words.HostState.TheVariants as states
 use Rattle.machine_agreement.proofs.Agreed.{agreed_there}
 use Rattle.machine_model.proofs.Awaited.{awaited_at}
 use Rattle.machine_agreement.proofs.DeviceMoves.{cleared}
-use Rattle.machine_agreement.proofs.Placing.{ne_zero, waiting, waiting_same, waiting_other}
+use Rattle.machine_agreement.proofs.Placing.{waiting, waiting_same, waiting_other}
+use Rattle.machine_agreement.proofs.Queues.{far_suc as ne_zero}
 use Rattle.queue_pair.specs.Rings.{HostRing}
 use Rattle.admin_commands.specs.Verdicts.{is_absent}
 use Rattle.two_sides.specs.Deletions.{AreBefore, CompletionsServe, asks_cq_deletion, asks_sq_deletion}
@@ -33,18 +35,13 @@ ServeS s = Serve s.host.queues s.device.queues (waiting s.device.queues)
 -- As the public statement says it
 
 found_awaited : (test : HostState → Bool) (hs : List HostQueue) (q : ℕ) → awaited_at test hs q ≡ true → (h : HostQueue) × (slice_get hs q ≡ Some h) × (test h.state ≡ true)
-found_awaited test hs q w = go (slice_get hs q) refl w
-  where
-    go : (o : Option HostQueue) → slice_get hs q ≡ o → option_map_or (λ h. test h.state) o false ≡ true → (h : HostQueue) × (slice_get hs q ≡ Some h) × (test h.state ≡ true)
-    go None e w = absurd (true≢false (sym w))
-    go (Some h) e w = (h, e, w)
+found_awaited test hs q w = elim (option_is (slice_get hs q)) [ inl e ↦ let w = rw e at w in absurd (true≢false (sym w)) | inr (h, e) ↦ let w = rw e at w in (h, e, w) ]
 
 awaited_found : (test : HostState → Bool) (hs : List HostQueue) (q : ℕ) (h : HostQueue) → slice_get hs q ≡ Some h → test h.state ≡ true → awaited_at test hs q ≡ true
 awaited_found test hs q h e is = ap (λ (o : Option HostQueue). option_map_or (λ h. test h.state) o false) e ∙ is
 
 served_deleting : (st : HostState) → is_deleting st ≡ true → in_service st ≡ true
-served_deleting (states.Deleting noted) e = refl
-served_deleting st e = absurd (true≢false (sym e))
+served_deleting st e = grind arith
 
 pub serve_of : (s : State) → CompletionsServe s → ServeS s
 serve_of s serve = record {
@@ -153,11 +150,7 @@ any_more test (e ∷ un) x h = go (test e) h (any_more test un x)
 
 any_last : (test : SubEntry → Bool) (un : List SubEntry) (x : SubEntry) → test x ≡ true → list_any test (un ++ x ∷ []) ≡ true
 any_last test [] x is = ap (λ (b : Bool). b || false) is
-any_last test (e ∷ un) x is = go (test e) (any_last test un x is)
-  where
-    go : (b : Bool) → list_any test (un ++ x ∷ []) ≡ true → (b || list_any test (un ++ x ∷ [])) ≡ true
-    go true h = refl
-    go false h = h
+any_last test (e ∷ un) x is = let h1 = any_last test un x is in grind arith
 
 -- another entry comes behind them, and then the entry that has to stand behind them all
 pub before_more : (first later : SubEntry → Bool) (un : List SubEntry) (x : SubEntry) → first x ≡ false → AreBefore first later un → AreBefore first later (un ++ x ∷ [])

@@ -28,6 +28,7 @@ use Rattle.queue_pair.proofs.Pools.{pages_in}
 use Rattle.two_sides.specs.Sides.{Sides, state_of, device_queue_of, device_queues_of}
 use Rattle.two_sides.specs.Ties.{AreTied, IsWorld, ShareQueue, ShareQueues, RingsStand, QueueStands, AllQueuesStand, first_completion_page, has_ring}
 use Rattle.two_sides.proofs.Owning.{queue_page_in}
+use Rattle.machine_model.proofs.Halves.{service_is_reaped}
 
 -- whatever was forged
 pub record IsPlaced (s : Sides) (q : ℕ) (h : HostQueue) (c : ControllerQueue) : Type 0 where
@@ -53,18 +54,8 @@ pub record IsKnown (s : Sides) (q : ℕ) (h : HostQueue) (c : ControllerQueue) :
 pub reaped_ring : (h : HostQueue) (c : ControllerQueue) → is_reaped h.state ≡ true → has_ring h c ≡ true
 reaped_ring h c e = ap (λ (b : Bool). b || c.cq_there) e
 
--- the completions of a queue in service are reaped
-pub served_reaped : (st : HostState) → in_service st ≡ true → is_reaped st ≡ true
-served_reaped states.Live e = refl
-served_reaped (states.Deleting noted) e = refl
-served_reaped st e = absurd (true≢false (sym e))
-
 pub there_ring : (h : HostQueue) (c : ControllerQueue) → c.cq_there ≡ true → has_ring h c ≡ true
-there_ring h c e = go (is_reaped h.state)
-  where
-    go : (b : Bool) → (b || c.cq_there) ≡ true
-    go true = refl
-    go false = e
+there_ring h c e = grind arith
 
 pub queue_ring : (s : Sides) (q : ℕ) (h : HostQueue) (c : ControllerQueue) → IsKnown s q h c → is_absent c.state ≡ false → has_ring h c ≡ true
 queue_ring s q h c known there = there_ring h c (known.fits.half there)
@@ -178,8 +169,7 @@ pub half_lies : (n : ℕ) (h : HostQueue) → 0 < n → HasHalves n h → has_cq
 half_lies n h some halves there = lies_from_first n halves.completion.0 h some there halves.completion.1
 
 making_has_cq : (st : HostState) → is_making_cq st ≡ true → has_cq st ≡ true
-making_has_cq states.MakingCq e = refl
-making_has_cq st e = absurd (true≢false (sym e))
+making_has_cq st e = grind arith
 
 pub tied_of : (s : Sides) → IsWorld s → s.trusted ≡ true → AreTied s
 tied_of s world t = OnTrue_at t world.tied

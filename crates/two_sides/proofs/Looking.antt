@@ -1,5 +1,5 @@
 -- The calls that look at a completion ring: what they leave of the host does not hang on the controller, and a queue's new state leaves its ring.
-use Rattle.std.proofs.Common.{◌≡◌, ℕ, zero, suc, Bool, true, false, ◌&&◌, Option, Some, None, List, [], ◌∷◌, map, slice_get, if◌then◌else◌, refl, ap, ap₂, sym, ◌∙◌, subst}
+use Rattle.std.proofs.Common.{◌≡◌, ℕ, zero, suc, Bool, true, false, ◌&&◌, Option, Some, None, List, [], ◌∷◌, map, slice_get, if◌then◌else◌, refl, ap, ap₂, sym, ◌∙◌, subst, arith}
 use Rattle.std.specs.Option.{option_map, option_map_or}
 use Rattle.admin_commands.specs.declared.AdminKind.{AdminKind}
 use Rattle.admin_commands.specs.declared.AdminKind.TheVariants.{Abort, DeleteSq, DeleteCq, CreateCq, CreateSq}
@@ -43,16 +43,14 @@ view n = record { entries = n.entries; segment = n.segment; host = n.host }
 
 freed : (pages : HostQueue → List ℕ) (without : HostQueue → HostQueue) (q : ℕ) (u : State) (o : Option HostQueue)
     → option_map_or (λ queue. a.on_host_queue q without (a.given_back (pages queue) (bare u))) o (bare u) ≡ bare (option_map_or (λ queue. a.on_host_queue q without (a.given_back (pages queue) u)) o u)
-freed pages without q u None = refl
-freed pages without q u (Some queue) = refl
+freed pages without q u o = grind arith
 
 bare_freed : (pages : HostQueue → List ℕ) (without : HostQueue → HostQueue) (q : ℕ) (u : State) → a.half_freed pages without q (bare u) ≡ bare (a.half_freed pages without q u)
 bare_freed pages without q u = freed pages without q u (host_queue u q)
 
 -- one of two
 bare_if : (b : Bool) (t u t' u' : State) → t' ≡ bare t → u' ≡ bare u → (if b then t' else u') ≡ bare (if b then t else u)
-bare_if true t u t' u' e f = e
-bare_if false t u t' u' e f = f
+bare_if b t u t' u' e f = grind arith
 
 bare_admin : (adm : AdminKind) (st : Status) (u : State) → after_admin adm st (bare u) ≡ bare (after_admin adm st u)
 bare_admin (Abort q cid) st u = refl
@@ -83,10 +81,9 @@ bare_done q cid st u (Some r) (Some e) (Some e') alike =
     ap (λ (x : ComEntry). after_work r.work q cid st (a.on_ring q (knowing x.sqhd) (a.consumed q (bare u)))) same ∙ bare_work r.work q cid st (a.heard q e' u)
 
 pub bare_reap : (q : ℕ) (what : Reaped) (u : State) → told (seen_entry (bare u) q) ≡ told (seen_entry u q) → after_reap q what (bare u) ≡ bare (after_reap q what u)
-bare_reap q found.Empty u alike = refl
-bare_reap q (found.Rejected why) u alike = refl
 bare_reap q (found.Done cid st) u alike = bare_done q cid st u (record_at u.host q cid) (seen_entry (bare u) q) (seen_entry u q) alike
 bare_reap q (found.AdminDone cid st dw0) u alike = bare_done q cid st u (record_at u.host q cid) (seen_entry (bare u) q) (seen_entry u q) alike
+bare_reap q what u alike = refl
 
 pub bare_retire : (q : ℕ) (u : State) → after_retire q (bare u) ≡ bare (after_retire q u)
 bare_retire q u = freed (λ queue. queue.sq_pages) a.retired q (a.on_records (λ records. map (a.lost q) records) u) (host_queue u q)

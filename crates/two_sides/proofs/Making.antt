@@ -45,18 +45,13 @@ completion_seen m n base h c is = subst (λ (ring : HostRing). device_queue_of m
 
     by : (b : Bool) (us vs : List SubEntry) (k l : ℕ) → b ≡ true
         → as_made (if b then [] else us) (if b then 0 else k) ≡ as_made (if b then [] else vs) (if b then 0 else l)
-    by true us vs k l e = refl
-    by false us vs k l e = absurd (true≢false (sym e))
+    by b us vs k l e = grind arith
 
 pub submission_seen : (m : Memory) (n base : ℕ) (h : HostQueue) (c : ControllerQueue) → IsGrantedBeside n base h c → device_queue_of m h.ring (with_submission base c) ≡ after.submission_made (device_queue_of m h.ring c)
-submission_seen m n base h c is = subst (λ (ring : HostRing). device_queue_of m ring (with_submission base c) ≡ after.submission_made (device_queue_of m ring c)) (sym is.fresh) (by c.cq_there)
+submission_seen m n base h c is = subst (λ (ring : HostRing). device_queue_of m ring (with_submission base c) ≡ after.submission_made (device_queue_of m ring c)) (sym is.fresh) (grind arith)
   where
     as_made : Bool → List Answer → DeviceQueue
     as_made b answers = record { state = Live; cq_there = b; unfetched = []; rung = 0; answers = answers }
-
-    by : (b : Bool) → as_made b (if b then [] else []) ≡ as_made b []
-    by true = refl
-    by false = refl
 
 -- A queue that stops
 
@@ -84,8 +79,7 @@ fresh_phases m q h c fresh unserved r =
     subst (λ (p : Bool). PhasesStand m c.device.cq c.device.entries 0 p) phase (subst (λ (k : ℕ). PhasesStand m c.device.cq c.device.entries k c.device.ring.phase) tail r.phases)
 
 unserved_cq : (st : HostState) → is_making_cq st ≡ true → in_service st ≡ false
-unserved_cq states.MakingCq e = refl
-unserved_cq st e = absurd (true≢false (sym e))
+unserved_cq st e = grind arith
 
 pub dropped_stands : (n : ℕ) (m : Memory) (q : ℕ) (h : HostQueue) (c : ControllerQueue) → ShareQueue n q h c → (is_making_cq h.state ≡ true → h.ring ≡ fresh_host_ring) → QueueStands n m q h c
     → QueueStands n m q h (without_completion c)
@@ -98,8 +92,7 @@ dropped_stands n m q h c share fresh stands =
     }
   where
     reaped : (a b : Bool) → (a || false) ≡ true → (a || b) ≡ true
-    reaped true b e = refl
-    reaped false b e = absurd (true≢false (sym e))
+    reaped a b e = grind arith
 
     granted : is_making_cq h.state ≡ true → (b : Bool) → c.cq_there ≡ b → PhasesStand m (first_completion_page h) n 0 true
     granted making false e = stands.granted making e

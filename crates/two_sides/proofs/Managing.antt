@@ -1,5 +1,6 @@
 -- What an admin entry does at its fetch is the machine's.
-use Rattle.std.proofs.Common.{◌≡◌, ℕ, zero, suc, ◌+◌, ◌-◌, ◌<◌, ◌==◌, ◌&&◌, nat_lt, nat_le, Bool, true, false, Option, Some, None, is_none, List, [], ◌∷◌, ◌++◌, length, find, map, slice_get, if◌then◌else◌, refl, ap, ap₂, sym, ◌∙◌, arith, subst, ltb-true, leb-true}
+use Rattle.std.proofs.Common.{◌≡◌, ℕ, zero, suc, ◌+◌, ◌-◌, ◌<◌, ◌==◌, ◌&&◌, nat_lt, nat_le, Bool, true, false, Option, Some, None, is_none, List, [], ◌∷◌, ◌++◌, length, find, map, slice_get, if◌then◌else◌, refl, ap, ap₂, sym, ◌∙◌, arith, subst, ltb-true, leb-true, inl, inr}
+use Rattle.machine_agreement.proofs.Cases.{option_is}
 use Rattle.std.specs.List.{AllByRecursion, count_by}
 use Rattle.std.specs.Option.{option_map, option_map_or}
 use Rattle.std.proofs.lemmas.Bool.{true≢false, and_parts, cond_both}
@@ -56,13 +57,9 @@ view_seen t e share =
     let m = byte_at t.pages in
     let at = state_at m t.host.host.queues t.controller.queues t.host.entries zero q share in
     let walks : after.walks (state_of t) q (named_command e) ≡ option_map_or (λ k. is_none (verdict_of_work k.work)) (find (is_command q (named_command e)) t.controller.commands) false =
-    ap (λ (o : Option Job). option_map_or (λ j. is_none j.verdict) o false) (job-at t q (named_command e)) ∙ by (find (is_command q (named_command e)) t.controller.commands) in
+    ap (λ (o : Option Job). option_map_or (λ j. is_none j.verdict) o false) (job-at t q (named_command e)) ∙ (grind arith) in
     let many : length (device_queues_of m t.host.host.queues t.controller.queues) ≡ length t.controller.queues = length-device m t.host.entries zero t.host.host.queues t.controller.queues share in
     λ i. record { sq = at.0 i; cq_there = at.1 i; target_walks = walks i; queues = many i - 1; entries = t.host.entries; pages = length t.pages }
-  where
-    by : (o : Option FetchedCommand) → option_map_or (λ j. is_none j.verdict) (option_map job_of o) false ≡ option_map_or (λ k. is_none (verdict_of_work k.work)) o false
-    by None = refl
-    by (Some k) = refl
 
 entries_at : (hs : List HostQueue) (cs : List ControllerQueue) (n i q : ℕ) → ShareQueues n i hs cs → q < length cs → option_map_or (λ queue. queue.device.entries) (slice_get cs q) 0 ≡ n
 entries_at hs [] n i q share l = absurd (omega (arith, l))
@@ -87,13 +84,7 @@ abbrev marked : ℕ → Job → Job
 marked abort j = record j { verdict = Some ABORT_REQUESTED; waiting_abort = Some abort }
 
 aborted_seen : (q cid abort : ℕ) (k : FetchedCommand) → (is_command q cid k ≡ true → is_none (verdict_of_work k.work) ≡ true) → job_of (aborted q cid abort k) ≡ (if is_command q cid k then marked abort (job_of k) else job_of k)
-aborted_seen q cid abort k walks = go (is_command q cid k) k.work walks
-  where
-    go : (b : Bool) (work : Work) → (b ≡ true → is_none (verdict_of_work work) ≡ true)
-        → job_of (if b then record k { work = stopped_work ABORT_REQUESTED work; waiting_abort = Some abort } else record k { work = work }) ≡ (if b then marked abort (job_of (record k { work = work })) else job_of (record k { work = work }))
-    go true (Io job) walks = rw (walks refl) refl
-    go true (Admin entry status dw0) walks = absurd (true≢false (sym (walks refl)))
-    go false work walks = refl
+aborted_seen q cid abort k walks = grind arith
 
 stopped_seen : (q : ℕ) (k : FetchedCommand) → job_of (stopped_with_queue q k) ≡ after.stopped q (job_of k)
 stopped_seen q k = go (k.q == q) k.work
@@ -118,14 +109,13 @@ counted p (x ∷ xs) = ap (λ (n : ℕ). one (p x) + n) (counted p xs) ∙ sym (
 
 pub abort_open : (commands : List FetchedCommand) (q cid : ℕ) → count_by (is_command q cid) commands < 2
     → option_map_or (λ k. is_none (verdict_of_work k.work)) (find (is_command q cid) commands) false ≡ true → AllByRecursion (λ k. is_command q cid k ≡ true → is_none (verdict_of_work k.work) ≡ true) commands
-abort_open commands q cid few h = go (find (is_command q cid) commands) refl h
-  where
-    go : (o : Option FetchedCommand) → find (is_command q cid) commands ≡ o → option_map_or (λ k. is_none (verdict_of_work k.work)) o false ≡ true
-        → AllByRecursion (λ k. is_command q cid k ≡ true → is_none (verdict_of_work k.work) ≡ true) commands
-    go None e h = absurd (true≢false (sym h))
-    go (Some k) e h =
-        all_in _ _ commands (λ x among same t. subst (λ (y : FetchedCommand). is_none (verdict_of_work y.work) ≡ true) (sym (same t)) h)
-        (only_found (is_command q cid) commands k e (omega (arith, few, counted (is_command q cid) commands)))
+abort_open commands q cid few h = elim (option_is (find (is_command q cid) commands)) [
+  | inl e ↦ let h = rw e at h in absurd (true≢false (sym h))
+  | inr (k, e) ↦
+      let h = rw e at h in
+      all_in _ _ commands (λ x among same t. subst (λ (y : FetchedCommand). is_none (verdict_of_work y.work) ≡ true) (sym (same t)) h)
+      (only_found (is_command q cid) commands k e (omega (arith, few, counted (is_command q cid) commands)))
+]
 
 jobs_by : (commands : List FetchedCommand) (f : FetchedCommand → FetchedCommand) (g : Job → Job) → AllByRecursion (λ k. job_of (f k) ≡ g (job_of k)) commands → map job_of (map f commands) ≡ map g (map job_of commands)
 jobs_by [] f g same = refl
@@ -249,10 +239,7 @@ verdict_stand v t suits share all = go v suits
 
 -- a walk that is stopped has nothing to stand for
 stopped_stands : (m : Memory) (done : ℕ) (st : Status) (work : Work) → WalkStands m done work → WalkStands m done (stopped_work st work)
-stopped_stands m done st (Io job) h = cond_both (is_none job.verdict) (record job { verdict = Some st }) job (λ job. WalkStands m done (Io job)) (λ e none. absurd (some_not none)) (λ e. h)
-  where
-    some_not : Some st ≡ None → ⊥
-    some_not e = cc
+stopped_stands m done st (Io job) h = cond_both (is_none job.verdict) (record job { verdict = Some st }) job (λ job. WalkStands m done (Io job)) (λ e none. absurd (cc)) (λ e. h)
 stopped_stands m done st (Admin entry status dw0) h = h
 
 abbrev Stands : Memory → FetchedCommand → Type 0

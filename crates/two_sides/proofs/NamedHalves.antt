@@ -1,8 +1,8 @@
 -- A creation that the controller fetches names the half that the host granted for it, where nothing was forged.
-use Rattle.std.proofs.Common.{◌≡◌, ℕ, zero, suc, ◌+◌, ◌*◌, ◌-◌, ◌^◌, ◌/◌, ◌%◌, ◌<◌, ◌≤◌, ◌==◌, Bool, true, false, Option, Some, List, [], ◌∷◌, length, filter, find, slice_get, if◌then◌else◌, refl, ap, sym, ◌∙◌, arith, subst, eq-eqb}
+use Rattle.std.proofs.Common.{◌≡◌, ℕ, zero, suc, ◌+◌, ◌*◌, ◌-◌, ◌^◌, ◌/◌, ◌%◌, ◌<◌, ◌≤◌, ◌==◌, Bool, true, false, Option, Some, List, [], ◌∷◌, length, filter, find, slice_get, if◌then◌else◌, refl, ap, sym, ◌∙◌, arith, subst, eq-eqb, inl, inr}
 use Rattle.std.specs.Int.{w64, to_le_bytes, from_le_bytes}
 use Rattle.std.specs.Option.{option_map_or}
-use Rattle.std.proofs.lemmas.Bool.{true≢false}
+use Rattle.std.proofs.lemmas.Bool.{true≢false, cases_Bool}
 use Rattle.std.proofs.lemmas.Nat.{from_le_bytes-to_le_bytes_8}
 use Rattle.admin_commands.specs.Entries.{admin_entry, named_base, named_queue}
 use Rattle.admin_commands.specs.Verdicts.{is_absent}
@@ -116,29 +116,24 @@ address_below first base e few = omega (arith, e, few)
 -- A creation that is outstanding has its queue wait for it.
 waited_for : (of : ℕ → Work → Bool) (test : HostState → Bool) (rs : List Record) (hs : List HostQueue) (q c : ℕ) (r : Record) (h : HostQueue) → find (is_at 0 c) rs ≡ Some r → of q r.work ≡ true → slice_get hs q ≡ Some h
     → length (filter (λ r. of q r.work) rs) ≡ (if option_map_or (λ queue. test queue.state) (slice_get hs q) false then 1 else 0) → test h.state ≡ true
-waited_for of test rs hs q c r h found its at count = go (test h.state) refl
-  where
-    least : one (of q r.work) ≤ length (filter (λ r. of q r.work) rs)
-    least = omega (arith, length_awaits of q rs, in_found (is_at 0 c) rs r found (awaits of q))
-
-    tested : length (filter (λ r. of q r.work) rs) ≡ (if test h.state then 1 else 0)
-    tested = count ∙ ap {B = ℕ} (λ (o : Option HostQueue). if option_map_or (λ queue. test queue.state) o false then 1 else 0) at
-
-    go : (b : Bool) → test h.state ≡ b → b ≡ true
-    go true e = refl
-    go false e = absurd (omega (arith, least, ap one its, tested, ap {B = ℕ} (λ (b : Bool). if b then 1 else 0) e))
+waited_for of test rs hs q c r h found its at count =
+    let least : one (of q r.work) ≤ length (filter (λ r. of q r.work) rs) = omega (arith, length_awaits of q rs, in_found (is_at 0 c) rs r found (awaits of q)) in
+    let tested : length (filter (λ r. of q r.work) rs) ≡ (if test h.state then 1 else 0) =
+    count ∙ ap {B = ℕ} (λ (o : Option HostQueue). if option_map_or (λ queue. test queue.state) o false then 1 else 0) at in
+    elim (cases_Bool (test h.state)) [
+      | inl e ↦ rw e refl
+      | inr e ↦ absurd (omega (arith, least, ap one its, tested, ap {B = ℕ} (λ (b : Bool). if b then 1 else 0) e))
+    ]
 
 pub making_cq : (st : HostState) → is_making_cq st ≡ true → is_making st ≡ true
-making_cq states.MakingCq e = refl
-making_cq st e = absurd (true≢false (sym e))
+making_cq st e = grind arith
 
 making_sq : (st : HostState) → is_making_sq st ≡ true → (is_making st ≡ true) × (in_service st ≡ false)
 making_sq states.MakingSq e = (refl, refl)
 making_sq st e = absurd (true≢false (sym e))
 
 emptied : (a b : Bool) → (a ≡ false → b ≡ true) → b ≡ false → a ≡ true
-emptied true b half none = refl
-emptied false b half none = absurd (true≢false (sym (half refl) ∙ none))
+emptied a b half none = grind arith
 
 pub completion_granted : (s : Sides) → IsWorld s → (e : SubEntry) → EntryKnown s.host.host.records e → length s.host.host.queues ≤ 65536 → (h : HostQueue) (c : ControllerQueue)
     → slice_get s.host.host.queues (named_queue e) ≡ Some h → IsKnown s (named_queue e) h c → (e.opcode == CREATE_IO_CQ) ≡ true → c.cq_there ≡ false → IsGranted s.host.entries (named_base e) h c

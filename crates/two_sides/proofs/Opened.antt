@@ -60,6 +60,7 @@ fresh_host page n =
 fresh_rings : (m : Memory) (page n q : ℕ) → 0 < n → IsZero m (page + half_pages n Submission) (half_pages n Completion)
     → RingsStand m q (fresh_host page n) (fresh_queue n q (record { sq = page; cq = page + half_pages n Submission }))
 fresh_rings m page n q some zeros =
+    let inside : (nat_lt 0 n && true) ≡ true = rw (lt-ltb 0 n some) refl in
     record {
       fetched = inside;
       rung = inside;
@@ -70,9 +71,6 @@ fresh_rings m page n q some zeros =
       follow = inside;
       drained = λ e. refl;
     }
-  where
-    inside : (nat_lt 0 n && true) ≡ true
-    inside = rw (lt-ltb 0 n some) refl
 
 fresh_stands : (m : Memory) (page n q : ℕ) → 0 < n → IsZero m (page + half_pages n Submission) (half_pages n Completion)
     → QueueStands n m q (fresh_host page n) (fresh_queue n q (record { sq = page; cq = page + half_pages n Submission }))

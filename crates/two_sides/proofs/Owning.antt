@@ -4,8 +4,9 @@ use Rattle.host_core.specs.Alone.{alone}
 use Rattle.machine_model.specs.Memory.{is_in}
 use Rattle.machine_model.specs.State.{HostQueue, Record, pages_of}
 use Rattle.machine_model.proofs.Counting.{one, held_once}
-use Rattle.machine_agreement.proofs.Elsewhere.{at_most_one, among_counts}
-use Rattle.machine_agreement.proofs.Members.{In, in_at}
+use Rattle.machine_agreement.proofs.Elsewhere.{among_counts}
+use Rattle.machine_agreement.proofs.TiedAll.{small as at_most_one}
+use Rattle.machine_agreement.proofs.Members.{In, in_at, some_is}
 use Rattle.machine_model.proofs.Owned.{in_queue, in_record, owned, owned_is}
 use Rattle.machine_model.proofs.Parts.{length-in_store}
 use Rattle.machine_model.proofs.Taken.{none_here, in_is, taken, taken_le, taken_from_out}
@@ -43,13 +44,10 @@ queue_page_in s sides q h p e some =
     let count = in_at s.host.host.queues q h e (in_queue p) in
     let none' : total (taken p) s.host.host.records ≡ 0 = omega (arith, owned_once s sides p, some, count, taken_le p s.host.host.records) in
     let inside : p < length s.pages = within (nat_lt p (length s.pages)) refl (omega (arith, owned_as s sides p, some, count)) in
-    some_same (sym (in_is s.pages p inside)
+    some_is (sym (in_is s.pages p inside)
     ∙ (taken_from_out (alone s.host s.pages) sides.kept.out p (subst (λ (n : ℕ). p < n) (sym (length-in_store s.pages)) inside)
     ∙ ap (λ (b : Bool). Some b) (none_here _ none')))
   where
-    some_same : {x y : Bool} → Some x ≡ Some y → x ≡ y
-    some_same e = cc
-
     within : (b : Bool) → nat_lt p (length s.pages) ≡ b → 0 < one b → p < length s.pages
     within true e l = ltb-true p (length s.pages) e
     within false e l = absurd (omega (arith, l))

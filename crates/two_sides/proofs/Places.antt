@@ -22,8 +22,7 @@ use Rattle.two_sides.proofs.Known.{IsKnown, device_at, there_ring}
 -- Lists of slots that are there
 
 one_more : {X : Type 0} (o : Option X) → IsSome o → (rest : List (Option X)) (many : ℕ) → length (present rest) ≡ many → length (present (o ∷ rest)) ≡ suc many
-one_more None e rest many count = cc
-one_more (Some x) e rest many count = ap suc count
+one_more o e rest many count = grind arith
 
 all_present : {X : Type 0} (f : ℕ → Option X) (n many slot : ℕ) → slot < n → ((k : ℕ) → k < n → IsSome (f k)) → length (present (map f (slots_from n slot many))) ≡ many
 all_present f n zero slot h there = refl

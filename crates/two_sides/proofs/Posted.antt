@@ -1,5 +1,6 @@
 -- The host posts an entry over a memory in which each half stands as it did: the machine's queues have it, and the queues stand behind it.
-use Rattle.std.proofs.Common.{◌≡◌, ◌≢◌, ℕ, zero, ◌+◌, ◌*◌, ◌/◌, ◌<◌, ◌≤◌, ◌++◌, ◌∷◌, [], Bool, true, false, Option, Some, None, IsSome, IfSome, List, length, map, slice_get, if◌then◌else◌, refl, ap, ap₂, sym, ◌∙◌, subst, arith, length-append}
+use Rattle.std.proofs.Common.{◌≡◌, ◌≢◌, ℕ, zero, ◌+◌, ◌*◌, ◌/◌, ◌<◌, ◌≤◌, ◌++◌, ◌∷◌, [], Bool, true, false, Option, Some, None, IsSome, IfSome, List, length, map, slice_get, if◌then◌else◌, refl, ap, ap₂, sym, ◌∙◌, subst, arith, length-append, inl, inr}
+use Rattle.machine_agreement.proofs.Cases.{option_is}
 use Rattle.std.specs.List.{AllByRecursion}
 use Rattle.std.proofs.lemmas.Bool.{true≢false, OnTrue_at}
 use Rattle.std.proofs.lemmas.Bool.Decides.{nat_tests}
@@ -66,14 +67,13 @@ submission_length entry typed = omega (arith, length-append entry.sgl1 (command_
 
 -- a page with a byte is in
 page_of_byte : (pages : Pages) (p : ℕ) → IsSome (byte_at pages (4096 * p + 0)) → (page : List ℕ) × (page_at pages p ≡ Some page)
-page_of_byte pages p there = go (page_at pages p) refl
+page_of_byte pages p there = elim (option_is (page_at pages p)) [
+  | inl e ↦ let none : byte_at pages (4096 * p + 0) ≡ None = rw (index p, e) refl in absurd cc
+  | inr (page, e) ↦ (page, e)
+]
   where
     index : (p : ℕ) → (4096 * p + 0) / 4096 ≡ p
     index p = omega arith
-
-    go : (o : Option (List ℕ)) → page_at pages p ≡ o → (page : List ℕ) × (page_at pages p ≡ Some page)
-    go None e = let none : byte_at pages (4096 * p + 0) ≡ None = rw (index p, e) refl in absurd cc
-    go (Some page) e = (page, e)
 
 is_whole : (pages : Pages) (p : ℕ) (page : List ℕ) → AreWhole pages → page_at pages p ≡ Some page → length page ≡ 4096
 is_whole pages p page whole e = subst (λ (o : Option (List ℕ)). IfSome o (λ x. length x ≡ 4096)) e (whole p)
@@ -85,7 +85,7 @@ present_append (None ∷ xs) ys = present_append xs ys
 present_append {X = X} (Some x ∷ xs) ys = ap (λ (l : List X). x ∷ l) (present_append xs ys)
 
 -- a position in range stays so as the tail moves on
-in_range : (n from to slot : ℕ) → slot < n → distance n from slot ≤ distance n from to → is_in_range n from to slot ≡ true
+pub in_range : (n from to slot : ℕ) → slot < n → distance n from slot ≤ distance n from to → is_in_range n from to slot ≡ true
 in_range n from to slot l m = grind (arith, nat_tests, l, m)
 
 range_grows : (n from tail slot : ℕ) → from < n → tail < n → is_in_range n from tail slot ≡ true → is_full n from tail ≡ false → is_in_range n from (next_slot n tail) slot ≡ true

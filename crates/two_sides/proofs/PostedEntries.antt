@@ -60,9 +60,7 @@ pointer_is_bytes address =
 -- The entries
 
 opcode_below : (kind : Kind) → opcode_of kind < 2 ^ 8
-opcode_below Read = omega arith
-opcode_below Write = omega arith
-opcode_below Compare = omega arith
+opcode_below kind = grind arith
 
 pub draft_typed : (d : DraftContents) (entry : SubEntry) → IsProperDraft d → d.cid < 2 ^ 16 → d.entry ≡ Some entry → IsTyped entry
 draft_typed d entry proper cid built =
@@ -104,8 +102,4 @@ admin_typed kind cid id named qualified =
     }
   where
     opcode : (k : AdminKind) → (admin_entry k cid).opcode < 2 ^ 8
-    opcode (Abort q c) = omega arith
-    opcode (DeleteSq q) = omega arith
-    opcode (DeleteCq q) = omega arith
-    opcode (CreateCq q n base) = omega arith
-    opcode (CreateSq q n base) = omega arith
+    opcode k = grind arith

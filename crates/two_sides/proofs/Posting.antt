@@ -1,5 +1,6 @@
 -- The host's calls that post an entry, where nothing was forged: the machine's lists follow, and the rings and the walks stand.
-use Rattle.std.proofs.Common.{◌≡◌, ℕ, zero, suc, ◌+◌, ◌*◌, ◌-◌, ◌^◌, ◌<◌, ◌≤◌, ◌==◌, ◌++◌, ◌∷◌, [], Bool, true, false, not, Option, Some, None, is_none, List, length, map, slice_get, refl, ap, ap₂, sym, ◌∙◌, subst, arith, eqb-true}
+use Rattle.std.proofs.Common.{◌≡◌, ℕ, zero, suc, ◌+◌, ◌*◌, ◌-◌, ◌^◌, ◌<◌, ◌≤◌, ◌==◌, ◌++◌, ◌∷◌, [], Bool, true, false, not, Option, Some, None, is_none, List, length, map, slice_get, refl, ap, ap₂, sym, ◌∙◌, subst, arith, eqb-true, inl, inr}
+use Rattle.machine_agreement.proofs.Cases.{option_is}
 use Rattle.std.specs.List.{position_or_len}
 use Rattle.std.specs.Option.{option_map_or}
 use Rattle.std.proofs.lemmas.Bool.{true≢false, not-false, and_parts, or_parts, OnTrue_at}
@@ -46,7 +47,8 @@ use Rattle.two_sides.specs.Ties.{AllQueuesStand, IsWorld, QueueStands, WalksStan
 use Rattle.two_sides.proofs.Assembling.{Ties}
 use Rattle.two_sides.proofs.Frames.{Spares, SparesSubmitted, apart_from_commands, apart_from_queues, host_lists, host_stands, state_stands}
 use Rattle.two_sides.proofs.Granting.{granted_pool, granted_spares, granted_submitted, granted_whole}
-use Rattle.two_sides.proofs.Known.{controller_at, placed, reaped_ring, served_reaped}
+use Rattle.two_sides.proofs.Known.{controller_at, placed, reaped_ring}
+use Rattle.machine_model.proofs.Halves.{service_is_reaped as served_reaped}
 use Rattle.two_sides.proofs.Posted.{CanPost, post_queues, post_stands, post_walks, slot_written, tail_moved, with_entry}
 use Rattle.two_sides.proofs.PostedEntries.{IsTyped, admin_typed, draft_typed}
 use Rattle.two_sides.proofs.Refusing.{answer_as_machine}
@@ -74,12 +76,10 @@ can_post s mid q h entry world t at live room is whole spares =
 
 -- a queue that is not full is there
 room_found : (s : State) (q : ℕ) → queue_full s q ≡ false → (h : HostQueue) × (host_queue s q ≡ Some h) × (is_full s.entries h.ring.known_head h.ring.tail ≡ false)
-room_found s q free = go (host_queue s q) refl free
-  where
-    go : (o : Option HostQueue) → host_queue s q ≡ o → option_map_or (λ h. is_full s.entries h.ring.known_head h.ring.tail) o true ≡ false
-        → (h : HostQueue) × (host_queue s q ≡ Some h) × (is_full s.entries h.ring.known_head h.ring.tail ≡ false)
-    go None e free = absurd (true≢false free)
-    go (Some h) e free = (h, e, free)
+room_found s q free = elim (option_is (host_queue s q)) [
+  | inl e ↦ let free = rw e at free in absurd (true≢false free)
+  | inr (h, e) ↦ let free = rw e at free in (h, e, free)
+]
 
 -- What a posted entry leaves
 
@@ -165,11 +165,7 @@ module _ (s : Sides) (d : DraftContents) (r : Record) (world : IsWorld s) (is : 
 
   -- other pages stay, so those of the halves and of submitted commands do
   other : (p : ℕ) → (is_among (pages_of r) p ≡ true → ⊥) → page_at (brought s d) p ≡ page_at s.pages p
-  other p not_mine = with_elsewhere (d.data_pages ++ d.chain_pages) s.pages p (ap (λ (ps : List ℕ). is_among ps p) is.pages ∙ go (is_among (pages_of r) p) not_mine)
-    where
-      go : (b : Bool) → (b ≡ true → ⊥) → b ≡ false
-      go true h = absurd (h refl)
-      go false h = refl
+  other p not_mine = with_elsewhere (d.data_pages ++ d.chain_pages) s.pages p (ap (λ (ps : List ℕ). is_among ps p) is.pages ∙ (grind arith))
 
   spares_halves : Spares s (brought s d)
   spares_halves q h at =
@@ -203,24 +199,23 @@ submitted_posts s d entry h built at =
 
 pub submit_ties : (s : Sides) (d : DraftContents) (host : HostView) (pages : Pages) → IsWorld s → s.trusted ≡ true → HostStep s.host s.pages (events.Submit d) events.Accepted host pages
     → Ties s (events.Submit d) events.Accepted host pages
-submit_ties s d host pages world t step = go d.entry refl
+submit_ties s d host pages world t step = elim (option_is d.entry) [
+  | inl e ↦ absurd (true≢false (ap is_none (sym e) ∙ (unrefused (state_of s) (events.Submit d) none).1.0))
+  | inr (entry, e) ↦
+      let r = draft_found (state_of s) d none in
+      let live = queue_found is_live (state_of s) d.q (draft_lives (state_of s) d none) in
+      let h : HostQueue = live.0 in
+      let small : d.cid < 2 ^ 16 = omega (arith, small_identifier s world d.q d.cid r.0 r.1.found, few_entries s world d.q h live.1) in
+      let room : is_full s.host.entries h.ring.known_head h.ring.tail ≡ false =
+      sym (ap (λ (o : Option HostQueue). option_map_or (λ x. is_full s.host.entries x.ring.known_head x.ring.tail) o true) live.1) ∙ (unrefused (state_of s) (events.Submit d) none).1.1.1.0 in
+      let can = can_post s (brought s d) d.q h entry world t live.1 live.2 room (draft_typed d entry step.0 small e) (brought_whole s d world step.0) (spares_halves s d r.0 world r.1) in
+      ties s (events.Submit d) events.Accepted host pages (brought s d) d.q h can.0 entry (change d.q (tail_moved s.host.entries) s.host.host.queues) can.1 (spares_walks s d r.0 world r.1)
+      (answer_as_machine s (events.Submit d) events.Accepted host pages refl refl step) refl step.2 (submitted_posts s d entry h e live.1)
+      (same_queues s.host.entries (byte_at (slot_written h entry (brought s d))) s.controller.queues (change d.q (tail_moved s.host.entries) s.host.host.queues))
+]
   where
     none : refusal_of (state_of s) (events.Submit d) ≡ None
     none = step.1.0
-
-    go : (o : Option SubEntry) → d.entry ≡ o → Ties s (events.Submit d) events.Accepted host pages
-    go None e = absurd (true≢false (ap is_none (sym e) ∙ (unrefused (state_of s) (events.Submit d) none).1.0))
-    go (Some entry) e =
-        let r = draft_found (state_of s) d none in
-        let live = queue_found is_live (state_of s) d.q (draft_lives (state_of s) d none) in
-        let h : HostQueue = live.0 in
-        let small : d.cid < 2 ^ 16 = omega (arith, small_identifier s world d.q d.cid r.0 r.1.found, few_entries s world d.q h live.1) in
-        let room : is_full s.host.entries h.ring.known_head h.ring.tail ≡ false =
-        sym (ap (λ (o : Option HostQueue). option_map_or (λ x. is_full s.host.entries x.ring.known_head x.ring.tail) o true) live.1) ∙ (unrefused (state_of s) (events.Submit d) none).1.1.1.0 in
-        let can = can_post s (brought s d) d.q h entry world t live.1 live.2 room (draft_typed d entry step.0 small e) (brought_whole s d world step.0) (spares_halves s d r.0 world r.1) in
-        ties s (events.Submit d) events.Accepted host pages (brought s d) d.q h can.0 entry (change d.q (tail_moved s.host.entries) s.host.host.queues) can.1 (spares_walks s d r.0 world r.1)
-        (answer_as_machine s (events.Submit d) events.Accepted host pages refl refl step) refl step.2 (submitted_posts s d entry h e live.1)
-        (same_queues s.host.entries (byte_at (slot_written h entry (brought s d))) s.controller.queues (change d.q (tail_moved s.host.entries) s.host.host.queues))
 
 -- An admin command is sent
 

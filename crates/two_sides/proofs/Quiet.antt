@@ -1,7 +1,7 @@
 -- The host's calls that move the pages of commands alone, where nothing was forged, and its rings of a tail: no queue of the host changes.
-use Rattle.std.proofs.Common.{◌≡◌, ℕ, zero, ◌<◌, Bool, true, false, ◌&&◌, ◌||◌, Option, Some, List, [], ◌++◌, length, slice_get, if◌then◌else◌, refl, ap, sym, ◌∙◌, arith, subst}
+use Rattle.std.proofs.Common.{◌≡◌, ℕ, zero, ◌<◌, Bool, true, false, ◌&&◌, ◌||◌, Option, Some, List, [], ◌++◌, length, slice_get, if◌then◌else◌, refl, ap, sym, ◌∙◌, arith, subst, inl, inr}
 use Rattle.std.specs.Option.{option_map, option_map_or}
-use Rattle.std.proofs.lemmas.Bool.{not-false, true≢false}
+use Rattle.std.proofs.lemmas.Bool.{not-false, true≢false, cases_Bool}
 use Rattle.std.proofs.lemmas.Bool.Decides.{nat_tests}
 use Rattle.admin_commands.specs.Verdicts.{is_absent}
 use Rattle.controller_core.specs.Contents.{Contents}
@@ -145,13 +145,9 @@ with_rung at = record at { rung = length at.unfetched }
 rung_seen : (s : Sides) (q : ℕ) (h : HostQueue) (c : ControllerQueue) → IsWorld s → s.trusted ≡ true → slice_get s.host.host.queues q ≡ Some h → slice_get s.controller.queues q ≡ Some c
     → device_queue_of (byte_at s.pages) h.ring (with_tail h.ring.tail c) ≡ with_rung (device_queue_of (byte_at s.pages) h.ring c)
 rung_seen s q h c world t e f =
-    ap (device_queue_of (byte_at s.pages) h.ring) (tails_heard s q h c world.sides e f) ∙ ap (λ (n : ℕ). record (device_queue_of (byte_at s.pages) h.ring c) { rung = n }) (go (is_absent c.state) refl)
-  where
-    go : (b : Bool) → is_absent c.state ≡ b → (if b then 0 else distance c.device.entries c.device.ring.head h.ring.tail) ≡ length (if b then [] else unfetched_between (byte_at s.pages) h.ring c.device)
-    go true there = refl
-    go false there = sym (length-unfetched s q h c (known s world t q h c e f) there)
+    ap (device_queue_of (byte_at s.pages) h.ring) (tails_heard s q h c world.sides e f) ∙ ap (λ (n : ℕ). record (device_queue_of (byte_at s.pages) h.ring c) { rung = n }) (elim (cases_Bool (is_absent c.state)) [ inl there ↦ rw there refl | inr there ↦ rw there (sym (length-unfetched s q h c (known s world t q h c e f) there)) ])
 
-ends_in_range : (n from to : ℕ) → to < n → is_in_range n from to to ≡ true
+pub ends_in_range : (n from to : ℕ) → to < n → is_in_range n from to to ≡ true
 ends_in_range n from to l = grind (arith, nat_tests, l)
 
 rung_stands : (s : Sides) (q : ℕ) (h : HostQueue) (c : ControllerQueue) → IsWorld s → s.trusted ≡ true → slice_get s.host.host.queues q ≡ Some h → slice_get s.controller.queues q ≡ Some c
@@ -179,31 +175,15 @@ rung_stands s q h c world t e f =
 pub ring_ties : (s : Sides) (q : ℕ) (host : HostView) (pages : Pages) → IsWorld s → s.trusted ≡ true
     → HostStep s.host s.pages (events.Ring q) events.Accepted host pages → Ties s (events.Ring q) events.Accepted host pages
 ring_ties s q host pages world t step =
-    let just = leaves_just s.host host s.pages pages (events.Ring q) events.Accepted refl step in
-    subst (λ (v : HostView). Ties s (events.Ring q) events.Accepted v pages) (sym just.0) (subst (λ (p : Pages). Ties s (events.Ring q) events.Accepted s.host p) (sym just.1) here)
-  where
-    m : Memory
-    m = byte_at s.pages
-
-    its : (h : HostQueue) × (slice_get s.host.host.queues q ≡ Some h) × (in_service h.state ≡ true)
-    its = queue_found in_service (alone s.host s.pages) q (not-false _ (unrefused (alone s.host s.pages) (events.Ring q) step.1.0).0)
-
-    told : heard (events.Ring q) events.Accepted s.host s.controller ≡ tail_rung q its.0.ring.tail s.controller
-    told = ap (λ (o : Option HostQueue). option_map_or (λ tail. tail_rung q tail s.controller) (option_map (λ h. h.ring.tail) o) s.controller) its.1
-
-    -- the queue of that number is the one that was found
-    same : (P : HostQueue → Type 0) (h : HostQueue) → slice_get s.host.host.queues q ≡ Some h → P its.0 → P h
-    same P h e p = let is : its.0 ≡ h = cc (its.1, e) in subst P is p
-
-    queues : device_queues_of m s.host.host.queues (change q (with_tail its.0.ring.tail) s.controller.queues) ≡ change q with_rung (device_queues_of m s.host.host.queues s.controller.queues)
-    queues =
-        ap (λ (hs : List HostQueue). device_queues_of m hs (change q (with_tail its.0.ring.tail) s.controller.queues)) (sym (unchanged q s.host.host.queues))
-        ∙ one_queue m m q (λ h. h) (with_tail its.0.ring.tail) with_rung s.host.host.queues s.controller.queues
-        (λ h c e f. same (λ x. device_queue_of m x.ring (with_tail its.0.ring.tail c) ≡ with_rung (device_queue_of m x.ring c)) h e (rung_seen s q its.0 c world t its.1 f))
-        (λ i h c other e f. refl)
-
-    here : Ties s (events.Ring q) events.Accepted s.host s.pages
-    here = record {
+    let m : Memory = byte_at s.pages in
+    let told : heard (events.Ring q) events.Accepted s.host s.controller ≡ tail_rung q its.0.ring.tail s.controller =
+    ap (λ (o : Option HostQueue). option_map_or (λ tail. tail_rung q tail s.controller) (option_map (λ h. h.ring.tail) o) s.controller) its.1 in
+    let queues : device_queues_of m s.host.host.queues (change q (with_tail its.0.ring.tail) s.controller.queues) ≡ change q with_rung (device_queues_of m s.host.host.queues s.controller.queues) =
+    ap (λ (hs : List HostQueue). device_queues_of m hs (change q (with_tail its.0.ring.tail) s.controller.queues)) (sym (unchanged q s.host.host.queues))
+    ∙ one_queue m m q (λ h. h) (with_tail its.0.ring.tail) with_rung s.host.host.queues s.controller.queues
+    (λ h c e f. same (λ x. device_queue_of m x.ring (with_tail its.0.ring.tail c) ≡ with_rung (device_queue_of m x.ring c)) h e (rung_seen s q its.0 c world t its.1 f))
+    (λ i h c other e f. refl) in
+    let here : Ties s (events.Ring q) events.Accepted s.host s.pages = record {
       permits = answer_as_machine s (events.Ring q) events.Accepted host pages refl refl step;
       device = ap (λ (k : Contents). device_of (record s { controller = k })) told ∙ ap (λ (ds : List DeviceQueue). record (device_of s) { queues = ds }) queues;
       queues = subst (λ (k : Contents). AllQueuesStand s.host.entries m zero s.host.host.queues k.queues) (sym told)
@@ -212,4 +192,13 @@ ring_ties s q host pages world t step =
           (λ h c e f stands. same (λ x. QueueStands s.host.entries m q x (with_tail its.0.ring.tail c)) h e (rung_stands s q its.0 c world t its.1 f))
           (λ i h c other e f stands. stands) (tied_of s world t).queues));
       walks = (tied_of s world t).walks;
-    }
+    } in
+    let just = leaves_just s.host host s.pages pages (events.Ring q) events.Accepted refl step in
+    subst (λ (v : HostView). Ties s (events.Ring q) events.Accepted v pages) (sym just.0) (subst (λ (p : Pages). Ties s (events.Ring q) events.Accepted s.host p) (sym just.1) here)
+  where
+    its : (h : HostQueue) × (slice_get s.host.host.queues q ≡ Some h) × (in_service h.state ≡ true)
+    its = queue_found in_service (alone s.host s.pages) q (not-false _ (unrefused (alone s.host s.pages) (events.Ring q) step.1.0).0)
+
+    -- the queue of that number is the one that was found
+    same : (P : HostQueue → Type 0) (h : HostQueue) → slice_get s.host.host.queues q ≡ Some h → P its.0 → P h
+    same P h e p = let is : its.0 ≡ h = cc (its.1, e) in subst P is p

@@ -1,5 +1,6 @@
 -- A reap: its answer is the machine's, and the answer that it takes is gone on both sides.
-use Rattle.std.proofs.Common.{◌≡◌, ℕ, zero, suc, ◌<◌, Bool, true, false, Option, Some, None, List, [], ◌∷◌, slice_get, if◌then◌else◌, refl, ap, sym, ◌∙◌, subst, arith}
+use Rattle.std.proofs.Common.{◌≡◌, ℕ, zero, suc, ◌<◌, Bool, true, false, Option, Some, None, List, [], ◌∷◌, slice_get, if◌then◌else◌, refl, ap, sym, ◌∙◌, subst, arith, inl, inr}
+use Rattle.machine_agreement.proofs.Cases.{option_is}
 use Rattle.std.specs.Option.{option_map_or}
 use Rattle.std.proofs.lemmas.Bool.{OnTrue_at, not-false}
 use Rattle.std.proofs.lemmas.Option.{slice_get_within}
@@ -60,8 +61,7 @@ reaped_queue : (s : Sides) (q : ℕ) → refusal_of (state_of s) (events.Reap q)
 reaped_queue s q none = queue_found is_reaped (state_of s) q (not-false _ (first_fails _ refusal.NoQueue [] none))
 
 reaped_told : (s : State) (q : ℕ) (o : Option ComEntry) → option_map_or (reaped_entry s q) o found.Empty ≡ option_map_or (reaped_entry s q) (told o) found.Empty
-reaped_told s q None = refl
-reaped_told s q (Some e) = refl
+reaped_told s q o = grind arith
 
 reaped_alike : (s : Sides) (q : ℕ) → told (seen_entry (alone s.host s.pages) q) ≡ told (seen_entry (state_of s) q) → reaped (alone s.host s.pages) q ≡ reaped (state_of s) q
 reaped_alike s q alike =
@@ -72,10 +72,7 @@ reaped_alike s q alike =
 -- What the controller hears
 
 rung : (what : Reaped) (q : ℕ) (host : HostView) → (what ≡ found.Empty → ⊥) → head_rung host q what ≡ head_of host q
-rung found.Empty q host some = absurd (some refl)
-rung (found.Done cid st) q host some = refl
-rung (found.AdminDone cid st dw0) q host some = refl
-rung (found.Rejected why) q host some = refl
+rung what q host some = grind arith
 
 reap_leads : (s : Sides) → AreTied s → (q v : ℕ) (what : Reaped) (host : HostView) → (what ≡ found.Empty → ⊥) → IsTaken s q v host.host.queues
     → Leads s (events.Reap q) (events.Reaps what) host s.pages (a.consumed q (state_of s)).device
@@ -124,16 +121,14 @@ hears s world tied t q e none seen =
 -- a rejected one is consumed
 consumes : (s : Sides) → IsWorld s → AreTied s → s.trusted ≡ true → (q : ℕ) (why : RejectedFor) → refusal_of (state_of s) (events.Reap q) ≡ None → found.Rejected why ≡ reaped (state_of s) q
     → (v : ℕ) × IsTaken s q v (a.consumed q (state_of s)).host.queues
-consumes s world tied t q why none is = go (seen_entry (state_of s) q) refl is
-  where
-    go : (o : Option ComEntry) → seen_entry (state_of s) q ≡ o → found.Rejected why ≡ option_map_or (reaped_entry (state_of s) q) o found.Empty
-        → (v : ℕ) × IsTaken s q v (a.consumed q (state_of s)).host.queues
-    go None seen is = absurd cc
-    go (Some e) seen is =
-        let h = reaped_queue s q none in
-        let x = sees s world t q h.0 e h.1 h.2 seen in
-        let n : ℕ = s.host.entries in
-        (next_slot n h.0.ring.head, takes s world tied q h.0.ring.known_head h.0 x.0 (λ queue. record queue { ring = next_head n queue.ring }) x.1 (known_follows s q h.0 x.0 x.1) refl)
+consumes s world tied t q why none is = elim (option_is (seen_entry (state_of s) q)) [
+  | inl seen ↦ let is = rw seen at is in absurd cc
+  | inr (e, seen) ↦
+      let h = reaped_queue s q none in
+      let x = sees s world t q h.0 e h.1 h.2 seen in
+      let n : ℕ = s.host.entries in
+      (next_slot n h.0.ring.head, takes s world tied q h.0.ring.known_head h.0 x.0 (λ queue. record queue { ring = next_head n queue.ring }) x.1 (known_follows s q h.0 x.0 x.1) refl)
+]
 
 -- What an answer that is heard tells of the queues behind it
 

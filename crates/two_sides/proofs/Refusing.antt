@@ -1,5 +1,5 @@
 -- What the host answers to a call that looks at no completion ring is what the machine may answer.
-use Rattle.std.proofs.Common.{◌≡◌, ℕ, Bool, true, false, not, ◌||◌, List, MatchBool, refl, ap, sym, ◌∙◌}
+use Rattle.std.proofs.Common.{◌≡◌, ℕ, Bool, true, false, not, ◌||◌, List, MatchBool, refl, ap, sym, ◌∙◌, arith}
 use Rattle.std.proofs.lemmas.Bool.{true≢false}
 use Rattle.host_core.specs.Alone.{alone}
 use Rattle.machine_model.specs.Events as events
@@ -11,18 +11,13 @@ use Rattle.machine_model.specs.State.{State}
 use Rattle.machine_model.specs.Step.{Answers, IsController, IsNewIdentifier, Permits, Refuses, touched_by_refusal}
 use Rattle.two_sides.specs.Laws.{looks_at_completions, hosts_answer, hosts_refuse}
 use Rattle.two_sides.specs.Sides.{Sides, state_of}
+use Rattle.machine_agreement.proofs.Blind.{out_of}
 
 same_refusal : (s : Sides) (e : Event) → IsController e ≡ false → looks_at_completions e ≡ false → refusal_of (alone s.host s.pages) e ≡ refusal_of (state_of s) e
-same_refusal s (events.Fetch q) c l = absurd (true≢false c)
-same_refusal s (events.Walk q cid) c l = absurd (true≢false c)
-same_refusal s (events.Complete q cid) c l = absurd (true≢false c)
-same_refusal s (events.Reap q) c l = absurd (true≢false l)
-same_refusal s (events.Retire q) c l = absurd (true≢false l)
-same_refusal s e c l = refl
+same_refusal s e c l = grind arith
 
 same_touch : (s : Sides) (e : Event) (why : Refusal) → IsController e ≡ false → touched_by_refusal (alone s.host s.pages) e why ≡ touched_by_refusal (state_of s) e why
-same_touch s (events.Fetch q) why c = absurd (true≢false c)
-same_touch s e why c = refl
+same_touch s e why c = grind arith
 
 pub refuses : (s : Sides) (e : Event) (why : Refusal) (touched : List ℕ) → IsController e ≡ false → refusal_of (alone s.host s.pages) e ≡ refusal_of (state_of s) e
     → Refuses (alone s.host s.pages) e why touched → Refuses (state_of s) e why touched
@@ -53,10 +48,6 @@ answers s (events.Fetch q) reply c l h = absurd (true≢false c)
 answers s (events.Walk q cid) reply c l h = absurd (true≢false c)
 answers s (events.Complete q cid) reply c l h = absurd (true≢false c)
 answers s e reply c l h = absurd h
-
-pub out_of : {A : Type 0} (B : Type 0) (c : Bool) → c ≡ false → MatchBool (false || not c) A B → A
-out_of B true e h = absurd (true≢false e)
-out_of B false e h = h
 
 pub into : {A : Type 0} (B : Type 0) (t c : Bool) → c ≡ false → A → MatchBool (t || not c) A B
 into B true c e h = h

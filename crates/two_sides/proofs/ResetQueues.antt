@@ -65,14 +65,11 @@ admin_reset n (h ∷ hs) (c ∷ cs) share = record { submission = share.submissi
 -- The rings of queue 0 stand over zero pages
 
 among_behind : (ps qs : List ℕ) (p : ℕ) → is_among qs p ≡ true → is_among (ps ++ qs) p ≡ true
-among_behind ps qs p e = among-append ps qs p ∙ go (is_among ps p)
-  where
-    go : (b : Bool) → (b || is_among qs p) ≡ true
-    go true = refl
-    go false = e
+among_behind ps qs p e = among-append ps qs p ∙ grind arith
 
 fresh_rings : (n : ℕ) (m : Memory) (h : HostQueue) (c : ControllerQueue) → ShareQueue n 0 h c → IsZero m c.device.cq (half_pages n Completion) → RingsStand m 0 (a.reset_admin h) (queue_reset 0 c)
 fresh_rings n m h c share zeros =
+    let inside : (nat_lt 0 c.device.entries && true) ≡ true = rw (lt-ltb 0 c.device.entries (omega (arith, share.side.least))) refl in
     record {
       fetched = inside;
       rung = inside;
@@ -83,9 +80,6 @@ fresh_rings n m h c share zeros =
       follow = inside;
       drained = λ e. refl;
     }
-  where
-    inside : (nat_lt 0 c.device.entries && true) ≡ true
-    inside = rw (lt-ltb 0 c.device.entries (omega (arith, share.side.least))) refl
 
 admin_stands : (n : ℕ) (m : Memory) (h : HostQueue) (c : ControllerQueue) → ShareQueue n 0 h c → ShareAdmin n h c → IsZero m c.device.cq (half_pages n Completion) → QueueStands n m 0 (a.reset_admin h) (queue_reset 0 c)
 admin_stands n m h c share admin zeros =
@@ -109,18 +103,12 @@ pub stands_reset : (n : ℕ) (pages : Pages) (hs : List HostQueue) (cs : List Co
 stands_reset n pages [] cs share admin inside = tt
 stands_reset n pages (h ∷ hs) [] share admin inside = tt
 stands_reset n pages (h ∷ hs) (c ∷ cs) share admin inside =
+    let own : List ℕ = h.sq_pages ++ h.cq_pages in
+    let zeroed : Pages = with_pages (zeroed_pages own) pages in
+    let zeros : IsZero (byte_at zeroed) c.device.cq (half_pages n Completion) =
+    pages_zero zeroed c.device.cq (half_pages n Completion)
+    (λ p l. let mine : is_among h.cq_pages (c.device.cq + p) ≡ true =
+    ap (λ (ps : List ℕ). is_among ps (c.device.cq + p)) admin.completion ∙ among-from c.device.cq (half_pages n Completion) p l in
+    zeroed_there own pages (c.device.cq + p) (inside h (c.device.cq + p) refl mine)
+    (λ none. absurd (true≢false (sym (among_behind h.sq_pages h.cq_pages (c.device.cq + p) mine) ∙ none)))) in
     (admin_stands n (byte_at zeroed) h c share.0 admin zeros, none_stand n (byte_at zeroed) 0 hs cs)
-  where
-    own : List ℕ
-    own = h.sq_pages ++ h.cq_pages
-
-    zeroed : Pages
-    zeroed = with_pages (zeroed_pages own) pages
-
-    zeros : IsZero (byte_at zeroed) c.device.cq (half_pages n Completion)
-    zeros =
-        pages_zero zeroed c.device.cq (half_pages n Completion)
-        (λ p l. let mine : is_among h.cq_pages (c.device.cq + p) ≡ true =
-        ap (λ (ps : List ℕ). is_among ps (c.device.cq + p)) admin.completion ∙ among-from c.device.cq (half_pages n Completion) p l in
-        zeroed_there own pages (c.device.cq + p) (inside h (c.device.cq + p) refl mine)
-        (λ none. absurd (true≢false (sym (among_behind h.sq_pages h.cq_pages (c.device.cq + p) mine) ∙ none))))

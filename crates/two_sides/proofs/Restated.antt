@@ -11,7 +11,8 @@ use Rattle.machine_model.specs.declared.words.HostState.TheVariants.{Live, Retir
 use Rattle.page_memory.specs.Memory.{Memory}
 use Rattle.two_sides.specs.Ties.{QueueStands}
 use Rattle.two_sides.proofs.Frames.{state_stands}
-use Rattle.two_sides.proofs.Known.{reaped_ring, served_reaped, there_ring}
+use Rattle.two_sides.proofs.Known.{reaped_ring, there_ring}
+use Rattle.machine_model.proofs.Halves.{service_is_reaped as served_reaped}
 
 -- in service before and after
 pub still_serves : (n : ℕ) (m : Memory) (q : ℕ) (h : HostQueue) (c : ControllerQueue) (st : HostState) → in_service h.state ≡ true → in_service st ≡ true → is_making_cq st ≡ false

@@ -1,5 +1,5 @@
 -- A queue is retired: the controller has no such queue, and no answer of it is left.
-use Rattle.std.proofs.Common.{◌≡◌, inl, inr, ℕ, Bool, true, false, not, Option, Some, None, is_some, List, [], ◌∷◌, map, slice_get, refl, ap, sym, ◌∙◌, subst}
+use Rattle.std.proofs.Common.{◌≡◌, inl, inr, ℕ, Bool, true, false, not, Option, Some, None, is_some, List, [], ◌∷◌, map, slice_get, refl, ap, sym, ◌∙◌, subst, arith}
 use Rattle.std.specs.Option.{option_map_or}
 use Rattle.std.proofs.lemmas.Bool.{OnTrue_at, cases_eq, not-false, true≢false}
 use Rattle.controller_walk.specs.Units.{first_passing}
@@ -24,7 +24,8 @@ use Rattle.two_sides.specs.Stepping.{StepsTo}
 use Rattle.two_sides.specs.Ties.{AreTied, IsWorld, has_ring}
 use Rattle.two_sides.proofs.Assembling.{Ties, host_refused}
 use Rattle.two_sides.proofs.Frames.{host_stands}
-use Rattle.two_sides.proofs.Known.{IsKnown, known, reaped_ring, served_reaped}
+use Rattle.two_sides.proofs.Known.{IsKnown, known, reaped_ring}
+use Rattle.machine_model.proofs.Halves.{service_is_reaped as served_reaped, deleted_serves}
 use Rattle.two_sides.proofs.Looking.{Leads, bare, bare_retire, leads_to_ties, left_alone, rings_kept, view}
 use Rattle.two_sides.proofs.Refusing.{into, refuses}
 use Rattle.two_sides.proofs.Restated.{retires_half}
@@ -33,14 +34,8 @@ use Rattle.two_sides.proofs.Tokens.{known_absent}
 
 -- The refusal is the machine's, whatever was forged
 
--- a queue whose deletion was heard of is in service until it is retired, and the controller has no submission queue of it
-deleted_serves : (st : HostState) → is_deleted st ≡ true → in_service st ≡ true
-deleted_serves (Deleting noted) e = refl
-deleted_serves st e = absurd (true≢false (sym e))
-
 deleted_known : (st : HostState) → is_deleted st ≡ true → is_known_deleted st ≡ true
-deleted_known (Deleting noted) e = e
-deleted_known st e = absurd (true≢false (sym e))
+deleted_known st e = grind arith
 
 deleted_queue : (s : Sides) (q : ℕ) → in_state is_deleted (state_of s) q ≡ true → (h : HostQueue) × (slice_get s.host.host.queues q ≡ Some h) × (is_deleted h.state ≡ true)
 deleted_queue s q deleted = queue_found is_deleted (state_of s) q deleted
@@ -68,16 +63,12 @@ retire_refused s q why touched host pages world step =
 empty : (s : Sides) → IsWorld s → s.trusted ≡ true → (q : ℕ) (h : HostQueue) (c : ControllerQueue) → slice_get s.host.host.queues q ≡ Some h → slice_get s.controller.queues q ≡ Some c → is_reaped h.state ≡ true
     → is_some (seen_entry (state_of s) q) ≡ false → h.ring.head ≡ c.device.ring.tail
 empty s world t q h c at there reaped none =
+    let k : IsKnown s q h c = known s world t q h c at there in
+    let has : has_ring h c ≡ true = reaped_ring h c reaped in
     elim (cases_eq h.ring.head c.device.ring.tail) [
       | inl same ↦ same
       | inr apart ↦ absurd (true≢false (sym (ap is_some (seen_first s q h c t at there (answer_there s q h c k has apart) (has_answer s q h c k has apart))) ∙ none))
     ]
-  where
-    k : IsKnown s q h c
-    k = known s world t q h c at there
-
-    has : has_ring h c ≡ true
-    has = reaped_ring h c reaped
 
 abbrev retired : ℕ → HostQueue → State → State
 retired q h s = a.on_host_queue q a.retired (a.given_back h.sq_pages (a.on_records (λ records. map (a.lost q) records) s))

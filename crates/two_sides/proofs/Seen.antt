@@ -1,8 +1,9 @@
 -- What the host sees at the head of a completion ring is the machine's first answer.
 use Rattle.std.proofs.Common.{◌≡◌, ◌≢◌, inl, inr, ℕ, ◌*◌, ◌<◌, Bool, true, false, Option, Some, None, is_some, List, [], ◌∷◌, map, slice_get, if◌then◌else◌, refl, ap, sym, ◌∙◌, subst, arith}
+use Rattle.machine_agreement.proofs.Cases.{option_is}
 use Rattle.std.specs.List.{AllByRecursion}
 use Rattle.std.specs.Option.{option_map, option_and_then}
-use Rattle.std.proofs.lemmas.Bool.{cases_eq}
+use Rattle.std.proofs.lemmas.Bool.{cases_eq, cases_Bool}
 use Rattle.entry_codec.specs.Completion.{completion_of}
 use Rattle.entry_codec.specs.declared.completion.ComEntry.{ComEntry}
 use Rattle.controller_core.specs.declared.queue.ControllerQueue.{ControllerQueue}
@@ -31,8 +32,7 @@ told o = option_map (phased true) o
 -- What the slot at the head holds
 
 then_map : {X Y Z : Type 0} (f : Y → Option Z) (g : X → Y) (o : Option X) → option_and_then (λ x. f (g x)) o ≡ option_and_then f (option_map g o)
-then_map f g None = refl
-then_map f g (Some x) = refl
+then_map f g o = grind arith
 
 slot_below : (n slot : ℕ) → slot < n → slot < 256 * half_pages n Completion
 slot_below n slot l = omega arith
@@ -65,34 +65,22 @@ pub head_below : (s : Sides) (q : ℕ) (h : HostQueue) (c : ControllerQueue) →
 head_below s q h c p = subst (λ (n : ℕ). h.ring.head < n) (sym p.share.entries) p.ring.head
 
 pub has_answer : (s : Sides) (q : ℕ) (h : HostQueue) (c : ControllerQueue) → IsKnown s q h c → has_ring h c ≡ true → h.ring.head ≢ c.device.ring.tail → HasAnswer (byte_at s.pages) h c
-has_answer s q h c k has apart = go (completion_at m c.device.cq h.ring.head) refl ((k.rings has).phases.stands h.ring.head below)
-  where
-    m : Memory
-    m = byte_at s.pages
-
-    below : h.ring.head < c.device.entries
-    below = head_below s q h c k.placed
-
-    behind : List (Option ComEntry)
-    behind = answers_between m c.device.cq c.device.entries (next_slot c.device.entries h.ring.head) c.device.ring.tail
-
-    popped : answers_between m c.device.cq c.device.entries h.ring.head c.device.ring.tail ≡ completion_at m c.device.cq h.ring.head ∷ behind
-    popped = answers_pop m c.device.cq c.device.entries h.ring.head c.device.ring.tail below k.placed.share.side.tail apart
-
-    go : (o : Option ComEntry) → completion_at m c.device.cq h.ring.head ≡ o
-        → option_map (λ entry. entry.phase) o ≡ Some (phase_of_slot c.device.ring.tail c.device.ring.phase h.ring.head) → HasAnswer m h c
-    go None is phase = absurd cc
-    go (Some entry) is phase =
-        let all = popped ∙ ap (λ (o : Option ComEntry). o ∷ behind) is in
-        record { entry = entry; front = ap front all; list = ap present all }
+has_answer s q h c k has apart =
+    let m : Memory = byte_at s.pages in
+    let below : h.ring.head < c.device.entries = head_below s q h c k.placed in
+    let behind : List (Option ComEntry) = answers_between m c.device.cq c.device.entries (next_slot c.device.entries h.ring.head) c.device.ring.tail in
+    let popped : answers_between m c.device.cq c.device.entries h.ring.head c.device.ring.tail ≡ completion_at m c.device.cq h.ring.head ∷ behind =
+    answers_pop m c.device.cq c.device.entries h.ring.head c.device.ring.tail below k.placed.share.side.tail apart in
+    elim (option_is (completion_at m c.device.cq h.ring.head)) [
+      | inl is ↦ let phase = rw is at ((k.rings has).phases.stands h.ring.head below) in absurd cc
+      | inr (entry, is) ↦
+          let all = popped ∙ ap (λ (o : Option ComEntry). o ∷ behind) is in
+          record { entry = entry; front = ap front all; list = ap present all }
+    ]
 
 -- a queue whose completion ring is in use and has an answer has its completion queue at the controller
 pub answer_there : (s : Sides) (q : ℕ) (h : HostQueue) (c : ControllerQueue) → IsKnown s q h c → has_ring h c ≡ true → h.ring.head ≢ c.device.ring.tail → c.cq_there ≡ true
-answer_there s q h c k has apart = go (in_service h.state) refl
-  where
-    go : (b : Bool) → in_service h.state ≡ b → c.cq_there ≡ true
-    go true e = k.served e
-    go false e = absurd (apart ((k.rings has).drained e))
+answer_there s q h c k has apart = elim (cases_Bool (in_service h.state)) [ inl e ↦ k.served e | inr e ↦ absurd (apart ((k.rings has).drained e)) ]
 
 -- the machine sees the first of its answers
 seen_of : (s : Sides) (q : ℕ) (h : HostQueue) (c : ControllerQueue) (b : Bool) → s.trusted ≡ true → slice_get s.host.host.queues q ≡ Some h → slice_get s.controller.queues q ≡ Some c → c.cq_there ≡ b
@@ -104,11 +92,10 @@ seen_of s q h c b t e f there =
 
 pub seen_none : (s : Sides) (q : ℕ) (h : HostQueue) (c : ControllerQueue) → s.trusted ≡ true → slice_get s.host.host.queues q ≡ Some h → slice_get s.controller.queues q ≡ Some c
     → h.ring.head ≡ c.device.ring.tail → seen_entry (state_of s) q ≡ None
-seen_none s q h c t e f same = go c.cq_there refl
-  where
-    go : (b : Bool) → c.cq_there ≡ b → seen_entry (state_of s) q ≡ None
-    go false there = seen_of s q h c false t e f there
-    go true there = seen_of s q h c true t e f there ∙ ap (λ (xs : List ComEntry). option_map (entry_of q) (first_answer (map answer_of xs))) (no_answer (byte_at s.pages) h c same)
+seen_none s q h c t e f same = elim (cases_Bool c.cq_there) [
+  | inl there ↦ seen_of s q h c true t e f there ∙ ap (λ (xs : List ComEntry). option_map (entry_of q) (first_answer (map answer_of xs))) (no_answer (byte_at s.pages) h c same)
+  | inr there ↦ seen_of s q h c false t e f there
+]
 
 pub seen_nothing : (s : Sides) (q : ℕ) (h : HostQueue) (c : ControllerQueue) → s.trusted ≡ true → slice_get s.host.host.queues q ≡ Some h → slice_get s.controller.queues q ≡ Some c
     → c.cq_there ≡ false → seen_entry (state_of s) q ≡ None
@@ -120,10 +107,7 @@ seen_first s q h c t e f there a =
     seen_of s q h c true t e f there ∙ ap (λ (xs : List ComEntry). option_map (entry_of q) (first_answer (map answer_of xs))) a.list
 
 owned_first : (q : ℕ) (e : ComEntry) → e.sqid ≡ q → told (Some e) ≡ told (Some (entry_of q (answer_of e)))
-owned_first q e own = ap (λ (i : ℕ). Some (of_queue i)) own
-  where
-    of_queue : ℕ → ComEntry
-    of_queue i = record { dw0 = e.dw0; sqhd = e.sqhd; sqid = i; cid = e.cid; phase = true; status = e.status }
+owned_first q e own = ap (λ (i : ℕ). Some (record { dw0 = e.dw0; sqhd = e.sqhd; sqid = i; cid = e.cid; phase = true; status = e.status })) own
 
 -- Both see the same
 
@@ -160,15 +144,13 @@ trusted_alike s world t q h c e f reaped =
 
 pub seen_alike : (s : Sides) → IsWorld s → (q : ℕ) (h : HostQueue) → slice_get s.host.host.queues q ≡ Some h → is_reaped h.state ≡ true
     → told (seen_entry (alone s.host s.pages) q) ≡ told (seen_entry (state_of s) q)
-seen_alike s world q h e reaped = go s.trusted refl
-  where
-    go : (b : Bool) → s.trusted ≡ b → told (seen_entry (alone s.host s.pages) q) ≡ told (seen_entry (state_of s) q)
-    go true t = let c = controller_at s world q h e in trusted_alike s world t q h c.0 e c.1 reaped
-    go false t = rw t refl
+seen_alike s world q h e reaped = elim (cases_Bool s.trusted) [
+  | inl t ↦ let c = controller_at s world q h e in trusted_alike s world t q h c.0 e c.1 reaped
+  | inr t ↦ rw t refl
+]
 
 some_told : (o : Option ComEntry) → is_some (told o) ≡ is_some o
-some_told None = refl
-some_told (Some e) = refl
+some_told o = grind arith
 
 pub completions_seen : completions_are_seen
 completions_seen s q h world e live =

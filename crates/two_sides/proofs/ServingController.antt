@@ -27,7 +27,7 @@ use Rattle.machine_model.proofs.TokensKept.{device_same}
 use Rattle.machine_model.proofs.Totals.{total}
 use Rattle.two_sides.specs.Deletions.{AreBefore, asks_cq_deletion, asks_sq_deletion}
 use Rattle.two_sides.proofs.KeptServing.{Serve, ServeS, keeps_at, keeps_other, serve_cleared, serve_other, serve_same, serve_taken, taken_from}
-use Rattle.two_sides.proofs.ServingHost.{awaited_below}
+use Rattle.machine_agreement.proofs.TokensDevice.{awaited_below}
 
 -- an entry that asks for the deletion of a submission queue is an admin command that is not fetched
 asked_unmade : (rs : List Record) (q : ℕ) (un : List SubEntry) → AllByRecursion (EntryKnown rs) un → list_any (asks_sq_deletion q) un ≡ true → 0 < total (λ e. one (is_kind (deletes_sq q) rs e.cid)) un
@@ -35,8 +35,7 @@ asked_unmade rs q [] all any = absurd (true≢false (sym any))
 asked_unmade rs q (e ∷ un) all any = go (asks_sq_deletion q e) refl any (λ later. asked_unmade rs q un all.1 later)
   where
     go : (b : Bool) → asks_sq_deletion q e ≡ b → (b || list_any (asks_sq_deletion q) un) ≡ true → (list_any (asks_sq_deletion q) un ≡ true → 0 < total (λ e. one (is_kind (deletes_sq q) rs e.cid)) un) → 0 < one (is_kind (deletes_sq q) rs e.cid) + total (λ e. one (is_kind (deletes_sq q) rs e.cid)) un
-    go true is any later = omega (arith, ap one ((named rs e all.0.0 all.0.1 all.0.2).deletes_sq q ∙ is))
-    go false is any later = omega (arith, later any)
+    go b is any later = grind arith
 
 answered_serve : (q : ℕ) (cid : ℕ) (st : Status) (dw0 : ℕ) (t : State) → ServeS t → ServeS (answers q cid st dw0 t)
 answered_serve q cid st dw0 t h = serve_same (λ at. record at { answers = at.answers ++ answer_of q cid st dw0 t ∷ [] }) q t.host.queues t.device.queues (λ x there. there) (λ x. refl) h

@@ -30,31 +30,16 @@ use Rattle.machine_agreement.proofs.Standing.{io_other}
 use Rattle.machine_model.proofs.Steps.{Accepts}
 use Rattle.two_sides.specs.Deletions.{AreBefore, asks_cq_deletion, asks_sq_deletion}
 use Rattle.two_sides.proofs.KeptServing.{Serve, ServeS, before_last, before_more, keeps_at, keeps_still, live_keeps_at, posted_by, posted_on, serve_host, serve_other, serve_posted, serve_ring, serve_same, still_awaited}
-
-pub awaited_below : (test : HostState → Bool) (hs : List HostQueue) (q : ℕ) → awaited_at test hs q ≡ true → q < length hs
-awaited_below test [] q w = absurd (true≢false (sym w))
-awaited_below test (h ∷ hs) zero w = omega arith
-awaited_below test (h ∷ hs) (suc q) w = omega (arith, awaited_below test hs q w)
+use Rattle.machine_agreement.proofs.TokensDevice.{small, awaited_below}
 
 -- a queue that is deleted is one that changes
 deleting_changes : (hs : List HostQueue) (q : ℕ) → awaited_at is_deleting hs q ≡ true → awaited_at is_changing hs q ≡ true
 deleting_changes [] q w = absurd (true≢false (sym w))
-deleting_changes (h ∷ hs) zero w = go h.state w
-  where
-    go : (st : HostState) → is_deleting st ≡ true → is_changing st ≡ true
-    go (states.Deleting noted) e = refl
-    go st e = absurd (true≢false (sym e))
+deleting_changes (h ∷ hs) zero w = grind arith
 deleting_changes (h ∷ hs) (suc q) w = deleting_changes hs q w
 
-low : (q many : ℕ) → q < many → many ≤ 65536 → q % 65536 ≡ q
-low q many l few = omega arith
-
 differ : (x y : ℕ) (b : Bool) → (x ≡ y → b ≡ true) → b ≡ false → (x == y) ≡ false
-differ x y b same stays = go (x == y) refl
-  where
-    go : (c : Bool) → (x == y) ≡ c → c ≡ false
-    go true e = absurd (true≢false (sym (same (eqb-true x y e)) ∙ stays))
-    go false e = refl
+differ x y b same stays = grind arith
 
 -- behind a reset no queue is being deleted
 pub serve_reset : (hs : List HostQueue) (ds : List DeviceQueue) → Serve (a.reset_queues hs) (a.reset_device_queues ds) (waiting (a.reset_device_queues ds))
@@ -66,6 +51,7 @@ serve_reset hs ds =
 
 pub serve_host_event : (s : State) (e : Event) (reply : Reply) → Accepts s e reply → IsController e ≡ false → SidesAgree s → ServeS s → ServeS (a.after s e reply)
 serve_host_event s e reply ok c agree h =
+    let holds : HoldsPart (host_part s) = holds_from_sound s agree.sound in
     host_moves (λ (e : Event) (reply : Reply) (u : State). ServeS u) s e reply ok c
     (record {
       reserves = λ q request d none is. h;
@@ -109,9 +95,6 @@ serve_host_event s e reply ok c agree h =
     ds : List DeviceQueue
     ds = s.device.queues
 
-    holds : HoldsPart (host_part s)
-    holds = holds_from_sound s agree.sound
-
     posted : AdminKind → ℕ → List DeviceQueue
     posted adm id = change 0 (posted_on (admin_entry adm id)) ds
 
@@ -138,7 +121,7 @@ serve_host_event s e reply ok c agree h =
         let causes = unrefused s (events.DeleteCq q) none in
         let has : awaited_at has_cq hs q ≡ true = not-false _ (or_parts (q == 0) (not (awaited_at has_cq hs q)) causes.0).1 in
         let still : awaited_at is_changing hs q ≡ false = (or_parts (awaited_at is_changing hs q) _ causes.1.0).0 in
-        let same = low q (length hs) (awaited_below has_cq hs q has) agree.few_queues in
+        let same = small q (length hs) (awaited_below has_cq hs q has) agree.few_queues in
         differ (q % 65536) z (awaited_at is_changing hs q) (λ e. deleting_changes hs q (subst (λ (k : ℕ). awaited_at is_deleting hs k ≡ true) (sym (sym same ∙ e)) w)) still
 
     -- the deletion of a live queue's submission side
@@ -160,7 +143,7 @@ serve_host_event s e reply ok c agree h =
         keeps z w false e = keeps_still (posted_on x) 0 ds (λ d there. there) z (h.keeps z (was z w e))
 
         names : (z : ℕ) → (q == z) ≡ true → asks_sq_deletion z x ≡ true
-        names z e = ap (λ (k : ℕ). k == z) (low q (length hs) (awaited_below is_live hs q (ap (λ (o : Option HostQueue). option_map_or (λ h. is_live h.state) o false) at ∙ ap is_live live)) agree.few_queues) ∙ e
+        names z e = ap (λ (k : ℕ). k == z) (small q (length hs) (awaited_below is_live hs q (ap (λ (o : Option HostQueue). option_map_or (λ h. is_live h.state) o false) at ∙ ap is_live live)) agree.few_queues) ∙ e
 
         order : (z : ℕ) → awaited_at is_deleting (change q a.deleting hs1) z ≡ true → (b : Bool) → (q == z) ≡ b → AreBefore (asks_cq_deletion z) (asks_sq_deletion z) (waiting (posted (DeleteSq q) id))
         order z w true e = posted_by (AreBefore (asks_cq_deletion z) (asks_sq_deletion z)) x ds tt (λ un is. before_last (asks_cq_deletion z) (asks_sq_deletion z) un x refl (names z e))

@@ -67,9 +67,6 @@ suited s world t e next = go (decision e view) (decides e view)
         let (c, found) = controller_at s world q h at in
         (c, found, known s world t q h c at found, taken_alike cs zero q x c here found)
 
-    state_seen : (c : ControllerQueue) → slice_get cs (named_queue e) ≡ Some c → view.sq ≡ c.state
-    state_seen c found = ap (λ (o : Option ControllerQueue). option_map_or (λ queue. queue.state) o Absent) found
-
     there_seen : (c : ControllerQueue) → slice_get cs (named_queue e) ≡ Some c → view.cq_there ≡ c.cq_there
     there_seen c found = ap (λ (o : Option ControllerQueue). option_map_or (λ queue. queue.cq_there) o false) found
 
@@ -79,7 +76,7 @@ suited s world t e next = go (decision e view) (decides e view)
     stops : is_live view.sq ≡ true → (h : HostQueue) (x : ControllerQueue) → slice_get s.host.host.queues (named_queue e) ≡ Some h → slice_get (change zero with_taken cs) (named_queue e) ≡ Some x → is_live x.state ≡ true
     stops live h x at here =
         let (c, found, is, alike) = old (named_queue e) h x at here in
-        ap is_live (alike.state ∙ sym (state_seen c found)) ∙ live
+        ap is_live (alike.state ∙ sym (ap (λ (o : Option ControllerQueue). option_map_or (λ queue. queue.state) o Absent) found)) ∙ live
 
     drops : (q : ℕ) (h : HostQueue) (x : ControllerQueue) → slice_get s.host.host.queues q ≡ Some h → slice_get (change zero with_taken cs) q ≡ Some x → is_making_cq h.state ≡ true → h.ring ≡ fresh_host_ring
     drops q h x at here making =

@@ -21,6 +21,7 @@ use Rattle.two_sides.proofs.Bells.{heads_heard}
 use Rattle.two_sides.proofs.Frames.{one_queue, one_stands}
 use Rattle.two_sides.proofs.Known.{IsKnown, controller_at, known, reaped_ring}
 use Rattle.two_sides.proofs.Seen.{HasAnswer, answer_there, has_answer, head_below, seen_first, seen_none}
+use Rattle.two_sides.proofs.Quiet.{ends_in_range}
 
 -- Positions: what is in range from a later position is so from an earlier one, and the other way round
 
@@ -30,12 +31,9 @@ range_before n from mid to s lf lt hm hs = grind (arith, nat_tests)
 range_behind : (n from mid to s : ℕ) → from < n → to < n → is_in_range n from to s ≡ true → is_in_range n from s mid ≡ true → is_in_range n mid to s ≡ true
 range_behind n from mid to s lf lt hs hm = grind (arith, nat_tests)
 
-range_end : (n from to : ℕ) → to < n → is_in_range n from to to ≡ true
-range_end n from to lt = grind (arith, nat_tests)
-
 -- heads that follow from a later head follow from an earlier one
 follow_before : (n from mid to : ℕ) (es : List ComEntry) → from < n → to < n → is_in_range n from to mid ≡ true → HeadsFollow n mid to es → HeadsFollow n from to es
-follow_before n from mid to [] lf lt hm h = range_end n from to lt
+follow_before n from mid to [] lf lt hm h = ends_in_range n from to lt
 follow_before n from mid to (e ∷ es) lf lt hm h = (range_before n from mid to e.sqhd lf lt hm h.0, h.1)
 
 -- What is known where the host sees an entry
@@ -164,6 +162,12 @@ at_changed f (suc q) (x ∷ hs) h e = at_changed f q hs h e
 pub takes : (s : Sides) → IsWorld s → AreTied s → (q head : ℕ) (h : HostQueue) (c : ControllerQueue) (f : HostQueue → HostQueue) → Sees s q h c → Follows h c (byte_at s.pages) head
     → f h ≡ taken s.host.entries head h → IsTaken s q (next_slot s.host.entries h.ring.head) (change q f s.host.host.queues)
 takes s world tied q head h c f x follows is =
+    let m : Memory = byte_at s.pages in
+    let hs : List HostQueue = s.host.host.queues in
+    let cs : List ControllerQueue = s.controller.queues in
+    let v : ℕ = next_slot s.host.entries h.ring.head in
+    let n : c.device.entries ≡ s.host.entries = x.known.placed.share.entries in
+    let heard_here : with_head v c ≡ heard v c = heads_heard s q h c world.sides tied x.at x.there x.has x.apart in
     record {
       device = one_queue m m q f (with_head v) one_fewer hs cs
           (only (λ (y : HostQueue) (d : ControllerQueue). device_queue_of m (f y).ring (with_head v d) ≡ one_fewer (device_queue_of m y.ring d)) hs cs q h c x.at x.there
@@ -179,21 +183,3 @@ takes s world tied q head h c f x follows is =
           (λ i y d far at there stands. stands) tied.queues;
       head = ap (option_map (λ y. y.ring.head)) (at_changed f q hs h x.at) ∙ ap (λ (y : HostQueue). Some y.ring.head) is;
     }
-  where
-    m : Memory
-    m = byte_at s.pages
-
-    hs : List HostQueue
-    hs = s.host.host.queues
-
-    cs : List ControllerQueue
-    cs = s.controller.queues
-
-    v : ℕ
-    v = next_slot s.host.entries h.ring.head
-
-    n : c.device.entries ≡ s.host.entries
-    n = x.known.placed.share.entries
-
-    heard_here : with_head v c ≡ heard v c
-    heard_here = heads_heard s q h c world.sides tied x.at x.there x.has x.apart

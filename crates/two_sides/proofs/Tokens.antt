@@ -75,26 +75,14 @@ named_so k b l is = ap (λ (x : Bool). x && b) (eq-eqb (k % 65536) k (omega (ari
 
 -- a completion queue that was deleted, or not made, is not there
 pub freed_not_there : (s : State) (k : ℕ) (ok : Bool) → SidesAgree s → k < 65536 → ok ≡ true → Carries s (DeleteCq k) ok → has_completions_at s.device.queues k ≡ false
-freed_not_there s k ok agree l good says = go (has_completions_at s.device.queues k) refl
-  where
-    go : (b : Bool) → has_completions_at s.device.queues k ≡ b → b ≡ false
-    go false e = refl
-    go true e = absurd (omega (arith, agree.tokens.completion k, says.answered (deletes_cq k), ap one (named_so k ok l good), ap one e))
+freed_not_there s k ok agree l good says = grind arith
 
 pub unmade_not_there : (s : State) (k n base : ℕ) (ok : Bool) → SidesAgree s → k < 65536 → ok ≡ false → Carries s (CreateCq k n base) ok → has_completions_at s.device.queues k ≡ false
-unmade_not_there s k n base ok agree l bad says = go (has_completions_at s.device.queues k) refl
-  where
-    go : (b : Bool) → has_completions_at s.device.queues k ≡ b → b ≡ false
-    go false e = refl
-    go true e = absurd (omega (arith, agree.tokens.completion k, says.unmade (creates_cq k), ap one (named_so k (not ok) l (ap not bad)), ap one e))
+unmade_not_there s k n base ok agree l bad says = grind arith
 
 -- a submission queue that was not made is absent, and one that was made is not
 pub unmade_absent : (s : State) (k n base : ℕ) (ok : Bool) → SidesAgree s → k < 65536 → ok ≡ false → Carries s (CreateSq k n base) ok → is_absent_at s.device.queues k ≡ true
-unmade_absent s k n base ok agree l bad says = go (is_absent_at s.device.queues k) refl
-  where
-    go : (b : Bool) → is_absent_at s.device.queues k ≡ b → b ≡ true
-    go true e = refl
-    go false e = absurd (omega (arith, agree.tokens.submission k, says.unmade (creates_sq k), ap one (named_so k (not ok) l (ap not bad)), ap (λ (b : Bool). one (not b)) e))
+unmade_absent s k n base ok agree l bad says = grind arith
 
 pub made_there : (s : State) (k n base : ℕ) (ok : Bool) → SidesAgree s → k < length s.host.queues → ok ≡ true → Carries s (CreateSq k n base) ok → is_absent_at s.device.queues k ≡ false
 made_there s k n base ok agree l good says =

@@ -1,5 +1,7 @@
 -- What the first unit of a walk does to a pool and to the command's bytes, as the machine writes it.
-use Rattle.std.proofs.Common.{◌≡◌, ℕ, zero, suc, ◌+◌, ◌-◌, ◌*◌, ◌/◌, ◌%◌, ◌<◌, ◌≤◌, ◌++◌, Bool, true, false, cond, Option, Some, None, IfSome, IsSome, is_some, List, [], ◌∷◌, length, take, drop, slice_get, slice_range, nat_le, nat_eq, leb-true, append_assoc, refl, ap, ap₂, sym, ◌∙◌, arith, subst}
+use Rattle.std.proofs.Common.{◌≡◌, ℕ, zero, suc, ◌+◌, ◌-◌, ◌*◌, ◌/◌, ◌%◌, ◌<◌, ◌≤◌, ◌++◌, Bool, true, false, cond, Option, Some, None, IfSome, IsSome, is_some, List, [], ◌∷◌, length, take, drop, slice_get, slice_range, nat_le, nat_eq, leb-true, append_assoc, refl, ap, ap₂, sym, ◌∙◌, arith, subst, inl, inr}
+use Rattle.machine_agreement.proofs.Cases.{option_is}
+use Rattle.std.proofs.lemmas.Bool.{cases_Bool}
 use Rattle.std.specs.Option.{option_map_or}
 use Rattle.std.proofs.lemmas.List.{length-take-le, length-drop}
 use Rattle.controller_walk.specs.Laws.{after_units}
@@ -59,21 +61,18 @@ next_done n c act rest e =
 -- Each move lies in one page.
 
 abbrev pub InPage : Act → Type 0
-InPage Stays = Unit {0}
-InPage (Reads place) = Unit {0}
 InPage (Moves place n offset) = (0 < n) × (place % 4096 + n ≤ 4096)
+InPage x = Unit {0}
 
 abbrev pub HeadInPage : Course → Type 0
 HeadInPage (Closes v) = Unit {0}
 HeadInPage (Does act rest) = InPage act
 
 first_part_fits : (place len : ℕ) → 0 < len → (0 < first_part place len) × (place % 4096 + first_part place len ≤ 4096)
-first_part_fits place len some = go (nat_le len (4096 - place % 4096)) refl
-  where
-    go : (b : Bool) → nat_le len (4096 - place % 4096) ≡ b
-        → (0 < cond b len (4096 - place % 4096)) × (place % 4096 + cond b len (4096 - place % 4096) ≤ 4096)
-    go true e = (some, omega (arith, leb-true len (4096 - place % 4096) e))
-    go false e = (omega arith, omega arith)
+first_part_fits place len some = elim (cases_Bool (nat_le len (4096 - place % 4096))) [
+  | inl e ↦ rw e (some, omega (arith, leb-true len (4096 - place % 4096) e))
+  | inr e ↦ rw e (omega arith, omega arith)
+]
 
 some_spanned : (place len : ℕ) → 0 < pages_spanned place len → 0 < len
 some_spanned place zero h = h
@@ -120,16 +119,15 @@ head_in_page m (Some w) = head_in m w w.state
 
 -- the page of a move is in
 page_of_move : (pages : Pages) (place n : ℕ) (found : List ℕ) → 0 < n → bytes_at (byte_at pages) place n ≡ Some found → (page : List ℕ) × (page_at pages (place / 4096) ≡ Some page)
-page_of_move pages place n found some e = go (page_at pages (place / 4096)) refl
+page_of_move pages place n found some e = elim (option_is (page_at pages (place / 4096))) [
+  | inl f ↦
+      let missing : bytes_at (byte_at pages) place n ≡ None = subst (λ (x : ℕ). bytes_at (byte_at pages) x n ≡ None) parts (bytes_missing pages (place / 4096) n (place % 4096) f (omega arith) some) in
+      absurd (let no : None ≡ Some found = sym missing ∙ e in cc)
+  | inr (page, f) ↦ (page, f)
+]
   where
     parts : 4096 * (place / 4096) + place % 4096 ≡ place
     parts = omega arith
-
-    go : (o : Option (List ℕ)) → page_at pages (place / 4096) ≡ o → (page : List ℕ) × (page_at pages (place / 4096) ≡ Some page)
-    go None f =
-        let missing : bytes_at (byte_at pages) place n ≡ None = subst (λ (x : ℕ). bytes_at (byte_at pages) x n ≡ None) parts (bytes_missing pages (place / 4096) n (place % 4096) f (omega arith) some) in
-        absurd (let no : None ≡ Some found = sym missing ∙ e in cc)
-    go (Some page) f = (page, f)
 
 short_take : {A : Type 0} (n : ℕ) (xs : List A) → length (take n xs) ≤ n
 short_take zero xs = omega arith
@@ -181,11 +179,7 @@ unit_stays s j Source (Moves place n offset) = refl
 
 -- a unit touches two pages at most
 few_reached : (place n : ℕ) → length (pages_reached place n) < 3
-few_reached place n = go (nat_eq (page_of place) (page_of (place + n - 1)))
-  where
-    go : (b : Bool) → length (cond b (page_of place ∷ []) (page_of place ∷ page_of (place + n - 1) ∷ [])) < 3
-    go true = omega arith
-    go false = omega arith
+few_reached place n = grind arith
 
 pub few_touched : (act : Act) → length (touched act) < 3
 few_touched Stays = omega arith

@@ -1,5 +1,6 @@
 -- The step of a walk is a step of the machine, and leaves both sides tied.
-use Rattle.std.proofs.Common.{◌≡◌, ℕ, ◌+◌, ◌<◌, ◌==◌, ◌||◌, Bool, true, false, Option, Some, None, Ok, Err, IfSome, is_some, List, [], length, find, map, slice_get, if◌then◌else◌, refl, ap, ap₂, sym, ◌∙◌, subst}
+use Rattle.std.proofs.Common.{◌≡◌, ℕ, ◌+◌, ◌<◌, ◌==◌, ◌||◌, Bool, true, false, Option, Some, None, Ok, Err, IfSome, is_some, List, [], length, find, map, slice_get, if◌then◌else◌, refl, ap, ap₂, sym, ◌∙◌, subst, inl, inr, arith}
+use Rattle.machine_agreement.proofs.Cases.{option_is}
 use Rattle.std.specs.Option.{option_map, option_map_or}
 use Rattle.std.proofs.lemmas.Bool.{true≢false}
 use Rattle.std.proofs.lemmas.Option.{slice_get-map}
@@ -59,22 +60,18 @@ refused_none s q cid e = rw e refl
 
 -- whatever was forged, the controller refuses what the machine does
 refusal_is : (s : Sides) (q cid : ℕ) → IsWorld s → refusal_of (state_of s) (events.Walk q cid) ≡ option_map why_of (walk_refusal s.controller q cid)
-refusal_is s q cid world = go (find (is_command q cid) s.controller.commands) refl
+refusal_is s q cid world = elim (option_is (find (is_command q cid) s.controller.commands)) [
+  | inl e ↦ rw e (refused_none (state_of s) q cid (job-at s q cid ∙ ap (option_map job_of) e))
+  | inr (k, e) ↦ rw e (refused_by (state_of s) q cid (job_of k) (job-found s q cid k e) ∙ by k.work (block_count s.controller.image) k.q k.units_done (is_found s world q cid k e).fits.1)
+]
   where
     same : (verdict admin : Bool) → admin ≡ false → (if verdict || admin then Some refusal.Nothing else None) ≡ option_map why_of (if verdict then Some because.Nothing else None)
-    same true admin e = refl
-    same false true e = absurd (true≢false e)
-    same false false e = refl
+    same verdict admin e = grind arith
 
     by : (work : Work) (blocks q done : ℕ) → FitsWork blocks q done work
         → (if is_some (verdict_of_work work) || (q == 0) then Some refusal.Nothing else None) ≡ option_map why_of (if is_some (verdict_of_work work) then Some because.Nothing else None)
     by (Io job) blocks q done fits = same (is_some job.verdict) (q == 0) fits.0
     by (Admin entry status dw0) blocks q done fits = refl
-
-    go : (o : Option FetchedCommand) → find (is_command q cid) s.controller.commands ≡ o
-        → refusal_of (state_of s) (events.Walk q cid) ≡ option_map why_of (option_map_or ended_refusal o (Some because.NoJob))
-    go None e = refused_none (state_of s) q cid (job-at s q cid ∙ ap (option_map job_of) e)
-    go (Some k) e = refused_by (state_of s) q cid (job_of k) (job-found s q cid k e) ∙ by k.work (block_count s.controller.image) k.q k.units_done (is_found s world q cid k e).fits.1
 
 pub walk_refused_alike : walks_refuse_alike
 walk_refused_alike s q cid world t = refusal_is s q cid world

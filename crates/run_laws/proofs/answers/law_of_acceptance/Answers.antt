@@ -1,4 +1,4 @@
-use Rattle.run_laws.proofs.AcceptedEvents.{all_accepted, reset_accepted, reset_answered, controller_accepted, queues_known}
+use Rattle.run_laws.proofs.Accepted.{all_accepted, reset_accepted, reset_answered, controller_accepted, queues_known}
 use Rattle.run_laws.proofs.answers.law_of_acceptance.Goals as goal
 
 pub returns-clause-events : goal.returns-clause-events

@@ -1,4 +1,4 @@
-use Rattle.run_laws.proofs.WalkedCompares.{compares_told, failures_of_compares}
+use Rattle.run_laws.proofs.Images.{compares_told, failures_of_compares}
 use Rattle.run_laws.proofs.answers.law_of_drafted_compares.Goals as goal
 
 pub returns-clause-compares : goal.returns-clause-compares

@@ -1,4 +1,4 @@
-use Rattle.run_laws.proofs.AcceptedHeld.{opens_ready, ready_kept}
+use Rattle.run_laws.proofs.Accepted.{opens_ready, ready_kept}
 use Rattle.run_laws.proofs.answers.law_of_ready_states.Goals as goal
 
 pub returns-clause-openings : goal.returns-clause-openings

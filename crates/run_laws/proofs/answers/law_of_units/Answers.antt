@@ -1,4 +1,4 @@
-use Rattle.run_laws.proofs.WalkedCounts.{units_counted}
+use Rattle.run_laws.proofs.Walked.{units_counted}
 use Rattle.run_laws.proofs.answers.law_of_units.Goals as goal
 
 pub returns : goal.returns

@@ -1,4 +1,4 @@
-use Rattle.run_laws.proofs.WalkedEnds.{walks_tell, last_ends}
+use Rattle.run_laws.proofs.Walked.{walks_tell, last_ends}
 use Rattle.run_laws.proofs.answers.law_of_walks.Goals as goal
 
 pub returns-clause-verdicts : goal.returns-clause-verdicts

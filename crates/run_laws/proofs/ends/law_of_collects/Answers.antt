@@ -1,4 +1,4 @@
-use Rattle.run_laws.proofs.EndsLaws.{runs_tell_ends, runs_have_causes}
+use Rattle.run_laws.proofs.ReadLaws.{runs_tell_ends, runs_have_causes}
 use Rattle.run_laws.proofs.ends.law_of_collects.Goals as goal
 
 pub returns-clause-ends : goal.returns-clause-ends

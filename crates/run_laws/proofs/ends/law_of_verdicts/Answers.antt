@@ -1,6 +1,4 @@
-use Rattle.run_laws.proofs.VerdictsJobs.{runs_keep_jobs}
-use Rattle.run_laws.proofs.VerdictsCount.{runs_count_first_verdicts}
-use Rattle.run_laws.proofs.VerdictsStay.{runs_keep_verdicts, verdict_ends_walks}
+use Rattle.run_laws.proofs.Verdicts.{runs_keep_jobs, runs_count_first_verdicts, runs_keep_verdicts, verdict_ends_walks}
 use Rattle.run_laws.proofs.ends.law_of_verdicts.Goals as goal
 
 pub returns-clause-stay : goal.returns-clause-stay

@@ -1,4 +1,4 @@
-use Rattle.run_laws.proofs.Compares.{compares_tell}
+use Rattle.run_laws.proofs.Images.{compares_tell}
 use Rattle.run_laws.proofs.laws.law_of_compares.Goals as goal
 
 pub returns : goal.returns

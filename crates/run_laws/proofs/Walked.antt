@@ -1,44 +1,184 @@
--- A walk that ended goes on no more: its job has a verdict until it is completed.
-use Rattle.std.proofs.Common.{◌≡◌, ℕ, ◌+◌, ◌/◌, ◌%◌, ◌==◌, Bool, true, false, not, ◌&&◌, Option, Some, None, List, [], ◌∷◌, ◌++◌, map, filter, find, take, drop, is_some, is_none, MatchBool, if◌then◌else◌, refl, ap, sym, ◌∙◌, subst, eqb-true, eq-eqb}
-use Rattle.std.specs.Option.{option_map_or}
-use Rattle.std.specs.List.{list_any}
-use Rattle.std.proofs.lemmas.Bool.{true≢false, and_parts, or_parts}
+-- How many units a walk takes.
+use Rattle.machine_model.specs.Events as events
+use Rattle.machine_model.specs.After as a
+use Rattle.std.proofs.Common.{◌≡◌, ℕ, ◌+◌, ◌==◌, Bool, true, false, ◌&&◌, Some, List, [], ◌∷◌, ◌++◌, length, filter, slice_get, if◌then◌else◌, refl, ap, sym, ◌∙◌, arith, eqb-true, eq-eqb, ◌/◌, ◌%◌, not, Option, None, map, find, take, drop, is_some, is_none, subst, inl, inr}
+use Rattle.std.specs.Option.{option_map, option_map_or}
+use Rattle.std.specs.List.{AllByRecursion, list_any}
+use Rattle.std.proofs.lemmas.Bool.{true≢false, and_parts, or_parts, cases_Bool, not-true}
+use Rattle.std.proofs.lemmas.Bool.Decides.{nat_tests}
+use Rattle.entry_codec.specs.declared.submission.SubEntry.{SubEntry}
+use Rattle.machine_model.specs.State.{State, Job, Device}
+use Rattle.machine_model.specs.Refusals.{next_rung, job_at, conflicts}
+use Rattle.machine_model.specs.Image.{Made}
+use Rattle.run_laws.specs.Statuses.{fetches, fetches_by, since_fetch}
+use Rattle.machine_model.specs.Events.{Event, Reply}
+use Rattle.machine_model.specs.declared.words.Refusal.{Refusal}
+use Rattle.machine_model.proofs.Placed.{is_job, find_sound}
+use Rattle.machine_agreement.proofs.Members.{all_at, all_at_found, all_in, some_is}
+use Rattle.machine_agreement.proofs.Served.{Stood}
+use Rattle.machine_agreement.proofs.WalksKept.{stood_on, stood_at_opening, host_jobs}
+use Rattle.machine_agreement.proofs.Placements.{in_hand}
+use Rattle.run_laws.proofs.Causes.{since_more, any_longer, any_last, not_conflicting, none_found, refused_no_fetch}
+use Rattle.machine_agreement.proofs.JobLaws.{not_zero as positive, stood_after}
+use Rattle.machine_agreement.proofs.Along.{Carried, keeps, made_of, run_along, cut}
+use Rattle.run_laws.proofs.Moves.{JobsMove, jobs_event, is_walked}
+use Rattle.run_laws.specs.Walked.{walks_by, walks_of, times_walked, units_done_count_the_walks, HasJobSo, walks_go_on_without_a_verdict, completes_by, ends_job, ends_walk_by, only_the_last_walk_ends}
+use Rattle.run_laws.proofs.DataKept.{Going, stood_step, stood_along, along_steps}
+use Rattle.run_laws.proofs.DataOnce.{fetched_entry}
 use Rattle.admin_commands.specs.Entries.{named_queue, named_command}
 use Rattle.admin_commands.specs.declared.SqState.TheVariants.{Absent}
 use Rattle.controller_walk.specs.Units.{Act, Stays, Reads, Moves}
 use Rattle.controller_walk.specs.Walks.{is_more}
 use Rattle.controller_walk.specs.declared.walk.WalkState.{WalkState}
-use Rattle.controller_walk.specs.declared.walk.WalkState.TheVariants.{More, End, Fault}
 use Rattle.sgl_descriptor.specs.declared.Direction.{Direction}
 use Rattle.sgl_descriptor.specs.declared.Direction.TheVariants.{Destination, Source}
-use Rattle.entry_codec.specs.declared.submission.SubEntry.{SubEntry}
 use Rattle.entry_codec.specs.declared.status.Status.{Status}
 use Rattle.entry_codec.specs.declared.status.TheConstants.Status.{COMMAND_ID_CONFLICT, ABORT_REQUESTED, ABORTED_SQ_DELETION}
 use Rattle.entry_codec.specs.declared.admin_opcode.TheConstants.{DELETE_IO_SQ}
 use Rattle.io_commands.specs.Jobs.{is_success, verdict_of, direction_of_entry}
 use Rattle.page_memory.specs.Pages.{with_page_bytes, with_bytes}
-use Rattle.machine_model.specs.State.{State, Device, Job}
-use Rattle.machine_model.specs.Refusals.{job_at, next_rung, conflicts}
 use Rattle.machine_model.specs.Opening.{opening}
 use Rattle.machine_model.specs.Trusted.{Steps}
 use Rattle.machine_model.specs.Step.{Step, resets, unit_answered}
-use Rattle.machine_model.specs.After as a
-use Rattle.machine_model.specs.Events as events
-use Rattle.machine_model.specs.Events.{Event, Reply}
 use Rattle.machine_model.proofs.Managed.{managed_by}
 use Rattle.machine_agreement.proofs.Placing.{device-answered}
-use Rattle.machine_model.proofs.Placed.{is_job, find_sound}
 use Rattle.machine_agreement.proofs.Unforged.{Unforged, unforged_next, unforged_front, unforged_back, unforged_run, unforged_end, trusted_end}
-use Rattle.machine_agreement.proofs.Served.{Stood}
-use Rattle.machine_agreement.proofs.WalksKept.{host_jobs, stood_at_opening}
-use Rattle.machine_agreement.proofs.Placements.{in_hand}
-use Rattle.run_laws.proofs.CausedKept.{not_conflicting}
 use Rattle.machine_agreement.proofs.CommandsAll.{walking}
-use Rattle.machine_agreement.proofs.JobLaws.{stood_after}
-use Rattle.run_laws.specs.Walked.{HasJobSo, walks_go_on_without_a_verdict, walks_by, completes_by, ends_job, ends_walk_by, only_the_last_walk_ends}
-use Rattle.run_laws.proofs.DataAlong.{Going, stood_step, stood_along, along_steps}
-use Rattle.machine_agreement.proofs.Along.{cut}
-use Rattle.machine_model.proofs.Steps.{permitted}
+use Rattle.machine_model.proofs.Steps.{permitted, exact}
+
+-- A job has done as many units as there were walk steps of it since its fetch.
+
+-- What is counted
+
+pub record Counted (earlier : List Made) (j : Job) : Type 0 where
+  pub fetched : list_any (fetches j.q j.entry.cid) earlier ≡ true
+  pub count : j.units_done ≡ times_walked j.q j.entry.cid earlier
+
+abbrev pub CountedIfIo : List Made → Job → Type 0
+CountedIfIo earlier j = (j.q == 0) ≡ false → Counted earlier j
+
+abbrev pub AllCounted : List Made → State → Type 0
+AllCounted earlier s = AllByRecursion (CountedIfIo earlier) s.device.jobs
+
+-- one step more
+
+filtered_more : (test : Made → Bool) (xs : List Made) (m : Made) → length (filter test (xs ++ m ∷ [])) ≡ length (filter test xs) + (if test m then 1 else 0)
+filtered_more test [] m = grind arith
+filtered_more test (x ∷ xs) m = let h1 = filtered_more test xs m in grind arith
+
+since_new : (q cid : ℕ) (xs : List Made) (m : Made) → fetches q cid m ≡ true → since_fetch q cid (xs ++ m ∷ []) ≡ []
+since_new q cid [] m h = ap (λ (b : Bool). if b then [] else []) h
+since_new q cid (x ∷ xs) m h =
+    ap (λ (b : Bool). if b then since_fetch q cid (xs ++ m ∷ []) else if fetches q cid x then xs ++ m ∷ [] else since_fetch q cid (xs ++ m ∷ [])) (any_last (fetches q cid) xs m h)
+    ∙ since_new q cid xs m h
+
+walked_more : (q cid : ℕ) (earlier : List Made) (m : Made) → list_any (fetches q cid) earlier ≡ true → fetches q cid m ≡ false → times_walked q cid (earlier ++ m ∷ []) ≡ times_walked q cid earlier + (if walks_of q cid m then 1 else 0)
+walked_more q cid earlier m any far = ap (λ (xs : List Made). length (filter (walks_of q cid) xs)) (since_more q cid earlier m any far) ∙ filtered_more (walks_of q cid) (since_fetch q cid earlier) m
+
+counted_same : (earlier : List Made) (j k : Job) (m : Made) → k.q ≡ j.q → k.entry.cid ≡ j.entry.cid → k.units_done ≡ j.units_done → fetches j.q j.entry.cid m ≡ false → walks_of j.q j.entry.cid m ≡ false → Counted earlier j → Counted (earlier ++ m ∷ []) k
+counted_same earlier j k m kq kc ku far still h = record {
+  fetched = rw (kq, kc) (any_longer (fetches j.q j.entry.cid) earlier m h.fetched);
+  count = rw (kq, kc) (ku ∙ h.count ∙ sym (walked_more j.q j.entry.cid earlier m h.fetched far ∙ (grind arith)));
+}
+
+-- A step is no fetch of a job, and no walk of a job that it doesn't walk
+
+pub not_refetched : (s : State) (e : Event) (reply : Reply) → Going s e reply → (k : ℕ) (j : Job) → slice_get s.device.jobs k ≡ Some j → fetches_by j.q j.entry.cid e reply ≡ false
+not_refetched s (events.Fetch q) (events.Fetched c touched) g k j at = go ((q == j.q) && (c == j.entry.cid)) refl
+  where
+    go : (b : Bool) → ((q == j.q) && (c == j.entry.cid)) ≡ b → b ≡ false
+    go false e = refl
+    go true e =
+        let ids = and_parts (q == j.q) (c == j.entry.cid) e in
+        let f = fetched_entry s q j.entry.cid c g.ok.1.0 (eqb-true c j.entry.cid ids.1) in
+        let none = not_conflicting s g.stood q f.0 (in_hand s q f.0 f.1) in
+        let no = all_at (λ j. is_job q f.0.cid j ≡ false) s.device.jobs k j at (none_found q f.0.cid s.device.jobs none) in
+        absurd (true≢false (sym (rw (eq-eqb j.q q (sym (eqb-true q j.q ids.0)), eq-eqb j.entry.cid f.0.cid (sym f.2)) refl) ∙ no))
+not_refetched s (events.Fetch q) reply g k j at = absurd g.ok.1
+not_refetched s e reply g k j at = refl
+
+not_rewalked : (e : Event) (reply : Reply) (j : Job) → is_walked e j ≡ false → walks_by j.q j.entry.cid e reply ≡ false
+not_rewalked (events.Walk q cid) (events.Walked outcome touched) j far = turned q j.q cid j.entry.cid far
+  where
+    turned : (q k c jc : ℕ) → ((k == q) && (jc == c)) ≡ false → ((q == k) && (c == jc)) ≡ false
+    turned q k c jc f = grind (arith, nat_tests, f)
+not_rewalked e reply j far = refl
+
+begun_fetched : (s : State) (e : Event) (reply : Reply) → Going s e reply → (q : ℕ) (entry : SubEntry) → e ≡ events.Fetch q → next_rung s q ≡ Some entry → fetches_by q entry.cid e reply ≡ true
+begun_fetched s (events.Fetch k) (events.Fetched c touched) g q entry is rung = rw (eq-eqb k q (queue is), eq-eqb c entry.cid its_cid) refl
+  where
+    queue : {x y : ℕ} → events.Fetch x ≡ events.Fetch y → x ≡ y
+    queue is = cc
+
+    its_cid : c ≡ entry.cid
+    its_cid = some_is (sym g.ok.1.0 ∙ ap (λ (n : ℕ). option_map (λ (x : SubEntry). x.cid) (next_rung s n)) (queue is) ∙ ap (option_map (λ (x : SubEntry). x.cid)) rung)
+begun_fetched s (events.Fetch k) reply g q entry is rung = absurd g.ok.1
+begun_fetched s e reply g q entry is rung = absurd (cc)
+
+walk_counts : (s : State) (e : Event) (reply : Reply) → Going s e reply → (q cid : ℕ) → e ≡ events.Walk q cid → (walks_by q cid e reply ≡ true) × (fetches_by q cid e reply ≡ false)
+walk_counts s (events.Walk k c) (events.Walked outcome touched) g q cid is = (rw (eq-eqb k q (queue is), eq-eqb c cid (its is)) refl, refl)
+  where
+    queue : {x y z w : ℕ} → events.Walk x z ≡ events.Walk y w → x ≡ y
+    queue is = cc
+
+    its : {x y z w : ℕ} → events.Walk x z ≡ events.Walk y w → z ≡ w
+    its is = cc
+walk_counts s (events.Walk k c) reply g q cid is = absurd g.ok.1
+walk_counts s e reply g q cid is = absurd (cc)
+
+counts_move : (earlier : List Made) (s : State) (e : Event) (reply : Reply) → Going s e reply → JobsMove (CountedIfIo earlier) (CountedIfIo (earlier ++ record { before = s; event = e; reply = reply } ∷ [])) s e
+counts_move earlier s e reply g = record {
+  stays = λ k j at far p other. counted_same earlier j j m refl refl refl (not_refetched s e reply g k j at) (not_rewalked e reply j far) (p other);
+  fails = λ k j st waiting at far failed none p other. counted_same earlier j (record j { verdict = Some st; waiting_abort = waiting }) m refl refl refl (not_refetched s e reply g k j at) (not_rewalked e reply j far) (p other);
+  manages = λ entry st dw0 is rung free other. absurd (true≢false other);
+  begins = λ q entry is rung io free other.
+      let f = begun_fetched s e reply g q entry is rung in record {
+        fetched = any_last (fetches q entry.cid) earlier m f;
+        count = ap (λ (xs : List Made). length (filter (walks_of q entry.cid) xs)) (sym (since_new q entry.cid earlier m f));
+      };
+  walks = λ q cid j act is w unit p other.
+      let c = walk_counts s e reply g q cid is in
+      let h = p w.other in
+      let far : fetches j.q j.entry.cid m ≡ false = ap (λ (n : ℕ). fetches n j.entry.cid m) w.its_queue ∙ ap (λ (n : ℕ). fetches q n m) w.its_id ∙ c.1 in
+      let one : walks_of j.q j.entry.cid m ≡ true = ap (λ (n : ℕ). walks_of n j.entry.cid m) w.its_queue ∙ ap (λ (n : ℕ). walks_of q n m) w.its_id ∙ c.0 in
+      record {
+        fetched = any_longer (fetches j.q j.entry.cid) earlier m h.fetched;
+        count = ap (λ (n : ℕ). n + 1) h.count ∙ sym (walked_more j.q j.entry.cid earlier m h.fetched far ∙ (grind arith));
+      };
+}
+  where
+    m : Made
+    m = record { before = s; event = e; reply = reply }
+
+refused_no_walk : (e : Event) (why : Refusal) (touched : List ℕ) (q cid : ℕ) → walks_by q cid e (events.Refused why touched) ≡ false
+refused_no_walk e why touched q cid = grind arith
+
+record CountedSo (done : List Made) (s : State) : Type 0 where
+  pub stood : Stood s
+  pub counted : AllCounted done s
+
+counts_carried : Carried CountedSo
+counts_carried = record {
+  refused = λ done s e why touched h. record {
+    stood = h.stood;
+    counted = all_in (CountedIfIo done) (CountedIfIo (done ++ made_of s e (events.Refused why touched) ∷ [])) s.device.jobs
+        (λ j within p other. counted_same done j j (made_of s e (events.Refused why touched)) refl refl refl (refused_no_fetch e why touched j.q j.entry.cid) (refused_no_walk e why touched j.q j.entry.cid) (p other)) h.counted;
+  };
+  taken = λ done s e reply proper ok t h. record {
+    stood = stood_on s e reply proper ok t h.stood;
+    counted = jobs_event (CountedIfIo done) (CountedIfIo (done ++ made_of s e reply ∷ [])) s e reply (counts_move done s e reply (record { proper = proper; ok = ok; trusted = t; stood = h.stood })) ok h.stood h.counted;
+  };
+}
+
+pub units_counted : units_done_count_the_walks
+units_counted image made end q cid j run io found =
+    let all = (run_along CountedSo (keeps CountedSo counts_carried) image (λ pages queues n s opens. record { stood = stood_at_opening pages queues n s image opens; counted = tt }) made end run).counted in
+    let ids = and_parts (j.q == q) (j.entry.cid == cid) (find_sound (is_job q cid) end.device.jobs j found) in
+    let jq = eqb-true j.q q ids.0 in
+    let c = all_at_found (CountedIfIo made) (is_job q cid) end.device.jobs j found all (ap (λ (n : ℕ). n == 0) jq ∙ positive q io) in
+    c.count ∙ ap (λ (n : ℕ). times_walked n j.entry.cid made) jq ∙ ap (λ (n : ℕ). times_walked q n made) (eqb-true j.entry.cid cid ids.1)
+
+-- A walk that ended goes on no more: its job has a verdict until it is completed.
 
 -- Finding a job in changed lists
 
@@ -61,16 +201,13 @@ found_mapped q cid f same (x ∷ js) j e = go (is_job q cid x) (same x) e (found
 
 found_kept : (q cid : ℕ) (keep : Job → Bool) → ((j : Job) → is_job q cid j ≡ true → keep j ≡ true) → (js : List Job) (j : Job) → find (is_job q cid) js ≡ Some j → find (is_job q cid) (filter keep js) ≡ Some j
 found_kept q cid keep stays [] j e = absurd cc
-found_kept q cid keep stays (x ∷ js) j e = go (is_job q cid x) refl e (found_kept q cid keep stays js j)
+found_kept q cid keep stays (x ∷ js) j e = elim (cases_Bool (is_job q cid x)) [
+  | inl t ↦ let e = rw t at e in let is : x ≡ j = cc in rw (stays x t) (rw t (ap (λ (y : Job). Some y) is))
+  | inr t ↦ let e = rw t at e in let ih = found_kept q cid keep stays js j in still (keep x) t (ih e)
+]
   where
     still : (b : Bool) → is_job q cid x ≡ false → find (is_job q cid) (filter keep js) ≡ Some j → find (is_job q cid) (if b then x ∷ filter keep js else filter keep js) ≡ Some j
-    still true t h = rw t h
-    still false t h = h
-
-    go : (b : Bool) → is_job q cid x ≡ b → (if b then Some x else find (is_job q cid) js) ≡ Some j → (find (is_job q cid) js ≡ Some j → find (is_job q cid) (filter keep js) ≡ Some j)
-        → find (is_job q cid) (if keep x then x ∷ filter keep js else filter keep js) ≡ Some j
-    go true t e ih = let is : x ≡ j = cc in rw (stays x t) (rw t (ap (λ (y : Job). Some y) is))
-    go false t e ih = still (keep x) t (ih e)
+    still b t h = grind arith
 
 -- A job that has its verdict
 
@@ -120,8 +257,7 @@ fetch_decided s n stood q cid h = go (next_rung s n) refl
         abort_q j false = refl
 
         abort_entry : (j : Job) (b : Bool) → (if b then record j { verdict = Some ABORT_REQUESTED; waiting_abort = Some e.cid } else j).entry ≡ j.entry
-        abort_entry j true = refl
-        abort_entry j false = refl
+        abort_entry j b = grind arith
 
         abort_over : (j : Job) (b : Bool) → is_some j.verdict ≡ true → is_some (if b then record j { verdict = Some ABORT_REQUESTED; waiting_abort = Some e.cid } else j).verdict ≡ true
         abort_over j true o = refl
@@ -132,8 +268,7 @@ fetch_decided s n stood q cid h = go (next_rung s n) refl
         stop_q j false = refl
 
         stop_entry : (j : Job) (b : Bool) → (if b then record j { verdict = Some ABORTED_SQ_DELETION } else j).entry ≡ j.entry
-        stop_entry j true = refl
-        stop_entry j false = refl
+        stop_entry j b = grind arith
 
         stop_over : (j : Job) (b : Bool) → is_some j.verdict ≡ true → is_some (if b then record j { verdict = Some ABORTED_SQ_DELETION } else j).verdict ≡ true
         stop_over j true o = refl
@@ -158,8 +293,7 @@ other_job q cid k c f js far same_q same_entry h =
     (h.0, found_mapped q cid (λ (j : Job). if (j.q == k) && (j.entry.cid == c) then f j else j) (λ j. either j ((j.q == k) && (j.entry.cid == c))) js h.0 h.1 ∙ ap (λ (y : Job). Some y) (still ((h.0.q == k) && (h.0.entry.cid == c)) refl), h.2)
   where
     either : (j : Job) (b : Bool) → is_job q cid (if b then f j else j) ≡ is_job q cid j
-    either j true = rw (same_q j, same_entry j) refl
-    either j false = refl
+    either j b = grind arith
 
     still : (b : Bool) → ((h.0.q == k) && (h.0.entry.cid == c)) ≡ b → (if b then f h.0 else h.0) ≡ h.0
     still true e =
@@ -228,13 +362,12 @@ no_walk s q cid outcome touched g h =
 decided_step : (q cid : ℕ) (s : State) (e : Event) (reply : Reply) → Going s e reply → completes_by q cid e reply ≡ false → resets e ≡ false → Decided q cid s → Decided q cid (a.after s e reply)
 decided_step q cid s e (events.Refused why touched) g far other h = h
 decided_step q cid s (events.Fetch n) reply g far other h = of_list q cid (a.after_fetch n s) (fetch_decided s n g.stood q cid (decided_in q cid s h))
-decided_step q cid s (events.Walk k c) (events.Walked outcome touched) g far other h = go ((k == q) && (c == cid)) refl
-  where
-    go : (b : Bool) → ((k == q) && (c == cid)) ≡ b → Decided q cid (a.after_walk k c s)
-    go false e = of_list q cid (a.after_walk k c s) (walk_decided s k c q cid e (decided_in q cid s h))
-    go true e =
-        let ids = and_parts (k == q) (c == cid) e in
-        absurd (no_walk s k c outcome touched g (subst (λ (n : ℕ). Decided n c s) (sym (eqb-true k q ids.0)) (subst (λ (n : ℕ). Decided q n s) (sym (eqb-true c cid ids.1)) h)))
+decided_step q cid s (events.Walk k c) (events.Walked outcome touched) g far other h = elim (cases_Bool ((k == q) && (c == cid))) [
+  | inl e ↦
+      let ids = and_parts (k == q) (c == cid) e in
+      absurd (no_walk s k c outcome touched g (subst (λ (n : ℕ). Decided n c s) (sym (eqb-true k q ids.0)) (subst (λ (n : ℕ). Decided q n s) (sym (eqb-true c cid ids.1)) h)))
+  | inr e ↦ of_list q cid (a.after_walk k c s) (walk_decided s k c q cid e (decided_in q cid s h))
+]
 decided_step q cid s (events.Walk k c) reply g far other h = absurd g.ok.1
 decided_step q cid s (events.Complete k c) (events.Completed touched) g far other h = of_list q cid (a.after_complete k c s) (complete_decided s k c q cid far (decided_in q cid s h))
 decided_step q cid s (events.Complete k c) reply g far other h = absurd g.ok.1
@@ -249,8 +382,7 @@ walked_one q cid f same_q same_entry js j e =
     ∙ ap (λ (b : Bool). Some (if b then f j else j)) (find_sound (is_job q cid) js j e)
   where
     either : (x : Job) (b : Bool) → is_job q cid (if b then f x else x) ≡ is_job q cid x
-    either x true = rw (same_q x, same_entry x) refl
-    either x false = refl
+    either x b = grind arith
 
 -- its verdict is what the walk step answers
 pub record WalkedTo (q cid : ℕ) (s : State) (verdict : Option Status) : Type 0 where
@@ -295,13 +427,7 @@ walk_left s q cid outcome touched g = go (a.next_unit s g.ok.1.0) refl g.ok.1.2
     go (Some act) u h = subst (λ (x : WalkState). WalkedTo q cid (a.after_walk q cid s) (verdict_of x)) h.0 (walk_leaves s q cid g.ok.1.0 act g.ok.1.1 u)
 
 undecided_is : (outcome : WalkState) → is_none (verdict_of outcome) ≡ is_more outcome
-undecided_is More = refl
-undecided_is End = refl
-undecided_is (Fault status) = refl
-
-exact : {A : Type 0} (B : Type 0) (t : Bool) → t ≡ true → MatchBool t A B → A
-exact B true e h = h
-exact B false e h = absurd (true≢false (sym e))
+undecided_is outcome = grind arith
 
 pub walks_tell : walks_go_on_without_a_verdict
 walks_tell image made s new q cid outcome touched run step =
@@ -324,16 +450,11 @@ end_event : (q cid : ℕ) (e : Event) (reply : Reply) → ends_walk_by q cid e r
 end_event q cid (events.Walk k c) (events.Walked outcome touched) h =
     let parts = and_parts ((k == q) && (c == cid)) (not (is_more outcome)) h in
     let ids = and_parts (k == q) (c == cid) parts.0 in
-    (outcome, touched, ap (λ (n : ℕ). events.Walk n c) (eqb-true k q ids.0) ∙ ap (events.Walk q) (eqb-true c cid ids.1), refl, turned (is_more outcome) parts.1)
-  where
-    turned : (b : Bool) → not b ≡ true → b ≡ false
-    turned true h = absurd (true≢false (sym h))
-    turned false h = refl
+    (outcome, touched, ap (λ (n : ℕ). events.Walk n c) (eqb-true k q ids.0) ∙ ap (events.Walk q) (eqb-true c cid ids.1), refl, not-true (is_more outcome) parts.1)
 end_event q cid e reply h = absurd (true≢false (sym h))
 
 has_verdict : (o : Option Status) → is_none o ≡ false → is_some o ≡ true
-has_verdict None h = absurd (true≢false h)
-has_verdict (Some v) h = refl
+has_verdict o h = grind arith
 
 ended : (s new : State) (e : Event) (reply : Reply) (q cid : ℕ) → Step s e reply new → s.trusted ≡ true → Stood s → ends_walk_by q cid e reply ≡ true → Decided q cid new
 ended s new e reply q cid step t stood is =

@@ -1,0 +1,773 @@
+-- A command ends once at most.
+use Rattle.machine_model.specs.After as a
+use Rattle.machine_model.specs.Events as events
+use Rattle.machine_model.specs.declared.words.Refusal.TheVariants as refusal
+use Rattle.std.proofs.Common.{◌≡◌, ◌⊎◌, inl, inr, ℕ, zero, suc, ◌-◌, ◌<◌, ◌≤◌, false, Some, List, [], ◌∷◌, ◌++◌, length, drop, slice_get, replicate, refl, ap, sym, arith, subst, ◌+◌, ◌==◌, nat_lt, nat_le, Bool, true, not, ◌&&◌, Option, None, is_some, is_none, option_and_then, if◌then◌else◌, ◌∙◌, eq-eqb, ◌||◌, eqb-true, map}
+use Rattle.std.proofs.lemmas.Bool.{eqb-false, true≢false, and_parts, not-false, cases_Bool}
+use Rattle.queue_pair.specs.Slots.{next_slot, distance, is_full, moved, is_in_range}
+use Rattle.queue_pair.specs.Rings.{HostRing, next_tail, next_head, knowing, fresh_host_ring}
+use Rattle.queue_pair.proofs.Order.{distance_below, distance_grows, distance_is}
+use Rattle.machine_model.specs.Opening.{device_queue as opened, Opens, opening}
+use Rattle.machine_model.specs.Positions.{IsInRing}
+use Rattle.machine_model.specs.State.{HostQueue, DeviceQueue, Answer, State, Record, is_at, record_at, pages_of, with_record}
+use Rattle.machine_model.specs.After.{change}
+use Rattle.machine_agreement.proofs.Heads.{changed_at, head_at}
+use Rattle.machine_agreement.proofs.Cases.{option_is}
+use Rattle.std.specs.Option.{option_map_or, option_map}
+use Rattle.std.proofs.lemmas.Bool.Decides.{nat_tests}
+use Rattle.admin_commands.specs.Entries.{admin_entry, named_queue}
+use Rattle.admin_commands.specs.declared.AdminKind.TheVariants.{Abort, DeleteSq, DeleteCq}
+use Rattle.admin_commands.specs.declared.SqState.TheVariants.{Stopping}
+use Rattle.entry_codec.specs.declared.submission.SubEntry.{SubEntry}
+use Rattle.entry_codec.specs.declared.completion.ComEntry.{ComEntry}
+use Rattle.entry_codec.specs.declared.status.Status.{Status}
+use Rattle.io_commands.specs.Jobs.{is_success}
+use Rattle.machine_model.specs.Work.{Work}
+use Rattle.machine_model.specs.declared.words.Work.TheVariants.{Io, Management}
+use Rattle.machine_model.specs.Claims.{OwnsFit}
+use Rattle.machine_model.specs.Proper.{IsProper}
+use Rattle.machine_model.specs.Refusals.{is_submitted, host_queue, device_queue, next_rung, job_at, first_answer, entry_of, queue_full, fetch_slot, in_service, is_reaped, is_held, record_is, seen_entry}
+use Rattle.machine_model.specs.Step.{HostPart, reaped, reaped_as, reaped_entry, submitted_at, fits_ring, IsController, Step, finished_from, asked_by, pages_with_bytes}
+use Rattle.machine_model.specs.Events.{Event, Reply}
+use Rattle.machine_model.specs.declared.words.HostState.TheVariants.{Live, Deleting}
+use Rattle.machine_model.specs.declared.words.Reaped.TheVariants.{Empty, Done, AdminDone, Rejected}
+use Rattle.machine_model.specs.declared.words.RejectedFor.TheVariants.{WrongQueue, BadHead, UnknownId}
+use Rattle.machine_model.specs.Image.{Made}
+use Rattle.machine_model.specs.Trusted.{TrustedRun, Steps}
+use Rattle.machine_model.proofs.Counting.{one}
+use Rattle.machine_model.proofs.Totals.{total}
+use Rattle.machine_model.proofs.Steps.{Accepts, part_controller, permitted}
+use Rattle.machine_model.proofs.Managed.{managed_by}
+use Rattle.machine_agreement.proofs.DeviceMoves.{answers, answer_of, finished, cleared, fetch_by, complete_by}
+use Rattle.machine_model.proofs.Lists.{get_other}
+use Rattle.machine_model.proofs.Refused.{unrefused, first_fails, found}
+use Rattle.page_memory.specs.declared.page.Half.TheVariants.{Submission, Completion}
+use Rattle.machine_agreement.proofs.Standing.{seen_trusted}
+use Rattle.machine_agreement.proofs.Members.{sent_found, all_at_found, some_is, all_of}
+use Rattle.machine_agreement.proofs.Along.{along_proper, made_of, Carried, Before, keeps, cut, each_proper_step, trusted_step_by, before_step}
+use Rattle.machine_model.proofs.Emptied.{no_answers_at, no_unfetched}
+use Rattle.machine_agreement.proofs.Grounds.{Grounds, ring_in, pair_at}
+use Rattle.machine_agreement.proofs.Served.{Stood, answers_at}
+use Rattle.machine_agreement.proofs.PlacesKept.{ids_of}
+use Rattle.machine_agreement.proofs.Placements.{in_hand}
+use Rattle.run_laws.proofs.Moves.{queues_walk, RecordsMove, records_event}
+use Rattle.machine_agreement.proofs.WalksKept.{stood_on, stood_at_opening}
+use Rattle.machine_agreement.proofs.HeadsAll.{no_conflict}
+use Rattle.machine_agreement.proofs.Unforged.{trusted_end, Unforged, unforged_next, unforged_front, unforged_back, unforged_run}
+use Rattle.run_laws.specs.Ends.{answers_of, front, reaps_answer_the_front, nothing_conflicts, submits_by, submits, ends_by, ends_are_told_once, commands_are_collected_once, submitted_commands_end_once}
+use Rattle.machine_model.proofs.Moves.{host_moves, queue_known, sends, half_from, creates_cq, creates_sq, IsHeard, answer_heard}
+use Rattle.std.specs.List.{AllByRecursion, list_any}
+use Rattle.io_commands.specs.Drafts.{DraftContents}
+use Rattle.machine_model.specs.declared.words.Phase.{Phase}
+use Rattle.machine_model.specs.declared.words.Phase.TheVariants.{Drafted, Submitted, Held, Collected}
+use Rattle.machine_model.proofs.Out.{reaped_submitted, named}
+use Rattle.std.proofs.lemmas.List.{append_assoc}
+use Rattle.entry_codec.specs.declared.status.TheConstants.Status.{ABORTED_SQ_DELETION}
+use Rattle.io_commands.specs.Values.{FinishedContents}
+use Rattle.machine_model.specs.declared.words.Refusal.{Refusal}
+use Rattle.machine_model.specs.Memory.{without_pages}
+use Rattle.machine_model.proofs.Placed.{find_sound}
+use Rattle.machine_model.proofs.Resetting.{all_reset, lost_quiet}
+use Rattle.machine_agreement.proofs.JobLaws.{not_zero as positive}
+
+-- The heads that the answers of a queue tell never come back: each is as near to the tail as the one before it, the first as the head that the host knows, and what is not fetched is nearer than all.
+
+abbrev pub Falls : (n tail top : ℕ) → List Answer → (unfetched : ℕ) → Type 0
+Falls n tail top [] u = u ≤ top
+Falls n tail top (an ∷ ans) u = (an.sq_head < n) × (distance n an.sq_head tail ≤ top) × Falls n tail (distance n an.sq_head tail) ans u
+
+abbrev pub FallsAt : ℕ → HostRing → DeviceQueue → Type 0
+FallsAt n ring at = Falls n ring.tail (distance n ring.known_head ring.tail) at.answers (length at.unfetched)
+
+abbrev pub AllFall : ℕ → List HostQueue → List DeviceQueue → Type 0
+AllFall n hs qs = (q : ℕ) (queue : HostQueue) (at : DeviceQueue) → slice_get hs q ≡ Some queue → slice_get qs q ≡ Some at → FallsAt n queue.ring at
+
+-- Answers, as something changes
+
+pub falls_more : (n tail top top' : ℕ) (ans : List Answer) (u : ℕ) → top ≤ top' → Falls n tail top ans u → Falls n tail top' ans u
+falls_more n tail top top' [] u le h = omega (arith, le, h)
+falls_more n tail top top' (an ∷ ans) u le h = (h.0, omega (arith, le, h.1), h.2)
+
+pub falls_less : (n tail top : ℕ) (ans : List Answer) (u u' : ℕ) → u' ≤ u → Falls n tail top ans u → Falls n tail top ans u'
+falls_less n tail top [] u u' le h = omega (arith, le, h)
+falls_less n tail top (an ∷ ans) u u' le h = (h.0, h.1, falls_less n tail (distance n an.sq_head tail) ans u u' le h.2)
+
+-- what is not fetched is nearest
+pub falls_to : (n tail top : ℕ) (ans : List Answer) (u : ℕ) → Falls n tail top ans u → u ≤ top
+falls_to n tail top [] u h = h
+falls_to n tail top (an ∷ ans) u h = omega (arith, h.1, falls_to n tail (distance n an.sq_head tail) ans u h.2)
+
+pub falls_posted : (n tail top : ℕ) (ans : List Answer) (u : ℕ) → tail < n → top < n - 1 → Falls n tail top ans u → Falls n (next_slot n tail) (suc top) ans (suc u)
+falls_posted n tail top [] u t room h = omega (arith, h)
+falls_posted n tail top (an ∷ ans) u t room h =
+    let grows : distance n an.sq_head (next_slot n tail) ≡ suc (distance n an.sq_head tail) = distance_grows n an.sq_head tail h.0 t (λ e. absurd (omega (arith, e, h.1, room))) in (
+      h.0,
+      omega (arith, grows, h.1),
+      subst (λ (k : ℕ). Falls n (next_slot n tail) k ans (suc u)) (sym grows) (falls_posted n tail (distance n an.sq_head tail) ans u t (omega (arith, h.1, room)) h.2),
+    )
+
+pub falls_answered : (n tail top : ℕ) (ans : List Answer) (u : ℕ) (an : Answer) → an.sq_head < n → distance n an.sq_head tail ≡ u → Falls n tail top ans u → Falls n tail top (ans ++ an ∷ []) u
+falls_answered n tail top [] u an below is h = (below, omega (arith, is, h), omega (arith, is))
+falls_answered n tail top (x ∷ ans) u an below is h = (h.0, h.1, falls_answered n tail (distance n x.sq_head tail) ans u an below is h.2)
+
+-- Queues, as one changes
+
+pub fall_device : (n k : ℕ) (g : DeviceQueue → DeviceQueue) (hs : List HostQueue) (qs : List DeviceQueue)
+    → ((queue : HostQueue) (at : DeviceQueue) → slice_get hs k ≡ Some queue → slice_get qs k ≡ Some at → FallsAt n queue.ring at → FallsAt n queue.ring (g at))
+    → AllFall n hs qs → AllFall n hs (change k g qs)
+fall_device n k g hs qs step h q queue at eh eq = go (changed_at k g qs q at eq)
+  where
+    go : ((k ≡ q) × ((x : DeviceQueue) × (slice_get qs q ≡ Some x) × (at ≡ g x))) ⊎ ((k ≡ q → ⊥) × (slice_get qs q ≡ Some at)) → FallsAt n queue.ring at
+    go (inl (same, (x, ex, is))) =
+        subst (FallsAt n queue.ring) (sym is)
+        (step queue x (subst (λ (z : ℕ). slice_get hs z ≡ Some queue) (sym same) eh) (subst (λ (z : ℕ). slice_get qs z ≡ Some x) (sym same) ex) (h q queue x eh ex))
+    go (inr (far, e)) = h q queue at eh e
+
+-- the host's ring of a queue, and the controller's lists of it
+pub fall_both : (n k : ℕ) (f : HostQueue → HostQueue) (g : DeviceQueue → DeviceQueue) (hs : List HostQueue) (qs : List DeviceQueue)
+    → ((queue : HostQueue) (at : DeviceQueue) → slice_get hs k ≡ Some queue → slice_get qs k ≡ Some at → FallsAt n queue.ring at → FallsAt n (f queue).ring (g at))
+    → AllFall n hs qs → AllFall n (change k f hs) (change k g qs)
+fall_both n k f g hs qs step h q queue at eh eq = go (changed_at k f hs q queue eh) (changed_at k g qs q at eq)
+  where
+    go : ((k ≡ q) × ((x : HostQueue) × (slice_get hs q ≡ Some x) × (queue ≡ f x))) ⊎ ((k ≡ q → ⊥) × (slice_get hs q ≡ Some queue))
+        → ((k ≡ q) × ((x : DeviceQueue) × (slice_get qs q ≡ Some x) × (at ≡ g x))) ⊎ ((k ≡ q → ⊥) × (slice_get qs q ≡ Some at)) → FallsAt n queue.ring at
+    go (inl (same, (x, ex, isx))) (inl (same', (y, ey, isy))) =
+        subst (λ (z : HostQueue). FallsAt n z.ring at) (sym isx)
+        (subst (FallsAt n (f x).ring) (sym isy)
+        (step x y (subst (λ (z : ℕ). slice_get hs z ≡ Some x) (sym same) ex) (subst (λ (z : ℕ). slice_get qs z ≡ Some y) (sym same) ey) (h q x y ex ey)))
+    go (inl (same, x)) (inr (far, y)) = absurd (far same)
+    go (inr (far, x)) (inl (same, y)) = absurd (far same)
+    go (inr (far, ex)) (inr (far', ey)) = h q queue at ex ey
+
+-- a queue of the host changes
+pub fall_host_by : (n k : ℕ) (f : HostQueue → HostQueue) (hs : List HostQueue) (qs : List DeviceQueue)
+    → ((queue : HostQueue) (at : DeviceQueue) → slice_get hs k ≡ Some queue → slice_get qs k ≡ Some at → FallsAt n queue.ring at → FallsAt n (f queue).ring at)
+    → AllFall n hs qs → AllFall n (change k f hs) qs
+fall_host_by n k f hs qs step h q queue at eh eq = go (changed_at k f hs q queue eh)
+  where
+    go : ((k ≡ q) × ((x : HostQueue) × (slice_get hs q ≡ Some x) × (queue ≡ f x))) ⊎ ((k ≡ q → ⊥) × (slice_get hs q ≡ Some queue)) → FallsAt n queue.ring at
+    go (inl (same, (x, ex, is))) =
+        subst (λ (z : HostQueue). FallsAt n z.ring at) (sym is)
+        (step x at (subst (λ (z : ℕ). slice_get hs z ≡ Some x) (sym same) ex) (subst (λ (z : ℕ). slice_get qs z ≡ Some at) (sym same) eq) (h q x at ex eq))
+    go (inr (far, ex)) = h q queue at ex eq
+
+-- and its ring stays
+pub fall_host : (n k : ℕ) (f : HostQueue → HostQueue) (hs : List HostQueue) (qs : List DeviceQueue) → ((queue : HostQueue) → (f queue).ring ≡ queue.ring) → AllFall n hs qs → AllFall n (change k f hs) qs
+fall_host n k f hs qs ring h = fall_host_by n k f hs qs (λ queue at eh eq falls. subst (λ (r : HostRing). FallsAt n r at) (sym (ring queue)) falls) h
+
+-- What a queue's change keeps
+
+pub change_twice : {A : Type 0} (k : ℕ) (f g : A → A) (xs : List A) → change k f (change k g xs) ≡ change k (λ x. f (g x)) xs
+change_twice k f g [] = refl
+change_twice zero f g (x ∷ xs) = refl
+change_twice (suc k) f g (x ∷ xs) = ap (λ ys. x ∷ ys) (change_twice k f g xs)
+
+pub longer : {A : Type 0} (xs : List A) (x : A) → length (xs ++ x ∷ []) ≡ suc (length xs)
+longer [] x = refl
+longer (y ∷ xs) x = ap suc (longer xs x)
+
+pub shorter : {A : Type 0} (xs : List A) → length (drop 1 xs) ≤ length xs
+shorter [] = omega arith
+shorter (x ∷ xs) = omega arith
+
+-- one entry more, where the ring has room
+pub at_posted : (n : ℕ) (queue : HostQueue) (at : DeviceQueue) → IsInRing n queue.ring → is_full n queue.ring.known_head queue.ring.tail ≡ false → FallsAt n queue.ring at
+    → Falls n (next_slot n queue.ring.tail) (distance n queue.ring.known_head (next_slot n queue.ring.tail)) at.answers (suc (length at.unfetched))
+at_posted n queue at ring room h =
+    let below = distance_below n queue.ring.known_head queue.ring.tail ring.known_head ring.tail in
+    let less : distance n queue.ring.known_head queue.ring.tail < n - 1 = near (distance n queue.ring.known_head queue.ring.tail) (n - 1) (omega (arith, below)) (eqb-false (distance n queue.ring.known_head queue.ring.tail) (n - 1) room) in
+    let grows : distance n queue.ring.known_head (next_slot n queue.ring.tail) ≡ suc (distance n queue.ring.known_head queue.ring.tail) =
+    distance_grows n queue.ring.known_head queue.ring.tail ring.known_head ring.tail (λ e. absurd (omega (arith, e, less))) in
+    subst (λ (k : ℕ). Falls n (next_slot n queue.ring.tail) k at.answers (suc (length at.unfetched))) (sym grows)
+    (falls_posted n queue.ring.tail (distance n queue.ring.known_head queue.ring.tail) at.answers (length at.unfetched) ring.tail less h)
+  where
+    near : (d m : ℕ) → d ≤ m → (d ≡ m → ⊥) → d < m
+    near d m le far = omega (arith, le, far)
+
+pub all_posted : (n q : ℕ) (hs : List HostQueue) (qs : List DeviceQueue) (more : DeviceQueue → DeviceQueue) → ((at : DeviceQueue) → (more at).answers ≡ at.answers) → ((at : DeviceQueue) → length (more at).unfetched ≡ suc (length at.unfetched))
+    → ((queue : HostQueue) → slice_get hs q ≡ Some queue → IsInRing n queue.ring) → ((queue : HostQueue) → slice_get hs q ≡ Some queue → is_full n queue.ring.known_head queue.ring.tail ≡ false)
+    → AllFall n hs qs → AllFall n (change q (λ x. record x { ring = next_tail n x.ring }) hs) (change q more qs)
+all_posted n q hs qs more same one rings room h =
+    fall_both n q (λ x. record x { ring = next_tail n x.ring }) more hs qs
+    (λ queue at eh eq falls.
+    subst (λ (ans : List Answer). Falls n (next_slot n queue.ring.tail) (distance n queue.ring.known_head (next_slot n queue.ring.tail)) ans (length (more at).unfetched)) (sym (same at))
+    (subst (Falls n (next_slot n queue.ring.tail) (distance n queue.ring.known_head (next_slot n queue.ring.tail)) at.answers) (sym (one at)) (at_posted n queue at (rings queue eh) (room queue eh) falls))) h
+
+-- the queues of an opening
+pub opened_lists : (k q : ℕ) (at : DeviceQueue) → slice_get (replicate k opened) q ≡ Some at → at ≡ opened
+opened_lists zero q at e = absurd cc
+opened_lists (suc k) zero at e = cc
+opened_lists (suc k) (suc q) at e = opened_lists k q at e
+
+-- Every event keeps the heads that answers tell in order, so a reap answers the oldest answer.
+
+abbrev pub Fall : State → Type 0
+Fall s = AllFall s.entries s.host.queues s.device.queues
+
+-- Reaping
+
+fall_consumed : (n q : ℕ) (hs : List HostQueue) (qs : List DeviceQueue) → AllFall n hs qs → AllFall n (change q (λ x. record x { ring = next_head n x.ring }) hs) (change q (λ at. record at { answers = drop 1 at.answers }) qs)
+fall_consumed n q hs qs h =
+    fall_both n q (λ x. record x { ring = next_head n x.ring }) (λ at. record at { answers = drop 1 at.answers }) hs qs
+    (λ queue at eh eq falls. fewer queue.ring.tail (distance n queue.ring.known_head queue.ring.tail) at.answers (length at.unfetched) falls) h
+  where
+    fewer : (tail top : ℕ) (ans : List Answer) (u : ℕ) → Falls n tail top ans u → Falls n tail top (drop 1 ans) u
+    fewer tail top [] u h = h
+    fewer tail top (x ∷ ans) u h = falls_more n tail (distance n x.sq_head tail) top ans u h.1 h.2
+
+-- the first answer is taken, and the host knows its head
+fall_heard : (n q : ℕ) (an : Answer) (hs : List HostQueue) (qs : List DeviceQueue) → option_and_then (λ queue. first_answer queue.answers) (slice_get qs q) ≡ Some an → AllFall n hs qs
+    → AllFall n (change q (λ x. record x { ring = knowing an.sq_head x.ring }) (change q (λ x. record x { ring = next_head n x.ring }) hs)) (change q (λ at. record at { answers = drop 1 at.answers }) qs)
+fall_heard n q an hs qs first h =
+    subst (λ (xs : List HostQueue). AllFall n xs (change q (λ at. record at { answers = drop 1 at.answers }) qs)) (sym (change_twice q (λ x. record x { ring = knowing an.sq_head x.ring }) (λ x. record x { ring = next_head n x.ring }) hs))
+    (fall_both n q (λ x. record x { ring = knowing an.sq_head (next_head n x.ring) }) (λ at. record at { answers = drop 1 at.answers }) hs qs
+    (λ queue at eh eq falls. behind queue.ring.tail (distance n queue.ring.known_head queue.ring.tail) at.answers (length at.unfetched)
+    (sym (ap (option_and_then (λ (queue : DeviceQueue). first_answer queue.answers)) eq) ∙ first) falls) h)
+  where
+    behind : (tail top : ℕ) (ans : List Answer) (u : ℕ) → first_answer ans ≡ Some an → Falls n tail top ans u → Falls n tail (distance n an.sq_head tail) (drop 1 ans) u
+    behind tail top [] u e h = absurd cc
+    behind tail top (x ∷ ans) u e h = let same : x ≡ an = cc in subst (λ (y : Answer). Falls n tail (distance n y.sq_head tail) ans u) same h.2
+
+-- The controller
+
+fall_off : (n k : ℕ) (hs : List HostQueue) (qs : List DeviceQueue) → AllFall n hs qs → AllFall n hs (change k (λ at. record at { unfetched = drop 1 at.unfetched; rung = at.rung - 1 }) qs)
+fall_off n k hs qs h =
+    fall_device n k (λ at. record at { unfetched = drop 1 at.unfetched; rung = at.rung - 1 }) hs qs
+    (λ queue at eh eq falls. falls_less n queue.ring.tail (distance n queue.ring.known_head queue.ring.tail) at.answers (length at.unfetched) (length (drop 1 at.unfetched)) (shorter at.unfetched) falls) h
+
+fall_answered : (q cid : ℕ) (st : Status) (dw0 : ℕ) (s : State) → ((queue : HostQueue) → host_queue s q ≡ Some queue → (queue.ring.known_head < s.entries) × (queue.ring.tail < s.entries)) → Fall s
+    → AllFall s.entries s.host.queues (answers q cid st dw0 s).device.queues
+fall_answered q cid st dw0 s rings h =
+    fall_device s.entries q (λ at. record at { answers = at.answers ++ answer_of q cid st dw0 s ∷ [] }) s.host.queues s.device.queues
+    (λ queue at eh eq falls.
+    let r = rings queue eh in
+    let few = falls_to s.entries queue.ring.tail (distance s.entries queue.ring.known_head queue.ring.tail) at.answers (length at.unfetched) falls in
+    let near = distance_below s.entries queue.ring.known_head queue.ring.tail r.0 r.1 in
+    let slot : fetch_slot s q ≡ moved s.entries queue.ring.tail (s.entries - length at.unfetched) =
+    ap (λ (o : Option HostQueue). option_map_or (λ queue. option_map_or (λ at. moved s.entries queue.ring.tail (s.entries - length at.unfetched)) (device_queue s q) 0) o 0) eh
+    ∙ ap (λ (o : Option DeviceQueue). option_map_or (λ at. moved s.entries queue.ring.tail (s.entries - length at.unfetched)) o 0) eq in
+    let head = head_at s.entries queue.ring.tail (length at.unfetched) r.1 (omega (arith, few, near)) in
+    falls_answered s.entries queue.ring.tail (distance s.entries queue.ring.known_head queue.ring.tail) at.answers (length at.unfetched) (answer_of q cid st dw0 s)
+    (subst (λ (k : ℕ). k < s.entries) (sym slot) head.0) (ap (λ (k : ℕ). distance s.entries k queue.ring.tail) slot ∙ head.1) falls) h
+
+fall_fetch : (q : ℕ) (s : State) → Stood s → Fall s → AllFall s.entries s.host.queues (a.after_fetch q s).device.queues
+fall_fetch q s stood h =
+    fetch_by (λ (t : State). AllFall s.entries s.host.queues t.device.queues) s q h
+    (λ x r con. absurd (true≢false (sym con ∙ ap (λ (o : Option SubEntry). option_map_or (λ e. is_some (job_at s q e.cid)) o false) r ∙ no_conflict s stood q x (in_hand s q x r))))
+    (λ x r con z. managed_by (λ (t : State). AllFall s.entries s.host.queues t.device.queues) x (a.taken_off 0 s)
+    (record {
+      refuses = λ st bad. off 0;
+      aborts = λ is8 walks. off 0;
+      is_late = λ is8. off 0;
+      stops = λ is0 q0 runs. acts x (λ at. record at { state = Stopping }) (λ queue at falls. falls);
+      drops = λ is4 q0 there gone. acts x a.dropped emptied;
+      makes_completion = λ is5 q0 none. acts x a.completion_made emptied;
+      makes_submission = λ is1 q0 gone there. acts x a.submission_made (λ queue at falls. omega arith);
+    }))
+    (λ x r con other. off q)
+  where
+    off : (k : ℕ) → AllFall s.entries s.host.queues (change k (λ at. record at { unfetched = drop 1 at.unfetched; rung = at.rung - 1 }) s.device.queues)
+    off k = fall_off s.entries k s.host.queues s.device.queues h
+
+    acts : (x : SubEntry) (f : DeviceQueue → DeviceQueue) → ((queue : HostQueue) (at : DeviceQueue) → FallsAt s.entries queue.ring at → FallsAt s.entries queue.ring (f at))
+        → AllFall s.entries s.host.queues (change (named_queue x) f (change 0 (λ at. record at { unfetched = drop 1 at.unfetched; rung = at.rung - 1 }) s.device.queues))
+    acts x f each = fall_device s.entries (named_queue x) f s.host.queues (change 0 (λ at. record at { unfetched = drop 1 at.unfetched; rung = at.rung - 1 }) s.device.queues) (λ queue at eh eq falls. each queue at falls) (off 0)
+
+    -- without its answers
+    emptied : (queue : HostQueue) (at : DeviceQueue) → FallsAt s.entries queue.ring at → length at.unfetched ≤ distance s.entries queue.ring.known_head queue.ring.tail
+    emptied queue at falls = falls_to s.entries queue.ring.tail (distance s.entries queue.ring.known_head queue.ring.tail) at.answers (length at.unfetched) falls
+
+fall_complete : (q cid : ℕ) (s : State) → Grounds s → Fall s → AllFall s.entries s.host.queues (a.after_complete q cid s).device.queues
+fall_complete q cid s g h =
+    complete_by (λ (t : State). AllFall s.entries s.host.queues t.device.queues) s q cid h
+    (λ j at c. fall_answered q cid (a.final_status s j) j.dw0 (a.on_device_queue (named_queue j.entry) cleared (finished q cid j s)) rings
+    (fall_device s.entries (named_queue j.entry) cleared s.host.queues s.device.queues
+    (λ queue at eh eq falls. falls_less s.entries queue.ring.tail (distance s.entries queue.ring.known_head queue.ring.tail) at.answers (length at.unfetched) 0 (omega arith) falls) h))
+    (λ j at c. fall_answered q cid (a.final_status s j) j.dw0 (finished q cid j s) rings h)
+  where
+    rings : (queue : HostQueue) → host_queue s q ≡ Some queue → (queue.ring.known_head < s.entries) × (queue.ring.tail < s.entries)
+    rings queue e = let r = ring_in s g q queue e in (r.known_head, r.tail)
+
+-- A reset leaves no answer and no entry
+
+reset_falls : (qs : List DeviceQueue) (q : ℕ) (at : DeviceQueue) (n : ℕ) (ring : HostRing) → slice_get (a.reset_device_queues qs) q ≡ Some at → FallsAt n ring at
+reset_falls qs q at n ring e = rw (answers, (sym (ap (λ (o : Option DeviceQueue). option_map_or (λ at. at.unfetched) o []) e) ∙ no_unfetched qs q)) (omega arith)
+  where
+    answers : at.answers ≡ []
+    answers = sym (ap (λ (o : Option DeviceQueue). option_map_or (λ at. at.answers) o []) e) ∙ no_answers_at qs q
+
+-- Every event
+
+fall_host_event : (s : State) (e : Event) (reply : Reply) → Accepts s e reply → IsController e ≡ false → s.trusted ≡ true → Grounds s → Fall s → Fall (a.after s e reply)
+fall_host_event s e reply ok c t g h =
+    host_moves (λ (e : Event) (reply : Reply) (t : State). Fall t) s e reply ok c
+    (record {
+      reserves = λ q request d none is. h;
+      submits = λ d entry r none built its live. posts d.q entry s.host.queues (λ queue e. e) (unrefused s (events.Submit d) none).1.1.1.0 h;
+      cancels = λ d r its. h;
+      rings = λ q none. fall_device s.entries q (λ at. record at { rung = length at.unfetched }) s.host.queues s.device.queues (λ queue at eh eq falls. falls) h;
+      rests = λ q is. h;
+      rejects = λ q why is. fall_consumed s.entries q s.host.queues s.device.queues h;
+      tells = λ q cid st what e r request told heard w. hears q cid st e r heard;
+      hears = λ q cid st what e r adm told heard w quiet unmade. hears q cid st e r heard;
+      notes = λ q cid st what e r k told heard w. ended q cid st e r k (λ queue. record queue { state = if is_success st then Deleting true else Live }) heard (λ x. refl);
+      frees = λ q cid st what e r k queue told heard w at alone good. ended q cid st e r k a.gone heard (λ x. refl);
+      makes_cq = λ q cid st what e r k n base told heard w good. ended q cid st e r k a.half_made heard (λ x. refl);
+      unmakes_cq = λ q cid st what e r k n base queue told heard w at bad. ended q cid st e r k a.gone heard (λ x. refl);
+      makes_sq = λ q cid st what e r k n base told heard w good. ended q cid st e r k a.live heard (λ x. refl);
+      unmakes_sq = λ q cid st what e r k n base queue told heard w at bad. ended q cid st e r k a.unmade_sq heard (λ x. refl);
+      collects = λ q cid r f at held is. h;
+      releases = λ f r its. h;
+      aborts = λ q cid id none new. posts 0 (admin_entry (Abort q cid) id) s.host.queues (λ queue e. e) (unrefused s (events.Abort q cid) none).1.1.1.1.0 h;
+      asks = λ q id queue none new live.
+          fall_host s.entries q a.deleting (sends (DeleteSq q) id s).host.queues (sends (DeleteSq q) id s).device.queues (λ x. refl)
+          (posts 0 (admin_entry (DeleteSq q) id) s.host.queues (λ queue e. e) (unrefused s (events.DeleteSq q) none).1.1.1.0 h);
+      drops = λ q id none new. posts 0 (admin_entry (DeleteCq q) id) s.host.queues (λ queue e. e) (unrefused s (events.DeleteCq q) none).1.1.1.0 h;
+      creates_cqs = λ q id first queue none new granted.
+          let with_half = a.making_cq (half_from Completion first s) in
+          posts 0 (admin_entry (creates_cq q first s) id) (change q with_half s.host.queues) (unchanged q with_half granted.other) (unrefused s (events.CreateCq q) none).1.1.1.1.1.0
+          (fall_host_by s.entries q with_half s.host.queues s.device.queues (λ x at ex ea falls. fresh x at (served q queue x granted.there ex (ap in_service granted.state)) q ex ea) h);
+      creates_sqs = λ q id first queue none new granted.
+          let with_half = a.making_sq (half_from Submission first s) in
+          posts 0 (admin_entry (creates_sq q first s) id) (change q with_half s.host.queues) (unchanged q with_half granted.other) (unrefused s (events.CreateSq q) none).1.1.1.1.0
+          (fall_host_by s.entries q with_half s.host.queues s.device.queues (λ x at ex ea falls. fresh x at (served q queue x granted.there ex (ap in_service granted.state)) q ex ea) h);
+      retires = λ q queue none at deleted. fall_host s.entries q a.retired s.host.queues s.device.queues (λ x. refl) h;
+      forges = λ q slot bytes queue none at. h;
+      resets = λ q queue at eh eq. reset_falls s.device.queues q at s.entries queue.ring eq;
+    })
+  where
+    -- an entry more, where the ring has room
+    posts : (q : ℕ) (entry : SubEntry) (hs : List HostQueue) → ((queue : HostQueue) → slice_get hs q ≡ Some queue → host_queue s q ≡ Some queue) → queue_full s q ≡ false → AllFall s.entries hs s.device.queues
+        → AllFall s.entries (change q (λ x. record x { ring = next_tail s.entries x.ring }) hs) (change q (λ at. record at { unfetched = at.unfetched ++ entry ∷ [] }) s.device.queues)
+    posts q entry hs same room all =
+        all_posted s.entries q hs s.device.queues (λ at. record at { unfetched = at.unfetched ++ entry ∷ [] }) (λ at. refl) (λ at. longer at.unfetched entry)
+        (λ queue e. ring_in s g q queue (same queue e))
+        (λ queue e. sym (ap (λ (o : Option HostQueue). option_map_or (λ queue. is_full s.entries queue.ring.known_head queue.ring.tail) o true) (same queue e)) ∙ room) all
+
+    hears : (q cid : ℕ) (st : Status) (e : ComEntry) (r : Record) → IsHeard s q cid st e r → AllFall s.entries (a.heard q e s).host.queues (a.heard q e s).device.queues
+    hears q cid st e r heard =
+        let x = answer_heard s q cid st e r t heard in
+        subst (λ (y : ComEntry). AllFall s.entries (a.heard q y s).host.queues (a.heard q y s).device.queues) (sym x.is) (fall_heard s.entries q x.answer s.host.queues s.device.queues x.first h)
+
+    ended : (q cid : ℕ) (st : Status) (e : ComEntry) (r : Record) (k : ℕ) (f : HostQueue → HostQueue) → IsHeard s q cid st e r → ((x : HostQueue) → (f x).ring ≡ x.ring)
+        → AllFall s.entries (change k f (a.heard q e s).host.queues) (a.heard q e s).device.queues
+    ended q cid st e r k f heard same = fall_host s.entries k f (a.heard q e s).host.queues (a.heard q e s).device.queues same (hears q cid st e r heard)
+
+    -- queue 0 is none that gets a half
+    unchanged : (q : ℕ) (f : HostQueue → HostQueue) → (q == 0) ≡ false → (queue : HostQueue) → slice_get (change q f s.host.queues) 0 ≡ Some queue → host_queue s 0 ≡ Some queue
+    unchanged q f other queue e = sym (get_other q f s.host.queues 0 (eqb-false q 0 other)) ∙ e
+
+    served : (q : ℕ) (queue x : HostQueue) → host_queue s q ≡ Some queue → host_queue s q ≡ Some x → in_service queue.state ≡ false → in_service x.state ≡ false
+    served q queue x there ex out = let same : queue ≡ x = cc (there, ex) in subst (λ (y : HostQueue). in_service y.state ≡ false) same out
+
+    -- nothing stands in the rings of a queue out of service
+    fresh : (x : HostQueue) (at : DeviceQueue) → in_service x.state ≡ false → (q : ℕ) → host_queue s q ≡ Some x → slice_get s.device.queues q ≡ Some at → FallsAt s.entries fresh_host_ring at
+    fresh x at out q ex ea =
+        let pair = pair_at s g q x ex in
+        let same : pair.0 ≡ at = cc (pair.1, ea) in
+        subst (FallsAt s.entries fresh_host_ring) same
+        (rw (pair.2.answers out, pair.2.unfetched out) (omega arith))
+
+fall_event : (s : State) (e : Event) (reply : Reply) → Accepts s e reply → s.trusted ≡ true → Stood s → Fall s → Fall (a.after s e reply)
+fall_event s (events.Fetch q) (events.Fetched c touched) ok t stood h =
+    subst (λ (part : HostPart). AllFall part.entries part.host.queues (a.after s (events.Fetch q) (events.Fetched c touched)).device.queues) (sym (part_controller s (events.Fetch q) (events.Fetched c touched) refl)) (fall_fetch q s stood h)
+fall_event s (events.Walk q cid) (events.Walked o touched) ok t stood h =
+    subst (λ (part : HostPart). AllFall part.entries part.host.queues (a.after s (events.Walk q cid) (events.Walked o touched)).device.queues) (sym (part_controller s (events.Walk q cid) (events.Walked o touched) refl))
+    (subst (AllFall s.entries s.host.queues) (sym (queues_walk s q cid)) h)
+fall_event s (events.Complete q cid) (events.Completed touched) ok t stood h =
+    subst (λ (part : HostPart). AllFall part.entries part.host.queues (a.after s (events.Complete q cid) (events.Completed touched)).device.queues) (sym (part_controller s (events.Complete q cid) (events.Completed touched) refl))
+    (fall_complete q cid s stood.grounds h)
+fall_event s (events.Fetch q) reply ok t stood h = absurd ok.1
+fall_event s (events.Walk q cid) reply ok t stood h = absurd ok.1
+fall_event s (events.Complete q cid) reply ok t stood h = absurd ok.1
+fall_event s e reply ok t stood h = fall_host_event s e reply ok refl t stood.grounds h
+
+-- In each trusted run
+
+pub record Fronted (s : State) : Type 0 where
+  pub stood : Stood s
+  pub fall : Fall s
+
+pub fronted_on : (s : State) (e : Event) (reply : Reply) → IsProper e → Accepts s e reply → s.trusted ≡ true → Fronted s → Fronted (a.after s e reply)
+fronted_on s e reply proper ok t f = record { stood = stood_on s e reply proper ok t f.stood; fall = fall_event s e reply ok t f.stood f.fall }
+
+pub fronted_at_opening : (pages queues n s : ℕ) (image : List ℕ) → Opens pages queues n s → Fronted (opening pages queues n s image)
+fronted_at_opening pages queues n s image opens = record {
+  stood = stood_at_opening pages queues n s image opens;
+  fall = λ q queue at eh eq. subst (FallsAt n queue.ring) (sym (opened_lists (queues + 1) q at eq)) (omega arith);
+}
+
+pub runs_are_fronted : (image : List ℕ) (made : List Made) (s : State) → TrustedRun image made s → Fronted s
+runs_are_fronted image made s run = along_proper Fronted fronted_on fronted_at_opening image made s run
+
+pub runs_have_no_conflicts : nothing_conflicts
+runs_have_no_conflicts image made s q run = elim (option_is (next_rung s q)) [
+  | inl n ↦ rw n refl
+  | inr (e, n) ↦ rw n (no_conflict s (runs_are_fronted image made s run).stood q e (in_hand s q e n))
+]
+
+-- a head between the known head and the tail is in range
+near_tail : (n known head tail : ℕ) → known < n → head < n → tail < n → distance n head tail ≤ distance n known tail → distance n known head ≤ distance n known tail
+near_tail n known head tail k h t le = let h0 = distance_is n head tail in let h1 = distance_is n known tail in let h2 = distance_is n known head in grind arith
+
+in_range : (n known head tail : ℕ) → head < n → distance n known head ≤ distance n known tail → is_in_range n known tail head ≡ true
+in_range n known head tail h le = both (nat_lt head n) (nat_le (distance n known head) (distance n known tail)) (below head n h) (grind (arith, nat_tests, le))
+  where
+    below : (a b : ℕ) → a < b → nat_lt a b ≡ true
+    below a b h = grind (arith, nat_tests, h)
+
+    both : (b c : Bool) → b ≡ true → c ≡ true → (b && c) ≡ true
+    both b c e f = grind arith
+
+-- the front answer is that of a submitted command
+answered_record : (s : State) → Stood s → (q : ℕ) (at : DeviceQueue) (an : Answer) (rest : List Answer) → device_queue s q ≡ Some at → at.answers ≡ an ∷ rest
+    → (r : Record) × (record_at s.host q an.cid ≡ Some r) × (is_submitted r.phase ≡ true)
+answered_record s stood q at an rest e is =
+    let w : ℕ → ℕ = λ c. one (c == an.cid) in
+    let list : answers_at s.device.queues q ≡ an ∷ rest = ap (λ (o : Option DeviceQueue). option_map_or (λ at. at.answers) o []) e ∙ is in
+    let counts : 1 ≤ total (λ (x : Answer). w x.cid) (answers_at s.device.queues q) = subst (λ (xs : List Answer). 1 ≤ total (λ (x : Answer). w x.cid) xs) (sym list) (omega (arith, ap one (eq-eqb an.cid an.cid refl))) in
+    sent_found q an.cid s.host.records (omega (arith, counts, stood.places q w)) (stood.grounds.stands.0.once q an.cid)
+
+pub front_reaped : (s : State) → Fronted s → s.trusted ≡ true → (q : ℕ) → is_none (host_queue s q) ≡ false → reaped s q ≡ front q (answers_of s q)
+front_reaped s f t q there =
+    ap (λ (o : Option ComEntry). option_map_or (reaped_entry s q) o Empty) (seen_trusted s q t) ∙ elim (option_is (device_queue s q)) [
+      | inl eq ↦ rw eq refl
+      | inr (at, eq) ↦ rw eq (first at eq at.answers refl)
+    ]
+  where
+    fits : (queue : HostQueue) (at : DeviceQueue) (an : Answer) (rest : List Answer) → host_queue s q ≡ Some queue → device_queue s q ≡ Some at → at.answers ≡ an ∷ rest → fits_ring s q (entry_of q an) ≡ true
+    fits queue at an rest eh eq is =
+        let falls = subst (λ (xs : List Answer). Falls s.entries queue.ring.tail (distance s.entries queue.ring.known_head queue.ring.tail) xs (length at.unfetched)) is (f.fall q queue at eh eq) in
+        let r = ring_in s f.stood.grounds q queue eh in
+        ap (λ (o : Option HostQueue). option_map_or (λ queue. is_in_range s.entries queue.ring.known_head queue.ring.tail an.sq_head) o false) eh
+        ∙ in_range s.entries queue.ring.known_head an.sq_head queue.ring.tail falls.0 (near_tail s.entries queue.ring.known_head an.sq_head queue.ring.tail r.known_head falls.0 r.tail falls.1)
+
+    fits_there : (o : Option HostQueue) → host_queue s q ≡ o → is_none o ≡ false → (at : DeviceQueue) (an : Answer) (rest : List Answer) → device_queue s q ≡ Some at → at.answers ≡ an ∷ rest → fits_ring s q (entry_of q an) ≡ true
+    fits_there None eh some at an rest eq is = absurd (true≢false some)
+    fits_there (Some queue) eh some at an rest eq is = fits queue at an rest eh eq is
+
+    as_work : (an : Answer) (r : Record) (w : Work) → r.work ≡ w → r.q ≡ q → OwnsFit r.q r.work (pages_of r) → reaped_as q (entry_of q an) w ≡ (if q == 0 then AdminDone an.cid an.status an.dw0 else Done an.cid an.status)
+    as_work an r (Io request) is rq fit =
+        let fit' : OwnsFit r.q (Io request) (pages_of r) = subst (λ (x : Work). OwnsFit r.q x (pages_of r)) is fit in
+        sym (ap (λ (b : Bool). if b then AdminDone an.cid an.status an.dw0 else Done an.cid an.status) (ap (λ (k : ℕ). k == 0) (sym rq) ∙ fit'))
+    as_work an r (Management adm) is rq fit =
+        let fit' : OwnsFit r.q (Management adm) (pages_of r) = subst (λ (x : Work). OwnsFit r.q x (pages_of r)) is fit in
+        sym (ap (λ (b : Bool). if b then AdminDone an.cid an.status an.dw0 else Done an.cid an.status) (eq-eqb q 0 (sym rq ∙ fit'.0)))
+
+    submitted : (an : Answer) (r : Record) → record_at s.host q an.cid ≡ Some r → is_submitted r.phase ≡ true → submitted_at s q an.cid ≡ Some r
+    submitted an r e sub = ap (λ (o : Option Record). option_map_or (λ r. if is_submitted r.phase then Some r else None) o None) e ∙ ap (λ (b : Bool). if b then Some r else None) sub
+
+    entry : (at : DeviceQueue) (an : Answer) (rest : List Answer) → device_queue s q ≡ Some at → at.answers ≡ an ∷ rest
+        → reaped_entry s q (entry_of q an) ≡ (if q == 0 then AdminDone an.cid an.status an.dw0 else Done an.cid an.status)
+    entry at an rest eq is =
+        let r = answered_record s f.stood q at an rest eq is in
+        let fit = all_at_found (λ r. OwnsFit r.q r.work (pages_of r)) (is_at q an.cid) s.host.records r.0 r.1 f.stood.grounds.stands.0.admins in
+        ap (λ (b : Bool). if not b then Rejected WrongQueue else if not (fits_ring s q (entry_of q an)) then Rejected BadHead else option_map_or (λ r. reaped_as q (entry_of q an) r.work) (submitted_at s q an.cid) (Rejected UnknownId)) (eq-eqb q q refl)
+        ∙ ap (λ (b : Bool). if not b then Rejected BadHead else option_map_or (λ r. reaped_as q (entry_of q an) r.work) (submitted_at s q an.cid) (Rejected UnknownId)) (fits_there (host_queue s q) refl there at an rest eq is)
+        ∙ ap (λ (o : Option Record). option_map_or (λ r. reaped_as q (entry_of q an) r.work) o (Rejected UnknownId)) (submitted an r.0 r.1 r.2)
+        ∙ as_work an r.0 r.0.work refl (ids_of s q an.cid r.0 r.1).0 fit
+
+    first : (at : DeviceQueue) → device_queue s q ≡ Some at → (ans : List Answer) → at.answers ≡ ans → option_map_or (reaped_entry s q) (option_map (entry_of q) (first_answer ans)) Empty ≡ front q ans
+    first at eq [] is = refl
+    first at eq (an ∷ rest) is = entry at an rest eq is
+
+pub reaps_answer : reaps_answer_the_front
+reaps_answer image made s new q what run step =
+    let ok = permitted _ s.trusted true (trusted_end image made s run) step.1 in
+    let there = queue_known is_reaped s q (unrefused s (events.Reap q) ok.0).0 in
+    ok.1 ∙ front_reaped s (runs_are_fronted image made s run) (trusted_end image made s run) q there
+
+-- A command that has ended is not submitted or held again before it is submitted anew.
+
+-- what is no phase of a command before it is submitted, or after it was collected, and is one while it is submitted
+pub record IsLater (test : Phase → Bool) : Type 0 where
+  pub drafted : test Drafted ≡ false
+  pub submitted : test Submitted ≡ true
+  pub collected : test Collected ≡ false
+
+-- no record of a command is in such a phase
+abbrev pub NotIn : (Phase → Bool) → ℕ → ℕ → Record → Type 0
+NotIn test q cid r = is_at q cid r ≡ true → test r.phase ≡ false
+
+pub not_with : (test : Phase → Bool) (q cid : ℕ) (f : Record → Record) → ((r : Record) → test (f r).phase ≡ false) → (rs : List Record) → AllByRecursion (NotIn test q cid) (with_record q cid f rs)
+not_with test q cid f none [] = tt
+not_with test q cid f none (r ∷ rs) = (one (is_at q cid r) refl, not_with test q cid f none rs)
+  where
+    one : (b : Bool) → is_at q cid r ≡ b → NotIn test q cid (if b then f r else r)
+    one true is at = none r
+    one false is at = absurd (true≢false (sym at ∙ is))
+
+submit_by : (s : State) (d : DraftContents) (reply : Reply) → Accepts s (events.Submit d) reply → submits_by d.q d.cid (events.Submit d) reply ≡ true
+submit_by s d reply ok = grind arith
+
+pub submit_at : (s : State) (e : Event) (d : DraftContents) (reply : Reply) (q cid : ℕ) → Accepts s e reply → e ≡ events.Submit d → d.q ≡ q → d.cid ≡ cid → submits_by q cid e reply ≡ true
+submit_at s e d reply q cid ok is dq dc =
+    subst (λ (x : ℕ). submits_by x cid e reply ≡ true) dq
+    (subst (λ (x : ℕ). submits_by d.q x e reply ≡ true) dc
+    (subst (λ (x : Event). submits_by d.q d.cid x reply ≡ true) (sym is) (submit_by s d reply (subst (λ (x : Event). Accepts s x reply) is ok))))
+
+sent_in : (test : Phase → Bool) → IsLater test → (ph : Phase) → is_submitted ph ≡ true → test ph ≡ true
+sent_in test l Drafted e = absurd (true≢false (sym e))
+sent_in test l Submitted e = l.submitted
+sent_in test l Held e = absurd (true≢false (sym e))
+sent_in test l Collected e = absurd (true≢false (sym e))
+
+pub phases_turn : (test : Phase → Bool) → IsLater test → (q cid : ℕ) → (q == 0) ≡ false → (s : State) (e : Event) (reply : Reply) → Accepts s e reply → submits_by q cid e reply ≡ false
+    → RecordsMove (NotIn test q cid) (NotIn test q cid) s e
+phases_turn test l q cid other s e reply ok far = record {
+  stays = λ r within away p is. p is;
+  reserves = λ d is. l.drafted;
+  sends = λ adm id is. absurd (true≢false (sym (eq-eqb q 0 (sym (eqb-true 0 q (and_parts (0 == q) (id == cid) is).0))) ∙ other));
+  submits = λ d entry r e' built at of p is.
+      let mine = and_parts (r.q == q) (r.cid == cid) is in
+      let ids = ids_of s d.q d.cid r at in
+      absurd (true≢false (sym (submit_at s e d reply q cid ok e' (sym ids.0 ∙ eqb-true r.q q mine.0) (sym ids.1 ∙ eqb-true r.cid cid mine.1)) ∙ far));
+  reaps = λ k c st request r e' n status at w p is.
+      let sub = reaped_submitted s k c n in
+      absurd (true≢false (sym (sent_in test l r.phase (subst (λ (x : Record). is_submitted x.phase ≡ true) (some_is (sym sub.1 ∙ at)) sub.2)) ∙ p is));
+  loses = λ r within sub far p is. absurd (true≢false (sym (sent_in test l r.phase sub) ∙ p is));
+  collects = λ r p is. l.collected;
+}
+
+pub none_parts : (f : Made → Bool) (xs : List Made) (m : Made) → list_any f (xs ++ m ∷ []) ≡ false → (list_any f xs ≡ false) × (f m ≡ false)
+none_parts f [] m h = (refl, (grind arith))
+none_parts f (x ∷ xs) m h = go (f x) h (none_parts f xs m)
+  where
+    go : (b : Bool) → (b || list_any f (xs ++ m ∷ [])) ≡ false → (list_any f (xs ++ m ∷ []) ≡ false → (list_any f xs ≡ false) × (f m ≡ false)) → ((b || list_any f xs) ≡ false) × (f m ≡ false)
+    go true h ih = absurd (true≢false h)
+    go false h ih = ih h
+
+-- along a run that does not submit it
+pub record Past (test : Phase → Bool) (q cid : ℕ) (done : List Made) (s : State) : Type 0 where
+  pub stood : Stood s
+  pub records : list_any (submits q cid) done ≡ false → AllByRecursion (NotIn test q cid) s.host.records
+
+pub past_carried : (test : Phase → Bool) → IsLater test → (q cid : ℕ) → (q == 0) ≡ false → Carried (Past test q cid)
+past_carried test l q cid other = record {
+  refused = λ done s e why touched h. record { stood = h.stood; records = λ none. h.records (none_parts (submits q cid) done (made_of s e (events.Refused why touched)) none).0 };
+  taken = λ done s e reply proper ok t h. record {
+    stood = stood_on s e reply proper ok t h.stood;
+    records = λ none.
+        let parts = none_parts (submits q cid) done (made_of s e reply) none in
+        records_event (NotIn test q cid) (NotIn test q cid) s e reply (phases_turn test l q cid other s e reply ok parts.1) ok h.stood.grounds (h.records parts.0);
+  };
+}
+
+-- Between two reaps that answer a command, between two collects of it, and between two steps that end it while it is submitted, it was submitted anew.
+
+abbrev refusing : Reply → Bool
+refusing (events.Refused why touched) = true
+refusing reply = false
+
+-- A run at one of its steps
+
+pub record At (first : Made) (rest : List Made) (end : State) : Type 0 where
+  pub fronted : Fronted first.before
+  pub trusted : first.before.trusted ≡ true
+  pub mid : State
+  pub step : Step first.before first.event first.reply mid
+  pub unforged : Unforged mid rest
+  pub steps : Steps mid rest end
+  pub fronted_mid : Fronted mid
+
+pub at_step : (image : List ℕ) (earlier : List Made) (first : Made) (between later : List Made) (second : Made) (end : State) → TrustedRun image (earlier ++ first ∷ between ++ second ∷ later) end → At first (between ++ second ∷ later) end
+at_step image earlier first between later second end run =
+    let steps = subst (λ (ms : List Made). Steps (opening run.pages run.queues run.entries run.segment image) ms end) (append_assoc earlier (first ∷ between) (second ∷ later)) run.steps in
+    let two = cut earlier (first ∷ between ++ second ∷ later) (opening run.pages run.queues run.entries run.segment image) end steps in
+    let all = subst (λ (ms : List Made). Unforged (opening run.pages run.queues run.entries run.segment image) ms) (append_assoc earlier (first ∷ between) (second ∷ later))
+    (unforged_run image (earlier ++ first ∷ between ++ second ∷ later) end run) in
+    let now = unforged_back earlier (first ∷ between ++ second ∷ later) (opening run.pages run.queues run.entries run.segment image) two.0 two.1 all in
+    let next = unforged_next first (between ++ second ∷ later) two.0 two.2.1 two.2.2 now in
+    let front = unforged_front earlier (first ∷ between ++ second ∷ later) (opening run.pages run.queues run.entries run.segment image) all in
+    let before : TrustedRun image earlier two.0 = record { pages = run.pages; queues = run.queues; entries = run.entries; segment = run.segment; opens = run.opens; is_image = run.is_image; steps = two.1; unforged = ap not front.none } in
+    let is = two.2.0 in
+    record {
+      fronted = subst Fronted (sym is) (runs_are_fronted image earlier two.0 before);
+      trusted = ap (λ (s : State). s.trusted) is ∙ now.trusted;
+      mid = two.2.1;
+      step = subst (λ (s : State). Step s first.event first.reply two.2.1) (sym is) two.2.2;
+      unforged = next;
+      steps = two.2.3;
+      fronted_mid = each_proper_step Fronted fronted_on two.0 first.event first.reply two.2.1 two.2.2 now.trusted next.trusted (runs_are_fronted image earlier two.0 before);
+    }
+
+-- A command that is past a phase, and a second step that finds it in that phase
+
+pub past_before : (test : Phase → Bool) → IsLater test → (q cid : ℕ) → (q == 0) ≡ false → (between later : List Made) (second : Made) (mid end : State) → Steps mid (between ++ second ∷ later) end → Unforged mid (between ++ second ∷ later) → Stood mid
+    → AllByRecursion (NotIn test q cid) mid.host.records → Before (Past test q cid) between second
+past_before test l q cid other between later second mid end steps u stood all =
+    before_step (Past test q cid) (keeps (Past test q cid) (past_carried test l q cid other)) [] between later second mid end steps u (record { stood = stood; records = λ none. all })
+
+-- so it was submitted anew
+submitted_anew : (test : Phase → Bool) → IsLater test → (q cid : ℕ) → (q == 0) ≡ false → (first second : Made) (between later : List Made) (end : State) → (at : At first (between ++ second ∷ later) end)
+    → AllByRecursion (NotIn test q cid) at.mid.host.records → ((next : State) → Step second.before second.event second.reply next → second.before.trusted ≡ true → next.trusted ≡ true → (r : Record) × (record_at second.before.host q cid ≡ Some r) × (test r.phase ≡ true))
+    → list_any (submits q cid) between ≡ true
+submitted_anew test l q cid other first second between later end at all finds = elim (cases_Bool (list_any (submits q cid) between)) [
+  | inl e ↦ e
+  | inr e ↦
+      let b = past_before test l q cid other between later second at.mid end at.steps at.unforged at.fronted_mid.stood all in
+      let r = finds b.next b.step b.trusted b.trusted_next in
+      let none = all_at_found (NotIn test q cid) (is_at q cid) second.before.host.records r.0 r.1 (b.holds.records e) (find_sound (is_at q cid) second.before.host.records r.0 r.1) in
+      absurd (true≢false (sym r.2 ∙ none))
+]
+
+-- Reaping
+
+pub reap_leaves : (s : State) (q cid : ℕ) (st : Status) → Stood s → (q == 0) ≡ false → named (reaped s q) ≡ Some cid → AllByRecursion (NotIn is_submitted q cid) (a.after_reap q (Done cid st) s).host.records
+reap_leaves s q cid st stood other n = elim (option_is (record_at s.host q cid)) [
+  | inl at ↦ absurd (none_some (sym at ∙ (reaped_submitted s q cid n).1))
+  | inr (r, at) ↦ rw at (of_work r at r.work refl (all_at_found (λ r. OwnsFit r.q r.work (pages_of r)) (is_at q cid) s.host.records r at stood.grounds.stands.0.admins) (option_map_or (λ e. a.heard q e s) (seen_entry s q) s))
+]
+  where
+    of_work : (r : Record) → record_at s.host q cid ≡ Some r → (w : Work) → r.work ≡ w → OwnsFit r.q w (pages_of r) → (t : State) → AllByRecursion (NotIn is_submitted q cid) (a.after_work w q cid st t).host.records
+    of_work r at (Io request) is fit t = not_with is_submitted q cid (a.held st) (λ x. refl) t.host.records
+    of_work r at (Management adm) is fit t = absurd (true≢false (sym (zero (sym (ids_of s q cid r at).0 ∙ fit.0)) ∙ other))
+      where
+        zero : q ≡ 0 → (q == 0) ≡ true
+        zero e = eq-eqb q 0 e
+
+    none_some : {x : Record} → None ≡ Some x → ⊥
+    none_some e = cc
+
+not_refused : {A : Type 0} (why : Refusal) (touched : List ℕ) (reply : Reply) → events.Refused why touched ≡ reply → (refusing reply ≡ false) → A
+not_refused why touched reply e h = absurd (true≢false (ap refusing e ∙ h))
+
+reaps_leave : (first : Made) (mid : State) (q cid : ℕ) (st : Status) → Step first.before first.event first.reply mid → first.before.trusted ≡ true → mid.trusted ≡ true → Stood first.before → (q == 0) ≡ false
+    → first.event ≡ events.Reap q → first.reply ≡ events.Reaps (Done cid st) → AllByRecursion (NotIn is_submitted q cid) mid.host.records
+reaps_leave first mid q cid st step t t' stood other is_event is_reply =
+    trusted_step_by (λ (e : Event) (reply : Reply) (new : State). Stood first.before → e ≡ events.Reap q → reply ≡ events.Reaps (Done cid st) → AllByRecursion (NotIn is_submitted q cid) new.host.records) first.before
+    (λ e why touched stood is is'. not_refused why touched (events.Reaps (Done cid st)) is' refl)
+    (λ e reply proper ok stood is is'.
+    let s = first.before in
+    let ok' : Accepts s (events.Reap q) (events.Reaps (Done cid st)) = subst (Accepts s (events.Reap q)) is' (subst (λ (x : Event). Accepts s x reply) is ok) in
+    subst (λ (x : Event). AllByRecursion (NotIn is_submitted q cid) (a.after s x reply).host.records) (sym is)
+    (subst (λ (x : Reply). AllByRecursion (NotIn is_submitted q cid) (a.after s (events.Reap q) x).host.records) (sym is') (reap_leaves s q cid st stood other (ap named (sym ok'.1)))))
+    first.event first.reply mid step t t' stood is_event is_reply
+
+pub submitted_later : IsLater is_submitted
+submitted_later = record { drafted = refl; submitted = refl; collected = refl }
+
+pub runs_tell_once : ends_are_told_once
+runs_tell_once image earlier first between second later end q cid st st' run io is_event is_reply is_event' is_reply' =
+    let at = at_step image earlier first between later second end run in
+    submitted_anew is_submitted submitted_later q cid (positive q io) first second between later end at
+    (reaps_leave first at.mid q cid st at.step at.trusted at.unforged.trusted at.fronted.stood (positive q io) is_event is_reply)
+    (λ next step t u.
+    let step' = subst (λ (r : Reply). Step second.before (events.Reap q) r next) is_reply' (subst (λ (e : Event). Step second.before e second.reply next) is_event' step) in
+    let ok = permitted _ second.before.trusted true t step'.1 in
+    reaped_submitted second.before q cid (ap named (sym ok.1)))
+
+-- Ending: a reap, a retirement or a reset
+
+-- behind it the command is submitted no more
+retire_leaves : (s : State) (q cid : ℕ) → AllByRecursion (NotIn is_submitted q cid) (a.after_retire q s).host.records
+retire_leaves s q cid = subst (AllByRecursion (NotIn is_submitted q cid)) (sym (grind arith)) (lost s.host.records)
+  where
+    each : (r : Record) (b c : Bool) → (r.q == q) ≡ b → is_submitted r.phase ≡ c → NotIn is_submitted q cid (if b && c then record r { phase = Held; status = Some ABORTED_SQ_DELETION } else r)
+    each r true true its sub at = refl
+    each r true false its sub at = sub
+    each r false c its sub at = absurd (true≢false (sym (and_parts (r.q == q) (r.cid == cid) at).0 ∙ its))
+
+    lost : (rs : List Record) → AllByRecursion (NotIn is_submitted q cid) (map (a.lost q) rs)
+    lost [] = tt
+    lost (r ∷ rs) = (each r (r.q == q) (is_submitted r.phase) refl refl, lost rs)
+
+reset_leaves : (q cid : ℕ) (rs : List Record) → AllByRecursion (NotIn is_submitted q cid) (a.reset_records rs)
+reset_leaves q cid rs = all_reset (λ r. Unit {0}) (NotIn is_submitted q cid) (λ r io any at. lost_quiet r) rs (all_of (λ r. Unit {0}) rs (λ r within. tt))
+
+end_leaves : (s : State) (e : Event) (reply : Reply) (q cid : ℕ) → Accepts s e reply → Stood s → (q == 0) ≡ false → ends_by q cid s e reply ≡ true → AllByRecursion (NotIn is_submitted q cid) (a.after s e reply).host.records
+end_leaves s (events.Reap k) (events.Reaps (Done c st)) q cid ok stood other is =
+    let ids = and_parts (k == q) (c == cid) is in
+    subst (λ (n : ℕ). AllByRecursion (NotIn is_submitted n cid) (a.after_reap k (Done c st) s).host.records) (eqb-true k q ids.0)
+    (subst (λ (n : ℕ). AllByRecursion (NotIn is_submitted k n) (a.after_reap k (Done c st) s).host.records) (eqb-true c cid ids.1)
+    (reap_leaves s k c st stood (ap (λ (n : ℕ). n == 0) (eqb-true k q ids.0) ∙ other) (ap named (sym ok.1))))
+end_leaves s (events.Retire k) events.Accepted q cid ok stood other is =
+    subst (λ (n : ℕ). AllByRecursion (NotIn is_submitted n cid) (a.after_retire k s).host.records) (eqb-true k q (and_parts (k == q) (record_is (λ r. is_submitted r.phase) s q cid) is).0) (retire_leaves s k cid)
+end_leaves s events.Reset events.Accepted q cid ok stood other is = reset_leaves q cid s.host.records
+end_leaves s e reply q cid ok stood other is = absurd (true≢false (sym is))
+
+-- and before it, it was submitted
+end_finds : (s : State) (e : Event) (reply : Reply) (q cid : ℕ) → Accepts s e reply → ends_by q cid s e reply ≡ true → (r : Record) × (record_at s.host q cid ≡ Some r) × (is_submitted r.phase ≡ true)
+end_finds s (events.Reap k) (events.Reaps (Done c st)) q cid ok is =
+    let ids = and_parts (k == q) (c == cid) is in
+    let x = reaped_submitted s k c (ap named (sym ok.1)) in
+    (x.0, subst (λ (n : ℕ). record_at s.host n cid ≡ Some x.0) (eqb-true k q ids.0) (subst (λ (n : ℕ). record_at s.host k n ≡ Some x.0) (eqb-true c cid ids.1) x.1), x.2)
+end_finds s (events.Retire k) events.Accepted q cid ok is = found (λ r. is_submitted r.phase) s q cid (and_parts (k == q) (record_is (λ r. is_submitted r.phase) s q cid) is).1
+end_finds s events.Reset events.Accepted q cid ok is = found (λ r. is_submitted r.phase) s q cid is
+end_finds s e reply q cid ok is = absurd (true≢false (sym is))
+
+refusals_end_none : (s : State) (e : Event) (why : Refusal) (touched : List ℕ) (q cid : ℕ) → ends_by q cid s e (events.Refused why touched) ≡ false
+refusals_end_none s e why touched q cid = grind arith
+
+pub runs_end_once : submitted_commands_end_once
+runs_end_once image earlier first between second later end q cid run io ends ends' =
+    let at = at_step image earlier first between later second end run in
+    submitted_anew is_submitted submitted_later q cid (positive q io) first second between later end at
+    (trusted_step_by (λ (e : Event) (reply : Reply) (new : State). ends_by q cid first.before e reply ≡ true → AllByRecursion (NotIn is_submitted q cid) new.host.records) first.before
+    (λ e why touched is. absurd (true≢false (sym is ∙ refusals_end_none first.before e why touched q cid)))
+    (λ e reply proper ok is. end_leaves first.before e reply q cid ok at.fronted.stood (positive q io) is)
+    first.event first.reply at.mid at.step at.trusted at.unforged.trusted ends)
+    (λ next step t u.
+    trusted_step_by (λ (e : Event) (reply : Reply) (new : State). ends_by q cid second.before e reply ≡ true → (r : Record) × (record_at second.before.host q cid ≡ Some r) × (is_submitted r.phase ≡ true)) second.before
+    (λ e why touched is. absurd (true≢false (sym is ∙ refusals_end_none second.before e why touched q cid)))
+    (λ e reply proper ok is. end_finds second.before e reply q cid ok is)
+    second.event second.reply next step t u ends')
+
+-- Collecting
+
+abbrev lives : Phase → Bool
+lives ph = is_submitted ph || is_held ph
+
+lives_later : IsLater lives
+lives_later = record { drafted = refl; submitted = refl; collected = refl }
+
+collect_leaves : (s : State) (q cid : ℕ) (f : FinishedContents) → option_and_then (finished_from s) (record_at s.host q cid) ≡ Some f → AllByRecursion (NotIn lives q cid) (a.after_collect q cid s).host.records
+collect_leaves s q cid f h = go (record_at s.host q cid) h
+  where
+    none_some : {x : FinishedContents} → None ≡ Some x → ⊥
+    none_some e = cc
+
+    go : (o : Option Record) → option_and_then (finished_from s) o ≡ Some f → AllByRecursion (NotIn lives q cid) (option_map_or (λ r. a.on_records (with_record q cid a.collected) (a.on_memory (without_pages (pages_of r)) s)) o s).host.records
+    go None h = absurd (none_some h)
+    go (Some r) h = not_with lives q cid a.collected (λ x. refl) s.host.records
+
+collects_leave : (first : Made) (mid : State) (q cid : ℕ) (f : FinishedContents) → Step first.before first.event first.reply mid → first.before.trusted ≡ true → mid.trusted ≡ true
+    → first.event ≡ events.Collect q cid → first.reply ≡ events.Collects f → AllByRecursion (NotIn lives q cid) mid.host.records
+collects_leave first mid q cid f step t t' is_event is_reply =
+    trusted_step_by (λ (e : Event) (reply : Reply) (new : State). e ≡ events.Collect q cid → reply ≡ events.Collects f → AllByRecursion (NotIn lives q cid) new.host.records) first.before
+    (λ e why touched is is'. not_refused why touched (events.Collects f) is' refl)
+    (λ e reply proper ok is is'.
+    let s = first.before in
+    let ok' : Accepts s (events.Collect q cid) (events.Collects f) = subst (Accepts s (events.Collect q cid)) is' (subst (λ (x : Event). Accepts s x reply) is ok) in
+    subst (λ (x : Event). AllByRecursion (NotIn lives q cid) (a.after s x reply).host.records) (sym is)
+    (subst (λ (x : Reply). AllByRecursion (NotIn lives q cid) (a.after s (events.Collect q cid) x).host.records) (sym is') (collect_leaves s q cid f ok'.1)))
+    first.event first.reply mid step t t' is_event is_reply
+
+-- what a collect finds
+collect_finds : (s next : State) (q cid : ℕ) (f : FinishedContents) → Step s (events.Collect q cid) (events.Collects f) next → s.trusted ≡ true → (r : Record) × (record_at s.host q cid ≡ Some r) × (lives r.phase ≡ true)
+collect_finds s next q cid f step t =
+    let ok = permitted _ s.trusted true t step.1 in
+    found (λ r. is_submitted r.phase || is_held r.phase) s q cid
+    (not-false _ (first_fails (not (record_is (λ r. is_submitted r.phase || is_held r.phase) s q cid)) refusal.Stranger ((record_is (λ r. is_submitted r.phase) s q cid, refusal.NotYet) ∷ []) ok.0))
+
+-- a command that is collected is of an I/O queue
+collect_io : (s next : State) (q cid : ℕ) (f : FinishedContents) → Stood s → Step s (events.Collect q cid) (events.Collects f) next → s.trusted ≡ true → (q == 0) ≡ false
+collect_io s next q cid f stood step t =
+    let ok = permitted _ s.trusted true t step.1 in
+    let r = collect_finds s next q cid f step t in
+    of_work r.0 r.1 r.0.work refl (all_at_found (λ r. OwnsFit r.q r.work (pages_of r)) (is_at q cid) s.host.records r.0 r.1 stood.grounds.stands.0.admins) (sym (ap (option_and_then (finished_from s)) r.1) ∙ ok.1)
+  where
+    none_some : {x : FinishedContents} → None ≡ Some x → ⊥
+    none_some e = cc
+
+    of_work : (r : Record) → record_at s.host q cid ≡ Some r → (w : Work) → r.work ≡ w → OwnsFit r.q w (pages_of r) → finished_from s r ≡ Some f → (q == 0) ≡ false
+    of_work r at (Io request) is fit e = ap (λ (x : ℕ). x == 0) (sym (ids_of s q cid r at).0) ∙ fit
+    of_work r at (Management adm) is fit e = absurd (none_some (sym (ap (λ (w : Work). option_and_then (λ asked. option_map (λ st. record { q = r.q; cid = r.cid; request = asked; status = st; data_pages = pages_with_bytes s.memory r.data_pages; chain_pages = pages_with_bytes s.memory r.chain_pages }) r.status) (asked_by w)) is) ∙ e))
+
+pub runs_collect_once : commands_are_collected_once
+runs_collect_once image earlier first between second later end q cid f f' run is_event is_reply is_event' is_reply' =
+    let at = at_step image earlier first between later second end run in
+    let step = subst (λ (r : Reply). Step first.before (events.Collect q cid) r at.mid) is_reply (subst (λ (e : Event). Step first.before e first.reply at.mid) is_event at.step) in
+    submitted_anew lives lives_later q cid (collect_io first.before at.mid q cid f at.fronted.stood step at.trusted) first second between later end at
+    (collects_leave first at.mid q cid f at.step at.trusted at.unforged.trusted is_event is_reply)
+    (λ next step t u. collect_finds second.before next q cid f' (subst (λ (r : Reply). Step second.before (events.Collect q cid) r next) is_reply' (subst (λ (e : Event). Step second.before e second.reply next) is_event' step)) t)
