@@ -2,7 +2,7 @@
 use Rattle.std.proofs.Common.{◌≡◌, ℕ, Bool, true, false, true≢false, not, IsTrue, None, List, [], ◌∷◌, ◌++◌, map, if◌then◌else◌, refl, sym, ap, ◌∙◌, subst}
 use Rattle.std.specs.List.{list_any}
 use Rattle.machine_model.specs.Events as events
-use Rattle.machine_model.specs.Events.{Event, Reply}
+use Rattle.machine_model.specs.Events.{Event}
 use Rattle.machine_model.specs.Image.{Made}
 use Rattle.machine_agreement.specs.InOrder.{IsInOrder}
 use Rattle.machine_model.specs.Trusted as laws
@@ -14,6 +14,7 @@ use Rattle.machine_agreement.proofs.Unforged.{trusted_end}
 use Rattle.machine_agreement.proofs.NeverRestored.{ends_unforged as trusted_unforged}
 use Rattle.machine_agreement.specs.Histories as histories
 use Rattle.machine_model.specs.Step as machine_step
+use Rattle.step_core.proofs.Lawful.{same_forgery}
 use Rattle.step_core.specs.Going.{forges_by}
 use Rattle.step_core.specs.Opening.{opening_of}
 use Rattle.step_log.specs.History.{asked, told, draft_of, TellsOf, LeadsTo}
@@ -81,10 +82,6 @@ told_by old new (e ∷ log) (next, tells, rest) = rw (tells.tells, told_by next 
 drafts_by : (old new : State) (log : List Entry) (leads : LeadsTo old log new) → map (λ e. e.draft) log ≡ map (λ m. draft_of m.event m.reply) (made_by old new log leads)
 drafts_by old new [] same = refl
 drafts_by old new (e ∷ log) (next, tells, rest) = rw (tells.drafts, drafts_by next new log rest) refl
-
-same_forgery : (e : Event) (r : Reply) → forges_by (asked e) (told r) ≡ laws.forges_by e r
-same_forgery (events.Forge q slot bytes) events.Accepted = refl
-same_forgery e r = refl
 
 -- an entry is an accepted forgery where the step is of which it tells
 forged_by : (old new : State) (log : List Entry) (leads : LeadsTo old log new) → list_any is_forgery log ≡ list_any laws.is_forgery (made_by old new log leads)

@@ -49,7 +49,7 @@ jobs_push : (log : List Entry) (e : Entry) → AreOfJobs log → is_of_jobs e.st
 jobs_push [] e are is = (is, tt)
 jobs_push (x ∷ xs) e are is = (are.0, jobs_push xs e are.1 is)
 
--- a driver takes an entry where it takes every step, or where the entry is one of jobs
+-- a book takes an entry where it takes every step, or where the entry is one of jobs
 abbrev pub Admits : Bool → Event → Type 0
 Admits jobs_alone e = OnTrue jobs_alone (is_of_jobs (asked e) ≡ true)
 
@@ -57,12 +57,12 @@ taken_push : (b : Bool) (seat : Option ℕ) (e : Event) (r : events.Reply) (log 
 taken_push true seat e r log are takes = jobs_push log (entry_of seat e r) are takes
 taken_push false seat e r log are takes = tt
 
--- any driver takes the steps of jobs
+-- any book takes the steps of jobs
 pub takes_jobs : (b : Bool) (e : Event) → is_of_jobs (asked e) ≡ true → Admits b e
 takes_jobs true e is = is
 takes_jobs false e is = tt
 
--- a driver that takes every step takes each
+-- a book that takes every step takes each
 pub takes_any : (b : Bool) (e : Event) → b ≡ false → Admits b e
 takes_any true e is = absurd (true≢false is)
 takes_any false e is = tt

@@ -4,3 +4,4 @@ pub mod Close
 pub mod Laws
 pub mod Passes
 pub mod Values
+pub mod Seats

@@ -8,13 +8,13 @@ ghost use Rattle.step_core.specs.Replies.{ring_reply, send_reply};
 ghost use Rattle.driver_book.specs.Calls.{Does, WantsMemoryFor, IsLogFull};
 ghost use Rattle.step_core.specs.Touching.{Touches};
 
-use crate::book::{Book, FullDriver};
+use crate::book::{Book, FullLogBrand};
 use crate::note::{done, note, sent};
 use machine_model::words::Refusal;
 use std::alloc::Allocator;
 use step_core::{Reply, Step};
 
-impl<L: FullDriver, A: Allocator + Copy> Book<L, A> {
+impl<L: FullLogBrand, A: Allocator + Copy> Book<L, A> {
     /// [`step_core::World::abort`].
     ///
     /// # Errors

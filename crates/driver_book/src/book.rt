@@ -22,9 +22,9 @@ use std::sync::ledger::{Blank, Ledger, Share};
 use step_core::{Config, Ended, OpenRefusal, World};
 use step_log::Log;
 
-/// The ledger of one book, and what contracts alone know of that book: the state with which it opens, and whether it takes the steps of
+/// The brand of one book: its ledger, and what contracts alone know of that book: the state with which it opens, and whether it takes the steps of
 /// jobs alone.
-pub trait Driver: Ledger {
+pub trait LogBrand: Ledger {
     ghost use Rattle.std.specs.Prelude.{Bool};
     ghost use Rattle.machine_model.specs.State.{State};
 
@@ -33,14 +33,14 @@ pub trait Driver: Ledger {
     ghost jobs_alone: { Bool };
 }
 
-/// A driver whose book takes every step: admin commands, retirements, forged entries and resets too.
-pub trait FullDriver: Driver {
+/// The brand of a book that takes every step: admin commands, retirements, forged entries and resets too.
+pub trait FullLogBrand: LogBrand {
     ghost use Rattle.std.specs.Prelude.{◌≡◌, false};
 
     ghost takes_all: { Self.jobs_alone ≡ false };
 }
 
-impl Driver for Brand {
+impl LogBrand for Brand {
     ghost use Rattle.std.specs.Prelude.{[], false};
     ghost use Rattle.machine_model.specs.Opening.{opening as opening_of_numbers};
 
@@ -49,7 +49,7 @@ impl Driver for Brand {
     ghost jobs_alone = { false };
 }
 
-impl FullDriver for Brand {
+impl FullLogBrand for Brand {
     ghost use Rattle.std.specs.Prelude.{refl};
 
     ghost takes_all = { refl };
@@ -69,7 +69,7 @@ pub struct BookRefused<A: Allocator = Global> {
 /// A world, and the log of all its steps since it opened, in the memory of one allocator. Contracts see both, and the
 /// rest of `BookContents`.
 #[derive(Drop)]
-pub struct Book<L: Driver, A: Allocator = Global> {
+pub struct Book<L: LogBrand, A: Allocator = Global> {
     pub(crate) alloc: A,
     pub(crate) world: World<A>,
     pub(crate) log: Log<A>,
@@ -81,7 +81,7 @@ pub struct Book<L: Driver, A: Allocator = Global> {
     pub(crate) stopping: bool,
 }
 
-impl<L: Driver, A: Allocator> Model for Book<L, A> {
+impl<L: LogBrand, A: Allocator> Model for Book<L, A> {
     ghost use Rattle.driver_book.specs.State.{BookContents, IsBook};
 
     ghost Value = { BookContents };
@@ -91,7 +91,7 @@ impl<L: Driver, A: Allocator> Model for Book<L, A> {
     ghost invariant = { λ b. IsBook L.jobs_alone L.opening b.world.state b.log.entries b.tally.total b.submissions b.rest.parts b.out b.made L.parts };
 }
 
-impl<L: Driver, A: Allocator + Copy> Book<L, A> {
+impl<L: LogBrand, A: Allocator + Copy> Book<L, A> {
     /// Opens a world over an image, and a book of it, with an empty log and no seat. The allocator is that of all that the book will hold.
     /// The blank ledger has 65,536 parts and opens this book alone.
     ///
@@ -156,7 +156,7 @@ impl<L: Driver, A: Allocator + Copy> Book<L, A> {
     }
 
     /// Shows that the log leads from the opening to the world as it is: its entries tell of the steps of a run of the machine. And that
-    /// the world is sound, that the ledger counts the accepted submissions, and, of a driver that takes the steps of jobs alone, that there
+    /// the world is sound, that the ledger counts the accepted submissions, and, of a book that takes the steps of jobs alone, that there
     /// is no other entry. It does nothing.
     pub fn check(&self)
         ensures opening { self.now.opening ≡ L.opening }

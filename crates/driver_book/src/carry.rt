@@ -5,7 +5,7 @@ ghost use Rattle.machine_model.specs.Claims.{IsSound};
 ghost use Rattle.step_log.specs.History.{LeadsTo, accepted};
 ghost use Rattle.driver_book.specs.Close.{AllStand, receipts_of, IsDone, RefusesClose, Reports};
 
-use crate::book::{Book, Driver};
+use crate::book::{Book, LogBrand};
 use crate::close::CloseRefused;
 use crate::log::{CloseFault, ReportIn};
 use crate::seat::Seat;
@@ -26,7 +26,7 @@ pub struct ClosedLog<A: Allocator = Global> {
 
 /// A book that was not closed: why, and the seats and the book that were handed in. Nothing changed.
 #[derive(Drop)]
-pub struct CarryRefused<L: Driver, A: Allocator = Global> {
+pub struct CarryRefused<L: LogBrand, A: Allocator = Global> {
     /// Why.
     pub why: CloseFault,
     /// The seats, as they were handed in.
@@ -35,7 +35,7 @@ pub struct CarryRefused<L: Driver, A: Allocator = Global> {
     pub book: Book<L, A>,
 }
 
-impl<L: Driver, A: Allocator + Copy> Book<L, A> {
+impl<L: LogBrand, A: Allocator + Copy> Book<L, A> {
     /// Closes the book as [`Book::close`], and hands out its log, with its report, and its world. A book over that world ([`Book::over`])
     /// begins with an empty log, and with submissions and seats that are counted from 0: so one may go on without end in bounded memory.
     /// The logs of books that open each over the world of the one before, one behind the other, are one history

@@ -10,7 +10,7 @@ ghost use Rattle.driver_book.specs.Close.{status_by, held, same_seat, accepted_o
 ghost use Rattle.driver_book.specs.Passes.{is_known, StandOf, AreKnown, IsMissingAt};
 ghost use Rattle.driver_book.specs.declared.log.Receipt.{Receipt as AReceipt};
 
-use crate::book::{Book, Driver};
+use crate::book::{Book, LogBrand};
 use crate::log::{CloseFault, Receipt, Receipts, Report, ReportIn};
 use crate::seat::Seat;
 use entry_codec::Status;
@@ -322,13 +322,14 @@ fn take_in<L: Ledger, A: Allocator>(
             number: _,
             share,
             receipts,
+            settled: _,
         } = seat;
         rest.merge(share);
         lists.push_reserved(receipts);
     }
 }
 
-impl<L: Driver, A: Allocator + Copy> Book<L, A> {
+impl<L: LogBrand, A: Allocator + Copy> Book<L, A> {
     /// Compares the log with the receipts of the seats, and takes the seats. `Ok` says that each accepted submission of the log
     /// stands in the receipts, as the j-th of its seat in that seat's j-th receipt, with its number, queue and identifier and the
     /// status that the log gave it; that there is no further receipt; that each seat out was handed in; and that no receipt is

@@ -6,7 +6,7 @@ ghost use Rattle.step_core.specs.Replies.{complete_reply, fetch_reply, walk_repl
 ghost use Rattle.step_core.specs.Touching.{StaysAllowed, TellsAll};
 ghost use Rattle.driver_book.specs.Calls.{Does, WantsMemoryFor, IsLogFull, MayWorldWant};
 
-use crate::book::{Book, Driver};
+use crate::book::{Book, LogBrand};
 use crate::note::{completed, fetched, note, walked};
 use machine_model::words::Refusal;
 use std::alloc::Allocator;
@@ -23,7 +23,7 @@ fn unlogged() -> StepRefused
     }
 }
 
-impl<L: Driver, A: Allocator + Copy> Book<L, A> {
+impl<L: LogBrand, A: Allocator + Copy> Book<L, A> {
     /// [`step_core::World::fetch`].
     ///
     /// # Errors

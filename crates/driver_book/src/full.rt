@@ -1,20 +1,20 @@
-//! A driver as another one, whose book takes every step.
+//! A book's brand as another one, whose book takes every step.
 
-use crate::book::{Driver, FullDriver};
+use crate::book::{FullLogBrand, LogBrand};
 use std::marker::PhantomData;
 use std::sync::ledger::Ledger;
 
-/// The driver `L`, with a book that takes every step. Whoever picks a driver by the ghosts of a call picks a [`Driver`], and names its book by
-/// this one: a trait with a law, as [`FullDriver`], is not picked.
+/// The brand `L`, with a book that takes every step. Whoever picks a brand by the ghosts of a call picks a [`LogBrand`], and names its book by
+/// this one: a trait with a law, as [`FullLogBrand`], is not picked.
 pub struct Full<L>(PhantomData<L>);
 
-impl<L: Driver> Ledger for Full<L> {
+impl<L: LogBrand> Ledger for Full<L> {
     ghost name = { L.name };
 
     ghost parts = { L.parts };
 }
 
-impl<L: Driver> Driver for Full<L> {
+impl<L: LogBrand> LogBrand for Full<L> {
     ghost use Rattle.std.specs.Prelude.{false};
 
     ghost opening = { L.opening };
@@ -22,7 +22,7 @@ impl<L: Driver> Driver for Full<L> {
     ghost jobs_alone = { false };
 }
 
-impl<L: Driver> FullDriver for Full<L> {
+impl<L: LogBrand> FullLogBrand for Full<L> {
     ghost use Rattle.std.specs.Prelude.{refl};
 
     ghost takes_all = { refl };

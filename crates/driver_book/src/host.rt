@@ -8,7 +8,7 @@ ghost use Rattle.step_core.specs.Replies.{reserve_reply, accept_reply, collect_r
 ghost use Rattle.driver_book.specs.Calls.{Does, WantsMemoryFor, IsLogFull, LacksRoomToReserve, MayWorldWant, most_pages};
 ghost use Rattle.step_core.specs.Touching.{Touches};
 
-use crate::book::{Book, Driver};
+use crate::book::{Book, LogBrand};
 use crate::note::{collected, done, ended, note, note_reservation, reaped};
 use io_commands::{Draft, Finished, Request, Ticket};
 use machine_model::words::{Reaped, Refusal};
@@ -37,7 +37,7 @@ fn pages_to_log<A: Allocator + Copy>(world: &World<A>, q: u16, request: &Request
     }
 }
 
-impl<L: Driver, A: Allocator + Copy> Book<L, A> {
+impl<L: LogBrand, A: Allocator + Copy> Book<L, A> {
     /// [`step_core::World::reserve`].
     ///
     /// # Errors

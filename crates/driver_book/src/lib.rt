@@ -28,7 +28,7 @@ mod look;
 mod note;
 mod seat;
 
-pub use book::{Book, BookRefused, Driver, FullDriver};
+pub use book::{Book, BookRefused, FullLogBrand, LogBrand};
 pub use carry::{CarryRefused, ClosedLog};
 pub use close::CloseRefused;
 pub use full::Full;

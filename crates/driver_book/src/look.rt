@@ -9,13 +9,13 @@ ghost use Rattle.machine_model.specs.Refusals.{refusal_of};
 ghost use Rattle.step_core.specs.Looks.{has_completion, event_of, IsAtRest};
 ghost use Rattle.step_core.specs.Touching.{LooksAtMost};
 
-use crate::book::{Book, Driver};
+use crate::book::{Book, LogBrand};
 use io_commands::{Request, RequestFault};
 use machine_model::words::Refusal;
 use std::alloc::Allocator;
 use step_core::ControllerStep;
 
-impl<L: Driver, A: Allocator + Copy> Book<L, A> {
+impl<L: LogBrand, A: Allocator + Copy> Book<L, A> {
     /// [`step_core::World::reserve_refusal`].
     pub fn reserve_refusal(&self, q: u16, request: &Request<A>) -> Option<Refusal>
         ensures { result ≡ refusal_of self.now.world (events.Reserve q request.now) }

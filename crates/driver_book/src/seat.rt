@@ -4,10 +4,11 @@ ghost use Rattle.std.specs.Prelude.{◌≡◌, ◌⊎◌, ◌≤◌, ◌<◌, �
 ghost use Rattle.std.specs.List.{list_any};
 ghost use Rattle.machine_model.specs.Events as events;
 ghost use Rattle.step_core.specs.Replies.{accept_reply};
-ghost use Rattle.driver_book.specs.Calls.{Does, Receives, Settles, WantsMemoryFor, IsLogFull, LacksRoomToSubmit, AreReceiptsFull, is_open_for as is_open_receipt, settled};
+ghost use Rattle.driver_book.specs.Calls.{Does, Receives, Settles, WantsMemoryFor, IsLogFull, LacksRoomToSubmit, AreReceiptsFull, is_open_for as is_open_receipt, settled as settled_receipts};
 ghost use Rattle.step_core.specs.Touching.{Touches};
+ghost use Rattle.driver_book.specs.Seats.{AreSettled, is_without_status};
 
-use crate::book::{Book, Driver};
+use crate::book::{Book, LogBrand};
 use crate::host::unlogged;
 use crate::log::Receipt;
 use crate::note::{ended, note, note_refused};
@@ -24,17 +25,20 @@ pub struct Seat<L: Ledger, A: Allocator = Global> {
     pub(crate) number: u16,
     pub(crate) share: Share<L>,
     pub(crate) receipts: Vec<Receipt, A>,
+    /// How many receipts at the head of the list have a status: a search begins behind them.
+    pub(crate) settled: usize,
 }
 
 impl<L: Ledger, A: Allocator> Model for Seat<L, A> {
     ghost use Rattle.std.specs.Prelude.{◌≡◌, ◌-◌, length, vec_len, vec_capacity};
     ghost use Rattle.driver_book.specs.State.{SeatContents};
+    ghost use Rattle.driver_book.specs.Seats.{AreSettled};
 
     ghost Value = { SeatContents };
 
     ghost view = { λ s. record { number = s.number; receipts = s.receipts.items; spare = vec_capacity s.receipts - vec_len s.receipts } };
 
-    ghost invariant = { λ s. (s.share.parts ≡ 1) × (s.share.amount ≡ length s.receipts.items) };
+    ghost invariant = { λ s. (s.share.parts ≡ 1) × (s.share.amount ≡ length s.receipts.items) × AreSettled s.settled s.receipts.items };
 }
 
 impl<L: Ledger, A: Allocator> Seat<L, A> {
@@ -48,6 +52,7 @@ impl<L: Ledger, A: Allocator> Seat<L, A> {
             number,
             share,
             receipts: Vec::new(alloc),
+            settled: 0,
         }
     }
 
@@ -70,7 +75,7 @@ impl<L: Ledger, A: Allocator> Seat<L, A> {
     pub fn awaits(&self, q: u16, cid: u16) -> bool
         ensures { result ≡ list_any (is_open_receipt q cid) self.now.receipts }
     {
-        self.receipts.iter().any(|r| is_open_for(r, q, cid))
+        is_awaited(&self.receipts, self.settled, q, cid)
     }
 }
 
@@ -88,16 +93,56 @@ fn first_open(receipts: &[Receipt], q: u16, cid: u16) -> Option<usize>
     receipts.iter().position(|r| is_open_for(r, q, cid))
 }
 
-/// Gives the first receipt for this command without a status the status that the command has.
-fn settle(receipts: &mut [Receipt], q: u16, cid: u16, status: Option<Status>)
-    ensures { receipts.new ≡ settled q cid status receipts.old }
+/// Whether a receipt is for this command, and has no status yet; the first `settled` receipts have one.
+#[tactic(auto, using(crate::proofs::Seats::settled_length))]
+fn is_awaited(receipts: &[Receipt], settled: usize, q: u16, cid: u16) -> bool
+    requires { AreSettled settled receipts.now }
+    ensures { result ≡ list_any (is_open_receipt q cid) receipts.now }
 {
-    if let Some(i) = first_open(receipts, q, cid) {
-        receipts[i].status = status;
+    first_open(&receipts[settled..], q, cid).is_some()
+}
+
+/// Where the first receipt without a status stands.
+fn first_without_status(receipts: &[Receipt]) -> Option<usize>
+    ensures { result ≡ position is_without_status receipts.now }
+{
+    receipts.iter().position(|r| r.status.is_none())
+}
+
+/// How many receipts at the head of a list have a status.
+#[tactic(auto, using(crate::proofs::Seats::settled_until, crate::proofs::Seats::all_settled))]
+fn settled_head(receipts: &[Receipt]) -> usize
+    ensures settled { AreSettled result receipts.now }
+    ensures within { result ≤ length receipts.now }
+{
+    match first_without_status(receipts) {
+        Some(i) => i,
+        None => receipts.len(),
     }
 }
 
-impl<L: Driver, A: Allocator + Copy> Book<L, A> {
+/// Gives the first receipt for this command without a status the status that the command has. It takes and answers how many receipts at
+/// the head of the list have a status.
+#[tactic(auto, using(crate::proofs::Seats::settled_length))]
+fn settle(
+    receipts: &mut [Receipt],
+    settled: usize,
+    q: u16,
+    cid: u16,
+    status: Option<Status>,
+) -> usize
+    requires { AreSettled settled receipts.old }
+    ensures receipts { receipts.new ≡ settled_receipts q cid status receipts.old }
+    ensures settled { AreSettled result receipts.new }
+{
+    let Some(i) = first_open(&receipts[settled..], q, cid) else {
+        return settled;
+    };
+    receipts[settled + i].status = status;
+    settled + settled_head(&receipts[settled..])
+}
+
+impl<L: LogBrand, A: Allocator + Copy> Book<L, A> {
     /// [`step_core::World::submit`], for a seat, which gets a receipt where the submission is accepted.
     ///
     /// # Errors
@@ -171,7 +216,7 @@ impl<L: Driver, A: Allocator + Copy> Book<L, A> {
             ended(&answer),
         );
         if answer.is_ok() {
-            settle(seat.receipts.as_mut_slice(), q, cid, status);
+            seat.settled = settle(seat.receipts.as_mut_slice(), seat.settled, q, cid, status);
         }
         answer
     }

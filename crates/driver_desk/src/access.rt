@@ -5,7 +5,7 @@ ghost use Rattle.std.specs.List.{list_any};
 ghost use Rattle.driver_book.specs.Calls.{is_open_for};
 
 use crate::answers::{completed, done, fetched, reaped, sent, walked};
-use driver_book::{Book, CloseRefused, FullDriver, NoSeat, ReportIn, Seat};
+use driver_book::{Book, CloseRefused, FullLogBrand, NoSeat, ReportIn, Seat};
 use driver_threads::Shared;
 use io_commands::{Draft, Finished, Request, Ticket};
 use page_ledger::{Counts, Owner};
@@ -16,7 +16,7 @@ use step_core::{Ended, Refused, Reply, ReplyIn, Step, StepIn};
 
 /// What a driver's calls are made on: each is that of the book, or of its lock, under the same name.
 #[derive(Drop)]
-pub enum Access<L: FullDriver, A: Allocator = Global> {
+pub enum Access<L: FullLogBrand, A: Allocator = Global> {
     /// The book itself.
     Book(Book<L, A>),
     /// The book behind its lock.
@@ -24,7 +24,7 @@ pub enum Access<L: FullDriver, A: Allocator = Global> {
 }
 
 /// Makes a step through a book that no command is handed in for or comes of. Any other is `NoValue`.
-fn step_through_book<L: FullDriver, A: Allocator + Copy>(
+fn step_through_book<L: FullLogBrand, A: Allocator + Copy>(
     book: &mut Book<L, A>,
     step: StepIn<A>,
 ) -> ReplyIn<A> {
@@ -47,7 +47,7 @@ fn step_through_book<L: FullDriver, A: Allocator + Copy>(
 }
 
 /// Makes a step behind a lock that no command is handed in for or comes of. Any other is `NoValue`.
-fn step_behind_lock<L: FullDriver, A: Allocator + Copy, R: Wait>(
+fn step_behind_lock<L: FullLogBrand, A: Allocator + Copy, R: Wait>(
     rt: &R,
     shared: &Shared<L, A>,
     step: StepIn<A>,
@@ -70,7 +70,7 @@ fn step_behind_lock<L: FullDriver, A: Allocator + Copy, R: Wait>(
     }
 }
 
-impl<L: FullDriver, A: Allocator + Copy> Access<L, A> {
+impl<L: FullLogBrand, A: Allocator + Copy> Access<L, A> {
     /// Makes a seat.
     pub(crate) fn seat<R: Wait>(&mut self, rt: &R) -> Result<Seat<L, A>, NoSeat> {
         match self {

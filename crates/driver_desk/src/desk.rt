@@ -4,7 +4,7 @@ use crate::access::Access;
 use crate::answers::{Answer, cancelled, collected, released, reserved, submitted};
 use crate::steps::{build, fill, gather};
 use crate::values::{Value, draft_of, finished_of, ticket_of};
-use driver_book::{CloseFault, FullDriver, NoSeat, Receipt, ReportIn, Seat};
+use driver_book::{CloseFault, FullLogBrand, NoSeat, Receipt, ReportIn, Seat};
 use page_ledger::{Counts, Owner};
 use page_memory::PageNo;
 use std::alloc::{AllocError, Allocator, Global};
@@ -15,7 +15,7 @@ use transcripts::{StepMaker, reply_in, step_in};
 
 /// A driver in one thread, with seats, and the commands that are about. The last seat acts: it submits and releases.
 #[derive(Drop)]
-pub struct Desk<'r, L: FullDriver, R: Wait, A: Allocator = Global> {
+pub struct Desk<'r, L: FullLogBrand, R: Wait, A: Allocator = Global> {
     /// What may wait for a lock.
     pub rt: &'r R,
     /// Where the list of the commands stands, the padded copy of a fill's bytes, and the replies that are handed out.
@@ -30,7 +30,7 @@ pub struct Desk<'r, L: FullDriver, R: Wait, A: Allocator = Global> {
     pub values: Vec<Value<A>>,
 }
 
-impl<'r, L: FullDriver, R: Wait, A: Allocator + Copy> Desk<'r, L, R, A> {
+impl<'r, L: FullLogBrand, R: Wait, A: Allocator + Copy> Desk<'r, L, R, A> {
     /// A desk with a driver, without a seat.
     pub fn new(rt: &'r R, alloc: Global, heap: A, access: Access<L, A>) -> Self {
         Desk {
@@ -159,7 +159,7 @@ impl<'r, L: FullDriver, R: Wait, A: Allocator + Copy> Desk<'r, L, R, A> {
     }
 }
 
-impl<'r, L: FullDriver, R: Wait, A: Allocator + Copy> Desk<'r, L, R, A> {
+impl<'r, L: FullLogBrand, R: Wait, A: Allocator + Copy> Desk<'r, L, R, A> {
     /// The receipts of the last seat; none where there is no seat.
     ///
     /// # Errors
@@ -173,7 +173,7 @@ impl<'r, L: FullDriver, R: Wait, A: Allocator + Copy> Desk<'r, L, R, A> {
     }
 }
 
-impl<'r, L: FullDriver, R: Wait, A: Allocator + Copy> StepMaker for Desk<'r, L, R, A> {
+impl<'r, L: FullLogBrand, R: Wait, A: Allocator + Copy> StepMaker for Desk<'r, L, R, A> {
     fn step(&mut self, step: &Step) -> Result<Reply, AllocError> {
         let made = step_in(self.heap, step)?;
         let reply = self.make(made)?;

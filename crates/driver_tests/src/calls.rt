@@ -6,7 +6,7 @@ ghost use Rattle.step_core.specs.Opening.{opening_of};
 use crate::looks::see;
 use crate::part::{Part, USUAL, opened, play_text, run};
 use block_image::Image;
-use driver_book::{Book, Driver, Full, FullDriver};
+use driver_book::{Book, Full, FullLogBrand, LogBrand};
 use driver_desk::{Access, Desk};
 use entry_codec::Status;
 use std::alloc::Global;
@@ -404,7 +404,7 @@ submit 1 0
 ];
 
 /// The book of a desk that has one.
-fn book_of<'d, L: FullDriver, R: Abort + Wait>(
+fn book_of<'d, L: FullLogBrand, R: Abort + Wait>(
     rt: &R,
     desk: &'d mut Desk<'_, L, R>,
 ) -> &'d mut Book<L> {
@@ -415,7 +415,7 @@ fn book_of<'d, L: FullDriver, R: Abort + Wait>(
 }
 
 /// Sees what the controller can do next, and the first queue with a completion.
-fn can_do<L: FullDriver, R: Abort + Wait>(
+fn can_do<L: FullLogBrand, R: Abort + Wait>(
     rt: &R,
     desk: &mut Desk<'_, L, R>,
     step: Option<ControllerStep>,
@@ -428,7 +428,7 @@ fn can_do<L: FullDriver, R: Abort + Wait>(
 
 /// Plays a Read through a book, and sees between its steps what the controller can do, whether a completion waits, and whether it can be
 /// collected. No look makes an entry in the log.
-fn look<L: Driver, R: Abort + Wait>(
+fn look<L: LogBrand, R: Abort + Wait>(
     rt: &R,
     alloc: Global,
     config: Config,

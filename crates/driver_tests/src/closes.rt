@@ -1,7 +1,7 @@
 //! A book is closed, or is not.
 
 use crate::looks::{Told, counts, see, tell};
-use driver_book::{CloseFault, FullDriver, Report};
+use driver_book::{CloseFault, FullLogBrand, Report};
 use driver_desk::Desk;
 use entry_codec::Status;
 use std::process::Abort;
@@ -22,7 +22,7 @@ fn see_report<R: Abort>(rt: &R, report: &Report, want: &[&[Told]]) {
 }
 
 /// The report of a book that is closed as all seats are handed in.
-fn report_of<L: FullDriver, R: Abort + Wait>(rt: &R, desk: &mut Desk<'_, L, R>) -> Report {
+fn report_of<L: FullLogBrand, R: Abort + Wait>(rt: &R, desk: &mut Desk<'_, L, R>) -> Report {
     match desk.close() {
         Ok(report) => report,
         Err(_) => panic!(rt; "it was not closed"),
@@ -30,7 +30,7 @@ fn report_of<L: FullDriver, R: Abort + Wait>(rt: &R, desk: &mut Desk<'_, L, R>) 
 }
 
 /// All seats are handed in, and the book is closed: these are the receipts of each.
-pub(crate) fn close<L: FullDriver, R: Abort + Wait>(
+pub(crate) fn close<L: FullLogBrand, R: Abort + Wait>(
     rt: &R,
     desk: &mut Desk<'_, L, R>,
     want: &[&[Told]],
@@ -40,7 +40,7 @@ pub(crate) fn close<L: FullDriver, R: Abort + Wait>(
 }
 
 /// All seats are handed in, and the book is closed: each of so many seats has one receipt, of the command of its number, which ended well.
-pub(crate) fn close_each<L: FullDriver, R: Abort + Wait>(
+pub(crate) fn close_each<L: FullLogBrand, R: Abort + Wait>(
     rt: &R,
     desk: &mut Desk<'_, L, R>,
     seats: u64,
@@ -59,7 +59,7 @@ pub(crate) fn close_each<L: FullDriver, R: Abort + Wait>(
 }
 
 /// All seats are handed in, and come back, so many of them, as the book is not closed.
-pub(crate) fn stay_open<L: FullDriver, R: Abort + Wait>(
+pub(crate) fn stay_open<L: FullLogBrand, R: Abort + Wait>(
     rt: &R,
     desk: &mut Desk<'_, L, R>,
     want: CloseFault,
@@ -73,7 +73,7 @@ pub(crate) fn stay_open<L: FullDriver, R: Abort + Wait>(
 }
 
 /// The last seat is kept back and the others are handed in: they come back, so many of them, as the book is not closed.
-pub(crate) fn keep_back<L: FullDriver, R: Abort + Wait>(
+pub(crate) fn keep_back<L: FullLogBrand, R: Abort + Wait>(
     rt: &R,
     desk: &mut Desk<'_, L, R>,
     want: CloseFault,

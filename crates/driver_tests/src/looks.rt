@@ -2,7 +2,7 @@
 
 ghost use Rattle.std.specs.Prelude.{◌≡◌, ◌≤◌, length};
 
-use driver_book::{FullDriver, Receipt, Seat};
+use driver_book::{FullLogBrand, Receipt, Seat};
 use driver_desk::Value;
 use entry_codec::Status;
 use io_commands::Finished;
@@ -67,7 +67,7 @@ pub(crate) fn tell(receipts: &[Receipt], told: &[Told]) -> bool {
 }
 
 /// The last seat has this number and these receipts.
-pub(crate) fn has_receipts<L: FullDriver, R: Abort>(
+pub(crate) fn has_receipts<L: FullLogBrand, R: Abort>(
     rt: &R,
     seats: &[Seat<L>],
     number: u16,

@@ -6,7 +6,7 @@ ghost use Rattle.step_core.specs.Opening.{opening_of};
 use crate::looks::{counts, see};
 use crate::part::{USUAL, opened};
 use block_image::Image;
-use driver_book::{Book, BookRefused, Driver};
+use driver_book::{Book, BookRefused, LogBrand};
 use driver_threads::Shared;
 use io_commands::{Kind, Piece, Pieces, Request};
 use page_ledger::Owner;
@@ -19,7 +19,7 @@ use std::sync::ledger::Blank;
 use step_core::{Config, OpenRefusal, Refusal};
 
 /// A new book has 16 pages, of which 12 are free, 4 are of queues, and page 4 is free, and its log is empty.
-fn see_new<L: Driver, R: Abort>(rt: &R, book: &Book<L>) {
+fn see_new<L: LogBrand, R: Abort>(rt: &R, book: &Book<L>) {
     see(rt, &book.pages(), &16);
     see(rt, &book.owner(PageNo(4)), &Owner::Free);
     see(rt, &book.counts(), &counts(12, 4, 0));
@@ -29,7 +29,7 @@ fn see_new<L: Driver, R: Abort>(rt: &R, book: &Book<L>) {
 }
 
 /// A Read of one block would be reserved on queue 1, and takes one page at least.
-fn see_request<L: Driver, R: Abort>(rt: &R, alloc: Global, book: &Book<L>) {
+fn see_request<L: LogBrand, R: Abort>(rt: &R, alloc: Global, book: &Book<L>) {
     let mut pieces = Pieces::new(alloc);
     let piece = Piece::Data {
         offset: 0,
@@ -52,14 +52,14 @@ fn see_request<L: Driver, R: Abort>(rt: &R, alloc: Global, book: &Book<L>) {
 }
 
 /// A book tells that it is stopped once it is told so.
-fn see_stop<L: Driver, R: Abort>(rt: &R, book: &mut Book<L>) {
+fn see_stop<L: LogBrand, R: Abort>(rt: &R, book: &mut Book<L>) {
     assert!(rt; !book.stopping());
     book.stop();
     assert!(rt; book.stopping());
 }
 
 /// Two seats are numbered in the order in which they are made, and have no receipts.
-fn see_seats<L: Driver, R: Abort>(rt: &R, book: &mut Book<L>) {
+fn see_seats<L: LogBrand, R: Abort>(rt: &R, book: &mut Book<L>) {
     for number in [0, 1] {
         match book.seat() {
             Ok(seat) => {
@@ -72,7 +72,7 @@ fn see_seats<L: Driver, R: Abort>(rt: &R, book: &mut Book<L>) {
 }
 
 /// What a book shows, and what it is told, without a step.
-fn look<L: Driver, R: Abort>(rt: &R, alloc: Global, config: Config, image: Image, blank: Blank)
+fn look<L: LogBrand, R: Abort>(rt: &R, alloc: Global, config: Config, image: Image, blank: Blank)
     requires name { blank.name ≡ L.name }
     requires parts { blank.parts ≡ L.parts }
     requires number { blank.parts ≡ 65536 }
@@ -87,7 +87,7 @@ fn look<L: Driver, R: Abort>(rt: &R, alloc: Global, config: Config, image: Image
 }
 
 /// A book that is not opened: why, and the image and the ledger, which come back.
-fn refused<K: Driver, R: Abort>(
+fn refused<K: LogBrand, R: Abort>(
     rt: &R,
     alloc: Global,
     wrong: Config,
@@ -108,7 +108,7 @@ fn refused<K: Driver, R: Abort>(
 }
 
 /// A book that is not opened gives back the image and the ledger, with which another one opens.
-fn open_again<K: Driver, L: Driver, R: Abort>(
+fn open_again<K: LogBrand, L: LogBrand, R: Abort>(
     rt: &R,
     alloc: Global,
     wrong: Config,
@@ -148,7 +148,7 @@ fn a_book_is_not_opened(rt: HostRuntime) {
 }
 
 /// Whose some pages are: one of a queue, a free one, and one that is not there.
-fn see_owners<L: Driver, R: Abort + Wait>(rt: &R, shared: &Shared<L>) {
+fn see_owners<L: LogBrand, R: Abort + Wait>(rt: &R, shared: &Shared<L>) {
     let ring = Owner::Queue {
         q: 1,
         half: Half::Completion,
@@ -159,7 +159,7 @@ fn see_owners<L: Driver, R: Abort + Wait>(rt: &R, shared: &Shared<L>) {
 }
 
 /// What a shared book shows, and that it tells that it is stopped once it is told so, without a step.
-fn look_behind_lock<L: Driver, R: Abort + Wait>(
+fn look_behind_lock<L: LogBrand, R: Abort + Wait>(
     rt: &R,
     alloc: Global,
     config: Config,
@@ -180,7 +180,7 @@ fn look_behind_lock<L: Driver, R: Abort + Wait>(
 }
 
 /// Ends a shared book: how many entries its log had.
-pub(crate) fn end<L: Driver>(shared: Shared<L>) -> usize {
+pub(crate) fn end<L: LogBrand>(shared: Shared<L>) -> usize {
     let book = shared.end();
     let entries = book.log().len();
     book.end();

@@ -6,7 +6,7 @@ ghost use Rattle.step_core.specs.Opening.{opening_of};
 use crate::closes::{close, close_each, keep_back, stay_open};
 use crate::looks::{Told, alter, has_receipts, see};
 use block_image::Image;
-use driver_book::{Book, CloseFault, Driver, Full, FullDriver};
+use driver_book::{Book, CloseFault, Full, FullLogBrand, LogBrand};
 use driver_desk::{Access, Desk};
 use driver_threads::Shared;
 use entry_codec::Status;
@@ -44,7 +44,7 @@ pub(crate) enum Part {
 }
 
 /// Plays a transcript, as it says.
-pub(crate) fn play_text<L: FullDriver, R: Abort + Wait>(
+pub(crate) fn play_text<L: FullLogBrand, R: Abort + Wait>(
     rt: &R,
     desk: &mut Desk<'_, L, R>,
     text: &str,
@@ -60,7 +60,7 @@ pub(crate) fn play_text<L: FullDriver, R: Abort + Wait>(
 }
 
 /// Does a part of a run.
-fn play_part<L: FullDriver, R: Abort + Wait>(rt: &R, desk: &mut Desk<'_, L, R>, part: Part) {
+fn play_part<L: FullLogBrand, R: Abort + Wait>(rt: &R, desk: &mut Desk<'_, L, R>, part: Part) {
     match part {
         Part::Sit => assert!(rt; desk.sit() == Ok(true)),
         Part::Turn => desk.seats.reverse(),
@@ -76,14 +76,14 @@ fn play_part<L: FullDriver, R: Abort + Wait>(rt: &R, desk: &mut Desk<'_, L, R>, 
 }
 
 /// Does the parts of a run.
-fn play_parts<L: FullDriver, R: Abort + Wait>(rt: &R, desk: &mut Desk<'_, L, R>, parts: &[Part]) {
+fn play_parts<L: FullLogBrand, R: Abort + Wait>(rt: &R, desk: &mut Desk<'_, L, R>, parts: &[Part]) {
     for part in parts {
         play_part(rt, desk, *part);
     }
 }
 
 /// A new book.
-pub(crate) fn opened<L: Driver, R: Abort>(
+pub(crate) fn opened<L: LogBrand, R: Abort>(
     rt: &R,
     alloc: Global,
     config: Config,
@@ -102,7 +102,7 @@ pub(crate) fn opened<L: Driver, R: Abort>(
 }
 
 /// Does the parts of a run at a desk with a new book, and ends the book: how many entries its log had.
-fn through_book<L: Driver, R: Abort + Wait>(
+fn through_book<L: LogBrand, R: Abort + Wait>(
     rt: &R,
     alloc: Global,
     config: Config,
@@ -122,7 +122,7 @@ fn through_book<L: Driver, R: Abort + Wait>(
 }
 
 /// Does the parts of a run at a desk with a new book behind its lock, and ends the book: how many entries its log had.
-fn behind_lock<L: Driver, R: Abort + Wait>(
+fn behind_lock<L: LogBrand, R: Abort + Wait>(
     rt: &R,
     alloc: Global,
     config: Config,

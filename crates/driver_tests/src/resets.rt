@@ -8,7 +8,7 @@ use crate::opening::end;
 use crate::part::{USUAL, opened};
 use crate::runs::job;
 use block_image::Image;
-use driver_book::{Driver, Full, FullDriver, Seat};
+use driver_book::{Full, FullLogBrand, LogBrand, Seat};
 use driver_threads::{Job, Shared};
 use entry_codec::Status;
 use io_commands::{Kind, Request, Ticket};
@@ -45,7 +45,7 @@ fn wait_for<R: Abort>(rt: &R, there: &AtomicBool) {
 }
 
 /// Submits a Read, and does not ring.
-fn submitted<L: FullDriver, R: Abort + Wait>(
+fn submitted<L: FullLogBrand, R: Abort + Wait>(
     rt: &R,
     alloc: Global,
     shared: &Shared<L>,
@@ -63,7 +63,7 @@ fn submitted<L: FullDriver, R: Abort + Wait>(
 }
 
 /// Collects a command that a reset ended, and releases it.
-fn give_back<L: FullDriver, R: Abort + Wait>(
+fn give_back<L: FullLogBrand, R: Abort + Wait>(
     rt: &R,
     shared: &Shared<L>,
     seat: &mut Seat<L>,
@@ -82,7 +82,7 @@ fn give_back<L: FullDriver, R: Abort + Wait>(
 }
 
 /// Takes a seat, submits a Read, and gives it back once the controller was reset.
-fn read_over_a_reset<L: FullDriver, R: Abort + Wait>(
+fn read_over_a_reset<L: FullLogBrand, R: Abort + Wait>(
     rt: &R,
     alloc: Global,
     shared: &Shared<L>,
@@ -100,7 +100,7 @@ fn read_over_a_reset<L: FullDriver, R: Abort + Wait>(
 }
 
 /// Resets the controller once the Read is submitted.
-fn reset_over_a_read<L: FullDriver, R: Abort + Wait>(
+fn reset_over_a_read<L: FullLogBrand, R: Abort + Wait>(
     rt: &R,
     shared: &Shared<L>,
     meeting: &Meeting,
@@ -111,7 +111,7 @@ fn reset_over_a_read<L: FullDriver, R: Abort + Wait>(
 }
 
 /// Submits a Read in one thread and resets in another, and answers the seat of the first.
-fn meet<L: FullDriver + Send + Sync, R: Abort + Threads + Wait + Sync>(
+fn meet<L: FullLogBrand + Send + Sync, R: Abort + Threads + Wait + Sync>(
     rt: &R,
     alloc: Global,
     shared: &Shared<L>,
@@ -132,7 +132,12 @@ fn meet<L: FullDriver + Send + Sync, R: Abort + Threads + Wait + Sync>(
 }
 
 /// Closes the book: its one receipt has the status of a reset.
-fn close<L: FullDriver, R: Abort + Wait>(rt: &R, alloc: Global, shared: &Shared<L>, seat: Seat<L>) {
+fn close<L: FullLogBrand, R: Abort + Wait>(
+    rt: &R,
+    alloc: Global,
+    shared: &Shared<L>,
+    seat: Seat<L>,
+) {
     let mut seats = Vec::new(alloc);
     assert!(rt; seats.push(seat).is_ok());
     let Ok(report) = shared.close(rt, seats) else {
@@ -147,7 +152,7 @@ fn close<L: FullDriver, R: Abort + Wait>(rt: &R, alloc: Global, shared: &Shared<
 }
 
 /// A Read of one thread and a reset of another, over a new book, whose log has the five steps that they made.
-fn read_and_reset<L: Driver + Send + Sync, R: Abort + Threads + Wait + Sync>(
+fn read_and_reset<L: LogBrand + Send + Sync, R: Abort + Threads + Wait + Sync>(
     rt: &R,
     alloc: Global,
     config: Config,

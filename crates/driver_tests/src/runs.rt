@@ -4,7 +4,7 @@ ghost use Rattle.std.specs.Prelude.{◌≡◌, ◌≤◌, vec_len};
 ghost use Rattle.step_core.specs.Opening.{opening_of};
 
 use block_image::Image;
-use driver_book::{Book, Driver, Report};
+use driver_book::{Book, LogBrand, Report};
 use driver_threads::{Gate, Job, JobEnd, JobEnds, Ran, RunFault, run_threads};
 use entry_codec::Status;
 use io_commands::{Kind, Piece, Pieces, Request};
@@ -31,7 +31,7 @@ pub(crate) struct Outcome {
 }
 
 /// Whose each page is.
-fn owners_of<L: Driver>(alloc: Global, book: &Book<L>) -> Result<Vec<Owner>, RunFault> {
+fn owners_of<L: LogBrand>(alloc: Global, book: &Book<L>) -> Result<Vec<Owner>, RunFault> {
     let mut owners = Vec::new(alloc);
     for p in 0..book.pages() {
         if owners.push(book.owner(PageNo(p))).is_err() {
@@ -42,7 +42,7 @@ fn owners_of<L: Driver>(alloc: Global, book: &Book<L>) -> Result<Vec<Owner>, Run
 }
 
 /// How many entries of a book's log are refusals.
-fn refusals_of<L: Driver>(book: &Book<L>) -> usize {
+fn refusals_of<L: LogBrand>(book: &Book<L>) -> usize {
     let log = book.log();
     (0..log.len())
         .filter_map(|index| log.get(index))
@@ -51,7 +51,7 @@ fn refusals_of<L: Driver>(book: &Book<L>) -> usize {
 }
 
 /// Runs jobs over a new book.
-fn outcome_of<L: Driver + Send + Sync, G: Gate + Sync, R: Threads + Wait + Sync>(
+fn outcome_of<L: LogBrand + Send + Sync, G: Gate + Sync, R: Threads + Wait + Sync>(
     rt: &R,
     alloc: Global,
     config: Config,

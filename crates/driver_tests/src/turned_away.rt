@@ -8,7 +8,7 @@ use crate::opening::end;
 use crate::part::{USUAL, opened};
 use crate::runs::job;
 use block_image::Image;
-use driver_book::{Driver, Full, FullDriver};
+use driver_book::{Full, FullLogBrand, LogBrand};
 use driver_threads::{
     Job, JobEnd, JobRefusal, Open, Shared, Worked, controller, poller, submitter,
 };
@@ -22,7 +22,11 @@ use std::test::Fail;
 use step_core::Config;
 
 /// What a submitter leaves whose only job is a Read of one block on queue 1.
-fn worked<L: FullDriver, R: Abort + Wait>(rt: &R, shared: &Shared<L>, alloc: Global) -> Worked<L> {
+fn worked<L: FullLogBrand, R: Abort + Wait>(
+    rt: &R,
+    shared: &Shared<L>,
+    alloc: Global,
+) -> Worked<L> {
     let mut jobs: Vec<Job> = Vec::new(alloc);
     match job(alloc, 1, Kind::Read, 0, 1, &[]) {
         Ok(job) => assert!(rt; jobs.push(job).is_ok()),
@@ -32,7 +36,7 @@ fn worked<L: FullDriver, R: Abort + Wait>(rt: &R, shared: &Shared<L>, alloc: Glo
 }
 
 /// A job on a queue that is being deleted is refused, and leaves no receipt.
-fn see_refused<L: FullDriver, R: Abort + Wait>(rt: &R, shared: &Shared<L>, alloc: Global) {
+fn see_refused<L: FullLogBrand, R: Abort + Wait>(rt: &R, shared: &Shared<L>, alloc: Global) {
     see(rt, &shared.delete_sq(rt, 1), &Ok(0));
     let refused = worked(rt, shared, alloc);
     match refused.ends.as_slice() {
@@ -43,7 +47,7 @@ fn see_refused<L: FullDriver, R: Abort + Wait>(rt: &R, shared: &Shared<L>, alloc
 }
 
 /// Workers that are told to stop carry nothing through.
-fn see_stopped<L: FullDriver, R: Abort + Wait>(rt: &R, shared: &Shared<L>, alloc: Global) {
+fn see_stopped<L: FullLogBrand, R: Abort + Wait>(rt: &R, shared: &Shared<L>, alloc: Global) {
     shared.stop(rt);
     let stopped = worked(rt, shared, alloc);
     assert!(rt; stopped.ends.is_empty() && stopped.seat.is_some());
@@ -52,7 +56,7 @@ fn see_stopped<L: FullDriver, R: Abort + Wait>(rt: &R, shared: &Shared<L>, alloc
 }
 
 /// Workers whose queue is being deleted, and that are told to stop: the log has one entry, that of the deletion.
-fn turn_away<L: Driver, R: Abort + Wait>(
+fn turn_away<L: LogBrand, R: Abort + Wait>(
     rt: &R,
     alloc: Global,
     config: Config,

@@ -7,7 +7,7 @@ use crate::looks::see;
 use crate::part::{USUAL, opened, play_text};
 use crate::runs::{is_done, job};
 use block_image::Image;
-use driver_book::{Driver, Full, FullDriver};
+use driver_book::{Full, FullLogBrand, LogBrand};
 use driver_desk::values::draft_of;
 use driver_desk::{Access, Desk, Value};
 use driver_threads::{
@@ -359,7 +359,7 @@ fn see_ends<R: Abort>(rt: &R, ends: &[JobEnd], wanted: &[End]) {
 }
 
 /// Carries jobs through as a submitter, and tells that it is back.
-fn submit_all<L: FullDriver, R: Wait>(
+fn submit_all<L: FullLogBrand, R: Wait>(
     rt: &R,
     alloc: Global,
     shared: &Shared<L>,
@@ -377,7 +377,7 @@ fn submit_all<L: FullDriver, R: Wait>(
 }
 
 /// Cancels the draft with identifier 0 of queue 1. Whether it was accepted.
-fn is_cancelled<L: FullDriver, R: Wait>(
+fn is_cancelled<L: FullLogBrand, R: Wait>(
     rt: &R,
     shared: &Shared<L>,
     values: &mut Vec<Value>,
@@ -395,7 +395,7 @@ fn is_cancelled<L: FullDriver, R: Wait>(
 }
 
 /// Makes a call. Whether it was accepted.
-fn is_accepted<L: FullDriver, R: Wait>(
+fn is_accepted<L: FullLogBrand, R: Wait>(
     rt: &R,
     shared: &Shared<L>,
     values: &mut Vec<Value>,
@@ -422,7 +422,7 @@ fn is_accepted<L: FullDriver, R: Wait>(
 }
 
 /// Makes each call once the threads sleep.
-fn make_calls<L: FullDriver, R: Abort + Wait + Clock>(
+fn make_calls<L: FullLogBrand, R: Abort + Wait + Clock>(
     rt: &R,
     shared: &Shared<L>,
     values: &mut Vec<Value>,
@@ -446,7 +446,7 @@ fn comes<R: Clock>(rt: &R, so_far: &AtomicBool) -> bool {
 }
 
 /// Polls, where that is wanted, until the workers are told to stop.
-fn poll<L: FullDriver, R: Wait>(
+fn poll<L: FullLogBrand, R: Wait>(
     rt: &R,
     shared: &Shared<L>,
     is_wanted: bool,
@@ -459,7 +459,7 @@ fn poll<L: FullDriver, R: Wait>(
 }
 
 /// Runs a submitter, and a poller where one is wanted, in threads of their own, makes the calls, and answers how the jobs ended.
-fn woken<L: FullDriver + Send + Sync, R: Abort + Threads + Wait + Clock + Sync>(
+fn woken<L: FullLogBrand + Send + Sync, R: Abort + Threads + Wait + Clock + Sync>(
     rt: &R,
     alloc: Global,
     shared: &Shared<L>,
@@ -489,7 +489,7 @@ fn woken<L: FullDriver + Send + Sync, R: Abort + Threads + Wait + Clock + Sync>(
 }
 
 /// Has a submitter sleep behind the lock of a desk, and sees that it is woken.
-fn see_woken<L: FullDriver + Send + Sync, R: Abort + Threads + Wait + Clock + Sync>(
+fn see_woken<L: FullLogBrand + Send + Sync, R: Abort + Threads + Wait + Clock + Sync>(
     rt: &R,
     desk: &mut Desk<'_, L, R>,
     waking: &Waking,
@@ -510,7 +510,7 @@ fn see_woken<L: FullDriver + Send + Sync, R: Abort + Threads + Wait + Clock + Sy
 }
 
 /// A submitter waits, over a new book, and is woken.
-fn wake<L: Driver + Send + Sync, R: Abort + Threads + Wait + Clock + Sync>(
+fn wake<L: LogBrand + Send + Sync, R: Abort + Threads + Wait + Clock + Sync>(
     rt: &R,
     alloc: Global,
     config: Config,

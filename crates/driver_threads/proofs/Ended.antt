@@ -8,6 +8,7 @@ use Rattle.std.proofs.lemmas.List.{append-nil, length-append}
 use Rattle.std.proofs.lemmas.Option.{slice_get-get_or}
 use Rattle.std.proofs.Math.Seq.{get_or-append_seam, set-append_seam}
 use Rattle.entry_codec.specs.declared.status.Status.{Status}
+use Rattle.driver_book.proofs.Seats.{closed_is_another}
 use Rattle.driver_book.specs.Calls.{receipt, is_open_for, settled, settled_at}
 use Rattle.driver_book.specs.declared.log.Receipt.{Receipt}
 use Rattle.driver_threads.specs.Ends.{ends_of, statuses_of, status_of, Agree}
@@ -37,15 +38,6 @@ pub none_open : (receipts : List Receipt) (ends : List JobEnd) → Agree receipt
 none_open receipts ends agree = open_statuses receipts ∙ ap (λ (xs : List (Option Status)). list_any is_none xs) agree ∙ all_ended ends
 
 -- Receipts
-
-closed_is_another : (q cid : ℕ) (r : Receipt) → is_none r.status ≡ false → is_open_for q cid r ≡ false
-closed_is_another q cid r closed = go (r.q == q) (r.cid == cid) (is_none r.status) closed
-  where
-    go : (a b c : Bool) → c ≡ false → (a && b && c) ≡ false
-    go true true true is = absurd (true≢false is)
-    go true true false is = refl
-    go true false c is = refl
-    go false b c is = refl
 
 -- the first receipt that is open for a command stands behind those that are not open
 found_from : (q cid number i : ℕ) (old rest : List Receipt) → list_any (λ (r : Receipt). is_none r.status) old ≡ false

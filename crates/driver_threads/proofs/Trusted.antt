@@ -1,4 +1,4 @@
--- A run of threads over a driver that takes the steps of jobs alone is a trusted one.
+-- A run of threads over a book that takes the steps of jobs alone is a trusted one.
 use Rattle.std.proofs.Common.{◌≡◌, Bool, true, false, None, List, ℕ, sym, subst}
 use Rattle.std.specs.Bool.{OnTrue}
 use Rattle.block_image.specs.Blocks.{IsImage}

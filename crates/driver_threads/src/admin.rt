@@ -7,12 +7,12 @@ ghost use Rattle.step_core.specs.Replies.{ring_reply, send_reply};
 
 use crate::changes::Changes;
 use crate::shared::Shared;
-use driver_book::FullDriver;
+use driver_book::FullLogBrand;
 use std::alloc::Allocator;
 use std::sync::Wait;
 use step_core::Refusal;
 
-impl<L: FullDriver, A: Allocator + Copy> Shared<L, A> {
+impl<L: FullLogBrand, A: Allocator + Copy> Shared<L, A> {
     /// [`driver_book::Book::abort`].
     ///
     /// # Errors

@@ -11,7 +11,7 @@ use crate::gate::{Gate, Point};
 use crate::jobs::{JobEnd, JobEndIn, JobRefusal};
 use crate::shared::Shared;
 use crate::waits::Halt;
-use driver_book::{Driver, Receipt, Seat};
+use driver_book::{LogBrand, Receipt, Seat};
 use entry_codec::Status;
 use io_commands::{Draft, Finished, Kind, Ticket};
 use std::alloc::{AllocError, Allocator};
@@ -91,7 +91,7 @@ fn prepare<A: Allocator + Copy>(
 }
 
 /// Gives a draft up: a refused job leaves nothing, and who stops spends what he holds.
-fn give_up<L: Driver, A: Allocator + Copy, R: Wait>(
+fn give_up<L: LogBrand, A: Allocator + Copy, R: Wait>(
     rt: &R,
     shared: &Shared<L, A>,
     draft: Draft<A>,
@@ -113,7 +113,7 @@ fn give_up<L: Driver, A: Allocator + Copy, R: Wait>(
 }
 
 /// Fills a draft and builds it. No lock is held.
-pub(crate) fn prepared<L: Driver, A: Allocator + Copy, R: Wait>(
+pub(crate) fn prepared<L: LogBrand, A: Allocator + Copy, R: Wait>(
     rt: &R,
     alloc: A,
     shared: &Shared<L, A>,
@@ -136,7 +136,7 @@ fn halt_of(why: Refusal) -> Halt {
 }
 
 /// Submits a draft for a seat and rings its queue, while the lock is held once.
-pub(crate) fn submitted<L: Driver, A: Allocator + Copy, R: Wait>(
+pub(crate) fn submitted<L: LogBrand, A: Allocator + Copy, R: Wait>(
     rt: &R,
     shared: &Shared<L, A>,
     seat: &mut Seat<L, A>,
@@ -172,7 +172,7 @@ fn status_of(receipts: &[Receipt], place: usize) -> Option<Status>
 
 /// Gathers what a finished command brought, and releases it. No lock is held while it gathers. The command ended as the receipt at this place
 /// of the seat's says.
-fn released<L: Driver, A: Allocator + Copy, R: Wait>(
+fn released<L: LogBrand, A: Allocator + Copy, R: Wait>(
     rt: &R,
     alloc: A,
     shared: &Shared<L, A>,
@@ -206,7 +206,7 @@ fn released<L: Driver, A: Allocator + Copy, R: Wait>(
 /// # Errors
 ///
 /// Where the workers are told to stop, somebody else has collected the command, or memory is refused. The ticket is spent.
-pub(crate) fn finished<L: Driver, A: Allocator + Copy, R: Wait>(
+pub(crate) fn finished<L: LogBrand, A: Allocator + Copy, R: Wait>(
     rt: &R,
     alloc: A,
     shared: &Shared<L, A>,

@@ -6,12 +6,12 @@ ghost use Rattle.step_core.specs.Replies.{complete_reply, fetch_reply, walk_repl
 
 use crate::changes::Changes;
 use crate::shared::Shared;
-use driver_book::Driver;
+use driver_book::LogBrand;
 use std::alloc::Allocator;
 use std::sync::Wait;
 use step_core::{Completed, Fetched, StepRefused, Walked};
 
-impl<L: Driver, A: Allocator + Copy> Shared<L, A> {
+impl<L: LogBrand, A: Allocator + Copy> Shared<L, A> {
     /// [`driver_book::Book::fetch`].
     ///
     /// # Errors

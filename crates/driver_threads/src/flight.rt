@@ -9,14 +9,14 @@ use crate::gate::{Gate, Point};
 use crate::jobs::{Job, JobEnd, JobEndIn, JobIn, JobRefusal};
 use crate::shared::Shared;
 use crate::waits::{Halt, Reservation};
-use driver_book::{Driver, Seat};
+use driver_book::{LogBrand, Seat};
 use io_commands::{Draft, Request, Ticket};
 use std::alloc::Allocator;
 use std::collections::VecDeque;
 use std::sync::Wait;
 
 /// A submitter's seat, the commands that it has in flight, and how its jobs ended so far.
-pub(crate) struct Flight<L: Driver, A: Allocator> {
+pub(crate) struct Flight<L: LogBrand, A: Allocator> {
     pub(crate) seat: Seat<L, A>,
     /// The tickets of the commands in flight, the oldest first. There is a place for each command that may be in flight.
     pub(crate) tickets: VecDeque<Ticket, A>,
@@ -24,7 +24,7 @@ pub(crate) struct Flight<L: Driver, A: Allocator> {
     pub(crate) ends: Vec<JobEndIn<A>, A>,
 }
 
-impl<L: Driver, A: Allocator + Copy> Flight<L, A> {
+impl<L: LogBrand, A: Allocator + Copy> Flight<L, A> {
     /// Finishes the oldest command in flight, where there is one, and notes how its job ended.
     ///
     /// # Errors

@@ -10,13 +10,13 @@ ghost use Rattle.step_core.specs.Replies.{reserve_reply, accept_reply, collect_r
 use crate::changes::Changes;
 use crate::shared::Shared;
 use crate::waits::changed_by;
-use driver_book::{Driver, Seat};
+use driver_book::{LogBrand, Seat};
 use io_commands::{Draft, Finished, Request, Ticket};
 use std::alloc::Allocator;
 use std::sync::Wait;
 use step_core::{Reaped, Refusal, Refused};
 
-impl<L: Driver, A: Allocator + Copy> Shared<L, A> {
+impl<L: LogBrand, A: Allocator + Copy> Shared<L, A> {
     /// [`driver_book::Book::reserve`].
     ///
     /// # Errors

@@ -3,7 +3,7 @@
 ghost use Rattle.std.specs.Prelude.{◌≡◌, ◌≤◌, [], map, vec_len, OnOk};
 ghost use Rattle.driver_threads.specs.Behind.{added, behind};
 
-use driver_book::{Book, CloseFault, Driver, ReportIn};
+use driver_book::{Book, CloseFault, LogBrand, ReportIn};
 use entry_codec::Status;
 use io_commands::{Request, RequestFault};
 use std::alloc::{AllocError, Allocator, Global};
@@ -156,7 +156,7 @@ impl<A: Allocator> JobEnds<A> {
 
 /// What a run of threads leaves.
 #[derive(Drop)]
-pub struct Ran<L: Driver, A: Allocator = Global> {
+pub struct Ran<L: LogBrand, A: Allocator = Global> {
     /// What the book said as it was closed.
     pub report: ReportIn<A>,
     /// How the jobs ended.

@@ -13,7 +13,7 @@ use crate::jobs::{JobEndIn, JobEnds, JobIn, Ran, Round, RunFault};
 use crate::shared::Shared;
 use crate::workers::{Worked, controller, poller, submitter};
 use block_image::Image;
-use driver_book::{Book, CloseFault, ClosedLog, Driver, Seat};
+use driver_book::{Book, CloseFault, ClosedLog, LogBrand, Seat};
 use std::alloc::{AllocError, Allocator};
 use std::sync::Wait;
 use std::sync::ledger::Blank;
@@ -44,7 +44,7 @@ fn fault_of(failure: Failure) -> RunFault
 
 /// The jobs of a submitter, each with its end, and its seat.
 #[derive(Drop)]
-struct Carried<L: Driver, A: Allocator> {
+struct Carried<L: LogBrand, A: Allocator> {
     seat: Seat<L, A>,
     ends: Vec<JobEndIn<A>, A>,
     ghost agree: { Agree seat.receipts ends.items },
@@ -52,7 +52,7 @@ struct Carried<L: Driver, A: Allocator> {
 
 /// What the thread of a submitter gives back.
 #[derive(Drop)]
-struct Returned<L: Driver, A: Allocator> {
+struct Returned<L: LogBrand, A: Allocator> {
     /// What it carried through, or why one of its jobs has no end.
     carried: Result<Carried<L, A>, Failure>,
     /// Whether a gate was closed to it.
@@ -61,7 +61,7 @@ struct Returned<L: Driver, A: Allocator> {
 
 /// What the threads gave back.
 #[derive(Drop)]
-struct Work<L: Driver, A: Allocator> {
+struct Work<L: LogBrand, A: Allocator> {
     workers: Vec<Returned<L, A>, A>,
     /// Whether memory was refused to the poller, to the controller, or to the list of the workers.
     short: bool,
@@ -90,7 +90,7 @@ fn as_long_as<T: Drop, A: Allocator + Copy>(
 }
 
 /// What a submitter carried through. A job without an end was cut off or not begun, as memory was refused to a worker.
-fn all_carried<L: Driver, A: Allocator>(
+fn all_carried<L: LogBrand, A: Allocator>(
     seat: Option<Seat<L, A>>,
     ends: Vec<JobEndIn<A>, A>,
     jobs: usize,
@@ -123,7 +123,7 @@ struct Post {
 }
 
 /// Does the jobs of a submitter.
-fn submit_all<L: Driver, A: Allocator + Copy, G: Gate, R: Wait>(
+fn submit_all<L: LogBrand, A: Allocator + Copy, G: Gate, R: Wait>(
     rt: &R,
     alloc: A,
     shared: &Shared<L, A>,
@@ -146,7 +146,7 @@ fn submit_all<L: Driver, A: Allocator + Copy, G: Gate, R: Wait>(
 }
 
 /// Joins the submitters, tells the poller and the controller to stop, and joins them.
-fn join_all<L: Driver, A: Allocator + Copy, R: Threads + Wait>(
+fn join_all<L: LogBrand, A: Allocator + Copy, R: Threads + Wait>(
     rt: &R,
     alloc: A,
     shared: &Shared<L, A>,
@@ -167,7 +167,7 @@ fn join_all<L: Driver, A: Allocator + Copy, R: Threads + Wait>(
 
 /// Starts a submitter for each list of jobs, a poller and a controller, and joins them.
 fn run_workers<
-    L: Driver + Send + Sync,
+    L: LogBrand + Send + Sync,
     A: Allocator + Copy + Send + Sync,
     G: Gate + Sync,
     R: Threads + Wait + Sync,
@@ -214,7 +214,7 @@ fn run_workers<
 }
 
 /// The least worker to whom a gate was closed, where none was left out for want of memory.
-fn first_closed<L: Driver, A: Allocator>(workers: &[Returned<L, A>]) -> Option<u16> {
+fn first_closed<L: LogBrand, A: Allocator>(workers: &[Returned<L, A>]) -> Option<u16> {
     (0..16u16)
         .zip(workers)
         .find(|(_, returned)| returned.closed)
@@ -223,13 +223,13 @@ fn first_closed<L: Driver, A: Allocator>(workers: &[Returned<L, A>]) -> Option<u
 
 /// What submitters hand in: their seats, and how their jobs ended.
 #[derive(Drop)]
-struct HandedIn<L: Driver, A: Allocator> {
+struct HandedIn<L: LogBrand, A: Allocator> {
     seats: Vec<Seat<L, A>, A>,
     lists: Vec<Vec<JobEndIn<A>, A>, A>,
 }
 
 /// Takes what the submitters hand in, whose lists of jobs are so long.
-fn handed_in<L: Driver, A: Allocator + Copy>(
+fn handed_in<L: LogBrand, A: Allocator + Copy>(
     alloc: A,
     work: Work<L, A>,
     jobs: &[usize],
@@ -261,7 +261,7 @@ fn unclosed(why: CloseFault) -> Failure {
 }
 
 /// Closes a book with what the submitters handed in.
-fn close<L: Driver, A: Allocator + Copy>(
+fn close<L: LogBrand, A: Allocator + Copy>(
     book: Book<L, A>,
     hand: HandedIn<L, A>,
 ) -> Result<Ran<L, A>, Failure>
@@ -288,7 +288,7 @@ fn close<L: Driver, A: Allocator + Copy>(
 }
 
 /// Closes a book with what the submitters handed in, and gives its log and its world.
-fn carry_on<L: Driver, A: Allocator + Copy>(
+fn carry_on<L: LogBrand, A: Allocator + Copy>(
     book: Book<L, A>,
     hand: HandedIn<L, A>,
 ) -> Result<Round<A>, Failure>
@@ -319,7 +319,7 @@ fn carry_on<L: Driver, A: Allocator + Copy>(
 
 /// Runs submitters, a poller and a controller over a book: the book, and what the submitters hand in.
 fn work_over<
-    L: Driver + Send + Sync,
+    L: LogBrand + Send + Sync,
     A: Allocator + Copy + Send + Sync,
     G: Gate + Sync,
     R: Threads + Wait + Sync,
@@ -348,7 +348,7 @@ fn work_over<
 
 /// Runs submitters, a poller and a controller over a book, and closes it.
 fn run_over<
-    L: Driver + Send + Sync,
+    L: LogBrand + Send + Sync,
     A: Allocator + Copy + Send + Sync,
     G: Gate + Sync,
     R: Threads + Wait + Sync,
@@ -371,7 +371,7 @@ fn run_over<
 
 /// Runs submitters, a poller and a controller over a book, closes it, and gives its log and its world.
 fn round_over<
-    L: Driver + Send + Sync,
+    L: LogBrand + Send + Sync,
     A: Allocator + Copy + Send + Sync,
     G: Gate + Sync,
     R: Threads + Wait + Sync,
@@ -405,7 +405,7 @@ fn round_over<
 /// of them comes: `NoThread` where a thread cannot be made, `GateClosed` where a gate was closed to a worker, `Close` where the book is not
 /// closed, `Memory` where memory is refused to the opening, to the run, to a worker or to the closing. What was moved in is dropped.
 pub fn run_threads<
-    L: Driver + Send + Sync,
+    L: LogBrand + Send + Sync,
     A: Allocator + Copy + Send + Sync,
     G: Gate + Sync,
     R: Threads + Wait + Sync,
@@ -466,7 +466,7 @@ pub fn run_threads<
 /// No clause says which of them comes: `NoThread` where a thread cannot be made, `GateClosed` where a gate was closed to a worker, `Close`
 /// where the book is not closed, `Memory` where memory is refused to the round, to a worker or to the closing. What was moved in is dropped, the world too.
 pub fn run_round<
-    L: Driver + Send + Sync,
+    L: LogBrand + Send + Sync,
     A: Allocator + Copy + Send + Sync,
     G: Gate + Sync,
     R: Threads + Wait + Sync,

@@ -6,7 +6,7 @@ ghost use Rattle.driver_book.specs.State.{BookContents};
 ghost use Rattle.driver_threads.specs.Sharing.{IsBookOf, Seated, GivesNoSeat, Stops, TellsStopping, Tells, Counted, Closes, StaysOpen};
 
 use crate::changes::{Change, Changes, Condvars};
-use driver_book::{Book, CloseRefused, Driver, NoSeat, ReportIn, Seat};
+use driver_book::{Book, CloseRefused, LogBrand, NoSeat, ReportIn, Seat};
 use page_ledger::{Counts, Owner};
 use page_memory::PageNo;
 use std::alloc::{Allocator, Global};
@@ -14,7 +14,7 @@ use std::sync::{Mutex, MutexGuard, Wait};
 
 /// What stands under the lock.
 #[derive(Drop)]
-pub(crate) struct Locked<L: Driver, A: Allocator> {
+pub(crate) struct Locked<L: LogBrand, A: Allocator> {
     pub(crate) book: Book<L, A>,
     /// What somebody waits for who was not told since.
     pub(crate) awaited: Changes,
@@ -26,12 +26,12 @@ pub(crate) struct Locked<L: Driver, A: Allocator> {
 /// Who waits sleeps on a condition variable, looks at the book as it wakes, and makes its step once it would be answered otherwise. A call
 /// tells those alone who wait for what it may have changed.
 #[derive(Drop)]
-pub struct Shared<L: Driver, A: Allocator = Global> {
+pub struct Shared<L: LogBrand, A: Allocator = Global> {
     locked: Mutex<Locked<L, A>>,
     condvars: Condvars,
 }
 
-impl<L: Driver, A: Allocator + Copy> Shared<L, A> {
+impl<L: LogBrand, A: Allocator + Copy> Shared<L, A> {
     /// Puts a book under a lock.
     pub fn new(book: Book<L, A>) -> Self {
         Shared {

@@ -7,7 +7,7 @@ ghost use Rattle.driver_threads.specs.Ends.{refuses};
 use crate::changes::{Change, Changes};
 use crate::jobs::JobRefusal;
 use crate::shared::{Locked, Shared};
-use driver_book::{Book, Driver};
+use driver_book::{Book, LogBrand};
 use io_commands::{Draft, Finished, Request, Ticket};
 use std::alloc::{AllocError, Allocator};
 use std::sync::Wait;
@@ -45,7 +45,7 @@ pub(crate) enum Reservation<A: Allocator> {
 
 /// What a request on a queue is answered now. It waits for pages only where those that no queue owns are at least as many as the
 /// fewest that the request could take.
-fn turn_of<L: Driver, A: Allocator + Copy>(
+fn turn_of<L: LogBrand, A: Allocator + Copy>(
     book: &Book<L, A>,
     q: u16,
     request: &Request<A>,
@@ -78,7 +78,7 @@ fn turn_of<L: Driver, A: Allocator + Copy>(
 /// # Errors
 ///
 /// Where memory is refused. The request is dropped.
-fn reserved<L: Driver, A: Allocator + Copy>(
+fn reserved<L: LogBrand, A: Allocator + Copy>(
     book: &mut Book<L, A>,
     q: u16,
     request: Request<A>,
@@ -95,7 +95,7 @@ fn reserved<L: Driver, A: Allocator + Copy>(
 ///
 /// Where somebody else has collected it, or memory is refused. The ticket is spent.
 #[tactic(auto, using(crate::proofs::Collected::collects_command))]
-fn collected<L: Driver, A: Allocator + Copy>(
+fn collected<L: LogBrand, A: Allocator + Copy>(
     book: &mut Book<L, A>,
     ticket: Ticket,
 ) -> Result<Finished<A>, Halt>
@@ -165,7 +165,7 @@ pub(crate) fn changed_by(q: u16, what: &Reaped) -> Changes {
 }
 
 /// Reaps the completions that are there, as many as may be reaped at once.
-fn reap_some<L: Driver, A: Allocator + Copy>(book: &mut Book<L, A>) -> Steps {
+fn reap_some<L: LogBrand, A: Allocator + Copy>(book: &mut Book<L, A>) -> Steps {
     let mut steps = NO_STEPS;
     for _ in 0..MOST_STEPS {
         let Some(q) = book.next_completion() else {
@@ -184,7 +184,7 @@ fn reap_some<L: Driver, A: Allocator + Copy>(book: &mut Book<L, A>) -> Steps {
 }
 
 /// Does a step of the controller. What it may have changed: once something was forged, a unit of a list too may write where completions stand.
-fn serve<L: Driver, A: Allocator + Copy>(
+fn serve<L: LogBrand, A: Allocator + Copy>(
     book: &mut Book<L, A>,
     step: ControllerStep,
 ) -> Result<Changes, Refusal> {
@@ -205,7 +205,7 @@ fn serve<L: Driver, A: Allocator + Copy>(
 }
 
 /// Does what the controller can do, as many steps as it may make at once.
-fn serve_some<L: Driver, A: Allocator + Copy>(book: &mut Book<L, A>) -> Steps {
+fn serve_some<L: LogBrand, A: Allocator + Copy>(book: &mut Book<L, A>) -> Steps {
     let mut steps = NO_STEPS;
     for _ in 0..MOST_STEPS {
         let Some(step) = book.next_step() else {
@@ -220,7 +220,10 @@ fn serve_some<L: Driver, A: Allocator + Copy>(book: &mut Book<L, A>) -> Steps {
 }
 
 /// Leaves out what the poller or the controller would be told in vain, since there is nothing to reap, or nothing that can be done.
-fn of_use<L: Driver, A: Allocator + Copy>(locked: &mut Locked<L, A>, changes: Changes) -> Changes {
+fn of_use<L: LogBrand, A: Allocator + Copy>(
+    locked: &mut Locked<L, A>,
+    changes: Changes,
+) -> Changes {
     let mut changes = changes;
     if locked.awaited.has(Change::Posted) && locked.book.next_completion().is_none() {
         changes = changes.without(Changes::POSTED);
@@ -231,7 +234,7 @@ fn of_use<L: Driver, A: Allocator + Copy>(locked: &mut Locked<L, A>, changes: Ch
     changes
 }
 
-impl<L: Driver, A: Allocator + Copy> Shared<L, A> {
+impl<L: LogBrand, A: Allocator + Copy> Shared<L, A> {
     /// Reserves for a request where that need not wait, and hands it back where it has to.
     ///
     /// # Errors

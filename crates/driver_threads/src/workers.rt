@@ -9,7 +9,7 @@ use crate::gate::Gate;
 use crate::jobs::{JobEndIn, JobIn};
 use crate::shared::Shared;
 use crate::waits::Halt;
-use driver_book::{Driver, Seat};
+use driver_book::{LogBrand, Seat};
 use std::alloc::{AllocError, Allocator, Global};
 use std::collections::VecDeque;
 use std::sync::Wait;
@@ -34,7 +34,7 @@ pub struct Worked<L: Ledger, A: Allocator = Global> {
 /// it holds is spent. Where each job has its end, the ends of its commands are those that its receipts say, in their order, and there is no
 /// further receipt.
 #[tactic(auto, using(crate::proofs::UnderWay::begins))]
-pub fn submitter<L: Driver, A: Allocator + Copy, G: Gate, R: Wait>(
+pub fn submitter<L: LogBrand, A: Allocator + Copy, G: Gate, R: Wait>(
     rt: &R,
     alloc: A,
     shared: &Shared<L, A>,
@@ -91,7 +91,7 @@ pub fn submitter<L: Driver, A: Allocator + Copy, G: Gate, R: Wait>(
 /// # Errors
 ///
 /// Where memory is refused to it. All workers are told to stop then.
-pub fn poller<L: Driver, A: Allocator + Copy, R: Wait>(
+pub fn poller<L: LogBrand, A: Allocator + Copy, R: Wait>(
     rt: &R,
     shared: &Shared<L, A>,
 ) -> Result<(), AllocError> {
@@ -113,7 +113,7 @@ pub fn poller<L: Driver, A: Allocator + Copy, R: Wait>(
 /// # Errors
 ///
 /// Where memory is refused to it. All workers are told to stop then.
-pub fn controller<L: Driver, A: Allocator + Copy, R: Wait>(
+pub fn controller<L: LogBrand, A: Allocator + Copy, R: Wait>(
     rt: &R,
     shared: &Shared<L, A>,
 ) -> Result<(), AllocError> {

@@ -8,7 +8,7 @@ ghost use Rattle.step_core.specs.Opening.{opening_of};
 use crate::fault::Fault;
 use crate::reads::{Done, Shape, request};
 use block_image::Image;
-use driver_book::{Book, Driver, Seat};
+use driver_book::{Book, LogBrand, Seat};
 use io_commands::{Draft, Finished, Request, Ticket};
 use std::alloc::{AllocError, Global};
 use std::sync::ledger::Blank;
@@ -51,7 +51,7 @@ impl Outside {
 }
 
 /// Reserves, after a look whether it may, as who finds pages and identifiers at once.
-fn reserved<L: Driver>(book: &mut Book<L>, request: Request) -> Result<Draft, Fault> {
+fn reserved<L: LogBrand>(book: &mut Book<L>, request: Request) -> Result<Draft, Fault> {
     if book.stopping() || book.reserve_refusal(1, &request).is_some() {
         return Err(Fault::Refused);
     }
@@ -62,7 +62,7 @@ fn reserved<L: Driver>(book: &mut Book<L>, request: Request) -> Result<Draft, Fa
 }
 
 /// Submits for a seat.
-fn submitted<L: Driver>(
+fn submitted<L: LogBrand>(
     book: &mut Book<L>,
     seat: &mut Seat<L>,
     draft: Draft,
@@ -79,7 +79,7 @@ fn submitted<L: Driver>(
 }
 
 /// Does what the controller can do.
-fn serve<L: Driver>(book: &mut Book<L>) -> Result<(), Fault> {
+fn serve<L: LogBrand>(book: &mut Book<L>) -> Result<(), Fault> {
     for _ in 0..u64::MAX {
         let done = match book.next_step() {
             None => return Ok(()),
@@ -95,7 +95,7 @@ fn serve<L: Driver>(book: &mut Book<L>) -> Result<(), Fault> {
 }
 
 /// Takes the completions that are there.
-fn reap<L: Driver>(book: &mut Book<L>) -> Result<(), Fault> {
+fn reap<L: LogBrand>(book: &mut Book<L>) -> Result<(), Fault> {
     for _ in 0..u64::MAX {
         match book.next_completion() {
             None => return Ok(()),
@@ -110,7 +110,7 @@ fn reap<L: Driver>(book: &mut Book<L>) -> Result<(), Fault> {
 }
 
 /// Collects a command.
-fn collected<L: Driver>(book: &mut Book<L>, ticket: Ticket) -> Result<Finished, Fault>
+fn collected<L: LogBrand>(book: &mut Book<L>, ticket: Ticket) -> Result<Finished, Fault>
     ensures { IfOk result (λ finished. (finished.q ≡ ticket.q) × (finished.cid ≡ ticket.cid)) }
 {
     match book.collect(ticket) {
@@ -123,7 +123,7 @@ fn collected<L: Driver>(book: &mut Book<L>, ticket: Ticket) -> Result<Finished, 
 }
 
 /// Releases a command of a seat.
-fn released<L: Driver>(
+fn released<L: LogBrand>(
     book: &mut Book<L>,
     seat: &mut Seat<L>,
     finished: Finished,
@@ -140,7 +140,7 @@ fn released<L: Driver>(
 }
 
 /// Builds, submits and rings, and the controller serves.
-fn served<L: Driver>(
+fn served<L: LogBrand>(
     outside: Outside,
     book: &mut Book<L>,
     seat: &mut Seat<L>,
@@ -168,7 +168,7 @@ fn served<L: Driver>(
 }
 
 /// Carries a Read through, and says how many bytes it read.
-fn carry<L: Driver>(
+fn carry<L: LogBrand>(
     outside: Outside,
     book: &mut Book<L>,
     seat: &mut Seat<L>,
@@ -192,7 +192,7 @@ fn carry<L: Driver>(
 }
 
 /// Takes so many seats of a book.
-fn take_seats<L: Driver>(
+fn take_seats<L: LogBrand>(
     book: &mut Book<L>,
     seats: &mut Vec<Seat<L>>,
     count: u32,
@@ -211,7 +211,7 @@ fn take_seats<L: Driver>(
 }
 
 /// Carries all Reads through, and says how many bytes they read. The submitters take turns.
-fn carry_all<L: Driver>(
+fn carry_all<L: LogBrand>(
     outside: Outside,
     book: &mut Book<L>,
     seats: &mut Vec<Seat<L>>,
@@ -233,7 +233,7 @@ fn carry_all<L: Driver>(
 /// # Errors
 ///
 /// `Refused` where the world is not opened or closed or a step is refused, and `Memory`.
-pub fn read_alone<L: Driver>(
+pub fn read_alone<L: LogBrand>(
     alloc: Global,
     config: Config,
     shape: Shape,

@@ -6,7 +6,7 @@ ghost use Rattle.step_core.specs.Opening.{opening_of};
 use crate::fault::Fault;
 use crate::reads::{Done, MOST_DEPTH, Shape, request};
 use block_image::Image;
-use driver_book::Driver;
+use driver_book::LogBrand;
 use driver_threads::{Job, JobEnd, JobEnds, Open, Ran, run_threads};
 use entry_codec::Status;
 use std::alloc::{AllocError, Global};
@@ -59,7 +59,7 @@ fn bytes_of(jobs: &JobEnds) -> Option<u64> {
 ///
 /// `Refused` where the run fails or a Read does not end well, `Usage` where there is no submitter or the depth is not 1 to 256, and `Memory`
 /// where it is refused for the jobs.
-pub fn read_in_threads<L: Driver + Send + Sync, R: Threads + Wait + Sync>(
+pub fn read_in_threads<L: LogBrand + Send + Sync, R: Threads + Wait + Sync>(
     rt: &R,
     alloc: Global,
     config: Config,

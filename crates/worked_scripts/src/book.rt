@@ -8,7 +8,7 @@ use crate::fault::{Fault, Wrong};
 use crate::refused::OneRefused;
 use crate::standing::{DeskStanding, Heap, Holdings, Stands};
 use crate::way::Way;
-use driver_book::{Book, CloseFault, Driver, Full, FullDriver};
+use driver_book::{Book, CloseFault, Full, FullLogBrand, LogBrand};
 use driver_desk::{Access, Desk};
 use std::alloc::{AllocError, Allocator, Global};
 use std::marker::Brand;
@@ -44,7 +44,7 @@ pub fn zeros<A: Allocator>(heap: A, options: Options) -> Result<Image<A>, Fault>
 }
 
 /// Opens a book, once more where memory was refused.
-pub fn opened<L: FullDriver, A: Allocator + Copy>(
+pub fn opened<L: FullLogBrand, A: Allocator + Copy>(
     heap: A,
     config: Config,
     image: Image<A>,
@@ -70,7 +70,7 @@ pub fn opened<L: FullDriver, A: Allocator + Copy>(
 
 /// Closes the book of a desk with one growth refused: how many submissions there were, or why it is not closed. Where closing wants memory
 /// nothing has changed, and the book is closed once more.
-fn closed<'h, L: FullDriver, R: Wait>(
+fn closed<'h, L: FullLogBrand, R: Wait>(
     heap: &'h Heap,
     desk: &mut Desk<'h, L, R, &'h Heap>,
     growth: u64,
@@ -88,7 +88,7 @@ fn closed<'h, L: FullDriver, R: Wait>(
 }
 
 /// Closes the book of a desk: how many submissions there were, or why it is not closed.
-pub fn submissions<'r, L: FullDriver, R: Wait, A: Allocator + Copy>(
+pub fn submissions<'r, L: FullLogBrand, R: Wait, A: Allocator + Copy>(
     desk: &mut Desk<'r, L, R, A>,
 ) -> Result<u64, CloseFault> {
     match desk.close() {
@@ -99,7 +99,7 @@ pub fn submissions<'r, L: FullDriver, R: Wait, A: Allocator + Copy>(
 
 /// Plays a script at a desk with one of the growths to come refused, and closes the book. It answers what that leaves, and whether there was
 /// such a growth.
-fn play_at<'h, L: FullDriver, R: Wait>(
+fn play_at<'h, L: FullLogBrand, R: Wait>(
     heap: &'h Heap,
     desk: &mut Desk<'h, L, R, &'h Heap>,
     transcript: &Transcript,
@@ -135,7 +135,7 @@ fn play_at<'h, L: FullDriver, R: Wait>(
 }
 
 /// Plays a script through a new book in a heap with one growth refused.
-fn play_in<'h, L: Driver, R: Wait>(
+fn play_in<'h, L: LogBrand, R: Wait>(
     rt: &'h R,
     alloc: Global,
     heap: &'h Heap,

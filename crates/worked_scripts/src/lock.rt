@@ -8,7 +8,7 @@ use crate::book::{BookEnd, submissions, zeros};
 use crate::fault::{Fault, Wrong};
 use crate::standing::Holdings;
 use crate::way::Way;
-use driver_book::{Book, CloseFault, Driver, Full, FullDriver, Receipt};
+use driver_book::{Book, CloseFault, Full, FullLogBrand, LogBrand, Receipt};
 use driver_desk::{Access, Desk};
 use driver_threads::Shared;
 use std::alloc::Global;
@@ -27,7 +27,7 @@ struct LockEnd {
 }
 
 /// Plays a script at a desk behind a lock, and closes the book.
-fn play_at<L: FullDriver, R: Wait>(
+fn play_at<L: FullLogBrand, R: Wait>(
     desk: &mut Desk<'_, L, R>,
     transcript: &Transcript,
 ) -> Result<LockEnd, Fault> {
@@ -45,7 +45,7 @@ fn play_at<L: FullDriver, R: Wait>(
 }
 
 /// Plays a script behind the lock of a new book. It answers what that leaves, and how many entries the log had.
-fn play_in<L: Driver, R: Wait>(
+fn play_in<L: LogBrand, R: Wait>(
     rt: &R,
     alloc: Global,
     config: Config,

@@ -1,6 +1,6 @@
 //! How things stand: on a bench, and at a desk with a book.
 
-use driver_book::{FullDriver, Receipt};
+use driver_book::{FullLogBrand, Receipt};
 use driver_desk::{Desk, Value};
 use std::alloc::{AllocError, Allocator, Global};
 use std::sync::Wait;
@@ -107,7 +107,7 @@ pub struct DeskStanding {
     built: usize,
 }
 
-impl<'h, L: FullDriver, R: Wait> Stands for Desk<'h, L, R, &'h Heap> {
+impl<'h, L: FullLogBrand, R: Wait> Stands for Desk<'h, L, R, &'h Heap> {
     type Standing = DeskStanding;
 
     fn step_without(

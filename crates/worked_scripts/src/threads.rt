@@ -11,7 +11,7 @@ use crate::fault::{Fault, Wrong};
 use crate::standing::Heap;
 use crate::way::Way;
 use block_image::Image;
-use driver_book::{Book, Driver};
+use driver_book::{Book, LogBrand};
 use driver_threads::{JobIn, Open, Ran, RunFault, run_threads};
 use jobs::two_lists;
 use left::{Outcome, is_as_wanted};
@@ -30,7 +30,7 @@ use transcripts::Options;
 const MANY: u64 = 5_000;
 
 /// Whose each page is.
-fn owners_of<L: Driver, A: Allocator + Copy>(
+fn owners_of<L: LogBrand, A: Allocator + Copy>(
     alloc: A,
     book: &Book<L, A>,
 ) -> Result<Vec<Owner, A>, AllocError> {
@@ -42,7 +42,7 @@ fn owners_of<L: Driver, A: Allocator + Copy>(
 }
 
 /// How many entries of a book's log are refusals.
-fn refusals_of<L: Driver, A: Allocator + Copy>(book: &Book<L, A>) -> usize {
+fn refusals_of<L: LogBrand, A: Allocator + Copy>(book: &Book<L, A>) -> usize {
     let log = book.log();
     (0..log.len())
         .filter_map(|index| log.get(index))
@@ -51,7 +51,7 @@ fn refusals_of<L: Driver, A: Allocator + Copy>(book: &Book<L, A>) -> usize {
 }
 
 /// What a run leaves.
-fn outcome_of<L: Driver, A: Allocator + Copy>(
+fn outcome_of<L: LogBrand, A: Allocator + Copy>(
     alloc: A,
     ran: Ran<L, A>,
 ) -> Result<Outcome<A>, RunFault> {
@@ -69,7 +69,7 @@ fn outcome_of<L: Driver, A: Allocator + Copy>(
 }
 
 /// Runs jobs over a new book.
-fn run<L: Driver + Send + Sync, A: Allocator + Copy + Send + Sync, R: Threads + Wait + Sync>(
+fn run<L: LogBrand + Send + Sync, A: Allocator + Copy + Send + Sync, R: Threads + Wait + Sync>(
     rt: &R,
     alloc: A,
     config: Config,

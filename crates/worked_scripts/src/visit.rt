@@ -9,7 +9,7 @@ use crate::fault::{Fault, Wrong};
 use crate::refused::OneRefused;
 use crate::standing::Heap;
 use crate::way::Way;
-use driver_book::{Driver, Full, FullDriver};
+use driver_book::{Full, FullLogBrand, LogBrand};
 use driver_desk::{Access, Desk};
 use std::alloc::{AllocError, Global};
 use std::marker::Brand;
@@ -46,7 +46,7 @@ const SUBMITTED: &str = "submit 1 0
 type DeskIn<'h, L, R> = Desk<'h, L, R, &'h Heap>;
 
 /// Hands the youngest command of a desk to another one.
-fn hand_over<'h, L: FullDriver, M: FullDriver, R: Wait>(
+fn hand_over<'h, L: FullLogBrand, M: FullLogBrand, R: Wait>(
     from: &mut DeskIn<'h, L, R>,
     to: &mut DeskIn<'h, M, R>,
 ) -> Result<(), AllocError> {
@@ -57,7 +57,7 @@ fn hand_over<'h, L: FullDriver, M: FullDriver, R: Wait>(
 }
 
 /// Plays a part of a visit at a desk with one of the growths to come refused, and answers how many are left to that one.
-fn play_part<'h, L: FullDriver, R: Wait>(
+fn play_part<'h, L: FullLogBrand, R: Wait>(
     desk: &mut DeskIn<'h, L, R>,
     text: &str,
     growth: u64,
@@ -82,7 +82,7 @@ fn play_part<'h, L: FullDriver, R: Wait>(
 }
 
 /// A draft is built at home, handed to the other desk and back, and submitted. It answers how many growths are left.
-fn visit<'h, L: FullDriver, M: FullDriver, R: Wait>(
+fn visit<'h, L: FullLogBrand, M: FullLogBrand, R: Wait>(
     home: &mut DeskIn<'h, L, R>,
     away: &mut DeskIn<'h, M, R>,
     growth: u64,
@@ -97,7 +97,7 @@ fn visit<'h, L: FullDriver, M: FullDriver, R: Wait>(
 }
 
 /// Opens the other book, and lets a draft visit it.
-fn play_away<'h, L: FullDriver, M: Driver, R: Wait>(
+fn play_away<'h, L: FullLogBrand, M: LogBrand, R: Wait>(
     heap: &'h Heap,
     home: &mut DeskIn<'h, L, R>,
     config: Config,
@@ -118,7 +118,7 @@ fn play_away<'h, L: FullDriver, M: Driver, R: Wait>(
 }
 
 /// Opens a draft's own book and another one, and lets the draft visit that one. It answers how many growths are left.
-fn play_home<'h, L: Driver, R: Wait>(
+fn play_home<'h, L: LogBrand, R: Wait>(
     rt: &'h R,
     alloc: Global,
     heap: &'h Heap,

@@ -5,11 +5,11 @@ use Rattle.trials.proofs.carry_reads.Given as goal
 abbrev pub ghosts-read_in_threads-L-Ledger : goal.ghosts-read_in_threads-L-Ledger
 ghosts-read_in_threads-L-Ledger g a = record { name = a.blank.name; parts = a.blank.parts }
 
-abbrev pub ghosts-read_in_threads-L-Driver : goal.ghosts-read_in_threads-L-Driver
-ghosts-read_in_threads-L-Driver g a = record { opening = opening_of a.config a.image; jobs_alone = true }
+abbrev pub ghosts-read_in_threads-L-LogBrand : goal.ghosts-read_in_threads-L-LogBrand
+ghosts-read_in_threads-L-LogBrand g a = record { opening = opening_of a.config a.image; jobs_alone = true }
 
 abbrev pub ghosts-read_alone-L-Ledger : goal.ghosts-read_alone-L-Ledger
 ghosts-read_alone-L-Ledger g a = record { name = a.blank.name; parts = a.blank.parts }
 
-abbrev pub ghosts-read_alone-L-Driver : goal.ghosts-read_alone-L-Driver
-ghosts-read_alone-L-Driver g a = record { opening = opening_of a.config a.image; jobs_alone = true }
+abbrev pub ghosts-read_alone-L-LogBrand : goal.ghosts-read_alone-L-LogBrand
+ghosts-read_alone-L-LogBrand g a = record { opening = opening_of a.config a.image; jobs_alone = true }

@@ -5,5 +5,5 @@ use Rattle.driver_tests.proofs.opening.a_shared_book_shows_itself.Given as goal
 abbrev pub ghosts-look_behind_lock-L-Ledger : goal.ghosts-look_behind_lock-L-Ledger
 ghosts-look_behind_lock-L-Ledger g a = record { name = a.blank.name; parts = a.blank.parts }
 
-abbrev pub ghosts-look_behind_lock-L-Driver : goal.ghosts-look_behind_lock-L-Driver
-ghosts-look_behind_lock-L-Driver g a = record { opening = opening_of a.config a.image; jobs_alone = false }
+abbrev pub ghosts-look_behind_lock-L-LogBrand : goal.ghosts-look_behind_lock-L-LogBrand
+ghosts-look_behind_lock-L-LogBrand g a = record { opening = opening_of a.config a.image; jobs_alone = false }

@@ -5,11 +5,11 @@ use Rattle.driver_tests.proofs.part.run.Given as goal
 abbrev pub ghosts-through_book-L-Ledger : goal.ghosts-through_book-L-Ledger
 ghosts-through_book-L-Ledger g a = record { name = a.blank.name; parts = a.blank.parts }
 
-abbrev pub ghosts-through_book-L-Driver : goal.ghosts-through_book-L-Driver
-ghosts-through_book-L-Driver g a = record { opening = opening_of a.config a.image; jobs_alone = false }
+abbrev pub ghosts-through_book-L-LogBrand : goal.ghosts-through_book-L-LogBrand
+ghosts-through_book-L-LogBrand g a = record { opening = opening_of a.config a.image; jobs_alone = false }
 
 abbrev pub ghosts-behind_lock-L-Ledger : goal.ghosts-behind_lock-L-Ledger
 ghosts-behind_lock-L-Ledger g a = record { name = a.blank.name; parts = a.blank.parts }
 
-abbrev pub ghosts-behind_lock-L-Driver : goal.ghosts-behind_lock-L-Driver
-ghosts-behind_lock-L-Driver g a = record { opening = opening_of a.config a.image; jobs_alone = false }
+abbrev pub ghosts-behind_lock-L-LogBrand : goal.ghosts-behind_lock-L-LogBrand
+ghosts-behind_lock-L-LogBrand g a = record { opening = opening_of a.config a.image; jobs_alone = false }

@@ -5,5 +5,5 @@ use Rattle.driver_tests.proofs.resets.another_thread_resets.Given as goal
 abbrev pub ghosts-read_and_reset-L-Ledger : goal.ghosts-read_and_reset-L-Ledger
 ghosts-read_and_reset-L-Ledger g a = record { name = a.blank.name; parts = a.blank.parts }
 
-abbrev pub ghosts-read_and_reset-L-Driver : goal.ghosts-read_and_reset-L-Driver
-ghosts-read_and_reset-L-Driver g a = record { opening = opening_of a.config a.image; jobs_alone = false }
+abbrev pub ghosts-read_and_reset-L-LogBrand : goal.ghosts-read_and_reset-L-LogBrand
+ghosts-read_and_reset-L-LogBrand g a = record { opening = opening_of a.config a.image; jobs_alone = false }

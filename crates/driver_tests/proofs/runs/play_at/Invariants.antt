@@ -5,5 +5,5 @@ use Rattle.driver_tests.proofs.runs.play_at.Given as goal
 abbrev pub ghosts-outcome_of-L-Ledger : goal.ghosts-outcome_of-L-Ledger
 ghosts-outcome_of-L-Ledger g a = record { name = a.blank.name; parts = a.blank.parts }
 
-abbrev pub ghosts-outcome_of-L-Driver : goal.ghosts-outcome_of-L-Driver
-ghosts-outcome_of-L-Driver g a = record { opening = opening_of a.config a.image; jobs_alone = true }
+abbrev pub ghosts-outcome_of-L-LogBrand : goal.ghosts-outcome_of-L-LogBrand
+ghosts-outcome_of-L-LogBrand g a = record { opening = opening_of a.config a.image; jobs_alone = true }

@@ -5,5 +5,5 @@ use Rattle.driver_tests.proofs.turned_away.workers_are_turned_away.Given as goal
 abbrev pub ghosts-turn_away-L-Ledger : goal.ghosts-turn_away-L-Ledger
 ghosts-turn_away-L-Ledger g a = record { name = a.blank.name; parts = a.blank.parts }
 
-abbrev pub ghosts-turn_away-L-Driver : goal.ghosts-turn_away-L-Driver
-ghosts-turn_away-L-Driver g a = record { opening = opening_of a.config a.image; jobs_alone = false }
+abbrev pub ghosts-turn_away-L-LogBrand : goal.ghosts-turn_away-L-LogBrand
+ghosts-turn_away-L-LogBrand g a = record { opening = opening_of a.config a.image; jobs_alone = false }

@@ -5,5 +5,5 @@ use Rattle.driver_tests.proofs.wakes.run.Given as goal
 abbrev pub ghosts-wake-L-Ledger : goal.ghosts-wake-L-Ledger
 ghosts-wake-L-Ledger g a = record { name = a.blank.name; parts = a.blank.parts }
 
-abbrev pub ghosts-wake-L-Driver : goal.ghosts-wake-L-Driver
-ghosts-wake-L-Driver g a = record { opening = opening_of a.config a.image; jobs_alone = false }
+abbrev pub ghosts-wake-L-LogBrand : goal.ghosts-wake-L-LogBrand
+ghosts-wake-L-LogBrand g a = record { opening = opening_of a.config a.image; jobs_alone = false }

@@ -40,4 +40,4 @@ returns-in-Ok-clause-ended g c = record {
 }
 
 pub returns-in-Ok-clause-jobs : goal.returns-in-Ok-clause-jobs
-returns-in-Ok-clause-jobs g c = subst (λ (log : LogContents). OnTrue g.L.Driver.jobs_alone (AreOfJobs log.entries)) (sym c.in-Ok.ensures.log) c.check.ensures.jobs
+returns-in-Ok-clause-jobs g c = subst (λ (log : LogContents). OnTrue g.L.LogBrand.jobs_alone (AreOfJobs log.entries)) (sym c.in-Ok.ensures.log) c.check.ensures.jobs

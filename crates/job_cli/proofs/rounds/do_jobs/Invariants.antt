@@ -8,8 +8,8 @@ use Rattle.job_cli.proofs.rounds.do_jobs.Given as goal
 abbrev pub ghosts-run_round-L-Ledger : goal.ghosts-run_round-L-Ledger
 ghosts-run_round-L-Ledger g a = record { name = a.blank.name; parts = a.blank.parts }
 
-abbrev pub ghosts-run_round-L-Driver : goal.ghosts-run_round-L-Driver
-ghosts-run_round-L-Driver g a = record { opening = a.world.state; jobs_alone = true }
+abbrev pub ghosts-run_round-L-LogBrand : goal.ghosts-run_round-L-LogBrand
+ghosts-run_round-L-LogBrand g a = record { opening = a.world.state; jobs_alone = true }
 
 abbrev pub invariant-loop : goal.invariant-loop
 invariant-loop g l = record {

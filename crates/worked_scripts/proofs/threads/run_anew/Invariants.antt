@@ -5,5 +5,5 @@ use Rattle.worked_scripts.proofs.threads.run_anew.Given as goal
 abbrev pub ghosts-run-L-Ledger : goal.ghosts-run-L-Ledger
 ghosts-run-L-Ledger g a = record { name = a.blank.name; parts = a.blank.parts }
 
-abbrev pub ghosts-run-L-Driver : goal.ghosts-run-L-Driver
-ghosts-run-L-Driver g a = record { opening = opening_of a.config a.image; jobs_alone = true }
+abbrev pub ghosts-run-L-LogBrand : goal.ghosts-run-L-LogBrand
+ghosts-run-L-LogBrand g a = record { opening = opening_of a.config a.image; jobs_alone = true }

@@ -5,5 +5,5 @@ use Rattle.worked_scripts.proofs.visit.play_home.Given as goal
 abbrev pub ghosts-play_away-M-Ledger : goal.ghosts-play_away-M-Ledger
 ghosts-play_away-M-Ledger g a = record { name = a.blank.name; parts = a.blank.parts }
 
-abbrev pub ghosts-play_away-M-Driver : goal.ghosts-play_away-M-Driver
-ghosts-play_away-M-Driver g a = record { opening = opening_of a.config a.image; jobs_alone = false }
+abbrev pub ghosts-play_away-M-LogBrand : goal.ghosts-play_away-M-LogBrand
+ghosts-play_away-M-LogBrand g a = record { opening = opening_of a.config a.image; jobs_alone = false }

@@ -5,5 +5,5 @@ use Rattle.worked_scripts.proofs.visit.visit_once.Given as goal
 abbrev pub ghosts-play_home-L-Ledger : goal.ghosts-play_home-L-Ledger
 ghosts-play_home-L-Ledger g a = record { name = a.blank.name; parts = a.blank.parts }
 
-abbrev pub ghosts-play_home-L-Driver : goal.ghosts-play_home-L-Driver
-ghosts-play_home-L-Driver g a = record { opening = opening_of a.config a.image; jobs_alone = false }
+abbrev pub ghosts-play_home-L-LogBrand : goal.ghosts-play_home-L-LogBrand
+ghosts-play_home-L-LogBrand g a = record { opening = opening_of a.config a.image; jobs_alone = false }

@@ -13,7 +13,7 @@ note-requires-clause-room g c = log_has_some _ c.make_room.result (sym c.is_err.
 
 pub invariant_of-self-2 : goal.invariant_of-self-2
 invariant_of-self-2 g c =
-    keeps_book None (events.Abort c.args.q c.args.cid) (send_reply c.abort-answer.result) c.self.invariant c.abort-answer.ensures.step (takes_any _ (events.Abort c.args.q c.args.cid) (g.met.L.FullDriver.takes_all)) refl
+    keeps_book None (events.Abort c.args.q c.args.cid) (send_reply c.abort-answer.result) c.self.invariant c.abort-answer.ensures.step (takes_any _ (events.Abort c.args.q c.args.cid) (g.met.L.FullLogBrand.takes_all)) refl
     (rw (c.note.ensures, c.make_room.ensures.same, c.sent.ensures) refl)
 
 pub returns-clause-step : goal.returns-clause-step

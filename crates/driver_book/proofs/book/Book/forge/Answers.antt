@@ -13,7 +13,7 @@ note-requires-clause-room g c = log_has_some _ c.make_room.result (sym c.is_err.
 
 pub invariant_of-self-2 : goal.invariant_of-self-2
 invariant_of-self-2 g c =
-    keeps_book None (events.Forge c.args.q c.args.slot c.args.bytes) (ring_reply c.forge-answer.result) c.self.invariant c.forge-answer.ensures.step (takes_any _ (events.Forge c.args.q c.args.slot c.args.bytes) (g.met.L.FullDriver.takes_all)) refl
+    keeps_book None (events.Forge c.args.q c.args.slot c.args.bytes) (ring_reply c.forge-answer.result) c.self.invariant c.forge-answer.ensures.step (takes_any _ (events.Forge c.args.q c.args.slot c.args.bytes) (g.met.L.FullLogBrand.takes_all)) refl
     (rw (c.note.ensures, c.make_room.ensures.same, c.done.ensures) refl)
 
 pub returns-clause-step : goal.returns-clause-step

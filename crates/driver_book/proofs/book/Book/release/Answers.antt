@@ -1,6 +1,7 @@
-use Rattle.std.proofs.Common.{◌≡◌, ◌++◌, vec_len, length, take, drop, Some, refl, ap, sym, ◌∙◌}
+use Rattle.std.proofs.Common.{◌≡◌, ◌++◌, vec_len, length, take, drop, Some, refl, subst, ap, sym, ◌∙◌}
 use Rattle.step_core.specs.Replies.{accept_reply}
 use Rattle.driver_book.specs.Calls.{IsLogFull}
+use Rattle.driver_book.specs.Seats.{AreSettled}
 use Rattle.driver_book.specs.State.{BookContents}
 use Rattle.driver_book.proofs.Runs.{does_in, log_has_some, keeps_jobs, no_room, takes_no_memory, wants_room}
 use Rattle.driver_book.proofs.Seats.{length_settled, settles_in, settles_none, written_back}
@@ -34,8 +35,9 @@ pub invariant_of-seat : goal.invariant_of-seat
 invariant_of-seat g c =
     let receipts = c.seat.inside.receipts.items in
     let long : vec_len c.seat.inside.receipts ≡ length receipts = sym c.as_mut_slice.ensures.len ∙ ap length c.as_mut_slice.ensures.value in
-    let same : length c.settle.new.receipts ≡ length receipts = ap length c.settle.ensures ∙ length_settled c.q-q.result c.cid-cid.result c.status_of-status.result c.as_mut_slice.result.now ∙ ap length c.as_mut_slice.ensures.value in
-    (c.seat.invariant.0, c.seat.invariant.1 ∙ sym same ∙ sym (ap length (written_back (vec_len c.seat.inside.receipts) receipts c.settle.new.receipts long same)))
+    let same : length c.settle-seat-inside.new.receipts ≡ length receipts = ap length c.settle-seat-inside.ensures.receipts ∙ length_settled c.q-q.result c.cid-cid.result c.status_of-status.result c.as_mut_slice.result.now ∙ ap length c.as_mut_slice.ensures.value in
+    let back = written_back (vec_len c.seat.inside.receipts) receipts c.settle-seat-inside.new.receipts long same in
+    (c.seat.invariant.0, c.seat.invariant.1 ∙ sym same ∙ sym (ap length back), subst (AreSettled c.settle-seat-inside.result) (sym back) c.settle-seat-inside.ensures.settled)
 
 pub returns-clause-receipt : goal.returns-clause-receipt
 returns-clause-receipt g c =
@@ -43,10 +45,10 @@ returns-clause-receipt g c =
     elim c.if-is_ok.branch [
       | then-is_ok w ↦
           let long : vec_len c.seat.inside.receipts ≡ length receipts = sym w.as_mut_slice.ensures.len ∙ ap length w.as_mut_slice.ensures.value in
-          let same : length w.settle.new.receipts ≡ length receipts = ap length w.settle.ensures ∙ length_settled c.q-q.result c.cid-cid.result c.status_of-status.result w.as_mut_slice.result.now ∙ ap length w.as_mut_slice.ensures.value in
+          let same : length w.settle-seat-inside.new.receipts ≡ length receipts = ap length w.settle-seat-inside.ensures.receipts ∙ length_settled c.q-q.result c.cid-cid.result c.status_of-status.result w.as_mut_slice.result.now ∙ ap length w.as_mut_slice.ensures.value in
           rw w.seat-is
           (settles_in c.seat.view_is (ap (λ (b : BookContents). b.world) c.self.view_is) c.args.finished c.release-answer.result (sym c.is_ok.ensures.value ∙ w.if-is_ok.true)
-          (take (vec_len c.seat.inside.receipts) (w.settle.new.receipts ++ drop (length w.settle.new.receipts) receipts))
-          (written_back (vec_len c.seat.inside.receipts) receipts w.settle.new.receipts long same ∙ w.settle.ensures ∙ rw (c.status_of-status.ensures, c.q-q.ensures, c.cid-cid.ensures, w.as_mut_slice.ensures.value) refl))
+          (take (vec_len c.seat.inside.receipts) (w.settle-seat-inside.new.receipts ++ drop (length w.settle-seat-inside.new.receipts) receipts))
+          (written_back (vec_len c.seat.inside.receipts) receipts w.settle-seat-inside.new.receipts long same ∙ w.settle-seat-inside.ensures.receipts ∙ rw (c.status_of-status.ensures, c.q-q.ensures, c.cid-cid.ensures, w.as_mut_slice.ensures.value) refl))
       | else-is_ok w ↦ settles_none c.args.self.now.world c.args.finished c.release-answer.result (sym c.is_ok.ensures.value ∙ w.if-is_ok.false) w.seat-is
     ]

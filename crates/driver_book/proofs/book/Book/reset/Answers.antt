@@ -10,7 +10,7 @@ pub note-requires-clause-room : goal.note-requires-clause-room
 note-requires-clause-room g c = log_has_some _ c.make_room.result (sym c.is_err.ensures.value ∙ c.if-is_err.false) c.make_room.ensures.room
 
 pub invariant_of-self-2 : goal.invariant_of-self-2
-invariant_of-self-2 g c = keeps_book None events.Reset events.Accepted c.self.invariant c.reset.ensures.step (takes_any _ events.Reset (g.met.L.FullDriver.takes_all)) refl (rw (c.note.ensures, c.make_room.ensures.same) refl)
+invariant_of-self-2 g c = keeps_book None events.Reset events.Accepted c.self.invariant c.reset.ensures.step (takes_any _ events.Reset (g.met.L.FullLogBrand.takes_all)) refl (rw (c.note.ensures, c.make_room.ensures.same) refl)
 
 pub returns-clause-step : goal.returns-clause-step
 returns-clause-step g c =

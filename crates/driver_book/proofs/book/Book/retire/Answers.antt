@@ -13,7 +13,7 @@ note-requires-clause-room g c = log_has_some _ c.make_room.result (sym c.is_err.
 
 pub invariant_of-self-2 : goal.invariant_of-self-2
 invariant_of-self-2 g c =
-    keeps_book None (events.Retire c.args.q) (ring_reply c.retire-answer.result) c.self.invariant c.retire-answer.ensures.step (takes_any _ (events.Retire c.args.q) (g.met.L.FullDriver.takes_all)) refl
+    keeps_book None (events.Retire c.args.q) (ring_reply c.retire-answer.result) c.self.invariant c.retire-answer.ensures.step (takes_any _ (events.Retire c.args.q) (g.met.L.FullLogBrand.takes_all)) refl
     (rw (c.note.ensures, c.make_room.ensures.same, c.done.ensures) refl)
 
 pub returns-clause-step : goal.returns-clause-step

@@ -6,7 +6,7 @@ use Rattle.driver_book.specs.State.{BookContents}
 use Rattle.driver_book.proofs.Runs.{accepts_book, does_in, has_room, keeps_jobs, log_has_room, log_lacks, refused_submission, submission_entries, submission_written, lacks_as, receipts_full, takes_as, takes_no_memory, wants_room}
 use Rattle.std.proofs.lemmas.List.Sums.{count_by-le-length}
 use Rattle.step_log.specs.History.{is_accepted, entry_of}
-use Rattle.driver_book.proofs.Seats.{receives_in, receives_none}
+use Rattle.driver_book.proofs.Seats.{receives_in, receives_none, settled_appended}
 use Rattle.machine_model.specs.Events as events
 use Rattle.driver_book.proofs.book.Book.submit.Goals as goal
 
@@ -76,3 +76,7 @@ returns-then-is_ok-clause-touches g c = rw (← c.self.view_is) c.submit-answer.
 pub returns-then-is_err-2-clause-memory : goal.returns-then-is_err-2-clause-memory
 returns-then-is_err-2-clause-memory g c =
     wants_room _ _ c.unlogged-then-is_err-2.ensures.why (inr (receipts_full c.seat.view_is (vec_capacity c.seat.inside.receipts) (vec_len c.seat.inside.receipts) refl c.reserve.result (sym c.is_err-2.ensures.value ∙ c.if-is_err-2.true) c.reserve.ensures.full))
+
+pub invariant_of-seat-then-is_ok : goal.invariant_of-seat-then-is_ok
+invariant_of-seat-then-is_ok g c =
+    (search rules, search rules, rw (c.push_reserved.ensures.items, c.reserve.ensures.items) (settled_appended c.seat.inside.settled c.seat.inside.receipts.items _ c.seat.invariant.2))

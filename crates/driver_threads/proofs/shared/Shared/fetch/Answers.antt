@@ -5,7 +5,7 @@ use Rattle.driver_threads.proofs.shared.Shared.fetch.Goals as goal
 
 pub returns : goal.returns
 returns g c =
-    let of : IsBookOf g.L.Driver.opening c.deref_mut.result.now.book = search rules in
+    let of : IsBookOf g.L.LogBrand.opening c.deref_mut.result.now.book = search rules in
     record {
       old = c.deref_mut.result.now.book;
       new = c.fetch-answer.new.self;

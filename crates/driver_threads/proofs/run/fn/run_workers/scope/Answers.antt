@@ -19,7 +19,7 @@ spawn-requires-in-loop-worker-send-F g c κs within =
     let frees : Frees g.A.Allocator g.A.Allocator.dealloc_token = search sendable depth 20 in
     let byte = bytes.the_send A g.A.Allocator send frees in
     let piece = pieces.the_send A g.A.Allocator send frees in
-    let book = books.the_field_sync (param 0 g.row.L) A g.L.Driver g.L.Ledger g.A.Allocator send frees in
+    let book = books.the_field_sync (param 0 g.row.L) A g.L.LogBrand g.L.Ledger g.A.Allocator send frees in
     let list = vectors.the_send _ A g.A.Allocator (jobs.the_field_send _ _ (requests.the_field_send _ piece) byte) send frees in
     let row = vectors.the_send _ A g.A.Allocator (jobs.the_send _ _ (requests.the_send _ piece) byte) send frees in
     let post = posts.the_send in
@@ -32,6 +32,6 @@ spawn-requires-in-loop-worker-send-T g c κs within =
     let told = c.requires.1.1.1.1 in
     let send : IsSend (copied 1 g.row.A) = search sendable depth 20 in
     let frees : Frees g.A.Allocator g.A.Allocator.dealloc_token = search sendable depth 20 in
-    let field = returned.the_field_send (param 0 g.row.L) (copied 1 g.row.A) g.L.Driver g.L.Ledger g.A.Allocator send frees in
-    let row = returned.the_send (param 0 g.row.L) (copied 1 g.row.A) g.L.Driver g.L.Ledger g.A.Allocator send frees in
+    let field = returned.the_field_send (param 0 g.row.L) (copied 1 g.row.A) g.L.LogBrand g.L.Ledger g.A.Allocator send frees in
+    let row = returned.the_send (param 0 g.row.L) (copied 1 g.row.A) g.L.LogBrand g.L.Ledger g.A.Allocator send frees in
     search sendable depth 30
