@@ -1,16 +1,15 @@
 //! A script is played and drawn.
 
 ghost use Rattle.std.specs.Prelude.{◌≡◌, ◌≤◌, IfOk, length, min};
-ghost use Rattle.draw.specs.Drawn.{AreFirstOwners};
+ghost use Rattle.script_cli.specs.Runs.{AreFirstOwners};
 
 use crate::commands::Requests;
 use crate::picture::{Caption, put_picture, touched_by};
 use crate::style::{FOOT, HEAD};
 use page_ledger::Owner;
-use page_memory::PageNo;
 use script_cli::{
-    Line, Numbered, RunFault, Script, Verb, append_reply, flush, not_opened, put, read_script,
-    script_at_fault, split_line,
+    Line, Numbered, RunFault, Script, Verb, append_reply, first_owners, flush, not_opened, put,
+    read_script, script_at_fault, split_line,
 };
 use std::alloc::{AllocError, Global};
 use std::io::Write;
@@ -21,19 +20,6 @@ pub const MOST_CELLS: u32 = 1_024;
 
 /// The most pictures of a script, behind that of the opening. The steps behind them are not made.
 pub const MOST_PICTURES: usize = 1_000;
-
-/// The owners of so many pages, the first ones, in their order.
-fn first_owners(alloc: Global, bench: &Bench, pages: u32) -> Result<Vec<Owner>, AllocError>
-    requires { pages ≤ length bench.now.table.world.memory }
-    ensures many { IfOk result (λ owners. length owners.items ≡ pages) }
-    ensures owners { IfOk result (λ owners. AreFirstOwners bench.now.table.world owners.items) }
-{
-    let mut owners = Vec::with_capacity(alloc, pages as usize)?;
-    for p in 0..pages {
-        owners.push_reserved(bench.owner(PageNo(p)));
-    }
-    Ok(owners)
-}
 
 /// The owners of the pages that are drawn.
 fn owners_of(alloc: Global, bench: &Bench) -> Result<Vec<Owner>, AllocError>

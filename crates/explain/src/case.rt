@@ -3,11 +3,11 @@
 use crate::fault::{CaseFault, Wrong};
 use crate::lines::{Line, Stop};
 use block_image::{BLOCK_SIZE, Image, ImageError};
-use fault_text::Place;
 use page_memory::{OpenFault, PAGE_BYTES, PageNo, Store};
 use script_cli::{MAX_LINES, MAX_SCRIPT, begins_comment, split_line, words_of};
 use std::alloc::{AllocError, AllocGlobal, Global};
 use std::rt::Files;
+use texts::faults::Place;
 
 /// How many pages a pool has where no line says so.
 const PAGES: u32 = 16;

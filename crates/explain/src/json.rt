@@ -9,8 +9,8 @@ use controller_walk::DescriptorAt;
 use entry_codec::Status;
 use serde::Serialize;
 use sgl_descriptor::Descriptor;
-use status_names::name_of;
 use std::alloc::{AllocError, Global};
+use texts::statuses::name_of;
 
 /// A descriptor that the controller takes.
 #[derive(Drop, Serialize)]

@@ -3,14 +3,14 @@
 ghost use Rattle.std.specs.Prelude.{◌≤◌, IfOk, length};
 
 use crate::fault::Wrong;
-use byte_runs::{RunsFault, bytes_of};
-use fault_text::{Place, word_from};
 use page_memory::PAGE_BYTES;
 use script_cli::{ReadFault, read_first, words_of};
 use std::alloc::{AllocError, AllocGlobal};
 use std::fs::File;
 use std::rt::Files;
 use std::str;
+use texts::byte_runs::{RunsFault, bytes_of};
+use texts::faults::{Place, word_from};
 
 /// Why a line is not read.
 #[derive(Clone, Copy, Debug, PartialEq, Eq)]

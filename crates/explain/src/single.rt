@@ -10,14 +10,14 @@ use crate::text::rule_of;
 use block_image::{Image, ImageError};
 use controller_walk::{Direction, Walk, WalkFault};
 use entry_codec::{ComEntry, Status, SubEntry};
-use fault_text::Place;
 use io_commands::MAX_BLOCKS;
 use page_memory::{OpenFault, Store};
 use script_cli::words_of;
-use status_names::Named;
 use std::alloc::{AllocError, AllocGlobal, Global};
 use std::rt::Files;
-use trace_text::{put_completion_fields, put_descriptor, put_submission_fields};
+use texts::faults::Place;
+use texts::statuses::Named;
+use texts::traces::{put_completion_fields, put_descriptor, put_submission_fields};
 
 /// What bytes are to be.
 #[derive(Clone, Copy, Debug, PartialEq, Eq)]

@@ -7,12 +7,12 @@ use crate::list::Taken;
 use crate::round::round_of;
 use controller_walk::{DescriptorAt, FaultCause, WalkFault};
 use entry_codec::Status;
-use fault_text::{line_at, put_line};
 use page_memory::Store;
 use sgl_descriptor::Descriptor;
-use status_names::Named;
 use std::alloc::{AllocError, Global};
-use trace_text::put_descriptor;
+use texts::faults::{line_at, put_line};
+use texts::statuses::Named;
+use texts::traces::put_descriptor;
 
 /// The bytes of a page.
 const PAGE: u64 = 4_096;

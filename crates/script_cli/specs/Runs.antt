@@ -40,10 +40,14 @@ AreFitLines script = AllByRecursion (λ numbered. IsFitLine numbered.line) scrip
 
 -- What is printed
 
--- the owners of all pages, in the pages' order: a page stands in a claim of its owner
+-- the owners of the first pages, in the pages' order: each page stands in a claim of its owner
+abbrev pub AreFirstOwners : State → List Owner → Type 0
+AreFirstOwners s owners = (p : ℕ) (owner : Owner) → owner_at owners p ≡ Some owner → Contains (claims_of s.host) (p, owner)
+
+-- so of all pages
 pub record AreOwners (s : State) (owners : List Owner) : Type 0 where
   pub all : length owners ≡ length s.memory
-  pub claim : (p : ℕ) (owner : Owner) → owner_at owners p ≡ Some owner → Contains (claims_of s.host) (p, owner)
+  pub claim : AreFirstOwners s owners
 
 -- what a line of a script prints, and what it leaves
 abbrev pub PrintsLine : Table → ℕ → Line → List ℕ → Table → Type 0

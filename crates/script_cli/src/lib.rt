@@ -33,7 +33,7 @@ pub use lines::split_line;
 pub use output::{flush, put};
 pub use owners::{append_counts, append_owners};
 pub use reply::{append_reply, put_gathered, put_not_filled, request_fault_name};
-pub use run::{play_steps, run_steps};
+pub use run::{first_owners, play_step, play_steps, put_owners, run_steps};
 pub use script::{Line, MAX_LINES, MAX_SCRIPT, Numbered, Script, read_script};
 pub use verb::{CommandVerb, QueueVerb, VERBS, Verb};
 pub use words::Words;

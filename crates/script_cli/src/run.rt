@@ -6,8 +6,9 @@ ghost use Rattle.machine_model.specs.Claims.{counts_of};
 ghost use Rattle.machine_model.specs.Script.{table};
 ghost use Rattle.script_cli.specs.Inputs.{Gains};
 ghost use Rattle.script_cli.specs.Owners.{counts_line};
-ghost use Rattle.script_cli.specs.Runs.{AreOwners, PrintsLine, IsRunText, IsRunTo, IsFrontOfFirst, HasScript, IsNoScript, IsNoOpening, Writes, EndsWith};
+ghost use Rattle.script_cli.specs.Runs.{AreFirstOwners, PrintsLine, IsRunText, IsRunTo, IsFrontOfFirst, HasScript, IsNoScript, IsNoOpening, Writes, EndsWith};
 ghost use Rattle.script_cli.specs.declared.fault.RunFault.TheVariants as run;
+ghost use Rattle.script_cli.specs.declared.script.Line.TheVariants as line;
 ghost use Rattle.host_core.specs.Opening.{refusal_of_config};
 ghost use Rattle.step_core.specs.Opening.{opening_of};
 
@@ -23,7 +24,7 @@ use page_ledger::Owner;
 use page_memory::PageNo;
 use std::alloc::{AllocError, Global};
 use std::io::{Read, Write};
-use step_core::{Bench, Config};
+use step_core::{Bench, Config, Reply, Step};
 
 /// Reads a script.
 fn load<R: Read>(alloc: Global, reader: &mut R) -> Result<Script, RunFault>
@@ -55,17 +56,42 @@ fn open(alloc: Global, config: Config, image: Image) -> Result<Bench, RunFault>
     }
 }
 
-/// The owners of all pages, in the pages' order.
-fn all_owners(alloc: Global, bench: &Bench) -> Result<Vec<Owner>, AllocError>
-    ensures owners { IfOk result (λ owners. AreOwners bench.now.table.world owners.items) }
-    ensures few { IfOk result (λ owners. length owners.items ≤ 65536) }
+/// Does a step, puts what it answered into an empty text, and answers that.
+pub fn play_step(
+    bench: &mut Bench,
+    number: u32,
+    step: Step,
+    text: &mut String,
+) -> Result<Reply, AllocError>
+    requires empty { string_bytes text.old ≡ [] }
+    ensures { OnOk result (PrintsLine bench.old.table number (line.Step step) (string_bytes text.new) bench.new.table) }
 {
-    let pages = bench.pages();
+    let verb = Verb::of(&step);
+    let reply = bench.step(step);
+    append_reply(text, number, verb, &reply)?;
+    Ok(reply)
+}
+
+/// The owners of so many pages of a bench, the first ones, in their order.
+pub fn first_owners(alloc: Global, bench: &Bench, pages: u32) -> Result<Vec<Owner>, AllocError>
+    requires { pages ≤ length bench.now.table.world.memory }
+    ensures many { IfOk result (λ owners. length owners.items ≡ pages) }
+    ensures owners { IfOk result (λ owners. AreFirstOwners bench.now.table.world owners.items) }
+{
     let mut owners = Vec::with_capacity(alloc, pages as usize)?;
     for p in 0..pages {
         owners.push_reserved(bench.owner(PageNo(p)));
     }
     Ok(owners)
+}
+
+/// Puts the owners of all pages of a bench into an empty text.
+pub fn put_owners(alloc: Global, bench: &Bench, text: &mut String) -> Result<(), AllocError>
+    requires empty { string_bytes text.old ≡ [] }
+    ensures { OnOk result (PrintsLine bench.now.table 0 line.Owners (string_bytes text.new) bench.now.table) }
+{
+    let owners = first_owners(alloc, bench, bench.pages())?;
+    append_owners(text, &owners)
 }
 
 /// Does what a line says, and leaves what it prints in an empty text.
@@ -81,14 +107,10 @@ fn play_line(
     let number = numbered.number;
     match numbered.line {
         Line::Step(step) => {
-            let verb = Verb::of(&step);
-            let reply = bench.step(step);
-            append_reply(text, number, verb, &reply)
+            play_step(bench, number, step, text)?;
+            Ok(())
         }
-        Line::Owners => {
-            let owners = all_owners(alloc, bench)?;
-            append_owners(text, &owners)
-        }
+        Line::Owners => { put_owners(alloc, bench, text) }
         Line::Nothing => Ok(()),
     }
 }

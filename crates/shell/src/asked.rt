@@ -2,10 +2,10 @@
 
 use crate::dot_word::DotWord;
 use crate::fault::Fault;
-use byte_runs::bytes_of;
 use script_cli::{Line, LineFault, ScriptFault, Words, read_script, split_line, words_of};
 use std::alloc::{AllocError, Global};
 use step_core::{Bytes, PageNo, Step};
+use texts::byte_runs::bytes_of;
 use transcripts::Given;
 
 /// The most bytes that a command moves.

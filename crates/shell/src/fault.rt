@@ -1,9 +1,9 @@
 //! What is wrong with a line.
 
 use crate::dot_word::{DOT_WORDS, DotWord};
-use fault_text::{Grammar, explain, nearest};
 use script_cli::LineFault;
 use std::alloc::{AllocError, Global};
+use texts::faults::{Grammar, explain, nearest};
 
 /// What is wrong with a line.
 #[derive(Clone, Copy, Debug, PartialEq, Eq)]

@@ -3,7 +3,7 @@
 use script_cli::{CommandVerb, QueueVerb, Verb, append_reply};
 use std::alloc::{AllocError, Global};
 use step_core::{Bench, Reply};
-use trace_text::{Traced, put_trace};
+use texts::traces::{Traced, put_trace};
 
 /// The most steps of the controller that one line asks for.
 pub(crate) const MOST_STEPS: u32 = 1_000_000;

@@ -2,9 +2,9 @@
 
 use crate::dot_word::{DOT_WORDS, DotWord};
 use crate::fault::put_unknown;
-use fault_text::form_text;
 use script_cli::{VERBS, Verb};
 use std::alloc::{AllocError, Global};
+use texts::faults::form_text;
 
 /// What stands between the words with a dot and the steps.
 const STEPS: &str =

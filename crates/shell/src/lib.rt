@@ -7,7 +7,6 @@
 //! What a step, `owners`, `.counts`, `.page` and `.rings` say of the world is the world's: `specs/`, and the clauses of a script's run.
 #![tactic(auto)]
 
-mod answers;
 mod asked;
 mod dot_word;
 mod fault;

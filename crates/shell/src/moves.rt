@@ -3,9 +3,9 @@
 use crate::asked::Extent;
 use crate::hand::Hand;
 use script_cli::{CommandVerb, QueueVerb, Verb, put_gathered};
-use status_names::Named;
 use std::alloc::{AllocError, Global};
 use step_core::{Bytes, Kind, Piece, Pieces, Reaped, Refusal, Reply, Request, Status, Step};
+use texts::statuses::Named;
 
 /// The bytes of a page.
 const PAGE: u32 = 4_096;

@@ -4,7 +4,7 @@ use crate::hand::{Hand, MOST_STEPS};
 use script_cli::{CommandVerb, QueueVerb, Verb};
 use std::alloc::AllocError;
 use step_core::{Refusal, Reply};
-use trace_text::Traced;
+use texts::traces::Traced;
 
 impl Hand<'_> {
     /// Lets the controller do a step on a command. False where it is refused, or no step is left.

@@ -2,7 +2,6 @@
 
 ghost use Rattle.std.specs.Prelude.{◌≡◌, [], string_bytes};
 
-use crate::answers::{say_counts, say_owners, say_step};
 use crate::asked::{Asked, asked_of};
 use crate::hand::{Hand, MOST_STEPS};
 use crate::help::say_help;
@@ -10,14 +9,15 @@ use crate::lines::read_line;
 use crate::looks::say_rings;
 use crate::pages::say_page;
 use script_cli::{
-    ImageFault, Line, Numbered, RunFault, Script, flush, not_opened, put, split_line,
+    ImageFault, Line, Numbered, RunFault, Script, append_counts, flush, not_opened, play_step, put,
+    put_owners, split_line,
 };
 use std::alloc::{AllocError, AllocGlobal, Global};
 use std::io::{BufRead, BufReader, Read, Write};
 use std::mem;
 use std::rt::Files;
 use step_core::{Bench, Config, Image, ImageError, Step};
-use trace_text::Traced;
+use texts::traces::Traced;
 use transcripts::{Given, OpeningFault, Options, not_written, replace_file};
 
 /// What stands before a line on a terminal.
@@ -119,7 +119,7 @@ impl Session {
         requires empty { string_bytes out.old ≡ [] }
     {
         let traced = Traced::of(&step);
-        let reply = say_step(&mut self.bench, number, step, out)?;
+        let reply = play_step(&mut self.bench, number, step, out)?;
         self.hand(out, true).trace(traced, &reply)
     }
 
@@ -164,8 +164,8 @@ impl Session {
         match asked {
             Asked::Nothing => {}
             Asked::Step(step) => self.step(number, step, out)?,
-            Asked::Owners => say_owners(self.alloc, &self.bench, number, out)?,
-            Asked::Counts => say_counts(&self.bench, out)?,
+            Asked::Owners => put_owners(self.alloc, &self.bench, out)?,
+            Asked::Counts => append_counts(out, self.bench.counts())?,
             Asked::Rings(q) => {
                 let (first, last) = self.queues(q);
                 say_rings(&self.bench, first, last, out)?;
@@ -214,7 +214,7 @@ impl Session {
         let number = numbered.number;
         match numbered.line {
             Line::Step(step) => self.step(number, step, out),
-            Line::Owners => say_owners(self.alloc, &self.bench, number, out),
+            Line::Owners => put_owners(self.alloc, &self.bench, out),
             Line::Nothing => Ok(()),
         }
     }
@@ -232,7 +232,7 @@ impl Session {
             put(writer, out.as_bytes())?;
         }
         out.clear();
-        say_counts(&self.bench, &mut out)?;
+        append_counts(&mut out, self.bench.counts())?;
         put(writer, out.as_bytes())?;
         flush(writer)
     }

@@ -1,6 +1,0 @@
--- the place stands in the line
-use Rattle.std.proofs.Common.{◌≤◌, length}
-use Rattle.fault_text.proofs.finding.pieces_after.Given as goal
-
-abbrev pub invariant-words : goal.invariant-words
-invariant-words l = l.at ≤ length l.line

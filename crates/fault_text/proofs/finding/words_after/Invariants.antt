@@ -1,6 +1,0 @@
--- the place stands in the line
-use Rattle.std.proofs.Common.{◌≤◌, length}
-use Rattle.fault_text.proofs.finding.words_after.Given as goal
-
-abbrev pub invariant-loop-slot : goal.invariant-loop-slot
-invariant-loop-slot l = l.at ≤ length l.line

@@ -1,0 +1,17 @@
+//! What a step moved, for people: entries, lists, completions and doorbells, in bytes and decoded.
+//!
+//! [`Traced::of`] keeps which step is made, before it is made; [`put_trace`] puts lines below its answer, from looks at the bench behind it. What
+//! it puts of single entries and descriptors is public too. The
+//! fields have their names of the NVM Express Base Specification 2.0. Numbers are decimal, and bytes, addresses, offsets and opcodes are
+//! hexadecimal. The layout is this project's own.
+
+mod bytes;
+mod entries;
+mod lists;
+mod rings;
+mod slots;
+mod trace;
+
+pub use entries::{put_completion_fields, put_submission_fields};
+pub use lists::put_descriptor;
+pub use trace::{Traced, put_trace};

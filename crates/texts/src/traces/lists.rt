@@ -1,0 +1,91 @@
+//! Scatter-gather lists.
+
+use crate::traces::bytes::{put_place, sixteen_at};
+use sgl_descriptor::Descriptor;
+use std::alloc::AllocError;
+use step_core::Bench;
+
+/// The bytes of a descriptor.
+const DESCRIPTOR: u64 = 16;
+
+/// The most segments of a list that are shown; one of 1,024 pieces in full segments has five.
+const MOST_SEGMENTS: u32 = 1_024;
+
+/// A segment, by the descriptor that names it.
+#[derive(Clone, Copy)]
+struct Segment {
+    addr: u64,
+    len: u32,
+}
+
+/// The segment that a descriptor names, if it is one that names a segment.
+fn segment_of(bytes: &[u8; 16]) -> Option<Segment> {
+    match Descriptor::read(bytes) {
+        Ok(Descriptor::Segment { addr, len } | Descriptor::LastSegment { addr, len }) => {
+            Some(Segment { addr, len })
+        }
+        _ => None,
+    }
+}
+
+/// Puts a kind of descriptor, an address and a length.
+fn put_at(out: &mut String, name: &str, addr: u64, len: u32) -> Result<(), AllocError> {
+    write!(out, "{name}, address {addr:X}h, length {len}")
+}
+
+/// Puts a descriptor, by its fields.
+///
+/// # Errors
+///
+/// Where memory is refused.
+pub fn put_descriptor(out: &mut String, bytes: &[u8; 16]) -> Result<(), AllocError> {
+    match Descriptor::read(bytes) {
+        Ok(Descriptor::DataBlock { addr, len }) => put_at(out, "Data Block", addr, len),
+        Ok(Descriptor::BitBucket { len }) => write!(out, "Bit Bucket, length {len}"),
+        Ok(Descriptor::Segment { addr, len }) => put_at(out, "Segment", addr, len),
+        Ok(Descriptor::LastSegment { addr, len }) => put_at(out, "Last Segment", addr, len),
+        Err(_) => out.push_str("a descriptor of no type that is known"),
+    }
+}
+
+/// Puts the descriptors of a segment, and answers the next segment.
+fn put_segment(
+    out: &mut String,
+    bench: &mut Bench,
+    segment: Segment,
+) -> Result<Option<Segment>, AllocError> {
+    out.push_str("  segment at ")?;
+    put_place(out, segment.addr)?;
+    out.push_str("\n")?;
+    let mut next = None;
+    for i in 0..u64::from(segment.len) / DESCRIPTOR {
+        let Some(addr) = segment.addr.checked_add(i * DESCRIPTOR) else {
+            return Ok(None);
+        };
+        let Some(bytes) = sixteen_at(bench, addr) else {
+            out.push_str("    a descriptor that is out of the pool\n")?;
+            return Ok(None);
+        };
+        write!(out, "    {i}: ")?;
+        put_descriptor(out, &bytes)?;
+        out.push('\n')?;
+        next = segment_of(&bytes);
+    }
+    Ok(next)
+}
+
+/// Puts the segments of a list that begins with a descriptor.
+pub(crate) fn put_list(
+    out: &mut String,
+    bench: &mut Bench,
+    first: &[u8; 16],
+) -> Result<(), AllocError> {
+    let mut next = segment_of(first);
+    for _ in 0..MOST_SEGMENTS {
+        let Some(segment) = next else {
+            break;
+        };
+        next = put_segment(out, bench, segment)?;
+    }
+    Ok(())
+}

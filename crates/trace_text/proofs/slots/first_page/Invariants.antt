@@ -1,7 +1,0 @@
--- the pages before the next one are of others
-use Rattle.std.proofs.Common.{◌<◌, ℕ}
-use Rattle.trace_text.specs.Slots.{IsOfAnother}
-use Rattle.trace_text.proofs.slots.first_page.Given as goal
-
-abbrev pub invariant-loop-p : goal.invariant-loop-p
-invariant-loop-p l = (k : ℕ) → k < l.p → IsOfAnother l.bench.table.world l.fn.q l.fn.half k
