@@ -3,3 +3,4 @@ pub mod Codes
 pub mod Images
 pub mod Requests
 pub mod Owners
+pub mod Named

@@ -4,8 +4,8 @@ use Rattle.std.specs.List.{slice_get}
 use Rattle.controller_core.specs.Contents.{Contents}
 use Rattle.controller_core.specs.Looks.{refusal_by, IsAtRest}
 use Rattle.controller_core.specs.declared.look.ControllerStep.{ControllerStep}
-use Rattle.lent_memory.specs.Named.{named_memory}
-use Rattle.lent_memory.proofs.Named.{at_address}
+use Rattle.c_words.specs.Named.{named_memory}
+use Rattle.c_words.proofs.Named.{at_address}
 use Rattle.nvmectl_c.specs.Next.{Sees}
 
 pub sees_named : (k : Contents) (bytes : List ℕ) (name : ℕ) (step : Option ControllerStep) → IfSome step (λ s. refusal_by k (named_memory bytes name) s ≡ None) → IfNone step (IsAtRest k (named_memory bytes name)) →

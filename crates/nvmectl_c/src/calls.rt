@@ -7,9 +7,8 @@ use crate::code::POOL_TOO_LONG;
 use crate::handle::Handle;
 use crate::over::{complete, fetch, walk};
 use c_words::code::CLOSED;
-use c_words::{Answer, nothing};
+use c_words::{Answer, MOST_BYTES, nothing};
 use controller_core::Controller;
-use lent_memory::MOST_BYTES;
 use std::alloc::Global;
 
 /// The controller that is kept, taken out for a call that is lent so many bytes.

@@ -7,9 +7,9 @@ ghost use Rattle.nvmectl_c.specs.Next.{Sees, TellsNext};
 use crate::calls::take_for;
 use crate::handle::Handle;
 use arrayvec::ArrayVec;
+use c_words::LentRecord;
 use c_words::code::DONE;
 use controller_core::{Controller, ControllerStep};
-use lent_memory::LentRecord;
 use std::alloc::Global;
 
 /// What a controller can do.

@@ -6,9 +6,8 @@ ghost use Rattle.nvmectl_c.specs.Calls.{FetchesBy, WalksBy, CompletesBy};
 use crate::code::code_of_refusal;
 use arrayvec::ArrayVec;
 use c_words::code::DONE;
-use c_words::{Answer, touching, walked};
+use c_words::{Answer, LentMemory, touching, walked};
 use controller_core::Controller;
-use lent_memory::LentMemory;
 
 /// Fetches over a memory that is lent, and tells what was fetched. The borrow is the same one afterwards.
 fn fetch_over(

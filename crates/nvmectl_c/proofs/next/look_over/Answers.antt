@@ -1,4 +1,4 @@
-use Rattle.lent_memory.proofs.Named.{same_name, same_bytes}
+use Rattle.c_words.proofs.Named.{same_name, same_bytes}
 use Rattle.nvmectl_c.proofs.Seen.{sees_named}
 use Rattle.nvmectl_c.proofs.next.look_over.Goals as goal
 

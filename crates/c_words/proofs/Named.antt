@@ -8,8 +8,8 @@ use Rattle.std.proofs.lemmas.Option.{slice_get_past}
 use Rattle.page_memory.specs.Memory.{Memory, bytes_at, written}
 use Rattle.page_memory.specs.Pages.{with_bytes}
 use Rattle.page_memory.proofs.Writing.{written_after}
-use Rattle.lent_memory.specs.Named.{named_memory}
-use Rattle.lent_memory.proofs.Slices.{there_inside, wrote}
+use Rattle.c_words.specs.Named.{named_memory}
+use Rattle.c_words.proofs.Slices.{there_inside, wrote}
 
 pub at_address : (xs : List ℕ) (name place : ℕ) → place < 2 ^ 65 → named_memory xs name place ≡ slice_get xs place
 at_address xs name place low = grind (arith, nat_tests)

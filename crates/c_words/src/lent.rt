@@ -2,17 +2,13 @@
 //!
 //! A [`LentMemory`] is a [`Dma`] over a slice: the byte at an address is that of the slice, and an address behind its end is unreadable. It serves
 //! who has a pool of his own, as an emulator has a guest's memory, and lends it a call at a time.
-#![tactic(auto)]
 
 ghost use Rattle.std.specs.Prelude.{◌≡◌, ◌+◌, ◌<◌, ◌≤◌, ◌++◌, length, true, false};
 ghost use Rattle.page_memory.specs.Memory.{pages_reached};
 ghost use Rattle.page_memory.specs.Pages.{with_bytes};
 
-mod record;
-
 use arrayvec::ArrayVec;
 use page_memory::{Dma, PageNo, Unreadable};
-pub use record::LentRecord;
 
 /// The most bytes that are lent: 65,536 pages.
 pub const MOST_BYTES: usize = 268_435_456;
@@ -28,7 +24,7 @@ pub struct LentMemory<'a> {
 }
 
 /// Adds the one or two pages of a range.
-fn touch(touched: &mut ArrayVec<PageNo, 4>, addr: u64, count: usize)
+pub(crate) fn touch(touched: &mut ArrayVec<PageNo, 4>, addr: u64, count: usize)
     requires low { addr + count ≤ 268435456 }
     requires some { 0 < count }
     requires room { length touched.old.items ≤ 2 }
@@ -42,7 +38,7 @@ fn touch(touched: &mut ArrayVec<PageNo, 4>, addr: u64, count: usize)
 }
 
 /// Whether a range lies in so many bytes.
-fn is_inside(addr: u64, count: usize, len: usize) -> bool
+pub(crate) fn is_inside(addr: u64, count: usize, len: usize) -> bool
     ensures inside { result ≡ true → addr + count ≤ len }
     ensures outside { result ≡ false → len < addr + count }
 {
@@ -51,7 +47,7 @@ fn is_inside(addr: u64, count: usize, len: usize) -> bool
 }
 
 /// Overwrites bytes from a place on.
-fn put(into: &mut [u8], at: usize, bytes: &[u8])
+pub(crate) fn put(into: &mut [u8], at: usize, bytes: &[u8])
     requires { at + length bytes.now ≤ length into.old }
     ensures bytes { into.new ≡ with_bytes into.old at bytes.now }
     ensures len { length into.new ≡ length into.old }

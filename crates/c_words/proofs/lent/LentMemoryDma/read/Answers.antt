@@ -1,7 +1,7 @@
 use Rattle.std.proofs.Common.{arith, refl, slice_get}
-use Rattle.lent_memory.proofs.Slices.{read_outside}
+use Rattle.c_words.proofs.Slices.{read_outside}
 use Rattle.page_memory.proofs.Reading.{bytes_held}
-use Rattle.lent_memory.proofs.LentMemoryDma.read.Goals as goal
+use Rattle.c_words.proofs.lent.LentMemoryDma.read.Goals as goal
 
 pub returns-then-not-is_inside-clause-missing : goal.returns-then-not-is_inside-clause-missing
 returns-then-not-is_inside-clause-missing c = read_outside c.args.self.now.bytes.now c.args.addr _ c.requires.some (c.if-not-is_inside.ensures.outside refl)

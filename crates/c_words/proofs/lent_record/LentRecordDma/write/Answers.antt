@@ -1,7 +1,7 @@
 use Rattle.std.proofs.Common.{arith, refl, ◌∙◌}
-use Rattle.lent_memory.proofs.Named.{bytes_named, there_named, wrote_named}
-use Rattle.lent_memory.proofs.Slices.{read_outside}
-use Rattle.lent_memory.proofs.record.LentRecordDma.write.Goals as goal
+use Rattle.c_words.proofs.Named.{bytes_named, there_named, wrote_named}
+use Rattle.c_words.proofs.Slices.{read_outside}
+use Rattle.c_words.proofs.lent_record.LentRecordDma.write.Goals as goal
 
 pub returns-then-not-is_inside-clause-missing : goal.returns-then-not-is_inside-clause-missing
 returns-then-not-is_inside-clause-missing c =

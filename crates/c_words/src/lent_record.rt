@@ -2,7 +2,7 @@
 
 ghost use Rattle.std.specs.Prelude.{◌≤◌, length};
 
-use crate::{is_inside, put, touch};
+use crate::lent::{is_inside, put, touch};
 use arrayvec::ArrayVec;
 use page_memory::{Dma, PageNo, TouchRecord, Unreadable};
 
@@ -20,7 +20,7 @@ pub struct LentRecord<'a> {
 
 impl<'a> Dma for LentRecord<'a> {
     ghost use Rattle.std.specs.Prelude.{◌/◌, length};
-    ghost use Rattle.lent_memory.specs.Named.{named_memory};
+    ghost use Rattle.c_words.specs.Named.{named_memory};
 
     // the name of the borrow stands behind all addresses, since each count here has another use
     ghost memory = { λ m. named_memory m.bytes.now m.bytes.ghost_name };

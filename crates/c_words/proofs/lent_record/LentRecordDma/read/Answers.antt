@@ -1,8 +1,8 @@
 use Rattle.std.proofs.Common.{arith, refl, slice_get, ◌∙◌}
-use Rattle.lent_memory.proofs.Named.{bytes_named}
-use Rattle.lent_memory.proofs.Slices.{read_outside}
+use Rattle.c_words.proofs.Named.{bytes_named}
+use Rattle.c_words.proofs.Slices.{read_outside}
 use Rattle.page_memory.proofs.Reading.{bytes_held}
-use Rattle.lent_memory.proofs.record.LentRecordDma.read.Goals as goal
+use Rattle.c_words.proofs.lent_record.LentRecordDma.read.Goals as goal
 
 pub returns-then-not-is_inside-clause-missing : goal.returns-then-not-is_inside-clause-missing
 returns-then-not-is_inside-clause-missing c =

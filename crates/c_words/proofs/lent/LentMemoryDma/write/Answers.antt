@@ -1,6 +1,6 @@
 use Rattle.std.proofs.Common.{refl}
-use Rattle.lent_memory.proofs.Slices.{read_outside, there_inside, wrote}
-use Rattle.lent_memory.proofs.LentMemoryDma.write.Goals as goal
+use Rattle.c_words.proofs.Slices.{read_outside, there_inside, wrote}
+use Rattle.c_words.proofs.lent.LentMemoryDma.write.Goals as goal
 
 pub returns-then-not-is_inside-clause-missing : goal.returns-then-not-is_inside-clause-missing
 returns-then-not-is_inside-clause-missing c = read_outside c.args.self.now.bytes.now c.args.addr _ c.requires.some (c.if-not-is_inside.ensures.outside refl)
